@@ -15,8 +15,10 @@ printf '%s\n' 'tree 1' '0 dir' '1 dir 0 etc' '2 file 1 passwd' '3 dir 0 tmp' '4 
 printf '%s\n' 'tree 2' '0 dir' '1 dir 0 d' '2 file 1 f' '3 hard 0 g 2' '4 link 1 l g' '6 hard 1 k 4' > twice
 printf '%s\n' 'tree 1' '0 dir' '1 dir 0' > cut
 printf '%s\n' 'tree 2' '0 dir' '1 file 0 a' '2 hard 0 b 3' > lost
-printf '%s\n' '1 create /a' '1 mkdir /tmp/new' '1 symlink ../etc /tmp/new/l' '1 rename /a /tmp/new/b' \
-    '1 rename /tmp /etc/tmp' '1 unlink /etc/tmp/sh' '1 rmdir /etc/tmp/new' '1 stat /etc/tmp/new/b' > edits
+# Its first path is too long to lie in its request, and so takes memory.
+printf '%s\n' '1 create /tmp/../tmp/../tmp/../tmp/../a' '1 mkdir /tmp/new' '1 symlink ../etc /tmp/new/l' \
+    '1 rename /a /tmp/new/b' '1 rename /tmp /etc/tmp' '1 unlink /etc/tmp/sh' '1 rmdir /etc/tmp/new' \
+    '1 stat /etc/tmp/new/b' > edits
 printf '%s\n' '1 fork 2' '1 unveil /etc/passwd rw' '2 unlink /etc/passwd' '1 stat /etc/passwd' '2 create /etc/passwd' \
     '2 fork 3' '3 exec /tmp/sh' '3 exit' '3 stat /' > forks
 printf '%s\n' '1 unveil /etc r' '1 unveil /etc rw' '1 unveil /etc/passwd rw' '1 unveil /etc q' '1 unveil /no/x r' \

@@ -1,29 +1,22 @@
 -- Pairs by places of the alphabet and numbers of calls: they come in the order of their letters' bytes.
-use Rattle.std.proofs.Common.{ℕ, ◌+◌, ◌<◌, ◌≡◌, List, [], ◌∷◌, Option, Some, None, Bool, true, false, cond, refl, ap, arith, sym, ◌∙◌, length, map, get_or, filter, option_map, inl, inr}
-use Rattle.std.specs.Prelude.{IfSome}
-use Rattle.std.proofs.lemmas.Bool.{cases_lt}
-use Rattle.std.specs.Cmp.{nat_cmp_is, tied_itself}
-use Rattle.std.specs.Cmp.Lexicographic.{slice_cmp, nat_list_cmp_total}
-use Rattle.std.specs.List.{AllByRecursion}
-use Rattle.std.specs.Ordering.{nat_cmp, ordering_then, is_lt}
-use Rattle.std.specs.declared.cmp.Ordering.TheVariants.{Less, Equal, Greater}
-use Rattle.pua_tree.specs.Tree.{name_cmp}
-use Rattle.pua_calls.specs.CallSets.{bit_of}
+use Rattle.pua_audit.proofs.Common.{ℕ, ◌+◌, ◌<◌, ◌≡◌, List, [], ◌∷◌, Option, Some, None, Bool, true, false, cond, refl, ap, arith, sym, ◌∙◌}
+use Rattle.pua_audit.proofs.Common.{length, map, get_or, option_map, inl, inr, IfSome, cases_lt, tied_itself, nat_list_cmp_total}
+use Rattle.pua_audit.proofs.Common.{AllByRecursion, nat_cmp, is_lt, Less, Equal, Greater, name_cmp, bit_of, Call, Stat, Lstat, Readlink}
+use Rattle.pua_audit.proofs.Common.{OpenRead, OpenWrite, OpenBoth, Create, Mkdir, Rmdir, Unlink, Symlink, Chmod, Chdir, Exec, pairs_at}
+use Rattle.pua_audit.proofs.Common.{pair_in_numbers, pair_in_letters, Rises, Word, Pair, Scope, pair_cmp, reach, rest_after, word_of}
+use Rattle.pua_audit.proofs.Common.{AreLetters, IsPair}
+use Rattle.std.proofs.Common.{filter}
+use Rattle.std.specs.Cmp.{nat_cmp_is}
+use Rattle.std.specs.Cmp.Lexicographic.{slice_cmp}
+use Rattle.std.specs.Ordering.{ordering_then}
 use Rattle.pua_calls.specs.Calls.{call_number}
-use Rattle.pua_calls.specs.declared.call.Call.{Call}
-use Rattle.pua_calls.specs.declared.call.Call.TheVariants.{Stat, Lstat, Readlink, OpenRead, OpenWrite, OpenBoth, Create, Mkdir, Rmdir, Unlink, Symlink, Chmod, Chdir, Exec}
 use Rattle.pua_calls.proofs.ForCallers.{call_at_bit, bit_of_call_at}
-use Rattle.pua_audit.specs.Coming.{call_at, pair_at, pairs_at, pairs_after}
-use Rattle.pua_audit.specs.Graphs.{numbered, spelled}
-use Rattle.pua_audit.specs.Laws.{Rises}
-use Rattle.pua_audit.specs.Reach.{Word, Pair, Scope, pair_cmp, reach, rest_after}
-use Rattle.pua_audit.specs.Ready.{word_of}
-use Rattle.pua_audit.specs.Starting.{AreLetters, pair_in}
+use Rattle.pua_audit.specs.Coming.{call_at, pair_at, pairs_resumed}
+use Rattle.pua_audit.specs.Starting.{pair_in}
 use Rattle.pua_audit.specs.declared.resume_text.Resumption.{Resumption}
 use Rattle.pua_audit.proofs.Placing.{later, turned}
 use Rattle.pua_steps.specs.Graph as graph
 use Rattle.pua_steps.specs.Order as order
-use Rattle.pua_steps.specs.Within.{IsPair}
 
 -- the numbers of calls
 
@@ -58,10 +51,16 @@ calls_alike : (c : Call) (n : ℕ) → n < 14 → nat_cmp (call_number c) (call_
 calls_alike c n low =
     let first : call_number c ≡ bit_of c + 1 = number_of c in
     let second : call_number (call_at n) ≡ n + 1 = number_of (call_at n) ∙ ap (λ m. m + 1) (bit_of_call_at n low) in
-    nat_alike (call_number c) (call_number (call_at n)) (bit_of c) n (λ h. omega (arith, h, first, second)) (λ e. omega (arith, e, first, second)) (λ h. omega (arith, h, first, second))
+    nat_alike (call_number c) (call_number (call_at n)) (bit_of c) n (λ h. omega (arith, h, first, second)) (λ e. omega (
+      arith,
+      e,
+      first,
+      second,
+    )) (λ h. omega (arith, h, first, second))
 
 module _ (letters : List (List ℕ)) (rises : Rises name_cmp letters) where
-  pub letters_alike : (i j : ℕ) → i < length letters → j < length letters → name_cmp (get_or letters i []) (get_or letters j []) ≡ nat_cmp i j
+  pub letters_alike : (i j : ℕ) → i < length letters → j < length letters →
+      name_cmp (get_or letters i []) (get_or letters j []) ≡ nat_cmp i j
   letters_alike i j here there =
       elim (cases_lt i j) [
         | inl h ↦ later letters rises i j h there ∙ nat_cmp_is i j Less h
@@ -69,11 +68,13 @@ module _ (letters : List (List ℕ)) (rises : Rises name_cmp letters) where
           | inl k ↦ turned (get_or letters j []) (get_or letters i []) Less (later letters rises j i k here) ∙ nat_cmp_is i j Greater k
           | inr k ↦
               let e : j ≡ i = omega (arith, h, k) in
-              ap (λ n. name_cmp (get_or letters i []) (get_or letters n [])) e ∙ tied_itself nat_list_cmp_total (get_or letters i []) ∙ nat_cmp_is i j Equal (sym e)
+              ap (λ n. name_cmp (get_or letters i []) (get_or letters n [])) e ∙ tied_itself nat_list_cmp_total (get_or letters i []) ∙
+              nat_cmp_is i j Equal (sym e)
         ]
       ]
 
-  words_alike : (v w : List ℕ) → AllByRecursion (λ i. i < length letters) v → AllByRecursion (λ i. i < length letters) w → slice_cmp name_cmp (word_of letters v) (word_of letters w) ≡ slice_cmp nat_cmp v w
+  words_alike : (v w : List ℕ) → AllByRecursion (λ i. i < length letters) v → AllByRecursion (λ i. i < length letters) w →
+      slice_cmp name_cmp (word_of letters v) (word_of letters w) ≡ slice_cmp nat_cmp v w
   unfolding word_of
   words_alike [] [] here there = refl
   words_alike [] (j ∷ w) here there = refl
@@ -84,42 +85,58 @@ module _ (letters : List (List ℕ)) (rises : Rises name_cmp letters) where
       → is_lt (pair_cmp (pair_in letters r) (pair_at letters p)) ≡ order.comes_after (r.word.items, bit_of r.call) p
   comes_alike r p here is = (λ k. is_lt (ordering_then (words_alike r.word.items p.0 here is.word k) (calls_alike r.call p.1 is.call k)))
 
-  after_alike : (r : Resumption) (ps : List graph.Pair) → AllByRecursion (λ i. i < length letters) r.word.items → AllByRecursion (λ p. IsPair (length letters) p) ps
-      → filter (λ other. is_lt (pair_cmp (pair_in letters r) other)) (pairs_at letters ps) ≡ pairs_at letters (order.rest_after (r.word.items, bit_of r.call) ps)
+  after_alike : (r : Resumption) (ps : List graph.Pair) → AllByRecursion (λ i. i < length letters) r.word.items →
+      AllByRecursion (λ p. IsPair (length letters) p) ps
+      → filter (λ other. is_lt (pair_cmp (pair_in letters r) other)) (pairs_at letters ps)
+      ≡ pairs_at letters (order.pairs_after (r.word.items, bit_of r.call) ps)
   after_alike r [] here all = refl
   after_alike r (p ∷ ps) here all =
       (λ k. cond (comes_alike r p here all.0 k) (pair_at letters p ∷ after_alike r ps here all.1 k) (after_alike r ps here all.1 k))
-      ∙ elim (order.comes_after (r.word.items, bit_of r.call) p) as (λ b. cond b (pair_at letters p ∷ pairs_at letters (order.rest_after (r.word.items, bit_of r.call) ps)) (pairs_at letters (order.rest_after (r.word.items, bit_of r.call) ps))
-      ≡ pairs_at letters (cond b (p ∷ order.rest_after (r.word.items, bit_of r.call) ps) (order.rest_after (r.word.items, bit_of r.call) ps))) [ true ↦ refl | false ↦ refl ]
+      ∙ elim (order.comes_after (r.word.items, bit_of r.call) p)
+      as (λ b. cond b (pair_at letters p ∷ pairs_at letters (order.pairs_after (r.word.items, bit_of r.call) ps))
+      (pairs_at letters (order.pairs_after (r.word.items, bit_of r.call) ps))
+      ≡ pairs_at letters (cond b (p ∷ order.pairs_after (r.word.items, bit_of r.call) ps) (order.pairs_after (
+        r.word.items,
+        bit_of r.call,
+      ) ps))) [ true ↦ refl | false ↦ refl ]
 
 -- pairs with the same numbers are the same
-numbered_again : (letters : List (List ℕ)) (qs : List Pair) (ps : List graph.Pair) → map numbered qs ≡ map (spelled letters) ps → qs ≡ pairs_at letters ps
+numbered_again : (letters : List (List ℕ)) (qs : List Pair) (ps : List graph.Pair) →
+    map pair_in_numbers qs ≡ map (pair_in_letters letters) ps → qs ≡ pairs_at letters ps
 unfolding word_of
 numbered_again letters qs ps same = sym (named_again qs) ∙ ap (map named) same ∙ spelled_named ps
   where
     named : Word × ℕ → Pair
     named q = (q.0, call_at q.1)
 
-    named_again : (qs : List Pair) → map named (map numbered qs) ≡ qs
+    named_again : (qs : List Pair) → map named (map pair_in_numbers qs) ≡ qs
     named_again [] = refl
     named_again (q ∷ qs) = (λ i. (q.0, call_at_bit q.1 i) ∷ named_again qs i)
 
-    spelled_named : (ps : List graph.Pair) → map named (map (spelled letters) ps) ≡ pairs_at letters ps
+    spelled_named : (ps : List graph.Pair) → map named (map (pair_in_letters letters) ps) ≡ pairs_at letters ps
     spelled_named [] = refl
     spelled_named (p ∷ ps) = ap (λ qs. pair_at letters p ∷ qs) (spelled_named ps)
 
 -- the pairs of a scope that come after one, or all of them
-pub scope_after : (s : Scope) (after : Option Resumption) (ps : List graph.Pair) → Rises name_cmp s.alphabet → IfSome after (λ r. AreLetters s.alphabet s.limit r.word.items) → AllByRecursion (λ p. IsPair (length s.alphabet) p) ps
-    → map numbered (reach s) ≡ map (spelled s.alphabet) ps → rest_after s (option_map (pair_in s.alphabet) after) ≡ pairs_at s.alphabet (pairs_after after ps)
+pub scope_after : (s : Scope) (after : Option Resumption) (ps : List graph.Pair) → Rises name_cmp s.alphabet →
+    IfSome after (λ r. AreLetters s.alphabet s.limit r.word.items) → AllByRecursion (λ p. IsPair (length s.alphabet) p) ps
+    → map pair_in_numbers (reach s) ≡ map (pair_in_letters s.alphabet) ps →
+    rest_after s (option_map (pair_in s.alphabet) after) ≡ pairs_at s.alphabet (pairs_resumed after ps)
 scope_after s None ps rises there all same = numbered_again s.alphabet (reach s) ps same
 scope_after s (Some r) ps rises there all same =
-    ap (filter (λ other. is_lt (pair_cmp (pair_in s.alphabet r) other))) (numbered_again s.alphabet (reach s) ps same) ∙ after_alike s.alphabet rises r ps there.there all
+    ap (filter (λ other. is_lt (pair_cmp (pair_in s.alphabet r) other))) (numbered_again s.alphabet (reach s) ps same) ∙
+    after_alike s.alphabet rises r ps there.there all
 
-kept_pairs : (n : ℕ) (test : graph.Pair → Bool) (ps : List graph.Pair) → AllByRecursion (λ p. IsPair n p) ps → AllByRecursion (λ p. IsPair n p) (filter test ps)
+kept_pairs : (n : ℕ) (test : graph.Pair → Bool) (ps : List graph.Pair) → AllByRecursion (λ p. IsPair n p) ps →
+    AllByRecursion (λ p. IsPair n p) (filter test ps)
 kept_pairs n test [] all = tt
 kept_pairs n test (p ∷ ps) all =
-    elim (test p) as (λ b. AllByRecursion (λ p. IsPair n p) (cond b (p ∷ filter test ps) (filter test ps))) [ true ↦ (all.0, kept_pairs n test ps all.1) | false ↦ kept_pairs n test ps all.1 ]
+    elim (test p) as (λ b. AllByRecursion (λ p. IsPair n p) (cond b (p ∷ filter test ps) (filter test ps))) [
+      | true ↦ (all.0, kept_pairs n test ps all.1)
+      | false ↦ kept_pairs n test ps all.1
+    ]
 
-pub pairs_stay : (n : ℕ) (after : Option Resumption) (ps : List graph.Pair) → AllByRecursion (λ p. IsPair n p) ps → AllByRecursion (λ p. IsPair n p) (pairs_after after ps)
+pub pairs_stay : (n : ℕ) (after : Option Resumption) (ps : List graph.Pair) → AllByRecursion (λ p. IsPair n p) ps →
+    AllByRecursion (λ p. IsPair n p) (pairs_resumed after ps)
 pairs_stay n None ps all = all
 pairs_stay n (Some r) ps all = kept_pairs n _ ps all

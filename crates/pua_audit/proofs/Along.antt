@@ -1,36 +1,28 @@
 -- A word is judged by its path as it is judged letter by letter.
-use Rattle.std.proofs.Common.{◌≡◌, ℕ, zero, suc, Bool, true, false, cond, List, [], ◌∷◌, length, map, refl, sym, ap, ◌∙◌, arith, ◌-◌, ◌*◌, ◌≤◌, max, fold, mul-le-mul_right}
-use Rattle.std.specs.Prelude.{Ok, Err, filter}
-use Rattle.std.specs.List.{AllByRecursion}
-use Rattle.pua_tree.specs.Tree.{Tree, WellFormed, is_dir}
-use Rattle.pua_tree.specs.Steps.{◌>>=◌}
-use Rattle.pua_path.specs.Paths.{part_of, is_absolute}
-use Rattle.pua_path.specs.Resolution.{Resolved, resolve_parts, resolution_of_text, reached}
+use Rattle.pua_audit.proofs.Common.{◌≡◌, ℕ, zero, suc, Bool, true, false, cond, List, [], ◌∷◌, length, map, refl, sym, ap, ◌∙◌, arith, ◌-◌}
+use Rattle.pua_audit.proofs.Common.{◌*◌, ◌≤◌, Ok, Err, filter, AllByRecursion, Tree, WellFormed, is_dir, ◌>>=◌, part_of, is_absolute}
+use Rattle.pua_audit.proofs.Common.{Ending, Followed, Top, Whole, Slot, CallTable, rule_of, last_of, calls, History, may_any, is_ended}
+use Rattle.pua_audit.proofs.Common.{verdict_of, is_allowed, Call, Word, Pair, Scope, words, pairs, from_root, path_of, is_reached, reach}
+use Rattle.pua_audit.proofs.Common.{Start, Below, Judge, base_dir, state_of, judge_of, judge_for, reach_along, Base, Root, Cwd, longest}
+use Rattle.std.proofs.Common.{max, fold, mul-le-mul_right}
+use Rattle.pua_path.specs.Resolution.{Resolved, resolve_parts, resolution_of_text, dir_with_links}
 use Rattle.pua_path.specs.Laws.{Lands, onwards}
 use Rattle.pua_path.proofs.ForCallers.{composes, resolutions_fit}
 use Rattle.pua_path.specs.declared.errno.Errno.TheVariants.{ENOENT, ENOTDIR}
-use Rattle.pua_path.specs.declared.text.Ending.{Ending}
 use Rattle.pua_path.specs.declared.text.Ending.TheVariants as ending
 use Rattle.pua_path.specs.declared.found.Part.TheVariants as parts
-use Rattle.pua_path.specs.declared.found.Last.TheVariants.{Followed}
-use Rattle.pua_path.specs.declared.found.Way.TheVariants.{Top}
-use Rattle.pua_path.specs.declared.found.Found.TheVariants.{Whole, Slot}
-use Rattle.pua_calls.specs.Calls.{CallTable, rule_of, last_of, ending_of, calls}
-use Rattle.pua_policy.specs.History.{History, may_any, is_ended, working_dir}
-use Rattle.pua_policy.specs.Verdict.{verdict_of, verdict_on, object_named, is_allowed}
-use Rattle.pua_calls.specs.declared.call.Call.{Call}
-use Rattle.pua_audit.specs.Reach.{Word, Pair, Scope, words, pairs, from_root, path_of, is_reached, reach}
-use Rattle.pua_audit.specs.Judge.{Start, Below, Judge, base_dir, base_way, state_of, judge_of, judge_for, if_some, is_allowed_along, reach_along}
-use Rattle.pua_audit.specs.declared.base.Base.{Base}
-use Rattle.pua_audit.specs.declared.base.Base.TheVariants.{Root, Cwd}
-use Rattle.pua_audit.specs.Begin.{longest}
+use Rattle.pua_calls.specs.Calls.{ending_of}
+use Rattle.pua_policy.specs.History.{working_dir}
+use Rattle.pua_policy.specs.Verdict.{verdict_on, object_named}
+use Rattle.pua_audit.specs.Judge.{base_way, if_some, is_allowed_along}
 use Rattle.pua_audit.proofs.Paths.{IsPiece, IsPath, path_is, length_from_root}
 use Rattle.pua_audit.proofs.Rising.{all_mapped, all_flat, all_of}
 use Rattle.pua_audit.proofs.Fresh.{refused}
 use Rattle.pua_steps.proofs.ForCallers.{all_weaker}
 
 -- one who has ended is allowed nothing
-ended : (t : Tree) (table : CallTable) (h : History) (call : Call) (r : _) → is_ended h ≡ true → is_allowed (verdict_of t table h call r) ≡ false
+ended : (t : Tree) (table : CallTable) (h : History) (call : Call) (r : _) → is_ended h ≡ true →
+    is_allowed (verdict_of t table h call r) ≡ false
 ended t table h call (Ok found) e = rw e refl
 ended t table h call (Err errno) e = rw e refl
 
@@ -47,16 +39,22 @@ module _ (t : Tree) (fits : WellFormed t) (table : CallTable) (base : Base) (h :
 
   -- from a directory the parts behind the first are judged letter by letter
   along : (c : Call) (links dir : ℕ) (a : List ℕ) (word : Word) → links ≤ 32 → is_dir t dir ≡ true
-      → judged c (resolve_parts links t (last_of c) dir Top (map part_of (a ∷ word))) ≡ is_allowed_along w (Below (record { dir = dir; used = 32 - links }) a) word c
+      → judged c (resolve_parts links t (last_of c) dir Top (map part_of (a ∷ word)))
+      ≡ is_allowed_along w (Below (record { dir = dir; used = 32 - links }) a) word c
   along c links dir a [] le lives = ap (λ n. judged c (resolve_parts n t (last_of c) dir Top (part_of a ∷ []))) (sym (left_again links le))
   along c links dir a (b ∷ word) le lives =
       ap (judged c) (composes t (last_of c) links dir Top (part_of a ∷ []) (part_of b) (map part_of word))
-      ∙ by (λ left next le here. along c left next b word le here) (resolve_parts links t Followed dir Top (part_of a ∷ parts.Dot ∷ [])) ((resolutions_fit t fits).parts links dir Followed (part_of a ∷ parts.Dot ∷ []) lives)
-      ∙ ap (λ n. if_some (state_of (resolve_parts n t Followed dir Top (part_of a ∷ parts.Dot ∷ []) >>= reached)) (λ s. is_allowed_along w (Below s b) word c)) (sym (left_again links le))
+      ∙ by (λ left next le here. along c left next b word le here) (resolve_parts links t Followed dir Top (part_of a ∷ parts.Dot ∷ []))
+      ((resolutions_fit t fits).parts links dir Followed (part_of a ∷ parts.Dot ∷ []) lives)
+      ∙ ap (λ n. if_some (state_of (resolve_parts n t Followed dir Top (part_of a ∷ parts.Dot ∷ []) >>= dir_with_links))
+      (λ s. is_allowed_along w (Below s b) word c)) (sym (left_again links le))
     where
-      by : ((left next : ℕ) → left ≤ 32 → is_dir t next ≡ true → judged c (resolve_parts left t (last_of c) next Top (map part_of (b ∷ word))) ≡ is_allowed_along w (Below (record { dir = next; used = 32 - left }) b) word c)
+      by : ((left next : ℕ) → left ≤ 32 → is_dir t next ≡ true →
+          judged c (resolve_parts left t (last_of c) next Top (map part_of (b ∷ word)))
+          ≡ is_allowed_along w (Below (record { dir = next; used = 32 - left }) b) word c)
           → (r : Resolved) → Lands t Followed links r
-          → judged c (r >>= onwards t (last_of c) (map part_of (b ∷ word))) ≡ if_some (state_of (r >>= reached)) (λ s. is_allowed_along w (Below s b) word c)
+          → judged c (r >>= onwards t (last_of c) (map part_of (b ∷ word))) ≡ if_some (state_of (r >>= dir_with_links))
+          (λ s. is_allowed_along w (Below s b) word c)
       by on (Ok (Whole next way, left)) is = on left next (omega (arith, is.1, le)) is.0.fits
       by on (Ok (Slot at name _, left)) is = refused (may_any h (rule_of table c).alternatives) ENOTDIR
       by on (Err errno) is = refused (may_any h (rule_of table c).alternatives) errno
@@ -64,11 +62,13 @@ module _ (t : Tree) (fits : WellFormed t) (table : CallTable) (base : Base) (h :
   module _ (lives : is_dir t (base_dir base h) ≡ true) where
     -- what a word with a letter names
     named : (c : Call) (a : List ℕ) (word : Word) → IsPath base (path_of base (a ∷ word)) (a ∷ word)
-        → object_named t h c (path_of base (a ∷ word)) ≡ (resolve_parts 32 t (last_of c) (base_dir base h) Top (map part_of (a ∷ word)) >>= λ found. Ok found.0)
+        → object_named t h c (path_of base (a ∷ word)) ≡ (resolve_parts 32 t (last_of c) (base_dir base h) Top (map part_of (a ∷ word)) >>=
+        λ found. Ok found.0)
     named c a word is = start base lives is.absolute
       where
         start : (b : Base) → is_dir t (base_dir b h) ≡ true → is_absolute (path_of base (a ∷ word)) ≡ (elim b [ Root ↦ true | Cwd ↦ false ])
-            → object_named t h c (path_of base (a ∷ word)) ≡ (resolve_parts 32 t (last_of c) (base_dir b h) Top (map part_of (a ∷ word)) >>= λ found. Ok found.0)
+            → object_named t h c (path_of base (a ∷ word)) ≡ (resolve_parts 32 t (last_of c) (base_dir b h) Top (map part_of (a ∷ word)) >>=
+            λ found. Ok found.0)
         start Root here e = rw (is.fault, e, is.parts (ending_of c)) refl
         start Cwd here e = rw (is.fault, e, here, is.parts (ending_of c)) refl
 
@@ -76,7 +76,8 @@ module _ (t : Tree) (fits : WellFormed t) (table : CallTable) (base : Base) (h :
     base_named : (c : Call) → object_named t h c (path_of base []) ≡ Ok (Whole (base_dir base h) (base_way base))
     base_named c = at base lives (ending_of c)
       where
-        at : (b : Base) → is_dir t (base_dir b h) ≡ true → (e : Ending) → resolution_of_text t (working_dir h) e (path_of b []) (last_of c) ≡ Ok (Whole (base_dir b h) (base_way b))
+        at : (b : Base) → is_dir t (base_dir b h) ≡ true → (e : Ending) →
+            resolution_of_text t (working_dir h) e (path_of b []) (last_of c) ≡ Ok (Whole (base_dir b h) (base_way b))
         at Root here ending.Dot = refl
         at Root here ending.Dropped = refl
         at Cwd here ending.Dot = rw here refl
@@ -93,7 +94,8 @@ module _ (t : Tree) (fits : WellFormed t) (table : CallTable) (base : Base) (h :
 -- what a filter keeps depends on what the test says of each member
 pub filter_alike : {A : Type 0} (f g : A → Bool) (xs : List A) → AllByRecursion (λ x. f x ≡ g x) xs → filter f xs ≡ filter g xs
 filter_alike f g [] all = refl
-filter_alike f g (x ∷ xs) all = ap (λ b. cond b (x ∷ filter f xs) (filter f xs)) all.0 ∙ ap (λ ys. cond (g x) (x ∷ ys) ys) (filter_alike f g xs all.1)
+filter_alike f g (x ∷ xs) all = ap (λ b. cond b (x ∷ filter f xs) (filter f xs)) all.0 ∙
+    ap (λ ys. cond (g x) (x ∷ ys) ys) (filter_alike f g xs all.1)
 
 filter_none : {A : Type 0} (f : A → Bool) (xs : List A) → AllByRecursion (λ x. f x ≡ false) xs → filter f xs ≡ []
 filter_none f [] all = refl
@@ -104,19 +106,24 @@ pub record IsWord (P : List ℕ → Type 0) (limit : ℕ) (word : Word) : Type 0
   pub letters : AllByRecursion P word
   pub within : length word ≤ limit
 
-words_are : (P : List ℕ → Type 0) (alphabet : List (List ℕ)) → AllByRecursion P alphabet → (l : ℕ) → AllByRecursion (IsWord P l) (words alphabet l)
+words_are : (P : List ℕ → Type 0) (alphabet : List (List ℕ)) → AllByRecursion P alphabet → (l : ℕ) →
+    AllByRecursion (IsWord P l) (words alphabet l)
 words_are P alphabet all zero = (record { letters = tt; within = omega arith }, tt)
 words_are P alphabet all (suc l) = (
   record { letters = tt; within = omega arith },
   all_flat P (IsWord P (suc l)) (λ a. map (λ word. a ∷ word) (words alphabet l))
-      (λ a is. all_mapped (IsWord P l) (IsWord P (suc l)) (λ word. a ∷ word) (λ word more. record { letters = (is, more.letters); within = omega (arith, more.within) }) (words alphabet l) (words_are P alphabet all l))
+      (λ a is. all_mapped (IsWord P l) (IsWord P (suc l)) (λ word. a ∷ word)
+      (λ word more. record { letters = (is, more.letters); within = omega (arith, more.within) }) (words alphabet l)
+      (words_are P alphabet all l))
       alphabet all,
 )
 
-pub pairs_are : (P : List ℕ → Type 0) (alphabet : List (List ℕ)) (limit : ℕ) → AllByRecursion P alphabet → AllByRecursion (λ pair. IsWord P limit pair.0) (pairs alphabet limit)
+pub pairs_are : (P : List ℕ → Type 0) (alphabet : List (List ℕ)) (limit : ℕ) → AllByRecursion P alphabet →
+    AllByRecursion (λ pair. IsWord P limit pair.0) (pairs alphabet limit)
 pairs_are P alphabet limit all =
     all_flat (IsWord P limit) (λ (pair : Pair). IsWord P limit pair.0) (λ word. map (λ c. (word, c)) calls)
-    (λ word is. all_mapped {B = Pair} (λ _. Unit {0}) (λ pair. IsWord P limit pair.0) (λ c. (word, c)) (λ _ _. is) calls (all_of (λ _. Unit {0}) (λ _. tt) calls))
+    (λ word is. all_mapped {B = Pair} (λ _. Unit {0}) (λ pair. IsWord P limit pair.0) (λ c. (word, c)) (λ _ _. is) calls
+    (all_of (λ _. Unit {0}) (λ _. tt) calls))
     (words alphabet limit) (words_are P alphabet all limit)
 
 both : (P Q : List ℕ → Type 0) (xs : List (List ℕ)) → AllByRecursion P xs → AllByRecursion Q xs → AllByRecursion (λ x. P x × Q x) xs
@@ -143,40 +150,50 @@ times a b c d h k = omega (arith, mul-le-mul_right c k)
 module _ (s : Scope) (fits : WellFormed s.tree) (readable : IsReadable s.alphabet s.limit) where
   short : (word : Word) → IsWord (λ a. IsPiece a × (length a ≤ longest s.alphabet)) s.limit word → length (from_root word) ≤ 1023
   short word is =
-      let long = length_from_root (longest s.alphabet) word (all_weaker (λ a. IsPiece a × (length a ≤ longest s.alphabet)) (λ a. length a ≤ longest s.alphabet) (λ _ a. a.1) word is.letters) in
+      let long = length_from_root (longest s.alphabet) word (all_weaker (λ a. IsPiece a × (length a ≤ longest s.alphabet))
+      (λ a. length a ≤ longest s.alphabet) (λ _ a. a.1) word is.letters) in
       omega (arith, times (length (from_root word)) (length word) (suc (longest s.alphabet)) s.limit long is.within, readable.fits)
 
   -- the reach is what is allowed letter by letter
   pub reach_is_along : is_dir s.tree (base_dir s.base s.history) ≡ true → reach s ≡ reach_along (judge_for s) s.alphabet s.limit
   reach_is_along lives =
       filter_alike (is_reached s) (λ pair. is_allowed_along (judge_for s) Start pair.0 pair.1) (pairs s.alphabet s.limit)
-      (all_weaker (λ pair. IsWord (λ a. IsPiece a × (length a ≤ longest s.alphabet)) s.limit pair.0) (λ pair. is_reached s pair ≡ is_allowed_along (judge_for s) Start pair.0 pair.1)
-      (λ pair is. judged_along s.tree fits s.table s.base s.history lives pair.1 pair.0 (all_weaker (λ a. IsPiece a × (length a ≤ longest s.alphabet)) IsPiece (λ _ a. a.0) pair.0 is.letters)
+      (all_weaker (λ pair. IsWord (λ a. IsPiece a × (length a ≤ longest s.alphabet)) s.limit pair.0) (λ pair. is_reached s pair
+      ≡ is_allowed_along (judge_for s) Start pair.0 pair.1)
+      (λ pair is. judged_along s.tree fits s.table s.base s.history lives pair.1 pair.0
+      (all_weaker (λ a. IsPiece a × (length a ≤ longest s.alphabet)) IsPiece (λ _ a. a.0) pair.0 is.letters)
       (short pair.0 is))
       (pairs s.alphabet s.limit)
-      (pairs_are (λ a. IsPiece a × (length a ≤ longest s.alphabet)) s.alphabet s.limit (both IsPiece (λ a. length a ≤ longest s.alphabet) s.alphabet readable.letters (no_longer 0 s.alphabet))))
+      (pairs_are (λ a. IsPiece a × (length a ≤ longest s.alphabet)) s.alphabet s.limit (both IsPiece (λ a. length a ≤ longest s.alphabet)
+      s.alphabet readable.letters (no_longer 0 s.alphabet))))
 
   -- one who has ended has no reach
   pub none_for_ended : is_ended s.history ≡ true → reach s ≡ []
   none_for_ended over =
-      filter_none (is_reached s) (pairs s.alphabet s.limit) (all_of (λ pair. is_reached s pair ≡ false) (λ pair. ended s.tree s.table s.history pair.1 _ over) (pairs s.alphabet s.limit))
+      filter_none (is_reached s) (pairs s.alphabet s.limit)
+      (all_of (λ pair. is_reached s pair ≡ false) (λ pair. ended s.tree s.table s.history pair.1 _ over) (pairs s.alphabet s.limit))
 
   -- nor has one whose base was removed
   pub none_without_base : is_dir s.tree (base_dir s.base s.history) ≡ false → reach s ≡ []
   none_without_base gone =
       filter_none (is_reached s) (pairs s.alphabet s.limit)
       (all_weaker (λ pair. IsWord (λ a. IsPiece a × (length a ≤ longest s.alphabet)) s.limit pair.0) (λ pair. is_reached s pair ≡ false)
-      (λ pair is. missing s.base gone pair.1 pair.0 (all_weaker (λ a. IsPiece a × (length a ≤ longest s.alphabet)) IsPiece (λ _ a. a.0) pair.0 is.letters) (short pair.0 is))
+      (λ pair is. missing s.base gone pair.1 pair.0 (all_weaker (λ a. IsPiece a × (length a ≤ longest s.alphabet)) IsPiece (λ _ a. a.0)
+      pair.0 is.letters) (short pair.0 is))
       (pairs s.alphabet s.limit)
-      (pairs_are (λ a. IsPiece a × (length a ≤ longest s.alphabet)) s.alphabet s.limit (both IsPiece (λ a. length a ≤ longest s.alphabet) s.alphabet readable.letters (no_longer 0 s.alphabet))))
+      (pairs_are (λ a. IsPiece a × (length a ≤ longest s.alphabet)) s.alphabet s.limit (both IsPiece (λ a. length a ≤ longest s.alphabet)
+      s.alphabet readable.letters (no_longer 0 s.alphabet))))
     where
-      missing : (base : Base) → is_dir s.tree (base_dir base s.history) ≡ false → (c : Call) (word : Word) → AllByRecursion IsPiece word → length (from_root word) ≤ 1023
+      missing : (base : Base) → is_dir s.tree (base_dir base s.history) ≡ false → (c : Call) (word : Word) → AllByRecursion IsPiece word →
+          length (from_root word) ≤ 1023
           → is_allowed (verdict_on s.tree s.table s.history c (path_of base word)) ≡ false
       missing Root gone c word all fits_in = let bad : true ≡ false = sym fits.root ∙ gone in cc
       missing Cwd gone c [] all fits_in =
           let none : object_named s.tree s.history c (path_of Cwd []) ≡ Err ENOENT = rw gone refl in
-          ap (λ r. is_allowed (verdict_of s.tree s.table s.history c r)) none ∙ refused (may_any s.history (rule_of s.table c).alternatives) ENOENT
+          ap (λ r. is_allowed (verdict_of s.tree s.table s.history c r)) none ∙
+          refused (may_any s.history (rule_of s.table c).alternatives) ENOENT
       missing Cwd gone c (a ∷ word) all fits_in =
           let is : IsPath Cwd (path_of Cwd (a ∷ word)) (a ∷ word) = path_is Cwd a word all.0 all.1 fits_in in
           let none : object_named s.tree s.history c (path_of Cwd (a ∷ word)) ≡ Err ENOENT = rw (is.fault, is.absolute, gone) refl in
-          ap (λ r. is_allowed (verdict_of s.tree s.table s.history c r)) none ∙ refused (may_any s.history (rule_of s.table c).alternatives) ENOENT
+          ap (λ r. is_allowed (verdict_of s.tree s.table s.history c r)) none ∙
+          refused (may_any s.history (rule_of s.table c).alternatives) ENOENT

@@ -1,12 +1,7 @@
 -- The laws on what is allowed letter by letter.
-use Rattle.std.proofs.Common.{◌≡◌, ℕ, Bool, true, false, not, ◌&&◌, List, [], ◌∷◌, refl}
-use Rattle.std.specs.List.{AllByRecursion, list_all}
-use Rattle.pua_tree.specs.Tree.{is_dir}
-use Rattle.pua_policy.specs.History.{is_ended}
-use Rattle.std.proofs.lemmas.Bool.{and_parts}
-use Rattle.pua_audit.specs.Reach.{Scope, reach}
-use Rattle.pua_audit.specs.Judge.{base_dir, is_letter}
-use Rattle.pua_audit.specs.Laws.{IsAudited, ReachIsAlong, ClosedReaches}
+use Rattle.pua_audit.proofs.Common.{◌≡◌, ℕ, Bool, true, false, not, ◌&&◌, List, [], ◌∷◌, refl, AllByRecursion, list_all, is_dir, is_ended}
+use Rattle.pua_audit.proofs.Common.{and_parts, Scope, reach, base_dir, is_letter, IsAudited}
+use Rattle.pua_audit.specs.Laws.{ReachIsAlong, ClosedReaches}
 use Rattle.pua_audit.proofs.Paths.{IsPiece, letter_is_piece}
 use Rattle.pua_audit.proofs.Along.{IsReadable, reach_is_along, none_for_ended, none_without_base}
 

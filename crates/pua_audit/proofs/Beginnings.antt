@@ -1,26 +1,18 @@
 -- What an audit begins with, or the first fault, test by test.
-use Rattle.std.proofs.Common.{◌≡◌, ℕ, suc, ◌+◌, ◌*◌, ◌≤◌, ◌<◌, List, [], ◌∷◌, ◌++◌, Bool, length, map, codes, refl, sym, ap, subst, ◌∙◌, add-one}
-use Rattle.std.specs.Prelude.{Option, Result, Ok, Err, nat_le, ok_or, IsTrue}
-use Rattle.std.specs.Result.{result_ok}
-use Rattle.std.specs.List.{AllByRecursion, list_all}
-use Rattle.std.proofs.lemmas.Bool.{le-leb, lt-leb, and_parts, and_from, or_left}
-use Rattle.pua_tree.specs.Names.{is_name, same_bytes}
-use Rattle.pua_tree.specs.Spelling.{name_of}
-use Rattle.pua_tree.specs.Steps.{◌>>=◌}
-use Rattle.pua_tree.specs.Tree.{Tree, Spot, WellFormed, row_fits, is_dir, distinct_names}
+use Rattle.pua_audit.proofs.Common.{◌≡◌, ℕ, suc, ◌+◌, ◌*◌, ◌≤◌, ◌<◌, List, [], ◌∷◌, ◌++◌, Bool, length, map, codes, refl, sym, ap, subst}
+use Rattle.pua_audit.proofs.Common.{◌∙◌, add-one, Result, Ok, Err, IsTrue, result_ok, AllByRecursion, list_all, le-leb, lt-leb, and_parts}
+use Rattle.pua_audit.proofs.Common.{or_left, is_name, same_bytes, name_of, ◌>>=◌, Tree, Spot, WellFormed, is_dir, distinct_names, CallTable}
+use Rattle.pua_audit.proofs.Common.{History, Scope, candidates_from, longest, is_letter, Base, AuditFault, all_joined}
+use Rattle.std.specs.Prelude.{Option, nat_le, ok_or}
+use Rattle.std.proofs.lemmas.Bool.{and_from}
+use Rattle.pua_tree.specs.Tree.{row_fits}
 use Rattle.pua_tree.specs.declared.fault.NameFault.{NameFault}
 use Rattle.pua_tree.proofs.ForCallers.{name_read, Err≢Ok, same_Ok}
-use Rattle.pua_calls.specs.Calls.{CallTable}
-use Rattle.pua_policy.specs.History.{History}
-use Rattle.pua_audit.specs.Reach.{Scope, alphabet_of}
-use Rattle.pua_audit.specs.Begin.{Beginning, candidates_from, longest, fault_unless, beginning}
-use Rattle.pua_audit.specs.Judge.{is_letter}
+use Rattle.pua_audit.specs.Reach.{alphabet_of}
+use Rattle.pua_audit.specs.Begin.{Beginning, fault_unless, beginning}
 use Rattle.pua_audit.specs.Starting.{begun_in}
-use Rattle.pua_audit.specs.declared.base.Base.{Base}
-use Rattle.pua_audit.specs.declared.fault.AuditFault.{AuditFault}
 use Rattle.pua_audit.specs.declared.fault.AuditFault.TheVariants.{LimitTooLarge, TooLong, TooManyNames, BadCandidate}
 use Rattle.pua_audit.proofs.Rising.{all_with_name}
-use Rattle.pua_steps.proofs.ForCallers.{all_joined}
 
 module _ (t : Tree) (table : CallTable) (h : History) (base : Base) (texts : List (List ℕ)) (limit : ℕ) (after : Option (List ℕ)) where
   abbrev scope_of : List (List ℕ) → Scope
@@ -47,9 +39,11 @@ module _ (t : Tree) (table : CallTable) (h : History) (base : Base) (texts : Lis
 
     module _ (candidates : List (List ℕ)) (read : candidates_from 1 texts ≡ Ok candidates) where
       pub too_long : 1023 < limit * suc (longest (alphabet_of t candidates)) → beginning t table h base texts limit after ≡ Err TooLong
-      too_long long = (λ i. tested (le-leb limit 16 small i) (le-leb (length texts) 1024 few i) (read i)) ∙ ap (ending candidates) (lt-leb _ 1023 long)
+      too_long long = (λ i. tested (le-leb limit 16 small i) (le-leb (length texts) 1024 few i) (read i)) ∙
+          ap (ending candidates) (lt-leb _ 1023 long)
 
-      pub begun : (letters : List (List ℕ)) → letters ≡ alphabet_of t candidates → limit * suc (longest letters) ≤ 1023 → beginning t table h base texts limit after ≡ begun_in (scope_of letters) after
+      pub begun : (letters : List (List ℕ)) → letters ≡ alphabet_of t candidates → limit * suc (longest letters) ≤ 1023 →
+          beginning t table h base texts limit after ≡ begun_in (scope_of letters) after
       begun letters same short =
           (λ i. tested (le-leb limit 16 small i) (le-leb (length texts) 1024 few i) (read i))
           ∙ ap (ending candidates) (le-leb _ 1023 (subst (λ l. limit * suc (longest l) ≤ 1023) same short))
@@ -62,12 +56,18 @@ AreLetterNames names = AllByRecursion (λ a. IsTrue (is_letter a)) names
 
 candidates_named : (n : ℕ) (texts names : List (List ℕ)) → candidates_from n texts ≡ Ok names → AreLetterNames names
 candidates_named n [] names e = subst AreLetterNames (same_Ok [] names e) tt
-candidates_named n (text ∷ texts) names e = by (name_of text) refl (candidates_from (suc n) texts) (λ more is. candidates_named (suc n) texts more is) e
+candidates_named n (text ∷ texts) names e =
+    by (name_of text) refl (candidates_from (suc n) texts) (λ more is. candidates_named (suc n) texts more is) e
   where
-    by : (r : Result (List ℕ) NameFault) → name_of text ≡ r → (q : Result (List (List ℕ)) AuditFault) → ((more : List (List ℕ)) → q ≡ Ok more → AreLetterNames more)
+    by : (r : Result (List ℕ) NameFault) → name_of text ≡ r → (q : Result (List (List ℕ)) AuditFault) →
+        ((more : List (List ℕ)) → q ≡ Ok more → AreLetterNames more)
         → (ok_or (result_ok r) (BadCandidate n) >>= λ name. q >>= λ names. Ok (name ∷ names)) ≡ Ok names → AreLetterNames names
     by (Ok name) is (Ok more) rest e =
-        subst AreLetterNames (same_Ok (name ∷ more) names e) (or_left (is_name name) (same_bytes name (codes "..")) (name_read text name is).1, rest more refl)
+        subst AreLetterNames (same_Ok (name ∷ more) names e) (
+          or_left (is_name name) (same_bytes name (codes ".."))
+              (name_read text name is).1,
+          rest more refl,
+        )
     by (Ok name) is (Err fault) rest e = absurd (Err≢Ok fault names e)
     by (Err fault) is q rest e = absurd (Err≢Ok (BadCandidate n) names e)
 
@@ -86,10 +86,14 @@ letters_all : (names : List (List ℕ)) → AreLetterNames names → IsTrue (lis
 letters_all [] all = refl
 letters_all (name ∷ names) all = and_from (is_letter name) (list_all is_letter names) all.0 (letters_all names all.1)
 
-pub alphabet_letters : (t : Tree) → WellFormed t → (texts candidates : List (List ℕ)) → candidates_from 1 texts ≡ Ok candidates → IsTrue (list_all is_letter (alphabet_of t candidates))
+pub alphabet_letters : (t : Tree) → WellFormed t → (texts candidates : List (List ℕ)) → candidates_from 1 texts ≡ Ok candidates →
+    IsTrue (list_all is_letter (alphabet_of t candidates))
 alphabet_letters t fits texts candidates read =
-    letters_all (alphabet_of t candidates) (distinct_named (codes ".." ∷ candidates ++ map (λ row. row.0.1) t.rows)
-    (refl, all_joined (λ a. IsTrue (is_letter a)) candidates (map (λ row. row.0.1) t.rows) (candidates_named 1 texts candidates read) (rows_named t t.rows fits.rows_fit)))
+    letters_all (alphabet_of t candidates) (distinct_named (codes ".." ∷ candidates ++ map (λ row. row.0.1) t.rows) (
+      refl,
+      all_joined (λ a. IsTrue (is_letter a)) candidates (map (λ row. row.0.1) t.rows) (candidates_named 1 texts candidates read)
+          (rows_named t t.rows fits.rows_fit),
+    ))
 
 -- the same product, of equal factors
 pub same_product : (from limit result most : ℕ) → from ≡ limit → result ≡ most → from * (result + 1) ≡ limit * suc most

@@ -1,26 +1,19 @@
 -- What a call of the walk leaves of the pairs that are still to come, and of the path of its word.
-use Rattle.std.proofs.Common.{ℕ, suc, ◌+◌, ◌*◌, ◌<◌, ◌≤◌, ◌≡◌, List, [], ◌∷◌, ◌++◌, refl, ap, arith, sym, ◌∙◌, subst, length, get_or, take, min, zero, vec_capacity}
-use Rattle.std.proofs.lemmas.List.{take_more, length-take, length-map}
-use Rattle.std.proofs.lemmas.Nat.{mul-le}
-use Rattle.std.specs.List.{AllByRecursion}
-use Rattle.pua_audit.specs.Reach.{Word}
-use Rattle.pua_audit.specs.Begin.{longest}
-use Rattle.pua_audit.specs.Ready.{part_bytes, letters_of, word_of, IsSound}
+use Rattle.pua_audit.proofs.Common.{ℕ, suc, ◌+◌, ◌*◌, ◌<◌, ◌≤◌, ◌≡◌, List, [], ◌∷◌, ◌++◌, refl, ap, arith, sym, ◌∙◌, subst, length, get_or}
+use Rattle.pua_audit.proofs.Common.{take, min, zero, vec_capacity, length-map, mul-le, AllByRecursion, Word, longest, part_bytes}
+use Rattle.pua_audit.proofs.Common.{letters_of, word_of, IsSound, Terms, Call, pairs_at, IsPair, Steps}
+use Rattle.std.proofs.lemmas.List.{take_more, length-take}
 use Rattle.pua_audit.specs.WordPaths.{IsPathAlong, IsPathOf}
 use Rattle.pua_audit.specs.declared.path.WordPath.{WordPath}
-use Rattle.pua_audit.specs.declared.terms.Terms.{Terms}
 use Rattle.pua_audit.proofs.Moves.{word_of-push}
 use Rattle.pua_audit.proofs.Spelled.{IsSpelled, room_for}
 use Rattle.pua_audit.proofs.WordPaths.{front_stays, take_whole}
-use Rattle.pua_calls.specs.declared.call.Call.{Call}
-use Rattle.pua_audit.specs.Coming.{AreReady, IsLine, call_at, pairs_at, word_in}
+use Rattle.pua_audit.specs.Coming.{AreReady, IsLine, call_at, walk_word}
 use Rattle.pua_audit.specs.declared.pairs.Pairs.{Pairs}
 use Rattle.pua_steps.specs.Graph as graph
 use Rattle.pua_steps.specs.Ready as steps
-use Rattle.pua_steps.specs.Ready.{IsOf, IsUnchanged}
+use Rattle.pua_steps.specs.Ready.{IsSameWalk, IsUnchanged}
 use Rattle.pua_steps.specs.Trail.{pairs_of}
-use Rattle.pua_steps.specs.Within.{IsPair}
-use Rattle.pua_steps.specs.declared.steps.Steps.{Steps}
 use Rattle.pua_steps.specs.declared.walk.Walk.{Walk}
 
 all_taken : (P : ℕ → Type 0) (k : ℕ) (xs : List ℕ) → AllByRecursion P xs → AllByRecursion P (take k xs)
@@ -41,53 +34,78 @@ pub along_none : (letters : List (List ℕ)) (word : List ℕ) (p : WordPath) �
 unfolding word_of
 along_none letters word p is =
     let none : 0 ≡ length p.starts.items = sym (ap length is.starts) in
-    record { few = omega (arith, none); path = subst (λ n. IsPathOf (word_of letters (take n word)) p) none (subst (λ (w : List ℕ). IsPathOf (word_of letters w) p) (sym (take_none word)) is) }
+    record {
+      few = omega (arith, none);
+      path =
+          subst (λ n. IsPathOf (word_of letters (take n word)) p) none (subst (λ (w : List ℕ). IsPathOf (word_of letters w) p)
+          (sym (take_none word)) is);
+    }
   where
     take_none : (word : List ℕ) → take 0 word ≡ []
     take_none [] = refl
     take_none (i ∷ word) = refl
 
 -- one letter more is in the path
-pub along_push : (letters : List (List ℕ)) (word : List ℕ) (p q : WordPath) (a : List ℕ) → IsPathAlong letters word p → length p.starts.items < length word → get_or letters (get_or word (length p.starts.items) 0) [] ≡ a
-    → ((w : Word) → IsPathOf w p → IsPathOf (w ++ a ∷ []) q) → length q.starts.items ≡ length p.starts.items + 1 → IsPathAlong letters word q
+pub along_push : (letters : List (List ℕ)) (word : List ℕ) (p q : WordPath) (a : List ℕ) → IsPathAlong letters word p →
+    length p.starts.items < length word → get_or letters (get_or word (length p.starts.items) 0) [] ≡ a
+    → ((w : Word) → IsPathOf w p → IsPathOf (w ++ a ∷ []) q) → length q.starts.items ≡ length p.starts.items + 1 →
+    IsPathAlong letters word q
 along_push letters word p q a is low letter add more =
     let k : ℕ = length p.starts.items in
     let same : word_of letters (take (length q.starts.items) word) ≡ word_of letters (take k word) ++ a ∷ [] =
-    ap (λ n. word_of letters (take n word)) more ∙ ap (word_of letters) (take_more word k 0 low) ∙ word_of-push letters (take k word) (get_or word k 0) ∙ ap (λ b. word_of letters (take k word) ++ b ∷ []) letter in
-    record { few = omega (arith, more, low); path = subst (λ (w : Word). IsPathOf w q) (sym same) (add (word_of letters (take k word)) is.path) }
+    ap (λ n. word_of letters (take n word)) more ∙ ap (word_of letters) (take_more word k 0 low) ∙
+    word_of-push letters (take k word) (get_or word k 0) ∙ ap (λ b. word_of letters (take k word) ++ b ∷ []) letter in
+    record {
+      few = omega (arith, more, low);
+      path = subst (λ (w : Word). IsPathOf w q) (sym same) (add (word_of letters (take k word)) is.path);
+    }
 
 -- there is room for it
-pub along_room : (a : Terms) (word : List ℕ) (p : WordPath) (i : ℕ) → IsPathAlong (letters_of a) word p → AllByRecursion (λ i. i < length a.letters.items) word → length p.starts.items < length word → length word ≤ a.limit
-    → i < length a.letters.items → a.limit * suc (longest (letters_of a)) ≤ vec_capacity p.bytes → length p.bytes.items + suc (length (get_or (letters_of a) i [])) ≤ vec_capacity p.bytes
+pub along_room : (a : Terms) (word : List ℕ) (p : WordPath) (i : ℕ) → IsPathAlong (letters_of a) word p →
+    AllByRecursion (λ i. i < length a.letters.items) word → length p.starts.items < length word → length word ≤ a.limit
+    → i < length a.letters.items → a.limit * suc (longest (letters_of a)) ≤ vec_capacity p.bytes →
+    length p.bytes.items + suc (length (get_or (letters_of a) i [])) ≤ vec_capacity p.bytes
 along_room a word p i is known low within here room =
     let k : ℕ = length p.starts.items in
-    let front : IsSpelled a (take k word) p.bytes.items = record { known = all_taken (λ i. i < length a.letters.items) k word known; path = is.path.bytes } in
+    let front : IsSpelled a (take k word) p.bytes.items =
+    record { known = all_taken (λ i. i < length a.letters.items) k word known; path = is.path.bytes } in
     room_for a (take k word) p.bytes.items i (vec_capacity p.bytes) front here (omega (arith, length-take k word, low, within)) room
 
 -- the path has the whole word
-pub along_whole : (letters : List (List ℕ)) (word : List ℕ) (p : WordPath) → IsPathAlong letters word p → length word ≤ length p.starts.items → IsPathOf (word_of letters word) p
-along_whole letters word p is all = subst (λ (w : List ℕ). IsPathOf (word_of letters w) p) (take_whole (length p.starts.items) word all) is.path
+pub along_whole : (letters : List (List ℕ)) (word : List ℕ) (p : WordPath) → IsPathAlong letters word p →
+    length word ≤ length p.starts.items → IsPathOf (word_of letters word) p
+along_whole letters word p is all = subst (λ (w : List ℕ). IsPathOf (word_of letters w) p) (take_whole (length p.starts.items) word all)
+    is.path
 
 -- the letters that are unchanged stay
 pub along_kept : (letters : List (List ℕ)) (old new : List ℕ) (n : ℕ) (p q : WordPath) → IsPathAlong letters old p → IsUnchanged old n new
-    → ((w : Word) → IsPathOf w p → IsPathOf (take n w) q) → length q.starts.items ≡ min n (length p.starts.items) → IsPathAlong letters new q
+    → ((w : Word) → IsPathOf w p → IsPathOf (take n w) q) → length q.starts.items ≡ min n (length p.starts.items) →
+    IsPathAlong letters new q
 along_kept letters old new n p q is same keep few =
     let k : ℕ = length p.starts.items in
     let front : take n (word_of letters (take k old)) ≡ word_of letters (take (length q.starts.items) new) =
     word_of-take letters n (take k old) ∙ ap (word_of letters) (front_stays old new k n (length q.starts.items) same.same few) in
-    record { few = omega (arith, few, same.after); path = subst (λ (w : Word). IsPathOf w q) front (keep (word_of letters (take k old)) is.path) }
+    record {
+      few = omega (arith, few, same.after);
+      path = subst (λ (w : Word). IsPathOf w q) front (keep (word_of letters (take k old)) is.path);
+    }
 
-module _ (a : Pairs) (ready : AreReady a) (w : Walk) (of : IsOf a.walk w) (walk : steps.IsReady w) (stays : IsUnchanged a.walk.word.items w.unchanged w.word.items) where
+module _ (a : Pairs) (ready : AreReady a) (w : Walk) (of : IsSameWalk a.walk w) (walk : steps.IsReady w)
+    (stays : IsUnchanged a.walk.word.items w.unchanged w.word.items) where
   -- the walk goes on, and the path keeps what is unchanged
-  pub kept_ready : (q : WordPath) (n : ℕ) → n ≡ w.unchanged → AllByRecursion (λ p. IsPair (length (letters_of a.terms)) p) (pairs_of (steps.trail w)) → ((v : Word) → IsPathOf v a.path → IsPathOf (take n v) q) → length q.starts.items ≡ min n (length a.path.starts.items)
-      → vec_capacity q.bytes ≡ vec_capacity a.path.bytes → vec_capacity q.starts ≡ vec_capacity a.path.starts → AreReady (record { terms = a.terms; walk = w; live = a.live; path = q })
+  pub kept_ready : (q : WordPath) (n : ℕ) → n ≡ w.unchanged →
+      AllByRecursion (λ p. IsPair (length (letters_of a.terms)) p) (pairs_of (steps.trail w)) →
+      ((v : Word) → IsPathOf v a.path → IsPathOf (take n v) q) → length q.starts.items ≡ min n (length a.path.starts.items)
+      → vec_capacity q.bytes ≡ vec_capacity a.path.bytes → vec_capacity q.starts ≡ vec_capacity a.path.starts →
+      AreReady (record { terms = a.terms; walk = w; live = a.live; path = q })
   kept_ready q n at pairs keep few bytes starts = record {
     sound = ready.sound;
     walk = walk;
     limit = of.limit ∙ ready.limit;
     letters = ap (λ (t : Steps). t.letters) of.steps ∙ ready.letters;
     pairs = pairs;
-    path = along_kept (letters_of a.terms) a.walk.word.items w.word.items n a.path q ready.path (subst (λ m. IsUnchanged a.walk.word.items m w.word.items) (sym at) stays) keep few;
+    path = along_kept (letters_of a.terms) a.walk.word.items w.word.items n a.path q ready.path
+        (subst (λ m. IsUnchanged a.walk.word.items m w.word.items) (sym at) stays) keep few;
     bytes = omega (arith, ready.bytes, bytes);
     starts = omega (arith, ready.starts, starts);
   }
@@ -96,26 +114,32 @@ module _ (a : Pairs) (ready : AreReady a) (w : Walk) (of : IsOf a.walk w) (walk 
   pairs_none none = subst (λ (ps : List graph.Pair). AllByRecursion (λ p. IsPair (length (letters_of a.terms)) p) ps) (sym none) tt
 
   module _ (call : ℕ) (line : pairs_of (steps.trail a.walk) ≡ (w.word.items, call) ∷ pairs_of (steps.trail w)) where
-    pub pairs_more : IsPair (length (letters_of a.terms)) (w.word.items, call) × AllByRecursion (λ p. IsPair (length (letters_of a.terms)) p) (pairs_of (steps.trail w))
+    pub pairs_more : IsPair (length (letters_of a.terms)) (w.word.items, call) ×
+        AllByRecursion (λ p. IsPair (length (letters_of a.terms)) p) (pairs_of (steps.trail w))
     pairs_more = subst (λ (ps : List graph.Pair). AllByRecursion (λ p. IsPair (length (letters_of a.terms)) p) ps) line ready.pairs
 
     pub word_known : AllByRecursion (λ i. i < length a.terms.letters.items) w.word.items
     word_known = subst (λ n. AllByRecursion (λ i. i < n) w.word.items) (length-map a.terms.letters.items part_bytes) pairs_more.0.word
 
     -- then the path has the whole word
-    module _ (b : Pairs) (terms : b.terms ≡ a.terms) (same : b.walk ≡ w) (path : IsPathOf (word_in b) b.path) (whole : length b.path.starts.items ≡ length b.walk.word.items)
-        (bytes : a.terms.limit * suc (longest (letters_of a.terms)) ≤ vec_capacity b.path.bytes) (starts : a.terms.limit ≤ vec_capacity b.path.starts) where
+    module _ (b : Pairs) (terms : b.terms ≡ a.terms) (same : b.walk ≡ w) (path : IsPathOf (walk_word b) b.path)
+        (whole : length b.path.starts.items ≡ length b.walk.word.items)
+        (bytes : a.terms.limit * suc (longest (letters_of a.terms)) ≤ vec_capacity b.path.bytes)
+        (starts : a.terms.limit ≤ vec_capacity b.path.starts) where
       pub spelled_ready : AreReady b
       spelled_ready = record {
         sound = subst IsSound (sym terms) ready.sound;
         walk = subst steps.IsReady (sym same) walk;
         limit = ap (λ (v : Walk). v.limit) same ∙ of.limit ∙ ready.limit ∙ sym (ap (λ (t : Terms). t.limit) terms);
-        letters = ap (λ (v : Walk). v.tables.steps.letters) same ∙ ap (λ (t : Steps). t.letters) of.steps ∙ ready.letters ∙ sym (ap (λ (t : Terms). length (letters_of t)) terms);
+        letters = ap (λ (v : Walk). v.tables.steps.letters) same ∙ ap (λ (t : Steps). t.letters) of.steps ∙ ready.letters ∙
+            sym (ap (λ (t : Terms). length (letters_of t)) terms);
         pairs = subst (λ (t : Terms). AllByRecursion (λ p. IsPair (length (letters_of t)) p) (pairs_of (steps.trail b.walk))) (sym terms)
-            (subst (λ (v : Walk). AllByRecursion (λ p. IsPair (length (letters_of a.terms)) p) (pairs_of (steps.trail v))) (sym same) pairs_more.1);
+            (subst (λ (v : Walk). AllByRecursion (λ p. IsPair (length (letters_of a.terms)) p) (pairs_of (steps.trail v))) (sym same)
+            pairs_more.1);
         path = record {
           few = omega (arith, whole);
-          path = subst (λ (v : List ℕ). IsPathOf (word_of (letters_of b.terms) v) b.path) (sym (take_whole (length b.path.starts.items) b.walk.word.items (omega (arith, whole)))) path;
+          path = subst (λ (v : List ℕ). IsPathOf (word_of (letters_of b.terms) v) b.path)
+              (sym (take_whole (length b.path.starts.items) b.walk.word.items (omega (arith, whole)))) path;
         };
         bytes = subst (λ (t : Terms). t.limit * suc (longest (letters_of t)) ≤ vec_capacity b.path.bytes) (sym terms) bytes;
         starts = subst (λ (t : Terms). t.limit ≤ vec_capacity b.path.starts) (sym terms) starts;
@@ -124,12 +148,24 @@ module _ (a : Pairs) (ready : AreReady a) (w : Walk) (of : IsOf a.walk w) (walk 
       pub is_line : (named : Call) → named ≡ call_at call → IsLine a named b
       is_line named is = record {
         next = ap (pairs_at (letters_of a.terms)) line
-            ∙ sym (λ i. (word_of (letters_of (terms i)) (same i).word.items, is i) ∷ pairs_at (letters_of (terms i)) (pairs_of (steps.trail (same i))));
+            ∙ sym (λ i. (
+              word_of (letters_of (terms i)) (same i).word.items,
+              is i,
+            ) ∷ pairs_at (letters_of (terms i)) (pairs_of (steps.trail (same i))));
         path = path;
-        within = omega (arith, ap (λ (v : Walk). length v.word.items) same, walk.within, of.limit, ready.limit, ap (λ (t : Terms). t.limit) terms);
-        known = subst (λ (t : Terms). AllByRecursion (λ i. i < length t.letters.items) b.walk.word.items) (sym terms) (subst (λ (v : Walk). AllByRecursion (λ i. i < length a.terms.letters.items) v.word.items) (sym same) word_known);
+        within = omega (
+          arith,
+          ap (λ (v : Walk). length v.word.items) same,
+          walk.within,
+          of.limit,
+          ready.limit,
+          ap (λ (t : Terms). t.limit) terms,
+        );
+        known = subst (λ (t : Terms). AllByRecursion (λ i. i < length t.letters.items) b.walk.word.items) (sym terms)
+            (subst (λ (v : Walk). AllByRecursion (λ i. i < length a.terms.letters.items) v.word.items) (sym same) word_known);
       }
 
 -- letters that are read for a call, as contracts see them
 pub read_within : (new old limit letters : ℕ) → new ≤ old + 2 * (limit * letters) → new ≤ old + 2 * (suc limit * suc letters)
-read_within new old limit letters few = let more : limit * letters ≤ suc limit * suc letters = mul-le limit letters (suc limit) (suc letters) (omega arith) (omega arith) in omega (arith, few, more)
+read_within new old limit letters few = let more : limit * letters ≤ suc limit * suc letters =
+    mul-le limit letters (suc limit) (suc letters) (omega arith) (omega arith) in omega (arith, few, more)

@@ -1,24 +1,22 @@
 -- Looks at a tree while a table of steps is made of it, added up.
-use Rattle.std.proofs.Common.{ℕ, suc, ◌+◌, ◌*◌, ◌<◌, ◌≤◌, ◌≡◌, List, [], ◌∷◌, Option, Some, None, true, false, ◌||◌, cond, map, refl, ap, arith, ◌∙◌, length, option_map, nat_eq, suc-mul}
+use Rattle.pua_audit.proofs.Common.{ℕ, suc, ◌+◌, ◌*◌, ◌<◌, ◌≤◌, ◌≡◌, List, [], ◌∷◌, Option, Some, None, true, false, ◌||◌, cond, map, refl}
+use Rattle.pua_audit.proofs.Common.{ap, arith, ◌∙◌, length, option_map, nat_eq, list_any, nat_cmp, eq_by_cmp, eqb-true, or_right}
+use Rattle.pua_audit.proofs.Common.{length-map, mul-le, Tree, is_dir, letter_cost, object_cost, row_cost, AreLiving, AreNumbers}
+use Rattle.std.proofs.Common.{suc-mul}
 use Rattle.std.specs.Prelude.{is_some}
 use Rattle.std.specs.Cmp.{nat_eq_equiv, unsigned_ties}
 use Rattle.std.specs.FinMap.{find as find_key}
-use Rattle.std.specs.List.{list_any}
-use Rattle.std.specs.Ordering.{nat_cmp, eq_by_cmp}
-use Rattle.std.proofs.lemmas.Bool.{eqb-true, or_right}
-use Rattle.std.proofs.lemmas.List.{length-map}
 use Rattle.std.proofs.lemmas.Map.Made.{length-le_from_is_member}
-use Rattle.std.proofs.lemmas.Nat.{mul-le}
-use Rattle.pua_tree.specs.Tree.{Tree, Node, is_dir, is_dir_kind, node_at}
-use Rattle.pua_audit.specs.Bounds.{letter_cost, object_cost, row_cost, table_cost}
-use Rattle.pua_audit.specs.Rows.{AreLiving, AreNumbers}
+use Rattle.pua_tree.specs.Tree.{Node, is_dir_kind, node_at}
+use Rattle.pua_audit.specs.Bounds.{table_cost}
 
 -- living directories, none of them twice, are at most as many as the nodes
 
 keyed : (q : ℕ) (es : List (ℕ × Node)) → is_some (find_key nat_cmp q es) ≡ true → list_any (nat_eq q) (map (λ e. e.0) es) ≡ true
 keyed q [] there = there
 keyed q (y ∷ es) there =
-    elim (eq_by_cmp nat_cmp q y.0) as (λ b. eq_by_cmp nat_cmp q y.0 ≡ b → is_some (cond b (Some y.1) (find_key nat_cmp q es)) ≡ true → (nat_eq q y.0 || list_any (nat_eq q) (map (λ e. e.0) es)) ≡ true) [
+    elim (eq_by_cmp nat_cmp q y.0) as (λ b. eq_by_cmp nat_cmp q y.0 ≡ b → is_some (cond b (Some y.1) (find_key nat_cmp q es)) ≡ true →
+    (nat_eq q y.0 || list_any (nat_eq q) (map (λ e. e.0) es)) ≡ true) [
       | true ↦ λ same _. ap (λ b. b || list_any (nat_eq q) (map (λ e. e.0) es)) (unsigned_ties q y.0 ∙ same)
       | false ↦ λ _ later. or_right (nat_eq q y.0) (list_any (nat_eq q) (map (λ e. e.0) es)) (keyed q es later)
     ] refl there
@@ -40,7 +38,8 @@ one_living t (d ∷ dirs) q all there =
 
 pub rows_few : (t : Tree) (dirs : List ℕ) → AreNumbers dirs → AreLiving t dirs → length dirs ≤ length t.nodes
 rows_few t dirs numbers living =
-    let few = length-le_from_is_member nat_eq_equiv dirs (map (λ e. e.0) t.nodes) numbers.apart (λ q there. keyed q t.nodes (living_is_node t q (one_living t dirs q living there))) in
+    let few = length-le_from_is_member nat_eq_equiv dirs (map (λ e. e.0) t.nodes) numbers.apart
+    (λ q there. keyed q t.nodes (living_is_node t q (one_living t dirs q living there))) in
     omega (arith, few, length-map t.nodes (λ e. e.0))
 
 -- the letters of a row that are looked up
@@ -53,10 +52,12 @@ pub one_row_more : (t : Tree) (letters n : ℕ) → n * row_cost t letters + row
 one_row_more t letters n = omega (arith, suc-mul n (row_cost t letters))
 
 pub rows_within : (t : Tree) (letters n : ℕ) → n ≤ length t.nodes → suc (n * row_cost t letters) ≤ table_cost t letters
-rows_within t letters n few = let all = mul-le n (row_cost t letters) (length t.nodes) (row_cost t letters) few (omega arith) in omega (arith, all)
+rows_within t letters n few = let all = mul-le n (row_cost t letters) (length t.nodes) (row_cost t letters) few (omega arith) in
+    omega (arith, all)
 
 -- a row more while there is a directory for it
-pub next_within : (t : Tree) (letters n : ℕ) (dirs : List ℕ) → AreNumbers dirs → AreLiving t dirs → n < length dirs → suc (n * row_cost t letters + row_cost t letters) ≤ table_cost t letters
+pub next_within : (t : Tree) (letters n : ℕ) (dirs : List ℕ) → AreNumbers dirs → AreLiving t dirs → n < length dirs →
+    suc (n * row_cost t letters + row_cost t letters) ≤ table_cost t letters
 next_within t letters n dirs numbers living inside =
     let all = rows_within t letters (suc n) (omega (arith, inside, rows_few t dirs numbers living)) in
     omega (arith, all, one_row_more t letters n)

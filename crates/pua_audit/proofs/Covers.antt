@@ -1,23 +1,14 @@
 -- Covers of the directories of a table, and covers handed down from them.
-use Rattle.std.proofs.Common.{true, ℕ, ◌≡◌, List, Option, Some, None, sym, ap, ◌∙◌, subst}
-use Rattle.std.specs.Prelude.{IfOk, IfSome, IsTrue, Result, Ok, Err}
-use Rattle.pua_tree.specs.Tree.{Tree, WellFormed, above, is_dir}
-use Rattle.pua_path.specs.Fits.{FoundFits, FoundsFit, StandsAsNamed}
-use Rattle.pua_path.specs.declared.errno.Errno.{Errno}
-use Rattle.pua_path.specs.declared.found.Found.{Found}
-use Rattle.pua_path.specs.declared.found.Found.TheVariants.{Whole, Slot}
-use Rattle.pua_path.specs.Resolution.{follow, last}
-use Rattle.pua_path.specs.declared.found.Last.TheVariants.{Kept}
-use Rattle.pua_path.specs.declared.found.Part.{Part}
+use Rattle.pua_audit.proofs.Common.{true, ℕ, ◌≡◌, List, Option, Some, None, sym, ap, ◌∙◌, subst, IfOk, IfSome, IsTrue, Result, Ok, Err}
+use Rattle.pua_audit.proofs.Common.{Tree, WellFormed, above, is_dir, FoundsFit, StandsAsNamed, Errno, Found, Whole, Slot, follow, last}
+use Rattle.pua_audit.proofs.Common.{Kept, Part, Top, cover_in, History, perms_kept, CallTable, cover, is_allowed, Call, allowed_within}
+use Rattle.pua_audit.proofs.Common.{found_of, leads_to}
+use Rattle.pua_path.specs.Fits.{FoundFits}
 use Rattle.pua_path.specs.declared.found.Part.TheVariants as parts
 use Rattle.pua_path.specs.declared.found.Way.{Way}
-use Rattle.pua_path.specs.declared.found.Way.TheVariants.{DotDot, Named, Top}
-use Rattle.pua_policy.specs.Descent.{cover_in, own_or}
-use Rattle.pua_policy.specs.History.{History, kept}
-use Rattle.pua_calls.specs.Calls.{CallTable}
-use Rattle.pua_policy.specs.Verdict.{Object, cover, covered_verdict, is_allowed}
-use Rattle.pua_calls.specs.declared.call.Call.{Call}
-use Rattle.pua_audit.specs.Entries.{allowed_within, found_of, leads_to}
+use Rattle.pua_path.specs.declared.found.Way.TheVariants.{DotDot, Named}
+use Rattle.pua_policy.specs.Descent.{own_or}
+use Rattle.pua_policy.specs.Verdict.{Object, covered_verdict}
 use Rattle.pua_policy.specs.declared.answer.Cover.{Cover}
 use Rattle.pua_policy.specs.declared.place.Place.TheVariants as place
 use Rattle.pua_policy.proofs.ForCallers.{covers_descend}
@@ -27,7 +18,8 @@ some_leads leads None is = tt
 some_leads leads (Some x) is = leads x is
 
 -- names without a veil of their own, in a directory that has this cover
-pub within_is : (t : Tree) (table : CallTable) (h : History) (fits : WellFormed t) (dir : ℕ) (living : IsTrue (is_dir t dir)) (left : Cover) → left ≡ cover_in t h dir
+pub within_is : (t : Tree) (table : CallTable) (h : History) (fits : WellFormed t) (dir : ℕ) (living : IsTrue (is_dir t dir))
+    (left : Cover) → left ≡ cover_in t h dir
     → (object : Object) (call : Call) → is_allowed (covered_verdict t table h call left object) ≡ allowed_within t table h dir object call
 within_is t table h fits dir living left is object call =
     ap (λ c. is_allowed (covered_verdict t table h call c object)) (is ∙ sym ((covers_descend t h fits).directory dir Top living))
@@ -41,25 +33,30 @@ founds_of t (Ok found) fit = fit
 founds_of t (Err errno) fit = tt
 
 -- what the veils leave of a directory that was found is the cover of the names in it
-pub covered_lead : (t : Tree) (h : History) → WellFormed t → (r : Result Found Errno) (left : Cover) → FoundsFit t r → IfOk r (λ object. left ≡ cover t h object) → IfSome (leads_to r) (λ to. left ≡ cover_in t h to)
+pub covered_lead : (t : Tree) (h : History) → WellFormed t → (r : Result Found Errno) (left : Cover) → FoundsFit t r →
+    IfOk r (λ object. left ≡ cover t h object) → IfSome (leads_to r) (λ to. left ≡ cover_in t h to)
 covered_lead t h fits (Ok (Whole dir way)) left fit is = is ∙ (covers_descend t h fits).directory dir way fit
 covered_lead t h fits (Ok (Slot dir name _)) left fit is = tt
 covered_lead t h fits (Err errno) left fit is = tt
 
 -- what was found gets its cover from the directory over it
 module _ (t : Tree) (h : History) (fits : WellFormed t) (found : Found) (is_fit : FoundFits t found) where
-  pub handed_name : (dir : ℕ) (name : List ℕ) (node : Option ℕ) → found ≡ Slot dir name node → own_or (kept h (place.Slot dir name)) (cover_in t h dir) ≡ cover t h found
+  pub handed_name : (dir : ℕ) (name : List ℕ) (node : Option ℕ) → found ≡ Slot dir name node →
+      own_or (perms_kept h (place.Slot dir name)) (cover_in t h dir) ≡ cover t h found
   handed_name dir name node is = sym ((covers_descend t h fits).at_name dir name node) ∙ ap (cover t h) (sym is)
 
   pub handed_self : (dir : ℕ) (way : Way) → found ≡ Whole dir way → cover_in t h dir ≡ cover t h found
   handed_self dir way is = sym ((covers_descend t h fits).directory dir way (subst (FoundFits t) is is_fit)) ∙ ap (cover t h) (sym is)
 
-  pub handed_below : StandsAsNamed t found → (dir parent : ℕ) (name : List ℕ) → found ≡ Whole dir (Named parent name) → own_or (kept h (place.Dir dir)) (cover_in t h parent) ≡ cover t h found
+  pub handed_below : StandsAsNamed t found → (dir parent : ℕ) (name : List ℕ) → found ≡ Whole dir (Named parent name) →
+      own_or (perms_kept h (place.Dir dir)) (cover_in t h parent) ≡ cover t h found
   handed_below named dir parent name is =
-      sym ((covers_descend t h fits).below parent name dir (subst (StandsAsNamed t) is named).1 (subst (FoundFits t) is is_fit)) ∙ handed_self dir (Named parent name) is
+      sym ((covers_descend t h fits).below parent name dir (subst (StandsAsNamed t) is named).1 (subst (FoundFits t) is is_fit)) ∙
+      handed_self dir (Named parent name) is
 
 -- a directory without a veil of its own has the cover of the one above it
-pub handed_above : (t : Tree) (h : History) → WellFormed t → (from : ℕ) → is_dir t from ≡ true → kept h (place.Dir from) ≡ None → cover_in t h from ≡ cover_in t h (above t from)
+pub handed_above : (t : Tree) (h : History) → WellFormed t → (from : ℕ) → is_dir t from ≡ true → perms_kept h (place.Dir from) ≡ None →
+    cover_in t h from ≡ cover_in t h (above t from)
 handed_above t h fits from living none = (covers_descend t h fits).over from living ∙ ap (λ o. own_or o (cover_in t h (above t from))) none
 
 -- which is what `..` names
@@ -71,12 +68,14 @@ found_or other (Err errno) = other
 abbrev IsAbove : Tree → ℕ → Part → Found → Type 0
 IsAbove t from part object = part ≡ parts.DotDot → object ≡ Whole (above t from) DotDot
 
-found_above : (t : Tree) (from : ℕ) (part : Part) (r : Result Found Errno) → (part ≡ parts.DotDot → r ≡ Ok (Whole (above t from) DotDot)) → IfOk r (IsAbove t from part)
+found_above : (t : Tree) (from : ℕ) (part : Part) (r : Result Found Errno) → (part ≡ parts.DotDot → r ≡ Ok (Whole (above t from) DotDot)) →
+    IfOk r (IsAbove t from part)
 unfolding found_or
 found_above t from part (Ok object) is = λ dots. ap (found_or object) (is dots)
 found_above t from part (Err errno) is = tt
 
-pub named_above : (t : Tree) (from : ℕ) (part : Part) (r : Result Found Errno) → r ≡ found_of (follow t from part) → IfOk r (IsAbove t from part)
+pub named_above : (t : Tree) (from : ℕ) (part : Part) (r : Result Found Errno) → r ≡ found_of (follow t from part) →
+    IfOk r (IsAbove t from part)
 named_above t from part r is = found_above t from part r (λ dots. is ∙ ap (λ p. found_of (follow t from p)) dots)
 
 pub kept_above : (t : Tree) (from : ℕ) (part : Part) (r : Result Found Errno) → r ≡ last t from 0 part Kept → IfOk r (IsAbove t from part)

@@ -1,17 +1,15 @@
 -- The live states are listed once each.
-use Rattle.std.proofs.Common.{◌≡◌, ℕ, List, [], ◌∷◌, Bool, true, false, ◌||◌, ◌&&◌, ◌==◌, refl, sym, ap, ◌∙◌}
+use Rattle.pua_audit.proofs.Common.{◌≡◌, ℕ, List, [], ◌∷◌, Bool, true, false, ◌||◌, ◌&&◌, ◌==◌, refl, sym, ap, ◌∙◌, by_order}
+use Rattle.pua_audit.proofs.Common.{AllByRecursion, IsDistinct, list_any, eq_by_cmp, ordering_reverse, Less, Equal, Greater, and_parts}
+use Rattle.pua_audit.proofs.Common.{eqb-true, Stage, distinct_stages}
 use Rattle.std.specs.Cmp.{IsTotalOrder, IsEquivalence}
 use Rattle.std.proofs.lemmas.Cmp.{eq_by_cmp_equiv, nat_list_cmp_total}
-use Rattle.std.specs.FinMap.Entries.{by_order}
-use Rattle.std.specs.List.{AllByRecursion, IsDistinct, list_any}
 use Rattle.std.specs.List.Sorted.{IsStrictlySortedBy}
-use Rattle.std.specs.Ordering.{eq_by_cmp, is_eq, ordering_reverse}
+use Rattle.std.specs.Ordering.{is_eq}
 use Rattle.std.specs.Set.{is_member}
-use Rattle.std.specs.declared.cmp.Ordering.TheVariants.{Less, Equal, Greater}
-use Rattle.std.proofs.lemmas.Bool.{and_parts, eqb-true}
 use Rattle.std.proofs.lemmas.Map.Keys.{IsDistinct-from_sorted}
 use Rattle.std.proofs.lemmas.Map.Text.{is_eq-slice_cmp}
-use Rattle.pua_audit.specs.Live.{Stage, stage_cmp, with_stage, distinct_stages}
+use Rattle.pua_audit.specs.Live.{stage_cmp, with_stage}
 use Rattle.pua_audit.proofs.Stages.{is_stage, is_staged}
 
 abbrev pub same_stage : Stage → Stage → Bool
@@ -68,10 +66,14 @@ with_stage_sorted a (b ∷ bs) sorted =
     elim (stage_cmp a b) as (λ o. stage_cmp a b ≡ o → IsStrictlySortedBy stage_cmp (by_order o (a ∷ b ∷ bs) (b ∷ bs) (b ∷ with_stage a bs))) [
       | Less ↦ λ e. ((e, all_after e bs sorted.0), sorted)
       | Equal ↦ λ e. sorted
-      | Greater ↦ λ e. (all_with_stage (λ y. stage_cmp b y ≡ Less) a bs (stages_total.antisymm b a ∙ ap ordering_reverse e) sorted.0, with_stage_sorted a bs sorted.1)
+      | Greater ↦ λ e. (
+        all_with_stage (λ y. stage_cmp b y ≡ Less) a bs (stages_total.antisymm b a ∙ ap ordering_reverse e) sorted.0,
+        with_stage_sorted a bs sorted.1,
+      )
     ] refl
   where
-    all_after : stage_cmp a b ≡ Less → (ys : List Stage) → AllByRecursion (λ y. stage_cmp b y ≡ Less) ys → AllByRecursion (λ y. stage_cmp a y ≡ Less) ys
+    all_after : stage_cmp a b ≡ Less → (ys : List Stage) → AllByRecursion (λ y. stage_cmp b y ≡ Less) ys →
+        AllByRecursion (λ y. stage_cmp a y ≡ Less) ys
     all_after e [] all = tt
     all_after e (y ∷ ys) all = (stages_total.trans a b y e all.0, all_after e ys all.1)
 
@@ -97,7 +99,8 @@ or_twice false c = refl
 with_stage_has : (y a : Stage) (bs : List Stage) → is_staged y (with_stage a bs) ≡ (is_stage y a || is_staged y bs)
 with_stage_has y a [] = refl
 with_stage_has y a (b ∷ bs) =
-    elim (stage_cmp a b) as (λ o. stage_cmp a b ≡ o → is_staged y (by_order o (a ∷ b ∷ bs) (b ∷ bs) (b ∷ with_stage a bs)) ≡ (is_stage y a || (is_stage y b || is_staged y bs))) [
+    elim (stage_cmp a b) as (λ o. stage_cmp a b ≡ o →
+    is_staged y (by_order o (a ∷ b ∷ bs) (b ∷ bs) (b ∷ with_stage a bs)) ≡ (is_stage y a || (is_stage y b || is_staged y bs))) [
       | Less ↦ λ e. refl
       | Equal ↦ λ e.
           let same : a ≡ b = one_stage a b (sym (same_is a b) ∙ ap is_eq e) in

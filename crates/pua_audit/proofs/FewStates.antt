@@ -1,33 +1,28 @@
 -- There are few live states: each is a living directory, a number of links followed, and a number of letters that may still come.
-use Rattle.std.proofs.Common.{ℕ, zero, suc, ◌+◌, ◌*◌, ◌-◌, ◌<◌, ◌≤◌, ◌≡◌, List, [], ◌∷◌, ◌++◌, Option, Some, None, Result, Ok, Err, Bool, true, false, ◌||◌, ◌&&◌, not, cond, refl, ap, arith, sym, subst, ◌∙◌, map, length, option_map, inl, inr}
-use Rattle.std.proofs.lemmas.Bool.{cases_Bool, cases_eq, or_left, or_right}
-use Rattle.std.proofs.lemmas.List.{length-append}
+use Rattle.pua_audit.proofs.Common.{ℕ, zero, suc, ◌+◌, ◌*◌, ◌-◌, ◌<◌, ◌≤◌, ◌≡◌, List, [], ◌∷◌, ◌++◌, Option, Some, None, Bool, true, false}
+use Rattle.pua_audit.proofs.Common.{◌||◌, ◌&&◌, not, cond, refl, ap, arith, sym, subst, ◌∙◌, map, length, option_map, inl, inr, cases_eq}
+use Rattle.pua_audit.proofs.Common.{or_left, or_right, length-append, nat_cmp-IsAntisymmetric, nat_cmp, IsTrue, flat_map, filter_map}
+use Rattle.pua_audit.proofs.Common.{result_ok, Tree, is_dir, ◌>>=◌, same_Some, steps, part_of, Errno, Part, is_ended, Pair, Scope, reach}
+use Rattle.pua_audit.proofs.Common.{base_dir, IsAudited, Stage, live_states, shorter, stage_after, and-false}
+use Rattle.std.proofs.Common.{Result, Ok, Err}
+use Rattle.std.proofs.lemmas.Bool.{cases_Bool}
 use Rattle.std.proofs.lemmas.Map.Made.{length-le_from_is_member}
 use Rattle.std.proofs.lemmas.Map.Views.{Contains-from_any}
 use Rattle.std.specs.Cmp.{Equal-is}
-use Rattle.std.specs.FinMap.{find as find_key, nat_cmp-IsAntisymmetric}
-use Rattle.std.specs.Ordering.{nat_cmp, is_eq}
-use Rattle.std.specs.Prelude.{IsTrue, is_some, flat_map, filter_map}
-use Rattle.std.specs.Result.{result_ok}
-use Rattle.pua_tree.specs.Tree.{Node, Tree, is_dir, is_dir_kind, node_at}
-use Rattle.pua_tree.specs.Steps.{◌>>=◌}
-use Rattle.pua_tree.proofs.ForCallers.{same_Some, same_Ok}
-use Rattle.pua_path.specs.Laws.{ResolutionFits, steps}
-use Rattle.pua_path.specs.Paths.{part_of}
+use Rattle.std.specs.FinMap.{find as find_key}
+use Rattle.std.specs.Ordering.{is_eq}
+use Rattle.std.specs.Prelude.{is_some}
+use Rattle.pua_tree.specs.Tree.{Node, is_dir_kind, node_at}
+use Rattle.pua_tree.proofs.ForCallers.{same_Ok}
+use Rattle.pua_path.specs.Laws.{ResolutionFits}
 use Rattle.pua_path.specs.Resolution.{step}
-use Rattle.pua_path.specs.declared.errno.Errno.{Errno}
-use Rattle.pua_path.specs.declared.found.Part.{Part}
 use Rattle.pua_path.proofs.ForCallers.{resolutions_fit}
-use Rattle.pua_policy.specs.History.{is_ended}
-use Rattle.pua_audit.specs.Reach.{Pair, Scope, reach}
-use Rattle.pua_audit.specs.Judge.{base_dir}
-use Rattle.pua_audit.specs.Laws.{IsAudited, LiveStatesFew}
-use Rattle.pua_audit.specs.Live.{Stage, IsLive, live_states, shorter, stage_after}
+use Rattle.pua_audit.specs.Laws.{LiveStatesFew}
+use Rattle.pua_audit.specs.Live.{IsLive}
 use Rattle.pua_audit.proofs.DistinctStages.{one_stage, same_is, same_stage, same_stage_laws, staged_is, stages_distinct}
 use Rattle.pua_audit.proofs.LiveStagesListed.{live_states_live, staged_itself}
 use Rattle.pua_audit.proofs.LiveStates.{live_states_count}
 use Rattle.pua_audit.proofs.Stages.{is_stage, is_staged}
-use Rattle.std.proofs.Math.Bool.{and-false}
 
 -- lists of so many
 
@@ -55,7 +50,8 @@ staged_left : (y : Stage) (xs ys : List Stage) → is_staged y xs ≡ true → i
 staged_left y [] ys there = absurd cc
 staged_left y (x ∷ xs) ys there = by (is_stage y x) there (staged_left y xs ys)
   where
-    by : (b : Bool) → (b || is_staged y xs) ≡ true → (is_staged y xs ≡ true → is_staged y (xs ++ ys) ≡ true) → (b || is_staged y (xs ++ ys)) ≡ true
+    by : (b : Bool) → (b || is_staged y xs) ≡ true → (is_staged y xs ≡ true → is_staged y (xs ++ ys) ≡ true) →
+        (b || is_staged y (xs ++ ys)) ≡ true
     by true h more = refl
     by false h more = more h
 
@@ -91,23 +87,33 @@ all_in limit [] = []
 all_in limit (n ∷ ns) = all_at limit n.0 ++ all_in limit ns
 
 length-all_at : (limit dir : ℕ) → length (all_at limit dir) ≡ 33 * suc limit
-length-all_at limit dir = length-joined 33 (suc limit) (λ links. listed (suc limit) (λ left. record { dir = dir; links = links; left = left })) (λ links. length-listed (suc limit) (λ left. record { dir = dir; links = links; left = left }))
+length-all_at limit dir =
+    length-joined 33 (suc limit) (λ links. listed (suc limit) (λ left. record { dir = dir; links = links; left = left }))
+    (λ links. length-listed (suc limit) (λ left. record { dir = dir; links = links; left = left }))
 
 length-all_in : (limit : ℕ) (ns : List (ℕ × Node)) → length (all_in limit ns) ≡ 33 * (length ns * suc limit)
 unfolding all_in
 length-all_in limit [] = omega arith
-length-all_in limit (n ∷ ns) = omega (arith, length-append (all_at limit n.0) (all_in limit ns), length-all_at limit n.0, length-all_in limit ns)
+length-all_in limit (n ∷ ns) = omega (
+  arith,
+  length-append (all_at limit n.0) (all_in limit ns),
+  length-all_at limit n.0,
+  length-all_in limit ns,
+)
 
-in_all : (y : Stage) (limit : ℕ) (ns : List (ℕ × Node)) → is_some (find_key nat_cmp y.dir ns) ≡ true → y.links < 33 → y.left < suc limit → is_staged y (all_in limit ns) ≡ true
+in_all : (y : Stage) (limit : ℕ) (ns : List (ℕ × Node)) → is_some (find_key nat_cmp y.dir ns) ≡ true → y.links < 33 → y.left < suc limit →
+    is_staged y (all_in limit ns) ≡ true
 unfolding all_in
 in_all y limit [] found links left = absurd cc
 in_all y limit (n ∷ ns) found links left =
-    elim (is_eq (nat_cmp y.dir n.0)) as (λ b. is_eq (nat_cmp y.dir n.0) ≡ b → is_some (cond b (Some n.1) (find_key nat_cmp y.dir ns)) ≡ true → is_staged y (all_in limit (n ∷ ns)) ≡ true) [
+    elim (is_eq (nat_cmp y.dir n.0)) as (λ b. is_eq (nat_cmp y.dir n.0) ≡ b →
+    is_some (cond b (Some n.1) (find_key nat_cmp y.dir ns)) ≡ true → is_staged y (all_in limit (n ∷ ns)) ≡ true) [
       | true ↦ λ same there.
           let key : y.dir ≡ n.0 = nat_cmp-IsAntisymmetric y.dir n.0 ((Equal-is (nat_cmp y.dir n.0)).0 same) in
           staged_left y (all_at limit n.0) (all_in limit ns)
           (in_joined y 33 (λ links. listed (suc limit) (λ left. record { dir = n.0; links = links; left = left })) y.links links
-          (in_listed y (suc limit) (λ left. record { dir = n.0; links = y.links; left = left }) y.left left (λ i. record { dir = key i; links = y.links; left = y.left })))
+          (in_listed y (suc limit) (λ left. record { dir = n.0; links = y.links; left = left }) y.left left
+          (λ i. record { dir = key i; links = y.links; left = y.left })))
       | false ↦ λ other there. staged_right y (all_at limit n.0) (all_in limit ns) (in_all y limit ns there links left)
     ] refl found
 
@@ -120,12 +126,14 @@ dir_found t d lives = by (node_at t d) lives
     by None h = absurd cc
     by (Some n) h = refl
 
-steps_fit : (t : Tree) → ResolutionFits t → (parts : List Part) (at end : ℕ × ℕ) → IsTrue (is_dir t at.0) → at.1 ≤ 32 → steps t parts at ≡ Ok end → IsTrue (is_dir t end.0) × (end.1 ≤ 32)
+steps_fit : (t : Tree) → ResolutionFits t → (parts : List Part) (at end : ℕ × ℕ) → IsTrue (is_dir t at.0) → at.1 ≤ 32 →
+    steps t parts at ≡ Ok end → IsTrue (is_dir t end.0) × (end.1 ≤ 32)
 steps_fit t fits [] at end lives few is = subst (λ (x : ℕ × ℕ). IsTrue (is_dir t x.0) × (x.1 ≤ 32)) (same_Ok at end is) (lives, few)
 steps_fit t fits (part ∷ parts) at end lives few is = by (step t at.0 at.1 part) refl is (λ next. steps_fit t fits parts next end)
   where
     by : (r : Result (ℕ × ℕ) Errno) → step t at.0 at.1 part ≡ r → (r >>= steps t parts) ≡ Ok end
-        → ((next : ℕ × ℕ) → IsTrue (is_dir t next.0) → next.1 ≤ 32 → steps t parts next ≡ Ok end → IsTrue (is_dir t end.0) × (end.1 ≤ 32)) → IsTrue (is_dir t end.0) × (end.1 ≤ 32)
+        → ((next : ℕ × ℕ) → IsTrue (is_dir t next.0) → next.1 ≤ 32 → steps t parts next ≡ Ok end → IsTrue (is_dir t end.0) × (end.1 ≤ 32)) →
+        IsTrue (is_dir t end.0) × (end.1 ≤ 32)
     by (Ok next) there is more = more next (fits.step at.0 at.1 part next lives there) (fits.used at.0 at.1 part next there) is
     by (Err errno) there is more = absurd cc
 
@@ -136,10 +144,17 @@ live_fits : (s : Scope) → IsAudited s → IsTrue (is_dir s.tree (base_dir s.ba
 live_fits s is lives y (pair, word, there, front, leads) = by (steps s.tree (map part_of word) (base_dir s.base s.history, 0)) refl leads
   where
     by : (r : Result (ℕ × ℕ) Errno) → steps s.tree (map part_of word) (base_dir s.base s.history, 0) ≡ r
-        → option_map (λ (at : ℕ × ℕ). record { dir = at.0; links = at.1; left = s.limit - length word }) (result_ok r) ≡ Some y → IsAmong s y
+        → option_map (λ (at : ℕ × ℕ). record { dir = at.0; links = at.1; left = s.limit - length word }) (result_ok r) ≡ Some y →
+        IsAmong s y
     by (Ok at) stands e =
-        let fit = steps_fit s.tree (resolutions_fit s.tree is.tree) (map part_of word) (base_dir s.base s.history, 0) at lives (omega arith) stands in
-        subst (IsAmong s) (same_Some (record { dir = at.0; links = at.1; left = s.limit - length word }) y e) (fit.0, (omega (arith, fit.1), omega arith))
+        let fit = steps_fit s.tree (resolutions_fit s.tree is.tree) (map part_of word) (
+          base_dir s.base s.history,
+          0,
+        ) at lives (omega arith) stands in
+        subst (IsAmong s) (same_Some (record { dir = at.0; links = at.1; left = s.limit - length word }) y e) (
+          fit.0,
+          (omega (arith, fit.1), omega arith),
+        )
     by (Err errno) stands e = absurd cc
 
 pub few_states : LiveStatesFew
@@ -147,9 +162,12 @@ few_states s is =
     elim (cases_Bool (is_dir s.tree (base_dir s.base s.history))) [
       | inl lives ↦
           let all : List Stage = all_in s.limit s.tree.nodes in
-          let few = length-le_from_is_member same_stage_laws (live_states s) all (stages_distinct (filter_map (stage_after s) (flat_map (λ (p : Pair). shorter p.0) (reach s))))
+          let few = length-le_from_is_member same_stage_laws (live_states s) all
+          (stages_distinct (filter_map (stage_after s) (flat_map (λ (p : Pair). shorter p.0) (reach s))))
           (λ q there.
-          let fit = live_fits s is lives q (live_states_live.none_else s q (Contains-from_any (λ a b e. one_stage a b (sym (same_is a b) ∙ e)) q (live_states s) there)) in
+          let fit = live_fits s is lives q
+          (live_states_live.none_else s q (Contains-from_any (λ a b e. one_stage a b (sym (same_is a b) ∙ e)) q (live_states s) there))
+          in
           staged_is q all ∙ in_all q s.limit s.tree.nodes (dir_found s.tree q.dir fit.0) fit.1.0 fit.1.1) in
           omega (arith, few, length-all_in s.limit s.tree.nodes)
       | inr gone ↦

@@ -1,29 +1,19 @@
 -- A letter that is followed once, with no link used before it, tells it after any number of links.
-use Rattle.std.proofs.Common.{ℕ, ◌+◌, ◌≡◌, List, Option, None, Bool, true, false, cond, nat_le, refl, ap, sym, ◌∙◌, option_map, Result, Ok, Err, inl, inr}
-use Rattle.std.proofs.lemmas.Bool.{cases_lt, le-leb, lt-leb}
-use Rattle.pua_tree.specs.Tree.{Tree}
-use Rattle.pua_path.specs.Limits.{link_limit}
-use Rattle.pua_path.specs.Paths.{part_of}
-use Rattle.pua_path.specs.Resolution.{follow, last}
-use Rattle.pua_path.specs.Laws.{IsToldBy, entered}
-use Rattle.pua_path.specs.declared.errno.Errno.{Errno}
+use Rattle.pua_audit.proofs.Common.{ℕ, ◌+◌, ◌≡◌, List, Option, None, Bool, true, false, cond, nat_le, refl, ap, sym, ◌∙◌, option_map, inl}
+use Rattle.pua_audit.proofs.Common.{inr, cases_lt, le-leb, lt-leb, Tree, most_links, part_of, follow, last, Errno, Last, Followed, Kept}
+use Rattle.pua_audit.proofs.Common.{Found, Whole, Slot, CallTable, last_of, rule_of, History, may_any, verdict_of, is_allowed, Call, Judge}
+use Rattle.pua_audit.proofs.Common.{WordEnd, Below, judge_of, state_of, Base, JudgeState, links_of, found_of, leads_to, allowed_kept}
+use Rattle.pua_audit.proofs.Common.{allowed_near, allowed_far}
+use Rattle.std.proofs.Common.{Result, Ok}
+use Rattle.std.proofs.Common.{Err}
+use Rattle.pua_path.specs.Laws.{IsToldBy, dir_entered}
 use Rattle.pua_path.specs.declared.errno.Errno.TheVariants.{ELOOP}
-use Rattle.pua_path.specs.declared.found.Last.{Last}
-use Rattle.pua_path.specs.declared.found.Last.TheVariants.{Followed, Kept}
-use Rattle.pua_path.specs.declared.found.Found.{Found}
-use Rattle.pua_path.specs.declared.found.Found.TheVariants.{Whole, Slot}
 use Rattle.pua_path.proofs.ForCallers.{follow_decides, kept_follows_none}
-use Rattle.pua_calls.specs.Calls.{CallTable, last_of, rule_of}
-use Rattle.pua_policy.specs.History.{History, may_any}
-use Rattle.pua_policy.specs.Verdict.{verdict_of, is_allowed, if_promised}
+use Rattle.pua_policy.specs.Verdict.{if_promised}
 use Rattle.pua_policy.specs.declared.answer.May.{May}
 use Rattle.pua_policy.specs.declared.answer.May.TheVariants.{Yes, Enosys, Death}
 use Rattle.pua_policy.specs.declared.answer.Verdict.TheVariants.{Failed}
-use Rattle.pua_calls.specs.declared.call.Call.{Call}
-use Rattle.pua_audit.specs.Judge.{Judge, Place, Below, judge_of, state_of}
-use Rattle.pua_audit.specs.declared.base.Base.{Base}
-use Rattle.pua_audit.specs.Judge.{State}
-use Rattle.pua_audit.specs.Entries.{links_of, found_of, leads_to, allowed_kept, allowed_near, allowed_far, EntriesStand}
+use Rattle.pua_audit.specs.Entries.{EntriesStand}
 
 -- a failed path is never allowed
 pub refused : (may : May) (errno : Errno) → is_allowed (if_promised may (Failed errno)) ≡ false
@@ -35,7 +25,7 @@ module _ (t : Tree) (table : CallTable) (base : Base) (h : History) (dir : ℕ) 
   abbrev w : Judge
   w = judge_of t table base h
 
-  abbrev x : Place
+  abbrev x : WordEnd
   x = Below (record { dir = dir; used = used }) letter
 
   abbrev Answer : Type 0
@@ -44,39 +34,64 @@ module _ (t : Tree) (table : CallTable) (base : Base) (h : History) (dir : ℕ) 
   fails : (call : Call) (errno : Errno) → is_allowed (verdict_of t table h call (Err errno)) ≡ false
   fails call errno = refused (may_any h (rule_of table call).alternatives) errno
 
-  by_kept : (call : Call) → is_allowed (verdict_of t table h call (last t dir used (part_of letter) Kept)) ≡ allowed_kept t table h dir letter call
+  by_kept : (call : Call) → is_allowed (verdict_of t table h call (last t dir used (part_of letter) Kept)) ≡ allowed_kept t table h dir
+      letter call
   by_kept call = ap (λ r. is_allowed (verdict_of t table h call r)) (kept_follows_none t dir used (part_of letter))
 
   -- by whether the call keeps a final link
   own_by : (call : Call) (mode : Last) (b : Bool) (r : Answer)
-      → is_allowed (verdict_of t table h call (last t dir used (part_of letter) Followed)) ≡ cond b (is_allowed (verdict_of t table h call (found_of r))) false
+      → is_allowed (verdict_of t table h call (last t dir used (part_of letter) Followed))
+      ≡ cond b (is_allowed (verdict_of t table h call (found_of r))) false
       → is_allowed (verdict_of t table h call (last t dir used (part_of letter) mode))
-      ≡ cond b (elim mode [ Followed ↦ is_allowed (verdict_of t table h call (found_of r)) | Kept ↦ allowed_kept t table h dir letter call ])
+      ≡ cond b (elim mode [
+        | Followed ↦ is_allowed (verdict_of t table h call (found_of r))
+        | Kept ↦ allowed_kept t table h dir letter call
+      ])
       (elim mode [ Followed ↦ false | Kept ↦ allowed_kept t table h dir letter call ])
   own_by call Followed b r e = e
   own_by call Kept true r e = by_kept call
   own_by call Kept false r e = by_kept call
 
-  owns : (r : Answer) → IsToldBy t dir used (part_of letter) r → (call : Call) → w.own x call ≡ cond (nat_le (used + links_of r) link_limit) (allowed_near t table h dir letter r call) (allowed_far t table h dir letter call)
-  owns (Ok (found, count)) is call = own_by call (last_of call) (nat_le (used + count) link_limit) (Ok (found, count)) (elim (cases_lt link_limit (used + count)) [
-    | inl over ↦ ap (λ r. is_allowed (verdict_of t table h call r)) (is.last_beyond over) ∙ fails call ELOOP ∙ ap (λ b. cond b (is_allowed (verdict_of t table h call (Ok found))) false) (sym (lt-leb (used + count) link_limit over))
-    | inr under ↦ ap (λ r. is_allowed (verdict_of t table h call r)) (is.last_within under) ∙ ap (λ b. cond b (is_allowed (verdict_of t table h call (Ok found))) false) (sym (le-leb (used + count) link_limit under))
-  ])
-  owns (Err errno) is call = own_by call (last_of call) (nat_le (used + 0) link_limit) (Err errno)
-      (ap (λ r. is_allowed (verdict_of t table h call r)) is.last_fails ∙ fails call is.errno ∙ elim (nat_le (used + 0) link_limit) as (λ b. false ≡ cond b (is_allowed (verdict_of t table h call (Err errno))) false) [ true ↦ sym (fails call errno) | false ↦ refl ])
+  owns : (r : Answer) → IsToldBy t dir used (part_of letter) r → (call : Call) →
+      w.own x call ≡ cond (nat_le (used + links_of r) most_links) (allowed_near t table h dir letter r call)
+      (allowed_far t table h dir letter call)
+  owns (Ok (found, count)) is call =
+      own_by call (last_of call) (nat_le (used + count) most_links) (Ok (found, count)) (elim (cases_lt most_links (used + count)) [
+        | inl over ↦ ap (λ r. is_allowed (verdict_of t table h call r)) (is.last_beyond over) ∙ fails call ELOOP ∙
+            ap (λ b. cond b (is_allowed (verdict_of t table h call (Ok found))) false) (sym (lt-leb (used + count) most_links over))
+        | inr under ↦ ap (λ r. is_allowed (verdict_of t table h call r)) (is.last_within under) ∙
+            ap (λ b. cond b (is_allowed (verdict_of t table h call (Ok found))) false) (sym (le-leb (used + count) most_links under))
+      ])
+  owns (Err errno) is call = own_by call (last_of call) (nat_le (used + 0) most_links) (Err errno)
+      (ap (λ r. is_allowed (verdict_of t table h call r)) is.last_fails ∙ fails call is.errno ∙
+      elim (nat_le (used + 0) most_links) as (λ b. false ≡ cond b (is_allowed (verdict_of t table h call (Err errno))) false) [
+        | true ↦ sym (fails call errno)
+        | false ↦ refl
+      ])
 
-  enters : (found : Found) (count : ℕ) → state_of (entered (used + count) found) ≡ option_map (λ d. record { dir = d; used = used + count }) (leads_to (Ok found))
+  enters : (found : Found) (count : ℕ) →
+      state_of (dir_entered (used + count) found) ≡ option_map (λ d. record { dir = d; used = used + count }) (leads_to (Ok found))
   enters (Whole d way) count = refl
   enters (Slot d name _) count = refl
 
-  steps : (r : Answer) → IsToldBy t dir used (part_of letter) r → w.step x ≡ cond (nat_le (used + links_of r) link_limit) (option_map (λ d. record { dir = d; used = used + links_of r }) (leads_to (found_of r))) None
-  steps (Ok (found, count)) is = elim (cases_lt link_limit (used + count)) [
-    | inl over ↦ ap state_of (is.step_beyond over) ∙ ap (λ b. cond b (option_map (λ d. record { dir = d; used = used + count }) (leads_to (Ok found))) None) (sym (lt-leb (used + count) link_limit over))
-    | inr under ↦ ap state_of (is.step_within under) ∙ enters found count ∙ ap (λ b. cond b (option_map (λ d. record { dir = d; used = used + count }) (leads_to (Ok found))) None) (sym (le-leb (used + count) link_limit under))
+  steps : (r : Answer) → IsToldBy t dir used (part_of letter) r →
+      w.step x ≡ cond (nat_le (used + links_of r) most_links) (option_map (λ d. record { dir = d; used = used + links_of r })
+      (leads_to (found_of r))) None
+  steps (Ok (found, count)) is = elim (cases_lt most_links (used + count)) [
+    | inl over ↦ ap state_of (is.step_beyond over) ∙
+        ap (λ b. cond b (option_map (λ d. record { dir = d; used = used + count }) (leads_to (Ok found))) None)
+        (sym (lt-leb (used + count) most_links over))
+    | inr under ↦ ap state_of (is.step_within under) ∙ enters found count ∙
+        ap (λ b. cond b (option_map (λ d. record { dir = d; used = used + count }) (leads_to (Ok found))) None)
+        (sym (le-leb (used + count) most_links under))
   ]
-  steps (Err errno) is = ap state_of is.step_fails ∙ elim (nat_le (used + 0) link_limit) as (λ b. ◌≡◌ {A = Option State} None (cond b None None)) [ true ↦ refl | false ↦ refl ]
+  steps (Err errno) is = ap state_of is.step_fails ∙
+      elim (nat_le (used + 0) most_links) as (λ b. ◌≡◌ {A = Option JudgeState} None (cond b None None)) [ true ↦ refl | false ↦ refl ]
 
 pub entries_stand : EntriesStand
 entries_stand t table base h dir letter used low =
     let is = follow_decides t dir used (part_of letter) low in
-    record { own = owns t table base h dir letter used (follow t dir (part_of letter)) is; step = steps t table base h dir letter used (follow t dir (part_of letter)) is }
+    record {
+      own = owns t table base h dir letter used (follow t dir (part_of letter)) is;
+      step = steps t table base h dir letter used (follow t dir (part_of letter)) is;
+    }

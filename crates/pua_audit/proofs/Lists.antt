@@ -1,8 +1,8 @@
 -- Lists of which some elements are gone through.
-use Rattle.std.proofs.Common.{ℕ, zero, suc, ◌<◌, ◌≤◌, ◌≡◌, List, [], ◌∷◌, take, drop, map, arith, sym, length, get_or, subst, inl, inr}
-use Rattle.std.specs.List.{AllByRecursion, AllWithin, Contains}
+use Rattle.pua_audit.proofs.Common.{ℕ, zero, suc, ◌<◌, ◌≤◌, ◌≡◌, List, [], ◌∷◌, take, drop, map, arith, sym, length, get_or, subst, inl}
+use Rattle.pua_audit.proofs.Common.{inr, AllByRecursion, cases_eq}
+use Rattle.std.specs.List.{AllWithin, Contains}
 use Rattle.std.specs.List.Sorted.{IsStrictlyIncreasing}
-use Rattle.std.proofs.lemmas.Bool.{cases_eq}
 use Rattle.std.proofs.lemmas.List.Elements.{Contains-get_or}
 use Rattle.std.proofs.lemmas.List.Kept.{AllPairs-from_increasing}
 use Rattle.pua_audit.proofs.Moves.{all_at_index}
@@ -17,28 +17,39 @@ pub all_by_place : (P : ℕ → Type 0) (ns : List ℕ) → ((i : ℕ) → i < l
 all_by_place P [] each = tt
 all_by_place P (n ∷ ns) each = (each 0 (omega arith), all_by_place P ns (λ i low. each (suc i) (omega (arith, low))))
 
-pub all_among : {X : Type 0} (P : X → Type 0) (xs ys : List X) → ((x : X) → Contains ys x → Contains xs x) → AllByRecursion P xs → AllByRecursion P ys
+pub all_among : {X : Type 0} (P : X → Type 0) (xs ys : List X) → ((x : X) → Contains ys x → Contains xs x) → AllByRecursion P xs →
+    AllByRecursion P ys
 all_among P xs ys among all =
     all_by_index P ys (λ k d low.
     let there = among (get_or ys k d) (Contains-get_or ys k d low) in
     subst P there.2 (all_at_index P xs (get_or ys k d) all there.0 there.1))
 
-pub all_before : {X : Type 0} (P Q : X → Type 0) → ((x : X) → P x → Q x) → (n : ℕ) (xs : List X) → AllWithin P xs 0 n → AllByRecursion Q (take n xs)
+pub all_before : {X : Type 0} (P Q : X → Type 0) → ((x : X) → P x → Q x) → (n : ℕ) (xs : List X) → AllWithin P xs 0 n →
+    AllByRecursion Q (take n xs)
 all_before P Q by zero xs within = tt
 all_before P Q by (suc n) [] within = tt
-all_before P Q by (suc n) (x ∷ xs) within = (by x (within 0 x (omega arith) (omega arith)), all_before P Q by n xs (λ k d _ low. within (suc k) d (omega arith) (omega (arith, low))))
+all_before P Q by (suc n) (x ∷ xs) within = (
+  by x (within 0 x (omega arith) (omega arith)),
+  all_before P Q by n xs (λ k d _ low. within (suc k) d (omega arith) (omega (arith, low))),
+)
 
-pub all_after : {X : Type 0} (P Q : X → Type 0) → ((x : X) → P x → Q x) → (n : ℕ) (xs : List X) → AllWithin P xs n (length xs) → AllByRecursion Q (drop n xs)
+pub all_after : {X : Type 0} (P Q : X → Type 0) → ((x : X) → P x → Q x) → (n : ℕ) (xs : List X) → AllWithin P xs n (length xs) →
+    AllByRecursion Q (drop n xs)
 all_after P Q by zero [] within = tt
-all_after P Q by zero (x ∷ xs) within = (by x (within 0 x (omega arith) (omega arith)), all_after P Q by zero xs (λ k d _ low. within (suc k) d (omega arith) (omega (arith, low))))
+all_after P Q by zero (x ∷ xs) within = (
+  by x (within 0 x (omega arith) (omega arith)),
+  all_after P Q by zero xs (λ k d _ low. within (suc k) d (omega arith) (omega (arith, low))),
+)
 all_after P Q by (suc n) [] within = tt
-all_after P Q by (suc n) (x ∷ xs) within = all_after P Q by n xs (λ k d high low. within (suc k) d (omega (arith, high)) (omega (arith, low)))
+all_after P Q by (suc n) (x ∷ xs) within =
+    all_after P Q by n xs (λ k d high low. within (suc k) d (omega (arith, high)) (omega (arith, low)))
 
 pub all_mapped : {X Y : Type 0} (P : Y → Type 0) (f : X → Y) (xs : List X) → AllByRecursion (λ x. P (f x)) xs → AllByRecursion P (map f xs)
 all_mapped P f [] all = tt
 all_mapped P f (x ∷ xs) all = (all.0, all_mapped P f xs all.1)
 
-pub all_unmapped : {X Y : Type 0} (P : Y → Type 0) (f : X → Y) (xs : List X) → AllByRecursion P (map f xs) → AllByRecursion (λ x. P (f x)) xs
+pub all_unmapped : {X Y : Type 0} (P : Y → Type 0) (f : X → Y) (xs : List X) → AllByRecursion P (map f xs) →
+    AllByRecursion (λ x. P (f x)) xs
 all_unmapped P f [] all = tt
 all_unmapped P f (x ∷ xs) all = (all.0, all_unmapped P f xs all.1)
 
@@ -46,9 +57,11 @@ all_unmapped P f (x ∷ xs) all = (all.0, all_unmapped P f xs all.1)
 
 rank_low : (ns : List ℕ) → IsStrictlyIncreasing ns → (k : ℕ) → k < length ns → k ≤ get_or ns k 0
 rank_low ns rise zero low = omega arith
-rank_low ns rise (suc k) low = let before = rank_low ns rise k (omega (arith, low)) in let next = AllPairs-from_increasing ns rise k (suc k) 0 (omega arith) low in omega (arith, before, next)
+rank_low ns rise (suc k) low = let before = rank_low ns rise k (omega (arith, low)) in let next =
+    AllPairs-from_increasing ns rise k (suc k) 0 (omega arith) low in omega (arith, before, next)
 
-pub places_few : (ns : List ℕ) (count : ℕ) → IsStrictlyIncreasing ns → AllByRecursion (λ n. n < count) ns → (k : ℕ) → k ≤ length ns → k ≤ count
+pub places_few : (ns : List ℕ) (count : ℕ) → IsStrictlyIncreasing ns → AllByRecursion (λ n. n < count) ns → (k : ℕ) → k ≤ length ns →
+    k ≤ count
 places_few ns count rise all zero low = omega arith
 places_few ns count rise all (suc k) low =
     let inside : k < length ns = omega (arith, low) in

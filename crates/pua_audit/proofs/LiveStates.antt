@@ -1,20 +1,13 @@
 -- How many states are live, by the reach and by a graph of steps.
-use Rattle.std.proofs.Common.{ℕ, ◌-◌, ◌≡◌, nat_lt, nat_le, ◌&&◌, List, [], ◌∷◌, Option, None, refl, ap, arith, sym, ◌∙◌, map, length, option_map, Result, Ok, Err}
-use Rattle.std.specs.Prelude.{flat_map, filter_map, IsTrue}
-use Rattle.std.specs.Result.{result_ok}
+use Rattle.pua_audit.proofs.Common.{ℕ, ◌-◌, ◌≡◌, nat_lt, nat_le, ◌&&◌, List, [], ◌∷◌, Option, None, refl, ap, arith, sym, ◌∙◌, map, length}
+use Rattle.pua_audit.proofs.Common.{option_map, flat_map, filter_map, IsTrue, result_ok, Tree, is_dir, ◌>>=◌, part_of, steps, Errno, Word}
+use Rattle.pua_audit.proofs.Common.{Pair, Scope, reach, Start, Below, base_dir, judge_for, reach_along, state_of, IsAudited, Stage, shorter}
+use Rattle.pua_audit.proofs.Common.{stage_after, distinct_stages, live_states, IsKnown, StandsForJudge, AreApart, live_count, State, Visit}
+use Rattle.std.proofs.Common.{Result, Ok, Err}
 use Rattle.std.specs.Set.{is_member}
 use Rattle.std.proofs.lemmas.Map.Made.{length-from_same_keys}
-use Rattle.pua_tree.specs.Tree.{Tree, is_dir}
-use Rattle.pua_tree.specs.Steps.{◌>>=◌}
-use Rattle.pua_path.specs.Paths.{part_of}
 use Rattle.pua_path.specs.Resolution.{step}
-use Rattle.pua_path.specs.Laws.{steps}
-use Rattle.pua_path.specs.declared.errno.Errno.{Errno}
-use Rattle.pua_audit.specs.Reach.{Word, Pair, Scope, reach}
-use Rattle.pua_audit.specs.Judge.{Start, Below, base_dir, judge_for, reach_along, state_of}
-use Rattle.pua_audit.specs.Laws.{IsAudited}
-use Rattle.pua_audit.specs.Live.{Stage, shorter, stage_after, distinct_stages, live_states}
-use Rattle.pua_audit.specs.Graphs.{IsKnown, StandsForJudge, AreApart, LiveStatesCount}
+use Rattle.pua_audit.specs.Graphs.{LiveStatesCount}
 use Rattle.pua_audit.specs.Judge as named
 use Rattle.pua_audit.proofs.Audited.{reaches_along, closed_reaches}
 use Rattle.pua_audit.proofs.DistinctStages.{same_stage, same_stage_laws, staged_is, stages_distinct, distinct_has}
@@ -22,9 +15,6 @@ use Rattle.pua_audit.proofs.LiveLayers.{layers, layers_counted, layers_have, lay
 use Rattle.pua_audit.proofs.Lines as lines
 use Rattle.pua_audit.proofs.Stages as along
 use Rattle.pua_audit.proofs.Staged.{stages_live}
-use Rattle.pua_steps.specs.Reached.{live_count}
-use Rattle.pua_steps.specs.declared.state.State.{State}
-use Rattle.pua_steps.specs.declared.visit.Visit.{Visit}
 
 then_ok : {A : Type 0} (r : Result A Errno) → (r >>= λ at. Ok at) ≡ r
 then_ok (Ok at) = refl
@@ -35,54 +25,74 @@ module _ (s : Scope) where
   t = s.tree
 
   -- where a word leads, by the steps along its parts
-  leads_by_steps : (at : named.State) (a : List ℕ) (word : Word) → along.leads (judge_for s) (Below at a) word ≡ state_of (steps t (part_of a ∷ map part_of word) (at.dir, at.used))
+  leads_by_steps : (at : named.JudgeState) (a : List ℕ) (word : Word) →
+      along.leads (judge_for s) (Below at a) word ≡ state_of (steps t (part_of a ∷ map part_of word) (at.dir, at.used))
   leads_by_steps at a [] = ap state_of (sym (then_ok (step t at.dir at.used (part_of a))))
   leads_by_steps at a (b ∷ word) =
-      ap (along.on_state (state_of (step t at.dir at.used (part_of a))) None) (λ i next. leads_by_steps next b word i) ∙ by (step t at.dir at.used (part_of a))
+      ap (along.on_state (state_of (step t at.dir at.used (part_of a))) None) (λ i next. leads_by_steps next b word i) ∙
+      by (step t at.dir at.used (part_of a))
     where
-      by : (r : Result (ℕ × ℕ) Errno) → along.on_state (state_of r) None (λ next. state_of (steps t (part_of b ∷ map part_of word) (next.dir, next.used))) ≡ state_of (r >>= steps t (part_of b ∷ map part_of word))
+      by : (r : Result (ℕ × ℕ) Errno) →
+          along.on_state (state_of r) None (λ next. state_of (steps t (part_of b ∷ map part_of word) (next.dir, next.used)))
+          ≡ state_of (r >>= steps t (part_of b ∷ map part_of word))
       by (Ok next) = refl
       by (Err errno) = refl
 
-  start_by_steps : (word : Word) → along.leads (judge_for s) Start word ≡ state_of (steps t (map part_of word) (base_dir s.base s.history, 0))
+  start_by_steps : (word : Word) → along.leads (judge_for s) Start word ≡ state_of (steps t (map part_of word) (
+    base_dir s.base s.history,
+    0,
+  ))
   start_by_steps [] = refl
   start_by_steps (a ∷ word) = leads_by_steps (record { dir = base_dir s.base s.history; used = 0 }) a word
 
   stage_alike : (word : Word) → stage_after s word ≡ along.stage_after (judge_for s) s.limit Start word
-  stage_alike word = by (steps t (map part_of word) (base_dir s.base s.history, 0)) ∙ ap (option_map (along.staged (s.limit - length word))) (sym (start_by_steps word))
+  stage_alike word = by (steps t (map part_of word) (base_dir s.base s.history, 0)) ∙
+      ap (option_map (along.staged (s.limit - length word))) (sym (start_by_steps word))
     where
-      by : (r : Result (ℕ × ℕ) Errno) → option_map (λ (at : ℕ × ℕ). record { dir = at.0; links = at.1; left = s.limit - length word }) (result_ok r) ≡ option_map (along.staged (s.limit - length word)) (state_of r)
+      by : (r : Result (ℕ × ℕ) Errno) →
+          option_map (λ (at : ℕ × ℕ). record { dir = at.0; links = at.1; left = s.limit - length word }) (result_ok r)
+          ≡ option_map (along.staged (s.limit - length word)) (state_of r)
       by (Ok at) = refl
       by (Err errno) = refl
 
   found : List Stage
   found = filter_map (stage_after s) (flat_map (λ (p : Pair). shorter p.0) (reach s))
 
-  found_along : IsAudited s → IsTrue (is_dir s.tree (base_dir s.base s.history)) → found ≡ along.stages_of (judge_for s) s.limit Start (reach_along (judge_for s) s.alphabet s.limit)
+  found_along : IsAudited s → IsTrue (is_dir s.tree (base_dir s.base s.history)) →
+      found ≡ along.stages_of (judge_for s) s.limit Start (reach_along (judge_for s) s.alphabet s.limit)
   unfolding found
   found_along is lives =
       ap (λ ps. filter_map (stage_after s) (flat_map (λ (p : Pair). shorter p.0) ps)) (reaches_along s is lives)
-      ∙ ap (λ f. filter_map f (flat_map (λ (p : Pair). shorter p.0) (reach_along (judge_for s) s.alphabet s.limit))) (λ i word. stage_alike word i)
+      ∙ ap (λ f. filter_map f (flat_map (λ (p : Pair). shorter p.0) (reach_along (judge_for s) s.alphabet s.limit)))
+      (λ i word. stage_alike word i)
 
-  module _ (names : List ℕ) (g : State → List Visit) (set : ℕ) (base : Option State) (is : IsAudited s) (lives : IsTrue (is_dir s.tree (base_dir s.base s.history)))
+  module _ (names : List ℕ) (g : State → List Visit) (set : ℕ) (base : Option State) (is : IsAudited s)
+      (lives : IsTrue (is_dir s.tree (base_dir s.base s.history)))
       (stands : StandsForJudge (judge_for s) s.alphabet names g set base (IsKnown names)) where
-    same_members : (y : Stage) → is_member same_stage (distinct_stages found) y ≡ is_member same_stage (layers (judge_for s) s.alphabet names g set base stands s.limit s.limit) y
+    same_members : (y : Stage) →
+        is_member same_stage (distinct_stages found) y ≡ is_member same_stage (layers (judge_for s) s.alphabet names g set base stands
+        s.limit s.limit) y
     same_members y =
         let none : 0 ≡ s.limit - s.limit = omega arith in
-        staged_is y (distinct_stages found) ∙ distinct_has y found ∙ ap (along.is_staged y) (found_along is lives) ∙ stages_live (judge_for s) s.alphabet s.limit y
-        ∙ ap (λ n. (nat_lt n y.left && nat_le y.left s.limit) && (along.some_pair (lines.rows (judge_for s) s.alphabet (y.left - 1) (along.state_of y) s.alphabet) && along.is_among (along.state_of y) (along.reached_from (judge_for s) s.alphabet (s.limit - y.left) Start))) none
+        staged_is y (distinct_stages found) ∙ distinct_has y found ∙ ap (along.is_staged y) (found_along is lives) ∙
+        stages_live (judge_for s) s.alphabet s.limit y
+        ∙ ap (λ n. (nat_lt n y.left && nat_le y.left s.limit)
+        && (along.some_pair (lines.rows (judge_for s) s.alphabet (y.left - 1) (along.state_of y) s.alphabet)
+        && along.is_among (along.state_of y) (along.reached_from (judge_for s) s.alphabet (s.limit - y.left) Start))) none
         ∙ sym (layers_have (judge_for s) s.alphabet names g set base stands s.limit s.limit y (omega arith))
         ∙ sym (staged_is y (layers (judge_for s) s.alphabet names g set base stands s.limit s.limit))
 
     all_counted : AreApart names → length (live_states s) ≡ live_count (λ _. g) s.limit base s.limit
     unfolding found
     all_counted apart =
-        length-from_same_keys same_stage_laws (live_states s) (layers (judge_for s) s.alphabet names g set base stands s.limit s.limit) (stages_distinct found)
+        length-from_same_keys same_stage_laws (live_states s) (layers (judge_for s) s.alphabet names g set base stands s.limit s.limit)
+        (stages_distinct found)
         (layers_distinct (judge_for s) s.alphabet names g set base stands s.limit apart s.limit (omega arith)) same_members
         ∙ layers_counted (judge_for s) s.alphabet names g set base stands s.limit s.limit
 
 pub live_states_count : LiveStatesCount
 live_states_count = record {
   counted = λ s names g set base is lives apart stands. all_counted s names g set base is lives stands apart;
-  none = λ s is none. ap (λ ps. length (distinct_stages (filter_map (stage_after s) (flat_map (λ (p : Pair). shorter p.0) ps)))) (closed_reaches s is none);
+  none = λ s is none. ap (λ ps. length (distinct_stages (filter_map (stage_after s) (flat_map (λ (p : Pair). shorter p.0) ps))))
+      (closed_reaches s is none);
 }

@@ -1,8 +1,6 @@
 -- Words as places of the alphabet.
-use Rattle.std.proofs.Common.{ℕ, zero, suc, ◌<◌, ◌≡◌, List, [], ◌∷◌, ◌++◌, arith, length, get_or}
-use Rattle.std.proofs.lemmas.List.{map-append, length-map}
-use Rattle.std.specs.List.{AllByRecursion}
-use Rattle.pua_audit.specs.Ready.{word_of}
+use Rattle.pua_audit.proofs.Common.{ℕ, zero, suc, ◌<◌, ◌≡◌, List, [], ◌∷◌, ◌++◌, arith, length, get_or, map-append, length-map}
+use Rattle.pua_audit.proofs.Common.{AllByRecursion, word_of}
 
 pub all_at_index : {A : Type 0} (P : A → Type 0) (xs : List A) (d : A) → AllByRecursion P xs → (i : ℕ) → i < length xs → P (get_or xs i d)
 all_at_index P [] d all i h = absurd (omega (arith, h))

@@ -1,18 +1,15 @@
 -- The path of a word: its parts are the word's letters, and it has no fault.
-use Rattle.std.proofs.Common.{subst, ◌≡◌, ℕ, suc, Bool, true, false, not, ◌&&◌, ◌||◌, List, [], ◌∷◌, ◌++◌, length, map, refl, sym, ap, ◌∙◌, arith, lt-ltb, ◌+◌, ◌*◌, ◌≤◌, append-nil, length-append, None, ◌==◌, codes, nat_lt, nat_le}
-use Rattle.std.proofs.lemmas.Bool.{false≢true, and_parts}
+use Rattle.pua_audit.proofs.Common.{subst, ◌≡◌, ℕ, suc, Bool, true, false, not, ◌&&◌, ◌||◌, List, [], ◌∷◌, ◌++◌, length, map, refl, sym, ap}
+use Rattle.pua_audit.proofs.Common.{◌∙◌, arith, ◌+◌, ◌*◌, ◌≤◌, append-nil, None, ◌==◌, codes, nat_lt, nat_le, false≢true, and_parts}
+use Rattle.pua_audit.proofs.Common.{AllByRecursion, list_any, list_all, is_name, same_bytes, part_of, is_absolute, Ending, Word, from_root}
+use Rattle.pua_audit.proofs.Common.{path_of, is_letter, Base, Root, Cwd}
+use Rattle.std.proofs.Common.{lt-ltb, length-append}
 use Rattle.std.proofs.lemmas.Bool.Decides.{nat_tests}
-use Rattle.std.specs.List.{AllByRecursion, list_any, list_all}
 use Rattle.std.proofs.lemmas.List.Splits.{slice_split_none, slice_split_at}
 use Rattle.std.proofs.lemmas.List.Folds.{list_any-append}
-use Rattle.pua_tree.specs.Names.{is_name, is_name_byte, same_bytes, has_byte, components, has_short_components}
-use Rattle.pua_path.specs.Paths.{part_of, ends_in_slash, ending_parts, parts_of, path_fault, is_absolute}
-use Rattle.pua_path.specs.declared.text.Ending.{Ending}
+use Rattle.pua_tree.specs.Names.{is_name_byte, has_byte, components, has_short_components}
+use Rattle.pua_path.specs.Paths.{ends_in_slash, ending_parts, parts_of, path_fault}
 use Rattle.pua_path.specs.declared.text.Ending.TheVariants as ending
-use Rattle.pua_audit.specs.Reach.{Word, from_root, path_of}
-use Rattle.pua_audit.specs.Judge.{is_letter}
-use Rattle.pua_audit.specs.declared.base.Base.{Base}
-use Rattle.pua_audit.specs.declared.base.Base.TheVariants.{Root, Cwd}
 use Rattle.pua_tree.proofs.ForCallers.{same_word}
 use Rattle.pua_path.proofs.ForCallers.{no_slash_all}
 
@@ -33,7 +30,8 @@ no_slash_in (b ∷ bs) h =
     by (b == 47) refl here.0 (no_slash_in bs here.1)
   where
     by : (v : Bool) → (b == 47) ≡ v → is_name_byte b ≡ true → list_any slash bs ≡ false → (v || list_any slash bs) ≡ false
-    by true e n more = let bad : (nat_lt 0 b && (nat_lt b 256 && false)) ≡ true = ap (λ v. nat_lt 0 b && (nat_lt b 256 && not v)) (sym e) ∙ n in absurd (none (nat_lt 0 b) (nat_lt b 256) bad)
+    by true e n more = let bad : (nat_lt 0 b && (nat_lt b 256 && false)) ≡ true = ap (λ v. nat_lt 0 b && (nat_lt b 256 && not v)) (sym e) ∙
+        n in absurd (none (nat_lt 0 b) (nat_lt b 256) bad)
       where
         none : (x y : Bool) → (x && (y && false)) ≡ true → ⊥
         none true true h = cc
@@ -72,12 +70,17 @@ letter_is_piece a h = by (is_name a) refl h
 pub components_of : (a : List ℕ) (word : Word) → IsPiece a → AllByRecursion IsPiece word → components (a ++ from_root word) ≡ a ∷ word
 components_of a [] piece all = rw (append-nil a, slice_split_none slash a (no_slash_all a piece.no_slash), piece.some) refl
 components_of a (b ∷ word) piece all =
-    rw (slice_split_at slash a 47 (b ++ from_root word) (no_slash_all a piece.no_slash) refl, piece.some) (ap (λ ps. a ∷ ps) (components_of b word all.0 all.1))
+    rw (
+      slice_split_at slash a 47 (b ++ from_root word) (no_slash_all a piece.no_slash) refl,
+      piece.some,
+    ) (ap (λ ps. a ∷ ps) (components_of b word all.0 all.1))
 
-pub components_from_root : (a : List ℕ) (word : Word) → IsPiece a → AllByRecursion IsPiece word → components (from_root (a ∷ word)) ≡ a ∷ word
+pub components_from_root : (a : List ℕ) (word : Word) → IsPiece a → AllByRecursion IsPiece word →
+    components (from_root (a ∷ word)) ≡ a ∷ word
 components_from_root a word piece all = components_of a word piece all
 
-end_cut : (b : ℕ) (a : List ℕ) (word : Word) → list_any slash (b ∷ a) ≡ false → AllByRecursion IsPiece word → ends_in_slash ((b ∷ a) ++ from_root word) ≡ false
+end_cut : (b : ℕ) (a : List ℕ) (word : Word) → list_any slash (b ∷ a) ≡ false → AllByRecursion IsPiece word →
+    ends_in_slash ((b ∷ a) ++ from_root word) ≡ false
 end_cut b [] [] h all = by (b == 47) h
   where
     by : (v : Bool) → (v || false) ≡ false → v ≡ false
@@ -105,7 +108,8 @@ no_ending ending.Dot [] = refl
 no_ending ending.Dot (piece ∷ pieces) = refl
 
 -- a text that no slash ends has its components as parts
-pub parts_are : (e : Ending) (text : List ℕ) (word : Word) → components text ≡ word → ends_in_slash text ≡ false → parts_of e text ≡ map part_of word
+pub parts_are : (e : Ending) (text : List ℕ) (word : Word) → components text ≡ word → ends_in_slash text ≡ false →
+    parts_of e text ≡ map part_of word
 parts_are e text word same at_end =
     ap (λ ps. map part_of ps ++ ending_parts e ps (ends_in_slash text)) same
     ∙ ap (λ s. map part_of word ++ ending_parts e word s) at_end
@@ -122,11 +126,14 @@ all_short [] all = refl
 all_short (a ∷ word) all = (λ i. all.0.short i && all_short word all.1 i)
 
 -- a word's path is no longer than its letters and their slashes
-pub length_from_root : (most : ℕ) (word : Word) → AllByRecursion (λ a. length a ≤ most) word → length (from_root word) ≤ length word * suc most
+pub length_from_root : (most : ℕ) (word : Word) → AllByRecursion (λ a. length a ≤ most) word →
+    length (from_root word) ≤ length word * suc most
 length_from_root most [] all = omega arith
-length_from_root most (a ∷ word) all = let one : suc (length word) * suc most ≡ suc most + length word * suc most = omega arith in omega (arith, length-append a (from_root word), all.0, length_from_root most word all.1, one)
+length_from_root most (a ∷ word) all = let one : suc (length word) * suc most ≡ suc most + length word * suc most = omega arith in
+    omega (arith, length-append a (from_root word), all.0, length_from_root most word all.1, one)
 
-faultless : (text : List ℕ) (word : Word) → nat_lt 0 (length text) ≡ true → length text ≤ 1023 → components text ≡ word → list_all (λ piece. nat_le (length piece) 255) word ≡ true → has_byte 0 text ≡ false → path_fault text ≡ None
+faultless : (text : List ℕ) (word : Word) → nat_lt 0 (length text) ≡ true → length text ≤ 1023 → components text ≡ word →
+    list_all (λ piece. nat_le (length piece) 255) word ≡ true → has_byte 0 text ≡ false → path_fault text ≡ None
 faultless [] word some h same short nul = absurd (false≢true some)
 faultless (b ∷ more) word some h same short nul =
     let fits : nat_lt 1023 (length (b ∷ more)) ≡ false = grind (arith, nat_tests) in
@@ -151,20 +158,24 @@ relative (b ∷ a) rest piece = by (b == 47) piece.no_slash
     by true h = cc
     by false h = refl
 
-pub path_is : (base : Base) (a : List ℕ) (word : Word) → IsPiece a → AllByRecursion IsPiece word → length (from_root (a ∷ word)) ≤ 1023 → IsPath base (path_of base (a ∷ word)) (a ∷ word)
+pub path_is : (base : Base) (a : List ℕ) (word : Word) → IsPiece a → AllByRecursion IsPiece word → length (from_root (a ∷ word)) ≤ 1023 →
+    IsPath base (path_of base (a ∷ word)) (a ∷ word)
 path_is Root a word piece all h =
     let pieces = components_from_root a word piece all in
     record {
-      fault = faultless (from_root (a ∷ word)) (a ∷ word) (lt-ltb 0 (length (from_root (a ∷ word))) (omega arith)) h pieces (all_short (a ∷ word) (piece, all)) (no_nul_from (a ∷ word) (piece, all));
+      fault = faultless (from_root (a ∷ word)) (a ∷ word) (lt-ltb 0 (length (from_root (a ∷ word))) (omega arith)) h pieces
+          (all_short (a ∷ word) (piece, all)) (no_nul_from (a ∷ word) (piece, all));
       parts = λ e. parts_are e (from_root (a ∷ word)) (a ∷ word) pieces (end_of_root a word piece all);
       absolute = refl;
     }
 path_is Cwd a word piece all h =
     let pieces = components_of a word piece all in
-    let nul : has_byte 0 (a ++ from_root word) ≡ false = list_any-append (λ b. b == 0) a (from_root word) ∙ (λ i. piece.no_nul i || no_nul_from word all i) in
+    let nul : has_byte 0 (a ++ from_root word) ≡ false = list_any-append (λ b. b == 0) a (from_root word) ∙
+    (λ i. piece.no_nul i || no_nul_from word all i) in
     let fits : length (a ++ from_root word) ≤ 1023 = omega arith in
     record {
-      fault = faultless (a ++ from_root word) (a ∷ word) (some_before a (from_root word) piece.some) fits pieces (all_short (a ∷ word) (piece, all)) nul;
+      fault = faultless (a ++ from_root word) (a ∷ word) (some_before a (from_root word) piece.some) fits pieces
+          (all_short (a ∷ word) (piece, all)) nul;
       parts = λ e. parts_are e (a ++ from_root word) (a ∷ word) pieces (end_of a word piece all);
       absolute = relative a (from_root word) piece;
     }

@@ -1,13 +1,9 @@
 -- Places of directories.
-use Rattle.std.proofs.Common.{ℕ, ◌<◌, ◌≤◌, ◌≡◌, List, [], ◌∷◌, ◌++◌, Some, true, false, ◌||◌, refl, sym, ◌∙◌, length, get_or, nat_eq, subst}
-use Rattle.std.specs.Prelude.{slice_get, if◌then◌else◌}
-use Rattle.std.specs.List.{AllByRecursion, list_any}
-use Rattle.std.proofs.lemmas.Bool.{eqb-true}
+use Rattle.pua_audit.proofs.Common.{ℕ, ◌<◌, ◌≤◌, ◌≡◌, List, [], ◌∷◌, ◌++◌, Some, true, false, ◌||◌, refl, sym, ◌∙◌, length, get_or, nat_eq}
+use Rattle.pua_audit.proofs.Common.{subst, if◌then◌else◌, AllByRecursion, list_any, eqb-true, insert_key, AreNumbers, all_joined}
+use Rattle.std.specs.Prelude.{slice_get}
 use Rattle.std.proofs.lemmas.Map.Steps.{length-le_from_distinct_below}
 use Rattle.std.proofs.lemmas.Option.{get_or_from_slice_get}
-use Rattle.indexmap.specs.IndexSet.{insert_key}
-use Rattle.pua_audit.specs.Rows.{AreNumbers}
-use Rattle.pua_steps.proofs.ForCallers.{all_joined}
 
 -- numbers below 2^32, none of them twice, are at most so many
 
@@ -25,7 +21,10 @@ few_numbers ns is = length-le_from_distinct_below ns 4294967296 is.apart (λ q. 
 -- one more at the end, or none
 
 pub all_inserted : (P : ℕ → Type 0) (ns : List ℕ) (n : ℕ) → P n → AllByRecursion P ns → AllByRecursion P (insert_key nat_eq ns n)
-all_inserted P ns n here all = elim (list_any (nat_eq n) ns) as (λ b. AllByRecursion P (if b then ns else ns ++ n ∷ [])) [ true ↦ all | false ↦ all_joined P ns (n ∷ []) all (here, tt) ]
+all_inserted P ns n here all = elim (list_any (nat_eq n) ns) as (λ b. AllByRecursion P (if b then ns else ns ++ n ∷ [])) [
+  | true ↦ all
+  | false ↦ all_joined P ns (n ∷ []) all (here, tt)
+]
 
 pub placed : (ns : List ℕ) (place n : ℕ) → (k : ℕ) × (slice_get ns place ≡ Some k) × (nat_eq n k ≡ true) → get_or ns place 0 ≡ n
 placed ns place n found = get_or_from_slice_get ns place found.0 0 found.1 ∙ sym (eqb-true n found.0 found.2)

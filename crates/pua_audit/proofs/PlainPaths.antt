@@ -1,15 +1,11 @@
 -- How many letters at the front of a word have only bytes that stand for themselves.
-use Rattle.std.proofs.Common.{◌≡◌, ◌<◌, ◌≤◌, ℕ, zero, suc, true, false, List, [], ◌∷◌, ◌++◌, length, take, min, nat_eq, inl, inr, refl, sym, ap, ◌∙◌, arith}
-use Rattle.std.specs.Prelude.{if◌then◌else◌, ◌&&◌}
-use Rattle.std.specs.List.{list_all}
+use Rattle.pua_audit.proofs.Common.{◌≡◌, ◌<◌, ◌≤◌, ℕ, zero, suc, true, false, List, [], ◌∷◌, ◌++◌, length, take, min, nat_eq, inl, inr}
+use Rattle.pua_audit.proofs.Common.{refl, sym, ap, ◌∙◌, arith, if◌then◌else◌, list_all, is_plain, Word, from_root, lent_path, Base, Root}
+use Rattle.pua_audit.proofs.Common.{Cwd}
+use Rattle.std.specs.Prelude.{◌&&◌}
 use Rattle.std.proofs.lemmas.Bool.Decides.{eqb_tells}
 use Rattle.std.proofs.lemmas.List.Folds.{list_all-append}
-use Rattle.pua_tree.specs.Spelling.{is_plain}
-use Rattle.pua_audit.specs.Reach.{Word, from_root}
-use Rattle.pua_audit.specs.Ready.{lent}
 use Rattle.pua_audit.specs.WordPaths.{plain_front}
-use Rattle.pua_audit.specs.declared.base.Base.{Base}
-use Rattle.pua_audit.specs.declared.base.Base.TheVariants.{Root, Cwd}
 
 -- of the first letters it is as many, or all that there are
 pub front-take : (k : ℕ) (word : Word) → plain_front (take k word) ≡ min (plain_front word) k
@@ -17,7 +13,8 @@ front-take zero [] = omega arith
 front-take zero (a ∷ word) = omega arith
 front-take (suc k) [] = omega arith
 front-take (suc k) (a ∷ word) =
-    elim (list_all is_plain a) as (λ b. (if b then suc (plain_front (take k word)) else 0) ≡ min (if b then suc (plain_front word) else 0) (suc k)) [
+    elim (list_all is_plain a) as (λ b. (if b then suc (plain_front (take k word)) else 0) ≡ min (if b then suc (plain_front word) else 0)
+    (suc k)) [
       | true ↦ omega (arith, front-take k word)
       | false ↦ omega arith
     ]
@@ -26,7 +23,8 @@ front-take (suc k) (a ∷ word) =
 pub push_after : (word : Word) (a : List ℕ) → plain_front word < length word → plain_front (word ++ a ∷ []) ≡ plain_front word
 push_after [] a low = absurd (omega (arith, low))
 push_after (b ∷ word) a low =
-    elim (list_all is_plain b) as (λ v. (if v then suc (plain_front word) else 0) < suc (length word) → (if v then suc (plain_front (word ++ a ∷ [])) else 0) ≡ (if v then suc (plain_front word) else 0)) [
+    elim (list_all is_plain b) as (λ v. (if v then suc (plain_front word) else 0) < suc (length word) →
+    (if v then suc (plain_front (word ++ a ∷ [])) else 0) ≡ (if v then suc (plain_front word) else 0)) [
       | true ↦ λ fewer. ap suc (push_after word a (omega (arith, fewer)))
       | false ↦ λ fewer. refl
     ] low
@@ -41,15 +39,18 @@ push_escaped (b ∷ word) a escaped =
     ]
 
 -- a plain letter after plain ones counts
-pub push_plain : (word : Word) (a : List ℕ) → list_all is_plain a ≡ true → length word ≤ plain_front word → plain_front (word ++ a ∷ []) ≡ suc (length word)
+pub push_plain : (word : Word) (a : List ℕ) → list_all is_plain a ≡ true → length word ≤ plain_front word →
+    plain_front (word ++ a ∷ []) ≡ suc (length word)
 push_plain [] a plain all = rw plain refl
 push_plain (b ∷ word) a plain all =
-    elim (list_all is_plain b) as (λ v. suc (length word) ≤ (if v then suc (plain_front word) else 0) → (if v then suc (plain_front (word ++ a ∷ [])) else 0) ≡ suc (suc (length word))) [
+    elim (list_all is_plain b) as (λ v. suc (length word) ≤ (if v then suc (plain_front word) else 0) →
+    (if v then suc (plain_front (word ++ a ∷ [])) else 0) ≡ suc (suc (length word))) [
       | true ↦ λ each. ap suc (push_plain word a plain (omega (arith, each)))
       | false ↦ λ each. absurd (omega (arith, each))
     ] all
 
-root_split : (a : List ℕ) (word : Word) → list_all is_plain (from_root (a ∷ word)) ≡ (list_all is_plain a && list_all is_plain (from_root word))
+root_split : (a : List ℕ) (word : Word) →
+    list_all is_plain (from_root (a ∷ word)) ≡ (list_all is_plain a && list_all is_plain (from_root word))
 root_split a word = list_all-append is_plain a (from_root word)
 
 -- the path is plain where all letters are
@@ -57,7 +58,8 @@ pub whole_plain : (word : Word) → length word ≤ plain_front word → list_al
 whole_plain [] all = refl
 whole_plain (b ∷ word) all =
     root_split b word
-    ∙ (elim (list_all is_plain b) as (λ v. suc (length word) ≤ (if v then suc (plain_front word) else 0) → (v && list_all is_plain (from_root word)) ≡ true) [
+    ∙ (elim (list_all is_plain b) as (λ v. suc (length word) ≤ (if v then suc (plain_front word) else 0) →
+    (v && list_all is_plain (from_root word)) ≡ true) [
       | true ↦ λ each. whole_plain word (omega (arith, each))
       | false ↦ λ each. absurd (omega (arith, each))
     ] all)
@@ -67,7 +69,8 @@ pub not_plain : (word : Word) → plain_front word < length word → list_all is
 not_plain [] low = absurd (omega (arith, low))
 not_plain (b ∷ word) low =
     root_split b word
-    ∙ (elim (list_all is_plain b) as (λ v. (if v then suc (plain_front word) else 0) < suc (length word) → (v && list_all is_plain (from_root word)) ≡ false) [
+    ∙ (elim (list_all is_plain b) as (λ v. (if v then suc (plain_front word) else 0) < suc (length word) →
+    (v && list_all is_plain (from_root word)) ≡ false) [
       | true ↦ λ fewer. not_plain word (omega (arith, fewer))
       | false ↦ λ fewer. refl
     ] low)
@@ -81,7 +84,8 @@ front_few (b ∷ word) =
     ]
 
 -- so the two numbers tell
-pub front_whole : (word : Word) (front all : ℕ) → front ≡ plain_front word → all ≡ length word → nat_eq front all ≡ list_all is_plain (from_root word)
+pub front_whole : (word : Word) (front all : ℕ) → front ≡ plain_front word → all ≡ length word →
+    nat_eq front all ≡ list_all is_plain (from_root word)
 front_whole word front all is many =
     elim (eqb_tells front all) [
       | inl same ↦ same.0 ∙ sym (whole_plain word (omega (arith, same.1, is, many)))
@@ -89,7 +93,7 @@ front_whole word front all is many =
     ]
 
 -- the path that is lent has no other bytes
-pub lent_plain : (base : Base) (word : Word) → list_all is_plain (lent base (from_root word)) ≡ list_all is_plain (from_root word)
+pub lent_plain : (base : Base) (word : Word) → list_all is_plain (lent_path base (from_root word)) ≡ list_all is_plain (from_root word)
 lent_plain Root [] = refl
 lent_plain Root (a ∷ word) = refl
 lent_plain Cwd [] = refl

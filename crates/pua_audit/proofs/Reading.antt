@@ -1,11 +1,7 @@
 -- What candidates are, as they are read one after another.
-use Rattle.std.proofs.Common.{◌≡◌, ℕ, suc, List, [], ◌∷◌, ◌++◌, refl, sym, ap, ◌∙◌, append_assoc}
-use Rattle.std.specs.Prelude.{Result, Ok, Err, ok_or}
-use Rattle.std.specs.Result.{result_ok}
-use Rattle.pua_tree.specs.Spelling.{name_of}
-use Rattle.pua_tree.specs.Steps.{◌>>=◌}
-use Rattle.pua_audit.specs.Begin.{candidates_from}
-use Rattle.pua_audit.specs.declared.fault.AuditFault.{AuditFault}
+use Rattle.pua_audit.proofs.Common.{◌≡◌, ℕ, suc, List, [], ◌∷◌, ◌++◌, refl, sym, ap, ◌∙◌, append_assoc, Result, Ok, Err, result_ok, name_of}
+use Rattle.pua_audit.proofs.Common.{◌>>=◌, candidates_from, AuditFault}
+use Rattle.std.specs.Prelude.{ok_or}
 use Rattle.pua_audit.specs.declared.fault.AuditFault.TheVariants.{BadCandidate}
 
 -- candidates that were read, in front of the further ones
@@ -13,7 +9,8 @@ abbrev pub with_read : List (List ℕ) → Result (List (List ℕ)) AuditFault �
 with_read done (Ok more) = Ok (done ++ more)
 with_read done (Err fault) = Err fault
 
-with_read-more : (done : List (List ℕ)) (name : List ℕ) (r : Result (List (List ℕ)) AuditFault) → with_read done (r >>= λ names. Ok (name ∷ names)) ≡ with_read (done ++ name ∷ []) r
+with_read-more : (done : List (List ℕ)) (name : List ℕ) (r : Result (List (List ℕ)) AuditFault) →
+    with_read done (r >>= λ names. Ok (name ∷ names)) ≡ with_read (done ++ name ∷ []) r
 with_read-more done name (Ok more) = ap Ok (sym (append_assoc done (name ∷ []) more))
 with_read-more done name (Err fault) = refl
 

@@ -1,30 +1,26 @@
 -- A reach asks a tree for its rows and nodes alone.
-use Rattle.std.proofs.Common.{◌≡◌, ℕ, zero, suc, List, [], ◌∷◌, ◌++◌, map, length, Bool, not, ◌&&◌, cond, refl, ap, ◌∙◌}
-use Rattle.std.specs.Prelude.{Option, Some, None, Result, Ok, Err, filter}
-use Rattle.std.specs.List.{list_any}
-use Rattle.pua_tree.specs.Steps.{◌>>=◌}
-use Rattle.pua_tree.specs.Tree.{Tree, is_dir, look, above, climb_within}
-use Rattle.pua_path.specs.Paths.{parts_of, is_absolute, path_fault}
-use Rattle.pua_path.specs.Resolution.{Resolved, Standing, Directory, Linked, Plain, Nothing, standing_at, is_followed, slot_or, walk, start_of, resolve_parts, resolution, resolution_of_text, link_limit}
-use Rattle.pua_path.specs.declared.errno.Errno.{Errno}
+use Rattle.pua_audit.proofs.Common.{◌≡◌, ℕ, zero, suc, List, [], ◌∷◌, ◌++◌, map, length, Bool, not, ◌&&◌, cond, refl, ap, ◌∙◌, Result, Ok}
+use Rattle.pua_audit.proofs.Common.{Err, filter, list_any, ◌>>=◌, Tree, is_dir, above, is_absolute, Errno, Ending, Part, Last, Found, Whole}
+use Rattle.pua_audit.proofs.Common.{Slot, CallTable, rule_of, last_of, History, perms_kept, may_any, IsMissing, cover, verdict_of}
+use Rattle.pua_audit.proofs.Common.{is_allowed, Call, Stat, Lstat, Readlink, OpenRead, OpenWrite, OpenBoth, Create, Mkdir, Rmdir, Unlink}
+use Rattle.pua_audit.proofs.Common.{Symlink, Chmod, Chdir, Exec, Scope, is_reached, pairs, reach, path_of}
+use Rattle.std.specs.Prelude.{Option, Some, None}
+use Rattle.pua_tree.specs.Tree.{look, climb_within}
+use Rattle.pua_path.specs.Paths.{parts_of, path_fault}
+use Rattle.pua_path.specs.Resolution.{Resolved, Standing, Directory, Linked, Plain, Nothing, standing_at, is_followed, slot_or, walk}
+use Rattle.pua_path.specs.Resolution.{start_of, resolve_parts, resolution, resolution_of_text, most_links}
 use Rattle.pua_path.specs.declared.errno.Errno.TheVariants.{ENOENT, ENOTDIR, ELOOP}
-use Rattle.pua_path.specs.declared.text.Ending.{Ending}
 use Rattle.pua_path.specs.declared.text.Ending.TheVariants as ending
-use Rattle.pua_path.specs.declared.found.Part.{Part}
 use Rattle.pua_path.specs.declared.found.Part.TheVariants as parts
-use Rattle.pua_path.specs.declared.found.Last.{Last}
 use Rattle.pua_path.specs.declared.found.Way.{Way}
 use Rattle.pua_path.specs.declared.found.Way.TheVariants as way
-use Rattle.pua_path.specs.declared.found.Found.{Found}
-use Rattle.pua_path.specs.declared.found.Found.TheVariants.{Whole, Slot}
-use Rattle.pua_calls.specs.Calls.{CallTable, rule_of, ending_of, last_of}
-use Rattle.pua_policy.specs.History.{History, kept, may_any, working_dir}
-use Rattle.pua_policy.specs.Verdict.{Object, IsDir, IsFile, IsProg, IsLink, IsMissing, object_fault, object_of, cover, cover_fault, or_fault, nearest, is_unveil, place_of, directories_over, allowed_unless, if_promised, verdict_of, verdict_on, object_named, is_allowed}
+use Rattle.pua_calls.specs.Calls.{ending_of}
+use Rattle.pua_policy.specs.History.{working_dir}
+use Rattle.pua_policy.specs.Verdict.{Object, IsDir, IsFile, IsProg, IsLink, object_fault, object_of, cover_fault}
+use Rattle.pua_policy.specs.Verdict.{or_fault, nearest, is_unveil, place_of, directories_over, allowed_unless, if_promised}
+use Rattle.pua_policy.specs.Verdict.{verdict_on, object_named}
 use Rattle.pua_policy.specs.declared.answer.Cover.TheVariants.{All}
-use Rattle.pua_calls.specs.declared.call.Call.{Call}
-use Rattle.pua_calls.specs.declared.call.Call.TheVariants.{Stat, Lstat, Readlink, OpenRead, OpenWrite, OpenBoth, Create, Mkdir, Rmdir, Unlink, Symlink, Chmod, Chdir, Exec}
 use Rattle.pua_policy.specs.declared.place.Place.TheVariants.{Dir}
-use Rattle.pua_audit.specs.Reach.{Scope, is_reached, pairs, reach, path_of}
 use Rattle.pua_audit.specs.Renumbering.{ReachNeedsRows}
 
 module _ (t : Tree) (n : ℕ) where
@@ -57,32 +53,42 @@ module _ (t : Tree) (n : ℕ) where
     | Nothing ↦ slot_or ps (Slot dir name None) ENOENT links
   ]
 
-  module _ (mode : Last) (links : ℕ) (f g : ℕ → List ℕ → List Part → Resolved) (alike : (from : ℕ) (target : List ℕ) (rest : List Part) → f from target rest ≡ g from target rest) where
-    same_met : (ps : List Part) (dir : ℕ) (name : List ℕ) → ((x : ℕ) → walk v mode links f x (way.Named dir name) ps ≡ walk t mode links g x (way.Named dir name) ps) →
+  module _ (mode : Last) (links : ℕ) (f g : ℕ → List ℕ → List Part → Resolved) (alike : (from : ℕ) (target : List ℕ) (rest : List Part) →
+      f from target rest ≡ g from target rest) where
+    same_met : (ps : List Part) (dir : ℕ) (name : List ℕ) →
+        ((x : ℕ) → walk v mode links f x (way.Named dir name) ps ≡ walk t mode links g x (way.Named dir name) ps) →
         (s : Standing) → met v mode links f dir name ps s ≡ met t mode links g dir name ps s
     same_met ps dir name further (Directory x) = further x
-    same_met ps dir name further (Linked x target) = ap (λ r. cond (is_followed mode ps) r (Ok (Slot dir name (Some x), links))) (alike dir target ps)
+    same_met ps dir name further (Linked x target) =
+        ap (λ r. cond (is_followed mode ps) r (Ok (Slot dir name (Some x), links))) (alike dir target ps)
     same_met ps dir name further (Plain x) = refl
     same_met ps dir name further Nothing = refl
 
     same_walk : (ps : List Part) (dir : ℕ) (by : Way) → walk v mode links f dir by ps ≡ walk t mode links g dir by ps
     same_walk [] dir by = refl
     same_walk (parts.Dot ∷ ps) dir by = same_walk ps dir way.Dot
-    same_walk (parts.DotDot ∷ ps) dir by = ap (λ d. walk v mode links f d way.DotDot ps) (same_above dir) ∙ same_walk ps (above t dir) way.DotDot
+    same_walk (parts.DotDot ∷ ps) dir by = ap (λ d. walk v mode links f d way.DotDot ps) (same_above dir) ∙
+        same_walk ps (above t dir) way.DotDot
     same_walk (parts.Name name ∷ ps) dir by =
         ap (met v mode links f dir name ps) (same_standing dir name)
         ∙ same_met ps dir name (λ x. same_walk ps x (way.Named dir name)) (standing_at t dir name)
 
-  same_resolve : (links : ℕ) (mode : Last) (dir : ℕ) (by : Way) (ps : List Part) → resolve_parts links v mode dir by ps ≡ resolve_parts links t mode dir by ps
-  same_resolve zero mode dir by ps = same_walk mode 0 (λ from target rest. Err ELOOP) (λ from target rest. Err ELOOP) (λ from target rest. refl) ps dir by
+  same_resolve : (links : ℕ) (mode : Last) (dir : ℕ) (by : Way) (ps : List Part) →
+      resolve_parts links v mode dir by ps ≡ resolve_parts links t mode dir by ps
+  same_resolve zero mode dir by ps =
+      same_walk mode 0 (λ from target rest. Err ELOOP) (λ from target rest. Err ELOOP) (λ from target rest. refl) ps dir by
   same_resolve (suc links) mode dir by ps =
-      same_walk mode (suc links) _ _ (λ from target rest. same_resolve links mode (start_of target from) way.Top (parts_of ending.Dot target ++ rest)) ps dir by
+      same_walk mode (suc links) _ _ (λ from target rest. same_resolve links mode (start_of target from) way.Top (parts_of ending.Dot target
+      ++ rest)) ps dir by
 
-  same_resolution : (from : ℕ) (end : Ending) (text : List ℕ) (mode : Last) → resolution v from end text mode ≡ resolution t from end text mode
+  same_resolution : (from : ℕ) (end : Ending) (text : List ℕ) (mode : Last) →
+      resolution v from end text mode ≡ resolution t from end text mode
   same_resolution from end text mode =
-      ap (λ r. cond {A = Result Found Errno} (not (is_absolute text) && not (is_dir t from)) (Err ENOENT) (r >>= λ found. Ok found.0)) (same_resolve link_limit mode (start_of text from) way.Top (parts_of end text))
+      ap (λ r. cond {A = Result Found Errno} (not (is_absolute text) && not (is_dir t from)) (Err ENOENT) (r >>= λ found. Ok found.0))
+      (same_resolve most_links mode (start_of text from) way.Top (parts_of end text))
 
-  same_named : (from : ℕ) (end : Ending) (text : List ℕ) (mode : Last) → resolution_of_text v from end text mode ≡ resolution_of_text t from end text mode
+  same_named : (from : ℕ) (end : Ending) (text : List ℕ) (mode : Last) →
+      resolution_of_text v from end text mode ≡ resolution_of_text t from end text mode
   same_named from end text mode = by (path_fault text) refl
     where
       by : (o : Option Errno) → path_fault text ≡ o → resolution_of_text v from end text mode ≡ resolution_of_text t from end text mode
@@ -94,7 +100,8 @@ module _ (t : Tree) (n : ℕ) where
   same_over (Slot dir name y) = same_climb (length t.nodes) dir
 
   same_cover : (h : History) (x : Found) → cover v h x ≡ cover t h x
-  same_cover h x = ap (λ dirs. cond (list_any is_unveil h) (nearest (kept h (place_of x) ∷ map (λ dir. kept h (Dir dir)) dirs)) All) (same_over x)
+  same_cover h x = ap (λ dirs. cond (list_any is_unveil h) (nearest (perms_kept h (place_of x) ∷ map (λ dir. perms_kept h (Dir dir)) dirs))
+      All) (same_over x)
 
   same_object : (x : Found) → object_of v x ≡ object_of t x
   same_object (Whole dir w) = refl
@@ -178,12 +185,15 @@ module _ (t : Tree) (n : ℕ) where
 
   same_verdict : (table : CallTable) (h : History) (c : Call) (r : Result Found Errno) → verdict_of v table h c r ≡ verdict_of t table h c r
   same_verdict table h c (Ok x) =
-      λ i. if_promised (may_any h (rule_of table c).alternatives) (allowed_unless (or_fault (cover_fault (same_cover h x i) (rule_of table c).perms) ((ap (object_fault v c) (same_object x) ∙ same_fault c (object_of t x)) i)))
+      λ i. if_promised (may_any h (rule_of table c).alternatives)
+      (allowed_unless (or_fault (cover_fault (same_cover h x i) (rule_of table c).perms) ((ap (object_fault v c) (same_object x) ∙
+      same_fault c (object_of t x)) i)))
   same_verdict table h c (Err errno) = refl
 
   pub same_on : (table : CallTable) (h : History) (c : Call) (text : List ℕ) → verdict_on v table h c text ≡ verdict_on t table h c text
   same_on table h c text =
-      ap (verdict_of v table h c) (same_named (working_dir h) (ending_of c) text (last_of c)) ∙ same_verdict table h c (object_named t h c text)
+      ap (verdict_of v table h c) (same_named (working_dir h) (ending_of c) text (last_of c)) ∙
+      same_verdict table h c (object_named t h c text)
 
 module _ {A : Type 0} (p q : A → Bool) (alike : (x : A) → p x ≡ q x) where
   same_filter : (xs : List A) → filter p xs ≡ filter q xs

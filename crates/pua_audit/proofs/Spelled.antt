@@ -1,33 +1,30 @@
 -- The path of a walk's word, letter by letter.
-use Rattle.std.proofs.Common.{ℕ, suc, ◌+◌, ◌*◌, ◌<◌, ◌≤◌, ◌≡◌, List, [], ◌∷◌, ◌++◌, refl, ap, arith, sym, ◌∙◌, length, get_or, append_assoc, append-nil, mul-le-mul_right}
-use Rattle.std.proofs.lemmas.List.{get_or-map, length-map}
-use Rattle.std.specs.List.{AllByRecursion}
-use Rattle.pua_path.specs.declared.found.Part.{Part}
-use Rattle.pua_audit.specs.Reach.{Word, from_root, path_of}
-use Rattle.pua_audit.specs.Begin.{longest}
-use Rattle.pua_audit.specs.Ready.{part_bytes, letters_of, word_of, lent}
-use Rattle.pua_audit.specs.declared.base.Base.{Base}
-use Rattle.pua_audit.specs.declared.base.Base.TheVariants.{Root, Cwd}
-use Rattle.pua_audit.specs.declared.terms.Terms.{Terms}
+use Rattle.pua_audit.proofs.Common.{ℕ, suc, ◌+◌, ◌*◌, ◌<◌, ◌≤◌, ◌≡◌, List, [], ◌∷◌, ◌++◌, refl, ap, arith, sym, ◌∙◌, length, get_or}
+use Rattle.pua_audit.proofs.Common.{append_assoc, append-nil, get_or-map, length-map, AllByRecursion, Part, Word, from_root, path_of}
+use Rattle.pua_audit.proofs.Common.{longest, part_bytes, letters_of, word_of, lent_path, Base, Root, Cwd, Terms}
+use Rattle.std.proofs.Common.{mul-le-mul_right}
 use Rattle.pua_audit.proofs.Along.{no_longer}
 use Rattle.pua_audit.proofs.Moves.{all_at_index, length-word_of}
 use Rattle.pua_audit.proofs.Paths.{length_from_root}
 
 pub from_root-push : (word : Word) (a : List ℕ) → from_root (word ++ a ∷ []) ≡ from_root word ++ 47 ∷ a
 from_root-push [] a = ap (λ bs. 47 ∷ bs) (append-nil a)
-from_root-push (b ∷ word) a = ap (λ bs. 47 ∷ b ++ bs) (from_root-push word a) ∙ ap (λ bs. 47 ∷ bs) (sym (append_assoc b (from_root word) (47 ∷ a)))
+from_root-push (b ∷ word) a = ap (λ bs. 47 ∷ b ++ bs) (from_root-push word a) ∙
+    ap (λ bs. 47 ∷ bs) (sym (append_assoc b (from_root word) (47 ∷ a)))
 
 -- the path of a word is what is lent of its letters
-pub lent_is : (base : Base) (word : Word) → lent base (from_root word) ≡ path_of base word
+pub lent_is : (base : Base) (word : Word) → lent_path base (from_root word) ≡ path_of base word
 lent_is Root [] = refl
 lent_is Root (a ∷ word) = refl
 lent_is Cwd [] = refl
 lent_is Cwd (a ∷ word) = refl
 
-pub letter_at : (a : Terms) (i : ℕ) (d : Part) → i < length a.letters.items → get_or (letters_of a) i [] ≡ part_bytes (get_or a.letters.items i d)
+pub letter_at : (a : Terms) (i : ℕ) (d : Part) → i < length a.letters.items →
+    get_or (letters_of a) i [] ≡ part_bytes (get_or a.letters.items i d)
 letter_at a i d h = get_or-map part_bytes a.letters.items i d [] h
 
-all_short : (a : Terms) (word : List ℕ) → AllByRecursion (λ i. i < length a.letters.items) word → AllByRecursion (λ b. length b ≤ longest (letters_of a)) (word_of (letters_of a) word)
+all_short : (a : Terms) (word : List ℕ) → AllByRecursion (λ i. i < length a.letters.items) word →
+    AllByRecursion (λ b. length b ≤ longest (letters_of a)) (word_of (letters_of a) word)
 unfolding word_of
 all_short a [] all = tt
 all_short a (i ∷ word) all =
@@ -40,31 +37,41 @@ pub record IsSpelled (a : Terms) (word bytes : List ℕ) : Type 0 where
   pub path : bytes ≡ from_root (word_of (letters_of a) word)
 
 -- what is lent has no more bytes than any path may
-pub lent_short : (base : Base) (a : Terms) (word path : List ℕ) → IsSpelled a word path → length word ≤ a.limit → a.limit * suc (longest (letters_of a)) ≤ 1023 → length (lent base path) ≤ 1023
+pub lent_short : (base : Base) (a : Terms) (word path : List ℕ) → IsSpelled a word path → length word ≤ a.limit →
+    a.limit * suc (longest (letters_of a)) ≤ 1023 → length (lent_path base path) ≤ 1023
 lent_short base a word path is within room =
     let most : ℕ = longest (letters_of a) in
-    let before : length (from_root (word_of (letters_of a) word)) ≤ length (word_of (letters_of a) word) * suc most = length_from_root most (word_of (letters_of a) word) (all_short a word is.known) in
+    let before : length (from_root (word_of (letters_of a) word)) ≤ length (word_of (letters_of a) word) * suc most =
+    length_from_root most (word_of (letters_of a) word) (all_short a word is.known) in
     let few : length word * suc most ≤ a.limit * suc most = mul-le-mul_right (suc most) within in
-    let same : length (word_of (letters_of a) word) * suc most ≡ length word * suc most = ap (λ n. n * suc most) (length-word_of (letters_of a) word) in
+    let same : length (word_of (letters_of a) word) * suc most ≡ length word * suc most =
+    ap (λ n. n * suc most) (length-word_of (letters_of a) word) in
     no_longer_lent base path (omega (arith, ap length is.path, before, few, same, room))
   where
-    no_longer_lent : (base : Base) (path : List ℕ) → length path ≤ 1023 → length (lent base path) ≤ 1023
+    no_longer_lent : (base : Base) (path : List ℕ) → length path ≤ 1023 → length (lent_path base path) ≤ 1023
     no_longer_lent Root [] h = omega arith
     no_longer_lent Root (b ∷ bs) h = h
     no_longer_lent Cwd [] h = omega arith
     no_longer_lent Cwd (b ∷ bs) h = omega (arith, h)
 
 -- one letter more fits the longest path
-pub room_for : (a : Terms) (word path : List ℕ) (i capacity : ℕ) → IsSpelled a word path → i < length a.letters.items → length word < a.limit
+pub room_for : (a : Terms) (word path : List ℕ) (i capacity : ℕ) → IsSpelled a word path → i < length a.letters.items →
+    length word < a.limit
     → a.limit * suc (longest (letters_of a)) ≤ capacity → length path + suc (length (get_or (letters_of a) i [])) ≤ capacity
 room_for a word path i capacity is here more room =
     let most : ℕ = longest (letters_of a) in
     let within : i < length (letters_of a) = omega (arith, length-map a.letters.items part_bytes) in
-    let letter : length (get_or (letters_of a) i []) ≤ most = all_at_index (λ b. length b ≤ longest (letters_of a)) (letters_of a) [] (no_longer 0 (letters_of a)) i within in
-    let before : length (from_root (word_of (letters_of a) word)) ≤ length (word_of (letters_of a) word) * suc most = length_from_root most (word_of (letters_of a) word) (all_short a word is.known) in
-    fits (length path) (length (word_of (letters_of a) word)) (length (get_or (letters_of a) i [])) most a.limit capacity (omega (arith, ap length is.path)) letter (omega (arith, length-word_of (letters_of a) word)) room
+    let letter : length (get_or (letters_of a) i []) ≤ most =
+    all_at_index (λ b. length b ≤ longest (letters_of a)) (letters_of a) [] (no_longer 0 (letters_of a)) i within in
+    let before : length (from_root (word_of (letters_of a) word)) ≤ length (word_of (letters_of a) word) * suc most =
+    length_from_root most (word_of (letters_of a) word) (all_short a word is.known) in
+    fits (length path) (length (word_of (letters_of a) word)) (length (get_or (letters_of a) i [])) most a.limit capacity (omega (
+      arith,
+      ap length is.path,
+    )) letter (omega (arith, length-word_of (letters_of a) word)) room
   where
-    fits : (path word letter most limit capacity : ℕ) → path ≤ word * suc most → letter ≤ most → suc word ≤ limit → limit * suc most ≤ capacity → path + suc letter ≤ capacity
+    fits : (path word letter most limit capacity : ℕ) → path ≤ word * suc most → letter ≤ most → suc word ≤ limit →
+        limit * suc most ≤ capacity → path + suc letter ≤ capacity
     fits path word letter most limit capacity p l w room =
         let more : suc word * suc most ≤ limit * suc most = mul-le-mul_right (suc most) w in
         let one : suc word * suc most ≡ suc most + word * suc most = omega arith in

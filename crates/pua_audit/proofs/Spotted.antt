@@ -1,51 +1,49 @@
 -- The letters that directories tell apart, gathered one after another.
-use Rattle.std.proofs.Common.{◌≡◌, ◌≢◌, ◌<◌, ◌+◌, ℕ, List, [], ◌∷◌, ◌++◌, Some, None, true, false, cond, map, take, drop, length, ltb, leb, ltb-true, leb-false, arith, get_or, slice_index_or, add-one, inl, inr, Option, refl, sym, ap, subst, ◌∙◌}
+use Rattle.pua_audit.proofs.Common.{◌≡◌, ◌≢◌, ◌<◌, ◌+◌, ℕ, List, [], ◌∷◌, ◌++◌, Some, None, true, false, cond, map, take, drop, length, ltb}
+use Rattle.pua_audit.proofs.Common.{arith, get_or, add-one, inl, inr, Option, refl, sym, ap, subst, ◌∙◌, if◌then◌else◌, bytes_eq, IfSome}
+use Rattle.pua_audit.proofs.Common.{AllByRecursion, eq_by_cmp, tied_itself, nat_list_cmp_total, nat_cmp-IsAntisymmetric, cases_lt}
+use Rattle.pua_audit.proofs.Common.{map-append, get_or-map, Spot, name_cmp, veil_at, Place, Rises, part_bytes, AreApartFrom, IsNowhere}
+use Rattle.pua_audit.proofs.Common.{IsUnmarked, is_dots, LetterSpot, part_of, Part, all_joined, all_pushed}
+use Rattle.std.proofs.Common.{leb}
+use Rattle.std.proofs.Common.{ltb-true, leb-false, slice_index_or}
 use lib.Pointwise.{bytes_decides}
-use Rattle.std.specs.Prelude.{if◌then◌else◌, bytes_eq, IfSome}
 use Rattle.std.specs.FinMap.{find as find_key}
-use Rattle.std.specs.List.{AllByRecursion}
-use Rattle.std.specs.Ordering.{eq_by_cmp}
-use Rattle.std.specs.Cmp.{Equal-is, tied_itself}
-use Rattle.std.specs.Cmp.Lexicographic.{nat_list_cmp_total}
-use Rattle.std.specs.FinMap.{nat_cmp-IsAntisymmetric}
-use Rattle.std.proofs.lemmas.Bool.{cases_lt}
-use Rattle.std.proofs.lemmas.List.{map-append, take-append-drop, get_or-map}
+use Rattle.std.specs.Cmp.{Equal-is}
+use Rattle.std.proofs.lemmas.List.{take-append-drop}
 use Rattle.std.proofs.Math.Seq.{take-suc}
 use Rattle.std.specs.List.{AllWithin}
-use Rattle.pua_tree.specs.Tree.{Spot, name_cmp, spot_cmp}
+use Rattle.pua_tree.specs.Tree.{spot_cmp}
 use Rattle.pua_tree.proofs.ForCallers.{exact_spots}
-use Rattle.pua_policy.specs.History.{veil_at, same_place}
-use Rattle.pua_policy.specs.declared.place.Place.{Place}
+use Rattle.pua_policy.specs.History.{same_place}
 use Rattle.pua_policy.proofs.ForCallers.{same_place_is}
-use Rattle.pua_audit.specs.Laws.{Rises}
-use Rattle.pua_audit.specs.Ready.{part_bytes}
-use Rattle.pua_audit.specs.Spots.{AreApartFrom, IsNowhere, IsUnmarked, is_dots}
-use Rattle.pua_audit.specs.declared.table.spots.LetterSpot.{LetterSpot}
-use Rattle.pua_path.specs.Paths.{part_of}
-use Rattle.pua_path.specs.declared.found.Part.{Part}
 use Rattle.pua_path.specs.declared.found.Part.TheVariants as part
 use Rattle.pua_audit.proofs.Letters.{letter_part}
 use Rattle.pua_audit.proofs.Lists.{all_before, all_after}
 use Rattle.pua_audit.proofs.AfterPair.{letters_alike}
-use Rattle.pua_steps.proofs.ForCallers.{all_weaker, all_joined, all_pushed}
+use Rattle.pua_steps.proofs.ForCallers.{all_weaker}
 
 -- one element more of a list that is gone through
 
-pub taken_more : {A : Type 0} (xs : List A) (x : A) (i : ℕ) → i < length xs → x ≡ slice_index_or xs i x → take (i + 1) xs ≡ take i xs ++ x ∷ []
+pub taken_more : {A : Type 0} (xs : List A) (x : A) (i : ℕ) → i < length xs → x ≡ slice_index_or xs i x →
+    take (i + 1) xs ≡ take i xs ++ x ∷ []
 taken_more xs x i within is = ap (λ n. take n xs) (add-one i) ∙ take-suc xs i x within ∙ ap (λ y. take i xs ++ y ∷ []) (sym is)
 
 pub all_taken : {A B : Type 0} (P : B → Type 0) (f : A → B) (xs : List A) (x : A) (i : ℕ) → i < length xs → x ≡ slice_index_or xs i x
     → AllByRecursion P (map f (take i xs)) → P (f x) → AllByRecursion P (map f (take (i + 1) xs))
 all_taken P f xs x i within is all here =
-    subst (λ ys. AllByRecursion P (map f ys)) (sym (taken_more xs x i within is)) (subst (AllByRecursion P) (sym (map-append f (take i xs) (x ∷ []))) (all_pushed P (map f (take i xs)) (f x) all here))
+    subst (λ ys. AllByRecursion P (map f ys)) (sym (taken_more xs x i within is))
+    (subst (AllByRecursion P) (sym (map-append f (take i xs) (x ∷ []))) (all_pushed P (map f (take i xs)) (f x) all here))
 
 -- what has no row is not found
 
 pub nowhere_found : (dir : ℕ) (name : List ℕ) (rows : List (Spot × ℕ)) → IsNowhere dir name rows → find_key spot_cmp (dir, name) rows ≡ None
 nowhere_found dir name [] none = refl
 nowhere_found dir name (row ∷ rows) none =
-    elim (eq_by_cmp spot_cmp (dir, name) row.0) as (λ b. eq_by_cmp spot_cmp (dir, name) row.0 ≡ b → cond b (Some row.1) (find_key spot_cmp (dir, name) rows) ≡ None) [
-      | true ↦ λ same. absurd (let one : (dir, name) ≡ row.0 = exact_spots (dir, name) row.0 ((Equal-is (spot_cmp (dir, name) row.0)).0 same) in none.0 (ap (λ (s : Spot). s.0) (sym one)) (ap (λ (s : Spot). s.1) (sym one)))
+    elim (eq_by_cmp spot_cmp (dir, name) row.0) as (λ b. eq_by_cmp spot_cmp (dir, name) row.0 ≡ b →
+    cond b (Some row.1) (find_key spot_cmp (dir, name) rows) ≡ None) [
+      | true ↦ λ same. absurd (let one : (dir, name) ≡ row.0 =
+          exact_spots (dir, name) row.0 ((Equal-is (spot_cmp (dir, name) row.0)).0 same) in
+          none.0 (ap (λ (s : Spot). s.0) (sym one)) (ap (λ (s : Spot). s.1) (sym one)))
       | false ↦ λ _. nowhere_found dir name rows none.1
     ] refl
 
@@ -61,24 +59,31 @@ apart_kept place (veil ∷ vs) apart =
 
 -- a letter stands at one place
 
-pub letters_once : (letters : List (List ℕ)) → Rises name_cmp letters → (i j : ℕ) → i < length letters → j < length letters → get_or letters i [] ≡ get_or letters j [] → i ≡ j
+pub letters_once : (letters : List (List ℕ)) → Rises name_cmp letters → (i j : ℕ) → i < length letters → j < length letters →
+    get_or letters i [] ≡ get_or letters j [] → i ≡ j
 letters_once letters rises i j here there same =
-    nat_cmp-IsAntisymmetric i j (sym (letters_alike letters rises i j here there) ∙ ap (λ n. name_cmp n (get_or letters j [])) same ∙ tied_itself nat_list_cmp_total (get_or letters j []))
+    nat_cmp-IsAntisymmetric i j (sym (letters_alike letters rises i j here there) ∙ ap (λ n. name_cmp n (get_or letters j [])) same ∙
+    tied_itself nat_list_cmp_total (get_or letters j []))
 
 -- a letter is found at its place once it was put there, and so are those before it
 
-pub placed_more : (letters : List (List ℕ)) → Rises name_cmp letters → (place letter : ℕ) → place < length letters → letter < place + 1 → (bytes : List ℕ) → bytes ≡ get_or letters place [] → (old : Option ℕ) → (letter < place → old ≡ Some letter)
+pub placed_more : (letters : List (List ℕ)) → Rises name_cmp letters → (place letter : ℕ) → place < length letters → letter < place + 1 →
+    (bytes : List ℕ) → bytes ≡ get_or letters place [] → (old : Option ℕ) → (letter < place → old ≡ Some letter)
     → cond (bytes_eq bytes (get_or letters letter [])) (Some place) old ≡ Some letter
 placed_more letters rises place letter here low bytes is old before =
-    elim (bytes_eq bytes (get_or letters letter [])) as (λ b. bytes_eq bytes (get_or letters letter []) ≡ b → cond b (Some place) old ≡ Some letter) [
-      | true ↦ λ same. ap Some (letters_once letters rises place letter here (omega (arith, here, low)) (sym is ∙ (bytes_decides bytes (get_or letters letter [])).0 same))
+    elim (bytes_eq bytes (get_or letters letter [])) as (λ b. bytes_eq bytes (get_or letters letter []) ≡ b →
+    cond b (Some place) old ≡ Some letter) [
+      | true ↦ λ same. ap Some (letters_once letters rises place letter here (omega (arith, here, low)) (sym is ∙
+          (bytes_decides bytes (get_or letters letter [])).0 same))
       | false ↦ λ other. before (elim (cases_lt letter place) [
         | inl less ↦ less
-        | inr most ↦ absurd (let same : letter ≡ place = omega (arith, low, most) in let both = sym other ∙ (bytes_decides bytes (get_or letters letter [])).1 (is ∙ ap (λ n. get_or letters n []) (sym same)) in cc)
+        | inr most ↦ absurd (let same : letter ≡ place = omega (arith, low, most) in let both = sym other ∙
+            (bytes_decides bytes (get_or letters letter [])).1 (is ∙ ap (λ n. get_or letters n []) (sym same)) in cc)
       ])
     ] refl
 
-pub placed_within : (count place : ℕ) → place < count → (bytes other : List ℕ) → (old : Option ℕ) → IfSome old (λ n. n < count) → IfSome (cond (bytes_eq bytes other) (Some place) old) (λ n. n < count)
+pub placed_within : (count place : ℕ) → place < count → (bytes other : List ℕ) → (old : Option ℕ) → IfSome old (λ n. n < count) →
+    IfSome (cond (bytes_eq bytes other) (Some place) old) (λ n. n < count)
 placed_within count place here bytes other old low =
     elim (bytes_eq bytes other) as (λ b. IfSome (cond b (Some place) old) (λ n. n < count)) [
       | true ↦ here
@@ -87,14 +92,21 @@ placed_within count place here bytes other old low =
 
 -- spots in the order of their directories: those before a directory, those after it, and those between, of which none is of a letter
 
-pub unmarked_between : (dir letter first past : ℕ) (spots rest : List LetterSpot) → drop first spots ≡ rest → AllWithin (λ s. ltb s.dir dir ≡ true) spots 0 first → AllWithin (λ s. leb s.dir dir ≡ false) rest past (length rest)
+pub unmarked_between : (dir letter first past : ℕ) (spots rest : List LetterSpot) → drop first spots ≡ rest →
+    AllWithin (λ s. ltb s.dir dir ≡ true) spots 0 first → AllWithin (λ s. leb s.dir dir ≡ false) rest past (length rest)
     → AllByRecursion (λ s. s.letter ≢ letter) (take past rest) → IsUnmarked dir letter spots
 unmarked_between dir letter first past spots rest is before after between =
     let unmarked = λ (s : LetterSpot). s.dir ≡ dir → s.letter ≢ letter in
-    let front : AllByRecursion unmarked (take first spots) = all_before (λ s. ltb s.dir dir ≡ true) unmarked (λ s low same. absurd (omega (arith, same, ltb-true s.dir dir low))) first spots before in
-    let here : AllByRecursion unmarked (take past rest) = all_weaker (λ s. s.letter ≢ letter) unmarked (λ s away _. away) (take past rest) between in
-    let back : AllByRecursion unmarked (drop past rest) = all_after (λ s. leb s.dir dir ≡ false) unmarked (λ s high same. absurd (omega (arith, same, leb-false s.dir dir high))) past rest after in
-    let behind : AllByRecursion unmarked (drop first spots) = subst (AllByRecursion unmarked) (take-append-drop past rest ∙ sym is) (all_joined unmarked (take past rest) (drop past rest) here back) in
+    let front : AllByRecursion unmarked (take first spots) =
+    all_before (λ s. ltb s.dir dir ≡ true) unmarked (λ s low same. absurd (omega (arith, same, ltb-true s.dir dir low))) first spots
+    before in
+    let here : AllByRecursion unmarked (take past rest) =
+    all_weaker (λ s. s.letter ≢ letter) unmarked (λ s away _. away) (take past rest) between in
+    let back : AllByRecursion unmarked (drop past rest) =
+    all_after (λ s. leb s.dir dir ≡ false) unmarked (λ s high same. absurd (omega (arith, same, leb-false s.dir dir high))) past rest
+    after in
+    let behind : AllByRecursion unmarked (drop first spots) = subst (AllByRecursion unmarked) (take-append-drop past rest ∙
+    sym is) (all_joined unmarked (take past rest) (drop past rest) here back) in
     subst (AllByRecursion unmarked) (take-append-drop first spots) (all_joined unmarked (take first spots) (drop first spots) front behind)
 
 -- a letter that is a name
@@ -104,6 +116,9 @@ name_is part.Dot named = absurd cc
 name_is part.DotDot named = absurd cc
 name_is (part.Name name) named = refl
 
-pub named_part : (parts : List Part) (i : ℕ) → AllByRecursion (λ p. part_of (part_bytes p) ≡ p) parts → i < length parts → is_dots (get_or parts i part.Dot) ≡ false → part_of (get_or (map part_bytes parts) i []) ≡ part.Name (get_or (map part_bytes parts) i [])
+pub named_part : (parts : List Part) (i : ℕ) → AllByRecursion (λ p. part_of (part_bytes p) ≡ p) parts → i < length parts →
+    is_dots (get_or parts i part.Dot) ≡ false →
+    part_of (get_or (map part_bytes parts) i []) ≡ part.Name (get_or (map part_bytes parts) i [])
 named_part parts i faithful low named =
-    letter_part parts i part.Dot faithful low ∙ name_is (get_or parts i part.Dot) named ∙ ap part.Name (sym (get_or-map part_bytes parts i part.Dot [] low))
+    letter_part parts i part.Dot faithful low ∙ name_is (get_or parts i part.Dot) named ∙
+    ap part.Name (sym (get_or-map part_bytes parts i part.Dot [] low))

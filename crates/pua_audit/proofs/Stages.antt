@@ -1,28 +1,27 @@
 -- What a judge says of the states on the way to pairs, and of the states to which words lead.
-use Rattle.std.specs.Prelude.{◌≡◌, ℕ, zero, suc, ◌-◌, Bool, true, false, ◌&&◌, ◌||◌, ◌==◌, nat_lt, nat_le, List, [], ◌∷◌, length, Option, Some, None, option_map, option_to_list, flat_map, filter_map}
-use Rattle.pua_audit.specs.Reach.{Word, Pair}
-use Rattle.pua_audit.specs.Judge.{Judge, Place, Start, Below, reach_along}
-use Rattle.pua_audit.specs.Live.{Stage, shorter}
-use Rattle.pua_audit.specs.Judge.{State}
+use Rattle.std.specs.Prelude.{◌≡◌, ℕ, zero, suc, ◌-◌, Bool, true, false, ◌&&◌, ◌||◌, ◌==◌, nat_lt, nat_le, List, [], ◌∷◌, length, Option}
+use Rattle.pua_audit.proofs.Common.{option_to_list, flat_map, filter_map, Word, Pair, Judge, WordEnd, Start, Below, reach_along, Stage}
+use Rattle.pua_audit.proofs.Common.{shorter, JudgeState}
+use Rattle.std.specs.Prelude.{Some, None, option_map}
 use Rattle.pua_audit.proofs.Lines.{rows}
 
-abbrev pub on_state : {B : Type 0} → Option State → B → (State → B) → B
+abbrev pub on_state : {B : Type 0} → Option JudgeState → B → (JudgeState → B) → B
 on_state None none go = none
 on_state (Some s) none go = go s
 
 -- where the letters of a word lead from a place, one step after another
-abbrev pub leads : Judge → Place → Word → Option State
+abbrev pub leads : Judge → WordEnd → Word → Option JudgeState
 leads w x [] = w.step x
 leads w x (a ∷ word) = on_state (w.step x) None (λ s. leads w (Below s a) word)
 
-abbrev pub staged : ℕ → State → Stage
+abbrev pub staged : ℕ → JudgeState → Stage
 staged left s = record { dir = s.dir; links = s.used; left = left }
 
-abbrev pub stage_after : Judge → ℕ → Place → Word → Option Stage
+abbrev pub stage_after : Judge → ℕ → WordEnd → Word → Option Stage
 stage_after w limit x word = option_map (staged (limit - length word)) (leads w x word)
 
 -- the stages on the way to pairs, with repeats
-abbrev pub stages_of : Judge → ℕ → Place → List Pair → List Stage
+abbrev pub stages_of : Judge → ℕ → WordEnd → List Pair → List Stage
 stages_of w limit x ps = filter_map (stage_after w limit x) (flat_map (λ (p : Pair). shorter p.0) ps)
 
 abbrev pub is_stage : Stage → Stage → Bool
@@ -33,14 +32,14 @@ is_staged y [] = false
 is_staged y (x ∷ xs) = is_stage y x || is_staged y xs
 
 -- the states to which the words of so many letters lead from a place, one for each word
-unfoldable pub reached_from : Judge → List (List ℕ) → ℕ → Place → List State
+unfoldable pub reached_from : Judge → List (List ℕ) → ℕ → WordEnd → List JudgeState
 reached_from w letters zero x = option_to_list (w.step x)
 reached_from w letters (suc n) x = on_state (w.step x) [] (λ s. flat_map (λ a. reached_from w letters n (Below s a)) letters)
 
-abbrev pub is_state : State → State → Bool
+abbrev pub is_state : JudgeState → JudgeState → Bool
 is_state a b = (a.dir == b.dir) && (a.used == b.used)
 
-abbrev pub is_among : State → List State → Bool
+abbrev pub is_among : JudgeState → List JudgeState → Bool
 is_among y [] = false
 is_among y (x ∷ xs) = is_state y x || is_among y xs
 
@@ -48,11 +47,13 @@ abbrev pub some_pair : List Pair → Bool
 some_pair [] = false
 some_pair (p ∷ ps) = true
 
-abbrev pub state_of : Stage → State
+abbrev pub state_of : Stage → JudgeState
 state_of y = record { dir = y.dir; used = y.links }
 
--- a stage is on the way to a pair of the reach exactly if a letter may come, words of the other letters lead to it, and some pair goes on from it
+-- a stage is on the way to a pair of the reach exactly if a letter may come, words of the other letters lead to it, and
+-- some pair goes on from it
 abbrev pub StagesLive : Type 0
 StagesLive = (w : Judge) (letters : List (List ℕ)) (limit : ℕ) (y : Stage) →
     is_staged y (stages_of w limit Start (reach_along w letters limit))
-    ≡ ((nat_lt 0 y.left && nat_le y.left limit) && (some_pair (rows w letters (y.left - 1) (state_of y) letters) && is_among (state_of y) (reached_from w letters (limit - y.left) Start)))
+    ≡ ((nat_lt 0 y.left && nat_le y.left limit) && (some_pair (rows w letters (y.left - 1) (state_of y) letters)
+    && is_among (state_of y) (reached_from w letters (limit - y.left) Start)))

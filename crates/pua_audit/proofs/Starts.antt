@@ -1,17 +1,11 @@
 -- What is ahead of a walk that begins.
-use Rattle.std.proofs.Common.{◌≡◌, [], true, false, not, sym, ap, filter}
-use Rattle.std.specs.Prelude.{Option, Some, None, IsTrue}
-use Rattle.std.specs.Ordering.{is_lt}
-use Rattle.pua_tree.specs.Tree.{is_dir}
-use Rattle.pua_policy.specs.History.{is_ended}
-use Rattle.std.proofs.lemmas.Bool.{and_parts}
-use Rattle.pua_audit.specs.Past.{history_of}
-use Rattle.pua_audit.specs.Reach.{Pair, pair_cmp, reach, rest_after}
-use Rattle.pua_audit.specs.Judge.{base_dir, is_open, reach_along}
-use Rattle.pua_audit.specs.Laws.{IsAudited}
-use Rattle.pua_audit.specs.Ready.{scope_in, letters_of, judge_in, IsSound}
+use Rattle.pua_audit.proofs.Common.{◌≡◌, [], true, false, not, sym, ap, IsTrue, is_lt, is_dir, is_ended, and_parts, plain_history, Pair}
+use Rattle.pua_audit.proofs.Common.{pair_cmp, reach, rest_after, base_dir, reach_along, IsAudited, scope_in, letters_of, judge_in, IsSound}
+use Rattle.pua_audit.proofs.Common.{Terms}
+use Rattle.std.proofs.Common.{filter}
+use Rattle.std.specs.Prelude.{Option, Some, None}
+use Rattle.pua_audit.specs.Judge.{is_open}
 use Rattle.pua_audit.specs.Starting.{AreSound}
-use Rattle.pua_audit.specs.declared.terms.Terms.{Terms}
 use Rattle.pua_audit.proofs.Audited.{reaches_along, closed_reaches}
 
 module _ (a : Terms) (sound : IsSound a) (letters : AreSound a.limit a.letters.items) where
@@ -23,8 +17,9 @@ module _ (a : Terms) (sound : IsSound a) (letters : AreSound a.limit a.letters.i
   nothing_after closed None = closed_reaches (scope_in a) audited closed
   nothing_after closed (Some pair) = ap (filter (λ other. is_lt (pair_cmp pair other))) (closed_reaches (scope_in a) audited closed)
 
-  pub lives : is_open (scope_in a) ≡ true → IsTrue (is_dir a.seen.tree (base_dir a.base (history_of a.process)))
-  lives opened = (and_parts (not (is_ended (history_of a.process))) (is_dir a.seen.tree (base_dir a.base (history_of a.process))) opened).1
+  pub lives : is_open (scope_in a) ≡ true → IsTrue (is_dir a.seen.tree (base_dir a.base (plain_history a.process)))
+  lives opened = (and_parts (not (is_ended (plain_history a.process))) (is_dir a.seen.tree (base_dir a.base (plain_history a.process)))
+      opened).1
 
   pub all_along : is_open (scope_in a) ≡ true → reach_along (judge_in a) (letters_of a) a.limit ≡ reach (scope_in a)
   all_along opened = sym (reaches_along (scope_in a) audited (lives opened))

@@ -1,51 +1,47 @@
 -- A letter by its sets of calls.
-use Rattle.std.proofs.Common.{ℕ, zero, suc, ◌+◌, ◌<◌, ◌^◌, ◌≡◌, List, Bool, true, false, not, ◌&&◌, ◌||◌, ◌==◌, nat_le, cond, refl, ap, arith, sym, ◌∙◌}
+use Rattle.pua_audit.proofs.Common.{ℕ, zero, suc, ◌+◌, ◌<◌, ◌^◌, ◌≡◌, List, Bool, true, false, not, ◌&&◌, ◌||◌, ◌==◌, nat_le, cond, refl}
+use Rattle.pua_audit.proofs.Common.{ap, arith, sym, ◌∙◌, Result, Ok, Err, Tree, most_links, part_of, follow, last, Errno, Found, Last}
+use Rattle.pua_audit.proofs.Common.{Followed, Kept, Part, CallTable, bit_of, has, keeps_link, History, Call, Stat, Lstat, Readlink}
+use Rattle.pua_audit.proofs.Common.{OpenRead, OpenWrite, OpenBoth, Create, Mkdir, Rmdir, Unlink, Symlink, Chmod, Chdir, Exec, judge_of}
+use Rattle.pua_audit.proofs.Common.{links_of, found_of, leads_to, allowed_near, allowed_far, IsLetter, Base}
 use Rattle.std.specs.Int.{bit_at}
-use Rattle.std.specs.Prelude.{Result, Ok, Err, is_ok}
+use Rattle.std.specs.Prelude.{is_ok}
 use Rattle.std.proofs.lemmas.Nat.Bits.{bit_at-lt, bit_at-zero, same_from_bits_below}
-use Rattle.pua_tree.specs.Tree.{Tree}
-use Rattle.pua_path.specs.Limits.{link_limit}
-use Rattle.pua_path.specs.Paths.{part_of}
-use Rattle.pua_path.specs.Resolution.{follow, last}
-use Rattle.pua_path.specs.declared.errno.Errno.{Errno}
-use Rattle.pua_path.specs.declared.found.Found.{Found}
-use Rattle.pua_path.specs.declared.found.Last.{Last}
-use Rattle.pua_path.specs.declared.found.Last.TheVariants.{Followed, Kept}
-use Rattle.pua_path.specs.declared.found.Part.{Part}
 use Rattle.pua_path.proofs.ForCallers.{unlinked_alike}
-use Rattle.pua_calls.specs.Calls.{CallTable}
-use Rattle.pua_calls.specs.CallSets.{bit_of, has, is_kept, keeps_link}
-use Rattle.pua_policy.specs.History.{History}
-use Rattle.pua_calls.specs.declared.call.Call.{Call}
-use Rattle.pua_calls.specs.declared.call.Call.TheVariants.{Stat, Lstat, Readlink, OpenRead, OpenWrite, OpenBoth, Create, Mkdir, Rmdir, Unlink, Symlink, Chmod, Chdir, Exec}
-use Rattle.pua_audit.specs.Judge.{judge_of}
-use Rattle.pua_audit.specs.Entries.{links_of, found_of, leads_to, allowed_near, allowed_far}
-use Rattle.pua_audit.specs.Table.{IsLetter}
-use Rattle.pua_audit.specs.declared.base.Base.{Base}
+use Rattle.pua_calls.specs.CallSets.{is_kept}
 use Rattle.pua_audit.proofs.Fresh.{entries_stand}
 use Rattle.pua_calls.proofs.ForCallers.{has_none}
 
 -- a letter that is followed once, by the sets of its calls
 pub letter_told : (t : Tree) (table : CallTable) (base : Base) (h : History) (dir : ℕ) (letter : List ℕ) (all kept : ℕ)
-    → ((call : Call) → has all call ≡ allowed_near t table h dir letter (follow t dir (part_of letter)) call) → ((call : Call) → has kept call ≡ allowed_far t table h dir letter call)
-    → IsLetter (judge_of t table base h) dir letter all kept (links_of (follow t dir (part_of letter))) (leads_to (found_of (follow t dir (part_of letter))))
+    → ((call : Call) → has all call ≡ allowed_near t table h dir letter (follow t dir (part_of letter)) call) →
+    ((call : Call) → has kept call ≡ allowed_far t table h dir letter call)
+    → IsLetter (judge_of t table base h) dir letter all kept (links_of (follow t dir (part_of letter)))
+    (leads_to (found_of (follow t dir (part_of letter))))
 letter_told t table base h dir letter all kept near far = record {
-  own = λ used call low. (entries_stand t table base h dir letter used low).own call ∙ by call (nat_le (used + links_of (follow t dir (part_of letter))) link_limit);
+  own = λ used call low. (entries_stand t table base h dir letter used low).own call ∙
+      by call (nat_le (used + links_of (follow t dir (part_of letter))) most_links);
   step = λ used low. (entries_stand t table base h dir letter used low).step;
 }
   where
-    by : (call : Call) (b : Bool) → cond b (allowed_near t table h dir letter (follow t dir (part_of letter)) call) (allowed_far t table h dir letter call) ≡ has (cond b all kept) call
+    by : (call : Call) (b : Bool) →
+        cond b (allowed_near t table h dir letter (follow t dir (part_of letter)) call) (allowed_far t table h dir letter call)
+        ≡ has (cond b all kept) call
     by call true = sym (near call)
     by call false = sym (far call)
 
 -- what is found without a link is what is found where a final link is kept
-pub kept_unlinked : (t : Tree) (dir : ℕ) (part : Part) (r : Result (Found × ℕ) Errno) → follow t dir part ≡ r → links_of r ≡ 0 → is_ok (found_of r) ≡ true → last t dir 0 part Kept ≡ found_of r
+pub kept_unlinked : (t : Tree) (dir : ℕ) (part : Part) (r : Result (Found × ℕ) Errno) → follow t dir part ≡ r → links_of r ≡ 0 →
+    is_ok (found_of r) ≡ true → last t dir 0 part Kept ≡ found_of r
 kept_unlinked t dir part (Ok found) same none ok = unlinked_alike t dir part found.0 (same ∙ ap (λ n. Ok (found.0, n)) none)
 kept_unlinked t dir part (Err errno) same none ok = absurd cc
 
 -- calls that follow a final link, and those that keep it
 
-pub by_both : (mode : Last) (followed kept : Bool) → ((followed && not (is_kept mode)) || (kept && is_kept mode)) ≡ elim mode [ Followed ↦ followed | Kept ↦ kept ]
+pub by_both : (mode : Last) (followed kept : Bool) → ((followed && not (is_kept mode)) || (kept && is_kept mode)) ≡ elim mode [
+  | Followed ↦ followed
+  | Kept ↦ kept
+]
 by_both Followed true true = refl
 by_both Followed true false = refl
 by_both Followed false true = refl
@@ -55,7 +51,8 @@ by_both Kept true false = refl
 by_both Kept false true = refl
 by_both Kept false false = refl
 
-pub by_kept : (mode : Last) (followed kept : Bool) → (elim mode [ Followed ↦ followed | Kept ↦ kept ] && is_kept mode) ≡ elim mode [ Followed ↦ false | Kept ↦ kept ]
+pub by_kept : (mode : Last) (followed kept : Bool) →
+    (elim mode [ Followed ↦ followed | Kept ↦ kept ] && is_kept mode) ≡ elim mode [ Followed ↦ false | Kept ↦ kept ]
 by_kept Followed true kept = refl
 by_kept Followed false kept = refl
 by_kept Kept followed true = refl
@@ -96,4 +93,5 @@ no_calls set fits none = same_from_bits_below 14 set 0 fits (omega arith) (λ i 
 
 -- the calls that a set keeps are none where it has none
 pub kept_none : (all kept : ℕ) → kept < 2 ^ 14 → ((call : Call) → has kept call ≡ (has all call && keeps_link call)) → all ≡ 0 → kept ≡ 0
-kept_none all kept fits is none = no_calls kept fits (λ call. is call ∙ ap (λ n. has n call && keeps_link call) none ∙ ap (λ b. b && keeps_link call) (has_none call))
+kept_none all kept fits is none = no_calls kept fits (λ call. is call ∙ ap (λ n. has n call && keeps_link call) none ∙
+    ap (λ b. b && keeps_link call) (has_none call))

@@ -1,8 +1,8 @@
 -- The path of a word in a buffer, letter by letter.
-use Rattle.std.proofs.Common.{ℕ, zero, suc, ◌+◌, ◌<◌, ◌≤◌, ◌≡◌, List, [], ◌∷◌, ◌++◌, refl, ap, arith, sym, ◌∙◌, length, get_or, take, length-append, min, inl, inr}
-use Rattle.std.proofs.lemmas.Bool.{cases_lt}
+use Rattle.pua_audit.proofs.Common.{ℕ, zero, suc, ◌+◌, ◌<◌, ◌≤◌, ◌≡◌, List, [], ◌∷◌, ◌++◌, refl, ap, arith, sym, ◌∙◌, length, get_or, take}
+use Rattle.pua_audit.proofs.Common.{min, inl, inr, cases_lt, Word, from_root}
+use Rattle.std.proofs.Common.{length-append}
 use Rattle.std.proofs.lemmas.List.{length-take, take-take}
-use Rattle.pua_audit.specs.Reach.{Word, from_root}
 use Rattle.pua_audit.specs.WordPaths.{starts_of}
 
 pub length-starts : (n : ℕ) (word : Word) → length (starts_of n word) ≡ length word
@@ -53,5 +53,6 @@ pub front_stays : (old new : List ℕ) (k n m : ℕ) → take n new ≡ take n o
 front_stays old new k n m same few =
     elim (cases_lt n k) [
       | inl h ↦ take-take n k old (omega (arith, h)) ∙ sym same ∙ ap (λ l. take l new) (omega (arith, h, few))
-      | inr h ↦ take_whole n (take k old) (omega (arith, h, length-take k old)) ∙ sym (take-take k n old h) ∙ ap (take k) (sym same) ∙ take-take k n new h ∙ ap (λ l. take l new) (omega (arith, h, few))
+      | inr h ↦ take_whole n (take k old) (omega (arith, h, length-take k old)) ∙ sym (take-take k n old h) ∙ ap (take k) (sym same) ∙
+          take-take k n new h ∙ ap (λ l. take l new) (omega (arith, h, few))
     ]

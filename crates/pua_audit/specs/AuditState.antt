@@ -1,4 +1,5 @@
--- What contracts see of an audit: the tree, where paths begin, the letters of its words and how many a word may have, how many states are live, how many letters were read, and the pairs that are still to come.
+-- What contracts see of an audit: the tree, where paths begin, the letters of its words and how many a word may have,
+-- how many states are live, how many letters were read, and the pairs that are still to come.
 use Rattle.std.specs.Prelude.{ℕ, List}
 use Rattle.pua_tree.specs.Tree.{Tree}
 use Rattle.pua_audit.specs.Reach.{Pair}

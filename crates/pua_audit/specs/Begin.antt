@@ -1,5 +1,6 @@
 -- What an audit is given, and why it can't begin.
-use Rattle.std.specs.Prelude.{ℕ, suc, ◌*◌, Bool, if◌then◌else◌, List, [], ◌∷◌, length, nat_le, max, fold, ◌==◌, Option, Some, None, Result, Ok, Err, codes, find, ok_or, option_map, option_and_then}
+use Rattle.std.specs.Prelude.{ℕ, suc, ◌*◌, Bool, if◌then◌else◌, List, [], ◌∷◌, length, nat_le, max, fold, ◌==◌, Option, Some, None, Result}
+use Rattle.std.specs.Prelude.{Ok, Err, codes, find, ok_or, option_map, option_and_then}
 use Rattle.std.specs.List.{slice_split, before_first, after_first}
 use Rattle.std.specs.Result.{result_ok}
 use Rattle.pua_tree.specs.Names.{same_bytes}
@@ -9,7 +10,7 @@ use Rattle.pua_tree.specs.Steps.{◌>>=◌}
 use Rattle.pua_tree.specs.Listing.{only_if}
 use Rattle.pua_calls.specs.Calls.{CallTable, call_named}
 use Rattle.pua_policy.specs.History.{History}
-use Rattle.pua_audit.specs.Limits.{letter_limit, candidate_limit, path_limit}
+use Rattle.pua_audit.specs.Limits.{most_letters, most_candidates, most_path}
 use Rattle.pua_audit.specs.Reach.{Word, Pair, Scope, alphabet_of, rest_after}
 use Rattle.pua_audit.specs.declared.base.Base.{Base}
 use Rattle.pua_audit.specs.declared.base.Base.TheVariants.{Root, Cwd}
@@ -28,7 +29,8 @@ candidates_from n (text ∷ texts) = do
 abbrev pub word_of_pieces : List (List ℕ) → List (List ℕ) → Option Word
 word_of_pieces alphabet [] = Some []
 word_of_pieces alphabet (piece ∷ pieces) =
-    option_and_then (λ letter. option_map (λ word. letter ∷ word) (word_of_pieces alphabet pieces)) (find (λ letter. same_bytes (spelling letter) piece) alphabet)
+    option_and_then (λ letter. option_map (λ word. letter ∷ word) (word_of_pieces alphabet pieces))
+    (find (λ letter. same_bytes (spelling letter) piece) alphabet)
 
 abbrev pub word_of_pieces_between : List (List ℕ) → List ℕ → Option Word
 word_of_pieces_between alphabet text = word_of_pieces alphabet (slice_split (λ b. b == 47) text)
@@ -47,7 +49,8 @@ word_within limit word = only_if (λ w. nat_le (length w) limit) word
 -- the pair that a text `CALL:PATH` names: a word of the alphabet with no more letters than the limit
 abbrev pub pair_named : Base → List (List ℕ) → ℕ → List ℕ → Option Pair
 pair_named base alphabet limit text =
-    option_and_then (λ call. option_map (λ word. (word, call)) (word_within limit (word_of_path base alphabet (after_first (λ b. b == 58) text))))
+    option_and_then (λ call. option_map (λ word. (word, call))
+    (word_within limit (word_of_path base alphabet (after_first (λ b. b == 58) text))))
     (call_named (before_first (λ b. b == 58) text))
 
 abbrev pub resume_pair : Scope → List ℕ → Option Pair
@@ -72,12 +75,15 @@ fault_unless test fault = if test then Ok tt else Err fault
 -- the limit, the number of candidates, each candidate, the length of paths, and the resume text
 abbrev pub beginning : Tree → CallTable → History → Base → List (List ℕ) → ℕ → Option (List ℕ) → Result Beginning AuditFault
 beginning t table h base texts limit after = do
-  _ ← fault_unless (nat_le limit letter_limit) LimitTooLarge
-  _ ← fault_unless (nat_le (length texts) candidate_limit) TooManyNames
+  _ ← fault_unless (nat_le limit most_letters) LimitTooLarge
+  _ ← fault_unless (nat_le (length texts) most_candidates) TooManyNames
   candidates ← candidates_from 1 texts
-  _ ← fault_unless (nat_le (limit * suc (longest (alphabet_of t candidates))) path_limit) TooLong
+  _ ← fault_unless (nat_le (limit * suc (longest (alphabet_of t candidates))) most_path) TooLong
   pair ← resume_in (record { tree = t; table = table; history = h; base = base; alphabet = alphabet_of t candidates; limit = limit }) after
-  Ok (record { scope = record { tree = t; table = table; history = h; base = base; alphabet = alphabet_of t candidates; limit = limit }; after = pair })
+  Ok (record {
+    scope = record { tree = t; table = table; history = h; base = base; alphabet = alphabet_of t candidates; limit = limit };
+    after = pair;
+  })
 
 -- the pairs that are still to come when it begins
 abbrev pub still_to_come : Beginning → List Pair

@@ -43,10 +43,10 @@ abbrev pub begin_cost : Tree → ℕ → ℕ → ℕ
 begin_cost t limit letters = 33 * (length t.nodes * layers_cost t limit letters) + line_cost t limit letters
 
 -- the names that candidates spell, and none where one of them spells none
-abbrev pub names_in : Result (List (List ℕ)) AuditFault → List (List ℕ)
-names_in (Ok names) = names
-names_in (Err fault) = []
+abbrev pub names_or_none : Result (List (List ℕ)) AuditFault → List (List ℕ)
+names_or_none (Ok names) = names
+names_or_none (Err fault) = []
 
 -- how many letters an audit has
 abbrev pub letter_count : Tree → List (List ℕ) → ℕ
-letter_count t texts = length (alphabet_of t (names_in (candidates_from 1 texts)))
+letter_count t texts = length (alphabet_of t (names_or_none (candidates_from 1 texts)))

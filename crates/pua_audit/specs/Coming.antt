@@ -29,12 +29,12 @@ abbrev pub pairs_at : List (List ℕ) → List graph.Pair → List Pair
 pairs_at letters ps = map (pair_at letters) ps
 
 -- those that come after a pair, or all of them
-abbrev pub pairs_after : Option Resumption → List graph.Pair → List graph.Pair
-pairs_after None ps = ps
-pairs_after (Some r) ps = order.rest_after (r.word.items, bit_of r.call) ps
+abbrev pub pairs_resumed : Option Resumption → List graph.Pair → List graph.Pair
+pairs_resumed None ps = ps
+pairs_resumed (Some r) ps = order.pairs_after (r.word.items, bit_of r.call) ps
 
-abbrev pub word_in : Pairs → Word
-word_in a = word_of (letters_of a.terms) a.walk.word.items
+abbrev pub walk_word : Pairs → Word
+walk_word a = word_of (letters_of a.terms) a.walk.word.items
 
 abbrev pub to_come : Pairs → List Pair
 to_come a = pairs_at (letters_of a.terms) (pairs_of (steps.trail a.walk))
@@ -52,8 +52,8 @@ pub record AreReady (a : Pairs) : Type 0 where
 
 -- a line is the first pair that is still to come, by the path of its word
 pub record IsLine (old : Pairs) (call : Call) (new : Pairs) : Type 0 where
-  pub next : to_come old ≡ (word_in new, call) ∷ to_come new
-  pub path : IsPathOf (word_in new) new.path
+  pub next : to_come old ≡ (walk_word new, call) ∷ to_come new
+  pub path : IsPathOf (walk_word new) new.path
   pub within : length new.walk.word.items ≤ new.terms.limit
   pub known : AllByRecursion (λ i. i < length new.terms.letters.items) new.walk.word.items
 

@@ -1,7 +1,7 @@
 -- What a letter that is followed once, with no link used before it, tells of the letter after any number of links.
 use Rattle.std.specs.Prelude.{◌≡◌, ◌≤◌, ◌+◌, ℕ, Bool, false, cond, nat_le, List, Option, Some, None, option_map, Result, Ok, Err}
 use Rattle.pua_tree.specs.Tree.{Tree}
-use Rattle.pua_path.specs.Limits.{link_limit}
+use Rattle.pua_path.specs.Limits.{most_links}
 use Rattle.pua_path.specs.Paths.{part_of}
 use Rattle.pua_path.specs.Resolution.{follow, last}
 use Rattle.pua_path.specs.declared.errno.Errno.{Errno}
@@ -44,7 +44,8 @@ allowed_near t table h dir letter r call =
 abbrev pub allowed_far : Tree → CallTable → History → ℕ → List ℕ → Call → Bool
 allowed_far t table h dir letter call = elim (last_of call) [ Followed ↦ false | Kept ↦ allowed_kept t table h dir letter call ]
 
--- whether a call is allowed on such an object in a directory whose name has no veil of its own: what the veils leave of it is what they leave of the directory
+-- whether a call is allowed on such an object in a directory whose name has no veil of its own: what the veils leave of
+-- it is what they leave of the directory
 abbrev pub allowed_within : Tree → CallTable → History → ℕ → Object → Call → Bool
 allowed_within t table h dir object call = is_allowed (covered_verdict t table h call (cover t h (Whole dir Top)) object)
 
@@ -55,12 +56,15 @@ pub record AreWithin (t : Tree) (table : CallTable) (h : History) (dir : ℕ) (w
   pub program : (call : Call) → has w.program call ≡ allowed_within t table h dir IsProg call
 
 -- what the letter is, for each number of links used before
-pub record IsEntryAt (t : Tree) (table : CallTable) (base : Base) (h : History) (dir : ℕ) (letter : List ℕ) (r : Result (Found × ℕ) Errno) (used : ℕ) : Type 0 where
+pub record IsEntryAt (t : Tree) (table : CallTable) (base : Base) (h : History) (dir : ℕ) (letter : List ℕ) (r : Result (Found × ℕ) Errno)
+    (used : ℕ) : Type 0 where
   pub own : (call : Call) → (judge_of t table base h).own (Below (record { dir = dir; used = used }) letter) call
-      ≡ cond (nat_le (used + links_of r) link_limit) (allowed_near t table h dir letter r call) (allowed_far t table h dir letter call)
+      ≡ cond (nat_le (used + links_of r) most_links) (allowed_near t table h dir letter r call) (allowed_far t table h dir letter call)
   pub step : (judge_of t table base h).step (Below (record { dir = dir; used = used }) letter)
-      ≡ cond (nat_le (used + links_of r) link_limit) (option_map (λ d. record { dir = d; used = used + links_of r }) (leads_to (found_of r))) None
+      ≡ cond (nat_le (used + links_of r) most_links) (option_map (λ d. record { dir = d; used = used + links_of r })
+      (leads_to (found_of r))) None
 
 -- a letter that is followed once tells it after any number of links
 abbrev pub EntriesStand : Type 0
-EntriesStand = (t : Tree) (table : CallTable) (base : Base) (h : History) (dir : ℕ) (letter : List ℕ) (used : ℕ) → used ≤ link_limit → IsEntryAt t table base h dir letter (follow t dir (part_of letter)) used
+EntriesStand = (t : Tree) (table : CallTable) (base : Base) (h : History) (dir : ℕ) (letter : List ℕ) (used : ℕ) → used ≤ most_links →
+    IsEntryAt t table base h dir letter (follow t dir (part_of letter)) used

@@ -18,11 +18,11 @@ use Rattle.pua_audit.specs.declared.fault.AuditFault.{AuditFault}
 use Rattle.pua_audit.specs.declared.fault.AuditFault.TheVariants.{BadCandidate, BadResume, LimitTooLarge}
 
 -- the printed path and the call of each pair
-abbrev pub printed : Base → Pair → List ℕ
-printed base pair = printed_path base pair.0 ++ 32 ∷ call_name pair.1
+abbrev pub printed_pair : Base → Pair → List ℕ
+printed_pair base pair = printed_path base pair.0 ++ 32 ∷ call_name pair.1
 
 abbrev pub printed_beginning : Base → Result Beginning AuditFault → List (List ℕ)
-printed_beginning base (Ok b) = map (printed base) (still_to_come b)
+printed_beginning base (Ok b) = map (printed_pair base) (still_to_come b)
 printed_beginning base (Err fault) = []
 
 -- the lines of an audit
@@ -55,7 +55,10 @@ one_written_file = Pledged (Some fattr) None ∷ Unveiled (Slot 0 (codes "f")) w
 abbrev pub tree_of_32_links : Tree
 tree_of_32_links = record {
   rows = ((0, codes "f"), 1) ∷ ((0, codes "k"), 2) ∷ ((0, codes "l"), 3) ∷ [];
-  nodes = (0, record { kind = Dir; target = None }) ∷ (1, record { kind = File; target = None }) ∷ (2, record { kind = Link; target = Some (codes ".") })
+  nodes = (0, record { kind = Dir; target = None }) ∷ (1, record { kind = File; target = None }) ∷ (
+    2,
+    record { kind = Link; target = Some (codes ".") },
+  )
       ∷ (3, record { kind = Link; target = Some (codes "k/k/k/k/k/k/k/k/k/k/k/k/k/k/k/k/k/k/k/k/k/k/k/k/k/k/k/k/k/k/k") }) ∷ [];
   next = 4;
 }
@@ -64,7 +67,10 @@ tree_of_32_links = record {
 abbrev pub tree_of_two_paths : Tree
 tree_of_two_paths = record {
   rows = ((0, codes "d"), 1) ∷ ((0, codes "l"), 2) ∷ ((1, codes "f"), 3) ∷ [];
-  nodes = (0, record { kind = Dir; target = None }) ∷ (1, record { kind = Dir; target = None }) ∷ (2, record { kind = Link; target = Some (codes "d") }) ∷ (3, record { kind = File; target = None }) ∷ [];
+  nodes = (0, record { kind = Dir; target = None }) ∷ (1, record { kind = Dir; target = None }) ∷ (
+    2,
+    record { kind = Link; target = Some (codes "d") },
+  ) ∷ (3, record { kind = File; target = None }) ∷ [];
   next = 4;
 }
 
@@ -73,34 +79,49 @@ abbrev pub free_stat : CallTable
 free_stat = with_rule standard_table Stat (record { alternatives = 0 ∷ []; perms = 0 })
 
 pub record ReachRows : Type 0 where
-  pub root : lines_from_root empty_tree new_history [] 0 None ≡ codes "/ stat" ∷ codes "/ lstat" ∷ codes "/ open-r" ∷ codes "/ chmod" ∷ codes "/ chdir" ∷ []
-  pub above_root : lines_from_root empty_tree new_history [] 1 None ≡ codes "/ stat" ∷ codes "/ lstat" ∷ codes "/ open-r" ∷ codes "/ chmod" ∷ codes "/ chdir" ∷ codes "/.. stat" ∷ codes "/.. lstat" ∷ codes "/.. open-r" ∷ codes "/.. chmod" ∷ codes "/.. chdir" ∷ []
-  pub missing_name : lines_from_root empty_tree one_promise (codes "a" ∷ []) 2 None ≡ codes "/../a mkdir" ∷ codes "/../a symlink" ∷ codes "/a mkdir" ∷ codes "/a symlink" ∷ []
-  pub resumed : lines_from_root empty_tree one_promise (codes "a" ∷ []) 2 (Some (codes "symlink:/../a")) ≡ codes "/a mkdir" ∷ codes "/a symlink" ∷ []
-  pub spelled : lines_from_root empty_tree one_promise (codes "a\\040b" ∷ []) 1 None ≡ codes "/a\\040b mkdir" ∷ codes "/a\\040b symlink" ∷ []
-  pub one_file : lines_from_root example_tree one_veil [] 2 None ≡ codes "/etc/passwd stat" ∷ codes "/etc/passwd lstat" ∷ codes "/etc/passwd open-r" ∷ []
-  pub from_working_directory : lines_from Cwd example_tree (Moved 1 ∷ one_veil) [] 1 None ≡ codes "passwd stat" ∷ codes "passwd lstat" ∷ codes "passwd open-r" ∷ []
+  pub root : lines_from_root empty_tree new_history [] 0 None ≡ codes "/ stat" ∷ codes "/ lstat" ∷ codes "/ open-r" ∷ codes "/ chmod"
+      ∷ codes "/ chdir" ∷ []
+  pub above_root : lines_from_root empty_tree new_history [] 1 None ≡ codes "/ stat" ∷ codes "/ lstat" ∷ codes "/ open-r" ∷ codes "/ chmod"
+      ∷ codes "/ chdir" ∷ codes "/.. stat" ∷ codes "/.. lstat" ∷ codes "/.. open-r" ∷ codes "/.. chmod" ∷ codes "/.. chdir" ∷ []
+  pub missing_name : lines_from_root empty_tree one_promise (codes "a" ∷ []) 2 None ≡ codes "/../a mkdir" ∷ codes "/../a symlink"
+      ∷ codes "/a mkdir" ∷ codes "/a symlink" ∷ []
+  pub resumed : lines_from_root empty_tree one_promise (codes "a" ∷ []) 2 (Some (codes "symlink:/../a")) ≡ codes "/a mkdir"
+      ∷ codes "/a symlink" ∷ []
+  pub spelled : lines_from_root empty_tree one_promise (codes "a\\040b" ∷ []) 1 None ≡ codes "/a\\040b mkdir" ∷ codes "/a\\040b symlink"
+      ∷ []
+  pub one_file : lines_from_root example_tree one_veil [] 2 None ≡ codes "/etc/passwd stat" ∷ codes "/etc/passwd lstat"
+      ∷ codes "/etc/passwd open-r" ∷ []
+  pub from_working_directory : lines_from Cwd example_tree (Moved 1 ∷ one_veil) [] 1 None ≡ codes "passwd stat" ∷ codes "passwd lstat"
+      ∷ codes "passwd open-r" ∷ []
   pub ended_process : lines_from Root empty_tree (Ended ∷ new_history) [] 1 None ≡ []
   pub bad_candidate : beginning empty_tree standard_table new_history Root (codes "a" ∷ codes "a/b" ∷ []) 1 None ≡ Err (BadCandidate 2)
-  pub resume_beyond_limit : beginning empty_tree standard_table new_history Root (codes "a" ∷ []) 1 (Some (codes "stat:/a/a")) ≡ Err BadResume
-  pub resumed_within_a_path : lines_from_root empty_tree new_history [] 0 (Some (codes "lstat:/")) ≡ codes "/ open-r" ∷ codes "/ chmod" ∷ codes "/ chdir" ∷ []
+  pub resume_beyond_limit : beginning empty_tree standard_table new_history Root (codes "a" ∷ []) 1 (Some (codes "stat:/a/a"))
+      ≡ Err BadResume
+  pub resumed_within_a_path : lines_from_root empty_tree new_history [] 0 (Some (codes "lstat:/")) ≡ codes "/ open-r" ∷ codes "/ chmod"
+      ∷ codes "/ chdir" ∷ []
   pub limit_of_16 : beginning empty_tree standard_table new_history Root [] 16 (Some (codes "stat:")) ≡ Err BadResume
   pub limit_of_17 : beginning empty_tree standard_table new_history Root [] 17 (Some (codes "stat:")) ≡ Err LimitTooLarge
-  pub by_another_table : printed_beginning Root (beginning empty_tree free_stat (Pledged (Some 0) None ∷ new_history) Root [] 0 None) ≡ codes "/ stat" ∷ []
+  pub by_another_table : printed_beginning Root (beginning empty_tree free_stat (Pledged (Some 0) None ∷ new_history) Root [] 0 None)
+      ≡ codes "/ stat" ∷ []
   pub through_a_link : lines_from_root tree_of_two_paths (Unveiled (Slot 1 (codes "f")) reading ∷ new_history) [] 2 None ≡
       codes "/d/f stat" ∷ codes "/d/f lstat" ∷ codes "/d/f open-r" ∷ codes "/l/f stat" ∷ codes "/l/f lstat" ∷ codes "/l/f open-r" ∷ []
   -- what leads to the file after at most 32 links: /k/l/f and /l/k/f follow 33
   pub after_32_links : lines_from_root tree_of_32_links one_written_file [] 3 None ≡
       codes "/../../f chmod" ∷ codes "/../f chmod" ∷ codes "/../k/f chmod" ∷ codes "/../l/f chmod" ∷ codes "/f chmod"
       ∷ codes "/k/../f chmod" ∷ codes "/k/f chmod" ∷ codes "/k/k/f chmod" ∷ codes "/l/../f chmod" ∷ codes "/l/f chmod" ∷ []
-  pub link_itself : lines_from_root example_tree (Unveiled (Slot 0 (codes "t")) reading ∷ new_history) [] 1 None ≡ codes "/t lstat" ∷ codes "/t readlink" ∷ []
+  pub link_itself : lines_from_root example_tree (Unveiled (Slot 0 (codes "t")) reading ∷ new_history) [] 1 None ≡ codes "/t lstat"
+      ∷ codes "/t readlink" ∷ []
   pub where_a_link_leads : lines_from_root example_tree (Unveiled (Directory 3) reading ∷ new_history) [] 1 None ≡
-      codes "/t stat" ∷ codes "/t open-r" ∷ codes "/t chdir" ∷ codes "/tmp stat" ∷ codes "/tmp lstat" ∷ codes "/tmp open-r" ∷ codes "/tmp chdir" ∷ []
-  pub program : lines_from_root example_tree (Unveiled (Directory 3) executing ∷ new_history) [] 2 None ≡ codes "/t/sh exec" ∷ codes "/tmp/sh exec" ∷ []
-  pub veiled_missing_name : lines_from_root example_tree (Unveiled (Slot 1 (codes "a")) creating ∷ Unveiled (Directory 1) reading ∷ new_history) (codes "a" ∷ []) 2 None ≡
+      codes "/t stat" ∷ codes "/t open-r" ∷ codes "/t chdir" ∷ codes "/tmp stat" ∷ codes "/tmp lstat" ∷ codes "/tmp open-r"
+      ∷ codes "/tmp chdir" ∷ []
+  pub program : lines_from_root example_tree (Unveiled (Directory 3) executing ∷ new_history) [] 2 None ≡ codes "/t/sh exec"
+      ∷ codes "/tmp/sh exec" ∷ []
+  pub veiled_missing_name : lines_from_root example_tree (Unveiled (Slot 1 (codes "a")) creating ∷ Unveiled (Directory 1) reading
+      ∷ new_history) (codes "a" ∷ []) 2 None ≡
       codes "/../etc stat" ∷ codes "/../etc lstat" ∷ codes "/../etc open-r" ∷ codes "/../etc chdir"
       ∷ codes "/etc stat" ∷ codes "/etc lstat" ∷ codes "/etc open-r" ∷ codes "/etc chdir" ∷ codes "/etc/a mkdir" ∷ codes "/etc/a symlink"
-      ∷ codes "/etc/passwd stat" ∷ codes "/etc/passwd lstat" ∷ codes "/etc/passwd open-r" ∷ codes "/t/up stat" ∷ codes "/t/up open-r" ∷ codes "/t/up chdir"
+      ∷ codes "/etc/passwd stat" ∷ codes "/etc/passwd lstat" ∷ codes "/etc/passwd open-r" ∷ codes "/t/up stat" ∷ codes "/t/up open-r"
+      ∷ codes "/t/up chdir"
       ∷ codes "/tmp/up stat" ∷ codes "/tmp/up open-r" ∷ codes "/tmp/up chdir" ∷ []
   pub live_in_root : live_from_root empty_tree one_promise (codes "a" ∷ []) 2 ≡ 2
   pub live_over_file : live_from_root example_tree one_veil [] 2 ≡ 2

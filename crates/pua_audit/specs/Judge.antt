@@ -18,22 +18,22 @@ use Rattle.pua_audit.specs.declared.base.Base.{Base}
 use Rattle.pua_audit.specs.declared.base.Base.TheVariants.{Root, Cwd}
 
 -- a directory to which a word leads, and how many links were followed on the way
-pub record State : Type 0 where
+pub record JudgeState : Type 0 where
   pub dir : ℕ
   pub used : ℕ
 
 -- where a word ends: the empty one at the start, another at its last letter in a directory
-pub data Place : Type 0 where
-  Start : Place
-  Below : State → List ℕ → Place
+pub data WordEnd : Type 0 where
+  Start : WordEnd
+  Below : JudgeState → List ℕ → WordEnd
 
 -- the directory and the links used after a place, if words go on from there, and whether a call is allowed there
 pub record Judge : Type 0 where
-  pub step : Place → Option State
-  pub own : Place → Call → Bool
+  pub step : WordEnd → Option JudgeState
+  pub own : WordEnd → Call → Bool
 
 -- the calls that are allowed at a place, in their order
-unfoldable pub allowed_at : Judge → Place → List Call
+unfoldable pub allowed_at : Judge → WordEnd → List Call
 allowed_at w x = filter (w.own x) calls
 
 -- the directory in which the first letter stands
@@ -47,33 +47,33 @@ base_way Root = Top
 base_way Cwd = Dot
 
 -- what the path of a word names, by its last letter
-abbrev pub found_at : Tree → Base → History → Place → Call → Result Found Errno
-found_at t base h Start call = Ok (Whole (base_dir base h) (base_way base))
-found_at t base h (Below s letter) call = last t s.dir s.used (part_of letter) (last_of call)
+abbrev pub found_at_end : Tree → Base → History → WordEnd → Call → Result Found Errno
+found_at_end t base h Start call = Ok (Whole (base_dir base h) (base_way base))
+found_at_end t base h (Below s letter) call = last t s.dir s.used (part_of letter) (last_of call)
 
-abbrev pub state_of : Result (ℕ × ℕ) Errno → Option State
+abbrev pub state_of : Result (ℕ × ℕ) Errno → Option JudgeState
 state_of (Ok at) = Some (record { dir = at.0; used = at.1 })
 state_of (Err errno) = None
 
-abbrev pub state_behind : Tree → Base → History → Place → Option State
+abbrev pub state_behind : Tree → Base → History → WordEnd → Option JudgeState
 state_behind t base h Start = Some (record { dir = base_dir base h; used = 0 })
 state_behind t base h (Below s letter) = state_of (step t s.dir s.used (part_of letter))
 
 abbrev pub judge_of : Tree → CallTable → Base → History → Judge
 judge_of t table base h = record {
   step = state_behind t base h;
-  own = λ place call. is_allowed (verdict_of t table h call (found_at t base h place call));
+  own = λ place call. is_allowed (verdict_of t table h call (found_at_end t base h place call));
 }
 
 abbrev pub judge_for : Scope → Judge
 judge_for s = judge_of s.tree s.table s.base s.history
 
-abbrev pub if_some : Option State → (State → Bool) → Bool
+abbrev pub if_some : Option JudgeState → (JudgeState → Bool) → Bool
 if_some None test = false
 if_some (Some s) test = test s
 
 -- whether a call is allowed on a word that goes on from a place
-abbrev pub is_allowed_along : Judge → Place → Word → Call → Bool
+abbrev pub is_allowed_along : Judge → WordEnd → Word → Call → Bool
 is_allowed_along w place [] call = w.own place call
 is_allowed_along w place (letter ∷ word) call = if_some (w.step place) (λ s. is_allowed_along w (Below s letter) word call)
 

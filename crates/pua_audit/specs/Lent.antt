@@ -8,8 +8,8 @@ use Rattle.pua_audit.specs.declared.line.Line.{Line}
 use Rattle.pua_audit.specs.contracts.audit.Audit.{the_row}
 
 -- the same alphabet, limit and live states
-abbrev pub IsOf : AuditState → AuditState → Type 0
-IsOf old new = (new.alphabet ≡ old.alphabet) × (new.limit ≡ old.limit) × (new.live ≡ old.live)
+abbrev pub IsSameAudit : AuditState → AuditState → Type 0
+IsSameAudit old new = (new.alphabet ≡ old.alphabet) × (new.limit ≡ old.limit) × (new.live ≡ old.live)
 
 -- with a limit L and A letters at most 2 (L + 1) (A + 1) letters were read
 abbrev pub HasRead : AuditState → AuditState → Type 0
@@ -19,8 +19,9 @@ HasRead old new = new.reads ≤ old.reads + 2 * (suc old.limit * suc (length old
 abbrev pub IsNextLine : AuditState → Option Line → AuditState → Type 0
 IsNextLine old result new =
     (new.tree ≡ old.tree) × (new.base ≡ old.base)
-    × MatchOption result ((old.left ≡ []) × (new.left ≡ [])) (λ line. (word : Word) × ((line.path.now ≡ path_of old.base word) × (old.left ≡ (word, line.call) ∷ new.left)))
-    × IsOf old new × HasRead old new
+    × MatchOption result ((old.left ≡ []) × (new.left ≡ [])) (λ line. (word : Word) ×
+    ((line.path.now ≡ path_of old.base word) × (old.left ≡ (word, line.call) ∷ new.left)))
+    × IsSameAudit old new × HasRead old new
 
 abbrev pub LendsLine : MutBor AuditState → Option Line → Fml
 LendsLine audit result = follows_so the_row the_row audit.ghost_name none (λ _ _. ⊤) (IsNextLine audit.now result)

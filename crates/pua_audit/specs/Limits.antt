@@ -1,11 +1,11 @@
 -- The limits of audits.
 use Rattle.std.specs.Prelude.{ℕ}
-pub use Rattle.pua_path.specs.Limits.{path_limit}
+pub use Rattle.pua_path.specs.Limits.{most_path}
 
 -- the most letters of a word
-abbrev pub letter_limit : ℕ
-letter_limit = 16
+abbrev pub most_letters : ℕ
+most_letters = 16
 
 -- the most candidates
-abbrev pub candidate_limit : ℕ
-candidate_limit = 1024
+abbrev pub most_candidates : ℕ
+most_candidates = 1024

@@ -19,7 +19,8 @@ pub record Stage : Type 0 where
 -- where a word leads from the base, one step after another, if each step leads to a directory
 abbrev pub stage_after : Scope → Word → Option Stage
 stage_after s word =
-    option_map (λ (at : ℕ × ℕ). record { dir = at.0; links = at.1; left = s.limit - length word }) (result_ok (steps s.tree (map part_of word) (base_dir s.base s.history, 0)))
+    option_map (λ (at : ℕ × ℕ). record { dir = at.0; links = at.1; left = s.limit - length word })
+    (result_ok (steps s.tree (map part_of word) (base_dir s.base s.history, 0)))
 
 -- the words that a word properly extends
 abbrev pub shorter : Word → List Word
@@ -28,7 +29,8 @@ shorter (letter ∷ word) = [] ∷ map (λ front. letter ∷ front) (shorter wor
 
 -- a state is live if a word leads to it which the word of some pair of the reach properly extends
 abbrev pub IsLive : Scope → Stage → Type 0
-IsLive s stage = (pair : Pair) × (word : Word) × Contains (reach s) pair × Contains (shorter pair.0) word × (stage_after s word ≡ Some stage)
+IsLive s stage = (pair : Pair) × (word : Word) × Contains (reach s) pair × Contains (shorter pair.0) word ×
+    (stage_after s word ≡ Some stage)
 
 -- by the directory, then by the links, then by the letters
 abbrev pub stage_cmp : Stage → Stage → Ordering

@@ -12,14 +12,15 @@ use Rattle.pua_audit.specs.declared.base.Base.{Base}
 abbrev pub pair_text : Base → Pair → List ℕ
 pair_text base pair = call_name pair.1 ++ 58 ∷ printed_path base pair.0
 
-abbrev pub is_among : List (List ℕ) → List ℕ → Bool
-is_among alphabet letter = list_any (same_bytes letter) alphabet
+abbrev pub is_in_alphabet : List (List ℕ) → List ℕ → Bool
+is_in_alphabet alphabet letter = list_any (same_bytes letter) alphabet
 
 -- a word over the alphabet, within the limit
 pub record IsWord (s : Scope) (word : Word) : Type 0 where
   pub within : length word ≤ s.limit
-  pub letters : AllByRecursion (λ a. IsTrue (is_among s.alphabet a)) word
+  pub letters : AllByRecursion (λ a. IsTrue (is_in_alphabet s.alphabet a)) word
 
 -- a text names a pair exactly where it is the text of that pair
 abbrev pub ResumeTextsName : Type 0
-ResumeTextsName = (s : Scope) (text : List ℕ) (pair : Pair) → IsTrue (list_all is_letter s.alphabet) → (resume_pair s text ≡ Some pair) ↔ (IsWord s pair.0 × (text ≡ pair_text s.base pair))
+ResumeTextsName = (s : Scope) (text : List ℕ) (pair : Pair) → IsTrue (list_all is_letter s.alphabet) →
+    (resume_pair s text ≡ Some pair) ↔ (IsWord s pair.0 × (text ≡ pair_text s.base pair))

@@ -4,9 +4,9 @@ use Rattle.pua_policy.specs.History.{History, Pledged, Unveiled, Locked, Moved, 
 use Rattle.pua_policy.specs.declared.place.Place.{Place}
 
 -- veils put on one after another
-abbrev pub unveiled : List (Place × ℕ) → History → History
-unveiled [] h = h
-unveiled (veil ∷ veils) h = unveiled veils (Unveiled veil.0 veil.1 ∷ h)
+abbrev pub history_with_veils : List (Place × ℕ) → History → History
+history_with_veils [] h = h
+history_with_veils (veil ∷ veils) h = history_with_veils veils (Unveiled veil.0 veil.1 ∷ h)
 
 abbrev pub locked_if : Bool → History → History
 locked_if true h = Locked ∷ h
@@ -17,5 +17,5 @@ ended_if true h = Ended ∷ h
 ended_if false h = h
 
 -- it moved to its directory, was given its promises, put on its veils, and was locked and ended if it is
-unfoldable pub history_of : ProcessState → History
-history_of p = ended_if p.ended (locked_if p.locked (unveiled p.veils (Pledged p.promises p.execpromises ∷ Moved p.dir ∷ [])))
+unfoldable pub plain_history : ProcessState → History
+plain_history p = ended_if p.ended (locked_if p.locked (history_with_veils p.veils (Pledged p.promises p.execpromises ∷ Moved p.dir ∷ [])))

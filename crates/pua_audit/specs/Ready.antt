@@ -6,8 +6,8 @@ use Rattle.pua_path.specs.Paths.{part_of}
 use Rattle.pua_path.specs.declared.found.Part.{Part}
 use Rattle.pua_path.specs.declared.found.Part.TheVariants as part
 use Rattle.pua_policy.specs.History.{StandsFor}
-use Rattle.pua_audit.specs.Past.{history_of}
-use Rattle.pua_audit.specs.Limits.{path_limit}
+use Rattle.pua_audit.specs.Past.{plain_history}
+use Rattle.pua_audit.specs.Limits.{most_path}
 use Rattle.pua_audit.specs.Reach.{Word, Scope}
 use Rattle.pua_audit.specs.Begin.{longest}
 use Rattle.pua_audit.specs.declared.base.Base.{Base}
@@ -25,11 +25,18 @@ abbrev pub letters_of : Terms → List (List ℕ)
 letters_of a = map part_bytes a.letters.items
 
 abbrev pub judge_in : Terms → Judge
-judge_in a = judge_of a.seen.tree a.table a.base (history_of a.process)
+judge_in a = judge_of a.seen.tree a.table a.base (plain_history a.process)
 
 -- what is audited
 abbrev pub scope_in : Terms → Scope
-scope_in a = record { tree = a.seen.tree; table = a.table; history = history_of a.process; base = a.base; alphabet = letters_of a; limit = a.limit }
+scope_in a = record {
+  tree = a.seen.tree;
+  table = a.table;
+  history = plain_history a.process;
+  base = a.base;
+  alphabet = letters_of a;
+  limit = a.limit;
+}
 
 -- the letters at some places of the alphabet
 unfoldable pub word_of : List (List ℕ) → List ℕ → Word
@@ -38,13 +45,13 @@ word_of letters places = map (λ i. get_or letters i []) places
 -- the tree is one, the process stands for its history, the letters are parts, and no path of a word is too long
 pub record IsSound (a : Terms) : Type 0 where
   pub tree : WellFormed a.seen.tree
-  pub stands : StandsFor a.process (history_of a.process)
+  pub stands : StandsFor a.process (plain_history a.process)
   pub parts : AllByRecursion (λ p. part_of (part_bytes p) ≡ p) a.letters.items
-  pub short : a.limit * suc (longest (letters_of a)) ≤ path_limit
+  pub short : a.limit * suc (longest (letters_of a)) ≤ most_path
 
 -- the path that is lent: the base itself, or the letters, and before the first a slash only from the root
-abbrev pub lent : Base → List ℕ → List ℕ
-lent Root [] = codes "/"
-lent Root (b ∷ bs) = b ∷ bs
-lent Cwd [] = codes "."
-lent Cwd (b ∷ bs) = bs
+abbrev pub lent_path : Base → List ℕ → List ℕ
+lent_path Root [] = codes "/"
+lent_path Root (b ∷ bs) = b ∷ bs
+lent_path Cwd [] = codes "."
+lent_path Cwd (b ∷ bs) = bs

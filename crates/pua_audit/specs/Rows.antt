@@ -31,7 +31,7 @@ pub record IsEntryFor (letters dirs : ℕ) (e : Entry) : Type 0 where
   pub to : IfSome e.to (λ d. d < dirs)
 
 -- the row of a directory, with its first n letters
-pub record IsRow (w : Judge) (letters : List (List ℕ)) (dirs : List ℕ) (dir n missing : ℕ) (entries : List Entry) : Type 0 where
+pub record IsJudgedRow (w : Judge) (letters : List (List ℕ)) (dirs : List ℕ) (dir n missing : ℕ) (entries : List Entry) : Type 0 where
   pub told : IsRowOf w letters dirs dir n missing entries
   pub listed : AllByRecursion (λ e. IsEntryFor n (length dirs) e) entries
   pub rises : Rising 0 entries

@@ -6,7 +6,7 @@ use Rattle.pua_tree.specs.Tree.{Tree, Spot, look}
 use Rattle.pua_path.specs.Paths.{part_of}
 use Rattle.pua_path.specs.declared.found.Part.{Part}
 use Rattle.pua_path.specs.declared.found.Part.TheVariants as part
-use Rattle.pua_policy.specs.History.{History, kept}
+use Rattle.pua_policy.specs.History.{History, perms_kept}
 use Rattle.pua_policy.specs.declared.place.Place.{Place}
 use Rattle.pua_policy.specs.declared.place.Place.TheVariants.{Slot}
 use Rattle.pua_audit.specs.declared.table.spots.LetterSpot.{LetterSpot}
@@ -31,19 +31,23 @@ AreApartFrom place places = AllByRecursion (λ other. other ≢ place) places
 abbrev pub IsApart : ℕ → List ℕ → Type 0
 IsApart n others = AllByRecursion (λ other. other ≢ n) others
 
--- letters that are no names, and spots of letters in the order of their directories: where a letter has none, nothing stands at its name, and no veil is kept at it
-pub record AreSpots (t : Tree) (h : History) (letters : List (List ℕ)) (dots : List ℕ) (spots : List LetterSpot) : Type 0 where
+-- letters that are no names, and spots of letters in the order of their directories: where a letter has none, nothing
+-- stands at its name, and no veil is kept at it
+pub record AreLetterSpots (t : Tree) (h : History) (letters : List (List ℕ)) (dots : List ℕ) (spots : List LetterSpot) : Type 0 where
   pub dotted : AllByRecursion (λ letter. letter < length letters) dots
   pub within : AreAtLetters letters spots
-  pub named : (letter : ℕ) → letter < length letters → IsApart letter dots → part_of (get_or letters letter []) ≡ part.Name (get_or letters letter [])
+  pub named : (letter : ℕ) → letter < length letters → IsApart letter dots →
+      part_of (get_or letters letter []) ≡ part.Name (get_or letters letter [])
   pub none : (dir letter : ℕ) → letter < length letters → IsUnmarked dir letter spots → look t dir (get_or letters letter []) ≡ None
-  pub unveiled : (dir letter : ℕ) → letter < length letters → IsUnmarked dir letter spots → kept h (Slot dir (get_or letters letter [])) ≡ None
+  pub unveiled : (dir letter : ℕ) → letter < length letters → IsUnmarked dir letter spots →
+      perms_kept h (Slot dir (get_or letters letter [])) ≡ None
   pub rise : IsNonDecreasingBy (λ spot. spot.dir) spots
 
 -- letters that rise, among them all that are no names, and all with a spot in a directory
 pub record AreLettersIn (dir : ℕ) (dots : List ℕ) (spots : List LetterSpot) (letters : List ℕ) : Type 0 where
   pub rise : IsStrictlyIncreasing letters
-  pub within : (count : ℕ) → AllByRecursion (λ letter. letter < count) dots → AllByRecursion (λ spot. spot.letter < count) spots → AllByRecursion (λ letter. letter < count) letters
+  pub within : (count : ℕ) → AllByRecursion (λ letter. letter < count) dots → AllByRecursion (λ spot. spot.letter < count) spots →
+      AllByRecursion (λ letter. letter < count) letters
   pub dotted : (letter : ℕ) → IsApart letter letters → IsApart letter dots
   pub spotted : (letter : ℕ) → IsApart letter letters → IsUnmarked dir letter spots
 

@@ -1,5 +1,6 @@
 -- What the code reads of an audit's beginning.
-use Rattle.std.specs.Prelude.{◌≡◌, ◌<◌, ◌≤◌, ◌*◌, suc, ℕ, Bool, List, length, map, Option, Some, None, Result, Ok, option_map, IfSome, IsTrue, MatchBool}
+use Rattle.std.specs.Prelude.{◌≡◌, ◌<◌, ◌≤◌, ◌*◌, suc, ℕ, Bool, List, length, map, Option, Some, None, Result, Ok, option_map, IfSome}
+use Rattle.std.specs.Prelude.{IsTrue, MatchBool}
 use Rattle.std.specs.List.{AllByRecursion, list_all}
 use Rattle.pua_tree.specs.Tree.{Tree, WellFormed, name_cmp}
 use Rattle.pua_tree.specs.Steps.{◌>>=◌}
@@ -7,7 +8,7 @@ use Rattle.pua_path.specs.declared.found.Part.{Part}
 use Rattle.pua_calls.specs.Calls.{CallTable}
 use Rattle.pua_policy.specs.History.{History}
 use Rattle.pua_audit.specs.Reach.{Word, Pair, Scope}
-use Rattle.pua_audit.specs.Limits.{letter_limit, path_limit}
+use Rattle.pua_audit.specs.Limits.{most_letters, most_path}
 use Rattle.pua_audit.specs.Begin.{Beginning, longest, resume_in, word_within}
 use Rattle.pua_audit.specs.Judge.{is_letter}
 use Rattle.pua_audit.specs.Laws.{Rises}
@@ -26,7 +27,8 @@ pub record AreLetters (letters : List (List ℕ)) (limit : ℕ) (places : List �
 -- whether there is a word within the limit, and its places in the alphabet
 abbrev pub IsRead : List (List ℕ) → ℕ → Option Word → Bool → List ℕ → Type 0
 IsRead letters limit word result places =
-    MatchBool result ((word_within limit word ≡ Some (word_of letters places)) × AreLetters letters limit places) (word_within limit word ≡ None)
+    MatchBool result ((word_within limit word ≡ Some (word_of letters places)) × AreLetters letters limit places)
+    (word_within limit word ≡ None)
 
 -- the word of some places, and the call
 abbrev pub pair_in : List (List ℕ) → Resumption → Pair
@@ -34,15 +36,16 @@ pair_in letters r = (word_of letters r.word.items, r.call)
 
 -- letters in the order of their bytes, each of them a part of a path, and no path of a word is too long
 pub record AreSound (limit : ℕ) (letters : List Part) : Type 0 where
-  pub few : limit ≤ letter_limit
+  pub few : limit ≤ most_letters
   pub parts : AreParts letters
   pub known : IsTrue (list_all is_letter (map part_bytes letters))
   pub rises : Rises name_cmp (map part_bytes letters)
-  pub short : limit * suc (longest (map part_bytes letters)) ≤ path_limit
+  pub short : limit * suc (longest (map part_bytes letters)) ≤ most_path
 
 -- what is audited by words of these letters
 abbrev pub scope_with : Tree → CallTable → History → Base → ℕ → List Part → Scope
-scope_with t table h base limit letters = record { tree = t; table = table; history = h; base = base; alphabet = map part_bytes letters; limit = limit }
+scope_with t table h base limit letters =
+    record { tree = t; table = table; history = h; base = base; alphabet = map part_bytes letters; limit = limit }
 
 -- the beginning of an audit, by its resume text
 abbrev pub begun_in : Scope → Option (List ℕ) → Result Beginning AuditFault
@@ -51,7 +54,10 @@ begun_in s after = resume_in s after >>= λ pair. Ok (record { scope = s; after 
 -- the beginning that letters and a pair are
 abbrev pub beginning_with : Tree → CallTable → History → Base → ℕ → Checked → Beginning
 beginning_with t table h base limit b =
-    record { scope = scope_with t table h base limit b.letters.items; after = option_map (pair_in (map part_bytes b.letters.items)) b.after }
+    record {
+      scope = scope_with t table h base limit b.letters.items;
+      after = option_map (pair_in (map part_bytes b.letters.items)) b.after;
+    }
 
 -- its letters are sound, and its word is one of them
 pub record IsChecked (t : Tree) (limit : ℕ) (b : Checked) : Type 0 where

@@ -22,11 +22,10 @@ pub(crate) fn alphabet(
     rows: &[LentRow<'_>],
     candidates: &[Name],
 ) -> Result<Vec<Component>, OutOfMemory>
-    ensures { IfOk result (λ letters. (t : Tree) → map lent_entry rows.now ≡ t.rows → map part_bytes letters.items ≡ alphabet_of t candidates.now) }
+    ensures { IfOk result (λ letters. (t : Tree) → map lent_entry rows.now ≡ t.rows →
+        map part_bytes letters.items ≡ alphabet_of t candidates.now) }
 {
-    let Ok(names) = row_names(alloc, rows) else {
-        return Err(OutOfMemory);
-    };
+    let names = row_names(alloc, rows)?;
     let mut letters = named(alloc, names.as_slice())?;
     add_names(alloc, &mut letters, candidates)?;
     add_letter(&mut letters, Component::dots(alloc)?)?;
@@ -35,14 +34,16 @@ pub(crate) fn alphabet(
 
 /// The names of rows: each once, in the order of their bytes.
 fn row_names<'t>(alloc: Global, rows: &[LentRow<'t>]) -> Result<Vec<&'t Name>, AllocError>
-    ensures { IfOk result (λ names. map (λ name. name.now) names.items ≡ distinct_names (map (λ row. (lent_entry row).0.1) rows.now)) }
+    ensures { IfOk result (λ names. map (λ name. name.now) names.items
+        ≡ distinct_names (map (λ row. (lent_entry row).0.1) rows.now)) }
 {
     let names = name_set(alloc, rows)?;
     names.into_iter().collect(alloc)
 }
 
 fn name_set<'t>(alloc: Global, rows: &[LentRow<'t>]) -> Result<BTreeSet<&'t Name>, AllocError>
-    ensures { IfOk result (λ names. map (λ name. name.now) names.keys ≡ distinct_names (map (λ row. (lent_entry row).0.1) rows.now)) }
+    ensures { IfOk result (λ names. map (λ name. name.now) names.keys
+        ≡ distinct_names (map (λ row. (lent_entry row).0.1) rows.now)) }
 {
     let mut names = BTreeSet::new(alloc);
     for row in rows.iter().rev() {
@@ -53,15 +54,12 @@ fn name_set<'t>(alloc: Global, rows: &[LentRow<'t>]) -> Result<BTreeSet<&'t Name
 
 /// Names as letters.
 fn named(alloc: Global, names: &[&Name]) -> Result<Vec<Component>, OutOfMemory>
-    ensures { IfOk result (λ letters. map part_bytes letters.items ≡ map (λ name. name.now) names.now) }
+    ensures { IfOk result (λ letters. map part_bytes letters.items
+        ≡ map (λ name. name.now) names.now) }
 {
-    let Ok(mut letters) = Vec::with_capacity(alloc, names.len()) else {
-        return Err(OutOfMemory);
-    };
+    let mut letters = Vec::with_capacity(alloc, names.len())?;
     for name in names {
-        let Ok(()) = letters.push(Component::named(alloc, *name)?) else {
-            return Err(OutOfMemory);
-        };
+        letters.push(Component::named(alloc, *name)?)?;
     }
     Ok(letters)
 }
@@ -69,7 +67,8 @@ fn named(alloc: Global, names: &[&Name]) -> Result<Vec<Component>, OutOfMemory>
 /// Puts each name at its place among letters, the last one first.
 fn add_names(alloc: Global, letters: &mut Vec<Component>, names: &[Name]) -> Result<(), OutOfMemory>
     requires { Rises name_cmp (map part_bytes letters.old.items) }
-    ensures { IfOk result (λ _. map part_bytes letters.new.items ≡ with_names names.now (map part_bytes letters.old.items)) }
+    ensures { IfOk result (λ _. map part_bytes letters.new.items
+        ≡ with_names names.now (map part_bytes letters.old.items)) }
 {
     for name in names.iter().rev() {
         add_letter(letters, Component::named(alloc, name)?)?;
@@ -80,14 +79,13 @@ fn add_names(alloc: Global, letters: &mut Vec<Component>, names: &[Name]) -> Res
 /// Puts a letter at its place among letters, unless it is there.
 fn add_letter(letters: &mut Vec<Component>, letter: Component) -> Result<(), OutOfMemory>
     requires { Rises name_cmp (map part_bytes letters.old.items) }
-    ensures { IfOk result (λ _. map part_bytes letters.new.items ≡ with_name (part_bytes letter) (map part_bytes letters.old.items)) }
+    ensures { IfOk result (λ _. map part_bytes letters.new.items ≡ with_name (part_bytes letter)
+        (map part_bytes letters.old.items)) }
 {
     let Err(place) = place_of(letters.as_slice(), letter.bytes()) else {
         return Ok(());
     };
-    if letters.insert(place, letter).is_err() {
-        return Err(OutOfMemory);
-    }
+    letters.insert(place, letter)?;
     Ok(())
 }
 

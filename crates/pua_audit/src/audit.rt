@@ -1,11 +1,12 @@
 //! The audit of a process: its reach, pair by pair.
 
-ghost use Rattle.std.specs.Prelude.{◌*◌, ◌≡◌, ◌≢◌, ◌≤◌, ◌+◌, Ok, Err, None, IfOk, IfErr, IfSome, length, map, option_map};
+ghost use Rattle.std.specs.Prelude.{◌*◌, ◌≡◌, ◌≢◌, ◌≤◌, ◌+◌, Ok, Err, None, IfOk, IfErr, IfSome};
+ghost use Rattle.std.specs.Prelude.{length, map, option_map};
 ghost use Rattle.std.specs.Borrow.{sem};
 ghost use Rattle.std.specs.List.{list_all};
 ghost use Rattle.pua_tree.specs.Spelling.{is_plain};
 ghost use Rattle.pua_policy.specs.History.{History, StandsFor};
-ghost use Rattle.pua_audit.specs.Limits.{path_limit};
+ghost use Rattle.pua_audit.specs.Limits.{most_path};
 ghost use Rattle.pua_steps.specs.Limits.{search_cost};
 ghost use Rattle.pua_audit.specs.Bounds.{begin_cost, letter_count};
 ghost use Rattle.pua_audit.specs.Begin.{Beginning, beginning, still_to_come};
@@ -77,34 +78,37 @@ impl Audit {
         limit: u8,
         after: Option<&[u8]>,
     ) -> Result<Audit, AuditFault>
-        ensures begun { IfOk result (λ audit. (h : History) → StandsFor process.now h → (b : Beginning) ×
-            ((beginning (P.tree probe.old) table.now h base (map (λ s. s.now) candidates.now) limit (option_map (λ s. s.now) after.entry) ≡ Ok b) × (audit.left ≡ still_to_come b) × (b.scope.base ≡ base))) }
+        ensures begun { IfOk result (λ audit. (h : History) → StandsFor process.now h →
+            (b : Beginning) ×
+            ((beginning (P.tree probe.old) table.now h base (map (λ s. s.now) candidates.now) limit
+            (option_map (λ s. s.now) after.entry) ≡ Ok b) × (audit.left ≡ still_to_come b) ×
+            (b.scope.base ≡ base))) }
         ensures of { IfOk result (λ audit. (audit.tree ≡ P.tree probe.old) × (audit.base ≡ base)) }
         ensures refused { IfErr result (λ fault. fault ≢ AuditFault.OutOfMemory → (h : History) →
-            beginning (P.tree probe.old) table.now h base (map (λ s. s.now) candidates.now) limit (option_map (λ s. s.now) after.entry) ≡ Err fault) }
+            beginning (P.tree probe.old) table.now h base (map (λ s. s.now) candidates.now) limit
+            (option_map (λ s. s.now) after.entry) ≡ Err fault) }
         ensures letters { IfOk result (λ audit. (h : History) (b : Beginning) →
-            beginning (P.tree probe.old) table.now h base (map (λ s. s.now) candidates.now) limit (option_map (λ s. s.now) after.entry) ≡ Ok b → audit.alphabet ≡ b.scope.alphabet) }
-        ensures live { IfOk result (λ audit. (h : History) → StandsFor process.now h → (b : Beginning) →
-            beginning (P.tree probe.old) table.now h base (map (λ s. s.now) candidates.now) limit (option_map (λ s. s.now) after.entry) ≡ Ok b → audit.live ≡ length (live_states b.scope)) }
+            beginning (P.tree probe.old) table.now h base (map (λ s. s.now) candidates.now) limit
+            (option_map (λ s. s.now) after.entry) ≡ Ok b → audit.alphabet ≡ b.scope.alphabet) }
+        ensures live { IfOk result (λ audit. (h : History) → StandsFor process.now h →
+            (b : Beginning) →
+            beginning (P.tree probe.old) table.now h base (map (λ s. s.now) candidates.now) limit
+            (option_map (λ s. s.now) after.entry) ≡ Ok b →
+            audit.live ≡ length (live_states b.scope)) }
         ensures reads { IfOk result (λ audit. audit.reads ≤ search_cost * limit) }
         ensures unread { after.entry ≡ None → IfOk result (λ audit. audit.reads ≡ 0) }
         ensures limit { IfOk result (λ audit. audit.limit ≡ limit) }
         ensures tree { P.tree probe.new ≡ P.tree probe.old }
-        ensures cost { P.count probe.new ≤ P.count probe.old + begin_cost (P.tree probe.old) limit (letter_count (P.tree probe.old) (map (λ s. s.now) candidates.now)) }
+        ensures cost { P.count probe.new ≤ P.count probe.old + begin_cost (P.tree probe.old) limit
+            (letter_count (P.tree probe.old) (map (λ s. s.now) candidates.now)) }
     {
         process.known();
-        let Ok(rows) = probe.rows(alloc) else {
-            return Err(AuditFault::OutOfMemory);
-        };
+        let rows = probe.rows(alloc)?;
         let Checked { letters, after } = beginning::check(
             alloc, &*probe, &rows, base, candidates, limit, after,
         )?;
-        let Ok(terms) = Terms::new(alloc, &*probe, process, table, base, limit, letters) else {
-            return Err(AuditFault::OutOfMemory);
-        };
-        let Ok(pairs) = Pairs::begin(alloc, probe, &rows, terms, after) else {
-            return Err(AuditFault::OutOfMemory);
-        };
+        let terms = Terms::new(alloc, &*probe, process, table, base, limit, letters)?;
+        let pairs = Pairs::begin(alloc, probe, &rows, terms, after)?;
         Ok(Audit { pairs })
     }
 
@@ -130,7 +134,7 @@ impl Audit {
     pub fn next_line<'t, P: Probe<'t>>(&mut self, probe: &mut P) -> Option<Line<'_>>
         requires { P.tree probe.old ≡ self.old.tree }
         ensures* rest { sem 𝓛 (LendsLine self.entry result) }
-        ensures short { IfSome result (λ line. length line.path.now ≤ path_limit) }
+        ensures short { IfSome result (λ line. length line.path.now ≤ most_path) }
         ensures plain { IfSome result (λ line. line.plain ≡ list_all is_plain line.path.now) }
         ensures tree { P.tree probe.new ≡ P.tree probe.old }
         ensures asked { P.count probe.new ≡ P.count probe.old }

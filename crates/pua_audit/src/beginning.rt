@@ -1,6 +1,7 @@
 //! What an audit begins with, or why it can't begin.
 
-ghost use Rattle.std.specs.Prelude.{◌≡◌, ◌≢◌, ℕ, List, Option, Ok, Err, None, IfOk, IfErr, length, map, option_map};
+ghost use Rattle.std.specs.Prelude.{◌≡◌, ◌≢◌, ℕ, List, Option, Ok, Err, None, IfOk, IfErr, length};
+ghost use Rattle.std.specs.Prelude.{map, option_map};
 ghost use Rattle.pua_tree.specs.LentRows.{lent_entry};
 ghost use Rattle.pua_tree.specs.Tree.{WellFormed};
 ghost use Rattle.pua_calls.specs.Calls.{CallTable};
@@ -8,16 +9,17 @@ ghost use Rattle.pua_policy.specs.History.{History};
 ghost use Rattle.pua_audit.specs.Bounds.{letter_count};
 ghost use Rattle.pua_audit.specs.Begin.{beginning};
 ghost use Rattle.pua_audit.specs.declared.base.Base as bases;
-ghost use Rattle.pua_audit.specs.Starting.{AreSound, IsChecked, scope_with, begun_in, beginning_with};
+ghost use Rattle.pua_audit.specs.Starting.{AreSound, IsChecked, scope_with, begun_in};
+ghost use Rattle.pua_audit.specs.Starting.{beginning_with};
 
 use crate::alphabet::{alphabet, longest};
 use crate::base::Base;
 use crate::candidates::read_candidates;
 use crate::component::Component;
 use crate::fault::AuditFault;
-use crate::limits::{CANDIDATE_LIMIT, LETTER_LIMIT};
+use crate::limits::{MOST_CANDIDATES, MOST_LETTERS};
 use crate::resume_text::{Resumption, read_pair};
-use pua_path::{PATH_LIMIT, Probe};
+use pua_path::{MOST_PATH, Probe};
 use pua_tree::LentRow;
 use std::alloc::Global;
 
@@ -42,10 +44,15 @@ pub(crate) fn check<'t, P: Probe<'t>>(
 ) -> Result<Checked, AuditFault>
     requires rows { map lent_entry rows.now ≡ (P.tree probe.now).rows }
     ensures begun { IfOk result (λ b. (table : CallTable) (h : History) →
-        beginning (P.tree probe.now) table h base (map (λ s. s.now) candidates.now) limit (option_map (λ s. s.now) after.entry) ≡ Ok (beginning_with (P.tree probe.now) table h base limit b)) }
-    ensures refused { IfErr result (λ fault. fault ≢ AuditFault.OutOfMemory → (table : CallTable) (h : History) →
-        beginning (P.tree probe.now) table h base (map (λ s. s.now) candidates.now) limit (option_map (λ s. s.now) after.entry) ≡ Err fault) }
-    ensures many { IfOk result (λ b. length b.letters.items ≡ letter_count (P.tree probe.now) (map (λ s. s.now) candidates.now)) }
+        beginning (P.tree probe.now) table h base (map (λ s. s.now) candidates.now) limit
+        (option_map (λ s. s.now) after.entry)
+        ≡ Ok (beginning_with (P.tree probe.now) table h base limit b)) }
+    ensures refused { IfErr result (λ fault. fault ≢ AuditFault.OutOfMemory →
+        (table : CallTable) (h : History) →
+        beginning (P.tree probe.now) table h base (map (λ s. s.now) candidates.now) limit
+        (option_map (λ s. s.now) after.entry) ≡ Err fault) }
+    ensures many { IfOk result (λ b. length b.letters.items ≡ letter_count (P.tree probe.now)
+        (map (λ s. s.now) candidates.now)) }
     ensures sound { IfOk result (λ b. IsChecked (P.tree probe.now) limit b) }
     ensures none { after.entry ≡ None → IfOk result (λ b. b.after ≡ None) }
 {
@@ -66,26 +73,29 @@ fn letters_within<'t, P: Probe<'t>>(
     limit: u8,
 ) -> Result<Vec<Component>, AuditFault>
     requires rows { map lent_entry rows.now ≡ (P.tree probe.now).rows }
-    ensures begun { IfOk result (λ letters. (table : CallTable) (h : History) (base : bases.Base) (after : Option (List ℕ)) →
-        beginning (P.tree probe.now) table h base (map (λ s. s.now) candidates.now) limit after ≡ begun_in (scope_with (P.tree probe.now) table h base limit letters.items) after) }
-    ensures refused { IfErr result (λ fault. fault ≢ AuditFault.OutOfMemory → (table : CallTable) (h : History) (base : bases.Base) (after : Option (List ℕ)) →
-        beginning (P.tree probe.now) table h base (map (λ s. s.now) candidates.now) limit after ≡ Err fault) }
+    ensures begun { IfOk result (λ letters. (table : CallTable) (h : History) (base : bases.Base)
+        (after : Option (List ℕ)) →
+        beginning (P.tree probe.now) table h base (map (λ s. s.now) candidates.now) limit after
+        ≡ begun_in (scope_with (P.tree probe.now) table h base limit letters.items) after) }
+    ensures refused { IfErr result (λ fault. fault ≢ AuditFault.OutOfMemory →
+        (table : CallTable) (h : History) (base : bases.Base) (after : Option (List ℕ)) →
+        beginning (P.tree probe.now) table h base (map (λ s. s.now) candidates.now) limit after
+        ≡ Err fault) }
     ensures known { IfOk result (λ letters. WellFormed (P.tree probe.now)) }
-    ensures many { IfOk result (λ letters. length letters.items ≡ letter_count (P.tree probe.now) (map (λ s. s.now) candidates.now)) }
+    ensures many { IfOk result (λ letters. length letters.items ≡ letter_count (P.tree probe.now)
+        (map (λ s. s.now) candidates.now)) }
     ensures sound { IfOk result (λ letters. AreSound limit letters.items) }
 {
-    if limit > LETTER_LIMIT {
+    if limit > MOST_LETTERS {
         return Err(AuditFault::LimitTooLarge);
     }
-    if candidates.len() > CANDIDATE_LIMIT {
+    if candidates.len() > MOST_CANDIDATES {
         return Err(AuditFault::TooManyNames);
     }
     let names = read_candidates(alloc, candidates)?;
     probe.known();
-    let Ok(letters) = alphabet(alloc, rows, names.as_slice()) else {
-        return Err(AuditFault::OutOfMemory);
-    };
-    if usize::from(limit) * (longest(letters.as_slice()) + 1) > PATH_LIMIT {
+    let letters = alphabet(alloc, rows, names.as_slice())?;
+    if usize::from(limit) * (longest(letters.as_slice()) + 1) > MOST_PATH {
         return Err(AuditFault::TooLong);
     }
     Ok(letters)

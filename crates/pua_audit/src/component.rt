@@ -26,7 +26,8 @@ impl Model for Component {
 
     ghost view = { λ a. part_of a.bytes.items };
 
-    ghost invariant = { λ a. IsTrue (is_letter a.bytes.items) × (a.plain ≡ list_all is_plain a.bytes.items) };
+    ghost invariant = { λ a. IsTrue (is_letter a.bytes.items) ×
+        (a.plain ≡ list_all is_plain a.bytes.items) };
 }
 
 ghost use Rattle.std.specs.Prelude.{◌≡◌, ◌≤◌, IfOk, IsTrue, length, not};
@@ -59,14 +60,8 @@ impl Component {
         requires { IsTrue (is_letter bytes.now) }
         ensures { IfOk result (λ letter. letter ≡ part_of bytes.now) }
     {
-        let Ok(mut copy) = Vec::with_capacity(alloc, bytes.len()) else {
-            return Err(OutOfMemory);
-        };
-        if copy.extend_from_slice(bytes).is_err() {
-            return Err(OutOfMemory);
-        }
         Ok(Component {
-            bytes: copy,
+            bytes: Vec::from_slice(alloc, bytes)?,
             plain: are_plain(bytes),
         })
     }

@@ -1,5 +1,9 @@
 //! Why audits can't begin.
 
+ghost use Rattle.std.specs.Prelude.{◌≡◌};
+ghost use Rattle.pua_audit.specs.declared.fault.AuditFault.TheVariants as audit_fault;
+
+use pua_tree::OutOfMemory;
 use thiserror::Error;
 
 /// Why an audit can't begin: the first of these that holds, but for want of memory, in the order
@@ -24,4 +28,12 @@ pub enum AuditFault {
     /// A growth of memory was refused.
     #[error("out of memory")]
     OutOfMemory,
+}
+
+impl From<OutOfMemory> for AuditFault {
+    ghost from_gives = { λ _ fault. fault ≡ audit_fault.OutOfMemory };
+
+    fn from(_refused: OutOfMemory) -> AuditFault {
+        AuditFault::OutOfMemory
+    }
 }

@@ -1,8 +1,9 @@
 //! Laws and worked examples of reaches, each the contract of a function that does nothing.
 
 ghost use Rattle.std.specs.Prelude.{◌≡◌};
-ghost use Rattle.pua_audit.specs.Limits.{candidate_limit, letter_limit};
-ghost use Rattle.pua_audit.specs.Laws.{AlphabetRises, ClosedReaches, LiveStatesFew, LiveStatesLive, ReachIsAlong, ReachRises};
+ghost use Rattle.pua_audit.specs.Limits.{most_candidates, most_letters};
+ghost use Rattle.pua_audit.specs.Laws.{AlphabetRises, ClosedReaches, LiveStatesFew, LiveStatesLive};
+ghost use Rattle.pua_audit.specs.Laws.{ReachIsAlong, ReachRises};
 ghost use Rattle.pua_audit.specs.Graphs.{GraphsReach, LiveStatesCount, MasksList};
 ghost use Rattle.pua_audit.specs.Entries.{EntriesStand};
 ghost use Rattle.pua_audit.specs.Table.{TablesStand};
@@ -11,12 +12,12 @@ ghost use Rattle.pua_audit.specs.Renumbering.{ReachNeedsRows};
 ghost use Rattle.pua_audit.specs.SubLists.{FewerReachLess};
 ghost use Rattle.pua_audit.specs.Examples.{ReachRows};
 
-use crate::limits::{CANDIDATE_LIMIT, LETTER_LIMIT};
+use crate::limits::{MOST_CANDIDATES, MOST_LETTERS};
 
 /// The limits are those of the definitions.
 pub fn limits_law()
-    ensures letters { LETTER_LIMIT ≡ letter_limit }
-    ensures candidates { CANDIDATE_LIMIT ≡ candidate_limit }
+    ensures letters { MOST_LETTERS ≡ most_letters }
+    ensures candidates { MOST_CANDIDATES ≡ most_candidates }
 {}
 
 /// Examples of small reaches.

@@ -25,5 +25,5 @@ pub use laws::{
     graph_laws, limits_law, live_law, reach_examples, reach_laws, resume_text_law, rows_law,
     walk_laws, within_law,
 };
-pub use limits::{CANDIDATE_LIMIT, LETTER_LIMIT};
+pub use limits::{MOST_CANDIDATES, MOST_LETTERS};
 pub use line::Line;

@@ -1,11 +1,12 @@
 //! The pairs of an audit, by a walk over its table of steps.
 
-ghost use Rattle.std.specs.Prelude.{◌≡◌, ◌≤◌, ◌<◌, ◌+◌, ◌*◌, length, suc, option_map, None, IfOk, IfSome, vec_capacity, map};
+ghost use Rattle.std.specs.Prelude.{◌≡◌, ◌≤◌, ◌<◌, ◌+◌, ◌*◌, length, suc, option_map, None, IfOk};
+ghost use Rattle.std.specs.Prelude.{IfSome, vec_capacity, map};
 ghost use Rattle.pua_tree.specs.LentRows.{lent_entry};
 ghost use Rattle.std.specs.List.{AllByRecursion};
 ghost use Rattle.pua_audit.specs.Bounds.{pairs_cost};
 ghost use Rattle.pua_audit.specs.Begin.{longest};
-ghost use Rattle.pua_audit.specs.Coming.{AreReady, IsNextCall, call_at, to_come, word_in};
+ghost use Rattle.pua_audit.specs.Coming.{AreReady, IsNextCall, call_at, to_come, walk_word};
 ghost use Rattle.pua_audit.specs.Live.{live_states};
 ghost use Rattle.pua_audit.specs.Reach.{rest_after};
 ghost use Rattle.pua_audit.specs.Ready.{IsSound, letters_of, scope_in};
@@ -15,7 +16,7 @@ ghost use Rattle.pua_steps.specs.Limits.{call_count, search_cost};
 
 use crate::path::WordPath;
 use crate::resume_text::Resumption;
-use crate::table::begun::Begun;
+use crate::table::begun::BegunWalk;
 use crate::terms::Terms;
 use pua_calls::Call;
 use pua_path::Probe;
@@ -52,17 +53,17 @@ impl Pairs {
         requires word { IfSome after (λ r. AreLetters (letters_of terms) terms.limit r.word.items) }
         ensures ready { IfOk result (λ pairs. AreReady pairs) }
         ensures terms { IfOk result (λ pairs. pairs.terms ≡ terms) }
-        ensures left { IfOk result (λ pairs. to_come pairs ≡ rest_after (scope_in terms) (option_map (pair_in (letters_of terms)) after)) }
+        ensures left { IfOk result (λ pairs. to_come pairs ≡ rest_after (scope_in terms)
+            (option_map (pair_in (letters_of terms)) after)) }
         ensures live { IfOk result (λ pairs. pairs.live ≡ length (live_states (scope_in terms))) }
         ensures reads { IfOk result (λ pairs. pairs.walk.tables.reads ≤ search_cost * terms.limit) }
         ensures unread { after ≡ None → IfOk result (λ pairs. pairs.walk.tables.reads ≡ 0) }
         ensures tree { P.tree probe.new ≡ P.tree probe.old }
-        ensures cost { P.count probe.new ≤ P.count probe.old + pairs_cost terms.seen.tree (length terms.letters.items) }
+        ensures cost { P.count probe.new ≤ P.count probe.old + pairs_cost terms.seen.tree
+            (length terms.letters.items) }
     {
-        let Begun { walk, live } = terms.begun(alloc, probe, rows, after)?;
-        let Ok(path) = WordPath::new(alloc, terms.limit, terms.most_bytes()) else {
-            return Err(OutOfMemory);
-        };
+        let BegunWalk { walk, live } = terms.begun(alloc, probe, rows, after)?;
+        let path = WordPath::new(alloc, terms.limit, terms.most_bytes())?;
         Ok(Pairs {
             terms,
             walk,
@@ -78,7 +79,8 @@ impl Pairs {
         ensures terms { self.new.terms ≡ self.old.terms }
         ensures live { self.new.live ≡ self.old.live }
         ensures next { IsNextCall self.old result self.new }
-        ensures reads { self.new.walk.tables.reads ≤ self.old.walk.tables.reads + 2 * (self.old.terms.limit * length (letters_of self.old.terms)) }
+        ensures reads { self.new.walk.tables.reads ≤ self.old.walk.tables.reads
+            + 2 * (self.old.terms.limit * length (letters_of self.old.terms)) }
     {
         let next = self.walk.next_call();
         self.path.keep(self.walk.unchanged());
@@ -89,15 +91,20 @@ impl Pairs {
 
     /// Puts those letters of the walk's word at the end of the path that it doesn't have yet.
     fn spell(&mut self)
-        requires path { IsPathAlong (letters_of self.old.terms) self.old.walk.word.items self.old.path }
-        requires known { AllByRecursion (λ i. i < length self.old.terms.letters.items) self.old.walk.word.items }
+        requires path { IsPathAlong (letters_of self.old.terms) self.old.walk.word.items
+            self.old.path }
+        requires known { AllByRecursion (λ i. i < length self.old.terms.letters.items)
+            self.old.walk.word.items }
         requires within { length self.old.walk.word.items ≤ self.old.terms.limit }
-        requires bytes { self.old.terms.limit * suc (longest (letters_of self.old.terms)) ≤ vec_capacity self.old.path.bytes }
+        requires bytes { self.old.terms.limit * suc (longest (letters_of self.old.terms))
+            ≤ vec_capacity self.old.path.bytes }
         requires starts { self.old.terms.limit ≤ vec_capacity self.old.path.starts }
-        ensures kept { (self.new.terms ≡ self.old.terms) × (self.new.walk ≡ self.old.walk) × (self.new.live ≡ self.old.live) }
-        ensures path { IsPathOf (word_in self.new) self.new.path }
+        ensures kept { (self.new.terms ≡ self.old.terms) × (self.new.walk ≡ self.old.walk) ×
+            (self.new.live ≡ self.old.live) }
+        ensures path { IsPathOf (walk_word self.new) self.new.path }
         ensures whole { length self.new.path.starts.items ≡ length self.new.walk.word.items }
-        ensures bytes { self.old.terms.limit * suc (longest (letters_of self.old.terms)) ≤ vec_capacity self.new.path.bytes }
+        ensures bytes { self.old.terms.limit * suc (longest (letters_of self.old.terms))
+            ≤ vec_capacity self.new.path.bytes }
         ensures starts { self.old.terms.limit ≤ vec_capacity self.new.path.starts }
     {
         while self.path.starts.len() < self.walk.word().len() {

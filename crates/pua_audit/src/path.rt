@@ -1,10 +1,11 @@
 //! The path of a word in a buffer: each letter after a slash.
 
-ghost use Rattle.std.specs.Prelude.{◌≡◌, ◌≤◌, ◌<◌, ◌+◌, ◌++◌, ◌∷◌, [], List, ℕ, suc, length, min, take, IfOk, vec_capacity};
+ghost use Rattle.std.specs.Prelude.{◌≡◌, ◌≤◌, ◌<◌, ◌+◌, ◌++◌, ◌∷◌, [], List, ℕ, suc, length, min};
+ghost use Rattle.std.specs.Prelude.{take, IfOk, vec_capacity};
 ghost use Rattle.std.specs.List.{list_all};
 ghost use Rattle.pua_tree.specs.Spelling.{is_plain};
 ghost use Rattle.pua_audit.specs.Reach.{Word};
-ghost use Rattle.pua_audit.specs.Ready.{part_bytes, lent};
+ghost use Rattle.pua_audit.specs.Ready.{part_bytes, lent_path};
 ghost use Rattle.pua_audit.specs.WordPaths.{IsPathOf, plain_front};
 
 use crate::base::Base;
@@ -41,7 +42,8 @@ impl WordPath {
 
     /// Drops all letters but so many at the front.
     pub(crate) fn keep(&mut self, letters: usize)
-        ensures path { (word : Word) → IsPathOf word self.old → IsPathOf (take letters word) self.new }
+        ensures path { (word : Word) → IsPathOf word self.old →
+            IsPathOf (take letters word) self.new }
         ensures few { length self.new.starts.items ≡ min letters (length self.old.starts.items) }
         ensures bytes { vec_capacity self.new.bytes ≡ vec_capacity self.old.bytes }
         ensures starts { vec_capacity self.new.starts ≡ vec_capacity self.old.starts }
@@ -57,9 +59,11 @@ impl WordPath {
 
     /// Puts a letter at the end.
     pub(crate) fn add(&mut self, letter: &Component)
-        requires bytes { length self.old.bytes.items + suc (length (part_bytes letter.now)) ≤ vec_capacity self.old.bytes }
+        requires bytes { length self.old.bytes.items + suc (length (part_bytes letter.now))
+            ≤ vec_capacity self.old.bytes }
         requires starts { length self.old.starts.items < vec_capacity self.old.starts }
-        ensures path { (word : Word) → IsPathOf word self.old → IsPathOf (word ++ part_bytes letter.now ∷ []) self.new }
+        ensures path { (word : Word) → IsPathOf word self.old →
+            IsPathOf (word ++ part_bytes letter.now ∷ []) self.new }
         ensures more { length self.new.starts.items ≡ length self.old.starts.items + 1 }
         ensures bytes { vec_capacity self.old.bytes ≤ vec_capacity self.new.bytes }
         ensures starts { vec_capacity self.old.starts ≤ vec_capacity self.new.starts }
@@ -72,7 +76,8 @@ impl WordPath {
     /// How many letters at the front have only bytes that stand for themselves, with one letter more at
     /// the end.
     fn plain_with(&self, letter: &Component) -> usize
-        ensures { (word : Word) → IsPathOf word self.now → result ≡ plain_front (word ++ part_bytes letter.now ∷ []) }
+        ensures { (word : Word) → IsPathOf word self.now →
+            result ≡ plain_front (word ++ part_bytes letter.now ∷ []) }
     {
         if self.plain < self.starts.len() || !letter.is_plain() {
             return self.plain;
@@ -82,7 +87,8 @@ impl WordPath {
 
     /// Whether each byte of the path stands for itself.
     pub(crate) fn is_plain(&self) -> bool
-        ensures { (word : Word) → IsPathOf word self.now → result ≡ list_all is_plain self.now.bytes.items }
+        ensures { (word : Word) → IsPathOf word self.now →
+            result ≡ list_all is_plain self.now.bytes.items }
     {
         self.plain == self.starts.len()
     }
@@ -90,7 +96,8 @@ impl WordPath {
 
 /// Puts a slash and a letter at the end of a path.
 pub(crate) fn add_letter(path: &mut Vec<u8>, letter: &Component)
-    requires { length path.old.items + suc (length (part_bytes letter.now)) ≤ vec_capacity path.old }
+    requires { length path.old.items + suc (length (part_bytes letter.now))
+        ≤ vec_capacity path.old }
     ensures path { path.new.items ≡ path.old.items ++ 47 ∷ part_bytes letter.now }
     ensures room { vec_capacity path.old ≤ vec_capacity path.new }
 {
@@ -101,7 +108,7 @@ pub(crate) fn add_letter(path: &mut Vec<u8>, letter: &Component)
 /// The path as it is lent: the base itself for no letter, and from the working directory no slash
 /// before the first.
 pub(crate) fn lent_path(base: Base, path: &[u8]) -> &[u8]
-    ensures { result.now ≡ lent base path.now }
+    ensures { result.now ≡ lent_path base path.now }
 {
     match (base, path) {
         (Base::Root, []) => b"/",

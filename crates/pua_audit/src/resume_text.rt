@@ -1,6 +1,8 @@
 //! The text of the pair that an audit resumes after: `CALL:PATH`.
 
-ghost use Rattle.std.specs.Prelude.{◌≡◌, ◌≢◌, ◌≤◌, ◌<◌, ◌==◌, [], Ok, Err, Some, None, IsTrue, IfOk, IfSome, MatchResult, map, length, get_or, find, position, option_map, vec_capacity};
+ghost use Rattle.std.specs.Prelude.{◌≡◌, ◌≢◌, ◌≤◌, ◌<◌, ◌==◌, [], Ok, Err, Some, None, IsTrue};
+ghost use Rattle.std.specs.Prelude.{IfOk, IfSome, MatchResult, map, length, get_or, find, position};
+ghost use Rattle.std.specs.Prelude.{option_map, vec_capacity};
 ghost use Rattle.std.specs.List.{list_all, before_first, after_first};
 ghost use Rattle.pua_tree.specs.Names.{same_bytes};
 ghost use Rattle.pua_tree.specs.Spelling.{spelling};
@@ -40,8 +42,11 @@ pub(crate) fn read_pair(
 ) -> Result<Resumption, AuditFault>
     requires rises { Rises name_cmp (map part_bytes letters.now) }
     requires letters { IsTrue (list_all is_letter (map part_bytes letters.now)) }
-    ensures pair { MatchResult result (λ r. pair_named base (map part_bytes letters.now) limit text.now ≡ Some (pair_in (map part_bytes letters.now) r))
-        (λ fault. fault ≢ AuditFault.OutOfMemory → (fault ≡ AuditFault.BadResume) × (pair_named base (map part_bytes letters.now) limit text.now ≡ None)) }
+    ensures pair { MatchResult result (λ r. pair_named base (map part_bytes letters.now) limit
+        text.now ≡ Some (pair_in (map part_bytes letters.now) r))
+        (λ fault. fault ≢ AuditFault.OutOfMemory →
+        (fault ≡ AuditFault.BadResume) ×
+        (pair_named base (map part_bytes letters.now) limit text.now ≡ None)) }
     ensures letters { IfOk result (λ r. AreLetters (map part_bytes letters.now) limit r.word.items) }
 {
     let (name, path) = split_at_colon(text);
@@ -87,7 +92,8 @@ fn read_path(
     requires letters { IsTrue (list_all is_letter (map part_bytes letters.now)) }
     requires empty { word.old.items ≡ [] }
     requires room { limit ≤ vec_capacity word.old }
-    ensures { IsRead (map part_bytes letters.now) limit (word_of_path base (map part_bytes letters.now) path.now) result word.new.items }
+    ensures { IsRead (map part_bytes letters.now) limit
+        (word_of_path base (map part_bytes letters.now) path.now) result word.new.items }
 {
     match base {
         Base::Root => read_absolute(letters, limit, path, word),
@@ -106,7 +112,8 @@ fn read_absolute(letters: &[Component], limit: usize, path: &[u8], word: &mut Ve
     requires letters { IsTrue (list_all is_letter (map part_bytes letters.now)) }
     requires empty { word.old.items ≡ [] }
     requires room { limit ≤ vec_capacity word.old }
-    ensures { IsRead (map part_bytes letters.now) limit (word_of_path Root (map part_bytes letters.now) path.now) result word.new.items }
+    ensures { IsRead (map part_bytes letters.now) limit
+        (word_of_path Root (map part_bytes letters.now) path.now) result word.new.items }
 {
     let [b'/', pieces @ ..] = path else {
         return false;
@@ -124,7 +131,8 @@ fn read_pieces(letters: &[Component], limit: usize, text: &[u8], word: &mut Vec<
     requires letters { IsTrue (list_all is_letter (map part_bytes letters.now)) }
     requires empty { word.old.items ≡ [] }
     requires room { limit ≤ vec_capacity word.old }
-    ensures { IsRead (map part_bytes letters.now) limit (word_of_pieces_between (map part_bytes letters.now) text.now) result word.new.items }
+    ensures { IsRead (map part_bytes letters.now) limit
+        (word_of_pieces_between (map part_bytes letters.now) text.now) result word.new.items }
 {
     for piece in text.split(|byte| *byte == b'/') {
         if word.len() >= limit {
@@ -142,7 +150,8 @@ fn read_pieces(letters: &[Component], limit: usize, text: &[u8], word: &mut Vec<
 fn spelled_letter(letters: &[Component], piece: &[u8]) -> Option<usize>
     requires rises { Rises name_cmp (map part_bytes letters.now) }
     requires letters { IsTrue (list_all is_letter (map part_bytes letters.now)) }
-    ensures letter { option_map (λ i. get_or (map part_bytes letters.now) i []) result ≡ find (λ letter. same_bytes (spelling letter) piece.now) (map part_bytes letters.now) }
+    ensures letter { option_map (λ i. get_or (map part_bytes letters.now) i []) result
+        ≡ find (λ letter. same_bytes (spelling letter) piece.now) (map part_bytes letters.now) }
     ensures within { IfSome result (λ i. i < length (map part_bytes letters.now)) }
 {
     if piece == b"..".as_slice() {

@@ -1,13 +1,14 @@
 //! The making of the table of steps.
 
-ghost use Rattle.std.specs.Prelude.{◌≡◌, ◌<◌, ◌≤◌, ◌+◌, ◌^◌, ℕ, List, length, get_or, IfOk, IsTrue, map};
+ghost use Rattle.std.specs.Prelude.{◌≡◌, ◌<◌, ◌≤◌, ◌+◌, ◌^◌, ℕ, List, length, get_or, IfOk, IsTrue};
+ghost use Rattle.std.specs.Prelude.{map};
 ghost use Rattle.pua_tree.specs.LentRows.{lent_entry};
 ghost use Rattle.pua_tree.specs.Tree.{is_dir, name_cmp};
 ghost use Rattle.pua_policy.specs.Descent.{cover_in};
 ghost use Rattle.pua_audit.specs.Bounds.{table_cost};
 ghost use Rattle.pua_audit.specs.Graphs.{AreApart};
 ghost use Rattle.pua_audit.specs.Laws.{Rises};
-ghost use Rattle.pua_audit.specs.Past.{history_of};
+ghost use Rattle.pua_audit.specs.Past.{plain_history};
 ghost use Rattle.pua_audit.specs.Ready.{IsSound, judge_in, letters_of};
 ghost use Rattle.pua_audit.specs.Table.{IsTableOf};
 
@@ -45,11 +46,15 @@ impl Terms {
         requires sound { IsSound self.now }
         requires rises { Rises name_cmp (letters_of self.now) }
         requires living { IsTrue (is_dir self.now.seen.tree base) }
-        requires covered { cover ≡ cover_in self.now.seen.tree (history_of self.now.process) base }
-        ensures table { IfOk result (λ steps. (names : List ℕ) × (IsTableOf (judge_in self.now) (letters_of self.now) names steps × AreApart names × (0 < length names) × (get_or names 0 0 ≡ base))) }
+        requires covered { cover
+            ≡ cover_in self.now.seen.tree (plain_history self.now.process) base }
+        ensures table { IfOk result (λ steps. (names : List ℕ) ×
+            (IsTableOf (judge_in self.now) (letters_of self.now) names steps × AreApart names ×
+            (0 < length names) × (get_or names 0 0 ≡ base))) }
         ensures few { IfOk result (λ steps. length steps.rows.items ≤ 2 ^ 32) }
         ensures tree { P.tree probe.new ≡ P.tree probe.old }
-        ensures cost { P.count probe.new ≤ P.count probe.old + table_cost self.now.seen.tree (length self.now.letters.items) }
+        ensures cost { P.count probe.new ≤ P.count probe.old + table_cost self.now.seen.tree
+            (length self.now.letters.items) }
     {
         let spots = self.spots(alloc, rows)?;
         let mut dirs = Directories::new(alloc);
@@ -58,9 +63,7 @@ impl Terms {
         while let Some(dir) = dirs.at(rows.len()) {
             let over = dirs.cover_at(rows.len());
             let row = self.row(alloc, probe, &spots, &mut dirs, dir, over)?;
-            let Ok(()) = rows.push(row) else {
-                return Err(OutOfMemory);
-            };
+            rows.push(row)?;
         }
         Ok(Steps {
             letters: self.letters.len(),

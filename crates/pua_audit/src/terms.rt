@@ -3,9 +3,9 @@
 ghost use Rattle.std.specs.Prelude.{◌≡◌, ◌≤◌, ◌+◌, ◌*◌, suc, map, IfOk};
 ghost use Rattle.pua_policy.specs.History.{StandsFor};
 ghost use Rattle.pua_audit.specs.Alphabets.{AreParts};
-ghost use Rattle.pua_audit.specs.Limits.{path_limit};
+ghost use Rattle.pua_audit.specs.Limits.{most_path};
 ghost use Rattle.pua_audit.specs.Begin.{longest};
-ghost use Rattle.pua_audit.specs.Past.{history_of};
+ghost use Rattle.pua_audit.specs.Past.{plain_history};
 ghost use Rattle.pua_audit.specs.Starting.{scope_with};
 ghost use Rattle.pua_audit.specs.Judge.{base_dir, base_way, is_open};
 ghost use Rattle.pua_audit.specs.Ready.{part_bytes, scope_in, IsSound, letters_of};
@@ -45,11 +45,12 @@ impl Terms {
         limit: u8,
         letters: Vec<Component>,
     ) -> Result<Terms, OutOfMemory>
-        requires stands { StandsFor process.now (history_of process.now) }
+        requires stands { StandsFor process.now (plain_history process.now) }
         requires parts { AreParts letters.items }
-        requires short { limit * suc (longest (map part_bytes letters.items)) ≤ path_limit }
+        requires short { limit * suc (longest (map part_bytes letters.items)) ≤ most_path }
         ensures sound { IfOk result (λ terms. IsSound terms) }
-        ensures scope { IfOk result (λ terms. scope_in terms ≡ scope_with (P.tree probe.now) table.now (history_of process.now) base limit letters.items) }
+        ensures scope { IfOk result (λ terms. scope_in terms ≡ scope_with (P.tree probe.now)
+            table.now (plain_history process.now) base limit letters.items) }
         ensures letters { IfOk result (λ terms. (terms.limit ≡ limit) × (terms.letters ≡ letters)) }
     {
         probe.known();
@@ -81,7 +82,7 @@ impl Terms {
 
     /// How many bytes the letters of a word and their slashes have at most.
     pub(crate) fn most_bytes(&self) -> usize
-        requires { self.now.limit * suc (longest (letters_of self.now)) ≤ path_limit }
+        requires { self.now.limit * suc (longest (letters_of self.now)) ≤ most_path }
         ensures { result ≡ self.now.limit * suc (longest (letters_of self.now)) }
     {
         self.limit * (longest(self.letters.as_slice()) + 1)
@@ -90,7 +91,7 @@ impl Terms {
     /// The directory in which the first letter stands.
     pub(crate) fn base_dir(&self) -> NodeId
         requires { IsSound self.now }
-        ensures { result ≡ base_dir self.now.base (history_of self.now.process) }
+        ensures { result ≡ base_dir self.now.base (plain_history self.now.process) }
     {
         match self.base {
             Base::Root => NodeId::ROOT,

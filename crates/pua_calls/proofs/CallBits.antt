@@ -1,16 +1,16 @@
 -- Sets of calls by their bits.
-use Rattle.std.proofs.Common.{◌≡◌, ℕ, zero, suc, ◌+◌, ◌<◌, ◌≤◌, ◌^◌, Bool, true, false, max, min, nat_lt, refl, sym, ap, ◌∙◌, arith, get_or, ◌*◌, ◌%◌, inl, inr}
+use Rattle.pua_calls.proofs.Common.{◌≡◌, ℕ, zero, suc, ◌<◌, ◌≤◌, ◌^◌, Bool, true, false, refl, sym, ap, ◌∙◌, arith, get_or, ◌*◌, ◌==◌}
+use Rattle.pua_calls.proofs.Common.{bit_or, bit_at, or_lt, calls, Call, Stat}
+use Rattle.std.proofs.Common.{◌+◌, max, min, nat_lt}
+use Rattle.std.proofs.Common.{◌%◌, inl, inr}
 use Rattle.std.proofs.lemmas.Bool.{cases_eq, cases_lt, lt-ltb, le-ltb}
-use Rattle.std.specs.Prelude.{◌≢◌, ◌==◌, ◌&&◌, ◌||◌, not, bit_and, bit_or}
-use Rattle.std.specs.Int.{bit_at}
+use Rattle.std.specs.Prelude.{◌≢◌, ◌&&◌, ◌||◌, not, bit_and}
 use Rattle.std.proofs.lemmas.List.{get_or-map}
 use Rattle.std.proofs.lemmas.List.FromFn.{get_or-range_with_len}
-use Rattle.std.proofs.lemmas.Nat.{or_lt}
 use Rattle.std.proofs.lemmas.Nat.Bits.{bit_at_or, bit_at_and, bit_at-lt, bit_at-zero}
-use Rattle.pua_calls.specs.Calls.{calls}
 use Rattle.pua_calls.specs.CallSets.{bit_of, has, keeps_link}
-use Rattle.pua_calls.specs.declared.call.Call.{Call}
-use Rattle.pua_calls.specs.declared.call.Call.TheVariants.{Stat, Lstat, Readlink, OpenRead, OpenWrite, OpenBoth, Create, Mkdir, Rmdir, Unlink, Symlink, Chmod, Chdir, Exec}
+use Rattle.pua_calls.specs.declared.call.Call.TheVariants.{Lstat, Readlink, OpenRead, OpenWrite, OpenBoth, Create, Mkdir, Rmdir}
+use Rattle.pua_calls.specs.declared.call.Call.TheVariants.{Unlink, Symlink, Chmod, Chdir, Exec}
 
 one_of : (x y : ℕ) → x < 2 → y < 2 → (max x y == 1) ≡ ((x == 1) || (y == 1))
 one_of zero zero low high = refl
@@ -33,10 +33,12 @@ pub has_none : (call : Call) → has 0 call ≡ false
 has_none call = ap (λ b. b == 1) (bit_at-zero (bit_of call))
 
 pub has_or : (a b : ℕ) (call : Call) → has (bit_or a b) call ≡ (has a call || has b call)
-has_or a b call = ap (λ n. n == 1) (bit_at_or a b (bit_of call)) ∙ one_of (bit_at a (bit_of call)) (bit_at b (bit_of call)) (bit_at-lt a (bit_of call)) (bit_at-lt b (bit_of call))
+has_or a b call = ap (λ n. n == 1) (bit_at_or a b (bit_of call)) ∙
+    one_of (bit_at a (bit_of call)) (bit_at b (bit_of call)) (bit_at-lt a (bit_of call)) (bit_at-lt b (bit_of call))
 
 pub has_and : (a b : ℕ) (call : Call) → has (bit_and a b) call ≡ (has a call && has b call)
-has_and a b call = ap (λ n. n == 1) (bit_at_and a b (bit_of call)) ∙ both_of (bit_at a (bit_of call)) (bit_at b (bit_of call)) (bit_at-lt a (bit_of call)) (bit_at-lt b (bit_of call))
+has_and a b call = ap (λ n. n == 1) (bit_at_and a b (bit_of call)) ∙
+    both_of (bit_at a (bit_of call)) (bit_at b (bit_of call)) (bit_at-lt a (bit_of call)) (bit_at-lt b (bit_of call))
 
 pub or_below : (a b : ℕ) → a < 2 ^ 14 → b < 2 ^ 14 → bit_or a b < 2 ^ 14
 or_below a b = or_lt 14 a b
@@ -136,7 +138,8 @@ single_below Exec = omega arith
 
 -- and each bit is that of the call at its place
 pub bit_of_call_at : (i : ℕ) → i < 14 → bit_of (get_or calls i Stat) ≡ i
-bit_of_call_at i low = let same : 0 + i ≡ i = omega arith in sym (get_or-map bit_of calls i Stat 0 low) ∙ get_or-range_with_len 0 14 i 0 low ∙ same
+bit_of_call_at i low = let same : 0 + i ≡ i = omega arith in sym (get_or-map bit_of calls i Stat 0 low) ∙
+    get_or-range_with_len 0 14 i 0 low ∙ same
 
 module _ (f : Call → Bool) where
   -- a set of the calls before a number that pass a test
@@ -158,7 +161,8 @@ module _ (f : Call → Bool) where
 
   module _ (set i : ℕ) (here : Call) (at : bit_of here ≡ i) (decided : Decides set i) where
     -- one call more
-    decides_more : (next : ℕ) → has next here ≡ f here → ((other : Call) → other ≢ here → has next other ≡ has set other) → Decides next (i + 1)
+    decides_more : (next : ℕ) → has next here ≡ f here → ((other : Call) → other ≢ here → has next other ≡ has set other) →
+        Decides next (i + 1)
     decides_more next own others call = elim (cases_eq (bit_of call) i) [
       | inl e ↦
           let same : call ≡ here = same_bit call here (e ∙ sym at) in
@@ -166,8 +170,10 @@ module _ (f : Call → Bool) where
       | inr apart ↦ others call (λ same. apart (ap bit_of same ∙ at)) ∙ decided call ∙ ap (λ b. b && f call) (further (bit_of call) i apart)
     ]
 
-    pub decides_taken : (next : ℕ) → f here ≡ true → has next here ≡ true → ((other : Call) → other ≢ here → has next other ≡ has set other) → Decides next (i + 1)
+    pub decides_taken : (next : ℕ) → f here ≡ true → has next here ≡ true →
+        ((other : Call) → other ≢ here → has next other ≡ has set other) → Decides next (i + 1)
     decides_taken next passes own others = decides_more next (own ∙ sym passes) others
 
     pub decides_left : f here ≡ false → Decides set (i + 1)
-    decides_left fails = decides_more set (decided here ∙ ap (λ b. b && f here) (le-ltb (bit_of here) i (omega (arith, at))) ∙ sym fails) (λ other apart. refl)
+    decides_left fails = decides_more set (decided here ∙ ap (λ b. b && f here) (le-ltb (bit_of here) i (omega (arith, at))) ∙
+        sym fails) (λ other apart. refl)

@@ -4,7 +4,8 @@
 pub use Rattle.pua_calls.proofs.CallBits.{bit_below, call_at_bit, bit_of_call_at, same_bit, has_none}
 -- the set of the calls that pass a test, when it is made one call after another
 pub use Rattle.pua_calls.proofs.CallBits.{Decides, decides_none, decides_taken, decides_left, decides_all}
--- no table of calls that a text gives needs `error`, if the one doesn't over which it is read, and rename and link need what they need by that one
+-- no table of calls that a text gives needs `error`, if the one doesn't over which it is read, and rename and link need
+-- what they need by that one
 pub use Rattle.pua_calls.proofs.SoundTexts.{texts_need_no_error, texts_keep_pairs}
 -- three sets of bits may be joined in either order
 pub use Rattle.pua_calls.proofs.Sets.{or_assoc}

@@ -1,3 +1,4 @@
+pub mod Common
 pub mod Sets
 pub mod CallBits
 pub mod Rows

@@ -1,5 +1,6 @@
 -- The worked examples of tables, by computing each text.
-use Rattle.std.proofs.Common.{refl, lit<}
+use Rattle.pua_calls.proofs.Common.{refl}
+use Rattle.std.proofs.Common.{lit<}
 use Rattle.std.specs.Str.{chars, is_utf8}
 use Rattle.toml.proofs.OnLiterals.{toml_on_literals}
 use Rattle.pua_calls.specs.TableExamples.{TableRows, OpenbsdRows}
@@ -38,7 +39,37 @@ unfolding toml_on_literals chars is_utf8
 openbsd_rows = record {
   kept = record {
     fourteen = refl;
-    rules = (((lit< tt, refl), tt), (((lit< tt, refl), tt), (((lit< tt, refl), tt), (((lit< tt, refl), tt), (((lit< tt, refl), tt), (((lit< tt, refl), tt), (((lit< tt, refl), tt), (((lit< tt, refl), tt), (((lit< tt, refl), tt), (((lit< tt, refl), tt), (((lit< tt, refl), tt), (((lit< tt, refl), tt), (((lit< tt, refl), tt), (((lit< tt, refl), tt), tt))))))))))))));
+    rules = (
+      ((lit< tt, refl), tt),
+      (
+        ((lit< tt, refl), tt),
+        (
+          ((lit< tt, refl), tt),
+          (
+            ((lit< tt, refl), tt),
+            (
+              ((lit< tt, refl), tt),
+              (
+                ((lit< tt, refl), tt),
+                (
+                  ((lit< tt, refl), tt),
+                  (
+                    ((lit< tt, refl), tt),
+                    (
+                      ((lit< tt, refl), tt),
+                      (
+                        ((lit< tt, refl), tt),
+                        (((lit< tt, refl), tt), (((lit< tt, refl), tt), (((lit< tt, refl), tt), (((lit< tt, refl), tt), tt)))),
+                      ),
+                    ),
+                  ),
+                ),
+              ),
+            ),
+          ),
+        ),
+      ),
+    );
     rename = (((lit< tt, refl), tt), ((lit< tt, refl), tt));
     link = (((lit< tt, refl), tt), ((lit< tt, refl), tt));
   };

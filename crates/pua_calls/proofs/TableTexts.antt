@@ -1,7 +1,8 @@
 -- Rows of tables as they are read, one after another.
-use Rattle.std.proofs.Common.{◌≡◌, ℕ, zero, suc, ◌*◌, ◌<◌, ◌^◌, true, false, List, [], ◌∷◌, length, set, refl, ap, ◌∙◌, arith, inl, inr}
-use Rattle.std.specs.Prelude.{Option, Some, None, Result, Ok, Err, ok_or, bit_and, ◌==◌}
-use Rattle.std.specs.Int.{bit_at}
+use Rattle.pua_calls.proofs.Common.{◌≡◌, ℕ, zero, suc, ◌*◌, ◌<◌, ◌^◌, true, false, List, [], ◌∷◌, length, refl, ap, ◌∙◌, arith, Option}
+use Rattle.pua_calls.proofs.Common.{Some, None, Result, Ok, Err, ◌==◌, bit_at, items_view, holds, CallTable, Rule, rules_with, Call}
+use Rattle.std.proofs.Common.{set, inl, inr}
+use Rattle.std.specs.Prelude.{ok_or, bit_and}
 use Rattle.std.proofs.lemmas.Nat.Bits.{and_pow, bit_at-lt}
 use Rattle.std.specs.Str.{IsUtf8, is_utf8}
 use Rattle.std.proofs.lemmas.Bool.{cases_Bool, true≢false}
@@ -12,13 +13,12 @@ use Rattle.std.specs.List.Sorted.{IsStrictlySortedBy}
 use Rattle.std.specs.Map.{keys_of}
 use Rattle.std.specs.String.{string_cmp}
 use Rattle.toml.proofs.Views.{Entry, is_before-sorted}
-use Rattle.toml.specs.View.{items_view, members_view}
+use Rattle.toml.specs.View.{members_view}
 use Rattle.toml.specs.declared.value.Value.{Value}
 use Rattle.pua_tree.specs.Steps.{◌>>=◌}
-use Rattle.pua_calls.specs.Promises.{holds, error}
-use Rattle.pua_calls.specs.Calls.{CallTable, Rule, call_named}
-use Rattle.pua_calls.specs.TableTexts.{count, document_of, keys_ascend, member_count, rule_in, rules_with, with_rule}
-use Rattle.pua_calls.specs.declared.call.Call.{Call}
+use Rattle.pua_calls.specs.Promises.{error}
+use Rattle.pua_calls.specs.Calls.{call_named}
+use Rattle.pua_calls.specs.TableTexts.{count, document_of, keys_ascend, member_count, rule_in, with_rule}
 use Rattle.pua_calls.specs.declared.table.read.TableFault.{TableFault}
 use Rattle.pua_calls.specs.declared.table.read.TableFault.TheVariants.{BadKey}
 
@@ -27,13 +27,15 @@ module _ (t : CallTable) (key : List ℕ) (value : Data) (rest : Members) where
   abbrev put : Call → Rule → Result CallTable TableFault
   put call rule = rules_with (with_rule t call rule) rest
 
-  named_as : (found : Option Call) → call_named key ≡ found → rules_with t (member key value rest) ≡ (ok_or found BadKey >>= λ call. rule_in call value >>= put call)
+  named_as : (found : Option Call) → call_named key ≡ found →
+      rules_with t (member key value rest) ≡ (ok_or found BadKey >>= λ call. rule_in call value >>= put call)
   named_as found named = λ i. ok_or (named i) BadKey >>= λ call. rule_in call value >>= put call
 
   pub unnamed : call_named key ≡ None → rules_with t (member key value rest) ≡ Err BadKey
   unnamed none = named_as None none
 
-  pub one_row : (call : Call) (rule : Rule) → call_named key ≡ Some call → rule_in call value ≡ Ok rule → rules_with t (member key value rest) ≡ put call rule
+  pub one_row : (call : Call) (rule : Rule) → call_named key ≡ Some call → rule_in call value ≡ Ok rule →
+      rules_with t (member key value rest) ≡ put call rule
   one_row call rule named is = named_as (Some call) named ∙ (λ i. is i >>= put call)
 
 -- as many items as values

@@ -1,4 +1,5 @@
--- The fourteen calls with one path, and what each of them needs; what rename and link need, which have two; and what an exec leaves of execpromises.
+-- The fourteen calls with one path, and what each of them needs; what rename and link need, which have two; and what an
+-- exec leaves of execpromises.
 use Rattle.std.specs.Prelude.{ℕ, ◌+◌, ◌-◌, List, [], ◌∷◌, map, Option, codes, find, slice_index_or}
 use Rattle.pua_tree.specs.Names.{same_bytes}
 use Rattle.pua_calls.specs.Promises.{rpath, wpath, cpath, fattr, exec, reading, writing, executing, creating}
@@ -11,7 +12,8 @@ use Rattle.pua_calls.specs.declared.rules.ExecPromises.TheVariants.{Unset, Stay}
 use Rattle.pua_calls.specs.declared.rules.Rules.{Rules}
 use Rattle.pua_calls.specs.declared.rules.Rules.TheVariants.{Profile, Openbsd}
 use Rattle.pua_calls.specs.declared.call.Call.{Call}
-use Rattle.pua_calls.specs.declared.call.Call.TheVariants.{Stat, Lstat, Readlink, OpenRead, OpenWrite, OpenBoth, Create, Mkdir, Rmdir, Unlink, Symlink, Chmod, Chdir, Exec}
+use Rattle.pua_calls.specs.declared.call.Call.TheVariants.{Stat, Lstat, Readlink, OpenRead, OpenWrite, OpenBoth, Create, Mkdir, Rmdir}
+use Rattle.pua_calls.specs.declared.call.Call.TheVariants.{Unlink, Symlink, Chmod, Chdir, Exec}
 
 -- in the order of their numbers
 abbrev pub calls : List Call
@@ -108,11 +110,17 @@ openbsd_rule call = standard_rule call
 
 -- of its old name rename reads what it takes away
 abbrev pub openbsd_rename : PairRule
-openbsd_rename = record { old = record { needs = record { alternatives = (rpath + cpath) ∷ []; perms = reading + creating }; last = Kept }; new = standard_name }
+openbsd_rename = record {
+  old = record { needs = record { alternatives = (rpath + cpath) ∷ []; perms = reading + creating }; last = Kept };
+  new = standard_name;
+}
 
 -- and link only reads it, and follows a link
 abbrev pub openbsd_link : PairRule
-openbsd_link = record { old = record { needs = record { alternatives = rpath ∷ []; perms = reading }; last = Followed }; new = standard_name }
+openbsd_link = record {
+  old = record { needs = record { alternatives = rpath ∷ []; perms = reading }; last = Followed };
+  new = standard_name;
+}
 
 -- the rules of OpenBSD's kernel
 abbrev pub openbsd_table : CallTable

@@ -1,5 +1,6 @@
 -- Sets of promises and of permissions as numbers, a bit for each member, and how they are read.
-use Rattle.std.specs.Prelude.{ℕ, map, ◌*◌, ◌++◌, if◌then◌else◌, ◌-◌, ◌^◌, Bool, List, [], ◌∷◌, ◌==◌, Option, Some, None, Result, Ok, Err, codes, bit_and, bit_or, bit_xor, filter, find, not, position, option_map, slice_get}
+use Rattle.std.specs.Prelude.{ℕ, map, ◌*◌, ◌++◌, if◌then◌else◌, ◌-◌, ◌^◌, Bool, List, [], ◌∷◌, ◌==◌, Option, Some, None, Result, Ok, Err}
+use Rattle.std.specs.Prelude.{codes, bit_and, bit_or, bit_xor, filter, find, not, position, option_map, slice_get}
 use Rattle.std.specs.List.{slice_split}
 use Rattle.pua_tree.specs.Names.{same_bytes}
 use Rattle.pua_path.specs.declared.errno.Errno.{Errno}
@@ -15,9 +16,12 @@ lacking set wanted = bit_xor wanted (bit_and wanted set)
 
 -- the keywords of pledge, the first at bit 0
 abbrev pub keywords : List (List ℕ)
-keywords = codes "audio" ∷ codes "bpf" ∷ codes "chown" ∷ codes "cpath" ∷ codes "disklabel" ∷ codes "dns" ∷ codes "dpath" ∷ codes "drm" ∷ codes "error" ∷ codes "exec" ∷ codes "fattr" ∷ codes "flock"
-    ∷ codes "getpw" ∷ codes "id" ∷ codes "inet" ∷ codes "mcast" ∷ codes "pf" ∷ codes "proc" ∷ codes "prot_exec" ∷ codes "ps" ∷ codes "recvfd" ∷ codes "route" ∷ codes "rpath" ∷ codes "sendfd"
-    ∷ codes "settime" ∷ codes "stdio" ∷ codes "tape" ∷ codes "tmppath" ∷ codes "tty" ∷ codes "unix" ∷ codes "unveil" ∷ codes "video" ∷ codes "vminfo" ∷ codes "vmm" ∷ codes "wpath" ∷ codes "wroute" ∷ []
+keywords = codes "audio" ∷ codes "bpf" ∷ codes "chown" ∷ codes "cpath" ∷ codes "disklabel" ∷ codes "dns" ∷ codes "dpath" ∷ codes "drm"
+    ∷ codes "error" ∷ codes "exec" ∷ codes "fattr" ∷ codes "flock"
+    ∷ codes "getpw" ∷ codes "id" ∷ codes "inet" ∷ codes "mcast" ∷ codes "pf" ∷ codes "proc" ∷ codes "prot_exec" ∷ codes "ps"
+    ∷ codes "recvfd" ∷ codes "route" ∷ codes "rpath" ∷ codes "sendfd"
+    ∷ codes "settime" ∷ codes "stdio" ∷ codes "tape" ∷ codes "tmppath" ∷ codes "tty" ∷ codes "unix" ∷ codes "unveil" ∷ codes "video"
+    ∷ codes "vminfo" ∷ codes "vmm" ∷ codes "wpath" ∷ codes "wroute" ∷ []
 
 abbrev pub no_promises : ℕ
 no_promises = 0
@@ -63,15 +67,15 @@ abbrev pub promise_of : List ℕ → Option ℕ
 promise_of word = option_map (λ row. row.1) (find (λ row. same_bytes row.0 word) keyword_rows)
 
 -- a set and further members, unless one of them is unknown
-abbrev pub joined : ℕ → Result ℕ Errno → Result ℕ Errno
-joined set (Ok more) = Ok (bit_or set more)
-joined set (Err errno) = Err errno
+abbrev pub union_or_fault : ℕ → Result ℕ Errno → Result ℕ Errno
+union_or_fault set (Ok more) = Ok (bit_or set more)
+union_or_fault set (Err errno) = Err errno
 
 -- the members that words name, unless one is unknown
 abbrev pub union_of : List (Option ℕ) → Result ℕ Errno
 union_of [] = Ok 0
 union_of (None ∷ words) = Err EINVAL
-union_of (Some bits ∷ words) = joined bits (union_of words)
+union_of (Some bits ∷ words) = union_or_fault bits (union_of words)
 
 -- keywords between commas; no text is the empty set
 abbrev pub promises_of : List ℕ → Result ℕ Errno
@@ -114,6 +118,6 @@ abbrev pub creating : ℕ
 creating = 8
 
 -- the letters of a set of permissions, in their order
-abbrev pub letters_of : ℕ → List ℕ
-letters_of perms = (if holds perms reading then codes "r" else []) ++ (if holds perms writing then codes "w" else [])
+abbrev pub perm_letters : ℕ → List ℕ
+perm_letters perms = (if holds perms reading then codes "r" else []) ++ (if holds perms writing then codes "w" else [])
     ++ (if holds perms executing then codes "x" else []) ++ (if holds perms creating then codes "c" else [])

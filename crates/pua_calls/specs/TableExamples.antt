@@ -3,7 +3,7 @@ use Rattle.std.specs.Prelude.{◌≡◌, ℕ, ◌+◌, List, [], ◌∷◌, ◌+
 use Rattle.pua_tree.specs.Examples.{text_of_lines}
 use Rattle.pua_calls.specs.Promises.{rpath, cpath}
 use Rattle.pua_calls.specs.Calls.{standard_table, openbsd_table, rule_of}
-use Rattle.pua_calls.specs.Tables.{IsTable}
+use Rattle.pua_calls.specs.Tables.{IsCallTable}
 use Rattle.pua_calls.specs.TableTexts.{table_of, table_over, with_rule}
 use Rattle.pua_calls.specs.declared.call.Call.TheVariants.{Stat, Mkdir, Unlink}
 use Rattle.pua_calls.specs.declared.table.read.TableFault.TheVariants.{BadToml, BadKey, BadRow, BadPromises, BadVeil}
@@ -14,9 +14,12 @@ stat_row promises veil = text_of_lines (codes "[stat]" ∷ (codes "promises = " 
 
 pub record TableRows : Type 0 where
   pub no_text : table_of [] ≡ Ok standard_table
-  pub two_alternatives : table_of (text_of_lines (codes "[mkdir]" ∷ codes "promises = [\"cpath\", \"\"]" ∷ codes "veil = \"c\"" ∷ [])) ≡ Ok (with_rule standard_table Mkdir (record { alternatives = cpath ∷ 0 ∷ []; perms = 8 }))
-  pub needs_nothing : table_of (stat_row (codes "[\"\"]") (codes "\"\"")) ≡ Ok (with_rule standard_table Stat (record { alternatives = 0 ∷ []; perms = 0 }))
-  pub eight_alternatives : table_of (stat_row (codes "['','','','','','','','']") (codes "''")) ≡ Ok (with_rule standard_table Stat (record { alternatives = 0 ∷ 0 ∷ 0 ∷ 0 ∷ 0 ∷ 0 ∷ 0 ∷ 0 ∷ []; perms = 0 }))
+  pub two_alternatives : table_of (text_of_lines (codes "[mkdir]" ∷ codes "promises = [\"cpath\", \"\"]" ∷ codes "veil = \"c\"" ∷ []))
+      ≡ Ok (with_rule standard_table Mkdir (record { alternatives = cpath ∷ 0 ∷ []; perms = 8 }))
+  pub needs_nothing : table_of (stat_row (codes "[\"\"]") (codes "\"\""))
+      ≡ Ok (with_rule standard_table Stat (record { alternatives = 0 ∷ []; perms = 0 }))
+  pub eight_alternatives : table_of (stat_row (codes "['','','','','','','','']") (codes "''"))
+      ≡ Ok (with_rule standard_table Stat (record { alternatives = 0 ∷ 0 ∷ 0 ∷ 0 ∷ 0 ∷ 0 ∷ 0 ∷ 0 ∷ []; perms = 0 }))
   pub nine_alternatives : table_of (stat_row (codes "['','','','','','','','','']") (codes "''")) ≡ Err (BadRow Stat)
   pub no_alternatives : table_of (stat_row (codes "[]") (codes "''")) ≡ Err (BadRow Stat)
   pub unknown_call : table_of (text_of_lines (codes "[touch]" ∷ [])) ≡ Err BadKey
@@ -31,10 +34,14 @@ pub record TableRows : Type 0 where
   pub first_key : table_of (text_of_lines (codes "stat = 1" ∷ codes "a = 1" ∷ [])) ≡ Err BadKey
   pub first_row : table_of (text_of_lines (codes "unknown = 1" ∷ codes "stat = 1" ∷ [])) ≡ Err (BadRow Stat)
   -- one row in the spellings of a table
-  pub quoted : table_of (text_of_lines (codes "[\"stat\"]" ∷ codes "'promises' = ['']" ∷ codes "\"veil\" = ''" ∷ [])) ≡ table_of (stat_row (codes "['']") (codes "''"))
-  pub dotted : table_of (text_of_lines (codes "stat.veil = ''" ∷ codes "stat.promises = ['']" ∷ [])) ≡ table_of (stat_row (codes "['']") (codes "''"))
-  pub inline : table_of (text_of_lines (codes "stat = { veil = '', promises = [''] }" ∷ [])) ≡ table_of (stat_row (codes "['']") (codes "''"))
-  pub other_order : table_of (text_of_lines (codes "[stat]" ∷ codes "veil = ''" ∷ codes "promises = ['']" ∷ [])) ≡ table_of (stat_row (codes "['']") (codes "''"))
+  pub quoted : table_of (text_of_lines (codes "[\"stat\"]" ∷ codes "'promises' = ['']" ∷ codes "\"veil\" = ''" ∷ []))
+      ≡ table_of (stat_row (codes "['']") (codes "''"))
+  pub dotted : table_of (text_of_lines (codes "stat.veil = ''" ∷ codes "stat.promises = ['']" ∷ []))
+      ≡ table_of (stat_row (codes "['']") (codes "''"))
+  pub inline : table_of (text_of_lines (codes "stat = { veil = '', promises = [''] }" ∷ []))
+      ≡ table_of (stat_row (codes "['']") (codes "''"))
+  pub other_order : table_of (text_of_lines (codes "[stat]" ∷ codes "veil = ''" ∷ codes "promises = ['']" ∷ []))
+      ≡ table_of (stat_row (codes "['']") (codes "''"))
   pub array_of_tables : table_of (text_of_lines (codes "[[stat]]" ∷ codes "promises = ['']" ∷ codes "veil = ''" ∷ [])) ≡ Err (BadRow Stat)
   -- texts that are no document
   pub named_twice : table_of (stat_row (codes "['']") (codes "''\n[stat]")) ≡ Err BadToml
@@ -44,9 +51,10 @@ pub record TableRows : Type 0 where
 -- OpenBSD's rules as a table
 pub record OpenbsdRows : Type 0 where
   -- they are a table that may be kept
-  pub kept : IsTable openbsd_table
+  pub kept : IsCallTable openbsd_table
   pub other_call : rule_of openbsd_table Unlink ≡ rule_of standard_table Unlink
   -- a text's rows stand over them, and what no text gives is theirs
   pub no_text : table_over openbsd_table [] ≡ Ok openbsd_table
-  pub row_over : table_over openbsd_table (stat_row (codes "['']") (codes "''")) ≡ Ok (with_rule openbsd_table Stat (record { alternatives = 0 ∷ []; perms = 0 }))
+  pub row_over : table_over openbsd_table (stat_row (codes "['']") (codes "''"))
+      ≡ Ok (with_rule openbsd_table Stat (record { alternatives = 0 ∷ []; perms = 0 }))
   pub no_rename : table_over openbsd_table (text_of_lines (codes "[rename]" ∷ [])) ≡ Err BadKey

@@ -1,12 +1,13 @@
 -- The table of calls that a TOML text gives, or its first fault.
-use Rattle.std.specs.Prelude.{ℕ, suc, ◌-◌, ◌==◌, Bool, true, ◌&&◌, if◌then◌else◌, List, [], ◌∷◌, nat_le, Option, Some, None, Result, Ok, Err, codes, is_some, ok_or, option_and_then, option_map, slice_set}
+use Rattle.std.specs.Prelude.{ℕ, suc, ◌-◌, ◌==◌, Bool, true, ◌&&◌, if◌then◌else◌, List, [], ◌∷◌, nat_le, Option, Some, None, Result, Ok}
+use Rattle.std.specs.Prelude.{Err, codes, is_some, ok_or, option_and_then, option_map, slice_set}
 use Rattle.std.specs.Str.{is_utf8}
 use Rattle.toml.specs.Data.{Data, as_str, as_array, as_table, Items, no_items, item, Members, no_members, member, is_before, get_member}
 use Rattle.toml.specs.Parse.{parse_document}
 use Rattle.pua_tree.specs.Steps.{◌>>=◌}
 use Rattle.pua_calls.specs.Promises.{holds, error, promises_of, perms_of}
 use Rattle.pua_calls.specs.Calls.{CallTable, Rule, standard_table, call_named, call_number}
-use Rattle.pua_calls.specs.Tables.{alternative_limit}
+use Rattle.pua_calls.specs.Tables.{most_alternatives}
 use Rattle.pua_path.specs.declared.errno.Errno.{Errno}
 use Rattle.pua_calls.specs.declared.call.Call.{Call}
 use Rattle.pua_calls.specs.declared.table.read.TableFault.{TableFault}
@@ -22,7 +23,7 @@ count (item _ items) = suc (count items)
 
 -- 1 to 8 texts
 abbrev pub are_alternatives : Items → Bool
-are_alternatives items = nat_le 1 (count items) && (nat_le (count items) alternative_limit && are_texts items)
+are_alternatives items = nat_le 1 (count items) && (nat_le (count items) most_alternatives && are_texts items)
 
 abbrev pub member_count : Members → ℕ
 member_count no_members = 0
@@ -32,16 +33,18 @@ member_count (member _ _ members) = suc (member_count members)
 abbrev pub values_of : Members → Option (Data × Data)
 values_of members =
     if member_count members == 2
-    then option_and_then (λ promises. option_map (λ veil. (promises, veil)) (get_member (codes "veil") members)) (get_member (codes "promises") members)
+    then option_and_then (λ promises. option_map (λ veil. (promises, veil)) (get_member (codes "veil") members))
+    (get_member (codes "promises") members)
     else None
 
-abbrev pub parts_of : Data × Data → Option (Items × List ℕ)
-parts_of values =
-    option_and_then (λ items. option_and_then (λ veil. if are_alternatives items then Some (items, veil) else None) (as_str values.1)) (as_array values.0)
+abbrev pub row_parts : Data × Data → Option (Items × List ℕ)
+row_parts values =
+    option_and_then (λ items. option_and_then (λ veil. if are_alternatives items then Some (items, veil) else None) (as_str values.1))
+    (as_array values.0)
 
 -- the promises and the veil of a table with exactly these two keys
 abbrev pub row_of : Data → Option (Items × List ℕ)
-row_of value = option_and_then parts_of (option_and_then values_of (as_table value))
+row_of value = option_and_then row_parts (option_and_then values_of (as_table value))
 
 -- a set of promises without `error`, which a process can gain
 abbrev pub alternative_of : Call → Result ℕ Errno → Result ℕ TableFault

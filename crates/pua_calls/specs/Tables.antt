@@ -6,12 +6,12 @@ use Rattle.pua_calls.specs.Calls.{Rule, PairRule, CallTable, rule_of}
 use Rattle.pua_calls.specs.declared.call.Call.{Call}
 
 -- at most so many alternatives have a call
-abbrev pub alternative_limit : ℕ
-alternative_limit = 8
+abbrev pub most_alternatives : ℕ
+most_alternatives = 8
 
 -- alternatives as they are kept, with empty sets after them
-abbrev pub padded : List ℕ → List ℕ
-padded sets = sets ++ replicate (alternative_limit - length sets) 0
+abbrev pub padded_sets : List ℕ → List ℕ
+padded_sets sets = sets ++ replicate (most_alternatives - length sets) 0
 
 -- a set of keywords without `error`, which a process can gain
 abbrev pub NamesNoError : ℕ → Type 0
@@ -36,7 +36,7 @@ pub record HasPairsOf (base table : CallTable) : Type 0 where
   pub execpromises : table.execpromises ≡ base.execpromises
 
 -- a rule for each of the fourteen calls, and none of these names `error`, nor one of rename and link
-pub record IsTable (table : CallTable) : Type 0 where
+pub record IsCallTable (table : CallTable) : Type 0 where
   pub fourteen : length table.rules ≡ 14
   pub rules : AllByRecursion NeedsNoError table.rules
   pub rename : PairNeedsNoError table.rename

@@ -48,7 +48,7 @@ pub struct Need {
 
 impl Call {
     ghost use Rattle.std.specs.Prelude.{◌≡◌};
-    ghost use Rattle.pua_calls.specs.Calls.{call_number, call_name, call_named};
+    ghost use Rattle.pua_calls.specs.Calls.{call_number, call_name, call_named, last_of};
 
     /// How many calls there are.
     pub const COUNT: usize = 14;
@@ -97,6 +97,17 @@ impl Call {
             Call::Chmod => "chmod",
             Call::Chdir => "chdir",
             Call::Exec => "exec",
+        }
+    }
+
+    /// Whether the last part of its path is followed if it is a link (this profile).
+    pub fn last(self) -> Last
+        ensures { result ≡ last_of self }
+    {
+        match self {
+            Call::Lstat | Call::Readlink => Last::Kept,
+            Call::Mkdir | Call::Rmdir | Call::Unlink | Call::Symlink => Last::Kept,
+            _ => Last::Followed,
         }
     }
 

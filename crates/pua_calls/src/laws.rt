@@ -3,14 +3,14 @@
 
 ghost use Rattle.std.specs.Prelude.{◌≡◌, [], ◌∷◌, Ok, codes, map};
 ghost use Rattle.pua_calls.specs.Calls.{calls};
-ghost use Rattle.pua_calls.specs.Tables.{alternative_limit};
+ghost use Rattle.pua_calls.specs.Tables.{most_alternatives};
 ghost use Rattle.pua_calls.specs.Promises.{promises_of, other_promises, perms_of};
 ghost use Rattle.pua_calls.specs.TableExamples.{OpenbsdRows, TableRows};
 
 use crate::call::Call;
 use crate::perms::Perms;
 use crate::promises::Promises;
-use crate::table::ALTERNATIVE_LIMIT;
+use crate::table::MOST_ALTERNATIVES;
 
 /// The constants of `Promises` that are one promise, in the order of their keywords: each is what
 /// its keyword names.
@@ -56,7 +56,7 @@ pub fn permission_constants() -> [Perms; 5]
 /// call as the definitions say.
 pub fn limits_law()
     ensures calls { Call.ALL ≡ calls }
-    ensures alternatives { ALTERNATIVE_LIMIT ≡ alternative_limit }
+    ensures alternatives { MOST_ALTERNATIVES ≡ most_alternatives }
 {}
 
 /// Examples of texts and of the tables that they give, or what refuses them; and of OpenBSD's rules

@@ -18,4 +18,4 @@ pub use laws::{
 pub use perms::Perms;
 pub use promises::Promises;
 pub use rules::{ExecPromises, Rules};
-pub use table::{ALTERNATIVE_LIMIT, CallTable, NameNeed, PairNeed, TableFault};
+pub use table::{CallTable, MOST_ALTERNATIVES, NameNeed, PairNeed, TableFault};

@@ -6,7 +6,7 @@ ghost use Rattle.pua_calls.specs.Calls.{rule_of, standard_table, last_of, ending
 use crate::call::{Call, Need};
 use crate::perms::Perms;
 use crate::promises::Promises;
-use pua_path::{Ending, Last};
+use pua_path::Ending;
 
 /// What a call needs, by the standard table (this profile).
 pub fn need(call: Call) -> Need
@@ -14,32 +14,28 @@ pub fn need(call: Call) -> Need
     ensures perms { (rule_of standard_table call).perms ≡ result.perms }
     ensures last { result.last ≡ last_of call }
 {
-    let (promises, perms, last) = match call {
-        Call::Stat | Call::OpenRead | Call::Chdir => {
-            (Promises::RPATH, Perms::READ, Last::Followed)
-        }
-        Call::Lstat | Call::Readlink => (Promises::RPATH, Perms::READ, Last::Kept),
-        Call::OpenWrite => (Promises::WPATH, Perms::WRITE, Last::Followed),
+    let (promises, perms) = match call {
+        Call::Stat | Call::Lstat | Call::Readlink => (Promises::RPATH, Perms::READ),
+        Call::OpenRead | Call::Chdir => (Promises::RPATH, Perms::READ),
+        Call::OpenWrite => (Promises::WPATH, Perms::WRITE),
         Call::OpenBoth => (
             Promises::RPATH.union(Promises::WPATH),
             Perms::READ.union(Perms::WRITE),
-            Last::Followed,
         ),
         Call::Create => (
             Promises::WPATH.union(Promises::CPATH),
             Perms::WRITE.union(Perms::CREATE),
-            Last::Followed,
         ),
         Call::Mkdir | Call::Rmdir | Call::Unlink | Call::Symlink => {
-            (Promises::CPATH, Perms::CREATE, Last::Kept)
+            (Promises::CPATH, Perms::CREATE)
         }
-        Call::Chmod => (Promises::FATTR, Perms::WRITE, Last::Followed),
-        Call::Exec => (Promises::EXEC, Perms::EXEC, Last::Followed),
+        Call::Chmod => (Promises::FATTR, Perms::WRITE),
+        Call::Exec => (Promises::EXEC, Perms::EXEC),
     };
     Need {
         promises,
         perms,
-        last,
+        last: call.last(),
     }
 }
 

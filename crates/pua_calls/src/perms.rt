@@ -27,7 +27,7 @@ impl Model for Perms {
 }
 
 ghost use Rattle.std.specs.Prelude.{⊤, ◌≡◌, [], ◌∷◌, codes, bit_or};
-ghost use Rattle.pua_calls.specs.Promises.{holds, lacking, perms_of, letter_of, letters_of};
+ghost use Rattle.pua_calls.specs.Promises.{holds, lacking, perms_of, letter_of, perm_letters};
 ghost use Rattle.pua_calls.specs.Promises.{reading, writing, executing, creating};
 
 use pua_path::Errno;
@@ -114,7 +114,7 @@ impl Perms {
 
     /// The letters of these, in the order r, w, x, c; no letters for none.
     pub fn letters(self) -> &'static str
-        ensures { result.now ≡ letters_of self }
+        ensures { result.now ≡ perm_letters self }
     {
         match (
             self.contains(Perms::READ),

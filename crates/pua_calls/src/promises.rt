@@ -349,10 +349,7 @@ impl Promises {
     pub fn names(self, alloc: Global) -> Result<Vec<&'static str>, OutOfMemory>
         ensures { IfOk result (λ names. map (λ name. name.now) names.items ≡ keywords_of self) }
     {
-        match lent_names(alloc, self.keywords) {
-            Ok(names) => Ok(names),
-            Err(_) => Err(OutOfMemory),
-        }
+        Ok(lent_names(alloc, self.keywords)?)
     }
 }
 

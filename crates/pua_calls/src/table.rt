@@ -13,30 +13,30 @@ pub use read::TableFault;
 use std::marker::Model;
 
 /// A call has at most so many sets of promises of which it needs one (this profile).
-pub const ALTERNATIVE_LIMIT: usize = 8;
+pub const MOST_ALTERNATIVES: usize = 8;
 
 /// What one call needs: one of these sets of promises, and each of these permissions. After the
 /// sets stand empty ones. Contracts see the sets as a list.
 #[derive(Clone, Copy)]
-struct Row {
-    sets: [Promises; ALTERNATIVE_LIMIT],
+struct RuleRow {
+    sets: [Promises; MOST_ALTERNATIVES],
     count: u8,
     perms: Perms,
 }
 
-impl Model for Row {
+impl Model for RuleRow {
     ghost use Rattle.std.specs.Prelude.{◌≡◌, ◌≤◌, length, take};
     ghost use Rattle.pua_calls.specs.Calls.{Rule};
-    ghost use Rattle.pua_calls.specs.Tables.{alternative_limit, padded};
+    ghost use Rattle.pua_calls.specs.Tables.{most_alternatives, padded_sets};
 
     ghost Value = { Rule };
 
     ghost view = { λ a. record { alternatives = take a.count a.sets; perms = a.perms } };
 
-    ghost invariant = { λ a. (padded (take a.count a.sets) ≡ a.sets)
-        × (length (take a.count a.sets) ≡ a.count) × (a.count ≤ alternative_limit) };
+    ghost invariant = { λ a. (padded_sets (take a.count a.sets) ≡ a.sets)
+        × (length (take a.count a.sets) ≡ a.count) × (a.count ≤ most_alternatives) };
 
-    ghost inverse = { λ r. record { sets = padded r.alternatives; count = length r.alternatives; perms = r.perms } };
+    ghost inverse = { λ r. record { sets = padded_sets r.alternatives; count = length r.alternatives; perms = r.perms } };
 
     ghost inverse_ok = { λ a h i. record { sets = h.0 i; count = h.1 i; perms = a.perms } };
 }
@@ -47,7 +47,7 @@ impl Model for Row {
 /// execpromises. No alternative names `error`: a process can gain that promise, and no other.
 #[derive(Clone, Copy)]
 pub struct CallTable {
-    rows: [Row; Call::COUNT],
+    rows: [RuleRow; Call::COUNT],
     rename: PairNeed,
     link: PairNeed,
     execpromises: ExecPromises,
@@ -55,13 +55,14 @@ pub struct CallTable {
 
 impl Model for CallTable {
     ghost use Rattle.pua_calls.specs.Calls.{CallTable as Table};
-    ghost use Rattle.pua_calls.specs.Tables.{IsTable};
+    ghost use Rattle.pua_calls.specs.Tables.{IsCallTable};
 
     ghost Value = { Table };
 
-    ghost view = { λ a. record { rules = a.rows; rename = a.rename; link = a.link; execpromises = a.execpromises } };
+    ghost view = { λ a. record
+        { rules = a.rows; rename = a.rename; link = a.link; execpromises = a.execpromises } };
 
-    ghost invariant = { λ a. IsTable (record {
+    ghost invariant = { λ a. IsCallTable (record {
       rules = a.rows;
       rename = a.rename;
       link = a.link;
@@ -77,21 +78,22 @@ impl Model for CallTable {
 }
 
 ghost use Rattle.std.specs.Prelude.{◌≡◌, ◌<◌, [], ◌∷◌, ◌++◌, length};
-ghost use Rattle.pua_calls.specs.Calls.{standard_rule, standard_table, openbsd_table, table_by_rules, rule_of};
-ghost use Rattle.pua_calls.specs.Tables.{NeedsNoError, NoCallNeedsError, alternative_limit};
+ghost use Rattle.pua_calls.specs.Calls.{standard_rule, standard_table, openbsd_table};
+ghost use Rattle.pua_calls.specs.Calls.{table_by_rules, rule_of};
+ghost use Rattle.pua_calls.specs.Tables.{NeedsNoError, NoCallNeedsError, most_alternatives};
 ghost use Rattle.pua_calls.specs.TableTexts.{with_rule};
 
-impl Row {
+impl RuleRow {
     /// A row without alternatives, and without permissions.
-    const NONE: Row = Row {
-        sets: [Promises::NONE; ALTERNATIVE_LIMIT],
+    const NONE: RuleRow = RuleRow {
+        sets: [Promises::NONE; MOST_ALTERNATIVES],
         count: 0,
         perms: Perms::NONE,
     };
 
     /// Adds a set to the alternatives, after the others.
     fn add(&mut self, set: Promises)
-        requires { length self.old.alternatives < alternative_limit }
+        requires { length self.old.alternatives < most_alternatives }
         ensures { self.new ≡ record self.old { alternatives = self.old.alternatives ++ set ∷ [] } }
     {
         self.sets[self.count as usize] = set;
@@ -99,12 +101,12 @@ impl Row {
     }
 
     /// A row with one alternative.
-    fn one(promises: Promises, perms: Perms) -> Row
+    fn one(promises: Promises, perms: Perms) -> RuleRow
         ensures { result ≡ record { alternatives = promises ∷ []; perms = perms } }
     {
-        let mut sets = [Promises::NONE; ALTERNATIVE_LIMIT];
+        let mut sets = [Promises::NONE; MOST_ALTERNATIVES];
         sets[0] = promises;
-        Row {
+        RuleRow {
             sets,
             count: 1,
             perms,
@@ -119,11 +121,11 @@ impl Row {
     }
 
     /// What a call needs by this project's own table.
-    fn standard(call: Call) -> Row
+    fn standard(call: Call) -> RuleRow
         ensures { result ≡ standard_rule call }
     {
         let need = needs::need(call);
-        Row::one(need.promises, need.perms)
+        RuleRow::one(need.promises, need.perms)
     }
 }
 
@@ -135,7 +137,7 @@ impl CallTable {
         ensures { result ≡ standard_table }
     {
         CallTable {
-            rows: Call::ALL.map(Row::standard),
+            rows: Call::ALL.map(RuleRow::standard),
             rename: PairNeed::standard(),
             link: PairNeed::standard(),
             execpromises: ExecPromises::Unset,
@@ -152,7 +154,7 @@ impl CallTable {
         let mut table = CallTable::standard();
         table.set(
             Call::Chmod,
-            Row::one(Promises::RPATH.union(Promises::FATTR), Perms::WRITE),
+            RuleRow::one(Promises::RPATH.union(Promises::FATTR), Perms::WRITE),
         );
         CallTable {
             rename: PairNeed::openbsd_rename(),
@@ -173,7 +175,7 @@ impl CallTable {
     }
 
     /// Puts a row in the place of a call's.
-    fn set(&mut self, call: Call, row: Row)
+    fn set(&mut self, call: Call, row: RuleRow)
         requires { NeedsNoError row }
         ensures { self.new ≡ with_rule self.old call row }
     {

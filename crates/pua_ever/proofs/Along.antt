@@ -1,29 +1,16 @@
 -- What is known of each row stays known over a list of requests of a family.
-use Rattle.std.proofs.Common.{◌≡◌, ℕ, List, [], ◌∷◌, true, false, sym, ap, ◌∙◌, inl, inr}
-use Rattle.std.specs.Prelude.{None, Ok, not, ◌&&◌, ◌||◌, is_none}
-use Rattle.std.proofs.lemmas.Bool.{and_parts, and_from, not-true}
-use Rattle.pua_tree.specs.Tree.{Tree, WellFormed, Spot, is_dir, kind_at, has_no_row, empty_tree}
-use Rattle.pua_path.specs.Fits.{is_link_kind}
-use Rattle.pua_path.specs.declared.found.Found.{Found}
-use Rattle.pua_path.specs.declared.found.Found.TheVariants.{Whole, Slot}
-use Rattle.pua_path.specs.declared.found.Way.TheVariants.{Top}
-use Rattle.pua_calls.specs.Calls.{CallTable}
-use Rattle.pua_calls.specs.CallSets.{is_kept}
-use Rattle.pua_policy.specs.History.{History, may_any}
-use Rattle.pua_policy.specs.Verdict.{IsMissing, cover, cover_fault, covered_verdict, is_allowed}
+use Rattle.pua_ever.proofs.Common.{◌≡◌, ℕ, List, [], ◌∷◌, true, false, sym, ap, ◌∙◌, inl, inr, None, Ok, not, ◌&&◌, ◌||◌, is_none}
+use Rattle.pua_ever.proofs.Common.{and_parts, and_from, not-true, Tree, WellFormed, Spot, is_dir, kind_at, has_no_row, empty_tree}
+use Rattle.pua_ever.proofs.Common.{is_link_kind, Found, Whole, Slot, Top, CallTable, is_kept, History, may_any, IsMissing, cover}
+use Rattle.pua_ever.proofs.Common.{cover_fault, covered_verdict, is_allowed, Asked, World, apply, world_after, is_member, is_exec, is_done}
+use Rattle.pua_ever.proofs.Common.{none_done, members_alone, family_then, NoCallNeedsError, TreesAlong, has_c, IsWithin, verdicts_within}
+use Rattle.pua_ever.proofs.Common.{Members, members_then, first_tree, cover_in, covers_descend, is_yes, New, NewDir, NewOthers, NewFile}
+use Rattle.pua_ever.proofs.Common.{NewLink, maker, EditsNeedC, VeilsStand}
 use Rattle.pua_calls.specs.declared.call.Call.TheVariants as call
-use Rattle.pua_script.specs.Requests.{Asked}
-use Rattle.pua_script.specs.Replay.{World, apply, world_after}
-use Rattle.pua_script.specs.Family.{is_member, is_exec, is_done, none_done, members_alone, family_then}
-use Rattle.pua_script.specs.Tightening.{NoCallNeedsError}
-use Rattle.pua_script.specs.Confinement.{TreesAlong, object_in, has_c}
-use Rattle.pua_script.proofs.ForCallers.{IsWithin, same_cover, verdicts_within}
-use Rattle.pua_script.proofs.ForCallers.{Members, members_then}
-use Rattle.pua_script.proofs.ForCallers.{each_spares, by_other, first_tree}
-use Rattle.pua_objects.specs.Objects.{cover_in}
-use Rattle.pua_objects.proofs.ForCallers.{covers_descend}
-use Rattle.pua_ever.specs.Ever.{is_yes, may_link, New, NewDir, NewOthers, NewFile, NewLink, maker}
-use Rattle.pua_ever.specs.Laws.{EditsNeedC, VeilsStand}
+use Rattle.pua_script.specs.Confinement.{object_in}
+use Rattle.pua_script.proofs.ForCallers.{same_cover}
+use Rattle.pua_script.proofs.ForCallers.{each_spares, by_other}
+use Rattle.pua_ever.specs.Ever.{may_link}
 use Rattle.pua_ever.proofs.Grown.{Grown, Written, by_name, by_turn, From, is_new, is_moved, is_linked, Put, Born, name_cover}
 use Rattle.pua_ever.proofs.Growing.{takes, requests_grow}
 use Rattle.pua_ever.proofs.Origins.{Stays}
@@ -31,70 +18,77 @@ use Rattle.pua_ever.proofs.Unedited.{yes_before}
 use Rattle.pua_ever.proofs.Stepping.{stays_then}
 
 -- what has grown by a tightened history has grown by the one that it tightens
-module _ (table : CallTable) (sound : NoCallNeedsError table) (now a : History) (within : IsWithin now a) (t : Tree) (well : WellFormed t) where
-  same : (object : Found) → cover t a object ≡ cover t now object
-  same object = same_cover a now within.tightens.unveils t object
+module _ (table : CallTable) (sound : NoCallNeedsError table) (now a : History) (within : IsWithin now a) (t : Tree) (well : WellFormed t)
+  where
+    same : (object : Found) → cover t a object ≡ cover t now object
+    same object = same_cover a now within.tightens.unveils t object
 
-  same_in : (d : ℕ) → is_dir t d ≡ true → cover_in t a d ≡ cover_in t now d
-  same_in d is = sym ((covers_descend t a well).directory d Top is) ∙ same (Whole d Top) ∙ (covers_descend t now well).directory d Top is
+    same_in : (d : ℕ) → is_dir t d ≡ true → cover_in t a d ≡ cover_in t now d
+    same_in d is = sym ((covers_descend t a well).directory d Top is) ∙ same (Whole d Top) ∙ (covers_descend t now well).directory d Top is
 
-  makes_within : (made : New) (s : Spot) → is_allowed (covered_verdict empty_tree table a (maker made) (name_cover table t a s) IsMissing) ≡ true
-      → is_allowed (covered_verdict empty_tree table now (maker made) (name_cover table t now s) IsMissing) ≡ true
-  makes_within NewDir s e = verdicts_within now a within table sound t call.Mkdir (Ok (Slot s.0 s.1 None)) e
-  makes_within NewOthers s e = verdicts_within now a within table sound t call.Mkdir (Ok (Slot s.0 s.1 None)) e
-  makes_within NewFile s e = verdicts_within now a within table sound t call.Create (Ok (Slot s.0 s.1 None)) e
-  makes_within NewLink s e = verdicts_within now a within table sound t call.Symlink (Ok (Slot s.0 s.1 None)) e
+    makes_within : (made : New) (s : Spot) → is_allowed (covered_verdict empty_tree table a (maker made) (name_cover table t a s) IsMissing)
+        ≡ true
+        → is_allowed (covered_verdict empty_tree table now (maker made) (name_cover table t now s) IsMissing) ≡ true
+    makes_within NewDir s e = verdicts_within now a within table sound t call.Mkdir (Ok (Slot s.0 s.1 None)) e
+    makes_within NewOthers s e = verdicts_within now a within table sound t call.Mkdir (Ok (Slot s.0 s.1 None)) e
+    makes_within NewFile s e = verdicts_within now a within table sound t call.Create (Ok (Slot s.0 s.1 None)) e
+    makes_within NewLink s e = verdicts_within now a within table sound t call.Symlink (Ok (Slot s.0 s.1 None)) e
 
-  written_within : (s : Spot) (x : ℕ) → Written table t a s x → Written table t now s x
-  written_within s x (by_name has) = by_name (ap has_c (sym (same (Slot s.0 s.1 None))) ∙ has)
-  written_within s x (by_turn y at empty has is) = by_turn y at empty (ap has_c (sym (same_in y (and_parts (is_dir t y) (has_no_row t y) empty).0)) ∙ has) is
+    written_within : (s : Spot) (x : ℕ) → Written table t a s x → Written table t now s x
+    written_within s x (by_name has) = by_name (ap has_c (sym (same (Slot s.0 s.1 None))) ∙ has)
+    written_within s x (by_turn y at empty has is) =
+        by_turn y at empty (ap has_c (sym (same_in y (and_parts (is_dir t y) (has_no_row t y) empty).0)) ∙ has) is
 
-  -- who may link by what is left may by all that was held
-  link_within : may_link table a ≡ true → may_link table now ≡ true
-  link_within e =
-      let two = and_parts (is_yes (may_any a table.link.old.needs.alternatives)) _ e in
-      and_from (is_yes (may_any now table.link.old.needs.alternatives)) _
-      (yes_before table sound now a within table.link.old.needs.alternatives sound.link.0 two.0)
-      (yes_before table sound now a within table.link.new.needs.alternatives sound.link.1 two.1)
+    -- who may link by what is left may by all that was held
+    link_within : may_link table a ≡ true → may_link table now ≡ true
+    link_within e =
+        let two = and_parts (is_yes (may_any a table.link.old.needs.alternatives)) _ e in
+        and_from (is_yes (may_any now table.link.old.needs.alternatives)) _
+        (yes_before table sound now a within table.link.old.needs.alternatives sound.link.0 two.0)
+        (yes_before table sound now a within table.link.new.needs.alternatives sound.link.1 two.1)
 
-  from_within : (x : ℕ) → From table t a x → From table t now x
-  from_within x (is_new e) = is_new e
-  from_within x (is_moved r e has) = is_moved r e (ap has_c (sym (same (object_in t r x))) ∙ has)
-  from_within x (is_linked r e plain can) =
-      let parts = and_parts (may_link table a) _ can in
-      is_linked r e plain
-      (and_from (may_link table now) _ (link_within parts.0)
-      (ap (λ left. is_none (cover_fault left table.link.old.needs.perms) && (not (is_link_kind (kind_at t x)) || is_kept table.link.old.last)) (sym (same (object_in t r x))) ∙ parts.1))
+    from_within : (x : ℕ) → From table t a x → From table t now x
+    from_within x (is_new e) = is_new e
+    from_within x (is_moved r e has) = is_moved r e (ap has_c (sym (same (object_in t r x))) ∙ has)
+    from_within x (is_linked r e plain can) =
+        let parts = and_parts (may_link table a) _ can in
+        is_linked r e plain
+        (and_from (may_link table now) _ (link_within parts.0)
+        (ap (λ left. is_none (cover_fault left table.link.old.needs.perms)
+        && (not (is_link_kind (kind_at t x)) || is_kept table.link.old.last)) (sym (same (object_in t r x))) ∙ parts.1))
 
-  put_within : (s : Spot) (x : ℕ) → Put table t a s x → Put table t now s x
-  put_within s x put = record { lives = put.lives; written = written_within s x put.written; from = from_within x put.from }
+    put_within : (s : Spot) (x : ℕ) → Put table t a s x → Put table t now s x
+    put_within s x put = record { lives = put.lives; written = written_within s x put.written; from = from_within x put.from }
 
-  born_within : (u : Tree) (x : ℕ) → Born table t a u x → Born table t now u x
-  born_within u x born =
-      let makes = born.makes in
-      record {
-        new = born.new;
-        made = born.made;
-        kinds = born.kinds;
-        makes = record {
-          spot = makes.spot;
-          lives = makes.lives;
-          free = makes.free;
-          allowed = makes_within born.made makes.spot makes.allowed;
-          covered = ap has_c (sym (same (Slot makes.spot.0 makes.spot.1 None))) ∙ makes.covered;
-        };
-      }
+    born_within : (u : Tree) (x : ℕ) → Born table t a u x → Born table t now u x
+    born_within u x born =
+        let makes = born.makes in
+        record {
+          new = born.new;
+          made = born.made;
+          kinds = born.kinds;
+          makes = record {
+            spot = makes.spot;
+            lives = makes.lives;
+            free = makes.free;
+            allowed = makes_within born.made makes.spot makes.allowed;
+            covered = ap has_c (sym (same (Slot makes.spot.0 makes.spot.1 None))) ∙ makes.covered;
+          };
+        }
 
-  pub grown_within : (u : Tree) → Grown table t a u → Grown table t now u
-  grown_within u grown = record {
-    rows = λ s x e. elim (grown.rows s x e) [ inl there ↦ inl there | inr put ↦ inr (put_within s x put) ];
-    nodes = λ x l. elim (grown.nodes x l) [ inl same_node ↦ inl same_node | inr born ↦ inr (born_within u x born) ];
-    next = grown.next;
-  }
+    pub grown_within : (u : Tree) → Grown table t a u → Grown table t now u
+    grown_within u grown = record {
+      rows = λ s x e. elim (grown.rows s x e) [ inl there ↦ inl there | inr put ↦ inr (put_within s x put) ];
+      nodes = λ x l. elim (grown.nodes x l) [ inl same_node ↦ inl same_node | inr born ↦ inr (born_within u x born) ];
+      next = grown.next;
+    }
 
-module _ (table : CallTable) (sound : NoCallNeedsError table) (needs : EditsNeedC table) (t0 : Tree) (now : History) (well0 : WellFormed t0) (stand : VeilsStand t0 now) where
-  pub stays_along : (asks : List Asked) (w : World) (members : List ℕ) → Members w members now false → none_done is_exec table w asks members ≡ true
-      → members_alone table w asks members ≡ true → TreesAlong table w asks → Stays table t0 now well0 stand w.tree → Stays table t0 now well0 stand (world_after table w asks).tree
+module _ (table : CallTable) (sound : NoCallNeedsError table) (needs : EditsNeedC table) (t0 : Tree) (now : History) (well0 : WellFormed t0)
+    (stand : VeilsStand t0 now) where
+  pub stays_along : (asks : List Asked) (w : World) (members : List ℕ) → Members w members now false →
+      none_done is_exec table w asks members ≡ true
+      → members_alone table w asks members ≡ true → TreesAlong table w asks → Stays table t0 now well0 stand w.tree →
+      Stays table t0 now well0 stand (world_after table w asks).tree
   stays_along [] w members are none alone trees k = k
   stays_along (ask ∷ asks) w members are none alone trees k =
       let asked = and_parts (is_member members ask.process) _ alone in
@@ -102,8 +96,10 @@ module _ (table : CallTable) (sound : NoCallNeedsError table) (needs : EditsNeed
       let asker = are ask.process asked.0 in
       let after = (apply table w ask).1 in
       let well = first_tree table after asks trees.1 in
-      let spared = by_other asker.0 now asker.2.within.tightens.unveils w.tree after.tree (each_spares table (takes table needs) w ask asker.0 trees.0 well asker.1) in
-      let grown = grown_within table sound now asker.0 asker.2.within w.tree trees.0 after.tree (requests_grow table needs w ask asker.0 trees.0 asker.1) in
+      let spared = by_other asker.0 now asker.2.within.tightens.unveils w.tree after.tree
+      (each_spares table (takes table needs) w ask asker.0 trees.0 well asker.1) in
+      let grown = grown_within table sound now asker.0 asker.2.within w.tree trees.0 after.tree
+      (requests_grow table needs w ask asker.0 trees.0 asker.1) in
       stays_along asks after (family_then table w ask members)
       (members_then table now w ask members false are (not-true (is_done is_exec table w ask members) parts.0)) parts.1 asked.1 trees.1
       (stays_then table t0 now well0 stand w.tree after.tree k well grown spared)

@@ -1,36 +1,33 @@
 -- All that a family's members are ever allowed has its line at the beginning.
-use Rattle.std.proofs.Common.{◌≡◌, ◌⊎◌, ℕ, List, [], ◌∷◌, Bool, true, false, refl, ap, inl, inr}
-use Rattle.pua_tree.specs.Tree.{Tree}
+use Rattle.pua_ever.proofs.Common.{◌≡◌, ◌⊎◌, ℕ, List, [], ◌∷◌, Bool, true, false, refl, ap, inl, inr, Tree, CallTable, History, verdict_of}
+use Rattle.pua_ever.proofs.Common.{is_allowed, allowed_is, Asked, World, world_after, verdicts_within, false≢true, is_member, is_exec}
+use Rattle.pua_ever.proofs.Common.{none_done, members_alone, NoCallNeedsError, TreesAlong, Members, first_tree, may_edit, EditsNeedC}
+use Rattle.pua_ever.proofs.Common.{VeilsStand}
 use Rattle.pua_path.specs.Resolution.{resolution_of_text}
-use Rattle.pua_calls.specs.Calls.{CallTable, ending_of, last_of}
-use Rattle.pua_policy.specs.History.{History}
-use Rattle.pua_policy.specs.Verdict.{verdict_of, is_allowed}
-use Rattle.pua_objects.proofs.ForCallers.{allowed_is}
-use Rattle.pua_script.specs.Requests.{Asked}
-use Rattle.pua_script.specs.Replay.{World, world_after}
-use Rattle.pua_script.proofs.ForCallers.{verdicts_within}
-use Rattle.std.proofs.lemmas.Bool.{false≢true}
-use Rattle.pua_script.specs.Family.{is_member, is_exec, none_done, members_alone, family, HasHistoryOf}
-use Rattle.pua_script.specs.Tightening.{NoCallNeedsError}
-use Rattle.pua_script.specs.Confinement.{TreesAlong}
-use Rattle.pua_script.proofs.ForCallers.{Members, begins, members_after, at_all, first_tree}
-use Rattle.pua_ever.specs.Ever.{may_edit}
-use Rattle.pua_ever.specs.Laws.{EditsNeedC, VeilsStand, EverComplete, EverOfMany, Foresees}
+use Rattle.pua_calls.specs.Calls.{ending_of, last_of}
+use Rattle.pua_script.specs.Family.{family, HasHistoryOf}
+use Rattle.pua_script.proofs.ForCallers.{begins, members_after, at_all}
+use Rattle.pua_ever.specs.Laws.{EverComplete, EverOfMany, Foresees}
 use Rattle.pua_ever.proofs.Origins.{at_first}
 use Rattle.pua_ever.proofs.Along.{stays_along}
 use Rattle.pua_ever.proofs.Unedited.{unedited_along}
 use Rattle.pua_ever.proofs.Ending.{foreseen}
 
 -- of any members within a history
-complete_within : (table : CallTable) → NoCallNeedsError table → EditsNeedC table → (w : World) (asks : List Asked) (members : List ℕ) (now : History) →
-    Members w members now false → VeilsStand w.tree now → TreesAlong table w asks → none_done is_exec table w asks members ≡ true → members_alone table w asks members ≡ true →
-    (member : ℕ) → is_member (family table w asks members) member ≡ true → HasHistoryOf (world_after table w asks) member (Foresees w.tree table now (world_after table w asks).tree)
+complete_within : (table : CallTable) → NoCallNeedsError table → EditsNeedC table →
+    (w : World) (asks : List Asked) (members : List ℕ) (now : History) →
+    Members w members now false → VeilsStand w.tree now → TreesAlong table w asks → none_done is_exec table w asks members ≡ true →
+    members_alone table w asks members ≡ true →
+    (member : ℕ) → is_member (family table w asks members) member ≡ true →
+    HasHistoryOf (world_after table w asks) member (Foresees w.tree table now (world_after table w asks).tree)
 complete_within table sound needs w asks members now are stand trees none alone member belongs =
     let well = first_tree table w asks trees in
     let u = (world_after table w asks).tree in
-    let k = stays_along table sound needs w.tree now well stand asks w members are none alone trees (at_first table w.tree now well stand) in
+    let k = stays_along table sound needs w.tree now well stand asks w members are none alone trees (at_first table w.tree now well stand)
+    in
     let last = members_after table now asks w members false are none member belongs in
-    let edit : (may_edit table now ≡ true) ⊎ (u ≡ w.tree) = by (may_edit table now) refl (λ lacks. unedited_along table sound now lacks asks w members are none alone) in (
+    let edit : (may_edit table now ≡ true) ⊎ (u ≡ w.tree) =
+    by (may_edit table now) refl (λ lacks. unedited_along table sound now lacks asks w members are none alone) in (
       last.0,
       last.1,
       λ from call text e.
@@ -45,10 +42,12 @@ complete_within table sound needs w asks members now are stand trees none alone 
 
 pub ever_complete : EverComplete
 ever_complete table sound needs w asks process now here confined stand trees none alone member belongs =
-    complete_within table sound needs w asks (process ∷ []) now (at_all w (process ∷ []) now (begins table now w process here confined)) stand trees none alone member belongs
+    complete_within table sound needs w asks (process ∷ []) now (at_all w (process ∷ []) now (begins table now w process here confined))
+    stand trees none alone member belongs
 
 pub ever_of_many : EverOfMany
 ever_of_many table sound needs w asks members now acts stand trees none alone member belongs =
     complete_within table sound needs w asks members now
-    (λ m belongs. let one = acts m belongs in (one.0, one.1, record { within = record { tightens = one.2.0; ended = one.2.1 }; dir = λ e. absurd (false≢true e) }))
+    (λ m belongs. let one = acts m belongs in
+    (one.0, one.1, record { within = record { tightens = one.2.0; ended = one.2.1 }; dir = λ e. absurd (false≢true e) }))
     stand trees none alone member belongs

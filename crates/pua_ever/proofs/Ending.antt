@@ -1,52 +1,49 @@
 -- What is allowed later has a line now.
-use Rattle.std.proofs.Common.{◌≡◌, ◌⊎◌, ◌≤◌, ◌<◌, ℕ, List, [], ◌++◌, Bool, true, false, cond, map, refl, sym, ap, subst, ◌∙◌, inl, inr, arith}
-use Rattle.std.specs.Prelude.{Option, Some, None, Result, Ok, Err, not, ◌&&◌, ◌||◌, ◌∷◌, ◌==◌, is_some, is_none, option_map, filter, flat_map}
-use Rattle.std.specs.Option.{option_eq}
-use Rattle.std.specs.List.{list_any}
-use Rattle.std.proofs.lemmas.Bool.{false≢true, and_parts, and_from, eq-eqb, or_left, or_right, not-true}
-use Rattle.pua_tree.specs.Tree.{Tree, WellFormed, Spot, is_dir, is_dir_kind, is_living, look, node_at, kind_at, is_empty, has_no_row, empty_tree}
-use Rattle.pua_tree.specs.declared.node.Kind.{Kind}
+use Rattle.pua_ever.proofs.Common.{◌≡◌, ◌⊎◌, ◌≤◌, ◌<◌, ℕ, List, [], ◌++◌, Bool, true, false, cond, map, refl, sym, ap, subst, ◌∙◌, inl, inr}
+use Rattle.pua_ever.proofs.Common.{arith, Option, Some, None, Result, Ok, Err, not, ◌&&◌, ◌||◌, ◌==◌, is_some, is_none, option_map, filter}
+use Rattle.pua_ever.proofs.Common.{flat_map, option_eq, list_any, false≢true, and_parts, and_from, eq-eqb, or_left, or_right, not-true}
+use Rattle.pua_ever.proofs.Common.{Tree, WellFormed, Spot, is_dir, is_dir_kind, is_living, look, node_at, kind_at, is_empty, has_no_row}
+use Rattle.pua_ever.proofs.Common.{empty_tree, Kind, sound_from, row_says, row_of, Some≢None, same_dir, is_link_kind, misfit_errno}
+use Rattle.pua_ever.proofs.Common.{IsNotEmpty, Followed, Way, Named, Top, Dot, DotDot, Found, Whole, Slot, resolutions_fit, CallTable}
+use Rattle.pua_ever.proofs.Common.{calls, rule_of, keeps_link, is_kept, History, perms_kept, veils, may_any, Object, IsDir, IsMissing}
+use Rattle.pua_ever.proofs.Common.{object_of_kind, object_fault, cover, cover_fault, or_fault, allowed_unless, if_promised, covered_verdict}
+use Rattle.pua_ever.proofs.Common.{verdict_of, is_allowed, Call, Cover, May, has_c, Word, Subject, At, Others, Item, items, cover_in}
+use Rattle.pua_ever.proofs.Common.{own_or, Among, among_left, among_right, among_map, among_filter, contained, covers_descend}
+use Rattle.pua_ever.proofs.Common.{named_within_text, row_cover, is_free, can_empty, dir_covers, file_covers, may_edit, can_link}
+use Rattle.pua_ever.proofs.Common.{removable_dir, is_named_way, is_allowed_under, ever_line, New, NewDir, NewOthers, NewFile, NewLink}
+use Rattle.pua_ever.proofs.Common.{can_make, Stands, Comes, EverLine, subjects_of, all_new, new_line, has_ever_calls, ever, VeilsStand}
+use Rattle.std.specs.Prelude.{◌∷◌}
 use Rattle.pua_tree.specs.declared.node.Kind.TheVariants as kind
-use Rattle.pua_tree.proofs.ForCallers.{Sound, sound_from, row_says, row_of, Some≢None, same_dir}
+use Rattle.pua_tree.proofs.ForCallers.{Sound}
 use Rattle.pua_path.specs.Resolution.{resolution_of_text}
-use Rattle.pua_path.specs.Fits.{FoundFits, IsOf, StandsAsNamed, is_link, is_link_kind}
+use Rattle.pua_path.specs.Fits.{FoundFits, IsOf, StandsAsNamed, is_link}
 use Rattle.pua_path.specs.declared.errno.Errno.{Errno}
-use Rattle.pua_policy.specs.Misfits.{misfit_errno}
-use Rattle.pua_policy.specs.declared.reason.Misfit.TheVariants.{IsNotEmpty}
 use Rattle.pua_path.specs.declared.found.Last.{Last}
-use Rattle.pua_path.specs.declared.found.Last.TheVariants.{Followed, Kept}
-use Rattle.pua_path.specs.declared.found.Way.{Way}
-use Rattle.pua_path.specs.declared.found.Way.TheVariants.{Named, Top, Dot, DotDot}
-use Rattle.pua_path.specs.declared.found.Found.{Found}
-use Rattle.pua_path.specs.declared.found.Found.TheVariants.{Whole, Slot}
-use Rattle.pua_path.proofs.ForCallers.{resolutions_fit}
-use Rattle.pua_calls.specs.Calls.{CallTable, calls, rule_of, ending_of, last_of}
-use Rattle.pua_calls.specs.CallSets.{keeps_link, is_kept}
-use Rattle.pua_policy.specs.History.{History, kept, veils, may_any}
-use Rattle.pua_policy.specs.Verdict.{Object, IsDir, IsFile, IsLink, IsMissing, object_of_kind, object_fault, rmdir_fault, cover, cover_fault, or_fault, allowed_unless, if_promised, covered_verdict, verdict, verdict_of, is_allowed}
-use Rattle.pua_calls.specs.declared.call.Call.{Call}
+use Rattle.pua_path.specs.declared.found.Last.TheVariants.{Kept}
+use Rattle.pua_calls.specs.Calls.{ending_of, last_of}
+use Rattle.pua_policy.specs.Verdict.{IsFile, IsLink, rmdir_fault}
+use Rattle.pua_policy.specs.Verdict.{verdict}
 use Rattle.pua_calls.specs.declared.call.Call.TheVariants as call
 use Rattle.pua_policy.specs.declared.place.Place.TheVariants as place
-use Rattle.pua_policy.specs.declared.answer.Cover.{Cover}
-use Rattle.pua_policy.specs.declared.answer.May.{May}
 use Rattle.pua_policy.specs.declared.answer.May.TheVariants as may
 use Rattle.pua_policy.specs.declared.answer.Verdict.TheVariants.{Allowed}
-use Rattle.pua_script.specs.Confinement.{has_c}
-use Rattle.pua_audit.specs.Reach.{Word}
-use Rattle.pua_objects.specs.Objects.{Subject, At, Others, Item, items, own_way, cover_in, is_named_by}
-use Rattle.pua_objects.specs.Laws.{own_or}
-use Rattle.pua_objects.proofs.ForCallers.{Among, among_left, among_right, among_map, among_filter, among_flat, contained}
-use Rattle.pua_objects.proofs.ForCallers.{covers_descend}
+use Rattle.pua_objects.specs.Objects.{own_way, is_named_by}
+use Rattle.pua_objects.proofs.ForCallers.{among_flat}
 use Rattle.pua_objects.proofs.ForCallers.{named_by_row}
 use Rattle.pua_objects.proofs.ForCallers.{has_item, found_dir}
-use Rattle.pua_objects.proofs.ForCallers.{one_of_calls, some_of, failed, named_within_text}
-use Rattle.pua_ever.specs.Ever.{row_cover, is_free, can_empty, dir_covers, file_covers, may_edit, can_link, ever_covers, named_covers, covers_of, covers_of_dir, removable_dir, is_named_way, ever_object, is_allowed_under, ever_calls, ever_line, New, NewDir, NewOthers, NewFile, NewLink, new_covers, new_object, is_new_named, can_make, new_calls, Thing, Stands, Comes, EverLine, names_to_free, subjects_of, all_new, new_line, has_calls, ever}
-use Rattle.pua_ever.specs.Laws.{VeilsStand, IsLineOf, of_dir, of_new_dir, of_row, of_new_file, of_new_link, of_name, of_others, of_new_others, IsForeseen}
+use Rattle.pua_objects.proofs.ForCallers.{one_of_calls, some_of, failed}
+use Rattle.pua_ever.specs.Ever.{ever_covers, named_covers}
+use Rattle.pua_ever.specs.Ever.{covers_of, covers_of_dir, ever_object, ever_calls}
+use Rattle.pua_ever.specs.Ever.{new_covers, new_object, is_new_named, new_calls, Thing}
+use Rattle.pua_ever.specs.Ever.{names_to_free}
+use Rattle.pua_ever.specs.Laws.{IsLineOf, of_dir, of_new_dir, of_row, of_new_file, of_new_link, of_name, of_others}
+use Rattle.pua_ever.specs.Laws.{of_new_others, IsForeseen}
 use Rattle.pua_ever.proofs.Grown.{new_kind}
 use Rattle.pua_ever.proofs.Ways.{any_among, way_by_c}
 use Rattle.pua_ever.proofs.Covers.{given_or_new, living_dir, below_next}
 use Rattle.pua_ever.proofs.KindFaults.{plain_alike, dir_as, dir_alike}
-use Rattle.pua_ever.proofs.Origins.{Origin, stood, linked, since, Known, Stays, DirUnder, at_rest, come, old_dir, dir_under, file_under, could_empty, free_then}
+use Rattle.pua_ever.proofs.Origins.{Origin, stood, linked, since, Known, Stays, DirUnder, at_rest, come, old_dir, dir_under, file_under}
+use Rattle.pua_ever.proofs.Origins.{could_empty, free_then}
 
 one_new : (made : New) → Among all_new made
 one_new NewDir = inl refl
@@ -68,7 +65,8 @@ parts_of may.Enosys a b e = cc
 parts_of may.Death a b e = cc
 
 -- a cover that stays, or is among those that a thing can come under
-pub ever_first : (b : Bool) (now : Cover) (others : List Cover) → (has_c now ≡ true → Among others now) → Among (ever_covers b now others) now
+pub ever_first : (b : Bool) (now : Cover) (others : List Cover) → (has_c now ≡ true → Among others now) →
+    Among (ever_covers b now others) now
 ever_first false now others some = inl refl
 ever_first true now others some = by (has_c now) refl
   where
@@ -76,7 +74,8 @@ ever_first true now others some = by (has_c now) refl
     by true has = rw has (some has)
     by false lacks = rw lacks (inl refl)
 
-ever_other : (b : Bool) (now : Cover) (others : List Cover) (c : Cover) → b ≡ true → has_c now ≡ true → Among others c → Among (ever_covers b now others) c
+ever_other : (b : Bool) (now : Cover) (others : List Cover) (c : Cover) → b ≡ true → has_c now ≡ true → Among others c →
+    Among (ever_covers b now others) c
 ever_other b now others c moves has a = rw (moves, has) a
 
 -- the same of a file, program or link, which link can give a further name
@@ -92,7 +91,8 @@ module _ (t : Tree) (table : CallTable) (h : History) (what : Option Kind) (now 
       by true false lacks = inl refl
       by false b has = inl refl
 
-  pub named_moved : (c : Cover) → may_edit table h ≡ true → has_c now ≡ true → Among (file_covers t h) c → Among (named_covers t table h what now) c
+  pub named_moved : (c : Cover) → may_edit table h ≡ true → has_c now ≡ true → Among (file_covers t h) c →
+      Among (named_covers t table h what now) c
   named_moved c edits has a = rw (edits, has) a
 
   pub named_linked : (c : Cover) → can_link table h what now ≡ true → Among (file_covers t h) c → Among (named_covers t table h what now) c
@@ -104,14 +104,19 @@ module _ (t : Tree) (table : CallTable) (h : History) (what : Option Kind) (now 
 
 module _ (table : CallTable) (t0 : Tree) (h : History) where
   -- the calls of a line
-  pub calls_among : (subject : Subject) (c : Call) → is_named_by t0 c subject ≡ true → is_allowed_under table h (covers_of t0 table h subject) (ever_object t0 table h subject) c ≡ true → Among (ever_calls t0 table h subject) c
+  pub calls_among : (subject : Subject) (c : Call) → is_named_by t0 c subject ≡ true →
+      is_allowed_under table h (covers_of t0 table h subject) (ever_object t0 table h subject) c ≡ true →
+      Among (ever_calls t0 table h subject) c
   calls_among subject c named allowed =
-      among_filter (λ c. is_named_by t0 c subject && is_allowed_under table h (covers_of t0 table h subject) (ever_object t0 table h subject) c) calls c
+      among_filter (λ c. is_named_by t0 c subject && is_allowed_under table h (covers_of t0 table h subject)
+      (ever_object t0 table h subject) c) calls c
       (and_from (is_named_by t0 c subject) _ named allowed) (one_of_calls c)
 
   -- a call is allowed under one of the covers
-  pub under_one : (covers : List Cover) (object : Object) (c : Call) (left : Cover) → Among covers left → may_any h (rule_of table c).alternatives ≡ may.Yes
-      → cover_fault left (rule_of table c).perms ≡ None → object_fault empty_tree c object ≡ None → is_allowed_under table h covers object c ≡ true
+  pub under_one : (covers : List Cover) (object : Object) (c : Call) (left : Cover) → Among covers left →
+      may_any h (rule_of table c).alternatives ≡ may.Yes
+      → cover_fault left (rule_of table c).perms ≡ None → object_fault empty_tree c object ≡ None →
+      is_allowed_under table h covers object c ≡ true
   under_one covers object c left a granted covered fine =
       any_among (λ left. is_allowed (covered_verdict empty_tree table h c left object)) covers left a
       (λ i. is_allowed (if_promised (granted i) (allowed_unless (or_fault (covered i) (fine i)))))
@@ -133,13 +138,17 @@ module _ (table : CallTable) (t0 : Tree) (h : History) (well0 : WellFormed t0) (
   abbrev new_lines : List EverLine
   new_lines = map (new_line t0 table h) all_new
 
-  listed_stands : (word : Word) (subject : Subject) (c : Call) → Among (flat_map (subjects_of t0 table h) (items t0 (veils h))) (word, subject) → Among (ever_calls t0 table h subject) c → Listed (Stands subject) c
+  listed_stands : (word : Word) (subject : Subject) (c : Call) → Among (flat_map (subjects_of t0 table h) (items t0 (veils h))) (
+    word,
+    subject,
+  ) → Among (ever_calls t0 table h subject) c → Listed (Stands subject) c
   listed_stands word subject c here a =
       let line : EverLine = record { word = word; thing = Stands subject; calls = ever_calls t0 table h subject } in
       record {
         line = line;
-        among = among_filter has_calls (standing_lines ++ new_lines) line (some_of (ever_calls t0 table h subject) c a)
-            (among_left standing_lines new_lines line (among_map (ever_line t0 table h) (flat_map (subjects_of t0 table h) (items t0 (veils h))) (word, subject) here));
+        among = among_filter has_ever_calls (standing_lines ++ new_lines) line (some_of (ever_calls t0 table h subject) c a)
+            (among_left standing_lines new_lines line
+            (among_map (ever_line t0 table h) (flat_map (subjects_of t0 table h) (items t0 (veils h))) (word, subject) here));
         about = refl;
         allows = a;
       }
@@ -149,25 +158,38 @@ module _ (table : CallTable) (t0 : Tree) (h : History) (well0 : WellFormed t0) (
       let line = new_line t0 table h made in
       record {
         line = line;
-        among = among_filter has_calls (standing_lines ++ new_lines) line (some_of (new_calls t0 table h made) c a) (among_right standing_lines new_lines line (among_map (new_line t0 table h) all_new made (one_new made)));
+        among = among_filter has_ever_calls (standing_lines ++ new_lines) line (some_of (new_calls t0 table h made) c a)
+            (among_right standing_lines new_lines line (among_map (new_line t0 table h) all_new made (one_new made)));
         about = refl;
         allows = a;
       }
 
   -- an item's own subject, and the name that is freed at it
-  item_subject : (item : Item) → Among (items t0 (veils h)) item → Among (flat_map (subjects_of t0 table h) (items t0 (veils h))) (item.word, item.subject)
+  item_subject : (item : Item) → Among (items t0 (veils h)) item →
+      Among (flat_map (subjects_of t0 table h) (items t0 (veils h))) (item.word, item.subject)
   item_subject item a = among_flat (subjects_of t0 table h) (items t0 (veils h)) item (item.word, item.subject) a (inl refl)
 
-  item_to_free : (item : Item) (subject : Subject) → Among (items t0 (veils h)) item → Among (names_to_free t0 table h item.subject) subject → Among (flat_map (subjects_of t0 table h) (items t0 (veils h))) (item.word, subject)
+  item_to_free : (item : Item) (subject : Subject) → Among (items t0 (veils h)) item →
+      Among (names_to_free t0 table h item.subject) subject → Among (flat_map (subjects_of t0 table h) (items t0 (veils h))) (
+        item.word,
+        subject,
+      )
   item_to_free item subject a b =
-      among_flat (subjects_of t0 table h) (items t0 (veils h)) item (item.word, subject) a (inr (among_map (λ s. (item.word, s)) (names_to_free t0 table h item.subject) subject b))
+      among_flat (subjects_of t0 table h) (items t0 (veils h)) item (
+        item.word,
+        subject,
+      ) a (inr (among_map (λ s. (item.word, s)) (names_to_free t0 table h item.subject) subject b))
 
-  new_among : (made : New) (c : Call) → may_edit table h ≡ true → can_make t0 table h made ≡ true → is_new_named made c ≡ true → is_allowed_under table h (new_covers t0 h made) (new_object made) c ≡ true
+  new_among : (made : New) (c : Call) → may_edit table h ≡ true → can_make t0 table h made ≡ true → is_new_named made c ≡ true →
+      is_allowed_under table h (new_covers t0 h made) (new_object made) c ≡ true
       → Among (new_calls t0 table h made) c
   new_among made c edits can named allowed =
-      let P : Bool → Type 0 = λ b. Among (cond b (filter (λ call. is_new_named made call && is_allowed_under table h (new_covers t0 h made) (new_object made) call) calls) []) c in
+      let P : Bool → Type 0 =
+      λ b. Among (cond b (filter (λ call. is_new_named made call && is_allowed_under table h (new_covers t0 h made) (new_object made)
+      call) calls) []) c in
       subst P (sym (and_from (may_edit table h) _ edits can))
-      (among_filter (λ call. is_new_named made call && is_allowed_under table h (new_covers t0 h made) (new_object made) call) calls c (and_from (is_new_named made c) _ named allowed) (one_of_calls c))
+      (among_filter (λ call. is_new_named made call && is_allowed_under table h (new_covers t0 h made) (new_object made) call) calls c
+      (and_from (is_new_named made c) _ named allowed) (one_of_calls c))
 
   module _ (u : Tree) (k : Stays table t0 h well0 stand u) (edit : (may_edit table h ≡ true) ⊎ (u ≡ t0)) (c : Call) where
     su : Sound u
@@ -188,12 +210,14 @@ module _ (table : CallTable) (t0 : Tree) (h : History) (well0 : WellFormed t0) (
     ]
       where
         at_first : Among (covers_of_dir t0 table h d) (cover_in t0 h d)
-        at_first = ever_first (may_edit table h && is_none (kept h (place.Dir d))) (cover_in t0 h d) (dir_covers t0 h) (λ has. way_by_c t0 h d was has)
+        at_first = ever_first (may_edit table h && is_none (perms_kept h (place.Dir d))) (cover_in t0 h d) (dir_covers t0 h)
+            (λ has. way_by_c t0 h d was has)
 
         by : may_edit table h ≡ true → DirUnder table t0 h well0 stand u d → Among (covers_of_dir t0 table h d) (cover_in u h d)
         by edits (at_rest _ same) = subst (Among (covers_of_dir t0 table h d)) (sym same) at_first
         by edits (come a none had) =
-            ever_other (may_edit table h && is_none (kept h (place.Dir d))) (cover_in t0 h d) (dir_covers t0 h) (cover_in u h d) (and_from (may_edit table h) _ edits (ap is_none none)) (had was) a
+            ever_other (may_edit table h && is_none (perms_kept h (place.Dir d))) (cover_in t0 h d) (dir_covers t0 h) (cover_in u h d)
+            (and_from (may_edit table h) _ edits (ap is_none none)) (had was) a
 
     young_cover : (d : ℕ) → is_dir u d ≡ true → t0.next ≤ d → Among (dir_covers t0 h) (cover_in u h d)
     young_cover d is from = by (dir_under table t0 h well0 stand u k d is)
@@ -218,37 +242,46 @@ module _ (table : CallTable) (t0 : Tree) (h : History) (well0 : WellFormed t0) (
         let row = row_of t0 s0 d was other in
         let own : own_way t0 d ≡ Named row.0.0 row.0.1 = named_by_row t0 s0 d row.0 was other row.1 in
         let empty : is_empty u d ≡ true = emptied (is_empty u d) e in
-        and_from (is_named_way (own_way t0 d)) _ (ap is_named_way own) (and_from (can_empty t0 h d) _ (could_empty table t0 h well0 stand u k d empty) (by empty edit))
+        and_from (is_named_way (own_way t0 d)) _ (ap is_named_way own)
+        (and_from (can_empty t0 h d) _ (could_empty table t0 h well0 stand u k d empty) (by empty edit))
       where
         emptied : (b : Bool) → option_map misfit_errno (cond b None (Some IsNotEmpty)) ≡ None → b ≡ true
         emptied true e = refl
         emptied false e = cc
 
-        by : is_empty u d ≡ true → (may_edit table h ≡ true) ⊎ (u ≡ t0) → (may_edit table h || not (list_any (λ row. row.0.0 == d) t0.rows)) ≡ true
+        by : is_empty u d ≡ true → (may_edit table h ≡ true) ⊎ (u ≡ t0) →
+            (may_edit table h || not (list_any (λ row. row.0.0 == d) t0.rows)) ≡ true
         by empty (inl edits) = or_left (may_edit table h) _ edits
-        by empty (inr same) = or_right (may_edit table h) _ (ap (λ v. has_no_row v d) (sym same) ∙ (and_parts (is_dir u d) (has_no_row u d) empty).1)
+        by empty (inr same) = or_right (may_edit table h) _ (ap (λ v. has_no_row v d) (sym same) ∙
+            (and_parts (is_dir u d) (has_no_row u d) empty).1)
 
-    is_rmdir : (w : Way) (d : ℕ) (b : Bool) → (rmdir_fault u d w ≡ None → b ≡ true) → object_fault u c (IsDir d w) ≡ None → c ≡ call.Rmdir → b ≡ true
+    is_rmdir : (w : Way) (d : ℕ) (b : Bool) → (rmdir_fault u d w ≡ None → b ≡ true) → object_fault u c (IsDir d w) ≡ None → c ≡ call.Rmdir →
+        b ≡ true
     is_rmdir w d b sure e is = sure (ap (λ x. object_fault u x (IsDir d w)) (sym is) ∙ e)
 
     always : (b : Bool) → (b || true) ≡ true
     always true = refl
     always false = refl
 
-    hit_dir : (d : ℕ) (w : Way) → is_dir u d ≡ true → StandsAsNamed u (Whole d w) → verdict u table h c (Whole d w) ≡ Allowed → Hit (Whole d w)
+    hit_dir : (d : ℕ) (w : Way) → is_dir u d ≡ true → StandsAsNamed u (Whole d w) → verdict u table h c (Whole d w) ≡ Allowed →
+        Hit (Whole d w)
     hit_dir d w is named e =
-        let parts = parts_of (may_any h (rule_of table c).alternatives) (cover_fault (cover u h (Whole d w)) (rule_of table c).perms) (object_fault u c (IsDir d w)) e in
-        let covered = ap (λ left. cover_fault left (rule_of table c).perms) (sym ((covers_descend u h k.well).directory d w is)) ∙ parts.covered in
+        let parts = parts_of (may_any h (rule_of table c).alternatives) (cover_fault (cover u h (Whole d w)) (rule_of table c).perms)
+        (object_fault u c (IsDir d w)) e in
+        let covered = ap (λ left. cover_fault left (rule_of table c).perms) (sym ((covers_descend u h k.well).directory d w is)) ∙
+        parts.covered in
         elim (given_or_new t0 d) [
           | inl below ↦ (let was = old_dir table t0 h well0 stand u k d below is in
               let item = has_item t0 s0 h (Whole d Top) was in
               let subject : Subject = At (Whole d (own_way t0 d)) in
-              let test : Bool = is_named_way (own_way t0 d) && (can_empty t0 h d && (may_edit table h || not (list_any (λ row. row.0.0 == d) t0.rows))) in
+              let test : Bool = is_named_way (own_way t0 d)
+              && (can_empty t0 h d && (may_edit table h || not (list_any (λ row. row.0.0 == d) t0.rows))) in
               record {
                 thing = Stands subject;
                 listed = listed_stands item.0 subject c (item_subject _ item.1)
                     (calls_among table t0 h subject c (always (keeps_link c))
-                    (under_one table t0 h (covers_of_dir t0 table h d) (dir_as test) c (cover_in u h d) (dir_cover d is was) parts.may covered
+                    (under_one table t0 h (covers_of_dir t0 table h d) (dir_as test) c (cover_in u h d) (dir_cover d is was) parts.may
+                    covered
                     (dir_alike u c d w test (is_rmdir w d test (is_removed d w is named was) parts.kind) parts.kind)));
                 about = of_dir below;
               })
@@ -256,7 +289,8 @@ module _ (table : CallTable) (t0 : Tree) (h : History) (well0 : WellFormed t0) (
               record {
                 thing = Comes NewDir;
                 listed = listed_new NewDir c (new_among NewDir c (edits_if_young d from lives) (made_dir d from is lives) refl
-                    (under_one table t0 h (dir_covers t0 h) removable_dir c (cover_in u h d) (young_cover d is from) parts.may covered (dir_alike u c d w true (λ _. refl) parts.kind)));
+                    (under_one table t0 h (dir_covers t0 h) removable_dir c (cover_in u h d) (young_cover d is from) parts.may covered
+                    (dir_alike u c d w true (λ _. refl) parts.kind)));
                 about = of_new_dir from;
               })
         ]
@@ -264,7 +298,8 @@ module _ (table : CallTable) (t0 : Tree) (h : History) (well0 : WellFormed t0) (
         made_dir : (d : ℕ) → t0.next ≤ d → is_dir u d ≡ true → is_living u d ≡ true → can_make t0 table h NewDir ≡ true
         made_dir d from is lives = let known = k.young d from lives in by known.made (sym (ap is_dir_kind known.kinds) ∙ is) known.can
           where
-            by : (made : New) → is_dir_kind (Some (new_kind made)) ≡ true → can_make t0 table h made ≡ true → can_make t0 table h NewDir ≡ true
+            by : (made : New) → is_dir_kind (Some (new_kind made)) ≡ true → can_make t0 table h made ≡ true →
+                can_make t0 table h NewDir ≡ true
             by NewDir is can = can
             by NewOthers is can = can
             by NewFile is can = absurd (false≢true is)
@@ -282,34 +317,45 @@ module _ (table : CallTable) (t0 : Tree) (h : History) (well0 : WellFormed t0) (
     slot_then s x other = ap (λ b. cover t0 h (cond b (Whole x (Named s.0 s.1)) (Slot s.0 s.1 (Some x)))) other
 
     -- a line of a row of the beginning, under a cover that its thing can come under
-    hit_row : (r : Spot) (s : Spot) (x : ℕ) → look t0 r.0 r.1 ≡ Some x → node_at u x ≡ node_at t0 x → is_dir u x ≡ false → (last_of c ≡ Followed → is_link u (Slot s.0 s.1 (Some x)) ≡ false)
-        → may_any h (rule_of table c).alternatives ≡ may.Yes → cover_fault (cover u h (Slot s.0 s.1 (Some x))) (rule_of table c).perms ≡ None → object_fault u c (object_of_kind (kind_at u x)) ≡ None
-        → Among (named_covers t0 table h (kind_at t0 x) (cover t0 h (Slot r.0 r.1 (Some x)))) (cover u h (Slot s.0 s.1 (Some x))) → Hit (Slot s.0 s.1 (Some x))
+    hit_row : (r : Spot) (s : Spot) (x : ℕ) → look t0 r.0 r.1 ≡ Some x → node_at u x ≡ node_at t0 x → is_dir u x ≡ false →
+        (last_of c ≡ Followed → is_link u (Slot s.0 s.1 (Some x)) ≡ false)
+        → may_any h (rule_of table c).alternatives ≡ may.Yes →
+        cover_fault (cover u h (Slot s.0 s.1 (Some x))) (rule_of table c).perms ≡ None →
+        object_fault u c (object_of_kind (kind_at u x)) ≡ None
+        → Among (named_covers t0 table h (kind_at t0 x) (cover t0 h (Slot r.0 r.1 (Some x)))) (cover u h (Slot s.0 s.1 (Some x))) →
+        Hit (Slot s.0 s.1 (Some x))
     hit_row r s x at same other followed granted covered fine a =
         let same_kind : kind_at u x ≡ kind_at t0 x = ap (option_map (λ n. n.kind)) same in
         let other_then : is_dir t0 x ≡ false = sym (same_dir t0 u x same) ∙ other in
         let fits : FoundFits t0 (Slot r.0 r.1 (Some x)) =
-        and_from (is_dir t0 r.0) _ (row_says t0 s0 r x at).0 (and_from (option_eq ◌==◌ (look t0 r.0 r.1) (Some x)) _ (ap (λ o. option_eq ◌==◌ o (Some x)) at ∙ eq-eqb x x refl) (ap not other_then)) in
+        and_from (is_dir t0 r.0) _ (row_says t0 s0 r x at).0 (and_from (option_eq ◌==◌ (look t0 r.0 r.1) (Some x)) _
+        (ap (λ o. option_eq ◌==◌ o (Some x)) at ∙ eq-eqb x x refl) (ap not other_then)) in
         let item = has_item t0 s0 h (Slot r.0 r.1 (Some x)) fits in
         let subject : Subject = At (Slot r.0 r.1 (Some x)) in
         record {
           thing = Stands subject;
           listed = listed_stands item.0 subject c (item_subject _ item.1)
-              (calls_among table t0 h subject c (named_link (last_of c) (is_link t0 (Slot r.0 r.1 (Some x))) refl (λ e. ap is_link_kind (sym same_kind) ∙ followed e))
-              (under_one table t0 h (covers_of t0 table h subject) (ever_object t0 table h subject) c (cover u h (Slot s.0 s.1 (Some x))) a granted covered
+              (calls_among table t0 h subject c (named_link (last_of c) (is_link t0 (Slot r.0 r.1 (Some x))) refl
+              (λ e. ap is_link_kind (sym same_kind) ∙ followed e))
+              (under_one table t0 h (covers_of t0 table h subject) (ever_object t0 table h subject) c (cover u h (Slot s.0 s.1 (Some x))) a
+              granted covered
               (ap (λ o. object_fault empty_tree c (object_of_kind o)) (sym same_kind) ∙ sym (plain_alike u c (kind_at u x)) ∙ fine)));
           about = of_row r at;
         }
 
-    hit_file : (s : Spot) (x : ℕ) → look u s.0 s.1 ≡ Some x → is_dir u x ≡ false → (last_of c ≡ Followed → is_link u (Slot s.0 s.1 (Some x)) ≡ false)
+    hit_file : (s : Spot) (x : ℕ) → look u s.0 s.1 ≡ Some x → is_dir u x ≡ false →
+        (last_of c ≡ Followed → is_link u (Slot s.0 s.1 (Some x)) ≡ false)
         → verdict u table h c (Slot s.0 s.1 (Some x)) ≡ Allowed → Hit (Slot s.0 s.1 (Some x))
     hit_file s x e other followed allowed = elim (given_or_new t0 x) [
       | inl below ↦ hit_old below
       | inr from ↦ hit_young from (k.young x from lives)
     ]
       where
-        parts : Parts (may_any h (rule_of table c).alternatives) (cover_fault (cover u h (Slot s.0 s.1 (Some x))) (rule_of table c).perms) (object_fault u c (object_of_kind (kind_at u x)))
-        parts = parts_of (may_any h (rule_of table c).alternatives) (cover_fault (cover u h (Slot s.0 s.1 (Some x))) (rule_of table c).perms) (object_fault u c (object_of_kind (kind_at u x))) allowed
+        parts : Parts (may_any h (rule_of table c).alternatives) (cover_fault (cover u h (Slot s.0 s.1 (Some x))) (rule_of table c).perms)
+            (object_fault u c (object_of_kind (kind_at u x)))
+        parts = parts_of (may_any h (rule_of table c).alternatives)
+            (cover_fault (cover u h (Slot s.0 s.1 (Some x))) (rule_of table c).perms) (object_fault u c (object_of_kind (kind_at u x)))
+            allowed
 
         lives : is_living u x ≡ true
         lives = (row_says u su s x e).2
@@ -318,30 +364,39 @@ module _ (table : CallTable) (t0 : Tree) (h : History) (well0 : WellFormed t0) (
         hit_old below = elim (file_under table t0 h well0 stand u k s x e other) [
           | inl fixed ↦ (let stays = k.uncovered s x fixed.0 fixed.1 in
               let then : is_dir t0 x ≡ false = sym (same_dir t0 u x same) ∙ other in
-              let covers : cover u h (Slot s.0 s.1 (Some x)) ≡ cover t0 h (Slot s.0 s.1 (Some x)) = sym (slot_of s x other) ∙ stays.covered ∙ slot_then s x then in
+              let covers : cover u h (Slot s.0 s.1 (Some x)) ≡ cover t0 h (Slot s.0 s.1 (Some x)) = sym (slot_of s x other) ∙
+              stays.covered ∙ slot_then s x then in
               here s fixed.0 (subst (Among (named_covers t0 table h (kind_at t0 x) (cover t0 h (Slot s.0 s.1 (Some x))))) (sym covers)
-              (named_first t0 table h (kind_at t0 x) (cover t0 h (Slot s.0 s.1 (Some x))) (λ has. absurd (false≢true (sym fixed.1 ∙ ap has_c (slot_then s x then) ∙ has))))))
+              (named_first t0 table h (kind_at t0 x) (cover t0 h (Slot s.0 s.1 (Some x)))
+              (λ has. absurd (false≢true (sym fixed.1 ∙ ap has_c (slot_then s x then) ∙ has))))))
           | inr came ↦ elim edit [
             | inl edits ↦ moved edits came.1 came.0.origin
             | inr tree ↦ (let at : look t0 s.0 s.1 ≡ Some x = ap (λ v. look v s.0 s.1) (sym tree) ∙ e in
-                let covers : cover u h (Slot s.0 s.1 (Some x)) ≡ cover t0 h (Slot s.0 s.1 (Some x)) = ap (λ v. cover v h (Slot s.0 s.1 (Some x))) tree in
+                let covers : cover u h (Slot s.0 s.1 (Some x)) ≡ cover t0 h (Slot s.0 s.1 (Some x)) =
+                ap (λ v. cover v h (Slot s.0 s.1 (Some x))) tree in
                 here s at (subst (Among (named_covers t0 table h (kind_at t0 x) (cover t0 h (Slot s.0 s.1 (Some x))))) (sym covers)
-                (named_first t0 table h (kind_at t0 x) (cover t0 h (Slot s.0 s.1 (Some x))) (λ has. subst (Among (file_covers t0 h)) (slot_of s x other ∙ covers) came.1))))
+                (named_first t0 table h (kind_at t0 x) (cover t0 h (Slot s.0 s.1 (Some x)))
+                (λ has. subst (Among (file_covers t0 h)) (slot_of s x other ∙ covers) came.1))))
           ]
         ]
           where
             same : node_at u x ≡ node_at t0 x
             same = k.old x below lives
 
-            here : (r : Spot) → look t0 r.0 r.1 ≡ Some x → Among (named_covers t0 table h (kind_at t0 x) (cover t0 h (Slot r.0 r.1 (Some x)))) (cover u h (Slot s.0 s.1 (Some x))) → Hit (Slot s.0 s.1 (Some x))
+            here : (r : Spot) → look t0 r.0 r.1 ≡ Some x →
+                Among (named_covers t0 table h (kind_at t0 x) (cover t0 h (Slot r.0 r.1 (Some x)))) (cover u h (Slot s.0 s.1 (Some x))) →
+                Hit (Slot s.0 s.1 (Some x))
             here r at a = hit_row r s x at same other followed parts.may parts.covered parts.kind a
 
-            moved : may_edit table h ≡ true → Among (file_covers t0 h) (row_cover u h s x) → Origin table t0 h well0 stand x → Hit (Slot s.0 s.1 (Some x))
+            moved : may_edit table h ≡ true → Among (file_covers t0 h) (row_cover u h s x) → Origin table t0 h well0 stand x →
+                Hit (Slot s.0 s.1 (Some x))
             moved edits a (stood r at has) =
                 let then : is_dir t0 x ≡ false = sym (same_dir t0 u x same) ∙ other in
-                here r at (named_moved t0 table h (kind_at t0 x) (cover t0 h (Slot r.0 r.1 (Some x))) (cover u h (Slot s.0 s.1 (Some x))) edits (ap has_c (sym (slot_then r x then)) ∙ has) (subst (Among (file_covers t0 h)) (slot_of s x other) a))
+                here r at (named_moved t0 table h (kind_at t0 x) (cover t0 h (Slot r.0 r.1 (Some x))) (cover u h (Slot s.0 s.1 (Some x)))
+                edits (ap has_c (sym (slot_then r x then)) ∙ has) (subst (Among (file_covers t0 h)) (slot_of s x other) a))
             moved edits a (linked r at plain can) =
-                here r at (named_linked t0 table h (kind_at t0 x) (cover t0 h (Slot r.0 r.1 (Some x))) (cover u h (Slot s.0 s.1 (Some x))) (ap (can_link table h (kind_at t0 x)) (sym (slot_then r x plain)) ∙ can)
+                here r at (named_linked t0 table h (kind_at t0 x) (cover t0 h (Slot r.0 r.1 (Some x))) (cover u h (Slot s.0 s.1 (Some x)))
+                (ap (can_link table h (kind_at t0 x)) (sym (slot_then r x plain)) ∙ can)
                 (subst (Among (file_covers t0 h)) (slot_of s x other) a))
             moved edits a (since from) = absurd (omega (arith, below, from))
 
@@ -357,7 +412,8 @@ module _ (table : CallTable) (t0 : Tree) (h : History) (well0 : WellFormed t0) (
             edits : may_edit table h ≡ true
             edits = edits_if_young x from lives
 
-            kept_link : (mode : Last) → last_of c ≡ mode → (mode ≡ Followed → is_link u (Slot s.0 s.1 (Some x)) ≡ false) → kind_at u x ≡ Some kind.Link → keeps_link c ≡ true
+            kept_link : (mode : Last) → last_of c ≡ mode → (mode ≡ Followed → is_link u (Slot s.0 s.1 (Some x)) ≡ false) →
+                kind_at u x ≡ Some kind.Link → keeps_link c ≡ true
             kept_link Kept is unlinked kinds = ap is_kept is
             kept_link Followed is unlinked kinds = absurd (false≢true (sym (unlinked refl) ∙ ap is_link_kind kinds))
 
@@ -367,21 +423,26 @@ module _ (table : CallTable) (t0 : Tree) (h : History) (well0 : WellFormed t0) (
             by NewFile kinds can = record {
               thing = Comes NewFile;
               listed = listed_new NewFile c (new_among NewFile c edits can refl
-                  (under_one table t0 h (file_covers t0 h) IsFile c (cover u h (Slot s.0 s.1 (Some x))) a parts.may parts.covered (sym (plain_alike u c (Some kind.File)) ∙ ap (λ o. object_fault u c (object_of_kind o)) (sym kinds) ∙ parts.kind)));
+                  (under_one table t0 h (file_covers t0 h) IsFile c (cover u h (Slot s.0 s.1 (Some x))) a parts.may parts.covered
+                  (sym (plain_alike u c (Some kind.File)) ∙ ap (λ o. object_fault u c (object_of_kind o)) (sym kinds) ∙ parts.kind)));
               about = of_new_file from kinds;
             }
             by NewLink kinds can = record {
               thing = Comes NewLink;
               listed = listed_new NewLink c (new_among NewLink c edits can (kept_link (last_of c) refl followed kinds)
-                  (under_one table t0 h (file_covers t0 h) IsLink c (cover u h (Slot s.0 s.1 (Some x))) a parts.may parts.covered (sym (plain_alike u c (Some kind.Link)) ∙ ap (λ o. object_fault u c (object_of_kind o)) (sym kinds) ∙ parts.kind)));
+                  (under_one table t0 h (file_covers t0 h) IsLink c (cover u h (Slot s.0 s.1 (Some x))) a parts.may parts.covered
+                  (sym (plain_alike u c (Some kind.Link)) ∙ ap (λ o. object_fault u c (object_of_kind o)) (sym kinds) ∙ parts.kind)));
               about = of_new_link from kinds;
             }
 
-    hit_missing : (dir : ℕ) (name : List ℕ) → is_dir u dir ≡ true → look u dir name ≡ None → verdict u table h c (Slot dir name None) ≡ Allowed → Hit (Slot dir name None)
-    hit_missing dir name is none allowed = by (kept h (place.Slot dir name)) refl
+    hit_missing : (dir : ℕ) (name : List ℕ) → is_dir u dir ≡ true → look u dir name ≡ None →
+        verdict u table h c (Slot dir name None) ≡ Allowed → Hit (Slot dir name None)
+    hit_missing dir name is none allowed = by (perms_kept h (place.Slot dir name)) refl
       where
-        parts : Parts (may_any h (rule_of table c).alternatives) (cover_fault (cover u h (Slot dir name None)) (rule_of table c).perms) (object_fault u c IsMissing)
-        parts = parts_of (may_any h (rule_of table c).alternatives) (cover_fault (cover u h (Slot dir name None)) (rule_of table c).perms) (object_fault u c IsMissing) allowed
+        parts : Parts (may_any h (rule_of table c).alternatives) (cover_fault (cover u h (Slot dir name None)) (rule_of table c).perms)
+            (object_fault u c IsMissing)
+        parts = parts_of (may_any h (rule_of table c).alternatives) (cover_fault (cover u h (Slot dir name None)) (rule_of table c).perms)
+            (object_fault u c IsMissing) allowed
 
         fine : object_fault empty_tree c IsMissing ≡ None
         fine = sym (plain_alike u c None) ∙ parts.kind
@@ -390,45 +451,59 @@ module _ (table : CallTable) (t0 : Tree) (h : History) (well0 : WellFormed t0) (
         here = At (Slot dir name None)
 
         -- the name has its line, whatever stood there
-        name_line : (perms : ℕ) → kept h (place.Slot dir name) ≡ Some perms → is_dir t0 dir ≡ true → (o : Option ℕ) → look t0 dir name ≡ o
+        name_line : (perms : ℕ) → perms_kept h (place.Slot dir name) ≡ Some perms → is_dir t0 dir ≡ true → (o : Option ℕ) →
+            look t0 dir name ≡ o
             → (word : Word) × Among (flat_map (subjects_of t0 table h) (items t0 (veils h))) (word, At (Slot dir name None))
         name_line perms own was None at =
             let item = has_item t0 s0 h (Slot dir name None) (and_from (is_dir t0 dir) _ was (ap is_none at)) in
-            let subject : Subject = cond (is_some (kept h (place.Slot dir name))) (At (Slot dir name None)) (Others dir) in
+            let subject : Subject = cond (is_some (perms_kept h (place.Slot dir name))) (At (Slot dir name None)) (Others dir) in
             let this : subject ≡ At (Slot dir name None) = ap (λ o. cond (is_some o) (At (Slot dir name None)) (Others dir)) own in
             (item.0, subst (λ s. Among (flat_map (subjects_of t0 table h) (items t0 (veils h))) (item.0, s)) this (item_subject _ item.1))
-        name_line perms own was (Some y) at = elim (is_dir t0 y) as (λ b. is_dir t0 y ≡ b → (word : Word) × Among (flat_map (subjects_of t0 table h) (items t0 (veils h))) (word, At (Slot dir name None))) [
-          | true ↦ λ dir_there.
-              let item = has_item t0 s0 h (Whole y Top) dir_there in
-              let own_name : own_way t0 y ≡ Named dir name = named_by_row t0 s0 y (dir, name) dir_there (row_says t0 s0 (dir, name) y at).3 at in
-              (item.0, item_to_free _ (At (Slot dir name None)) item.1 (subst (λ w. Among (names_to_free t0 table h (At (Whole y w))) (At (Slot dir name None))) (sym own_name) (rw test (inl refl))))
-          | false ↦ λ other.
-              let fits : FoundFits t0 (Slot dir name (Some y)) =
-              and_from (is_dir t0 dir) _ was (and_from (option_eq ◌==◌ (look t0 dir name) (Some y)) _ (ap (λ o. option_eq ◌==◌ o (Some y)) at ∙ eq-eqb y y refl) (ap not other)) in
-              let item = has_item t0 s0 h (Slot dir name (Some y)) fits in
-              (item.0, item_to_free _ (At (Slot dir name None)) item.1 (rw test (inl refl)))
-        ] refl
+        name_line perms own was (Some y) at =
+            elim (is_dir t0 y) as (λ b. is_dir t0 y ≡ b →
+            (word : Word) × Among (flat_map (subjects_of t0 table h) (items t0 (veils h))) (word, At (Slot dir name None))) [
+              | true ↦ λ dir_there.
+                  let item = has_item t0 s0 h (Whole y Top) dir_there in
+                  let own_name : own_way t0 y ≡ Named dir name =
+                  named_by_row t0 s0 y (dir, name) dir_there (row_says t0 s0 (dir, name) y at).3 at in (
+                    item.0,
+                    item_to_free _ (At (Slot dir name None)) item.1
+                        (subst (λ w. Among (names_to_free t0 table h (At (Whole y w))) (At (Slot dir name None))) (sym own_name)
+                        (rw test (inl refl))),
+                  )
+              | false ↦ λ other.
+                  let fits : FoundFits t0 (Slot dir name (Some y)) =
+                  and_from (is_dir t0 dir) _ was (and_from (option_eq ◌==◌ (look t0 dir name) (Some y)) _
+                  (ap (λ o. option_eq ◌==◌ o (Some y)) at ∙ eq-eqb y y refl) (ap not other)) in
+                  let item = has_item t0 s0 h (Slot dir name (Some y)) fits in
+                  (item.0, item_to_free _ (At (Slot dir name None)) item.1 (rw test (inl refl)))
+            ] refl
           where
             edits : may_edit table h ≡ true
             edits = elim edit [ inl e ↦ e | inr same ↦ absurd (Some≢None y (sym at ∙ ap (λ v. look v dir name) (sym same) ∙ none)) ]
 
-            test : (is_some (kept h (place.Slot dir name)) && (may_edit table h && is_free t0 h (dir, name))) ≡ true
-            test = and_from (is_some (kept h (place.Slot dir name))) _ (ap is_some own) (and_from (may_edit table h) _ edits (free_then table t0 h well0 stand u k (dir, name) none))
+            test : (is_some (perms_kept h (place.Slot dir name)) && (may_edit table h && is_free t0 h (dir, name))) ≡ true
+            test = and_from (is_some (perms_kept h (place.Slot dir name))) _ (ap is_some own)
+                (and_from (may_edit table h) _ edits (free_then table t0 h well0 stand u k (dir, name) none))
 
-        by : (o : Option ℕ) → kept h (place.Slot dir name) ≡ o → Hit (Slot dir name None)
+        by : (o : Option ℕ) → perms_kept h (place.Slot dir name) ≡ o → Hit (Slot dir name None)
         by (Some perms) own =
             let was = old_dir table t0 h well0 stand u k dir (stand (place.Slot dir name) perms own) is in
             let line = name_line perms own was (look t0 dir name) refl in
             let covers : cover t0 h (Slot dir name None) ≡ cover u h (Slot dir name None) =
-            (covers_descend t0 h well0).at_name dir name None ∙ ap (λ o. own_or o (cover_in t0 h dir)) own ∙ sym (ap (λ o. own_or o (cover_in u h dir)) own) ∙ sym ((covers_descend u h k.well).at_name dir name None) in
+            (covers_descend t0 h well0).at_name dir name None ∙ ap (λ o. own_or o (cover_in t0 h dir)) own ∙
+            sym (ap (λ o. own_or o (cover_in u h dir)) own) ∙ sym ((covers_descend u h k.well).at_name dir name None) in
             record {
               thing = Stands (At (Slot dir name None));
               listed = listed_stands line.0 (At (Slot dir name None)) c line.1
-                  (calls_among table t0 h (At (Slot dir name None)) c (always (keeps_link c)) (under_one table t0 h (covers_of t0 table h (At (Slot dir name None))) IsMissing c (cover u h (Slot dir name None)) (inl covers) parts.may parts.covered fine));
+                  (calls_among table t0 h (At (Slot dir name None)) c (always (keeps_link c))
+                  (under_one table t0 h (covers_of t0 table h (At (Slot dir name None))) IsMissing c (cover u h (Slot dir name None))
+                  (inl covers) parts.may parts.covered fine));
               about = of_name perms own;
             }
         by None own =
-            let over : cover u h (Slot dir name None) ≡ cover_in u h dir = (covers_descend u h k.well).at_name dir name None ∙ ap (λ o. own_or o (cover_in u h dir)) own in
+            let over : cover u h (Slot dir name None) ≡ cover_in u h dir = (covers_descend u h k.well).at_name dir name None ∙
+            ap (λ o. own_or o (cover_in u h dir)) own in
             let covered = ap (λ left. cover_fault left (rule_of table c).perms) (sym over) ∙ parts.covered in
             elim (given_or_new t0 dir) [
               | inl below ↦ (let was = old_dir table t0 h well0 stand u k dir below is in
@@ -436,20 +511,24 @@ module _ (table : CallTable) (t0 : Tree) (h : History) (well0 : WellFormed t0) (
                   record {
                     thing = Stands (Others dir);
                     listed = listed_stands at.1.0 (Others dir) c (item_subject _ (at.1.1 _ (inr (inl refl))))
-                        (calls_among table t0 h (Others dir) c refl (under_one table t0 h (covers_of_dir t0 table h dir) IsMissing c (cover_in u h dir) (dir_cover dir is was) parts.may covered fine));
+                        (calls_among table t0 h (Others dir) c refl (under_one table t0 h (covers_of_dir t0 table h dir) IsMissing c
+                        (cover_in u h dir) (dir_cover dir is was) parts.may covered fine));
                     about = of_others below own;
                   })
               | inr from ↦ (let lives = living_dir u h k.well dir is in
                   let known = k.young dir from lives in
                   record {
                     thing = Comes NewOthers;
-                    listed = listed_new NewOthers c (new_among NewOthers c (edits_if_young dir from lives) (made_other known.made (sym (ap is_dir_kind known.kinds) ∙ is) known.can) refl
-                        (under_one table t0 h (dir_covers t0 h) IsMissing c (cover_in u h dir) (young_cover dir is from) parts.may covered fine));
+                    listed = listed_new NewOthers c (new_among NewOthers c (edits_if_young dir from lives)
+                        (made_other known.made (sym (ap is_dir_kind known.kinds) ∙ is) known.can) refl
+                        (under_one table t0 h (dir_covers t0 h) IsMissing c (cover_in u h dir) (young_cover dir is from) parts.may covered
+                        fine));
                     about = of_new_others from;
                   })
             ]
           where
-            made_other : (made : New) → is_dir_kind (Some (new_kind made)) ≡ true → can_make t0 table h made ≡ true → can_make t0 table h NewOthers ≡ true
+            made_other : (made : New) → is_dir_kind (Some (new_kind made)) ≡ true → can_make t0 table h made ≡ true →
+                can_make t0 table h NewOthers ≡ true
             made_other NewDir is can = can
             made_other NewOthers is can = can
             made_other NewFile is can = absurd (false≢true is)
@@ -459,14 +538,16 @@ module _ (table : CallTable) (t0 : Tree) (h : History) (well0 : WellFormed t0) (
     hit : (object : Found) → IsOf u (last_of c) object → verdict u table h c object ≡ Allowed → Hit object
     hit (Whole d w) is allowed = hit_dir d w is.fits is.named allowed
     hit (Slot dir name (Some x)) is allowed =
-        hit_file (dir, name) x is.named.1 (not-true (is_dir u x) (and_parts _ _ (and_parts (is_dir u dir) _ is.fits).1).1) is.followed allowed
+        hit_file (dir, name) x is.named.1 (not-true (is_dir u x) (and_parts _ _ (and_parts (is_dir u dir) _ is.fits).1).1) is.followed
+        allowed
     hit (Slot dir name None) is allowed = hit_missing dir name (and_parts (is_dir u dir) _ is.fits).0 is.named.1 allowed
 
     pub foreseen : (from : ℕ) (text : List ℕ) → let named = resolution_of_text u from (ending_of c) text (last_of c) in
         verdict_of u table h c named ≡ Allowed → IsForeseen t0 table h u c named
     foreseen from text = by (resolution_of_text u from (ending_of c) text (last_of c)) refl
       where
-        by : (named : Result Found Errno) → resolution_of_text u from (ending_of c) text (last_of c) ≡ named → verdict_of u table h c named ≡ Allowed → IsForeseen t0 table h u c named
+        by : (named : Result Found Errno) → resolution_of_text u from (ending_of c) text (last_of c) ≡ named →
+            verdict_of u table h c named ≡ Allowed → IsForeseen t0 table h u c named
         by (Err errno) is e = absurd (failed (may_any h (rule_of table c).alternatives) errno e)
         by (Ok object) is e =
             let named = named_within_text u from (ending_of c) text (last_of c) object is in

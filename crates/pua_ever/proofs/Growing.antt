@@ -1,50 +1,44 @@
 -- What a request makes of the rows and nodes of a tree.
-use Rattle.std.proofs.Common.{◌≡◌, ◌≤◌, ◌⊎◌, ℕ, Bool, true, false, not, cond, refl, sym, ap, subst, ◌∙◌, inl, inr, arith}
-use Rattle.std.specs.Prelude.{Option, Some, None, is_some, is_none, ◌&&◌, ◌||◌, ◌==◌, nat_le, length}
-use Rattle.std.specs.Option.{option_eq}
-use Rattle.std.proofs.lemmas.Bool.{false≢true, and_parts, and_from, or_left, or_right, not-false}
-use Rattle.pua_tree.specs.Tree.{Tree, Node, WellFormed, Spot, is_dir, look, kind_at, is_empty, empty_tree}
+use Rattle.pua_ever.proofs.Common.{◌≡◌, ◌≤◌, ◌⊎◌, ℕ, Bool, true, false, cond, refl, sym, ap, subst, ◌∙◌, inl, inr, arith, Option, Some}
+use Rattle.pua_ever.proofs.Common.{None, is_some, is_none, ◌&&◌, ◌||◌, ◌==◌, nat_le, option_eq, false≢true, and_parts, and_from, or_left}
+use Rattle.pua_ever.proofs.Common.{or_right, Tree, Node, WellFormed, Spot, is_dir, look, kind_at, is_empty, empty_tree, same_Some}
+use Rattle.pua_ever.proofs.Common.{None≢Some, is_link_kind, Followed, resolutions_fit, EAGAIN, Found, Whole, Slot, CallTable, rule_of}
+use Rattle.pua_ever.proofs.Common.{is_kept, History, may_any, working_dir, IsMissing, cover, cover_fault, covered_verdict, or_fault}
+use Rattle.pua_ever.proofs.Common.{object_fault, allowed_unless, if_promised, is_allowed, Call, Asked, most_processes, World, Fails, Copies}
+use Rattle.pua_ever.proofs.Common.{change_effect, history_of, apply, tree_left, Action, OnPath, Symlink, Rename, Link, Pledge, Unveil, Lock}
+use Rattle.pua_ever.proofs.Common.{Fork, Exit, has_c, Change, CopyAs, change_by, IsDecided, by_going, covers_descend, named_within_text}
+use Rattle.pua_ever.proofs.Common.{row_cover, is_yes, can_link, New, NewDir, NewFile, NewLink, maker, EditsNeedC}
+use Rattle.std.proofs.Common.{not}
+use Rattle.std.specs.Prelude.{length}
+use Rattle.std.proofs.lemmas.Bool.{not-false}
 use Rattle.pua_tree.specs.declared.node.Kind.TheVariants as kind
-use Rattle.pua_tree.proofs.ForCallers.{same_Some, None≢Some}
-use Rattle.pua_path.specs.Fits.{IsOf, is_link, is_link_kind, spot_named, node_named}
+use Rattle.pua_path.specs.Fits.{IsOf, is_link, spot_named, node_named}
 use Rattle.pua_path.specs.declared.found.Last.{Last}
-use Rattle.pua_path.specs.declared.found.Last.TheVariants.{Followed, Kept}
-use Rattle.pua_path.proofs.ForCallers.{resolutions_fit}
-use Rattle.pua_path.specs.declared.errno.Errno.TheVariants.{EISDIR, ENOTEMPTY, EAGAIN}
+use Rattle.pua_path.specs.declared.found.Last.TheVariants.{Kept}
+use Rattle.pua_path.specs.declared.errno.Errno.TheVariants.{EISDIR, ENOTEMPTY}
 use Rattle.pua_path.specs.declared.text.Ending.TheVariants.{Dot, Dropped}
-use Rattle.pua_path.specs.declared.found.Found.{Found}
-use Rattle.pua_path.specs.declared.found.Found.TheVariants.{Whole, Slot}
 use Rattle.pua_path.specs.declared.found.Way.TheVariants as way
 use Rattle.pua_calls.specs.Promises.{holds, creating}
-use Rattle.pua_calls.specs.Calls.{CallTable, rule_of}
-use Rattle.pua_calls.specs.CallSets.{is_kept}
-use Rattle.pua_policy.specs.History.{History, may_any, working_dir}
-use Rattle.pua_policy.specs.Verdict.{IsMissing, cover, cover_fault, covered_verdict, or_fault, object_fault, allowed_unless, if_promised, is_allowed}
-use Rattle.pua_calls.specs.declared.call.Call.{Call}
 use Rattle.pua_calls.specs.declared.call.Call.TheVariants as call
 use Rattle.pua_policy.specs.declared.answer.May.TheVariants as may
-use Rattle.pua_script.specs.Requests.{Asked}
 use Rattle.pua_script.specs.Judged.{NameFits}
-use Rattle.pua_script.specs.Limits.{process_limit}
-use Rattle.pua_script.specs.Replay.{World, Fails, Copies, made, history_of, apply}
-use Rattle.pua_script.specs.Worlds.{tree_left}
-use Rattle.pua_script.specs.declared.request.Action.{Action}
-use Rattle.pua_script.specs.declared.request.Action.TheVariants.{OnPath, Symlink, Rename, Link, Pledge, Unveil, Lock, Fork, Exit}
-use Rattle.pua_script.specs.Confinement.{has_c, TakingNeedsC}
-use Rattle.pua_script.specs.Decide.{Change, NoChange, AddNode, CutRow, ShiftRow, TieRow, CopyAs, adding, shifting, change_by, fault_if, is_whole, plain_node, link_node, kinds_fault}
-use Rattle.pua_script.specs.Guards.{IsDecided, IsShift}
-use Rattle.pua_script.proofs.ForCallers.{name_fits, c_from_cover, covered_by_c, has_spot, by_tree, by_own_tree, by_cutting, by_going, by_tying, first_none, second_none, not_faulty}
-use Rattle.pua_objects.proofs.ForCallers.{covers_descend, named_within_text}
-use Rattle.pua_ever.specs.Ever.{row_cover, is_yes, may_link, can_link, New, NewDir, NewFile, NewLink, maker}
-use Rattle.pua_ever.specs.Laws.{EditsNeedC}
-use Rattle.pua_ever.proofs.Grown.{Grown, Written, by_name, by_turn, From, is_moved, is_linked, new_kind, name_cover, grown_all, grown_add, grown_tie, grown_cut, grown_shift}
+use Rattle.pua_script.specs.Confinement.{TakingNeedsC}
+use Rattle.pua_script.specs.Decide.{NoChange, AddNode, CutRow, ShiftRow, TieRow, adding, shifting, fault_if}
+use Rattle.pua_script.specs.Decide.{is_whole, plain_node, link_node, kinds_fault}
+use Rattle.pua_script.specs.Guards.{IsShift}
+use Rattle.pua_script.proofs.ForCallers.{name_fits, c_from_cover, covered_by_c, has_spot, by_tree, by_own_tree, by_cutting}
+use Rattle.pua_script.proofs.ForCallers.{by_tying, first_none, second_none, not_faulty}
+use Rattle.pua_ever.specs.Ever.{may_link}
+use Rattle.pua_ever.proofs.Grown.{Grown, Written, by_name, by_turn, From, is_moved, is_linked, new_kind, name_cover, grown_all, grown_add}
+use Rattle.pua_ever.proofs.Grown.{grown_tie, grown_cut, grown_shift}
 
 pub takes : (table : CallTable) → EditsNeedC table → TakingNeedsC table
 takes table needs = record { rmdir = needs.rmdir; unlink = needs.unlink; rename_old = needs.rename_old; rename_new = needs.rename_new }
 
 module _ (table : CallTable) (needs : EditsNeedC table) (t : Tree) (h : History) (well : WellFormed t) where
   abbrev IsMade : New → Spot → Type 0
-  IsMade new s = (is_allowed (covered_verdict empty_tree table h (maker new) (name_cover table t h s) IsMissing) ≡ true) × (has_c (name_cover table t h s) ≡ true)
+  IsMade new s = (is_allowed (covered_verdict empty_tree table h (maker new) (name_cover table t h s) IsMissing) ≡ true) ×
+      (has_c (name_cover table t h s) ≡ true)
 
   -- what is asked of a change, so that what it leaves has grown so
   abbrev Grows : Change → Type 0
@@ -53,8 +47,10 @@ module _ (table : CallTable) (needs : EditsNeedC table) (t : Tree) (h : History)
   Grows (TieRow s x) = (is_dir t s.0 ≡ true) × Written table t h s x × From table t h x
   Grows _ = Unit {0}
 
-  by_added : (new : New) (node : Node) → node.kind ≡ new_kind new → object_fault empty_tree (maker new) IsMissing ≡ None → holds (rule_of table (maker new)).perms creating ≡ true
-      → (x : Found) → may_any h (rule_of table (maker new)).alternatives ≡ may.Yes → cover_fault (cover t h x) (rule_of table (maker new)).perms ≡ None → Grows (adding node x)
+  by_added : (new : New) (node : Node) → node.kind ≡ new_kind new → object_fault empty_tree (maker new) IsMissing ≡ None →
+      holds (rule_of table (maker new)).perms creating ≡ true
+      → (x : Found) → may_any h (rule_of table (maker new)).alternatives ≡ may.Yes →
+      cover_fault (cover t h x) (rule_of table (maker new)).perms ≡ None → Grows (adding node x)
   by_added new node is fine has (Slot dir name None) granted covered = (
     new,
     is,
@@ -69,7 +65,8 @@ module _ (table : CallTable) (needs : EditsNeedC table) (t : Tree) (h : History)
   by_added new node is fine has (Whole dir way.DotDot) granted covered = tt
   by_added new node is fine has (Whole dir way.Top) granted covered = tt
 
-  by_call : (c : Call) (x : Found) → may_any h (rule_of table c).alternatives ≡ may.Yes → cover_fault (cover t h x) (rule_of table c).perms ≡ None → Grows (change_by table c x)
+  by_call : (c : Call) (x : Found) → may_any h (rule_of table c).alternatives ≡ may.Yes →
+      cover_fault (cover t h x) (rule_of table c).perms ≡ None → Grows (change_by table c x)
   by_call call.Create x granted covered = by_added NewFile (plain_node kind.File) refl refl needs.create x granted covered
   by_call call.Mkdir x granted covered = by_added NewDir (plain_node kind.Dir) refl refl needs.mkdir x granted covered
   by_call call.Rmdir x granted covered = by_cutting Grows tt (spot_named x) (node_named x) (λ s is. tt)
@@ -90,7 +87,8 @@ module _ (table : CallTable) (needs : EditsNeedC table) (t : Tree) (h : History)
       (ap (λ (r : Spot). is_dir t r.0) (sym is) ∙ fits.named.0, ap (λ (r : Spot). look t r.0 r.1) (sym is) ∙ fits.named.1)
 
   -- the row of what is moved or gets a further name is covered with `c`
-  comes : (a : Found) (x : ℕ) → NameFits t a → cover_fault (cover t h a) creating ≡ None → node_named a ≡ Some x → (s : Spot) → spot_named a ≡ Some s → From table t h x
+  comes : (a : Found) (x : ℕ) → NameFits t a → cover_fault (cover t h a) creating ≡ None → node_named a ≡ Some x → (s : Spot) →
+      spot_named a ≡ Some s → From table t h x
   comes a x fits covered is s e =
       let here = (standing a fits s e).1 ∙ is in
       is_moved s here (has_spot t h well table (takes table needs) a fits creating refl covered s e x here)
@@ -100,14 +98,17 @@ module _ (table : CallTable) (needs : EditsNeedC table) (t : Tree) (h : History)
   whole_dir (Slot dir name o) x fits is e = absurd (false≢true e)
 
   -- where it goes
-  goes : (a b : Found) (x : ℕ) → NameFits t a → NameFits t b → has_c (cover t h b) ≡ true → node_named a ≡ Some x → kinds_fault t x a b ≡ None
+  goes : (a b : Found) (x : ℕ) → NameFits t a → NameFits t b → has_c (cover t h b) ≡ true → node_named a ≡ Some x →
+      kinds_fault t x a b ≡ None
       → (s : Spot) → spot_named b ≡ Some s → Written table t h s x
   goes a (Slot dir name o) x fa fb has is kinds s e = subst (λ r. Written table t h r x) (same_Some (dir, name) s e) (by_name has)
   goes a (Whole y (way.Named parent name)) x fa fb has is kinds s e =
       let whole = not-false (is_whole a) (not_faulty (not (is_whole a)) EISDIR (first_none (fault_if (not (is_whole a)) EISDIR) _ kinds)) in
-      let empty = not-false (is_empty t y) (not_faulty (not (is_empty t y)) ENOTEMPTY (second_none _ (fault_if (not (is_empty t y)) ENOTEMPTY) kinds)) in
+      let empty = not-false (is_empty t y)
+      (not_faulty (not (is_empty t y)) ENOTEMPTY (second_none _ (fault_if (not (is_empty t y)) ENOTEMPTY) kinds)) in
       subst (λ r. Written table t h r x) (same_Some (parent, name) s e)
-      (by_turn y fb.named.1 empty (ap has_c (sym ((covers_descend t h well).directory y (way.Named parent name) fb.fits)) ∙ has) (whole_dir a x fa is whole))
+      (by_turn y fb.named.1 empty (ap has_c (sym ((covers_descend t h well).directory y (way.Named parent name) fb.fits)) ∙
+      has) (whole_dir a x fa is whole))
   goes a (Whole y way.Dot) x fa fb has is kinds s e = cc
   goes a (Whole y way.DotDot) x fa fb has is kinds s e = cc
   goes a (Whole y way.Top) x fa fb has is kinds s e = cc
@@ -115,19 +116,23 @@ module _ (table : CallTable) (needs : EditsNeedC table) (t : Tree) (h : History)
   named_c : (a : Found) → cover_fault (cover t h a) creating ≡ None → has_c (cover t h a) ≡ true
   named_c a covered = c_from_cover (cover t h a) creating refl covered
 
-  by_shifted : (a b : Found) (x : ℕ) → NameFits t a → NameFits t b → cover_fault (cover t h a) creating ≡ None → cover_fault (cover t h b) creating ≡ None → node_named a ≡ Some x → kinds_fault t x a b ≡ None
+  by_shifted : (a b : Found) (x : ℕ) → NameFits t a → NameFits t b → cover_fault (cover t h a) creating ≡ None →
+      cover_fault (cover t h b) creating ≡ None → node_named a ≡ Some x → kinds_fault t x a b ≡ None
       → (oa ob : Option Spot) → spot_named a ≡ oa → spot_named b ≡ ob → Grows (shifting oa ob)
   by_shifted a b x fa fb ca cb is kinds (Some sa) (Some sb) ea eb =
       (x, (standing a fa sa ea).1 ∙ is, (standing b fb sb eb).0, goes a b x fa fb (named_c b cb) is kinds sb eb, comes a x fa ca is sa ea)
   by_shifted a b x fa fb ca cb is kinds (Some sa) None ea eb = tt
   by_shifted a b x fa fb ca cb is kinds None ob ea eb = tt
 
-  by_moved : (a b : Found) (x : ℕ) (c : Change) → NameFits t a → NameFits t b → cover_fault (cover t h a) creating ≡ None → cover_fault (cover t h b) creating ≡ None → node_named a ≡ Some x
+  by_moved : (a b : Found) (x : ℕ) (c : Change) → NameFits t a → NameFits t b → cover_fault (cover t h a) creating ≡ None →
+      cover_fault (cover t h b) creating ≡ None → node_named a ≡ Some x
       → (c ≡ NoChange) ⊎ IsShift t a b x c → Grows c
   by_moved a b x c fa fb ca cb is (inl same) = subst Grows (sym same) tt
-  by_moved a b x c fa fb ca cb is (inr shifts) = subst Grows (sym shifts.is) (by_shifted a b x fa fb ca cb is shifts.kinds (spot_named a) (spot_named b) refl refl)
+  by_moved a b x c fa fb ca cb is (inr shifts) =
+      subst Grows (sym shifts.is) (by_shifted a b x fa fb ca cb is shifts.kinds (spot_named a) (spot_named b) refl refl)
 
-  free_name : (b : Found) → is_some (node_named b) ≡ false → (s : Spot) → spot_named b ≡ Some s → has_c (cover t h b) ≡ true → has_c (name_cover table t h s) ≡ true
+  free_name : (b : Found) → is_some (node_named b) ≡ false → (s : Spot) → spot_named b ≡ Some s → has_c (cover t h b) ≡ true →
+      has_c (name_cover table t h s) ≡ true
   free_name (Slot dir name o) free s e has = ap (λ (r : Spot). has_c (name_cover table t h r)) (sym (same_Some (dir, name) s e)) ∙ has
   free_name (Whole y w) free s e has = cc
 
@@ -136,16 +141,20 @@ module _ (table : CallTable) (needs : EditsNeedC table) (t : Tree) (h : History)
   is_other false e = refl
 
   -- what gets a further name by link
-  came : (a : Found) (x : ℕ) → IsOf t table.link.old.last a → may_link table h ≡ true → cover_fault (cover t h a) table.link.old.needs.perms ≡ None → node_named a ≡ Some x → is_whole a ≡ false → From table t h x
-  came (Slot dir name (Some y)) x of held covered is other = subst (From table t h) (same_Some y x is) (is_linked (dir, name) of.named.1 plain gives)
+  came : (a : Found) (x : ℕ) → IsOf t table.link.old.last a → may_link table h ≡ true →
+      cover_fault (cover t h a) table.link.old.needs.perms ≡ None → node_named a ≡ Some x → is_whole a ≡ false → From table t h x
+  came (Slot dir name (Some y)) x of held covered is other =
+      subst (From table t h) (same_Some y x is) (is_linked (dir, name) of.named.1 plain gives)
     where
       plain : is_dir t y ≡ false
-      plain = is_other (is_dir t y) (and_parts (option_eq ◌==◌ (look t dir name) (Some y)) (not (is_dir t y)) (and_parts (is_dir t dir) (option_eq ◌==◌ (look t dir name) (Some y) && not (is_dir t y)) of.fits).1).1
+      plain = is_other (is_dir t y) (and_parts (option_eq ◌==◌ (look t dir name) (Some y)) (not (is_dir t y))
+          (and_parts (is_dir t dir) (option_eq ◌==◌ (look t dir name) (Some y) && not (is_dir t y)) of.fits).1).1
 
       under : row_cover t h (dir, name) y ≡ cover t h (Slot dir name (Some y))
       under = ap (λ b. cover t h (cond b (Whole y (way.Named dir name)) (Slot dir name (Some y)))) plain
 
-      kept : (mode : Last) → (mode ≡ Followed → is_link t (Slot dir name (Some y)) ≡ false) → (not (is_link_kind (kind_at t y)) || is_kept mode) ≡ true
+      kept : (mode : Last) → (mode ≡ Followed → is_link t (Slot dir name (Some y)) ≡ false) →
+          (not (is_link_kind (kind_at t y)) || is_kept mode) ≡ true
       kept Kept followed = or_right (not (is_link_kind (kind_at t y))) true refl
       kept Followed followed = or_left (not (is_link_kind (kind_at t y))) false (ap not (followed refl))
 
@@ -160,14 +169,18 @@ module _ (table : CallTable) (needs : EditsNeedC table) (t : Tree) (h : History)
 
   grows_by : (action : Action) (c : Change) → IsDecided table t h action c → Grows c
   grows_by (OnPath asked path) c d = subst Grows (sym d.2) (by_call asked d.0 d.1.promised d.1.covered)
-  grows_by (Symlink target path) c d = subst Grows (sym d.3) (by_added NewLink (link_node target) refl refl needs.symlink d.0 d.1.promised d.1.covered)
+  grows_by (Symlink target path) c d =
+      subst Grows (sym d.3) (by_added NewLink (link_node target) refl refl needs.symlink d.0 d.1.promised d.1.covered)
   grows_by (Rename old new) c d =
       by_moved d.old d.new d.node c (name_fits t well (working_dir h) Dropped old table.rename.old.last d.old d.two.found_old)
       (name_fits t well (working_dir h) Dropped new table.rename.new.last d.new d.two.found_new)
-      (covered_by_c (cover t h d.old) _ needs.rename_old d.two.covered_old) (covered_by_c (cover t h d.new) _ needs.rename_new d.two.covered_new) d.two.named d.moves
+      (covered_by_c (cover t h d.old) _ needs.rename_old d.two.covered_old) (covered_by_c (cover t h d.new) _ needs.rename_new
+      d.two.covered_new) d.two.named d.moves
   grows_by (Link old new) c d =
-      let of_old = (resolutions_fit t well).whole (working_dir h) Dot old table.link.old.last d.old (named_within_text t (working_dir h) Dot old table.link.old.last d.old d.two.found_old) in
-      let held : may_link table h ≡ true = and_from (is_yes (may_any h table.link.old.needs.alternatives)) _ (ap is_yes d.two.promised_old) (ap is_yes d.two.promised_new) in
+      let of_old = (resolutions_fit t well).whole (working_dir h) Dot old table.link.old.last d.old
+      (named_within_text t (working_dir h) Dot old table.link.old.last d.old d.two.found_old) in
+      let held : may_link table h ≡ true =
+      and_from (is_yes (may_any h table.link.old.needs.alternatives)) _ (ap is_yes d.two.promised_old) (ap is_yes d.two.promised_new) in
       let fits_new = name_fits t well (working_dir h) Dot new table.link.new.last d.new d.two.found_new in
       subst Grows (sym d.is)
       (by_tying Grows tt d.node (spot_named d.new)
@@ -182,12 +195,13 @@ module _ (table : CallTable) (needs : EditsNeedC table) (t : Tree) (h : History)
   grows_by (Fork new) c d = subst Grows (sym d.1) tt
   grows_by Exit c d = subst Grows (sym d) tt
 
-grown_made : (table : CallTable) (needs : EditsNeedC table) (w : World) (h : History) (well : WellFormed w.tree) (c : Change) → Grows table needs w.tree h well c → Grown table w.tree h (tree_left w.tree (made w h c))
+grown_made : (table : CallTable) (needs : EditsNeedC table) (w : World) (h : History) (well : WellFormed w.tree) (c : Change) →
+    Grows table needs w.tree h well c → Grown table w.tree h (tree_left w.tree (change_effect w h c))
 grown_made table needs w h well (AddNode s node) grows = grown_add table w.tree h grows.0 s.0 s.1 node grows.1 grows.2.0 grows.2.1
 grown_made table needs w h well (CutRow s) grows = grown_cut table w.tree h s.0 s.1
 grown_made table needs w h well (ShiftRow s r) grows = grown_shift table w.tree h s.0 r.0 s.1 r.1 grows.0 grows.1 grows.2 grows.3 grows.4
 grown_made table needs w h well (TieRow s x) grows = grown_tie table w.tree h s.0 s.1 x grows.0 grows.1 grows.2
-grown_made table needs w h well (CopyAs new) grows = by (is_some (history_of w new) || nat_le process_limit (length w.histories))
+grown_made table needs w h well (CopyAs new) grows = by (is_some (history_of w new) || nat_le most_processes (length w.histories))
   where
     by : (full : Bool) → Grown table w.tree h (tree_left w.tree (cond full (Fails EAGAIN) (Copies new)))
     by true = grown_all table w.tree h
@@ -202,7 +216,8 @@ requests_grow table needs w ask h well here =
     (λ c guards. grown_made table needs w h well c (grows_by table needs w.tree h well ask.action c guards))
 
 -- and no number is taken back
-pub numbers_grow : (table : CallTable) → EditsNeedC table → (w : World) (ask : Asked) → WellFormed w.tree → w.tree.next ≤ (apply table w ask).1.tree.next
+pub numbers_grow : (table : CallTable) → EditsNeedC table → (w : World) (ask : Asked) → WellFormed w.tree →
+    w.tree.next ≤ (apply table w ask).1.tree.next
 numbers_grow table needs w ask well =
     by_tree table w ask (λ u. w.tree.next ≤ u.next) (omega arith)
     (λ h here c guards. (grown_made table needs w h well c (grows_by table needs w.tree h well ask.action c guards)).next)

@@ -1,26 +1,19 @@
 -- What one request makes of the rows and nodes of a tree, by the covers that the tree had.
-use Rattle.std.proofs.Common.{◌≡◌, ◌≢◌, ◌⊎◌, ◌≤◌, ℕ, List, Bool, true, false, not, ◌&&◌, cond, refl, sym, ap, subst, ◌∙◌, inl, inr, arith}
-use Rattle.std.specs.Prelude.{Option, Some, None, Ok, Err, is_some, ◌==◌, option_map}
-use Rattle.std.specs.Ordering.{nat_cmp}
-use Rattle.std.specs.Cmp.{nat_cmp_total}
-use Rattle.std.specs.FinMap.{nat_cmp-IsAntisymmetric}
-use Rattle.std.proofs.lemmas.Bool.{false≢true}
-use Rattle.pua_tree.specs.Tree.{Tree, Node, Spot, spot_cmp, is_dir, is_living, look, node_at, kind_at, rows_of, is_empty, empty_tree}
-use Rattle.pua_tree.specs.Edits.{with_row, without_row, without_node, without_unnamed, with_new, add, tie, cut, cut_found, shift, shift_found, moved, is_full_dir, is_full_dir_there, is_inside, is_same_node, has_room, has_name_room}
-use Rattle.pua_tree.specs.declared.node.Kind.{Kind}
+use Rattle.pua_ever.proofs.Common.{◌≡◌, ◌≢◌, ◌⊎◌, ◌≤◌, ℕ, List, Bool, true, false, cond, refl, sym, ap, subst, ◌∙◌, inl, inr, arith, Option}
+use Rattle.pua_ever.proofs.Common.{Some, None, Ok, Err, is_some, ◌==◌, option_map, nat_cmp, nat_cmp_total, nat_cmp-IsAntisymmetric}
+use Rattle.pua_ever.proofs.Common.{false≢true, Tree, Node, Spot, spot_cmp, is_dir, is_living, look, node_at, kind_at, is_empty, empty_tree}
+use Rattle.pua_ever.proofs.Common.{Kind, spots_total, exact_spots, Some≢None, same_Some, Slot, CallTable, History, IsMissing, cover}
+use Rattle.pua_ever.proofs.Common.{covered_verdict, is_allowed, Cover, tree_left, has_c, cover_in, row_cover, can_link, New, NewDir}
+use Rattle.pua_ever.proofs.Common.{NewOthers, NewFile, NewLink, maker}
+use Rattle.std.proofs.Common.{not, ◌&&◌}
+use Rattle.pua_tree.specs.Tree.{rows_of}
+use Rattle.pua_tree.specs.Edits.{with_row, without_row, without_node, without_unnamed, with_new, add, tie, cut, cut_found, shift}
+use Rattle.pua_tree.specs.Edits.{shift_found, with_row_moved, is_full_dir, is_full_dir_there, is_inside, is_same_node, has_room}
+use Rattle.pua_tree.specs.Edits.{has_name_room}
 use Rattle.pua_tree.specs.declared.node.Kind.TheVariants as kind
 use Rattle.pua_tree.specs.declared.fault.TreeFault.TheVariants.{Missing, Taken, NotDir, NotEmpty, Inside, Full, IsDir}
-use Rattle.pua_tree.proofs.ForCallers.{spots_total, exact_spots, same_or_other, put_here, put_elsewhere, without_here, without_elsewhere, Some≢None, same_Some}
-use Rattle.pua_path.specs.declared.found.Found.TheVariants.{Slot}
-use Rattle.pua_calls.specs.Calls.{CallTable}
-use Rattle.pua_policy.specs.History.{History}
-use Rattle.pua_policy.specs.Verdict.{IsMissing, cover, covered_verdict, is_allowed}
-use Rattle.pua_policy.specs.declared.answer.Cover.{Cover}
-use Rattle.pua_script.specs.Replay.{edited, edited_tree}
-use Rattle.pua_script.specs.Worlds.{tree_left}
-use Rattle.pua_script.specs.Confinement.{has_c}
-use Rattle.pua_objects.specs.Objects.{cover_in}
-use Rattle.pua_ever.specs.Ever.{row_cover, can_link, New, NewDir, NewOthers, NewFile, NewLink, maker}
+use Rattle.pua_tree.proofs.ForCallers.{same_or_other, put_here, put_elsewhere, without_here, without_elsewhere}
+use Rattle.pua_script.specs.Replay.{edit_effect, edited_tree}
 
 -- what is made, as a node
 abbrev pub new_kind : New → Kind
@@ -51,7 +44,8 @@ module _ (table : CallTable) (t : Tree) (h : History) where
   pub data From (x : ℕ) : Type 0 where
     is_new : x ≡ t.next → From x
     is_moved : (r : Spot) → look t r.0 r.1 ≡ Some x → has_c (row_cover t h r x) ≡ true → From x
-    is_linked : (r : Spot) → look t r.0 r.1 ≡ Some x → is_dir t x ≡ false → can_link table h (kind_at t x) (row_cover t h r x) ≡ true → From x
+    is_linked : (r : Spot) → look t r.0 r.1 ≡ Some x → is_dir t x ≡ false → can_link table h (kind_at t x) (row_cover t h r x) ≡ true →
+        From x
 
   pub record Put (s : Spot) (x : ℕ) : Type 0 where
     pub lives : is_dir t s.0 ≡ true
@@ -74,7 +68,10 @@ module _ (table : CallTable) (t : Tree) (h : History) where
   grown_all = record { rows = λ s x e. inl e; nodes = λ x l. inl refl; next = omega arith }
 
   same_look : (v : Tree) (s : Spot) (y : ℕ) → look (without_unnamed v y) s.0 s.1 ≡ look v s.0 s.1
-  same_look v s y = elim (rows_of v y == 0) as (λ b. look (cond b (without_node v y) v) s.0 s.1 ≡ look v s.0 s.1) [ true ↦ refl | false ↦ refl ]
+  same_look v s y = elim (rows_of v y == 0) as (λ b. look (cond b (without_node v y) v) s.0 s.1 ≡ look v s.0 s.1) [
+    | true ↦ refl
+    | false ↦ refl
+  ]
 
   -- a node that lives still is as it was
   lives_same : (v : Tree) (x y : ℕ) → is_living (without_unnamed v y) x ≡ true → node_at (without_unnamed v y) x ≡ node_at v x
@@ -83,7 +80,8 @@ module _ (table : CallTable) (t : Tree) (h : History) where
       by : (b : Bool) → is_living (cond b (without_node v y) v) x ≡ true → node_at (cond b (without_node v y) v) x ≡ node_at v x
       by false lives = refl
       by true lives = elim (same_or_other nat_cmp nat_cmp_total nat_cmp-IsAntisymmetric x y) [
-        | inl same ↦ absurd (false≢true (sym (ap is_some (ap (node_at (without_node v y)) same.0 ∙ without_here nat_cmp nat_cmp_total nat_cmp-IsAntisymmetric y v.nodes)) ∙ lives))
+        | inl same ↦ absurd (false≢true (sym (ap is_some (ap (node_at (without_node v y)) same.0 ∙
+            without_here nat_cmp nat_cmp_total nat_cmp-IsAntisymmetric y v.nodes)) ∙ lives))
         | inr other ↦ without_elsewhere nat_cmp nat_cmp_total nat_cmp-IsAntisymmetric x y v.nodes other.0
       ]
 
@@ -94,8 +92,9 @@ module _ (table : CallTable) (t : Tree) (h : History) where
   at_or_not s spot = elim (same_or_other spot_cmp spots_total exact_spots s spot) [ inl same ↦ inl same.0 | inr other ↦ inr other.0 ]
 
   pub grown_add : (made : New) (dir : ℕ) (name : List ℕ) (node : Node) → node.kind ≡ new_kind made
-      → is_allowed (covered_verdict empty_tree table h (maker made) (name_cover (dir, name)) IsMissing) ≡ true → has_c (name_cover (dir, name)) ≡ true
-      → Grown (tree_left t (edited h (add t dir name node)))
+      → is_allowed (covered_verdict empty_tree table h (maker made) (name_cover (dir, name)) IsMissing) ≡ true →
+      has_c (name_cover (dir, name)) ≡ true
+      → Grown (tree_left t (edit_effect h (add t dir name node)))
   grown_add made dir name node is allowed has = by (is_dir t dir) (look t dir name) (has_room t) refl refl
     where
       grown : is_dir t dir ≡ true → look t dir name ≡ None → Grown (with_new t dir name node)
@@ -104,7 +103,8 @@ module _ (table : CallTable) (t : Tree) (h : History) where
           | inl same ↦ inr (record {
             lives = ap (λ (r : Spot). is_dir t r.0) same ∙ lives;
             written = by_name (ap (λ (r : Spot). has_c (name_cover r)) same ∙ has);
-            from = is_new (same_Some x t.next (sym e ∙ ap (λ (r : Spot). look (with_new t dir name node) r.0 r.1) same ∙ put_here spot_cmp spots_total exact_spots (dir, name) t.next t.rows));
+            from = is_new (same_Some x t.next (sym e ∙ ap (λ (r : Spot). look (with_new t dir name node) r.0 r.1) same ∙
+                put_here spot_cmp spots_total exact_spots (dir, name) t.next t.rows));
           })
           | inr other ↦ inl (sym (put_elsewhere spot_cmp spots_total exact_spots s (dir, name) t.next t.rows other) ∙ e)
         ];
@@ -112,7 +112,8 @@ module _ (table : CallTable) (t : Tree) (h : History) where
           | inl same ↦ inr (record {
             new = same.0;
             made = made;
-            kinds = ap (kind_at (with_new t dir name node)) same.0 ∙ ap (option_map (λ n. n.kind)) (put_here nat_cmp nat_cmp_total nat_cmp-IsAntisymmetric t.next node t.nodes) ∙ ap Some is;
+            kinds = ap (kind_at (with_new t dir name node)) same.0 ∙
+                ap (option_map (λ n. n.kind)) (put_here nat_cmp nat_cmp_total nat_cmp-IsAntisymmetric t.next node t.nodes) ∙ ap Some is;
             makes = record { spot = (dir, name); lives = lives; free = free; allowed = allowed; covered = has };
           })
           | inr other ↦ inl (put_elsewhere nat_cmp nat_cmp_total nat_cmp-IsAntisymmetric x t.next node t.nodes other.0)
@@ -121,20 +122,24 @@ module _ (table : CallTable) (t : Tree) (h : History) where
       }
 
       by : (a : Bool) (o : Option ℕ) (room : Bool) → is_dir t dir ≡ a → look t dir name ≡ o →
-          Grown (tree_left t (edited h (cond (not a) (Err NotDir) (cond (is_some o) (Err Taken) (cond room (Ok (t.next, with_new t dir name node)) (Err Full))))))
+          Grown (tree_left t (edit_effect h
+          (cond (not a) (Err NotDir) (cond (is_some o) (Err Taken) (cond room (Ok (t.next, with_new t dir name node)) (Err Full))))))
       by false o room l e = grown_all
       by true (Some y) room l e = grown_all
       by true None false l e = grown_all
       by true None true l e = grown l e
 
-  pub grown_tie : (dir : ℕ) (name : List ℕ) (x : ℕ) → is_dir t dir ≡ true → Written (dir, name) x → From x → Grown (tree_left t (edited_tree h (tie t dir name x)))
+  pub grown_tie : (dir : ℕ) (name : List ℕ) (x : ℕ) → is_dir t dir ≡ true → Written (dir, name) x → From x →
+      Grown (tree_left t (edited_tree h (tie t dir name x)))
   grown_tie dir name y lives written from = by (is_dir t dir) (is_living t y) (is_dir t y) (look t dir name) (has_name_room t)
     where
       grown : Grown (with_row t dir name y)
       grown = record {
         rows = λ s x e. elim (at_or_not s (dir, name)) [
-          | inl same ↦ (let is : y ≡ x = same_Some y x (sym (put_here spot_cmp spots_total exact_spots (dir, name) y t.rows) ∙ ap (λ (r : Spot). look (with_row t dir name y) r.0 r.1) (sym same) ∙ e) in
-              inr (subst (λ (r : Spot). Put r x) (sym same) (subst (Put (dir, name)) is (record { lives = lives; written = written; from = from }))))
+          | inl same ↦ (let is : y ≡ x = same_Some y x (sym (put_here spot_cmp spots_total exact_spots (dir, name) y t.rows) ∙
+              ap (λ (r : Spot). look (with_row t dir name y) r.0 r.1) (sym same) ∙ e) in
+              inr (subst (λ (r : Spot). Put r x) (sym same)
+              (subst (Put (dir, name)) is (record { lives = lives; written = written; from = from }))))
           | inr other ↦ inl (sym (put_elsewhere spot_cmp spots_total exact_spots s (dir, name) y t.rows other) ∙ e)
         ];
         nodes = λ x l. inl refl;
@@ -142,7 +147,10 @@ module _ (table : CallTable) (t : Tree) (h : History) where
       }
 
       by : (a b c : Bool) (o : Option ℕ) (room : Bool) →
-          Grown (tree_left t (edited_tree h (cond (not a) (Err NotDir) (cond (not b) (Err Missing) (cond c (Err IsDir) (cond (is_some o) (Err Taken) (cond room (Ok (with_row t dir name y)) (Err Full))))))))
+          Grown (tree_left t (edited_tree h
+          (cond (not a) (Err NotDir)
+          (cond (not b) (Err Missing)
+          (cond c (Err IsDir) (cond (is_some o) (Err Taken) (cond room (Ok (with_row t dir name y)) (Err Full))))))))
       by false b c o room = grown_all
       by true false c o room = grown_all
       by true true true o room = grown_all
@@ -153,11 +161,12 @@ module _ (table : CallTable) (t : Tree) (h : History) where
   -- a row that is there without another was there with it
   was_there : (spot s : Spot) (x : ℕ) → look (without_row t spot.0 spot.1) s.0 s.1 ≡ Some x → look t s.0 s.1 ≡ Some x
   was_there spot s x e = elim (at_or_not s spot) [
-    | inl same ↦ absurd (Some≢None x (sym e ∙ ap (λ (r : Spot). look (without_row t spot.0 spot.1) r.0 r.1) same ∙ without_here spot_cmp spots_total exact_spots spot t.rows))
+    | inl same ↦ absurd (Some≢None x (sym e ∙ ap (λ (r : Spot). look (without_row t spot.0 spot.1) r.0 r.1) same ∙
+        without_here spot_cmp spots_total exact_spots spot t.rows))
     | inr other ↦ sym (without_elsewhere spot_cmp spots_total exact_spots s spot t.rows other) ∙ e
   ]
 
-  pub grown_cut : (dir : ℕ) (name : List ℕ) → Grown (tree_left t (edited h (cut t dir name)))
+  pub grown_cut : (dir : ℕ) (name : List ℕ) → Grown (tree_left t (edit_effect h (cut t dir name)))
   grown_cut dir name = by (is_dir t dir) (look t dir name)
     where
       gone : (y : ℕ) → Grown (without_unnamed (without_row t dir name) y)
@@ -167,16 +176,18 @@ module _ (table : CallTable) (t : Tree) (h : History) where
         next = let same = same_next (without_row t dir name) y in omega arith;
       }
 
-      found : (y : ℕ) (full : Bool) → Grown (tree_left t (edited h (cond full (Err NotEmpty) (Ok (y, without_unnamed (without_row t dir name) y)))))
+      found : (y : ℕ) (full : Bool) →
+          Grown (tree_left t (edit_effect h (cond full (Err NotEmpty) (Ok (y, without_unnamed (without_row t dir name) y)))))
       found y true = grown_all
       found y false = gone y
 
-      by : (a : Bool) (o : Option ℕ) → Grown (tree_left t (edited h (cond (not a) (Err NotDir) (cut_found t dir name o))))
+      by : (a : Bool) (o : Option ℕ) → Grown (tree_left t (edit_effect h (cond (not a) (Err NotDir) (cut_found t dir name o))))
       by false o = grown_all
       by true None = grown_all
       by true (Some y) = found y (is_full_dir t y)
 
-  pub grown_shift : (from to : ℕ) (name new_name : List ℕ) (x : ℕ) → look t from name ≡ Some x → is_dir t to ≡ true → Written (to, new_name) x → From x
+  pub grown_shift : (from to : ℕ) (name new_name : List ℕ) (x : ℕ) → look t from name ≡ Some x → is_dir t to ≡ true →
+      Written (to, new_name) x → From x
       → Grown (tree_left t (edited_tree h (shift t from name to new_name)))
   grown_shift from to name new_name x here lives written comes = by (is_dir t from && is_dir t to) (look t from name) here
     where
@@ -185,12 +196,18 @@ module _ (table : CallTable) (t : Tree) (h : History) where
 
       rows_turned : (s : Spot) (z : ℕ) → look turned s.0 s.1 ≡ Some z → (look t s.0 s.1 ≡ Some z) ⊎ Put s z
       rows_turned s z e = elim (at_or_not s (to, new_name)) [
-        | inl same ↦ (let is : x ≡ z = same_Some x z (sym (put_here spot_cmp spots_total exact_spots (to, new_name) x (without_row t from name).rows) ∙ ap (λ (r : Spot). look turned r.0 r.1) (sym same) ∙ e) in
-            inr (subst (λ (r : Spot). Put r z) (sym same) (subst (Put (to, new_name)) is (record { lives = lives; written = written; from = comes }))))
-        | inr other ↦ inl (was_there (from, name) s z (sym (put_elsewhere spot_cmp spots_total exact_spots s (to, new_name) x (without_row t from name).rows other) ∙ e))
+        | inl same ↦ (let is : x ≡ z =
+            same_Some x z (sym (put_here spot_cmp spots_total exact_spots (to, new_name) x (without_row t from name).rows) ∙
+            ap (λ (r : Spot). look turned r.0 r.1) (sym same) ∙ e) in
+            inr (subst (λ (r : Spot). Put r z) (sym same)
+            (subst (Put (to, new_name)) is (record { lives = lives; written = written; from = comes }))))
+        | inr other ↦ inl (was_there (
+          from,
+          name,
+        ) s z (sym (put_elsewhere spot_cmp spots_total exact_spots s (to, new_name) x (without_row t from name).rows other) ∙ e))
       ]
 
-      shifts : (there : Option ℕ) → Grown (moved t from name to new_name x there)
+      shifts : (there : Option ℕ) → Grown (with_row_moved t from name to new_name x there)
       shifts None = record { rows = rows_turned; nodes = λ z l. inl refl; next = omega arith }
       shifts (Some y) = record {
         rows = λ s z e. rows_turned s z (sym (same_look turned s y) ∙ e);
@@ -198,14 +215,19 @@ module _ (table : CallTable) (t : Tree) (h : History) where
         next = let same = same_next turned y in omega arith;
       }
 
-      found : (a b c : Bool) (there : Option ℕ) → Grown (tree_left t (edited_tree h (cond a (Ok t) (cond b (Err Inside) (cond c (Err NotEmpty) (Ok (moved t from name to new_name x there)))))))
+      found : (a b c : Bool) (there : Option ℕ) →
+          Grown (tree_left t (edited_tree h
+          (cond a (Ok t) (cond b (Err Inside) (cond c (Err NotEmpty) (Ok (with_row_moved t from name to new_name x there)))))))
       found true b c there = grown_all
       found false true c there = grown_all
       found false false true there = grown_all
       found false false false there = shifts there
 
-      by : (a : Bool) (o : Option ℕ) → o ≡ Some x → Grown (tree_left t (edited_tree h (cond (not a) (Err NotDir) (shift_found t from name to new_name o (look t to new_name)))))
+      by : (a : Bool) (o : Option ℕ) → o ≡ Some x →
+          Grown (tree_left t (edited_tree h (cond (not a) (Err NotDir) (shift_found t from name to new_name o (look t to new_name)))))
       by false o e = grown_all
       by true None e = grown_all
-      by true (Some z) e = subst (λ y. Grown (tree_left t (edited_tree h (shift_found t from name to new_name (Some y) (look t to new_name))))) (sym (same_Some z x e))
+      by true (Some z) e = subst
+          (λ y. Grown (tree_left t (edited_tree h (shift_found t from name to new_name (Some y) (look t to new_name)))))
+          (sym (same_Some z x e))
           (found (is_same_node x (look t to new_name)) (is_inside t x to) (is_full_dir_there t (look t to new_name)) (look t to new_name))

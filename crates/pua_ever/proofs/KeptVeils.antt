@@ -1,11 +1,8 @@
 -- Each veil in the list of a history is what is kept at its place.
-use Rattle.std.proofs.Common.{◌≡◌, ℕ, List, [], ◌∷◌, Bool, true, false, cond, refl, sym, ap, ◌∙◌, inl, inr}
-use Rattle.std.specs.Prelude.{Some, None}
-use Rattle.pua_tree.proofs.ForCallers.{Some≢None}
-use Rattle.pua_policy.specs.History.{History, Pledged, Unveiled, Locked, Moved, Ended, kept, veils, veil_at, with_veil, same_place}
-use Rattle.pua_policy.specs.declared.place.Place.{Place}
-use Rattle.pua_policy.proofs.ForCallers.{veils_are_kept, same_place_is, same_place_refl, still_unveiled, same_place_turned}
-use Rattle.pua_objects.proofs.ForCallers.{Among}
+use Rattle.pua_ever.proofs.Common.{◌≡◌, ℕ, List, [], ◌∷◌, Bool, true, false, cond, refl, sym, ap, ◌∙◌, inl, inr, Some, None, Some≢None}
+use Rattle.pua_ever.proofs.Common.{History, perms_kept, veils, same_place, Place, same_place_is, Among}
+use Rattle.pua_policy.specs.History.{Pledged, Unveiled, Locked, Moved, Ended, veil_at, with_veil}
+use Rattle.pua_policy.proofs.ForCallers.{veils_are_kept, same_place_refl, still_unveiled, same_place_turned}
 
 -- no place stands twice
 abbrev Once : List (Place × ℕ) → Type 0
@@ -30,12 +27,13 @@ veils_once (Ended ∷ h) = veils_once h
 
 found_once : (vs : List (Place × ℕ)) (at : Place) (perms : ℕ) → Once vs → Among vs (at, perms) → veil_at vs at ≡ Some perms
 found_once [] at perms once a = absurd a
-found_once (v ∷ vs) at perms once (inl e) = ap (λ (w : Place × ℕ). cond (same_place at w.0) (Some w.1) (veil_at vs at)) e ∙ ap (λ b. cond b (Some perms) (veil_at vs at)) (same_place_refl at)
+found_once (v ∷ vs) at perms once (inl e) = ap (λ (w : Place × ℕ). cond (same_place at w.0) (Some w.1) (veil_at vs at)) e ∙
+    ap (λ b. cond b (Some perms) (veil_at vs at)) (same_place_refl at)
 found_once (v ∷ vs) at perms once (inr a) = by (same_place at v.0) refl (found_once vs at perms once.1 a)
   where
     by : (s : Bool) → same_place at v.0 ≡ s → veil_at vs at ≡ Some perms → veil_at (v ∷ vs) at ≡ Some perms
     by true is rest = absurd (Some≢None perms (sym rest ∙ ap (veil_at vs) (same_place_is at v.0 is) ∙ once.0))
     by false is rest = ap (λ b. cond b (Some v.1) (veil_at vs at)) is ∙ rest
 
-pub among_kept_at : (h : History) (at : Place) (perms : ℕ) → Among (veils h) (at, perms) → kept h at ≡ Some perms
+pub among_kept_at : (h : History) (at : Place) (perms : ℕ) → Among (veils h) (at, perms) → perms_kept h at ≡ Some perms
 among_kept_at h at perms a = sym (veils_are_kept h at) ∙ found_once (veils h) at perms (veils_once h) a

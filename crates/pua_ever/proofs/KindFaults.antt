@@ -1,18 +1,12 @@
 -- The last check of a call asks for a kind, whatever the tree; rmdir alone asks more of a directory.
-use Rattle.std.proofs.Common.{◌≡◌, ℕ, Bool, true, false, cond, refl}
-use Rattle.std.specs.Prelude.{Option, Some, None}
-use Rattle.std.proofs.lemmas.Bool.{false≢true}
-use Rattle.pua_tree.specs.Tree.{Tree, empty_tree}
-use Rattle.pua_tree.specs.declared.node.Kind.{Kind}
+use Rattle.pua_ever.proofs.Common.{◌≡◌, ℕ, Bool, true, false, cond, refl, Option, Some, None, false≢true, Tree, empty_tree, Kind, Way}
+use Rattle.pua_ever.proofs.Common.{Object, IsDir, object_of_kind, object_fault, Call, removable_dir, lasting_dir}
 use Rattle.pua_tree.specs.declared.node.Kind.TheVariants as kind
-use Rattle.pua_path.specs.declared.found.Way.{Way}
-use Rattle.pua_policy.specs.Verdict.{Object, IsDir, object_of_kind, object_fault}
-use Rattle.pua_calls.specs.declared.call.Call.{Call}
 use Rattle.pua_calls.specs.declared.call.Call.TheVariants as call
-use Rattle.pua_ever.specs.Ever.{removable_dir, lasting_dir}
 
 -- of something but a directory
-pub plain_alike : (u : Tree) (c : Call) (k : Option Kind) → object_fault u c (object_of_kind k) ≡ object_fault empty_tree c (object_of_kind k)
+pub plain_alike : (u : Tree) (c : Call) (k : Option Kind) →
+    object_fault u c (object_of_kind k) ≡ object_fault empty_tree c (object_of_kind k)
 plain_alike u call.Stat None = refl
 plain_alike u call.Stat (Some kind.File) = refl
 plain_alike u call.Stat (Some kind.Prog) = refl
@@ -88,7 +82,8 @@ plain_alike u call.Exec (Some kind.Dir) = refl
 abbrev pub dir_as : Bool → Object
 dir_as b = cond b removable_dir lasting_dir
 
-pub dir_alike : (u : Tree) (c : Call) (d : ℕ) (w : Way) (b : Bool) → (c ≡ call.Rmdir → b ≡ true) → object_fault u c (IsDir d w) ≡ None → object_fault empty_tree c (dir_as b) ≡ None
+pub dir_alike : (u : Tree) (c : Call) (d : ℕ) (w : Way) (b : Bool) → (c ≡ call.Rmdir → b ≡ true) → object_fault u c (IsDir d w) ≡ None →
+    object_fault empty_tree c (dir_as b) ≡ None
 dir_alike u call.Stat d w true sure e = e
 dir_alike u call.Stat d w false sure e = e
 dir_alike u call.Lstat d w true sure e = e

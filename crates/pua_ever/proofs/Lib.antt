@@ -1,3 +1,4 @@
+pub mod Common
 pub mod Covers
 pub mod Grown
 pub mod Growing

@@ -1,19 +1,15 @@
 -- The lines of what is to come, one after another.
-use Rattle.std.proofs.Common.{ℕ, ◌≡◌, ◌≢◌, List, [], ◌∷◌, ◌++◌, Bool, true, false, cond, length, map, refl, sym, ap, subst, ◌∙◌, arith}
-use Rattle.std.specs.Prelude.{Option, Some, None, ◌&&◌, filter, flat_map, nat_lt}
+use Rattle.pua_ever.proofs.Common.{ℕ, ◌≡◌, ◌≢◌, List, [], ◌∷◌, ◌++◌, Bool, true, false, cond, length, map, refl, sym, ap, subst, ◌∙◌, arith}
+use Rattle.pua_ever.proofs.Common.{Option, Some, None, ◌&&◌, filter, flat_map, nat_lt, Tree, Spot, Slot, CallTable, calls, has, History}
+use Rattle.pua_ever.proofs.Common.{ProcessState, StandsFor, veils, Call, Word, Subject, At, Item, items, New, Stands, Comes, EverLine}
+use Rattle.pua_ever.proofs.Common.{may_edit, can_make, own_spot, subjects_of, is_ever_allowed, all_new, ever_line, new_line, has_ever_calls}
+use Rattle.pua_ever.proofs.Common.{ever, ever_lines_of, both_of, made_left, AreOnFreed}
 use Rattle.std.proofs.lemmas.Bool.{lt-ltb}
 use Rattle.std.proofs.lemmas.List.Elements.{filter-append}
-use Rattle.pua_tree.specs.Tree.{Tree, Spot}
-use Rattle.pua_path.specs.declared.found.Found.TheVariants.{Slot}
-use Rattle.pua_calls.specs.Calls.{CallTable, calls}
-use Rattle.pua_calls.specs.CallSets.{has, calls_in}
-use Rattle.pua_policy.specs.History.{History, ProcessState, StandsFor, veils}
-use Rattle.pua_calls.specs.declared.call.Call.{Call}
-use Rattle.pua_audit.specs.Reach.{Word}
-use Rattle.pua_objects.specs.Objects.{Subject, At, Item, items}
-use Rattle.pua_ever.specs.Ever.{New, Thing, Stands, Comes, EverLine, may_edit, can_make, own_spot, can_be_freed, freed_at, names_to_free, subjects_of, is_ever_allowed, is_new_allowed, all_new, ever_line, new_line, has_calls, ever}
-use Rattle.pua_ever.specs.EverLines.{lines_about, lines_of, line_with}
-use Rattle.pua_ever.specs.EverReady.{both_of, made_left, AreOnFreed}
+use Rattle.pua_calls.specs.CallSets.{calls_in}
+use Rattle.pua_ever.specs.Ever.{Thing, can_be_freed, freed_at, names_to_free}
+use Rattle.pua_ever.specs.Ever.{is_new_allowed}
+use Rattle.pua_ever.specs.EverLines.{lines_about, line_with}
 use Rattle.pua_ever.specs.EverState.{Left, Now, Freed, Coming}
 use Rattle.pua_ever.specs.declared.line.EverLine as given
 use Rattle.pua_ever.specs.declared.made.Made.TheVariants as made
@@ -30,35 +26,44 @@ module _ (t : Tree) (table : CallTable) (h : History) where
       ≡ map (ever_line t table h) (flat_map (subjects_of t table h) xs) ++ map (new_line t table h) all_new
   all_lines [] = refl
   all_lines (x ∷ xs) =
-      ap (λ lines. ever_line t table h (x.word, x.subject) ∷ (map (λ subject. ever_line t table h (x.word, subject)) (names_to_free t table h x.subject) ++ lines)) (all_lines xs)
+      ap (λ lines. ever_line t table h (
+        x.word,
+        x.subject,
+      ) ∷ (map (λ subject. ever_line t table h (x.word, subject)) (names_to_free t table h x.subject) ++ lines)) (all_lines xs)
       ∙ ap (λ lines. ever_line t table h (x.word, x.subject) ∷ lines)
       (sym (names_then x.word (names_to_free t table h x.subject) (flat_map (subjects_of t table h) xs) (map (new_line t table h) all_new)))
 
   -- at first all lines are to come
-  pub lines_first : lines_of t table h (flat_map both_of (items t (veils h)) ++ made_left (Some made.Dir)) ≡ ever t table h
-  lines_first = ap (filter has_calls) (all_lines (items t (veils h)))
+  pub lines_first : ever_lines_of t table h (flat_map both_of (items t (veils h)) ++ made_left (Some made.Dir)) ≡ ever t table h
+  lines_first = ap (filter has_ever_calls) (all_lines (items t (veils h)))
 
   -- the lines of the first thing, and then the others
-  pub lines_cons : (first : Left) (left : List Left) → lines_of t table h (first ∷ left) ≡ filter has_calls (lines_about t table h first) ++ lines_of t table h left
-  lines_cons first left = filter-append has_calls (lines_about t table h first) (flat_map (lines_about t table h) left)
+  pub lines_cons : (first : Left) (left : List Left) →
+      ever_lines_of t table h (first ∷ left) ≡ filter has_ever_calls (lines_about t table h first) ++ ever_lines_of t table h left
+  lines_cons first left = filter-append has_ever_calls (lines_about t table h first) (flat_map (lines_about t table h) left)
 
   same_calls : (set : ℕ) (p : Call → Bool) → ((call : Call) → has set call ≡ p call) → calls_in set ≡ filter p calls
   same_calls set p same = (λ i. filter (λ call. same call i) calls)
 
   -- the line of an item
-  pub now_lines : (word : Word) (subject : Subject) (line : given.EverLine) → ((call : Call) → has line.calls call ≡ is_ever_allowed t table h subject call)
-      → filter has_calls (lines_about t table h (Now (record { word = word; subject = subject }))) ≡ filter has_calls (line_with word (Stands subject) line ∷ [])
+  pub now_lines : (word : Word) (subject : Subject) (line : given.EverLine) →
+      ((call : Call) → has line.calls call ≡ is_ever_allowed t table h subject call)
+      → filter has_ever_calls (lines_about t table h (Now (record { word = word; subject = subject })))
+      ≡ filter has_ever_calls (line_with word (Stands subject) line ∷ [])
   now_lines word subject line same =
-      ap (λ cs. filter has_calls (record { word = word; thing = Stands subject; calls = cs } ∷ [])) (sym (same_calls line.calls (is_ever_allowed t table h subject) same))
+      ap (λ cs. filter has_ever_calls (record { word = word; thing = Stands subject; calls = cs } ∷ []))
+      (sym (same_calls line.calls (is_ever_allowed t table h subject) same))
 
   -- the line of what can be made
-  pub made_lines : (new : New) (line : given.EverLine) → ((call : Call) → has line.calls call ≡ ((may_edit table h && can_make t table h new) && is_new_allowed t table h new call))
-      → filter has_calls (lines_about t table h (Coming new)) ≡ filter has_calls (line_with [] (Comes new) line ∷ [])
+  pub made_lines : (new : New) (line : given.EverLine) →
+      ((call : Call) → has line.calls call ≡ ((may_edit table h && can_make t table h new) && is_new_allowed t table h new call))
+      → filter has_ever_calls (lines_about t table h (Coming new)) ≡ filter has_ever_calls (line_with [] (Comes new) line ∷ [])
   made_lines new line same =
-      ap (λ cs. filter has_calls (record { word = []; thing = Comes new; calls = cs } ∷ []))
+      ap (λ cs. filter has_ever_calls (record { word = []; thing = Comes new; calls = cs } ∷ []))
       (sym (same_calls line.calls _ same ∙ by (may_edit table h && can_make t table h new)))
     where
-      by : (b : Bool) → filter (λ call. b && is_new_allowed t table h new call) calls ≡ cond b (filter (is_new_allowed t table h new) calls) []
+      by : (b : Bool) → filter (λ call. b && is_new_allowed t table h new call) calls ≡ cond b (filter (is_new_allowed t table h new) calls)
+          []
       by true = refl
       by false = refl
 
@@ -68,27 +73,33 @@ module _ (t : Tree) (table : CallTable) (h : History) where
   freed_name None = At (Slot 0 [] None)
 
   pub freed_lines : (word : Word) (subject : Subject) (line : given.EverLine) → AreOnFreed t table h (own_spot subject) line.calls
-      → filter has_calls (lines_about t table h (Freed (record { word = word; subject = subject }))) ≡ filter has_calls (line_with word (Stands (freed_name (own_spot subject))) line ∷ [])
+      → filter has_ever_calls (lines_about t table h (Freed (record { word = word; subject = subject })))
+      ≡ filter has_ever_calls (line_with word (Stands (freed_name (own_spot subject))) line ∷ [])
   freed_lines word subject line = by (own_spot subject)
     where
-      no_line : (thing : Thing) → calls_in line.calls ≡ [] → [] ≡ filter has_calls (line_with word thing line ∷ [])
-      no_line thing none = ap (λ cs. filter has_calls (record { word = word; thing = thing; calls = cs } ∷ [])) (sym none)
+      no_line : (thing : Thing) → calls_in line.calls ≡ [] → [] ≡ filter has_ever_calls (line_with word thing line ∷ [])
+      no_line thing none = ap (λ cs. filter has_ever_calls (record { word = word; thing = thing; calls = cs } ∷ [])) (sym none)
 
-      at : (spot : Spot) (b : Bool) → ((call : Call) → has line.calls call ≡ (b && is_ever_allowed t table h (At (Slot spot.0 spot.1 None)) call))
-          → filter has_calls (map (λ s. ever_line t table h (word, s)) (cond b (At (Slot spot.0 spot.1 None) ∷ []) [])) ≡ filter has_calls (line_with word (Stands (At (Slot spot.0 spot.1 None))) line ∷ [])
+      at : (spot : Spot) (b : Bool) →
+          ((call : Call) → has line.calls call ≡ (b && is_ever_allowed t table h (At (Slot spot.0 spot.1 None)) call))
+          → filter has_ever_calls (map (λ s. ever_line t table h (word, s)) (cond b (At (Slot spot.0 spot.1 None) ∷ []) []))
+          ≡ filter has_ever_calls (line_with word (Stands (At (Slot spot.0 spot.1 None))) line ∷ [])
       at spot true same = now_lines word (At (Slot spot.0 spot.1 None)) line same
       at spot false same = no_line (Stands (At (Slot spot.0 spot.1 None))) (same_calls line.calls _ same)
 
       by : (o : Option Spot) → AreOnFreed t table h o line.calls
-          → filter has_calls (map (λ s. ever_line t table h (word, s)) (freed_at t table h o)) ≡ filter has_calls (line_with word (Stands (freed_name o)) line ∷ [])
+          → filter has_ever_calls (map (λ s. ever_line t table h (word, s)) (freed_at t table h o))
+          ≡ filter has_ever_calls (line_with word (Stands (freed_name o)) line ∷ [])
       by None are = no_line (Stands (freed_name None)) (same_calls line.calls _ (are.none refl))
       by (Some spot) are = at spot (can_be_freed t table h spot) (are.some spot refl)
 
 -- a line without calls is left out, and one with calls stays
-pub left_out : (word : Word) (thing : Thing) (line : given.EverLine) → calls_in line.calls ≡ [] → filter has_calls (line_with word thing line ∷ []) ≡ []
-left_out word thing line none = ap (λ cs. filter has_calls (record { word = word; thing = thing; calls = cs } ∷ [])) none
+pub left_out : (word : Word) (thing : Thing) (line : given.EverLine) → calls_in line.calls ≡ [] →
+    filter has_ever_calls (line_with word thing line ∷ []) ≡ []
+left_out word thing line none = ap (λ cs. filter has_ever_calls (record { word = word; thing = thing; calls = cs } ∷ [])) none
 
-pub kept_in : (word : Word) (thing : Thing) (line : given.EverLine) → calls_in line.calls ≢ [] → filter has_calls (line_with word thing line ∷ []) ≡ line_with word thing line ∷ []
+pub kept_in : (word : Word) (thing : Thing) (line : given.EverLine) → calls_in line.calls ≢ [] →
+    filter has_ever_calls (line_with word thing line ∷ []) ≡ line_with word thing line ∷ []
 kept_in word thing line some = ap (λ b. cond b (line_with word thing line ∷ []) []) (some_calls (calls_in line.calls) some)
   where
     some_calls : (cs : List Call) → cs ≢ [] → nat_lt 0 (length cs) ≡ true
@@ -96,10 +107,11 @@ kept_in word thing line some = ap (λ b. cond b (line_with word thing line ∷ [
     some_calls (c ∷ cs) some = lt-ltb 0 (length (c ∷ cs)) (omega arith)
 
 -- the lines of a tree, a table and a process are those of the same ones
-pub lines_moved : (t u : Tree) (a b : CallTable) (p q : ProcessState) → u ≡ t → b ≡ a → q ≡ p → (old new : List Left) (first : List EverLine)
-    → ((h : History) → StandsFor q h → lines_of u b h old ≡ first ++ lines_of u b h new)
-    → (h : History) → StandsFor p h → lines_of t a h old ≡ first ++ lines_of t a h new
+pub lines_moved : (t u : Tree) (a b : CallTable) (p q : ProcessState) → u ≡ t → b ≡ a → q ≡ p →
+    (old new : List Left) (first : List EverLine)
+    → ((h : History) → StandsFor q h → ever_lines_of u b h old ≡ first ++ ever_lines_of u b h new)
+    → (h : History) → StandsFor p h → ever_lines_of t a h old ≡ first ++ ever_lines_of t a h new
 lines_moved t u a b p q tree table process old new first lines h stands =
-    (λ i. lines_of (sym tree i) (sym table i) h old)
+    (λ i. ever_lines_of (sym tree i) (sym table i) h old)
     ∙ lines h (subst (λ (x : ProcessState). StandsFor x h) (sym process) stands)
-    ∙ (λ i. first ++ lines_of (tree i) (table i) h new)
+    ∙ (λ i. first ++ ever_lines_of (tree i) (table i) h new)

@@ -1,34 +1,21 @@
 -- What stands at a name, and the name once that is taken away.
-use Rattle.std.proofs.Common.{◌≡◌, ℕ, List, [], ◌∷◌, true, false, refl, sym, ap, subst, ◌∙◌}
-use Rattle.std.specs.Prelude.{Option, Some, None, not, ◌&&◌, ◌||◌, if◌then◌else◌, is_some, option_map}
-use Rattle.std.proofs.lemmas.Bool.{and_parts, not-true}
-use Rattle.pua_tree.specs.Tree.{Tree, Node, WellFormed, Spot, is_dir, look, node_at, kind_at, empty_tree}
-use Rattle.pua_tree.specs.declared.node.Kind.{Kind}
+use Rattle.pua_ever.proofs.Common.{◌≡◌, ℕ, List, [], ◌∷◌, true, false, refl, sym, ap, subst, ◌∙◌, Option, Some, None, not, ◌&&◌, ◌||◌}
+use Rattle.pua_ever.proofs.Common.{if◌then◌else◌, is_some, option_map, and_parts, not-true, Tree, Node, WellFormed, Spot, is_dir, look}
+use Rattle.pua_ever.proofs.Common.{node_at, kind_at, empty_tree, Kind, sound_from, row_says, same_Some, Some≢None, None≢Some, is_link_kind}
+use Rattle.pua_ever.proofs.Common.{Named, Top, Dot, DotDot, Whole, Slot, CallTable, has, keeps_link, History, perms_kept, object_seen}
+use Rattle.pua_ever.proofs.Common.{IsMissing, object_of_kind, cover, covered_verdict, is_allowed, Call, Cover, Only, has_c, SubjectFits}
+use Rattle.pua_ever.proofs.Common.{subject_given, own_or, Subject, At, Others, cover_in, covers_descend, may_edit, is_allowed_under}
+use Rattle.pua_ever.proofs.Common.{is_ever_allowed, is_free, own_spot, AreOnFreed}
 use Rattle.pua_tree.specs.declared.node.Kind.TheVariants as kinds
-use Rattle.pua_tree.proofs.ForCallers.{sound_from, row_says, same_Some, Some≢None, None≢Some}
-use Rattle.pua_path.specs.Fits.{is_link_kind}
-use Rattle.pua_path.specs.declared.found.Way.TheVariants.{Named, Top, Dot, DotDot}
-use Rattle.pua_path.specs.declared.found.Found.TheVariants.{Whole, Slot}
-use Rattle.pua_calls.specs.Calls.{CallTable}
-use Rattle.pua_calls.specs.CallSets.{has, keeps_link}
-use Rattle.pua_policy.specs.History.{History, kept}
-use Rattle.pua_policy.specs.Objects.{object_seen}
-use Rattle.pua_policy.specs.Verdict.{IsMissing, object_of, object_of_kind, cover, covered_verdict, is_allowed}
-use Rattle.pua_calls.specs.declared.call.Call.{Call}
+use Rattle.pua_policy.specs.Verdict.{object_of}
 use Rattle.pua_policy.specs.declared.place.Place.TheVariants as place
-use Rattle.pua_policy.specs.declared.answer.Cover.{Cover}
-use Rattle.pua_policy.specs.declared.answer.Cover.TheVariants.{Only}
 use Rattle.pua_policy.specs.declared.object.Object as seen
-use Rattle.pua_script.specs.Confinement.{has_c}
-use Rattle.pua_objects.specs.Items.{SubjectFits, IsItemOn, subject_given, object_on, cover_on}
+use Rattle.pua_objects.specs.Items.{IsItemOn, object_on, cover_on}
 use Rattle.pua_objects.specs.declared.item.Item as given
 use Rattle.pua_objects.specs.declared.item.Subject as about
 use Rattle.pua_objects.specs.declared.item.Subject.TheVariants as subject
-use Rattle.pua_objects.specs.Laws.{own_or}
-use Rattle.pua_objects.specs.Objects.{Subject, At, Others, cover_in}
-use Rattle.pua_objects.proofs.ForCallers.{covers_descend}
-use Rattle.pua_ever.specs.Ever.{may_edit, named_covers, is_allowed_under, is_ever_allowed, is_free, own_spot, can_be_freed}
-use Rattle.pua_ever.specs.EverReady.{AreOnFreed, kind_allowed, own_given}
+use Rattle.pua_ever.specs.Ever.{named_covers, can_be_freed}
+use Rattle.pua_ever.specs.EverReady.{kind_allowed, own_given}
 use Rattle.pua_ever.proofs.Prospected.{last}
 use Rattle.std.proofs.Math.Bool.{or-true}
 use Rattle.pua_calls.proofs.ForCallers.{has_none}
@@ -50,9 +37,11 @@ module _ (t : Tree) (well : WellFormed t) (table : CallTable) (h : History) wher
       by None e = e
       by (Some n) e = refl
 
-  pub name_calls : (dir : ℕ) (name : List ℕ) (o : Option ℕ) → SubjectFits t (At (Slot dir name o)) → (object : seen.Object) (left : Cover) (set : ℕ)
+  pub name_calls : (dir : ℕ) (name : List ℕ) (o : Option ℕ) → SubjectFits t (At (Slot dir name o)) →
+      (object : seen.Object) (left : Cover) (set : ℕ)
       → object ≡ object_seen t (object_of t (Slot dir name o)) → left ≡ cover t h (Slot dir name o)
-      → ((kind : Option Kind) → object ≡ object_seen empty_tree (object_of_kind kind) → (call : Call) → has set call ≡ kind_allowed t table h left kind call)
+      → ((kind : Option Kind) → object ≡ object_seen empty_tree (object_of_kind kind) → (call : Call) →
+      has set call ≡ kind_allowed t table h left kind call)
       → (call : Call) → has set call ≡ is_ever_allowed t table h (At (Slot dir name o)) call
   name_calls dir name None fits object left set is covered all call =
       all None (is ∙ refl) call
@@ -60,10 +49,12 @@ module _ (t : Tree) (well : WellFormed t) (table : CallTable) (h : History) wher
   name_calls dir name (Some x) fits object left set is covered all call =
       all (kind_at t x) (is ∙ seen_alike t (kind_at t x)) call
       ∙ (λ i. (keeps_link call || not (is_link_kind (kind_at t x)))
-      && is_allowed_under table h (if has_kind dir name x fits.1.1 i then named_covers t table h (kind_at t x) (covered i) else covered i ∷ []) (object_of_kind (kind_at t x)) call)
+      && is_allowed_under table h (if has_kind dir name x fits.1.1 i then named_covers t table h (kind_at t x) (covered i) else covered i
+      ∷ []) (object_of_kind (kind_at t x)) call)
 
   -- whether the name of a thing can come to be free, by the thing's own cover
-  free_by : (about : Subject) (spot : Spot) → SubjectFits t about → own_spot about ≡ Some spot → is_free t h spot ≡ has_c (cover_on t h about)
+  free_by : (about : Subject) (spot : Spot) → SubjectFits t about → own_spot about ≡ Some spot →
+      is_free t h spot ≡ has_c (cover_on t h about)
   free_by (At (Slot dir name (Some x))) spot fits own =
       let plain : is_dir t x ≡ false = not-true (is_dir t x) (and_parts _ _ (and_parts (is_dir t dir) _ fits.0).1).1 in
       let here : is_free t h (dir, name) ≡ has_c (cover t h (Slot dir name (Some x))) = rw (fits.1.1, plain) refl in
@@ -96,8 +87,10 @@ module _ (t : Tree) (well : WellFormed t) (table : CallTable) (h : History) wher
     }
 
     -- and one that can
-    pub freed : (left : Cover) (perms : ℕ) (set : ℕ) → left ≡ cover_on t h about → kept h (place.Slot spot.0 spot.1) ≡ Some perms → (may_edit table h && has_c left) ≡ true
-        → ((call : Call) → has set call ≡ is_allowed (covered_verdict empty_tree table h call (Only perms) IsMissing)) → AreOnFreed t table h (own_spot about) set
+    pub freed : (left : Cover) (perms : ℕ) (set : ℕ) → left ≡ cover_on t h about → perms_kept h (place.Slot spot.0 spot.1) ≡ Some perms →
+        (may_edit table h && has_c left) ≡ true
+        → ((call : Call) → has set call ≡ is_allowed (covered_verdict empty_tree table h call (Only perms) IsMissing)) →
+        AreOnFreed t table h (own_spot about) set
     freed left perms set covered kept_here can all = record {
       none = λ e. absurd (Some≢None spot (own ∙ e));
       some = λ other is call.
@@ -118,24 +111,28 @@ module _ (t : Tree) (well : WellFormed t) (table : CallTable) (h : History) wher
             ∙ ap (λ c. may_edit table h && has_c c) (sym covered) ∙ can
 
   -- the name at which an item stands is that of its thing
-  own_by : (s : about.Subject) (object : seen.Object) → SubjectFits t (subject_given t s) → object ≡ object_on t (subject_given t s) → own_given s object ≡ own_spot (subject_given t s)
+  own_by : (s : about.Subject) (object : seen.Object) → SubjectFits t (subject_given t s) → object ≡ object_on t (subject_given t s) →
+      own_given s object ≡ own_spot (subject_given t s)
   own_by subject.Root object fits is = refl
   own_by (subject.Dir id dir name) object fits is = refl
   own_by (subject.Others dir) object fits is = refl
   own_by (subject.Name dir name) object fits is = by (look t dir name.now) refl fits is
     where
-      plain : (x : ℕ) (k : Option Kind) → is_some k ≡ true → object ≡ object_seen t (object_of_kind k) → own_given (subject.Name dir name) object ≡ Some (dir, name.now)
+      plain : (x : ℕ) (k : Option Kind) → is_some k ≡ true → object ≡ object_seen t (object_of_kind k) →
+          own_given (subject.Name dir name) object ≡ Some (dir, name.now)
       plain x None some is = cc
       plain x (Some kinds.Dir) some is = ap (own_given (subject.Name dir name)) is
       plain x (Some kinds.File) some is = ap (own_given (subject.Name dir name)) is
       plain x (Some kinds.Prog) some is = ap (own_given (subject.Name dir name)) is
       plain x (Some kinds.Link) some is = ap (own_given (subject.Name dir name)) is
 
-      by : (o : Option ℕ) → look t dir name.now ≡ o → SubjectFits t (At (Slot dir name.now o)) → object ≡ object_on t (At (Slot dir name.now o)) → own_given (subject.Name dir name) object ≡ own_spot (At (Slot dir name.now o))
+      by : (o : Option ℕ) → look t dir name.now ≡ o → SubjectFits t (At (Slot dir name.now o)) →
+          object ≡ object_on t (At (Slot dir name.now o)) → own_given (subject.Name dir name) object ≡ own_spot (At (Slot dir name.now o))
       by None row fits is = ap (own_given (subject.Name dir name)) is
       by (Some x) row fits is = plain x (kind_at t x) (has_kind dir name.now x row) is
 
-  pub own_name_is : (about : Subject) (item : given.Item) → SubjectFits t about → IsItemOn t h about item → own_given item.subject item.object ≡ own_spot about
+  pub own_name_is : (about : Subject) (item : given.Item) → SubjectFits t about → IsItemOn t h about item →
+      own_given item.subject item.object ≡ own_spot about
   own_name_is about item fits on =
       let same = on.subject in
       own_by item.subject item.object (subst (SubjectFits t) (sym same) fits) (on.object ∙ ap (object_on t) (sym same)) ∙ ap own_spot same

@@ -1,31 +1,22 @@
 -- Where no line has `exec`, no exec of a member is answered ok.
-use Rattle.std.proofs.Common.{◌≡◌, ◌⊎◌, ℕ, List, [], ◌∷◌, Bool, true, false, refl, ap, subst, ◌∙◌, sym, inl, inr}
-use Rattle.std.specs.Prelude.{Some, Ok, not}
-use Rattle.std.proofs.lemmas.Bool.{false≢true, and_parts, and_from}
-use Rattle.pua_tree.specs.Tree.{Tree, WellFormed}
-use Rattle.pua_calls.specs.Calls.{CallTable}
-use Rattle.pua_policy.specs.History.{History, working_dir}
-use Rattle.pua_policy.specs.Verdict.{verdict_of, is_allowed, object_named, if_promised, allowed_unless, or_fault}
+use Rattle.pua_ever.proofs.Common.{◌≡◌, ◌⊎◌, ℕ, List, [], ◌∷◌, Bool, true, false, refl, ap, subst, ◌∙◌, sym, inl, inr, Some, Ok, not}
+use Rattle.pua_ever.proofs.Common.{false≢true, and_parts, and_from, Tree, WellFormed, CallTable, History, working_dir, verdict_of}
+use Rattle.pua_ever.proofs.Common.{is_allowed, if_promised, allowed_unless, or_fault, allowed_is, Asked, World, apply, history_of, Change}
+use Rattle.pua_ever.proofs.Common.{IsDecided, Action, OnPath, Symlink, Rename, Link, Pledge, Unveil, Lock, Fork, Exit, is_member, is_exec}
+use Rattle.pua_ever.proofs.Common.{is_done, none_done, members_alone, family_then, NoCallNeedsError, TreesAlong, IsWithin, verdicts_within}
+use Rattle.pua_ever.proofs.Common.{Members, members_then, first_tree, may_edit, EditsNeedC, VeilsStand}
+use Rattle.pua_policy.specs.Verdict.{object_named}
 use Rattle.pua_calls.specs.declared.call.Call.TheVariants as call
 use Rattle.pua_policy.specs.declared.answer.Verdict.TheVariants as verdicts
-use Rattle.pua_objects.proofs.ForCallers.{allowed_is}
-use Rattle.pua_script.specs.Requests.{Asked}
-use Rattle.pua_script.specs.Replay.{World, apply, history_of, answer_to, refused}
-use Rattle.pua_script.specs.Decide.{Change, decide}
-use Rattle.pua_script.specs.Guards.{IsDecided}
+use Rattle.pua_script.specs.Replay.{answer_to, refusal_effect}
+use Rattle.pua_script.specs.Decide.{decide}
 use Rattle.pua_policy.specs.declared.answer.Refusal.{Refusal}
 use Rattle.pua_policy.specs.declared.answer.Refusal.TheVariants.{Failed, Killed}
 use Rattle.pua_script.proofs.ForCallers.{by_living, by_decision, decisions_are_guarded}
-use Rattle.pua_script.specs.declared.request.Action.{Action}
-use Rattle.pua_script.specs.declared.request.Action.TheVariants.{OnPath, Symlink, Rename, Link, Pledge, Unveil, Lock, Fork, Exit}
-use Rattle.pua_script.specs.Family.{is_member, is_exec, is_okay, is_done, none_done, members_alone, family_then}
-use Rattle.pua_script.specs.Tightening.{NoCallNeedsError}
-use Rattle.pua_script.specs.Confinement.{TreesAlong}
-use Rattle.pua_script.proofs.ForCallers.{IsWithin, verdicts_within}
-use Rattle.pua_script.proofs.ForCallers.{Members, members_then, begins, by_other, at_all, first_tree}
+use Rattle.pua_script.specs.Family.{is_okay}
+use Rattle.pua_script.proofs.ForCallers.{begins, by_other, at_all}
 use Rattle.pua_script.proofs.ForCallers.{each_spares}
-use Rattle.pua_ever.specs.Ever.{may_edit}
-use Rattle.pua_ever.specs.Laws.{EditsNeedC, VeilsStand, NoLineHasExec, WithoutExec}
+use Rattle.pua_ever.specs.Laws.{NoLineHasExec, WithoutExec}
 use Rattle.pua_ever.proofs.Growing.{takes, requests_grow}
 use Rattle.pua_ever.proofs.Origins.{Stays, at_first}
 use Rattle.pua_ever.proofs.Stepping.{stays_then}
@@ -38,10 +29,12 @@ record Execs (table : CallTable) (w : World) (h : History) : Type 0 where
   path : List ℕ
   allowed : verdict_of w.tree table h call.Exec (object_named w.tree h call.Exec path) ≡ verdicts.Allowed
 
-execs_by : (table : CallTable) (w : World) (h : History) (action : Action) (c : Change) → IsDecided table w.tree h action c → is_exec action ≡ true → Execs table w h
+execs_by : (table : CallTable) (w : World) (h : History) (action : Action) (c : Change) → IsDecided table w.tree h action c →
+    is_exec action ≡ true → Execs table w h
 execs_by table w h (OnPath call.Exec path) c d is =
     let one = d.1 in
-    let judged : verdict_of w.tree table h call.Exec (Ok d.0) ≡ verdicts.Allowed = (λ i. if_promised (one.promised i) (allowed_unless (or_fault (one.covered i) (one.fitting i)))) in
+    let judged : verdict_of w.tree table h call.Exec (Ok d.0) ≡ verdicts.Allowed =
+    (λ i. if_promised (one.promised i) (allowed_unless (or_fault (one.covered i) (one.fitting i)))) in
     record { path = path; allowed = subst (λ r. verdict_of w.tree table h call.Exec r ≡ verdicts.Allowed) (sym one.found) judged }
 execs_by table w h (OnPath call.Stat path) c d is = absurd (false≢true is)
 execs_by table w h (OnPath call.Lstat path) c d is = absurd (false≢true is)
@@ -65,18 +58,21 @@ execs_by table w h Lock c d is = absurd (false≢true is)
 execs_by table w h (Fork new) c d is = absurd (false≢true is)
 execs_by table w h Exit c d is = absurd (false≢true is)
 
-execs_then : (table : CallTable) (w : World) (ask : Asked) (h : History) → history_of w ask.process ≡ Some h → is_exec ask.action ≡ true → is_okay (apply table w ask).0 ≡ true → Execs table w h
+execs_then : (table : CallTable) (w : World) (ask : Asked) (h : History) → history_of w ask.process ≡ Some h → is_exec ask.action ≡ true →
+    is_okay (apply table w ask).0 ≡ true → Execs table w h
 execs_then table w ask h here is =
     by_living table w ask h here (λ done. is_okay done.0 ≡ true → Execs table w h) (λ ok. absurd (false≢true ok))
     (by_decision w h (λ e. is_okay (answer_to e) ≡ true → Execs table w h) (decide table w.tree h ask.action) refusing
     (λ c decided ok. execs_by table w h ask.action c (decisions_are_guarded table w.tree h ask.action c decided) is))
   where
-    refusing : (r : Refusal) → is_okay (answer_to (refused r)) ≡ true → Execs table w h
+    refusing : (r : Refusal) → is_okay (answer_to (refusal_effect r)) ≡ true → Execs table w h
     refusing (Failed errno) ok = absurd (false≢true ok)
     refusing Killed ok = absurd (false≢true ok)
 
-module _ (table : CallTable) (sound : NoCallNeedsError table) (needs : EditsNeedC table) (t0 : Tree) (now : History) (well0 : WellFormed t0) (stand : VeilsStand t0 now) (never : NoLineHasExec t0 table now) where
-  none_now : (w : World) (ask : Asked) (members : List ℕ) → Members w members now false → Stays table t0 now well0 stand w.tree → (may_edit table now ≡ true) ⊎ (w.tree ≡ t0)
+module _ (table : CallTable) (sound : NoCallNeedsError table) (needs : EditsNeedC table) (t0 : Tree) (now : History) (well0 : WellFormed t0)
+    (stand : VeilsStand t0 now) (never : NoLineHasExec t0 table now) where
+  none_now : (w : World) (ask : Asked) (members : List ℕ) → Members w members now false → Stays table t0 now well0 stand w.tree →
+      (may_edit table now ≡ true) ⊎ (w.tree ≡ t0)
       → is_done is_exec table w ask members ≡ false
   none_now w ask members are k edit = by (is_done is_exec table w ask members) refl
     where
@@ -88,14 +84,16 @@ module _ (table : CallTable) (sound : NoCallNeedsError table) (needs : EditsNeed
           let exec = execs_then table w ask asker.0 asker.1 done.0 done.1 in
           let named = object_named w.tree asker.0 call.Exec exec.path in
           let allowed = verdicts_within now asker.0 asker.2.within table sound w.tree call.Exec named (ap is_allowed exec.allowed) in
-          let seen = foreseen table t0 now well0 stand w.tree k edit call.Exec (working_dir asker.0) exec.path (allowed_is (verdict_of w.tree table now call.Exec named) allowed) in
+          let seen = foreseen table t0 now well0 stand w.tree k edit call.Exec (working_dir asker.0) exec.path
+          (allowed_is (verdict_of w.tree table now call.Exec named) allowed) in
           never seen.line seen.listed seen.allows
 
       by : (b : Bool) → is_done is_exec table w ask members ≡ b → is_done is_exec table w ask members ≡ false
       by false e = e
       by true e = absurd (impossible e)
 
-  edit_then : (w : World) (ask : Asked) (h : History) → history_of w ask.process ≡ Some h → IsWithin now h → (may_edit table now ≡ true) ⊎ (w.tree ≡ t0) → (may_edit table now ≡ true) ⊎ ((apply table w ask).1.tree ≡ t0)
+  edit_then : (w : World) (ask : Asked) (h : History) → history_of w ask.process ≡ Some h → IsWithin now h →
+      (may_edit table now ≡ true) ⊎ (w.tree ≡ t0) → (may_edit table now ≡ true) ⊎ ((apply table w ask).1.tree ≡ t0)
   edit_then w ask h here within (inl edits) = inl edits
   edit_then w ask h here within (inr same) = by (may_edit table now) refl
     where
@@ -103,7 +101,8 @@ module _ (table : CallTable) (sound : NoCallNeedsError table) (needs : EditsNeed
       by true edits = inl edits
       by false lacks = inr (unedited table w ask h here (still_unable table sound now h within lacks) ∙ same)
 
-  none_along : (asks : List Asked) (w : World) (members : List ℕ) → Members w members now false → members_alone table w asks members ≡ true → TreesAlong table w asks
+  none_along : (asks : List Asked) (w : World) (members : List ℕ) → Members w members now false →
+      members_alone table w asks members ≡ true → TreesAlong table w asks
       → Stays table t0 now well0 stand w.tree → (may_edit table now ≡ true) ⊎ (w.tree ≡ t0) → none_done is_exec table w asks members ≡ true
   none_along [] w members are alone trees k edit = refl
   none_along (ask ∷ asks) w members are alone trees k edit =
@@ -112,8 +111,10 @@ module _ (table : CallTable) (sound : NoCallNeedsError table) (needs : EditsNeed
       let after = (apply table w ask).1 in
       let first = none_now w ask members are k edit in
       let well = first_tree table after asks trees.1 in
-      let spared = by_other asker.0 now asker.2.within.tightens.unveils w.tree after.tree (each_spares table (takes table needs) w ask asker.0 trees.0 well asker.1) in
-      let grown = grown_within table sound now asker.0 asker.2.within w.tree trees.0 after.tree (requests_grow table needs w ask asker.0 trees.0 asker.1) in
+      let spared = by_other asker.0 now asker.2.within.tightens.unveils w.tree after.tree
+      (each_spares table (takes table needs) w ask asker.0 trees.0 well asker.1) in
+      let grown = grown_within table sound now asker.0 asker.2.within w.tree trees.0 after.tree
+      (requests_grow table needs w ask asker.0 trees.0 asker.1) in
       and_from (not (is_done is_exec table w ask members)) _ (ap not first)
       (none_along asks after (family_then table w ask members) (members_then table now w ask members false are first) asked.1 trees.1
       (stays_then table t0 now well0 stand w.tree after.tree k well grown spared) (edit_then w ask asker.0 asker.1 asker.2.within edit))
@@ -121,4 +122,6 @@ module _ (table : CallTable) (sound : NoCallNeedsError table) (needs : EditsNeed
 pub without_exec : WithoutExec
 without_exec table sound needs w asks process now here confined stand trees alone never =
     let well = first_tree table w asks trees in
-    none_along table sound needs w.tree now well stand never asks w (process ∷ []) (at_all w (process ∷ []) now (begins table now w process here confined)) alone trees (at_first table w.tree now well stand) (inr refl)
+    none_along table sound needs w.tree now well stand never asks w (process ∷ [])
+    (at_all w (process ∷ []) now (begins table now w process here confined)) alone trees (at_first table w.tree now well stand)
+    (inr refl)

@@ -1,32 +1,25 @@
 -- The list of the objects of now lies within the list for ever.
-use Rattle.std.proofs.Common.{◌≡◌, ℕ, zero, suc, List, [], ◌∷◌, ◌++◌, Bool, true, false, cond, map, refl, sym, ap, subst, ◌∙◌, inl, inr}
-use Rattle.std.specs.Prelude.{Option, Some, None, option_map, not, ◌&&◌, ◌||◌, ◌==◌, is_none, if◌then◌else◌, flat_map, nat_lt, length}
-use Rattle.std.specs.List.{list_any}
-use Rattle.std.proofs.lemmas.Bool.{and_parts, and_from, or_right}
-use Rattle.pua_tree.specs.Tree.{Tree, WellFormed, is_dir, look, kind_at, is_empty, has_no_row}
-use Rattle.pua_tree.proofs.ForCallers.{sound_from, row_says}
-use Rattle.pua_policy.specs.Misfits.{misfit_errno}
-use Rattle.pua_policy.specs.declared.reason.Misfit.TheVariants.{IsNotEmpty}
-use Rattle.pua_path.specs.declared.found.Way.{Way}
-use Rattle.pua_path.specs.declared.found.Way.TheVariants.{Named, Top, Dot, DotDot}
-use Rattle.pua_path.specs.declared.found.Found.TheVariants.{Whole, Slot}
-use Rattle.pua_calls.specs.Calls.{CallTable, calls, rule_of}
-use Rattle.pua_policy.specs.History.{History, kept, veils, may_any}
-use Rattle.pua_policy.specs.Verdict.{IsDir, IsMissing, object_of_kind, object_fault, rmdir_fault, cover, cover_fault, is_allowed}
-use Rattle.pua_calls.specs.declared.call.Call.{Call}
+use Rattle.pua_ever.proofs.Common.{◌≡◌, ℕ, zero, suc, List, [], ◌∷◌, ◌++◌, Bool, true, false, cond, map, refl, sym, ap, subst, ◌∙◌, inl}
+use Rattle.pua_ever.proofs.Common.{inr, Option, Some, None, option_map, not, ◌&&◌, ◌||◌, ◌==◌, is_none, if◌then◌else◌, flat_map, nat_lt}
+use Rattle.pua_ever.proofs.Common.{list_any, and_parts, and_from, or_right, Tree, WellFormed, is_dir, look, kind_at, is_empty, has_no_row}
+use Rattle.pua_ever.proofs.Common.{sound_from, row_says, misfit_errno, IsNotEmpty, Way, Named, Top, Dot, DotDot, Whole, Slot, CallTable}
+use Rattle.pua_ever.proofs.Common.{calls, rule_of, History, perms_kept, veils, may_any, IsDir, IsMissing, object_of_kind, object_fault}
+use Rattle.pua_ever.proofs.Common.{cover, cover_fault, is_allowed, Call, Cover, Only, has_c, Word, Subject, At, Others, Item, items}
+use Rattle.pua_ever.proofs.Common.{cover_in, own_or, Among, among_left, among_map, map_among, among_filter, filter_among, contained}
+use Rattle.pua_ever.proofs.Common.{among_contained, covers_descend, allowed_is, is_free, can_empty, dir_covers, file_covers, may_edit}
+use Rattle.pua_ever.proofs.Common.{is_named_way, is_allowed_under, ever_line, EverLine, subjects_of, all_new, new_line, has_ever_calls}
+use Rattle.pua_ever.proofs.Common.{ever}
+use Rattle.std.specs.Prelude.{length}
+use Rattle.pua_policy.specs.Verdict.{rmdir_fault}
 use Rattle.pua_calls.specs.declared.call.Call.TheVariants as call
 use Rattle.pua_policy.specs.declared.place.Place.TheVariants as place
-use Rattle.pua_policy.specs.declared.answer.Cover.{Cover}
-use Rattle.pua_policy.specs.declared.answer.Cover.TheVariants.{Only}
-use Rattle.pua_script.specs.Confinement.{has_c}
-use Rattle.pua_audit.specs.Reach.{Word}
-use Rattle.pua_objects.specs.Objects.{Subject, At, Others, Item, Line, items, items_at, items_below, entries, line_of, calls_on, cover_in, is_named_by, subject_verdict}
+use Rattle.pua_objects.specs.Objects.{Line, items_at, items_below, entries, line_of, calls_on}
+use Rattle.pua_objects.specs.Objects.{is_named_by, subject_verdict}
 use Rattle.pua_objects.specs.Objects as now
-use Rattle.pua_objects.specs.Laws.{own_or}
-use Rattle.pua_objects.proofs.ForCallers.{Among, among_left, among_map, map_among, among_filter, filter_among, among_flat, flat_among, contained, among_contained}
-use Rattle.pua_objects.proofs.ForCallers.{covers_descend}
-use Rattle.pua_objects.proofs.ForCallers.{some_of, allowed_is}
-use Rattle.pua_ever.specs.Ever.{is_free, can_empty, dir_covers, file_covers, may_edit, covers_of, covers_of_dir, is_named_way, ever_object, is_allowed_under, ever_calls, ever_line, EverLine, subjects_of, all_new, new_line, has_calls, ever}
+use Rattle.pua_objects.proofs.ForCallers.{among_flat, flat_among}
+use Rattle.pua_objects.proofs.ForCallers.{some_of}
+use Rattle.pua_ever.specs.Ever.{covers_of, covers_of_dir, ever_object}
+use Rattle.pua_ever.specs.Ever.{ever_calls}
 use Rattle.pua_ever.specs.Laws.{IsWithinEver, NowWithinEver}
 use Rattle.pua_ever.proofs.Covers.{slot_row}
 use Rattle.pua_ever.proofs.Ways.{way_by_c, name_by_veil, some_dir_by, file_by_name, file_by_dir}
@@ -45,24 +38,29 @@ module _ (t : Tree) (h : History) where
   abbrev ItemStands : Item → Type 0
   ItemStands item = StandsNow item.subject
 
-  items_stand : (depth dir : ℕ) (way : Way) (word : Word) → is_dir t dir ≡ true → (item : Item) → Among (items_below depth t (veils h) dir way word) item → ItemStands item
+  items_stand : (depth dir : ℕ) (way : Way) (word : Word) → is_dir t dir ≡ true → (item : Item) →
+      Among (items_below depth t (veils h) dir way word) item → ItemStands item
   items_stand zero dir way word living item a = absurd a
   items_stand (suc depth) dir way word living item (inl e) = subst ItemStands e living
   items_stand (suc depth) dir way word living item (inr (inl e)) = subst ItemStands e living
   items_stand (suc depth) dir way word living item (inr (inr a)) =
-      let entry = flat_among (λ name. items_at t (items_below depth t (veils h)) dir word name (look t dir name)) (entries t (veils h) dir) item a in
+      let entry = flat_among (λ name. items_at t (items_below depth t (veils h)) dir word name (look t dir name)) (entries t (veils h) dir)
+      item a in
       by (λ x other longer is b. items_stand depth x other longer is item b) entry.0 (look t dir entry.0) refl entry.2
     where
       Below : Type 0
-      Below = (x : ℕ) (other : Way) (longer : Word) → is_dir t x ≡ true → Among (items_below depth t (veils h) x other longer) item → ItemStands item
+      Below = (x : ℕ) (other : Way) (longer : Word) → is_dir t x ≡ true → Among (items_below depth t (veils h) x other longer) item →
+          ItemStands item
 
       at : Below → (name : List ℕ) (x : ℕ) → look t dir name ≡ Some x → (b : Bool) → is_dir t x ≡ b →
-          Among (if b then items_below depth t (veils h) x (Named dir name) (word ++ name ∷ []) else record { word = word ++ name ∷ []; subject = At (Slot dir name (Some x)) } ∷ []) item → ItemStands item
+          Among (if b then items_below depth t (veils h) x (Named dir name) (word ++ name ∷ []) else record
+          { word = word ++ name ∷ []; subject = At (Slot dir name (Some x)) } ∷ []) item → ItemStands item
       at more name x row true is a = more x (Named dir name) (word ++ name ∷ []) is a
       at more name x row false other (inl e) = subst ItemStands e (row, other)
       at more name x row false other (inr a) = absurd a
 
-      by : Below → (name : List ℕ) (o : Option ℕ) → look t dir name ≡ o → Among (items_at t (items_below depth t (veils h)) dir word name o) item → ItemStands item
+      by : Below → (name : List ℕ) (o : Option ℕ) → look t dir name ≡ o →
+          Among (items_at t (items_below depth t (veils h)) dir word name o) item → ItemStands item
       by more name None row (inl e) = subst ItemStands e tt
       by more name None row (inr a) = absurd a
       by more name (Some x) row a = at more name x row (is_dir t x) refl a
@@ -70,10 +68,12 @@ module _ (t : Tree) (h : History) where
   module _ (well : WellFormed t) (table : CallTable) (c : Call) where
     -- what covers a thing now is among its covers
     dir_cover : (dir : ℕ) → is_dir t dir ≡ true → Among (covers_of_dir t table h dir) (cover_in t h dir)
-    dir_cover dir is = ever_first (may_edit table h && is_none (kept h (place.Dir dir))) (cover_in t h dir) (dir_covers t h) (λ has. way_by_c t h dir is has)
+    dir_cover dir is = ever_first (may_edit table h && is_none (perms_kept h (place.Dir dir))) (cover_in t h dir) (dir_covers t h)
+        (λ has. way_by_c t h dir is has)
 
-    file_cover : (dir : ℕ) (name : List ℕ) (x : ℕ) → look t dir name ≡ Some x → is_dir t x ≡ false → Among (covers_of t table h (At (Slot dir name (Some x)))) (cover t h (Slot dir name (Some x)))
-    file_cover dir name x row other = named_first t table h (kind_at t x) left (by (kept h (place.Slot dir name)) refl)
+    file_cover : (dir : ℕ) (name : List ℕ) (x : ℕ) → look t dir name ≡ Some x → is_dir t x ≡ false →
+        Among (covers_of t table h (At (Slot dir name (Some x)))) (cover t h (Slot dir name (Some x)))
+    file_cover dir name x row other = named_first t table h (kind_at t x) left (by (perms_kept h (place.Slot dir name)) refl)
       where
         left : Cover
         left = cover t h (Slot dir name (Some x))
@@ -81,20 +81,22 @@ module _ (t : Tree) (h : History) where
         living : is_dir t dir ≡ true
         living = (row_says t (sound_from t well) (dir, name) x row).0
 
-        over : left ≡ own_or (kept h (place.Slot dir name)) (cover_in t h dir)
+        over : left ≡ own_or (perms_kept h (place.Slot dir name)) (cover_in t h dir)
         over = (covers_descend t h well).at_name dir name (Some x)
 
         free : has_c left ≡ true → is_free t h (dir, name) ≡ true
         free has = rw (row, ap has_c (slot_row t h well (dir, name) x other ∙ sym over) ∙ has) refl
 
-        by : (o : Option ℕ) → kept h (place.Slot dir name) ≡ o → has_c left ≡ true → Among (file_covers t h) left
+        by : (o : Option ℕ) → perms_kept h (place.Slot dir name) ≡ o → has_c left ≡ true → Among (file_covers t h) left
         by (Some perms) own has =
             let same : left ≡ Only perms = over ∙ ap (λ o. own_or o (cover_in t h dir)) own in
-            subst (Among (file_covers t h)) (sym same) (file_by_name t h (Only perms) (name_by_veil t h dir name perms living own (ap has_c (sym same) ∙ has) (free has)))
+            subst (Among (file_covers t h)) (sym same)
+            (file_by_name t h (Only perms) (name_by_veil t h dir name perms living own (ap has_c (sym same) ∙ has) (free has)))
         by None own has =
             let same : left ≡ cover_in t h dir = over ∙ ap (λ o. own_or o (cover_in t h dir)) own in
             let with_c : has_c (cover_in t h dir) ≡ true = ap has_c (sym same) ∙ has in
-            subst (Among (file_covers t h)) (sym same) (file_by_dir t h (cover_in t h dir) (way_by_c t h dir living with_c) (some_dir_by t h dir living with_c))
+            subst (Among (file_covers t h)) (sym same) (file_by_dir t h (cover_in t h dir) (way_by_c t h dir living with_c)
+            (some_dir_by t h dir living with_c))
 
     -- a directory that can be removed now is empty now
     abbrev empties : ℕ → Way → Bool
@@ -113,23 +115,33 @@ module _ (t : Tree) (h : History) where
         emptied false e = cc
 
     -- what is allowed now is allowed under them
-    allowed_still : (subject : Subject) → StandsNow subject → is_allowed (subject_verdict t table h c subject) ≡ true → is_allowed_under table h (covers_of t table h subject) (ever_object t table h subject) c ≡ true
+    allowed_still : (subject : Subject) → StandsNow subject → is_allowed (subject_verdict t table h c subject) ≡ true →
+        is_allowed_under table h (covers_of t table h subject) (ever_object t table h subject) c ≡ true
     allowed_still (At (Whole dir way)) is e =
-        let parts = parts_of (may_any h (rule_of table c).alternatives) (cover_fault (cover t h (Whole dir way)) (rule_of table c).perms) (object_fault t c (IsDir dir way)) (allowed_is _ e) in
-        let covered = ap (λ left. cover_fault left (rule_of table c).perms) (sym ((covers_descend t h well).directory dir way is)) ∙ parts.covered in
-        let empty : c ≡ call.Rmdir → empties dir way ≡ true = λ rmdir. removed dir way (ap (λ x. object_fault t x (IsDir dir way)) (sym rmdir) ∙ parts.kind) in
-        under_one table t h (covers_of_dir t table h dir) (dir_as (empties dir way)) c (cover_in t h dir) (dir_cover dir is) parts.may covered (dir_alike t c dir way (empties dir way) empty parts.kind)
+        let parts = parts_of (may_any h (rule_of table c).alternatives) (cover_fault (cover t h (Whole dir way)) (rule_of table c).perms)
+        (object_fault t c (IsDir dir way)) (allowed_is _ e) in
+        let covered = ap (λ left. cover_fault left (rule_of table c).perms) (sym ((covers_descend t h well).directory dir way is)) ∙
+        parts.covered in
+        let empty : c ≡ call.Rmdir → empties dir way ≡ true =
+        λ rmdir. removed dir way (ap (λ x. object_fault t x (IsDir dir way)) (sym rmdir) ∙ parts.kind) in
+        under_one table t h (covers_of_dir t table h dir) (dir_as (empties dir way)) c (cover_in t h dir) (dir_cover dir is) parts.may
+        covered (dir_alike t c dir way (empties dir way) empty parts.kind)
     allowed_still (At (Slot dir name (Some x))) found e =
         let left = cover t h (Slot dir name (Some x)) in
-        let parts = parts_of (may_any h (rule_of table c).alternatives) (cover_fault left (rule_of table c).perms) (object_fault t c (object_of_kind (kind_at t x))) (allowed_is _ e) in
-        under_one table t h (covers_of t table h (At (Slot dir name (Some x)))) (object_of_kind (kind_at t x)) c left (file_cover dir name x found.0 found.1) parts.may parts.covered (sym (plain_alike t c (kind_at t x)) ∙ parts.kind)
+        let parts = parts_of (may_any h (rule_of table c).alternatives) (cover_fault left (rule_of table c).perms)
+        (object_fault t c (object_of_kind (kind_at t x))) (allowed_is _ e) in
+        under_one table t h (covers_of t table h (At (Slot dir name (Some x)))) (object_of_kind (kind_at t x)) c left
+        (file_cover dir name x found.0 found.1) parts.may parts.covered (sym (plain_alike t c (kind_at t x)) ∙ parts.kind)
     allowed_still (At (Slot dir name None)) found e =
         let left = cover t h (Slot dir name None) in
-        let parts = parts_of (may_any h (rule_of table c).alternatives) (cover_fault left (rule_of table c).perms) (object_fault t c IsMissing) (allowed_is _ e) in
+        let parts = parts_of (may_any h (rule_of table c).alternatives) (cover_fault left (rule_of table c).perms)
+        (object_fault t c IsMissing) (allowed_is _ e) in
         under_one table t h (left ∷ []) IsMissing c left (inl refl) parts.may parts.covered (sym (plain_alike t c None) ∙ parts.kind)
     allowed_still (Others dir) is e =
-        let parts = parts_of (may_any h (rule_of table c).alternatives) (cover_fault (cover_in t h dir) (rule_of table c).perms) (object_fault t c IsMissing) (allowed_is _ e) in
-        under_one table t h (covers_of_dir t table h dir) IsMissing c (cover_in t h dir) (dir_cover dir is) parts.may parts.covered (sym (plain_alike t c None) ∙ parts.kind)
+        let parts = parts_of (may_any h (rule_of table c).alternatives) (cover_fault (cover_in t h dir) (rule_of table c).perms)
+        (object_fault t c IsMissing) (allowed_is _ e) in
+        under_one table t h (covers_of_dir t table h dir) IsMissing c (cover_in t h dir) (dir_cover dir is) parts.may parts.covered
+        (sym (plain_alike t c None) ∙ parts.kind)
 
     -- so a call of now is one for ever
     call_stays : (subject : Subject) → StandsNow subject → Among (calls_on t table h subject) c → Among (ever_calls t table h subject) c
@@ -139,17 +151,20 @@ module _ (t : Tree) (h : History) where
         calls_among table t h subject c parts.0 (allowed_still subject found parts.1)
 
   module _ (well : WellFormed t) (table : CallTable) where
-    item_within : (item : Item) → Among (items t (veils h)) item → now.has_calls (line_of t table h item) ≡ true → IsWithinEver t table h (line_of t table h item)
+    item_within : (item : Item) → Among (items t (veils h)) item → now.has_calls (line_of t table h item) ≡ true →
+        IsWithinEver t table h (line_of t table h item)
     item_within item a some =
         let line : EverLine = ever_line t table h (item.word, item.subject) in
-        let here : Among (flat_map (subjects_of t table h) (items t (veils h))) (item.word, item.subject) = among_flat (subjects_of t table h) (items t (veils h)) item (item.word, item.subject) a (inl refl) in
+        let here : Among (flat_map (subjects_of t table h) (items t (veils h))) (item.word, item.subject) =
+        among_flat (subjects_of t table h) (items t (veils h)) item (item.word, item.subject) a (inl refl) in
         let standing = map (ever_line t table h) (flat_map (subjects_of t table h) (items t (veils h))) in
         let coming = map (new_line t table h) all_new in
         record {
           later = line;
           listed = contained (ever t table h) line
-              (among_filter has_calls (standing ++ coming) line (still (calls_on t table h item.subject) some (λ c b. stays c b))
-              (among_left standing coming line (among_map (ever_line t table h) (flat_map (subjects_of t table h) (items t (veils h))) (item.word, item.subject) here)));
+              (among_filter has_ever_calls (standing ++ coming) line (still (calls_on t table h item.subject) some (λ c b. stays c b))
+              (among_left standing coming line (among_map (ever_line t table h) (flat_map (subjects_of t table h) (items t (veils h)))
+              (item.word, item.subject) here)));
           word = refl;
           about = refl;
           allows = λ c b. contained (ever_calls t table h item.subject) c (stays c (among_contained (calls_on t table h item.subject) c b));
@@ -158,7 +173,8 @@ module _ (t : Tree) (h : History) where
         stays : (c : Call) → Among (calls_on t table h item.subject) c → Among (ever_calls t table h item.subject) c
         stays c b = call_stays well table c item.subject (items_stand (length t.nodes) 0 Top [] well.root item a) b
 
-        still : (cs : List Call) → nat_lt 0 (length cs) ≡ true → ((c : Call) → Among cs c → Among (ever_calls t table h item.subject) c) → nat_lt 0 (length (ever_calls t table h item.subject)) ≡ true
+        still : (cs : List Call) → nat_lt 0 (length cs) ≡ true → ((c : Call) → Among cs c → Among (ever_calls t table h item.subject) c) →
+            nat_lt 0 (length (ever_calls t table h item.subject)) ≡ true
         still [] some all = cc
         still (c ∷ cs) some all = some_of (ever_calls t table h item.subject) c (all c (inl refl))
 

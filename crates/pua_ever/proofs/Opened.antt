@@ -1,23 +1,16 @@
 -- The veils alone tell which directories come to be empty, and outside of which something has `c`.
-use Rattle.std.proofs.Common.{◌≡◌, ◌≢◌, ℕ, List, [], ◌∷◌, Bool, true, false, cond, map, refl, sym, ap, ◌∙◌, inl, inr}
-use Rattle.std.specs.Prelude.{Option, Some, None, is_some, not, ◌&&◌, ◌||◌, ◌==◌, filter_map}
-use Rattle.std.specs.List.{list_any, list_all}
-use Rattle.std.proofs.lemmas.Bool.{false≢true, true≢false, eq-eqb, eqb-true, and_parts, and_from, or_cases, not-true}
-use Rattle.pua_tree.specs.Tree.{Tree, WellFormed, Spot, is_dir, look, empty_tree}
-use Rattle.pua_tree.proofs.ForCallers.{same_Some, None≢Some, sound_from, row_says, row_of}
-use Rattle.pua_policy.specs.History.{History, kept, veils}
-use Rattle.pua_policy.specs.Verdict.{is_unveil}
-use Rattle.pua_policy.specs.declared.answer.Cover.{Cover}
-use Rattle.pua_policy.specs.declared.answer.Cover.TheVariants.{Only}
-use Rattle.pua_policy.specs.declared.place.Place.{Place}
+use Rattle.pua_ever.proofs.Common.{◌≡◌, ◌≢◌, ℕ, List, [], ◌∷◌, Bool, true, false, cond, map, refl, sym, ap, ◌∙◌, inl, inr, Option, Some}
+use Rattle.pua_ever.proofs.Common.{None, is_some, not, ◌&&◌, ◌||◌, ◌==◌, filter_map, list_any, list_all, false≢true, eq-eqb, eqb-true}
+use Rattle.pua_ever.proofs.Common.{and_parts, and_from, not-true, Tree, WellFormed, Spot, is_dir, look, empty_tree, same_Some, None≢Some}
+use Rattle.pua_ever.proofs.Common.{sound_from, row_says, row_of, History, perms_kept, veils, is_unveil, Cover, Only, Place, has_c, own_or}
+use Rattle.pua_ever.proofs.Common.{cover_in, Among, among_map, among_filter_map, row_cover, can_empty, is_below, has_c_outside, directories}
+use Rattle.pua_ever.proofs.Common.{opened_dir, held_dir}
+use Rattle.std.proofs.lemmas.Bool.{true≢false, or_cases}
 use Rattle.pua_policy.specs.declared.place.Place.TheVariants as place
-use Rattle.pua_script.specs.Confinement.{has_c}
-use Rattle.pua_objects.specs.Laws.{own_or}
-use Rattle.pua_objects.specs.Objects.{cover_in}
-use Rattle.pua_objects.proofs.ForCallers.{Among, among_map, found_among, filter_map_among, among_filter_map}
-use Rattle.pua_ever.specs.Ever.{row_cover, can_empty, is_below, opens_outside, has_c_outside, directories}
+use Rattle.pua_objects.proofs.ForCallers.{found_among, filter_map_among}
+use Rattle.pua_ever.specs.Ever.{opens_outside}
 use Rattle.pua_ever.specs.Laws.{dir_of_place}
-use Rattle.pua_ever.specs.Openings.{if_c, lacks_c, is_barred, opened_dir, held_dir, is_no_dir, is_outside}
+use Rattle.pua_ever.specs.Openings.{if_c, is_without_c, is_barred, is_no_dir, is_outside}
 use Rattle.pua_ever.proofs.Covers.{dir_row, slot_row, own_dir, under_dir}
 use Rattle.pua_ever.proofs.KeptVeils.{among_kept_at}
 use Rattle.pua_ever.proofs.Origin.{below_both, own_cover, origin}
@@ -37,7 +30,8 @@ pub fails : {X : Type 0} (p : X → Bool) (xs : List X) → list_all p xs ≡ fa
 fails p [] e = absurd (true≢false e)
 fails {X} p (x ∷ xs) e = by (p x) refl e (fails p xs)
   where
-    by : (b : Bool) → p x ≡ b → (b && list_all p xs) ≡ false → (list_all p xs ≡ false → (y : X) × Among xs y × (p y ≡ false)) → (y : X) × Among (x ∷ xs) y × (p y ≡ false)
+    by : (b : Bool) → p x ≡ b → (b && list_all p xs) ≡ false → (list_all p xs ≡ false → (y : X) × Among xs y × (p y ≡ false)) →
+        (y : X) × Among (x ∷ xs) y × (p y ≡ false)
     by true is e more = let found = more e in (found.0, inr found.1, found.2)
     by false is e more = (x, inl refl, is)
 
@@ -60,11 +54,12 @@ pub opening_some : (o : Option ℕ) → is_some (if_c o) ≡ true → (perms : �
 opening_some None e = absurd (false≢true e)
 opening_some (Some perms) e = by (has_c (Only perms)) refl e
   where
-    by : (b : Bool) → has_c (Only perms) ≡ b → is_some (cond b (Some (Only perms)) None) ≡ true → (p : ℕ) × (Some perms ≡ Some p) × (has_c (Only p) ≡ true)
+    by : (b : Bool) → has_c (Only perms) ≡ b → is_some (cond b (Some (Only perms)) None) ≡ true →
+        (p : ℕ) × (Some perms ≡ Some p) × (has_c (Only p) ≡ true)
     by true is e = (perms, refl, is)
     by false is e = absurd (false≢true e)
 
-barred_is : (o : Option ℕ) → lacks_c o ≡ true → (perms : ℕ) × (o ≡ Some perms) × (has_c (Only perms) ≡ false)
+barred_is : (o : Option ℕ) → is_without_c o ≡ true → (perms : ℕ) × (o ≡ Some perms) × (has_c (Only perms) ≡ false)
 barred_is None e = absurd (false≢true e)
 barred_is (Some perms) e = (perms, refl, not-true _ e)
 
@@ -72,7 +67,7 @@ barred_is (Some perms) e = (perms, refl, not-true _ e)
 abbrev pub places_of : History → List Place
 places_of h = map (λ veil. veil.0) (veils h)
 
-pub place_among : (h : History) (at : Place) (perms : ℕ) → kept h at ≡ Some perms → Among (places_of h) at
+pub place_among : (h : History) (at : Place) (perms : ℕ) → perms_kept h at ≡ Some perms → Among (places_of h) at
 place_among h at perms e = among_map (λ (veil : Place × ℕ). veil.0) (veils h) (at, perms) (kept_among empty_tree h at perms e)
 
 module _ (t : Tree) (h : History) (well : WellFormed t) where
@@ -91,7 +86,10 @@ module _ (t : Tree) (h : History) (well : WellFormed t) where
       by : (b : Bool) → can_empty t h y ≡ b → can_empty t h y ≡ false
       by false e = e
       by true all =
-          let one = all_among (λ row. not (row.0.0 == y) || has_c (row_cover t h row.0 row.1)) t.rows (s, x) all (found_among s x t.rows row) in
+          let one = all_among (λ row. not (row.0.0 == y) || has_c (row_cover t h row.0 row.1)) t.rows (
+            s,
+            x,
+          ) all (found_among s x t.rows row) in
           let differs : (not (s.0 == y) || has_c (row_cover t h s x)) ≡ false = (λ i. not (eq-eqb s.0 y at i) || lacks i) in
           absurd (false≢true (sym differs ∙ one))
 
@@ -100,10 +98,11 @@ module _ (t : Tree) (h : History) (well : WellFormed t) where
       let parts = when_some _ _ y e in
       let one = and_parts (is_dir t x) _ parts.0 in
       let two = and_parts (not (x == 0)) _ one.1 in
-      let veil = barred_is (kept h (place.Dir x)) two.1 in
+      let veil = barred_is (perms_kept h (place.Dir x)) two.1 in
       let n : x ≢ 0 = λ z. false≢true (sym (not-true _ two.0) ∙ eq-eqb x 0 z) in
       let row = row_of t (sound_from t well) x one.0 n in
-      barred_row row.0 x y row.1 (sym row.2 ∙ same_Some _ _ parts.1) (ap has_c (dir_row t h well row.0 x one.0 ∙ own_dir t h well x veil.0 one.0 n veil.1) ∙ veil.2)
+      barred_row row.0 x y row.1 (sym row.2 ∙ same_Some _ _ parts.1) (ap has_c (dir_row t h well row.0 x one.0 ∙
+      own_dir t h well x veil.0 one.0 n veil.1) ∙ veil.2)
   held_bars (place.Slot d name) y e = by (look t d name) refl parts.0
     where
       parts : ((is_no_dir t (look t d name) && is_barred h (place.Slot d name)) ≡ true) × (Some d ≡ Some y)
@@ -113,8 +112,9 @@ module _ (t : Tree) (h : History) (well : WellFormed t) where
       by None row both = absurd (false≢true both)
       by (Some x) row both =
           let one = and_parts (not (is_dir t x)) _ both in
-          let veil = barred_is (kept h (place.Slot d name)) one.1 in
-          barred_row (d, name) x y row (same_Some d y parts.1) (ap has_c (slot_row t h well (d, name) x (not-true _ one.0) ∙ ap (λ o. own_or o (cover_in t h d)) veil.1) ∙ veil.2)
+          let veil = barred_is (perms_kept h (place.Slot d name)) one.1 in
+          barred_row (d, name) x y row (same_Some d y parts.1) (ap has_c (slot_row t h well (d, name) x (not-true _ one.0) ∙
+          ap (λ o. own_or o (cover_in t h d)) veil.1) ∙ veil.2)
 
   -- and in a directory with `c` nothing else stays
   module _ (y : ℕ) (is : is_dir t y ≡ true) (has : has_c (cover_in t h y) ≡ true) where
@@ -127,24 +127,32 @@ module _ (t : Tree) (h : History) (well : WellFormed t) where
         n : x ≢ 0
         n = (row_says t (sound_from t well) s x row).3
 
-        dir_held : is_dir t x ≡ true → (o : Option ℕ) → kept h (place.Dir x) ≡ o → Among held y
-        dir_held dir None e = absurd (false≢true (sym lacks ∙ ap has_c (dir_row t h well s x dir ∙ under_dir t h well s x dir row e) ∙ over))
+        dir_held : is_dir t x ≡ true → (o : Option ℕ) → perms_kept h (place.Dir x) ≡ o → Among held y
+        dir_held dir None e = absurd (false≢true (sym lacks ∙ ap has_c (dir_row t h well s x dir ∙ under_dir t h well s x dir row e) ∙
+            over))
         dir_held dir (Some perms) e =
             let bad : has_c (Only perms) ≡ false = ap has_c (sym (dir_row t h well s x dir ∙ own_dir t h well x perms dir n e)) ∙ lacks in
-            let zero_no : not (x == 0) ≡ true = elim (x == 0) as (λ b. (x == 0) ≡ b → not b ≡ true) [ true ↦ λ z. absurd (n (eqb-true x 0 z)) | false ↦ λ z. refl ] refl in
+            let zero_no : not (x == 0) ≡ true = elim (x == 0) as (λ b. (x == 0) ≡ b → not b ≡ true) [
+              | true ↦ λ z. absurd (n (eqb-true x 0 z))
+              | false ↦ λ z. refl
+            ] refl in
             among_filter_map (held_dir t h) (places_of h) (place.Dir x) y (place_among h (place.Dir x) perms e)
-            (when _ _ (and_from (is_dir t x) _ dir (and_from (not (x == 0)) _ zero_no (ap lacks_c e ∙ ap not bad))) ∙ ap Some (above_row t well y s x row dir ∙ at))
+            (when _ _ (and_from (is_dir t x) _ dir (and_from (not (x == 0)) _ zero_no (ap is_without_c e ∙ ap not bad))) ∙
+            ap Some (above_row t well y s x row dir ∙ at))
 
-        slot_held : is_dir t x ≡ false → (o : Option ℕ) → kept h (place.Slot s.0 s.1) ≡ o → Among held y
-        slot_held plain None e = absurd (false≢true (sym lacks ∙ ap has_c (slot_row t h well s x plain ∙ ap (λ o. own_or o (cover_in t h s.0)) e) ∙ over))
+        slot_held : is_dir t x ≡ false → (o : Option ℕ) → perms_kept h (place.Slot s.0 s.1) ≡ o → Among held y
+        slot_held plain None e =
+            absurd (false≢true (sym lacks ∙ ap has_c (slot_row t h well s x plain ∙ ap (λ o. own_or o (cover_in t h s.0)) e) ∙ over))
         slot_held plain (Some perms) e =
-            let bad : has_c (Only perms) ≡ false = ap has_c (sym (slot_row t h well s x plain ∙ ap (λ o. own_or o (cover_in t h s.0)) e)) ∙ lacks in
+            let bad : has_c (Only perms) ≡ false = ap has_c (sym (slot_row t h well s x plain ∙ ap (λ o. own_or o (cover_in t h s.0)) e)) ∙
+            lacks in
             among_filter_map (held_dir t h) (places_of h) (place.Slot s.0 s.1) y (place_among h (place.Slot s.0 s.1) perms e)
-            (when _ _ (and_from (is_no_dir t (look t s.0 s.1)) _ (ap (is_no_dir t) row ∙ ap not plain) (ap lacks_c e ∙ ap not bad)) ∙ ap Some at)
+            (when _ _ (and_from (is_no_dir t (look t s.0 s.1)) _ (ap (is_no_dir t) row ∙ ap not plain) (ap is_without_c e ∙ ap not bad)) ∙
+            ap Some at)
 
         by : (b : Bool) → is_dir t x ≡ b → Among held y
-        by true dir = dir_held dir (kept h (place.Dir x)) refl
-        by false plain = slot_held plain (kept h (place.Slot s.0 s.1)) refl
+        by true dir = dir_held dir (perms_kept h (place.Dir x)) refl
+        by false plain = slot_held plain (perms_kept h (place.Slot s.0 s.1)) refl
 
     pub empties : can_empty t h y ≡ not (list_any (λ other. other == y) held)
     empties = by (list_any (λ other. other == y) held) (can_empty t h y) refl refl
@@ -158,7 +166,9 @@ module _ (t : Tree) (h : History) (well : WellFormed t) where
         by false false any e =
             let row = fails (λ row. not (row.0.0 == y) || has_c (row_cover t h row.0 row.1)) t.rows e in
             let two = neither (row.0.0.0 == y) _ row.2 in
-            absurd (false≢true (sym any ∙ any_among (λ other. other == y) held y (bars_held row.0.0 row.0.1 (among_rows t well row.0 row.1) (eqb-true _ _ two.0) two.1) (eq-eqb y y refl)))
+            absurd (false≢true (sym any ∙
+            any_among (λ other. other == y) held y (bars_held row.0.0 row.0.1 (among_rows t well row.0 row.1) (eqb-true _ _ two.0)
+            two.1) (eq-eqb y y refl)))
 
   -- something has `c` outside of a directory
   module _ (veiled : list_any is_unveil h ≡ true) (y : ℕ) where
@@ -172,21 +182,25 @@ module _ (t : Tree) (h : History) (well : WellFormed t) where
     outside_any : has_c_outside t h y ≡ true → list_any (is_outside t y) opened ≡ true
     outside_any more = elim (or_cases _ _ more) [ inl a ↦ by_dir (any_found _ _ a) | inr a ↦ by_veil (any_found _ _ a) ]
       where
-        opens : (at : Place) (perms d : ℕ) → kept h at ≡ Some perms → has_c (Only perms) ≡ true → dir_of_place at ≡ d → is_dir t d ≡ true → is_below t y d ≡ false → list_any (is_outside t y) opened ≡ true
+        opens : (at : Place) (perms d : ℕ) → perms_kept h at ≡ Some perms → has_c (Only perms) ≡ true → dir_of_place at ≡ d →
+            is_dir t d ≡ true → is_below t y d ≡ false → list_any (is_outside t y) opened ≡ true
         opens at perms d e has same is outside =
             any_among (is_outside t y) opened d
             (among_filter_map (opened_dir h) (places_of h) at d (place_among h at perms e)
-            (when _ _ (ap is_some (opening_from (kept h at) perms e has)) ∙ ap Some same))
+            (when _ _ (ap is_some (opening_from (perms_kept h at) perms e has)) ∙ ap Some same))
             (and_from (is_dir t d) _ is (ap not outside))
 
-        by_dir : (d : ℕ) × Among (directories t) d × ((not (is_below t y d) && has_c (cover_in t h d)) ≡ true) → list_any (is_outside t y) opened ≡ true
+        by_dir : (d : ℕ) × Among (directories t) d × ((not (is_below t y d) && has_c (cover_in t h d)) ≡ true) →
+            list_any (is_outside t y) opened ≡ true
         by_dir (d, a, both) =
             let parts = and_parts _ _ both in
             let is = among_dir t well d a in
             let from = origin t well h veiled d is parts.1 in
-            opens (place.Dir from.dir) from.perms from.dir from.veil (ap has_c (sym from.cover) ∙ parts.1) refl from.living (not_below from.dir d is from.below (not-true _ parts.0))
+            opens (place.Dir from.dir) from.perms from.dir from.veil (ap has_c (sym from.cover) ∙
+            parts.1) refl from.living (not_below from.dir d is from.below (not-true _ parts.0))
 
-        by_veil : (veil : Place × ℕ) × Among (veils h) veil × (opens_outside t y veil.0 veil.1 ≡ true) → list_any (is_outside t y) opened ≡ true
+        by_veil : (veil : Place × ℕ) × Among (veils h) veil × (opens_outside t y veil.0 veil.1 ≡ true) →
+            list_any (is_outside t y) opened ≡ true
         by_veil ((place.Slot d name, perms), a, all) =
             let one = and_parts (is_dir t d) _ all in
             let two = and_parts (not (is_below t y d)) _ one.1 in
@@ -206,7 +220,7 @@ module _ (t : Tree) (h : History) (well : WellFormed t) where
         at_place (place.Dir d) e none =
             let parts = when_some _ _ found.0 e in
             let same = same_Some d found.0 parts.1 in
-            let veil = opening_some (kept h (place.Dir d)) parts.0 in
+            let veil = opening_some (perms_kept h (place.Dir d)) parts.0 in
             let both = and_parts (is_dir t found.0) _ found.2 in
             let is = ap (is_dir t) same ∙ both.0 in
             let outside : is_below t y d ≡ false = ap (is_below t y) same ∙ not-true _ both.1 in
@@ -214,7 +228,7 @@ module _ (t : Tree) (h : History) (well : WellFormed t) where
         at_place (place.Slot d name) e none =
             let parts = when_some _ _ found.0 e in
             let same = same_Some d found.0 parts.1 in
-            let veil = opening_some (kept h (place.Slot d name)) parts.0 in
+            let veil = opening_some (perms_kept h (place.Slot d name)) parts.0 in
             let both = and_parts (is_dir t found.0) _ found.2 in
             let is = ap (is_dir t) same ∙ both.0 in
             let outside : is_below t y d ≡ false = ap (is_below t y) same ∙ not-true _ both.1 in

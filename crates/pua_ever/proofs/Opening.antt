@@ -1,25 +1,23 @@
 -- The covers that the veils give are those of the definition.
-use Rattle.std.proofs.Common.{◌≡◌, ◌≢◌, ℕ, List, [], ◌∷◌, ◌++◌, Bool, true, false, length, map, refl, sym, ap, subst, ◌∙◌, inl, inr, arith}
-use Rattle.std.specs.Prelude.{Option, Some, None, is_some, not, ◌&&◌, ◌==◌, filter, filter_map, nat_lt, if◌then◌else◌}
-use Rattle.std.specs.List.{list_any}
-use Rattle.std.proofs.lemmas.Bool.{false≢true, eq-eqb, eqb-true, and_parts, and_from, or_cases, not-true, lt-ltb}
-use Rattle.pua_tree.specs.Tree.{Tree, WellFormed, Spot, is_dir, look, climb}
-use Rattle.pua_tree.proofs.ForCallers.{same_Some, None≢Some, sound_from, row_says, row_of}
-use Rattle.pua_policy.specs.History.{History, kept, veils, has_veil}
-use Rattle.pua_policy.specs.Verdict.{is_unveil, nearest}
-use Rattle.pua_policy.specs.declared.answer.Cover.{Cover}
-use Rattle.pua_policy.specs.declared.answer.Cover.TheVariants.{All, Only}
-use Rattle.pua_policy.specs.declared.place.Place.{Place}
+use Rattle.pua_ever.proofs.Common.{◌≡◌, ◌≢◌, ℕ, List, [], ◌∷◌, ◌++◌, Bool, true, false, length, map, refl, sym, ap, subst, ◌∙◌, inl, inr}
+use Rattle.pua_ever.proofs.Common.{arith, Option, Some, None, is_some, not, ◌&&◌, ◌==◌, filter, filter_map, nat_lt, if◌then◌else◌, list_any}
+use Rattle.pua_ever.proofs.Common.{false≢true, eq-eqb, eqb-true, and_parts, and_from, not-true, Tree, WellFormed, Spot, is_dir, look, climb}
+use Rattle.pua_ever.proofs.Common.{same_Some, None≢Some, sound_from, row_says, row_of, History, perms_kept, veils, has_veil, is_unveil}
+use Rattle.pua_ever.proofs.Common.{Cover, All, Only, Place, has_c, cover_in, Among, among_left, among_right, map_among, filter_among}
+use Rattle.pua_ever.proofs.Common.{contained, among_contained, among_filter_map, is_free, can_empty, has_c_outside, directories, dir_covers}
+use Rattle.pua_ever.proofs.Common.{name_covers, some_dir_has_c, dir_opening, name_opening, entrance_cover, HaveSame}
+use Rattle.std.proofs.lemmas.Bool.{or_cases, lt-ltb}
+use Rattle.pua_policy.specs.Verdict.{nearest}
 use Rattle.pua_policy.specs.declared.place.Place.TheVariants as place
 use Rattle.pua_policy.proofs.ForCallers.{any_veil}
-use Rattle.pua_script.specs.Confinement.{has_c}
-use Rattle.pua_objects.specs.Objects.{cover_in}
-use Rattle.pua_objects.proofs.ForCallers.{Among, among_left, among_right, among_either, map_among, filter_among, contained, among_contained, filter_map_among, among_filter_map}
-use Rattle.pua_ever.specs.Ever.{is_free, can_empty, opens_at, gives_way, is_way_in, has_c_outside, directories, dir_covers, veil_cover_at, name_covers, some_dir_has_c}
-use Rattle.pua_ever.specs.Openings.{opening, dir_opening, name_opening, entrance, HaveSame}
+use Rattle.pua_objects.proofs.ForCallers.{among_either}
+use Rattle.pua_objects.proofs.ForCallers.{filter_map_among}
+use Rattle.pua_ever.specs.Ever.{opens_at, gives_way, is_way_in, veil_cover_at}
+use Rattle.pua_ever.specs.Openings.{opening}
 use Rattle.pua_ever.proofs.Covers.{under_dir}
 use Rattle.pua_ever.proofs.KeptVeils.{among_kept_at}
-use Rattle.pua_ever.proofs.Opened.{when_some, when, opening_is, opening_from, opening_some, places_of, place_among, held, opened, empties, outsides}
+use Rattle.pua_ever.proofs.Opened.{when_some, when, opening_is, opening_from, opening_some, places_of, place_among, held, opened, empties}
+use Rattle.pua_ever.proofs.Opened.{outsides}
 use Rattle.pua_ever.proofs.Origin.{own_cover, origin}
 use Rattle.pua_ever.proofs.Quiet.{above_row}
 use Rattle.pua_ever.proofs.Ways.{any_found, among_dir, among_rows, way_by_c, way_by_name, way_by_turn, name_by_veil, some_dir_by}
@@ -37,10 +35,10 @@ module _ (t : Tree) (h : History) (well : WellFormed t) where
   own_covers = filter_map (dir_opening t h) (places_of h) ++ (if has_veil (veils h) then [] else All ∷ [])
 
   abbrev pub entrances : List Cover
-  entrances = filter_map (entrance t h (held t h well) (opened t h well)) (places_of h)
+  entrances = filter_map (entrance_cover t h (held t h well) (opened t h well)) (places_of h)
 
   no_veils : has_veil (veils h) ≡ false → (d : ℕ) → cover_in t h d ≡ All
-  no_veils none d = ap (λ b. if b then nearest (map (λ over. kept h (place.Dir over)) (climb t d)) else All) (any_veil h ∙ none)
+  no_veils none d = ap (λ b. if b then nearest (map (λ over. perms_kept h (place.Dir over)) (climb t d)) else All) (any_veil h ∙ none)
 
   -- a directory that has `c` gives its cover
   by_own : (d : ℕ) → is_dir t d ≡ true → has_c (cover_in t h d) ≡ true → Among own_covers (cover_in t h d)
@@ -53,26 +51,33 @@ module _ (t : Tree) (h : History) (well : WellFormed t) where
       by true some =
           let from = origin t well h (any_veil h ∙ some) d is has in
           among_left (filter_map (dir_opening t h) (places_of h)) _ (cover_in t h d)
-          (among_filter_map (dir_opening t h) (places_of h) (place.Dir from.dir) (cover_in t h d) (place_among h (place.Dir from.dir) from.perms from.veil)
-          (when _ _ from.living ∙ opening_from (kept h (place.Dir from.dir)) from.perms from.veil (ap has_c (sym from.cover) ∙ has) ∙ ap Some (sym from.cover)))
+          (among_filter_map (dir_opening t h) (places_of h) (place.Dir from.dir) (cover_in t h d)
+          (place_among h (place.Dir from.dir) from.perms from.veil)
+          (when _ _ from.living ∙ opening_from (perms_kept h (place.Dir from.dir)) from.perms from.veil (ap has_c (sym from.cover) ∙ has) ∙
+          ap Some (sym from.cover)))
 
   own_dir_at : (c : Cover) → Among own_covers c → (d : ℕ) × (is_dir t d ≡ true) × (has_c (cover_in t h d) ≡ true) × (cover_in t h d ≡ c)
-  own_dir_at c a = elim (among_either (filter_map (dir_opening t h) (places_of h)) _ c a) [ inl b ↦ by_veil (filter_map_among (dir_opening t h) (places_of h) c b) | inr b ↦ by_none (has_veil (veils h)) refl b ]
+  own_dir_at c a = elim (among_either (filter_map (dir_opening t h) (places_of h)) _ c a) [
+    | inl b ↦ by_veil (filter_map_among (dir_opening t h) (places_of h) c b)
+    | inr b ↦ by_none (has_veil (veils h)) refl b
+  ]
     where
-      by_veil : (at : Place) × Among (places_of h) at × (dir_opening t h at ≡ Some c) → (d : ℕ) × (is_dir t d ≡ true) × (has_c (cover_in t h d) ≡ true) × (cover_in t h d ≡ c)
+      by_veil : (at : Place) × Among (places_of h) at × (dir_opening t h at ≡ Some c) →
+          (d : ℕ) × (is_dir t d ≡ true) × (has_c (cover_in t h d) ≡ true) × (cover_in t h d ≡ c)
       by_veil (place.Dir d, _, e) =
           let parts = when_some (is_dir t d) _ c e in
-          let veil = opening_is (kept h (place.Dir d)) c parts.1 in
+          let veil = opening_is (perms_kept h (place.Dir d)) c parts.1 in
           let same : cover_in t h d ≡ c = own_cover t well h d veil.0 parts.0 veil.1 ∙ sym veil.2 in
           (d, parts.0, ap has_c same ∙ veil.3, same)
       by_veil (place.Slot d name, _, e) = absurd (None≢Some c e)
 
-      by_none : (b : Bool) → has_veil (veils h) ≡ b → Among (if b then [] else All ∷ []) c → (d : ℕ) × (is_dir t d ≡ true) × (has_c (cover_in t h d) ≡ true) × (cover_in t h d ≡ c)
+      by_none : (b : Bool) → has_veil (veils h) ≡ b → Among (if b then [] else All ∷ []) c →
+          (d : ℕ) × (is_dir t d ≡ true) × (has_c (cover_in t h d) ≡ true) × (cover_in t h d ≡ c)
       by_none true some a = absurd a
       by_none false none (inl e) = (0, well.root, ap has_c (no_veils none 0), no_veils none 0 ∙ e)
       by_none false none (inr a) = absurd a
 
-  veiled : (at : Place) (perms : ℕ) → kept h at ≡ Some perms → list_any is_unveil h ≡ true
+  veiled : (at : Place) (perms : ℕ) → perms_kept h at ≡ Some perms → list_any is_unveil h ≡ true
   veiled at perms e = any_veil h ∙ some (veils h) (place_among h at perms e)
     where
       some : (vs : List (Place × ℕ)) → Among (map (λ veil. veil.0) vs) at → has_veil vs ≡ true
@@ -80,12 +85,12 @@ module _ (t : Tree) (h : History) (well : WellFormed t) where
       some (v ∷ vs) a = refl
 
   -- a directory that is moved or made can come there
-  entrance_covers : (at : Place) (c : Cover) → entrance t h (held t h well) (opened t h well) at ≡ Some c → Among (dir_covers t h) c
+  entrance_covers : (at : Place) (c : Cover) → entrance_cover t h (held t h well) (opened t h well) at ≡ Some c → Among (dir_covers t h) c
   entrance_covers (place.Slot d name) c e =
       let parts = when_some _ _ c e in
       let one = and_parts (is_dir t d) _ parts.0 in
       let two = and_parts (is_free t h (d, name)) _ one.1 in
-      let veil = opening_some (kept h (place.Slot d name)) two.1 in
+      let veil = opening_some (perms_kept h (place.Slot d name)) two.1 in
       subst (Among (dir_covers t h)) (same_Some _ c parts.1) (way_by_name t h d name veil.0 one.0 veil.1 veil.2 two.0)
   entrance_covers (place.Dir y) c e =
       let parts = when_some _ _ c e in
@@ -93,7 +98,7 @@ module _ (t : Tree) (h : History) (well : WellFormed t) where
       let two = and_parts (not (y == 0)) _ one.1 in
       let three = and_parts (is_some (opening h (place.Dir y))) _ two.1 in
       let four = and_parts (not (list_any (λ other. other == y) (held t h well))) _ three.1 in
-      let veil = opening_some (kept h (place.Dir y)) three.0 in
+      let veil = opening_some (perms_kept h (place.Dir y)) three.0 in
       let n : y ≢ 0 = λ z. false≢true (sym (not-true _ two.0) ∙ eq-eqb y 0 z) in
       let row = row_of t (sound_from t well) y one.0 n in
       let has : has_c (cover_in t h y) ≡ true = ap has_c (own_cover t well h y veil.0 one.0 veil.1) ∙ veil.2 in
@@ -103,28 +108,36 @@ module _ (t : Tree) (h : History) (well : WellFormed t) where
 
   -- and no other covers a directory that comes there
   ways_gathered : (d : ℕ) → is_dir t d ≡ true → is_way_in t h d ≡ true → Among (own_covers ++ entrances) (cover_in t h d)
-  ways_gathered d is way = elim (or_cases _ _ way) [ inl has ↦ own has | inr more ↦ elim (or_cases _ _ more) [ inl a ↦ by_name (any_found _ _ a) | inr a ↦ by_turn (any_found _ _ a) ] ]
+  ways_gathered d is way = elim (or_cases _ _ way) [
+    | inl has ↦ own has
+    | inr more ↦ elim (or_cases _ _ more) [ inl a ↦ by_name (any_found _ _ a) | inr a ↦ by_turn (any_found _ _ a) ]
+  ]
     where
       own : has_c (cover_in t h d) ≡ true → Among (own_covers ++ entrances) (cover_in t h d)
       own has = among_left own_covers entrances (cover_in t h d) (by_own d is has)
 
-      enters : (at : Place) (perms : ℕ) → kept h at ≡ Some perms → entrance t h (held t h well) (opened t h well) at ≡ Some (cover_in t h d) → Among (own_covers ++ entrances) (cover_in t h d)
+      enters : (at : Place) (perms : ℕ) → perms_kept h at ≡ Some perms →
+          entrance_cover t h (held t h well) (opened t h well) at ≡ Some (cover_in t h d) → Among (own_covers ++ entrances) (cover_in t h d)
       enters at perms veil e =
           among_right own_covers entrances (cover_in t h d)
-          (among_filter_map (entrance t h (held t h well) (opened t h well)) (places_of h) at (cover_in t h d) (place_among h at perms veil) e)
+          (among_filter_map (entrance_cover t h (held t h well) (opened t h well)) (places_of h) at (cover_in t h d)
+          (place_among h at perms veil) e)
 
-      by_name : (veil : Place × ℕ) × Among (veils h) veil × (opens_at t h d veil.0 veil.1 ≡ true) → Among (own_covers ++ entrances) (cover_in t h d)
+      by_name : (veil : Place × ℕ) × Among (veils h) veil × (opens_at t h d veil.0 veil.1 ≡ true) →
+          Among (own_covers ++ entrances) (cover_in t h d)
       by_name ((place.Slot other name, perms), a, all) =
           let one = and_parts (other == d) _ all in
           let two = and_parts (has_c (Only perms)) _ one.1 in
           let same = eqb-true other d one.0 in
           let veil = among_kept_at h (place.Slot other name) perms a in
           enters (place.Slot other name) perms veil
-          (when _ _ (and_from (is_dir t other) _ (ap (is_dir t) same ∙ is) (and_from (is_free t h (other, name)) _ two.1 (ap is_some (opening_from _ perms veil two.0)))) ∙ ap (λ d. Some (cover_in t h d)) same)
+          (when _ _ (and_from (is_dir t other) _ (ap (is_dir t) same ∙
+          is) (and_from (is_free t h (other, name)) _ two.1 (ap is_some (opening_from _ perms veil two.0)))) ∙
+          ap (λ d. Some (cover_in t h d)) same)
       by_name ((place.Dir other, perms), a, all) = absurd (false≢true all)
 
       by_turn : (row : Spot × ℕ) × Among t.rows row × (gives_way t h d row ≡ true) → Among (own_covers ++ entrances) (cover_in t h d)
-      by_turn ((s, y), a, all) = turned (kept h (place.Dir y)) refl
+      by_turn ((s, y), a, all) = turned (perms_kept h (place.Dir y)) refl
         where
           row : look t s.0 s.1 ≡ Some y
           row = among_rows t well (s, y) a
@@ -144,15 +157,21 @@ module _ (t : Tree) (h : History) (well : WellFormed t) where
           same : s.0 ≡ d
           same = eqb-true s.0 d one.0
 
-          turned : (o : Option ℕ) → kept h (place.Dir y) ≡ o → Among (own_covers ++ entrances) (cover_in t h d)
+          turned : (o : Option ℕ) → perms_kept h (place.Dir y) ≡ o → Among (own_covers ++ entrances) (cover_in t h d)
           turned None e = own (ap has_c (sym (under_dir t h well s y two.0 row e ∙ ap (cover_in t h) same)) ∙ three.0)
           turned (Some perms) e =
               let n : y ≢ 0 = (row_says t (sound_from t well) s y row).3 in
-              let no_root : not (y == 0) ≡ true = elim (y == 0) as (λ b. (y == 0) ≡ b → not b ≡ true) [ true ↦ λ z. absurd (n (eqb-true y 0 z)) | false ↦ λ z. refl ] refl in
+              let no_root : not (y == 0) ≡ true = elim (y == 0) as (λ b. (y == 0) ≡ b → not b ≡ true) [
+                | true ↦ λ z. absurd (n (eqb-true y 0 z))
+                | false ↦ λ z. refl
+              ] refl in
               let has : has_c (Only perms) ≡ true = ap has_c (sym (own_cover t well h y perms two.0 e)) ∙ three.0 in
               enters (place.Dir y) perms e
-              (when _ _ (and_from (is_dir t y) _ two.0 (and_from (not (y == 0)) _ no_root (and_from (is_some (opening h (place.Dir y))) _ (ap is_some (opening_from _ perms e has))
-              (and_from (not (list_any (λ other. other == y) (held t h well))) _ (sym (empties t h well y two.0 three.0) ∙ four.0) (sym (outsides t h well (veiled (place.Dir y) perms e) y) ∙ four.1)))))
+              (when _ _ (and_from (is_dir t y) _ two.0
+              (and_from (not (y == 0)) _ no_root
+              (and_from (is_some (opening h (place.Dir y))) _ (ap is_some (opening_from _ perms e has))
+              (and_from (not (list_any (λ other. other == y) (held t h well))) _ (sym (empties t h well y two.0 three.0) ∙
+              four.0) (sym (outsides t h well (veiled (place.Dir y) perms e) y) ∙ four.1)))))
               ∙ ap (λ d. Some (cover_in t h d)) (above_row t well y s y row two.0 ∙ same))
 
   pub dirs_same : HaveSame (own_covers ++ entrances) (dir_covers t h)
@@ -162,7 +181,8 @@ module _ (t : Tree) (h : History) (well : WellFormed t) where
       within c a =
           elim (among_either own_covers entrances c a) [
             | inl b ↦ (let at = own_dir_at c b in subst (Among (dir_covers t h)) at.3 (way_by_c t h at.0 at.1 at.2))
-            | inr b ↦ (let from = filter_map_among (entrance t h (held t h well) (opened t h well)) (places_of h) c b in entrance_covers from.0 c from.2)
+            | inr b ↦ (let from = filter_map_among (entrance_cover t h (held t h well) (opened t h well)) (places_of h) c b in
+                entrance_covers from.0 c from.2)
           ]
 
       all : (c : Cover) → Among (dir_covers t h) c → Among (own_covers ++ entrances) c
@@ -172,17 +192,20 @@ module _ (t : Tree) (h : History) (well : WellFormed t) where
           subst (Among (own_covers ++ entrances)) from.2 (ways_gathered from.0 (among_dir t well from.0 d.0) d.1)
 
   pub names_same : HaveSame (filter_map (name_opening t h) (places_of h)) (name_covers t h)
-  names_same = have_same _ _ (λ c a. within c (filter_map_among (name_opening t h) (places_of h) c a)) (λ c a. all c (filter_map_among (λ veil. veil_cover_at t h veil.0 veil.1) (veils h) c a))
+  names_same = have_same _ _ (λ c a. within c (filter_map_among (name_opening t h) (places_of h) c a))
+      (λ c a. all c (filter_map_among (λ veil. veil_cover_at t h veil.0 veil.1) (veils h) c a))
     where
       within : (c : Cover) → (at : Place) × Among (places_of h) at × (name_opening t h at ≡ Some c) → Among (name_covers t h) c
       within c (place.Slot d name, _, e) =
           let parts = when_some _ _ c e in
           let both = and_parts (is_dir t d) _ parts.0 in
-          let veil = opening_is (kept h (place.Slot d name)) c parts.1 in
-          subst (Among (name_covers t h)) (sym veil.2) (name_by_veil t h d name veil.0 both.0 veil.1 (ap has_c (sym veil.2) ∙ veil.3) both.1)
+          let veil = opening_is (perms_kept h (place.Slot d name)) c parts.1 in
+          subst (Among (name_covers t h)) (sym veil.2) (name_by_veil t h d name veil.0 both.0 veil.1 (ap has_c (sym veil.2) ∙
+          veil.3) both.1)
       within c (place.Dir d, _, e) = absurd (None≢Some c e)
 
-      all : (c : Cover) → (veil : Place × ℕ) × Among (veils h) veil × (veil_cover_at t h veil.0 veil.1 ≡ Some c) → Among (filter_map (name_opening t h) (places_of h)) c
+      all : (c : Cover) → (veil : Place × ℕ) × Among (veils h) veil × (veil_cover_at t h veil.0 veil.1 ≡ Some c) →
+          Among (filter_map (name_opening t h) (places_of h)) c
       all c ((place.Slot d name, perms), a, e) =
           let parts = when_some _ _ c e in
           let one = and_parts (is_dir t d) _ parts.0 in

@@ -1,20 +1,12 @@
 -- What has `c` has it by a veil, on a directory that it is below.
-use Rattle.std.proofs.Common.{◌≡◌, ◌≢◌, ℕ, zero, suc, Bool, true, false, refl, sym, ap, subst, ◌∙◌, arith}
-use Rattle.std.specs.Prelude.{Option, Some, None, ◌==◌, if◌then◌else◌}
-use Rattle.std.specs.List.{list_any}
-use Rattle.std.proofs.lemmas.Bool.{false≢true, eq-eqb, eqb-true, or_right}
-use Rattle.pua_tree.specs.Tree.{Tree, WellFormed, is_dir, above}
-use Rattle.pua_tree.proofs.ForCallers.{Reaches, sound_from, row_of, above_dir}
-use Rattle.pua_policy.specs.History.{History, kept}
-use Rattle.pua_policy.specs.Verdict.{is_unveil}
-use Rattle.pua_policy.specs.declared.answer.Cover.TheVariants.{All, Nothing, Only}
+use Rattle.pua_ever.proofs.Common.{◌≡◌, ◌≢◌, ℕ, zero, suc, Bool, true, false, refl, sym, ap, subst, ◌∙◌, arith, Option, Some, None, ◌==◌}
+use Rattle.pua_ever.proofs.Common.{if◌then◌else◌, list_any, false≢true, eq-eqb, eqb-true, or_right, Tree, WellFormed, is_dir, above}
+use Rattle.pua_ever.proofs.Common.{Reaches, sound_from, row_of, History, perms_kept, is_unveil, All, Only, has_c, own_or, cover_in}
+use Rattle.pua_ever.proofs.Common.{covers_descend, is_below}
+use Rattle.pua_tree.proofs.ForCallers.{above_dir}
+use Rattle.pua_policy.specs.declared.answer.Cover.TheVariants.{Nothing}
 use Rattle.pua_policy.specs.declared.place.Place.TheVariants as place
 use Rattle.pua_policy.proofs.ForCallers.{climb_step}
-use Rattle.pua_script.specs.Confinement.{has_c}
-use Rattle.pua_objects.specs.Laws.{own_or}
-use Rattle.pua_objects.specs.Objects.{cover_in}
-use Rattle.pua_objects.proofs.ForCallers.{covers_descend}
-use Rattle.pua_ever.specs.Ever.{is_below}
 use Rattle.pua_ever.proofs.Covers.{own_dir, under_dir}
 use Rattle.pua_ever.proofs.Quiet.{below_self, below_up, root_below, way_up}
 
@@ -23,7 +15,8 @@ module _ (t : Tree) (well : WellFormed t) where
   below_over : (y d : ℕ) → is_dir t d ≡ true → d ≢ 0 → is_below t y (above t d) ≡ true → is_below t y d ≡ true
   below_over y d is n below = ap (list_any (λ e. e == y)) (climb_step t well d n is) ∙ or_right (d == y) _ below
 
-  below_steps : (y x steps d : ℕ) → Reaches t steps d → is_dir t d ≡ true → is_below t x d ≡ true → is_below t y x ≡ true → is_below t y d ≡ true
+  below_steps : (y x steps d : ℕ) → Reaches t steps d → is_dir t d ≡ true → is_below t x d ≡ true → is_below t y x ≡ true →
+      is_below t y d ≡ true
   below_steps y x zero d root is inner outer = by (d == x) refl
     where
       by : (b : Bool) → (d == x) ≡ b → is_below t y d ≡ true
@@ -31,9 +24,11 @@ module _ (t : Tree) (well : WellFormed t) where
       by false differs =
           let other : x ≢ 0 = λ e. false≢true (sym differs ∙ eq-eqb d x (root ∙ sym e)) in
           absurd (false≢true (sym (ap (is_below t x) root ∙ root_below t well x other) ∙ inner))
-  below_steps y x (suc steps) d up is inner outer = by (d == x) refl (below_steps y x steps (above t d) up.1 (above_dir t (sound_from t well) d is up.0))
+  below_steps y x (suc steps) d up is inner outer =
+      by (d == x) refl (below_steps y x steps (above t d) up.1 (above_dir t (sound_from t well) d is up.0))
     where
-      by : (b : Bool) → (d == x) ≡ b → (is_below t x (above t d) ≡ true → is_below t y x ≡ true → is_below t y (above t d) ≡ true) → is_below t y d ≡ true
+      by : (b : Bool) → (d == x) ≡ b → (is_below t x (above t d) ≡ true → is_below t y x ≡ true → is_below t y (above t d) ≡ true) →
+          is_below t y d ≡ true
       by true same rest = subst (λ z. is_below t y z ≡ true) (sym (eqb-true d x same)) outer
       by false differs rest = below_over y d is up.0 (rest (sym (below_up t well x d differs up.0 is) ∙ inner) outer)
 
@@ -42,7 +37,7 @@ module _ (t : Tree) (well : WellFormed t) where
 
   module _ (h : History) where
     -- the cover of a directory with a veil of its own
-    pub own_cover : (d perms : ℕ) → is_dir t d ≡ true → kept h (place.Dir d) ≡ Some perms → cover_in t h d ≡ Only perms
+    pub own_cover : (d perms : ℕ) → is_dir t d ≡ true → perms_kept h (place.Dir d) ≡ Some perms → cover_in t h d ≡ Only perms
     own_cover zero perms is e = (covers_descend t h well).root ∙ ap (λ o. own_or o (if list_any is_unveil h then Nothing else All)) e
     own_cover (suc d) perms is e = own_dir t h well (suc d) perms is (λ z. omega (arith, z)) e
 
@@ -51,32 +46,48 @@ module _ (t : Tree) (well : WellFormed t) where
       pub dir : ℕ
       pub living : is_dir t dir ≡ true
       pub perms : ℕ
-      pub veil : kept h (place.Dir dir) ≡ Some perms
+      pub veil : perms_kept h (place.Dir dir) ≡ Some perms
       pub cover : cover_in t h d ≡ Only perms
       pub below : is_below t dir d ≡ true
 
-    here : (d perms : ℕ) → is_dir t d ≡ true → kept h (place.Dir d) ≡ Some perms → Origin d
-    here d perms is e = record { dir = d; living = is; perms = perms; veil = e; cover = own_cover d perms is e; below = below_self t well d d (eq-eqb d d refl) is }
+    here : (d perms : ℕ) → is_dir t d ≡ true → perms_kept h (place.Dir d) ≡ Some perms → Origin d
+    here d perms is e = record {
+      dir = d;
+      living = is;
+      perms = perms;
+      veil = e;
+      cover = own_cover d perms is e;
+      below = below_self t well d d (eq-eqb d d refl) is;
+    }
 
-    origin_in : list_any is_unveil h ≡ true → (steps d : ℕ) → Reaches t steps d → is_dir t d ≡ true → has_c (cover_in t h d) ≡ true → Origin d
-    origin_in veiled zero d root is has = by (kept h (place.Dir d)) refl
+    origin_in : list_any is_unveil h ≡ true → (steps d : ℕ) → Reaches t steps d → is_dir t d ≡ true → has_c (cover_in t h d) ≡ true →
+        Origin d
+    origin_in veiled zero d root is has = by (perms_kept h (place.Dir d)) refl
       where
-        by : (o : Option ℕ) → kept h (place.Dir d) ≡ o → Origin d
+        by : (o : Option ℕ) → perms_kept h (place.Dir d) ≡ o → Origin d
         by (Some perms) e = here d perms is e
         by None e =
             let none : cover_in t h d ≡ Nothing =
             ap (cover_in t h) root ∙ (covers_descend t h well).root
-            ∙ (λ i. own_or ((ap (λ z. kept h (place.Dir z)) (sym root) ∙ e) i) (if veiled i then Nothing else All)) in
+            ∙ (λ i. own_or ((ap (λ z. perms_kept h (place.Dir z)) (sym root) ∙ e) i) (if veiled i then Nothing else All)) in
             absurd (false≢true (ap has_c (sym none) ∙ has))
-    origin_in veiled (suc steps) d up is has = by (kept h (place.Dir d)) refl (origin_in veiled steps (above t d) up.1 (above_dir t (sound_from t well) d is up.0))
+    origin_in veiled (suc steps) d up is has =
+        by (perms_kept h (place.Dir d)) refl (origin_in veiled steps (above t d) up.1 (above_dir t (sound_from t well) d is up.0))
       where
-        by : (o : Option ℕ) → kept h (place.Dir d) ≡ o → (has_c (cover_in t h (above t d)) ≡ true → Origin (above t d)) → Origin d
+        by : (o : Option ℕ) → perms_kept h (place.Dir d) ≡ o → (has_c (cover_in t h (above t d)) ≡ true → Origin (above t d)) → Origin d
         by (Some perms) e more = here d perms is e
         by None e more =
             let row = row_of t (sound_from t well) d is up.0 in
             let same : cover_in t h d ≡ cover_in t h (above t d) = under_dir t h well row.0 d is row.1 e ∙ ap (cover_in t h) (sym row.2) in
             let from = more (ap has_c (sym same) ∙ has) in
-            record { dir = from.dir; living = from.living; perms = from.perms; veil = from.veil; cover = same ∙ from.cover; below = below_over from.dir d is up.0 from.below }
+            record {
+              dir = from.dir;
+              living = from.living;
+              perms = from.perms;
+              veil = from.veil;
+              cover = same ∙ from.cover;
+              below = below_over from.dir d is up.0 from.below;
+            }
 
     pub origin : list_any is_unveil h ≡ true → (d : ℕ) → is_dir t d ≡ true → has_c (cover_in t h d) ≡ true → Origin d
     origin veiled d is = let up = way_up t well 0 d is in origin_in veiled up.0 d up.1 is

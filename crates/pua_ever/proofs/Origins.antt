@@ -1,26 +1,20 @@
--- What stays true of each tree on the way, by the tree and the history at the beginning: where each row came from, and so by what it is covered.
-use Rattle.std.proofs.Common.{◌≡◌, ◌≢◌, ◌⊎◌, ◌≤◌, ◌<◌, ℕ, zero, suc, ◌++◌, Bool, true, false, refl, sym, ap, subst, ◌∙◌, inl, inr, arith}
-use Rattle.std.specs.Prelude.{Option, Some, None, not, ◌||◌, ◌==◌}
-use Rattle.std.specs.List.{list_any}
-use Rattle.std.proofs.lemmas.Bool.{false≢true, and_parts, not-true, or_right}
-use Rattle.pua_tree.specs.Tree.{Tree, WellFormed, Spot, spot_cmp, is_dir, is_living, look, node_at, kind_at, above, is_empty, has_no_row}
-use Rattle.pua_tree.proofs.ForCallers.{Sound, Reaches, sound_from, row_says, row_of, above_dir, same_Some, Some≢None, spots_total, exact_spots, same_dir}
+-- What stays true of each tree on the way, by the tree and the history at the beginning: where each row came from, and
+-- so by what it is covered.
+use Rattle.pua_ever.proofs.Common.{◌≡◌, ◌≢◌, ◌⊎◌, ◌≤◌, ◌<◌, ℕ, zero, suc, ◌++◌, Bool, true, false, refl, sym, ap, subst, ◌∙◌, inl, inr}
+use Rattle.pua_ever.proofs.Common.{arith, Option, Some, None, not, ◌||◌, ◌==◌, list_any, false≢true, and_parts, not-true, or_right, Tree}
+use Rattle.pua_ever.proofs.Common.{WellFormed, Spot, spot_cmp, is_dir, is_living, look, node_at, kind_at, above, is_empty, has_no_row}
+use Rattle.pua_ever.proofs.Common.{Reaches, sound_from, row_says, row_of, same_Some, Some≢None, spots_total, exact_spots, same_dir}
+use Rattle.pua_ever.proofs.Common.{CallTable, History, perms_kept, Only, has_c, UncoveredStay, cover_in, own_or, Among, among_left}
+use Rattle.pua_ever.proofs.Common.{among_right, covers_descend, row_cover, is_free, can_link, can_empty, has_c_outside, dir_covers}
+use Rattle.pua_ever.proofs.Common.{name_covers, some_dir_has_c, file_covers, New, can_make, VeilsStand}
+use Rattle.pua_tree.proofs.ForCallers.{Sound, above_dir}
 use Rattle.pua_tree.proofs.ForCallers.{none_found, all_from_found}
-use Rattle.pua_calls.specs.Calls.{CallTable}
-use Rattle.pua_policy.specs.History.{History, kept}
 use Rattle.pua_policy.specs.declared.place.Place.TheVariants as place
-use Rattle.pua_policy.specs.declared.answer.Cover.TheVariants.{Only}
-use Rattle.pua_script.specs.Confinement.{has_c, UncoveredStay}
-use Rattle.pua_objects.specs.Objects.{cover_in}
-use Rattle.pua_objects.specs.Laws.{own_or}
-use Rattle.pua_objects.proofs.ForCallers.{Among, among_left, among_right}
-use Rattle.pua_objects.proofs.ForCallers.{covers_descend}
-use Rattle.pua_ever.specs.Ever.{row_cover, is_free, can_link, can_empty, has_c_outside, dir_covers, name_covers, some_dir_has_c, file_covers, New, can_make}
-use Rattle.pua_ever.specs.Laws.{VeilsStand}
 use Rattle.pua_ever.proofs.Grown.{new_kind}
 use Rattle.pua_ever.proofs.Covers.{given_or_new, dir_row, slot_row, own_dir, under_dir, living_dir, below_next}
 use Rattle.pua_ever.proofs.Quiet.{Quiet}
-use Rattle.pua_ever.proofs.Ways.{way_by_c, way_by_name, way_by_turn, name_by_veil, some_dir_by, file_by_name, file_by_dir, quiet_dir, quiet_name}
+use Rattle.pua_ever.proofs.Ways.{way_by_c, way_by_name, way_by_turn, name_by_veil, some_dir_by, file_by_name, file_by_dir, quiet_dir}
+use Rattle.pua_ever.proofs.Ways.{quiet_name}
 
 module _ (table : CallTable) (t0 : Tree) (h : History) (well0 : WellFormed t0) (stand : VeilsStand t0 h) where
   -- a row that isn't covered with `c` at the beginning
@@ -30,18 +24,20 @@ module _ (table : CallTable) (t0 : Tree) (h : History) (well0 : WellFormed t0) (
   -- a thing that stood in a row with `c`, or in one by which link gives it a further name, or was made since
   pub data Origin (x : ℕ) : Type 0 where
     stood : (r : Spot) → look t0 r.0 r.1 ≡ Some x → has_c (row_cover t0 h r x) ≡ true → Origin x
-    linked : (r : Spot) → look t0 r.0 r.1 ≡ Some x → is_dir t0 x ≡ false → can_link table h (kind_at t0 x) (row_cover t0 h r x) ≡ true → Origin x
+    linked : (r : Spot) → look t0 r.0 r.1 ≡ Some x → is_dir t0 x ≡ false → can_link table h (kind_at t0 x) (row_cover t0 h r x) ≡ true →
+        Origin x
     since : t0.next ≤ x → Origin x
 
   -- how a directory can stand in a directory without `c`
   pub data Entrance (s : Spot) (x : ℕ) : Type 0 where
-    by_veil : (perms : ℕ) → kept h (place.Slot s.0 s.1) ≡ Some perms → has_c (Only perms) ≡ true → Entrance s x
-    turned : (y : ℕ) → look t0 s.0 s.1 ≡ Some y → is_dir t0 y ≡ true → has_c (cover_in t0 h y) ≡ true → can_empty t0 h y ≡ true → has_c_outside t0 h y ≡ true → Entrance s x
+    by_veil : (perms : ℕ) → perms_kept h (place.Slot s.0 s.1) ≡ Some perms → has_c (Only perms) ≡ true → Entrance s x
+    turned : (y : ℕ) → look t0 s.0 s.1 ≡ Some y → is_dir t0 y ≡ true → has_c (cover_in t0 h y) ≡ true → can_empty t0 h y ≡ true →
+        has_c_outside t0 h y ≡ true → Entrance s x
     still : look t0 s.0 s.1 ≡ Some x → is_dir t0 x ≡ true → has_c (cover_in t0 h x) ≡ true → Entrance s x
 
   pub record Came (u : Tree) (s : Spot) (x : ℕ) : Type 0 where
     pub origin : Origin x
-    pub file : is_dir u x ≡ false → is_dir t0 s.0 ≡ true → has_c (own_or (kept h (place.Slot s.0 s.1)) (cover_in t0 h s.0)) ≡ true
+    pub file : is_dir u x ≡ false → is_dir t0 s.0 ≡ true → has_c (own_or (perms_kept h (place.Slot s.0 s.1)) (cover_in t0 h s.0)) ≡ true
     pub dir : is_dir u x ≡ true → is_dir t0 s.0 ≡ true → has_c (cover_in t0 h s.0) ≡ false → Entrance s x
     pub inner : t0.next ≤ s.0 → some_dir_has_c t0 h ≡ true
 
@@ -68,7 +64,10 @@ module _ (table : CallTable) (t0 : Tree) (h : History) (well0 : WellFormed t0) (
     old = λ x below lives. refl;
     young = λ x from lives. let below = below_next t0 h well0 x lives in absurd (omega arith);
     next = omega arith;
-    quiet = λ y n none. record { dirs = λ d is outside. quiet_dir t0 h y d none is outside; names = λ d name perms is outside e. quiet_name t0 h y d name perms none is outside e };
+    quiet = λ y n none. record {
+      dirs = λ d is outside. quiet_dir t0 h y d none is outside;
+      names = λ d name perms is outside e. quiet_name t0 h y d name perms none is outside e;
+    };
   }
     where
       by : (s : Spot) (x : ℕ) → look t0 s.0 s.1 ≡ Some x → (b : Bool) → has_c (row_cover t0 h s x) ≡ b → Fixed s x ⊎ Came t0 s x
@@ -77,13 +76,15 @@ module _ (table : CallTable) (t0 : Tree) (h : History) (well0 : WellFormed t0) (
         origin = stood s e is;
         file = λ other lives. ap has_c (sym (slot_row t0 h well0 s x other)) ∙ is;
         dir = λ dir lives lacks. still e dir (ap has_c (sym (dir_row t0 h well0 s x dir)) ∙ is);
-        inner = λ from. let below = below_next t0 h well0 s.0 (living_dir t0 h well0 s.0 (row_says t0 (sound_from t0 well0) s x e).0) in absurd (omega arith);
+        inner = λ from. let below = below_next t0 h well0 s.0 (living_dir t0 h well0 s.0 (row_says t0 (sound_from t0 well0) s x e).0) in
+            absurd (omega arith);
       })
 
   -- what a directory is covered by: as at the beginning, or as one that can come somewhere
   pub data DirUnder (u : Tree) (d : ℕ) : Type 0 where
     at_rest : is_dir t0 d ≡ true → cover_in u h d ≡ cover_in t0 h d → DirUnder u d
-    come : Among (dir_covers t0 h) (cover_in u h d) → kept h (place.Dir d) ≡ None → (is_dir t0 d ≡ true → has_c (cover_in t0 h d) ≡ true) → DirUnder u d
+    come : Among (dir_covers t0 h) (cover_in u h d) → perms_kept h (place.Dir d) ≡ None →
+        (is_dir t0 d ≡ true → has_c (cover_in t0 h d) ≡ true) → DirUnder u d
 
   module _ (u : Tree) (k : Stays u) where
     su : Sound u
@@ -97,7 +98,8 @@ module _ (table : CallTable) (t0 : Tree) (h : History) (well0 : WellFormed t0) (
     pub free_or_fixed : (s : Spot) (x : ℕ) → look u s.0 s.1 ≡ Some x → (is_free t0 h s ≡ true) ⊎ Fixed s x
     free_or_fixed s x e = by (look t0 s.0 s.1) refl
       where
-        at : (y : ℕ) → look t0 s.0 s.1 ≡ Some y → (b : Bool) → has_c (row_cover t0 h s y) ≡ b → (has_c (row_cover t0 h s y) ≡ true) ⊎ Fixed s x
+        at : (y : ℕ) → look t0 s.0 s.1 ≡ Some y → (b : Bool) → has_c (row_cover t0 h s y) ≡ b →
+            (has_c (row_cover t0 h s y) ≡ true) ⊎ Fixed s x
         at y is true has = inl has
         at y is false lacks =
             let same : y ≡ x = same_Some y x (sym (k.uncovered s y is lacks).row ∙ e) in
@@ -108,11 +110,13 @@ module _ (table : CallTable) (t0 : Tree) (h : History) (well0 : WellFormed t0) (
         by (Some y) is = elim (at y is (has_c (row_cover t0 h s y)) refl) [ inl has ↦ inl (rw (is, has) refl) | inr fixed ↦ inr fixed ]
 
     -- the cover of a directory that has `c` at the beginning and lies still is one that things can come under
-    rest_way : (d : ℕ) → is_dir t0 d ≡ true → cover_in u h d ≡ cover_in t0 h d → has_c (cover_in t0 h d) ≡ true → Among (dir_covers t0 h) (cover_in u h d)
+    rest_way : (d : ℕ) → is_dir t0 d ≡ true → cover_in u h d ≡ cover_in t0 h d → has_c (cover_in t0 h d) ≡ true →
+        Among (dir_covers t0 h) (cover_in u h d)
     rest_way d is same has = subst (Among (dir_covers t0 h)) (sym same) (way_by_c t0 h d is has)
 
     -- a directory that came where it has no veil of its own
-    came_under : (s : Spot) (d : ℕ) → look u s.0 s.1 ≡ Some d → is_dir u d ≡ true → kept h (place.Dir d) ≡ None → Came u s d → DirUnder u s.0 → DirUnder u d
+    came_under : (s : Spot) (d : ℕ) → look u s.0 s.1 ≡ Some d → is_dir u d ≡ true → perms_kept h (place.Dir d) ≡ None → Came u s d →
+        DirUnder u s.0 → DirUnder u d
     came_under s d e is none came over =
         come (subst (Among (dir_covers t0 h)) (sym (under_dir u h k.well s d is e none)) (by over)) none (had came.origin)
       where
@@ -140,14 +144,16 @@ module _ (table : CallTable) (t0 : Tree) (h : History) (well0 : WellFormed t0) (
                 never fixed (since from) =
                     let below = below_next t0 h well0 d (row_says t0 (sound_from t0 well0) s d fixed.0).2 in absurd (omega arith)
         entered lives lacks (turned y at dir has empty more) = way_by_turn t0 h s.0 s.1 y lives at dir has empty more
-        entered lives lacks (still at dir has) = absurd (false≢true (sym lacks ∙ ap has_c (sym (under_dir t0 h well0 s d dir at none)) ∙ has))
+        entered lives lacks (still at dir has) =
+            absurd (false≢true (sym lacks ∙ ap has_c (sym (under_dir t0 h well0 s d dir at none)) ∙ has))
 
         by : DirUnder u s.0 → Among (dir_covers t0 h) (cover_in u h s.0)
         by (come a n l) = a
-        by (at_rest lives same) = elim (has_c (cover_in t0 h s.0)) as (λ b. has_c (cover_in t0 h s.0) ≡ b → Among (dir_covers t0 h) (cover_in u h s.0)) [
-          | true ↦ λ has. rest_way s.0 lives same has
-          | false ↦ λ lacks. subst (Among (dir_covers t0 h)) (sym same) (entered lives lacks (came.dir is lives lacks))
-        ] refl
+        by (at_rest lives same) = elim (has_c (cover_in t0 h s.0)) as (λ b. has_c (cover_in t0 h s.0) ≡ b →
+            Among (dir_covers t0 h) (cover_in u h s.0)) [
+              | true ↦ λ has. rest_way s.0 lives same has
+              | false ↦ λ lacks. subst (Among (dir_covers t0 h)) (sym same) (entered lives lacks (came.dir is lives lacks))
+            ] refl
 
     -- a directory that stays where it was without `c`
     fixed_under : (s : Spot) (d : ℕ) → is_dir u d ≡ true → Fixed s d → DirUnder u d
@@ -160,9 +166,9 @@ module _ (table : CallTable) (t0 : Tree) (h : History) (well0 : WellFormed t0) (
     under zero d root is =
         at_rest (ap (is_dir t0) root ∙ well0.root)
         (ap (cover_in u h) root ∙ (covers_descend u h k.well).root ∙ sym (covers_descend t0 h well0).root ∙ ap (cover_in t0 h) (sym root))
-    under (suc steps) d up is = by (kept h (place.Dir d)) refl (under steps (above u d) up.1 (above_dir u su d is up.0))
+    under (suc steps) d up is = by (perms_kept h (place.Dir d)) refl (under steps (above u d) up.1 (above_dir u su d is up.0))
       where
-        by : (o : Option ℕ) → kept h (place.Dir d) ≡ o → DirUnder u (above u d) → DirUnder u d
+        by : (o : Option ℕ) → perms_kept h (place.Dir d) ≡ o → DirUnder u (above u d) → DirUnder u d
         by (Some perms) own over =
             let dir = old_dir d (stand (place.Dir d) perms own) is in
             at_rest dir (own_dir u h k.well d perms is up.0 own ∙ sym (own_dir t0 h well0 d perms dir up.0 own))
@@ -178,32 +184,40 @@ module _ (table : CallTable) (t0 : Tree) (h : History) (well0 : WellFormed t0) (
     dir_under (suc d) is = let way = su.rooted (suc d) is (λ e. omega (arith, e)) in under way.0 (suc d) way.1 is
 
     -- what a name is covered by at which nothing or no directory stands, if it has `c`
-    pub name_under : (s : Spot) → is_dir u s.0 ≡ true → is_free t0 h s ≡ true → has_c (own_or (kept h (place.Slot s.0 s.1)) (cover_in u h s.0)) ≡ true
-        → Among (name_covers t0 h ++ dir_covers t0 h) (own_or (kept h (place.Slot s.0 s.1)) (cover_in u h s.0))
-    name_under s is free = by (kept h (place.Slot s.0 s.1)) refl
+    pub name_under : (s : Spot) → is_dir u s.0 ≡ true → is_free t0 h s ≡ true →
+        has_c (own_or (perms_kept h (place.Slot s.0 s.1)) (cover_in u h s.0)) ≡ true
+        → Among (name_covers t0 h ++ dir_covers t0 h) (own_or (perms_kept h (place.Slot s.0 s.1)) (cover_in u h s.0))
+    name_under s is free = by (perms_kept h (place.Slot s.0 s.1)) refl
       where
         at_dir : DirUnder u s.0 → has_c (cover_in u h s.0) ≡ true → Among (dir_covers t0 h) (cover_in u h s.0)
         at_dir (come a n l) has = a
         at_dir (at_rest lives same) has = rest_way s.0 lives same (ap has_c (sym same) ∙ has)
 
-        by : (o : Option ℕ) → kept h (place.Slot s.0 s.1) ≡ o → has_c (own_or o (cover_in u h s.0)) ≡ true → Among (name_covers t0 h ++ dir_covers t0 h) (own_or o (cover_in u h s.0))
-        by (Some perms) e has = among_left (name_covers t0 h) (dir_covers t0 h) (Only perms) (name_by_veil t0 h s.0 s.1 perms (old_dir s.0 (stand (place.Slot s.0 s.1) perms e) is) e has free)
+        by : (o : Option ℕ) → perms_kept h (place.Slot s.0 s.1) ≡ o → has_c (own_or o (cover_in u h s.0)) ≡ true →
+            Among (name_covers t0 h ++ dir_covers t0 h) (own_or o (cover_in u h s.0))
+        by (Some perms) e has =
+            among_left (name_covers t0 h) (dir_covers t0 h) (Only perms)
+            (name_by_veil t0 h s.0 s.1 perms (old_dir s.0 (stand (place.Slot s.0 s.1) perms e) is) e has free)
         by None e has = among_right (name_covers t0 h) (dir_covers t0 h) (cover_in u h s.0) (at_dir (dir_under s.0 is) has)
 
     -- what is no directory: it stays as it was, or came under one of the covers
-    pub file_under : (s : Spot) (x : ℕ) → look u s.0 s.1 ≡ Some x → is_dir u x ≡ false → Fixed s x ⊎ (Came u s x × Among (file_covers t0 h) (row_cover u h s x))
+    pub file_under : (s : Spot) (x : ℕ) → look u s.0 s.1 ≡ Some x → is_dir u x ≡ false →
+        Fixed s x ⊎ (Came u s x × Among (file_covers t0 h) (row_cover u h s x))
     file_under s x e other = elim (k.rows s x e) [
       | inl fixed ↦ inl fixed
       | inr came ↦ elim (free_or_fixed s x e) [
         | inr fixed ↦ inl fixed
-        | inl free ↦ inr (came, subst (Among (file_covers t0 h)) (sym (slot_row u h k.well s x other)) (by came free (kept h (place.Slot s.0 s.1)) refl))
+        | inl free ↦ inr (
+          came,
+          subst (Among (file_covers t0 h)) (sym (slot_row u h k.well s x other)) (by came free (perms_kept h (place.Slot s.0 s.1)) refl),
+        )
       ]
     ]
       where
         lives : is_dir u s.0 ≡ true
         lives = (row_says u su s x e).0
 
-        at_dir : Came u s x → kept h (place.Slot s.0 s.1) ≡ None → DirUnder u s.0 → Among (file_covers t0 h) (cover_in u h s.0)
+        at_dir : Came u s x → perms_kept h (place.Slot s.0 s.1) ≡ None → DirUnder u s.0 → Among (file_covers t0 h) (cover_in u h s.0)
         at_dir came none (at_rest dir same) =
             let has : has_c (cover_in t0 h s.0) ≡ true = ap (λ o. has_c (own_or o (cover_in t0 h s.0))) (sym none) ∙ came.file other dir in
             file_by_dir t0 h (cover_in u h s.0) (rest_way s.0 dir same has) (some_dir_by t0 h s.0 dir has)
@@ -212,7 +226,8 @@ module _ (table : CallTable) (t0 : Tree) (h : History) (well0 : WellFormed t0) (
           | inr from ↦ came.inner from
         ])
 
-        by : Came u s x → is_free t0 h s ≡ true → (o : Option ℕ) → kept h (place.Slot s.0 s.1) ≡ o → Among (file_covers t0 h) (own_or o (cover_in u h s.0))
+        by : Came u s x → is_free t0 h s ≡ true → (o : Option ℕ) → perms_kept h (place.Slot s.0 s.1) ≡ o →
+            Among (file_covers t0 h) (own_or o (cover_in u h s.0))
         by came free (Some perms) is =
             let dir = old_dir s.0 (stand (place.Slot s.0 s.1) perms is) lives in
             let has : has_c (Only perms) ≡ true = ap (λ o. has_c (own_or o (cover_in t0 h s.0))) (sym is) ∙ came.file other dir in
@@ -222,17 +237,20 @@ module _ (table : CallTable) (t0 : Tree) (h : History) (well0 : WellFormed t0) (
     -- a directory in which nothing stands could come to be empty at the beginning
     pub could_empty : (y : ℕ) → is_empty u y ≡ true → can_empty t0 h y ≡ true
     could_empty y empty =
-        all_from_found spot_cmp spots_total exact_spots (λ row. not (row.0.0 == y) || has_c (row_cover t0 h row.0 row.1)) t0.rows (sound_from t0 well0).rows_sorted
+        all_from_found spot_cmp spots_total exact_spots (λ row. not (row.0.0 == y) || has_c (row_cover t0 h row.0 row.1)) t0.rows
+        (sound_from t0 well0).rows_sorted
         (λ s z e. by s z e (s.0 == y) (has_c (row_cover t0 h s z)) refl refl)
       where
         none : list_any (λ (row : Spot × ℕ). row.0.0 == y) u.rows ≡ false
         none = not-true _ (and_parts (is_dir u y) (has_no_row u y) empty).1
 
-        by : (s : Spot) (z : ℕ) → look t0 s.0 s.1 ≡ Some z → (a b : Bool) → (s.0 == y) ≡ a → has_c (row_cover t0 h s z) ≡ b → (not (s.0 == y) || has_c (row_cover t0 h s z)) ≡ true
+        by : (s : Spot) (z : ℕ) → look t0 s.0 s.1 ≡ Some z → (a b : Bool) → (s.0 == y) ≡ a → has_c (row_cover t0 h s z) ≡ b →
+            (not (s.0 == y) || has_c (row_cover t0 h s z)) ≡ true
         by s z e false b other has = ap (λ a. not a || has_c (row_cover t0 h s z)) other
         by s z e a true other has = or_right (not (s.0 == y)) _ has
         by s z e true false here lacks =
-            absurd (false≢true (sym (none_found spot_cmp spots_total exact_spots (λ (row : Spot × ℕ). row.0.0 == y) u.rows none s z (k.uncovered s z e lacks).row) ∙ here))
+            absurd (false≢true (sym (none_found spot_cmp spots_total exact_spots (λ (row : Spot × ℕ). row.0.0 == y) u.rows none s z
+            (k.uncovered s z e lacks).row) ∙ here))
 
     -- a name at which nothing stands could come to be free at the beginning
     pub free_then : (s : Spot) → look u s.0 s.1 ≡ None → is_free t0 h s ≡ true

@@ -1,11 +1,12 @@
 -- What a list of places gives that is lent.
-use Rattle.std.proofs.Common.{◌≡◌, List, [], ◌∷◌, map, refl, ap, subst}
-use Rattle.std.specs.Prelude.{Option, Result, Ok, Err, IfOk, filter_map}
+use Rattle.pua_ever.proofs.Common.{◌≡◌, List, [], ◌∷◌, map, refl, ap, subst, Option, Result, Ok, Err, filter_map}
+use Rattle.std.specs.Prelude.{IfOk}
 use Rattle.std.specs.List.{cons_option}
 use Rattle.std.specs.Borrow.{Bor}
 
 -- what is so of an answer by each history
-pub for_each : {V E H : Type 0} (r : Result V E) (S : H → Type 0) (P : H → V → Type 0) → ((h : H) → S h → IfOk r (P h)) → IfOk r (λ v. (h : H) → S h → P h v)
+pub for_each : {V E H : Type 0} (r : Result V E) (S : H → Type 0) (P : H → V → Type 0) → ((h : H) → S h → IfOk r (P h)) →
+    IfOk r (λ v. (h : H) → S h → P h v)
 for_each (Ok v) S P all = all
 for_each (Err e) S P all = tt
 
@@ -13,5 +14,6 @@ same_picked : {A B : Type 0} (f : A → Option B) (ps : List (Bor A)) → filter
 same_picked f [] = refl
 same_picked f (p ∷ ps) = ap (cons_option (f p.now)) (same_picked f ps)
 
-pub picked_now : {A B V E : Type 0} (f : A → Option B) (ps : List (Bor A)) (r : Result V E) (items : V → List B) → IfOk r (λ v. items v ≡ filter_map (λ p. f p.now) ps) → IfOk r (λ v. items v ≡ filter_map f (map (λ p. p.now) ps))
+pub picked_now : {A B V E : Type 0} (f : A → Option B) (ps : List (Bor A)) (r : Result V E) (items : V → List B) →
+    IfOk r (λ v. items v ≡ filter_map (λ p. f p.now) ps) → IfOk r (λ v. items v ≡ filter_map f (map (λ p. p.now) ps))
 picked_now f ps r items = subst (λ xs. IfOk r (λ v. items v ≡ xs)) (same_picked f ps)

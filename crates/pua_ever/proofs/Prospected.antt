@@ -1,34 +1,20 @@
 -- The calls of a thing, by what was found for them.
-use Rattle.std.proofs.Common.{◌≡◌, ◌⊎◌, ℕ, List, [], ◌∷◌, Bool, true, false, cond, refl, sym, ap, ◌∙◌, inl, inr}
-use Rattle.std.specs.Prelude.{Option, Some, None, option_map, not, ◌&&◌, ◌||◌, ◌==◌, is_none}
-use Rattle.std.specs.List.{list_any, list_all}
-use Rattle.std.proofs.lemmas.Bool.{false≢true, and_parts, and_from}
-use Rattle.pua_tree.specs.Tree.{Tree, Spot, is_dir, is_empty, has_no_row, empty_tree}
+use Rattle.pua_ever.proofs.Common.{◌≡◌, ◌⊎◌, ℕ, List, [], ◌∷◌, Bool, true, false, cond, refl, sym, ap, ◌∙◌, inl, inr, Option, Some, None}
+use Rattle.pua_ever.proofs.Common.{option_map, not, ◌&&◌, ◌||◌, ◌==◌, is_none, list_any, list_all, false≢true, and_parts, and_from, Tree}
+use Rattle.pua_ever.proofs.Common.{Spot, is_dir, is_empty, has_no_row, empty_tree, misfit_errno, IsNotEmpty, Way, Named, Top, Dot, DotDot}
+use Rattle.pua_ever.proofs.Common.{Whole, CallTable, rule_of, has, keeps_link, History, perms_kept, may_any, object_seen, Object, IsDir}
+use Rattle.pua_ever.proofs.Common.{object_fault, cover_fault, or_fault, allowed_unless, if_promised, covered_verdict, is_allowed, Call}
+use Rattle.pua_ever.proofs.Common.{Cover, May, has_c, At, cover_in, row_cover, can_empty, dir_covers, may_edit, removable_dir, lasting_dir}
+use Rattle.pua_ever.proofs.Common.{is_named_way, is_allowed_under, is_ever_allowed, EditsNeedC}
 use Rattle.pua_path.specs.declared.errno.Errno.{Errno}
-use Rattle.pua_policy.specs.Misfits.{misfit_errno}
-use Rattle.pua_policy.specs.declared.reason.Misfit.TheVariants.{IsNotEmpty}
-use Rattle.pua_path.specs.declared.found.Way.{Way}
-use Rattle.pua_path.specs.declared.found.Way.TheVariants.{Named, Top, Dot, DotDot}
-use Rattle.pua_path.specs.declared.found.Found.TheVariants.{Whole}
-use Rattle.pua_calls.specs.Calls.{CallTable, rule_of}
-use Rattle.pua_calls.specs.CallSets.{has, keeps_link}
-use Rattle.pua_policy.specs.History.{History, kept, may_any}
-use Rattle.pua_policy.specs.Objects.{object_seen}
-use Rattle.pua_policy.specs.Verdict.{Object, IsDir, object_fault, cover_fault, or_fault, allowed_unless, if_promised, covered_verdict, is_allowed}
-use Rattle.pua_calls.specs.declared.call.Call.{Call}
 use Rattle.pua_calls.specs.declared.call.Call.TheVariants as call
 use Rattle.pua_policy.specs.declared.place.Place.TheVariants as place
-use Rattle.pua_policy.specs.declared.answer.Cover.{Cover}
-use Rattle.pua_policy.specs.declared.answer.May.{May}
 use Rattle.pua_policy.specs.declared.answer.May.TheVariants as may
 use Rattle.pua_policy.specs.declared.object.Object as seen
 use Rattle.pua_policy.specs.declared.object.Object.TheVariants as see
-use Rattle.pua_script.specs.Confinement.{has_c}
 use Rattle.pua_script.proofs.ForCallers.{c_from_cover}
-use Rattle.pua_objects.specs.Objects.{At, cover_in}
-use Rattle.pua_ever.specs.Ever.{row_cover, can_empty, dir_covers, may_edit, ever_covers, removable_dir, lasting_dir, is_named_way, is_allowed_under, is_ever_allowed}
+use Rattle.pua_ever.specs.Ever.{ever_covers}
 use Rattle.pua_ever.specs.EverReady.{IsProspects}
-use Rattle.pua_ever.specs.Laws.{EditsNeedC}
 use Rattle.pua_ever.specs.declared.prospects.Prospects.{Prospects}
 use Rattle.pua_ever.proofs.KindFaults.{dir_as}
 use Rattle.std.proofs.Math.Bool.{or-true}
@@ -68,21 +54,26 @@ module _ (table : CallTable) (needs : EditsNeedC table) (h : History) where
   lacks_rmdir cover object lacks = by (cover_fault cover (rule_of table call.Rmdir).perms) refl
     where
       by : (o : Option Errno) → cover_fault cover (rule_of table call.Rmdir).perms ≡ o
-          → is_allowed (if_promised (may_any h (rule_of table call.Rmdir).alternatives) (allowed_unless (or_fault o (object_fault empty_tree call.Rmdir object)))) ≡ false
+          → is_allowed (if_promised (may_any h (rule_of table call.Rmdir).alternatives)
+          (allowed_unless (or_fault o (object_fault empty_tree call.Rmdir object)))) ≡ false
       by None fine = absurd (false≢true (sym lacks ∙ c_from_cover cover (rule_of table call.Rmdir).perms needs.rmdir fine))
       by (Some e) fault = no_errno (may_any h (rule_of table call.Rmdir).alternatives) e
 
   -- so without `c` it makes no difference
-  dir_passes : (cover : Cover) (a b : Bool) (c : Call) → (has_c cover ≡ true → a ≡ b) → passes cover (dir_as a) c ≡ passes cover (dir_as b) c
+  dir_passes : (cover : Cover) (a b : Bool) (c : Call) → (has_c cover ≡ true → a ≡ b) →
+      passes cover (dir_as a) c ≡ passes cover (dir_as b) c
   dir_passes cover a b c same = by (has_c cover) refl
     where
-      alike : object_fault empty_tree c removable_dir ≡ object_fault empty_tree c lasting_dir → (x : Bool) → passes cover (dir_as x) c ≡ passes cover lasting_dir c
-      alike e true = ap (λ o. is_allowed (if_promised (may_any h (rule_of table c).alternatives) (allowed_unless (or_fault (cover_fault cover (rule_of table c).perms) o)))) e
+      alike : object_fault empty_tree c removable_dir ≡ object_fault empty_tree c lasting_dir → (x : Bool) →
+          passes cover (dir_as x) c ≡ passes cover lasting_dir c
+      alike e true = ap (λ o. is_allowed (if_promised (may_any h (rule_of table c).alternatives)
+          (allowed_unless (or_fault (cover_fault cover (rule_of table c).perms) o)))) e
       alike e false = refl
 
       lacks : has_c cover ≡ false → passes cover (dir_as a) c ≡ passes cover (dir_as b) c
       lacks none = elim (rmdir_alone c) [
-        | inl is ↦ ap (passes cover (dir_as a)) is ∙ lacks_rmdir cover (dir_as a) none ∙ sym (ap (passes cover (dir_as b)) is ∙ lacks_rmdir cover (dir_as b) none)
+        | inl is ↦ ap (passes cover (dir_as a)) is ∙ lacks_rmdir cover (dir_as a) none ∙
+            sym (ap (passes cover (dir_as b)) is ∙ lacks_rmdir cover (dir_as b) none)
         | inr e ↦ alike e a ∙ sym (alike e b)
       ]
 
@@ -95,7 +86,8 @@ module _ (t : Tree) (h : History) where
   abbrev passes_in : ℕ → Spot × ℕ → Bool
   passes_in dir row = not (row.0.0 == dir) || has_c (row_cover t h row.0 row.1)
 
-  empty_rows : (dir : ℕ) (rows : List (Spot × ℕ)) → not (list_any (λ row. row.0.0 == dir) rows) ≡ true → list_all (passes_in dir) rows ≡ true
+  empty_rows : (dir : ℕ) (rows : List (Spot × ℕ)) → not (list_any (λ row. row.0.0 == dir) rows) ≡ true →
+      list_all (passes_in dir) rows ≡ true
   empty_rows dir [] none = refl
   empty_rows dir (row ∷ rows) none = by (row.0.0 == dir) refl (empty_rows dir rows) none
     where
@@ -110,7 +102,7 @@ module _ (t : Tree) (h : History) where
 module _ (t : Tree) (table : CallTable) (h : History) (p : Prospects) (is : IsProspects t table h p) where
   module _ (dir : ℕ) (way : Way) (living : is_dir t dir ≡ true) where
     abbrev moves : Bool
-    moves = may_edit table h && is_none (kept h (place.Dir dir))
+    moves = may_edit table h && is_none (perms_kept h (place.Dir dir))
 
     abbrev stays : Bool
     stays = list_any (λ other. other == dir) p.held.items
@@ -119,10 +111,12 @@ module _ (t : Tree) (table : CallTable) (h : History) (p : Prospects) (is : IsPr
     abbrev empties : Bool
     empties = is_named_way way && (can_empty t h dir && (may_edit table h || not (list_any (λ row. row.0.0 == dir) t.rows)))
 
-    under : (call : Call) (covers : List Cover) → ever_covers moves (cover_in t h dir) (dir_covers t h) ≡ covers → is_allowed_under table h covers (dir_as empties) call ≡ is_ever_allowed t table h (At (Whole dir way)) call
+    under : (call : Call) (covers : List Cover) → ever_covers moves (cover_in t h dir) (dir_covers t h) ≡ covers →
+        is_allowed_under table h covers (dir_as empties) call ≡ is_ever_allowed t table h (At (Whole dir way)) call
     under call covers same =
         ap (λ cs. is_allowed_under table h cs (dir_as empties) call) (sym same)
-        ∙ ap (λ b. b && is_allowed_under table h (ever_covers moves (cover_in t h dir) (dir_covers t h)) (dir_as empties) call) (sym (or-true (keeps_link call)))
+        ∙ ap (λ b. b && is_allowed_under table h (ever_covers moves (cover_in t h dir) (dir_covers t h)) (dir_as empties) call)
+        (sym (or-true (keeps_link call)))
 
     -- one that can be moved
     pub moved_calls : (moves && has_c (cover_in t h dir)) ≡ true → (emptied : Bool) → emptied ≡ (is_named_way way && not stays)
@@ -145,11 +139,14 @@ module _ (t : Tree) (table : CallTable) (h : History) (p : Prospects) (is : IsPr
 
         test : (is_named_way way && not stays) ≡ empties
         test = ap (λ b. is_named_way way && b)
-            (sym (is.held dir living (and_parts moves _ can).1) ∙ sym (right (can_empty t h dir)) ∙ ap (λ b. can_empty t h dir && (b || not (list_any (λ row. row.0.0 == dir) t.rows))) (sym edits))
+            (sym (is.held dir living (and_parts moves _ can).1) ∙ sym (right (can_empty t h dir)) ∙
+            ap (λ b. can_empty t h dir && (b || not (list_any (λ row. row.0.0 == dir) t.rows))) (sym edits))
 
     -- one that can't
-    pub still_calls : EditsNeedC table → (moves && has_c (cover_in t h dir)) ≡ false → (object : seen.Object) → object ≡ cond ((is_named_way way && not stays) && may_edit table h) see.Removable (object_seen t (IsDir dir way))
-        → (set : ℕ) → ((o : Object) → object ≡ object_seen empty_tree o → (call : Call) → has set call ≡ is_allowed (covered_verdict empty_tree table h call (cover_in t h dir) o))
+    pub still_calls : EditsNeedC table → (moves && has_c (cover_in t h dir)) ≡ false → (object : seen.Object) →
+        object ≡ cond ((is_named_way way && not stays) && may_edit table h) see.Removable (object_seen t (IsDir dir way))
+        → (set : ℕ) → ((o : Object) → object ≡ object_seen empty_tree o → (call : Call) →
+        has set call ≡ is_allowed (covered_verdict empty_tree table h call (cover_in t h dir) o))
         → (call : Call) → has set call ≡ is_ever_allowed t table h (At (Whole dir way)) call
     still_calls needs can object same set allowed call =
         allowed (dir_as removed) (same ∙ sees) call
@@ -170,23 +167,28 @@ module _ (t : Tree) (table : CallTable) (h : History) (p : Prospects) (is : IsPr
         own : (w : Way) → object_seen t (IsDir dir w) ≡ cond (empty_now w) see.Removable see.Directory
         own (Named parent name) = by (is_empty t dir)
           where
-            by : (b : Bool) → cond (is_none (option_map misfit_errno (cond b None (Some IsNotEmpty)))) see.Removable see.Directory ≡ cond b see.Removable see.Directory
+            by : (b : Bool) → cond (is_none (option_map misfit_errno (cond b None (Some IsNotEmpty)))) see.Removable see.Directory
+                ≡ cond b see.Removable see.Directory
             by true = refl
             by false = refl
         own Top = refl
         own Dot = refl
         own DotDot = refl
 
-        sees : cond ((is_named_way way && not stays) && may_edit table h) see.Removable (object_seen t (IsDir dir way)) ≡ object_seen empty_tree (dir_as removed)
-        sees = ap (cond ((is_named_way way && not stays) && may_edit table h) see.Removable) (own way) ∙ by ((is_named_way way && not stays) && may_edit table h) ∙ seen_as removed
+        sees : cond ((is_named_way way && not stays) && may_edit table h) see.Removable (object_seen t (IsDir dir way))
+            ≡ object_seen empty_tree (dir_as removed)
+        sees = ap (cond ((is_named_way way && not stays) && may_edit table h) see.Removable) (own way) ∙
+            by ((is_named_way way && not stays) && may_edit table h) ∙ seen_as removed
           where
-            by : (b : Bool) → cond b see.Removable (cond (empty_now way) see.Removable see.Directory) ≡ cond (b || empty_now way) see.Removable see.Directory
+            by : (b : Bool) → cond b see.Removable (cond (empty_now way) see.Removable see.Directory) ≡ cond (b || empty_now way)
+                see.Removable see.Directory
             by true = refl
             by false = refl
 
         agree : has_c (cover_in t h dir) ≡ true → removed ≡ empties
         agree has =
-            (λ i. ((is_named_way way && sym (is.held dir living has) i) && may_edit table h) || (is_named_way way && (living i && has_no_row t dir)))
+            (λ i. ((is_named_way way && sym (is.held dir living has) i) && may_edit table h)
+            || (is_named_way way && (living i && has_no_row t dir)))
             ∙ tidy (is_named_way way) (can_empty t h dir) (may_edit table h) (has_no_row t dir) (empty_can t h dir)
           where
             tidy : (n c e r : Bool) → (r ≡ true → c ≡ true) → (((n && c) && e) || (n && (true && r))) ≡ (n && (c && (e || r)))

@@ -1,37 +1,32 @@
 -- Where nothing outside of a directory has `c`, nothing outside of it comes to have it, and nothing is moved onto it.
-use Rattle.std.proofs.Common.{◌≡◌, ◌≢◌, ℕ, zero, suc, List, Bool, true, false, refl, sym, ap, ◌∙◌, inl, inr, arith}
-use Rattle.std.specs.Prelude.{Option, Some, None, ◌||◌, ◌==◌}
-use Rattle.std.specs.List.{list_any}
-use Rattle.std.proofs.lemmas.Bool.{false≢true, and_parts, not-true, eqb-true, or_left}
-use Rattle.pua_tree.specs.Tree.{Tree, WellFormed, Spot, spot_cmp, is_dir, is_living, look, node_at, above, climb, is_empty, has_no_row}
-use Rattle.pua_tree.proofs.ForCallers.{Reaches, sound_from, row_says, row_of, above_is, spots_total, exact_spots, same_dir}
+use Rattle.pua_ever.proofs.Common.{◌≡◌, ◌≢◌, ℕ, zero, suc, List, Bool, true, false, refl, sym, ap, ◌∙◌, inl, inr, arith, Option, Some, None}
+use Rattle.pua_ever.proofs.Common.{◌||◌, ◌==◌, list_any, false≢true, and_parts, not-true, eqb-true, or_left, Tree, WellFormed, Spot}
+use Rattle.pua_ever.proofs.Common.{spot_cmp, is_dir, is_living, look, node_at, above, climb, is_empty, has_no_row, Reaches, sound_from}
+use Rattle.pua_ever.proofs.Common.{row_says, row_of, spots_total, exact_spots, same_dir, CallTable, History, perms_kept, Only, has_c}
+use Rattle.pua_ever.proofs.Common.{UncoveredStay, cover_in, own_or, covers_descend, is_below}
+use Rattle.pua_tree.proofs.ForCallers.{above_is}
 use Rattle.pua_tree.proofs.ForCallers.{none_found}
 use Rattle.pua_policy.proofs.ForCallers.{climb_step, climb_root}
-use Rattle.pua_calls.specs.Calls.{CallTable}
-use Rattle.pua_policy.specs.History.{History, kept}
 use Rattle.pua_policy.specs.declared.place.Place.TheVariants as place
-use Rattle.pua_policy.specs.declared.answer.Cover.TheVariants.{Only}
-use Rattle.pua_script.specs.Confinement.{has_c, UncoveredStay}
-use Rattle.pua_objects.specs.Objects.{cover_in}
-use Rattle.pua_objects.specs.Laws.{own_or}
-use Rattle.pua_objects.proofs.ForCallers.{covers_descend}
-use Rattle.pua_ever.specs.Ever.{is_below}
 use Rattle.pua_ever.proofs.Grown.{Grown, Written, by_name, by_turn, From, is_new, is_moved, is_linked, Put, name_cover}
 use Rattle.pua_ever.proofs.Covers.{dir_row, living_dir, below_next}
 
 -- nothing with `c` is outside
 pub record Quiet (h : History) (y : ℕ) (t : Tree) : Type 0 where
   pub dirs : (d : ℕ) → is_dir t d ≡ true → is_below t y d ≡ false → has_c (cover_in t h d) ≡ false
-  pub names : (d : ℕ) (name : List ℕ) (perms : ℕ) → is_dir t d ≡ true → is_below t y d ≡ false → kept h (place.Slot d name) ≡ Some perms → has_c (Only perms) ≡ false
+  pub names : (d : ℕ) (name : List ℕ) (perms : ℕ) → is_dir t d ≡ true → is_below t y d ≡ false →
+      perms_kept h (place.Slot d name) ≡ Some perms → has_c (Only perms) ≡ false
 
 module _ (t : Tree) (well : WellFormed t) (y : ℕ) where
   -- what is below goes up
   pub below_self : (d : ℕ) → (d == y) ≡ true → is_dir t d ≡ true → is_below t y d ≡ true
   below_self zero same is = ap (list_any (λ e. e == y)) (climb_root t) ∙ or_left (0 == y) false same
-  below_self (suc d) same is = ap (list_any (λ e. e == y)) (climb_step t well (suc d) (λ e. omega (arith, e)) is) ∙ or_left (suc d == y) _ same
+  below_self (suc d) same is = ap (list_any (λ e. e == y)) (climb_step t well (suc d) (λ e. omega (arith, e)) is) ∙
+      or_left (suc d == y) _ same
 
   pub below_up : (d : ℕ) → (d == y) ≡ false → d ≢ 0 → is_dir t d ≡ true → is_below t y d ≡ is_below t y (above t d)
-  below_up d other n is = ap (list_any (λ e. e == y)) (climb_step t well d n is) ∙ ap (λ b. b || list_any (λ e. e == y) (climb t (above t d))) other
+  below_up d other n is = ap (list_any (λ e. e == y)) (climb_step t well d n is) ∙
+      ap (λ b. b || list_any (λ e. e == y) (climb t (above t d))) other
 
   pub above_row : (s : Spot) (d : ℕ) → look t s.0 s.1 ≡ Some d → is_dir t d ≡ true → above t d ≡ s.0
   above_row s d e is = let n = (row_says t (sound_from t well) s d e).3 in above_is t d s n ((sound_from t well).once d is n) e
@@ -44,7 +39,8 @@ module _ (t : Tree) (well : WellFormed t) (y : ℕ) where
       by true e = absurd (n (sym (eqb-true 0 y e)))
 
   -- something stands in a directory that another one is below
-  pub not_empty : y ≢ 0 → (steps d : ℕ) → Reaches t steps d → is_dir t d ≡ true → (d == y) ≡ false → is_below t y d ≡ true → has_no_row t y ≡ true → ⊥
+  pub not_empty : y ≢ 0 → (steps d : ℕ) → Reaches t steps d → is_dir t d ≡ true → (d == y) ≡ false → is_below t y d ≡ true →
+      has_no_row t y ≡ true → ⊥
   not_empty n zero d root is other below none = false≢true (sym (ap (is_below t y) root ∙ root_below n) ∙ below)
   not_empty n (suc steps) d up is other below none = by (above t d == y) refl (not_empty n steps (above t d) up.1)
     where
@@ -54,28 +50,34 @@ module _ (t : Tree) (well : WellFormed t) (y : ℕ) where
       no_row : list_any (λ (r : Spot × ℕ). r.0.0 == y) t.rows ≡ false
       no_row = not-true _ none
 
-      by : (b : Bool) → (above t d == y) ≡ b → (is_dir t (above t d) ≡ true → (above t d == y) ≡ false → is_below t y (above t d) ≡ true → has_no_row t y ≡ true → ⊥) → ⊥
+      by : (b : Bool) → (above t d == y) ≡ b → (is_dir t (above t d) ≡ true → (above t d == y) ≡ false → is_below t y (above t d) ≡ true →
+          has_no_row t y ≡ true → ⊥) → ⊥
       by true same rest =
-          false≢true (sym (none_found spot_cmp spots_total exact_spots (λ (r : Spot × ℕ). r.0.0 == y) t.rows no_row row.0 d row.1) ∙ ap (λ z. z == y) (sym row.2) ∙ same)
+          false≢true (sym (none_found spot_cmp spots_total exact_spots (λ (r : Spot × ℕ). r.0.0 == y) t.rows no_row row.0 d row.1) ∙
+          ap (λ z. z == y) (sym row.2) ∙ same)
       by false differs rest =
-          rest (ap (is_dir t) row.2 ∙ (row_says t (sound_from t well) row.0 d row.1).0) differs (sym (below_up d other up.0 is) ∙ below) none
+          rest (ap (is_dir t) row.2 ∙ (row_says t (sound_from t well) row.0 d row.1).0) differs (sym (below_up d other up.0 is) ∙
+          below) none
 
   pub way_up : (d : ℕ) → is_dir t d ≡ true → (steps : ℕ) × Reaches t steps d
   way_up zero is = (0, refl)
   way_up (suc d) is = (sound_from t well).rooted (suc d) is (λ e. omega (arith, e))
 
-module _ (table : CallTable) (h : History) (t u : Tree) (well : WellFormed t) (well_then : WellFormed u) (grown : Grown table t h u) (spared : UncoveredStay h t u) (y : ℕ) (n : y ≢ 0) (quiet : Quiet h y t) where
+module _ (table : CallTable) (h : History) (t u : Tree) (well : WellFormed t) (well_then : WellFormed u) (grown : Grown table t h u)
+    (spared : UncoveredStay h t u) (y : ℕ) (n : y ≢ 0) (quiet : Quiet h y t) where
   -- what has `c` is inside
   inside_name : (s : Spot) → is_dir t s.0 ≡ true → has_c (name_cover table t h s) ≡ true → is_below t y s.0 ≡ true
   inside_name s is has = by (is_below t y s.0) refl
     where
-      at : is_below t y s.0 ≡ false → (o : Option ℕ) → kept h (place.Slot s.0 s.1) ≡ o → has_c (own_or o (cover_in t h s.0)) ≡ true → ⊥
+      at : is_below t y s.0 ≡ false → (o : Option ℕ) → perms_kept h (place.Slot s.0 s.1) ≡ o → has_c (own_or o (cover_in t h s.0)) ≡ true →
+          ⊥
       at outside (Some perms) e has = false≢true (sym (quiet.names s.0 s.1 perms is outside e) ∙ has)
       at outside None e has = false≢true (sym (quiet.dirs s.0 is outside) ∙ has)
 
       by : (b : Bool) → is_below t y s.0 ≡ b → is_below t y s.0 ≡ true
       by true e = e
-      by false outside = absurd (at outside (kept h (place.Slot s.0 s.1)) refl (ap has_c (sym ((covers_descend t h well).at_name s.0 s.1 None)) ∙ has))
+      by false outside = absurd (at outside (perms_kept h (place.Slot s.0 s.1)) refl
+          (ap has_c (sym ((covers_descend t h well).at_name s.0 s.1 None)) ∙ has))
 
   inside_dir : (d : ℕ) → is_dir t d ≡ true → has_c (cover_in t h d) ≡ true → is_below t y d ≡ true
   inside_dir d is has = by (is_below t y d) refl
@@ -90,7 +92,8 @@ module _ (table : CallTable) (h : History) (t u : Tree) (well : WellFormed t) (w
   never_turned x is (is_linked r e plain can) other empty = absurd (false≢true (sym plain ∙ is))
   never_turned x is (is_moved r e has) other empty =
       let way = way_up t well y x is in
-      not_empty t well y n way.0 x way.1 is other (inside_dir x is (ap has_c (sym (dir_row t h well r x is)) ∙ has)) (and_parts (is_dir t y) (has_no_row t y) empty).1
+      not_empty t well y n way.0 x way.1 is other (inside_dir x is (ap has_c (sym (dir_row t h well r x is)) ∙ has))
+      (and_parts (is_dir t y) (has_no_row t y) empty).1
 
   -- where a row was written is inside
   put_inside : (s : Spot) (x : ℕ) → Put table t h s x → (look t s.0 s.1 ≡ Some x → is_below t y s.0 ≡ true) → is_below t y s.0 ≡ true
@@ -142,7 +145,8 @@ module _ (table : CallTable) (h : History) (t u : Tree) (well : WellFormed t) (w
         | inr put ↦ put_inside row.0 d put (stood other)
       ]
 
-      by : (b : Bool) → (d == y) ≡ b → (is_dir u (above u d) ≡ true → (is_dir t (above u d) ≡ true → is_below t y (above u d) ≡ true) → is_below u y (above u d) ≡ true) → is_below u y d ≡ true
+      by : (b : Bool) → (d == y) ≡ b → (is_dir u (above u d) ≡ true → (is_dir t (above u d) ≡ true → is_below t y (above u d) ≡ true) →
+          is_below u y (above u d) ≡ true) → is_below u y d ≡ true
       by true same rest = below_self u well_then y d same is
       by false other rest =
           below_up u well_then y d other up.0 is

@@ -1,17 +1,14 @@
 -- Where nothing refuses the list.
-use Rattle.std.proofs.Common.{◌≡◌, ◌⊎◌, List, [], ◌∷◌, Bool, true, false, cond, refl, sym, ◌∙◌, inl, inr}
-use Rattle.std.specs.Prelude.{Option, Some, None, not, ◌&&◌, ◌||◌, if◌then◌else◌, find}
-use Rattle.std.proofs.lemmas.Bool.{false≢true, and_parts, not-false}
-use Rattle.pua_tree.proofs.ForCallers.{Some≢None}
+use Rattle.pua_ever.proofs.Common.{◌≡◌, ◌⊎◌, List, [], ◌∷◌, Bool, true, false, cond, refl, sym, ◌∙◌, inl, inr, Option, Some, None, not}
+use Rattle.pua_ever.proofs.Common.{◌&&◌, ◌||◌, if◌then◌else◌, false≢true, and_parts, Some≢None, CallTable, History, Call, is_yes}
+use Rattle.pua_ever.proofs.Common.{EditsNeedC}
+use Rattle.std.specs.Prelude.{find}
+use Rattle.std.proofs.lemmas.Bool.{not-false}
 use Rattle.pua_calls.specs.Promises.{holds, creating, unveil}
-use Rattle.pua_calls.specs.Calls.{CallTable}
-use Rattle.pua_policy.specs.History.{History, held, has_error, is_locked, is_ended}
+use Rattle.pua_policy.specs.History.{held_set, has_error, is_locked, is_ended}
 use Rattle.pua_policy.specs.declared.answer.May.TheVariants.{Yes, Enosys, Death}
-use Rattle.pua_calls.specs.declared.call.Call.{Call}
 use Rattle.pua_calls.specs.declared.call.Call.TheVariants as call
 use Rattle.pua_script.specs.Laws.{IsConfined}
-use Rattle.pua_ever.specs.Ever.{is_yes}
-use Rattle.pua_ever.specs.Laws.{EditsNeedC}
 use Rattle.pua_ever.specs.Refusals.{can_unveil, lacks_c, changing_calls, new_needs_c, both_need_c, table_refusal, refusal}
 use Rattle.pua_ever.specs.declared.refusal.Refusal.TheVariants.{CanUnveil, LacksC, RenameLacksC, LinkLacksC}
 
@@ -28,7 +25,8 @@ both true true e = (refl, refl)
 both true false e = absurd (Some≢None LinkLacksC e)
 both false b e = absurd (Some≢None RenameLacksC e)
 
-table_parts : (table : CallTable) (o : Option Call) → table_refusal table o ≡ None → (o ≡ None) × (both_need_c table.rename ≡ true) × (new_needs_c table.link ≡ true)
+table_parts : (table : CallTable) (o : Option Call) → table_refusal table o ≡ None →
+    (o ≡ None) × (both_need_c table.rename ≡ true) × (new_needs_c table.link ≡ true)
 table_parts table None e = let two = both (both_need_c table.rename) (new_needs_c table.link) e in (refl, two.0, two.1)
 table_parts table (Some c) e = absurd (Some≢None (LacksC c) e)
 
@@ -52,19 +50,22 @@ all_need table e =
       link_new = parts.2;
     }
 
-neither : (table : CallTable) (b : Bool) (o : Option Call) → cond b (Some CanUnveil) (table_refusal table o) ≡ None → (b ≡ false) × (table_refusal table o ≡ None)
+neither : (table : CallTable) (b : Bool) (o : Option Call) → cond b (Some CanUnveil) (table_refusal table o) ≡ None →
+    (b ≡ false) × (table_refusal table o ≡ None)
 neither table true o e = absurd (Some≢None CanUnveil e)
 neither table false o e = (refl, e)
 
 confined : (h : History) → can_unveil h ≡ false → IsConfined h ⊎ (is_ended h ≡ true)
-confined h none = by (is_locked h) (is_ended h) (holds (held h) unveil) refl refl refl
+confined h none = by (is_locked h) (is_ended h) (holds (held_set h) unveil) refl refl refl
   where
-    by : (l e p : Bool) → is_locked h ≡ l → is_ended h ≡ e → holds (held h) unveil ≡ p → IsConfined h ⊎ (is_ended h ≡ true)
+    by : (l e p : Bool) → is_locked h ≡ l → is_ended h ≡ e → holds (held_set h) unveil ≡ p → IsConfined h ⊎ (is_ended h ≡ true)
     by true e p locked ended has = inl (inl locked)
     by false true p locked ended has = inr ended
     by false false false locked ended has = inl (inr has)
     by false false true locked ended has =
-        let can : can_unveil h ≡ true = (λ i. not (locked i) && is_yes (if ended i then Death else (if has i || false then Yes else (if has_error h then Enosys else Death)))) in
+        let can : can_unveil h ≡ true =
+        (λ i. not (locked i) && is_yes
+        (if ended i then Death else (if has i || false then Yes else (if has_error h then Enosys else Death)))) in
         absurd (false≢true (sym none ∙ can))
 
 module _ (table : CallTable) (h : History) (none : refusal table h ≡ None) where

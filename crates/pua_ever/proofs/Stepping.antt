@@ -1,25 +1,17 @@
 -- One request keeps what is known of each row.
-use Rattle.std.proofs.Common.{◌≡◌, ◌≢◌, ◌⊎◌, ◌≤◌, ◌<◌, ℕ, true, false, refl, sym, ap, subst, ◌∙◌, inl, inr, arith}
-use Rattle.std.specs.Prelude.{Option, Some, None, ◌==◌, is_some, option_map}
-use Rattle.std.proofs.lemmas.Bool.{false≢true, and_parts, eqb-true}
-use Rattle.pua_tree.specs.Tree.{Tree, WellFormed, Spot, is_dir, is_living, look, node_at, is_empty, has_no_row, empty_tree}
-use Rattle.pua_tree.proofs.ForCallers.{sound_from, row_says, same_dir}
-use Rattle.pua_calls.specs.Calls.{CallTable}
-use Rattle.pua_policy.specs.History.{History, kept}
-use Rattle.pua_policy.specs.Verdict.{IsMissing, covered_verdict, is_allowed}
+use Rattle.pua_ever.proofs.Common.{◌≡◌, ◌≢◌, ◌⊎◌, ◌≤◌, ◌<◌, ℕ, true, false, refl, sym, ap, subst, ◌∙◌, inl, inr, arith, Option, Some, None}
+use Rattle.pua_ever.proofs.Common.{◌==◌, is_some, option_map, false≢true, and_parts, eqb-true, Tree, WellFormed, Spot, is_dir, is_living}
+use Rattle.pua_ever.proofs.Common.{look, node_at, is_empty, has_no_row, empty_tree, sound_from, row_says, same_dir, CallTable, History}
+use Rattle.pua_ever.proofs.Common.{perms_kept, IsMissing, covered_verdict, is_allowed, has_c, UncoveredStay, cover_in, own_or}
+use Rattle.pua_ever.proofs.Common.{covers_descend, row_cover, can_link, has_c_outside, some_dir_has_c, New, maker, can_make, VeilsStand}
 use Rattle.pua_policy.specs.declared.place.Place.TheVariants as place
-use Rattle.pua_script.specs.Confinement.{has_c, UncoveredStay}
 use Rattle.pua_script.proofs.ForCallers.{spared_twice}
-use Rattle.pua_objects.specs.Objects.{cover_in}
-use Rattle.pua_objects.specs.Laws.{own_or}
-use Rattle.pua_objects.proofs.ForCallers.{covers_descend}
-use Rattle.pua_ever.specs.Ever.{row_cover, can_link, has_c_outside, some_dir_has_c, New, maker, can_make}
-use Rattle.pua_ever.specs.Laws.{VeilsStand}
 use Rattle.pua_ever.proofs.Grown.{Grown, Written, by_name, by_turn, From, is_new, is_moved, is_linked, Makes, name_cover}
 use Rattle.pua_ever.proofs.Ways.{any_among, some_dir_by, some_dir_among}
 use Rattle.pua_ever.proofs.Covers.{dir_row, living_dir, below_next}
 use Rattle.pua_ever.proofs.Quiet.{quiet_then, never_turned}
-use Rattle.pua_ever.proofs.Origins.{Fixed, Origin, linked, since, Entrance, by_veil, turned, still, Came, Known, Stays, DirUnder, at_rest, come, dir_under, name_under, could_empty, free_then}
+use Rattle.pua_ever.proofs.Origins.{Fixed, Origin, linked, since, Entrance, by_veil, turned, still, Came, Known, Stays, DirUnder, at_rest}
+use Rattle.pua_ever.proofs.Origins.{come, dir_under, name_under, could_empty, free_then}
 
 module _ (table : CallTable) (t0 : Tree) (h : History) (well0 : WellFormed t0) (stand : VeilsStand t0 h) where
   abbrev Came0 : Tree → Spot → ℕ → Type 0
@@ -76,10 +68,12 @@ module _ (table : CallTable) (t0 : Tree) (h : History) (well0 : WellFormed t0) (
     carried d (come a n had) has = some_dir_among t0 h (cover_in t h d) a has
 
     -- what stood in a directory without `c` and had `c` gave way
-    gave_way : (s : Spot) (y x : ℕ) → look t s.0 s.1 ≡ Some y → is_dir t y ≡ true → is_empty t y ≡ true → has_c (cover_in t h y) ≡ true → is_dir t x ≡ true → From table t h x
+    gave_way : (s : Spot) (y x : ℕ) → look t s.0 s.1 ≡ Some y → is_dir t y ≡ true → is_empty t y ≡ true → has_c (cover_in t h y) ≡ true →
+        is_dir t x ≡ true → From table t h x
         → is_dir t0 s.0 ≡ true → has_c (cover_in t0 h s.0) ≡ false → Entrance0 s x
     gave_way s y x e dir empty has is from over lacks = elim (k.rows s y e) [
-      | inl fixed ↦ absurd (false≢true (sym (ap has_c (sym (dir_row t h k.well s y dir) ∙ (k.uncovered s y fixed.0 fixed.1).covered) ∙ fixed.1) ∙ has))
+      | inl fixed ↦ absurd (false≢true (sym (ap has_c (sym (dir_row t h k.well s y dir) ∙ (k.uncovered s y fixed.0 fixed.1).covered) ∙
+          fixed.1) ∙ has))
       | inr came ↦ elim (x == y) as (λ b. (x == y) ≡ b → Entrance0 s x) [
         | true ↦ λ same. subst (Entrance0 s) (sym (eqb-true x y same)) (came.dir dir over lacks)
         | false ↦ λ differs. by differs (came.dir dir over lacks)
@@ -92,7 +86,8 @@ module _ (table : CallTable) (t0 : Tree) (h : History) (well0 : WellFormed t0) (
         more : (x == y) ≡ false → has_c_outside t0 h y ≡ true
         more differs = elim (has_c_outside t0 h y) as (λ b. has_c_outside t0 h y ≡ b → has_c_outside t0 h y ≡ true) [
           | true ↦ λ some. some
-          | false ↦ λ none. absurd (never_turned table h t u k.well well grown spared y other (k.quiet y other none) x is from differs empty)
+          | false ↦ λ none. absurd (never_turned table h t u k.well well grown spared y other (k.quiet y other none) x is from differs
+              empty)
         ] refl
 
         by : (x == y) ≡ false → Entrance0 s y → Entrance0 s x
@@ -100,12 +95,14 @@ module _ (table : CallTable) (t0 : Tree) (h : History) (well0 : WellFormed t0) (
         by differs (turned z at is c can some) = turned z at is c can some
         by differs (still at is c) = turned y at is c (could_empty table t0 h well0 stand t k y empty) (more differs)
 
-    named_c : (s : Spot) → has_c (name_cover table t h s) ≡ true → has_c (own_or (kept h (place.Slot s.0 s.1)) (cover_in t h s.0)) ≡ true
+    named_c : (s : Spot) → has_c (name_cover table t h s) ≡ true →
+        has_c (own_or (perms_kept h (place.Slot s.0 s.1)) (cover_in t h s.0)) ≡ true
     named_c s has = ap has_c (sym ((covers_descend t h k.well).at_name s.0 s.1 None)) ∙ has
 
-    put_file : (s : Spot) (x : ℕ) → look u s.0 s.1 ≡ Some x → is_dir t s.0 ≡ true → Written table t h s x → is_dir u x ≡ false → is_dir t0 s.0 ≡ true
-        → has_c (own_or (kept h (place.Slot s.0 s.1)) (cover_in t0 h s.0)) ≡ true
-    put_file s x e over (by_name has) other dir = by (kept h (place.Slot s.0 s.1)) (named_c s has)
+    put_file : (s : Spot) (x : ℕ) → look u s.0 s.1 ≡ Some x → is_dir t s.0 ≡ true → Written table t h s x → is_dir u x ≡ false →
+        is_dir t0 s.0 ≡ true
+        → has_c (own_or (perms_kept h (place.Slot s.0 s.1)) (cover_in t0 h s.0)) ≡ true
+    put_file s x e over (by_name has) other dir = by (perms_kept h (place.Slot s.0 s.1)) (named_c s has)
       where
         by : (o : Option ℕ) → has_c (own_or o (cover_in t h s.0)) ≡ true → has_c (own_or o (cover_in t0 h s.0)) ≡ true
         by (Some perms) has = has
@@ -113,18 +110,21 @@ module _ (table : CallTable) (t0 : Tree) (h : History) (well0 : WellFormed t0) (
     put_file s x e over (by_turn y at empty has is) other dir =
         absurd (false≢true (sym other ∙ same_dir t u x (same_node x (living_dir t h k.well x is) (lives s x e)) ∙ is))
 
-    put_dir : (s : Spot) (x : ℕ) → is_dir t s.0 ≡ true → From table t h x → Written table t h s x → is_dir t0 s.0 ≡ true → has_c (cover_in t0 h s.0) ≡ false → Entrance0 s x
-    put_dir s x over from (by_name has) dir lacks = by (kept h (place.Slot s.0 s.1)) refl (named_c s has)
+    put_dir : (s : Spot) (x : ℕ) → is_dir t s.0 ≡ true → From table t h x → Written table t h s x → is_dir t0 s.0 ≡ true →
+        has_c (cover_in t0 h s.0) ≡ false → Entrance0 s x
+    put_dir s x over from (by_name has) dir lacks = by (perms_kept h (place.Slot s.0 s.1)) refl (named_c s has)
       where
-        by : (o : Option ℕ) → kept h (place.Slot s.0 s.1) ≡ o → has_c (own_or o (cover_in t h s.0)) ≡ true → Entrance0 s x
+        by : (o : Option ℕ) → perms_kept h (place.Slot s.0 s.1) ≡ o → has_c (own_or o (cover_in t h s.0)) ≡ true → Entrance0 s x
         by (Some perms) e has = by_veil perms e has
         by None e has = absurd (false≢true (sym lacks ∙ had_c s.0 dir (dir_under table t0 h well0 stand t k s.0 over) has))
-    put_dir s x over from (by_turn y at empty has is) dir lacks = gave_way s y x at (and_parts (is_dir t y) (has_no_row t y) empty).0 empty has is from dir lacks
+    put_dir s x over from (by_turn y at empty has is) dir lacks =
+        gave_way s y x at (and_parts (is_dir t y) (has_no_row t y) empty).0 empty has is from dir lacks
 
     put_inner : (s : Spot) (x : ℕ) → is_dir t s.0 ≡ true → Written table t h s x → t0.next ≤ s.0 → some_dir_has_c t0 h ≡ true
-    put_inner s x over (by_name has) from = by (kept h (place.Slot s.0 s.1)) refl (named_c s has)
+    put_inner s x over (by_name has) from = by (perms_kept h (place.Slot s.0 s.1)) refl (named_c s has)
       where
-        by : (o : Option ℕ) → kept h (place.Slot s.0 s.1) ≡ o → has_c (own_or o (cover_in t h s.0)) ≡ true → some_dir_has_c t0 h ≡ true
+        by : (o : Option ℕ) → perms_kept h (place.Slot s.0 s.1) ≡ o → has_c (own_or o (cover_in t h s.0)) ≡ true →
+            some_dir_has_c t0 h ≡ true
         by (Some perms) e has = let below : s.0 < t0.next = stand (place.Slot s.0 s.1) perms e in absurd (omega arith)
         by None e has = carried s.0 (dir_under table t0 h well0 stand t k s.0 over) has
     put_inner s x over (by_turn y at empty has is) from =
@@ -153,8 +153,10 @@ module _ (table : CallTable) (t0 : Tree) (h : History) (well0 : WellFormed t0) (
     can : (made : New) → Makes table t h made → can_make t0 table h made ≡ true
     can made makes =
         any_among (λ left. is_allowed (covered_verdict empty_tree table h (maker made) left IsMissing)) _ _
-        (name_under table t0 h well0 stand t k makes.spot makes.lives (free_then table t0 h well0 stand t k makes.spot makes.free) (named_c makes.spot makes.covered))
-        (ap (λ left. is_allowed (covered_verdict empty_tree table h (maker made) left IsMissing)) (sym ((covers_descend t h k.well).at_name makes.spot.0 makes.spot.1 None)) ∙ makes.allowed)
+        (name_under table t0 h well0 stand t k makes.spot makes.lives (free_then table t0 h well0 stand t k makes.spot makes.free)
+        (named_c makes.spot makes.covered))
+        (ap (λ left. is_allowed (covered_verdict empty_tree table h (maker made) left IsMissing))
+        (sym ((covers_descend t h k.well).at_name makes.spot.0 makes.spot.1 None)) ∙ makes.allowed)
 
     young_then : (x : ℕ) → t0.next ≤ x → is_living u x ≡ true → Known table t0 h well0 stand u x
     young_then x from is = elim (grown.nodes x is) [

@@ -1,18 +1,10 @@
 -- What some cover of a list passes, some cover of another one with the same elements does.
-use Rattle.std.proofs.Common.{◌≡◌, List, [], ◌++◌, Bool, true, false, refl, sym, ◌∙◌}
-use Rattle.std.specs.Prelude.{◌||◌, if◌then◌else◌, length, nat_lt}
-use Rattle.std.specs.List.{list_any, Contains}
-use Rattle.std.proofs.lemmas.Bool.{false≢true}
-use Rattle.std.proofs.lemmas.List.Folds.{list_any-append}
-use Rattle.pua_objects.proofs.ForCallers.{contained, among_contained}
-use Rattle.pua_tree.specs.Tree.{Tree, empty_tree}
-use Rattle.pua_calls.specs.Calls.{CallTable}
-use Rattle.pua_policy.specs.History.{History}
-use Rattle.pua_policy.specs.Verdict.{Object, covered_verdict, is_allowed}
-use Rattle.pua_policy.specs.declared.answer.Cover.{Cover}
-use Rattle.pua_calls.specs.declared.call.Call.{Call}
-use Rattle.pua_ever.specs.Ever.{is_allowed_under, dir_covers, name_covers, file_covers, some_dir_has_c}
-use Rattle.pua_ever.specs.Openings.{HaveSame}
+use Rattle.pua_ever.proofs.Common.{◌≡◌, List, [], ◌++◌, Bool, true, false, refl, sym, ◌∙◌, ◌||◌, if◌then◌else◌, nat_lt, list_any}
+use Rattle.pua_ever.proofs.Common.{false≢true, list_any-append, contained, among_contained, Tree, empty_tree, CallTable, History, Object}
+use Rattle.pua_ever.proofs.Common.{covered_verdict, is_allowed, Cover, Call, is_allowed_under, dir_covers, name_covers, file_covers}
+use Rattle.pua_ever.proofs.Common.{some_dir_has_c, HaveSame}
+use Rattle.std.specs.Prelude.{length}
+use Rattle.std.specs.List.{Contains}
 use Rattle.pua_ever.proofs.Ways.{any_among, any_found}
 
 pub any_same : {X : Type 0} (p : X → Bool) (xs ys : List X) → HaveSame xs ys → list_any p xs ≡ list_any p ys
@@ -28,7 +20,8 @@ any_same {X} p xs ys same = by (list_any p xs) (list_any p ys) refl refl
     by false false e f = refl
     by false true e f = absurd (false≢true (sym e ∙ moved ys xs same.all f))
 
-module _ (t : Tree) (table : CallTable) (h : History) (dirs entrances names : List Cover) (dirs_same : HaveSame (dirs ++ entrances) (dir_covers t h)) (judged : Object) (call : Call) where
+module _ (t : Tree) (table : CallTable) (h : History) (dirs entrances names : List Cover)
+    (dirs_same : HaveSame (dirs ++ entrances) (dir_covers t h)) (judged : Object) (call : Call) where
   abbrev passes : Cover → Bool
   passes left = is_allowed (covered_verdict empty_tree table h call left judged)
 
@@ -36,20 +29,23 @@ module _ (t : Tree) (table : CallTable) (h : History) (dirs entrances names : Li
   under_dirs = any_same passes (dirs ++ entrances) (dir_covers t h) dirs_same
 
   module _ (names_same : HaveSame names (name_covers t h)) where
-    pub under_made : is_allowed_under table h (names ++ (dirs ++ entrances)) judged call ≡ is_allowed_under table h (name_covers t h ++ dir_covers t h) judged call
+    pub under_made : is_allowed_under table h (names ++ (dirs ++ entrances)) judged call ≡ is_allowed_under table h
+        (name_covers t h ++ dir_covers t h) judged call
     under_made =
         list_any-append passes names (dirs ++ entrances)
         ∙ (λ i. any_same passes names (name_covers t h) names_same i || under_dirs i)
         ∙ sym (list_any-append passes (name_covers t h) (dir_covers t h))
 
     pub under_files : nat_lt 0 (length dirs) ≡ some_dir_has_c t h
-        → is_allowed_under table h (names ++ (if nat_lt 0 (length dirs) then dirs ++ entrances else [])) judged call ≡ is_allowed_under table h (file_covers t h) judged call
+        → is_allowed_under table h (names ++ (if nat_lt 0 (length dirs) then dirs ++ entrances else [])) judged call
+        ≡ is_allowed_under table h (file_covers t h) judged call
     under_files some =
         list_any-append passes names (if nat_lt 0 (length dirs) then dirs ++ entrances else [])
         ∙ (λ i. any_same passes names (name_covers t h) names_same i || by (nat_lt 0 (length dirs)) (some_dir_has_c t h) some i)
         ∙ sym (list_any-append passes (name_covers t h) (if some_dir_has_c t h then dir_covers t h else []))
       where
-        by : (a b : Bool) → a ≡ b → list_any passes (if a then dirs ++ entrances else []) ≡ list_any passes (if b then dir_covers t h else [])
+        by : (a b : Bool) → a ≡ b →
+            list_any passes (if a then dirs ++ entrances else []) ≡ list_any passes (if b then dir_covers t h else [])
         by true true e = under_dirs
         by false false e = refl
         by true false e = absurd (false≢true (sym e))

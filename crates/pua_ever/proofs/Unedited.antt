@@ -1,49 +1,41 @@
 -- Who holds what none of the edits needs leaves the tree.
-use Rattle.std.proofs.Common.{◌≡◌, ℕ, List, [], ◌∷◌, Bool, true, false, cond, refl, sym, ap, subst, ◌∙◌, ◌||◌, inl, inr}
-use Rattle.std.specs.List.{list_any, AllByRecursion}
-use Rattle.std.specs.Prelude.{Some, is_some, nat_le, length, not}
-use Rattle.std.proofs.lemmas.Bool.{false≢true, and_parts, or_left, or_right, not-true}
-use Rattle.pua_path.specs.declared.errno.Errno.TheVariants.{EAGAIN}
-use Rattle.pua_path.specs.declared.found.Found.{Found}
-use Rattle.pua_policy.specs.History.{History, may_any}
-use Rattle.pua_calls.specs.Calls.{CallTable, rule_of}
+use Rattle.pua_ever.proofs.Common.{◌≡◌, ℕ, List, [], ◌∷◌, Bool, true, false, cond, refl, sym, ap, subst, ◌∙◌, inl, inr, list_any, Some}
+use Rattle.pua_ever.proofs.Common.{is_some, nat_le, not, false≢true, and_parts, or_left, or_right, not-true, EAGAIN, Found, History}
+use Rattle.pua_ever.proofs.Common.{may_any, CallTable, rule_of, Call, May, most_processes, Asked, tree_left, is_member, is_exec, is_done}
+use Rattle.pua_ever.proofs.Common.{none_done, members_alone, family_then, World, Fails, Copies, change_effect, history_of, apply}
+use Rattle.pua_ever.proofs.Common.{world_after, Change, CopyAs, change_by, IsDecided, Action, OnPath, Symlink, Rename, Link, Pledge, Unveil}
+use Rattle.pua_ever.proofs.Common.{Lock, Fork, Exit, by_going, IsWithin, Members, members_then, Among, is_yes, may_edit}
+use Rattle.std.proofs.Common.{◌||◌}
+use Rattle.std.specs.List.{AllByRecursion}
+use Rattle.std.specs.Prelude.{length}
 use Rattle.pua_calls.specs.Tables.{NamesNoError, NoCallNeedsError}
-use Rattle.pua_calls.specs.declared.call.Call.{Call}
 use Rattle.pua_calls.specs.declared.call.Call.TheVariants as call
-use Rattle.pua_policy.specs.declared.answer.May.{May}
 use Rattle.pua_policy.specs.declared.answer.May.TheVariants.{Yes, Enosys, Death}
-use Rattle.pua_script.specs.Limits.{process_limit}
-use Rattle.pua_script.specs.Requests.{Asked}
-use Rattle.pua_script.specs.Worlds.{tree_left}
-use Rattle.pua_script.specs.Family.{is_member, is_exec, is_done, none_done, members_alone, family_then}
-use Rattle.pua_script.specs.Replay.{World, Fails, Copies, made, history_of, apply, world_after}
-use Rattle.pua_script.specs.Decide.{Change, CopyAs, change_by}
-use Rattle.pua_script.specs.Guards.{IsDecided}
-use Rattle.pua_script.specs.declared.request.Action.{Action}
-use Rattle.pua_script.specs.declared.request.Action.TheVariants.{OnPath, Symlink, Rename, Link, Pledge, Unveil, Lock, Fork, Exit}
-use Rattle.pua_script.proofs.ForCallers.{by_own_tree, by_going}
-use Rattle.pua_script.proofs.ForCallers.{IsWithin, may_yes}
-use Rattle.pua_script.proofs.ForCallers.{Members, members_then}
-use Rattle.pua_objects.proofs.ForCallers.{Among}
-use Rattle.pua_ever.specs.Ever.{is_yes, may_edit, edit_calls}
+use Rattle.pua_script.proofs.ForCallers.{by_own_tree}
+use Rattle.pua_script.proofs.ForCallers.{may_yes}
+use Rattle.pua_ever.specs.Ever.{edit_calls}
 use Rattle.pua_ever.proofs.Ways.{any_among, any_found}
 
 module _ (table : CallTable) (w : World) (h : History) (lacks : may_edit table h ≡ false) where
   -- a change that leaves the tree
   abbrev Keeps : Change → Type 0
-  Keeps c = tree_left w.tree (made w h c) ≡ w.tree
+  Keeps c = tree_left w.tree (change_effect w h c) ≡ w.tree
 
   -- no edit is promised
   unpromised : (edit : Call) → Among edit_calls edit → may_any h (rule_of table edit).alternatives ≡ Yes → ⊥
   unpromised edit a e =
-      false≢true (sym lacks ∙ or_right (is_yes (may_any h table.rename.new.needs.alternatives)) _ (or_right (is_yes (may_any h table.link.new.needs.alternatives)) _
+      false≢true (sym lacks ∙
+      or_right (is_yes (may_any h table.rename.new.needs.alternatives)) _
+      (or_right (is_yes (may_any h table.link.new.needs.alternatives)) _
       (any_among (λ edit. is_yes (may_any h (rule_of table edit).alternatives)) edit_calls edit a (ap is_yes e))))
 
   no_rename : may_any h table.rename.new.needs.alternatives ≡ Yes → ⊥
   no_rename e = false≢true (sym lacks ∙ or_left (is_yes (may_any h table.rename.new.needs.alternatives)) _ (ap is_yes e))
 
   no_link : may_any h table.link.new.needs.alternatives ≡ Yes → ⊥
-  no_link e = false≢true (sym lacks ∙ or_right (is_yes (may_any h table.rename.new.needs.alternatives)) _ (or_left (is_yes (may_any h table.link.new.needs.alternatives)) _ (ap is_yes e)))
+  no_link e = false≢true (sym lacks ∙
+      or_right (is_yes (may_any h table.rename.new.needs.alternatives)) _ (or_left (is_yes (may_any h table.link.new.needs.alternatives)) _
+      (ap is_yes e)))
 
   keeps_call : (c : Call) (x : Found) → may_any h (rule_of table c).alternatives ≡ Yes → Keeps (change_by table c x)
   keeps_call call.Create x is = absurd (unpromised call.Create (inl refl) is)
@@ -55,7 +47,7 @@ module _ (table : CallTable) (w : World) (h : History) (lacks : may_edit table h
   keeps_call _ x is = refl
 
   keeps_copy : (new : ℕ) → Keeps (CopyAs new)
-  keeps_copy new = by (is_some (history_of w new) || nat_le process_limit (length w.histories))
+  keeps_copy new = by (is_some (history_of w new) || nat_le most_processes (length w.histories))
     where
       by : (full : Bool) → tree_left w.tree (cond full (Fails EAGAIN) (Copies new)) ≡ w.tree
       by true = refl
@@ -72,12 +64,15 @@ module _ (table : CallTable) (w : World) (h : History) (lacks : may_edit table h
   keeps_by (Fork new) c d = subst Keeps (sym d.1) (keeps_copy new)
   keeps_by Exit c d = subst Keeps (sym d) refl
 
-pub unedited : (table : CallTable) (w : World) (ask : Asked) (h : History) → history_of w ask.process ≡ Some h → may_edit table h ≡ false → (apply table w ask).1.tree ≡ w.tree
-unedited table w ask h here lacks = by_own_tree table w ask h here (λ u. u ≡ w.tree) refl (λ c guards. keeps_by table w h lacks ask.action c guards)
+pub unedited : (table : CallTable) (w : World) (ask : Asked) (h : History) → history_of w ask.process ≡ Some h → may_edit table h ≡ false →
+    (apply table w ask).1.tree ≡ w.tree
+unedited table w ask h here lacks =
+    by_own_tree table w ask h here (λ u. u ≡ w.tree) refl (λ c guards. keeps_by table w h lacks ask.action c guards)
 
 -- who edits nothing by what it holds edits nothing by what is left of it
 module _ (table : CallTable) (sound : NoCallNeedsError table) (now : History) where
-  pub yes_before : (h : History) → IsWithin now h → (sets : List ℕ) → AllByRecursion NamesNoError sets → is_yes (may_any h sets) ≡ true → is_yes (may_any now sets) ≡ true
+  pub yes_before : (h : History) → IsWithin now h → (sets : List ℕ) → AllByRecursion NamesNoError sets → is_yes (may_any h sets) ≡ true →
+      is_yes (may_any now sets) ≡ true
   yes_before h within sets fine e = by (may_any h sets) refl e
     where
       by : (m : May) → may_any h sets ≡ m → is_yes m ≡ true → is_yes (may_any now sets) ≡ true
@@ -90,16 +85,21 @@ module _ (table : CallTable) (sound : NoCallNeedsError table) (now : History) wh
       by (is_yes (may_any h table.rename.new.needs.alternatives)) (is_yes (may_any h table.link.new.needs.alternatives))
       (list_any (λ edit. is_yes (may_any h (rule_of table edit).alternatives)) edit_calls) refl refl refl
     where
-      by : (a b c : Bool) → is_yes (may_any h table.rename.new.needs.alternatives) ≡ a → is_yes (may_any h table.link.new.needs.alternatives) ≡ b
+      by : (a b c : Bool) → is_yes (may_any h table.rename.new.needs.alternatives) ≡ a →
+          is_yes (may_any h table.link.new.needs.alternatives) ≡ b
           → list_any (λ edit. is_yes (may_any h (rule_of table edit).alternatives)) edit_calls ≡ c → may_edit table h ≡ false
-      by true b c is in_link e = absurd (false≢true (sym lacks ∙ or_left _ _ (yes_before h within table.rename.new.needs.alternatives sound.rename.1 is)))
+      by true b c is in_link e =
+          absurd (false≢true (sym lacks ∙ or_left _ _ (yes_before h within table.rename.new.needs.alternatives sound.rename.1 is)))
       by false true c is in_link e =
           absurd (false≢true (sym lacks ∙ or_right (is_yes (may_any now table.rename.new.needs.alternatives)) _
           (or_left _ _ (yes_before h within table.link.new.needs.alternatives sound.link.1 in_link))))
       by false false true is in_link e =
           let found = any_found (λ edit. is_yes (may_any h (rule_of table edit).alternatives)) edit_calls e in
-          absurd (false≢true (sym lacks ∙ or_right (is_yes (may_any now table.rename.new.needs.alternatives)) _ (or_right (is_yes (may_any now table.link.new.needs.alternatives)) _
-          (any_among (λ edit. is_yes (may_any now (rule_of table edit).alternatives)) edit_calls found.0 found.1 (yes_before h within (rule_of table found.0).alternatives (sound.calls found.0) found.2)))))
+          absurd (false≢true (sym lacks ∙
+          or_right (is_yes (may_any now table.rename.new.needs.alternatives)) _
+          (or_right (is_yes (may_any now table.link.new.needs.alternatives)) _
+          (any_among (λ edit. is_yes (may_any now (rule_of table edit).alternatives)) edit_calls found.0 found.1
+          (yes_before h within (rule_of table found.0).alternatives (sound.calls found.0) found.2)))))
       by false false false is in_link e = λ i. is i || (in_link i || e i)
 
   pub unedited_along : may_edit table now ≡ false → (asks : List Asked) (w : World) (members : List ℕ) → Members w members now false

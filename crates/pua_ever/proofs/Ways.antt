@@ -1,24 +1,22 @@
 -- Which covers are among those that a thing can come under.
-use Rattle.std.proofs.Common.{◌≡◌, ℕ, List, [], ◌∷◌, Bool, true, false, cond, refl, sym, ap, ◌∙◌, inl, inr}
-use Rattle.std.specs.Prelude.{Option, Some, None, not, ◌&&◌, ◌||◌, ◌==◌, filter, option_map}
-use Rattle.std.specs.List.{list_any, list_all}
-use Rattle.std.specs.Option.{option_eq}
-use Rattle.std.specs.Ordering.{nat_cmp, is_eq}
-use Rattle.std.specs.Cmp.{Equal-is, nat_cmp_total}
-use Rattle.std.specs.FinMap.{find as find_key, nat_cmp-IsAntisymmetric}
-use Rattle.std.proofs.lemmas.Bool.{false≢true, eq-eqb, eqb-true, and_parts, and_from, or_left, or_right}
-use Rattle.pua_tree.specs.Tree.{Tree, Node, WellFormed, Spot, spot_cmp, is_dir, is_dir_kind, look, node_at}
-use Rattle.pua_tree.proofs.ForCallers.{sound_from, spots_total, exact_spots, all_from_found}
-use Rattle.pua_policy.specs.History.{History, kept, veils, veil_at, same_place}
-use Rattle.pua_policy.specs.declared.place.Place.{Place}
+use Rattle.pua_ever.proofs.Common.{◌≡◌, ℕ, List, [], ◌∷◌, Bool, true, false, cond, refl, sym, ap, ◌∙◌, inl, inr, Option, Some, None, not}
+use Rattle.pua_ever.proofs.Common.{◌&&◌, ◌||◌, ◌==◌, filter, option_map, list_any, list_all, option_eq, nat_cmp, nat_cmp_total}
+use Rattle.pua_ever.proofs.Common.{nat_cmp-IsAntisymmetric, false≢true, eq-eqb, eqb-true, and_parts, and_from, or_left, or_right, Tree}
+use Rattle.pua_ever.proofs.Common.{Node, WellFormed, Spot, spot_cmp, is_dir, is_dir_kind, look, node_at, sound_from, spots_total}
+use Rattle.pua_ever.proofs.Common.{exact_spots, History, perms_kept, veils, same_place, Place, Cover, Only, same_place_is, has_c, cover_in}
+use Rattle.pua_ever.proofs.Common.{Among, among_left, among_right, among_map, map_among, among_filter, filter_among, among_filter_map}
+use Rattle.pua_ever.proofs.Common.{is_free, can_empty, is_below, has_c_outside, directories, dir_covers, name_covers, some_dir_has_c}
+use Rattle.pua_ever.proofs.Common.{file_covers}
+use Rattle.std.specs.Ordering.{is_eq}
+use Rattle.std.specs.Cmp.{Equal-is}
+use Rattle.std.specs.FinMap.{find as find_key}
+use Rattle.pua_tree.proofs.ForCallers.{all_from_found}
+use Rattle.pua_policy.specs.History.{veil_at}
 use Rattle.pua_policy.specs.declared.place.Place.TheVariants as place
-use Rattle.pua_policy.specs.declared.answer.Cover.{Cover}
-use Rattle.pua_policy.specs.declared.answer.Cover.TheVariants.{Only}
-use Rattle.pua_policy.proofs.ForCallers.{veils_are_kept, same_place_is}
-use Rattle.pua_script.specs.Confinement.{has_c}
-use Rattle.pua_objects.specs.Objects.{cover_in}
-use Rattle.pua_objects.proofs.ForCallers.{found_among, Among, among_left, among_right, among_map, map_among, among_filter, filter_among, among_filter_map}
-use Rattle.pua_ever.specs.Ever.{is_free, can_empty, opens_at, gives_way, is_below, opens_outside, has_c_outside, is_way_in, is_dir_entry, directories, dir_covers, veil_cover_at, name_covers, some_dir_has_c, file_covers}
+use Rattle.pua_policy.proofs.ForCallers.{veils_are_kept}
+use Rattle.pua_objects.proofs.ForCallers.{found_among}
+use Rattle.pua_ever.specs.Ever.{opens_at, gives_way, opens_outside, is_way_in, is_dir_entry}
+use Rattle.pua_ever.specs.Ever.{veil_cover_at}
 
 -- some element passes
 pub any_among : {X : Type 0} (p : X → Bool) (xs : List X) (x : X) → Among xs x → p x ≡ true → list_any p xs ≡ true
@@ -31,7 +29,8 @@ pub any_found : {X : Type 0} (p : X → Bool) (xs : List X) → list_any p xs �
 any_found p [] e = absurd (false≢true e)
 any_found {X = X} p (x ∷ xs) e = by (p x) refl (any_found p xs) e
   where
-    by : (b : Bool) → p x ≡ b → (list_any p xs ≡ true → (y : X) × Among xs y × (p y ≡ true)) → (b || list_any p xs) ≡ true → (y : X) × Among (x ∷ xs) y × (p y ≡ true)
+    by : (b : Bool) → p x ≡ b → (list_any p xs ≡ true → (y : X) × Among xs y × (p y ≡ true)) → (b || list_any p xs) ≡ true →
+        (y : X) × Among (x ∷ xs) y × (p y ≡ true)
     by true is more e = (x, inl refl, is)
     by false is more e = let found = more e in (found.0, inr found.1, found.2)
 
@@ -39,7 +38,8 @@ any_found {X = X} p (x ∷ xs) e = by (p x) refl (any_found p xs) e
 node_among : (k : ℕ) (v : Node) (es : List (ℕ × Node)) → find_key nat_cmp k es ≡ Some v → Among es (k, v)
 node_among k v [] e = cc
 node_among k v (y ∷ ys) e =
-    elim (is_eq (nat_cmp k y.0)) as (λ b. is_eq (nat_cmp k y.0) ≡ b → cond b (Some y.1) (find_key nat_cmp k ys) ≡ Some v → Among (y ∷ ys) (k, v)) [
+    elim (is_eq (nat_cmp k y.0)) as (λ b. is_eq (nat_cmp k y.0) ≡ b → cond b (Some y.1) (find_key nat_cmp k ys) ≡ Some v →
+    Among (y ∷ ys) (k, v)) [
       | true ↦ λ same is.
           let key : k ≡ y.0 = nat_cmp-IsAntisymmetric k y.0 ((Equal-is (nat_cmp k y.0)).0 same) in
           let value : y.1 ≡ v = cc in
@@ -71,21 +71,27 @@ module _ (t : Tree) (h : History) where
     where
       by : (o : Option Node) → node_at t d ≡ o → is_dir_kind (option_map (λ n. n.kind) o) ≡ true → Among (directories t) d
       by None e is = absurd (false≢true is)
-      by (Some n) e is = among_map (λ (entry : ℕ × Node). entry.0) (filter is_dir_entry t.nodes) (d, n) (among_filter is_dir_entry t.nodes (d, n) is (node_among d n t.nodes e))
+      by (Some n) e is = among_map (λ (entry : ℕ × Node). entry.0) (filter is_dir_entry t.nodes) (
+        d,
+        n,
+      ) (among_filter is_dir_entry t.nodes (d, n) is (node_among d n t.nodes e))
 
-  pub kept_among : (at : Place) (perms : ℕ) → kept h at ≡ Some perms → Among (veils h) (at, perms)
+  pub kept_among : (at : Place) (perms : ℕ) → perms_kept h at ≡ Some perms → Among (veils h) (at, perms)
   kept_among at perms e = veil_among (veils h) at perms (veils_are_kept h at ∙ e)
 
   -- a way in gives its cover
   way_covers : (d : ℕ) → is_dir t d ≡ true → is_way_in t h d ≡ true → Among (dir_covers t h) (cover_in t h d)
-  way_covers d is way = among_map (cover_in t h) (filter (is_way_in t h) (directories t)) d (among_filter (is_way_in t h) (directories t) d way (dir_among d is))
+  way_covers d is way =
+      among_map (cover_in t h) (filter (is_way_in t h) (directories t)) d (among_filter (is_way_in t h) (directories t) d way
+      (dir_among d is))
 
   -- by its own `c`
   pub way_by_c : (d : ℕ) → is_dir t d ≡ true → has_c (cover_in t h d) ≡ true → Among (dir_covers t h) (cover_in t h d)
   way_by_c d is has = way_covers d is (or_left (has_c (cover_in t h d)) _ has)
 
   -- by a name with a veil of its own
-  pub way_by_name : (d : ℕ) (name : List ℕ) (perms : ℕ) → is_dir t d ≡ true → kept h (place.Slot d name) ≡ Some perms → has_c (Only perms) ≡ true → is_free t h (d, name) ≡ true
+  pub way_by_name : (d : ℕ) (name : List ℕ) (perms : ℕ) → is_dir t d ≡ true → perms_kept h (place.Slot d name) ≡ Some perms →
+      has_c (Only perms) ≡ true → is_free t h (d, name) ≡ true
       → Among (dir_covers t h) (cover_in t h d)
   way_by_name d name perms is e has free =
       way_covers d is
@@ -94,19 +100,25 @@ module _ (t : Tree) (h : History) where
       (and_from (d == d) _ (eq-eqb d d refl) (and_from (has_c (Only perms)) _ has free)))))
 
   -- by a directory that gives way
-  pub way_by_turn : (d : ℕ) (name : List ℕ) (y : ℕ) → is_dir t d ≡ true → look t d name ≡ Some y → is_dir t y ≡ true → has_c (cover_in t h y) ≡ true → can_empty t h y ≡ true → has_c_outside t h y ≡ true
+  pub way_by_turn : (d : ℕ) (name : List ℕ) (y : ℕ) → is_dir t d ≡ true → look t d name ≡ Some y → is_dir t y ≡ true →
+      has_c (cover_in t h y) ≡ true → can_empty t h y ≡ true → has_c_outside t h y ≡ true
       → Among (dir_covers t h) (cover_in t h d)
   way_by_turn d name y is e dir has empty more =
       way_covers d is
       (or_right (has_c (cover_in t h d)) _ (or_right (list_any (λ veil. opens_at t h d veil.0 veil.1) (veils h)) _
       (any_among (gives_way t h d) t.rows ((d, name), y) (found_among (d, name) y t.rows e)
-      (and_from (d == d) _ (eq-eqb d d refl) (and_from (is_dir t y) _ dir (and_from (has_c (cover_in t h y)) _ has (and_from (can_empty t h y) _ empty more)))))))
+      (and_from (d == d) _ (eq-eqb d d refl)
+      (and_from (is_dir t y) _ dir (and_from (has_c (cover_in t h y)) _ has (and_from (can_empty t h y) _ empty more)))))))
 
   -- the cover of a name with a veil of its own
-  pub name_by_veil : (d : ℕ) (name : List ℕ) (perms : ℕ) → is_dir t d ≡ true → kept h (place.Slot d name) ≡ Some perms → has_c (Only perms) ≡ true → is_free t h (d, name) ≡ true
+  pub name_by_veil : (d : ℕ) (name : List ℕ) (perms : ℕ) → is_dir t d ≡ true → perms_kept h (place.Slot d name) ≡ Some perms →
+      has_c (Only perms) ≡ true → is_free t h (d, name) ≡ true
       → Among (name_covers t h) (Only perms)
   name_by_veil d name perms is e has free =
-      among_filter_map (λ veil. veil_cover_at t h veil.0 veil.1) (veils h) (place.Slot d name, perms) (Only perms) (kept_among (place.Slot d name) perms e)
+      among_filter_map (λ veil. veil_cover_at t h veil.0 veil.1) (veils h) (
+        place.Slot d name,
+        perms,
+      ) (Only perms) (kept_among (place.Slot d name) perms e)
       (ap (λ b. cond b (Some (Only perms)) None) (and_from (is_dir t d) _ is (and_from (has_c (Only perms)) _ has free)))
 
   pub some_dir_by : (d : ℕ) → is_dir t d ≡ true → has_c (cover_in t h d) ≡ true → some_dir_has_c t h ≡ true
@@ -116,7 +128,8 @@ module _ (t : Tree) (h : History) where
   pub some_dir_among : (c : Cover) → Among (dir_covers t h) c → has_c c ≡ true → some_dir_has_c t h ≡ true
   some_dir_among c a has =
       let from = map_among (cover_in t h) (filter (is_way_in t h) (directories t)) c a in
-      any_among (λ dir. has_c (cover_in t h dir)) (directories t) from.0 (filter_among (is_way_in t h) (directories t) from.0 from.1).0 (ap has_c from.2 ∙ has)
+      any_among (λ dir. has_c (cover_in t h dir)) (directories t) from.0 (filter_among (is_way_in t h) (directories t) from.0 from.1).0
+      (ap has_c from.2 ∙ has)
 
   pub file_by_name : (c : Cover) → Among (name_covers t h) c → Among (file_covers t h) c
   file_by_name c a = among_left (name_covers t h) _ c a
@@ -130,14 +143,19 @@ module _ (t : Tree) (h : History) where
     where
       by : (b : Bool) → has_c (cover_in t h d) ≡ b → has_c (cover_in t h d) ≡ false
       by false e = e
-      by true has = absurd (false≢true (sym none ∙ or_left _ _ (any_among (λ dir. not (is_below t y dir) && has_c (cover_in t h dir)) (directories t) d (dir_among d is) (and_from (not (is_below t y d)) _ (ap not outside) has))))
+      by true has = absurd (false≢true (sym none ∙
+          or_left _ _ (any_among (λ dir. not (is_below t y dir) && has_c (cover_in t h dir)) (directories t) d (dir_among d is)
+          (and_from (not (is_below t y d)) _ (ap not outside) has))))
 
-  pub quiet_name : (y d : ℕ) (name : List ℕ) (perms : ℕ) → has_c_outside t h y ≡ false → is_dir t d ≡ true → is_below t y d ≡ false → kept h (place.Slot d name) ≡ Some perms → has_c (Only perms) ≡ false
+  pub quiet_name : (y d : ℕ) (name : List ℕ) (perms : ℕ) → has_c_outside t h y ≡ false → is_dir t d ≡ true → is_below t y d ≡ false →
+      perms_kept h (place.Slot d name) ≡ Some perms → has_c (Only perms) ≡ false
   quiet_name y d name perms none is outside e = by (has_c (Only perms)) refl
     where
       by : (b : Bool) → has_c (Only perms) ≡ b → has_c (Only perms) ≡ false
       by false e = e
-      by true has = absurd (false≢true (sym none ∙ or_right (list_any (λ dir. not (is_below t y dir) && has_c (cover_in t h dir)) (directories t)) _ (any_among (λ veil. opens_outside t y veil.0 veil.1) (veils h) (place.Slot d name, perms) (kept_among (place.Slot d name) perms e)
+      by true has = absurd (false≢true (sym none ∙
+          or_right (list_any (λ dir. not (is_below t y dir) && has_c (cover_in t h dir)) (directories t)) _
+          (any_among (λ veil. opens_outside t y veil.0 veil.1) (veils h) (place.Slot d name, perms) (kept_among (place.Slot d name) perms e)
           (and_from (is_dir t d) _ is (and_from (not (is_below t y d)) _ (ap not outside) has)))))
 
 module _ (t : Tree) (well : WellFormed t) where

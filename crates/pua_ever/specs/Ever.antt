@@ -3,7 +3,8 @@
 -- ever be allowed on it. A thing **has c** where what covers it has the letter `c`; where there is no veil
 -- at all, everything has. What has no `c` is never moved, replaced or removed; but where link needs less of
 -- its old name, it can be given a further one.
-use Rattle.std.specs.Prelude.{ℕ, Bool, true, false, not, ◌&&◌, ◌||◌, if◌then◌else◌, List, [], ◌∷◌, ◌++◌, map, filter, filter_map, flat_map, ◌==◌, Option, Some, None, is_some, is_none, nat_lt, length, codes}
+use Rattle.std.specs.Prelude.{ℕ, Bool, true, false, not, ◌&&◌, ◌||◌, if◌then◌else◌, List, [], ◌∷◌, ◌++◌, map, filter, filter_map, flat_map}
+use Rattle.std.specs.Prelude.{◌==◌, Option, Some, None, is_some, is_none, nat_lt, length, codes}
 use Rattle.std.specs.List.{list_any, list_all}
 use Rattle.pua_tree.specs.Tree.{Tree, Node, Spot, is_dir_kind, is_dir, look, kind_at, climb, empty_tree}
 use Rattle.pua_tree.specs.declared.node.Kind.{Kind}
@@ -13,7 +14,7 @@ use Rattle.pua_path.specs.declared.found.Way.{Way}
 use Rattle.pua_path.specs.declared.found.Way.TheVariants.{Named, Top}
 use Rattle.pua_calls.specs.Calls.{CallTable, rule_of, calls, call_name}
 use Rattle.pua_calls.specs.CallSets.{keeps_link, is_kept}
-use Rattle.pua_policy.specs.History.{History, kept, veils, may_any}
+use Rattle.pua_policy.specs.History.{History, perms_kept, veils, may_any}
 use Rattle.pua_policy.specs.declared.answer.May.{May}
 use Rattle.pua_policy.specs.declared.answer.May.TheVariants.{Yes}
 use Rattle.pua_policy.specs.Verdict.{Object, IsDir, IsFile, IsLink, IsMissing, object_of, cover, cover_fault, covered_verdict, is_allowed}
@@ -150,7 +151,7 @@ named_covers t table h kind now =
 -- a directory with a veil of its own keeps its cover wherever it is
 abbrev pub covers_of_dir : Tree → CallTable → History → ℕ → List Cover
 covers_of_dir t table h dir =
-    ever_covers (may_edit table h && is_none (kept h (place.Dir dir))) (cover_in t h dir) (dir_covers t h)
+    ever_covers (may_edit table h && is_none (perms_kept h (place.Dir dir))) (cover_in t h dir) (dir_covers t h)
 
 -- and a missing name keeps its own veil
 abbrev pub covers_of : Tree → CallTable → History → Subject → List Cover
@@ -258,7 +259,7 @@ own_spot _ = None
 
 -- a name has a veil of its own, and can come to be free
 abbrev pub can_be_freed : Tree → CallTable → History → Spot → Bool
-can_be_freed t table h spot = is_some (kept h (place.Slot spot.0 spot.1)) && (may_edit table h && is_free t h spot)
+can_be_freed t table h spot = is_some (perms_kept h (place.Slot spot.0 spot.1)) && (may_edit table h && is_free t h spot)
 
 abbrev pub freed_at : Tree → CallTable → History → Option Spot → List Subject
 freed_at t table h None = []
@@ -282,14 +283,14 @@ ever_line t table h about =
 abbrev pub new_line : Tree → CallTable → History → New → EverLine
 new_line t table h new = record { word = []; thing = Comes new; calls = new_calls t table h new }
 
-abbrev pub has_calls : EverLine → Bool
-has_calls line = nat_lt 0 (length line.calls)
+abbrev pub has_ever_calls : EverLine → Bool
+has_ever_calls line = nat_lt 0 (length line.calls)
 
 -- all that can ever be touched: what stands or could stand now, in the order of the objects, and then what
 -- can be made
 abbrev pub ever : Tree → CallTable → History → List EverLine
 ever t table h =
-    filter has_calls
+    filter has_ever_calls
     (map (ever_line t table h) (flat_map (subjects_of t table h) (items t (veils h)))
     ++ map (new_line t table h) all_new)
 
@@ -304,5 +305,5 @@ abbrev pub thing_text : Tree → Word → Thing → List ℕ
 thing_text t word (Stands subject) = subject_word t subject ++ 32 ∷ printed_path Root word
 thing_text t word (Comes new) = new_word new ++ 32 ∷ codes "new"
 
-abbrev pub ever_text : Tree → EverLine → List ℕ
-ever_text t line = thing_text t line.word line.thing ++ 32 ∷ with_commas (map call_name line.calls)
+abbrev pub ever_line_text : Tree → EverLine → List ℕ
+ever_line_text t line = thing_text t line.word line.thing ++ 32 ∷ with_commas (map call_name line.calls)

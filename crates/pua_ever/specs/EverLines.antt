@@ -7,7 +7,7 @@ use Rattle.pua_policy.specs.History.{History, ProcessState, StandsFor}
 use Rattle.pua_audit.specs.Reach.{Word}
 use Rattle.pua_objects.specs.Objects.{subject_word}
 use Rattle.pua_objects.specs.Lines.{kind_word}
-use Rattle.pua_ever.specs.Ever.{Thing, Stands, Comes, EverLine, new_word, names_to_free, ever_line, new_line, has_calls}
+use Rattle.pua_ever.specs.Ever.{Thing, Stands, Comes, EverLine, new_word, names_to_free, ever_line, new_line, has_ever_calls}
 use Rattle.pua_ever.specs.EverState.{Left, Now, Freed, Coming}
 use Rattle.pua_ever.specs.declared.line.EverLine as given
 use Rattle.pua_ever.specs.declared.line.EverThing.{EverThing}
@@ -20,8 +20,8 @@ lines_about t table h (Freed item) =
     map (λ subject. ever_line t table h (item.word, subject)) (names_to_free t table h item.subject)
 lines_about t table h (Coming new) = new_line t table h new ∷ []
 
-abbrev pub lines_of : Tree → CallTable → History → List Left → List EverLine
-lines_of t table h left = filter has_calls (flat_map (lines_about t table h) left)
+abbrev pub ever_lines_of : Tree → CallTable → History → List Left → List EverLine
+ever_lines_of t table h left = filter has_ever_calls (flat_map (lines_about t table h) left)
 
 -- the line tells what its thing is
 abbrev pub IsThing : Tree → Thing → EverThing → Type 0
@@ -33,19 +33,19 @@ abbrev pub line_with : Word → Thing → given.EverLine → EverLine
 line_with word thing line = record { word = word; thing = thing; calls = calls_in line.calls }
 
 -- the first of the lines is given, and the others stay
-pub record IsListed (t : Tree) (table : CallTable) (process : ProcessState) (old new : List Left)
+pub record IsEverListed (t : Tree) (table : CallTable) (process : ProcessState) (old new : List Left)
     (word : Word) (given : given.EverLine) : Type 0 where
   pub about : Thing
   pub thing : IsThing t about given.thing
   pub lines : (h : History) → StandsFor process h →
-      lines_of t table h old ≡ line_with word about given ∷ lines_of t table h new
+      ever_lines_of t table h old ≡ line_with word about given ∷ ever_lines_of t table h new
 
-abbrev pub HasNoLine : Tree → CallTable → ProcessState → List Left → Type 0
-HasNoLine t table process left = (h : History) → StandsFor process h → lines_of t table h left ≡ []
+abbrev pub HasNoEverLine : Tree → CallTable → ProcessState → List Left → Type 0
+HasNoEverLine t table process left = (h : History) → StandsFor process h → ever_lines_of t table h left ≡ []
 
 -- None where there is none
-abbrev pub IsNextListed : Tree → CallTable → ProcessState → List Left → Option given.EverLine → Word →
+abbrev pub IsNextEverListed : Tree → CallTable → ProcessState → List Left → Option given.EverLine → Word →
     List Left → Type 0
-IsNextListed t table process old result word new =
-    MatchOption result (HasNoLine t table process old × HasNoLine t table process new)
-    (IsListed t table process old new word)
+IsNextEverListed t table process old result word new =
+    MatchOption result (HasNoEverLine t table process old × HasNoEverLine t table process new)
+    (IsEverListed t table process old new word)

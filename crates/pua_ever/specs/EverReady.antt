@@ -1,5 +1,6 @@
 -- A list's fields between two calls, and what they say is still to come.
-use Rattle.std.specs.Prelude.{◌≡◌, ◌⊎◌, ℕ, Bool, true, false, not, ◌&&◌, ◌||◌, if◌then◌else◌, is_some, List, [], ◌∷◌, ◌++◌, filter, flat_map, ◌==◌, Option, Some, None, MatchOption}
+use Rattle.std.specs.Prelude.{◌≡◌, ◌⊎◌, ℕ, Bool, true, false, not, ◌&&◌, ◌||◌, if◌then◌else◌, is_some, List, [], ◌∷◌, ◌++◌, filter}
+use Rattle.std.specs.Prelude.{flat_map, ◌==◌, Option, Some, None, MatchOption}
 use Rattle.std.specs.List.{list_any}
 use Rattle.pua_tree.specs.Tree.{Tree, WellFormed, Spot, is_dir}
 use Rattle.pua_tree.specs.declared.node.Kind.{Kind}
@@ -20,8 +21,9 @@ use Rattle.pua_objects.specs.Objects.{At, Item, cover_in}
 use Rattle.pua_objects.specs.declared.item.Item as given
 use Rattle.pua_objects.specs.declared.item.Subject as about
 use Rattle.pua_objects.specs.declared.item.Subject.TheVariants as subject
-use Rattle.pua_ever.specs.Ever.{New, NewDir, NewOthers, NewFile, NewLink, Thing, can_empty, may_edit, may_link, named_covers, is_allowed_under, is_ever_allowed, can_be_freed, has_calls}
-use Rattle.pua_ever.specs.EverLines.{lines_of, IsThing, line_with}
+use Rattle.pua_ever.specs.Ever.{New, NewDir, NewOthers, NewFile, NewLink, Thing, can_empty, may_edit, may_link, named_covers}
+use Rattle.pua_ever.specs.Ever.{is_allowed_under, is_ever_allowed, can_be_freed, has_ever_calls}
+use Rattle.pua_ever.specs.EverLines.{ever_lines_of, IsThing, line_with}
 use Rattle.pua_ever.specs.EverState.{Left, Now, Freed, Coming}
 use Rattle.pua_ever.specs.Laws.{EditsNeedC}
 use Rattle.pua_ever.specs.Movable.{IsMovable}
@@ -45,7 +47,7 @@ pub record IsItemIn (t : Tree) (process : ProcessState) (item : given.Item) : Ty
 
 -- the tree is one, each change of it needs `c`, the item given last is one, and what can be made comes
 -- after all items
-pub record IsReady (t : Tree) (process : ProcessState) (table : CallTable) (found : Prospects)
+pub record IsEverReady (t : Tree) (process : ProcessState) (table : CallTable) (found : Prospects)
     (last : Option given.Item) (items : List Item) (coming : Option Made) : Type 0 where
   pub fits : WellFormed t
   pub needs : EditsNeedC table
@@ -78,13 +80,13 @@ made_left (Some made.Others) = Coming NewOthers ∷ Coming NewFile ∷ Coming Ne
 made_left (Some made.File) = Coming NewFile ∷ Coming NewLink ∷ []
 made_left (Some made.Link) = Coming NewLink ∷ []
 
-abbrev pub left_in : Tree → Word → Option given.Item → List Item → Option Made → List Left
-left_in t word last items coming = last_left t word last ++ (flat_map both_of items ++ made_left coming)
+abbrev pub things_left : Tree → Word → Option given.Item → List Item → Option Made → List Left
+things_left t word last items coming = last_left t word last ++ (flat_map both_of items ++ made_left coming)
 
 -- no names lead to what can be made
-abbrev pub word_in : Option Made → Word → Word
-word_in (Some made.Dir) word = word
-word_in _ word = []
+abbrev pub made_word : Option Made → Word → Word
+made_word (Some made.Dir) word = word
+made_word _ word = []
 
 -- the calls on the name at which a thing stands, once that is taken away
 pub record AreOnFreed (t : Tree) (table : CallTable) (h : History) (at : Option Spot) (calls : ℕ) : Type 0 where
@@ -113,16 +115,16 @@ kind_allowed t table h now kind call =
     && is_allowed_under table h (kind_covers t table h now kind) (object_of_kind kind) call
 
 -- a line, which may have no calls, is about the first thing that is to come, and the others stay
-pub record IsGiven (t : Tree) (table : CallTable) (process : ProcessState) (old : List Left) (word : Word)
+pub record IsEverGiven (t : Tree) (table : CallTable) (process : ProcessState) (old : List Left) (word : Word)
     (new : List Left) (given : told.EverLine) : Type 0 where
   pub about : Thing
   pub thing : IsThing t about given.thing
   pub first : Left
   pub left : old ≡ first ∷ new
   pub lines : (h : History) → StandsFor process h →
-      lines_of t table h old ≡ filter has_calls (line_with word about given ∷ []) ++ lines_of t table h new
+      ever_lines_of t table h old ≡ filter has_ever_calls (line_with word about given ∷ []) ++ ever_lines_of t table h new
 
 abbrev pub IsNextGiven : Tree → CallTable → ProcessState → List Left → Option told.EverLine → Word →
     List Left → Type 0
 IsNextGiven t table process old result word new =
-    MatchOption result ((old ≡ []) × (new ≡ [])) (IsGiven t table process old word new)
+    MatchOption result ((old ≡ []) × (new ≡ [])) (IsEverGiven t table process old word new)

@@ -25,5 +25,5 @@ pub record EverState : Type 0 where
   pub left : List Left
 
 -- each name of the word is one of the line before
-abbrev pub begun : EverState → EverState
-begun s = record s { shared = length s.word }
+abbrev pub begun_state : EverState → EverState
+begun_state s = record s { shared = length s.word }

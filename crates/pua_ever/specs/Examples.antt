@@ -6,15 +6,15 @@ use Rattle.pua_calls.specs.Promises.{rpath, wpath, cpath, fattr, exec, reading, 
 use Rattle.pua_calls.specs.Calls.{CallTable, NameRule, standard_name, standard_pair, standard_table, openbsd_table}
 use Rattle.pua_policy.specs.History.{History, Pledged, Unveiled, Locked, new_history}
 use Rattle.pua_policy.specs.declared.place.Place.TheVariants as place
-use Rattle.pua_ever.specs.Ever.{ever, ever_text}
+use Rattle.pua_ever.specs.Ever.{ever, ever_line_text}
 use Rattle.pua_ever.specs.Refusals.{refusal}
 use Rattle.pua_ever.specs.declared.refusal.Refusal.TheVariants.{CanUnveil, LinkLacksC}
 
 abbrev pub lines : Tree → History → List (List ℕ)
-lines t h = map (ever_text t) (ever t standard_table h)
+lines t h = map (ever_line_text t) (ever t standard_table h)
 
 abbrev pub lines_by_openbsd : Tree → History → List (List ℕ)
-lines_by_openbsd t h = map (ever_text t) (ever t openbsd_table h)
+lines_by_openbsd t h = map (ever_line_text t) (ever t openbsd_table h)
 
 abbrev directory : Node
 directory = record { kind = Dir; target = None }
@@ -44,7 +44,8 @@ moved_on_history =
     ∷ Unveiled (place.Dir 1) (reading + writing + creating)
     ∷ new_history)
 
--- `/` has rx, `/a` and `/b` have c: a directory in one can take the place of the other, and then stands under the veil of `/`, where the program in it can be run
+-- `/` has rx, `/a` and `/b` have c: a directory in one can take the place of the other, and then stands under the veil
+-- of `/`, where the program in it can be run
 abbrev pub in_the_place_tree : Tree
 in_the_place_tree = record {
   rows = ((0, codes "a"), 1) ∷ ((0, codes "b"), 2) ∷ ((1, codes "x"), 3) ∷ ((3, codes "p"), 4) ∷ [];
@@ -174,7 +175,8 @@ no_cpath_tree = record {
 abbrev pub no_cpath_history : History
 no_cpath_history = Pledged (Some (rpath + wpath)) None ∷ Locked ∷ new_history
 
--- `/mail` has r and `/spool` has rwc: by OpenBSD's rules what stands in `/mail` can be given a further name in `/spool`, and be written by that. So it isn't with the link in it, which link follows
+-- `/mail` has r and `/spool` has rwc: by OpenBSD's rules what stands in `/mail` can be given a further name in
+-- `/spool`, and be written by that. So it isn't with the link in it, which link follows
 abbrev pub aliases_tree : Tree
 aliases_tree = record {
   rows = ((0, codes "mail"), 1) ∷ ((0, codes "spool"), 2) ∷ ((1, codes "aliases"), 3) ∷ ((1, codes "l"), 4) ∷ [];

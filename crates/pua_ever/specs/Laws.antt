@@ -11,7 +11,7 @@ use Rattle.pua_path.specs.declared.found.Found.TheVariants.{Whole, Slot}
 use Rattle.pua_calls.specs.Promises.{holds, creating}
 use Rattle.pua_calls.specs.Calls.{CallTable, table_by_rules, rule_of, ending_of, last_of}
 use Rattle.pua_calls.specs.declared.rules.Rules.{Rules}
-use Rattle.pua_policy.specs.History.{History, kept, is_ended}
+use Rattle.pua_policy.specs.History.{History, perms_kept, is_ended}
 use Rattle.pua_policy.specs.Verdict.{verdict_of}
 use Rattle.pua_policy.specs.declared.answer.Verdict.TheVariants.{Allowed}
 use Rattle.pua_calls.specs.declared.call.Call.{Call}
@@ -47,7 +47,7 @@ dir_of_place (place.Dir dir) = dir
 dir_of_place (place.Slot dir name) = dir
 
 abbrev pub VeilsStand : Tree → History → Type 0
-VeilsStand t h = (at : Place) (perms : ℕ) → kept h at ≡ Some perms → dir_of_place at < t.next
+VeilsStand t h = (at : Place) (perms : ℕ) → perms_kept h at ≡ Some perms → dir_of_place at < t.next
 
 -- the line of what a path named in a later tree, by what stood in the tree `t` of the beginning:
 -- a directory of then has its own; a file, program or link of then that of a row in which it stood then;
@@ -60,10 +60,10 @@ pub data IsLineOf (t later : Tree) (h : History) : Thing → Found → Type 0 wh
       (row : Spot) → look t row.0 row.1 ≡ Some node →
       IsLineOf t later h (Stands (At (Slot row.0 row.1 (Some node)))) (Slot dir name (Some node))
   of_name : {dir : ℕ} {name : List ℕ} →
-      (perms : ℕ) → kept h (place.Slot dir name) ≡ Some perms →
+      (perms : ℕ) → perms_kept h (place.Slot dir name) ≡ Some perms →
       IsLineOf t later h (Stands (At (Slot dir name None))) (Slot dir name None)
   of_others : {dir : ℕ} {name : List ℕ} →
-      dir < t.next → kept h (place.Slot dir name) ≡ None →
+      dir < t.next → perms_kept h (place.Slot dir name) ≡ None →
       IsLineOf t later h (Stands (Others dir)) (Slot dir name None)
   of_new_dir : {dir : ℕ} {way : Way} →
       t.next ≤ dir → IsLineOf t later h (Comes NewDir) (Whole dir way)

@@ -3,7 +3,7 @@
 use Rattle.std.specs.Prelude.{ℕ, Bool, false, not, ◌&&◌, if◌then◌else◌, List, ◌==◌, Option, Some, None, is_some, min, length}
 use Rattle.std.specs.List.{list_any, Contains}
 use Rattle.pua_tree.specs.Tree.{Tree, is_dir, look, above, climb}
-use Rattle.pua_policy.specs.History.{History, kept}
+use Rattle.pua_policy.specs.History.{History, perms_kept}
 use Rattle.pua_policy.specs.declared.answer.Cover.{Cover}
 use Rattle.pua_policy.specs.declared.answer.Cover.TheVariants.{Only}
 use Rattle.pua_policy.specs.declared.place.Place.{Place}
@@ -19,15 +19,15 @@ if_c None = None
 if_c (Some perms) = if has_c (Only perms) then Some (Only perms) else None
 
 abbrev pub opening : History → Place → Option Cover
-opening h at = if_c (kept h at)
+opening h at = if_c (perms_kept h at)
 
 -- a place has a veil of its own, without `c`
-abbrev pub lacks_c : Option ℕ → Bool
-lacks_c None = false
-lacks_c (Some perms) = not (has_c (Only perms))
+abbrev pub is_without_c : Option ℕ → Bool
+is_without_c None = false
+is_without_c (Some perms) = not (has_c (Only perms))
 
 abbrev pub is_barred : History → Place → Bool
-is_barred h at = lacks_c (kept h at)
+is_barred h at = is_without_c (perms_kept h at)
 
 -- the cover of a directory that has `c` by its own veil
 abbrev pub dir_opening : Tree → History → Place → Option Cover
@@ -64,11 +64,11 @@ abbrev pub can_give_way : Tree → List ℕ → List ℕ → ℕ → Bool
 can_give_way t held opened dir =
     not (list_any (λ other. other == dir) held) && list_any (is_outside t dir) opened
 
-abbrev pub entrance : Tree → History → List ℕ → List ℕ → Place → Option Cover
-entrance t h held opened (place.Slot dir name) =
+abbrev pub entrance_cover : Tree → History → List ℕ → List ℕ → Place → Option Cover
+entrance_cover t h held opened (place.Slot dir name) =
     if is_dir t dir && (is_free t h (dir, name) && is_some (opening h (place.Slot dir name)))
     then Some (cover_in t h dir) else None
-entrance t h held opened (place.Dir dir) =
+entrance_cover t h held opened (place.Dir dir) =
     if is_dir t dir && (not (dir == 0) && (is_some (opening h (place.Dir dir)) && can_give_way t held opened dir))
     then Some (cover_in t h (above t dir)) else None
 

@@ -1,6 +1,7 @@
 //! All that a process and what it forks can ever touch, line by line.
 
-ghost use Rattle.std.specs.Prelude.{◌≡◌, ◌⊎◌, ◌<◌, ◌≤◌, ◌∷◌, [], true, Some, None, IfOk, OnOk, OnSome};
+ghost use Rattle.std.specs.Prelude.{◌≡◌, ◌⊎◌, ◌<◌, ◌≤◌, ◌∷◌, [], true, Some, None, IfOk, OnOk};
+ghost use Rattle.std.specs.Prelude.{OnSome};
 ghost use Rattle.std.specs.Prelude.{MatchResult, length, map, take};
 ghost use Rattle.pua_tree.specs.Tree.{Tree};
 ghost use Rattle.pua_policy.specs.History.{History, StandsFor, is_ended};
@@ -10,9 +11,9 @@ ghost use Rattle.pua_objects.specs.Laws.{HasPlaces};
 ghost use Rattle.pua_objects.specs.Lines.{kind_word};
 ghost use Rattle.pua_objects.specs.Objects.{Subject as About, subject_word};
 ghost use Rattle.pua_ever.specs.Ever.{ever};
-ghost use Rattle.pua_ever.specs.EverLines.{lines_of, IsNextListed};
+ghost use Rattle.pua_ever.specs.EverLines.{ever_lines_of, IsNextEverListed};
 ghost use Rattle.pua_ever.specs.EverReady.{IsNextGiven};
-ghost use Rattle.pua_ever.specs.EverState.{begun};
+ghost use Rattle.pua_ever.specs.EverState.{begun_state};
 ghost use Rattle.pua_ever.specs.Laws.{EditsNeedC};
 ghost use Rattle.pua_ever.specs.Refusals.{refusal as refusal_of, refusal_in};
 
@@ -51,18 +52,19 @@ impl<'t, T: FileTree> Model for Ever<'t, T> {
 
     ghost Value = { EverState };
 
-    ghost use Rattle.pua_ever.specs.EverReady.{left_in, word_in, IsReady};
+    ghost use Rattle.pua_ever.specs.EverReady.{things_left, made_word, IsEverReady};
 
     ghost view = { λ a. record {
       tree = a.items.tree;
       process = a.items.process;
       table = a.table;
-      word = word_in a.coming a.items.word;
+      word = made_word a.coming a.items.word;
       shared = a.shared;
-      left = left_in a.items.tree a.items.word a.last a.items.left a.coming;
+      left = things_left a.items.tree a.items.word a.last a.items.left a.coming;
     } };
 
-    ghost invariant = { λ a. IsReady a.items.tree a.items.process a.table a.prospects a.last a.items.left a.coming };
+    ghost invariant = { λ a. IsEverReady a.items.tree a.items.process a.table a.prospects a.last
+        a.items.left a.coming };
 }
 
 impl<'t, T: FileTree> Ever<'t, T> {
@@ -80,7 +82,7 @@ impl<'t, T: FileTree> Ever<'t, T> {
         ensures of { IfOk result (λ list. (list.tree ≡ T.content tree.now)
             × (list.process ≡ process.now) × (list.table ≡ table.now)) }
         ensures lines { IfOk result (λ list. (h : History) → StandsFor process.now h →
-            lines_of (T.content tree.now) table.now h list.left
+            ever_lines_of (T.content tree.now) table.now h list.left
             ≡ ever (T.content tree.now) table.now h) }
         ensures refused { (h : History) → StandsFor process.now h → MatchResult result
             (λ _. refusal_of table.now h ≡ None) (λ fault. refusal_of table.now h
@@ -117,7 +119,8 @@ impl<'t, T: FileTree> Ever<'t, T> {
     pub fn next_line(&mut self) -> Option<EverLine>
         ensures of { (self.new.tree ≡ self.old.tree) × (self.new.process ≡ self.old.process)
             × (self.new.table ≡ self.old.table) }
-        ensures line { IsNextListed self.old.tree self.old.table self.old.process self.old.left result
+        ensures line { IsNextEverListed self.old.tree self.old.table self.old.process self.old.left
+            result
             self.new.word self.new.left }
         ensures fewer { OnSome result (length self.new.left < length self.old.left) }
         ensures shared { take self.new.shared self.new.word ≡ take self.new.shared self.old.word }
@@ -133,7 +136,7 @@ impl<'t, T: FileTree> Ever<'t, T> {
 
     /// Each name of the word is one of the line before, until another item comes.
     fn share_all(&mut self)
-        ensures { self.new ≡ begun self.old }
+        ensures { self.new ≡ begun_state self.old }
     {
         self.shared = self.word().len();
     }
@@ -142,7 +145,8 @@ impl<'t, T: FileTree> Ever<'t, T> {
     fn next_given(&mut self) -> Option<EverLine>
         ensures of { (self.new.tree ≡ self.old.tree) × (self.new.process ≡ self.old.process)
             × (self.new.table ≡ self.old.table) }
-        ensures line { IsNextGiven self.old.tree self.old.table self.old.process self.old.left result
+        ensures line { IsNextGiven self.old.tree self.old.table self.old.process self.old.left
+            result
             self.new.word self.new.left }
         ensures shared { take self.new.shared self.new.word ≡ take self.new.shared self.old.word }
         ensures less { self.new.shared ≤ self.old.shared }

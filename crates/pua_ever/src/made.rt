@@ -4,7 +4,7 @@ ghost use Rattle.std.specs.Prelude.{◌≡◌, ◌∷◌, [], Some};
 ghost use Rattle.pua_audit.specs.Reach.{Word};
 ghost use Rattle.pua_objects.specs.Lines.{kind_word};
 ghost use Rattle.pua_ever.specs.Ever.{maker as maker_of, new_word};
-ghost use Rattle.pua_ever.specs.EverReady.{new_of, made_left, word_in};
+ghost use Rattle.pua_ever.specs.EverReady.{new_of, made_left, made_word};
 ghost use Rattle.pua_ever.specs.EverState as left;
 
 use pua_calls::Call;
@@ -24,7 +24,7 @@ impl Made {
     /// The next one, in the order of the lines.
     pub(crate) fn after(self) -> Option<Made>
         ensures left { made_left (Some self) ≡ left.Coming (new_of self) ∷ made_left result }
-        ensures word { (word : Word) → word_in result word ≡ [] }
+        ensures word { (word : Word) → made_word result word ≡ [] }
     {
         match self {
             Made::Dir => Some(Made::Others),

@@ -15,7 +15,8 @@ ghost use Rattle.pua_ever.specs.Openings.{opening as opening_of, is_barred as ba
 ghost use Rattle.pua_ever.specs.Openings.{dir_opening as dir_opening_of};
 ghost use Rattle.pua_ever.specs.Openings.{name_opening as name_opening_of};
 ghost use Rattle.pua_ever.specs.Openings.{opened_dir as opened_dir_of, held_dir as held_dir_of};
-ghost use Rattle.pua_ever.specs.Openings.{entrance as entrance_of, can_give_way as gives_way_to};
+ghost use Rattle.pua_ever.specs.Openings.{entrance_cover as entrance_of};
+ghost use Rattle.pua_ever.specs.Openings.{can_give_way as gives_way_to};
 ghost use Rattle.pua_ever.specs.Openings.{is_outside as stands_outside, depth as depth_of};
 ghost use Rattle.pua_ever.specs.Openings.{HaveSame};
 

@@ -10,7 +10,7 @@ ghost use Rattle.pua_path.specs.declared.found.Found.TheVariants.{Whole};
 ghost use Rattle.pua_calls.specs.Calls.{CallTable as Table, rule_of};
 ghost use Rattle.pua_calls.specs.CallSets.{has};
 ghost use Rattle.pua_calls.specs.declared.call.Call.{Call as AnyCall};
-ghost use Rattle.pua_policy.specs.History.{History, StandsFor, kept, may_any as may_any_of};
+ghost use Rattle.pua_policy.specs.History.{History, StandsFor, perms_kept, may_any as may_any_of};
 ghost use Rattle.pua_policy.specs.Objects.{object_seen};
 ghost use Rattle.pua_policy.specs.Verdict.{IsDir, object_of_kind};
 ghost use Rattle.pua_script.specs.Confinement.{has_c as cover_has_c};
@@ -298,7 +298,8 @@ impl Prospects {
     /// which would go with it.
     fn moves_dir(&self, process: &Process, dir: NodeId, cover: &Cover) -> bool
         ensures { (h : History) → StandsFor process.now h → result
-            ≡ ((self.now.may_edit && is_none (kept h (Place.Dir dir))) && cover_has_c cover.now) }
+            ≡ ((self.now.may_edit && is_none (perms_kept h (Place.Dir dir)))
+            && cover_has_c cover.now) }
     {
         self.may_edit && process.kept(&Place::Dir(dir)).is_none() && has_c(*cover)
     }

@@ -1,7 +1,8 @@
 //! A caller of each library, from a listing and a script to what a process can still do. The page for
 //! callers, docs/CALLING.md, goes through these functions.
 
-ghost use Rattle.std.specs.Prelude.{◌≡◌, ◌≢◌, ℕ, List, [], Some, None, Ok, Err, IfOk, IfErr, IsTrue, IsFalse, nat_eq};
+ghost use Rattle.std.specs.Prelude.{◌≡◌, ◌≢◌, ℕ, List, [], Some, None, Ok, Err, IfOk, IfErr};
+ghost use Rattle.std.specs.Prelude.{IsTrue, IsFalse, nat_eq};
 ghost use Rattle.std.specs.List.{list_any};
 ghost use Rattle.pua_tree.specs.Listing.{listing};
 ghost use Rattle.pua_path.specs.Fits.{FoundsFit};
@@ -9,7 +10,7 @@ ghost use Rattle.pua_path.specs.Resolution.{resolution_of_text};
 ghost use Rattle.pua_calls.specs.Calls.{call_number, standard_table};
 ghost use Rattle.pua_policy.specs.History.{History, StandsFor};
 ghost use Rattle.pua_policy.specs.Verdict.{verdict_on};
-ghost use Rattle.pua_script.specs.Replay.{answers, new_world, world_after};
+ghost use Rattle.pua_script.specs.Replay.{answers_to, new_world, world_after};
 ghost use Rattle.pua_script.specs.Scripts.{script};
 ghost use Rattle.pua_script.specs.Worlds.{StandsForWorld};
 ghost use Rattle.pua_audit.specs.Begin.{Beginning, beginning, still_to_come};
@@ -20,7 +21,7 @@ ghost use Rattle.pua_tool.specs.Texts.{by_standard};
 ghost use Rattle.pua_examples.specs.Calling.{first_fault};
 
 use pua_audit::{Audit, AuditFault, Base};
-use pua_calls::needs::{ending, need};
+use pua_calls::needs::ending;
 use pua_calls::{Call, CallTable};
 use pua_objects::{Objects, completeness_law};
 use pua_path::{Counted, Ending, Errno, Found, Last, PathText, resolve};
@@ -68,7 +69,7 @@ pub(crate) struct Served {
 /// refused.
 pub(crate) fn replay(alloc: Global, tree: SlabTree, script: &Script) -> Result<Served, OutOfMemory>
     ensures told { IfOk result (λ served.
-        served.told.items ≡ answers standard_table (new_world tree) script.now) }
+        served.told.items ≡ answers_to standard_table (new_world tree) script.now) }
     ensures world { IfOk result (λ served.
         StandsForWorld served.world (world_after standard_table (new_world tree) script.now)) }
     ensures table { IfOk result (λ served. served.world.table ≡ standard_table) }
@@ -93,13 +94,7 @@ pub(crate) fn ask<T: FileTree>(
         result ≡ verdict_on (T.content tree.now) table.now h call path.now }
 {
     let mut probe = Counted::new(tree);
-    let found = name(
-        &mut probe,
-        process.dir(),
-        path,
-        ending(call),
-        need(call).last,
-    );
+    let found = name(&mut probe, process.dir(), path, ending(call), call.last());
     verdict_of(&mut probe, process, table, call, found)
 }
 
@@ -129,7 +124,8 @@ pub(crate) fn is_reached<T: FileTree>(
     limit: u8,
     call: Call,
 ) -> Result<bool, AuditFault>
-    ensures reached { IfOk result (λ reached. (h : History) → StandsFor process.now h → (b : Beginning)
+    ensures reached { IfOk result (λ reached. (h : History) → StandsFor process.now h →
+        (b : Beginning)
         × (beginning (T.content tree.now) table.now h Root [] limit None ≡ Ok b)
         × (reached ≡ list_any (λ pair. nat_eq (call_number pair.1) (call_number call))
         (still_to_come b))) }

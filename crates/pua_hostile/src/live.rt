@@ -1,6 +1,6 @@
 //! Live states of audits, and looks and reads in numbers, by direct calls over both kinds of tree.
 
-use self::Found::{First, Whole};
+use self::AuditSize::{First, Whole};
 use crate::LISTING;
 use crate::audited::TreeAudit;
 use crate::told::{count, wrong_unless};
@@ -24,12 +24,12 @@ struct Case<'a> {
     limit: u8,
     looks: u64,
     reads: u64,
-    found: Found,
+    found: AuditSize,
 }
 
 /// How many states are live and lines come; or the path of the first line, where there are too many.
 #[derive(Clone, Copy)]
-enum Found {
+enum AuditSize {
     Whole(usize, usize),
     First(&'static [u8]),
 }

@@ -1,11 +1,13 @@
 -- What puts one after another leave in a sink.
-use Rattle.std.proofs.Common.{◌≡◌, ℕ, suc, zero-add, ◌+◌, ◌-◌, ◌^◌, ◌<◌, ◌≤◌, List, [], ◌∷◌, ◌++◌, length, take, drop, Option, sym, ap, ◌∙◌, subst, append_assoc, length-append, take-append-drop, take_all, length-drop, inl, inr, ◌⊎◌, arith}
+use Rattle.pua_io.proofs.Common.{◌≡◌, arith}
+use Rattle.std.proofs.Common.{ℕ, suc, zero-add, ◌+◌, ◌-◌, ◌^◌, ◌<◌, ◌≤◌, List, [], ◌∷◌, ◌++◌, length, take, drop, Option, sym, ap, ◌∙◌}
+use Rattle.std.proofs.Common.{subst, append_assoc, length-append, take-append-drop, take_all, length-drop, inl, inr, ◌⊎◌}
 use Rattle.std.specs.Io.KnownBytes.{Appends, Keeps}
 use Rattle.std.proofs.KnownBytes.{Appends-trans, Appends-kept}
 use Rattle.std.proofs.lemmas.Bool.{cases_order}
 use Rattle.std.proofs.lemmas.List.{take-append-le}
 use lib.Seq.{take-append_seam}
-use Rattle.pua_io.specs.Sinks.{Adds, AddsFront, HasFailed, Puts, Writes, counted}
+use Rattle.pua_io.specs.Sinks.{Adds, AddsFront, HasFailed, Puts, Writes, next_count}
 use Rattle.std.specs.Prelude.{Result, Ok, Err, OnOk, OnErr}
 use Rattle.pua_io.specs.declared.sink.PutFault.{PutFault}
 
@@ -15,12 +17,14 @@ pub record HasPut (text rest : List ℕ) (old new : Option (List ℕ)) : Type 0 
   pub parts : text ≡ done ++ rest
   pub adds : Appends old new done
 
-pub has_put_more : (text rest : List ℕ) (n : ℕ) (a b c : Option (List ℕ)) → HasPut text rest a b → Puts rest n b c → HasPut text (take (length rest - n) (drop n rest)) a c
+pub has_put_more : (text rest : List ℕ) (n : ℕ) (a b c : Option (List ℕ)) → HasPut text rest a b → Puts rest n b c →
+    HasPut text (take (length rest - n) (drop n rest)) a c
 has_put_more text rest n a b c put more =
     let whole : take (length rest - n) (drop n rest) ≡ drop n rest = take_all _ (drop n rest) (omega (arith, length-drop n rest)) in
     record {
       done = put.done ++ take n rest;
-      parts = put.parts ∙ ap (λ r. put.done ++ r) (sym (take-append-drop n rest)) ∙ sym (append_assoc put.done (take n rest) (drop n rest)) ∙ ap (λ r. (put.done ++ take n rest) ++ r) (sym whole);
+      parts = put.parts ∙ ap (λ r. put.done ++ r) (sym (take-append-drop n rest)) ∙ sym (append_assoc put.done (take n rest) (drop n rest))
+          ∙ ap (λ r. (put.done ++ take n rest) ++ r) (sym whole);
       adds = Appends-trans a b c put.done (take n rest) put.adds more.adds;
     }
 
@@ -32,10 +36,10 @@ has_put_front text rest a b c put keeps =
     (length put.done, short, subst (λ t. Appends a c t) (sym front) (Appends-kept a b c put.done put.adds keeps))
 
 -- a count after one more rose, or stands at its greatest value
-pub counted_has_failed : (n : ℕ) → HasFailed n (counted n)
+pub counted_has_failed : (n : ℕ) → HasFailed n (next_count n)
 counted_has_failed n = by_order (cases_order n (2 ^ 64 - 1))
   where
-    by_order : (n ≡ 2 ^ 64 - 1) ⊎ ((n < 2 ^ 64 - 1) ⊎ (2 ^ 64 - 1 < n)) → HasFailed n (counted n)
+    by_order : (n ≡ 2 ^ 64 - 1) ⊎ ((n < 2 ^ 64 - 1) ⊎ (2 ^ 64 - 1 < n)) → HasFailed n (next_count n)
     by_order (inl same) = inr (omega arith)
     by_order (inr (inl less)) = inl (omega arith)
     by_order (inr (inr more)) = inr (omega arith)
@@ -52,11 +56,18 @@ pub writes_then : (first second : List ℕ) (r : Result (Unit {0}) PutFault) (a 
 writes_then first second (Ok done) a b c before between after adds same more = (Appends-trans a b c first second adds more.0, more.1 ∙ same)
 writes_then first second (Err fault) a b c before between after adds same more =
     let n = more.0.0 in
-    let short : length first + n ≤ length (first ++ second) = omega (arith, length-append first second, more.0.1) in
-    ((length first + n, short, subst (λ t. Appends a c t) (sym (take-past first second n)) (Appends-trans a b c first (take n second) adds more.0.2)), subst (λ k. HasFailed k after) same more.1)
+    let short : length first + n ≤ length (first ++ second) = omega (arith, length-append first second, more.0.1) in (
+      (
+        length first + n,
+        short,
+        subst (λ t. Appends a c t) (sym (take-past first second n)) (Appends-trans a b c first (take n second) adds more.0.2),
+      ),
+      subst (λ k. HasFailed k after) same more.1,
+    )
 
 -- the writing of the front of a text failed
-pub writes_front : (first rest : List ℕ) (fault : PutFault) (a b : Option (List ℕ)) (before after : ℕ) → Writes first (Err fault) a b before after → Writes (first ++ rest) (Err fault) a b before after
+pub writes_front : (first rest : List ℕ) (fault : PutFault) (a b : Option (List ℕ)) (before after : ℕ) →
+    Writes first (Err fault) a b before after → Writes (first ++ rest) (Err fault) a b before after
 writes_front first rest fault a b before after failed =
     let n = failed.0.0 in
     let short : n ≤ length (first ++ rest) = omega (arith, length-append first rest, failed.0.1) in
@@ -64,6 +75,7 @@ writes_front first rest fault a b before after failed =
 
 -- what a whole writing of all bytes leaves
 pub writes_by_put : (text : List ℕ) (r : Result (Unit {0}) PutFault) (a b : Option (List ℕ)) (before after : ℕ)
-    → OnOk r (Adds text a b) → OnOk r (after ≡ before) → OnErr r (AddsFront text a b) → OnErr r (HasFailed before after) → Writes text r a b before after
+    → OnOk r (Adds text a b) → OnOk r (after ≡ before) → OnErr r (AddsFront text a b) → OnErr r (HasFailed before after) →
+    Writes text r a b before after
 writes_by_put text (Ok done) a b before after adds same front failed = (adds, same)
 writes_by_put text (Err fault) a b before after adds same front failed = (front, failed)

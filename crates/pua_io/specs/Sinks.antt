@@ -4,8 +4,8 @@ use Rattle.std.specs.Io.KnownBytes.{Appends}
 use Rattle.pua_io.specs.declared.sink.PutFault.{PutFault}
 
 -- a count of failures after one more; it stays at its greatest value
-abbrev pub counted : ℕ → ℕ
-counted n = min (n + 1) (2 ^ 64 - 1)
+abbrev pub next_count : ℕ → ℕ
+next_count n = min (n + 1) (2 ^ 64 - 1)
 
 -- known bytes stay known, and these stand after them
 abbrev pub Adds : List ℕ → Option (List ℕ) → Option (List ℕ) → Type 0

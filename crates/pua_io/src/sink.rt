@@ -4,7 +4,7 @@ ghost use Rattle.std.specs.Prelude.{◌≡◌, ◌↔◌, ◌<◌, ◌≤◌, �
 ghost use Rattle.std.specs.Prelude.{IsErr, OnOk, OnErr, length, min};
 ghost use Rattle.std.specs.Io.Buffered.{writer_buffer, writer_contents};
 ghost use Rattle.std.specs.Io.KnownBytes.{Keeps};
-ghost use Rattle.pua_io.specs.Sinks.{Adds, AddsFront, HasFailed, Puts, Memory, counted};
+ghost use Rattle.pua_io.specs.Sinks.{Adds, AddsFront, HasFailed, Puts, Memory, next_count};
 
 use pua_tree::OutOfMemory;
 use std::alloc::Global;
@@ -29,7 +29,7 @@ pub trait Sink {
         ensures adds { IfOk result (λ n. Puts bytes.now n (written self.old) (written self.new)) }
         ensures unfailed { OnOk result (failed self.new ≡ failed self.old) }
         ensures nothing { OnErr result (Keeps (written self.old) (written self.new)) }
-        ensures rises { OnErr result (failed self.new ≡ counted (failed self.old)) };
+        ensures rises { OnErr result (failed self.new ≡ next_count (failed self.old)) };
 }
 
 /// Puts bytes until all of them are written. After the fault, which is that of the first put that
@@ -104,7 +104,7 @@ impl Sink for MemorySink {
             (Some self.new.bytes)) }
         ensures unfailed { OnOk result (self.new.failed ≡ self.old.failed) }
         ensures nothing { OnErr result (Keeps (Some self.old.bytes) (Some self.new.bytes)) }
-        ensures rises { OnErr result (self.new.failed ≡ counted self.old.failed) }
+        ensures rises { OnErr result (self.new.failed ≡ next_count self.old.failed) }
         ensures fits { IfOk result (λ n. n
             ≡ min (self.old.room - length self.old.bytes) (length bytes.now)) }
         ensures full { IsErr result
@@ -147,7 +147,7 @@ impl<W: Write + Drop> StreamSink<W> {
     }
 
     fn fault(&mut self) -> PutFault
-        ensures { self.new ≡ (self.old.0, counted self.old.1) }
+        ensures { self.new ≡ (self.old.0, next_count self.old.1) }
     {
         self.failed = self.failed.saturating_add(1);
         PutFault
@@ -163,7 +163,7 @@ impl<W: Write + Drop> StreamSink<BufWriter<W>> {
         ensures bytes { Keeps (writer_contents W.contents self.old.0)
             (writer_contents W.contents self.new.0) }
         ensures unfailed { OnOk result (self.new.1 ≡ self.old.1) }
-        ensures rises { OnErr result (self.new.1 ≡ counted self.old.1) }
+        ensures rises { OnErr result (self.new.1 ≡ next_count self.old.1) }
     {
         match self.writer.flush() {
             Ok(()) => Ok(()),

@@ -3,7 +3,7 @@
 ghost use Rattle.std.specs.Prelude.{◌≡◌, ◌≢◌, ◌≤◌, ◌+◌, ℕ, List, Option, Err, IfOk, OnOk, OnErr};
 ghost use Rattle.std.specs.Prelude.{IfSome, length};
 ghost use Rattle.std.specs.Io.KnownBytes.{ReadConsumes};
-ghost use Rattle.pua_io.specs.Sinks.{counted};
+ghost use Rattle.pua_io.specs.Sinks.{next_count};
 ghost use Rattle.pua_io.specs.Sources.{CantBeRead};
 
 use crate::inputs::InputFault;
@@ -32,9 +32,9 @@ pub trait Source {
     fn read(&mut self, buffer: &mut [u8]) -> Result<usize, ReadFault>
         ensures bound { IfOk result (λ n. n ≤ length buffer.new) }
         ensures bytes { ReadConsumes (remaining self.old) (remaining self.new) result buffer.new }
-        ensures reads { reads self.new ≡ counted (reads self.old) }
+        ensures reads { reads self.new ≡ next_count (reads self.old) }
         ensures unfailed { OnOk result (failures self.new ≡ failures self.old) }
-        ensures rises { OnErr result (failures self.new ≡ counted (failures self.old)) };
+        ensures rises { OnErr result (failures self.new ≡ next_count (failures self.old)) };
 }
 
 /// A reader with the counts of its reads and of their failures. Every error of the reader is a read

@@ -1,21 +1,18 @@
 -- Spots sorted, each kept once.
-use Rattle.std.proofs.Common.{◌≡◌, ℕ, List, [], ◌∷◌, Bool, true, false, cond, map, refl, ap, ◌∙◌, IsPermutation, Bor, ◌==◌, ◌&&◌}
+use Rattle.pua_objects.proofs.Common.{◌≡◌, ℕ, List, [], ◌∷◌, Bool, true, false, cond, map, refl, ap, ◌∙◌, Bor, ◌==◌, Ordering, Less, Equal}
+use Rattle.pua_objects.proofs.Common.{Greater, nat_cmp, Spot, spot_cmp, exact_spots, Rises, spot_now, AreInOrder}
+use Rattle.std.proofs.Common.{IsPermutation, ◌&&◌}
 use Rattle.std.specs.List.{dedup, dedup_from}
 use Rattle.std.specs.List.Sorted.{IsSorted, IsStrictlySortedBy}
 use Rattle.std.specs.Cmp.{eq_by_cmp_equiv, on_total, both_tied, unsigned_ties}
 use Rattle.std.specs.Cmp.Lexicographic.{slice_cmp, pointwise, texts_ties}
-use Rattle.std.specs.declared.cmp.Ordering.{Ordering}
-use Rattle.std.specs.declared.cmp.Ordering.TheVariants.{Less, Equal, Greater}
-use Rattle.std.specs.Ordering.{nat_cmp, eq_by_cmp, is_eq}
+use Rattle.std.specs.Ordering.{eq_by_cmp, is_eq}
 use Rattle.std.specs.List.Retain.{IsFiltered, DiffersFromLast}
 use Rattle.std.proofs.lemmas.List.Filters.{dedup_is}
 use Rattle.std.proofs.lemmas.List.Kept.{Contains-dedup, Contains-from_dedup, IsStrictlySortedBy-dedup}
 use Rattle.std.proofs.lemmas.List.Sorted.{Contains-permutation, IsPermutation-map, IsPermutation-sym}
-use Rattle.pua_tree.specs.Tree.{Spot, spot_cmp}
-use Rattle.pua_tree.proofs.ForCallers.{spots_total, exact_spots}
-use Rattle.pua_audit.specs.Laws.{Rises}
+use Rattle.pua_tree.proofs.ForCallers.{spots_total}
 use Rattle.pua_audit.proofs.ForCallers.{rises_mapped}
-use Rattle.pua_objects.specs.Spots.{spot_now, AreInOrder}
 
 abbrev Lent : Type 0
 Lent = ℕ × Bor (List ℕ)
@@ -33,7 +30,8 @@ is_exact a b Greater e h = cc
 
 -- a directory and a name are the same where the spot is
 pub spots_tie : (a b : ℕ) (xs ys : List ℕ) → ((a == b) && pointwise ◌==◌ xs ys) ≡ eq_by_cmp spot_cmp (a, xs) (b, ys)
-spots_tie a b xs ys = both_tied (a == b) (pointwise ◌==◌ xs ys) (nat_cmp a b) (slice_cmp nat_cmp xs ys) (unsigned_ties a b) (texts_ties xs ys)
+spots_tie a b xs ys = both_tied (a == b) (pointwise ◌==◌ xs ys) (nat_cmp a b) (slice_cmp nat_cmp xs ys) (unsigned_ties a b)
+    (texts_ties xs ys)
 
 rises_from : (xs : List Lent) → IsStrictlySortedBy lent_cmp xs → Rises lent_cmp xs
 unfolding IsStrictlySortedBy
@@ -47,23 +45,32 @@ module _ (E : Lent → Lent → Bool) (ties : (x y : Lent) → E x y ≡ eq_by_c
 
   now-dedup_from : (xs : List Lent) (k : Lent) → map spot_now (dedup_from E k xs) ≡ dedup_from same_spot (spot_now k) (map spot_now xs)
   now-dedup_from [] k = refl
-  now-dedup_from (x ∷ xs) k = rw (now-cond (E x k) (dedup_from E k xs) (k ∷ dedup_from E x xs), now-dedup_from xs k, now-dedup_from xs x, ties x k) refl
+  now-dedup_from (x ∷ xs) k = rw (
+    now-cond (E x k) (dedup_from E k xs) (k ∷ dedup_from E x xs),
+    now-dedup_from xs k,
+    now-dedup_from xs x,
+    ties x k,
+  ) refl
 
   now-dedup : (xs : List Lent) → map spot_now (dedup E xs) ≡ dedup same_spot (map spot_now xs)
   now-dedup [] = refl
   now-dedup (x ∷ xs) = now-dedup_from xs x
 
   -- what is left of sorted spots
-  pub distinct : (given : List Spot) (lent sorted kept : List Lent) → map spot_now lent ≡ given → IsPermutation lent sorted → IsSorted lent_cmp sorted → IsFiltered (DiffersFromLast E) [] sorted kept
+  pub distinct : (given : List Spot) (lent sorted kept : List Lent) → map spot_now lent ≡ given → IsPermutation lent sorted →
+      IsSorted lent_cmp sorted → IsFiltered (DiffersFromLast E) [] sorted kept
       → AreInOrder given (map spot_now kept)
   distinct given lent sorted kept is moved order filtered =
       let left : kept ≡ dedup E sorted = dedup_is E sorted kept filtered in
       let spots : map spot_now kept ≡ dedup same_spot (map spot_now sorted) = ap (map spot_now) left ∙ now-dedup sorted in
-      let strict : IsStrictlySortedBy lent_cmp kept = rw left (IsStrictlySortedBy-dedup (on_total spot_now spots_total) ties sorted order) in
+      let strict : IsStrictlySortedBy lent_cmp kept = rw left (IsStrictlySortedBy-dedup (on_total spot_now spots_total) ties sorted order)
+      in
       let over : IsPermutation given (map spot_now sorted) = rw is at (IsPermutation-map spot_now lent sorted moved) in
       let back : IsPermutation (map spot_now sorted) given = IsPermutation-sym _ _ over in
       record {
         rise = rises_mapped lent_cmp spot_cmp spot_now (λ x y less. less) kept (rises_from kept strict);
-        all = λ s there. rw spots (Contains-dedup (eq_by_cmp_equiv spots_total) (λ x y e. is_exact x y (spot_cmp x y) refl e) (map spot_now sorted) s (Contains-permutation given (map spot_now sorted) s over there));
-        no_other = λ s there. Contains-permutation (map spot_now sorted) given s back (Contains-from_dedup same_spot (map spot_now sorted) s (rw spots at there));
+        all = λ s there. rw spots (Contains-dedup (eq_by_cmp_equiv spots_total) (λ x y e. is_exact x y (spot_cmp x y) refl e)
+            (map spot_now sorted) s (Contains-permutation given (map spot_now sorted) s over there));
+        no_other = λ s there. Contains-permutation (map spot_now sorted) given s back (Contains-from_dedup same_spot (map spot_now sorted) s
+            (rw spots at there));
       }

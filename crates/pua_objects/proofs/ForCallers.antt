@@ -1,7 +1,8 @@
 -- What crates above cite of the proofs of this one, beside the definitions and the laws.
 
 -- what is among the elements of a list, also once it was mapped, filtered or joined
-pub use Rattle.pua_objects.proofs.Among.{Among, among_left, among_right, among_either, among_map, map_among, among_filter, filter_among, among_flat, flat_among, contained, among_contained}
+pub use Rattle.pua_objects.proofs.Among.{Among, among_left, among_right, among_either, among_map, map_among, among_filter, filter_among}
+pub use Rattle.pua_objects.proofs.Among.{among_flat, flat_among, contained, among_contained}
 pub use Rattle.pua_objects.proofs.Entries.{filter_map_among, among_filter_map}
 -- covers go down from directory to directory
 pub use Rattle.pua_policy.proofs.ForCallers.{covers_descend}

@@ -1,6 +1,8 @@
 -- Fronts of words that stay from item to item.
-use Rattle.std.proofs.Common.{◌≡◌, ◌≤◌, ◌-◌, ◌∷◌, ◌++◌, [], ℕ, suc, zero, List, length, take, map, refl, sym, ap, ◌∙◌, subst, length-append, arith}
-use Rattle.std.proofs.lemmas.List.{length-map, take_all, take-append-le, take-map, take-take}
+use Rattle.pua_objects.proofs.Common.{◌≡◌, ◌≤◌, ◌-◌, ◌∷◌, ◌++◌, [], ℕ, suc, zero, List, length, take, map, refl, sym, ap, ◌∙◌, subst, arith}
+use Rattle.pua_objects.proofs.Common.{length-map}
+use Rattle.std.proofs.Common.{length-append}
+use Rattle.std.proofs.lemmas.List.{take_all, take-append-le, take-map, take-take}
 use Rattle.pua_objects.specs.Items.{IsNear}
 
 -- a front is known by its length
@@ -24,7 +26,8 @@ pub near_pushed : {A : Type 0} (xs ys zs : List A) (z : A) → ys ≡ take (leng
 near_pushed xs ys zs z front pushed =
     let long : length zs - 1 ≡ length ys = omega (arith, ap length pushed, length-append ys (z ∷ [])) in
     subst (λ n. take n zs ≡ take n xs) (sym long)
-    (ap (take (length ys)) pushed ∙ take-append-le (length ys) ys (z ∷ []) (omega arith) ∙ ap (take (length ys)) front ∙ take-take (length ys) (length ys) xs (omega arith))
+    (ap (take (length ys)) pushed ∙ take-append-le (length ys) ys (z ∷ []) (omega arith) ∙ ap (take (length ys)) front ∙
+    take-take (length ys) (length ys) xs (omega arith))
 
 pub near_map : {A B : Type 0} (f : A → B) (xs ys : List A) → IsNear xs ys → IsNear (map f xs) (map f ys)
 near_map f xs ys near =
@@ -33,10 +36,12 @@ near_map f xs ys near =
     (take-map f n ys ∙ ap (map f) near ∙ sym (take-map f n xs))
 
 -- what two lists share stays shared where the next list shares less of the second
-pub stays_shared : {A : Type 0} (n m : ℕ) (old between new : List A) → n ≤ m → take m between ≡ take m old → take n new ≡ take n between → take n new ≡ take n old
+pub stays_shared : {A : Type 0} (n m : ℕ) (old between new : List A) → n ≤ m → take m between ≡ take m old → take n new ≡ take n between →
+    take n new ≡ take n old
 stays_shared n m old between new less before after = after ∙ less_same n m between old less before
 
 -- and where the next list is near to it
-pub shares_on : {A : Type 0} (n m : ℕ) (old between new : List A) → n ≤ m → n ≤ length new - 1 → take m between ≡ take m old → IsNear between new → take n new ≡ take n old
+pub shares_on : {A : Type 0} (n m : ℕ) (old between new : List A) → n ≤ m → n ≤ length new - 1 → take m between ≡ take m old →
+    IsNear between new → take n new ≡ take n old
 shares_on n m old between new less short before near =
     stays_shared n m old between new less before (less_same n (length new - 1) new between short near)

@@ -1,34 +1,28 @@
 -- The names of a line lead to what it is about.
-use Rattle.std.proofs.Common.{◌≡◌, ◌≤◌, ℕ, zero, suc, List, [], ◌∷◌, ◌++◌, length, map, Bool, true, false, refl, sym, ap, ◌∙◌, inl, inr, subst}
-use Rattle.std.specs.Prelude.{◌⊎◌, nat_lt, nat_le, Option, Some, None, Ok, Err, option_map, is_some, not, ◌||◌, ◌==◌, filter, filter_map, codes, if◌then◌else◌}
-use Rattle.std.specs.List.{AllByRecursion, list_all}
-use Rattle.std.proofs.lemmas.Bool.{and_parts}
+use Rattle.pua_objects.proofs.Common.{◌≡◌, ◌≤◌, ℕ, zero, suc, List, [], ◌∷◌, ◌++◌, length, map, Bool, true, false, refl, sym, ap, ◌∙◌, inl}
+use Rattle.pua_objects.proofs.Common.{inr, subst, nat_lt, Option, Some, None, Ok, Err, is_some, not, ◌||◌, filter, filter_map}
+use Rattle.pua_objects.proofs.Common.{if◌then◌else◌, AllByRecursion, list_all, and_parts, Tree, WellFormed, look, is_dir, Kind, Sound}
+use Rattle.pua_objects.proofs.Common.{row_says, path_fault, Last, Followed, Kept, Way, Named, Top, Whole, Slot, History, veils}
+use Rattle.pua_objects.proofs.Common.{is_link_kind, Place, Word, Subject, At, Others, Item, names_in, name_at, veiled_in, entries, items_at}
+use Rattle.pua_objects.proofs.Common.{items_below, items}
+use Rattle.std.specs.Prelude.{◌⊎◌, nat_le, option_map, ◌==◌}
+use Rattle.std.specs.Prelude.{codes}
 use Rattle.pua_tree.specs.Names.{is_name, is_name_byte, same_bytes}
-use Rattle.pua_tree.specs.Tree.{Tree, Node, WellFormed, look, node_at, is_dir, is_dir_kind, is_living, row_fits}
-use Rattle.pua_tree.specs.declared.node.Kind.{Kind}
+use Rattle.pua_tree.specs.Tree.{Node, node_at, is_dir_kind, is_living, row_fits}
 use Rattle.pua_tree.specs.declared.node.Kind.TheVariants as kinds
-use Rattle.pua_tree.proofs.ForCallers.{Sound, row_says}
-use Rattle.pua_path.specs.Paths.{part_of, parts_of, is_absolute, path_fault}
-use Rattle.pua_path.specs.Resolution.{Resolved, Standing, Directory, Linked, Plain, Nothing, standing_of, standing_at, is_followed, slot_or, walk, start_of, resolve_parts}
+use Rattle.pua_path.specs.Paths.{part_of, parts_of, is_absolute}
+use Rattle.pua_path.specs.Resolution.{Resolved, Standing, Directory, Linked, Plain, Nothing, standing_of, standing_at, is_followed, slot_or}
+use Rattle.pua_path.specs.Resolution.{walk, start_of, resolve_parts}
 use Rattle.pua_path.specs.declared.errno.Errno.TheVariants.{ENOENT, ENOTDIR, ELOOP}
 use Rattle.pua_path.specs.declared.text.Ending.{Ending}
 use Rattle.pua_path.specs.declared.text.Ending.TheVariants as ending
 use Rattle.pua_path.specs.declared.found.Part.{Part}
 use Rattle.pua_path.specs.declared.found.Part.TheVariants as parts
-use Rattle.pua_path.specs.declared.found.Last.{Last}
-use Rattle.pua_path.specs.declared.found.Last.TheVariants.{Followed, Kept}
-use Rattle.pua_path.specs.declared.found.Way.{Way}
-use Rattle.pua_path.specs.declared.found.Way.TheVariants.{Named, Top}
-use Rattle.pua_path.specs.declared.found.Found.TheVariants.{Whole, Slot}
-use Rattle.pua_policy.specs.History.{History, veils}
-use Rattle.pua_policy.specs.Verdict.{is_link_kind}
-use Rattle.pua_policy.specs.declared.place.Place.{Place}
 use Rattle.pua_policy.specs.declared.place.Place.TheVariants as place
-use Rattle.pua_audit.specs.Reach.{Word, path_of}
+use Rattle.pua_audit.specs.Reach.{path_of}
 use Rattle.pua_audit.specs.declared.base.Base.TheVariants.{Root}
 use Rattle.pua_audit.proofs.ForCallers.{IsPiece, letter_is_piece, path_is}
 use Rattle.pua_audit.proofs.ForCallers.{all_joined}
-use Rattle.pua_objects.specs.Objects.{Subject, At, Others, Item, names_in, name_at, veiled_in, entries, items_at, items_below, items}
 use Rattle.pua_objects.specs.Laws.{is_place, HasPlaces}
 use Rattle.pua_objects.proofs.Among.{Among, among_either, map_among, filter_among, flat_among, distinct_among}
 
@@ -117,11 +111,13 @@ module _ (t : Tree) where
   Leads word dir way = (mode : Last) (links : ℕ) (follow : ℕ → List ℕ → List Part → Resolved) (rest : List Part) →
       walk t mode links follow 0 Top (name_parts word ++ rest) ≡ walk t mode links follow dir way rest
 
-  names_before : (word : Word) (name : List ℕ) (rest : List Part) → name_parts (word ++ name ∷ []) ++ rest ≡ name_parts word ++ parts.Name name ∷ rest
+  names_before : (word : Word) (name : List ℕ) (rest : List Part) →
+      name_parts (word ++ name ∷ []) ++ rest ≡ name_parts word ++ parts.Name name ∷ rest
   names_before [] name rest = refl
   names_before (other ∷ word) name rest = ap (λ ps. parts.Name other ∷ ps) (names_before word name rest)
 
-  leads_on : (word : Word) (dir : ℕ) (way : Way) (name : List ℕ) (x : ℕ) → Leads word dir way → look t dir name ≡ Some x → is_dir t x ≡ true → Leads (word ++ name ∷ []) x (Named dir name)
+  leads_on : (word : Word) (dir : ℕ) (way : Way) (name : List ℕ) (x : ℕ) → Leads word dir way → look t dir name ≡ Some x →
+      is_dir t x ≡ true → Leads (word ++ name ∷ []) x (Named dir name)
   leads_on word dir way name x leads row living mode links follow rest =
       ap (walk t mode links follow 0 Top) (names_before word name rest) ∙ leads mode links follow (parts.Name name ∷ rest) ∙ there
     where
@@ -148,33 +144,44 @@ module _ (t : Tree) where
   GoesTo mode links follow dir name x s = at_standing mode links follow dir name [] s ≡ Ok (Slot dir name (Some x), links)
 
   slot_last : (mode : Last) (links : ℕ) (follow : ℕ → List ℕ → List Part → Resolved) (dir : ℕ) (way : Way) (name : List ℕ) (o : Option ℕ) →
-      look t dir name ≡ o → IsPlainThere o → IsNamed mode o → walk t mode links follow dir way (parts.Name name ∷ []) ≡ Ok (Slot dir name o, links)
-  slot_last mode links follow dir way name None row plain named = ap (at_standing mode links follow dir name []) (nothing_stands dir name row)
-  slot_last mode links follow dir way name (Some x) row plain named = ap (at_standing mode links follow dir name []) (node_stands dir name x row) ∙ by_node (node_at t x) plain.0 plain.1 (linked mode named)
+      look t dir name ≡ o → IsPlainThere o → IsNamed mode o → walk t mode links follow dir way (parts.Name name ∷ []) ≡ Ok (
+        Slot dir name o,
+        links,
+      )
+  slot_last mode links follow dir way name None row plain named =
+      ap (at_standing mode links follow dir name []) (nothing_stands dir name row)
+  slot_last mode links follow dir way name (Some x) row plain named =
+      ap (at_standing mode links follow dir name []) (node_stands dir name x row) ∙
+      by_node (node_at t x) plain.0 plain.1 (linked mode named)
     where
-      linked : (mode : Last) → IsNamed mode (Some x) → (is_followed mode [] ≡ false) ⊎ (is_link_kind (option_map (λ n. n.kind) (node_at t x)) ≡ false)
+      linked : (mode : Last) → IsNamed mode (Some x) →
+          (is_followed mode [] ≡ false) ⊎ (is_link_kind (option_map (λ n. n.kind) (node_at t x)) ≡ false)
       linked Kept named = inl refl
       linked Followed named = inr named
 
       Goes : Standing → Type 0
       Goes = GoesTo mode links follow dir name x
 
-      by_kind : (node : Node) (kind : Kind) → node.kind ≡ kind → is_dir_kind (Some kind) ≡ false → (is_followed mode [] ≡ false) ⊎ (is_link_kind (Some kind) ≡ false) → Goes (standing_of x (Some node))
+      by_kind : (node : Node) (kind : Kind) → node.kind ≡ kind → is_dir_kind (Some kind) ≡ false →
+          (is_followed mode [] ≡ false) ⊎ (is_link_kind (Some kind) ≡ false) → Goes (standing_of x (Some node))
       by_kind node kinds.Dir is other named = cc
       by_kind node kinds.File is other named = rw is refl
       by_kind node kinds.Prog is other named = rw is refl
       by_kind node kinds.Link is other (inl kept) = rw (is, kept) refl
       by_kind node kinds.Link is other (inr plainly) = cc
 
-      by_node : (o : Option Node) → is_dir_kind (option_map (λ n. n.kind) o) ≡ false → is_some o ≡ true → (is_followed mode [] ≡ false) ⊎ (is_link_kind (option_map (λ n. n.kind) o) ≡ false) → Goes (standing_of x o)
+      by_node : (o : Option Node) → is_dir_kind (option_map (λ n. n.kind) o) ≡ false → is_some o ≡ true →
+          (is_followed mode [] ≡ false) ⊎ (is_link_kind (option_map (λ n. n.kind) o) ≡ false) → Goes (standing_of x o)
       by_node None other lives named = cc
       by_node (Some node) other lives named = by_kind node node.kind refl other named
 
-  pub slot_resolved : (mode : Last) (links : ℕ) (dir : ℕ) (way : Way) (name : List ℕ) (o : Option ℕ) → look t dir name ≡ o → IsPlainThere o → IsNamed mode o →
+  pub slot_resolved : (mode : Last) (links : ℕ) (dir : ℕ) (way : Way) (name : List ℕ) (o : Option ℕ) → look t dir name ≡ o →
+      IsPlainThere o → IsNamed mode o →
       resolve_parts links t mode dir way (parts.Name name ∷ []) ≡ Ok (Slot dir name o, links)
   slot_resolved mode zero dir way name o row plain named = slot_last mode 0 (λ from target rest. Err ELOOP) dir way name o row plain named
   slot_resolved mode (suc links) dir way name o row plain named =
-      slot_last mode (suc links) (λ from target rest. resolve_parts links t mode (start_of target from) Top (parts_of ending.Dot target ++ rest)) dir way name o row plain named
+      slot_last mode (suc links) (λ from target rest. resolve_parts links t mode (start_of target from) Top (parts_of ending.Dot target
+      ++ rest)) dir way name o row plain named
 
   pub whole_resolved : (mode : Last) (links : ℕ) (dir : ℕ) (way : Way) → resolve_parts links t mode dir way [] ≡ Ok (Whole dir way, links)
   whole_resolved mode zero dir way = refl
@@ -183,7 +190,8 @@ module _ (t : Tree) where
   -- where the names lead
   abbrev pub IsPlaced : Word → Subject → Type 0
   IsPlaced word (At (Whole dir way)) = Leads word dir way
-  IsPlaced word (At (Slot dir name o)) = (over : Word) × (way : Way) × (word ≡ over ++ name ∷ []) × Leads over dir way × (look t dir name ≡ o) × IsPlainThere o
+  IsPlaced word (At (Slot dir name o)) = (over : Word) × (way : Way) × (word ≡ over ++ name ∷ []) × Leads over dir way ×
+      (look t dir name ≡ o) × IsPlainThere o
   IsPlaced word (Others dir) = (way : Way) × Leads word dir way
 
   pub record Placed (item : Item) : Type 0 where
@@ -196,7 +204,8 @@ module _ (t : Tree) where
     among_all p (y ∷ xs) x all (inl e) = ap p (sym e) ∙ (and_parts (p y) (list_all p xs) all).0
     among_all p (y ∷ xs) x all (inr a) = among_all p xs x (and_parts (p y) (list_all p xs) all).1 a
 
-    veil_name : (dir : ℕ) (vs : List (Place × ℕ)) (name : List ℕ) → list_all (λ veil. is_place veil.0) vs ≡ true → Among (filter_map (λ veil. name_at dir veil.0) vs) name → is_name name ≡ true
+    veil_name : (dir : ℕ) (vs : List (Place × ℕ)) (name : List ℕ) → list_all (λ veil. is_place veil.0) vs ≡ true →
+        Among (filter_map (λ veil. name_at dir veil.0) vs) name → is_name name ≡ true
     veil_name dir [] name all a = absurd a
     veil_name dir ((place.Dir other, given) ∷ vs) name all a = veil_name dir vs name all a
     veil_name dir ((place.Slot other called, given) ∷ vs) name all a = by (other == dir) refl a (λ b. veil_name dir vs name rest.1 b)
@@ -204,43 +213,59 @@ module _ (t : Tree) where
         rest : (is_name called ≡ true) × (list_all (λ veil. is_place veil.0) vs ≡ true)
         rest = and_parts (is_name called) (list_all (λ veil. is_place veil.0) vs) all
 
-        by : (b : Bool) → (other == dir) ≡ b → Among (filter_map (λ veil. name_at dir veil.0) ((place.Slot other called, given) ∷ vs)) name → (Among (filter_map (λ veil. name_at dir veil.0) vs) name → is_name name ≡ true) → is_name name ≡ true
-        by true is a more = let c : Among (called ∷ filter_map (λ veil. name_at dir veil.0) vs) name = rw is at a in elim c [ inl e ↦ ap is_name (sym e) ∙ rest.0 | inr d ↦ more d ]
+        by : (b : Bool) → (other == dir) ≡ b →
+            Among (filter_map (λ veil. name_at dir veil.0) ((place.Slot other called, given) ∷ vs)) name →
+            (Among (filter_map (λ veil. name_at dir veil.0) vs) name → is_name name ≡ true) → is_name name ≡ true
+        by true is a more = let c : Among (called ∷ filter_map (λ veil. name_at dir veil.0) vs) name = rw is at a in
+            elim c [ inl e ↦ ap is_name (sym e) ∙ rest.0 | inr d ↦ more d ]
         by false is a more = let c : Among (filter_map (λ veil. name_at dir veil.0) vs) name = rw is at a in more c
 
     entry_name : (dir : ℕ) (name : List ℕ) → Among (entries t (veils h) dir) name → is_name name ≡ true
-    entry_name dir name a = elim (among_either (names_in t dir) (veiled_in (veils h) dir) name (distinct_among (names_in t dir ++ veiled_in (veils h) dir) name a)) [
-      | inl b ↦ (
-          let row = map_among (λ row. row.0.1) (filter (λ row. row.0.0 == dir) t.rows) name b in
-          let kept = filter_among (λ row. row.0.0 == dir) t.rows row.0 row.1 in
-          let all = among_all (row_fits t) t.rows row.0 fits.rows_fit kept.0 in
-          let one = and_parts (is_dir t row.0.0.0) _ all in
-          let two = and_parts (is_name row.0.0.1) _ one.1 in
-          ap is_name (sym row.2) ∙ two.0)
-      | inr b ↦ veil_name dir (veils h) name places b
-    ]
+    entry_name dir name a =
+        elim (among_either (names_in t dir) (veiled_in (veils h) dir) name (distinct_among (names_in t dir ++ veiled_in (veils h) dir) name
+        a)) [
+          | inl b ↦ (
+              let row = map_among (λ row. row.0.1) (filter (λ row. row.0.0 == dir) t.rows) name b in
+              let kept = filter_among (λ row. row.0.0 == dir) t.rows row.0 row.1 in
+              let all = among_all (row_fits t) t.rows row.0 fits.rows_fit kept.0 in
+              let one = and_parts (is_dir t row.0.0.0) _ all in
+              let two = and_parts (is_name row.0.0.1) _ one.1 in
+              ap is_name (sym row.2) ∙ two.0)
+          | inr b ↦ veil_name dir (veils h) name places b
+        ]
 
     -- each item lies where its names lead
-    placed : (depth dir : ℕ) (way : Way) (word : Word) → Leads word dir way → AreNames word → (item : Item) → Among (items_below depth t (veils h) dir way word) item → Placed item
+    placed : (depth dir : ℕ) (way : Way) (word : Word) → Leads word dir way → AreNames word → (item : Item) →
+        Among (items_below depth t (veils h) dir way word) item → Placed item
     placed zero dir way word leads all item a = absurd a
     placed (suc depth) dir way word leads all item (inl e) = subst Placed e (record { names = all; place = leads })
     placed (suc depth) dir way word leads all item (inr (inl e)) = subst Placed e (record { names = all; place = (way, leads) })
     placed (suc depth) dir way word leads all item (inr (inr a)) =
-        let entry = flat_among (λ name. items_at t (items_below depth t (veils h)) dir word name (look t dir name)) (entries t (veils h) dir) item a in
-        by (λ x other longer leads all b. placed depth x other longer leads all item b) entry.0 (entry_name dir entry.0 entry.1) (look t dir entry.0) refl entry.2
+        let entry = flat_among (λ name. items_at t (items_below depth t (veils h)) dir word name (look t dir name))
+        (entries t (veils h) dir) item a in
+        by (λ x other longer leads all b. placed depth x other longer leads all item b) entry.0 (entry_name dir entry.0 entry.1)
+        (look t dir entry.0) refl entry.2
       where
         Below : Type 0
-        Below = (x : ℕ) (other : Way) (longer : Word) → Leads longer x other → AreNames longer → Among (items_below depth t (veils h) x other longer) item → Placed item
+        Below = (x : ℕ) (other : Way) (longer : Word) → Leads longer x other → AreNames longer →
+            Among (items_below depth t (veils h) x other longer) item → Placed item
 
         stands : Below → (name : List ℕ) → is_name name ≡ true → (x : ℕ) → look t dir name ≡ Some x → (b : Bool) → is_dir t x ≡ b →
-            Among (if b then items_below depth t (veils h) x (Named dir name) (word ++ name ∷ []) else record { word = word ++ name ∷ []; subject = At (Slot dir name (Some x)) } ∷ []) item → Placed item
-        stands more name is x row true living a = more x (Named dir name) (word ++ name ∷ []) (leads_on word dir way name x leads row living) (with_last word name all is) a
+            Among (if b then items_below depth t (veils h) x (Named dir name) (word ++ name ∷ []) else record
+            { word = word ++ name ∷ []; subject = At (Slot dir name (Some x)) } ∷ []) item → Placed item
+        stands more name is x row true living a =
+            more x (Named dir name) (word ++ name ∷ []) (leads_on word dir way name x leads row living) (with_last word name all is) a
         stands more name is x row false other (inl e) =
-            subst Placed e (record { names = with_last word name all is; place = (word, way, refl, leads, row, (other, (row_says t sound (dir, name) x row).2)) })
+            subst Placed e (record {
+              names = with_last word name all is;
+              place = (word, way, refl, leads, row, (other, (row_says t sound (dir, name) x row).2));
+            })
         stands more name is x row false other (inr a) = absurd a
 
-        by : Below → (name : List ℕ) → is_name name ≡ true → (o : Option ℕ) → look t dir name ≡ o → Among (items_at t (items_below depth t (veils h)) dir word name o) item → Placed item
-        by more name is None row (inl e) = subst Placed e (record { names = with_last word name all is; place = (word, way, refl, leads, row, tt) })
+        by : Below → (name : List ℕ) → is_name name ≡ true → (o : Option ℕ) → look t dir name ≡ o →
+            Among (items_at t (items_below depth t (veils h)) dir word name o) item → Placed item
+        by more name is None row (inl e) =
+            subst Placed e (record { names = with_last word name all is; place = (word, way, refl, leads, row, tt) })
         by more name is None row (inr a) = absurd a
         by more name is (Some x) row a = stands more name is x row (is_dir t x) refl a
 

@@ -1,21 +1,17 @@
 -- The calls of a line, by whether it is about a link.
-use Rattle.std.proofs.Common.{◌≡◌, ◌≢◌, ℕ, Bool, true, false, refl, sym, ap, subst, ◌∙◌}
-use Rattle.std.specs.Prelude.{Option, Some, None, is_none, not, ◌&&◌, ◌||◌, if◌then◌else◌, codes}
-use Rattle.pua_tree.specs.Tree.{Tree, kind_at}
-use Rattle.pua_tree.specs.declared.node.Kind.{Kind}
+use Rattle.pua_objects.proofs.Common.{◌≡◌, ◌≢◌, ℕ, Bool, true, false, refl, sym, ap, subst, ◌∙◌, Option, Some, None, is_none, not, ◌&&◌}
+use Rattle.pua_objects.proofs.Common.{◌||◌, if◌then◌else◌, Tree, Kind, Found, Whole, Slot, CallTable, History, object_of, is_link}
+use Rattle.pua_objects.proofs.Common.{is_link_kind, verdict, is_allowed, Call, Subject, At, Others, cover_in, IsItemOn}
+use Rattle.std.specs.Prelude.{codes}
+use Rattle.pua_tree.specs.Tree.{kind_at}
 use Rattle.pua_tree.specs.declared.node.Kind.TheVariants as kinds
-use Rattle.pua_path.specs.declared.found.Found.{Found}
-use Rattle.pua_path.specs.declared.found.Found.TheVariants.{Whole, Slot}
-use Rattle.pua_calls.specs.Calls.{CallTable}
 use Rattle.pua_calls.specs.CallSets.{has, keeps_link}
-use Rattle.pua_policy.specs.History.{History}
 use Rattle.pua_policy.specs.Objects.{object_seen}
-use Rattle.pua_policy.specs.Verdict.{cover, object_of, object_of_kind, rmdir_fault, is_link, is_link_kind, verdict, is_allowed}
-use Rattle.pua_calls.specs.declared.call.Call.{Call}
+use Rattle.pua_policy.specs.Verdict.{cover, object_of_kind, rmdir_fault}
 use Rattle.pua_policy.specs.declared.object.Object as seen
 use Rattle.pua_policy.specs.declared.object.Object.TheVariants as see
-use Rattle.pua_objects.specs.Objects.{Subject, At, Others, cover_in, object_word}
-use Rattle.pua_objects.specs.Items.{subject_given, cover_on, IsItemOn}
+use Rattle.pua_objects.specs.Objects.{object_word}
+use Rattle.pua_objects.specs.Items.{subject_given, cover_on}
 use Rattle.pua_objects.specs.Lines.{IsLineOn, kind_seen, kind_word}
 use Rattle.pua_objects.specs.declared.item.Item as given
 use Rattle.pua_objects.specs.declared.item.Subject as told
@@ -83,16 +79,21 @@ kept_or_not true a = refl
 kept_or_not false a = refl
 
 -- a line by what is seen of the object
-pub lined : (t : Tree) (table : CallTable) (h : History) (found : Found) (object : seen.Object) (line : ObjectLine) → object ≡ seen_of t found → line.kind ≡ kind_seen object
-    → ((call : Call) → has line.calls call ≡ ((keeps_link call || not (is_link_seen object)) && is_allowed (verdict t table h call found))) → IsLineOn t table h (At found) line
+pub lined : (t : Tree) (table : CallTable) (h : History) (found : Found) (object : seen.Object) (line : ObjectLine) →
+    object ≡ seen_of t found → line.kind ≡ kind_seen object
+    → ((call : Call) → has line.calls call ≡ ((keeps_link call || not (is_link_seen object)) && is_allowed (verdict t table h call found)))
+    → IsLineOn t table h (At found) line
 lined t table h found object line is kind calls = record {
   kind = ap kind_word (kind ∙ ap kind_seen is) ∙ word_seen t found;
-  calls = λ call. calls call ∙ ap (λ b. (keeps_link call || not b) && is_allowed (verdict t table h call found)) (ap is_link_seen is ∙ link_seen t found);
+  calls = λ call. calls call ∙ ap (λ b. (keeps_link call || not b) && is_allowed (verdict t table h call found)) (ap is_link_seen is ∙
+      link_seen t found);
 }
 
 -- the line of an item, by whether it is about further names
-module _ (t : Tree) (table : CallTable) (h : History) (subject : Subject) (item : given.Item) (on : IsItemOn t h subject item) (line : ObjectLine) where
-  pub others_lined : (dir : ℕ) → item.subject ≡ about.Others dir → (item.cover ≡ cover_in t h dir → IsLineOn t table h (Others dir) line) → IsLineOn t table h subject line
+module _ (t : Tree) (table : CallTable) (h : History) (subject : Subject) (item : given.Item) (on : IsItemOn t h subject item)
+    (line : ObjectLine) where
+  pub others_lined : (dir : ℕ) → item.subject ≡ about.Others dir → (item.cover ≡ cover_in t h dir → IsLineOn t table h (Others dir) line) →
+      IsLineOn t table h subject line
   others_lined dir is lines =
       let same : Others dir ≡ subject = ap (subject_given t) (sym is) ∙ on.subject in
       subst (λ (s : Subject). IsLineOn t table h s line) same (lines (on.cover ∙ ap (cover_on t h) (sym same)))
@@ -103,7 +104,9 @@ module _ (t : Tree) (table : CallTable) (h : History) (subject : Subject) (item 
   no_others (about.Others d) dir other is = other d refl
   no_others (about.Name over name) dir other is = cc
 
-  pub found_lined : ((dir : ℕ) → item.subject ≢ about.Others dir) → ((found : Found) → item.cover ≡ cover t h found → item.object ≡ seen_of t found → IsLineOn t table h (At found) line) → IsLineOn t table h subject line
+  pub found_lined : ((dir : ℕ) → item.subject ≢ about.Others dir) →
+      ((found : Found) → item.cover ≡ cover t h found → item.object ≡ seen_of t found → IsLineOn t table h (At found) line) →
+      IsLineOn t table h subject line
   found_lined other lines = by subject on
     where
       by : (s : Subject) → IsItemOn t h s item → IsLineOn t table h s line

@@ -1,17 +1,10 @@
 -- Lines of what is to come, one after another.
-use Rattle.std.proofs.Common.{◌≡◌, ◌≢◌, List, [], ◌∷◌, Bool, true, false, cond, length, refl, sym, ap, subst, ◌∙◌, arith}
-use Rattle.std.specs.Prelude.{filter, nat_lt}
+use Rattle.pua_objects.proofs.Common.{◌≡◌, ◌≢◌, List, [], ◌∷◌, Bool, true, false, cond, length, refl, sym, ap, subst, ◌∙◌, arith, filter}
+use Rattle.pua_objects.proofs.Common.{nat_lt, Tree, CallTable, calls, History, ProcessState, StandsFor, Call, Word, Subject, Item, Line}
+use Rattle.pua_objects.proofs.Common.{line_of, has_calls, calls_on, IsItemOn, lines_of}
 use Rattle.std.proofs.lemmas.Bool.{lt-ltb}
-use Rattle.pua_tree.specs.Tree.{Tree}
-use Rattle.pua_calls.specs.Calls.{CallTable, calls}
 use Rattle.pua_calls.specs.CallSets.{calls_in}
-use Rattle.pua_policy.specs.History.{History, ProcessState, StandsFor}
-use Rattle.pua_calls.specs.declared.call.Call.{Call}
-use Rattle.pua_audit.specs.Reach.{Word}
-use Rattle.pua_objects.specs.Objects.{Subject, Item, Line, line_of, has_calls, calls_on}
-use Rattle.pua_objects.specs.Items.{IsItemOn}
 use Rattle.pua_objects.specs.Lines.{IsLineOn}
-use Rattle.pua_objects.specs.Ready.{lines_of}
 use Rattle.pua_objects.specs.declared.item.Item as given
 use Rattle.pua_objects.specs.declared.line.ObjectLine.{ObjectLine}
 
@@ -29,8 +22,10 @@ module _ (t : Tree) (table : CallTable) (h : History) (subject : Subject) (given
     line_is : line_of t table h item ≡ line
     line_is = (λ i. record { word = word; subject = subject; calls = same_calls i })
 
-    by_calls : (items : List Item) (b : Bool) → has_calls line ≡ b → lines_of t table h (item ∷ items) ≡ cond b (line ∷ lines_of t table h items) (lines_of t table h items)
-    by_calls items b is = (λ i. cond (has_calls (line_is i)) (line_is i ∷ lines_of t table h items) (lines_of t table h items)) ∙ ap (λ c. cond c (line ∷ lines_of t table h items) (lines_of t table h items)) is
+    by_calls : (items : List Item) (b : Bool) → has_calls line ≡ b →
+        lines_of t table h (item ∷ items) ≡ cond b (line ∷ lines_of t table h items) (lines_of t table h items)
+    by_calls items b is = (λ i. cond (has_calls (line_is i)) (line_is i ∷ lines_of t table h items) (lines_of t table h items)) ∙
+        ap (λ c. cond c (line ∷ lines_of t table h items) (lines_of t table h items)) is
 
     -- a line without calls is left out
     pub left_out : (items : List Item) → calls_in given.calls ≡ [] → lines_of t table h (item ∷ items) ≡ lines_of t table h items
@@ -44,8 +39,12 @@ module _ (t : Tree) (table : CallTable) (h : History) (subject : Subject) (given
         some_calls (c ∷ cs) some = lt-ltb 0 (length (c ∷ cs)) (omega arith)
 
 -- the line of an item that tells what it is about, over a tree, a process and a table that are the same
-module _ (t u : Tree) (p q : ProcessState) (table other : CallTable) (same_tree : u ≡ t) (same_process : q ≡ p) (same_table : other ≡ table) (subject : Subject) (item : given.Item) (line : ObjectLine) where
-  pub told_lined : ((h : History) → StandsFor q h → IsItemOn u h subject item) → ((h : History) → StandsFor q h → IsItemOn u h subject item → IsLineOn u other h subject line) → (h : History) → StandsFor p h → IsLineOn t table h subject line
+module _ (t u : Tree) (p q : ProcessState) (table other : CallTable) (same_tree : u ≡ t) (same_process : q ≡ p) (same_table : other ≡ table)
+    (subject : Subject) (item : given.Item) (line : ObjectLine) where
+  pub told_lined : ((h : History) → StandsFor q h → IsItemOn u h subject item) →
+      ((h : History) → StandsFor q h → IsItemOn u h subject item → IsLineOn u other h subject line) → (h : History) → StandsFor p h →
+      IsLineOn t table h subject line
   told_lined tells lines h stands =
       let here = subst (λ (x : ProcessState). StandsFor x h) (sym same_process) stands in
-      subst (λ (x : Tree). IsLineOn x table h subject line) same_tree (subst (λ (x : CallTable). IsLineOn u x h subject line) same_table (lines h here (tells h here)))
+      subst (λ (x : Tree). IsLineOn x table h subject line) same_tree (subst (λ (x : CallTable). IsLineOn u x h subject line) same_table
+      (lines h here (tells h here)))

@@ -1,26 +1,19 @@
 -- The lines of the innermost directory before its names.
-use Rattle.std.proofs.Common.{◌≡◌, ◌≢◌, ◌<◌, ℕ, List, [], ◌∷◌, ◌++◌, length, map, refl, sym, ap, subst, ◌∙◌, arith}
-use Rattle.std.proofs.lemmas.List.{length-reverse}
-use Rattle.pua_tree.specs.Tree.{Tree}
-use Rattle.pua_path.specs.declared.found.Way.TheVariants.{Top}
-use Rattle.pua_path.specs.declared.found.Found.TheVariants.{Whole}
-use Rattle.pua_policy.specs.History.{ProcessState}
+use Rattle.pua_objects.proofs.Common.{◌≡◌, ◌≢◌, ◌<◌, ℕ, List, [], ◌∷◌, ◌++◌, length, map, refl, sym, ap, subst, ◌∙◌, arith, length-reverse}
+use Rattle.pua_objects.proofs.Common.{Tree, Top, Whole, ProcessState, At, cover_in, IsBelow, spots_in, word_in, dirs_in, names_left}
+use Rattle.pua_objects.proofs.Common.{own_items, IsOpenDir, AreOpenDirs, IsItemReady, OpenDir, Root, Names, ItemWalk, covers_descend}
 use Rattle.pua_policy.specs.declared.object.Object.TheVariants as see
-use Rattle.pua_objects.specs.Objects.{At, cover_in}
 use Rattle.pua_objects.specs.Objects as subject
-use Rattle.pua_objects.specs.Walk.{IsBelow}
-use Rattle.pua_objects.specs.Ready.{spots_in, word_in, dirs_in, names_left, own_items, others_in, IsOpen, AreOpen, IsReady, IsGiven}
+use Rattle.pua_objects.specs.Ready.{others_in}
+use Rattle.pua_objects.specs.Ready.{IsItemGiven}
 use Rattle.pua_objects.specs.declared.item.Subject.TheVariants as about
-use Rattle.pua_objects.specs.declared.open_dir.OpenDir.{OpenDir}
-use Rattle.pua_objects.specs.declared.open_dir.Coming.TheVariants.{Root, Others, Names}
-use Rattle.pua_objects.specs.declared.walk.Walk.{Walk}
-use Rattle.pua_policy.proofs.ForCallers.{covers_descend}
+use Rattle.pua_objects.specs.declared.open_dir.Coming.TheVariants.{Others}
 
 headed : {A : Type 0} (xs : List A) → 0 < length xs → (x : A) × (ys : List A) × (xs ≡ x ∷ ys)
 headed [] some = absurd (omega (arith, some))
 headed (x ∷ xs) some = (x, xs, refl)
 
-module _ (t : Tree) (p : ProcessState) (a : Walk) (ready : IsReady t p a) (more : a.coming ≢ Names) where
+module _ (t : Tree) (p : ProcessState) (a : ItemWalk) (ready : IsItemReady t p a) (more : a.coming ≢ Names) where
   some : 0 < length (dirs_in a)
   some = omega (arith, length-reverse a.dirs.items, ready.exact more)
 
@@ -33,15 +26,17 @@ module _ (t : Tree) (p : ProcessState) (a : Walk) (ready : IsReady t p a) (more 
   dirs : dirs_in a ≡ inner ∷ around
   dirs = (headed (dirs_in a) some).2
 
-  opened : IsOpen t p (spots_in a) inner (length around) × AreOpen t p (spots_in a) around
-  opened = subst (AreOpen t p (spots_in a)) dirs ready.entered
+  opened : IsOpenDir t p (spots_in a) inner (length around) × AreOpenDirs t p (spots_in a) around
+  opened = subst (AreOpenDirs t p (spots_in a)) dirs ready.entered
 
   -- the further names of the innermost directory
   pub others_given : (here : OpenDir) → a.coming ≡ Others → ((d : OpenDir) (ds : List OpenDir) → dirs_in a ≡ d ∷ ds → here ≡ d)
-      → IsGiven t p a (record a { coming = Names }) (record { subject = about.Others here.dir; object = see.Missing; cover = here.cover })
+      → IsItemGiven t p a (record a { coming = Names })
+      (record { subject = about.Others here.dir; object = see.Missing; cover = here.cover })
   others_given here others own = record {
     subject = subject.Others inner.dir;
-    left = (λ i. own_items (others i) (word_in a) (dirs_in a) ++ names_left t p.veils a) ∙ ap (λ ds. others_in (word_in a) ds ++ names_left t p.veils a) dirs;
+    left = (λ i. own_items (others i) (word_in a) (dirs_in a) ++ names_left t p.veils a) ∙
+        ap (λ ds. others_in (word_in a) ds ++ names_left t p.veils a) dirs;
     fits = opened.0.living;
     tells = λ h stands. record {
       subject = ap (λ (d : OpenDir). subject.Others d.dir) (own inner around dirs);
@@ -52,18 +47,26 @@ module _ (t : Tree) (p : ProcessState) (a : Walk) (ready : IsReady t p a) (more 
 
   -- the root itself
   pub root_given : (here : OpenDir) → a.coming ≡ Root → ((d : OpenDir) (ds : List OpenDir) → dirs_in a ≡ d ∷ ds → here ≡ d)
-      → IsGiven t p a (record a { coming = Others }) (record { subject = about.Root; object = see.Directory; cover = here.cover })
+      → IsItemGiven t p a (record a { coming = Others }) (record { subject = about.Root; object = see.Directory; cover = here.cover })
   root_given here root own =
-      let alone : length around ≡ 0 = omega (arith, ap length dirs, length-reverse a.dirs.items, ready.exact more, ap length (ready.start root)) in
+      let alone : length around ≡ 0 = omega (
+        arith,
+        ap length dirs,
+        length-reverse a.dirs.items,
+        ready.exact more,
+        ap length (ready.start root),
+      ) in
       let at_root : inner.dir ≡ 0 = subst (λ (n : ℕ). IsBelow t n inner.dir) alone opened.0.reaches in
       record {
         subject = At (Whole 0 Top);
         left = (λ i. own_items (root i) (word_in a) (dirs_in a) ++ names_left t p.veils a)
-            ∙ ap (λ w. record { word = w; subject = At (Whole 0 Top) } ∷ (others_in (word_in a) (dirs_in a) ++ names_left t p.veils a)) (sym (ap (map (λ name. name.now)) (ready.start root)));
+            ∙ ap (λ w. record { word = w; subject = At (Whole 0 Top) } ∷ (others_in (word_in a) (dirs_in a) ++ names_left t p.veils a))
+            (sym (ap (map (λ name. name.now)) (ready.start root)));
         fits = (ready.tree.root, tt);
         tells = λ h stands. record {
           subject = refl;
           object = refl;
-          cover = ap (λ (d : OpenDir). d.cover) (own inner around dirs) ∙ opened.0.cover h stands ∙ ap (cover_in t h) at_root ∙ sym ((covers_descend t h ready.tree).directory 0 Top ready.tree.root);
+          cover = ap (λ (d : OpenDir). d.cover) (own inner around dirs) ∙ opened.0.cover h stands ∙ ap (cover_in t h) at_root ∙
+              sym ((covers_descend t h ready.tree).directory 0 Top ready.tree.root);
         };
       }

@@ -1,14 +1,12 @@
 -- The list of objects taken one after another.
-use Rattle.std.proofs.Common.{◌≡◌, ◌≢◌, ◌<◌, ℕ, zero, suc, ◌-◌, List, [], ◌∷◌, ◌++◌, length, Bool, true, false, refl, sym, ap, ◌∙◌, arith, subst, append-nil, append_assoc}
-use Rattle.std.specs.Prelude.{Option, Some, None, flat_map}
-use Rattle.pua_tree.specs.Tree.{Tree, WellFormed, look, is_dir, above}
-use Rattle.pua_tree.proofs.ForCallers.{Sound, sound_from, Reaches, row_says, above_is, climb_ends}
-use Rattle.pua_path.specs.declared.found.Way.TheVariants.{Named, Top}
-use Rattle.pua_path.specs.declared.found.Found.TheVariants.{Whole, Slot}
-use Rattle.pua_policy.specs.declared.place.Place.{Place}
-use Rattle.pua_audit.specs.Reach.{Word}
-use Rattle.pua_objects.specs.Objects.{Item, At, items_at, items_below, items}
-use Rattle.pua_objects.specs.Walk.{Frame, items_in, to_come, frame_of, others_item, IsBelow, IsDeepEnough, StepsOfWalk, WalksObjects}
+use Rattle.pua_objects.proofs.Common.{◌≡◌, ◌≢◌, ◌<◌, ℕ, zero, suc, ◌-◌, List, [], ◌∷◌, ◌++◌, length, Bool, true, false, refl, sym, ap, ◌∙◌}
+use Rattle.pua_objects.proofs.Common.{arith, subst, append-nil, Option, Some, None, flat_map, Tree, WellFormed, look, is_dir, Sound}
+use Rattle.pua_objects.proofs.Common.{sound_from, row_says, climb_ends, Named, Top, Whole, Slot, Place, Word, Item, At, items_at}
+use Rattle.pua_objects.proofs.Common.{items_below, items, items_to_come, others_item, IsBelow}
+use Rattle.std.proofs.Common.{append_assoc}
+use Rattle.pua_tree.specs.Tree.{above}
+use Rattle.pua_tree.proofs.ForCallers.{Reaches, above_is}
+use Rattle.pua_objects.specs.Walk.{Frame, items_in, frame_of, IsDeepEnough, StepsOfWalk, WalksObjects}
 
 pub reaches : (t : Tree) (k d : ℕ) → IsBelow t k d → Reaches t k d
 reaches t zero d e = e
@@ -19,22 +17,26 @@ module _ (t : Tree) (fits : WellFormed t) (sound : Sound t) (vs : List (Place ×
   item_list depth dir word name o = items_at t (items_below depth t vs) dir word name o
 
   -- the first entry of a frame, whatever stands there
-  first_entry : (f : Frame) (fs : List Frame) (name : List ℕ) (names : List (List ℕ)) (o : Option ℕ) → f.names ≡ name ∷ names → look t f.dir name ≡ o →
-      to_come t vs (f ∷ fs) ≡ item_list f.depth f.dir f.word name o ++ to_come t vs (record f { names = names } ∷ fs)
+  first_entry : (f : Frame) (fs : List Frame) (name : List ℕ) (names : List (List ℕ)) (o : Option ℕ) → f.names ≡ name ∷ names →
+      look t f.dir name ≡ o →
+      items_to_come t vs (f ∷ fs) ≡ item_list f.depth f.dir f.word name o ++ items_to_come t vs (record f { names = names } ∷ fs)
   first_entry f fs name names o are is =
       let g : List ℕ → List Item = λ n. item_list f.depth f.dir f.word n (look t f.dir n) in
-      ap (λ ns. flat_map g ns ++ to_come t vs fs) are
-      ∙ append_assoc (g name) (flat_map g names) (to_come t vs fs)
-      ∙ ap (λ p. item_list f.depth f.dir f.word name p ++ (flat_map g names ++ to_come t vs fs)) is
+      ap (λ ns. flat_map g ns ++ items_to_come t vs fs) are
+      ∙ append_assoc (g name) (flat_map g names) (items_to_come t vs fs)
+      ∙ ap (λ p. item_list f.depth f.dir f.word name p ++ (flat_map g names ++ items_to_come t vs fs)) is
 
-  plain_entry : (depth dir : ℕ) (word : Word) (name : List ℕ) (x : ℕ) (b : Bool) → is_dir t x ≡ b → b ≡ false → item_list depth dir word name (Some x) ≡ record { word = word ++ name ∷ []; subject = At (Slot dir name (Some x)) } ∷ []
+  plain_entry : (depth dir : ℕ) (word : Word) (name : List ℕ) (x : ℕ) (b : Bool) → is_dir t x ≡ b → b ≡ false →
+      item_list depth dir word name (Some x) ≡ record { word = word ++ name ∷ []; subject = At (Slot dir name (Some x)) } ∷ []
   plain_entry depth dir word name x b is no_dir = rw (is ∙ no_dir) refl
 
   dir_entry : (depth dir : ℕ) (word : Word) (name : List ℕ) (x : ℕ) → is_dir t x ≡ true → item_list (suc depth) dir word name (Some x) ≡
-      record { word = word ++ name ∷ []; subject = At (Whole x (Named dir name)) } ∷ others_item (word ++ name ∷ []) x ∷ items_in t vs (frame_of t vs depth x (word ++ name ∷ []))
+      record { word = word ++ name ∷ []; subject = At (Whole x (Named dir name)) } ∷ others_item (word ++ name ∷ []) x
+      ∷ items_in t vs (frame_of t vs depth x (word ++ name ∷ []))
   dir_entry depth dir word name x is = rw is refl
 
-  inner_fits : (f : Frame) (name : List ℕ) (x : ℕ) → IsDeepEnough t f → look t f.dir name ≡ Some x → is_dir t x ≡ true → (f.depth ≡ suc (f.depth - 1)) × IsDeepEnough t (frame_of t vs (f.depth - 1) x (f.word ++ name ∷ []))
+  inner_fits : (f : Frame) (name : List ℕ) (x : ℕ) → IsDeepEnough t f → look t f.dir name ≡ Some x → is_dir t x ≡ true →
+      (f.depth ≡ suc (f.depth - 1)) × IsDeepEnough t (frame_of t vs (f.depth - 1) x (f.word ++ name ∷ []))
   inner_fits f name x deep row living =
       let other : x ≢ 0 = (row_says t sound (f.dir, name) x row).3 in
       let over : above t x ≡ f.dir = above_is t x (f.dir, name) other (sound.once x living other) row in
@@ -48,26 +50,31 @@ module _ (t : Tree) (fits : WellFormed t) (sound : Sound t) (vs : List (Place ×
   walk_steps = record {
     begins = begun;
     first_fits = record { living = fits.root; steps = 0; reaches = refl; deep = omega (arith, some) };
-    leaves = λ f fs none. ap (λ ns. flat_map (λ n. item_list f.depth f.dir f.word n (look t f.dir n)) ns ++ to_come t vs fs) none;
+    leaves = λ f fs none. ap (λ ns. flat_map (λ n. item_list f.depth f.dir f.word n (look t f.dir n)) ns ++ items_to_come t vs fs) none;
     missing = λ f fs name names are row. first_entry f fs name names None are row;
-    plain = λ f fs name names x are row other. first_entry f fs name names (Some x) are row ∙ ap (λ items. items ++ to_come t vs (record f { names = names } ∷ fs)) (plain_entry f.depth f.dir f.word name x (is_dir t x) refl other);
+    plain = λ f fs name names x are row other. first_entry f fs name names (Some x) are row ∙
+        ap (λ items. items ++ items_to_come t vs (record f { names = names } ∷ fs)) (plain_entry f.depth f.dir f.word name x (is_dir t x)
+        refl other);
     enters = λ f fs name names x deep are row living.
         let inner = inner_fits f name x deep row living in (
           inner.1,
           first_entry f fs name names (Some x) are row
-              ∙ ap (λ d. item_list d f.dir f.word name (Some x) ++ to_come t vs (record f { names = names } ∷ fs)) inner.0
-              ∙ ap (λ items. items ++ to_come t vs (record f { names = names } ∷ fs)) (dir_entry (f.depth - 1) f.dir f.word name x living),
+              ∙ ap (λ d. item_list d f.dir f.word name (Some x) ++ items_to_come t vs (record f { names = names } ∷ fs)) inner.0
+              ∙ ap (λ items. items ++ items_to_come t vs (record f { names = names } ∷ fs))
+              (dir_entry (f.depth - 1) f.dir f.word name x living),
         );
   }
     where
       some : 0 < length t.nodes
       some = climb_ends t sound 0 fits.root 0 refl
 
-      begun : items t vs ≡ record { word = []; subject = At (Whole 0 Top) } ∷ others_item [] 0 ∷ to_come t vs (frame_of t vs (length t.nodes - 1) 0 [] ∷ [])
+      begun : items t vs ≡ record { word = []; subject = At (Whole 0 Top) } ∷ others_item [] 0
+          ∷ items_to_come t vs (frame_of t vs (length t.nodes - 1) 0 [] ∷ [])
       begun =
           let deep : length t.nodes ≡ suc (length t.nodes - 1) = omega (arith, some) in
           ap (λ d. items_below d t vs 0 Top []) deep
-          ∙ ap (λ items. record { word = []; subject = At (Whole 0 Top) } ∷ others_item [] 0 ∷ items) (sym (append-nil (items_in t vs (frame_of t vs (length t.nodes - 1) 0 []))))
+          ∙ ap (λ items. record { word = []; subject = At (Whole 0 Top) } ∷ others_item [] 0 ∷ items)
+          (sym (append-nil (items_in t vs (frame_of t vs (length t.nodes - 1) 0 []))))
 
 pub walks_objects : WalksObjects
 walks_objects t vs fits = walk_steps t fits (sound_from t fits) vs

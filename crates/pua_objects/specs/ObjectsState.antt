@@ -6,7 +6,8 @@ use Rattle.pua_policy.specs.History.{ProcessState}
 use Rattle.pua_audit.specs.Reach.{Word}
 use Rattle.pua_objects.specs.Objects.{Item}
 
--- the tree, the process and the table of calls, the names that lead to what the line given last is about, how many of them were shared with the line before, and what a line may still be about
+-- the tree, the process and the table of calls, the names that lead to what the line given last is about, how many of
+-- them were shared with the line before, and what a line may still be about
 pub record ObjectsState : Type 0 where
   pub tree : Tree
   pub process : ProcessState

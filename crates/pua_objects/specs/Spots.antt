@@ -20,9 +20,9 @@ abbrev pub row_spot : LentRow → Spot
 row_spot row = (lent_entry row).0
 
 -- the spot of a veil at a name
-abbrev pub slot_of : Place → Option Spot
-slot_of (place.Slot dir name) = Some (dir, name)
-slot_of (place.Dir dir) = None
+abbrev pub veil_spot : Place → Option Spot
+veil_spot (place.Slot dir name) = Some (dir, name)
+veil_spot (place.Dir dir) = None
 
 -- places that are no directories are at names
 abbrev pub AreAtNames : List Place → Type 0

@@ -7,7 +7,7 @@ ghost use Rattle.pua_objects.specs.Items.{IsNear, IsNext};
 ghost use Rattle.pua_objects.specs.Objects.{items as all_items};
 
 use crate::item::Item;
-use crate::walk::Walk;
+use crate::walk::ItemWalk;
 use pua_policy::Process;
 use pua_tree::{FileTree, Name, OutOfMemory};
 use std::alloc::Global;
@@ -21,7 +21,7 @@ use std::marker::Model;
 pub struct Items<'t, T: FileTree> {
     tree: &'t T,
     process: &'t Process,
-    walk: Walk<'t>,
+    walk: ItemWalk<'t>,
 }
 
 impl<'t, T: FileTree> Model for Items<'t, T> {
@@ -29,7 +29,7 @@ impl<'t, T: FileTree> Model for Items<'t, T> {
 
     ghost Value = { ItemsState };
 
-    ghost use Rattle.pua_objects.specs.Ready.{word_in, left_in, IsReady};
+    ghost use Rattle.pua_objects.specs.Ready.{word_in, left_in, IsItemReady};
 
     ghost view = { λ a. record {
       tree = T.content a.tree.now;
@@ -38,7 +38,7 @@ impl<'t, T: FileTree> Model for Items<'t, T> {
       left = left_in (T.content a.tree.now) a.process.now.veils a.walk;
     } };
 
-    ghost invariant = { λ a. IsReady (T.content a.tree.now) a.process.now a.walk };
+    ghost invariant = { λ a. IsItemReady (T.content a.tree.now) a.process.now a.walk };
 }
 
 impl<'t, T: FileTree> Items<'t, T> {
@@ -55,7 +55,7 @@ impl<'t, T: FileTree> Items<'t, T> {
             begun.left ≡ all_items (T.content tree.now) process.now.veils) }
         ensures places { OnOk result ((h : History) → StandsFor process.now h → HasPlaces h) }
     {
-        let walk = Walk::new(alloc, tree, process)?;
+        let walk = ItemWalk::new(alloc, tree, process)?;
         Ok(Items {
             tree,
             process,

@@ -38,7 +38,8 @@ pub fn line_of(process: &Process, table: &CallTable, item: &Item<'_>) -> ObjectL
 /// The line of what stands somewhere, or of a name where nothing stands, by what the veils leave of
 /// it. On a link only those calls are listed that keep it.
 fn line_at(process: &Process, table: &CallTable, cover: &Cover, object: Object) -> ObjectLine
-    ensures { (t : Tree) (h : History) (found : FoundThing) → StandsFor process.now h → cover.now ≡ cover_of t h found → object ≡ object_seen t (object_of t found) →
+    ensures { (t : Tree) (h : History) (found : FoundThing) → StandsFor process.now h →
+        cover.now ≡ cover_of t h found → object ≡ object_seen t (object_of t found) →
         IsLineOn t table.now h (At found) result }
 {
     let calls = judge::allowed(process, table, *cover, object);
@@ -55,7 +56,8 @@ fn line_at(process: &Process, table: &CallTable, cover: &Cover, object: Object) 
 
 /// The line of a directory's further names, by what the veils leave of them.
 fn line_of_others(process: &Process, table: &CallTable, cover: &Cover) -> ObjectLine
-    ensures { (t : Tree) (h : History) (dir : ℕ) → StandsFor process.now h → cover.now ≡ cover_in t h dir → IsLineOn t table.now h (Others dir) result }
+    ensures { (t : Tree) (h : History) (dir : ℕ) → StandsFor process.now h →
+        cover.now ≡ cover_in t h dir → IsLineOn t table.now h (Others dir) result }
 {
     ObjectLine {
         kind: ObjectKind::Other,

@@ -4,7 +4,7 @@ ghost use Rattle.std.specs.Prelude.{◌≡◌, ◌<◌, IfOk, OnOk, OnSome, leng
 ghost use Rattle.pua_policy.specs.History.{History, StandsFor};
 ghost use Rattle.pua_objects.specs.Laws.{HasPlaces};
 ghost use Rattle.pua_objects.specs.Objects.{items as all_items, objects};
-ghost use Rattle.pua_objects.specs.Ready.{lines_of, IsNextListed};
+ghost use Rattle.pua_objects.specs.Ready.{lines_of, IsNextLineListed};
 
 use crate::items::Items;
 use crate::line::{ObjectLine, line_of};
@@ -31,7 +31,14 @@ impl<'t, T: FileTree> Model for Objects<'t, T> {
 
     ghost Value = { ObjectsState };
 
-    ghost view = { λ a. record { tree = a.items.tree; process = a.items.process; table = a.table; word = a.items.word; shared = a.shared; left = a.items.left } };
+    ghost view = { λ a. record {
+      tree = a.items.tree;
+      process = a.items.process;
+      table = a.table;
+      word = a.items.word;
+      shared = a.shared;
+      left = a.items.left;
+    } };
 }
 
 impl<'t, T: FileTree> Objects<'t, T> {
@@ -44,10 +51,13 @@ impl<'t, T: FileTree> Objects<'t, T> {
         process: &'t Process,
         table: &CallTable,
     ) -> Result<Objects<'t, T>, OutOfMemory>
-        ensures of { IfOk result (λ list. (list.tree ≡ T.content tree.now) × (list.process ≡ process.now) × (list.table ≡ table.now)) }
-        ensures left { IfOk result (λ list. list.left ≡ all_items (T.content tree.now) process.now.veils) }
+        ensures of { IfOk result (λ list. (list.tree ≡ T.content tree.now) ×
+            (list.process ≡ process.now) × (list.table ≡ table.now)) }
+        ensures left { IfOk result (λ list. list.left ≡ all_items (T.content tree.now)
+            process.now.veils) }
         ensures lines { IfOk result (λ list. (h : History) → StandsFor process.now h →
-            lines_of (T.content tree.now) table.now h list.left ≡ objects (T.content tree.now) table.now h) }
+            lines_of (T.content tree.now) table.now h list.left ≡ objects (T.content tree.now)
+            table.now h) }
         ensures places { OnOk result ((h : History) → StandsFor process.now h → HasPlaces h) }
     {
         let items = Items::begin(alloc, tree, process)?;
@@ -62,8 +72,10 @@ impl<'t, T: FileTree> Objects<'t, T> {
     /// first, then its further names, then what has or could have a name in it by the bytes of the
     /// names, each directory followed by what is below it.
     pub fn next_line(&mut self) -> Option<ObjectLine>
-        ensures of { (self.new.tree ≡ self.old.tree) × (self.new.process ≡ self.old.process) × (self.new.table ≡ self.old.table) }
-        ensures line { IsNextListed self.old.tree self.old.table self.old.process self.old.left result self.new.word self.new.left }
+        ensures of { (self.new.tree ≡ self.old.tree) × (self.new.process ≡ self.old.process) ×
+            (self.new.table ≡ self.old.table) }
+        ensures line { IsNextLineListed self.old.tree self.old.table self.old.process self.old.left
+            result self.new.word self.new.left }
         ensures fewer { OnSome result (length self.new.left < length self.old.left) }
         ensures shared { take self.new.shared self.new.word ≡ take self.new.shared self.old.word }
     {

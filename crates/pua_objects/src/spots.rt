@@ -5,7 +5,8 @@ ghost use Rattle.pua_policy.specs.History.{History, StandsFor};
 ghost use Rattle.pua_tree.specs.LentRows.{lent_entry};
 ghost use Rattle.pua_tree.specs.Tree.{Tree};
 ghost use Rattle.pua_objects.specs.Laws.{is_place, HasPlaces};
-ghost use Rattle.pua_objects.specs.Spots.{spot_now, row_spot, slot_of, AreAtNames, AreInOrder, AreSpots};
+ghost use Rattle.pua_objects.specs.Spots.{spot_now, row_spot, veil_spot, AreAtNames, AreInOrder};
+ghost use Rattle.pua_objects.specs.Spots.{AreSpots};
 
 use pua_policy::{Place, Process};
 use pua_tree::{LentRow, Name, NodeId, OutOfMemory};
@@ -20,13 +21,11 @@ pub(crate) fn spots<'t>(
     process: &'t Process,
 ) -> Result<Vec<(NodeId, &'t Name)>, OutOfMemory>
     ensures places { OnOk result ((h : History) → StandsFor process.now h → HasPlaces h) }
-    ensures spots { (t : Tree) → map lent_entry rows.now ≡ t.rows → IfOk result (λ spots. AreSpots t process.now.veils (map spot_now spots.items)) }
+    ensures spots { (t : Tree) → map lent_entry rows.now ≡ t.rows →
+        IfOk result (λ spots. AreSpots t process.now.veils (map spot_now spots.items)) }
 {
     let places = process.places(alloc)?;
-    match distinct_spots(alloc, rows, &places) {
-        Ok(spots) => Ok(spots),
-        Err(_) => Err(OutOfMemory),
-    }
+    Ok(distinct_spots(alloc, rows, &places)?)
 }
 
 /// The spots of rows and of veils, each once, in order.
@@ -36,7 +35,9 @@ fn distinct_spots<'t>(
     places: &[&'t Place],
 ) -> Result<Vec<(NodeId, &'t Name)>, AllocError>
     ensures places { OnOk result (AreAtNames (map (λ place. place.now) places.now)) }
-    ensures spots { IfOk result (λ spots. AreInOrder (map row_spot rows.now ++ filter_map slot_of (map (λ place. place.now) places.now)) (map spot_now spots.items)) }
+    ensures spots { IfOk result
+        (λ spots. AreInOrder (map row_spot rows.now
+        ++ filter_map veil_spot (map (λ place. place.now) places.now)) (map spot_now spots.items)) }
 {
     let mut spots: Vec<(NodeId, &'t Name)> = rows
         .iter()
@@ -54,7 +55,8 @@ fn add_veiled<'t>(
     places: &[&'t Place],
 ) -> Result<(), AllocError>
     ensures places { OnOk result (AreAtNames (map (λ place. place.now) places.now)) }
-    ensures spots { OnOk result (map spot_now spots.new.items ≡ map spot_now spots.old.items ++ filter_map slot_of (map (λ place. place.now) places.now)) }
+    ensures spots { OnOk result (map spot_now spots.new.items ≡ map spot_now spots.old.items
+        ++ filter_map veil_spot (map (λ place. place.now) places.now)) }
 {
     for place in places {
         add_slot(spots, *place)?;
@@ -65,7 +67,8 @@ fn add_veiled<'t>(
 /// Adds the spot of a veil, if it is at a name.
 fn add_slot<'t>(spots: &mut Vec<(NodeId, &'t Name)>, place: &'t Place) -> Result<(), AllocError>
     ensures place { IsTrue (is_place place.now) }
-    ensures spot { OnOk result (map spot_now spots.new.items ≡ map spot_now spots.old.items ++ filter_map slot_of (place.now ∷ [])) }
+    ensures spot { OnOk result (map spot_now spots.new.items ≡ map spot_now spots.old.items
+        ++ filter_map veil_spot (place.now ∷ [])) }
 {
     let Place::Slot(dir, name) = place else {
         return Ok(());

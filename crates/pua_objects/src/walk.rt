@@ -1,6 +1,8 @@
 //! The walk through the directories of a tree, with an open directory for each that is entered.
 
-ghost use Rattle.std.specs.Prelude.{◌≡◌, ◌<◌, ◌≤◌, ◌+◌, ◌∷◌, ◌++◌, [], ℕ, List, Option, Some, true, length, drop, IfOk, OnOk, IfSome, OnSome, MatchOption, if◌then◌else◌, take, vec_capacity};
+ghost use Rattle.std.specs.Prelude.{◌≡◌, ◌<◌, ◌≤◌, ◌+◌, ◌∷◌, ◌++◌, [], ℕ, List, Option, Some, true};
+ghost use Rattle.std.specs.Prelude.{length, drop, IfOk, OnOk, IfSome, OnSome, MatchOption};
+ghost use Rattle.std.specs.Prelude.{if◌then◌else◌, take, vec_capacity};
 ghost use Rattle.std.specs.List.{AllByRecursion, list_any};
 ghost use Rattle.pua_tree.specs.Tree.{Tree, WellFormed, is_dir, is_dir_kind, look, spot_cmp};
 ghost use Rattle.pua_path.specs.declared.found.Found.TheVariants as found;
@@ -13,7 +15,8 @@ ghost use Rattle.pua_objects.specs.Laws.{HasPlaces};
 ghost use Rattle.pua_objects.specs.Items.{IsItemOn, IsNear};
 ghost use Rattle.pua_objects.specs.Objects.{At, cover_in, items};
 ghost use Rattle.pua_objects.specs.Spots.{names_at};
-ghost use Rattle.pua_objects.specs.Ready.{IsReady, spots_in, dirs_in, IsTaken, IsFinished, IsEntered, IsNextItem, left_in, word_in};
+ghost use Rattle.pua_objects.specs.Ready.{IsItemReady, spots_in, dirs_in, IsTaken, IsFinished};
+ghost use Rattle.pua_objects.specs.Ready.{IsEntered, IsNextItem, left_in, word_in};
 
 use crate::item::{Item, Subject};
 use crate::open_dir::{Coming, OpenDir};
@@ -24,7 +27,7 @@ use std::alloc::Global;
 
 /// A walk through a tree. It takes no memory but what was reserved.
 #[derive(Drop)]
-pub(crate) struct Walk<'t> {
+pub(crate) struct ItemWalk<'t> {
     /// The names under which something stands or is veiled, each with its directory, in order.
     pub(crate) spots: Vec<(NodeId, &'t Name)>,
     /// The directories that are entered, from the root on.
@@ -34,35 +37,32 @@ pub(crate) struct Walk<'t> {
     pub(crate) coming: Coming,
 }
 
-impl<'t> Walk<'t> {
+impl<'t> ItemWalk<'t> {
     /// A walk that has everything to come. It reserves all that it will need, an open directory for
     /// each row and one for the root. The only error is that a growth was refused.
     pub(crate) fn new<T: FileTree>(
         alloc: Global,
         tree: &'t T,
         process: &'t Process,
-    ) -> Result<Walk<'t>, OutOfMemory>
-        ensures ready { IfOk result (λ walk. IsReady (T.content tree.now) process.now walk) }
-        ensures left { IfOk result (λ walk. left_in (T.content tree.now) process.now.veils walk ≡ items (T.content tree.now) process.now.veils) }
+    ) -> Result<ItemWalk<'t>, OutOfMemory>
+        ensures ready { IfOk result (λ walk. IsItemReady (T.content tree.now) process.now walk) }
+        ensures left { IfOk result (λ walk. left_in (T.content tree.now) process.now.veils walk
+            ≡ items (T.content tree.now) process.now.veils) }
         ensures places { OnOk result ((h : History) → StandsFor process.now h → HasPlaces h) }
     {
         tree.known();
         let rows = tree.rows(alloc)?;
         let most = rows.len() + 1;
         let spots = spots(alloc, &rows, process)?;
-        let Ok(mut dirs) = Vec::with_capacity(alloc, most) else {
-            return Err(OutOfMemory);
-        };
-        let Ok(word) = Vec::with_capacity(alloc, most) else {
-            return Err(OutOfMemory);
-        };
+        let mut dirs = Vec::with_capacity(alloc, most)?;
+        let word = Vec::with_capacity(alloc, most)?;
         let cover = process.own_cover(&Place::Dir(NodeId::ROOT), outermost(process));
         dirs.push_reserved(OpenDir {
             dir: NodeId::ROOT,
             next: 0,
             cover,
         });
-        Ok(Walk {
+        Ok(ItemWalk {
             spots,
             dirs,
             word,
@@ -73,9 +73,11 @@ impl<'t> Walk<'t> {
     /// The name at this place among all names, if it is of this directory.
     fn name_of(&self, dir: NodeId, next: usize) -> Option<&'t Name>
         ensures there { IfSome result (λ name. next < length self.now.spots.items) }
-        ensures name { Rises spot_cmp (spots_in self.now) → AllByRecursion (λ s. dir ≤ s.0) (drop next (spots_in self.now)) →
+        ensures name { Rises spot_cmp (spots_in self.now) →
+            AllByRecursion (λ s. dir ≤ s.0) (drop next (spots_in self.now)) →
             MatchOption result (names_at dir (drop next (spots_in self.now)) ≡ [])
-            (λ name. names_at dir (drop next (spots_in self.now)) ≡ name.now ∷ names_at dir (drop (next + 1) (spots_in self.now))) }
+            (λ name. names_at dir (drop next (spots_in self.now)) ≡ name.now
+            ∷ names_at dir (drop (next + 1) (spots_in self.now))) }
     {
         if next >= self.spots.len() {
             return None;
@@ -86,8 +88,10 @@ impl<'t> Walk<'t> {
 
     /// Where the names of a directory start among all names.
     fn start_of(&self, dir: NodeId) -> usize
-        ensures passed { Rises spot_cmp (spots_in self.now) → AllByRecursion (λ s. dir ≤ s.0) (drop result (spots_in self.now)) }
-        ensures names { Rises spot_cmp (spots_in self.now) → names_at dir (drop result (spots_in self.now)) ≡ names_at dir (spots_in self.now) }
+        ensures passed { Rises spot_cmp (spots_in self.now) →
+            AllByRecursion (λ s. dir ≤ s.0) (drop result (spots_in self.now)) }
+        ensures names { Rises spot_cmp (spots_in self.now) →
+            names_at dir (drop result (spots_in self.now)) ≡ names_at dir (spots_in self.now) }
     {
         self.spots.partition_point(|spot| spot.0 < dir)
     }
@@ -95,12 +99,15 @@ impl<'t> Walk<'t> {
     /// The next name of the innermost directory that has one left, and that directory. The directories
     /// inside it are left.
     fn next_name(&mut self) -> Option<(NodeId, &'t Name)>
-        ensures ready { (t : Tree) (process : ProcessState) → IsReady t process self.old → self.old.coming ≡ Coming.Names → IsReady t process self.new }
+        ensures ready { (t : Tree) (process : ProcessState) → IsItemReady t process self.old →
+            self.old.coming ≡ Coming.Names → IsItemReady t process self.new }
         ensures kept { (self.new.coming ≡ self.old.coming) × (self.new.spots ≡ self.old.spots) }
         ensures front { self.new.word.items
             ≡ take (length self.new.word.items) self.old.word.items }
-        ensures next { (t : Tree) (process : ProcessState) → IsReady t process self.old → self.old.coming ≡ Coming.Names →
-            MatchOption result (IsFinished t process.veils self.old self.new) (λ entry. IsTaken t process.veils self.old self.new entry.0 entry.1.now) }
+        ensures next { (t : Tree) (process : ProcessState) → IsItemReady t process self.old →
+            self.old.coming ≡ Coming.Names →
+            MatchOption result (IsFinished t process.veils self.old self.new)
+            (λ entry. IsTaken t process.veils self.old self.new entry.0 entry.1.now) }
     {
         while let Some(OpenDir { dir, next, cover }) = self.dirs.pop() {
             if let Some(name) = self.name_of(dir, next) {
@@ -120,7 +127,8 @@ impl<'t> Walk<'t> {
     /// The innermost directory.
     fn inner(&self) -> OpenDir
         requires { 0 < length self.now.dirs.items }
-        ensures { (inner : OpenDir) (around : List OpenDir) → dirs_in self.now ≡ inner ∷ around → result ≡ inner }
+        ensures { (inner : OpenDir) (around : List OpenDir) → dirs_in self.now ≡ inner ∷ around →
+            result ≡ inner }
     {
         self.dirs[self.dirs.len() - 1]
     }
@@ -137,10 +145,14 @@ impl<'t> Walk<'t> {
         requires inside { 0 < length self.old.dirs.items }
         ensures word { self.new.word.items ≡ self.old.word.items ++ name.entry ∷ [] }
         ensures room { vec_capacity self.new.word ≡ vec_capacity self.old.word }
-        ensures kept { (self.new.spots ≡ self.old.spots) × (self.new.dirs ≡ self.old.dirs) × (self.new.coming ≡ self.old.coming) }
-        ensures item { (t : Tree) (h : History) (inner : OpenDir) (around : List OpenDir) (node : Option ℕ) → WellFormed t → StandsFor process.now h →
-            dirs_in self.old ≡ inner ∷ around → inner.cover ≡ cover_in t h dir → object ≡ object_seen t (object_of t (found.Slot dir name.entry.now node)) →
-            look t dir name.entry.now ≡ node → IsItemOn t h (At (found.Slot dir name.entry.now node)) result }
+        ensures kept { (self.new.spots ≡ self.old.spots) × (self.new.dirs ≡ self.old.dirs) ×
+            (self.new.coming ≡ self.old.coming) }
+        ensures item { (t : Tree) (h : History) (inner : OpenDir) (around : List OpenDir)
+            (node : Option ℕ) → WellFormed t → StandsFor process.now h →
+            dirs_in self.old ≡ inner ∷ around → inner.cover ≡ cover_in t h dir →
+            object ≡ object_seen t (object_of t (found.Slot dir name.entry.now node)) →
+            look t dir name.entry.now ≡ node →
+            IsItemOn t h (At (found.Slot dir name.entry.now node)) result }
     {
         let cover = process.own_cover(&Place::Slot(dir, *name), self.inner().cover);
         self.word.push_reserved(name);
@@ -165,13 +177,18 @@ impl<'t> Walk<'t> {
         requires dirs_room { length self.old.dirs.items < vec_capacity self.old.dirs }
         requires inside { 0 < length self.old.dirs.items }
         ensures word { self.new.word.items ≡ self.old.word.items ++ name.entry ∷ [] }
-        ensures room { (vec_capacity self.new.word ≡ vec_capacity self.old.word) × (vec_capacity self.new.dirs ≡ vec_capacity self.old.dirs) }
+        ensures room { (vec_capacity self.new.word ≡ vec_capacity self.old.word) ×
+            (vec_capacity self.new.dirs ≡ vec_capacity self.old.dirs) }
         ensures kept { self.new.spots ≡ self.old.spots }
         ensures coming { self.new.coming ≡ Coming.Others }
         ensures entered { IsEntered process.now self.old self.new id }
-        ensures item { (h : History) (inner : OpenDir) (around : List OpenDir) → WellFormed (T.content tree.now) → StandsFor process.now h →
-            dirs_in self.old ≡ inner ∷ around → inner.cover ≡ cover_in (T.content tree.now) h dir → look (T.content tree.now) dir name.entry.now ≡ Some id → is_dir (T.content tree.now) id ≡ true →
-            IsItemOn (T.content tree.now) h (At (found.Whole id (way.Named dir name.entry.now))) result }
+        ensures item { (h : History) (inner : OpenDir) (around : List OpenDir) →
+            WellFormed (T.content tree.now) → StandsFor process.now h →
+            dirs_in self.old ≡ inner ∷ around → inner.cover ≡ cover_in (T.content tree.now) h dir →
+            look (T.content tree.now) dir name.entry.now ≡ Some id →
+            is_dir (T.content tree.now) id ≡ true →
+            IsItemOn (T.content tree.now) h (At (found.Whole id (way.Named dir name.entry.now)))
+            result }
     {
         let cover = process.own_cover(&Place::Dir(id), self.inner().cover);
         let item = Item {
@@ -192,9 +209,9 @@ impl<'t> Walk<'t> {
 
     /// Goes to the next name, and gives its item; None where no name is left.
     fn next_entry<T: FileTree>(&mut self, tree: &T, process: &Process) -> Option<Item<'t>>
-        requires ready { IsReady (T.content tree.now) process.now self.old }
+        requires ready { IsItemReady (T.content tree.now) process.now self.old }
         requires names { self.old.coming ≡ Coming.Names }
-        ensures ready { IsReady (T.content tree.now) process.now self.new }
+        ensures ready { IsItemReady (T.content tree.now) process.now self.new }
         ensures item { IsNextItem (T.content tree.now) process.now self.old result self.new }
         ensures near { IsNear (word_in self.old) (word_in self.new) }
     {
@@ -215,8 +232,8 @@ impl<'t> Walk<'t> {
     /// Goes to the next thing that a line may be about, and gives its item; None where nothing is
     /// left.
     pub(crate) fn next_item<T: FileTree>(&mut self, tree: &T, process: &Process) -> Option<Item<'t>>
-        requires ready { IsReady (T.content tree.now) process.now self.old }
-        ensures ready { IsReady (T.content tree.now) process.now self.new }
+        requires ready { IsItemReady (T.content tree.now) process.now self.old }
+        ensures ready { IsItemReady (T.content tree.now) process.now self.new }
         ensures item { IsNextItem (T.content tree.now) process.now self.old result self.new }
         ensures near { IsNear (word_in self.old) (word_in self.new) }
     {
@@ -245,7 +262,8 @@ impl<'t> Walk<'t> {
 
 /// What a call is on, of a directory that was found by a name.
 fn directory<T: FileTree>(tree: &T, id: NodeId) -> Object
-    ensures { (dir : ℕ) (name : List ℕ) → result ≡ object_seen (T.content tree.now) (IsDir id (way.Named dir name)) }
+    ensures { (dir : ℕ) (name : List ℕ) →
+        result ≡ object_seen (T.content tree.now) (IsDir id (way.Named dir name)) }
 {
     if tree.is_empty(id) {
         Object::Removable
@@ -256,7 +274,8 @@ fn directory<T: FileTree>(tree: &T, id: NodeId) -> Object
 
 /// What the veils leave of what no veil covers.
 fn outermost(process: &Process) -> Cover
-    ensures { (h : History) → StandsFor process.now h → result ≡ (if list_any is_unveil h then Cover.Nothing else Cover.All) }
+    ensures { (h : History) → StandsFor process.now h →
+        result ≡ (if list_any is_unveil h then Cover.Nothing else Cover.All) }
 {
     if process.is_veiled() {
         Cover::Nothing

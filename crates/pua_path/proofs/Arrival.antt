@@ -1,35 +1,28 @@
 -- A part that another follows, by the part alone: what was found there, and the errno where it is no directory.
-use Rattle.std.proofs.Common.{is_some, ◌≡◌, ℕ, zero, suc, Bool, true, false, List, [], ◌∷◌, ◌++◌, Some, None, refl, sym, ap, ◌∙◌, append_assoc, ◌-◌, Result, Ok, Err}
-use Rattle.std.specs.Prelude.{if◌then◌else◌, not, ◌&&◌}
-use Rattle.pua_tree.specs.Tree.{Tree, is_dir}
-use Rattle.pua_tree.specs.Steps.{◌>>=◌}
-use Rattle.pua_path.specs.Paths.{parts_of, is_absolute}
-use Rattle.pua_path.specs.Resolution.{Resolved, Standing, Directory, Linked, Plain, Nothing, standing_at, walk, start_of, resolve_parts, resolution, reached, step, link_limit}
-use Rattle.pua_path.specs.Walks.{ended}
-use Rattle.pua_path.specs.declared.errno.Errno.{Errno}
-use Rattle.pua_path.specs.declared.errno.Errno.TheVariants.{ENOENT, ENOTDIR, ELOOP}
-use Rattle.pua_path.specs.declared.text.Ending.{Ending}
+use Rattle.pua_path.proofs.Common.{◌≡◌, ℕ, zero, suc, Bool, true, false, List, [], ◌∷◌, ◌++◌, Some, None, refl, sym, ap, ◌∙◌, append_assoc}
+use Rattle.pua_path.proofs.Common.{◌-◌, Result, Ok, Err, if◌then◌else◌, not, ◌&&◌, Tree, is_dir, ◌>>=◌, parts_of, is_absolute, Resolved}
+use Rattle.pua_path.proofs.Common.{Standing, Directory, Linked, Plain, Nothing, standing_at, walk, start_of, resolve_parts, resolution}
+use Rattle.pua_path.proofs.Common.{dir_with_links, step, most_links, Errno, ENOENT, ENOTDIR, ELOOP, Ending, Part, Last, Followed, Way}
+use Rattle.pua_path.proofs.Common.{Found, Whole, Slot}
+use Rattle.std.proofs.Common.{is_some}
 use Rattle.pua_path.specs.declared.text.Ending.TheVariants as ending
-use Rattle.pua_path.specs.declared.found.Part.{Part}
 use Rattle.pua_path.specs.declared.found.Part.TheVariants as parts
-use Rattle.pua_path.specs.declared.found.Last.{Last}
-use Rattle.pua_path.specs.declared.found.Last.TheVariants.{Followed}
-use Rattle.pua_path.specs.declared.found.Way.{Way}
 use Rattle.pua_path.specs.declared.found.Way.TheVariants as ways
-use Rattle.pua_path.specs.declared.found.Found.{Found}
-use Rattle.pua_path.specs.declared.found.Found.TheVariants.{Whole, Slot}
 use Rattle.pua_path.proofs.Steps.{met, walk_name}
 
 -- the directory found and the links followed by then, of a part that was resolved as if none followed
 abbrev pub arrived : Found × ℕ → Result (ℕ × ℕ) Errno
-arrived (Whole dir way, links) = Ok (dir, link_limit - links)
+arrived (Whole dir way, links) = Ok (dir, most_links - links)
 arrived (Slot dir name node, links) = Err (if is_some node then ENOTDIR else ENOENT)
 
 module _ (t : Tree) (links : ℕ) (follow : ℕ → List ℕ → List Part → Resolved)
-    (follows : (from : ℕ) (target : List ℕ) (rest : List Part) → (follow from target (rest ++ parts.Dot ∷ []) >>= reached) ≡ (follow from target rest >>= arrived)) where
+    (follows : (from : ℕ) (target : List ℕ) (rest : List Part) →
+    (follow from target (rest ++ parts.Dot ∷ []) >>= dir_with_links) ≡ (follow from target rest >>= arrived)) where
   met_arrives : (ps : List Part) (dir : ℕ) (name : List ℕ) (s : Standing) →
-      ((x : ℕ) → (walk t Followed links follow x (ways.Named dir name) (ps ++ parts.Dot ∷ []) >>= reached) ≡ (walk t Followed links follow x (ways.Named dir name) ps >>= arrived)) →
-      (met t Followed links follow dir name (ps ++ parts.Dot ∷ []) s >>= reached) ≡ (met t Followed links follow dir name ps s >>= arrived)
+      ((x : ℕ) → (walk t Followed links follow x (ways.Named dir name) (ps ++ parts.Dot ∷ []) >>= dir_with_links)
+      ≡ (walk t Followed links follow x (ways.Named dir name) ps >>= arrived)) →
+      (met t Followed links follow dir name (ps ++ parts.Dot ∷ []) s >>= dir_with_links)
+      ≡ (met t Followed links follow dir name ps s >>= arrived)
   met_arrives ps dir name (Directory x) further = further x
   met_arrives ps dir name (Linked x target) further = follows dir target ps
   met_arrives [] dir name (Plain x) further = refl
@@ -37,45 +30,41 @@ module _ (t : Tree) (links : ℕ) (follow : ℕ → List ℕ → List Part → R
   met_arrives [] dir name Nothing further = refl
   met_arrives (p ∷ ps) dir name Nothing further = refl
 
-  walk_arrives : (ps : List Part) (dir : ℕ) (way : Way) → (walk t Followed links follow dir way (ps ++ parts.Dot ∷ []) >>= reached) ≡ (walk t Followed links follow dir way ps >>= arrived)
+  walk_arrives : (ps : List Part) (dir : ℕ) (way : Way) → (walk t Followed links follow dir way (ps ++ parts.Dot ∷ []) >>= dir_with_links)
+      ≡ (walk t Followed links follow dir way ps >>= arrived)
   walk_arrives [] dir way = refl
   walk_arrives (parts.Dot ∷ ps) dir way = walk_arrives ps dir ways.Dot
   walk_arrives (parts.DotDot ∷ ps) dir way = walk_arrives ps _ ways.DotDot
   walk_arrives (parts.Name name ∷ ps) dir way =
-      ap (λ r. r >>= reached) (walk_name t Followed links follow dir way name (ps ++ parts.Dot ∷ []))
+      ap (λ r. r >>= dir_with_links) (walk_name t Followed links follow dir way name (ps ++ parts.Dot ∷ []))
       ∙ met_arrives ps dir name (standing_at t dir name) (λ x. walk_arrives ps x (ways.Named dir name))
       ∙ sym (ap (λ r. r >>= arrived) (walk_name t Followed links follow dir way name ps))
 
-pub arrives : (t : Tree) (links dir : ℕ) (way : Way) (ps : List Part) → (resolve_parts links t Followed dir way (ps ++ parts.Dot ∷ []) >>= reached) ≡ (resolve_parts links t Followed dir way ps >>= arrived)
+pub arrives : (t : Tree) (links dir : ℕ) (way : Way) (ps : List Part) →
+    (resolve_parts links t Followed dir way (ps ++ parts.Dot ∷ []) >>= dir_with_links)
+    ≡ (resolve_parts links t Followed dir way ps >>= arrived)
 arrives t zero dir way ps = walk_arrives t 0 (λ from target rest. Err ELOOP) (λ from target rest. refl) ps dir way
 arrives t (suc links) dir way ps =
-    walk_arrives t (suc links) (λ from target rest. resolve_parts links t Followed (start_of target from) ways.Top (parts_of ending.Dot target ++ rest))
-    (λ from target rest. ap (λ qs. resolve_parts links t Followed (start_of target from) ways.Top qs >>= reached) (sym (append_assoc (parts_of ending.Dot target) rest (parts.Dot ∷ [])))
+    walk_arrives t (suc links) (λ from target rest. resolve_parts links t Followed (start_of target from) ways.Top
+    (parts_of ending.Dot target ++ rest))
+    (λ from target rest. ap (λ qs. resolve_parts links t Followed (start_of target from) ways.Top qs >>= dir_with_links)
+    (sym (append_assoc (parts_of ending.Dot target) rest (parts.Dot ∷ [])))
     ∙ arrives t links (start_of target from) ways.Top (parts_of ending.Dot target ++ rest)) ps dir way
 
 -- a step is the part alone, resolved and arrived at
-pub step_arrives : (t : Tree) (dir used : ℕ) (part : Part) (found : Resolved) → found ≡ resolve_parts (link_limit - used) t Followed dir ways.Top (part ∷ []) → (found >>= arrived) ≡ step t dir used part
-step_arrives t dir used part found e = ap (λ r. r >>= arrived) e ∙ sym (arrives t (link_limit - used) dir ways.Top (part ∷ []))
+pub step_arrives : (t : Tree) (dir used : ℕ) (part : Part) (found : Resolved) →
+    found ≡ resolve_parts (most_links - used) t Followed dir ways.Top (part ∷ []) → (found >>= arrived) ≡ step t dir used part
+step_arrives t dir used part found e = ap (λ r. r >>= arrived) e ∙ sym (arrives t (most_links - used) dir ways.Top (part ∷ []))
 
-pub starts_at : (guard : Bool) (start begin : ℕ) (further : ℕ → Result Found Errno) → Some start ≡ (if guard then None else Some begin) → further start ≡ (if guard then Err ENOENT else further begin)
+pub starts_at : (guard : Bool) (start begin : ℕ) (further : ℕ → Result Found Errno) → Some start ≡ (if guard then None else Some begin) →
+    further start ≡ (if guard then Err ENOENT else further begin)
 starts_at true start begin further e = cc
 starts_at false start begin further e = let same : start ≡ begin = cc in ap further same
 
 -- the resolution of a path from where it starts
-pub resolution_starts : (t : Tree) (from : ℕ) (end : Ending) (text : List ℕ) (mode : Last) (start : ℕ) (found : Resolved) →
+pub resolution_starts : (t : Tree) (from : ℕ) (end : Ending) (text : List ℕ) (mode : Last) (start : ℕ) (found : Result Found Errno) →
     Some start ≡ (if not (is_absolute text) && not (is_dir t from) then None else Some (start_of text from)) →
-    found ≡ resolve_parts link_limit t mode start ways.Top (parts_of end text) → (found >>= λ f. Ok f.0) ≡ resolution t from end text mode
+    found ≡ (resolve_parts most_links t mode start ways.Top (parts_of end text) >>= λ f. Ok f.0) → found ≡ resolution t from end text mode
 resolution_starts t from end text mode start found s e =
-    ap (λ r. r >>= λ f. Ok f.0) e
-    ∙ starts_at (not (is_absolute text) && not (is_dir t from)) start (start_of text from) (λ begin. resolve_parts link_limit t mode begin ways.Top (parts_of end text) >>= λ f. Ok f.0) s
-
--- an answer, apart from the links left
-pub ended_found : (r : Result Found Errno) (left : ℕ) → (ended r left >>= λ f. Ok f.0) ≡ r
-ended_found (Ok found) left = refl
-ended_found (Err errno) left = refl
-
--- what a walk from there answers
-pub resolution_ends : (t : Tree) (from : ℕ) (end : Ending) (text : List ℕ) (mode : Last) (start : ℕ) (r : Result Found Errno) (left : ℕ) →
-    Some start ≡ (if not (is_absolute text) && not (is_dir t from) then None else Some (start_of text from)) →
-    ended r left ≡ resolve_parts link_limit t mode start ways.Top (parts_of end text) → r ≡ resolution t from end text mode
-resolution_ends t from end text mode start r left s e = sym (ended_found r left) ∙ resolution_starts t from end text mode start (ended r left) s e
+    e ∙ starts_at (not (is_absolute text) && not (is_dir t from)) start (start_of text from)
+    (λ begin. resolve_parts most_links t mode begin ways.Top (parts_of end text) >>= λ f. Ok f.0) s

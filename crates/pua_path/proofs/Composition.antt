@@ -1,22 +1,12 @@
 -- Resolution may be cut before any further part.
-use Rattle.std.proofs.Common.{◌≡◌, ℕ, zero, suc, List, [], ◌∷◌, ◌++◌, true, refl, sym, ap, ◌∙◌, append_assoc}
-use Rattle.std.specs.Prelude.{Ok, Err, Some, None, if◌then◌else◌}
-use Rattle.pua_tree.specs.Tree.{Tree}
-use Rattle.pua_tree.specs.Steps.{◌>>=◌}
-use Rattle.pua_path.specs.Paths.{parts_of}
-use Rattle.pua_path.specs.Resolution.{Resolved, Directory, Linked, Plain, Nothing, standing_at, is_followed, slot_or, walk, start_of, resolve_parts}
+use Rattle.pua_path.proofs.Common.{◌≡◌, ℕ, zero, suc, List, [], ◌∷◌, ◌++◌, true, refl, sym, ap, ◌∙◌, append_assoc, if◌then◌else◌, Tree}
+use Rattle.pua_path.proofs.Common.{◌>>=◌, parts_of, Resolved, Directory, Linked, Plain, Nothing, standing_at, is_followed, slot_or, walk}
+use Rattle.pua_path.proofs.Common.{start_of, resolve_parts, Errno, ENOENT, ENOTDIR, ELOOP, Part, Last, Followed, Kept, Way, Named, Dot}
+use Rattle.pua_path.proofs.Common.{DotDot, Top, Found, Slot}
+use Rattle.std.specs.Prelude.{Ok, Err, Some, None}
 use Rattle.pua_path.specs.Laws.{onwards, ResolutionComposes}
-use Rattle.pua_path.specs.declared.errno.Errno.{Errno}
-use Rattle.pua_path.specs.declared.errno.Errno.TheVariants.{ENOENT, ENOTDIR, ELOOP}
 use Rattle.pua_path.specs.declared.text.Ending.TheVariants as ending
-use Rattle.pua_path.specs.declared.found.Part.{Part}
 use Rattle.pua_path.specs.declared.found.Part.TheVariants as parts
-use Rattle.pua_path.specs.declared.found.Last.{Last}
-use Rattle.pua_path.specs.declared.found.Last.TheVariants.{Followed, Kept}
-use Rattle.pua_path.specs.declared.found.Way.{Way}
-use Rattle.pua_path.specs.declared.found.Way.TheVariants.{Named, Dot, DotDot, Top}
-use Rattle.pua_path.specs.declared.found.Found.{Found}
-use Rattle.pua_path.specs.declared.found.Found.TheVariants.{Slot}
 
 -- before a further part each link is followed
 followed_before : (mode : Last) (ps : List Part) (q : Part) (qs : List Part) → is_followed mode (ps ++ q ∷ qs) ≡ true
@@ -25,12 +15,14 @@ followed_before Kept [] q qs = refl
 followed_before Kept (p ∷ ps) q qs = refl
 
 -- and nothing else is found
-stopped_before : (ps : List Part) (q : Part) (qs : List Part) (found : Found) (errno : Errno) (links : ℕ) → slot_or (ps ++ q ∷ qs) found errno links ≡ Err errno
+stopped_before : (ps : List Part) (q : Part) (qs : List Part) (found : Found) (errno : Errno) (links : ℕ) →
+    slot_or (ps ++ q ∷ qs) found errno links ≡ Err errno
 stopped_before [] q qs found errno links = refl
 stopped_before (p ∷ ps) q qs found errno links = refl
 
 -- the way is that of the last part
-way_forgotten : (t : Tree) (mode : Last) (links : ℕ) (follow : ℕ → List ℕ → List Part → Resolved) (dir : ℕ) (way other : Way) (q : Part) (qs : List Part) →
+way_forgotten : (t : Tree) (mode : Last) (links : ℕ) (follow : ℕ → List ℕ → List Part →
+    Resolved) (dir : ℕ) (way other : Way) (q : Part) (qs : List Part) →
     walk t mode links follow dir way (q ∷ qs) ≡ walk t mode links follow dir other (q ∷ qs)
 way_forgotten t mode links follow dir way other parts.Dot qs = refl
 way_forgotten t mode links follow dir way other parts.DotDot qs = refl
@@ -38,10 +30,12 @@ way_forgotten t mode links follow dir way other (parts.Name name) qs = refl
 
 module _ (t : Tree) (mode : Last) (links : ℕ) (q : Part) (qs : List Part)
     (follow follow_first : ℕ → List ℕ → List Part → Resolved)
-    (follows : (from : ℕ) (target : List ℕ) (rest : List Part) → follow from target (rest ++ q ∷ qs) ≡ (follow_first from target (rest ++ parts.Dot ∷ []) >>= onwards t mode (q ∷ qs)))
+    (follows : (from : ℕ) (target : List ℕ) (rest : List Part) →
+    follow from target (rest ++ q ∷ qs) ≡ (follow_first from target (rest ++ parts.Dot ∷ []) >>= onwards t mode (q ∷ qs)))
     (begins : (dir : ℕ) → walk t mode links follow dir Top (q ∷ qs) ≡ resolve_parts links t mode dir Top (q ∷ qs)) where
   walk_composes : (ps : List Part) (dir : ℕ) (way : Way) →
-      walk t mode links follow dir way (ps ++ q ∷ qs) ≡ (walk t Followed links follow_first dir way (ps ++ parts.Dot ∷ []) >>= onwards t mode (q ∷ qs))
+      walk t mode links follow dir way (ps ++ q ∷ qs) ≡ (walk t Followed links follow_first dir way (ps ++ parts.Dot ∷ []) >>= onwards t
+      mode (q ∷ qs))
   walk_composes [] dir way = way_forgotten t mode links follow dir way Top q qs ∙ begins dir
   walk_composes (parts.Dot ∷ ps) dir way = walk_composes ps dir Dot
   walk_composes (parts.DotDot ∷ ps) dir way = walk_composes ps _ DotDot
@@ -69,7 +63,9 @@ composes t mode zero dir way ps q qs =
     walk_composes t mode 0 q qs (λ _ _ _. Err ELOOP) (λ _ _ _. Err ELOOP) (λ _ _ _. refl) (λ _. refl) ps dir way
 composes t mode (suc links) dir way ps q qs =
     walk_composes t mode (suc links) q qs _ _
-    (λ from target rest. ap (resolve_parts links t mode (start_of target from) Top) (sym (append_assoc (parts_of ending.Dot target) rest (q ∷ qs)))
+    (λ from target rest. ap (resolve_parts links t mode (start_of target from) Top)
+    (sym (append_assoc (parts_of ending.Dot target) rest (q ∷ qs)))
     ∙ composes t mode links (start_of target from) Top (parts_of ending.Dot target ++ rest) q qs
-    ∙ ap (λ ps. resolve_parts links t Followed (start_of target from) Top ps >>= onwards t mode (q ∷ qs)) (append_assoc (parts_of ending.Dot target) rest (parts.Dot ∷ [])))
+    ∙ ap (λ ps. resolve_parts links t Followed (start_of target from) Top ps >>= onwards t mode (q ∷ qs))
+    (append_assoc (parts_of ending.Dot target) rest (parts.Dot ∷ [])))
     (λ _. refl) ps dir way

@@ -1,22 +1,21 @@
 -- What is true of the nodes of every tree.
-use Rattle.std.proofs.Common.{◌≡◌, ℕ, zero, suc, Bool, true, false, ◌&&◌, List, [], ◌∷◌, Option, Some, None, length, refl, sym, ap, ◌∙◌, arith, ◌≤◌, max, cond, fold, find, option_map, option_and_then, option_copied, ◌++◌, ◌+◌, ◌-◌, ◌<◌, length-append, sub-one}
-use Rattle.std.specs.Prelude.{◌==◌, if◌then◌else◌, nat_lt, nat_le, not, unwrap_or}
-use Rattle.std.proofs.lemmas.Bool.{and_parts}
-use Rattle.std.specs.List.{list_all}
+use Rattle.pua_path.proofs.Common.{◌≡◌, ℕ, zero, suc, Bool, true, false, List, [], ◌∷◌, Option, Some, None, length, refl, sym, ap, ◌∙◌}
+use Rattle.pua_path.proofs.Common.{arith, ◌≤◌, ◌++◌, ◌+◌, ◌-◌, ◌<◌, ◌==◌, if◌then◌else◌, nat_lt, not, and_parts, list_all, Bor, has_byte}
+use Rattle.pua_path.proofs.Common.{Tree, Node, Spot, node_at, is_dir, above, Kind, is_absolute, parts_of, Remaining, is_readable, start_of}
+use Rattle.std.proofs.Common.{◌&&◌}
+use Rattle.std.proofs.Common.{max, cond, fold, find, option_map, option_and_then, option_copied}
+use Rattle.std.proofs.Common.{length-append, sub-one}
+use Rattle.std.specs.Prelude.{nat_le, unwrap_or}
 use Rattle.std.specs.Ordering.{nat_cmp, eq_by_cmp, is_eq}
 use Rattle.std.specs.Cmp.{Equal-is}
 use Rattle.std.specs.FinMap.{find as find_key, nat_cmp-IsAntisymmetric}
 use Rattle.std.specs.declared.cmp.Ordering.{Ordering}
 use Rattle.std.specs.declared.cmp.Ordering.TheVariants.{Equal}
-use Rattle.std.specs.Borrow.{Bor}
-use Rattle.pua_tree.specs.Names.{has_byte, has_short_components, is_target}
-use Rattle.pua_tree.specs.Tree.{Tree, Node, Spot, WellFormed, node_at, target_at, is_dir, above, parent, row_fits, node_fits, target_fits, rows_fit_kind}
-use Rattle.pua_tree.specs.declared.node.Kind.{Kind}
+use Rattle.pua_tree.specs.Names.{has_short_components, is_target}
+use Rattle.pua_tree.specs.Tree.{WellFormed, target_at, parent, row_fits, node_fits, target_fits}
+use Rattle.pua_tree.specs.Tree.{rows_fit_kind}
 use Rattle.pua_tree.specs.declared.node.Kind.TheVariants.{Dir, File, Prog, Link}
-use Rattle.pua_path.specs.Paths.{is_absolute, parts_of}
 use Rattle.pua_path.specs.Bounds.{target_parts, most_parts}
-use Rattle.pua_path.specs.Remaining.{Remaining, is_readable}
-use Rattle.pua_path.specs.Resolution.{start_of}
 use Rattle.pua_path.specs.Walks.{potential}
 use Rattle.pua_path.specs.declared.text.Ending.TheVariants as ending
 
@@ -47,7 +46,8 @@ pub above_lives : (t : Tree) (d : ℕ) → WellFormed t → is_dir t (above t d)
 above_lives t zero w = w.root
 above_lives t (suc d) w = by (find (λ row. row.1 == suc d) t.rows) refl
   where
-    by : (r : Option (Spot × ℕ)) → find (λ row. row.1 == suc d) t.rows ≡ r → is_dir t (unwrap_or (option_map (λ spot. spot.0) (option_map (λ row. row.0) r)) 0) ≡ true
+    by : (r : Option (Spot × ℕ)) → find (λ row. row.1 == suc d) t.rows ≡ r →
+        is_dir t (unwrap_or (option_map (λ spot. spot.0) (option_map (λ row. row.0) r)) 0) ≡ true
     by None e = w.root
     by (Some row) e = (and_parts (is_dir t row.0.0) _ (find_passes (row_fits t) (λ row. row.1 == suc d) t.rows row w.rows_fit e)).0
 
@@ -55,11 +55,15 @@ max_kept : (a : ℕ) (es : List (ℕ × Node)) → a ≤ fold (λ most entry. ma
 max_kept a [] = omega arith
 max_kept a (entry ∷ es) = omega (arith, max_kept (max a (target_parts entry.1.target)) es)
 
-most_counts : (x : ℕ) (node : Node) (a : ℕ) (es : List (ℕ × Node)) → find_key nat_cmp x es ≡ Some node → target_parts node.target ≤ fold (λ most entry. max most (target_parts entry.1.target)) a es
+most_counts : (x : ℕ) (node : Node) (a : ℕ) (es : List (ℕ × Node)) → find_key nat_cmp x es ≡ Some node →
+    target_parts node.target ≤ fold (λ most entry. max most (target_parts entry.1.target)) a es
 most_counts x node a [] e = cc
 most_counts x node a (entry ∷ es) e = by (most_counts x node (max a (target_parts entry.1.target)) es) (eq_by_cmp nat_cmp x entry.0) e
   where
-    by : (find_key nat_cmp x es ≡ Some node → target_parts node.target ≤ fold (λ most entry. max most (target_parts entry.1.target)) (max a (target_parts entry.1.target)) es) → (v : Bool) → cond v (Some entry.1) (find_key nat_cmp x es) ≡ Some node → target_parts node.target ≤ fold (λ most entry. max most (target_parts entry.1.target)) (max a (target_parts entry.1.target)) es
+    by : (find_key nat_cmp x es ≡ Some node →
+        target_parts node.target ≤ fold (λ most entry. max most (target_parts entry.1.target)) (max a (target_parts entry.1.target)) es) →
+        (v : Bool) → cond v (Some entry.1) (find_key nat_cmp x es) ≡ Some node →
+        target_parts node.target ≤ fold (λ most entry. max most (target_parts entry.1.target)) (max a (target_parts entry.1.target)) es
     by more true e =
         let same : entry.1 ≡ node = cc in
         let parts : target_parts entry.1.target ≡ target_parts node.target = ap (λ n. target_parts n.target) same in
@@ -74,25 +78,30 @@ fits_target Link target h = h
 
 target_readable : (target : List ℕ) → is_target target ≡ true → is_readable target ≡ true
 target_readable target h =
-    let a = and_parts (nat_lt 0 (length target)) (nat_le (length target) 1023 && (not (has_byte 0 target) && has_short_components target)) h in
+    let a = and_parts (nat_lt 0 (length target)) (nat_le (length target) 1023 && (not (has_byte 0 target) && has_short_components target)) h
+    in
     (and_parts (nat_le (length target) 1023) (not (has_byte 0 target) && has_short_components target) a.1).1
 
 -- the parts of a target can be read, and are few
-pub target_stands : (t : Tree) (x : ℕ) (target : Option (List ℕ)) → WellFormed t → target ≡ target_at t x → (is_readable (unwrap_or target []) ≡ true) × (length (parts_of ending.Dot (unwrap_or target [])) ≤ most_parts t)
+pub target_stands : (t : Tree) (x : ℕ) (target : Option (List ℕ)) → WellFormed t → target ≡ target_at t x →
+    (is_readable (unwrap_or target []) ≡ true) × (length (parts_of ending.Dot (unwrap_or target [])) ≤ most_parts t)
 target_stands t x None w e = (refl, omega arith)
 target_stands t x (Some target) w e = by (node_at t x) refl e
   where
-    by : (n : Option Node) → node_at t x ≡ n → Some target ≡ option_and_then (λ node. node.target) n → (is_readable target ≡ true) × (length (parts_of ending.Dot target) ≤ most_parts t)
+    by : (n : Option Node) → node_at t x ≡ n → Some target ≡ option_and_then (λ node. node.target) n →
+        (is_readable target ≡ true) × (length (parts_of ending.Dot target) ≤ most_parts t)
     by None f e = cc
     by (Some node) f e =
         let fits = list_all-find_key nat_cmp nat_cmp-IsAntisymmetric (node_fits t) x t.nodes node w.nodes_fit f in
-        let kind_fits = (and_parts (target_fits node.kind node.target) (rows_fit_kind t x node.kind) (and_parts (nat_lt x t.next) (target_fits node.kind node.target && rows_fit_kind t x node.kind) fits).1).0 in
+        let kind_fits = (and_parts (target_fits node.kind node.target) (rows_fit_kind t x node.kind)
+        (and_parts (nat_lt x t.next) (target_fits node.kind node.target && rows_fit_kind t x node.kind) fits).1).0 in
         let is : target_fits node.kind (Some target) ≡ true = ap (target_fits node.kind) e ∙ kind_fits in
         let counted : target_parts (Some target) ≤ most_parts t = rw (← e) at (most_counts x node 1 t.nodes f) in
         (target_readable target (fits_target node.kind target is), counted)
 
 -- the same of a target that was read from the tree, or of none
-pub seen_target : (t : Tree) (x : ℕ) (read : Option (Bor (List ℕ))) (nothing : Bor (List ℕ)) → WellFormed t → option_copied read ≡ target_at t x → nothing.now ≡ [] →
+pub seen_target : (t : Tree) (x : ℕ) (read : Option (Bor (List ℕ))) (nothing : Bor (List ℕ)) → WellFormed t →
+    option_copied read ≡ target_at t x → nothing.now ≡ [] →
     (is_readable (unwrap_or read nothing).now ≡ true) × (length (parts_of ending.Dot (unwrap_or read nothing).now) ≤ most_parts t)
 seen_target t x None nothing w e n = rw n (target_stands t x None w e)
 seen_target t x (Some target) nothing w e n = target_stands t x (Some target.now) w e
@@ -106,10 +115,13 @@ start_lives t dir target w h = by (is_absolute target)
     by false = h
 
 -- a link costs no more than was kept for it
-pub potential_linked : (t : Tree) (left : ℕ) (rest further : Remaining) (target : List ℕ) → further.parts ≡ parts_of ending.Dot target ++ rest.parts → length (parts_of ending.Dot target) ≤ most_parts t → 0 < left → potential t (left - 1) further ≤ potential t left rest
+pub potential_linked : (t : Tree) (left : ℕ) (rest further : Remaining) (target : List ℕ) →
+    further.parts ≡ parts_of ending.Dot target ++ rest.parts → length (parts_of ending.Dot target) ≤ most_parts t → 0 < left →
+    potential t (left - 1) further ≤ potential t left rest
 potential_linked t zero rest further target e m l = absurd (omega (arith, l))
 potential_linked t (suc left) rest further target e m l =
-    let sizes : length further.parts ≡ length (parts_of ending.Dot target) + length rest.parts = ap length e ∙ length-append (parts_of ending.Dot target) rest.parts in
+    let sizes : length further.parts ≡ length (parts_of ending.Dot target) + length rest.parts = ap length e ∙
+    length-append (parts_of ending.Dot target) rest.parts in
     rw sub-one (omega (arith, sizes, m))
 
 -- the directory above, as the probe answers it

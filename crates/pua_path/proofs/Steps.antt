@@ -1,35 +1,24 @@
 -- What one part does to a resolution.
-use Rattle.std.proofs.Common.{◌≡◌, ℕ, zero, suc, true, false, List, [], ◌∷◌, ◌++◌, Option, Some, None, refl, sym, ap, ◌∙◌, Result, Ok, Err}
-use Rattle.std.specs.Prelude.{if◌then◌else◌}
-use Rattle.pua_tree.specs.Tree.{Tree, above}
-use Rattle.pua_path.specs.Paths.{parts_of}
-use Rattle.pua_path.specs.Remaining.{is_done}
-use Rattle.pua_path.specs.Resolution.{Resolved, Standing, Directory, Linked, Plain, Nothing, standing_at, is_followed, slot_or, walk, start_of, resolve_parts}
-use Rattle.pua_path.specs.Walks.{goes_on}
-use Rattle.pua_path.specs.declared.errno.Errno.{Errno}
-use Rattle.pua_path.specs.declared.errno.Errno.TheVariants.{ENOENT, ENOTDIR, ELOOP}
+use Rattle.pua_path.proofs.Common.{◌≡◌, ℕ, zero, suc, true, false, List, [], ◌∷◌, ◌++◌, Some, None, refl, sym, ap, ◌∙◌, Ok, Err, arith}
+use Rattle.pua_path.proofs.Common.{Bool, ◌<◌, ◌-◌, length, if◌then◌else◌, ◌==◌, Tree, above, part_of, parts_of, has_no_part, rest_parts}
+use Rattle.pua_path.proofs.Common.{Resolved, Standing, Directory, Linked, Plain, Nothing, standing_at, is_followed, slot_or, walk, start_of}
+use Rattle.pua_path.proofs.Common.{resolve_parts, ENOENT, ENOTDIR, Part, Last, Followed, Kept, Way, Whole, Slot}
+use Rattle.pua_path.proofs.Pieces.{no_part_left}
+use Rattle.pua_path.specs.Onward.{Onward, Goes, Follows, Ends, Fails, followed, onward_at, onward_by}
 use Rattle.pua_path.specs.declared.text.Ending.TheVariants as ending
-use Rattle.pua_path.specs.declared.found.Part.{Part}
 use Rattle.pua_path.specs.declared.found.Part.TheVariants as parts
-use Rattle.pua_path.specs.declared.found.Last.{Last}
-use Rattle.pua_path.specs.declared.found.Way.{Way}
 use Rattle.pua_path.specs.declared.found.Way.TheVariants as ways
-use Rattle.pua_path.specs.declared.found.Found.{Found}
-use Rattle.pua_path.specs.declared.found.Found.TheVariants.{Whole, Slot}
-
--- what comes of following a link, with so many links left before it
-abbrev pub followed : ℕ → Tree → Last → ℕ → List ℕ → List Part → Resolved
-followed zero t mode from target rest = Err ELOOP
-followed (suc links) t mode from target rest = resolve_parts links t mode (start_of target from) ways.Top (parts_of ending.Dot target ++ rest)
 
 -- what comes of what stands at a name
 abbrev pub met : Tree → Last → ℕ → (ℕ → List ℕ → List Part → Resolved) → ℕ → List ℕ → List Part → Standing → Resolved
 met t mode links follow dir name rest (Directory x) = walk t mode links follow x (ways.Named dir name) rest
-met t mode links follow dir name rest (Linked x target) = if is_followed mode rest then follow dir target rest else Ok (Slot dir name (Some x), links)
+met t mode links follow dir name rest (Linked x target) =
+    if is_followed mode rest then follow dir target rest else Ok (Slot dir name (Some x), links)
 met t mode links follow dir name rest (Plain x) = slot_or rest (Slot dir name (Some x)) ENOTDIR links
 met t mode links follow dir name rest Nothing = slot_or rest (Slot dir name None) ENOENT links
 
-pub walk_name : (t : Tree) (mode : Last) (links : ℕ) (follow : ℕ → List ℕ → List Part → Resolved) (dir : ℕ) (way : Way) (name : List ℕ) (rest : List Part) →
+pub walk_name : (t : Tree) (mode : Last) (links : ℕ) (follow : ℕ → List ℕ → List Part →
+    Resolved) (dir : ℕ) (way : Way) (name : List ℕ) (rest : List Part) →
     walk t mode links follow dir way (parts.Name name ∷ rest) ≡ met t mode links follow dir name rest (standing_at t dir name)
 walk_name t mode links follow dir way name rest = elim (standing_at t dir name) as (λ s.
     ◌≡◌ {A = Resolved} (elim s [
@@ -44,14 +33,16 @@ walk_name t mode links follow dir way name rest = elim (standing_at t dir name) 
       | Nothing ↦ refl
     ]
 
--- what is no directory, as the answer of one part
-ends : (ps : List Part) (found : Found) (errno : Errno) (links : ℕ) (further : Resolved) →
-    goes_on (if is_done ps then Ok (Some found) else Err errno) links further ≡ slot_or ps found errno links
-ends [] found errno links further = refl
-ends (p ∷ ps) found errno links further = refl
+-- what the parts behind one come to, by what that leads to
+abbrev pub led_on : Tree → Last → ℕ → ℕ → List Part → Onward → Resolved
+led_on t mode links dir rest (Goes x way) = resolve_parts links t mode x way rest
+led_on t mode links dir rest (Follows target) = followed links t mode dir target rest
+led_on t mode links dir rest (Ends found) = Ok (found, links)
+led_on t mode links dir rest (Fails errno) = Err errno
 
 module _ (t : Tree) (mode : Last) where
-  pub resolve_walks : (links dir : ℕ) (way : Way) (ps : List Part) → resolve_parts links t mode dir way ps ≡ walk t mode links (followed links t mode) dir way ps
+  pub resolve_walks : (links dir : ℕ) (way : Way) (ps : List Part) →
+      resolve_parts links t mode dir way ps ≡ walk t mode links (followed links t mode) dir way ps
   resolve_walks zero dir way ps = refl
   resolve_walks (suc links) dir way ps = refl
 
@@ -59,11 +50,13 @@ module _ (t : Tree) (mode : Last) where
   resolve_end zero dir way = refl
   resolve_end (suc links) dir way = refl
 
-  pub resolve_dot : (links dir : ℕ) (way : Way) (rest : List Part) → resolve_parts links t mode dir way (parts.Dot ∷ rest) ≡ resolve_parts links t mode dir ways.Dot rest
+  pub resolve_dot : (links dir : ℕ) (way : Way) (rest : List Part) →
+      resolve_parts links t mode dir way (parts.Dot ∷ rest) ≡ resolve_parts links t mode dir ways.Dot rest
   resolve_dot zero dir way rest = refl
   resolve_dot (suc links) dir way rest = refl
 
-  pub resolve_dotdot : (links dir : ℕ) (way : Way) (rest : List Part) → resolve_parts links t mode dir way (parts.DotDot ∷ rest) ≡ resolve_parts links t mode (above t dir) ways.DotDot rest
+  pub resolve_dotdot : (links dir : ℕ) (way : Way) (rest : List Part) →
+      resolve_parts links t mode dir way (parts.DotDot ∷ rest) ≡ resolve_parts links t mode (above t dir) ways.DotDot rest
   resolve_dotdot zero dir way rest = refl
   resolve_dotdot (suc links) dir way rest = refl
 
@@ -75,32 +68,76 @@ module _ (t : Tree) (mode : Last) where
 
   pub resolve_directory : (links dir : ℕ) (way : Way) (name : List ℕ) (rest : List Part) (x : ℕ) → Directory x ≡ standing_at t dir name →
       resolve_parts links t mode dir way (parts.Name name ∷ rest) ≡ resolve_parts links t mode x (ways.Named dir name) rest
-  resolve_directory links dir way name rest x e = resolve_name links dir way name rest (Directory x) e ∙ sym (resolve_walks links x (ways.Named dir name) rest)
+  resolve_directory links dir way name rest x e = resolve_name links dir way name rest (Directory x) e ∙
+      sym (resolve_walks links x (ways.Named dir name) rest)
 
-  pub resolve_kept : (links dir : ℕ) (way : Way) (name : List ℕ) (rest : List Part) (x : ℕ) (target : List ℕ) → Linked x target ≡ standing_at t dir name → is_followed mode rest ≡ false →
+  pub resolve_kept : (links dir : ℕ) (way : Way) (name : List ℕ) (rest : List Part) (x : ℕ) (target : List ℕ) →
+      Linked x target ≡ standing_at t dir name → is_followed mode rest ≡ false →
       resolve_parts links t mode dir way (parts.Name name ∷ rest) ≡ Ok (Slot dir name (Some x), links)
   resolve_kept links dir way name rest x target e k =
-      resolve_name links dir way name rest (Linked x target) e ∙ ap (λ v. if v then followed links t mode dir target rest else Ok (Slot dir name (Some x), links)) k
+      resolve_name links dir way name rest (Linked x target) e ∙
+      ap (λ v. if v then followed links t mode dir target rest else Ok (Slot dir name (Some x), links)) k
 
-  pub resolve_linked : (links dir : ℕ) (way : Way) (name : List ℕ) (rest : List Part) (x : ℕ) (target : List ℕ) → Linked x target ≡ standing_at t dir name → is_followed mode rest ≡ true →
+  pub resolve_linked : (links dir : ℕ) (way : Way) (name : List ℕ) (rest : List Part) (x : ℕ) (target : List ℕ) →
+      Linked x target ≡ standing_at t dir name → is_followed mode rest ≡ true →
       resolve_parts links t mode dir way (parts.Name name ∷ rest) ≡ followed links t mode dir target rest
   resolve_linked links dir way name rest x target e k =
-      resolve_name links dir way name rest (Linked x target) e ∙ ap (λ v. if v then followed links t mode dir target rest else Ok (Slot dir name (Some x), links)) k
-
-  pub resolve_plain : (links dir : ℕ) (way : Way) (name : List ℕ) (rest : List Part) (x : ℕ) (r : Result (Option Found) Errno) (further : Resolved) → Plain x ≡ standing_at t dir name →
-      r ≡ (if is_done rest then Ok (Some (Slot dir name (Some x))) else Err ENOTDIR) → resolve_parts links t mode dir way (parts.Name name ∷ rest) ≡ goes_on r links further
-  resolve_plain links dir way name rest x r further e k =
-      resolve_name links dir way name rest (Plain x) e ∙ sym (ap (λ a. goes_on a links further) k ∙ ends rest (Slot dir name (Some x)) ENOTDIR links further)
-
-  pub resolve_nothing : (links dir : ℕ) (way : Way) (name : List ℕ) (rest : List Part) (r : Result (Option Found) Errno) (further : Resolved) → Nothing ≡ standing_at t dir name →
-      r ≡ (if is_done rest then Ok (Some (Slot dir name None)) else Err ENOENT) → resolve_parts links t mode dir way (parts.Name name ∷ rest) ≡ goes_on r links further
-  resolve_nothing links dir way name rest r further e k =
-      resolve_name links dir way name rest Nothing e ∙ sym (ap (λ a. goes_on a links further) k ∙ ends rest (Slot dir name None) ENOENT links further)
+      resolve_name links dir way name rest (Linked x target) e ∙
+      ap (λ v. if v then followed links t mode dir target rest else Ok (Slot dir name (Some x), links)) k
 
   -- how a directory was named matters where no part is left alone
-  pub resolve_passed : (links dir : ℕ) (way other : Way) (rest : List Part) → is_done rest ≡ false → resolve_parts links t mode dir way rest ≡ resolve_parts links t mode dir other rest
+  pub resolve_passed : (links dir : ℕ) (way other : Way) (rest : List Part) → has_no_part rest ≡ false →
+      resolve_parts links t mode dir way rest ≡ resolve_parts links t mode dir other rest
   resolve_passed links dir way other [] d = cc
   resolve_passed links dir way other (parts.Dot ∷ rest) d = resolve_dot links dir way rest ∙ sym (resolve_dot links dir other rest)
   resolve_passed links dir way other (parts.DotDot ∷ rest) d = resolve_dotdot links dir way rest ∙ sym (resolve_dotdot links dir other rest)
   resolve_passed links dir way other (parts.Name name ∷ rest) d =
-      resolve_name links dir way name rest (standing_at t dir name) refl ∙ sym (resolve_name links dir other name rest (standing_at t dir name) refl)
+      resolve_name links dir way name rest (standing_at t dir name) refl ∙
+      sym (resolve_name links dir other name rest (standing_at t dir name) refl)
+
+-- what stands at a name leads on so
+met_onward : (t : Tree) (mode : Last) (links dir : ℕ) (name : List ℕ) (rest : List Part) (s : Standing) →
+    met t mode links (followed links t mode) dir name rest s ≡ led_on t mode links dir rest (onward_at mode dir name (has_no_part rest) s)
+met_onward t mode links dir name [] (Directory x) = refl
+met_onward t mode links dir name (p ∷ ps) (Directory x) =
+    sym (resolve_walks t mode links x (ways.Named dir name) (p ∷ ps))
+    ∙ resolve_passed t mode links x (ways.Named dir name) ways.Top (p ∷ ps) refl
+met_onward t Followed links dir name rest (Linked x target) = refl
+met_onward t Kept links dir name [] (Linked x target) = refl
+met_onward t Kept links dir name (p ∷ ps) (Linked x target) = refl
+met_onward t mode links dir name [] (Plain x) = refl
+met_onward t mode links dir name (p ∷ ps) (Plain x) = refl
+met_onward t mode links dir name [] Nothing = refl
+met_onward t mode links dir name (p ∷ ps) Nothing = refl
+
+-- and so does a part
+pub resolve_onward : (t : Tree) (mode : Last) (links dir : ℕ) (way : Way) (part : Part) (rest : List Part) (last : Bool) (r : Onward) →
+    last ≡ has_no_part rest → r ≡ onward_by t mode dir part last →
+    resolve_parts links t mode dir way (part ∷ rest) ≡ led_on t mode links dir rest r
+resolve_onward t mode links dir way part rest last r l e =
+    by part
+    ∙ ap (led_on t mode links dir rest) (sym (e ∙ ap (onward_by t mode dir part) l))
+  where
+    by : (p : Part) → resolve_parts links t mode dir way (p ∷ rest)
+        ≡ led_on t mode links dir rest (onward_by t mode dir p (has_no_part rest))
+    by parts.Dot = resolve_dot t mode links dir way rest
+    by parts.DotDot = resolve_dotdot t mode links dir way rest
+    by (parts.Name name) =
+        resolve_name t mode links dir way name rest (standing_at t dir name) refl
+        ∙ met_onward t mode links dir name rest (standing_at t dir name)
+
+-- and the first piece of what is left of a text
+pub text_onward : (t : Tree) (mode : Last) (links dir : ℕ) (way : Way) (text piece rest : List ℕ) (last : Bool) (r : Onward) →
+    rest_parts text ≡ part_of piece ∷ rest_parts rest → last ≡ (length rest == 0) → r ≡ onward_by t mode dir (part_of piece) last →
+    resolve_parts links t mode dir way (rest_parts text) ≡ led_on t mode links dir (rest_parts rest) r
+text_onward t mode links dir way text piece rest last r p l e =
+    ap (resolve_parts links t mode dir way) p
+    ∙ resolve_onward t mode links dir way (part_of piece) (rest_parts rest) last r (l ∙ no_part_left rest) e
+
+-- a link that may be followed, by where the walk is then
+pub followed_on : (t : Tree) (mode : Last) (links from : ℕ) (target : List ℕ) (rest : List Part) (after here : ℕ) (way : Way)
+    (ps : List Part) → 0 < links → after ≡ links - 1 → here ≡ start_of target from → way ≡ ways.Top →
+    ps ≡ parts_of ending.Dot target ++ rest → followed links t mode from target rest ≡ resolve_parts after t mode here way ps
+followed_on t mode zero from target rest after here way ps l a h w p = absurd (omega (arith, l))
+followed_on t mode (suc links) from target rest after here way ps l a h w p =
+    let one : after ≡ links = omega (arith, a) in rw (one, h, w, p) refl

@@ -1,35 +1,33 @@
 -- Where a trace begins.
-use Rattle.std.proofs.Common.{◌≡◌, ℕ, Bool, true, false, List, [], Some, None, Err, refl, sym, ap, ◌∙◌, Option}
-use Rattle.std.specs.Prelude.{if◌then◌else◌, not, ◌&&◌}
-use Rattle.pua_tree.specs.Tree.{Tree, Spot, is_dir}
-use Rattle.pua_path.specs.Limits.{link_limit}
-use Rattle.pua_path.specs.Paths.{parts_of, is_absolute}
-use Rattle.pua_path.specs.Resolution.{start_of}
-use Rattle.pua_path.specs.Traces.{Trace, trace_parts, PathTrace, fails_in, as_path_trace, trace_from}
-use Rattle.pua_path.specs.declared.text.Ending.{Ending}
-use Rattle.pua_path.specs.declared.found.Last.{Last}
-use Rattle.pua_path.specs.declared.found.Part.{Part}
-use Rattle.pua_path.specs.declared.found.Way.{Way}
-use Rattle.pua_path.specs.declared.found.Way.TheVariants.{Top}
+use Rattle.pua_path.proofs.Common.{◌≡◌, ℕ, Bool, true, false, List, [], Some, None, Err, refl, sym, ap, ◌∙◌, Option, if◌then◌else◌, not}
+use Rattle.pua_path.proofs.Common.{◌&&◌, Tree, Spot, is_dir, parts_of, is_absolute, start_of, Trace, trace_parts, PathTrace, as_path_trace}
+use Rattle.pua_path.proofs.Common.{trace_from, Ending, Last, Part, Way, Top}
+use Rattle.pua_path.specs.Limits.{most_links}
+use Rattle.pua_path.specs.Traces.{fails_in}
 use Rattle.pua_path.specs.declared.traced.PathFault.TheVariants.{NoStart}
 
 -- with any number of links
-begins : (t : Tree) (from : ℕ) (text : List ℕ) (mode : Last) (start most : ℕ) (ps : List Part) (trace : Trace) (v : Bool) → Some start ≡ (if v then None else Some (start_of text from)) →
+begins : (t : Tree) (from : ℕ) (text : List ℕ) (mode : Last) (start most : ℕ) (ps : List Part) (trace : Trace) (v : Bool) →
+    Some start ≡ (if v then None else Some (start_of text from)) →
     trace ≡ trace_parts most t mode start Top ps →
-    ◌≡◌ {A = PathTrace} (if v then fails_in NoStart else as_path_trace (trace_parts most t mode (start_of text from) Top ps)) (as_path_trace trace)
+    ◌≡◌ {A = PathTrace} (if v then fails_in NoStart else as_path_trace (trace_parts most t mode (start_of text from) Top ps))
+    (as_path_trace trace)
 begins t from text mode start most ps trace true s e = cc
 begins t from text mode start most ps trace false s e =
-    let same : start ≡ start_of text from = cc in ap (λ d. as_path_trace (trace_parts most t mode d Top ps)) (sym same) ∙ ap as_path_trace (sym e)
+    let same : start ≡ start_of text from = cc in ap (λ d. as_path_trace (trace_parts most t mode d Top ps)) (sym same) ∙
+    ap as_path_trace (sym e)
 
 -- a walk that was begun with these
 pub record IsBegun (ending : Ending) (text : List ℕ) (start : ℕ) (most : ℕ) (here : ℕ) (way : Way) (ps : List Part) : Type 0 where
-  pub all_links : most ≡ link_limit
+  pub all_links : most ≡ most_links
   pub at_start : here ≡ start
   pub no_way : way ≡ Top
   pub all_parts : ps ≡ parts_of ending text
 
-pub trace_begins : (t : Tree) (from : ℕ) (ending : Ending) (text : List ℕ) (mode : Last) (start most : ℕ) (here : ℕ) (way : Way) (ps : List Part) (trace : Trace) →
-    IsBegun ending text start most here way ps → Some start ≡ (if not (is_absolute text) && not (is_dir t from) then None else Some (start_of text from)) →
+pub trace_begins : (t : Tree) (from : ℕ) (ending : Ending) (text : List ℕ) (mode : Last) (start most : ℕ) (here : ℕ) (way : Way)
+    (ps : List Part) (trace : Trace) →
+    IsBegun ending text start most here way ps →
+    Some start ≡ (if not (is_absolute text) && not (is_dir t from) then None else Some (start_of text from)) →
     trace ≡ trace_parts most t mode here way ps → trace_from t from ending text mode ≡ as_path_trace trace
 unfolding trace_from
 trace_begins t from ending text mode start most here way ps trace is s e =
@@ -43,12 +41,13 @@ pub trace_starts_nowhere : (t : Tree) (from : ℕ) (ending : Ending) (text : Lis
     ◌≡◌ {A = PathTrace} (record { links = links; outcome = Err NoStart }) (trace_from t from ending text mode)
 unfolding trace_from
 trace_starts_nowhere t from ending text mode links none s =
-    ap (λ spots. as_failed spots) none ∙ sym (by link_limit (not (is_absolute text) && not (is_dir t from)) s)
+    ap (λ spots. as_failed spots) none ∙ sym (by most_links (not (is_absolute text) && not (is_dir t from)) s)
   where
     as_failed : List Spot → PathTrace
     as_failed spots = record { links = spots; outcome = Err NoStart }
 
     by : (most : ℕ) (v : Bool) → ◌≡◌ {A = Option ℕ} None (if v then None else Some (start_of text from)) →
-        ◌≡◌ {A = PathTrace} (if v then fails_in NoStart else as_path_trace (trace_parts most t mode (start_of text from) Top (parts_of ending text))) (fails_in NoStart)
+        ◌≡◌ {A = PathTrace} (if v then fails_in NoStart else as_path_trace
+        (trace_parts most t mode (start_of text from) Top (parts_of ending text))) (fails_in NoStart)
     by most true s = refl
     by most false s = cc

@@ -1,32 +1,27 @@
 -- What a trace comes to at a name.
-use Rattle.std.proofs.Common.{◌≡◌, ℕ, zero, suc, Bool, List, [], ◌∷◌, ◌++◌, Some, None, refl, sym, ap, ◌∙◌, append_assoc, Option, Result, Ok, Err, arith, le-ltb}
-use Rattle.std.specs.Prelude.{if◌then◌else◌, nat_lt}
-use Rattle.pua_tree.specs.Tree.{Tree, Spot, above}
-use Rattle.pua_path.specs.Paths.{parts_of}
-use Rattle.pua_path.specs.Remaining.{is_done}
-use Rattle.pua_path.specs.Resolution.{Standing, Directory, Linked, Plain, Nothing, standing_at, is_followed, start_of}
-use Rattle.pua_path.specs.Traces.{Trace, at_once, behind, slot_or_stop, walk_traced, trace_parts}
-use Rattle.pua_path.specs.Walks.{stop_at, traced_on}
-use Rattle.pua_path.specs.declared.errno.Errno.{Errno}
-use Rattle.pua_path.specs.declared.errno.Errno.TheVariants.{ENOENT, ENOTDIR}
+use Rattle.pua_path.proofs.Common.{◌≡◌, ℕ, zero, suc, Bool, true, false, List, [], ◌∷◌, ◌++◌, Some, None, refl, sym, ap, ◌∙◌, append_assoc}
+use Rattle.pua_path.proofs.Common.{Ok, Err, arith, ◌<◌, ◌-◌, if◌then◌else◌, nat_lt, Tree, Spot, above, part_of, parts_of, has_no_part}
+use Rattle.pua_path.proofs.Common.{Standing, Directory, Linked, Plain, Nothing, standing_at, is_followed, start_of, Trace, at_once}
+use Rattle.pua_path.proofs.Common.{after_links, slot_or_stop, walk_traced, trace_parts, Part, Last, Followed, Kept, Way, Slot, NoEntry}
+use Rattle.pua_path.proofs.Common.{NoDirectory, LinkBeyond}
+use Rattle.std.proofs.Common.{le-ltb, lt-ltb}
+use Rattle.pua_tree.specs.Names.{same_bytes}
+use Rattle.pua_path.specs.Walks.{stop_at}
+use Rattle.pua_path.specs.Onward.{Onward, Goes, Follows, Ends, Fails, onward_at, onward_by}
 use Rattle.pua_path.specs.declared.text.Ending.TheVariants as ending
-use Rattle.pua_path.specs.declared.found.Part.{Part}
 use Rattle.pua_path.specs.declared.found.Part.TheVariants as parts
-use Rattle.pua_path.specs.declared.found.Last.{Last}
-use Rattle.pua_path.specs.declared.found.Way.{Way}
 use Rattle.pua_path.specs.declared.found.Way.TheVariants as ways
-use Rattle.pua_path.specs.declared.found.Found.{Found}
-use Rattle.pua_path.specs.declared.found.Found.TheVariants.{Slot}
-use Rattle.pua_path.specs.declared.traced.Stop.TheVariants.{NoEntry, NoDirectory, LinkBeyond}
 
 -- what the walk comes to at a name
 abbrev pub met_traced : Tree → Last → ℕ → (Spot → List ℕ → List Part → Trace) → ℕ → List ℕ → List Part → Standing → Trace
 met_traced t mode links follow dir name rest (Directory x) = walk_traced t mode links follow x (ways.Named dir name) rest
-met_traced t mode links follow dir name rest (Linked x target) = if is_followed mode rest then follow (dir, name) target rest else at_once (Ok (Slot dir name (Some x), links))
+met_traced t mode links follow dir name rest (Linked x target) =
+    if is_followed mode rest then follow (dir, name) target rest else at_once (Ok (Slot dir name (Some x), links))
 met_traced t mode links follow dir name rest (Plain x) = slot_or_stop rest (Slot dir name (Some x)) (NoDirectory (dir, name)) links
 met_traced t mode links follow dir name rest Nothing = slot_or_stop rest (Slot dir name None) (NoEntry (dir, name)) links
 
-pub traced_name : (t : Tree) (mode : Last) (links : ℕ) (follow : Spot → List ℕ → List Part → Trace) (dir : ℕ) (way : Way) (name : List ℕ) (rest : List Part) →
+pub traced_name : (t : Tree) (mode : Last) (links : ℕ) (follow : Spot → List ℕ → List Part →
+    Trace) (dir : ℕ) (way : Way) (name : List ℕ) (rest : List Part) →
     walk_traced t mode links follow dir way (parts.Name name ∷ rest) ≡ met_traced t mode links follow dir name rest (standing_at t dir name)
 traced_name t mode links follow dir way name rest = elim (standing_at t dir name) as (λ s.
     ◌≡◌ {A = Trace} (elim s [
@@ -42,48 +37,84 @@ traced_name t mode links follow dir way name rest = elim (standing_at t dir name
     ]
 
 -- one link more was followed
-pub link_followed : (spots more : List Spot) (spot : Spot) (before further : Trace) → more ≡ spots ++ spot ∷ [] → before ≡ behind (spot ∷ []) further → behind more further ≡ behind spots before
+pub link_followed : (spots more : List Spot) (spot : Spot) (before further : Trace) → more ≡ spots ++ spot ∷ [] →
+    before ≡ after_links (spot ∷ []) further → after_links more further ≡ after_links spots before
 link_followed spots more spot before further e b =
-    ap (λ links. behind links further) e
+    ap (λ links. after_links links further) e
     ∙ ap (λ (links : List Spot). record { links = links; outcome = further.outcome }) (append_assoc spots (spot ∷ []) further.links)
-    ∙ ap (behind spots) (sym b)
+    ∙ ap (after_links spots) (sym b)
 
 -- what comes of following a link, with so many links left before it
 abbrev pub followed_traced : ℕ → Tree → Last → Spot → List ℕ → List Part → Trace
 followed_traced zero t mode spot target rest = at_once (Err (LinkBeyond spot))
-followed_traced (suc links) t mode spot target rest = behind (spot ∷ []) (trace_parts links t mode (start_of target spot.0) ways.Top (parts_of ending.Dot target ++ rest))
+followed_traced (suc links) t mode spot target rest =
+    after_links (spot ∷ []) (trace_parts links t mode (start_of target spot.0) ways.Top (parts_of ending.Dot target ++ rest))
 
--- what is no directory, as the trace of one part
-ends_traced : (spot : Spot) (linked : Bool) (ps : List Part) (found : Found) (errno : Errno) (links : ℕ) (further : Trace) →
-    traced_on spot linked (if is_done ps then Ok (Some found) else Err errno) links further ≡ slot_or_stop ps found (stop_at spot errno) links
-ends_traced spot linked [] found errno links further = refl
-ends_traced spot linked (p ∷ ps) found errno links further = refl
+-- what the parts behind one come to, by what that leads to
+abbrev pub led_traced : Tree → Last → ℕ → Spot → List Part → Onward → Trace
+led_traced t mode links spot rest (Goes x way) = trace_parts links t mode x way rest
+led_traced t mode links spot rest (Follows target) = followed_traced links t mode spot target rest
+led_traced t mode links spot rest (Ends found) = at_once (Ok (found, links))
+led_traced t mode links spot rest (Fails errno) = at_once (Err (stop_at spot errno))
 
 module _ (t : Tree) (mode : Last) where
-  pub trace_walks : (links dir : ℕ) (way : Way) (ps : List Part) → trace_parts links t mode dir way ps ≡ walk_traced t mode links (followed_traced links t mode) dir way ps
+  trace_walks : (links dir : ℕ) (way : Way) (ps : List Part) →
+      trace_parts links t mode dir way ps ≡ walk_traced t mode links (followed_traced links t mode) dir way ps
   trace_walks zero dir way ps = refl
   trace_walks (suc links) dir way ps = refl
 
-  -- two dots follow no link
-  pub trace_dotdot : (links dir : ℕ) (way : Way) (rest : List Part) (spot : Spot) →
-      trace_parts links t mode dir way (parts.DotDot ∷ rest) ≡ behind (if nat_lt links links then spot ∷ [] else []) (trace_parts links t mode (above t dir) ways.DotDot rest)
-  trace_dotdot zero dir way rest spot = refl
-  trace_dotdot (suc links) dir way rest spot = rw (le-ltb (suc links) (suc links) (omega arith)) refl
+  -- how a directory was named matters where no part is left alone
+  walk_passed : (links : ℕ) (follow : Spot → List ℕ → List Part → Trace) (dir : ℕ) (way other : Way) (p : Part) (ps : List Part) →
+      walk_traced t mode links follow dir way (p ∷ ps) ≡ walk_traced t mode links follow dir other (p ∷ ps)
+  walk_passed links follow dir way other parts.Dot ps = refl
+  walk_passed links follow dir way other parts.DotDot ps = refl
+  walk_passed links follow dir way other (parts.Name name) ps =
+      traced_name t mode links follow dir way name ps ∙ sym (traced_name t mode links follow dir other name ps)
 
-  pub trace_name : (links dir : ℕ) (way : Way) (name : List ℕ) (rest : List Part) (s : Standing) → s ≡ standing_at t dir name →
-      trace_parts links t mode dir way (parts.Name name ∷ rest) ≡ met_traced t mode links (followed_traced links t mode) dir name rest s
-  trace_name links dir way name rest s e =
-      trace_walks links dir way (parts.Name name ∷ rest) ∙ traced_name t mode links (followed_traced links t mode) dir way name rest
-      ∙ ap (met_traced t mode links (followed_traced links t mode) dir name rest) (sym e)
+-- what stands at a name leads on so
+met_traced_onward : (t : Tree) (mode : Last) (links dir : ℕ) (name : List ℕ) (rest : List Part) (s : Standing) →
+    met_traced t mode links (followed_traced links t mode) dir name rest s
+    ≡ led_traced t mode links (dir, name) rest (onward_at mode dir name (has_no_part rest) s)
+met_traced_onward t mode links dir name [] (Directory x) = refl
+met_traced_onward t mode links dir name (p ∷ ps) (Directory x) =
+    walk_passed t mode links (followed_traced links t mode) x (ways.Named dir name) ways.Top p ps
+    ∙ sym (trace_walks t mode links x ways.Top (p ∷ ps))
+met_traced_onward t Followed links dir name rest (Linked x target) = refl
+met_traced_onward t Kept links dir name [] (Linked x target) = refl
+met_traced_onward t Kept links dir name (p ∷ ps) (Linked x target) = refl
+met_traced_onward t mode links dir name [] (Plain x) = refl
+met_traced_onward t mode links dir name (p ∷ ps) (Plain x) = refl
+met_traced_onward t mode links dir name [] Nothing = refl
+met_traced_onward t mode links dir name (p ∷ ps) Nothing = refl
 
-  pub trace_plain : (links dir : ℕ) (way : Way) (name : List ℕ) (rest : List Part) (x : ℕ) (r : Result (Option Found) Errno) (linked : Bool) (further : Trace) → Plain x ≡ standing_at t dir name →
-      r ≡ (if is_done rest then Ok (Some (Slot dir name (Some x))) else Err ENOTDIR) → trace_parts links t mode dir way (parts.Name name ∷ rest) ≡ traced_on (dir, name) linked r links further
-  trace_plain links dir way name rest x r linked further e k =
-      trace_name links dir way name rest (Plain x) e
-      ∙ sym (ap (λ a. traced_on (dir, name) linked a links further) k ∙ ends_traced (dir, name) linked rest (Slot dir name (Some x)) ENOTDIR links further)
+-- and so does the part that a piece is
+pub trace_onward : (t : Tree) (mode : Last) (links dir : ℕ) (way : Way) (piece : List ℕ) (rest : List Part) (last : Bool) (r : Onward) →
+    last ≡ has_no_part rest → r ≡ onward_by t mode dir (part_of piece) last →
+    trace_parts links t mode dir way (part_of piece ∷ rest) ≡ led_traced t mode links (dir, piece) rest r
+trace_onward t mode links dir way piece rest last r l e =
+    trace_walks t mode links dir way (part_of piece ∷ rest)
+    ∙ by (same_bytes piece (46 ∷ [])) (same_bytes piece (46 ∷ 46 ∷ []))
+    ∙ ap (led_traced t mode links (dir, piece) rest) (sym (e ∙ ap (onward_by t mode dir (part_of piece)) l))
+  where
+    by : (one two : Bool) → let part = if one then parts.Dot else (if two then parts.DotDot else parts.Name piece) in
+        walk_traced t mode links (followed_traced links t mode) dir way (part ∷ rest)
+        ≡ led_traced t mode links (dir, piece) rest (onward_by t mode dir part (has_no_part rest))
+    by true two = sym (trace_walks t mode links dir ways.Dot rest)
+    by false true = sym (trace_walks t mode links (above t dir) ways.DotDot rest)
+    by false false =
+        traced_name t mode links (followed_traced links t mode) dir way piece rest
+        ∙ met_traced_onward t mode links dir piece rest (standing_at t dir piece)
 
-  pub trace_nothing : (links dir : ℕ) (way : Way) (name : List ℕ) (rest : List Part) (r : Result (Option Found) Errno) (linked : Bool) (further : Trace) → Nothing ≡ standing_at t dir name →
-      r ≡ (if is_done rest then Ok (Some (Slot dir name None)) else Err ENOENT) → trace_parts links t mode dir way (parts.Name name ∷ rest) ≡ traced_on (dir, name) linked r links further
-  trace_nothing links dir way name rest r linked further e k =
-      trace_name links dir way name rest Nothing e
-      ∙ sym (ap (λ a. traced_on (dir, name) linked a links further) k ∙ ends_traced (dir, name) linked rest (Slot dir name None) ENOENT links further)
+-- where no link is followed
+pub unlinked : (links : ℕ) (spot : Spot) (further : Trace) → further ≡ after_links (if nat_lt links links then spot ∷ [] else []) further
+unlinked links spot further = rw (le-ltb links links (omega arith)) refl
+
+-- and where one may be, by where the walk is then
+pub followed_traced_on : (t : Tree) (mode : Last) (links : ℕ) (spot : Spot) (target : List ℕ) (rest : List Part) (after here : ℕ)
+    (way : Way) (ps : List Part) → 0 < links → after ≡ links - 1 → here ≡ start_of target spot.0 → way ≡ ways.Top →
+    ps ≡ parts_of ending.Dot target ++ rest →
+    followed_traced links t mode spot target rest
+    ≡ after_links (if nat_lt after links then spot ∷ [] else []) (trace_parts after t mode here way ps)
+followed_traced_on t mode zero spot target rest after here way ps l a h w p = absurd (omega (arith, l))
+followed_traced_on t mode (suc links) spot target rest after here way ps l a h w p =
+    let one : after ≡ links = omega (arith, a) in rw (one, h, w, p, lt-ltb links (suc links) (omega arith)) refl

@@ -7,6 +7,6 @@ abbrev pub one_more : ℕ → ℕ
 one_more n = min (n + 1) (2 ^ 64 - 1)
 
 -- a tree, and how often it was asked
-pub record Asked : Type 0 where
+pub record CountedTree : Type 0 where
   pub tree : Tree
   pub count : ℕ

@@ -1,7 +1,8 @@
 -- The name of each errno.
 use Rattle.std.specs.Prelude.{ℕ, List, codes}
 use Rattle.pua_path.specs.declared.errno.Errno.{Errno}
-use Rattle.pua_path.specs.declared.errno.Errno.TheVariants.{EPERM, ENOENT, E2BIG, EACCES, EAGAIN, EBUSY, EEXIST, ENOTDIR, EISDIR, EINVAL, ENOSPC, ELOOP, ENAMETOOLONG, ENOTEMPTY, ENOSYS}
+use Rattle.pua_path.specs.declared.errno.Errno.TheVariants.{EPERM, ENOENT, E2BIG, EACCES, EAGAIN, EBUSY, EEXIST, ENOTDIR, EISDIR, EINVAL}
+use Rattle.pua_path.specs.declared.errno.Errno.TheVariants.{ENOSPC, ELOOP, ENAMETOOLONG, ENOTEMPTY, ENOSYS}
 
 abbrev pub errno_name : Errno → List ℕ
 errno_name EPERM = codes "EPERM"

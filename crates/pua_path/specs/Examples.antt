@@ -35,10 +35,13 @@ pub record StepRows : Type 0 where
 
 -- how texts go, from the root and from elsewhere
 pub record TraceRows : Type 0 where
-  pub two_links : trace_of_text example_tree 0 ending.Dot (codes "/t/up/passwd") Followed ≡ record { links = (0, codes "t") ∷ (3, codes "up") ∷ []; outcome = Ok (Slot 1 (codes "passwd") (Some 2)) }
+  pub two_links : trace_of_text example_tree 0 ending.Dot (codes "/t/up/passwd") Followed
+      ≡ record { links = (0, codes "t") ∷ (3, codes "up") ∷ []; outcome = Ok (Slot 1 (codes "passwd") (Some 2)) }
   pub kept : trace_of_text example_tree 0 ending.Dot (codes "/t") Kept ≡ record { links = []; outcome = Ok (Slot 0 (codes "t") (Some 4)) }
-  pub through_file : trace_of_text example_tree 0 ending.Dot (codes "/tmp/up/passwd/x") Followed ≡ record { links = (3, codes "up") ∷ []; outcome = Err (Stops (NoDirectory (1, codes "passwd"))) }
-  pub through_missing : trace_of_text example_tree 3 ending.Dot (codes "up/no/x") Followed ≡ record { links = (3, codes "up") ∷ []; outcome = Err (Stops (NoEntry (1, codes "no"))) }
+  pub through_file : trace_of_text example_tree 0 ending.Dot (codes "/tmp/up/passwd/x") Followed
+      ≡ record { links = (3, codes "up") ∷ []; outcome = Err (Stops (NoDirectory (1, codes "passwd"))) }
+  pub through_missing : trace_of_text example_tree 3 ending.Dot (codes "up/no/x") Followed
+      ≡ record { links = (3, codes "up") ∷ []; outcome = Err (Stops (NoEntry (1, codes "no"))) }
   pub endless : (trace_of_text example_tree 0 ending.Dot (codes "/tmp/self") Followed).outcome ≡ Err (Stops (LinkBeyond (3, codes "self")))
   pub empty : trace_of_text example_tree 0 ending.Dot [] Followed ≡ record { links = []; outcome = Err (InText EmptyText) }
   pub nul : trace_of_text example_tree 0 ending.Dot (97 ∷ 0 ∷ []) Followed ≡ record { links = []; outcome = Err (InText NulInText) }
@@ -64,4 +67,13 @@ step_rows = record { first = refl; second = refl; third = refl }
 
 pub trace_rows : TraceRows
 unfolding trace_from
-trace_rows = record { two_links = refl; kept = refl; through_file = refl; through_missing = refl; endless = refl; empty = refl; nul = refl; removed = refl }
+trace_rows = record {
+  two_links = refl;
+  kept = refl;
+  through_file = refl;
+  through_missing = refl;
+  endless = refl;
+  empty = refl;
+  nul = refl;
+  removed = refl;
+}

@@ -2,7 +2,7 @@
 use Rattle.std.specs.Prelude.{◌≡◌, ℕ, ◌+◌, ◌-◌, ◌<◌, ◌≤◌, ◌⊎◌, List, [], ◌∷◌, ◌++◌, Result, Ok, Err, IsTrue, is_some, if◌then◌else◌}
 use Rattle.pua_tree.specs.Tree.{Tree, WellFormed, is_dir}
 use Rattle.pua_tree.specs.Steps.{◌>>=◌}
-use Rattle.pua_path.specs.Resolution.{Resolved, resolve_parts, resolution, link_limit, step, last, follow}
+use Rattle.pua_path.specs.Resolution.{Resolved, resolve_parts, resolution, most_links, step, last, follow}
 use Rattle.pua_path.specs.Fits.{IsOf}
 use Rattle.pua_path.specs.declared.errno.Errno.{Errno}
 use Rattle.pua_path.specs.declared.errno.Errno.TheVariants.{ENOENT, ENOTDIR, ELOOP}
@@ -34,8 +34,8 @@ steps t (part ∷ parts) at = step t at.0 at.1 part >>= steps t parts
 
 -- steps along the first parts and then the last part are the resolution of them all
 abbrev pub StepsCompose : Type 0
-StepsCompose = (t : Tree) (mode : Last) (dir used : ℕ) (first : List Part) (part : Part) → used ≤ link_limit →
-    (resolve_parts (link_limit - used) t mode dir Top (first ++ part ∷ []) >>= λ found. Ok found.0)
+StepsCompose = (t : Tree) (mode : Last) (dir used : ℕ) (first : List Part) (part : Part) → used ≤ most_links →
+    (resolve_parts (most_links - used) t mode dir Top (first ++ part ∷ []) >>= λ found. Ok found.0)
     ≡ (steps t first (dir, used) >>= λ at. last t at.0 at.1 part mode)
 
 -- an answer that is got by following exactly so many links: the same with any more that may be followed, and ELOOP with any fewer
@@ -45,7 +45,9 @@ pub record FollowsLinks {A : Type 0} (answer : ℕ → Result (A × ℕ) Errno) 
 
 -- with up to so many links an answer is ELOOP, or it is got by following a number of links that is its own
 abbrev pub IsDecidedByLinks : {A : Type 0} → (ℕ → Result (A × ℕ) Errno) → ℕ → Type 0
-IsDecidedByLinks {A} answer most = ((links : ℕ) → links ≤ most → answer links ≡ Err ELOOP) ⊎ ((count : ℕ) × ((outcome : Result A Errno) × ((count ≤ most) × FollowsLinks answer count outcome)))
+IsDecidedByLinks {A} answer most =
+    ((links : ℕ) → links ≤ most →
+    answer links ≡ Err ELOOP) ⊎ ((count : ℕ) × ((outcome : Result A Errno) × ((count ≤ most) × FollowsLinks answer count outcome)))
 
 -- what parts name, and how many links are followed, depends on the tree, the directory and the parts alone
 abbrev pub LinksDecide : Type 0
@@ -54,36 +56,39 @@ LinksDecide = (t : Tree) (mode : Last) (dir : ℕ) (way : Way) (parts : List Par
 
 -- a step that follows exactly so many links, and leads to this directory or to this errno
 pub record StepFollows (t : Tree) (dir : ℕ) (part : Part) (count : ℕ) (outcome : Result ℕ Errno) : Type 0 where
-  pub enough : (used : ℕ) → used + count ≤ link_limit → step t dir used part ≡ (outcome >>= λ reached. Ok (reached, used + count))
-  pub too_few : (used : ℕ) → used ≤ link_limit → link_limit < used + count → step t dir used part ≡ Err ELOOP
+  pub enough : (used : ℕ) → used + count ≤ most_links → step t dir used part ≡ (outcome >>= λ reached. Ok (reached, used + count))
+  pub too_few : (used : ℕ) → used ≤ most_links → most_links < used + count → step t dir used part ≡ Err ELOOP
 
 -- where a step leads, and how many links it follows, depends on the directory and the part alone
 abbrev pub StepsFollow : Type 0
 StepsFollow = (t : Tree) (dir : ℕ) (part : Part) →
-    ((used : ℕ) → used ≤ link_limit → step t dir used part ≡ Err ELOOP) ⊎ ((count : ℕ) × ((outcome : Result ℕ Errno) × StepFollows t dir part count outcome))
+    ((used : ℕ) → used ≤ most_links → step t dir used part ≡ Err ELOOP) ⊎ ((count : ℕ) ×
+    ((outcome : Result ℕ Errno) × StepFollows t dir part count outcome))
 
 -- a last part that follows exactly so many links, and names this or fails with this errno
 pub record LastFollows (t : Tree) (dir : ℕ) (part : Part) (mode : Last) (count : ℕ) (outcome : Result Found Errno) : Type 0 where
-  pub enough : (used : ℕ) → used + count ≤ link_limit → last t dir used part mode ≡ outcome
-  pub too_few : (used : ℕ) → used ≤ link_limit → link_limit < used + count → last t dir used part mode ≡ Err ELOOP
+  pub enough : (used : ℕ) → used + count ≤ most_links → last t dir used part mode ≡ outcome
+  pub too_few : (used : ℕ) → used ≤ most_links → most_links < used + count → last t dir used part mode ≡ Err ELOOP
 
 -- what a last part names, and how many links it follows, depends on the directory and the part alone
 abbrev pub LastsFollow : Type 0
 LastsFollow = (t : Tree) (dir : ℕ) (part : Part) (mode : Last) →
-    ((used : ℕ) → used ≤ link_limit → last t dir used part mode ≡ Err ELOOP) ⊎ ((count : ℕ) × ((outcome : Result Found Errno) × LastFollows t dir part mode count outcome))
+    ((used : ℕ) → used ≤ most_links → last t dir used part mode ≡ Err ELOOP) ⊎ ((count : ℕ) ×
+    ((outcome : Result Found Errno) × LastFollows t dir part mode count outcome))
 
 -- a directory is entered, and nothing else
-abbrev pub entered : ℕ → Found → Result (ℕ × ℕ) Errno
-entered used (Whole dir way) = Ok (dir, used)
-entered used (Slot dir name node) = Err (if is_some node then ENOTDIR else ENOENT)
+abbrev pub dir_entered : ℕ → Found → Result (ℕ × ℕ) Errno
+dir_entered used (Whole dir way) = Ok (dir, used)
+dir_entered used (Slot dir name node) = Err (if is_some node then ENOTDIR else ENOENT)
 
--- a part that follows so many links where none was used before: `last` names what it names, and `step` enters it, while all links are within the limit
+-- a part that follows so many links where none was used before: `last` names what it names, and `step` enters it, while
+-- all links are within the limit
 pub record IsFollowed (t : Tree) (dir used : ℕ) (part : Part) (found : Found) (count : ℕ) : Type 0 where
-  pub within : count ≤ link_limit
-  pub last_within : used + count ≤ link_limit → last t dir used part Followed ≡ Ok found
-  pub step_within : used + count ≤ link_limit → step t dir used part ≡ entered (used + count) found
-  pub last_beyond : link_limit < used + count → last t dir used part Followed ≡ Err ELOOP
-  pub step_beyond : link_limit < used + count → step t dir used part ≡ Err ELOOP
+  pub within : count ≤ most_links
+  pub last_within : used + count ≤ most_links → last t dir used part Followed ≡ Ok found
+  pub step_within : used + count ≤ most_links → step t dir used part ≡ dir_entered (used + count) found
+  pub last_beyond : most_links < used + count → last t dir used part Followed ≡ Err ELOOP
+  pub step_beyond : most_links < used + count → step t dir used part ≡ Err ELOOP
 
 -- a part that names nothing where no link was used before names nothing after any; the error may be another
 pub record Fails (t : Tree) (dir used : ℕ) (part : Part) : Type 0 where
@@ -97,7 +102,7 @@ IsToldBy t dir used part (Err errno) = Fails t dir used part
 
 -- the answer where no link was used before tells the answer after any number of links
 abbrev pub FollowDecides : Type 0
-FollowDecides = (t : Tree) (dir used : ℕ) (part : Part) → used ≤ link_limit → IsToldBy t dir used part (follow t dir part)
+FollowDecides = (t : Tree) (dir used : ℕ) (part : Part) → used ≤ most_links → IsToldBy t dir used part (follow t dir part)
 
 -- a last part that is kept follows no link
 abbrev pub KeptFollowsNone : Type 0
@@ -108,12 +113,16 @@ abbrev pub Lands : Tree → Last → ℕ → Resolved → Type 0
 Lands t mode links (Ok found) = IsOf t mode found.0 × (found.1 ≤ links)
 Lands t mode links (Err errno) = Unit {0}
 
--- what a path names is of the tree, and so is what parts name from a living directory; a step leads to one, with no more links used than may be followed
+-- what a path names is of the tree, and so is what parts name from a living directory; a step leads to one, with no
+-- more links used than may be followed
 pub record ResolutionFits (t : Tree) : Type 0 where
-  pub parts : (links dir : ℕ) (mode : Last) (parts : List Part) → IsTrue (is_dir t dir) → Lands t mode links (resolve_parts links t mode dir Top parts)
-  pub whole : (from : ℕ) (ending : Ending) (text : List ℕ) (mode : Last) (object : Found) → resolution t from ending text mode ≡ Ok object → IsOf t mode object
-  pub last : (dir used : ℕ) (part : Part) (mode : Last) (object : Found) → IsTrue (is_dir t dir) → last t dir used part mode ≡ Ok object → IsOf t mode object
-  pub used : (dir used : ℕ) (part : Part) (next : ℕ × ℕ) → step t dir used part ≡ Ok next → next.1 ≤ link_limit
+  pub parts : (links dir : ℕ) (mode : Last) (parts : List Part) → IsTrue (is_dir t dir) →
+      Lands t mode links (resolve_parts links t mode dir Top parts)
+  pub whole : (from : ℕ) (ending : Ending) (text : List ℕ) (mode : Last) (object : Found) → resolution t from ending text mode ≡ Ok object →
+      IsOf t mode object
+  pub last : (dir used : ℕ) (part : Part) (mode : Last) (object : Found) → IsTrue (is_dir t dir) → last t dir used part mode ≡ Ok object →
+      IsOf t mode object
+  pub used : (dir used : ℕ) (part : Part) (next : ℕ × ℕ) → step t dir used part ≡ Ok next → next.1 ≤ most_links
   pub step : (dir used : ℕ) (part : Part) (next : ℕ × ℕ) → IsTrue (is_dir t dir) → step t dir used part ≡ Ok next → IsTrue (is_dir t next.0)
 
 abbrev pub ResolutionsFit : Type 0

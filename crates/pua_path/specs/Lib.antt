@@ -19,3 +19,4 @@ pub mod Kinds
 pub mod Pieces
 pub mod Remaining
 pub mod Walks
+pub mod Onward

@@ -2,9 +2,9 @@
 use Rattle.std.specs.Prelude.{ℕ}
 
 -- at most so many links are followed in one resolution
-abbrev pub link_limit : ℕ
-link_limit = 32
+abbrev pub most_links : ℕ
+most_links = 32
 
 -- the most bytes of a path
-abbrev pub path_limit : ℕ
-path_limit = 1023
+abbrev pub most_path : ℕ
+most_path = 1023

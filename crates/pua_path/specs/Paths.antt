@@ -1,7 +1,8 @@
 -- The start and the parts of a path text, and its faults.
-use Rattle.std.specs.Prelude.{ℕ, Bool, false, not, if◌then◌else◌, List, [], ◌∷◌, ◌++◌, length, map, nat_lt, ◌==◌, Option, Some, None, option_map}
+use Rattle.std.specs.Prelude.{ℕ, Bool, false, not, if◌then◌else◌, List, [], ◌∷◌, ◌++◌, length, map, nat_lt, ◌==◌, Option, Some, None}
+use Rattle.std.specs.Prelude.{option_map}
 use Rattle.pua_tree.specs.Names.{same_bytes, has_byte, components, has_short_components}
-use Rattle.pua_path.specs.Limits.{path_limit}
+use Rattle.pua_path.specs.Limits.{most_path}
 use Rattle.pua_path.specs.declared.errno.Errno.{Errno}
 use Rattle.pua_path.specs.declared.errno.Errno.TheVariants.{ENOENT, ENAMETOOLONG, EINVAL}
 use Rattle.pua_path.specs.declared.text.Ending.{Ending}
@@ -44,7 +45,7 @@ parts_of ending text = map part_of (components text) ++ ending_parts ending (com
 abbrev pub text_fault : List ℕ → Option TextFault
 text_fault [] = Some EmptyText
 text_fault (b ∷ more) =
-    if nat_lt path_limit (length (b ∷ more)) then Some LongText
+    if nat_lt most_path (length (b ∷ more)) then Some LongText
     else (if not (has_short_components (b ∷ more)) then Some LongComponent
     else (if has_byte 0 (b ∷ more) then Some NulInText else None))
 

@@ -22,9 +22,9 @@ abbrev pub rest_parts : List ℕ → List Part
 rest_parts text = map part_of (components text) ++ slash_part (ends_in_slash text)
 
 -- the parts of texts that lie one on another, the last one on top
-abbrev pub pending : List (Bor (List ℕ)) → List Part
-pending [] = []
-pending (text ∷ texts) = pending texts ++ rest_parts text.now
+abbrev pub pending_parts : List (Bor (List ℕ)) → List Part
+pending_parts [] = []
+pending_parts (text ∷ texts) = pending_parts texts ++ rest_parts text.now
 
 -- no NUL, and no long component
 abbrev pub is_readable : List ℕ → Bool
@@ -43,9 +43,9 @@ abbrev pub is_piece : List ℕ → Bool
 is_piece piece = nat_lt 0 (length piece) && (nat_le (length piece) most_name && list_all is_name_byte piece)
 
 -- no part is left
-abbrev pub is_done : List Part → Bool
-is_done [] = true
-is_done (part ∷ parts) = false
+abbrev pub has_no_part : List Part → Bool
+has_no_part [] = true
+has_no_part (part ∷ parts) = false
 
 -- the text from its first byte other than a slash on
 abbrev pub after_slashes : List ℕ → List ℕ

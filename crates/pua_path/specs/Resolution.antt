@@ -1,8 +1,9 @@
 -- What a path names in a tree.
-use Rattle.std.specs.Prelude.{ℕ, zero, suc, ◌-◌, Bool, true, false, not, ◌&&◌, if◌then◌else◌, List, [], ◌∷◌, ◌++◌, Option, Some, None, Result, Ok, Err, unwrap_or}
+use Rattle.std.specs.Prelude.{ℕ, zero, suc, ◌-◌, Bool, true, false, not, ◌&&◌, if◌then◌else◌, List, [], ◌∷◌, ◌++◌, Option, Some, None}
+use Rattle.std.specs.Prelude.{Result, Ok, Err, unwrap_or}
 use Rattle.pua_tree.specs.Tree.{Tree, Node, look, node_at, is_dir, above}
 use Rattle.pua_tree.specs.Steps.{◌>>=◌}
-pub use Rattle.pua_path.specs.Limits.{link_limit}
+pub use Rattle.pua_path.specs.Limits.{most_links}
 use Rattle.pua_path.specs.Paths.{parts_of, is_absolute, path_fault}
 use Rattle.pua_tree.specs.declared.node.Kind.{Kind}
 use Rattle.pua_tree.specs.declared.node.Kind.TheVariants as kinds
@@ -77,13 +78,14 @@ start_of text dir = if is_absolute text then 0 else dir
 abbrev pub resolve_parts : ℕ → Tree → Last → ℕ → Way → List Part → Resolved
 resolve_parts zero t mode dir way parts = walk t mode 0 (λ from target rest. Err ELOOP) dir way parts
 resolve_parts (suc links) t mode dir way parts =
-    walk t mode (suc links) (λ from target rest. resolve_parts links t mode (start_of target from) Top (parts_of ending.Dot target ++ rest)) dir way parts
+    walk t mode (suc links) (λ from target rest. resolve_parts links t mode (start_of target from) Top (parts_of ending.Dot target ++ rest))
+    dir way parts
 
 -- what a text without fault names from a directory, which a relative text needs to be there
 abbrev pub resolution : Tree → ℕ → Ending → List ℕ → Last → Result Found Errno
 resolution t from ending text mode =
     if not (is_absolute text) && not (is_dir t from) then Err ENOENT
-    else (resolve_parts link_limit t mode (start_of text from) Top (parts_of ending text) >>= λ found. Ok found.0)
+    else (resolve_parts most_links t mode (start_of text from) Top (parts_of ending text) >>= λ found. Ok found.0)
 
 -- the same after the text's own faults
 abbrev pub resolution_of_text : Tree → ℕ → Ending → List ℕ → Last → Result Found Errno
@@ -94,22 +96,22 @@ resolution_of_text t from ending text mode = after (path_fault text)
     after None = resolution t from ending text mode
 
 -- the directory found and the links followed by then
-abbrev pub reached : Found × ℕ → Result (ℕ × ℕ) Errno
-reached (Whole dir way, links) = Ok (dir, link_limit - links)
-reached (Slot dir name _, links) = Err ENOTDIR
+abbrev pub dir_with_links : Found × ℕ → Result (ℕ × ℕ) Errno
+dir_with_links (Whole dir way, links) = Ok (dir, most_links - links)
+dir_with_links (Slot dir name _, links) = Err ENOTDIR
 
 -- one part that another follows: the directory to which it leads, and the links followed by then
 abbrev pub step : Tree → ℕ → ℕ → Part → Result (ℕ × ℕ) Errno
-step t dir used part = resolve_parts (link_limit - used) t Followed dir Top (part ∷ parts.Dot ∷ []) >>= reached
+step t dir used part = resolve_parts (most_links - used) t Followed dir Top (part ∷ parts.Dot ∷ []) >>= dir_with_links
 
 -- the last part
 abbrev pub last : Tree → ℕ → ℕ → Part → Last → Result Found Errno
-last t dir used part mode = resolve_parts (link_limit - used) t mode dir Top (part ∷ []) >>= λ found. Ok found.0
+last t dir used part mode = resolve_parts (most_links - used) t mode dir Top (part ∷ []) >>= λ found. Ok found.0
 
 -- what was found, and the links followed by then
-abbrev pub counted : Found × ℕ → Result (Found × ℕ) Errno
-counted (found, left) = Ok (found, link_limit - left)
+abbrev pub found_with_links : Found × ℕ → Result (Found × ℕ) Errno
+found_with_links (found, left) = Ok (found, most_links - left)
 
 -- the last part, followed, where no link was followed before it
 abbrev pub follow : Tree → ℕ → Part → Result (Found × ℕ) Errno
-follow t dir part = resolve_parts link_limit t Followed dir Top (part ∷ []) >>= counted
+follow t dir part = resolve_parts most_links t Followed dir Top (part ∷ []) >>= found_with_links

@@ -13,10 +13,12 @@ use Rattle.pua_path.specs.Traces.{Trace, trace_parts, resolved_as, trace_of_text
 
 -- a trace answers as the resolution does
 abbrev pub TracesAnswer : Type 0
-TracesAnswer = (t : Tree) (mode : Last) (links dir : ℕ) (way : Way) (ps : List Part) → resolved_as (trace_parts links t mode dir way ps).outcome ≡ resolve_parts links t mode dir way ps
+TracesAnswer = (t : Tree) (mode : Last) (links dir : ℕ) (way : Way) (ps : List Part) →
+    resolved_as (trace_parts links t mode dir way ps).outcome ≡ resolve_parts links t mode dir way ps
 
 abbrev pub TextTracesAnswer : Type 0
-TextTracesAnswer = (t : Tree) (from : ℕ) (ending : Ending) (text : List ℕ) (mode : Last) → object_or_errno (trace_of_text t from ending text mode).outcome ≡ resolution_of_text t from ending text mode
+TextTracesAnswer = (t : Tree) (from : ℕ) (ending : Ending) (text : List ℕ) (mode : Last) →
+    object_or_errno (trace_of_text t from ending text mode).outcome ≡ resolution_of_text t from ending text mode
 
 -- what stands where it stops is what the stop says
 abbrev pub StopHolds : Tree → Stop → Type 0
@@ -52,4 +54,5 @@ pub record TraceHolds (t : Tree) (links : ℕ) (trace : Trace) : Type 0 where
   pub count : CountsLinks links trace
 
 abbrev pub TracesHold : Type 0
-TracesHold = (t : Tree) (mode : Last) (links dir : ℕ) (way : Way) (ps : List Part) → TraceHolds t links (trace_parts links t mode dir way ps)
+TracesHold = (t : Tree) (mode : Last) (links dir : ℕ) (way : Way) (ps : List Part) →
+    TraceHolds t links (trace_parts links t mode dir way ps)

@@ -1,7 +1,7 @@
 -- How a path goes: what it names or where it stops, and the links that were followed by then.
 use Rattle.std.specs.Prelude.{ℕ, zero, suc, not, ◌&&◌, if◌then◌else◌, List, [], ◌∷◌, ◌++◌, Option, Some, None, Result, Ok, Err}
 use Rattle.pua_tree.specs.Tree.{Tree, Spot, is_dir, above}
-use Rattle.pua_path.specs.Limits.{link_limit}
+use Rattle.pua_path.specs.Limits.{most_links}
 pub use Rattle.pua_path.specs.Paths.{text_errno, text_fault}
 use Rattle.pua_path.specs.Paths.{parts_of, is_absolute}
 use Rattle.pua_path.specs.Resolution.{Resolved, Directory, Linked, Plain, Nothing, standing_at, is_followed, start_of}
@@ -42,8 +42,8 @@ abbrev pub at_once : Result (Found × ℕ) Stop → Trace
 at_once outcome = record { links = []; outcome = outcome }
 
 -- behind links that were followed before
-abbrev pub behind : List Spot → Trace → Trace
-behind spots further = record { links = spots ++ further.links; outcome = further.outcome }
+abbrev pub after_links : List Spot → Trace → Trace
+after_links spots further = record { links = spots ++ further.links; outcome = further.outcome }
 
 -- what is no directory is found where no part is left
 abbrev pub slot_or_stop : List Part → Found → Stop → ℕ → Trace
@@ -66,7 +66,9 @@ walk_traced t mode links follow dir way (parts.Name name ∷ rest) = elim (stand
 abbrev pub trace_parts : ℕ → Tree → Last → ℕ → Way → List Part → Trace
 trace_parts zero t mode dir way parts = walk_traced t mode 0 (λ spot target rest. at_once (Err (LinkBeyond spot))) dir way parts
 trace_parts (suc links) t mode dir way parts =
-    walk_traced t mode (suc links) (λ spot target rest. behind (spot ∷ []) (trace_parts links t mode (start_of target spot.0) Top (parts_of ending.Dot target ++ rest))) dir way parts
+    walk_traced t mode (suc links)
+    (λ spot target rest. after_links (spot ∷ []) (trace_parts links t mode (start_of target spot.0) Top (parts_of ending.Dot target
+    ++ rest))) dir way parts
 
 -- the outcome, by its errno
 abbrev pub resolved_as : Result (Found × ℕ) Stop → Resolved
@@ -98,7 +100,7 @@ as_path_trace trace = record { links = trace.links; outcome = named_or_stopped t
 unfoldable pub trace_from : Tree → ℕ → Ending → List ℕ → Last → PathTrace
 trace_from t from ending text mode =
     if not (is_absolute text) && not (is_dir t from) then fails_in NoStart
-    else as_path_trace (trace_parts link_limit t mode (start_of text from) Top (parts_of ending text))
+    else as_path_trace (trace_parts most_links t mode (start_of text from) Top (parts_of ending text))
 
 -- and of any text
 abbrev pub trace_of_text : Tree → ℕ → Ending → List ℕ → Last → PathTrace

@@ -1,13 +1,14 @@
 -- A resolution on its way: what stands at a name, and how one part leads on to the next.
-use Rattle.std.specs.Prelude.{◌≡◌, nat_lt, ℕ, ◌+◌, ◌*◌, ◌≤◌, Bool, if◌then◌else◌, List, [], ◌∷◌, length, Option, Some, None, Result, Ok, Err, IsTrue}
+use Rattle.std.specs.Prelude.{◌≡◌, nat_lt, ℕ, ◌+◌, ◌*◌, ◌≤◌, Bool, if◌then◌else◌, List, [], ◌∷◌, length, Option, Some, None, Result, Ok}
+use Rattle.std.specs.Prelude.{Err, IsTrue}
 use Rattle.pua_tree.specs.Names.{is_name}
 use Rattle.pua_tree.specs.Tree.{Tree, Spot, WellFormed, is_dir}
-use Rattle.pua_path.specs.Limits.{link_limit}
+use Rattle.pua_path.specs.Limits.{most_links}
 use Rattle.pua_path.specs.Paths.{parts_of}
 use Rattle.pua_path.specs.Remaining.{Remaining, is_readable}
 use Rattle.pua_path.specs.Resolution.{Resolved, Standing, Directory, Linked, Plain, Nothing, resolve_parts}
 use Rattle.pua_path.specs.Bounds.{most_parts}
-use Rattle.pua_path.specs.Traces.{Trace, at_once, behind, trace_parts}
+use Rattle.pua_path.specs.Traces.{Trace, at_once, after_links, trace_parts}
 use Rattle.pua_path.specs.declared.errno.Errno.{Errno}
 use Rattle.pua_path.specs.declared.errno.Errno.TheVariants.{ENOENT, ENOTDIR}
 use Rattle.pua_path.specs.declared.text.Ending.TheVariants.{Dot}
@@ -21,7 +22,7 @@ use Rattle.pua_path.specs.declared.resolver.LentFound.{LentFound}
 use Rattle.pua_path.specs.declared.resolver.LentFound.TheVariants as lent
 use Rattle.pua_path.specs.declared.resolver.Nameless.{Nameless}
 use Rattle.pua_path.specs.declared.resolver.Nameless.TheVariants as nameless
-use Rattle.pua_path.specs.declared.resolver.Walk.{Walk}
+use Rattle.pua_path.specs.declared.resolver.Resolving.{Resolving}
 use Rattle.pua_path.specs.declared.resolver.Standing as seen
 use Rattle.pua_path.specs.declared.resolver.Standing.TheVariants as see
 use Rattle.pua_path.specs.declared.traced.Stop.{Stop}
@@ -35,11 +36,11 @@ standing_seen (see.Plain x) = Plain x
 standing_seen see.Nothing = Nothing
 
 -- what was seen in a tree: a directory that lives, or a target whose parts can be read and are few
-abbrev pub StandsIn : Tree → seen.Standing → Type 0
-StandsIn t (see.Directory x) = IsTrue (is_dir t x)
-StandsIn t (see.Linked x target) = IsTrue (is_readable target.now) × (length (parts_of Dot target.now) ≤ most_parts t)
-StandsIn t (see.Plain x) = Unit {0}
-StandsIn t see.Nothing = Unit {0}
+abbrev pub IsSeenIn : Tree → seen.Standing → Type 0
+IsSeenIn t (see.Directory x) = IsTrue (is_dir t x)
+IsSeenIn t (see.Linked x target) = IsTrue (is_readable target.now) × (length (parts_of Dot target.now) ≤ most_parts t)
+IsSeenIn t (see.Plain x) = Unit {0}
+IsSeenIn t see.Nothing = Unit {0}
 
 -- how a directory was named by no name
 abbrev pub way_of : Nameless → Way
@@ -52,13 +53,13 @@ abbrev pub lent_name : LentFound → List ℕ
 lent_name (lent.Whole _ _ name) = name.now
 lent_name (lent.Slot _ name _) = name.now
 
-abbrev pub found_of : LentFound → Found
-found_of (lent.Whole dir parent name) = Whole dir (ways.Named parent name.now)
-found_of (lent.Slot dir name x) = Slot dir name.now x
+abbrev pub found_seen : LentFound → Found
+found_seen (lent.Whole dir parent name) = Whole dir (ways.Named parent name.now)
+found_seen (lent.Slot dir name x) = Slot dir name.now x
 
 abbrev pub all_found : Result (Option LentFound) Errno → Result (Option Found) Errno
 all_found (Ok None) = Ok None
-all_found (Ok (Some found)) = Ok (Some (found_of found))
+all_found (Ok (Some found)) = Ok (Some (found_seen found))
 all_found (Err errno) = Err errno
 
 -- the bytes that are lent as a name are one
@@ -83,47 +84,43 @@ stop_at spot _ = LinkBeyond spot
 
 -- the same of a trace: a part at this name follows a link or none, and ends the trace or leaves it to the further parts
 abbrev pub traced_on : Spot → Bool → Result (Option Found) Errno → ℕ → Trace → Trace
-traced_on spot linked (Ok None) left further = behind (if linked then spot ∷ [] else []) further
+traced_on spot linked (Ok None) left further = after_links (if linked then spot ∷ [] else []) further
 traced_on spot linked (Ok (Some found)) left further = at_once (Ok (found, left))
 traced_on spot linked (Err errno) left further = at_once (Err (stop_at spot errno))
 
--- what a resolution answers, and the links left then
-abbrev pub ended : Result Found Errno → ℕ → Resolved
-ended (Ok found) left = Ok (found, left)
-ended (Err errno) left = Err errno
-
 -- where a resolution on its way comes to: by the parts that it has left, and with one more before them
-abbrev pub walk_end : Tree → Last → Walk → Resolved
+abbrev pub walk_end : Tree → Last → Resolving → Resolved
 walk_end t mode walk = resolve_parts walk.left t mode walk.here (way_of walk.way) walk.rest.parts
 
-abbrev pub walk_end_by : Part → Tree → Last → Walk → Resolved
+abbrev pub walk_end_by : Part → Tree → Last → Resolving → Resolved
 walk_end_by part t mode walk = resolve_parts walk.left t mode walk.here (way_of walk.way) (part ∷ walk.rest.parts)
 
 -- the same of its trace
-abbrev pub walk_trace : Tree → Last → Walk → Trace
+abbrev pub walk_trace : Tree → Last → Resolving → Trace
 walk_trace t mode walk = trace_parts walk.left t mode walk.here (way_of walk.way) walk.rest.parts
 
-abbrev pub walk_trace_by : Part → Tree → Last → Walk → Trace
+abbrev pub walk_trace_by : Part → Tree → Last → Resolving → Trace
 walk_trace_by part t mode walk = trace_parts walk.left t mode walk.here (way_of walk.way) (part ∷ walk.rest.parts)
 
 -- one part leads from a walk to an answer, or to the walk that is left
-abbrev pub LeadsOn : Tree → Last → Part → Walk → Result (Option LentFound) Errno → Walk → Type 0
+abbrev pub LeadsOn : Tree → Last → Part → Resolving → Result (Option LentFound) Errno → Resolving → Type 0
 LeadsOn t mode part old answer new = walk_end_by part t mode old ≡ goes_on (all_found answer) new.left (walk_end t mode new)
 
 -- and its trace so, where these bytes are the part's name
-abbrev pub TracesOn : Tree → Last → Part → List ℕ → Walk → Result (Option LentFound) Errno → Walk → Type 0
+abbrev pub TracesOn : Tree → Last → Part → List ℕ → Resolving → Result (Option LentFound) Errno → Resolving → Type 0
 TracesOn t mode part name old answer new =
-    walk_trace_by part t mode old ≡ traced_on (old.here, name) (nat_lt new.left old.left) (all_found answer) new.left (walk_trace t mode new)
+    walk_trace_by part t mode old ≡ traced_on (old.here, name) (nat_lt new.left old.left) (all_found answer) new.left
+    (walk_trace t mode new)
 
 -- the parts that are left, and those that links can still add
 abbrev pub potential : Tree → ℕ → Remaining → ℕ
 potential t left rest = length rest.parts + most_parts t * left
 
-abbrev pub potential_of : Tree → Walk → ℕ
+abbrev pub potential_of : Tree → Resolving → ℕ
 potential_of t walk = potential t walk.left walk.rest
 
 -- a resolution that can go on: from a living directory, with room for the targets that may come
 pub record CanGoOn (t : Tree) (here left : ℕ) (rest : Remaining) : Type 0 where
   pub tree : WellFormed t
   pub dir : IsTrue (is_dir t here)
-  pub room : rest.depth + left ≤ link_limit
+  pub room : rest.depth + left ≤ most_links

@@ -1,7 +1,7 @@
 //! Laws and worked examples of resolution, each the contract of a function that does nothing.
 
 ghost use Rattle.std.specs.Prelude.{◌≡◌};
-ghost use Rattle.pua_path.specs.Limits.{link_limit, path_limit};
+ghost use Rattle.pua_path.specs.Limits.{most_links, most_path};
 ghost use Rattle.pua_path.specs.Examples.{ResolutionRows, StepRows, TraceRows};
 ghost use Rattle.pua_path.specs.Laws.{FollowDecides, KeptFollowsNone, LastsFollow, LinksDecide};
 ghost use Rattle.pua_path.specs.Laws.{ResolutionComposes, ResolutionsFit};
@@ -9,7 +9,7 @@ ghost use Rattle.pua_path.specs.Laws.{StepsCompose, StepsFollow};
 ghost use Rattle.pua_path.specs.Goes.{ComingResolves, TracesArrive};
 ghost use Rattle.pua_path.specs.TraceLaws.{TextTracesAnswer, TracesAnswer, TracesHold};
 
-use crate::limits::{LINK_LIMIT, PATH_LIMIT};
+use crate::limits::{MOST_LINKS, MOST_PATH};
 
 /// Examples of what texts and parts name, and of how texts go.
 pub fn resolution_examples()
@@ -20,8 +20,8 @@ pub fn resolution_examples()
 
 /// The limits are those of the definitions.
 pub fn limits_law()
-    ensures links { LINK_LIMIT ≡ link_limit }
-    ensures path { PATH_LIMIT ≡ path_limit }
+    ensures links { MOST_LINKS ≡ most_links }
+    ensures path { MOST_PATH ≡ most_path }
 {}
 
 /// Resolution may be cut before any part.

@@ -18,7 +18,7 @@ pub use laws::{
     fitting_law, going_law, limits_law, links_law, resolution_examples, resolution_law, steps_law,
     stop_law, trace_law,
 };
-pub use limits::{LINK_LIMIT, PATH_LIMIT};
+pub use limits::{MOST_LINKS, MOST_PATH};
 pub use probe::{Counted, Probe};
 pub use resolver::{follow, last, resolve, step, trace};
 pub use text::{Ending, PathText, text_fault};

@@ -92,9 +92,9 @@ pub struct Counted<'t, T: FileTree> {
 }
 
 impl<'t, T: FileTree> Model for Counted<'t, T> {
-    ghost use Rattle.pua_path.specs.Counts.{Asked};
+    ghost use Rattle.pua_path.specs.Counts.{CountedTree};
 
-    ghost Value = { Asked };
+    ghost Value = { CountedTree };
 
     ghost view = { λ a. record { tree = T.content a.tree.now; count = a.count } };
 }

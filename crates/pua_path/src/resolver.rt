@@ -5,31 +5,35 @@ mod tracing;
 ghost use Rattle.std.specs.Prelude.{◌≡◌, ◌≤◌, ◌<◌, ◌+◌, ◌-◌, ◌*◌};
 ghost use Rattle.std.specs.Prelude.{[], ◌∷◌, ◌++◌, Some, None, Ok, Err, is_some};
 ghost use Rattle.std.specs.Prelude.{IsTrue, IfSome, IfOk, IfErr, OnOk};
-ghost use Rattle.std.specs.Prelude.{not, false, ◌&&◌, ◌==◌, if◌then◌else◌};
+ghost use Rattle.std.specs.Prelude.{not, true, false, ◌&&◌, ◌==◌, if◌then◌else◌, length};
 ghost use Rattle.pua_tree.specs.Names.{is_name};
 ghost use Rattle.pua_tree.specs.Tree.{above, is_dir};
 ghost use Rattle.pua_path.specs.Resolution.{resolution, resolve_parts, step, last, follow};
-ghost use Rattle.pua_path.specs.Resolution.{standing_at, is_followed, start_of};
-ghost use Rattle.pua_path.specs.Limits.{link_limit};
+ghost use Rattle.pua_path.specs.Resolution.{standing_at, start_of};
+ghost use Rattle.pua_path.specs.Limits.{most_links};
 ghost use Rattle.pua_path.specs.Paths.{is_absolute, part_of, parts_of};
-ghost use Rattle.pua_path.specs.Walks.{way_of, lent_name, found_of, all_found, standing_seen};
-ghost use Rattle.pua_path.specs.Walks.{IsNamed, AreNamed, StandsIn, CanGoOn, LeadsOn, TracesOn};
-ghost use Rattle.pua_path.specs.Walks.{ended, walk_end, potential_of};
-ghost use Rattle.pua_path.specs.Bounds.{part_cost};
+ghost use Rattle.pua_path.specs.Walks.{way_of, lent_name, found_seen, standing_seen};
+ghost use Rattle.pua_path.specs.Walks.{IsNamed, AreNamed, IsSeenIn, CanGoOn, LeadsOn, TracesOn};
+ghost use Rattle.pua_path.specs.Onward.{followed, is_followed_at, onward_by, onward_seen};
+ghost use Rattle.pua_path.specs.Onward.{found_alone, IsOnwardIn, IsByName, IsTargetIn};
+ghost use Rattle.pua_path.specs.Walks.{walk_end, potential_of};
+ghost use Rattle.pua_path.specs.Bounds.{part_cost, most_parts};
 ghost use Rattle.pua_path.specs.Fits.{FoundFits, FoundsFit, StandsAsNamed};
-ghost use Rattle.pua_path.specs.Remaining.{Remaining, is_done, is_piece, is_readable};
+ghost use Rattle.pua_path.specs.Remaining.{Remaining, is_piece, is_readable, rest_parts};
 ghost use Rattle.pua_path.specs.declared.errno.Errno.TheVariants.{ELOOP, ENOENT, ENOTDIR};
 ghost use Rattle.pua_path.specs.declared.found.Way.TheVariants as ways;
 ghost use Rattle.pua_path.specs.declared.resolver.Nameless.TheVariants as nameless;
 ghost use Rattle.pua_path.specs.declared.found.Part.TheVariants as parts;
-ghost use Rattle.pua_path.specs.declared.found.Found.TheVariants.{Slot};
+ghost use Rattle.pua_path.specs.declared.resolver.LentFound.TheVariants as lent;
+ghost use Rattle.pua_path.specs.declared.resolver.Onward.TheVariants as onward;
 ghost use Rattle.pua_path.specs.declared.text.Ending.TheVariants as ending;
 
 use crate::errno::Errno;
 use crate::found::{Found, Last, Part, Way};
-use crate::limits::LINK_LIMIT;
+use crate::limits::MOST_LINKS;
+use crate::piece::next_piece;
 use crate::probe::Probe;
-use crate::rest::Rest;
+use crate::rest::{Rest, unread};
 use crate::text::PathText;
 use pua_tree::{Kind, Name, NodeId};
 pub use tracing::trace;
@@ -56,7 +60,92 @@ pub fn resolve<'t, P: Probe<'t>>(
     let Some(start) = start_of(probe, from, text.bytes()) else {
         return Err(Errno::ENOENT);
     };
-    let mut walk = Walk::new(start, LINK_LIMIT, Rest::of_text(text));
+    resolve_text(probe, start, MOST_LINKS, unread(text), mode)
+}
+
+/// What the parts of a text name from a directory. It has no room for the targets of links: from
+/// the first link on `follow_on` goes on, which has it, so that a path without links pays for none.
+fn resolve_text<'t, P: Probe<'t>>(
+    probe: &mut P,
+    start: NodeId,
+    left: u8,
+    text: &[u8],
+    mode: Last,
+) -> Result<Found, Errno>
+    requires dir { IsTrue (is_dir (P.tree probe.old) start) }
+    requires left { left ≤ most_links }
+    requires readable { IsTrue (is_readable text.now) }
+    ensures exact { let t = P.tree probe.old in let parts = rest_parts text.now in
+        result ≡ found_alone (resolve_parts left t mode start ways.Top parts) }
+    ensures tree { P.tree probe.new ≡ P.tree probe.old }
+{
+    let mut here = start;
+    let mut way = Nameless::Top;
+    let mut rest = text;
+    while !rest.is_empty() {
+        let (piece, behind) = next_piece(rest);
+        rest = behind;
+        match lead_by_piece(probe, here, piece, rest.is_empty(), mode) {
+            Onward::Directory(dir, named) => {
+                here = dir;
+                way = named;
+            }
+            Onward::Link(target) => return follow_on(probe, here, left, target, rest, mode),
+            Onward::Found(lent) => return Ok(lent.found()),
+            Onward::Nowhere(errno) => return Err(errno),
+        }
+    }
+    Ok(Found::Whole {
+        dir: here,
+        way: way.way(),
+    })
+}
+
+/// Follows the first link of a resolution, and resolves what is left of the text behind it.
+fn follow_on<'a, 't: 'a, P: Probe<'t>>(
+    probe: &mut P,
+    dir: NodeId,
+    left: u8,
+    target: &'a [u8],
+    text: &'a [u8],
+    mode: Last,
+) -> Result<Found, Errno>
+    requires dir { IsTrue (is_dir (P.tree probe.old) dir) }
+    requires left { left ≤ most_links }
+    requires target { IsTargetIn (P.tree probe.old) target.now }
+    requires readable { IsTrue (is_readable text.now) }
+    ensures exact { let t = P.tree probe.old in let parts = rest_parts text.now in
+        result ≡ found_alone (followed left t mode dir target.now parts) }
+    ensures tree { P.tree probe.new ≡ P.tree probe.old }
+{
+    let (found, _) = follow_counted(probe, dir, left, target, text, mode)?;
+    Ok(found)
+}
+
+/// The same, and how many links are left then.
+fn follow_counted<'a, 't: 'a, P: Probe<'t>>(
+    probe: &mut P,
+    dir: NodeId,
+    left: u8,
+    target: &'a [u8],
+    text: &'a [u8],
+    mode: Last,
+) -> Result<(Found, u8), Errno>
+    requires dir { IsTrue (is_dir (P.tree probe.old) dir) }
+    requires left { left ≤ most_links }
+    requires target { IsTargetIn (P.tree probe.old) target.now }
+    requires readable { IsTrue (is_readable text.now) }
+    ensures exact { let parts = rest_parts text.now in
+        result ≡ followed left (P.tree probe.old) mode dir target.now parts }
+    ensures left { IfOk result (λ found. found.1 ≤ left) }
+    ensures tree { P.tree probe.new ≡ P.tree probe.old }
+    ensures count { let left_parts = length (rest_parts text.now) in
+        P.count probe.new
+        ≤ P.count probe.old + 3 * (left_parts + most_parts (P.tree probe.old) * left) }
+{
+    probe.known();
+    let mut walk = Resolving::new(dir, left, Rest::of_top(text));
+    walk.follow(target)?;
     walk.finish(probe, mode)
 }
 
@@ -72,16 +161,16 @@ pub fn step<'t, P: Probe<'t>>(
     part: &Part,
 ) -> Result<(NodeId, u8), Errno>
     requires dir { IsTrue (is_dir (P.tree probe.old) dir) }
-    requires used { used ≤ link_limit }
+    requires used { used ≤ most_links }
     ensures exact { result ≡ step (P.tree probe.old) dir used part.now }
     ensures lives { IfOk result (λ next. IsTrue (is_dir (P.tree probe.old) next.0)) }
-    ensures used { IfOk result (λ next. next.1 ≤ link_limit) }
+    ensures used { IfOk result (λ next. next.1 ≤ most_links) }
     ensures tree { P.tree probe.new ≡ P.tree probe.old }
     ensures cost { P.count probe.new ≤ P.count probe.old + part_cost (P.tree probe.old) }
 {
-    let (found, left) = resolve_part(probe, dir, LINK_LIMIT - used, part, Last::Followed)?;
+    let (found, left) = resolve_part(probe, dir, MOST_LINKS - used, part, Last::Followed)?;
     match found {
-        Found::Whole { dir, .. } => Ok((dir, LINK_LIMIT - left)),
+        Found::Whole { dir, .. } => Ok((dir, MOST_LINKS - left)),
         Found::Slot { node, .. } => Err(not_entered(node)),
     }
 }
@@ -109,14 +198,14 @@ pub fn last<'t, P: Probe<'t>>(
     mode: Last,
 ) -> Result<Found, Errno>
     requires dir { IsTrue (is_dir (P.tree probe.old) dir) }
-    requires used { used ≤ link_limit }
+    requires used { used ≤ most_links }
     ensures exact { result ≡ last (P.tree probe.old) dir used part.now mode }
     ensures fits { FoundsFit (P.tree probe.old) result }
     ensures named { IfOk result (StandsAsNamed (P.tree probe.old)) }
     ensures tree { P.tree probe.new ≡ P.tree probe.old }
     ensures cost { P.count probe.new ≤ P.count probe.old + part_cost (P.tree probe.old) }
 {
-    let (found, _) = resolve_part(probe, dir, LINK_LIMIT - used, part, mode)?;
+    let (found, _) = resolve_part(probe, dir, MOST_LINKS - used, part, mode)?;
     Ok(found)
 }
 
@@ -135,12 +224,12 @@ pub fn follow<'t, P: Probe<'t>>(
     ensures exact { result ≡ follow (P.tree probe.old) dir part.now }
     ensures fits { IfOk result (λ found. FoundFits (P.tree probe.old) found.0) }
     ensures named { IfOk result (λ found. StandsAsNamed (P.tree probe.old) found.0) }
-    ensures links { IfOk result (λ found. found.1 ≤ link_limit) }
+    ensures links { IfOk result (λ found. found.1 ≤ most_links) }
     ensures tree { P.tree probe.new ≡ P.tree probe.old }
     ensures cost { P.count probe.new ≤ P.count probe.old + part_cost (P.tree probe.old) }
 {
-    let (found, left) = resolve_part(probe, dir, LINK_LIMIT, part, Last::Followed)?;
-    Ok((found, LINK_LIMIT - left))
+    let (found, left) = resolve_part(probe, dir, MOST_LINKS, part, Last::Followed)?;
+    Ok((found, MOST_LINKS - left))
 }
 
 fn resolve_part<'t, P: Probe<'t>>(
@@ -151,7 +240,7 @@ fn resolve_part<'t, P: Probe<'t>>(
     mode: Last,
 ) -> Result<(Found, u8), Errno>
     requires dir { IsTrue (is_dir (P.tree probe.old) dir) }
-    requires left { left ≤ link_limit }
+    requires left { left ≤ most_links }
     ensures exact { result ≡ resolve_parts left (P.tree probe.old) mode dir ways.Top (part.now ∷ []) }
     ensures fits { IfOk result (λ found. FoundFits (P.tree probe.old) found.0) }
     ensures named { IfOk result (λ found. StandsAsNamed (P.tree probe.old) found.0) }
@@ -160,11 +249,14 @@ fn resolve_part<'t, P: Probe<'t>>(
     ensures cost { P.count probe.new ≤ P.count probe.old + part_cost (P.tree probe.old) }
 {
     probe.known();
-    let mut walk = Walk::new(dir, left, Rest::none());
-    match walk.enter(probe, part, mode) {
-        Ok(Some(lent)) => Ok((lent.found(), walk.left)),
-        Ok(None) => walk.finish_counted(probe, mode),
-        Err(errno) => Err(errno),
+    match lead_by_part(probe, dir, part, mode) {
+        Onward::Directory(dir, way) => {
+            let way = way.way();
+            Ok((Found::Whole { dir, way }, left))
+        }
+        Onward::Link(target) => follow_counted(probe, dir, left, target, &[], mode),
+        Onward::Found(lent) => Ok((lent.found(), left)),
+        Onward::Nowhere(errno) => Err(errno),
     }
 }
 
@@ -174,7 +266,7 @@ fn start_of<'t, P: Probe<'t>>(probe: &mut P, from: NodeId, text: &[u8]) -> Optio
         (if not (is_absolute text.now) && not (is_dir (P.tree probe.old) from) then None
         else Some (start_of text.now from)) }
     ensures ready { IfSome result (λ start.
-        (rest : Remaining) → rest.depth ≡ 0 → CanGoOn (P.tree probe.old) start link_limit rest) }
+        (rest : Remaining) → rest.depth ≡ 0 → CanGoOn (P.tree probe.old) start most_links rest) }
     ensures tree { P.tree probe.new ≡ P.tree probe.old }
 {
     probe.known();
@@ -210,9 +302,10 @@ enum Standing<'t> {
     Nothing,
 }
 
+#[inline(always)]
 fn standing_at<'t, P: Probe<'t>>(probe: &mut P, dir: NodeId, name: &[u8]) -> Standing<'t>
     ensures standing { standing_seen result ≡ standing_at (P.tree probe.old) dir name.now }
-    ensures stands { StandsIn (P.tree probe.old) result }
+    ensures stands { IsSeenIn (P.tree probe.old) result }
     ensures tree { P.tree probe.new ≡ P.tree probe.old }
     ensures count { P.count probe.new ≤ P.count probe.old + 3 }
 {
@@ -247,7 +340,7 @@ impl LentFound<'_> {
     #[inline(always)]
     fn found(&self) -> Found
         requires { IsNamed self.now }
-        ensures { result ≡ found_of self.now }
+        ensures { result ≡ found_seen self.now }
     {
         let name = name_of(self.name());
         match *self {
@@ -289,22 +382,160 @@ impl Nameless {
     }
 }
 
+/// What one part leads to.
+#[derive(Clone, Copy)]
+enum Onward<'n> {
+    /// A directory, and how it was named. By a name one is found at once where it is the last part,
+    /// and otherwise nobody asks how it was named: so `Top` stands there.
+    Directory(NodeId, Nameless),
+    /// A link that is followed.
+    Link(&'n [u8]),
+    /// What the path names.
+    Found(LentFound<'n>),
+    /// No further, and why.
+    Nowhere(Errno),
+}
+
+/// What the part that a piece is leads to from a directory; `is_last` says that none is behind it.
+/// As it stands in the loop over the pieces, no answer on the way is written to memory.
+#[inline(always)]
+fn lead_by_piece<'n, 't: 'n, P: Probe<'t>>(
+    probe: &mut P,
+    dir: NodeId,
+    piece: &'n [u8],
+    is_last: bool,
+    mode: Last,
+) -> Onward<'n>
+    requires piece { IsTrue (is_piece piece.now) }
+    requires dir { IsTrue (is_dir (P.tree probe.old) dir) }
+    ensures exact { let part = part_of piece.now in
+        onward_seen result ≡ onward_by (P.tree probe.old) mode dir part is_last }
+    ensures stands { IsOnwardIn (P.tree probe.old) result }
+    ensures named { IsByName piece.now result }
+    ensures tree { P.tree probe.new ≡ P.tree probe.old }
+    ensures count { P.count probe.new ≤ P.count probe.old + 3 }
+{
+    match piece {
+        [b'.'] => Onward::Directory(dir, Nameless::Dot),
+        [b'.', b'.'] => Onward::Directory(above(probe, dir), Nameless::DotDot),
+        _ => lead_by_name(probe, dir, piece, is_last, mode),
+    }
+}
+
+/// The same of a part that is the last one.
+fn lead_by_part<'n, 't: 'n, P: Probe<'t>>(
+    probe: &mut P,
+    dir: NodeId,
+    part: &'n Part,
+    mode: Last,
+) -> Onward<'n>
+    requires { IsTrue (is_dir (P.tree probe.old) dir) }
+    ensures exact { onward_seen result ≡ onward_by (P.tree probe.old) mode dir part.now true }
+    ensures stands { IsOnwardIn (P.tree probe.old) result }
+    ensures tree { P.tree probe.new ≡ P.tree probe.old }
+    ensures count { P.count probe.new ≤ P.count probe.old + 3 }
+{
+    match part {
+        Part::Dot => Onward::Directory(dir, Nameless::Dot),
+        Part::DotDot => Onward::Directory(above(probe, dir), Nameless::DotDot),
+        Part::Name(name) => lead_by_name(probe, dir, name.bytes(), true, mode),
+    }
+}
+
+/// The same of a name.
+#[inline(always)]
+fn lead_by_name<'n, 't: 'n, P: Probe<'t>>(
+    probe: &mut P,
+    dir: NodeId,
+    name: &'n [u8],
+    is_last: bool,
+    mode: Last,
+) -> Onward<'n>
+    requires name { IsTrue (is_name name.now) }
+    ensures exact { let part = parts.Name name.now in
+        onward_seen result ≡ onward_by (P.tree probe.old) mode dir part is_last }
+    ensures stands { IsOnwardIn (P.tree probe.old) result }
+    ensures tree { P.tree probe.new ≡ P.tree probe.old }
+    ensures count { P.count probe.new ≤ P.count probe.old + 3 }
+{
+    match standing_at(probe, dir, name) {
+        Standing::Directory(node) => {
+            if !is_last {
+                return Onward::Directory(node, Nameless::Top);
+            }
+            Onward::Found(LentFound::Whole {
+                dir: node,
+                parent: dir,
+                name,
+            })
+        }
+        Standing::Linked(node, target) => {
+            if is_followed(mode, is_last) {
+                return Onward::Link(target);
+            }
+            let node = Some(node);
+            Onward::Found(LentFound::Slot { dir, name, node })
+        }
+        Standing::Plain(node) => end_at(dir, name, Some(node), is_last, Errno::ENOTDIR),
+        Standing::Nothing => end_at(dir, name, None, is_last, Errno::ENOENT),
+    }
+}
+
+fn is_followed(mode: Last, is_last: bool) -> bool
+    ensures { result ≡ is_followed_at mode is_last }
+{
+    match mode {
+        Last::Followed => true,
+        Last::Kept => !is_last,
+    }
+}
+
+/// What is no directory is found where no part is left.
+#[inline(always)]
+fn end_at<'n>(
+    dir: NodeId,
+    name: &'n [u8],
+    node: Option<NodeId>,
+    is_last: bool,
+    errno: Errno,
+) -> Onward<'n>
+    ensures { result ≡ (if is_last then onward.Found (lent.Slot dir name.entry node)
+        else onward.Nowhere errno) }
+{
+    if !is_last {
+        return Onward::Nowhere(errno);
+    }
+    Onward::Found(LentFound::Slot { dir, name, node })
+}
+
+/// The directory above a directory.
+fn above<'t, P: Probe<'t>>(probe: &mut P, dir: NodeId) -> NodeId
+    requires { IsTrue (is_dir (P.tree probe.old) dir) }
+    ensures above { result ≡ above (P.tree probe.old) dir }
+    ensures lives { IsTrue (is_dir (P.tree probe.old) result) }
+    ensures tree { P.tree probe.new ≡ P.tree probe.old }
+    ensures count { P.count probe.new ≤ P.count probe.old + 1 }
+{
+    probe.known();
+    probe.parent(dir).unwrap_or(NodeId::ROOT)
+}
+
 /// A resolution on its way: the directory where it is, how that was named, how many links it may
 /// still follow, and the parts that are left.
 #[derive(Drop)]
-struct Walk<'a> {
+struct Resolving<'a> {
     here: NodeId,
     way: Nameless,
     left: u8,
     rest: Rest<'a>,
 }
 
-impl<'a> Walk<'a> {
+impl<'a> Resolving<'a> {
     #[inline(always)]
-    fn new(dir: NodeId, left: u8, rest: Rest<'a>) -> Walk<'a>
+    fn new(dir: NodeId, left: u8, rest: Rest<'a>) -> Resolving<'a>
         ensures { result ≡ record { here = dir; way = nameless.Top; left = left; rest = rest.entry } }
     {
-        Walk {
+        Resolving {
             here: dir,
             way: Nameless::Top,
             left,
@@ -312,30 +543,8 @@ impl<'a> Walk<'a> {
         }
     }
 
-    /// Resolves the parts that are left.
-    fn finish<'t: 'a, P: Probe<'t>>(&mut self, probe: &mut P, mode: Last) -> Result<Found, Errno>
-        requires ready { CanGoOn (P.tree probe.old) self.old.here self.old.left self.old.rest }
-        ensures exact { ended result self.new.left ≡ walk_end (P.tree probe.old) mode self.old }
-        ensures left { self.new.left ≤ self.old.left }
-        ensures tree { P.tree probe.new ≡ P.tree probe.old }
-        ensures count { P.count probe.new
-            ≤ P.count probe.old + 3 * potential_of (P.tree probe.old) self.old }
-    {
-        while let Some(piece) = self.rest.next() {
-            match self.enter_piece(probe, piece, mode) {
-                Ok(None) => {}
-                Ok(Some(lent)) => return Ok(lent.found()),
-                Err(errno) => return Err(errno),
-            }
-        }
-        Ok(Found::Whole {
-            dir: self.here,
-            way: self.way.way(),
-        })
-    }
-
     /// Resolves the parts that are left, and answers how many links are left too.
-    fn finish_counted<'t: 'a, P: Probe<'t>>(
+    fn finish<'t: 'a, P: Probe<'t>>(
         &mut self,
         probe: &mut P,
         mode: Last,
@@ -347,20 +556,25 @@ impl<'a> Walk<'a> {
         ensures count { P.count probe.new
             ≤ P.count probe.old + 3 * potential_of (P.tree probe.old) self.old }
     {
-        match self.finish(probe, mode) {
-            Ok(found) => Ok((found, self.left)),
-            Err(errno) => Err(errno),
+        while let Some(piece) = self.rest.next() {
+            match self.enter_piece(probe, piece, mode) {
+                Ok(None) => {}
+                Ok(Some(lent)) => return Ok((lent.found(), self.left)),
+                Err(errno) => return Err(errno),
+            }
         }
+        let way = self.way.way();
+        let dir = self.here;
+        Ok((Found::Whole { dir, way }, self.left))
     }
 
-    /// Resolves the part that a piece is, as `enter` does.
-    #[tactic(auto, using(crate::proofs::Pieces::pieces))]
-    fn enter_piece<'n, 't: 'a, P: Probe<'t>>(
+    /// Resolves the part that a piece is, and answers what was found, where it ends the resolution.
+    fn enter_piece<'t: 'a, P: Probe<'t>>(
         &mut self,
         probe: &mut P,
-        piece: &'n [u8],
+        piece: &'a [u8],
         mode: Last,
-    ) -> Result<Option<LentFound<'n>>, Errno>
+    ) -> Result<Option<LentFound<'a>>, Errno>
         requires piece { IsTrue (is_piece piece.now) }
         requires ready { CanGoOn (P.tree probe.old) self.old.here self.old.left self.old.rest }
         ensures exact { let part = part_of piece.now in
@@ -377,148 +591,25 @@ impl<'a> Walk<'a> {
         ensures count { P.count probe.new ≤ P.count probe.old + 3 }
         ensures named { IfOk result AreNamed }
     {
-        if piece == b".".as_slice() {
-            self.way = Nameless::Dot;
-            Ok(None)
-        } else if piece == b"..".as_slice() {
-            self.climb(probe);
-            Ok(None)
-        } else {
-            self.enter_name(probe, piece, mode)
-        }
-    }
-
-    /// Resolves one part; the answer is what was found, where it ends the resolution.
-    fn enter<'n, 't: 'a, P: Probe<'t>>(
-        &mut self,
-        probe: &mut P,
-        part: &'n Part,
-        mode: Last,
-    ) -> Result<Option<LentFound<'n>>, Errno>
-        requires ready { CanGoOn (P.tree probe.old) self.old.here self.old.left self.old.rest }
-        ensures exact { LeadsOn (P.tree probe.old) mode part.now self.old result self.new }
-        ensures ready { CanGoOn (P.tree probe.old) self.new.here self.new.left self.new.rest }
-        ensures left { self.new.left ≤ self.old.left }
-        ensures potential { let t = P.tree probe.old in
-            potential_of t self.new ≤ potential_of t self.old }
-        ensures tree { P.tree probe.new ≡ P.tree probe.old }
-        ensures count { P.count probe.new ≤ P.count probe.old + 3 }
-        ensures named { IfOk result AreNamed }
-    {
-        match part {
-            Part::Dot => {
-                self.way = Nameless::Dot;
+        match lead_by_piece(probe, self.here, piece, self.rest.is_done(), mode) {
+            Onward::Directory(dir, way) => {
+                self.here = dir;
+                self.way = way;
                 Ok(None)
             }
-            Part::DotDot => {
-                self.climb(probe);
-                Ok(None)
-            }
-            Part::Name(name) => self.enter_name(probe, name.bytes(), mode),
-        }
-    }
-
-    /// Goes to the directory above.
-    fn climb<'t, P: Probe<'t>>(&mut self, probe: &mut P)
-        requires ready { CanGoOn (P.tree probe.old) self.old.here self.old.left self.old.rest }
-        ensures above { self.new.here ≡ above (P.tree probe.old) self.old.here }
-        ensures way { self.new.way ≡ nameless.DotDot }
-        ensures left { self.new.left ≡ self.old.left }
-        ensures rest { self.new.rest ≡ self.old.rest }
-        ensures ready { CanGoOn (P.tree probe.old) self.new.here self.new.left self.new.rest }
-        ensures tree { P.tree probe.new ≡ P.tree probe.old }
-        ensures count { P.count probe.new ≤ P.count probe.old + 1 }
-    {
-        self.here = probe.parent(self.here).unwrap_or(NodeId::ROOT);
-        self.way = Nameless::DotDot;
-    }
-
-    /// Resolves a name, as `enter` does.
-    fn enter_name<'n, 't: 'a, P: Probe<'t>>(
-        &mut self,
-        probe: &mut P,
-        name: &'n [u8],
-        mode: Last,
-    ) -> Result<Option<LentFound<'n>>, Errno>
-        requires name { IsTrue (is_name name.now) }
-        requires ready { CanGoOn (P.tree probe.old) self.old.here self.old.left self.old.rest }
-        ensures exact { let part = parts.Name name.now in
-            LeadsOn (P.tree probe.old) mode part self.old result self.new }
-        ensures traced { let part = parts.Name name.now in
-            TracesOn (P.tree probe.old) mode part name.now self.old result self.new }
-        ensures ready { CanGoOn (P.tree probe.old) self.new.here self.new.left self.new.rest }
-        ensures left { self.new.left ≤ self.old.left }
-        ensures potential { let t = P.tree probe.old in
-            potential_of t self.new ≤ potential_of t self.old }
-        ensures tree { P.tree probe.new ≡ P.tree probe.old }
-        ensures count { P.count probe.new ≤ P.count probe.old + 3 }
-        ensures named { IfOk result AreNamed }
-    {
-        let dir = self.here;
-        match standing_at(probe, dir, name) {
-            Standing::Directory(node) => {
-                if self.rest.is_done() {
-                    return Ok(Some(LentFound::Whole {
-                        dir: node,
-                        parent: dir,
-                        name,
-                    }));
-                }
-                self.here = node;
-                Ok(None)
-            }
-            Standing::Linked(node, target) => {
-                if !self.is_followed(mode) {
-                    return Ok(Some(LentFound::Slot {
-                        dir,
-                        name,
-                        node: Some(node),
-                    }));
-                }
+            Onward::Link(target) => {
                 self.follow(target)?;
                 Ok(None)
             }
-            Standing::Plain(node) => self.end_at(name, Some(node), Errno::ENOTDIR),
-            Standing::Nothing => self.end_at(name, None, Errno::ENOENT),
+            Onward::Found(lent) => Ok(Some(lent)),
+            Onward::Nowhere(errno) => Err(errno),
         }
-    }
-
-    fn is_followed(&self, mode: Last) -> bool
-        ensures { result ≡ is_followed mode self.now.rest.parts }
-    {
-        match mode {
-            Last::Followed => true,
-            Last::Kept => !self.rest.is_done(),
-        }
-    }
-
-    /// What is no directory is found where no part is left.
-    fn end_at<'n>(
-        &self,
-        name: &'n [u8],
-        node: Option<NodeId>,
-        errno: Errno,
-    ) -> Result<Option<LentFound<'n>>, Errno>
-        requires { IsTrue (is_name name.now) }
-        ensures exact { all_found result ≡
-            (if is_done self.now.rest.parts then Ok (Some (Slot self.now.here name.now node))
-            else Err errno) }
-        ensures named { IfOk result AreNamed }
-    {
-        if !self.rest.is_done() {
-            return Err(errno);
-        }
-        Ok(Some(LentFound::Slot {
-            dir: self.here,
-            name,
-            node,
-        }))
     }
 
     /// Follows a link: its target comes before the parts that are left.
     fn follow(&mut self, target: &'a [u8]) -> Result<(), Errno>
         requires readable { IsTrue (is_readable target.now) }
-        requires room { self.old.rest.depth + self.old.left ≤ link_limit }
+        requires room { self.old.rest.depth + self.old.left ≤ most_links }
         ensures ok { OnOk result (0 < self.old.left) }
         ensures err { IfErr result (λ errno. (errno ≡ ELOOP) × (self.old.left ≡ 0)) }
         ensures left { self.new.left ≡ self.old.left - 1 }
@@ -527,7 +618,7 @@ impl<'a> Walk<'a> {
         ensures way { 0 < self.old.left → self.new.way ≡ nameless.Top }
         ensures parts { 0 < self.old.left →
             self.new.rest.parts ≡ parts_of ending.Dot target.now ++ self.old.rest.parts }
-        ensures room { self.new.rest.depth + self.new.left ≤ link_limit }
+        ensures room { self.new.rest.depth + self.new.left ≤ most_links }
     {
         if self.left == 0 {
             return Err(Errno::ELOOP);

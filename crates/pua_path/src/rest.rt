@@ -1,12 +1,12 @@
 //! What is left of a path while it is resolved.
 
-use crate::limits::LINK_LIMIT;
+use crate::limits::MOST_LINKS;
 use crate::piece::{after_slashes, before_slashes, next_piece};
 use crate::text::{Ending, PathText};
 use std::marker::Model;
 
 /// How many texts may lie below the one that is read: one for each link that may be followed.
-const WAITING: usize = LINK_LIMIT as usize;
+const WAITING: usize = MOST_LINKS as usize;
 
 /// The parts still to be resolved, as texts that lie one on another: what is left of a path, and of
 /// the target of each link on the way. The one on top is read first. It takes no memory. Contracts
@@ -20,48 +20,50 @@ pub(crate) struct Rest<'a> {
 
 impl<'a> Model for Rest<'a> {
     ghost use Rattle.std.specs.Prelude.{◌≤◌, ◌++◌, IsTrue, take};
-    ghost use Rattle.pua_path.specs.Limits.{link_limit};
-    ghost use Rattle.pua_path.specs.Remaining.{Remaining, rest_parts, pending, is_stack};
+    ghost use Rattle.pua_path.specs.Limits.{most_links};
+    ghost use Rattle.pua_path.specs.Remaining.{Remaining, rest_parts, pending_parts, is_stack};
 
     ghost Value = { Remaining };
 
-    ghost view = { λ a. record { parts = rest_parts a.top.now ++ pending (take a.depth a.below); depth = a.depth } };
+    ghost view = { λ a. record
+        { parts = rest_parts a.top.now ++ pending_parts (take a.depth a.below); depth = a.depth } };
 
-    ghost invariant = { λ a. (a.depth ≤ link_limit) × IsTrue (is_stack a.top.now (take a.depth a.below)) };
+    ghost invariant = { λ a. (a.depth ≤ most_links) ×
+        IsTrue (is_stack a.top.now (take a.depth a.below)) };
 }
 
 ghost use Rattle.std.specs.Prelude.{◌≡◌, ◌≤◌, ◌<◌, ◌+◌, [], ◌∷◌, ◌++◌};
 ghost use Rattle.std.specs.Prelude.{IsTrue, IfSome, MatchOption};
-ghost use Rattle.pua_path.specs.Limits.{link_limit};
+ghost use Rattle.pua_path.specs.Limits.{most_links};
 ghost use Rattle.pua_path.specs.Paths.{part_of, parts_of};
-ghost use Rattle.pua_path.specs.Remaining.{is_done, is_piece, is_readable, rest_parts};
+ghost use Rattle.pua_path.specs.Remaining.{has_no_part, is_piece, is_readable, rest_parts};
 ghost use Rattle.pua_path.specs.declared.text.Ending.TheVariants as ending;
 
-impl<'a> Rest<'a> {
-    /// No part.
-    #[inline(always)]
-    pub(crate) fn none() -> Rest<'a>
-        ensures parts { result.parts ≡ [] }
-        ensures depth { result.depth ≡ 0 }
-    {
-        Rest::of_top(&[])
+/// What is left of a path where nothing of it is read yet.
+pub(crate) fn unread<'a>(text: &PathText<'a>) -> &'a [u8]
+    ensures parts { rest_parts result.now ≡ parts_of text.now.ending text.now.bytes }
+    ensures readable { IsTrue (is_readable result.now) }
+{
+    let bytes = text.bytes();
+    match text.ending() {
+        Ending::Dot => after_slashes(bytes),
+        Ending::Dropped => after_slashes(before_slashes(bytes)),
     }
+}
 
+impl<'a> Rest<'a> {
     /// The parts of a path.
     #[inline(always)]
     pub(crate) fn of_text(text: &PathText<'a>) -> Rest<'a>
         ensures parts { result.parts ≡ parts_of text.now.ending text.now.bytes }
         ensures depth { result.depth ≡ 0 }
     {
-        let bytes = text.bytes();
-        match text.ending() {
-            Ending::Dot => Rest::of_top(after_slashes(bytes)),
-            Ending::Dropped => Rest::of_top(after_slashes(before_slashes(bytes))),
-        }
+        Rest::of_top(unread(text))
     }
 
+    /// The parts of what is left of a text.
     #[inline(always)]
-    fn of_top(top: &'a [u8]) -> Rest<'a>
+    pub(crate) fn of_top(top: &'a [u8]) -> Rest<'a>
         requires { IsTrue (is_readable top.now) }
         ensures parts { result.parts ≡ rest_parts top.now }
         ensures depth { result.depth ≡ 0 }
@@ -75,7 +77,7 @@ impl<'a> Rest<'a> {
 
     /// Whether no part is left.
     pub(crate) fn is_done(&self) -> bool
-        ensures { result ≡ is_done self.now.parts }
+        ensures { result ≡ has_no_part self.now.parts }
     {
         self.top.is_empty()
     }
@@ -104,7 +106,7 @@ impl<'a> Rest<'a> {
     /// Puts the parts of a link's target in front of the others.
     pub(crate) fn put(&mut self, target: &'a [u8])
         requires readable { IsTrue (is_readable target.now) }
-        requires room { self.old.depth < link_limit }
+        requires room { self.old.depth < most_links }
         ensures parts { self.new.parts ≡ parts_of ending.Dot target.now ++ self.old.parts }
         ensures depth { self.new.depth ≤ self.old.depth + 1 }
     {

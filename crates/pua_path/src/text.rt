@@ -1,7 +1,7 @@
 //! Path texts.
 
 use crate::errno::Errno;
-use crate::limits::PATH_LIMIT;
+use crate::limits::MOST_PATH;
 use crate::traced::TextFault;
 use pua_tree::has_short_components;
 use std::marker::Model;
@@ -44,7 +44,8 @@ impl<'a> PathText<'a> {
     /// before any look-up, are this profile's).
     pub fn read(bytes: &'a [u8], ending: Ending) -> Result<PathText<'a>, Errno>
         ensures { MatchResult result
-            (λ text. (path_fault bytes.now ≡ None) × (text ≡ record { bytes = bytes.now; ending = ending }))
+            (λ text. (path_fault bytes.now ≡ None) ×
+            (text ≡ record { bytes = bytes.now; ending = ending }))
             (λ errno. path_fault bytes.now ≡ Some errno) }
     {
         match text_fault(bytes) {
@@ -77,7 +78,7 @@ pub fn text_fault(bytes: &[u8]) -> Option<TextFault>
     if bytes.is_empty() {
         return Some(TextFault::EmptyText);
     }
-    if bytes.len() > PATH_LIMIT {
+    if bytes.len() > MOST_PATH {
         return Some(TextFault::LongText);
     }
     if !has_short_components(bytes) {

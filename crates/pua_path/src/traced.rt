@@ -4,7 +4,7 @@ ghost use Rattle.std.specs.Prelude.{◌≡◌, [], IfOk};
 ghost use Rattle.pua_path.specs.Paths.{text_errno};
 
 use crate::errno::Errno;
-use crate::limits::LINK_LIMIT;
+use crate::limits::MOST_LINKS;
 use pua_tree::{Name, NodeId, OutOfMemory};
 use std::alloc::Global;
 use std::marker::Model;
@@ -22,13 +22,13 @@ pub struct Links {
 impl Model for Links {
     ghost use Rattle.std.specs.Prelude.{◌≤◌, List, vec_capacity};
     ghost use Rattle.pua_tree.specs.Tree.{Spot};
-    ghost use Rattle.pua_path.specs.Limits.{link_limit};
+    ghost use Rattle.pua_path.specs.Limits.{most_links};
 
     ghost Value = { List Spot };
 
     ghost view = { λ a. a.spots.items };
 
-    ghost invariant = { λ a. link_limit ≤ vec_capacity a.spots };
+    ghost invariant = { λ a. most_links ≤ vec_capacity a.spots };
 }
 
 impl Links {
@@ -36,10 +36,8 @@ impl Links {
     pub fn new(alloc: Global) -> Result<Links, OutOfMemory>
         ensures { IfOk result (λ links. links ≡ []) }
     {
-        match Vec::with_capacity(alloc, LINK_LIMIT as usize) {
-            Ok(spots) => Ok(Links { spots }),
-            Err(_) => Err(OutOfMemory),
-        }
+        let spots = Vec::with_capacity(alloc, MOST_LINKS as usize)?;
+        Ok(Links { spots })
     }
 
     /// Drops them, and keeps the room.

@@ -1,16 +1,16 @@
 -- Climbing in a tree, one directory after another.
-use Rattle.std.proofs.Common.{◌≡◌, ℕ, zero, suc, ◌+◌, ◌≤◌, ◌≢◌, add-one, List, [], ◌∷◌, length, Bool, true, false, map, refl, sym, ap, ◌∙◌, arith}
-use Rattle.std.proofs.lemmas.Bool.{false≢true, eqb-true}
+use Rattle.pua_policy.proofs.Common.{◌≡◌, ℕ, ◌+◌, ◌≢◌, List, [], ◌∷◌, length, Bool, true, false, map, refl, sym, ap, ◌∙◌, arith, eqb-true}
+use Rattle.pua_policy.proofs.Common.{list_any, Option, Some, None, ◌||◌, Tree, WellFormed, is_dir, above, climb, nearest, Only, and_parts}
+use Rattle.std.proofs.Common.{zero, suc, ◌≤◌, add-one}
+use Rattle.std.proofs.lemmas.Bool.{false≢true}
 use Rattle.std.specs.Ordering.{nat_cmp}
 use Rattle.std.specs.FinMap.{nat_cmp-IsAntisymmetric, find as find_key}
-use Rattle.std.specs.List.{list_any}
-use Rattle.std.specs.Prelude.{Option, Some, None, option_map, ◌||◌, ◌==◌, nat_lt}
-use Rattle.pua_tree.specs.Tree.{Tree, Node, WellFormed, is_dir, is_dir_kind, above, climb, climb_within, node_at, node_fits, rows_fit_kind, rows_of, target_fits}
+use Rattle.std.specs.Prelude.{option_map, ◌==◌, nat_lt}
+use Rattle.pua_tree.specs.Tree.{Node, is_dir_kind, climb_within, node_at, node_fits, rows_fit_kind}
+use Rattle.pua_tree.specs.Tree.{rows_of, target_fits}
 use Rattle.pua_tree.specs.declared.node.Kind.{Kind}
 use Rattle.pua_tree.specs.declared.node.Kind.TheVariants.{Dir}
-use Rattle.pua_policy.specs.Verdict.{nearest}
-use Rattle.pua_policy.specs.declared.answer.Cover.TheVariants.{Nothing, Only}
-use Rattle.std.proofs.lemmas.Bool.{and_parts}
+use Rattle.pua_policy.specs.declared.answer.Cover.TheVariants.{Nothing}
 use Rattle.pua_path.proofs.ForCallers.{above_lives, list_all-find_key}
 
 -- a climb gets to the root
@@ -97,7 +97,8 @@ module _ (t : Tree) where
     climb_gets_to_root zero e = ap has_root climb_root
     climb_gets_to_root (suc d) e = by (node_at t (suc d)) refl e
       where
-        of_kind : (node : Node) (kind : Kind) → is_dir_kind (Some kind) ≡ true → rows_fit_kind t (suc d) kind ≡ true → has_root (climb t (suc d)) ≡ true
+        of_kind : (node : Node) (kind : Kind) → is_dir_kind (Some kind) ≡ true → rows_fit_kind t (suc d) kind ≡ true →
+            has_root (climb t (suc d)) ≡ true
         of_kind node Dir is fit = (and_parts (rows_of t (suc d) == 1) (has_root (climb t (suc d))) fit).1
         of_kind node _ is fit = cc
 
@@ -127,7 +128,8 @@ module _ (t : Tree) where
           ∙ ap (λ o. nearest (o ∷ map f (climb t (above t (suc d))))) here
 
       -- and where it keeps nothing, what is nearest above it
-      pub nearest_above : (d : ℕ) → d ≢ 0 → is_dir t d ≡ true → f d ≡ None → nearest (map f (climb t d)) ≡ nearest (map f (climb t (above t d)))
+      pub nearest_above : (d : ℕ) → d ≢ 0 → is_dir t d ≡ true → f d ≡ None →
+          nearest (map f (climb t d)) ≡ nearest (map f (climb t (above t d)))
       nearest_above d other e nothing =
           ap (λ ds. nearest (map f ds)) (climb_step d other e) ∙ ap (λ o. nearest (o ∷ map f (climb t (above t d)))) nothing
 

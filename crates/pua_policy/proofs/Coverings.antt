@@ -1,20 +1,13 @@
 -- Which veil of a process covers an object, by where it looks.
-use Rattle.std.proofs.Common.{◌≡◌, ℕ, List, [], ◌∷◌, map, Bool, true, false, refl, sym, ap, ◌∙◌}
-use Rattle.std.specs.Prelude.{Option, Some, None, if◌then◌else◌}
-use Rattle.std.specs.List.{list_any}
-use Rattle.pua_tree.specs.Tree.{Tree, WellFormed, is_dir, above, climb}
-use Rattle.pua_path.specs.declared.found.Way.{Way}
-use Rattle.pua_path.specs.declared.found.Found.{Found}
-use Rattle.pua_path.specs.declared.found.Found.TheVariants.{Whole, Slot}
-use Rattle.pua_policy.specs.declared.place.Place.{Place}
+use Rattle.pua_policy.proofs.Common.{◌≡◌, ℕ, List, [], ◌∷◌, map, Bool, true, false, refl, sym, ap, ◌∙◌, Option, Some, None, if◌then◌else◌}
+use Rattle.pua_policy.proofs.Common.{list_any, Tree, WellFormed, is_dir, above, climb, Way, Found, Whole, Slot, Place, All, History}
+use Rattle.pua_policy.proofs.Common.{ProcessState, StandsFor, perms_kept, veil_at, has_veil, cover, nearest, is_unveil, places_over}
+use Rattle.pua_policy.proofs.Common.{first_veiled, covering_at, cover_of}
 use Rattle.pua_policy.specs.declared.place.Place.TheVariants as place
-use Rattle.pua_policy.specs.declared.answer.Cover.TheVariants.{All}
 use Rattle.pua_policy.specs.declared.reason.Covering.{Covering}
-use Rattle.pua_policy.specs.declared.reason.Covering.TheVariants.{InView, By}
-use Rattle.pua_policy.specs.History.{History, ProcessState, StandsFor, kept, veil_at, has_veil}
-use Rattle.pua_policy.specs.Verdict.{cover, nearest, is_unveil, place_of, directories_over}
-use Rattle.pua_policy.specs.Laws.{places_over}
-use Rattle.pua_policy.specs.Reasons.{kept_or, or_farther, first_kept, first_veiled, covering, covering_at, cover_of}
+use Rattle.pua_policy.specs.declared.reason.Covering.TheVariants.{InView}
+use Rattle.pua_policy.specs.Verdict.{place_of, directories_over}
+use Rattle.pua_policy.specs.Reasons.{kept_or, or_farther, first_kept, covering, covering_on, covering_with}
 use Rattle.pua_policy.proofs.Standing.{any_veil, kept_by}
 use Rattle.pua_policy.proofs.Veiled.{veiled_whole}
 
@@ -23,7 +16,8 @@ first_covers : (kept_at : Place → Option ℕ) (places : List Place) → cover_
 first_covers kept_at [] = refl
 first_covers kept_at (p ∷ ps) = by (kept_at p) (first_covers kept_at ps)
   where
-    by : (o : Option ℕ) → cover_of (first_kept kept_at ps) ≡ nearest (map kept_at ps) → cover_of (kept_or p o (first_kept kept_at ps)) ≡ nearest (o ∷ map kept_at ps)
+    by : (o : Option ℕ) → cover_of (first_kept kept_at ps) ≡ nearest (map kept_at ps) →
+        cover_of (kept_or p o (first_kept kept_at ps)) ≡ nearest (o ∷ map kept_at ps)
     by (Some perms) e = refl
     by None e = e
 
@@ -35,49 +29,50 @@ at_dirs kept_at (d ∷ ds) = ap (λ more. kept_at (place.Dir d) ∷ more) (at_di
 pub coverings_cover : (t : Tree) (h : History) (object : Found) → cover_of (covering t h object) ≡ cover t h object
 coverings_cover t h object = by (list_any is_unveil h)
   where
-    by : (v : Bool) → cover_of (if v then first_kept (kept h) (places_over t object) else InView)
-        ≡ (if v then nearest (kept h (place_of object) ∷ map (λ dir. kept h (place.Dir dir)) (directories_over t object)) else All)
-    by true = first_covers (kept h) (places_over t object) ∙ ap (λ more. nearest (kept h (place_of object) ∷ more)) (at_dirs (kept h) (directories_over t object))
+    by : (v : Bool) → cover_of (if v then first_kept (perms_kept h) (places_over t object) else InView)
+        ≡ (if v then nearest (perms_kept h (place_of object) ∷ map (λ dir. perms_kept h (place.Dir dir)) (directories_over t object)) else
+        All)
+    by true = first_covers (perms_kept h) (places_over t object) ∙
+        ap (λ more. nearest (perms_kept h (place_of object) ∷ more)) (at_dirs (perms_kept h) (directories_over t object))
     by false = refl
 
 -- the first of some directories is the first of their places
-first_over : (kept_at : Place → Option ℕ) (ds : List ℕ) → first_kept kept_at (map place.Dir ds) ≡ covering_at (first_veiled (λ dir. kept_at (place.Dir dir)) ds)
+first_over : (kept_at : Place → Option ℕ) (ds : List ℕ) →
+    first_kept kept_at (map place.Dir ds) ≡ covering_at (first_veiled (λ dir. kept_at (place.Dir dir)) ds)
 first_over kept_at [] = refl
 first_over kept_at (d ∷ ds) = by (kept_at (place.Dir d)) (first_over kept_at ds)
   where
     by : (o : Option ℕ) → first_kept kept_at (map place.Dir ds) ≡ covering_at (first_veiled (λ dir. kept_at (place.Dir dir)) ds) →
-        kept_or (place.Dir d) o (first_kept kept_at (map place.Dir ds)) ≡ covering_at (or_farther d o (first_veiled (λ dir. kept_at (place.Dir dir)) ds))
+        kept_or (place.Dir d) o (first_kept kept_at (map place.Dir ds))
+        ≡ covering_at (or_farther d o (first_veiled (λ dir. kept_at (place.Dir dir)) ds))
     by (Some perms) e = refl
     by None e = e
 
--- what covers an object, by whether there is a veil and by what is kept at each place
-abbrev covering_with : Bool → (Place → Option ℕ) → Tree → Found → Covering
-covering_with any kept_at t object = if any then first_kept kept_at (places_over t object) else InView
+-- a process covers an object as its history does
+pub covering_by : (p : ProcessState) (h : History) → StandsFor p h → (t : Tree) (object : Found) →
+    covering t h object ≡ covering_on t p object
+covering_by p h s t object = λ i. covering_with ((any_veil h ∙ ap has_veil (sym s.veils)) i) (λ place. kept_by p h s place i) t object
 
-module _ (p : ProcessState) (h : History) (s : StandsFor p h) (t : Tree) where
-  by_veil : (object : Found) (veiled : Bool) → has_veil p.veils ≡ veiled → covering t h object ≡ covering_with veiled (veil_at p.veils) t object
-  by_veil object veiled e = λ i. covering_with ((any_veil h ∙ ap has_veil (sym s.veils) ∙ e) i) (λ place. kept_by p h s place i) t object
+module _ (p : ProcessState) (t : Tree) where
+  by_veil : (object : Found) (veiled : Bool) → has_veil p.veils ≡ veiled →
+      covering_on t p object ≡ covering_with veiled (veil_at p.veils) t object
+  by_veil object veiled e = ap (λ b. covering_with b (veil_at p.veils) t object) e
 
   -- without a veil everything is in view
-  pub covering-unveiled : (object : Found) → has_veil p.veils ≡ false → covering t h object ≡ InView
+  pub covering-unveiled : (object : Found) → has_veil p.veils ≡ false → covering_on t p object ≡ InView
   covering-unveiled object e = by_veil object false e
 
   module _ (veiled : has_veil p.veils ≡ true) where
     -- a directory is covered by the first veil from itself up
     pub covering-whole : WellFormed t → (dir : ℕ) (way : Way) → is_dir t dir ≡ true →
-        covering t h (Whole dir way) ≡ covering_at (first_veiled (λ dir. veil_at p.veils (place.Dir dir)) (climb t dir))
+        covering_on t p (Whole dir way) ≡ covering_at (first_veiled (λ dir. veil_at p.veils (place.Dir dir)) (climb t dir))
     covering-whole fits dir way e =
         by_veil (Whole dir way) true veiled ∙ first_over (veil_at p.veils) (dir ∷ climb t (above t dir))
         ∙ ap covering_at (veiled_whole t fits (λ dir. veil_at p.veils (place.Dir dir)) dir e)
 
-    -- a name is covered by what is kept at it
-    pub covering-own : (dir : ℕ) (name : List ℕ) (node : Option ℕ) (perms : ℕ) → veil_at p.veils (place.Slot dir name) ≡ Some perms → covering t h (Slot dir name node) ≡ By (place.Slot dir name) perms
-    covering-own dir name node perms e =
-        by_veil (Slot dir name node) true veiled ∙ ap (λ o. kept_or (place.Slot dir name) o (first_kept (veil_at p.veils) (map place.Dir (climb t dir)))) e
-
-    -- and else by the first veil from its directory up
-    pub covering-beneath : (dir : ℕ) (name : List ℕ) (node : Option ℕ) → veil_at p.veils (place.Slot dir name) ≡ None →
-        covering t h (Slot dir name node) ≡ covering_at (first_veiled (λ dir. veil_at p.veils (place.Dir dir)) (climb t dir))
-    covering-beneath dir name node e =
-        by_veil (Slot dir name node) true veiled ∙ ap (λ o. kept_or (place.Slot dir name) o (first_kept (veil_at p.veils) (map place.Dir (climb t dir)))) e
-        ∙ first_over (veil_at p.veils) (climb t dir)
+    -- a name is covered by what is kept at it, and else by the first veil from its directory up
+    pub covering-slot : (dir : ℕ) (name : List ℕ) (node own : Option ℕ) → veil_at p.veils (place.Slot dir name) ≡ own →
+        covering_on t p (Slot dir name node)
+        ≡ kept_or (place.Slot dir name) own (covering_at (first_veiled (λ dir. veil_at p.veils (place.Dir dir)) (climb t dir)))
+    covering-slot dir name node own e =
+        by_veil (Slot dir name node) true veiled ∙ (λ i. kept_or (place.Slot dir name) (e i) (first_over (veil_at p.veils) (climb t dir) i))

@@ -1,8 +1,9 @@
--- What a process stands for after a successful exec.
-use Rattle.std.proofs.Common.{◌≡◌, ℕ, [], ◌∷◌, false, refl, sym, ap, ◌∙◌}
-use Rattle.std.specs.Prelude.{Some, None, not, filter, filter_map}
-use Rattle.pua_policy.specs.History.{History, ProcessState, StandsFor, Pledged, Unveiled, Locked, Moved, Ended, promises_in, execpromises_in, common, meet, is_pledge, held_for_exec, left_for_exec, after_exec, veils, with_veil, is_locked, is_ended, dir_in, first}
-use Rattle.std.specs.Prelude.{unwrap_or}
+-- What a successful exec keeps of a history.
+use Rattle.pua_policy.proofs.Common.{◌≡◌, ℕ, [], ◌∷◌, refl, ap, Some, History, Pledged, Unveiled, Locked, Moved, Ended, meet, veils}
+use Rattle.pua_policy.proofs.Common.{with_veil, is_ended}
+use Rattle.std.specs.Prelude.{not, filter, filter_map}
+use Rattle.pua_policy.specs.History.{promises_in, execpromises_in, common}
+use Rattle.pua_policy.specs.History.{is_pledge, held_for_exec, left_for_exec, is_locked, dir_in}
 use Rattle.pua_calls.specs.declared.rules.ExecPromises.{ExecPromises}
 use Rattle.pua_calls.specs.declared.rules.ExecPromises.TheVariants.{Unset, Stay}
 
@@ -59,27 +60,7 @@ same_end (Moved d ∷ h) = same_end h
 same_end (Ended ∷ h) = refl
 
 -- what an exec leaves of execpromises is all that the new program has of them
-pub left_alone : (left : ExecPromises) (set : ℕ) (h : History) → left_for_exec left set ≡ held_for_exec (Pledged (Some set) (left_for_exec left set) ∷ others h)
-left_alone Unset set h = ap common (sym (no_execpromises h))
-left_alone Stay set h = ap (λ sets. Some (meet set (common sets))) (sym (no_execpromises h))
-
--- with execpromises, they become the promises, and all but the pledges stays
-pub stands_given : (left : ExecPromises) (p : ProcessState) (h : History) → StandsFor p h → (set : ℕ) → p.execpromises ≡ Some set →
-    StandsFor (record { promises = Some set; execpromises = left_for_exec left set; veils = p.veils; locked = p.locked; dir = p.dir; ended = p.ended }) (after_exec left h)
-stands_given left p h s set e =
-    let given : held_for_exec h ≡ Some set = sym s.execpromises ∙ e in
-    rw given (record {
-      promises = ap (λ sets. Some (meet set (common sets))) (sym (no_promises h));
-      execpromises = left_alone left set h;
-      veils = s.veils ∙ sym (same_veils h);
-      locked = s.locked ∙ sym (same_lock h);
-      dir = s.dir ∙ ap (λ ds. unwrap_or (first ds) 0) (sym (same_dirs h));
-      ended = s.ended ∙ sym (same_end h);
-    })
-
--- without them the working directory alone stays
-pub stands_alone : (left : ExecPromises) (p : ProcessState) (h : History) → StandsFor p h → p.execpromises ≡ None → p.ended ≡ false →
-    StandsFor (record { promises = None; execpromises = None; veils = []; locked = false; dir = p.dir; ended = p.ended }) (after_exec left h)
-stands_alone left p h s e lives =
-    let none : held_for_exec h ≡ None = sym s.execpromises ∙ e in
-    rw none (record { promises = refl; execpromises = refl; veils = refl; locked = refl; dir = s.dir; ended = lives })
+pub left_alone : (left : ExecPromises) (set : ℕ) (h : History) →
+    held_for_exec (Pledged (Some set) (left_for_exec left set) ∷ others h) ≡ left_for_exec left set
+left_alone Unset set h = ap common (no_execpromises h)
+left_alone Stay set h = ap (λ sets. Some (meet set (common sets))) (no_execpromises h)

@@ -3,14 +3,14 @@
 -- climbing in a tree, one directory after another
 pub use Rattle.pua_policy.proofs.Climbs.{climb_step, length-climb_step}
 -- what a process keeps decides what it may do
-pub use Rattle.pua_policy.proofs.Standing.{processes_decide}
+pub use Rattle.pua_policy.proofs.Standing.{processes_decide, kept_by, cover_by, unveil_fault_by}
+-- and is what is left of a history, after each event and after an exec
+pub use Rattle.pua_policy.proofs.Histories.{keeps, stands, state_after, state_more, state_by_exec, state_exec}
 -- no event brings back a promise but `error`
 pub use Rattle.pua_policy.proofs.Narrowing.{held_never_grows}
 -- what both of two sets have, the second has, and what a set holds, a set that holds it holds
 pub use Rattle.pua_policy.proofs.Narrowing.{second_holds}
 pub use Rattle.pua_policy.proofs.Veils.{holds_through}
--- what an exec keeps of a history
-pub use Rattle.pua_policy.proofs.Exec.{others, no_promises, no_execpromises, same_veils, same_lock, same_dirs, same_end}
 -- names without a veil of their own are covered as their directory is, and get one verdict where nothing stands
 pub use Rattle.pua_policy.proofs.Unveiled.{unveiled_alike, unveiled_within, missing_alike}
 -- covers, one directory after another
@@ -22,6 +22,6 @@ pub use Rattle.pua_policy.proofs.Veils.{veils_are_kept, same_place_is, same_plac
 pub use Rattle.pua_policy.proofs.Standing.{any_veil}
 -- what is told of promises, of veils and of objects
 pub use Rattle.pua_policy.proofs.Lacking.{suffices, least, lackings_hold, promisings_hold, promisings_answer}
-pub use Rattle.pua_policy.proofs.Coverings.{coverings_cover}
+pub use Rattle.pua_policy.proofs.Coverings.{coverings_cover, covering_by}
 pub use Rattle.pua_policy.proofs.NearestVeil.{coverings_hold}
 pub use Rattle.pua_policy.proofs.Misfits.{misfits_hold}

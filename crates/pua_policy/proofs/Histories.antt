@@ -1,51 +1,87 @@
--- What is left by a history stays so: each event that changes a process lengthens its history.
-use Rattle.std.proofs.Common.{◌≡◌, ℕ, [], ◌∷◌, true, false, refl, ap}
-use Rattle.std.specs.Prelude.{Option, Some, None}
+-- What a process keeps after an event or an exec is what is left of the longer history.
+use Rattle.pua_policy.proofs.Common.{◌≡◌, ℕ, [], ◌∷◌, true, false, refl, sym, ap, ◌∙◌, Option, Some, None, unwrap_or, History, Pledged}
+use Rattle.pua_policy.proofs.Common.{Unveiled, Locked, Moved, Ended, ProcessState, StandsFor, meet, with_veil}
 use Rattle.pua_calls.specs.declared.rules.ExecPromises.{ExecPromises}
-use Rattle.pua_calls.specs.declared.rules.ExecPromises.TheVariants.{Unset}
-use Rattle.pua_policy.specs.declared.place.Place.{Place}
-use Rattle.pua_policy.specs.History.{History, ProcessState, HasHistory, Pledged, Unveiled, Locked, Moved, Ended, narrowed, meet, pledged, held_for_exec, with_veil, left_for_exec, after_exec}
-use Rattle.pua_policy.proofs.Exec.{stands_given, stands_alone}
+use Rattle.pua_policy.specs.History.{Event, HasHistory, state_of}
+use Rattle.pua_policy.specs.History.{narrowed_set, common, first, held_for_exec, left_for_exec, after_exec}
+use Rattle.pua_policy.proofs.Exec.{no_promises, left_alone, same_veils, same_lock, same_dirs, same_end}
 
-narrows_promises : (h : History) (request execrequest given : Option ℕ) → given ≡ pledged h → narrowed given request ≡ pledged (Pledged request execrequest ∷ h)
-narrows_promises h None execrequest given is = is
-narrows_promises h (Some request) execrequest given is = ap (λ g. Some (meet request g)) is
+-- a process that stands for a history keeps what is left of that, and no other does
+pub keeps : (p : ProcessState) (h : History) → StandsFor p h → p ≡ state_of h
+keeps p h s = λ i. record {
+  promises = s.promises i;
+  execpromises = s.execpromises i;
+  veils = s.veils i;
+  locked = s.locked i;
+  dir = s.dir i;
+  ended = s.ended i;
+}
 
-narrows_execpromises : (h : History) (request execrequest given : Option ℕ) → given ≡ held_for_exec h → narrowed given execrequest ≡ held_for_exec (Pledged request execrequest ∷ h)
-narrows_execpromises h request None given is = is
-narrows_execpromises h request (Some execrequest) given is = ap (λ g. Some (meet execrequest g)) is
+pub stands : (p : ProcessState) (h : History) → p ≡ state_of h → StandsFor p h
+stands p h is = record {
+  promises = λ i. (is i).promises;
+  execpromises = λ i. (is i).execpromises;
+  veils = λ i. (is i).veils;
+  locked = λ i. (is i).locked;
+  dir = λ i. (is i).dir;
+  ended = λ i. (is i).ended;
+}
+
+-- what a process keeps after an event
+abbrev pub state_after : Event → ProcessState → ProcessState
+state_after (Pledged promises execpromises) p = record p {
+  promises = narrowed_set p.promises promises;
+  execpromises = narrowed_set p.execpromises execpromises;
+}
+state_after (Unveiled place perms) p = record p { veils = with_veil place perms p.veils }
+state_after Locked p = record p { locked = true }
+state_after (Moved dir) p = record p { dir = dir }
+state_after Ended p = record p { ended = true }
+
+pub state_more : (event : Event) (h : History) → state_of (event ∷ h) ≡ state_after event (state_of h)
+state_more (Pledged None None) h = refl
+state_more (Pledged None (Some execpromises)) h = refl
+state_more (Pledged (Some promises) None) h = refl
+state_more (Pledged (Some promises) (Some execpromises)) h = refl
+state_more (Unveiled place perms) h = refl
+state_more Locked h = refl
+state_more (Moved dir) h = refl
+state_more Ended h = refl
+
+-- and after an exec, by the execpromises
+abbrev pub state_by_exec : ExecPromises → Option ℕ → ProcessState → ProcessState
+state_by_exec left (Some set) p = record p { promises = Some set; execpromises = left_for_exec left set }
+state_by_exec left None p =
+    record { promises = None; execpromises = None; veils = []; locked = false; dir = p.dir; ended = false }
+
+pub state_exec : (left : ExecPromises) (h : History) →
+    state_of (after_exec left h) ≡ state_by_exec left (held_for_exec h) (state_of h)
+state_exec left h = by (held_for_exec h) refl
+  where
+    by : (o : Option ℕ) → held_for_exec h ≡ o → state_of (after_exec left h) ≡ state_by_exec left o (state_of h)
+    by None is = rw is refl
+    by (Some set) is = rw is (λ i. record {
+      promises = Some (meet set (common (no_promises h i)));
+      execpromises = left_alone left set h i;
+      veils = same_veils h i;
+      locked = same_lock h i;
+      dir = unwrap_or (first (same_dirs h i)) 0;
+      ended = same_end h i;
+    })
+
+module _ (p : ProcessState) (h : History) (s : StandsFor p h) where
+  pub stands_after : (event : Event) → StandsFor (state_after event p) (event ∷ h)
+  stands_after event = stands _ _ (ap (state_after event) (keeps p h s) ∙ sym (state_more event h))
+
+  pub stands_by_exec : (left : ExecPromises) (o : Option ℕ) → p.execpromises ≡ o →
+      StandsFor (state_by_exec left o p) (after_exec left h)
+  stands_by_exec left o is = stands _ _ (ap (λ o. state_by_exec left o p) (sym is)
+      ∙ ap (λ q. state_by_exec left q.execpromises q) (keeps p h s) ∙ sym (state_exec left h))
 
 module _ (p : ProcessState) (led : HasHistory p) where
-  pub led_by_pledge : (request execrequest : Option ℕ)
-      → HasHistory (record { promises = narrowed p.promises request; execpromises = narrowed p.execpromises execrequest; veils = p.veils; locked = p.locked; dir = p.dir; ended = p.ended })
-  led_by_pledge request execrequest = record {
-    history = Pledged request execrequest ∷ led.history;
-    stands = record {
-      promises = narrows_promises led.history request execrequest p.promises led.stands.promises;
-      execpromises = narrows_execpromises led.history request execrequest p.execpromises led.stands.execpromises;
-      veils = led.stands.veils;
-      locked = led.stands.locked;
-      dir = led.stands.dir;
-      ended = led.stands.ended;
-    };
-  }
+  pub led_after : (event : Event) → HasHistory (state_after event p)
+  led_after event = record { history = event ∷ led.history; stands = stands_after p led.history led.stands event }
 
-  pub led_by_veil : (place : Place) (perms : ℕ) → HasHistory (record { promises = p.promises; execpromises = p.execpromises; veils = with_veil place perms p.veils; locked = p.locked; dir = p.dir; ended = p.ended })
-  led_by_veil place perms = record { history = Unveiled place perms ∷ led.history; stands = record { promises = led.stands.promises; execpromises = led.stands.execpromises; veils = ap (with_veil place perms) led.stands.veils; locked = led.stands.locked; dir = led.stands.dir; ended = led.stands.ended } }
-
-  pub led_by_lock : HasHistory (record { promises = p.promises; execpromises = p.execpromises; veils = p.veils; locked = true; dir = p.dir; ended = p.ended })
-  led_by_lock = record { history = Locked ∷ led.history; stands = record { promises = led.stands.promises; execpromises = led.stands.execpromises; veils = led.stands.veils; locked = refl; dir = led.stands.dir; ended = led.stands.ended } }
-
-  pub led_by_move : (dir : ℕ) → HasHistory (record { promises = p.promises; execpromises = p.execpromises; veils = p.veils; locked = p.locked; dir = dir; ended = p.ended })
-  led_by_move dir = record { history = Moved dir ∷ led.history; stands = record { promises = led.stands.promises; execpromises = led.stands.execpromises; veils = led.stands.veils; locked = led.stands.locked; dir = refl; ended = led.stands.ended } }
-
-  pub led_by_end : HasHistory (record { promises = p.promises; execpromises = p.execpromises; veils = p.veils; locked = p.locked; dir = p.dir; ended = true })
-  led_by_end = record { history = Ended ∷ led.history; stands = record { promises = led.stands.promises; execpromises = led.stands.execpromises; veils = led.stands.veils; locked = led.stands.locked; dir = led.stands.dir; ended = refl } }
-
-  pub led_by_exec : (left : ExecPromises) (set : ℕ) → p.execpromises ≡ Some set
-      → HasHistory (record { promises = Some set; execpromises = left_for_exec left set; veils = p.veils; locked = p.locked; dir = p.dir; ended = p.ended })
-  led_by_exec left set given = record { history = after_exec left led.history; stands = stands_given left p led.history led.stands set given }
-
-  pub led_by_plain_exec : p.execpromises ≡ None → p.ended ≡ false
-      → HasHistory (record { promises = None; execpromises = None; veils = []; locked = false; dir = p.dir; ended = p.ended })
-  led_by_plain_exec none lives = record { history = after_exec Unset led.history; stands = stands_alone Unset p led.history led.stands none lives }
+  pub led_by_exec : (left : ExecPromises) (o : Option ℕ) → p.execpromises ≡ o → HasHistory (state_by_exec left o p)
+  led_by_exec left o is =
+      record { history = after_exec left led.history; stands = stands_by_exec p led.history led.stands left o is }

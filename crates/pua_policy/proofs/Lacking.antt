@@ -1,12 +1,13 @@
 -- What a set lacks of another, and what is told of promises.
-use Rattle.std.proofs.Common.{◌≡◌, ℕ, ◌+◌, ◌%◌, ◌<◌, Bool, true, false, List, [], ◌∷◌, map, Some, None, refl, sym, ap, ◌∙◌, arith, Option, min, max}
-use Rattle.std.specs.Prelude.{if◌then◌else◌, bit_and, bit_or, ◌||◌, is_some, find}
-use Rattle.std.specs.List.{list_any}
+use Rattle.pua_policy.proofs.Common.{◌≡◌, ℕ, ◌+◌, Bool, true, false, List, [], ◌∷◌, map, refl, sym, ap, ◌∙◌, arith, if◌then◌else◌, ◌||◌}
+use Rattle.pua_policy.proofs.Common.{list_any, eqb-true, eq-eqb, holds, History, is_ended}
+use Rattle.std.proofs.Common.{◌%◌, ◌<◌, Some, None, Option}
+use Rattle.std.proofs.Common.{min, max}
+use Rattle.std.specs.Prelude.{bit_and, bit_or, is_some, find}
 use Rattle.std.specs.Int.{bit_at}
-use Rattle.std.proofs.lemmas.Bool.{eqb-true, eq-eqb}
 use Rattle.std.proofs.lemmas.Nat.Bits.{bit_at_and, bit_at_or, bit_at_xor, bit_at-lt, same_from_bits}
-use Rattle.pua_calls.specs.Promises.{holds, lacking}
-use Rattle.pua_policy.specs.History.{History, held, has_error, is_ended}
+use Rattle.pua_calls.specs.Promises.{lacking}
+use Rattle.pua_policy.specs.History.{held_set, has_error}
 use Rattle.pua_policy.specs.Reasons.{HasEnded, Lacks, holds_or, may_of}
 use Rattle.pua_policy.specs.ReasonLaws.{LackingsHold, LackSome, PromisingHolds, PromisingsHold, PromisingsAnswer}
 use Rattle.pua_policy.specs.declared.answer.May.TheVariants as may
@@ -42,30 +43,32 @@ lackings_hold set wanted = record {
 }
 
 -- where no set is found, none is held
-none_found : (h : History) (sets : List ℕ) → find (holds (held h)) sets ≡ None → LackSome h sets (map (lacking (held h)) sets)
+none_found : (h : History) (sets : List ℕ) → find (holds (held_set h)) sets ≡ None → LackSome h sets (map (lacking (held_set h)) sets)
 none_found h [] e = tt
-none_found h (set ∷ sets) e = by (holds (held h) set) refl e (none_found h sets)
+none_found h (set ∷ sets) e = by (holds (held_set h) set) refl e (none_found h sets)
   where
-    by : (v : Bool) → holds (held h) set ≡ v → (if v then Some set else find (holds (held h)) sets) ≡ None → (find (holds (held h)) sets ≡ None → LackSome h sets (map (lacking (held h)) sets)) →
-        LackSome h (set ∷ sets) (lacking (held h) set ∷ map (lacking (held h)) sets)
+    by : (v : Bool) → holds (held_set h) set ≡ v → (if v then Some set else find (holds (held_set h)) sets) ≡ None →
+        (find (holds (held_set h)) sets ≡ None → LackSome h sets (map (lacking (held_set h)) sets)) →
+        LackSome h (set ∷ sets) (lacking (held_set h) set ∷ map (lacking (held_set h)) sets)
     by true is e more = cc
-    by false is e more = (record { not_held = is; were_held = eq-eqb _ _ (suffices (held h) set); of_it = refl }, more e)
+    by false is e more = (record { not_held = is; were_held = eq-eqb _ _ (suffices (held_set h) set); of_it = refl }, more e)
 
 some_found : (test : ℕ → Bool) (sets : List ℕ) (set : ℕ) → find test sets ≡ Some set → test set ≡ true
 some_found test [] set e = cc
 some_found test (x ∷ sets) set e = by (test x) refl e (some_found test sets set)
   where
-    by : (v : Bool) → test x ≡ v → (if v then Some x else find test sets) ≡ Some set → (find test sets ≡ Some set → test set ≡ true) → test set ≡ true
+    by : (v : Bool) → test x ≡ v → (if v then Some x else find test sets) ≡ Some set → (find test sets ≡ Some set → test set ≡ true) →
+        test set ≡ true
     by true is e more = let same : x ≡ set = cc in ap test (sym same) ∙ is
     by false is e more = more e
 
 pub promisings_hold : PromisingsHold
-promisings_hold h sets = by (is_ended h) refl (find (holds (held h)) sets) refl
+promisings_hold h sets = by (is_ended h) refl (find (holds (held_set h)) sets) refl
   where
-    by : (v : Bool) → is_ended h ≡ v → (o : Option ℕ) → find (holds (held h)) sets ≡ o →
-        PromisingHolds h sets (if v then HasEnded else holds_or o (Lacks (has_error h) (map (lacking (held h)) sets)))
+    by : (v : Bool) → is_ended h ≡ v → (o : Option ℕ) → find (holds (held_set h)) sets ≡ o →
+        PromisingHolds h sets (if v then HasEnded else holds_or o (Lacks (has_error h) (map (lacking (held_set h)) sets)))
     by true ended o e = ended
-    by false living (Some set) e = (some_found (holds (held h)) sets set e, living)
+    by false living (Some set) e = (some_found (holds (held_set h)) sets set e, living)
     by false living None e = none_found h sets e
 
 -- a test finds something exactly where something passes it
@@ -73,15 +76,19 @@ any_found : (test : ℕ → Bool) (sets : List ℕ) → is_some (find test sets)
 any_found test [] = refl
 any_found test (set ∷ sets) = by (test set) (any_found test sets)
   where
-    by : (v : Bool) → is_some (find test sets) ≡ list_any test sets → is_some (if v then Some set else find test sets) ≡ (v || list_any test sets)
+    by : (v : Bool) → is_some (find test sets) ≡ list_any test sets →
+        is_some (if v then Some set else find test sets) ≡ (v || list_any test sets)
     by true h = refl
     by false h = h
 
 pub promisings_answer : PromisingsAnswer
-promisings_answer h sets = by (is_ended h) (find (holds (held h)) sets) (list_any (holds (held h)) sets) (has_error h) (any_found (holds (held h)) sets)
+promisings_answer h sets =
+    by (is_ended h) (find (holds (held_set h)) sets) (list_any (holds (held_set h)) sets) (has_error h)
+    (any_found (holds (held_set h)) sets)
   where
     by : (ended : Bool) (found : Option ℕ) (any error : Bool) → is_some found ≡ any →
-        may_of (if ended then HasEnded else holds_or found (Lacks error (map (lacking (held h)) sets))) ≡ (if ended then may.Death else (if any then may.Yes else (if error then may.Enosys else may.Death)))
+        may_of (if ended then HasEnded else holds_or found (Lacks error (map (lacking (held_set h)) sets)))
+        ≡ (if ended then may.Death else (if any then may.Yes else (if error then may.Enosys else may.Death)))
     by true found any error e = refl
     by false (Some set) true error e = refl
     by false (Some set) false error e = cc

@@ -1,3 +1,4 @@
+pub mod Common
 pub mod Refusals
 pub mod Climbs
 pub mod Veils

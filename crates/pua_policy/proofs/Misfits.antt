@@ -1,6 +1,7 @@
 -- What is told of an object is so.
-use Rattle.std.proofs.Common.{◌≡◌, Bool, true, false, Some, None, refl}
-use Rattle.std.specs.Prelude.{if◌then◌else◌, IfSome}
+use Rattle.pua_policy.proofs.Common.{◌≡◌, Bool, true, false, refl, if◌then◌else◌}
+use Rattle.std.proofs.Common.{Some, None}
+use Rattle.std.specs.Prelude.{IfSome}
 use Rattle.pua_tree.specs.Tree.{is_empty}
 use Rattle.pua_path.specs.declared.found.Way.TheVariants as way
 use Rattle.pua_policy.specs.Misfits.{IsDir, IsFile, IsProg, IsLink, IsMissing}

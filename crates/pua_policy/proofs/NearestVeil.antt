@@ -1,18 +1,13 @@
 -- What is told of a cover is so.
-use Rattle.std.proofs.Common.{◌≡◌, ℕ, Bool, true, false, List, [], ◌∷◌, ◌++◌, Some, None, refl, sym, ap, ◌∙◌, append_assoc, append-nil, Option, subst}
-use Rattle.std.specs.Prelude.{if◌then◌else◌, ◌&&◌, ◌↔◌, is_none}
-use Rattle.std.specs.List.{list_any, list_all}
+use Rattle.pua_policy.proofs.Common.{◌≡◌, ℕ, Bool, true, false, List, [], ◌∷◌, refl, sym, ap, ◌∙◌, subst, if◌then◌else◌, list_any, Tree}
+use Rattle.pua_policy.proofs.Common.{Errno, Found, holds, History, Unveiled, perms_kept, same_place, places_over, cover, cover_fault}
+use Rattle.pua_policy.proofs.Common.{is_unveil, Place, Only}
+use Rattle.std.proofs.Common.{◌++◌, Some, None, append_assoc, append-nil}
+use Rattle.std.proofs.Common.{Option}
+use Rattle.std.specs.Prelude.{◌&&◌, ◌↔◌, is_none}
+use Rattle.std.specs.List.{list_all}
 use Rattle.std.proofs.lemmas.List.Folds.{list_all-append}
-use Rattle.pua_tree.specs.Tree.{Tree}
-use Rattle.pua_path.specs.declared.errno.Errno.{Errno}
 use Rattle.pua_path.specs.declared.errno.Errno.TheVariants.{EACCES}
-use Rattle.pua_path.specs.declared.found.Found.{Found}
-use Rattle.pua_calls.specs.Promises.{holds}
-use Rattle.pua_policy.specs.History.{History, Unveiled, kept, same_place}
-use Rattle.pua_policy.specs.Laws.{places_over}
-use Rattle.pua_policy.specs.Verdict.{cover, cover_fault, is_unveil}
-use Rattle.pua_policy.specs.declared.place.Place.{Place}
-use Rattle.pua_policy.specs.declared.answer.Cover.TheVariants.{Only}
 use Rattle.pua_policy.proofs.Veils.{same_place_is, same_place_refl, nearest_counts}
 use Rattle.pua_policy.specs.declared.reason.Covering.{Covering}
 use Rattle.pua_policy.specs.declared.reason.Covering.TheVariants.{InView, NoneOver, By}
@@ -26,35 +21,43 @@ record IsFirst (h : History) (places : List Place) (place : Place) (given : ℕ)
   far : List Place
   split : places ≡ near ++ place ∷ far
   none_nearer : NoneKept h near
-  kept_here : kept h place ≡ Some given
+  kept_here : perms_kept h place ≡ Some given
 
 abbrev FirstHolds : History → List Place → Covering → Type 0
 FirstHolds h places InView = ⊥
 FirstHolds h places NoneOver = NoneKept h places
 FirstHolds h places (By place given) = IsFirst h places place given
 
-one_more : (h : History) (near : List Place) (place : Place) → NoneKept h near → kept h place ≡ None → NoneKept h (near ++ place ∷ [])
-one_more h near place none e = list_all-append (λ p. is_none (kept h p)) near (place ∷ []) ∙ ap (λ v. v && (is_none (kept h place) && true)) none ∙ ap (λ o. is_none o && true) e
+one_more : (h : History) (near : List Place) (place : Place) → NoneKept h near → perms_kept h place ≡ None → NoneKept h (near ++ place ∷ [])
+one_more h near place none e = list_all-append (λ p. is_none (perms_kept h p)) near (place ∷ []) ∙
+    ap (λ v. v && (is_none (perms_kept h place) && true)) none ∙ ap (λ o. is_none o && true) e
 
-first_holds : (h : History) (near places : List Place) → NoneKept h near → FirstHolds h (near ++ places) (first_kept (kept h) places)
-first_holds h near [] none = ap (list_all (λ p. is_none (kept h p))) (append-nil near) ∙ none
-first_holds h near (place ∷ places) none = by (kept h place) refl (λ e. first_holds h (near ++ place ∷ []) places (one_more h near place none e))
+first_holds : (h : History) (near places : List Place) → NoneKept h near → FirstHolds h (near ++ places) (first_kept (perms_kept h) places)
+first_holds h near [] none = ap (list_all (λ p. is_none (perms_kept h p))) (append-nil near) ∙ none
+first_holds h near (place ∷ places) none =
+    by (perms_kept h place) refl (λ e. first_holds h (near ++ place ∷ []) places (one_more h near place none e))
   where
-    by : (o : Option ℕ) → kept h place ≡ o → (kept h place ≡ None → FirstHolds h ((near ++ place ∷ []) ++ places) (first_kept (kept h) places)) → FirstHolds h (near ++ place ∷ places) (kept_or place o (first_kept (kept h) places))
+    by : (o : Option ℕ) → perms_kept h place ≡ o →
+        (perms_kept h place ≡ None → FirstHolds h ((near ++ place ∷ []) ++ places) (first_kept (perms_kept h) places)) →
+        FirstHolds h (near ++ place ∷ places) (kept_or place o (first_kept (perms_kept h) places))
     by (Some given) e more = record { near = near; far = places; split = refl; none_nearer = none; kept_here = e }
-    by None e more = subst (λ ps. FirstHolds h ps (first_kept (kept h) places)) (append_assoc near (place ∷ []) places) (more e)
+    by None e more = subst (λ ps. FirstHolds h ps (first_kept (perms_kept h) places)) (append_assoc near (place ∷ []) places) (more e)
 
 -- a veil put anew at a place leaves the others as they are
-none_anew : (h : History) (place : Place) (given letters : ℕ) → kept h place ≡ Some given → (near : List Place) → NoneKept h near → NoneKept (Unveiled place letters ∷ h) near
+none_anew : (h : History) (place : Place) (given letters : ℕ) → perms_kept h place ≡ Some given → (near : List Place) → NoneKept h near →
+    NoneKept (Unveiled place letters ∷ h) near
 none_anew h place given letters here [] none = refl
-none_anew h place given letters here (p ∷ near) none = by (same_place place p) refl (kept h p) refl none (none_anew h place given letters here near)
+none_anew h place given letters here (p ∷ near) none =
+    by (same_place place p) refl (perms_kept h p) refl none (none_anew h place given letters here near)
   where
-    by : (v : Bool) → same_place place p ≡ v → (o : Option ℕ) → kept h p ≡ o → (is_none o && list_all (λ q. is_none (kept h q)) near) ≡ true → (NoneKept h near → NoneKept (Unveiled place letters ∷ h) near) →
-        (is_none (if v then Some letters else o) && list_all (λ q. is_none (kept (Unveiled place letters ∷ h) q)) near) ≡ true
+    by : (v : Bool) → same_place place p ≡ v → (o : Option ℕ) → perms_kept h p ≡ o →
+        (is_none o && list_all (λ q. is_none (perms_kept h q)) near) ≡ true →
+        (NoneKept h near → NoneKept (Unveiled place letters ∷ h) near) →
+        (is_none (if v then Some letters else o) && list_all (λ q. is_none (perms_kept (Unveiled place letters ∷ h) q)) near) ≡ true
     by true same o e none more =
         let one : place ≡ p = same_place_is place p same in
-        let some : o ≡ Some given = sym e ∙ ap (kept h) (sym one) ∙ here in
-        let bad : false ≡ true = ap (λ o. is_none o && list_all (λ q. is_none (kept h q)) near) (sym some) ∙ none in cc
+        let some : o ≡ Some given = sym e ∙ ap (perms_kept h) (sym one) ∙ here in
+        let bad : false ≡ true = ap (λ o. is_none o && list_all (λ q. is_none (perms_kept h q)) near) (sym some) ∙ none in cc
     by false same None e none more = more none
     by false same (Some x) e none more = cc
 
@@ -62,7 +65,8 @@ fault_none : (v : Bool) → (◌≡◌ {A = Option Errno} (if v then None else S
 fault_none true = (λ e. refl, λ e. refl)
 fault_none false = (λ e. cc, λ e. cc)
 
-decides : (t : Tree) (h : History) (object : Found) (place : Place) (given : ℕ) → IsFirst h (places_over t object) place given → DecidesBy t h object place given
+decides : (t : Tree) (h : History) (object : Found) (place : Place) (given : ℕ) → IsFirst h (places_over t object) place given →
+    DecidesBy t h object place given
 decides t h object place given f = record {
   near = f.near;
   far = f.far;
@@ -71,8 +75,9 @@ decides t h object place given f = record {
   kept_here = f.kept_here;
   were = λ letters wanted.
       let is : cover t (Unveiled place letters ∷ h) object ≡ Only letters =
-      nearest_counts t (Unveiled place letters ∷ h) object f.near f.far place letters f.split (none_anew h place given letters f.kept_here f.near f.none_nearer)
-      (ap (λ v. if v then Some letters else kept h place) (same_place_refl place)) in
+      nearest_counts t (Unveiled place letters ∷ h) object f.near f.far place letters f.split
+      (none_anew h place given letters f.kept_here f.near f.none_nearer)
+      (ap (λ v. if v then Some letters else perms_kept h place) (same_place_refl place)) in
       subst (λ c. (cover_fault c wanted ≡ None) ↔ (holds letters wanted ≡ true)) (sym is) (fault_none (holds letters wanted));
 }
 
@@ -84,6 +89,7 @@ coverings_hold t h object = (coverings_cover t h object, by (list_any is_unveil 
     first NoneOver f = f
     first (By place given) f = decides t h object place given f
 
-    by : (v : Bool) → list_any is_unveil h ≡ v → CoveringHolds t h object (if v then first_kept (kept h) (places_over t object) else InView)
-    by true e = first (first_kept (kept h) (places_over t object)) (first_holds h [] (places_over t object) refl)
+    by : (v : Bool) → list_any is_unveil h ≡ v →
+        CoveringHolds t h object (if v then first_kept (perms_kept h) (places_over t object) else InView)
+    by true e = first (first_kept (perms_kept h) (places_over t object)) (first_holds h [] (places_over t object) refl)
     by false e = e

@@ -1,9 +1,6 @@
 -- The test on places that maps use is the definition's.
-use Rattle.std.proofs.Common.{◌≡◌, refl}
-use Rattle.pua_policy.specs.contracts.place.PlacePartialEq.TheImpl.{ghosts}
-use Rattle.pua_policy.specs.declared.place.Place.{Place}
-use Rattle.pua_policy.specs.declared.place.Place.TheVariants.{Dir, Slot}
-use Rattle.pua_policy.specs.History.{same_place}
+use Rattle.pua_policy.proofs.Common.{◌≡◌, refl, ghosts, Place, Dir, same_place}
+use Rattle.pua_policy.specs.declared.place.Place.TheVariants.{Slot}
 
 pub same_place-eq : (a b : Place) → ghosts.eq a b ≡ same_place a b
 same_place-eq (Dir a) (Dir b) = refl

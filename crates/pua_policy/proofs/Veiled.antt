@@ -1,9 +1,9 @@
 -- The first directory with a veil, on the way up.
-use Rattle.std.proofs.Common.{◌≡◌, ℕ, zero, suc, ◌≢◌, List, [], ◌∷◌, length, map, true, refl, sym, ap, ◌∙◌}
-use Rattle.std.specs.Prelude.{Option, Some, None}
-use Rattle.pua_tree.specs.Tree.{Tree, WellFormed, is_dir, above, climb, climb_within}
-use Rattle.pua_policy.specs.Verdict.{nearest}
-use Rattle.pua_policy.specs.Reasons.{or_farther, first_veiled, covering_at, cover_of}
+use Rattle.pua_policy.proofs.Common.{◌≡◌, ℕ, ◌≢◌, List, [], ◌∷◌, length, map, true, refl, sym, ap, ◌∙◌, Option, Some, None, Tree}
+use Rattle.pua_policy.proofs.Common.{WellFormed, is_dir, above, climb, nearest, first_veiled, covering_at, cover_of}
+use Rattle.std.proofs.Common.{zero, suc}
+use Rattle.pua_tree.specs.Tree.{climb_within}
+use Rattle.pua_policy.specs.Reasons.{or_farther}
 use Rattle.pua_policy.proofs.Climbs.{climb_root, climb_step}
 
 -- what it leaves is the nearest cover
@@ -11,7 +11,8 @@ pub veiled_covers : (f : ℕ → Option ℕ) (ds : List ℕ) → cover_of (cover
 veiled_covers f [] = refl
 veiled_covers f (d ∷ ds) = by (f d) (veiled_covers f ds)
   where
-    by : (o : Option ℕ) → cover_of (covering_at (first_veiled f ds)) ≡ nearest (map f ds) → cover_of (covering_at (or_farther d o (first_veiled f ds))) ≡ nearest (o ∷ map f ds)
+    by : (o : Option ℕ) → cover_of (covering_at (first_veiled f ds)) ≡ nearest (map f ds) →
+        cover_of (covering_at (or_farther d o (first_veiled f ds))) ≡ nearest (o ∷ map f ds)
     by (Some perms) e = refl
     by None e = e
 

@@ -1,29 +1,25 @@
 -- The veils are the places kept, and only an unveil changes a cover.
-use Rattle.std.proofs.Common.{◌≡◌, ℕ, List, [], ◌∷◌, ◌++◌, map, length, Bool, true, false, cond, refl, sym, ap, ◌∙◌}
-use Rattle.std.proofs.lemmas.Bool.{eqb-true, eq-eqb}
-use Rattle.std.specs.Prelude.{◌==◌, ◌&&◌, Option, Some, None, is_none}
+use Rattle.pua_policy.proofs.Common.{◌≡◌, ℕ, List, [], ◌∷◌, map, length, Bool, true, false, refl, sym, ap, ◌∙◌, eqb-true, eq-eqb, Option}
+use Rattle.pua_policy.proofs.Common.{Some, None, Place, Dir, History, Pledged, Unveiled, Locked, Moved, Ended, veils, perms_kept, with_veil}
+use Rattle.pua_policy.proofs.Common.{veil_at, same_place, and_parts, list_any, Tree, Found, Errno, All, Only, holds, cover, cover_fault}
+use Rattle.pua_policy.proofs.Common.{nearest, is_unveil, places_over}
+use Rattle.std.proofs.Common.{◌++◌, cond}
+use Rattle.std.specs.Prelude.{◌==◌, ◌&&◌, is_none}
 use lib.Pointwise.{bytes_decides}
 use Rattle.std.specs.Map.{lookup}
 use Rattle.indexmap.specs.IndexMap.{insert_entry}
 use Rattle.pua_tree.specs.Names.{same_bytes}
-use Rattle.pua_policy.specs.declared.place.Place.{Place}
-use Rattle.pua_policy.specs.declared.place.Place.TheVariants.{Dir, Slot}
-use Rattle.pua_policy.specs.History.{History, Pledged, Unveiled, Locked, Moved, Ended, veils, kept, is_locked, place_fault, with_veil, veil_at, same_place}
-use Rattle.std.proofs.lemmas.Bool.{and_parts}
+use Rattle.pua_policy.specs.declared.place.Place.TheVariants.{Slot}
+use Rattle.pua_policy.specs.History.{is_locked, place_fault}
 use Rattle.std.proofs.lemmas.List.{map-append}
 use Rattle.std.proofs.lemmas.List.Folds.{list_all-map}
 use Rattle.std.proofs.lemmas.Nat.{and_comm}
-use Rattle.std.specs.List.{list_any, list_all}
-use Rattle.pua_tree.specs.Tree.{Tree}
-use Rattle.pua_path.specs.declared.found.Found.{Found}
-use Rattle.pua_path.specs.declared.errno.Errno.{Errno}
+use Rattle.std.specs.List.{list_all}
 use Rattle.pua_path.specs.declared.errno.Errno.TheVariants.{EACCES}
-use Rattle.pua_policy.specs.declared.answer.Cover.TheVariants.{All, Only}
 use Rattle.pua_policy.specs.declared.answer.UnveilFault.TheVariants.{NotPermitted}
-use Rattle.pua_calls.specs.Promises.{holds}
-use Rattle.pua_policy.specs.Verdict.{cover, cover_fault, nearest, place_of, directories_over, is_unveil}
+use Rattle.pua_policy.specs.Verdict.{place_of, directories_over}
 use Rattle.pua_policy.proofs.Narrowing.{second_holds}
-use Rattle.pua_policy.specs.Laws.{VeilsAreKept, CoverNeedsUnveil, NearestCounts, KeptPlacesNarrow, places_over}
+use Rattle.pua_policy.specs.Laws.{VeilsAreKept, CoverNeedsUnveil, NearestCounts, KeptPlacesNarrow}
 use Rattle.pua_tree.proofs.ForCallers.{Some≢None}
 
 -- places that test alike are one
@@ -50,11 +46,14 @@ same_place_turned a b = by (same_place a b) (same_place b a) refl refl
     by false true e f = let g = sym e ∙ ap (same_place a) (same_place_is b a f) ∙ same_place_refl a in cc
 
 -- a veil on another place leaves a place without one
-pub still_unveiled : (at : Place) (perms : ℕ) (vs : List (Place × ℕ)) (other : Place) → same_place other at ≡ false → veil_at vs other ≡ None → veil_at (with_veil at perms vs) other ≡ None
+pub still_unveiled : (at : Place) (perms : ℕ) (vs : List (Place × ℕ)) (other : Place) → same_place other at ≡ false →
+    veil_at vs other ≡ None → veil_at (with_veil at perms vs) other ≡ None
 still_unveiled at perms [] other differ none = ap (λ b. cond b (Some perms) None) differ
-still_unveiled at perms (v ∷ vs) other differ none = by (same_place at v.0) (same_place other v.0) refl none (still_unveiled at perms vs other differ)
+still_unveiled at perms (v ∷ vs) other differ none =
+    by (same_place at v.0) (same_place other v.0) refl none (still_unveiled at perms vs other differ)
   where
-    by : (s o : Bool) → same_place other v.0 ≡ o → cond o (Some v.1) (veil_at vs other) ≡ None → (veil_at vs other ≡ None → veil_at (with_veil at perms vs) other ≡ None)
+    by : (s o : Bool) → same_place other v.0 ≡ o → cond o (Some v.1) (veil_at vs other) ≡ None →
+        (veil_at vs other ≡ None → veil_at (with_veil at perms vs) other ≡ None)
         → veil_at (cond s ((v.0, perms) ∷ vs) (v ∷ with_veil at perms vs)) other ≡ None
     by s true is none rest = absurd (Some≢None v.1 none)
     by true false is none rest = ap (λ b. cond b (Some perms) (veil_at vs other)) is ∙ none
@@ -65,7 +64,9 @@ pub veil_at-with_veil : (place : Place) (perms : ℕ) (vs : List (Place × ℕ))
     veil_at (with_veil place perms vs) at ≡ cond (same_place at place) (Some perms) (veil_at vs at)
 veil_at-with_veil place perms [] at = refl
 veil_at-with_veil place perms (v ∷ vs) at =
-    elim (same_place place v.0) as (λ b. same_place place v.0 ≡ b → veil_at (cond b ((v.0, perms) ∷ vs) (v ∷ with_veil place perms vs)) at ≡ cond (same_place at place) (Some perms) (veil_at (v ∷ vs) at)) [
+    elim (same_place place v.0) as (λ b. same_place place v.0 ≡ b →
+    veil_at (cond b ((v.0, perms) ∷ vs) (v ∷ with_veil place perms vs)) at ≡ cond (same_place at place) (Some perms)
+    (veil_at (v ∷ vs) at)) [
       | true ↦ λ e. rw (same_place_is place v.0 e) (shadowed (same_place at v.0))
       | false ↦ λ e. ap (cond (same_place at v.0) (Some v.1)) (veil_at-with_veil place perms vs at)
           ∙ swapped (same_place at v.0) (same_place at place) (λ s r. clash e s (same_place_is at place r))
@@ -75,7 +76,8 @@ veil_at-with_veil place perms (v ∷ vs) at =
     shadowed true = refl
     shadowed false = refl
 
-    swapped : (a b : Bool) → (a ≡ true → b ≡ true → ⊥) → cond a (Some v.1) (cond b (Some perms) (veil_at vs at)) ≡ cond b (Some perms) (cond a (Some v.1) (veil_at vs at))
+    swapped : (a b : Bool) → (a ≡ true → b ≡ true → ⊥) →
+        cond a (Some v.1) (cond b (Some perms) (veil_at vs at)) ≡ cond b (Some perms) (cond a (Some v.1) (veil_at vs at))
     swapped true true never = absurd (never refl refl)
     swapped true false never = refl
     swapped false b never = refl
@@ -102,14 +104,17 @@ cover_needs_unveil (Moved d) other t h found = refl
 cover_needs_unveil Ended other t h found = refl
 
 -- looking up by any test that is the definition's gives the permissions at a place
-pub veil_at-lookup : (eq : Place → Place → Bool) → ((a b : Place) → eq a b ≡ same_place a b) → (place : Place) (vs : List (Place × ℕ)) → lookup (eq place) vs ≡ veil_at vs place
+pub veil_at-lookup : (eq : Place → Place → Bool) → ((a b : Place) → eq a b ≡ same_place a b) → (place : Place) (vs : List (Place × ℕ)) →
+    lookup (eq place) vs ≡ veil_at vs place
 veil_at-lookup eq same place [] = refl
 veil_at-lookup eq same place (v ∷ vs) = λ i. cond (same place v.0 i) (Some v.1) (veil_at-lookup eq same place vs i)
 
 -- and inserting by it puts a veil
-pub with_veil-insert_entry : (eq : Place → Place → Bool) → ((a b : Place) → eq a b ≡ same_place a b) → (place : Place) (perms : ℕ) (vs : List (Place × ℕ)) → insert_entry eq vs place perms ≡ with_veil place perms vs
+pub with_veil-insert_entry : (eq : Place → Place → Bool) → ((a b : Place) → eq a b ≡ same_place a b) →
+    (place : Place) (perms : ℕ) (vs : List (Place × ℕ)) → insert_entry eq vs place perms ≡ with_veil place perms vs
 with_veil-insert_entry eq same place perms [] = refl
-with_veil-insert_entry eq same place perms (v ∷ vs) = λ i. cond (same place v.0 i) ((v.0, perms) ∷ vs) (v ∷ with_veil-insert_entry eq same place perms vs i)
+with_veil-insert_entry eq same place perms (v ∷ vs) =
+    λ i. cond (same place v.0 i) ((v.0, perms) ∷ vs) (v ∷ with_veil-insert_entry eq same place perms vs i)
 
 nearest-append : (near far : List (Option ℕ)) (perms : ℕ) → list_all is_none near ≡ true → nearest (near ++ Some perms ∷ far) ≡ Only perms
 nearest-append [] far perms e = refl
@@ -117,7 +122,7 @@ nearest-append (None ∷ near) far perms e = nearest-append near far perms e
 nearest-append (Some other ∷ near) far perms e = cc
 
 -- a veil is kept where some place keeps permissions
-pub unveil_from_kept : (h : History) (place : Place) (perms : ℕ) → kept h place ≡ Some perms → list_any is_unveil h ≡ true
+pub unveil_from_kept : (h : History) (place : Place) (perms : ℕ) → perms_kept h place ≡ Some perms → list_any is_unveil h ≡ true
 unveil_from_kept [] place perms e = cc
 unveil_from_kept (Unveiled other p ∷ h) place perms e = refl
 unveil_from_kept (Pledged p x ∷ h) place perms e = unveil_from_kept h place perms e
@@ -126,21 +131,22 @@ unveil_from_kept (Moved d ∷ h) place perms e = unveil_from_kept h place perms 
 unveil_from_kept (Ended ∷ h) place perms e = unveil_from_kept h place perms e
 
 -- a cover where a veil is kept, by the places where it is looked for
-cover-places : (t : Tree) (h : History) (object : Found) → list_any is_unveil h ≡ true → cover t h object ≡ nearest (map (kept h) (places_over t object))
+cover-places : (t : Tree) (h : History) (object : Found) → list_any is_unveil h ≡ true →
+    cover t h object ≡ nearest (map (perms_kept h) (places_over t object))
 cover-places t h object e =
-    ap (λ b. cond b (nearest (kept h (place_of object) ∷ map (λ dir. kept h (Dir dir)) (directories_over t object))) All) e
-    ∙ ap (λ more. nearest (kept h (place_of object) ∷ more)) (at_dirs (directories_over t object))
+    ap (λ b. cond b (nearest (perms_kept h (place_of object) ∷ map (λ dir. perms_kept h (Dir dir)) (directories_over t object))) All) e
+    ∙ ap (λ more. nearest (perms_kept h (place_of object) ∷ more)) (at_dirs (directories_over t object))
   where
-    at_dirs : (ds : List ℕ) → map (λ dir. kept h (Dir dir)) ds ≡ map (kept h) (map Dir ds)
+    at_dirs : (ds : List ℕ) → map (λ dir. perms_kept h (Dir dir)) ds ≡ map (perms_kept h) (map Dir ds)
     at_dirs [] = refl
-    at_dirs (d ∷ ds) = ap (λ more. kept h (Dir d) ∷ more) (at_dirs ds)
+    at_dirs (d ∷ ds) = ap (λ more. perms_kept h (Dir d) ∷ more) (at_dirs ds)
 
 pub nearest_counts : NearestCounts
 nearest_counts t h object near far place perms split none here =
     cover-places t h object (unveil_from_kept h place perms here)
-    ∙ ap (λ places. nearest (map (kept h) places)) split
-    ∙ ap nearest (map-append (kept h) near (place ∷ far) ∙ ap (λ o. map (kept h) near ++ o ∷ map (kept h) far) here)
-    ∙ nearest-append (map (kept h) near) (map (kept h) far) perms (list_all-map is_none (kept h) near ∙ none)
+    ∙ ap (λ places. nearest (map (perms_kept h) places)) split
+    ∙ ap nearest (map-append (perms_kept h) near (place ∷ far) ∙ ap (λ o. map (perms_kept h) near ++ o ∷ map (perms_kept h) far) here)
+    ∙ nearest-append (map (perms_kept h) near) (map (perms_kept h) far) perms (list_all-map is_none (perms_kept h) near ∙ none)
 
 -- what a set holds, a set that holds it holds
 pub holds_through : (old perms wanted : ℕ) → holds old perms ≡ true → holds perms wanted ≡ true → holds old wanted ≡ true
@@ -151,20 +157,24 @@ if_none : (b : Bool) (fault : Errno) → cond b None (Some fault) ≡ None → b
 if_none true fault e = refl
 if_none false fault e = cc
 
-nearest_narrows : (h : History) (place : Place) (old perms wanted : ℕ) → kept h place ≡ Some old → holds old perms ≡ true → (places : List Place) →
-    cover_fault (nearest (map (kept (Unveiled place perms ∷ h)) places)) wanted ≡ None → cover_fault (nearest (map (kept h) places)) wanted ≡ None
+nearest_narrows : (h : History) (place : Place) (old perms wanted : ℕ) → perms_kept h place ≡ Some old → holds old perms ≡ true →
+    (places : List Place) →
+    cover_fault (nearest (map (perms_kept (Unveiled place perms ∷ h)) places)) wanted ≡ None →
+    cover_fault (nearest (map (perms_kept h) places)) wanted ≡ None
 nearest_narrows h place old perms wanted is less [] e = e
 nearest_narrows h place old perms wanted is less (p ∷ ps) e =
     elim (same_place place p) as (λ b. same_place place p ≡ b →
-    cover_fault (nearest (cond b (Some perms) (kept h p) ∷ map (kept (Unveiled place perms ∷ h)) ps)) wanted ≡ None → cover_fault (nearest (kept h p ∷ map (kept h) ps)) wanted ≡ None) [
+    cover_fault (nearest (cond b (Some perms) (perms_kept h p) ∷ map (perms_kept (Unveiled place perms ∷ h)) ps)) wanted ≡ None →
+    cover_fault (nearest (perms_kept h p ∷ map (perms_kept h) ps)) wanted ≡ None) [
       | true ↦ λ same fits.
-          let here : kept h p ≡ Some old = ap (kept h) (sym (same_place_is place p same)) ∙ is in
-          ap (λ o. cover_fault (nearest (o ∷ map (kept h) ps)) wanted) here
+          let here : perms_kept h p ≡ Some old = ap (perms_kept h) (sym (same_place_is place p same)) ∙ is in
+          ap (λ o. cover_fault (nearest (o ∷ map (perms_kept h) ps)) wanted) here
           ∙ ap (λ b. cond b None (Some EACCES)) (holds_through old perms wanted less (if_none (holds perms wanted) EACCES fits))
-      | false ↦ λ other fits. elim (kept h p) as (λ o. cover_fault (nearest (o ∷ map (kept (Unveiled place perms ∷ h)) ps)) wanted ≡ None → cover_fault (nearest (o ∷ map (kept h) ps)) wanted ≡ None) [
-        | None ↦ nearest_narrows h place old perms wanted is less ps
-        | Some kept_there ↦ λ same. same
-      ] fits
+      | false ↦ λ other fits. elim (perms_kept h p) as (λ o. cover_fault (nearest (o ∷ map (perms_kept (Unveiled place perms ∷ h)) ps))
+          wanted ≡ None → cover_fault (nearest (o ∷ map (perms_kept h) ps)) wanted ≡ None) [
+            | None ↦ nearest_narrows h place old perms wanted is less ps
+            | Some kept_there ↦ λ same. same
+          ] fits
     ] refl e
 
 pub kept_places_narrow : KeptPlacesNarrow
@@ -173,7 +183,8 @@ kept_places_narrow h place old perms is accepted t object wanted e =
     ∙ nearest_narrows h place old perms wanted is (less (is_locked h) accepted) (places_over t object)
     (ap (λ c. cover_fault c wanted) (sym (cover-places t (Unveiled place perms ∷ h) object refl)) ∙ e)
   where
-    less : (locked : Bool) → cond locked (Some NotPermitted) (place_fault (kept h place) (length (veils h)) perms) ≡ None → holds old perms ≡ true
+    less : (locked : Bool) → cond locked (Some NotPermitted) (place_fault (perms_kept h place) (length (veils h)) perms) ≡ None →
+        holds old perms ≡ true
     less true e = cc
     less false fits = unless (holds old perms) (ap (λ o. place_fault o (length (veils h)) perms) (sym is) ∙ fits)
       where

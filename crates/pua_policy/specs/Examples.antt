@@ -6,7 +6,8 @@ use Rattle.pua_calls.specs.Promises.{promises_of, perms_of, lacking, reading, wr
 use Rattle.pua_calls.specs.Calls.{calls, standard_table, openbsd_table}
 use Rattle.pua_calls.specs.CallSets.{calls_in, keeps_link}
 use Rattle.pua_policy.specs.Objects.{object_seen}
-use Rattle.pua_policy.specs.History.{History, Pledged, Unveiled, Locked, Ended, new_history, held, held_for_exec, pledge_fault, unveil_fault, veils, may_any, pledged, after_exec}
+use Rattle.pua_policy.specs.History.{History, Pledged, Unveiled, Locked, Ended, new_history, held_set, held_for_exec, pledge_fault}
+use Rattle.pua_policy.specs.History.{unveil_fault, veils, may_any, pledged_set, after_exec}
 use Rattle.pua_policy.specs.Misfits.{misfit}
 use Rattle.pua_policy.specs.Reasons.{Holds, HasEnded, Lacks, promising, covering}
 use Rattle.pua_policy.specs.Verdict.{cover, verdict_on, object_fault, rmdir_fault, IsDir, IsFile, IsProg, IsLink, IsMissing}
@@ -17,7 +18,8 @@ use Rattle.pua_calls.specs.declared.call.Call.TheVariants.{Stat, Lstat, Readlink
 use Rattle.pua_policy.specs.declared.object.Object.TheVariants as see
 use Rattle.pua_policy.specs.declared.place.Place.TheVariants.{Dir, Slot}
 use Rattle.pua_policy.specs.declared.reason.Covering.TheVariants.{InView, NoneOver, By}
-use Rattle.pua_policy.specs.declared.reason.Misfit.TheVariants.{Exists, IsDirectory, IsNoFile, IsNoDirectory, IsNoLink, IsNoProgram, IsNotEmpty}
+use Rattle.pua_policy.specs.declared.reason.Misfit.TheVariants.{Exists, IsDirectory, IsNoFile, IsNoDirectory, IsNoLink, IsNoProgram}
+use Rattle.pua_policy.specs.declared.reason.Misfit.TheVariants.{IsNotEmpty}
 use Rattle.pua_policy.specs.declared.answer.UnveilFault.TheVariants.{NotPermitted}
 use Rattle.pua_policy.specs.declared.answer.Cover.TheVariants.{Only}
 use Rattle.pua_policy.specs.declared.answer.May.TheVariants as may
@@ -32,35 +34,46 @@ pub record CoverRows : Type 0 where
   pub beneath_nearer : cover example_tree three_veils (found.Slot 3 (codes "sh") (Some 7)) ≡ Only 0
   pub own : cover example_tree three_veils (found.Slot 1 (codes "passwd") (Some 2)) ≡ Only (reading + writing)
   pub missing : cover example_tree three_veils (found.Slot 1 (codes "x") None) ≡ Only reading
-  pub own_alone : cover example_tree (Unveiled (Slot 1 (codes "passwd")) writing ∷ three_veils) (found.Slot 1 (codes "passwd") (Some 2)) ≡ Only writing
+  pub own_alone : cover example_tree (Unveiled (Slot 1 (codes "passwd")) writing ∷ three_veils) (found.Slot 1 (codes "passwd") (Some 2))
+      ≡ Only writing
   pub increase : unveil_fault three_veils (Dir 3) reading ≡ Some NotPermitted
   pub locked : unveil_fault (Locked ∷ three_veils) (Dir 0) 0 ≡ Some NotPermitted
   pub reduction : unveil_fault three_veils (Dir 0) 0 ≡ None
   pub replaced : veils (Unveiled (Dir 0) 0 ∷ three_veils) ≡ (Dir 0, 0) ∷ (Dir 3, 0) ∷ (Slot 1 (codes "passwd"), reading + writing) ∷ []
 
 pub cover_rows : CoverRows
-cover_rows = record { beneath_root = refl; beneath_nearer = refl; own = refl; missing = refl; own_alone = refl; increase = refl; locked = refl; reduction = refl; replaced = refl }
+cover_rows = record {
+  beneath_root = refl;
+  beneath_nearer = refl;
+  own = refl;
+  missing = refl;
+  own_alone = refl;
+  increase = refl;
+  locked = refl;
+  reduction = refl;
+  replaced = refl;
+}
 
 -- a veil on the root and none of its permissions on a directory
-abbrev pub root_alone : History
-root_alone = Unveiled (Dir 3) 0 ∷ Unveiled (Dir 0) reading ∷ new_history
+abbrev pub root_veiled : History
+root_veiled = Unveiled (Dir 3) 0 ∷ Unveiled (Dir 0) reading ∷ new_history
 
 -- a pledge that keeps `error`, and one that is narrowed by it
 abbrev pub with_error : History
 with_error = Pledged (Some (rpath + error)) None ∷ Pledged None (Some rpath) ∷ new_history
 
-abbrev pub narrowed : History
-narrowed = Pledged (Some (rpath + wpath)) (Some wpath) ∷ with_error
+abbrev pub narrowed_history : History
+narrowed_history = Pledged (Some (rpath + wpath)) (Some wpath) ∷ with_error
 
 pub record VerdictRows : Type 0 where
-  pub veiled : verdict_on example_tree standard_table root_alone Stat (codes "/tmp/sh") ≡ Failed EACCES
-  pub unveiled : verdict_on example_tree standard_table root_alone Stat (codes "/etc") ≡ Allowed
+  pub veiled : verdict_on example_tree standard_table root_veiled Stat (codes "/tmp/sh") ≡ Failed EACCES
+  pub unveiled : verdict_on example_tree standard_table root_veiled Stat (codes "/etc") ≡ Allowed
   pub exec_increase : pledge_fault (Pledged None (Some rpath) ∷ new_history) None (Some (rpath + wpath)) ≡ Some EPERM
   pub first_promises : pledge_fault (Pledged None (Some rpath) ∷ new_history) (Some (rpath + error)) None ≡ None
   pub under_error : pledge_fault with_error (Some (rpath + wpath)) (Some wpath) ≡ None
-  pub promises : held narrowed ≡ rpath
-  pub execpromises : held_for_exec narrowed ≡ Some 0
-  pub lacking : may_any narrowed (wpath ∷ []) ≡ may.Death
+  pub promises : held_set narrowed_history ≡ rpath
+  pub execpromises : held_for_exec narrowed_history ≡ Some 0
+  pub lacking : may_any narrowed_history (wpath ∷ []) ≡ may.Death
   pub keywords : promises_of (codes "stdio,rpath,error,rpath") ≡ Ok (2 ^ 25 + rpath + error)
   pub unknown_keyword : promises_of (codes "stdio,zpath") ≡ Err EINVAL
   pub letters : perms_of (codes "wrr") ≡ Ok (reading + writing)
@@ -85,15 +98,19 @@ verdict_rows = record {
 -- the last check, call by call and object by object
 pub record LastCheckRows : Type 0 where
   pub directory : map (λ call. object_fault example_tree call (IsDir 1 (way.Named 0 (codes "etc")))) calls
-      ≡ None ∷ None ∷ Some EINVAL ∷ None ∷ Some EISDIR ∷ Some EISDIR ∷ Some EISDIR ∷ Some EEXIST ∷ Some ENOTEMPTY ∷ Some EPERM ∷ Some EEXIST ∷ None ∷ None ∷ Some EACCES ∷ []
+      ≡ None ∷ None ∷ Some EINVAL ∷ None ∷ Some EISDIR ∷ Some EISDIR ∷ Some EISDIR ∷ Some EEXIST ∷ Some ENOTEMPTY ∷ Some EPERM ∷ Some EEXIST
+      ∷ None ∷ None ∷ Some EACCES ∷ []
   pub file : map (λ call. object_fault example_tree call IsFile) calls
-      ≡ None ∷ None ∷ Some EINVAL ∷ None ∷ None ∷ None ∷ None ∷ Some EEXIST ∷ Some ENOTDIR ∷ None ∷ Some EEXIST ∷ None ∷ Some ENOTDIR ∷ Some EACCES ∷ []
+      ≡ None ∷ None ∷ Some EINVAL ∷ None ∷ None ∷ None ∷ None ∷ Some EEXIST ∷ Some ENOTDIR ∷ None ∷ Some EEXIST ∷ None ∷ Some ENOTDIR
+      ∷ Some EACCES ∷ []
   pub program : map (λ call. object_fault example_tree call IsProg) calls
-      ≡ None ∷ None ∷ Some EINVAL ∷ None ∷ None ∷ None ∷ None ∷ Some EEXIST ∷ Some ENOTDIR ∷ None ∷ Some EEXIST ∷ None ∷ Some ENOTDIR ∷ None ∷ []
+      ≡ None ∷ None ∷ Some EINVAL ∷ None ∷ None ∷ None ∷ None ∷ Some EEXIST ∷ Some ENOTDIR ∷ None ∷ Some EEXIST ∷ None ∷ Some ENOTDIR ∷ None
+      ∷ []
   pub link : map (λ call. object_fault example_tree call IsLink) (Lstat ∷ Readlink ∷ Mkdir ∷ Rmdir ∷ Unlink ∷ Symlink ∷ [])
       ≡ None ∷ None ∷ Some EEXIST ∷ Some ENOTDIR ∷ None ∷ Some EEXIST ∷ []
   pub missing_name : map (λ call. object_fault example_tree call IsMissing) calls
-      ≡ Some ENOENT ∷ Some ENOENT ∷ Some ENOENT ∷ Some ENOENT ∷ Some ENOENT ∷ Some ENOENT ∷ None ∷ None ∷ Some ENOENT ∷ Some ENOENT ∷ None ∷ Some ENOENT ∷ Some ENOENT ∷ Some ENOENT ∷ []
+      ≡ Some ENOENT ∷ Some ENOENT ∷ Some ENOENT ∷ Some ENOENT ∷ Some ENOENT ∷ Some ENOENT ∷ None ∷ None ∷ Some ENOENT ∷ Some ENOENT ∷ None
+      ∷ Some ENOENT ∷ Some ENOENT ∷ Some ENOENT ∷ []
   pub by_dot : rmdir_fault example_tree 1 way.Dot ≡ Some EINVAL
   pub by_dots : rmdir_fault example_tree 1 way.DotDot ≡ Some EINVAL
   pub at_top : rmdir_fault example_tree 0 way.Top ≡ Some EBUSY
@@ -136,17 +153,19 @@ set_rows = record {
 -- why something is allowed or not
 pub record ReasonRows : Type 0 where
   pub lacks : lacking (reading + 4) (reading + writing + 8) ≡ writing + 8
-  pub first_held : promising narrowed (wpath ∷ rpath ∷ 0 ∷ []) ≡ Holds rpath
+  pub first_held : promising narrowed_history (wpath ∷ rpath ∷ 0 ∷ []) ≡ Holds rpath
   pub none_held : promising with_error (wpath ∷ (rpath + wpath) ∷ []) ≡ Lacks true (wpath ∷ wpath ∷ [])
-  pub no_error : promising narrowed (wpath ∷ []) ≡ Lacks false (wpath ∷ [])
-  pub ended : promising (Ended ∷ narrowed) (rpath ∷ []) ≡ HasEnded
+  pub no_error : promising narrowed_history (wpath ∷ []) ≡ Lacks false (wpath ∷ [])
+  pub ended : promising (Ended ∷ narrowed_history) (rpath ∷ []) ≡ HasEnded
   pub in_view : covering example_tree new_history (found.Whole 1 (way.Named 0 (codes "etc"))) ≡ InView
-  pub own_veil : covering example_tree three_veils (found.Slot 1 (codes "passwd") (Some 2)) ≡ By (Slot 1 (codes "passwd")) (reading + writing)
+  pub own_veil : covering example_tree three_veils (found.Slot 1 (codes "passwd") (Some 2)) ≡ By (Slot 1 (codes "passwd"))
+      (reading + writing)
   pub nearer_veil : covering example_tree three_veils (found.Slot 3 (codes "sh") (Some 7)) ≡ By (Dir 3) 0
   pub root_veil : covering example_tree three_veils (found.Slot 1 (codes "x") None) ≡ By (Dir 0) reading
   pub none_over : covering example_tree (Unveiled (Dir 3) reading ∷ new_history) (found.Whole 1 (way.Named 0 (codes "etc"))) ≡ NoneOver
   pub directory : map (λ call. misfit example_tree call (IsDir 1 (way.Named 0 (codes "etc")))) calls
-      ≡ None ∷ None ∷ Some IsNoLink ∷ None ∷ Some IsDirectory ∷ Some IsDirectory ∷ Some IsDirectory ∷ Some Exists ∷ Some IsNotEmpty ∷ Some IsNoFile ∷ Some Exists ∷ None ∷ None ∷ Some IsNoProgram ∷ []
+      ≡ None ∷ None ∷ Some IsNoLink ∷ None ∷ Some IsDirectory ∷ Some IsDirectory ∷ Some IsDirectory ∷ Some Exists ∷ Some IsNotEmpty
+      ∷ Some IsNoFile ∷ Some Exists ∷ None ∷ None ∷ Some IsNoProgram ∷ []
   pub file : map (λ call. misfit example_tree call IsFile) (Rmdir ∷ Unlink ∷ Exec ∷ []) ≡ Some IsNoDirectory ∷ None ∷ Some IsNoProgram ∷ []
 
 pub reason_rows : ReasonRows
@@ -176,9 +195,9 @@ pub record RuleRows : Type 0 where
   pub chmod : verdict_on example_tree openbsd_table fattr_alone Chmod (codes "/etc") ≡ Death
   pub standard_chmod : verdict_on example_tree standard_table fattr_alone Chmod (codes "/etc") ≡ Allowed
   -- execpromises stay after an exec, for the next one
-  pub exec_promises : pledged (after_exec openbsd_table.execpromises both_for_exec) ≡ Some (rpath + cpath)
+  pub exec_promises : pledged_set (after_exec openbsd_table.execpromises both_for_exec) ≡ Some (rpath + cpath)
   pub exec_stay : held_for_exec (after_exec openbsd_table.execpromises both_for_exec) ≡ Some (rpath + cpath)
-  pub standard_exec_promises : pledged (after_exec standard_table.execpromises both_for_exec) ≡ Some (rpath + cpath)
+  pub standard_exec_promises : pledged_set (after_exec standard_table.execpromises both_for_exec) ≡ Some (rpath + cpath)
   pub standard_exec_unset : held_for_exec (after_exec standard_table.execpromises both_for_exec) ≡ None
   pub none_given : after_exec openbsd_table.execpromises new_history ≡ new_history
 

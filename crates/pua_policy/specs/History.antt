@@ -1,8 +1,9 @@
 -- What a process may do, from the list of its accepted events. A history has its newest event first.
-use Rattle.std.specs.Prelude.{◌≡◌, ℕ, ◌-◌, Bool, true, false, not, ◌&&◌, ◌||◌, if◌then◌else◌, List, [], ◌∷◌, length, nat_le, ◌==◌, Option, Some, None, bit_and, unwrap_or, filter, filter_map}
+use Rattle.std.specs.Prelude.{◌≡◌, ℕ, ◌-◌, Bool, true, false, not, ◌&&◌, ◌||◌, if◌then◌else◌, List, [], ◌∷◌, length, nat_le, ◌==◌, Option}
+use Rattle.std.specs.Prelude.{Some, None, bit_and, unwrap_or, filter, filter_map}
 use Rattle.std.specs.List.{list_any}
 use Rattle.pua_tree.specs.Names.{same_bytes}
-pub use Rattle.pua_policy.specs.Limits.{place_limit}
+pub use Rattle.pua_policy.specs.Limits.{most_places}
 use Rattle.pua_calls.specs.Promises.{holds, all_promises, error}
 use Rattle.pua_path.specs.declared.errno.Errno.{Errno}
 use Rattle.pua_path.specs.declared.errno.Errno.TheVariants.{EPERM}
@@ -49,18 +50,18 @@ common [] = None
 common (set ∷ sets) = Some (meet set (common sets))
 
 -- the promises that every event which gave some names; before the first, all but `error`
-abbrev pub pledged : History → Option ℕ
-pledged h = common (filter_map promises_in h)
+abbrev pub pledged_set : History → Option ℕ
+pledged_set h = common (filter_map promises_in h)
 
-abbrev pub held : History → ℕ
-held h = unwrap_or (pledged h) (all_promises - error)
+abbrev pub held_set : History → ℕ
+held_set h = unwrap_or (pledged_set h) (all_promises - error)
 
 -- the execpromises that every event which gave some names, if one did
 abbrev pub held_for_exec : History → Option ℕ
 held_for_exec h = common (filter_map execpromises_in h)
 
 abbrev pub has_error : History → Bool
-has_error h = holds (held h) error
+has_error h = holds (held_set h) error
 
 -- a request names nothing beyond what was given before; before the first it may name anything
 abbrev pub is_within : Option ℕ → Option ℕ → Bool
@@ -69,14 +70,9 @@ is_within (Some request) None = true
 is_within (Some request) (Some given) = holds given request
 
 -- what is given after a request: what both name, and before the first what it names
-abbrev pub narrowed : Option ℕ → Option ℕ → Option ℕ
-narrowed given None = given
-narrowed given (Some request) = Some (meet request given)
-
--- a pledge is refused if it asks for more in either argument, unless `error` is held
-abbrev pub pledge_fault : History → Option ℕ → Option ℕ → Option Errno
-pledge_fault h promises execpromises =
-    if has_error h || (is_within promises (pledged h) && is_within execpromises (held_for_exec h)) then None else Some EPERM
+abbrev pub narrowed_set : Option ℕ → Option ℕ → Option ℕ
+narrowed_set given None = given
+narrowed_set given (Some request) = Some (meet request given)
 
 abbrev pub same_place : Place → Place → Bool
 same_place (Dir a) (Dir b) = a == b
@@ -85,10 +81,10 @@ same_place (Dir a) (Slot b m) = false
 same_place (Slot a n) (Dir b) = false
 
 -- the permissions kept at a place: those of the last event on it
-abbrev pub kept : History → Place → Option ℕ
-kept [] place = None
-kept (Unveiled other perms ∷ h) place = if same_place other place then Some perms else kept h place
-kept (_ ∷ h) place = kept h place
+abbrev pub perms_kept : History → Place → Option ℕ
+perms_kept [] place = None
+perms_kept (Unveiled other perms ∷ h) place = if same_place other place then Some perms else perms_kept h place
+perms_kept (_ ∷ h) place = perms_kept h place
 
 abbrev pub first : {A : Type 0} → List A → Option A
 first [] = None
@@ -137,13 +133,14 @@ dir_in _ = None
 abbrev pub working_dir : History → ℕ
 working_dir h = unwrap_or (first (filter_map dir_in h)) 0
 
--- why permissions may not be kept at a place, by what is kept there and by the number of places: they may only be reduced, and there is a limit of places
+-- why permissions may not be kept at a place, by what is kept there and by the number of places: they may only be
+-- reduced, and there is a limit of places
 abbrev pub place_fault : Option ℕ → ℕ → ℕ → Option UnveilFault
 place_fault (Some old) places perms = if holds old perms then None else Some NotPermitted
-place_fault None places perms = if nat_le place_limit places then Some TooManyPlaces else None
+place_fault None places perms = if nat_le most_places places then Some TooManyPlaces else None
 
 abbrev pub unveil_fault : History → Place → ℕ → Option UnveilFault
-unveil_fault h place perms = if is_locked h then Some NotPermitted else place_fault (kept h place) (length (veils h)) perms
+unveil_fault h place perms = if is_locked h then Some NotPermitted else place_fault (perms_kept h place) (length (veils h)) perms
 
 abbrev pub is_pledge : Event → Bool
 is_pledge (Pledged promises execpromises) = true
@@ -154,20 +151,14 @@ abbrev pub left_for_exec : ExecPromises → ℕ → Option ℕ
 left_for_exec Unset set = None
 left_for_exec Stay set = Some set
 
--- the history of the program that a successful exec starts: with execpromises they are its promises, and are unset or stay; without them the working directory alone stays
+-- the history of the program that a successful exec starts: with execpromises they are its promises, and are unset or
+-- stay; without them the working directory alone stays
 abbrev pub after_exec : ExecPromises → History → History
 after_exec left h = by_given (held_for_exec h)
   where
     by_given : Option ℕ → History
     by_given (Some promises) = Pledged (Some promises) (left_for_exec left promises) ∷ filter (λ event. not (is_pledge event)) h
     by_given None = Moved (working_dir h) ∷ []
-
--- whether promises allow a call that needs one of these sets
-abbrev pub may_any : History → List ℕ → May
-may_any h alternatives =
-    if is_ended h then Death
-    else (if list_any (holds (held h)) alternatives then Yes
-    else (if has_error h then Enosys else Death))
 
 -- what a process keeps of its history; its promises are None until a pledge gives some, since that pledge alone may name any
 pub record ProcessState : Type 0 where
@@ -178,9 +169,46 @@ pub record ProcessState : Type 0 where
   pub dir : ℕ
   pub ended : Bool
 
+-- what is left of a history
+abbrev pub state_of : History → ProcessState
+state_of h = record {
+  promises = pledged_set h;
+  execpromises = held_for_exec h;
+  veils = veils h;
+  locked = is_locked h;
+  dir = working_dir h;
+  ended = is_ended h;
+}
+
+-- the promises that a process holds
+abbrev pub held_on : ProcessState → ℕ
+held_on p = unwrap_or p.promises (all_promises - error)
+
+-- a pledge is refused if it asks for more in either argument, unless `error` is held
+abbrev pub pledge_fault_on : ProcessState → Option ℕ → Option ℕ → Option Errno
+pledge_fault_on p promises execpromises =
+    if holds (held_on p) error || (is_within promises p.promises && is_within execpromises p.execpromises) then None else Some EPERM
+
+abbrev pub pledge_fault : History → Option ℕ → Option ℕ → Option Errno
+pledge_fault h promises execpromises = pledge_fault_on (state_of h) promises execpromises
+
+-- why permissions may not be kept at a place, by what a process keeps
+abbrev pub unveil_fault_on : ProcessState → Place → ℕ → Option UnveilFault
+unveil_fault_on p place perms = if p.locked then Some NotPermitted else place_fault (veil_at p.veils place) (length p.veils) perms
+
+-- whether promises allow a call that needs one of these sets
+abbrev pub may_any_on : ProcessState → List ℕ → May
+may_any_on p alternatives =
+    if p.ended then Death
+    else (if list_any (holds (held_on p)) alternatives then Yes
+    else (if holds (held_on p) error then Enosys else Death))
+
+abbrev pub may_any : History → List ℕ → May
+may_any h alternatives = may_any_on (state_of h) alternatives
+
 -- the process stands for the history
 pub record StandsFor (process : ProcessState) (h : History) : Type 0 where
-  pub promises : process.promises ≡ pledged h
+  pub promises : process.promises ≡ pledged_set h
   pub execpromises : process.execpromises ≡ held_for_exec h
   pub veils : process.veils ≡ veils h
   pub locked : process.locked ≡ is_locked h

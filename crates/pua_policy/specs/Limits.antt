@@ -2,5 +2,5 @@
 use Rattle.std.specs.Prelude.{ℕ}
 
 -- at most so many places are kept with veils
-abbrev pub place_limit : ℕ
-place_limit = 128
+abbrev pub most_places : ℕ
+most_places = 128

@@ -6,9 +6,11 @@ use Rattle.pua_path.specs.declared.errno.Errno.TheVariants.{EPERM, ENOENT, EACCE
 use Rattle.pua_path.specs.declared.found.Way.{Way}
 use Rattle.pua_path.specs.declared.found.Way.TheVariants as way
 use Rattle.pua_calls.specs.declared.call.Call.{Call}
-use Rattle.pua_calls.specs.declared.call.Call.TheVariants.{Readlink, OpenWrite, OpenBoth, Create, Mkdir, Rmdir, Unlink, Symlink, Chdir, Exec}
+use Rattle.pua_calls.specs.declared.call.Call.TheVariants.{Readlink, OpenWrite, OpenBoth, Create, Mkdir, Rmdir, Unlink, Symlink, Chdir}
+use Rattle.pua_calls.specs.declared.call.Call.TheVariants.{Exec}
 use Rattle.pua_policy.specs.declared.reason.Misfit.{Misfit}
-use Rattle.pua_policy.specs.declared.reason.Misfit.TheVariants.{Missing, Exists, IsDirectory, IsNoFile, IsNoDirectory, IsNoLink, IsNoProgram, IsNotEmpty, ByDot, ByDotDot, ByNothing}
+use Rattle.pua_policy.specs.declared.reason.Misfit.TheVariants.{Missing, Exists, IsDirectory, IsNoFile, IsNoDirectory, IsNoLink}
+use Rattle.pua_policy.specs.declared.reason.Misfit.TheVariants.{IsNoProgram, IsNotEmpty, ByDot, ByDotDot, ByNothing}
 
 -- what was found, as the last check sees it
 pub data Object : Type 0 where

@@ -5,7 +5,7 @@ use Rattle.pua_tree.specs.Tree.{Tree, is_empty}
 use Rattle.pua_path.specs.declared.found.Way.TheVariants as way
 use Rattle.pua_path.specs.declared.found.Found.{Found}
 use Rattle.pua_calls.specs.Promises.{holds, lacking}
-use Rattle.pua_policy.specs.History.{History, Unveiled, held, is_ended, kept, may_any}
+use Rattle.pua_policy.specs.History.{History, Unveiled, held_set, is_ended, perms_kept, may_any}
 use Rattle.pua_policy.specs.Laws.{places_over}
 use Rattle.pua_policy.specs.Misfits.{Object, IsDir, IsProg, IsLink, IsMissing, misfit}
 use Rattle.pua_policy.specs.Verdict.{cover, cover_fault, is_unveil}
@@ -15,13 +15,14 @@ use Rattle.pua_policy.specs.declared.place.Place.{Place}
 use Rattle.pua_policy.specs.declared.reason.Covering.{Covering}
 use Rattle.pua_policy.specs.declared.reason.Covering.TheVariants.{InView, NoneOver, By}
 use Rattle.pua_policy.specs.declared.reason.Misfit.{Misfit}
-use Rattle.pua_policy.specs.declared.reason.Misfit.TheVariants.{Missing, Exists, IsDirectory, IsNoFile, IsNoDirectory, IsNoLink, IsNoProgram, IsNotEmpty, ByDot, ByDotDot, ByNothing}
+use Rattle.pua_policy.specs.declared.reason.Misfit.TheVariants.{Missing, Exists, IsDirectory, IsNoFile, IsNoDirectory, IsNoLink}
+use Rattle.pua_policy.specs.declared.reason.Misfit.TheVariants.{IsNoProgram, IsNotEmpty, ByDot, ByDotDot, ByNothing}
 
 -- what is told of promises is so: the set is one of those asked for, and held; or of each set some is not held, and with just that it were
 pub record LacksSome (h : History) (set some : ℕ) : Type 0 where
-  pub not_held : holds (held h) set ≡ false
-  pub were_held : holds (bit_or (held h) some) set ≡ true
-  pub of_it : some ≡ lacking (held h) set
+  pub not_held : holds (held_set h) set ≡ false
+  pub were_held : holds (bit_or (held_set h) some) set ≡ true
+  pub of_it : some ≡ lacking (held_set h) set
 
 abbrev pub LackSome : History → List ℕ → List ℕ → Type 0
 LackSome h [] [] = Unit {0}
@@ -29,7 +30,7 @@ LackSome h (set ∷ sets) (some ∷ more) = LacksSome h set some × LackSome h s
 LackSome h _ _ = ⊥
 
 abbrev pub PromisingHolds : History → List ℕ → Promising → Type 0
-PromisingHolds h sets (Holds set) = (holds (held h) set ≡ true) × (is_ended h ≡ false)
+PromisingHolds h sets (Holds set) = (holds (held_set h) set ≡ true) × (is_ended h ≡ false)
 PromisingHolds h sets HasEnded = is_ended h ≡ true
 PromisingHolds h sets (Lacks error lacks) = LackSome h sets lacks
 
@@ -42,7 +43,7 @@ PromisingsAnswer = (h : History) (sets : List ℕ) → may_of (promising h sets)
 
 -- no place has a veil
 abbrev pub NoneKept : History → List Place → Type 0
-NoneKept h places = list_all (λ place. is_none (kept h place)) places ≡ true
+NoneKept h places = list_all (λ place. is_none (perms_kept h place)) places ≡ true
 
 -- the veil at this place is the nearest, and were its letters these, they would decide
 pub record DecidesBy (t : Tree) (h : History) (object : Found) (place : Place) (given : ℕ) : Type 0 where
@@ -50,8 +51,9 @@ pub record DecidesBy (t : Tree) (h : History) (object : Found) (place : Place) (
   pub far : List Place
   pub split : places_over t object ≡ near ++ place ∷ far
   pub none_nearer : NoneKept h near
-  pub kept_here : kept h place ≡ Some given
-  pub were : (letters wanted : ℕ) → (cover_fault (cover t (Unveiled place letters ∷ h) object) wanted ≡ None) ↔ (holds letters wanted ≡ true)
+  pub kept_here : perms_kept h place ≡ Some given
+  pub were : (letters wanted : ℕ) →
+      (cover_fault (cover t (Unveiled place letters ∷ h) object) wanted ≡ None) ↔ (holds letters wanted ≡ true)
 
 -- what is told of a cover is so
 abbrev pub CoveringHolds : Tree → History → Found → Covering → Type 0
@@ -60,7 +62,8 @@ CoveringHolds t h object NoneOver = NoneKept h (places_over t object)
 CoveringHolds t h object (By place given) = DecidesBy t h object place given
 
 abbrev pub CoveringsHold : Type 0
-CoveringsHold = (t : Tree) (h : History) (object : Found) → (cover_of (covering t h object) ≡ cover t h object) × CoveringHolds t h object (covering t h object)
+CoveringsHold = (t : Tree) (h : History) (object : Found) → (cover_of (covering t h object) ≡ cover t h object) ×
+    CoveringHolds t h object (covering t h object)
 
 -- with what is told to lack nothing lacks, and it does with no less
 pub record IsLacking (set wanted : ℕ) : Type 0 where
@@ -87,7 +90,8 @@ MisfitHolds t object IsNoFile = IsDirectoryNow object
 MisfitHolds t object IsNoDirectory = IsNoMissing object × (IsDirectoryNow object → ⊥)
 MisfitHolds t object IsNoLink = IsNoMissing object × (object ≢ IsLink)
 MisfitHolds t object IsNoProgram = IsNoMissing object × (object ≢ IsProg)
-MisfitHolds t object IsNotEmpty = (dir parent : ℕ) × (name : List ℕ) × (object ≡ IsDir dir (way.Named parent name)) × (is_empty t dir ≡ false)
+MisfitHolds t object IsNotEmpty = (dir parent : ℕ) × (name : List ℕ) × (object ≡ IsDir dir (way.Named parent name)) ×
+    (is_empty t dir ≡ false)
 MisfitHolds t object ByDot = (dir : ℕ) × (object ≡ IsDir dir way.Dot)
 MisfitHolds t object ByDotDot = (dir : ℕ) × (object ≡ IsDir dir way.DotDot)
 MisfitHolds t object ByNothing = (dir : ℕ) × (object ≡ IsDir dir way.Top)

@@ -3,8 +3,8 @@ use Rattle.std.specs.Prelude.{ℕ, Bool, true, false, if◌then◌else◌, List,
 use Rattle.std.specs.List.{list_any}
 use Rattle.pua_tree.specs.Tree.{Tree}
 use Rattle.pua_path.specs.declared.found.Found.{Found}
-use Rattle.pua_calls.specs.Promises.{holds, lacking}
-use Rattle.pua_policy.specs.History.{History, held, has_error, is_ended, kept}
+use Rattle.pua_calls.specs.Promises.{holds, lacking, error}
+use Rattle.pua_policy.specs.History.{History, ProcessState, state_of, held_on, perms_kept, has_veil, veil_at}
 use Rattle.pua_policy.specs.Laws.{places_over}
 use Rattle.pua_policy.specs.Verdict.{is_unveil}
 use Rattle.pua_policy.specs.declared.place.Place.{Place}
@@ -29,8 +29,12 @@ holds_or (Some set) lacks = Holds set
 holds_or None lacks = lacks
 
 -- the first set that is held
+abbrev pub promising_on : ProcessState → List ℕ → Promising
+promising_on p sets = if p.ended then HasEnded else holds_or (find (holds (held_on p)) sets)
+    (Lacks (holds (held_on p) error) (map (lacking (held_on p)) sets))
+
 abbrev pub promising : History → List ℕ → Promising
-promising h sets = if is_ended h then HasEnded else holds_or (find (holds (held h)) sets) (Lacks (has_error h) (map (lacking (held h)) sets))
+promising h sets = promising_on (state_of h) sets
 
 -- as a process tells it, which names what it holds beside the sets
 abbrev pub promising_seen : seen.Promising → Promising
@@ -56,8 +60,15 @@ first_kept kept_at [] = NoneOver
 first_kept kept_at (place ∷ places) = kept_or place (kept_at place) (first_kept kept_at places)
 
 -- what covers an object: no veil is kept, none of those that are kept stands over it, or the nearest one, by its place and permissions
+abbrev pub covering_with : Bool → (Place → Option ℕ) → Tree → Found → Covering
+covering_with veiled kept_at t object = if veiled then first_kept kept_at (places_over t object) else InView
+
 abbrev pub covering : Tree → History → Found → Covering
-covering t h object = if list_any is_unveil h then first_kept (kept h) (places_over t object) else InView
+covering t h object = covering_with (list_any is_unveil h) (perms_kept h) t object
+
+-- the same by what a process keeps
+abbrev pub covering_on : Tree → ProcessState → Found → Covering
+covering_on t p object = covering_with (has_veil p.veils) (veil_at p.veils) t object
 
 -- the first of some directories that has permissions, with them
 abbrev pub or_farther : ℕ → Option ℕ → Option (ℕ × ℕ) → Option (ℕ × ℕ)

@@ -8,7 +8,7 @@ pub use Rattle.pua_policy.specs.Misfits.{Object, IsDir, IsFile, IsProg, IsLink, 
 use Rattle.pua_policy.specs.Misfits.{rmdir_misfit, misfit, misfit_errno}
 use Rattle.pua_calls.specs.Promises.{holds}
 use Rattle.pua_calls.specs.Calls.{CallTable, rule_of, last_of, ending_of}
-use Rattle.pua_policy.specs.History.{History, Event, Unveiled, kept, may_any, working_dir}
+use Rattle.pua_policy.specs.History.{History, Event, Unveiled, ProcessState, perms_kept, may_any, working_dir, has_veil, veil_at}
 use Rattle.pua_tree.specs.declared.node.Kind.{Kind}
 use Rattle.pua_tree.specs.declared.node.Kind.TheVariants as kind
 use Rattle.pua_path.specs.declared.errno.Errno.{Errno}
@@ -49,9 +49,16 @@ is_unveil (Unveiled place perms) = true
 is_unveil _ = false
 
 -- everything, where no veil is kept; else the permissions at the object's own place, or those of the nearest directory over it
+abbrev pub cover_with : Bool → (Place → Option ℕ) → Tree → Found → Cover
+cover_with veiled kept_at t object =
+    if veiled then nearest (kept_at (place_of object) ∷ map (λ dir. kept_at (Dir dir)) (directories_over t object)) else All
+
 abbrev pub cover : Tree → History → Found → Cover
-cover t h object =
-    if list_any is_unveil h then nearest (kept h (place_of object) ∷ map (λ dir. kept h (Dir dir)) (directories_over t object)) else All
+cover t h object = cover_with (list_any is_unveil h) (perms_kept h) t object
+
+-- the same by what a process keeps
+abbrev pub cover_on : Tree → ProcessState → Found → Cover
+cover_on t p object = cover_with (has_veil p.veils) (veil_at p.veils) t object
 
 abbrev pub object_of_kind : Option Kind → Object
 object_of_kind (Some kind.Prog) = IsProg
@@ -94,9 +101,9 @@ refusal_of may.Enosys = Some (refusal.Failed ENOSYS)
 refusal_of may.Death = Some refusal.Killed
 
 -- a refusal as a verdict
-abbrev pub refused : Refusal → Verdict
-refused (refusal.Failed errno) = Failed errno
-refused refusal.Killed = Death
+abbrev pub refusal_verdict : Refusal → Verdict
+refusal_verdict (refusal.Failed errno) = Failed errno
+refusal_verdict refusal.Killed = Death
 
 -- promises before everything else: without them the call fails or the process ends
 abbrev pub if_promised : May → Verdict → Verdict
@@ -109,13 +116,19 @@ abbrev pub found_fault : Tree → CallTable → History → Call → Found → O
 found_fault t table h call object =
     or_fault (cover_fault (cover t h object) (rule_of table call).perms) (object_fault t call (object_of t object))
 
+abbrev pub found_fault_on : Tree → CallTable → ProcessState → Call → Found → Option Errno
+found_fault_on t table p call object =
+    or_fault (cover_fault (cover_on t p object) (rule_of table call).perms) (object_fault t call (object_of t object))
+
 abbrev pub verdict : Tree → CallTable → History → Call → Found → Verdict
-verdict t table h call object = if_promised (may_any h (rule_of table call).alternatives) (allowed_unless (found_fault t table h call object))
+verdict t table h call object =
+    if_promised (may_any h (rule_of table call).alternatives) (allowed_unless (found_fault t table h call object))
 
 -- the verdict on such an object wherever it stands, by what the veils leave of it
 abbrev pub covered_verdict : Tree → CallTable → History → Call → Cover → Object → Verdict
 covered_verdict t table h call left object =
-    if_promised (may_any h (rule_of table call).alternatives) (allowed_unless (or_fault (cover_fault left (rule_of table call).perms) (object_fault t call object)))
+    if_promised (may_any h (rule_of table call).alternatives)
+    (allowed_unless (or_fault (cover_fault left (rule_of table call).perms) (object_fault t call object)))
 
 -- the verdict where the path may have failed
 abbrev pub verdict_of : Tree → CallTable → History → Call → Result Found Errno → Verdict

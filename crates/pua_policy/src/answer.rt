@@ -1,7 +1,7 @@
 //! What a process and the verdict on its calls answer.
 
 ghost use Rattle.std.specs.Prelude.{◌≡◌};
-ghost use Rattle.pua_policy.specs.Verdict.{refused};
+ghost use Rattle.pua_policy.specs.Verdict.{refusal_verdict};
 
 use pua_calls::Perms;
 use pua_path::Errno;
@@ -52,7 +52,7 @@ pub enum Refusal {
 impl Refusal {
     /// The verdict on a call that is refused so.
     pub fn verdict(self) -> Verdict
-        ensures { result ≡ refused self }
+        ensures { result ≡ refusal_verdict self }
     {
         match self {
             Refusal::Failed(errno) => Verdict::Failed(errno),

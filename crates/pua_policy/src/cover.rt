@@ -3,9 +3,9 @@
 ghost use Rattle.std.specs.Prelude.{◌≡◌, ◌+◌, ◌≤◌, length, map, IsTrue};
 ghost use Rattle.pua_tree.specs.Tree.{is_dir, climb};
 ghost use Rattle.pua_policy.specs.Descent.{own_or};
-ghost use Rattle.pua_policy.specs.History.{History, StandsFor, kept, veil_at};
-ghost use Rattle.pua_policy.specs.Reasons.{covering, first_veiled, covering_at};
-ghost use Rattle.pua_policy.specs.Verdict.{FoundFits, cover, nearest};
+ghost use Rattle.pua_policy.specs.History.{History, StandsFor, perms_kept, veil_at};
+ghost use Rattle.pua_policy.specs.Reasons.{covering, covering_at, covering_on, first_veiled};
+ghost use Rattle.pua_policy.specs.Verdict.{FoundFits, cover, cover_on, nearest};
 
 use crate::answer::Cover;
 use crate::place::Place;
@@ -22,6 +22,7 @@ impl Process {
     /// probe's tree as it stands. At most as many looks at the tree as it has nodes.
     pub fn cover<'t, P: Probe<'t>>(&self, probe: &mut P, found: &Found) -> Cover
         requires { FoundFits (P.tree probe.old) found.now }
+        ensures state { result ≡ cover_on (P.tree probe.old) self.now found.now }
         ensures exact { (h : History) → StandsFor self.now h →
             result ≡ cover (P.tree probe.old) h found.now }
         ensures tree { P.tree probe.new ≡ P.tree probe.old }
@@ -44,6 +45,8 @@ impl Process {
     /// That is said of what was found in the probe's tree as it stands. Whatever the object is, it
     /// takes at most as many looks at the tree as that has nodes.
     pub fn covering<'t, P: Probe<'t>>(&self, probe: &mut P, found: &Found) -> Covering
+        ensures state { FoundFits (P.tree probe.old) found.now →
+            result ≡ covering_on (P.tree probe.old) self.now found.now }
         ensures exact { FoundFits (P.tree probe.old) found.now →
             (h : History) → StandsFor self.now h →
             result ≡ covering (P.tree probe.old) h found.now }
@@ -69,7 +72,8 @@ impl Process {
     /// The permissions kept at this very place, or where it has no veil the cover of the names in the
     /// directory over it, which the caller hands on. The tree is not asked.
     pub fn own_cover(&self, place: &Place, over: Cover) -> Cover
-        ensures { (h : History) → StandsFor self.now h → result ≡ own_or (kept h place.now) over }
+        ensures { (h : History) → StandsFor self.now h →
+            result ≡ own_or (perms_kept h place.now) over }
     {
         match self.kept(place) {
             Some(own) => Cover::Only(own),

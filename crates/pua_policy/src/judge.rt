@@ -2,13 +2,15 @@
 
 ghost use Rattle.std.specs.Prelude.{◌≡◌, ◌+◌, ◌≤◌, [], ◌∷◌, ℕ, length};
 ghost use Rattle.std.specs.Prelude.{Some, None, is_none, MatchResult};
+ghost use Rattle.std.specs.Result.{result_err};
 ghost use Rattle.pua_tree.specs.Tree.{Tree};
 ghost use Rattle.pua_calls.specs.Calls.{rule_of};
 ghost use Rattle.pua_calls.specs.CallSets.{has};
-ghost use Rattle.pua_policy.specs.History.{History, StandsFor, may_any};
+ghost use Rattle.pua_policy.specs.History.{History, StandsFor, may_any, may_any_on};
 ghost use Rattle.pua_policy.specs.Objects.{object_seen};
 ghost use Rattle.pua_policy.specs.Verdict.{FoundFits, FoundsFit, verdict, verdict_of};
 ghost use Rattle.pua_policy.specs.Verdict.{covered_verdict, is_allowed, refusal_of, found_fault};
+ghost use Rattle.pua_policy.specs.Verdict.{found_fault_on};
 ghost use Rattle.pua_policy.specs.Verdict.{cover_fault, object_fault, object_of, object_of_kind};
 ghost use Rattle.pua_policy.specs.Verdict.{Object as Judged, IsDir};
 ghost use Rattle.pua_policy.specs.Misfits.{misfit, rmdir_misfit};
@@ -26,6 +28,7 @@ use pua_tree::{Kind, NodeId};
 /// `ENOSYS` where `error` is held, and else the process is killed (pledge(2)); one that has ended
 /// may do nothing.
 pub fn promised(process: &Process, promises: Promises) -> Result<(), Refusal>
+    ensures state { result_err result ≡ refusal_of (may_any_on process.now (promises ∷ [])) }
     ensures exact { (h : History) → StandsFor process.now h → MatchResult result
         (λ _. may_any h (promises ∷ []) ≡ May.Yes)
         (λ refusal. refusal_of (may_any h (promises ∷ [])) ≡ Some refusal) }
@@ -36,6 +39,8 @@ pub fn promised(process: &Process, promises: Promises) -> Result<(), Refusal>
 /// Whether a process holds what a call needs by a table: all promises of one of its alternatives.
 /// Without them the call fails, or the process is killed, as without those of `promised`.
 pub fn promised_for(process: &Process, table: &CallTable, call: Call) -> Result<(), Refusal>
+    ensures state { result_err result
+        ≡ refusal_of (may_any_on process.now (rule_of table.now call).alternatives) }
     ensures exact { (h : History) → StandsFor process.now h → MatchResult result
         (λ _. may_any h (rule_of table.now call).alternatives ≡ May.Yes)
         (λ refusal. refusal_of (may_any h (rule_of table.now call).alternatives) ≡ Some refusal) }
@@ -47,6 +52,7 @@ pub fn promised_for(process: &Process, table: &CallTable, call: Call) -> Result<
 /// and nowhere else. Where it holds none of the sets the call fails with `ENOSYS` if `error` is
 /// held, and else the process is killed; one that has ended may do nothing.
 pub fn promised_any(process: &Process, alternatives: &[Promises]) -> Result<(), Refusal>
+    ensures state { result_err result ≡ refusal_of (may_any_on process.now alternatives.now) }
     ensures exact { (h : History) → StandsFor process.now h → MatchResult result
         (λ _. may_any h alternatives.now ≡ May.Yes)
         (λ refusal. refusal_of (may_any h alternatives.now) ≡ Some refusal) }
@@ -122,6 +128,8 @@ pub fn object_verdict<'t, P: Probe<'t>>(
     found: &Found,
 ) -> Result<(), Errno>
     requires { FoundFits (P.tree probe.old) found.now }
+    ensures state { result_err result ≡
+        found_fault_on (P.tree probe.old) table.now process.now call found.now }
     ensures exact { (h : History) → StandsFor process.now h → MatchResult result
         (λ _. found_fault (P.tree probe.old) table.now h call found.now ≡ None)
         (λ errno. found_fault (P.tree probe.old) table.now h call found.now ≡ Some errno) }
@@ -202,7 +210,8 @@ pub fn cover_fault(cover: Cover, perms: Perms) -> Option<Errno>
 
 /// The error of what is wrong with what was found.
 fn object_fault<'t, P: Probe<'t>>(probe: &mut P, call: Call, found: &Found) -> Option<Errno>
-    ensures exact { result ≡ object_fault (P.tree probe.old) call (object_of (P.tree probe.old) found.now) }
+    ensures exact { result ≡ object_fault (P.tree probe.old) call
+        (object_of (P.tree probe.old) found.now) }
     ensures tree { P.tree probe.new ≡ P.tree probe.old }
     ensures cost { P.count probe.new ≤ P.count probe.old + 1 }
 {

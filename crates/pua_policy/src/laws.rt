@@ -7,15 +7,16 @@ ghost use Rattle.pua_policy.specs.Laws.{KeptPlacesNarrow, CoversDescend, HeldNev
 ghost use Rattle.pua_policy.specs.Laws.{PledgesNarrow, ProcessesDecide};
 ghost use Rattle.pua_policy.specs.ReasonLaws.{CoveringsHold, LackingsHold, MisfitsHold};
 ghost use Rattle.pua_policy.specs.ReasonLaws.{PromisingsAnswer, PromisingsHold};
-ghost use Rattle.pua_policy.specs.Limits.{place_limit};
-ghost use Rattle.pua_policy.specs.Examples.{CoverRows, VerdictRows, LastCheckRows, SetRows, ReasonRows};
+ghost use Rattle.pua_policy.specs.Limits.{most_places};
+ghost use Rattle.pua_policy.specs.Examples.{CoverRows, VerdictRows, LastCheckRows, SetRows};
+ghost use Rattle.pua_policy.specs.Examples.{ReasonRows};
 ghost use Rattle.pua_policy.specs.Examples.{RuleRows};
 
-use crate::process::PLACE_LIMIT;
+use crate::process::MOST_PLACES;
 
 /// There may be as many places as the definitions say.
 pub fn limits_law()
-    ensures { PLACE_LIMIT ≡ place_limit }
+    ensures { MOST_PLACES ≡ most_places }
 {}
 
 /// Examples of what veils leave.

@@ -18,5 +18,5 @@ pub use laws::{
 };
 pub use object::Object;
 pub use place::Place;
-pub use process::{PLACE_LIMIT, Process};
+pub use process::{MOST_PLACES, Process};
 pub use reason::{Covering, Misfit, Promising};

@@ -10,7 +10,7 @@ use std::alloc::{AllocError, Global};
 use std::marker::Model;
 
 /// A process keeps veils at no more places than so many (this profile; `E2BIG` is unveil(2)'s).
-pub const PLACE_LIMIT: usize = 128;
+pub const MOST_PLACES: usize = 128;
 
 /// How many places a new process has room for.
 const FIRST_PLACES: usize = 8;
@@ -51,18 +51,18 @@ impl Model for Process {
     }) };
 }
 
-ghost use Rattle.std.specs.Prelude.{◌≡◌, ◌≢◌, ◌-◌, [], ◌∷◌, length, map};
-ghost use Rattle.std.specs.Prelude.{if◌then◌else◌, false, Option, Some, None, IfSome, unwrap_or};
+ghost use Rattle.std.specs.Prelude.{◌≡◌, ◌≢◌, ◌-◌, [], ◌∷◌, map};
+ghost use Rattle.std.specs.Prelude.{false, Option, Some, None, IfSome, unwrap_or};
 ghost use Rattle.std.specs.Prelude.{Err, IfOk, OnOk, OnErr, IfErr, MatchResult};
 ghost use Rattle.std.specs.List.{list_any};
 ghost use Rattle.pua_calls.specs.Promises.{holds, all_promises, error};
 ghost use Rattle.pua_calls.specs.declared.rules.ExecPromises.TheVariants.{Unset};
 ghost use Rattle.pua_policy.specs.History.{History, StandsFor, new_history, HasHistory, after_exec};
 ghost use Rattle.pua_policy.specs.History.{Pledged, Unveiled, Locked, Moved, Ended};
-ghost use Rattle.pua_policy.specs.History.{pledge_fault, unveil_fault, place_fault, is_within};
-ghost use Rattle.pua_policy.specs.History.{narrowed, may_any, is_locked, is_ended, working_dir};
-ghost use Rattle.pua_policy.specs.History.{pledged, held, held_for_exec, left_for_exec};
-ghost use Rattle.pua_policy.specs.History.{kept, veils, veil_at, has_veil};
+ghost use Rattle.pua_policy.specs.History.{pledge_fault, unveil_fault, unveil_fault_on, is_within};
+ghost use Rattle.pua_policy.specs.History.{narrowed_set, may_any, may_any_on, is_locked, is_ended};
+ghost use Rattle.pua_policy.specs.History.{pledged_set, held_set, held_for_exec, left_for_exec};
+ghost use Rattle.pua_policy.specs.History.{perms_kept, veils, veil_at, has_veil, working_dir};
 
 impl Process {
     /// A new process, in the root: it holds every promise but `error`, and has no veil (this
@@ -70,9 +70,7 @@ impl Process {
     pub fn new(alloc: Global) -> Result<Process, OutOfMemory>
         ensures { IfOk result (λ process. StandsFor process new_history) }
     {
-        let Ok(veils) = IndexMap::with_capacity(alloc, FIRST_PLACES) else {
-            return Err(OutOfMemory);
-        };
+        let veils = IndexMap::with_capacity(alloc, FIRST_PLACES)?;
         Ok(Process {
             promises: None,
             execpromises: None,
@@ -120,7 +118,8 @@ impl Process {
         ensures err { IfErr result (λ fault. (h : History) → StandsFor self.old h →
             (fault ≢ UnveilFault.OutOfMemory → unveil_fault h place perms ≡ Some fault)
             × (fault ≡ UnveilFault.OutOfMemory → unveil_fault h place perms ≡ None)) }
-        ensures memory { result ≡ Err UnveilFault.OutOfMemory → veil_at self.old.veils place ≡ None }
+        ensures memory { result ≡ Err UnveilFault.OutOfMemory →
+            veil_at self.old.veils place ≡ None }
         ensures unchanged { OnErr result (self.new ≡ self.old) }
     {
         if let Some(fault) = self.unveil_fault(&place, perms) {
@@ -151,7 +150,7 @@ impl Process {
     /// one but `error`.
     pub fn promises(&self) -> Option<Promises>
         ensures state { result ≡ self.now.promises }
-        ensures history { (h : History) → StandsFor self.now h → result ≡ pledged h }
+        ensures history { (h : History) → StandsFor self.now h → result ≡ pledged_set h }
     {
         self.promises
     }
@@ -201,9 +200,7 @@ impl Process {
     pub fn fork(&self, alloc: Global) -> Result<Process, OutOfMemory>
         ensures { IfOk result (λ copy. copy ≡ self.now) }
     {
-        let Ok(veils) = self.veils.clone() else {
-            return Err(OutOfMemory);
-        };
+        let veils = self.veils.clone()?;
         Ok(Process {
             promises: self.promises,
             execpromises: self.execpromises,
@@ -225,15 +222,16 @@ impl Process {
         self.exec_by(ExecPromises::Unset)
     }
 
-    /// The same, where `left` says whether execpromises that were given are unset or stay.
+    /// The same, where `left` says whether execpromises that were given are unset or stay. One that
+    /// has ended stays so where execpromises were given, and else begins anew.
     pub fn exec_by(&mut self, left: ExecPromises)
-        requires { self.old.ended ≡ false }
         ensures { (h : History) → StandsFor self.old h → StandsFor self.new (after_exec left h) }
     {
         let Some(promises) = self.execpromises else {
             self.promises = None;
             self.veils.clear();
             self.locked = false;
+            self.ended = false;
             return;
         };
         self.promises = Some(promises);
@@ -261,7 +259,9 @@ impl Process {
     /// the sets, `Enosys` where it holds none and holds `error`, and else `Death` (pledge(2)). One
     /// that has ended may do nothing: `Death`.
     pub fn may_any(&self, alternatives: &[Promises]) -> May
-        ensures { (h : History) → StandsFor self.now h → result ≡ may_any h alternatives.now }
+        ensures state { result ≡ may_any_on self.now alternatives.now }
+        ensures history { (h : History) → StandsFor self.now h →
+            result ≡ may_any h alternatives.now }
     {
         let held = self.held();
         if self.ended {
@@ -277,8 +277,7 @@ impl Process {
 
     /// Why permissions may not be kept at a place.
     fn unveil_fault(&self, place: &Place, perms: Perms) -> Option<UnveilFault>
-        ensures fault { result ≡ (if self.now.locked then Some UnveilFault.NotPermitted else
-            place_fault (veil_at self.now.veils place.now) (length self.now.veils) perms) }
+        ensures fault { result ≡ unveil_fault_on self.now place.now perms }
         ensures other { IfSome result (λ fault. fault ≢ UnveilFault.OutOfMemory) }
     {
         if self.locked {
@@ -287,7 +286,7 @@ impl Process {
         match self.kept(place) {
             Some(kept) if kept.contains(perms) => None,
             Some(_) => Some(UnveilFault::NotPermitted),
-            None if self.veils.len() < PLACE_LIMIT => None,
+            None if self.veils.len() < MOST_PLACES => None,
             None => Some(UnveilFault::TooManyPlaces),
         }
     }
@@ -296,7 +295,7 @@ impl Process {
     /// promises every one but `error`. Whether it has ended is not asked.
     pub fn held(&self) -> Promises
         ensures state { result ≡ unwrap_or self.now.promises (all_promises - error) }
-        ensures history { (h : History) → StandsFor self.now h → result ≡ held h }
+        ensures history { (h : History) → StandsFor self.now h → result ≡ held_set h }
     {
         self.promises.unwrap_or(Promises::ALL_BUT_ERROR)
     }
@@ -307,7 +306,7 @@ impl Process {
         ensures { IfOk result (λ places.
             map (λ place. place.now) places.items ≡ map (λ veil. veil.0) self.now.veils) }
     {
-        lent_places(alloc, &self.veils).map_err(|_| OutOfMemory)
+        Ok(lent_places(alloc, &self.veils)?)
     }
 
     /// Lends the places with veils, in the order in which they were first kept, each with the
@@ -318,7 +317,7 @@ impl Process {
         ensures history { IfOk result (λ lent. (h : History) → StandsFor self.now h →
             map (λ veil. (veil.0.now, veil.1.now)) lent.items ≡ veils h) }
     {
-        lent_veils(alloc, &self.veils).map_err(|_| OutOfMemory)
+        Ok(lent_veils(alloc, &self.veils)?)
     }
 
     /// Whether a veil is kept.
@@ -332,7 +331,7 @@ impl Process {
     /// it are not asked.
     pub fn kept(&self, place: &Place) -> Option<Perms>
         ensures state { result ≡ veil_at self.now.veils place.now }
-        ensures history { (h : History) → StandsFor self.now h → result ≡ kept h place.now }
+        ensures history { (h : History) → StandsFor self.now h → result ≡ perms_kept h place.now }
     {
         self.veils.get(place).copied()
     }
@@ -377,7 +376,7 @@ fn is_within(request: Option<Promises>, given: Option<Promises>) -> bool
 
 /// What is given after a request.
 fn narrowed(given: Option<Promises>, request: Option<Promises>) -> Option<Promises>
-    ensures { result ≡ narrowed given request }
+    ensures { result ≡ narrowed_set given request }
 {
     match (given, request) {
         (Some(given), Some(request)) => Some(request.intersection(given)),

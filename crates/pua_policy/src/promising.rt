@@ -3,7 +3,7 @@
 ghost use Rattle.std.specs.Prelude.{◌≡◌, find};
 ghost use Rattle.pua_policy.specs.History.{History, StandsFor};
 ghost use Rattle.pua_calls.specs.Promises.{holds};
-ghost use Rattle.pua_policy.specs.Reasons.{promising, promising_seen};
+ghost use Rattle.pua_policy.specs.Reasons.{promising, promising_on, promising_seen};
 
 use crate::process::Process;
 use crate::reason::Promising;
@@ -13,7 +13,9 @@ impl Process {
     /// By which of these sets it may do what needs all promises of one of them, the first that it
     /// holds; or why it may not (pledge(2)). `may_any` answers whether it may. Takes no memory.
     pub fn promising<'s>(&self, sets: &'s [Promises]) -> Promising<'s>
-        ensures { (h : History) → StandsFor self.now h → promising_seen result ≡ promising h sets.now }
+        ensures state { promising_seen result ≡ promising_on self.now sets.now }
+        ensures history { (h : History) → StandsFor self.now h →
+            promising_seen result ≡ promising h sets.now }
     {
         if self.ended() {
             return Promising::HasEnded;

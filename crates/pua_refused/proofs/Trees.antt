@@ -1,5 +1,6 @@
 -- What is found in a tree after an edit.
-use Rattle.std.proofs.Common.{◌≡◌, ℕ, List}
+use Rattle.pua_refused.proofs.Common.{◌≡◌}
+use Rattle.std.proofs.Common.{ℕ, List}
 use Rattle.std.specs.Prelude.{Some}
 use Rattle.std.specs.Ordering.{nat_cmp}
 use Rattle.std.specs.Cmp.{nat_cmp_total}

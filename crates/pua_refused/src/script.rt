@@ -14,7 +14,8 @@ use std::alloc::Global;
 /// What a script's lines are answered over a listing's tree. None where either is none, or where
 /// a growth was refused.
 fn answers(alloc: Global, tree: &[u8], lines: &[u8]) -> Option<Vec<Answer>>
-    ensures { IfSome result (λ told. told.items ≡ answers_over (listing tree.now) (script lines.now)) }
+    ensures { IfSome result (λ told. told.items ≡ answers_over (listing tree.now)
+        (script lines.now)) }
 {
     let Ok(tree) = read_listing(alloc, tree) else {
         return None;

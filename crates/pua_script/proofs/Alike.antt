@@ -1,46 +1,24 @@
 -- Two worlds of the replay for which one world stands answer alike.
-use Rattle.std.proofs.Common.{◌≡◌, ℕ, suc, ◌+◌, List, [], ◌∷◌, map, length, Bool, true, false, cond, eqb, nat_eq, Option, Some, None, Result, Ok, Err, option_map, is_some, refl, sym, ap, subst, ◌∙◌}
-use Rattle.std.specs.Prelude.{IsTrue, ◌||◌, nat_le}
-use Rattle.std.specs.Cmp.{nat_cmp_total}
-use Rattle.std.specs.Ordering.{nat_cmp}
-use Rattle.std.specs.FinMap.{put, find as find_key, is_sorted}
+use Rattle.pua_script.proofs.Common.{◌≡◌, ℕ, suc, ◌+◌, List, [], ◌∷◌, map, length, Bool, true, false, cond, eqb, nat_eq, refl, sym, ap}
+use Rattle.pua_script.proofs.Common.{subst, ◌∙◌, IsTrue, nat_le, nat_cmp_total, nat_cmp, put, is_sorted, lookup, Tree, TreeFault, Errno}
+use Rattle.pua_script.proofs.Common.{EAGAIN, CallTable, History, Ended, ProcessState, is_ended, Asked, Answer, Gone, Action, Change}
+use Rattle.pua_script.proofs.Common.{NoChange, AddNode, CutRow, ShiftRow, TieRow, BeginProgram, AddEvent, CopyAs, Decision, decide, World}
+use Rattle.pua_script.proofs.Common.{Effect, Fails, Kills, Leaves, Copies, history_of, effect, edit_effect, edited_tree, answer_to, left_by}
+use Rattle.pua_script.proofs.Common.{answer_and_world, apply, world_after, change_effect, come_of, add, cut, shift, tie, Failed, Killed}
+use Rattle.pua_script.proofs.Common.{most_processes, WorldState, StandsAt, StandsForWorld, process_at, nat_tie, passes}
+use Rattle.std.proofs.Common.{Option, Some, None}
+use Rattle.std.proofs.Common.{Result, Ok, Err, option_map, is_some}
+use Rattle.std.specs.Prelude.{◌||◌}
+use Rattle.std.specs.FinMap.{find as find_key}
 use Rattle.std.specs.FinMap.Entries.{find-put, is_sorted-put, length-put}
-use Rattle.std.specs.Map.{lookup}
-use Rattle.pua_tree.specs.Tree.{Tree}
-use Rattle.pua_tree.specs.declared.fault.TreeFault.{TreeFault}
-use Rattle.pua_path.specs.Paths.{path_fault}
-use Rattle.pua_path.specs.Resolution.{resolution_of_text}
-use Rattle.pua_path.specs.declared.errno.Errno.{Errno}
-use Rattle.pua_path.specs.declared.errno.Errno.TheVariants.{EPERM, EINVAL, EAGAIN}
-use Rattle.pua_path.specs.declared.text.Ending.{Ending}
-use Rattle.pua_path.specs.declared.text.Ending.TheVariants as ending
-use Rattle.pua_path.specs.declared.found.Found.{Found}
-use Rattle.pua_path.specs.declared.found.Last.TheVariants.{Followed}
-use Rattle.pua_calls.specs.Promises.{proc, unveil}
-use Rattle.pua_calls.specs.Calls.{CallTable, PairRule, rule_of, ending_of, last_of}
-use Rattle.pua_policy.specs.History.{History, Pledged, Unveiled, Locked, Ended, ProcessState, is_ended}
-use Rattle.pua_policy.specs.Verdict.{place_of, cover_fault, or_fault, object_fault, object_of, object_named}
-use Rattle.pua_policy.specs.Laws.{AllowAlike}
-use Rattle.pua_policy.proofs.ForCallers.{processes_decide}
-use Rattle.pua_calls.specs.declared.call.Call.{Call}
-use Rattle.pua_calls.specs.declared.call.Call.TheVariants as call
-use Rattle.pua_script.specs.Requests.{Asked}
-use Rattle.pua_script.specs.declared.answer.Answer.{Answer}
-use Rattle.pua_script.specs.declared.answer.Answer.TheVariants.{Gone}
-use Rattle.pua_script.specs.declared.request.Action.{Action}
-use Rattle.pua_script.specs.declared.request.Action.TheVariants.{OnPath, Symlink, Rename, Link, Pledge, Unveil, Lock, Fork, Exit}
-use Rattle.pua_script.specs.Decide.{fault_if, link_node, unveil_errno, given_set, is_unknown, Change, NoChange, AddNode, CutRow, ShiftRow, TieRow, BeginProgram, AddEvent, CopyAs, Decision, promised, checked, named, adding, change_by, decide_pair, decide_veil, decide}
-use Rattle.pua_script.specs.Replay.{World, Effect, Fails, Kills, Leaves, Copies, history_of, effect, edited, edited_tree, answer_to, left_by, served, apply, answers, world_after, made, come_of}
-use Rattle.pua_tree.specs.Edits.{add, cut, shift, tie}
-use Rattle.pua_policy.specs.History.{after_exec}
-use Rattle.pua_policy.specs.Verdict.{found_fault}
-use Rattle.pua_policy.specs.declared.answer.Refusal.TheVariants.{Failed, Killed}
-use Rattle.pua_script.specs.Limits.{process_limit}
-use Rattle.pua_script.specs.Worlds.{WorldState, StandsAt, StandsForWorld, WorldsAnswerAlike, process_at}
+use Rattle.pua_policy.specs.History.{state_of, after_exec}
+use Rattle.pua_policy.proofs.ForCallers.{stands}
+use Rattle.pua_script.specs.Decide.{refusals, decide_by}
+use Rattle.pua_script.specs.Replay.{answers_to}
+use Rattle.pua_script.specs.Worlds.{WorldsAnswerAlike}
 use Rattle.pua_script.proofs.StoodFor.{nat_turned}
-use Rattle.pua_script.proofs.Histories.{Same, state_of, same_self, same_from_standing, stands_from_same, same_more, same_after_exec}
-use Rattle.pua_tree.proofs.ForCallers.{holds, nat_tie}
-use Rattle.std.specs.Bool.{passes}
+use Rattle.pua_script.proofs.Histories.{Same, same_from_standing, same_more, same_after_exec, same_asker}
+use Rattle.pua_tree.proofs.ForCallers.{holds}
 
 -- effects that differ in the history they leave, for which one process stands
 data SameEffect : Effect → Effect → Type 0 where
@@ -50,40 +28,14 @@ data SameEffect : Effect → Effect → Type 0 where
   copies : {new : ℕ} → SameEffect (Copies new) (Copies new)
 
 module _ (h k : History) (a : Same h k) where
-  allow : AllowAlike h k
-  allow = processes_decide (state_of h) h k (stands_from_same h h (same_self h)) (stands_from_same h k a)
-
   -- a decision rests on what a process keeps of its history
-  call_alike : (table : CallTable) (t : Tree) (c : Call) (path : List ℕ) (f : Found → Change)
-      → (named (object_named t h c path) λ x. checked (found_fault t table h c x) (Ok (f x))) ≡ (named (object_named t k c path) λ x. checked (found_fault t table k c x) (Ok (f x)))
-  call_alike table t c path f i = named (resolution_of_text t (a.dir i) (ending_of c) path (last_of c))
-      λ x. checked (or_fault (cover_fault (allow.covers t x i) (rule_of table c).perms) (object_fault t c (object_of t x))) (Ok (f x))
-
-  pair_alike : (pair : PairRule) (t : Tree) (end : Ending) (old new : List ℕ) (f : Found → Found → Decision) → decide_pair pair t h end old new f ≡ decide_pair pair t k end old new f
-  pair_alike pair t end old new f i =
-      promised (allow.promises pair.old.needs.alternatives i) (promised (allow.promises pair.new.needs.alternatives i)
-      (named (resolution_of_text t (a.dir i) end old pair.old.last) λ x. named (resolution_of_text t (a.dir i) end new pair.new.last) λ y.
-      checked (or_fault (cover_fault (allow.covers t x i) pair.old.needs.perms) (cover_fault (allow.covers t y i) pair.new.needs.perms)) (f x y)))
-
-  veil_alike : (t : Tree) (path : List ℕ) (letters : Option ℕ) → decide_veil t h path letters ≡ decide_veil t k path letters
-  veil_alike t path None = refl
-  veil_alike t path (Some perms) = λ i. named (resolution_of_text t (a.dir i) ending.Dot path Followed) λ x. checked (unveil_errno (allow.unveils (place_of x) perms i)) (Ok (AddEvent (Unveiled (place_of x) perms)))
-
   decide_alike : (table : CallTable) (t : Tree) (action : Action) → decide table t h action ≡ decide table t k action
-  decide_alike table t (OnPath c path) = λ i. promised (allow.promises (rule_of table c).alternatives i) (call_alike table t c path (change_by table c) i)
-  decide_alike table t (Symlink target path) = λ i. promised (allow.promises (rule_of table call.Symlink).alternatives i) (checked (path_fault target) (call_alike table t call.Symlink path (adding (link_node target)) i))
-  decide_alike table t (Rename old new) = pair_alike table.rename t ending.Dropped old new _
-  decide_alike table t (Link old new) = pair_alike table.link t ending.Dot old new _
-  decide_alike table t (Pledge p x) = λ i. checked (fault_if (is_unknown p || is_unknown x) EINVAL) (checked (allow.pledges (given_set p) (given_set x) i) (Ok (AddEvent (Pledged (given_set p) (given_set x)))))
-  decide_alike table t (Unveil path perms) = λ i. promised (allow.promises (unveil ∷ []) i) (checked (fault_if (a.locked i) EPERM) (veil_alike t path perms i))
-  decide_alike table t Lock = λ i. promised (allow.promises (unveil ∷ []) i) (Ok (AddEvent Locked))
-  decide_alike table t (Fork new) = λ i. promised (allow.promises (proc ∷ []) i) (Ok (CopyAs new))
-  decide_alike table t Exit = refl
+  decide_alike table t action = ap (λ asker. decide_by refusals table t asker action) (same_asker h k a)
 
-  same_edited : (r s : Result (ℕ × Tree) TreeFault) → r ≡ s → SameEffect (edited h r) (edited k s)
-  same_edited r s e = subst (λ o. SameEffect (edited h r) (edited k o)) e (by r)
+  same_edited : (r s : Result (ℕ × Tree) TreeFault) → r ≡ s → SameEffect (edit_effect h r) (edit_effect k s)
+  same_edited r s e = subst (λ o. SameEffect (edit_effect h r) (edit_effect k o)) e (by r)
     where
-      by : (r : Result (ℕ × Tree) TreeFault) → SameEffect (edited h r) (edited k r)
+      by : (r : Result (ℕ × Tree) TreeFault) → SameEffect (edit_effect h r) (edit_effect k r)
       by (Ok x) = leaves a
       by (Err fault) = fails
 
@@ -123,32 +75,38 @@ same_chosen false h k o g new old = old
 
 module _ (v w : World) (same : SameWorlds v w) where
   same_put : (n : ℕ) (t u : Tree) (h k : History) → t ≡ u → Same h k
-      → SameWorlds (record { tree = t; histories = put nat_cmp n h v.histories }) (record { tree = u; histories = put nat_cmp n k w.histories })
+      → SameWorlds (record { tree = t; histories = put nat_cmp n h v.histories })
+      (record { tree = u; histories = put nat_cmp n k w.histories })
   same_put n t u h k trees histories =
       let sorted_v = passes _ same.first_order in
       let sorted_w = passes _ same.second_order in
-      let length_of : (x : World) → (g : History) → Type 0 = λ x g. length (put nat_cmp n g x.histories) ≡ cond (is_some (history_of x n)) (length x.histories) (length x.histories + 1) in
+      let length_of : (x : World) → (g : History) → Type 0 =
+      λ x g. length (put nat_cmp n g x.histories) ≡ cond (is_some (history_of x n)) (length x.histories) (length x.histories + 1) in
       let length_v : length_of v h = length-put nat_cmp nat_cmp_total n h v.histories sorted_v in
       let length_w : length_of w k = length-put nat_cmp nat_cmp_total n k w.histories sorted_w in
       record {
         tree = trees;
-        at = λ q. subst (λ o. SameAt o (find_key nat_cmp q (put nat_cmp n k w.histories))) (sym (find-put nat_cmp nat_cmp_total q n h v.histories))
-            (subst (SameAt (cond _ (Some h) (history_of v q))) (sym (find-put nat_cmp nat_cmp_total q n k w.histories)) (same_chosen _ h k _ _ histories (same.at q)));
+        at = λ q. subst (λ o. SameAt o (find_key nat_cmp q (put nat_cmp n k w.histories)))
+            (sym (find-put nat_cmp nat_cmp_total q n h v.histories))
+            (subst (SameAt (cond _ (Some h) (history_of v q))) (sym (find-put nat_cmp nat_cmp_total q n k w.histories))
+            (same_chosen _ h k _ _ histories (same.at q)));
         count = length_v ∙ (λ i. cond (same_known _ _ (same.at n) i) (same.count i) (same.count i + 1)) ∙ sym length_w;
         first_order = holds _ (is_sorted-put nat_cmp nat_cmp_total n h v.histories sorted_v);
         second_order = holds _ (is_sorted-put nat_cmp nat_cmp_total n k w.histories sorted_w);
       }
 
-  same_made : (h k : History) → Same h k → (c : Change) → SameEffect (made v h c) (made w k c)
+  same_made : (h k : History) → Same h k → (c : Change) → SameEffect (change_effect v h c) (change_effect w k c)
   same_made h k a NoChange = same_left_as h k a v.tree w.tree h k same.tree a
   same_made h k a (AddNode spot node) = same_edited h k a _ _ (ap (λ t. add t spot.0 spot.1 node) same.tree)
   same_made h k a (CutRow spot) = same_edited h k a _ _ (ap (λ t. cut t spot.0 spot.1) same.tree)
   same_made h k a (ShiftRow old new) = same_edited_tree h k a _ _ (ap (λ t. shift t old.0 old.1 new.0 new.1) same.tree)
   same_made h k a (TieRow spot x) = same_edited_tree h k a _ _ (ap (λ t. tie t spot.0 spot.1 x) same.tree)
-  same_made h k a (BeginProgram left) = same_left_as h k a v.tree w.tree (after_exec left h) (after_exec left k) same.tree (same_after_exec left h k a)
+  same_made h k a (BeginProgram left) =
+      same_left_as h k a v.tree w.tree (after_exec left h) (after_exec left k) same.tree (same_after_exec left h k a)
   same_made h k a (AddEvent event) = same_left_as h k a v.tree w.tree (event ∷ h) (event ∷ k) same.tree (same_more event h k a)
-  same_made h k a (CopyAs new) = subst (λ b. SameEffect (made v h (CopyAs new)) (cond b (Fails EAGAIN) (Copies new)))
-      (λ i. same_known _ _ (same.at new) i || nat_le process_limit (same.count i)) (by (is_some (history_of v new) || nat_le process_limit (length v.histories)))
+  same_made h k a (CopyAs new) = subst (λ b. SameEffect (change_effect v h (CopyAs new)) (cond b (Fails EAGAIN) (Copies new)))
+      (λ i. same_known _ _ (same.at new) i || nat_le most_processes (same.count i))
+      (by (is_some (history_of v new) || nat_le most_processes (length v.histories)))
     where
       by : (full : Bool) → SameEffect (cond full (Fails EAGAIN) (Copies new)) (cond full (Fails EAGAIN) (Copies new))
       by true = fails
@@ -159,7 +117,8 @@ module _ (v w : World) (same : SameWorlds v w) where
   same_come h k a (Err (Failed errno)) = fails
   same_come h k a (Err Killed) = kills
 
-  same_effect : (table : CallTable) (h k : History) → Same h k → (action : Action) → SameEffect (effect table v h action) (effect table w k action)
+  same_effect : (table : CallTable) (h k : History) → Same h k → (action : Action) →
+      SameEffect (effect table v h action) (effect table w k action)
   same_effect table h k a action =
       let d = decide table v.tree h action in
       let alike : d ≡ decide table w.tree k action = ap (λ t. decide table t h action) same.tree ∙ decide_alike h k a table w.tree action in
@@ -168,7 +127,10 @@ module _ (v w : World) (same : SameWorlds v w) where
   abbrev SameDone : (Answer × World) → (Answer × World) → Type 0
   SameDone c d = (c.0 ≡ d.0) × SameWorlds c.1 d.1
 
-  same_left : (n : ℕ) (h k : History) → Same h k → (d e : Effect) → SameEffect d e → SameDone (answer_to d, left_by v n h d) (answer_to e, left_by w n k e)
+  same_left : (n : ℕ) (h k : History) → Same h k → (d e : Effect) → SameEffect d e → SameDone (answer_to d, left_by v n h d) (
+    answer_to e,
+    left_by w n k e,
+  )
   same_left n h k a _ _ fails = (refl, same)
   same_left n h k a _ _ kills = (refl, same_put n v.tree w.tree (Ended ∷ h) (Ended ∷ k) same.tree (same_more Ended h k a))
   same_left n h k a _ _ (leaves {t = t} {h = g} {k = l} after) = (refl, same_put n t t g l refl after)
@@ -178,21 +140,23 @@ module _ (v w : World) (same : SameWorlds v w) where
   same_gone_if true c d done = (refl, same)
   same_gone_if false c d done = done
 
-  same_served : (table : CallTable) (ask : Asked) (o g : Option History) → SameAt o g → SameDone (served table v ask o) (served table w ask g)
+  same_served : (table : CallTable) (ask : Asked) (o g : Option History) → SameAt o g →
+      SameDone (answer_and_world table v ask o) (answer_and_world table w ask g)
   same_served table ask None None at = (refl, same)
   same_served table ask None (Some k) at = absurd at
   same_served table ask (Some h) None at = absurd at
   same_served table ask (Some h) (Some k) at =
       let d = effect table v h ask.action in
       let e = effect table w k ask.action in
-      subst (λ b. SameDone (cond b (Gone, v) (answer_to d, left_by v ask.process h d)) (served table w ask (Some k))) (sym at.ended)
+      subst (λ b. SameDone (cond b (Gone, v) (answer_to d, left_by v ask.process h d)) (answer_and_world table w ask (Some k)))
+      (ap (λ p. p.ended) (sym at))
       (same_gone_if (is_ended k) _ _ (same_left ask.process h k at d e (same_effect table h k at ask.action)))
 
   same_step : (table : CallTable) (ask : Asked) → SameDone (apply table v ask) (apply table w ask)
   same_step table ask = same_served table ask _ _ (same.at ask.process)
 
 record SameEnd (table : CallTable) (v w : World) (asks : List Asked) : Type 0 where
-  told : answers table v asks ≡ answers table w asks
+  told : answers_to table v asks ≡ answers_to table w asks
   left : SameWorlds (world_after table v asks) (world_after table w asks)
 
 same_run : (table : CallTable) (asks : List Asked) (v w : World) → SameWorlds v w → SameEnd table v w asks
@@ -213,7 +177,8 @@ own_at q (e ∷ hs) =
     ∙ chosen (eqb q e.0) (find_key nat_cmp q hs)
     ∙ ap (λ b. option_map state_of (cond b (Some e.1) (find_key nat_cmp q hs))) (nat_turned q e.0 ∙ sym (nat_tie q e.0))
   where
-    chosen : (b : Bool) (o : Option History) → cond b (Some (state_of e.1)) (option_map state_of o) ≡ option_map state_of (cond b (Some e.1) o)
+    chosen : (b : Bool) (o : Option History) →
+        cond b (Some (state_of e.1)) (option_map state_of o) ≡ option_map state_of (cond b (Some e.1) o)
     chosen true o = refl
     chosen false o = refl
 
@@ -225,16 +190,17 @@ own_stands : (o g : Option History) → SameAt o g → StandsAt (option_map stat
 own_stands None None at = tt
 own_stands None (Some k) at = absurd at
 own_stands (Some h) None at = absurd at
-own_stands (Some h) (Some k) at = stands_from_same h k at
+own_stands (Some h) (Some k) at = stands (state_of h) k at
 
 same_at_self : (o : Option History) → SameAt o o
 same_at_self None = tt
-same_at_self (Some h) = same_self h
+same_at_self (Some h) = refl
 
 own_world : CallTable → World → WorldState
 own_world table v = record { tree = v.tree; table = table; processes = own_processes v.histories }
 
-own_stands_for : (table : CallTable) (v w : World) → v.tree ≡ w.tree → ((n : ℕ) → SameAt (history_of v n) (history_of w n)) → length v.histories ≡ length w.histories → IsTrue (is_sorted nat_cmp w.histories) → StandsForWorld (own_world table v) w
+own_stands_for : (table : CallTable) (v w : World) → v.tree ≡ w.tree → ((n : ℕ) → SameAt (history_of v n) (history_of w n)) →
+    length v.histories ≡ length w.histories → IsTrue (is_sorted nat_cmp w.histories) → StandsForWorld (own_world table v) w
 unfolding own_world
 own_stands_for table v w trees at counts sorted = record {
   tree = trees;
@@ -265,5 +231,9 @@ worlds_answer_alike s v w asks first second =
     let y = world_after s.table w asks in
     record {
       told = end.told;
-      left = (own_world s.table x, own_stands_for s.table x x refl (λ n. same_at_self _) refl end.left.first_order, own_stands_for s.table x y end.left.tree end.left.at end.left.count end.left.second_order);
+      left = (
+        own_world s.table x,
+        own_stands_for s.table x x refl (λ n. same_at_self _) refl end.left.first_order,
+        own_stands_for s.table x y end.left.tree end.left.at end.left.count end.left.second_order,
+      );
     }

@@ -1,33 +1,25 @@
 -- A history with the same unveils and no more promises but `error` allows no more.
-use Rattle.std.proofs.Common.{◌≡◌, ℕ, List, [], ◌∷◌, Bool, true, false, not, ◌&&◌, ◌||◌, cond, map, refl, sym, ap, subst, ◌∙◌}
-use Rattle.std.specs.List.{list_any, AllByRecursion}
-use Rattle.std.specs.Prelude.{Option, Some, None, Result, Ok, Err, filter}
-use Rattle.pua_tree.specs.Tree.{Tree, is_dir}
-use Rattle.pua_tree.specs.Steps.{◌>>=◌}
-use Rattle.pua_path.specs.Paths.{is_absolute, path_fault, parts_of}
-use Rattle.pua_path.specs.Resolution.{resolution, resolution_of_text, resolve_parts, link_limit}
-use Rattle.pua_path.specs.declared.errno.Errno.{Errno}
-use Rattle.pua_path.specs.declared.errno.Errno.TheVariants.{ENOENT}
-use Rattle.pua_path.specs.declared.text.Ending.{Ending}
-use Rattle.pua_path.specs.declared.found.Last.{Last}
+use Rattle.pua_script.proofs.Common.{◌≡◌, ℕ, List, [], ◌∷◌, Bool, true, false, not, ◌&&◌, ◌||◌, cond, map, refl, sym, ap, subst, ◌∙◌}
+use Rattle.pua_script.proofs.Common.{list_any, AllByRecursion, Option, Some, None, Result, Ok, Err, filter, Tree, is_dir, ◌>>=◌}
+use Rattle.pua_script.proofs.Common.{is_absolute, path_fault, parts_of, resolution_of_text, resolve_parts, most_links, Errno, ENOENT}
+use Rattle.pua_script.proofs.Common.{Ending, Last, Found, holds, CallTable, rule_of, ending_of, last_of, History, Pledged, Unveiled, Locked}
+use Rattle.pua_script.proofs.Common.{Moved, Ended, held_set, has_error, is_ended, may_any, working_dir, cover, is_unveil, place_of}
+use Rattle.pua_script.proofs.Common.{cover_fault, or_fault, object_fault, object_of, object_named, Call, All, May, Yes}
+use Rattle.pua_path.specs.Resolution.{resolution}
 use Rattle.pua_path.specs.declared.found.Way.TheVariants.{Top}
-use Rattle.pua_path.specs.declared.found.Found.{Found}
-use Rattle.pua_calls.specs.Promises.{holds}
-use Rattle.pua_calls.specs.Calls.{CallTable, rule_of, ending_of, last_of}
-use Rattle.pua_policy.specs.History.{History, Pledged, Unveiled, Locked, Moved, Ended, kept, held, has_error, is_ended, may_any, working_dir, same_place}
-use Rattle.pua_policy.specs.Verdict.{cover, nearest, is_unveil, place_of, directories_over, cover_fault, or_fault, object_fault, object_of, allowed_unless, if_promised, verdict_of, is_allowed, found_fault, object_named}
-use Rattle.pua_calls.specs.declared.call.Call.{Call}
+use Rattle.pua_policy.specs.History.{perms_kept}
+use Rattle.pua_policy.specs.History.{same_place}
+use Rattle.pua_policy.specs.Verdict.{nearest, directories_over}
+use Rattle.pua_policy.specs.Verdict.{allowed_unless, if_promised, verdict_of, is_allowed, found_fault}
 use Rattle.pua_policy.specs.declared.place.Place.{Place}
 use Rattle.pua_policy.specs.declared.place.Place.TheVariants.{Dir}
-use Rattle.pua_policy.specs.declared.answer.Cover.TheVariants.{All}
-use Rattle.pua_policy.specs.declared.answer.May.{May}
-use Rattle.pua_policy.specs.declared.answer.May.TheVariants.{Yes, Enosys, Death}
+use Rattle.pua_policy.specs.declared.answer.May.TheVariants.{Enosys, Death}
 use Rattle.pua_policy.specs.declared.answer.Verdict.{Verdict}
 use Rattle.pua_policy.specs.declared.answer.Verdict.TheVariants as verdicts
 use Rattle.pua_script.specs.Tightening.{NamesNoError, NoCallNeedsError, Tightens, AllowsNoMore}
 
 -- what is kept at a place is kept by the unveils alone
-kept_by_unveils : (h : History) (place : Place) → kept h place ≡ kept (filter is_unveil h) place
+kept_by_unveils : (h : History) (place : Place) → perms_kept h place ≡ perms_kept (filter is_unveil h) place
 kept_by_unveils [] place = refl
 kept_by_unveils (Unveiled other perms ∷ h) place = ap (cond (same_place other place) (Some perms)) (kept_by_unveils h place)
 kept_by_unveils (Pledged p e ∷ h) place = kept_by_unveils h place
@@ -44,13 +36,14 @@ any_by_unveils (Moved d ∷ h) = any_by_unveils h
 any_by_unveils (Ended ∷ h) = any_by_unveils h
 
 -- the same unveils leave the same covers
-pub same_cover : (a b : History) → filter is_unveil a ≡ filter is_unveil b → (t : Tree) (object : Found) → cover t a object ≡ cover t b object
+pub same_cover : (a b : History) → filter is_unveil a ≡ filter is_unveil b → (t : Tree) (object : Found) →
+    cover t a object ≡ cover t b object
 same_cover a b e t object =
     let any : list_any is_unveil a ≡ list_any is_unveil b = any_by_unveils a ∙ ap (list_any is_unveil) e ∙ sym (any_by_unveils b) in
     λ i. cond (any i) (nearest (same_kept (place_of object) i ∷ map (λ dir. same_kept (Dir dir) i) (directories_over t object))) All
   where
-    same_kept : (place : Place) → kept a place ≡ kept b place
-    same_kept place = kept_by_unveils a place ∙ ap (λ h. kept h place) e ∙ sym (kept_by_unveils b place)
+    same_kept : (place : Place) → perms_kept a place ≡ perms_kept b place
+    same_kept place = kept_by_unveils a place ∙ ap (λ h. perms_kept h place) e ∙ sym (kept_by_unveils b place)
 
 -- the later history is tightened, and one that has ended stays so
 pub record IsWithin (before after : History) : Type 0 where
@@ -58,30 +51,38 @@ pub record IsWithin (before after : History) : Type 0 where
   pub ended : is_ended after ≡ false → is_ended before ≡ false
 
 module _ (before after : History) (within : IsWithin before after) where
-  any_held : (alternatives : List ℕ) → AllByRecursion NamesNoError alternatives → list_any (holds (held after)) alternatives ≡ true → list_any (holds (held before)) alternatives ≡ true
+  any_held : (alternatives : List ℕ) → AllByRecursion NamesNoError alternatives → list_any (holds (held_set after)) alternatives ≡ true →
+      list_any (holds (held_set before)) alternatives ≡ true
   any_held [] sound e = e
-  any_held (set ∷ sets) sound e = by (holds (held after) set) refl (any_held sets sound.1) e
+  any_held (set ∷ sets) sound e = by (holds (held_set after) set) refl (any_held sets sound.1) e
     where
-      by : (b : Bool) → holds (held after) set ≡ b → (list_any (holds (held after)) sets ≡ true → list_any (holds (held before)) sets ≡ true) → (b || list_any (holds (held after)) sets) ≡ true → (holds (held before) set || list_any (holds (held before)) sets) ≡ true
-      by true is rest _ = ap (λ b. b || list_any (holds (held before)) sets) (within.tightens.promises set sound.0 is)
-      by false is rest e = or_right (holds (held before) set) (rest e)
+      by : (b : Bool) → holds (held_set after) set ≡ b →
+          (list_any (holds (held_set after)) sets ≡ true → list_any (holds (held_set before)) sets ≡ true) →
+          (b || list_any (holds (held_set after)) sets) ≡ true →
+          (holds (held_set before) set || list_any (holds (held_set before)) sets) ≡ true
+      by true is rest _ = ap (λ b. b || list_any (holds (held_set before)) sets) (within.tightens.promises set sound.0 is)
+      by false is rest e = or_right (holds (held_set before) set) (rest e)
         where
           or_right : (a : Bool) {b : Bool} → b ≡ true → (a || b) ≡ true
           or_right true e = refl
           or_right false e = e
 
-  pub may_yes : (alternatives : List ℕ) → AllByRecursion NamesNoError alternatives → may_any after alternatives ≡ Yes → may_any before alternatives ≡ Yes
-  may_yes alternatives sound e = by (is_ended after) (list_any (holds (held after)) alternatives) (has_error after) refl refl e
+  pub may_yes : (alternatives : List ℕ) → AllByRecursion NamesNoError alternatives → may_any after alternatives ≡ Yes →
+      may_any before alternatives ≡ Yes
+  may_yes alternatives sound e = by (is_ended after) (list_any (holds (held_set after)) alternatives) (has_error after) refl refl e
     where
-      by : (a b c : Bool) → is_ended after ≡ a → list_any (holds (held after)) alternatives ≡ b → cond a Death (cond b Yes (cond c Enosys Death)) ≡ Yes → may_any before alternatives ≡ Yes
+      by : (a b c : Bool) → is_ended after ≡ a → list_any (holds (held_set after)) alternatives ≡ b →
+          cond a Death (cond b Yes (cond c Enosys Death)) ≡ Yes → may_any before alternatives ≡ Yes
       by true b c ends some is = cc
       by false true c ends some is =
-          ap (λ x. cond x Death (cond (list_any (holds (held before)) alternatives) Yes (cond (has_error before) Enosys Death))) (within.ended ends)
+          ap (λ x. cond x Death (cond (list_any (holds (held_set before)) alternatives) Yes (cond (has_error before) Enosys Death)))
+          (within.ended ends)
           ∙ ap (λ x. cond x Yes (cond (has_error before) Enosys Death)) (any_held alternatives sound some)
       by false false true ends some is = cc
       by false false false ends some is = cc
 
-  allowed_before : (m n : May) (v : Verdict) → (m ≡ Yes → n ≡ Yes) → is_allowed (if_promised m v) ≡ true → is_allowed (if_promised n v) ≡ true
+  allowed_before : (m n : May) (v : Verdict) → (m ≡ Yes → n ≡ Yes) → is_allowed (if_promised m v) ≡ true →
+      is_allowed (if_promised n v) ≡ true
   allowed_before Yes n v more e = ap (λ x. is_allowed (if_promised x v)) (more refl) ∙ e
   allowed_before Enosys n v more e = cc
   allowed_before Death n v more e = cc
@@ -89,32 +90,42 @@ module _ (before after : History) (within : IsWithin before after) where
   pub verdicts_within : (table : CallTable) → NoCallNeedsError table → (t : Tree) (call : Call) (r : Result Found Errno) →
       is_allowed (verdict_of t table after call r) ≡ true → is_allowed (verdict_of t table before call r) ≡ true
   verdicts_within table sound t call (Ok object) e =
-      allowed_before (may_any after (rule_of table call).alternatives) (may_any before (rule_of table call).alternatives) (allowed_unless (found_fault t table before call object))
+      allowed_before (may_any after (rule_of table call).alternatives) (may_any before (rule_of table call).alternatives)
+      (allowed_unless (found_fault t table before call object))
       (may_yes (rule_of table call).alternatives (sound.calls call))
-      (ap (λ c. is_allowed (if_promised (may_any after (rule_of table call).alternatives) (allowed_unless (or_fault (cover_fault c (rule_of table call).perms) (object_fault t call (object_of t object))))))
+      (ap (λ c. is_allowed (if_promised (may_any after (rule_of table call).alternatives)
+      (allowed_unless (or_fault (cover_fault c (rule_of table call).perms) (object_fault t call (object_of t object))))))
       (sym (same_cover after before within.tightens.unveils t object)) ∙ e)
   verdicts_within table sound t call (Err errno) e =
-      allowed_before (may_any after (rule_of table call).alternatives) (may_any before (rule_of table call).alternatives) (verdicts.Failed errno)
+      allowed_before (may_any after (rule_of table call).alternatives) (may_any before (rule_of table call).alternatives)
+      (verdicts.Failed errno)
       (may_yes (rule_of table call).alternatives (sound.calls call)) e
 
 -- an absolute text names the same from everywhere
-from_root_alike : (t : Tree) (a b : ℕ) (ending : Ending) (text : List ℕ) (mode : Last) → is_absolute text ≡ true → resolution t a ending text mode ≡ resolution t b ending text mode
+from_root_alike : (t : Tree) (a b : ℕ) (ending : Ending) (text : List ℕ) (mode : Last) → is_absolute text ≡ true →
+    resolution t a ending text mode ≡ resolution t b ending text mode
 from_root_alike t a b ending text mode e = from a ∙ sym (from b)
   where
-    from : (d : ℕ) → resolution t d ending text mode ≡ (resolve_parts link_limit t mode 0 Top (parts_of ending text) >>= λ found. Ok found.0)
-    from d = ap (λ x. cond {A = Result Found Errno} (not x && not (is_dir t d)) (Err ENOENT) (resolve_parts link_limit t mode (cond x 0 d) Top (parts_of ending text) >>= λ found. Ok found.0)) e
+    from : (d : ℕ) → resolution t d ending text mode ≡ (resolve_parts most_links t mode 0 Top (parts_of ending text) >>= λ found. Ok
+        found.0)
+    from d = ap (λ x. cond {A = Result Found Errno} (not x && not (is_dir t d)) (Err ENOENT)
+        (resolve_parts most_links t mode (cond x 0 d) Top (parts_of ending text) >>= λ found. Ok found.0)) e
 
-named_alike : (t : Tree) (a b : ℕ) (ending : Ending) (text : List ℕ) (mode : Last) → is_absolute text ≡ true → resolution_of_text t a ending text mode ≡ resolution_of_text t b ending text mode
+named_alike : (t : Tree) (a b : ℕ) (ending : Ending) (text : List ℕ) (mode : Last) → is_absolute text ≡ true →
+    resolution_of_text t a ending text mode ≡ resolution_of_text t b ending text mode
 named_alike t a b ending text mode e = by (path_fault text) refl
   where
     by : (o : Option Errno) → path_fault text ≡ o → resolution_of_text t a ending text mode ≡ resolution_of_text t b ending text mode
     by None is = rw is (from_root_alike t a b ending text mode e)
     by (Some errno) is = rw is refl
 
-pub allows_no_more : (table : CallTable) → NoCallNeedsError table → (before after : History) → IsWithin before after → AllowsNoMore table before after
+pub allows_no_more : (table : CallTable) → NoCallNeedsError table → (before after : History) → IsWithin before after →
+    AllowsNoMore table before after
 allows_no_more table sound before after within = record {
   absolute = λ t call text e allowed. verdicts_within before after within table sound t call (object_named t before call text)
-      (subst (λ r. is_allowed (verdict_of t table after call r) ≡ true) (named_alike t (working_dir after) (working_dir before) (ending_of call) text (last_of call) e) allowed);
+      (subst (λ r. is_allowed (verdict_of t table after call r) ≡ true) (named_alike t (working_dir after) (working_dir before)
+      (ending_of call) text (last_of call) e) allowed);
   relative = λ same t call text allowed. verdicts_within before after within table sound t call (object_named t before call text)
-      (subst (λ d. is_allowed (verdict_of t table after call (resolution_of_text t d (ending_of call) text (last_of call))) ≡ true) same allowed);
+      (subst (λ d. is_allowed (verdict_of t table after call (resolution_of_text t d (ending_of call) text (last_of call))) ≡ true) same
+      allowed);
 }

@@ -1,16 +1,11 @@
 -- What a list of requests of a family leaves of the tree.
-use Rattle.std.proofs.Common.{◌≡◌, ℕ, List, [], ◌∷◌, Bool, true, false, refl, sym, ap, ◌∙◌, lit<}
-use Rattle.std.specs.Prelude.{not, filter}
-use Rattle.std.proofs.lemmas.Bool.{false≢true, and_parts, not-true}
-use Rattle.pua_tree.specs.Tree.{Tree, WellFormed}
-use Rattle.pua_calls.specs.Promises.{holds, cpath}
-use Rattle.pua_calls.specs.Calls.{CallTable}
-use Rattle.pua_policy.specs.History.{History, held}
-use Rattle.pua_policy.specs.Verdict.{is_unveil}
-use Rattle.pua_script.specs.Requests.{Asked}
-use Rattle.pua_script.specs.Replay.{World, apply, world_after}
-use Rattle.pua_script.specs.Family.{is_member, is_exec, is_done, none_done, members_alone, family_then}
-use Rattle.pua_script.specs.Confinement.{TakingNeedsC, ChangingNeedsCpath, UncoveredStay, TreesAlong, FamiliesConfine, object_in, has_c}
+use Rattle.pua_script.proofs.Common.{◌≡◌, ℕ, List, [], ◌∷◌, Bool, true, false, refl, sym, ap, ◌∙◌, lit<, filter, false≢true, and_parts}
+use Rattle.pua_script.proofs.Common.{not-true, Tree, WellFormed, holds, CallTable, History, held_set, is_unveil, Asked, World, apply}
+use Rattle.pua_script.proofs.Common.{world_after, is_member, is_exec, is_done, UncoveredStay, object_in, has_c}
+use Rattle.std.specs.Prelude.{not}
+use Rattle.pua_calls.specs.Promises.{cpath}
+use Rattle.pua_script.specs.Family.{none_done, members_alone, family_then}
+use Rattle.pua_script.specs.Confinement.{TakingNeedsC, ChangingNeedsCpath, TreesAlong, FamiliesConfine}
 use Rattle.pua_script.proofs.Allowing.{IsWithin, same_cover}
 use Rattle.pua_script.proofs.Families.{Members, members_then, begins}
 use Rattle.pua_script.proofs.Confining.{each_spares, spared_twice}
@@ -23,14 +18,20 @@ stay_self h t s x here lacks = record { row = here; node = refl; covered = refl 
 pub by_other : (a b : History) → filter is_unveil a ≡ filter is_unveil b → (t u : Tree) → UncoveredStay a t u → UncoveredStay b t u
 by_other a b same t u stays s x here lacks =
     let stay = stays s x here (ap has_c (same_cover a b same t (object_in t s x)) ∙ lacks) in
-    record { row = stay.row; node = stay.node; covered = sym (same_cover a b same u (object_in u s x)) ∙ stay.covered ∙ same_cover a b same t (object_in t s x) }
+    record {
+      row = stay.row;
+      node = stay.node;
+      covered = sym (same_cover a b same u (object_in u s x)) ∙ stay.covered ∙
+          same_cover a b same t (object_in t s x);
+    }
 
 pub first_tree : (table : CallTable) (w : World) (asks : List Asked) → TreesAlong table w asks → WellFormed w.tree
 first_tree table w [] trees = trees
 first_tree table w (ask ∷ asks) trees = trees.0
 
 module _ (table : CallTable) (now : History) where
-  spares_along : TakingNeedsC table → (asks : List Asked) (w : World) (members : List ℕ) → Members w members now false → none_done is_exec table w asks members ≡ true
+  spares_along : TakingNeedsC table → (asks : List Asked) (w : World) (members : List ℕ) → Members w members now false →
+      none_done is_exec table w asks members ≡ true
       → members_alone table w asks members ≡ true → TreesAlong table w asks → UncoveredStay now w.tree (world_after table w asks).tree
   spares_along needs [] w members are none alone trees = stay_self now w.tree
   spares_along needs (ask ∷ asks) w members are none alone trees =
@@ -44,14 +45,15 @@ module _ (table : CallTable) (now : History) where
       (spares_along needs asks after (family_then table w ask members)
       (members_then table now w ask members false are (not-true (is_done is_exec table w ask members) parts.0)) parts.1 asked.1 trees.1)
 
-  lacking : (h : History) → IsWithin now h → holds (held now) cpath ≡ false → holds (held h) cpath ≡ false
-  lacking h within lacks = by (holds (held h) cpath) refl
+  lacking : (h : History) → IsWithin now h → holds (held_set now) cpath ≡ false → holds (held_set h) cpath ≡ false
+  lacking h within lacks = by (holds (held_set h) cpath) refl
     where
-      by : (b : Bool) → holds (held h) cpath ≡ b → holds (held h) cpath ≡ false
+      by : (b : Bool) → holds (held_set h) cpath ≡ b → holds (held_set h) cpath ≡ false
       by false e = e
       by true e = absurd (false≢true (sym lacks ∙ within.tightens.promises cpath (lit< tt, refl) e))
 
-  unchanged_along : ChangingNeedsCpath table → holds (held now) cpath ≡ false → (asks : List Asked) (w : World) (members : List ℕ) → Members w members now false
+  unchanged_along : ChangingNeedsCpath table → holds (held_set now) cpath ≡ false → (asks : List Asked) (w : World) (members : List ℕ) →
+      Members w members now false
       → none_done is_exec table w asks members ≡ true → members_alone table w asks members ≡ true → (world_after table w asks).tree ≡ w.tree
   unchanged_along needs lacks [] w members are none alone = refl
   unchanged_along needs lacks (ask ∷ asks) w members are none alone =
@@ -63,7 +65,8 @@ module _ (table : CallTable) (now : History) where
       ∙ cpath_changes table needs w ask asker.0 asker.1 (lacking asker.0 asker.2.within lacks)
 
 pub at_all : (w : World) (members : List ℕ) (now : History) → Members w members now true → Members w members now false
-at_all w members now are m belongs = let one = are m belongs in (one.0, one.1, record { within = one.2.within; dir = λ e. absurd (false≢true e) })
+at_all w members now are m belongs = let one = are m belongs in
+    (one.0, one.1, record { within = one.2.within; dir = λ e. absurd (false≢true e) })
 
 pub families_confine : FamiliesConfine
 families_confine table w asks process now here confined none alone =

@@ -1,14 +1,12 @@
 -- One request confines, where what it leaves is a tree.
-use Rattle.std.proofs.Common.{ap, ◌∙◌}
-use Rattle.pua_tree.specs.Tree.{Tree}
-use Rattle.pua_policy.specs.History.{History}
-use Rattle.pua_script.specs.Replay.{apply}
-use Rattle.pua_script.specs.Confinement.{UncoveredStay, EachRequestSpares, has_c}
+use Rattle.pua_script.proofs.Common.{ap, ◌∙◌, Tree, History, apply, UncoveredStay, has_c}
+use Rattle.pua_script.specs.Confinement.{EachRequestSpares}
 use Rattle.pua_script.proofs.Covering.{covers_stay}
 use Rattle.pua_script.proofs.Spared.{requests_spare}
 
 pub each_spares : EachRequestSpares
-each_spares table needs w ask h well well_then here = covers_stay w.tree (apply table w ask).1.tree well well_then h (requests_spare table needs w ask h well here)
+each_spares table needs w ask h well well_then here =
+    covers_stay w.tree (apply table w ask).1.tree well well_then h (requests_spare table needs w ask h well here)
 
 -- two steps that spare what a history doesn't cover spare it together
 pub spared_twice : (h : History) (t u v : Tree) → UncoveredStay h t u → UncoveredStay h u v → UncoveredStay h t v

@@ -1,19 +1,15 @@
 -- Where each row that isn't covered with `c` stays, its cover stays too.
-use Rattle.std.proofs.Common.{◌≡◌, ◌≢◌, ℕ, zero, suc, ◌∷◌, Bool, true, false, cond, map, refl, sym, ap, ◌∙◌}
-use Rattle.std.specs.List.{list_any}
-use Rattle.std.specs.Prelude.{Option, Some, None, option_map}
-use Rattle.std.proofs.lemmas.Bool.{true≢false}
-use Rattle.pua_tree.specs.Tree.{Tree, WellFormed, Spot, is_dir, is_dir_kind, look, node_at, above, climb}
-use Rattle.pua_tree.proofs.ForCallers.{Sound, Reaches, row_says, row_of, above_is, above_dir, sound_from}
-use Rattle.pua_path.specs.declared.found.Found.TheVariants.{Whole, Slot}
+use Rattle.pua_script.proofs.Common.{◌≡◌, ◌≢◌, ℕ, zero, suc, ◌∷◌, Bool, true, false, cond, map, refl, sym, ap, ◌∙◌, list_any, Option, Some}
+use Rattle.pua_script.proofs.Common.{None, option_map, true≢false, Tree, WellFormed, Spot, is_dir, look, node_at, above, climb, sound_from}
+use Rattle.pua_script.proofs.Common.{Whole, Slot, History, cover, is_unveil, place_of, Cover, All, object_in, has_c, UncoveredStay}
+use Rattle.pua_tree.specs.Tree.{is_dir_kind}
+use Rattle.pua_tree.proofs.ForCallers.{Sound, Reaches, row_says, row_of, above_is, above_dir}
 use Rattle.pua_path.specs.declared.found.Way.TheVariants.{Named}
-use Rattle.pua_policy.specs.History.{History, kept}
-use Rattle.pua_policy.specs.Verdict.{cover, nearest, is_unveil, place_of, directories_over}
-use Rattle.pua_policy.specs.declared.answer.Cover.{Cover}
-use Rattle.pua_policy.specs.declared.answer.Cover.TheVariants.{All}
+use Rattle.pua_policy.specs.History.{perms_kept}
+use Rattle.pua_policy.specs.Verdict.{nearest, directories_over}
 use Rattle.pua_policy.specs.declared.place.Place.TheVariants as place
 use Rattle.pua_policy.proofs.ForCallers.{climb_root, nearest_here, nearest_above, nearest_whole}
-use Rattle.pua_script.specs.Confinement.{object_in, has_c, RowStays, UncoveredStay}
+use Rattle.pua_script.specs.Confinement.{RowStays}
 
 -- the row is there with its node, and the node is what it was
 abbrev pub IsThere : Tree → Tree → Spot → ℕ → Type 0
@@ -27,7 +23,7 @@ module _ (t u : Tree) (well : WellFormed t) (well_then : WellFormed u) (h : Hist
   fu = sound_from u well_then
 
   abbrev veil : ℕ → Option ℕ
-  veil d = kept h (place.Dir d)
+  veil d = perms_kept h (place.Dir d)
 
   abbrev over : Tree → ℕ → Cover
   over v d = nearest (map veil (climb v d))
@@ -38,17 +34,19 @@ module _ (t u : Tree) (well : WellFormed t) (well_then : WellFormed u) (h : Hist
   same_dir : (x : ℕ) → node_at u x ≡ node_at t x → is_dir u x ≡ is_dir t x
   same_dir x e = ap (λ o. is_dir_kind (option_map (λ n. n.kind) o)) e
 
-  module _ (some : list_any is_unveil h ≡ true) (stays : (s : Spot) (x : ℕ) → look t s.0 s.1 ≡ Some x → has_c (cover t h (object_in t s x)) ≡ false → IsThere t u s x) where
+  module _ (some : list_any is_unveil h ≡ true) (stays : (s : Spot) (x : ℕ) → look t s.0 s.1 ≡ Some x →
+      has_c (cover t h (object_in t s x)) ≡ false → IsThere t u s x) where
     cover_dir : (v : Tree) → WellFormed v → (s : Spot) (d : ℕ) → is_dir v d ≡ true → cover v h (object_in v s d) ≡ over v d
     cover_dir v w s d is =
         ap (λ b. cover v h (cond b (Whole d (Named s.0 s.1)) (Slot s.0 s.1 (Some d)))) is
         ∙ ap (λ b. cond b (dir_cover v d) All) some
         ∙ nearest_whole v w veil d is
 
-    cover_slot : (v : Tree) (s : Spot) (x : ℕ) → is_dir v x ≡ false → cover v h (object_in v s x) ≡ nearest (kept h (place.Slot s.0 s.1) ∷ map veil (climb v s.0))
+    cover_slot : (v : Tree) (s : Spot) (x : ℕ) → is_dir v x ≡ false →
+        cover v h (object_in v s x) ≡ nearest (perms_kept h (place.Slot s.0 s.1) ∷ map veil (climb v s.0))
     cover_slot v s x is =
         ap (λ b. cover v h (cond b (Whole x (Named s.0 s.1)) (Slot s.0 s.1 (Some x)))) is
-        ∙ ap (λ b. cond b (nearest (kept h (place.Slot s.0 s.1) ∷ map veil (climb v s.0))) All) some
+        ∙ ap (λ b. cond b (nearest (perms_kept h (place.Slot s.0 s.1) ∷ map veil (climb v s.0))) All) some
 
     same_over : (k d : ℕ) → Reaches t k d → is_dir t d ≡ true → has_c (over t d) ≡ false → over u d ≡ over t d
     same_over zero d r is lacks =
@@ -86,7 +84,7 @@ module _ (t u : Tree) (well : WellFormed t) (well_then : WellFormed u) (h : Hist
         dir : is_dir t s.0 ≡ true
         dir = (row_says t ft s x here).0
 
-        at_slot : (o : Option ℕ) → kept h (place.Slot s.0 s.1) ≡ o → has_c (nearest (o ∷ map veil (climb t s.0))) ≡ false →
+        at_slot : (o : Option ℕ) → perms_kept h (place.Slot s.0 s.1) ≡ o → has_c (nearest (o ∷ map veil (climb t s.0))) ≡ false →
             nearest (o ∷ map veil (climb u s.0)) ≡ nearest (o ∷ map veil (climb t s.0))
         at_slot (Some perms) e lacking = refl
         at_slot None e lacking = let way = way_up s.0 dir in same_over way.0 s.0 way.1 dir lacking
@@ -99,14 +97,16 @@ module _ (t u : Tree) (well : WellFormed t) (well_then : WellFormed u) (h : Hist
             ∙ sym (cover_dir t well s x is)
         by false is =
             cover_slot u s x (same_dir x there.1 ∙ is)
-            ∙ at_slot (kept h (place.Slot s.0 s.1)) refl (ap has_c (sym (cover_slot t s x is)) ∙ lacks)
+            ∙ at_slot (perms_kept h (place.Slot s.0 s.1)) refl (ap has_c (sym (cover_slot t s x is)) ∙ lacks)
             ∙ sym (cover_slot t s x is)
 
   -- without a veil everything is covered with `c`
   no_veils : (s : Spot) (x : ℕ) → list_any is_unveil h ≡ false → has_c (cover t h (object_in t s x)) ≡ true
-  no_veils s x none = ap (λ b. has_c (cond b (nearest (kept h (place_of (object_in t s x)) ∷ map veil (directories_over t (object_in t s x)))) All)) none
+  no_veils s x none = ap
+      (λ b. has_c (cond b (nearest (perms_kept h (place_of (object_in t s x)) ∷ map veil (directories_over t (object_in t s x)))) All)) none
 
-  pub covers_stay : ((s : Spot) (x : ℕ) → look t s.0 s.1 ≡ Some x → has_c (cover t h (object_in t s x)) ≡ false → IsThere t u s x) → UncoveredStay h t u
+  pub covers_stay : ((s : Spot) (x : ℕ) → look t s.0 s.1 ≡ Some x → has_c (cover t h (object_in t s x)) ≡ false → IsThere t u s x) →
+      UncoveredStay h t u
   covers_stay stays s x here lacks = by (list_any is_unveil h) refl
     where
       by : (b : Bool) → list_any is_unveil h ≡ b → RowStays h t u s x

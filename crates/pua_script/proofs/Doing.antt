@@ -1,18 +1,13 @@
 -- What a process does, by the effect of what it asks for.
-use Rattle.std.proofs.Common.{◌≡◌, ℕ, Some, Result, Ok, Err, sym, ap, subst}
-use Rattle.pua_tree.specs.Tree.{Tree}
-use Rattle.pua_policy.specs.History.{ProcessState, History, StandsFor}
+use Rattle.pua_script.proofs.Common.{◌≡◌, sym, ap, subst, Tree, ProcessState, History, StandsFor, May, Refusal, Answer, WorldFault}
+use Rattle.pua_script.proofs.Common.{Decision, if_may, Effect}
+use Rattle.std.proofs.Common.{Some, Result, Ok, Err}
 use Rattle.pua_policy.specs.Verdict.{refusal_of}
-use Rattle.pua_policy.specs.declared.answer.May.{May}
-use Rattle.pua_policy.specs.declared.answer.Refusal.{Refusal}
-use Rattle.pua_script.specs.declared.answer.Answer.{Answer}
-use Rattle.pua_script.specs.declared.fault.WorldFault.{WorldFault}
-use Rattle.pua_script.specs.Decide.{Decision, promised, unless_refused}
-use Rattle.pua_script.specs.Replay.{Effect}
+use Rattle.pua_script.specs.Decide.{unless_refused}
 use Rattle.pua_script.specs.Worlds.{Does, Edits, Attempts, AttemptsEdit}
 
 -- where promises refuse, the decision is the refusal
-pub promises_refuse : (m : May) (refusal : Refusal) (d : Decision) → refusal_of m ≡ Some refusal → promised m d ≡ Err refusal
+pub promises_refuse : (m : May) (refusal : Refusal) (d : Decision) → refusal_of m ≡ Some refusal → if_may m d ≡ Err refusal
 promises_refuse m refusal d is = ap (λ o. unless_refused o d) is
 
 module _ (t u : Tree) (h : History) (a : Answer) (q : ProcessState) where
@@ -22,7 +17,8 @@ module _ (t u : Tree) (h : History) (a : Answer) (q : ProcessState) where
 
   -- an effect on the tree alone
   pub as_edit : (e : Effect) → Edits t h e a u → StandsFor q h → Does t h e a u q
-  as_edit e edits stands = record { told = edits.told; left = edits.left; stands = subst (StandsFor q) (sym edits.same) stands; alone = edits.alone }
+  as_edit e edits stands =
+      record { told = edits.told; left = edits.left; stands = subst (StandsFor q) (sym edits.same) stands; alone = edits.alone }
 
 -- the same where a growth may have been refused
 module _ (t u : Tree) (h : History) (r : Result Answer WorldFault) (q : ProcessState) where

@@ -1,25 +1,18 @@
 -- What is left of an edit's faults after what was checked before it.
-use Rattle.std.proofs.Common.{◌≡◌, ℕ, List, Bool, true, false, cond, refl, sym, ap, subst, ◌∙◌}
-use Rattle.std.specs.Prelude.{Option, Some, None, option_map, Ok, Err, IsOk, ◌&&◌, ◌==◌, not}
+use Rattle.pua_script.proofs.Common.{◌≡◌, ℕ, List, Bool, true, false, cond, refl, sym, ap, subst, ◌∙◌, Option, Some, None, option_map, Ok}
+use Rattle.pua_script.proofs.Common.{Err, IsOk, ◌==◌, and_parts, not-true, same_Some, Tree, Spot, is_dir, look, is_empty, cut, cut_found}
+use Rattle.pua_script.proofs.Common.{is_full_dir, without_unnamed, without_row, Kind, Found, Whole, Slot, object_fault, spot_named}
+use Rattle.pua_script.proofs.Common.{object_of, Call, NameFits}
+use Rattle.std.specs.Prelude.{◌&&◌, not}
 use Rattle.std.specs.Option.{option_eq}
-use Rattle.std.proofs.lemmas.Bool.{and_parts, not-true}
-use Rattle.std.proofs.lemmas.Option.{same_Some}
-use Rattle.pua_tree.specs.Tree.{Tree, Spot, is_dir, look, has_no_row, is_empty, kind_at}
-use Rattle.pua_tree.specs.Edits.{cut, cut_found, is_full_dir, without_unnamed, without_row}
-use Rattle.pua_tree.specs.declared.node.Kind.{Kind}
+use Rattle.pua_tree.specs.Tree.{has_no_row, kind_at}
 use Rattle.pua_tree.specs.declared.node.Kind.TheVariants as kinds
 use Rattle.pua_tree.specs.declared.fault.TreeFault.TheVariants as faults
 use Rattle.pua_policy.specs.Misfits.{misfit_errno}
 use Rattle.pua_policy.specs.declared.reason.Misfit.TheVariants.{IsNotEmpty}
 use Rattle.pua_path.specs.declared.found.Way.TheVariants as ways
-use Rattle.pua_path.specs.declared.found.Found.{Found}
-use Rattle.pua_path.specs.declared.found.Found.TheVariants.{Whole, Slot}
-use Rattle.pua_policy.specs.Verdict.{object_of_kind, object_fault}
+use Rattle.pua_policy.specs.Verdict.{object_of_kind}
 use Rattle.pua_calls.specs.declared.call.Call.TheVariants as calls
-use Rattle.pua_path.specs.Fits.{spot_named}
-use Rattle.pua_policy.specs.Verdict.{object_of}
-use Rattle.pua_calls.specs.declared.call.Call.{Call}
-use Rattle.pua_script.specs.Judged.{NameFits}
 
 -- what was found is of the tree, and nothing is wrong with it for a call
 pub record IsFor (t : Tree) (call : Call) (object : Found) : Type 0 where
@@ -34,7 +27,8 @@ pub some_none : {A : Type 0} (x : A) → Some x ≡ None → ⊥
 some_none x is = cc
 
 -- a row whose node is no directory in which something stands can be taken away
-cut_ok : (t : Tree) (dir : ℕ) (name : List ℕ) (x : ℕ) → is_dir t dir ≡ true → look t dir name ≡ Some x → is_full_dir t x ≡ false → IsOk (cut t dir name)
+cut_ok : (t : Tree) (dir : ℕ) (name : List ℕ) (x : ℕ) → is_dir t dir ≡ true → look t dir name ≡ Some x → is_full_dir t x ≡ false →
+    IsOk (cut t dir name)
 cut_ok t dir name x lives there alone =
     let is : cut t dir name ≡ Ok (x, without_unnamed (without_row t dir name) x) =
     (λ i. cond (not (lives i)) (Err faults.NotDir) (cut_found t dir name (there i)))
@@ -53,7 +47,8 @@ is_emptied true is = refl
 is_emptied false is = absurd (some_none _ is)
 
 module _ (t : Tree) where
-  removable_at : (dir : ℕ) (name : List ℕ) (o : Option Spot) → o ≡ Some (dir, name) → IsOk (cut t dir name) → (spot : Spot) → o ≡ Some spot → IsOk (cut t spot.0 spot.1)
+  removable_at : (dir : ℕ) (name : List ℕ) (o : Option Spot) → o ≡ Some (dir, name) → IsOk (cut t dir name) → (spot : Spot) →
+      o ≡ Some spot → IsOk (cut t spot.0 spot.1)
   removable_at dir name o here ok spot is = subst (λ s. IsOk (cut t s.0 s.1)) (same_Some _ _ (sym here ∙ is)) ok
 
   no_rmdir : (o : Option Kind) → object_fault t calls.Rmdir (object_of_kind o) ≡ None → ⊥
@@ -65,7 +60,8 @@ module _ (t : Tree) where
 
   pub rmdir_removes : (object : Found) → IsFor t calls.Rmdir object → IsRemovable t object
   rmdir_removes (Whole dir (ways.Named parent name)) for =
-      removable_at parent name (Some (parent, name)) refl (cut_ok t parent name dir for.name.named.0 for.name.named.1 (empty_alone t dir (is_emptied (is_empty t dir) for.kind)))
+      removable_at parent name (Some (parent, name)) refl (cut_ok t parent name dir for.name.named.0 for.name.named.1
+      (empty_alone t dir (is_emptied (is_empty t dir) for.kind)))
   rmdir_removes (Whole dir ways.Dot) for = absurd (some_none _ for.kind)
   rmdir_removes (Whole dir ways.DotDot) for = absurd (some_none _ for.kind)
   rmdir_removes (Whole dir ways.Top) for = absurd (some_none _ for.kind)
@@ -77,4 +73,5 @@ module _ (t : Tree) where
   unlink_removes (Slot dir name None) for = absurd (some_none _ for.kind)
   unlink_removes (Slot dir name (Some x)) for =
       let alone = and_parts (option_eq ◌==◌ (look t dir name) (Some x)) _ (and_parts (is_dir t dir) _ for.name.fits).1 in
-      removable_at dir name (Some (dir, name)) refl (cut_ok t dir name x for.name.named.0 for.name.named.1 (ap (λ b. b && not (has_no_row t x)) (not-true (is_dir t x) alone.1)))
+      removable_at dir name (Some (dir, name)) refl (cut_ok t dir name x for.name.named.0 for.name.named.1
+      (ap (λ b. b && not (has_no_row t x)) (not-true (is_dir t x) alone.1)))

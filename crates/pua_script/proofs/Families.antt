@@ -1,18 +1,12 @@
 -- What a list of requests leaves of the family of a process that can put no veil any more.
-use Rattle.std.proofs.Common.{◌≡◌, ℕ, List, [], ◌∷◌, Bool, true, false, cond, ◌&&◌, ◌||◌, refl, sym, ap, subst, ◌∙◌}
-use Rattle.std.specs.Prelude.{Some, not, ◌==◌}
-use Rattle.std.proofs.lemmas.Bool.{false≢true, eqb-true, and_parts, not-true}
-use Rattle.pua_calls.specs.Calls.{CallTable}
-use Rattle.pua_policy.specs.History.{History, working_dir}
-use Rattle.pua_script.specs.Requests.{Asked}
-use Rattle.pua_script.specs.Replay.{World, history_of, apply, world_after}
-use Rattle.pua_script.specs.Laws.{IsConfined}
-use Rattle.pua_script.specs.Family.{is_member, is_okay, is_exec, is_chdir, with_child, family_then, family, is_done, none_done, HasHistoryOf}
+use Rattle.pua_script.proofs.Common.{◌≡◌, ℕ, List, [], ◌∷◌, Bool, true, false, cond, ◌&&◌, ◌||◌, refl, sym, ap, subst, ◌∙◌, Some, ◌==◌}
+use Rattle.pua_script.proofs.Common.{false≢true, eqb-true, and_parts, not-true, CallTable, History, working_dir, Asked, World, history_of}
+use Rattle.pua_script.proofs.Common.{apply, world_after, IsConfined, is_member, is_exec, is_chdir, is_done, HasHistoryOf, Answer, Okay}
+use Rattle.pua_script.proofs.Common.{Gone, Action, Fork}
+use Rattle.std.specs.Prelude.{not}
+use Rattle.pua_script.specs.Family.{is_okay, with_child, family_then, family, none_done}
 use Rattle.pua_script.specs.Tightening.{FamiliesNarrow}
-use Rattle.pua_script.specs.declared.answer.Answer.{Answer}
-use Rattle.pua_script.specs.declared.answer.Answer.TheVariants.{Okay, Failed, Killed, Gone}
-use Rattle.pua_script.specs.declared.request.Action.{Action}
-use Rattle.pua_script.specs.declared.request.Action.TheVariants.{Fork}
+use Rattle.pua_script.specs.declared.answer.Answer.TheVariants.{Failed, Killed}
 use Rattle.pua_script.proofs.Others.{forks_copy}
 use Rattle.pua_script.proofs.Allowing.{IsWithin, allows_no_more}
 use Rattle.pua_script.proofs.Tightening.{is_own, is_one, each_steps, within_self, within_twice}
@@ -54,7 +48,8 @@ child_or_old (Fork new) members m P belongs old child = by (new == m) refl belon
 child_or_old _ members m P belongs old child = old belongs
 
 module _ (table : CallTable) (now : History) where
-  module _ (w : World) (ask : Asked) (members : List ℕ) (still : Bool) (are : Members w members now still) (none : is_done is_exec table w ask members ≡ false) where
+  module _ (w : World) (ask : Asked) (members : List ℕ) (still : Bool) (are : Members w members now still)
+      (none : is_done is_exec table w ask members ≡ false) where
     abbrev then : World
     then = (apply table w ask).1
 
@@ -65,29 +60,38 @@ module _ (table : CallTable) (now : History) where
     old_member : (m : ℕ) → is_member members m ≡ true → HasHistoryOf then m (Belongs now still_then)
     old_member m belongs =
         let before = are m belongs in
-        let after = each_steps table w ask m before.0 before.1 before.2.within.tightens.confined (not_by_one is_exec table w ask members m belongs none) in (
+        let after = each_steps table w ask m before.0 before.1 before.2.within.tightens.confined
+        (not_by_one is_exec table w ask members m belongs none) in (
           after.0,
           after.1,
           record {
             within = within_twice now before.0 after.0 before.2.within after.2.within;
             dir = λ is.
                 let parts = and_parts still (not (is_done is_chdir table w ask members)) is in
-                after.2.dir (not_by_one is_chdir table w ask members m belongs (not-true (is_done is_chdir table w ask members) parts.1)) ∙ before.2.dir parts.0;
+                after.2.dir (not_by_one is_chdir table w ask members m belongs (not-true (is_done is_chdir table w ask members) parts.1)) ∙
+                before.2.dir parts.0;
           },
         )
 
     -- a child has the history of the member that asked
-    child : (new : ℕ) → ask.action ≡ Fork new → is_member members ask.process ≡ true → is_okay (apply table w ask).0 ≡ true → HasHistoryOf then new (Belongs now still_then)
+    child : (new : ℕ) → ask.action ≡ Fork new → is_member members ask.process ≡ true → is_okay (apply table w ask).0 ≡ true →
+        HasHistoryOf then new (Belongs now still_then)
     child new forks belongs okay =
         let before = are ask.process belongs in
-        let same : (record { process = ask.process; action = Fork new }) ≡ ask = λ i. record { process = ask.process; action = sym forks i } in
-        let copied = forks_copy table w ask.process new before.0 before.1 (ap (λ a. (apply table w a).0) same ∙ is_okay_only (apply table w ask).0 okay) in
-        (before.0, sym (ap (λ a. history_of (apply table w a).1 new) same) ∙ copied, record { within = before.2.within; dir = λ is. before.2.dir (and_parts still _ is).0 })
+        let same : (record { process = ask.process; action = Fork new }) ≡ ask =
+        λ i. record { process = ask.process; action = sym forks i } in
+        let copied = forks_copy table w ask.process new before.0 before.1 (ap (λ a. (apply table w a).0) same ∙
+        is_okay_only (apply table w ask).0 okay) in (
+          before.0,
+          sym (ap (λ a. history_of (apply table w a).1 new) same) ∙ copied,
+          record { within = before.2.within; dir = λ is. before.2.dir (and_parts still _ is).0 },
+        )
 
     pub members_then : Members then (family_then table w ask members) now still_then
     members_then m = by (is_member members ask.process) (is_okay (apply table w ask).0) refl refl
       where
-        by : (a b : Bool) → is_member members ask.process ≡ a → is_okay (apply table w ask).0 ≡ b → is_member (cond (a && b) (with_child ask.action members) members) m ≡ true → HasHistoryOf then m (Belongs now still_then)
+        by : (a b : Bool) → is_member members ask.process ≡ a → is_okay (apply table w ask).0 ≡ b →
+            is_member (cond (a && b) (with_child ask.action members) members) m ≡ true → HasHistoryOf then m (Belongs now still_then)
         by false b asks told belongs = old_member m belongs
         by true false asks told belongs = old_member m belongs
         by true true asks told belongs =
@@ -99,16 +103,22 @@ module _ (table : CallTable) (now : History) where
   weaker true false c e = e
   weaker false b c e = e
 
-  pub members_after : (asks : List Asked) (w : World) (members : List ℕ) (still : Bool) → Members w members now still → none_done is_exec table w asks members ≡ true
+  pub members_after : (asks : List Asked) (w : World) (members : List ℕ) (still : Bool) → Members w members now still →
+      none_done is_exec table w asks members ≡ true
       → Members (world_after table w asks) (family table w asks members) now (still && none_done is_chdir table w asks members)
   members_after [] w members still are none m belongs =
       let one = are m belongs in (one.0, one.1, record { within = one.2.within; dir = λ is. one.2.dir (and_parts still true is).0 })
   members_after (ask ∷ asks) w members still are none m belongs =
       let parts = and_parts (not (is_done is_exec table w ask members)) _ none in
       let first = not-true (is_done is_exec table w ask members) parts.0 in
-      let one = members_after asks (apply table w ask).1 (family_then table w ask members) (still && not (is_done is_chdir table w ask members))
-      (members_then w ask members still are first) parts.1 m belongs in
-      (one.0, one.1, record { within = one.2.within; dir = λ is. one.2.dir (weaker still (not (is_done is_chdir table w ask members)) _ is) })
+      let one = members_after asks (apply table w ask).1 (family_then table w ask members) (still
+      && not (is_done is_chdir table w ask members))
+      (members_then w ask members still are first) parts.1 m belongs in (
+        one.0,
+        one.1,
+        record
+            { within = one.2.within; dir = λ is. one.2.dir (weaker still (not (is_done is_chdir table w ask members)) _ is) },
+      )
 
   -- at the beginning the process is the only member
   pub begins : (w : World) (process : ℕ) → history_of w process ≡ Some now → IsConfined now → Members w (process ∷ []) now true

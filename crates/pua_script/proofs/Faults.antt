@@ -1,47 +1,39 @@
 -- No fault of a check is want of room.
-use Rattle.std.proofs.Common.{◌≡◌, ◌≢◌, ℕ, zero, suc, List, [], ◌∷◌, ◌++◌, Bool, true, false, cond, refl, ap, ◌∙◌}
-use Rattle.std.specs.Prelude.{Option, Some, None, option_map, Result, Ok, Err, not, ◌&&◌, is_some}
-use Rattle.pua_tree.specs.Steps.{◌>>=◌}
-use Rattle.pua_tree.specs.Tree.{Tree, is_dir, is_empty, above}
-use Rattle.pua_path.specs.Paths.{parts_of, is_absolute, path_fault, text_fault, text_errno}
-use Rattle.pua_path.specs.Resolution.{Resolved, Directory, Linked, Plain, Nothing, standing_at, is_followed, slot_or, walk, start_of, resolve_parts, resolution_of_text, link_limit}
-use Rattle.pua_path.specs.Fits.{node_named}
-use Rattle.pua_path.specs.declared.errno.Errno.{Errno}
-use Rattle.pua_path.specs.declared.errno.Errno.TheVariants.{EPERM, ENOENT, EACCES, EINVAL, ENOTEMPTY, ENOSPC, ENOTDIR, ELOOP}
+use Rattle.pua_script.proofs.Common.{◌≡◌, ◌≢◌, ℕ, zero, suc, List, [], ◌∷◌, ◌++◌, Bool, true, false, cond, refl, ap, ◌∙◌, Option, Some}
+use Rattle.pua_script.proofs.Common.{None, option_map, Result, Ok, Err, is_some, ◌>>=◌, Tree, is_dir, is_empty, above, parts_of}
+use Rattle.pua_script.proofs.Common.{is_absolute, path_fault, text_errno, resolve_parts, resolution_of_text, most_links, node_named, Errno}
+use Rattle.pua_script.proofs.Common.{ENOENT, EINVAL, ENOSPC, LongText, LongComponent, NulInText, Ending, Last, Found, Slot, holds}
+use Rattle.pua_script.proofs.Common.{CallTable, PairRule, rule_of, ending_of, last_of, History, working_dir, may_any, place_of, cover}
+use Rattle.pua_script.proofs.Common.{cover_fault, object_fault, object_of, object_named, Call, Cover, May, is_inside, is_same_node}
+use Rattle.pua_script.proofs.Common.{spot_named, Whole, Spot, or_fault, Failed, Change, NoChange, Decision, if_may, asker_of, decide_rename}
+use Rattle.pua_script.proofs.Common.{decide_link, shifting, is_whole, fault_if, kinds_fault, inside_fault}
+use Rattle.std.specs.Prelude.{not, ◌&&◌}
+use Rattle.pua_path.specs.Paths.{text_fault}
+use Rattle.pua_path.specs.Resolution.{Resolved, Directory, Linked, Plain, Nothing, standing_at, is_followed, slot_or, walk, start_of}
+use Rattle.pua_path.specs.declared.errno.Errno.TheVariants.{EPERM, EACCES, ENOTEMPTY, ENOTDIR, ELOOP}
 use Rattle.pua_path.specs.declared.traced.TextFault.{TextFault}
-use Rattle.pua_path.specs.declared.traced.TextFault.TheVariants.{EmptyText, LongText, LongComponent, NulInText}
-use Rattle.pua_path.specs.declared.text.Ending.{Ending}
+use Rattle.pua_path.specs.declared.traced.TextFault.TheVariants.{EmptyText}
 use Rattle.pua_path.specs.declared.text.Ending.TheVariants as ending
 use Rattle.pua_path.specs.declared.found.Part.{Part}
 use Rattle.pua_path.specs.declared.found.Part.TheVariants as parts
-use Rattle.pua_path.specs.declared.found.Last.{Last}
 use Rattle.pua_path.specs.declared.found.Last.TheVariants.{Followed}
 use Rattle.pua_path.specs.declared.found.Way.{Way}
 use Rattle.pua_path.specs.declared.found.Way.TheVariants as way
-use Rattle.pua_path.specs.declared.found.Found.{Found}
-use Rattle.pua_path.specs.declared.found.Found.TheVariants.{Slot}
-use Rattle.pua_calls.specs.Promises.{holds}
-use Rattle.pua_calls.specs.Calls.{CallTable, PairRule, rule_of, ending_of, last_of}
-use Rattle.pua_policy.specs.History.{History, working_dir, may_any, unveil_fault}
+use Rattle.pua_policy.specs.History.{unveil_fault}
 use Rattle.pua_policy.specs.Misfits.{misfit, misfit_errno}
-use Rattle.pua_policy.specs.Verdict.{Object, place_of, cover, cover_fault, object_fault, object_of, object_named}
+use Rattle.pua_policy.specs.Verdict.{Object}
 use Rattle.pua_policy.specs.declared.reason.Misfit.{Misfit}
-use Rattle.pua_policy.specs.declared.reason.Misfit.TheVariants.{Missing, Exists, IsDirectory, IsNoFile, IsNoDirectory, IsNoLink, IsNoProgram, IsNotEmpty, ByDot, ByDotDot, ByNothing}
-use Rattle.pua_calls.specs.declared.call.Call.{Call}
-use Rattle.pua_policy.specs.declared.answer.Cover.{Cover}
+use Rattle.pua_policy.specs.declared.reason.Misfit.TheVariants.{Missing, Exists, IsDirectory, IsNoFile, IsNoDirectory, IsNoLink}
+use Rattle.pua_policy.specs.declared.reason.Misfit.TheVariants.{IsNoProgram, IsNotEmpty, ByDot, ByDotDot, ByNothing}
 use Rattle.pua_policy.specs.declared.answer.Cover.TheVariants as covers
 use Rattle.pua_policy.specs.declared.answer.UnveilFault.{UnveilFault}
 use Rattle.pua_policy.specs.declared.answer.UnveilFault.TheVariants as unveil_faults
-use Rattle.pua_policy.specs.declared.answer.May.{May}
 use Rattle.pua_policy.specs.declared.answer.May.TheVariants as may
-use Rattle.pua_tree.specs.Edits.{is_inside, is_same_node}
 use Rattle.pua_path.specs.declared.errno.Errno.TheVariants.{EEXIST, EISDIR}
-use Rattle.pua_path.specs.Fits.{spot_named}
-use Rattle.pua_path.specs.declared.found.Found.TheVariants.{Whole}
-use Rattle.pua_tree.specs.Tree.{Spot}
-use Rattle.pua_policy.specs.Verdict.{or_fault}
-use Rattle.pua_policy.specs.declared.answer.Refusal.TheVariants.{Failed}
-use Rattle.pua_script.specs.Decide.{Change, NoChange, Decision, fails, promised, checked, named as decide_named, decide_object, decide_pair, decide_rename, decide_link, decide_veil, shifting, named_by, dots_fault, top_fault, is_whole, fault_if, kinds_fault, inside_fault, unveil_errno}
+use Rattle.pua_script.specs.Decide.{fails, unless_fault, if_named as decide_named}
+use Rattle.pua_script.specs.Decide.{decide_object}
+use Rattle.pua_script.specs.Decide.{decide_pair, decide_veil, named_by, dots_fault, top_fault}
+use Rattle.pua_script.specs.Decide.{unveil_errno}
 
 -- faults other than ENOSPC
 abbrev pub Apart : Option Errno → Type 0
@@ -74,7 +66,8 @@ inside_apart t x None = λ e. cc
 inside_apart t x (Some spot) = if_apart (is_inside t x spot.0) EINVAL (λ e. cc)
 
 kinds_apart : (t : Tree) (x : ℕ) (old new : Found) → Apart (kinds_fault t x old new)
-kinds_apart t x old (Whole y way) = or_apart _ _ (if_apart (not (is_whole old)) EISDIR (λ e. cc)) (if_apart (not (is_empty t y)) ENOTEMPTY (λ e. cc))
+kinds_apart t x old (Whole y way) =
+    or_apart _ _ (if_apart (not (is_whole old)) EISDIR (λ e. cc)) (if_apart (not (is_empty t y)) ENOTEMPTY (λ e. cc))
 kinds_apart t x old (Slot dir name None) = λ e. cc
 kinds_apart t x old (Slot dir name (Some y)) = if_apart (is_whole old) ENOTDIR (λ e. cc)
 
@@ -110,7 +103,8 @@ slot_apart (part ∷ rest) found errno links other = other
 
 module _ (t : Tree) (mode : Last) (links : ℕ) (follow : ℕ → List ℕ → List Part → Resolved)
     (follows : (from : ℕ) (target : List ℕ) (rest : List Part) → IsApart (follow from target rest)) where
-  linked_apart : (b : Bool) (from : ℕ) (target : List ℕ) (rest : List Part) (found : Found) → IsApart (cond b (follow from target rest) (Ok (found, links)))
+  linked_apart : (b : Bool) (from : ℕ) (target : List ℕ) (rest : List Part) (found : Found) →
+      IsApart (cond b (follow from target rest) (Ok (found, links)))
   linked_apart true from target rest found = follows from target rest
   linked_apart false from target rest found = tt
 
@@ -133,7 +127,8 @@ module _ (t : Tree) (mode : Last) (links : ℕ) (follow : ℕ → List ℕ → L
 resolve_apart : (links : ℕ) (t : Tree) (mode : Last) (dir : ℕ) (by : Way) (ps : List Part) → IsApart (resolve_parts links t mode dir by ps)
 resolve_apart zero t mode dir by ps = walk_apart t mode 0 (λ from target rest. Err ELOOP) (λ from target rest e. cc) ps dir by
 resolve_apart (suc links) t mode dir by ps =
-    walk_apart t mode (suc links) _ (λ from target rest. resolve_apart links t mode (start_of target from) way.Top (parts_of ending.Dot target ++ rest)) ps dir by
+    walk_apart t mode (suc links) _ (λ from target rest. resolve_apart links t mode (start_of target from) way.Top
+    (parts_of ending.Dot target ++ rest)) ps dir by
 
 abbrev errno_of : Result Found Errno → Errno
 errno_of (Ok found) = ENOSPC
@@ -156,7 +151,8 @@ named t from end text mode = by (path_fault text) refl (path_apart text)
   where
     by : (o : Option Errno) → path_fault text ≡ o → Apart (path_fault text) → Named (resolution_of_text t from end text mode)
     by None e apart = rw e
-        (named_if (not (is_absolute text) && not (is_dir t from)) _ (named_from _ (resolve_apart link_limit t mode (start_of text from) way.Top (parts_of end text))))
+        (named_if (not (is_absolute text) && not (is_dir t from)) _
+        (named_from _ (resolve_apart most_links t mode (start_of text from) way.Top (parts_of end text))))
     by (Some errno) e apart = rw e (λ is. apart (e ∙ ap (λ r. Some (errno_of r)) is))
 
 -- faults of covers and of what was found
@@ -199,12 +195,12 @@ fails_apart errno other e = other (ap errno_in e)
     errno_in (Err (Failed errno)) = errno
     errno_in _ = ENOSPC
 
-pub promised_apart : (m : May) (d : Decision) → HasRoom d → HasRoom (promised m d)
+pub promised_apart : (m : May) (d : Decision) → HasRoom d → HasRoom (if_may m d)
 promised_apart may.Yes d has = has
 promised_apart may.Enosys d has = λ e. cc
 promised_apart may.Death d has = λ e. cc
 
-pub checked_apart : (o : Option Errno) (d : Decision) → Apart o → HasRoom d → HasRoom (checked o d)
+pub checked_apart : (o : Option Errno) (d : Decision) → Apart o → HasRoom d → HasRoom (unless_fault o d)
 checked_apart None d apart has = has
 checked_apart (Some errno) d apart has = fails_apart errno (λ same. apart (ap Some same))
 
@@ -215,17 +211,21 @@ named_apart (Err errno) f other has = fails_apart errno (λ same. other (ap Err 
 pub granted_apart : (c : Change) → HasRoom (Ok c)
 granted_apart c e = cc
 
-pub object_has_room : (table : CallTable) (t : Tree) (h : History) (c : Call) (path : List ℕ) (f : Found → Change) → HasRoom (decide_object table t h c path (λ x. Ok (f x)))
+pub object_has_room : (table : CallTable) (t : Tree) (h : History) (c : Call) (path : List ℕ) (f : Found → Change) →
+    HasRoom (decide_object table t (asker_of h) c path (λ x. Ok (f x)))
 object_has_room table t h c path f = named_apart (object_named t h c path) _ (named t (working_dir h) (ending_of c) path (last_of c)) λ x.
-    checked_apart _ _ (or_apart _ _ (cover_apart (cover t h x) (rule_of table c).perms) (object_apart t c (object_of t x))) (granted_apart (f x))
+    checked_apart _ _ (or_apart _ _ (cover_apart (cover t h x) (rule_of table c).perms) (object_apart t c (object_of t x)))
+    (granted_apart (f x))
 
-pub pair_has_room : (pair : PairRule) (t : Tree) (h : History) (end : Ending) (old_path new_path : List ℕ) (f : Found → Found → Decision) → ((old new : Found) → HasRoom (f old new)) → HasRoom (decide_pair pair t h end old_path new_path f)
+pub pair_has_room : (pair : PairRule) (t : Tree) (h : History) (end : Ending) (old_path new_path : List ℕ) (f : Found → Found → Decision) →
+    ((old new : Found) → HasRoom (f old new)) → HasRoom (decide_pair pair t (asker_of h) end old_path new_path f)
 pair_has_room pair t h end old_path new_path f has =
     promised_apart (may_any h pair.old.needs.alternatives) _
     (promised_apart (may_any h pair.new.needs.alternatives) _
     (named_apart (named_by pair.old t h end old_path) _ (named t (working_dir h) end old_path pair.old.last) λ old.
     named_apart (named_by pair.new t h end new_path) _ (named t (working_dir h) end new_path pair.new.last) λ new.
-    checked_apart _ _ (or_apart _ _ (cover_apart (cover t h old) pair.old.needs.perms) (cover_apart (cover t h new) pair.new.needs.perms)) (has old new)))
+    checked_apart _ _ (or_apart _ _ (cover_apart (cover t h old) pair.old.needs.perms) (cover_apart (cover t h new) pair.new.needs.perms))
+    (has old new)))
 
 pub rename_has_room : (t : Tree) (old new : Found) (x : Option ℕ) → HasRoom (decide_rename t old new x)
 rename_has_room t old new None = λ e. cc
@@ -233,16 +233,19 @@ rename_has_room t old new (Some x) =
     checked_apart _ _ (or_apart _ _ (dots_apart old) (or_apart _ _ (dots_apart new) (or_apart _ _ (top_apart old) (top_apart new))))
     (by (is_same_node x (node_named new)))
   where
-    by : (same : Bool) → HasRoom (cond {A = Decision} same (Ok NoChange) (checked (or_fault (inside_fault t x (spot_named new)) (kinds_fault t x old new)) (Ok (shifting (spot_named old) (spot_named new)))))
+    by : (same : Bool) → HasRoom
+        (cond {A = Decision} same (Ok NoChange) (unless_fault (or_fault (inside_fault t x (spot_named new)) (kinds_fault t x old new))
+        (Ok (shifting (spot_named old) (spot_named new)))))
     by true = granted_apart NoChange
     by false = checked_apart _ _ (or_apart _ _ (inside_apart t x (spot_named new)) (kinds_apart t x old new)) (granted_apart _)
 
 pub link_has_room : (old new : Found) (x : Option ℕ) → HasRoom (decide_link old new x)
 link_has_room old new None = λ e. cc
 link_has_room old new (Some x) =
-    checked_apart _ _ (or_apart _ _ (if_apart (is_whole old) EPERM (λ e. cc)) (if_apart (is_some (node_named new)) EEXIST (λ e. cc))) (granted_apart _)
+    checked_apart _ _ (or_apart _ _ (if_apart (is_whole old) EPERM (λ e. cc)) (if_apart (is_some (node_named new)) EEXIST (λ e. cc)))
+    (granted_apart _)
 
-pub veil_has_room : (t : Tree) (h : History) (path : List ℕ) (perms : Option ℕ) → HasRoom (decide_veil t h path perms)
+pub veil_has_room : (t : Tree) (h : History) (path : List ℕ) (perms : Option ℕ) → HasRoom (decide_veil t (asker_of h) path perms)
 veil_has_room t h path None = λ e. cc
 veil_has_room t h path (Some perms) = named_apart _ _ (named t (working_dir h) ending.Dot path Followed) λ x.
     checked_apart _ _ (veil_apart (unveil_fault h (place_of x) perms)) (granted_apart _)

@@ -17,7 +17,8 @@ pub use Rattle.pua_script.proofs.Families.{Members, begins, members_then, member
 -- what one request leaves of the rows without `c`, or two of them, and what it leaves by other histories with the same veils
 pub use Rattle.pua_script.proofs.Confining.{each_spares, spared_twice}
 pub use Rattle.pua_script.proofs.Confined.{by_other, first_tree, at_all}
--- what a text named is of the tree, a cover that has what needs `c` has `c` and what `c` alone needs, and so has the row of what was found under it
+-- what a text named is of the tree, a cover that has what needs `c` has `c` and what `c` alone needs, and so has the
+-- row of what was found under it
 pub use Rattle.pua_script.proofs.Possible.{name_fits}
 pub use Rattle.pua_script.proofs.Spared.{c_from_cover, covered_by_c, has_spot}
 -- what is so of each change once its guards are passed is so of what a request leaves

@@ -1,26 +1,15 @@
 -- What was checked before a change, whichever request was granted it.
-use Rattle.std.proofs.Common.{◌≡◌, ℕ, List, [], ◌∷◌, Bool, true, false, not, refl, sym, subst, ◌⊎◌, inl, inr}
-use Rattle.std.specs.Prelude.{Option, Some, None, IsTrue, is_some}
-use Rattle.pua_tree.specs.Tree.{Tree, Node, Spot, target_fits}
-use Rattle.pua_tree.specs.Edits.{has_room, has_name_room}
+use Rattle.pua_script.proofs.Common.{◌≡◌, ℕ, List, [], ◌∷◌, Bool, true, false, not, refl, sym, subst, ◌⊎◌, inl, inr, Option, Some, None}
+use Rattle.pua_script.proofs.Common.{IsTrue, is_some, Tree, Node, Spot, target_fits, has_room, has_name_room, spot_named, node_named, Dot}
+use Rattle.pua_script.proofs.Common.{Dropped, Found, Whole, Slot, unveil, CallTable, History, Event, Unveiled, Moved, is_locked, may_any}
+use Rattle.pua_script.proofs.Common.{Yes, Call, is_bytes, is_in_bytes, Change, NoChange, AddNode, CutRow, ShiftRow, TieRow, BeginProgram}
+use Rattle.pua_script.proofs.Common.{AddEvent, CopyAs, shifting, is_whole, is_exec, is_chdir, IsShift, Action, OnPath}
 use Rattle.pua_tree.specs.declared.node.Kind.TheVariants as kind
-use Rattle.pua_path.specs.Fits.{spot_named, node_named}
-use Rattle.pua_path.specs.declared.text.Ending.TheVariants.{Dot, Dropped}
-use Rattle.pua_path.specs.declared.found.Found.{Found}
-use Rattle.pua_path.specs.declared.found.Found.TheVariants.{Whole, Slot}
-use Rattle.pua_calls.specs.Promises.{unveil}
-use Rattle.pua_calls.specs.Calls.{CallTable}
-use Rattle.pua_policy.specs.History.{History, Event, Unveiled, Moved, is_locked, may_any}
-use Rattle.pua_policy.specs.declared.answer.May.TheVariants.{Yes}
-use Rattle.pua_calls.specs.declared.call.Call.{Call}
 use Rattle.pua_calls.specs.declared.call.Call.TheVariants as call
-use Rattle.pua_script.specs.Bytes.{is_bytes, is_in_bytes}
-use Rattle.pua_script.specs.Decide.{Change, NoChange, AddNode, CutRow, ShiftRow, TieRow, BeginProgram, AddEvent, CopyAs, plain_node, link_node, placing, cutting, shifting, tying, change_by, adding, removing, is_whole}
-use Rattle.pua_script.specs.Family.{is_exec, is_chdir}
-use Rattle.pua_script.specs.Guards.{OnOne, OnTwo, IsShift}
+use Rattle.pua_script.specs.Decide.{plain_node}
+use Rattle.pua_script.specs.Decide.{link_node, placing, cutting, tying, change_by, adding, removing}
+use Rattle.pua_script.specs.Guards.{OnOne, OnTwo}
 use Rattle.pua_script.specs.Laws.{lacks_room}
-use Rattle.pua_script.specs.declared.request.Action.{Action}
-use Rattle.pua_script.specs.declared.request.Action.TheVariants.{OnPath, Symlink}
 
 -- the calls that make a name, and those that take one away
 abbrev pub makes : Call → Bool
@@ -103,17 +92,32 @@ module _ (table : CallTable) (t : Tree) (h : History) (action : Action) where
   Grounds (CopyAs new) = Unit {0}
 
 module _ (table : CallTable) (t : Tree) (h : History) where
-  pub on_adding : (action : Action) (c : Call) (path : List ℕ) (x : Found) (node : Node) → OnOne table t h c path x → makes c ≡ true → target_fits node.kind node.target ≡ true
-      → (is_in_bytes action ≡ true → (is_bytes path ≡ true) × LeadsToBytes node) → (IsTrue (not (has_room t)) → IsTrue (lacks_room t action))
+  pub on_adding : (action : Action) (c : Call) (path : List ℕ) (x : Found) (node : Node) → OnOne table t h c path x → makes c ≡ true →
+      target_fits node.kind node.target ≡ true
+      → (is_in_bytes action ≡ true → (is_bytes path ≡ true) × LeadsToBytes node) →
+      (IsTrue (not (has_room t)) → IsTrue (lacks_room t action))
       → Grounds table t h action (adding node x)
   on_adding action c path x node on made target bytes room = by (spot_named x) (node_named x) refl refl
     where
       by : (s : Option Spot) (y : Option ℕ) → spot_named x ≡ s → node_named x ≡ y → Grounds table t h action (placing node s y)
-      by (Some s) None at free = record { call = c; path = path; object = x; on = on; made = made; at = at; free = free; target = target; bytes = bytes; room = room }
+      by (Some s) None at free =
+          record {
+            call = c;
+            path = path;
+            object = x;
+            on = on;
+            made = made;
+            at = at;
+            free = free;
+            target = target;
+            bytes = bytes;
+            room = room;
+          }
       by (Some s) (Some y) at free = tt
       by None y at free = tt
 
-  on_cutting : (action : Action) (c : Call) (path : List ℕ) (x : Found) → OnOne table t h c path x → takes c ≡ true → Grounds table t h action (removing x)
+  on_cutting : (action : Action) (c : Call) (path : List ℕ) (x : Found) → OnOne table t h c path x → takes c ≡ true →
+      Grounds table t h action (removing x)
   on_cutting action c path x on taken = by (spot_named x) (node_named x) refl
     where
       by : (s : Option Spot) (y : Option ℕ) → spot_named x ≡ s → Grounds table t h action (cutting s y)
@@ -125,8 +129,13 @@ module _ (table : CallTable) (t : Tree) (h : History) where
   no_target target e = cc
 
   pub on_call : (c : Call) (path : List ℕ) (x : Found) → OnOne table t h c path x → Grounds table t h (OnPath c path) (change_by table c x)
-  on_call call.Create path x on = on_adding (OnPath call.Create path) call.Create path x (plain_node kind.File) on refl refl (λ small. (small, no_target)) (λ full. full)
-  on_call call.Mkdir path x on = on_adding (OnPath call.Mkdir path) call.Mkdir path x (plain_node kind.Dir) on refl refl (λ small. (small, no_target)) (λ full. full)
+  on_call call.Create path x on =
+      on_adding (OnPath call.Create path) call.Create path x (plain_node kind.File) on refl refl (λ small. (small, no_target))
+      (λ full. full)
+  on_call call.Mkdir path x on = on_adding (OnPath call.Mkdir path) call.Mkdir path x (plain_node kind.Dir) on refl refl (λ small. (
+    small,
+    no_target,
+  )) (λ full. full)
   on_call call.Rmdir path x on = on_cutting (OnPath call.Rmdir path) call.Rmdir path x on refl
   on_call call.Unlink path x on = on_cutting (OnPath call.Unlink path) call.Unlink path x on refl
   on_call call.Chdir path (Whole dir way) on = refl
@@ -137,10 +146,12 @@ module _ (table : CallTable) (t : Tree) (h : History) where
   pub link_leads : (target : List ℕ) → is_bytes target ≡ true → LeadsToBytes (link_node target)
   link_leads target small other e = let same : target ≡ other = cc in subst (λ x. is_bytes x ≡ true) same small
 
-  pub on_rename : (action : Action) (old_path new_path : List ℕ) (old new : Found) (x : ℕ) (c : Change) → OnTwo table.rename t h Dropped old_path new_path old new x
+  pub on_rename : (action : Action) (old_path new_path : List ℕ) (old new : Found) (x : ℕ) (c : Change) →
+      OnTwo table.rename t h Dropped old_path new_path old new x
       → (is_in_bytes action ≡ true → is_bytes new_path ≡ true) → (c ≡ NoChange) ⊎ IsShift t old new x c → Grounds table t h action c
   on_rename action old_path new_path old new x c two bytes (inl same) = subst (Grounds table t h action) (sym same) tt
-  on_rename action old_path new_path old new x c two bytes (inr moves) = subst (Grounds table t h action) (sym moves.is) (by (spot_named old) (spot_named new) refl refl)
+  on_rename action old_path new_path old new x c two bytes (inr moves) =
+      subst (Grounds table t h action) (sym moves.is) (by (spot_named old) (spot_named new) refl refl)
     where
       by : (a b : Option Spot) → spot_named old ≡ a → spot_named new ≡ b → Grounds table t h action (shifting a b)
       by (Some a) (Some b) at_old at_new = record {
@@ -150,7 +161,12 @@ module _ (table : CallTable) (t : Tree) (h : History) where
         new = new;
         node = x;
         two = two;
-        shift = record { other = moves.other; inside = moves.inside; kinds = moves.kinds; is = (λ i. shifting (sym at_old i) (sym at_new i)) };
+        shift = record {
+          other = moves.other;
+          inside = moves.inside;
+          kinds = moves.kinds;
+          is = (λ i. shifting (sym at_old i) (sym at_new i));
+        };
         at_old = at_old;
         at_new = at_new;
         bytes = bytes;
@@ -158,10 +174,23 @@ module _ (table : CallTable) (t : Tree) (h : History) where
       by (Some a) None at_old at_new = tt
       by None b at_old at_new = tt
 
-  pub on_link : (action : Action) (old_path new_path : List ℕ) (old new : Found) (x : ℕ) → OnTwo table.link t h Dot old_path new_path old new x → is_whole old ≡ false → is_some (node_named new) ≡ false
-      → (is_in_bytes action ≡ true → is_bytes new_path ≡ true) → (IsTrue (not (has_name_room t)) → IsTrue (lacks_room t action)) → Grounds table t h action (tying x (spot_named new))
+  pub on_link : (action : Action) (old_path new_path : List ℕ) (old new : Found) (x : ℕ) →
+      OnTwo table.link t h Dot old_path new_path old new x → is_whole old ≡ false → is_some (node_named new) ≡ false
+      → (is_in_bytes action ≡ true → is_bytes new_path ≡ true) → (IsTrue (not (has_name_room t)) → IsTrue (lacks_room t action)) →
+      Grounds table t h action (tying x (spot_named new))
   on_link action old_path new_path old new x two no_dir free bytes room = by (spot_named new) refl
     where
       by : (s : Option Spot) → spot_named new ≡ s → Grounds table t h action (tying x s)
-      by (Some s) at = record { old_path = old_path; new_path = new_path; old = old; new = new; two = two; no_dir = no_dir; free = free; at = at; bytes = bytes; room = room }
+      by (Some s) at = record {
+        old_path = old_path;
+        new_path = new_path;
+        old = old;
+        new = new;
+        two = two;
+        no_dir = no_dir;
+        free = free;
+        at = at;
+        bytes = bytes;
+        room = room;
+      }
       by None at = tt

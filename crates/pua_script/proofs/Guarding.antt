@@ -1,48 +1,41 @@
 -- Request by request: one that is granted passed its checks, so its change has grounds; and none is refused for want of room.
-use Rattle.std.proofs.Common.{◌≡◌, ℕ, List, [], ◌∷◌, Bool, true, false, cond, refl, inl, inr, ◌⊎◌}
-use Rattle.std.specs.Prelude.{Option, Some, None, Result, Ok, Err, is_some, ◌||◌}
-use Rattle.pua_tree.specs.Tree.{Tree}
-use Rattle.pua_tree.specs.Edits.{is_same_node}
-use Rattle.pua_path.specs.Paths.{path_fault}
-use Rattle.pua_path.specs.Resolution.{resolution_of_text}
-use Rattle.pua_path.specs.Fits.{spot_named, node_named}
-use Rattle.pua_path.specs.declared.errno.Errno.{Errno}
-use Rattle.pua_path.specs.declared.errno.Errno.TheVariants.{EPERM, EEXIST, EINVAL}
-use Rattle.pua_path.specs.declared.text.Ending.{Ending}
+use Rattle.pua_script.proofs.Common.{◌≡◌, ℕ, List, [], ◌∷◌, Bool, true, false, cond, refl, inl, inr, ◌⊎◌, Option, Some, None, Result, Ok}
+use Rattle.pua_script.proofs.Common.{Err, is_some, Tree, is_same_node, path_fault, resolution_of_text, spot_named, node_named, Errno}
+use Rattle.pua_script.proofs.Common.{EINVAL, Ending, Found, proc, unveil, CallTable, PairRule, rule_of, History, is_locked, may_any}
+use Rattle.pua_script.proofs.Common.{working_dir, place_of, cover, cover_fault, or_fault, object_named, object_fault, object_of, Call, May}
+use Rattle.pua_script.proofs.Common.{fault_if, is_whole, inside_fault, kinds_fault, Change, NoChange, Decision, if_may, decide_rename}
+use Rattle.pua_script.proofs.Common.{decide_link, asker_of, shifting, OnPath, Symlink, Rename, Link, Unveil, Fork, IsShift, and_parts, sym}
+use Rattle.pua_script.proofs.Common.{subst, is_bytes, Action}
+use Rattle.std.specs.Prelude.{◌||◌}
+use Rattle.pua_path.specs.declared.errno.Errno.TheVariants.{EPERM, EEXIST}
 use Rattle.pua_path.specs.declared.text.Ending.TheVariants as ending
 use Rattle.pua_path.specs.declared.found.Last.TheVariants.{Followed}
-use Rattle.pua_path.specs.declared.found.Found.{Found}
-use Rattle.pua_calls.specs.Promises.{proc, unveil}
-use Rattle.pua_calls.specs.Calls.{CallTable, PairRule, rule_of}
-use Rattle.pua_policy.specs.History.{History, is_locked, may_any, working_dir, unveil_fault, pledge_fault}
-use Rattle.pua_policy.specs.Verdict.{place_of, cover, cover_fault, or_fault, object_named, object_fault, object_of, found_fault}
-use Rattle.pua_calls.specs.declared.call.Call.{Call}
+use Rattle.pua_policy.specs.History.{unveil_fault, pledge_fault}
+use Rattle.pua_policy.specs.Verdict.{found_fault}
 use Rattle.pua_calls.specs.declared.call.Call.TheVariants as call
-use Rattle.pua_policy.specs.declared.answer.May.{May}
 use Rattle.pua_policy.specs.declared.answer.May.TheVariants as may
-use Rattle.pua_script.specs.Decide.{fault_if, is_whole, link_node, unveil_errno, given_set, is_unknown, inside_fault, kinds_fault, Change, NoChange, Decision, promised, checked, named, adding, change_by, decide_rename, decide_link, decide_veil, decide_pair, shifting, ways_fault, covers_fault, named_by}
-use Rattle.pua_script.specs.declared.request.Action.TheVariants.{OnPath, Symlink, Rename, Link, Pledge, Unveil, Lock, Fork, Exit}
-use Rattle.pua_script.specs.Guards.{OnOne, OnTwo, IsShift, IsVeil, DecisionsAreGuarded}
-use Rattle.std.proofs.lemmas.Bool.{and_parts}
-use Rattle.std.proofs.Common.{sym, subst}
-use Rattle.pua_script.specs.Bytes.{is_bytes}
+use Rattle.pua_script.specs.Decide.{link_node, unveil_errno, given_set, is_unknown}
+use Rattle.pua_script.specs.Decide.{unless_fault, if_named, adding, change_by}
+use Rattle.pua_script.specs.Decide.{covers_by, decide_veil, decide_pair, ways_fault, named_by}
+use Rattle.pua_script.specs.declared.request.Action.TheVariants.{Pledge, Lock, Exit}
+use Rattle.pua_script.specs.Guards.{OnOne, OnTwo, IsVeil, DecisionsAreGuarded}
 use Rattle.pua_script.specs.Guards.{IsDecided}
 use Rattle.pua_script.specs.Laws.{RefusalsLackNoRoom}
-use Rattle.pua_script.specs.declared.request.Action.{Action}
-use Rattle.pua_script.proofs.Faults.{promised_apart, checked_apart, if_apart, none_or, path_apart, granted_apart, object_has_room, pair_has_room, rename_has_room, link_has_room, veil_has_room}
+use Rattle.pua_script.proofs.Faults.{promised_apart, checked_apart, if_apart, none_or, path_apart, granted_apart, object_has_room}
+use Rattle.pua_script.proofs.Faults.{pair_has_room, rename_has_room, link_has_room, veil_has_room}
 use Rattle.pua_script.proofs.Grounds.{Grounds, on_adding, on_call, on_rename, on_link, link_leads}
 use Rattle.pua_script.proofs.Linking.{target_is}
 
-from_promised : (m : May) (d : Decision) (c : Change) → promised m d ≡ Ok c → (m ≡ may.Yes) × (d ≡ Ok c)
+from_promised : (m : May) (d : Decision) (c : Change) → if_may m d ≡ Ok c → (m ≡ may.Yes) × (d ≡ Ok c)
 from_promised may.Yes d c e = (refl, e)
 from_promised may.Enosys d c e = cc
 from_promised may.Death d c e = cc
 
-from_checked : (o : Option Errno) (d : Decision) (c : Change) → checked o d ≡ Ok c → (o ≡ None) × (d ≡ Ok c)
+from_checked : (o : Option Errno) (d : Decision) (c : Change) → unless_fault o d ≡ Ok c → (o ≡ None) × (d ≡ Ok c)
 from_checked None d c e = (refl, e)
 from_checked (Some errno) d c e = cc
 
-from_named : (r : Result Found Errno) (g : Found → Decision) (c : Change) → named r g ≡ Ok c → (x : Found) × (r ≡ Ok x) × (g x ≡ Ok c)
+from_named : (r : Result Found Errno) (g : Found → Decision) (c : Change) → if_named r g ≡ Ok c → (x : Found) × (r ≡ Ok x) × (g x ≡ Ok c)
 from_named (Ok x) g c e = (x, refl, e)
 from_named (Err errno) g c e = cc
 
@@ -66,11 +59,12 @@ second_none (Some errno) b e = cc
 
 module _ (t : Tree) (h : History) where
   -- a call's object, once its promises are held
-  one : (table : CallTable) (c : Call) (path : List ℕ) (g : Found → Change) (change : Change) → may_any h (rule_of table c).alternatives ≡ may.Yes
-      → (named (object_named t h c path) λ x. checked (found_fault t table h c x) (Ok (g x))) ≡ Ok change
+  one : (table : CallTable) (c : Call) (path : List ℕ) (g : Found → Change) (change : Change) →
+      may_any h (rule_of table c).alternatives ≡ may.Yes
+      → (if_named (object_named t h c path) λ x. unless_fault (found_fault t table h c x) (Ok (g x))) ≡ Ok change
       → (object : Found) × OnOne table t h c path object × (change ≡ g object)
   one table c path g change may e =
-      let at = from_named (object_named t h c path) (λ x. checked (found_fault t table h c x) (Ok (g x))) change e in
+      let at = from_named (object_named t h c path) (λ x. unless_fault (found_fault t table h c x) (Ok (g x))) change e in
       let free = from_checked (found_fault t table h c at.0) (Ok (g at.0)) change at.2 in
       let a = cover_fault (cover t h at.0) (rule_of table c).perms in
       let b = object_fault t c (object_of t at.0) in
@@ -78,22 +72,27 @@ module _ (t : Tree) (h : History) where
 
   -- what both paths named
   abbrev Pair : PairRule → Ending → List ℕ → List ℕ → (Found → Found → Option ℕ → Decision) → Change → Type 0
-  Pair rules end old_path new_path f change = (old : Found) × (new : Found) × (x : ℕ) × OnTwo rules t h end old_path new_path old new x × (f old new (Some x) ≡ Ok change)
+  Pair rules end old_path new_path f change = (old : Found) × (new : Found) × (x : ℕ) × OnTwo rules t h end old_path new_path old new x ×
+      (f old new (Some x) ≡ Ok change)
 
-  pair : (rules : PairRule) (end : Ending) (old new : List ℕ) (f : Found → Found → Option ℕ → Decision) (change : Change) → ((a b : Found) → f a b None ≡ Ok change → ⊥)
-      → decide_pair rules t h end old new (λ a b. f a b (node_named a)) ≡ Ok change → Pair rules end old new f change
+  pair : (rules : PairRule) (end : Ending) (old new : List ℕ) (f : Found → Found → Option ℕ → Decision) (change : Change) →
+      ((a b : Found) → f a b None ≡ Ok change → ⊥)
+      → decide_pair rules t (asker_of h) end old new (λ a b. f a b (node_named a)) ≡ Ok change → Pair rules end old new f change
   pair rules end old new f change never e =
       let may_old = from_promised (may_any h rules.old.needs.alternatives) _ change e in
       let may_new = from_promised (may_any h rules.new.needs.alternatives) _ change may_old.1 in
-      let first = from_named (named_by rules.old t h end old) (λ a. named (named_by rules.new t h end new) λ b. checked (covers_fault rules t h a b) (f a b (node_named a))) change may_new.1 in
+      let first = from_named (named_by rules.old t h end old) (λ a. if_named (named_by rules.new t h end new) λ b. unless_fault
+      (covers_by rules t (asker_of h) a b) (f a b (node_named a))) change may_new.1 in
       let a = first.0 in
-      let second = from_named (named_by rules.new t h end new) (λ b. checked (covers_fault rules t h a b) (f a b (node_named a))) change first.2 in
+      let second = from_named (named_by rules.new t h end new)
+      (λ b. unless_fault (covers_by rules t (asker_of h) a b) (f a b (node_named a))) change first.2 in
       let b = second.0 in
-      let free = from_checked (covers_fault rules t h a b) (f a b (node_named a)) change second.2 in
+      let free = from_checked (covers_by rules t (asker_of h) a b) (f a b (node_named a)) change second.2 in
       by a b (node_named a) refl may_old.0 may_new.0 first.1 second.1 free.0 free.1
     where
-      by : (a b : Found) (o : Option ℕ) → node_named a ≡ o → may_any h rules.old.needs.alternatives ≡ may.Yes → may_any h rules.new.needs.alternatives ≡ may.Yes → named_by rules.old t h end old ≡ Ok a → named_by rules.new t h end new ≡ Ok b
-          → covers_fault rules t h a b ≡ None → f a b o ≡ Ok change → Pair rules end old new f change
+      by : (a b : Found) (o : Option ℕ) → node_named a ≡ o → may_any h rules.old.needs.alternatives ≡ may.Yes →
+          may_any h rules.new.needs.alternatives ≡ may.Yes → named_by rules.old t h end old ≡ Ok a → named_by rules.new t h end new ≡ Ok b
+          → covers_by rules t (asker_of h) a b ≡ None → f a b o ≡ Ok change → Pair rules end old new f change
       by a b None is may_old may_new fa fb none e = absurd (never a b e)
       by a b (Some x) is may_old may_new fa fb none e = (
         a,
@@ -105,13 +104,15 @@ module _ (t : Tree) (h : History) where
           found_old = fa;
           found_new = fb;
           covered_old = first_none (cover_fault (cover t h a) rules.old.needs.perms) (cover_fault (cover t h b) rules.new.needs.perms) none;
-          covered_new = second_none (cover_fault (cover t h a) rules.old.needs.perms) (cover_fault (cover t h b) rules.new.needs.perms) none;
+          covered_new = second_none (cover_fault (cover t h a) rules.old.needs.perms) (cover_fault (cover t h b) rules.new.needs.perms)
+              none;
           named = is;
         },
         e,
       )
 
-  renamed : (a b : Found) (x : ℕ) (change : Change) → decide_rename t a b (Some x) ≡ Ok change → (ways_fault a b ≡ None) × ((change ≡ NoChange) ⊎ IsShift t a b x change)
+  renamed : (a b : Found) (x : ℕ) (change : Change) → decide_rename t a b (Some x) ≡ Ok change →
+      (ways_fault a b ≡ None) × ((change ≡ NoChange) ⊎ IsShift t a b x change)
   renamed a b x change e =
       let free = from_checked (ways_fault a b) _ change e in
       (free.0, by (is_same_node x (node_named b)) refl free.1)
@@ -119,7 +120,9 @@ module _ (t : Tree) (h : History) where
       kinds : Option Errno
       kinds = or_fault (inside_fault t x (spot_named b)) (kinds_fault t x a b)
 
-      by : (same : Bool) → is_same_node x (node_named b) ≡ same → cond {A = Decision} same (Ok NoChange) (checked kinds (Ok (shifting (spot_named a) (spot_named b)))) ≡ Ok change → (change ≡ NoChange) ⊎ IsShift t a b x change
+      by : (same : Bool) → is_same_node x (node_named b) ≡ same →
+          cond {A = Decision} same (Ok NoChange) (unless_fault kinds (Ok (shifting (spot_named a) (spot_named b)))) ≡ Ok change →
+          (change ≡ NoChange) ⊎ IsShift t a b x change
       by true is e = inl (is_ok _ _ e)
       by false is e =
           let last = from_checked kinds (Ok (shifting (spot_named a) (spot_named b))) change e in
@@ -130,12 +133,22 @@ module _ (t : Tree) (h : History) where
             is = is_ok _ _ last.1;
           })
 
-  veiled : (path : List ℕ) (letters : Option ℕ) (change : Change) → may_any h (unveil ∷ []) ≡ may.Yes → is_locked h ≡ false → decide_veil t h path letters ≡ Ok change → IsVeil t h path letters change
+  veiled : (path : List ℕ) (letters : Option ℕ) (change : Change) → may_any h (unveil ∷ []) ≡ may.Yes → is_locked h ≡ false →
+      decide_veil t (asker_of h) path letters ≡ Ok change → IsVeil t h path letters change
   veiled path None change may unlocked e = cc
   veiled path (Some perms) change may unlocked e =
       let at = from_named (resolution_of_text t (working_dir h) ending.Dot path Followed) _ change e in
       let free = from_checked (unveil_errno (unveil_fault h (place_of at.0) perms)) _ change at.2 in
-      record { object = at.0; perms = perms; promised = may; unlocked = unlocked; known = refl; found = at.1; room = free.0; is = is_ok _ _ free.1 }
+      record {
+        object = at.0;
+        perms = perms;
+        promised = may;
+        unlocked = unlocked;
+        known = refl;
+        found = at.1;
+        room = free.0;
+        is = is_ok _ _ free.1;
+      }
 
 pub decisions_are_guarded : DecisionsAreGuarded
 decisions_are_guarded table t h (OnPath c path) change e =
@@ -155,7 +168,15 @@ decisions_are_guarded table t h (Link old new) change e =
     let free = from_checked (or_fault (fault_if (is_whole p.0) EPERM) (fault_if (is_some (node_named p.1)) EEXIST)) _ change p.4 in
     let a = fault_if (is_whole p.0) EPERM in
     let b = fault_if (is_some (node_named p.1)) EEXIST in
-    record { old = p.0; new = p.1; node = p.2; two = p.3; no_dir = not_faulty _ EPERM (first_none a b free.0); free = not_faulty _ EEXIST (second_none a b free.0); is = is_ok _ _ free.1 }
+    record {
+      old = p.0;
+      new = p.1;
+      node = p.2;
+      two = p.3;
+      no_dir = not_faulty _ EPERM (first_none a b free.0);
+      free = not_faulty _ EEXIST (second_none a b free.0);
+      is = is_ok _ _ free.1;
+    }
 decisions_are_guarded table t h (Pledge p x) change e =
     let known = from_checked (fault_if (is_unknown p || is_unknown x) EINVAL) _ change e in
     let free = from_checked (pledge_fault h (given_set p) (given_set x)) _ change known.1 in
@@ -177,9 +198,12 @@ module _ (table : CallTable) (t : Tree) (h : History) where
   grounds (Symlink target path) c d = subst (Grounds table t h (Symlink target path)) (sym d.3)
       (on_adding table t h (Symlink target path) call.Symlink path d.0 (link_node target) d.1 refl (target_is target d.2)
       (λ small. let two = and_parts (is_bytes target) (is_bytes path) small in (two.1, link_leads table t h target two.0)) (λ full. full))
-  grounds (Rename old new) c d = on_rename table t h (Rename old new) old new d.old d.new d.node c d.two (λ small. (and_parts (is_bytes old) (is_bytes new) small).1) d.moves
+  grounds (Rename old new) c d =
+      on_rename table t h (Rename old new) old new d.old d.new d.node c d.two (λ small. (and_parts (is_bytes old) (is_bytes new) small).1)
+      d.moves
   grounds (Link old new) c d = subst (Grounds table t h (Link old new)) (sym d.is)
-      (on_link table t h (Link old new) old new d.old d.new d.node d.two d.no_dir d.free (λ small. (and_parts (is_bytes old) (is_bytes new) small).1) (λ full. full))
+      (on_link table t h (Link old new) old new d.old d.new d.node d.two d.no_dir d.free
+      (λ small. (and_parts (is_bytes old) (is_bytes new) small).1) (λ full. full))
   grounds (Pledge p x) c d = subst (Grounds table t h (Pledge p x)) (sym d.is) tt
   grounds (Unveil path perms) c d = subst (Grounds table t h (Unveil path perms)) (sym d.is) (d.promised, d.unlocked)
   grounds Lock c d = subst (Grounds table t h Lock) (sym d.1) tt
@@ -188,13 +212,16 @@ module _ (table : CallTable) (t : Tree) (h : History) where
 
 pub refusals_lack_no_room : RefusalsLackNoRoom
 refusals_lack_no_room table t h (OnPath c path) = promised_apart _ _ (object_has_room table t h c path (change_by table c))
-refusals_lack_no_room table t h (Symlink target path) = promised_apart _ _ (checked_apart _ _ (path_apart target) (object_has_room table t h call.Symlink path (adding (link_node target))))
-refusals_lack_no_room table t h (Rename old new) = pair_has_room table.rename t h ending.Dropped old new _ λ a b. rename_has_room t a b (node_named a)
+refusals_lack_no_room table t h (Symlink target path) =
+    promised_apart _ _ (checked_apart _ _ (path_apart target) (object_has_room table t h call.Symlink path (adding (link_node target))))
+refusals_lack_no_room table t h (Rename old new) =
+    pair_has_room table.rename t h ending.Dropped old new _ λ a b. rename_has_room t a b (node_named a)
 refusals_lack_no_room table t h (Link old new) = pair_has_room table.link t h ending.Dot old new _ λ a b. link_has_room a b (node_named a)
 refusals_lack_no_room table t h (Pledge promises execpromises) =
     checked_apart _ _ (if_apart (is_unknown promises || is_unknown execpromises) EINVAL (λ e. cc))
     (checked_apart _ _ (none_or _ EPERM (λ e. cc)) (granted_apart _))
-refusals_lack_no_room table t h (Unveil path perms) = promised_apart _ _ (checked_apart _ _ (if_apart (is_locked h) EPERM (λ e. cc)) (veil_has_room t h path perms))
+refusals_lack_no_room table t h (Unveil path perms) =
+    promised_apart _ _ (checked_apart _ _ (if_apart (is_locked h) EPERM (λ e. cc)) (veil_has_room t h path perms))
 refusals_lack_no_room table t h Lock = promised_apart _ _ (granted_apart _)
 refusals_lack_no_room table t h (Fork new) = promised_apart _ _ (granted_apart _)
 refusals_lack_no_room table t h Exit = granted_apart _

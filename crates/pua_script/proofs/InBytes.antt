@@ -1,23 +1,16 @@
 -- What is read as a listing or as a script is made of bytes, and requests in bytes leave bytes.
-use Rattle.std.proofs.Common.{◌≡◌, ℕ, List, [], ◌∷◌, ◌++◌, Bool, true, refl, sym, ap, ◌∙◌}
-use Rattle.std.specs.Prelude.{Option, Some, None, filter_map, option_map, option_and_then}
-use Rattle.std.specs.List.{list_all, cons_option}
-use Rattle.std.specs.Ordering.{nat_cmp}
-use Rattle.std.specs.Cmp.{nat_cmp_total}
-use Rattle.std.specs.FinMap.{nat_cmp-IsAntisymmetric}
-use Rattle.std.specs.Str.Lines.{lines}
-use Rattle.std.proofs.lemmas.Bool.{and_parts, and_from}
-use Rattle.pua_tree.specs.Names.{is_target}
-use Rattle.pua_tree.specs.Tree.{Tree, Node, node_at, target_at}
-use Rattle.pua_tree.specs.Listing.{Entry, node_entry}
+use Rattle.pua_script.proofs.Common.{◌≡◌, ℕ, List, [], ◌∷◌, ◌++◌, Bool, true, refl, sym, ap, ◌∙◌, Option, Some, None, option_map, list_all}
+use Rattle.pua_script.proofs.Common.{nat_cmp, nat_cmp_total, nat_cmp-IsAntisymmetric, lines, and_parts, and_from, is_target, Tree, Node}
+use Rattle.pua_script.proofs.Common.{node_at, Kind, None≢Some, Asked, apply, is_bytes, is_in_bytes}
+use Rattle.std.specs.Prelude.{filter_map, option_and_then}
+use Rattle.std.specs.List.{cons_option}
+use Rattle.pua_tree.specs.Tree.{target_at}
+use Rattle.pua_tree.specs.Listing.{Entry, made_entry}
 use Rattle.pua_tree.specs.Grammar.{entry_fits, entries_fit, made_fits, target_stands}
-use Rattle.pua_tree.specs.declared.node.Kind.{Kind}
 use Rattle.pua_tree.specs.declared.node.Kind.TheVariants.{Dir, File, Prog, Link as LinkKind}
-use Rattle.pua_tree.proofs.ForCallers.{None≢Some, all_found, listings_are_read, listings_list_trees, fits_parts}
-use Rattle.pua_script.specs.Requests.{Asked}
+use Rattle.pua_tree.proofs.ForCallers.{all_found, listings_are_read, listings_list_trees, fits_parts}
 use Rattle.pua_script.specs.ScriptGrammar.{SpellRequests}
-use Rattle.pua_script.specs.Replay.{apply}
-use Rattle.pua_script.specs.Bytes.{is_bytes, is_in_bytes, are_in_bytes, ReplaysKeepByteTrees, ListingsListByteTrees, ScriptsAskInBytes}
+use Rattle.pua_script.specs.Bytes.{are_in_bytes, ReplaysKeepByteTrees, ListingsListByteTrees, ScriptsAskInBytes}
 use Rattle.pua_script.proofs.KeepTrees.{requests_keep_trees}
 use Rattle.pua_script.proofs.Grammar.{action_bytes, scripts_are_read}
 
@@ -36,19 +29,24 @@ stands_in_bytes File (Some target) h = cc
 stands_in_bytes Prog (Some target) h = cc
 stands_in_bytes kind None h = refl
 
-made_leads : (hard : Bool) (earlier : List Entry) (e : Entry) (made : Option Node) (rest : List (ℕ × Node)) → made_fits hard earlier e made ≡ true
+made_leads : (hard : Bool) (earlier : List Entry) (e : Entry) (made : Option Node) (rest : List (ℕ × Node)) →
+    made_fits hard earlier e made ≡ true
     → list_all node_leads rest ≡ true → list_all node_leads (cons_option (option_map (λ node. (e.number, node)) made) rest) ≡ true
 made_leads hard earlier e None rest fits all = all
 made_leads hard earlier e (Some node) rest fits all =
-    and_from (leads_to_bytes node.target) _ (stands_in_bytes node.kind node.target (and_parts _ (target_stands node.kind node.target) fits).1) all
+    and_from (leads_to_bytes node.target) _
+    (stands_in_bytes node.kind node.target (and_parts _ (target_stands node.kind node.target) fits).1) all
 
-entries_lead : (hard : Bool) (earlier es : List Entry) → entries_fit hard earlier es ≡ true → list_all node_leads (filter_map node_entry es) ≡ true
+entries_lead : (hard : Bool) (earlier es : List Entry) → entries_fit hard earlier es ≡ true →
+    list_all node_leads (filter_map made_entry es) ≡ true
 entries_lead hard earlier [] fit = refl
 entries_lead hard earlier (e ∷ es) fit =
     let parts = and_parts (entry_fits hard earlier e) (entries_fit hard (earlier ++ e ∷ []) es) fit in
-    made_leads hard earlier e e.made (filter_map node_entry es) (fits_parts hard earlier e parts.0).made (entries_lead hard (earlier ++ e ∷ []) es parts.1)
+    made_leads hard earlier e e.made (filter_map made_entry es) (fits_parts hard earlier e parts.0).made
+    (entries_lead hard (earlier ++ e ∷ []) es parts.1)
 
-targets_lead : (t : Tree) → list_all node_leads t.nodes ≡ true → (x : ℕ) (target : List ℕ) → target_at t x ≡ Some target → is_bytes target ≡ true
+targets_lead : (t : Tree) → list_all node_leads t.nodes ≡ true → (x : ℕ) (target : List ℕ) → target_at t x ≡ Some target →
+    is_bytes target ≡ true
 targets_lead t all x target = by (node_at t x) refl
   where
     by : (o : Option Node) → node_at t x ≡ o → option_and_then (λ n. n.target) o ≡ Some target → is_bytes target ≡ true

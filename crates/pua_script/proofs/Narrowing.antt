@@ -1,27 +1,18 @@
 -- What a request of a process that can put no veil any more adds to its history.
-use Rattle.std.proofs.Common.{◌≡◌, ℕ, [], ◌∷◌, Bool, true, false, cond, refl, sym, ap, ◌∙◌, inl, inr, ◌⊎◌, lit<, ◌||◌}
-use Rattle.std.proofs.lemmas.Bool.{true≢false, false_from_ne_true}
-use Rattle.std.specs.Prelude.{Result, Ok, Err, IsTrue, is_some, nat_le, length}
-use Rattle.pua_tree.specs.Tree.{Tree}
-use Rattle.pua_path.specs.declared.errno.Errno.{Errno}
-use Rattle.pua_path.specs.declared.errno.Errno.TheVariants.{EAGAIN}
-use Rattle.pua_tree.specs.declared.fault.TreeFault.{TreeFault}
-use Rattle.pua_calls.specs.Promises.{unveil}
-use Rattle.pua_calls.specs.Calls.{CallTable}
-use Rattle.pua_policy.specs.History.{History, Event, Pledged, Unveiled, Locked, Moved, Ended, is_locked, is_ended, has_error, may_any}
+use Rattle.pua_script.proofs.Common.{◌≡◌, ℕ, [], ◌∷◌, Bool, true, false, cond, refl, sym, ap, ◌∙◌, inl, inr, ◌⊎◌, lit<, ◌||◌, true≢false}
+use Rattle.pua_script.proofs.Common.{Result, Ok, Err, IsTrue, is_some, nat_le, Tree, Errno, EAGAIN, TreeFault, unveil, CallTable, History}
+use Rattle.pua_script.proofs.Common.{Event, Pledged, Unveiled, Locked, Moved, Ended, is_locked, is_ended, has_error, may_any, Action}
+use Rattle.pua_script.proofs.Common.{Change, NoChange, AddNode, CutRow, ShiftRow, TieRow, BeginProgram, AddEvent, CopyAs, decide, World}
+use Rattle.pua_script.proofs.Common.{Effect, Fails, Kills, Leaves, Copies, history_of, effect, edit_effect, edited_tree, change_effect}
+use Rattle.pua_script.proofs.Common.{most_processes, Refusal, Failed, Killed, is_exec, is_chdir, IsConfined}
+use Rattle.std.proofs.lemmas.Bool.{false_from_ne_true}
+use Rattle.std.specs.Prelude.{length}
 use Rattle.pua_policy.proofs.ForCallers.{held_never_grows}
 use Rattle.pua_policy.specs.declared.answer.May.TheVariants as may
-use Rattle.pua_script.specs.declared.request.Action.{Action}
-use Rattle.pua_script.specs.Decide.{Change, NoChange, AddNode, CutRow, ShiftRow, TieRow, BeginProgram, AddEvent, CopyAs, decide}
-use Rattle.pua_script.specs.Replay.{World, Effect, Fails, Kills, Leaves, Copies, history_of, effect, edited, edited_tree, made, refused}
-use Rattle.pua_script.specs.Limits.{process_limit}
-use Rattle.pua_policy.specs.declared.answer.Refusal.{Refusal}
-use Rattle.pua_policy.specs.declared.answer.Refusal.TheVariants.{Failed, Killed}
+use Rattle.pua_script.specs.Replay.{refusal_effect}
 use Rattle.pua_script.proofs.Guarding.{decisions_are_guarded, grounds}
 use Rattle.pua_script.proofs.Grounds.{Grounds}
 use Rattle.pua_script.proofs.Applied.{by_decision}
-use Rattle.pua_script.specs.Family.{is_exec, is_chdir}
-use Rattle.pua_script.specs.Laws.{IsConfined}
 
 -- an event that is no unveil, and no move of the working directory unless there may be one
 abbrev pub is_step : Bool → Event → Bool
@@ -47,7 +38,7 @@ StepsOn m (AddEvent event) = IsTrue (is_step m event)
 StepsOn m _ = Unit {0}
 
 module _ (m : Bool) (w : World) (h : History) where
-  fine_edited : (r : Result (ℕ × Tree) TreeFault) → Fine m h (edited h r)
+  fine_edited : (r : Result (ℕ × Tree) TreeFault) → Fine m h (edit_effect h r)
   fine_edited (Ok x) = leaves (inl refl)
   fine_edited (Err fault) = fails
 
@@ -55,7 +46,7 @@ module _ (m : Bool) (w : World) (h : History) where
   fine_edited_tree (Ok x) = leaves (inl refl)
   fine_edited_tree (Err fault) = fails
 
-  fine_made : (c : Change) → StepsOn m c → Fine m h (made w h c)
+  fine_made : (c : Change) → StepsOn m c → Fine m h (change_effect w h c)
   fine_made NoChange steps = leaves (inl refl)
   fine_made (AddNode spot node) steps = fine_edited _
   fine_made (CutRow spot) steps = fine_edited _
@@ -63,13 +54,13 @@ module _ (m : Bool) (w : World) (h : History) where
   fine_made (TieRow spot x) steps = fine_edited_tree _
   fine_made (BeginProgram left) steps = absurd steps
   fine_made (AddEvent event) steps = leaves (inr (event, steps, refl))
-  fine_made (CopyAs new) steps = by (is_some (history_of w new) || nat_le process_limit (length w.histories))
+  fine_made (CopyAs new) steps = by (is_some (history_of w new) || nat_le most_processes (length w.histories))
     where
       by : (full : Bool) → Fine m h (cond full (Fails EAGAIN) (Copies new))
       by true = fails
       by false = copies
 
-  fine_refused : (r : Refusal) → Fine m h (refused r)
+  fine_refused : (r : Refusal) → Fine m h (refusal_effect r)
   fine_refused (Failed errno) = fails
   fine_refused Killed = kills
 
@@ -77,14 +68,17 @@ module _ (m : Bool) (t : Tree) (h : History) where
   -- a process that can put no veil may not unveil
   no_unveil : IsConfined h → may_any h (unveil ∷ []) ≡ may.Yes → is_locked h ≡ false → ⊥
   no_unveil (inl locked) says unlocked = true≢false (sym locked ∙ unlocked)
-  no_unveil (inr lacking) says unlocked = by (is_ended h) (has_error h) (ap (λ b. cond (is_ended h) may.Death (cond (b || false) may.Yes (cond (has_error h) may.Enosys may.Death))) (sym lacking) ∙ says)
+  no_unveil (inr lacking) says unlocked =
+      by (is_ended h) (has_error h)
+      (ap (λ b. cond (is_ended h) may.Death (cond (b || false) may.Yes (cond (has_error h) may.Enosys may.Death))) (sym lacking) ∙ says)
     where
       by : (a b : Bool) → cond a may.Death (cond false may.Yes (cond b may.Enosys may.Death)) ≡ may.Yes → ⊥
       by true b e = cc
       by false true e = cc
       by false false e = cc
 
-  steps_by : (table : CallTable) (action : Action) (c : Change) → Grounds table t h action c → IsConfined h → is_exec action ≡ false → (IsTrue (is_chdir action) → IsTrue m) → StepsOn m c
+  steps_by : (table : CallTable) (action : Action) (c : Change) → Grounds table t h action c → IsConfined h → is_exec action ≡ false →
+      (IsTrue (is_chdir action) → IsTrue m) → StepsOn m c
   steps_by table action (BeginProgram left) g confined other moving = absurd (true≢false (sym g ∙ other))
   steps_by table action (AddEvent (Unveiled place perms)) g confined other moving = absurd (no_unveil confined g.0 g.1)
   steps_by table action (AddEvent (Moved dir)) g confined other moving = moving g
@@ -100,8 +94,12 @@ locked_after Ended h locked = locked
 
 pub confined_after : (event : Event) (h : History) → IsConfined h → IsConfined (event ∷ h)
 confined_after event h (inl locked) = inl (locked_after event h locked)
-confined_after event h (inr lacking) = inr (false_from_ne_true _ (λ holding. let again = held_never_grows event h unveil (lit< tt) refl holding in cc (again, lacking)))
+confined_after event h (inr lacking) =
+    inr (false_from_ne_true _ (λ holding. let again = held_never_grows event h unveil (lit< tt) refl holding in cc (again, lacking)))
 
-pub fine_effect : (m : Bool) (table : CallTable) (w : World) (h : History) (action : Action) → IsConfined h → is_exec action ≡ false → (IsTrue (is_chdir action) → IsTrue m) → Fine m h (effect table w h action)
+pub fine_effect : (m : Bool) (table : CallTable) (w : World) (h : History) (action : Action) → IsConfined h → is_exec action ≡ false →
+    (IsTrue (is_chdir action) → IsTrue m) → Fine m h (effect table w h action)
 fine_effect m table w h action confined other moving = by_decision w h (Fine m h) (decide table w.tree h action) (fine_refused m w h)
-    (λ c is. fine_made m w h c (steps_by m w.tree h table action c (grounds table w.tree h action c (decisions_are_guarded table w.tree h action c is)) confined other moving))
+    (λ c is. fine_made m w h c
+    (steps_by m w.tree h table action c (grounds table w.tree h action c (decisions_are_guarded table w.tree h action c is)) confined
+    other moving))

@@ -1,20 +1,22 @@
 -- The keys of a world's processes, sorted, are the numbers of its histories.
-use Rattle.std.proofs.Common.{◌≡◌, ℕ, Bool, true, false, ◌&&◌, ◌||◌, T, List, [], ◌∷◌, map, Option, Some, None, is_some, refl, sym, ap, subst, ◌∙◌, IsPermutation, true≢false, nat_eq, eqb}
+use Rattle.pua_script.proofs.Common.{◌≡◌, ℕ, Bool, true, false, ◌&&◌, ◌||◌, List, [], ◌∷◌, map, refl, sym, ap, subst, ◌∙◌, nat_eq, eqb}
+use Rattle.pua_script.proofs.Common.{list_any, AllByRecursion, nat_cmp, nat_cmp_total, is_sorted, nat_cmp-IsAntisymmetric, WorldState}
+use Rattle.pua_script.proofs.Common.{passes, nat_tie}
+use Rattle.std.proofs.Common.{T, Option, Some, None, is_some}
+use Rattle.std.proofs.Common.{IsPermutation, true≢false}
 use Rattle.std.specs.Map.{keys_of}
-use Rattle.std.specs.List.{list_any, IsDistinct, AllByRecursion}
+use Rattle.std.specs.List.{IsDistinct}
 use Rattle.std.specs.List.Sorted.{IsSorted, IsStrictlySortedBy}
 use Rattle.std.specs.declared.cmp.Ordering.TheVariants.{Less}
-use Rattle.std.specs.Ordering.{nat_cmp, is_lt, eq_by_cmp}
-use Rattle.std.specs.Cmp.{nat_cmp_total}
-use Rattle.std.specs.FinMap.{find, is_sorted, nat_cmp-IsAntisymmetric}
+use Rattle.std.specs.Ordering.{is_lt, eq_by_cmp}
+use Rattle.std.specs.FinMap.{find}
 use Rattle.std.specs.FinMap.Entries.{below_all, same_entries, is_some-find}
 use Rattle.std.proofs.lemmas.List.Sorted.{IsNonDecreasingBy-from_sort, list_any-IsPermutation}
-use Rattle.std.proofs.lemmas.Map.Keys.{IsDistinct-IsPermutation, IsStrictlyIncreasing-from_distinct, sorted_from_strictly_increasing, sorted_head, sorted_tail}
+use Rattle.std.proofs.lemmas.Map.Keys.{IsDistinct-IsPermutation, IsStrictlyIncreasing-from_distinct, sorted_from_strictly_increasing}
+use Rattle.std.proofs.lemmas.Map.Keys.{sorted_head, sorted_tail}
 use Rattle.std.proofs.lemmas.Map.Made.{is_some-lookup}
-use Rattle.pua_script.specs.Worlds.{WorldState, AreNumbersOf}
+use Rattle.pua_script.specs.Worlds.{AreNumbersOf}
 use Rattle.pua_script.proofs.StoodFor.{nat_turned, same_numbers}
-use Rattle.std.specs.Bool.{passes}
-use Rattle.pua_tree.proofs.ForCallers.{nat_tie}
 
 -- a number's entry
 abbrev marked : ℕ → ℕ × Unit {0}
@@ -69,12 +71,14 @@ pub record AreSorted (keys sorted : List ℕ) : Type 0 where
 pub numbers_are : (s : WorldState) (sorted : List ℕ) → AreSorted (keys_of s.processes) sorted → AreNumbersOf s sorted
 numbers_are s sorted are w stands =
     sym (numbers_again sorted)
-    ∙ ap (map (λ e. e.0)) (same_entries nat_cmp nat_cmp_total nat_cmp-IsAntisymmetric (map marked sorted) (map (λ e. marked e.0) w.histories) (rising sorted strict) ordered alike)
+    ∙ ap (map (λ e. e.0)) (same_entries nat_cmp nat_cmp_total nat_cmp-IsAntisymmetric (map marked sorted)
+    (map (λ e. marked e.0) w.histories) (rising sorted strict) ordered alike)
     ∙ marked_again w.histories
   where
     strict : IsStrictlySortedBy nat_cmp sorted
     strict = sorted_from_strictly_increasing sorted
-        (IsStrictlyIncreasing-from_distinct sorted (IsNonDecreasingBy-from_sort (λ n. n) sorted are.order) (IsDistinct-IsPermutation eqb nat_turned (keys_of s.processes) sorted are.moved are.distinct))
+        (IsStrictlyIncreasing-from_distinct sorted (IsNonDecreasingBy-from_sort (λ n. n) sorted are.order)
+        (IsDistinct-IsPermutation eqb nat_turned (keys_of s.processes) sorted are.moved are.distinct))
 
     ordered : T (is_sorted nat_cmp (map (λ e. marked e.0) w.histories))
     ordered = passes _ (sorted_same w.histories ∙ stands.in_order)

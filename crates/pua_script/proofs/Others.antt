@@ -1,30 +1,19 @@
 -- A request leaves the histories of all others, and a fork copies that of the one that asks.
-use Rattle.std.proofs.Common.{◌≡◌, ◌≢◌, ℕ, [], ◌∷◌, Bool, true, false, cond, refl, sym, ap, ◌∙◌}
-use Rattle.std.specs.Prelude.{Some, is_some, Result, Ok, Err, ◌||◌, nat_le, length}
-use Rattle.std.specs.Ordering.{nat_cmp}
-use Rattle.std.specs.Cmp.{nat_cmp_total}
-use Rattle.std.specs.FinMap.{put, find as find_key, nat_cmp-IsAntisymmetric}
-use Rattle.pua_tree.proofs.ForCallers.{put_here, put_elsewhere}
-use Rattle.pua_tree.specs.Tree.{Tree}
-use Rattle.pua_tree.specs.declared.fault.TreeFault.{TreeFault}
-use Rattle.pua_path.specs.declared.errno.Errno.TheVariants.{EAGAIN}
-use Rattle.pua_calls.specs.Calls.{CallTable}
-use Rattle.pua_policy.specs.History.{History, may_any}
-use Rattle.pua_calls.specs.Promises.{proc}
-use Rattle.pua_policy.specs.declared.answer.May.{May}
+use Rattle.pua_script.proofs.Common.{◌≡◌, ◌≢◌, ℕ, [], ◌∷◌, Bool, true, false, cond, refl, sym, ap, ◌∙◌, Some, is_some, Result, Ok, Err}
+use Rattle.pua_script.proofs.Common.{nat_le, nat_cmp, nat_cmp_total, put, nat_cmp-IsAntisymmetric, put_here, put_elsewhere, Tree, TreeFault}
+use Rattle.pua_script.proofs.Common.{EAGAIN, CallTable, History, may_any, proc, May, Failed, Killed, Change, AddNode, CutRow, ShiftRow}
+use Rattle.pua_script.proofs.Common.{TieRow, CopyAs, Decision, if_may, decide, World, Effect, Fails, Kills, Leaves, Copies, effect}
+use Rattle.pua_script.proofs.Common.{history_of, apply, left_by, answer_to, edit_effect, edited_tree, change_effect, come_of, Answer, Okay}
+use Rattle.pua_script.proofs.Common.{Action, Fork, most_processes}
+use Rattle.std.specs.Prelude.{◌||◌, length}
+use Rattle.std.specs.FinMap.{find as find_key}
 use Rattle.pua_policy.specs.declared.answer.May.TheVariants as may
-use Rattle.pua_policy.specs.declared.answer.Refusal.TheVariants.{Failed, Killed}
-use Rattle.pua_script.specs.Decide.{Change, AddNode, CutRow, ShiftRow, TieRow, CopyAs, Decision, promised, decide}
-use Rattle.pua_script.specs.Replay.{World, Effect, Fails, Kills, Leaves, Copies, effect, history_of, apply, left_by, answer_to, edited, edited_tree, made, come_of, do_decided}
-use Rattle.pua_script.specs.declared.answer.Answer.{Answer}
-use Rattle.pua_script.specs.declared.answer.Answer.TheVariants.{Okay}
-use Rattle.pua_script.specs.declared.request.Action.{Action}
-use Rattle.pua_script.specs.declared.request.Action.TheVariants.{Fork}
-use Rattle.pua_script.specs.Limits.{process_limit}
+use Rattle.pua_script.specs.Replay.{do_decided}
 use Rattle.pua_script.specs.Tightening.{OthersLeave, OthersLeaveAlways, ForksCopy}
 use Rattle.pua_script.proofs.Applied.{by_request, by_living}
 
-found_elsewhere : (q k : ℕ) (g h : History) (w : World) → q ≢ k → history_of w q ≡ Some h → find_key nat_cmp q (put nat_cmp k g w.histories) ≡ Some h
+found_elsewhere : (q k : ℕ) (g h : History) (w : World) → q ≢ k → history_of w q ≡ Some h →
+    find_key nat_cmp q (put nat_cmp k g w.histories) ≡ Some h
 found_elsewhere q k g h w other here = put_elsewhere nat_cmp nat_cmp_total nat_cmp-IsAntisymmetric q k g w.histories other ∙ here
 
 -- a copy is of a number that had no history
@@ -34,20 +23,23 @@ IsNew w _ = Unit {0}
 
 -- a number with a history is not new
 not_made : (w : World) (process made : ℕ) (h : History) → IsNew w (Copies made) → history_of w process ≡ Some h → process ≢ made
-not_made w process made h new here e = let known : history_of w made ≡ Some h = ap (history_of w) (sym e) ∙ here in let some : is_some (history_of w made) ≡ true = ap is_some known in cc
+not_made w process made h new here e = let known : history_of w made ≡ Some h = ap (history_of w) (sym e) ∙ here in
+    let some : is_some (history_of w made) ≡ true = ap is_some known in cc
 
-pub left_alone : (w : World) (asker process : ℕ) (g h : History) (e : Effect) → IsNew w e → history_of w process ≡ Some h → process ≢ asker → history_of (left_by w asker g e) process ≡ Some h
+pub left_alone : (w : World) (asker process : ℕ) (g h : History) (e : Effect) → IsNew w e → history_of w process ≡ Some h →
+    process ≢ asker → history_of (left_by w asker g e) process ≡ Some h
 left_alone w asker process g h (Fails errno) new here other = here
 left_alone w asker process g h Kills new here other = found_elsewhere process asker _ h w other here
 left_alone w asker process g h (Leaves t after) new here other = found_elsewhere process asker after h w other here
 left_alone w asker process g h (Copies made) new here other = found_elsewhere process made g h w (not_made w process made h new here) here
 
 -- a process made leaves the history of the one that asked
-pub copied_apart : (w : World) (process made : ℕ) (h : History) → IsNew w (Copies made) → history_of w process ≡ Some h → history_of (left_by w process h (Copies made)) process ≡ Some h
+pub copied_apart : (w : World) (process made : ℕ) (h : History) → IsNew w (Copies made) → history_of w process ≡ Some h →
+    history_of (left_by w process h (Copies made)) process ≡ Some h
 copied_apart w process made h new here = found_elsewhere process made h h w (not_made w process made h new here) here
 
 module _ (w : World) (h : History) where
-  new_edited : (r : Result (ℕ × Tree) TreeFault) → IsNew w (edited h r)
+  new_edited : (r : Result (ℕ × Tree) TreeFault) → IsNew w (edit_effect h r)
   new_edited (Ok x) = tt
   new_edited (Err fault) = tt
 
@@ -55,12 +47,12 @@ module _ (w : World) (h : History) where
   new_edited_tree (Ok x) = tt
   new_edited_tree (Err fault) = tt
 
-  new_made : (c : Change) → IsNew w (made w h c)
+  new_made : (c : Change) → IsNew w (change_effect w h c)
   new_made (AddNode spot node) = new_edited _
   new_made (CutRow spot) = new_edited _
   new_made (ShiftRow old new) = new_edited_tree _
   new_made (TieRow spot x) = new_edited_tree _
-  new_made (CopyAs new) = by (is_some (history_of w new)) (nat_le process_limit (length w.histories)) refl
+  new_made (CopyAs new) = by (is_some (history_of w new)) (nat_le most_processes (length w.histories)) refl
     where
       by : (b full : Bool) → is_some (history_of w new) ≡ b → IsNew w (cond (b || full) (Fails EAGAIN) (Copies new))
       by true full is = tt
@@ -78,7 +70,8 @@ effect_is_new table w h action = decision_is_new w h (decide table w.tree h acti
 
 pub others_leave : OthersLeave
 others_leave table w ask process h here other = by_request table w ask (λ done. history_of done.1 process ≡ Some h) here
-    (λ g _. left_alone w ask.process process g h (come_of w g (decide table w.tree g ask.action)) (decision_is_new w g (decide table w.tree g ask.action)) here (λ e. other (sym e)))
+    (λ g _. left_alone w ask.process process g h (come_of w g (decide table w.tree g ask.action))
+    (decision_is_new w g (decide table w.tree g ask.action)) here (λ e. other (sym e)))
 
 pub others_leave_always : OthersLeaveAlways
 others_leave_always table w [] process h here others = here
@@ -87,15 +80,18 @@ others_leave_always table w (ask ∷ asks) process h here others =
 
 -- a fork that is answered ok copies
 module _ (w : World) (h : History) (process new : ℕ) where
-  copied : (full : Bool) → answer_to (cond full (Fails EAGAIN) (Copies new)) ≡ Okay → history_of (left_by w process h (cond full (Fails EAGAIN) (Copies new))) new ≡ Some h
+  copied : (full : Bool) → answer_to (cond full (Fails EAGAIN) (Copies new)) ≡ Okay →
+      history_of (left_by w process h (cond full (Fails EAGAIN) (Copies new))) new ≡ Some h
   copied true told = cc
   copied false told = put_here nat_cmp nat_cmp_total nat_cmp-IsAntisymmetric new h w.histories
 
-  copied_promised : (m : May) → let done : Answer × World = do_decided w process h (promised m (Ok (CopyAs new))) in done.0 ≡ Okay → history_of done.1 new ≡ Some h
-  copied_promised may.Yes told = copied (is_some (history_of w new) || nat_le process_limit (length w.histories)) told
+  copied_promised : (m : May) → let done : Answer × World = do_decided w process h (if_may m (Ok (CopyAs new))) in done.0 ≡ Okay →
+      history_of done.1 new ≡ Some h
+  copied_promised may.Yes told = copied (is_some (history_of w new) || nat_le most_processes (length w.histories)) told
   copied_promised may.Enosys told = cc
   copied_promised may.Death told = cc
 
 pub forks_copy : ForksCopy
 forks_copy table w process new h here =
-    by_living table w (record { process = process; action = Fork new }) h here (λ done. done.0 ≡ Okay → history_of done.1 new ≡ Some h) (λ told. cc) (copied_promised w h process new (may_any h (proc ∷ [])))
+    by_living table w (record { process = process; action = Fork new }) h here (λ done. done.0 ≡ Okay →
+    history_of done.1 new ≡ Some h) (λ told. cc) (copied_promised w h process new (may_any h (proc ∷ [])))

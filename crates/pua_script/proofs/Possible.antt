@@ -1,60 +1,53 @@
 -- What is decided can be done, but for want of room.
-use Rattle.std.proofs.Common.{◌≡◌, ℕ, List, true, false, not, ◌&&◌, cond, refl, sym, ap, subst, ◌∙◌}
-use Rattle.std.specs.Prelude.{Option, Some, None, Ok, Err, IsOk, ◌==◌, is_some}
+use Rattle.pua_script.proofs.Common.{◌≡◌, ℕ, List, true, false, not, ◌&&◌, cond, refl, sym, ap, subst, ◌∙◌, Option, Some, None, Ok, Err}
+use Rattle.pua_script.proofs.Common.{IsOk, ◌==◌, is_some, and_parts, not-true, same_Some, Tree, WellFormed, Spot, is_dir, is_empty, look}
+use Rattle.pua_script.proofs.Common.{shift, shift_found, with_row_moved, is_inside, is_same_node, is_full_dir_there, path_fault}
+use Rattle.pua_script.proofs.Common.{resolution_of_text, spot_named, node_named, Errno, EINVAL, Ending, Dot, Dropped, Last, Found, Whole}
+use Rattle.pua_script.proofs.Common.{Slot, CallTable, ending_of, last_of, History, working_dir, Call, Change, AddNode, CutRow, ShiftRow}
+use Rattle.pua_script.proofs.Common.{TieRow, is_whole, fault_if, kinds_fault, inside_fault, NameFits, Action}
 use Rattle.std.specs.Option.{option_eq}
-use Rattle.std.proofs.lemmas.Bool.{and_parts, not-true, not-false}
-use Rattle.std.proofs.lemmas.Option.{same_Some}
-use Rattle.pua_tree.specs.Tree.{Tree, WellFormed, Spot, is_dir, is_empty, look, has_no_row}
-use Rattle.pua_tree.specs.Edits.{shift, shift_found, moved, is_inside, is_same_node, is_full_dir_there}
+use Rattle.std.proofs.lemmas.Bool.{not-false}
+use Rattle.pua_tree.specs.Tree.{has_no_row}
 use Rattle.pua_tree.specs.declared.fault.TreeFault.TheVariants as faults
-use Rattle.pua_path.specs.Paths.{path_fault}
-use Rattle.pua_path.specs.Resolution.{resolution_of_text}
-use Rattle.pua_path.specs.Fits.{FoundFits, StandsAtSpot, spot_named, node_named}
-use Rattle.pua_path.specs.declared.errno.Errno.{Errno}
-use Rattle.pua_path.specs.declared.errno.Errno.TheVariants.{EINVAL, ENOTEMPTY}
-use Rattle.pua_path.specs.declared.text.Ending.{Ending}
-use Rattle.pua_path.specs.declared.text.Ending.TheVariants.{Dot, Dropped}
-use Rattle.pua_path.specs.declared.found.Last.{Last}
-use Rattle.pua_path.specs.declared.found.Found.{Found}
-use Rattle.pua_path.specs.declared.found.Found.TheVariants.{Whole, Slot}
+use Rattle.pua_path.specs.Fits.{FoundFits, StandsAtSpot}
+use Rattle.pua_path.specs.declared.errno.Errno.TheVariants.{ENOTEMPTY}
 use Rattle.pua_path.proofs.ForCallers.{resolutions_fit}
-use Rattle.pua_calls.specs.Calls.{CallTable, ending_of, last_of}
-use Rattle.pua_policy.specs.History.{History, working_dir}
-use Rattle.pua_calls.specs.declared.call.Call.{Call}
 use Rattle.pua_calls.specs.declared.call.Call.TheVariants as call
-use Rattle.pua_script.specs.Decide.{Change, AddNode, CutRow, ShiftRow, TieRow, is_whole, fault_if, kinds_fault, inside_fault, decide}
 use Rattle.pua_script.specs.Guards.{IsPossible}
-use Rattle.pua_script.specs.Judged.{NameFits, CanBeDone, decision_by}
-use Rattle.pua_script.specs.declared.granted.Granted.{Granted}
 use Rattle.pua_script.specs.declared.granted.Granted.TheVariants as granted
 use Rattle.pua_script.specs.Laws.{DecisionsArePossible}
-use Rattle.pua_script.specs.declared.request.Action.{Action}
 use Rattle.pua_script.proofs.Edits.{IsFor, IsRemovable, empty_alone, rmdir_removes, unlink_removes}
 use Rattle.pua_script.proofs.Linking.{named_lives}
 use Rattle.pua_script.proofs.Guarding.{decisions_are_guarded, second_none, not_faulty, grounds}
 use Rattle.pua_script.proofs.Grounds.{Grounds, takes}
 
 -- what a text names is of the tree
-pub name_fits : (t : Tree) → WellFormed t → (from : ℕ) (end : Ending) (text : List ℕ) (mode : Last) (object : Found) → resolution_of_text t from end text mode ≡ Ok object → NameFits t object
+pub name_fits : (t : Tree) → WellFormed t → (from : ℕ) (end : Ending) (text : List ℕ) (mode : Last) (object : Found) →
+    resolution_of_text t from end text mode ≡ Ok object → NameFits t object
 name_fits t well from end text mode object = by (path_fault text) refl
   where
     by : (o : Option Errno) → path_fault text ≡ o → resolution_of_text t from end text mode ≡ Ok object → NameFits t object
-    by None e = rw e (λ is. let of = (resolutions_fit t well).whole from end text mode object is in record { fits = of.fits; named = of.named })
+    by None e = rw e (λ is. let of = (resolutions_fit t well).whole from end text mode object is in
+        record { fits = of.fits; named = of.named })
     by (Some errno) e = rw e (λ is. cc)
 
 -- a row can be moved to where another node, and nothing that is full, stands
-shift_ok : (t : Tree) (from to : Spot) (x : ℕ) (there : Option ℕ) → is_dir t from.0 ≡ true → look t from.0 from.1 ≡ Some x → is_dir t to.0 ≡ true → look t to.0 to.1 ≡ there
+shift_ok : (t : Tree) (from to : Spot) (x : ℕ) (there : Option ℕ) → is_dir t from.0 ≡ true → look t from.0 from.1 ≡ Some x →
+    is_dir t to.0 ≡ true → look t to.0 to.1 ≡ there
     → is_same_node x there ≡ false → is_inside t x to.0 ≡ false → is_full_dir_there t there ≡ false → IsOk (shift t from.0 from.1 to.0 to.1)
 shift_ok t from to x there lives stands lives_there stands_there other outside alone =
-    let is : shift t from.0 from.1 to.0 to.1 ≡ Ok (moved t from.0 from.1 to.0 to.1 x there) =
+    let is : shift t from.0 from.1 to.0 to.1 ≡ Ok (with_row_moved t from.0 from.1 to.0 to.1 x there) =
     (λ i. cond (not (lives i && lives_there i)) (Err faults.NotDir) (shift_found t from.0 from.1 to.0 to.1 (stands i) (stands_there i)))
-    ∙ (λ i. cond (other i) (Ok t) (cond (outside i) (Err faults.Inside) (cond (alone i) (Err faults.NotEmpty) (Ok (moved t from.0 from.1 to.0 to.1 x there))))) in
+    ∙ (λ i. cond (other i) (Ok t)
+    (cond (outside i) (Err faults.Inside)
+    (cond (alone i) (Err faults.NotEmpty) (Ok (with_row_moved t from.0 from.1 to.0 to.1 x there))))) in
     subst IsOk (sym is) refl
 
 module _ (t : Tree) where
   -- what was found without being a directory is none
   slot_other : (dir : ℕ) (name : List ℕ) (x : ℕ) → FoundFits t (Slot dir name (Some x)) → is_dir t x ≡ false
-  slot_other dir name x fits = not-true (is_dir t x) (and_parts (option_eq ◌==◌ (look t dir name) (Some x)) _ (and_parts (is_dir t dir) _ fits).1).1
+  slot_other dir name x fits =
+      not-true (is_dir t x) (and_parts (option_eq ◌==◌ (look t dir name) (Some x)) _ (and_parts (is_dir t dir) _ fits).1).1
 
   other_named : (object : Found) (x : ℕ) → FoundFits t object → is_whole object ≡ false → node_named object ≡ Some x → is_dir t x ≡ false
   other_named (Whole dir way) x fits other is = cc
@@ -62,7 +55,8 @@ module _ (t : Tree) where
   other_named (Slot dir name (Some y)) x fits other is = subst (λ z. is_dir t z ≡ false) (same_Some y x is) (slot_other dir name y fits)
 
   kinds_alone : (x : ℕ) (old new : Found) → NameFits t new → kinds_fault t x old new ≡ None → is_full_dir_there t (node_named new) ≡ false
-  kinds_alone x old (Whole y way) fits e = empty_alone t y (not-false (is_empty t y) (not_faulty _ ENOTEMPTY (second_none _ (fault_if (not (is_empty t y)) ENOTEMPTY) e)))
+  kinds_alone x old (Whole y way) fits e =
+      empty_alone t y (not-false (is_empty t y) (not_faulty _ ENOTEMPTY (second_none _ (fault_if (not (is_empty t y)) ENOTEMPTY) e)))
   kinds_alone x old (Slot dir name None) fits e = refl
   kinds_alone x old (Slot dir name (Some y)) fits e = ap (λ b. b && not (has_no_row t y)) (slot_other dir name y fits.fits)
 
@@ -93,7 +87,8 @@ module _ (t : Tree) where
         let a = stands g.old fits_old from (Some g.node) g.at_old g.two.named in
         let b = stands g.new fits_new to (node_named g.new) g.at_new refl in
         let outside = not_faulty (is_inside t g.node to.0) EINVAL (subst (λ s. inside_fault t g.node s ≡ None) g.at_new g.shift.inside) in
-        shift_ok t from to g.node (node_named g.new) a.0 a.1 b.0 b.1 g.shift.other outside (kinds_alone g.node g.old g.new fits_new g.shift.kinds)
+        shift_ok t from to g.node (node_named g.new) a.0 a.1 b.0 b.1 g.shift.other outside
+        (kinds_alone g.node g.old g.new fits_new g.shift.kinds)
     possible_by (TieRow spot x) g =
         let fits_old = name_fits t well (working_dir h) Dot g.old_path table.link.old.last g.old g.two.found_old in
         let fits_new = name_fits t well (working_dir h) Dot g.new_path table.link.new.last g.new g.two.found_new in (
@@ -104,12 +99,5 @@ module _ (t : Tree) where
     possible_by _ g = tt
 
 pub decisions_are_possible : DecisionsArePossible
-decisions_are_possible table t h action change well is = possible_by t well h table action change (grounds table t h action change (decisions_are_guarded table t h action change is))
-
--- what the code decides can be done
-pub can_be_done : (table : CallTable) (t : Tree) (h : History) (action : Action) (g : Granted) → WellFormed t → decision_by h g ≡ decide table t h action → CanBeDone t g
-can_be_done table t h action (granted.AddNode dir name kind target) well is = decisions_are_possible table t h action _ well (sym is)
-can_be_done table t h action (granted.CutRow dir name) well is = decisions_are_possible table t h action _ well (sym is)
-can_be_done table t h action (granted.ShiftRow from name to new_name) well is = decisions_are_possible table t h action _ well (sym is)
-can_be_done table t h action (granted.TieRow dir name x) well is = decisions_are_possible table t h action _ well (sym is)
-can_be_done table t h action _ well is = tt
+decisions_are_possible table t h action change well is =
+    possible_by t well h table action change (grounds table t h action change (decisions_are_guarded table t h action change is))

@@ -1,17 +1,35 @@
 -- The parts of a line as its reader finds them.
-use Rattle.std.proofs.Common.{◌≡◌, ℕ, ◌≤◌, cond, List, [], ◌∷◌, map, length, take, Some, Ok, Err, refl, ap, ◌∙◌, arith, lit<}
+use Rattle.pua_script.proofs.Common.{◌≡◌, ℕ, ◌≤◌, not, ◌&&◌, ◌||◌, eqb, cond, List, [], ◌∷◌, map, length, take, refl, ap, ◌∙◌, arith, lit<}
+use Rattle.pua_script.proofs.Common.{IsTrue, list_all, and_parts, and_from, le-leb, not-true, has_byte, Action, request_of_fields}
+use Rattle.pua_script.proofs.Common.{request_of}
+use Rattle.std.proofs.Common.{leb, Some, None, Ok, Err}
 use Rattle.std.specs.Borrow.{Bor}
-use Rattle.std.specs.Prelude.{IsTrue, ok_or}
-use Rattle.std.specs.List.{list_all}
-use Rattle.std.proofs.lemmas.Bool.{and_from, le-leb}
-use Rattle.pua_tree.specs.Spelling.{fields, is_field, number_within}
+use Rattle.std.specs.Prelude.{ok_or}
+use Rattle.std.proofs.lemmas.Bool.{leb-true, ne_eqb}
+use Rattle.pua_tree.specs.Spelling.{is_plain, escaped_byte, with_front, unspelled_from, bytes_spelled, fields, is_field, number_within}
+use Rattle.pua_tree.specs.Listing.{only_if}
 use Rattle.pua_tree.specs.Fields.{first_fields}
-use Rattle.pua_tree.proofs.ForCallers.{guarded, number_read, ok_or_read, step_read}
-use Rattle.pua_script.specs.Requests.{is_asked}
-use Rattle.pua_script.specs.declared.request.Action.{Action}
+use Rattle.pua_tree.proofs.ForCallers.{guarded, number_read, only_if_read, ok_or_read, step_read}
+use Rattle.pua_script.specs.Requests.{has_no_nul, is_asked}
 use Rattle.pua_script.specs.declared.fault.ScriptFault.TheVariants.{BadLine, BadCall}
-use Rattle.pua_script.specs.Scripts.{action_in, form_in, action_of, request_of_fields, request_of}
+use Rattle.pua_script.specs.Scripts.{action_in, form_in, action_of}
 use Rattle.pua_script.proofs.Grammar.{action_read, askable}
+
+-- a field of plain bytes is the text that it spells, and none of them is NUL
+pub plain_path : (field : List ℕ) → IsTrue (list_all is_plain field) → only_if has_no_nul (bytes_spelled field) ≡ Some field
+plain_path [] h = refl
+plain_path (b ∷ more) h =
+    let parts = and_parts (is_plain b) (list_all is_plain more) h in
+    let visible = and_parts (leb 33 b) (leb b 126 && not (eqb b 92)) parts.0 in
+    let above = leb-true 33 b visible.0 in
+    let behind = only_if_read has_no_nul (bytes_spelled more) more (plain_path more parts.1) in
+    ap (λ t. only_if has_no_nul
+    (with_front (cond t (escaped_byte more) (cond (is_plain b) (Some b) None)) (unspelled_from (cond t 3 0) more)))
+    (not-true (eqb b 92) (and_parts (leb b 126) _ visible.1).1)
+    ∙ ap (λ t. only_if has_no_nul (with_front (cond t (Some b) None) (bytes_spelled more))) parts.0
+    ∙ ap (λ text. only_if has_no_nul (with_front (Some b) text)) behind.0
+    ∙ ap (λ t. cond (not (t || has_byte 0 more)) (Some (b ∷ more)) None) (ne_eqb b 0 (omega (arith, above)))
+    ∙ ap (λ t. cond t (Some (b ∷ more)) None) behind.1
 
 -- no call has more than two arguments
 pub many_arguments : (n : ℕ) (fs : List (Bor (List ℕ))) → 4 ≤ length fs → action_in n (map (λ f. f.now) fs) ≡ Err (BadCall n)
@@ -33,10 +51,12 @@ six_decide n (p ∷ w ∷ a ∷ b ∷ c ∷ more) = refl
 pub by_fields : (n : ℕ) (line : List ℕ) (fs : List (List ℕ)) → first_fields line ≡ Some fs → request_of n line ≡ request_of_fields n fs
 by_fields n line fs e =
     let read = guarded (list_all is_field (fields line)) (take 6 (fields line)) fs e in
-    ap (λ s. cond s (request_of_fields n (fields line)) (Err (BadLine n))) read.0 ∙ six_decide n (fields line) ∙ ap (request_of_fields n) read.1
+    ap (λ s. cond s (request_of_fields n (fields line)) (Err (BadLine n))) read.0 ∙ six_decide n (fields line) ∙
+    ap (request_of_fields n) read.1
 
 -- what is read can be asked
-pub asked : (n number : ℕ) (process : List ℕ) (more : List (List ℕ)) (action : Action) → number_within 1 999999 process ≡ Some number → action_in n more ≡ Ok action → IsTrue (is_asked (record { process = number; action = action }))
+pub asked : (n number : ℕ) (process : List ℕ) (more : List (List ℕ)) (action : Action) → number_within 1 999999 process ≡ Some number →
+    action_in n more ≡ Ok action → IsTrue (is_asked (record { process = number; action = action }))
 asked n number process more action numbered acts =
     let read = number_read 1 999999 process number (lit< tt) numbered in
     let form = step_read (ok_or (form_in more) (BadCall n)) (action_of n) action acts in

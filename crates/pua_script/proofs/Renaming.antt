@@ -1,11 +1,8 @@
 -- Steps in the proofs of edits.
-use Rattle.std.proofs.Common.{◌≡◌, ◌≢◌, ℕ, true, false, refl, ap, ◌∙◌}
-use Rattle.std.specs.Prelude.{Option, Some, None, ◌==◌, ◌||◌}
+use Rattle.pua_script.proofs.Common.{◌≡◌, ◌≢◌, ℕ, true, false, refl, ap, ◌∙◌, Option, Some, None, ◌==◌, list_any, Tree, WellFormed, is_dir}
+use Rattle.pua_script.proofs.Common.{above, climb, Errno, or_fault}
+use Rattle.std.specs.Prelude.{◌||◌}
 use Rattle.std.specs.Option.{option_or}
-use Rattle.std.specs.List.{list_any}
-use Rattle.pua_tree.specs.Tree.{Tree, WellFormed, is_dir, above, climb}
-use Rattle.pua_path.specs.declared.errno.Errno.{Errno}
-use Rattle.pua_policy.specs.Verdict.{or_fault}
 use Rattle.pua_policy.proofs.ForCallers.{climb_step}
 
 -- the first of two faults

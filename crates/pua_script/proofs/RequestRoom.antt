@@ -1,15 +1,7 @@
 -- A request is answered ENOSPC only where it adds a node or a name for which there is no room.
-use Rattle.std.proofs.Common.{◌≡◌, refl, ap, ◌∙◌}
-use Rattle.std.specs.Prelude.{Ok, Err, IsTrue}
-use Rattle.pua_tree.specs.Tree.{Tree, WellFormed}
-use Rattle.pua_path.specs.declared.errno.Errno.{Errno}
-use Rattle.pua_path.specs.declared.errno.Errno.TheVariants.{ENOSPC}
-use Rattle.pua_calls.specs.Calls.{CallTable}
-use Rattle.pua_policy.specs.History.{History}
-use Rattle.pua_policy.specs.declared.answer.Refusal.TheVariants.{Failed, Killed}
-use Rattle.pua_script.specs.declared.request.Action.{Action}
-use Rattle.pua_script.specs.Decide.{Change, AddNode, TieRow, Decision, fails, decide}
-use Rattle.pua_script.specs.Replay.{World, Fails, come_of, effect}
+use Rattle.pua_script.proofs.Common.{◌≡◌, refl, ap, ◌∙◌, Ok, Err, IsTrue, Tree, WellFormed, Errno, ENOSPC, CallTable, History, Failed}
+use Rattle.pua_script.proofs.Common.{Killed, Action, Change, AddNode, TieRow, Decision, decide, World, Fails, come_of, effect}
+use Rattle.pua_script.specs.Decide.{fails}
 use Rattle.pua_script.specs.Laws.{LacksRoom, RequestLacksRoom, RequestsLackRoom, wants_room, lacks_room}
 use Rattle.pua_script.proofs.Guarding.{decisions_are_guarded, grounds, refusals_lack_no_room}
 use Rattle.pua_script.proofs.Possible.{decisions_are_possible}
@@ -29,7 +21,8 @@ module _ (t : Tree) where
 
 module _ (table : CallTable) (w : World) (h : History) (action : Action) (well : WellFormed w.tree) where
   lacks : (d : Decision) → decide table w.tree h action ≡ d → come_of w h d ≡ Fails ENOSPC → LacksRoom table w.tree h action
-  lacks (Ok c) is e = record { change = c; granted = is; full = (changes_lack w h c (decisions_are_possible table w.tree h action c well is)).0 e }
+  lacks (Ok c) is e = record
+      { change = c; granted = is; full = (changes_lack w h c (decisions_are_possible table w.tree h action c well is)).0 e }
   lacks (Err (Failed errno)) is e = absurd (refusals_lack_no_room table w.tree h action (is ∙ ap fails (same_errno errno e)))
     where
       same_errno : (errno : Errno) → Fails errno ≡ Fails ENOSPC → errno ≡ ENOSPC
@@ -37,14 +30,17 @@ module _ (table : CallTable) (w : World) (h : History) (action : Action) (well :
   lacks (Err Killed) is e = cc
 
   fails_so : LacksRoom table w.tree h action → effect table w h action ≡ Fails ENOSPC
-  fails_so lacking = ap (come_of w h) lacking.granted ∙ (changes_lack w h lacking.change (decisions_are_possible table w.tree h action lacking.change well lacking.granted)).1 lacking.full
+  fails_so lacking = ap (come_of w h) lacking.granted ∙
+      (changes_lack w h lacking.change (decisions_are_possible table w.tree h action lacking.change well lacking.granted)).1 lacking.full
 
   request_lacks : RequestLacksRoom table w h action
   request_lacks = record {
     exact = (lacks (decide table w.tree h action) refl, fails_so);
     only = λ e.
         let lacking = lacks (decide table w.tree h action) refl e in
-        wants_by w.tree h table action lacking.change (grounds table w.tree h action lacking.change (decisions_are_guarded table w.tree h action lacking.change lacking.granted)) lacking.full;
+        wants_by w.tree h table action lacking.change
+        (grounds table w.tree h action lacking.change (decisions_are_guarded table w.tree h action lacking.change lacking.granted))
+        lacking.full;
   }
 
 pub requests_lack : RequestsLackRoom

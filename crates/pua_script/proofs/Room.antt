@@ -1,16 +1,12 @@
 -- A change lacks room exactly where it adds a node or a name and there is none.
-use Rattle.std.proofs.Common.{◌≡◌, ◌≢◌, ℕ, Bool, true, false, not, cond, refl, sym, ap, ◌∙◌, true≢false}
-use Rattle.std.specs.Prelude.{◌↔◌, ◌||◌, Result, Ok, Err, IsOk, IsTrue, is_some, nat_le, length}
-use Rattle.pua_tree.specs.Tree.{Tree, Node, Spot, is_dir, is_living}
-use Rattle.pua_tree.specs.Edits.{add, tie, has_room, has_name_room, with_new, with_row}
-use Rattle.pua_tree.specs.declared.fault.TreeFault.{TreeFault}
+use Rattle.pua_script.proofs.Common.{◌≡◌, ◌≢◌, ℕ, Bool, true, false, not, cond, refl, sym, ap, ◌∙◌, Result, Ok, Err, IsOk, IsTrue, is_some}
+use Rattle.pua_script.proofs.Common.{nat_le, Tree, Node, Spot, is_dir, is_living, add, tie, has_room, has_name_room, with_new, with_row}
+use Rattle.pua_script.proofs.Common.{TreeFault, EAGAIN, ENOSPC, History, most_processes, NoChange, AddNode, CutRow, ShiftRow, TieRow}
+use Rattle.pua_script.proofs.Common.{BeginProgram, AddEvent, CopyAs, Effect, Fails, Leaves, Copies, edit_effect, edited_tree, history_of}
+use Rattle.std.proofs.Common.{true≢false}
+use Rattle.std.specs.Prelude.{◌↔◌, ◌||◌, length}
 use Rattle.pua_tree.specs.declared.fault.TreeFault.TheVariants as faults
-use Rattle.pua_path.specs.declared.errno.Errno.TheVariants.{EAGAIN, ENOSPC}
-use Rattle.pua_policy.specs.History.{History}
-use Rattle.pua_script.specs.Limits.{process_limit}
-use Rattle.pua_script.specs.Decide.{NoChange, AddNode, CutRow, ShiftRow, TieRow, BeginProgram, AddEvent, CopyAs}
 use Rattle.pua_script.specs.Guards.{IsFree}
-use Rattle.pua_script.specs.Replay.{Effect, Fails, Leaves, Copies, edited, edited_tree, history_of}
 use Rattle.pua_script.specs.Laws.{ChangesLackRoom}
 
 leaves_not_fails : (t : Tree) (h : History) → Leaves t h ≡ Fails ENOSPC → ⊥
@@ -21,7 +17,7 @@ never e other = (λ is. absurd (other is), λ b. absurd (true≢false (sym b)))
 
 module _ (t : Tree) (h : History) where
   -- an edit that has no fault but want of room
-  by_room : (room : Bool) (x : ℕ × Tree) → (edited h (cond room (Ok x) (Err faults.Full)) ≡ Fails ENOSPC) ↔ IsTrue (not room)
+  by_room : (room : Bool) (x : ℕ × Tree) → (edit_effect h (cond room (Ok x) (Err faults.Full)) ≡ Fails ENOSPC) ↔ IsTrue (not room)
   by_room true x = never _ (leaves_not_fails x.1 h)
   by_room false x = (λ _. refl, λ _. refl)
 
@@ -29,14 +25,18 @@ module _ (t : Tree) (h : History) where
   by_name_room true u = never _ (leaves_not_fails u h)
   by_name_room false u = (λ _. refl, λ _. refl)
 
-  add_lacks : (spot : Spot) (node : Node) → IsFree t spot → (edited h (add t spot.0 spot.1 node) ≡ Fails ENOSPC) ↔ IsTrue (not (has_room t))
+  add_lacks : (spot : Spot) (node : Node) → IsFree t spot →
+      (edit_effect h (add t spot.0 spot.1 node) ≡ Fails ENOSPC) ↔ IsTrue (not (has_room t))
   add_lacks spot node free =
       let is : add t spot.0 spot.1 node ≡ cond (has_room t) (Ok (t.next, with_new t spot.0 spot.1 node)) (Err faults.Full) =
-      λ i. cond (not (free.0 i)) (Err faults.NotDir) (cond (is_some (free.1 i)) (Err faults.Taken) (cond (has_room t) (Ok (t.next, with_new t spot.0 spot.1 node)) (Err faults.Full))) in
+      λ i. cond (not (free.0 i)) (Err faults.NotDir)
+      (cond (is_some (free.1 i)) (Err faults.Taken) (cond (has_room t) (Ok (t.next, with_new t spot.0 spot.1 node)) (Err faults.Full)))
+      in
       let room = by_room (has_room t) (t.next, with_new t spot.0 spot.1 node) in
-      (λ e. room.0 (sym (ap (edited h) is) ∙ e), λ full. ap (edited h) is ∙ room.1 full)
+      (λ e. room.0 (sym (ap (edit_effect h) is) ∙ e), λ full. ap (edit_effect h) is ∙ room.1 full)
 
-  tie_lacks : (spot : Spot) (x : ℕ) → IsFree t spot → is_living t x ≡ true → is_dir t x ≡ false → (edited_tree h (tie t spot.0 spot.1 x) ≡ Fails ENOSPC) ↔ IsTrue (not (has_name_room t))
+  tie_lacks : (spot : Spot) (x : ℕ) → IsFree t spot → is_living t x ≡ true → is_dir t x ≡ false →
+      (edited_tree h (tie t spot.0 spot.1 x) ≡ Fails ENOSPC) ↔ IsTrue (not (has_name_room t))
   tie_lacks spot x free living other =
       let is : tie t spot.0 spot.1 x ≡ cond (has_name_room t) (Ok (with_row t spot.0 spot.1 x)) (Err faults.Full) =
       λ i. cond (not (free.0 i)) (Err faults.NotDir)
@@ -47,7 +47,7 @@ module _ (t : Tree) (h : History) where
       (λ e. room.0 (sym (ap (edited_tree h) is) ∙ e), λ full. ap (edited_tree h) is ∙ room.1 full)
 
   -- an edit without a fault
-  edit_leaves : (r : Result (ℕ × Tree) TreeFault) → IsOk r → edited h r ≢ Fails ENOSPC
+  edit_leaves : (r : Result (ℕ × Tree) TreeFault) → IsOk r → edit_effect h r ≢ Fails ENOSPC
   edit_leaves (Ok x) ok e = leaves_not_fails x.1 h e
   edit_leaves (Err fault) ok e = absurd (true≢false (sym ok))
 
@@ -63,7 +63,7 @@ changes_lack w h (ShiftRow old new) possible = never _ (tree_leaves w.tree h _ p
 changes_lack w h (TieRow spot x) possible = tie_lacks w.tree h spot x possible.0 possible.1 possible.2
 changes_lack w h (BeginProgram left) possible = never _ (leaves_not_fails w.tree _)
 changes_lack w h (AddEvent event) possible = never _ (leaves_not_fails w.tree _)
-changes_lack w h (CopyAs new) possible = never _ (by (is_some (history_of w new) || nat_le process_limit (length w.histories)))
+changes_lack w h (CopyAs new) possible = never _ (by (is_some (history_of w new) || nat_le most_processes (length w.histories)))
   where
     by : (full : Bool) → cond full (Fails EAGAIN) (Copies new) ≢ Fails ENOSPC
     by true e = cc

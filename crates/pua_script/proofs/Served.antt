@@ -1,23 +1,22 @@
 -- What a world's requests leave, by the worlds of the replay for which it stands.
-use Rattle.std.proofs.Common.{◌≡◌, ℕ, ◌+◌, ◌<◌, List, [], ◌∷◌, ◌++◌, length, take, get_or, refl, sym, ap, subst, ◌∙◌, lit<, add-one}
+use Rattle.pua_script.proofs.Common.{◌≡◌, ℕ, ◌+◌, ◌<◌, List, [], ◌∷◌, ◌++◌, length, take, refl, sym, ap, subst, ◌∙◌, lit<, Option, Some}
+use Rattle.pua_script.proofs.Common.{None, Result, Ok, Err, WellFormed, PairRule, CallTable, rule_of, Call, History, ProcessState, Asked}
+use Rattle.pua_script.proofs.Common.{World, apply, world_after, WorldState, StandsAt, StandsForWorld, process_at, HasHistoryOf}
+use Rattle.pua_script.proofs.Common.{UncoveredStay, AreDone, Answer}
+use Rattle.std.proofs.Common.{get_or, add-one}
 use Rattle.std.proofs.Math.Seq.{take-suc}
-use Rattle.std.specs.Prelude.{Option, Some, None, Result, Ok, Err, IfOk, OnErr, MatchResult}
-use Rattle.pua_tree.specs.Tree.{WellFormed}
+use Rattle.std.specs.Prelude.{IfOk, OnErr, MatchResult}
 use Rattle.pua_calls.proofs.ForCallers.{texts_need_no_error, texts_keep_pairs}
-use Rattle.pua_calls.specs.Calls.{PairRule, CallTable, standard_table, openbsd_table, rule_of}
+use Rattle.pua_calls.specs.Calls.{standard_table, openbsd_table}
 use Rattle.pua_calls.specs.Tables.{NeedsNoError}
 use Rattle.pua_calls.specs.declared.rules.Rules.TheVariants.{Profile, Openbsd}
-use Rattle.pua_calls.specs.declared.call.Call.{Call}
-use Rattle.pua_policy.specs.History.{History, ProcessState}
-use Rattle.pua_calls.specs.declared.call.Call.TheVariants.{Stat, Lstat, Readlink, OpenRead, OpenWrite, OpenBoth, Create, Mkdir, Rmdir, Unlink, Symlink, Chmod, Chdir, Exec}
-use Rattle.pua_script.specs.Requests.{Asked}
-use Rattle.pua_script.specs.Replay.{World, apply, world_after}
-use Rattle.pua_script.specs.Worlds.{WorldState, StandsAt, StandsForWorld, IsServed, AreServed, process_at}
-use Rattle.pua_script.specs.Family.{HasHistoryOf}
+use Rattle.pua_calls.specs.declared.call.Call.TheVariants.{Stat, Lstat, Readlink, OpenRead, OpenWrite, OpenBoth, Create, Mkdir, Rmdir}
+use Rattle.pua_calls.specs.declared.call.Call.TheVariants.{Unlink, Symlink, Chmod, Chdir, Exec}
+use Rattle.pua_script.specs.Worlds.{IsServed, AreServed}
 use Rattle.pua_script.specs.Tightening.{IsNarrowedBy, EndsWithin}
-use Rattle.pua_script.specs.Confinement.{NeedsC, NamesCpath, UncoveredStay, TreesAlong}
-use Rattle.pua_script.specs.Futures.{RulesNarrow, ReadTablesNarrow, HasProcessOf, IsNarrowing, IsSparing, AreDone, AreDoneInPart, AreHeld, AreServedInPart}
-use Rattle.pua_script.specs.declared.answer.Answer.{Answer}
+use Rattle.pua_script.specs.Confinement.{NeedsC, NamesCpath, TreesAlong}
+use Rattle.pua_script.specs.Futures.{RulesNarrow, ReadTablesNarrow, HasProcessOf, IsNarrowing, IsSparing, AreDoneInPart, AreHeld}
+use Rattle.pua_script.specs.Futures.{AreServedInPart}
 use Rattle.pua_script.proofs.Tightening.{each_narrows, within_self}
 use Rattle.pua_script.proofs.Confining.{each_spares}
 use Rattle.pua_script.proofs.Families.{families_narrow}
@@ -58,7 +57,11 @@ openbsd_error Exec = ((lit< tt, refl), tt)
 
 pub rules_narrow : RulesNarrow
 rules_narrow Profile = record {
-  error = record { calls = standard_error; rename = (((lit< tt, refl), tt), ((lit< tt, refl), tt)); link = (((lit< tt, refl), tt), ((lit< tt, refl), tt)) };
+  error = record {
+    calls = standard_error;
+    rename = (((lit< tt, refl), tt), ((lit< tt, refl), tt));
+    link = (((lit< tt, refl), tt), ((lit< tt, refl), tt));
+  };
   taking = record { rmdir = refl; unlink = refl; rename_old = refl; rename_new = refl };
   changing = record {
     create = (refl, tt);
@@ -71,7 +74,11 @@ rules_narrow Profile = record {
   };
 }
 rules_narrow Openbsd = record {
-  error = record { calls = openbsd_error; rename = (((lit< tt, refl), tt), ((lit< tt, refl), tt)); link = (((lit< tt, refl), tt), ((lit< tt, refl), tt)) };
+  error = record {
+    calls = openbsd_error;
+    rename = (((lit< tt, refl), tt), ((lit< tt, refl), tt));
+    link = (((lit< tt, refl), tt), ((lit< tt, refl), tt));
+  };
   taking = record { rmdir = refl; unlink = refl; rename_old = refl; rename_new = refl };
   changing = record {
     create = (refl, tt);
@@ -109,16 +116,19 @@ read_tables_narrow = record {
 }
 
 -- what has a history has a process that stands for it
-has_process : (s : WorldState) (w : World) (n : ℕ) (IsSo : History → Type 0) → StandsForWorld s w → HasHistoryOf w n IsSo → HasProcessOf s n IsSo
+has_process : (s : WorldState) (w : World) (n : ℕ) (IsSo : History → Type 0) → StandsForWorld s w → HasHistoryOf w n IsSo →
+    HasProcessOf s n IsSo
 has_process s w n IsSo stands has = by (process_at s n) refl (subst (StandsAt (process_at s n)) has.1 (stands.processes n))
   where
     by : (o : Option ProcessState) → process_at s n ≡ o → StandsAt o (Some has.0) → HasProcessOf s n IsSo
     by None is at = absurd at
     by (Some p) is at = record { kept = p; here = is; history = has.0; stands = at; so = has.2 }
 
-pub is_narrowing : (before : WorldState) (ask : Asked) (answer : Answer) (after : WorldState) → IsServed before ask answer after → IsNarrowing before ask after
+pub is_narrowing : (before : WorldState) (ask : Asked) (answer : Answer) (after : WorldState) → IsServed before ask answer after →
+    IsNarrowing before ask after
 is_narrowing before ask answer after served w stands process h here confined none =
-    has_process after (apply before.table w ask).1 process (IsNarrowedBy before.table w ask process h) (served w stands).1 (each_narrows before.table w ask process h here confined none)
+    has_process after (apply before.table w ask).1 process (IsNarrowedBy before.table w ask process h) (served w stands).1
+    (each_narrows before.table w ask process h here confined none)
 
 -- a world that stays as it was keeps each process within its history
 pub stays_narrow : (before : WorldState) (ask : Asked) (after : WorldState) → after ≡ before → IsNarrowing before ask after
@@ -132,18 +142,22 @@ stays_narrow before ask after same w stands process h here confined none =
     subst (λ (s : WorldState). HasProcessOf s process IsSo) (sym same) (has_process before w process IsSo stands (h, here, stays))
 
 -- both worlds have a tree
-pub is_sparing : (before : WorldState) (ask : Asked) (answer : Answer) (after : WorldState) → WellFormed before.tree → WellFormed after.tree → IsServed before ask answer after → IsSparing before ask after
+pub is_sparing : (before : WorldState) (ask : Asked) (answer : Answer) (after : WorldState) → WellFormed before.tree →
+    WellFormed after.tree → IsServed before ask answer after → IsSparing before ask after
 is_sparing before ask answer after well well_then served needs w stands h here =
     let left = (served w stands).1 in
     let stays = each_spares before.table needs w ask h (subst WellFormed stands.tree well) (subst WellFormed left.tree well_then) here in
-    subst (λ u. UncoveredStay h before.tree u) (sym left.tree) (subst (λ t. UncoveredStay h t (apply before.table w ask).1.tree) (sym stands.tree) stays)
+    subst (λ u. UncoveredStay h before.tree u) (sym left.tree) (subst (λ t. UncoveredStay h t (apply before.table w ask).1.tree)
+    (sym stands.tree) stays)
 
 -- the trees on the way of one request more
-more_trees : (table : CallTable) (w : World) (asks : List Asked) (ask : Asked) → TreesAlong table w asks → WellFormed (apply table (world_after table w asks) ask).1.tree → TreesAlong table w (asks ++ ask ∷ [])
+more_trees : (table : CallTable) (w : World) (asks : List Asked) (ask : Asked) → TreesAlong table w asks →
+    WellFormed (apply table (world_after table w asks) ask).1.tree → TreesAlong table w (asks ++ ask ∷ [])
 more_trees table w [] ask trees last = (trees, last)
 more_trees table w (first ∷ asks) ask trees last = (trees.0, more_trees table (apply table w first).1 asks ask trees.1 last)
 
-done_more : (before mid after : WorldState) (asks : List Asked) (told : List Answer) (ask : Asked) (answer : Answer) → WellFormed after.tree → AreDone before asks told mid → IsServed mid ask answer after
+done_more : (before mid after : WorldState) (asks : List Asked) (told : List Answer) (ask : Asked) (answer : Answer) →
+    WellFormed after.tree → AreDone before asks told mid → IsServed mid ask answer after
     → AreDone before (asks ++ ask ∷ []) (told ++ answer ∷ []) after
 done_more before mid after asks told ask answer well first next = (
   served_more before mid after asks told ask answer first.0 next,
@@ -155,26 +169,34 @@ done_more before mid after asks told ask answer well first next = (
 )
 
 -- the next of a list of requests
-pub done_next : (before mid after : WorldState) (asks : List Asked) (i : ℕ) (told more : List Answer) (ask : Asked) (answer : Answer) → i < length asks → ask ≡ get_or asks i ask → more ≡ told ++ answer ∷ []
-    → WellFormed after.tree → AreDone before (take i asks) told mid → IsServed mid ask answer after → AreDone before (take (i + 1) asks) more after
+pub done_next : (before mid after : WorldState) (asks : List Asked) (i : ℕ) (told more : List Answer) (ask : Asked) (answer : Answer) →
+    i < length asks → ask ≡ get_or asks i ask → more ≡ told ++ answer ∷ []
+    → WellFormed after.tree → AreDone before (take i asks) told mid → IsServed mid ask answer after →
+    AreDone before (take (i + 1) asks) more after
 done_next before mid after asks i told more ask answer within is pushed well first next =
-    let taken : take (i + 1) asks ≡ take i asks ++ ask ∷ [] = ap (λ n. take n asks) (add-one i) ∙ take-suc asks i ask within ∙ ap (λ x. take i asks ++ x ∷ []) (sym is) in
+    let taken : take (i + 1) asks ≡ take i asks ++ ask ∷ [] = ap (λ n. take n asks) (add-one i) ∙ take-suc asks i ask within ∙
+    ap (λ x. take i asks ++ x ∷ []) (sym is) in
     subst (λ xs. AreDone before xs more after) (sym taken)
-    (subst (λ ys. AreDone before (take i asks ++ ask ∷ []) ys after) (sym pushed) (done_more before mid after (take i asks) told ask answer well first next))
+    (subst (λ ys. AreDone before (take i asks ++ ask ∷ []) ys after) (sym pushed) (done_more before mid after (take i asks) told ask answer
+    well first next))
 
 -- some first ones, where the next was not served
-pub done_before : (before mid after : WorldState) (asks own : List Asked) (i : ℕ) (told : List Answer) → own ≡ asks → after ≡ mid → AreDone before (take i own) told mid → AreDoneInPart before asks after
+pub done_before : (before mid after : WorldState) (asks own : List Asked) (i : ℕ) (told : List Answer) → own ≡ asks → after ≡ mid →
+    AreDone before (take i own) told mid → AreDoneInPart before asks after
 done_before before mid after asks own i told is same first = (
   i,
   λ w stands. (
-    subst (λ x. StandsForWorld x (world_after before.table w (take i asks))) (sym same) (subst (λ xs. StandsForWorld mid (world_after before.table w (take i xs))) is (first.0 w stands).1),
+    subst (λ x. StandsForWorld x (world_after before.table w (take i asks))) (sym same)
+        (subst (λ xs. StandsForWorld mid (world_after before.table w (take i xs))) is (first.0 w stands).1),
     ap (λ (x : WorldState). x.table) same ∙ (first.0 w stands).2,
     subst (λ xs. TreesAlong before.table w (take i xs)) is (first.1 w stands),
   ),
 )
 
 -- what was served holds the families
-held_by : (before after : WorldState) (asks : List Asked) → ((w : World) → StandsForWorld before w → StandsForWorld after (world_after before.table w asks) × TreesAlong before.table w asks) → AreHeld before asks after
+held_by : (before after : WorldState) (asks : List Asked) →
+    ((w : World) → StandsForWorld before w → StandsForWorld after (world_after before.table w asks) × TreesAlong before.table w asks) →
+    AreHeld before asks after
 held_by before after asks done = record {
   narrows = λ w stands process now here confined none member belongs.
       has_process after (world_after before.table w asks) member (EndsWithin before.table w asks process now) (done w stands).0
@@ -183,7 +205,8 @@ held_by before after asks done = record {
       let both = families_confine before.table w asks process now here confined none alone in
       let left = done w stands in
       record {
-        spares = λ needs. subst (λ u. UncoveredStay now before.tree u) (sym left.0.tree) (subst (λ t. UncoveredStay now t (world_after before.table w asks).tree) (sym stands.tree) (both.spares needs left.1));
+        spares = λ needs. subst (λ u. UncoveredStay now before.tree u) (sym left.0.tree)
+            (subst (λ t. UncoveredStay now t (world_after before.table w asks).tree) (sym stands.tree) (both.spares needs left.1));
         unchanged = λ needs lacks. left.0.tree ∙ both.unchanged needs lacks ∙ sym stands.tree;
       };
 }

@@ -1,32 +1,23 @@
 -- One request of the replay, from what the process that asks did.
-use Rattle.std.proofs.Common.{◌≡◌, ℕ, ◌+◌, Result, Ok, Err, IfOk, OnErr, [], ◌∷◌, ◌++◌, ◌||◌, nat_eq, List, length, Bool, true, false, cond, Option, Some, None, is_some, refl, sym, ap, subst, ◌∙◌, true≢false}
-use Rattle.std.proofs.lemmas.Bool.{eqb-true}
-use Rattle.std.specs.Prelude.{nat_le}
-use Rattle.std.specs.Map.{lookup, set_value}
+use Rattle.pua_script.proofs.Common.{◌≡◌, ℕ, ◌+◌, [], ◌∷◌, ◌++◌, ◌||◌, nat_eq, List, length, Bool, true, false, cond, refl, sym, ap, subst}
+use Rattle.pua_script.proofs.Common.{◌∙◌, eqb-true, nat_le, lookup, Tree, CallTable, proc, History, ProcessState, StandsFor, Ended}
+use Rattle.pua_script.proofs.Common.{is_ended, may_any, EAGAIN, Asked, Answer, WorldFault, Okay, Gone, Action, Fork, CopyAs, if_may, World}
+use Rattle.pua_script.proofs.Common.{Effect, come_of, Fails, Kills, Leaves, Copies, history_of, effect, answer_to, left_by}
+use Rattle.pua_script.proofs.Common.{answer_and_world, apply, world_after, most_processes, WorldState, StandsAt, StandsForWorld, process_at}
+use Rattle.std.proofs.Common.{Result, Ok, Err, IfOk, OnErr}
+use Rattle.std.proofs.Common.{Option, Some, None, is_some, true≢false}
+use Rattle.std.specs.Map.{set_value}
 use Rattle.std.proofs.lemmas.Map.Steps.{set_value_same}
-use Rattle.pua_tree.specs.Tree.{Tree}
-use Rattle.pua_calls.specs.Calls.{CallTable}
-use Rattle.pua_calls.specs.Promises.{proc}
-use Rattle.pua_policy.specs.History.{History, ProcessState, StandsFor, Ended, is_ended, may_any}
 use Rattle.pua_policy.specs.declared.answer.May.TheVariants as may
-use Rattle.pua_path.specs.declared.errno.Errno.TheVariants.{EAGAIN}
-use Rattle.pua_script.specs.Requests.{Asked}
-use Rattle.pua_script.specs.declared.answer.Answer.{Answer}
-use Rattle.pua_script.specs.declared.fault.WorldFault.{WorldFault}
-use Rattle.pua_script.specs.declared.answer.Answer.TheVariants.{Okay, Gone}
-use Rattle.pua_script.specs.declared.request.Action.{Action}
-use Rattle.pua_script.specs.declared.request.Action.TheVariants.{Fork}
-use Rattle.pua_script.specs.Decide.{CopyAs, promised}
-use Rattle.pua_script.specs.Replay.{World, Effect, come_of, Fails, Kills, Leaves, Copies, history_of, effect, answer_to, left_by, served, apply, world_after}
-use Rattle.pua_script.specs.Limits.{process_limit}
-use Rattle.pua_script.specs.Worlds.{WorldState, StandsAt, StandsForWorld, HasReplay, process_at, IsOkay, IsServed, AreServed, Does, Acts}
+use Rattle.pua_script.specs.Worlds.{HasReplay, IsOkay, IsServed, AreServed, Does, Acts}
 use Rattle.pua_script.proofs.Composition.{replay_composes}
 use Rattle.pua_script.proofs.StoodFor.{same_numbers, stands_changed, stands_made}
 
 -- what a process did is its request of the replay
 module _ (s : WorldState) (ask : Asked) (answer : Answer) (t : Tree) (p q : ProcessState) (more : List (ℕ × ProcessState))
     (there : process_at s ask.process ≡ Some p) (living : p.ended ≡ false)
-    (changed : (n : ℕ) → lookup (nat_eq n) more ≡ cond (nat_eq ask.process n) (Some q) (process_at s n)) (counted : length more ≡ length s.processes)
+    (changed : (n : ℕ) → lookup (nat_eq n) more ≡ cond (nat_eq ask.process n) (Some q) (process_at s n))
+    (counted : length more ≡ length s.processes)
     (acts : (w : World) (h : History) → StandsForWorld s w → StandsFor p h → Does s.tree h (effect s.table w h ask.action) answer t q) where
   abbrev pub left_world : WorldState
   left_world = record { tree = t; table = s.table; processes = more }
@@ -49,12 +40,14 @@ module _ (s : WorldState) (ask : Asked) (answer : Answer) (t : Tree) (p q : Proc
     left (Fails errno) does = (does.told, stays w.tree (does.left ∙ stands.tree) does.stands)
     left Kills does = (
       does.told,
-      subst (λ x. StandsForWorld (record { tree = x; table = s.table; processes = more }) (left_by w ask.process h Kills)) (sym (does.left ∙ stands.tree))
+      subst (λ x. StandsForWorld (record { tree = x; table = s.table; processes = more }) (left_by w ask.process h Kills)) (sym (does.left ∙
+          stands.tree))
           (stands_changed s w stands ask.process w.tree q (Ended ∷ h) more does.stands changed (ap is_some known) counted),
     )
     left (Leaves tree g) does = (
       does.told,
-      subst (λ x. StandsForWorld (record { tree = x; table = s.table; processes = more }) (left_by w ask.process h (Leaves tree g))) (sym does.left)
+      subst (λ x. StandsForWorld (record { tree = x; table = s.table; processes = more }) (left_by w ask.process h (Leaves tree g)))
+          (sym does.left)
           (stands_changed s w stands ask.process tree q g more does.stands changed (ap is_some known) counted),
     )
     left (Copies new) does = absurd (true≢false does.alone)
@@ -62,11 +55,14 @@ module _ (s : WorldState) (ask : Asked) (answer : Answer) (t : Tree) (p q : Proc
   pub serves : IsServed s ask answer left_world
   serves w stands = by (history_of w ask.process) refl (stands.processes ask.process)
     where
-      lives : (h : History) (b : Bool) (d : Answer × World) → b ≡ false → (answer ≡ d.0) × StandsForWorld left_world d.1 → (answer ≡ (cond b (Gone, w) d).0) × StandsForWorld left_world (cond b (Gone, w) d).1 × (s.table ≡ s.table)
+      lives : (h : History) (b : Bool) (d : Answer × World) → b ≡ false → (answer ≡ d.0) × StandsForWorld left_world d.1 →
+          (answer ≡ (cond b (Gone, w) d).0) × StandsForWorld left_world (cond b (Gone, w) d).1 × (s.table ≡ s.table)
       lives h true d e done = absurd (true≢false e)
       lives h false d e done = (done.0, done.1, refl)
 
-      by : (g : Option History) → history_of w ask.process ≡ g → StandsAt (process_at s ask.process) g → (answer ≡ (served s.table w ask g).0) × StandsForWorld left_world (served s.table w ask g).1 × (s.table ≡ s.table)
+      by : (g : Option History) → history_of w ask.process ≡ g → StandsAt (process_at s ask.process) g →
+          (answer ≡ (answer_and_world s.table w ask g).0) × StandsForWorld left_world (answer_and_world s.table w ask g).1 ×
+          (s.table ≡ s.table)
       by None known at = absurd (subst (λ o. StandsAt o None) there at)
       by (Some h) known at =
           let own : StandsFor p h = subst (λ o. StandsAt o (Some h)) there at in
@@ -82,18 +78,20 @@ module _ (s : WorldState) (ask : Asked) (p : ProcessState) (there : process_at s
       lives true d e done = absurd (true≢false e)
       lives false d e done = done
 
-      by : (g : Option History) → StandsAt (process_at s ask.process) g → (served s.table w ask g).0 ≡ Okay
+      by : (g : Option History) → StandsAt (process_at s ask.process) g → (answer_and_world s.table w ask g).0 ≡ Okay
       by None at = absurd (subst (λ o. StandsAt o None) there at)
       by (Some h) at =
           let own : StandsFor p h = subst (λ o. StandsAt o (Some h)) there at in
           lives (is_ended h) _ (sym own.ended ∙ living) (okay w h stands own)
 
 -- a fork whose promise is held fails where the world has the number, or the most processes
-pub fork_alike : (s : WorldState) (w : World) → StandsForWorld s w → (h : History) (new : ℕ) (b : Bool) → may_any h (proc ∷ []) ≡ may.Yes → b ≡ (is_some (process_at s new) || nat_le process_limit (length s.processes))
+pub fork_alike : (s : WorldState) (w : World) → StandsForWorld s w → (h : History) (new : ℕ) (b : Bool) → may_any h (proc ∷ []) ≡ may.Yes →
+    b ≡ (is_some (process_at s new) || nat_le most_processes (length s.processes))
     → effect s.table w h (Fork new) ≡ cond b (Fails EAGAIN) (Copies new)
 fork_alike s w stands h new b may is =
-    ap (λ m. come_of w h (promised m (Ok (CopyAs new)))) may
-    ∙ (λ i. cond (sym (is ∙ (λ j. same_numbers _ _ (stands.processes new) j || nat_le process_limit (stands.count j))) i) (Fails EAGAIN) (Copies new))
+    ap (λ m. come_of w h (if_may m (Ok (CopyAs new)))) may
+    ∙ (λ i. cond (sym (is ∙ (λ j. same_numbers _ _ (stands.processes new) j || nat_le most_processes (stands.count j))) i) (Fails EAGAIN)
+    (Copies new))
 
 unset : (b c : Bool) → (b || c) ≡ false → b ≡ false
 unset true c is = is
@@ -103,8 +101,9 @@ unset false c is = refl
 module _ (s : WorldState) (number new : ℕ) (p copy : ProcessState) (mid more : List (ℕ × ProcessState)) (old : Option ProcessState)
     (there : process_at s number ≡ Some p) (living : p.ended ≡ false)
     (may_fork : (h : History) → StandsFor p h → may_any h (proc ∷ []) ≡ may.Yes)
-    (free : (is_some (process_at s new) || nat_le process_limit (length s.processes)) ≡ false)
-    (copied : copy ≡ p) (same : mid ≡ s.processes) (puts : (n : ℕ) → lookup (nat_eq n) more ≡ cond (nat_eq new n) (Some copy) (lookup (nat_eq n) mid))
+    (free : (is_some (process_at s new) || nat_le most_processes (length s.processes)) ≡ false)
+    (copied : copy ≡ p) (same : mid ≡ s.processes) (puts : (n : ℕ) →
+    lookup (nat_eq n) more ≡ cond (nat_eq new n) (Some copy) (lookup (nat_eq n) mid))
     (was : old ≡ lookup (nat_eq new) mid) (counted : length more ≡ length mid + cond (is_some old) 0 1) where
   copied_at : (n : ℕ) → lookup (nat_eq n) more ≡ cond (nat_eq new n) (Some p) (process_at s n)
   copied_at n = puts n ∙ (λ i. cond (nat_eq new n) (Some (copied i)) (lookup (nat_eq n) (same i)))
@@ -119,18 +118,27 @@ module _ (s : WorldState) (number new : ℕ) (p copy : ProcessState) (mid more :
   forks w stands = by (history_of w number) (stands.processes number)
     where
       copies : (h : History) (b : Bool) (e : Effect) → b ≡ false → e ≡ Copies new → StandsFor p h
-          → (Okay ≡ (cond {A = Answer × World} b (Gone, w) (answer_to e, left_by w number h e)).0) × StandsForWorld (record { tree = s.tree; table = s.table; processes = more }) (cond {A = Answer × World} b (Gone, w) (answer_to e, left_by w number h e)).1 × (s.table ≡ s.table)
+          → (Okay ≡ (cond {A = Answer × World} b (Gone, w) (answer_to e, left_by w number h e)).0) ×
+          StandsForWorld (record { tree = s.tree; table = s.table; processes = more }) (cond {A = Answer × World} b (
+            Gone,
+            w,
+          ) (answer_to e, left_by w number h e)).1 × (s.table ≡ s.table)
       copies h true e ended is own = absurd (true≢false ended)
       copies h false e living is own =
-          subst (λ e. (Okay ≡ answer_to e) × StandsForWorld (record { tree = s.tree; table = s.table; processes = more }) (left_by w number h e) × (s.table ≡ s.table)) (sym is) (
+          subst (λ e. (Okay ≡ answer_to e) × StandsForWorld (record { tree = s.tree; table = s.table; processes = more })
+          (left_by w number h e) × (s.table ≡ s.table)) (sym is) (
             refl,
-            subst (λ t. StandsForWorld (record { tree = t; table = s.table; processes = more }) (left_by w number h (Copies new))) (sym stands.tree)
-                (stands_made s w stands new w.tree p h more own copied_at (sym (same_numbers _ _ (stands.processes new)) ∙ is_new) one_more),
+            subst (λ t. StandsForWorld (record { tree = t; table = s.table; processes = more }) (left_by w number h (Copies new)))
+                (sym stands.tree)
+                (stands_made s w stands new w.tree p h more own copied_at (sym (same_numbers _ _ (stands.processes new)) ∙
+                is_new) one_more),
             refl,
           )
 
       by : (g : Option History) → StandsAt (process_at s number) g
-          → (Okay ≡ (served s.table w (record { process = number; action = Fork new }) g).0) × StandsForWorld (record { tree = s.tree; table = s.table; processes = more }) (served s.table w (record { process = number; action = Fork new }) g).1 × (s.table ≡ s.table)
+          → (Okay ≡ (answer_and_world s.table w (record { process = number; action = Fork new }) g).0) ×
+          StandsForWorld (record { tree = s.tree; table = s.table; processes = more })
+          (answer_and_world s.table w (record { process = number; action = Fork new }) g).1 × (s.table ≡ s.table)
       by None at = absurd (subst (λ o. StandsAt o None) there at)
       by (Some h) at =
           let own : StandsFor p h = subst (λ o. StandsAt o (Some h)) there at in
@@ -138,75 +146,99 @@ module _ (s : WorldState) (number new : ℕ) (p copy : ProcessState) (mid more :
           (fork_alike s w stands h new false (may_fork h own) (sym free)) own
 
 -- one request more
-pub served_more : (before mid after : WorldState) (asks : List Asked) (told : List Answer) (ask : Asked) (answer : Answer) → AreServed before asks told mid → IsServed mid ask answer after
+pub served_more : (before mid after : WorldState) (asks : List Asked) (told : List Answer) (ask : Asked) (answer : Answer) →
+    AreServed before asks told mid → IsServed mid ask answer after
     → AreServed before (asks ++ ask ∷ []) (told ++ answer ∷ []) after
 served_more before mid after asks told ask answer first next w stands =
     let done = first w stands in
     let v = world_after before.table w asks in
-    let last = subst (λ (table : CallTable). (answer ≡ (apply table v ask).0) × StandsForWorld after (apply table v ask).1 × (after.table ≡ table)) done.2 (next v done.1) in
+    let last = subst (λ (table : CallTable). (answer ≡ (apply table v ask).0) × StandsForWorld after (apply table v ask).1 ×
+    (after.table ≡ table)) done.2 (next v done.1) in
     let composed = replay_composes before.table w asks (ask ∷ []) in
     ((λ i. done.0 i ++ last.0 i ∷ []) ∙ sym composed.0, subst (StandsForWorld after) (sym composed.1) last.1, last.2)
 
 -- where a growth may have been refused
-pub all_serve : (s : WorldState) (ask : Asked) (r : Result Answer WorldFault) (t : Tree) (p q : ProcessState) (more : List (ℕ × ProcessState)) → Some p ≡ process_at s ask.process → p.ended ≡ false
+pub all_serve : (s : WorldState) (ask : Asked) (r : Result Answer WorldFault) (t : Tree) (p q : ProcessState)
+    (more : List (ℕ × ProcessState)) → Some p ≡ process_at s ask.process → p.ended ≡ false
     → ((n : ℕ) → lookup (nat_eq n) more ≡ cond (nat_eq ask.process n) (Some q) (process_at s n)) → length more ≡ length s.processes
-    → Acts s.table s.tree p ask.action r t q → IfOk r (λ answer. IsServed s ask answer (record { tree = t; table = s.table; processes = more }))
-all_serve s ask (Ok answer) t p q more there living changed counted acts = serves s ask answer t p q more (sym there) living changed counted (λ w h stands own. acts w h (sym stands.tree) own)
+    → Acts s.table s.tree p ask.action r t q →
+    IfOk r (λ answer. IsServed s ask answer (record { tree = t; table = s.table; processes = more }))
+all_serve s ask (Ok answer) t p q more there living changed counted acts =
+    serves s ask answer t p q more (sym there) living changed counted (λ w h stands own. acts.does w h (sym stands.tree) own)
 all_serve s ask (Err fault) t p q more there living changed counted acts = tt
 
 -- where a growth was refused, the replay answers `ok`
-pub all_okay : (s : WorldState) (ask : Asked) (r : Result Answer WorldFault) (t : Tree) (p q : ProcessState) → Some p ≡ process_at s ask.process → p.ended ≡ false
+pub all_okay : (s : WorldState) (ask : Asked) (r : Result Answer WorldFault) (t : Tree) (p q : ProcessState) →
+    Some p ≡ process_at s ask.process → p.ended ≡ false
     → Acts s.table s.tree p ask.action r t q → OnErr r (IsOkay s ask)
 all_okay s ask (Ok answer) t p q there living acts = tt
-all_okay s ask (Err fault) t p q there living acts = is_okay s ask p (sym there) living (λ w h stands own. acts w h (sym stands.tree) own)
+all_okay s ask (Err fault) t p q there living acts =
+    is_okay s ask p (sym there) living (λ w h stands own. acts.does w h (sym stands.tree) own)
 
 -- where it was not, the replay goes on
-pub goes_on : (r : Result Answer WorldFault) (s after : WorldState) (ask : Asked) → HasReplay s → IfOk r (λ answer. IsServed s ask answer after) → OnErr r (after ≡ s) → HasReplay after
+pub goes_on : (r : Result Answer WorldFault) (s after : WorldState) (ask : Asked) → HasReplay s →
+    IfOk r (λ answer. IsServed s ask answer after) → OnErr r (after ≡ s) → HasReplay after
 goes_on (Ok answer) s after ask has done same = record { world = (apply s.table has.world ask).1; stands = (done has.world has.stands).1 }
 goes_on (Err fault) s after ask has done same = subst HasReplay (sym same) has
 
-pub all_fork : (r : Result Answer WorldFault) (s : WorldState) (t : Tree) (table : CallTable) (before after : List (ℕ × ProcessState)) (ask asked : Asked) → record { tree = t; table = table; processes = before } ≡ s → ask ≡ asked
-    → IfOk r (λ answer. (t : Tree) (table : CallTable) → IsServed (record { tree = t; table = table; processes = before }) ask answer (record { tree = t; table = table; processes = after }))
+pub all_fork : (r : Result Answer WorldFault) (s : WorldState) (t : Tree) (table : CallTable) (before after : List (ℕ × ProcessState))
+    (ask asked : Asked) → record { tree = t; table = table; processes = before } ≡ s → ask ≡ asked
+    → IfOk r (λ answer. (t : Tree) (table : CallTable) →
+    IsServed (record { tree = t; table = table; processes = before }) ask answer
+    (record { tree = t; table = table; processes = after }))
     → IfOk r (λ answer. IsServed s asked answer (record { tree = t; table = table; processes = after }))
-all_fork (Ok answer) s t table before after ask asked is same served = subst (λ s. IsServed s asked answer (record { tree = t; table = table; processes = after })) is
-    (subst (λ a. IsServed (record { tree = t; table = table; processes = before }) a answer (record { tree = t; table = table; processes = after })) same (served t table))
+all_fork (Ok answer) s t table before after ask asked is same served =
+    subst (λ s. IsServed s asked answer (record { tree = t; table = table; processes = after })) is
+    (subst (λ a. IsServed (record { tree = t; table = table; processes = before }) a answer
+    (record { tree = t; table = table; processes = after })) same (served t table))
 all_fork (Err fault) s t table before after ask asked is same served = tt
 
-pub all_fork_okay : (r : Result Answer WorldFault) (s : WorldState) (t : Tree) (table : CallTable) (before : List (ℕ × ProcessState)) (ask asked : Asked) → record { tree = t; table = table; processes = before } ≡ s → ask ≡ asked
-    → OnErr r ((t : Tree) (table : CallTable) → IsOkay (record { tree = t; table = table; processes = before }) ask) → OnErr r (IsOkay s asked)
+pub all_fork_okay : (r : Result Answer WorldFault) (s : WorldState) (t : Tree) (table : CallTable) (before : List (ℕ × ProcessState))
+    (ask asked : Asked) → record { tree = t; table = table; processes = before } ≡ s → ask ≡ asked
+    → OnErr r ((t : Tree) (table : CallTable) → IsOkay (record { tree = t; table = table; processes = before }) ask) →
+    OnErr r (IsOkay s asked)
 all_fork_okay (Ok answer) s t table before ask asked is same okay = tt
-all_fork_okay (Err fault) s t table before ask asked is same okay = subst (λ s. IsOkay s asked) is (subst (IsOkay (record { tree = t; table = table; processes = before })) same (okay t table))
+all_fork_okay (Err fault) s t table before ask asked is same okay =
+    subst (λ s. IsOkay s asked) is (subst (IsOkay (record { tree = t; table = table; processes = before })) same (okay t table))
 
 -- a request of a world is one of the same world, by its number and what it asks for
 as_asked : (n : ℕ) (a : Action) (ask : Asked) → n ≡ ask.process → a ≡ ask.action → record { process = n; action = a } ≡ ask
 as_asked n a ask number action = (λ i. record { process = number i; action = action i })
 
-pub all_serve_as : (r : Result Answer WorldFault) (s same after : WorldState) (n : ℕ) (a : Action) (ask : Asked) → s ≡ same → IfOk r (λ answer. IsServed s (record { process = n; action = a }) answer after)
+pub all_serve_as : (r : Result Answer WorldFault) (s same after : WorldState) (n : ℕ) (a : Action) (ask : Asked) → s ≡ same →
+    IfOk r (λ answer. IsServed s (record { process = n; action = a }) answer after)
     → n ≡ ask.process → a ≡ ask.action → IfOk r (λ answer. IsServed same ask answer after)
-all_serve_as (Ok answer) s same after n a ask is served number action = subst (λ x. IsServed x ask answer after) is (subst (λ x. IsServed s x answer after) (as_asked n a ask number action) served)
+all_serve_as (Ok answer) s same after n a ask is served number action =
+    subst (λ x. IsServed x ask answer after) is (subst (λ x. IsServed s x answer after) (as_asked n a ask number action) served)
 all_serve_as (Err fault) s same after n a ask is served number action = tt
 
-pub all_okay_as : (r : Result Answer WorldFault) (s same : WorldState) (n : ℕ) (a : Action) (ask : Asked) → s ≡ same → OnErr r (IsOkay s (record { process = n; action = a }))
+pub all_okay_as : (r : Result Answer WorldFault) (s same : WorldState) (n : ℕ) (a : Action) (ask : Asked) → s ≡ same →
+    OnErr r (IsOkay s (record { process = n; action = a }))
     → n ≡ ask.process → a ≡ ask.action → OnErr r (IsOkay same ask)
 all_okay_as (Ok answer) s same n a ask is okay number action = tt
-all_okay_as (Err fault) s same n a ask is okay number action = subst (λ x. IsOkay x ask) is (subst (IsOkay s) (as_asked n a ask number action) okay)
+all_okay_as (Err fault) s same n a ask is okay number action =
+    subst (λ x. IsOkay x ask) is (subst (IsOkay s) (as_asked n a ask number action) okay)
 
 -- a process written back as it was
-pub same_entries : (n : ℕ) (p q : ProcessState) (entries more : List (ℕ × ProcessState)) → Some p ≡ lookup (nat_eq n) entries → more ≡ set_value (nat_eq n) entries q → q ≡ p → more ≡ entries
+pub same_entries : (n : ℕ) (p q : ProcessState) (entries more : List (ℕ × ProcessState)) → Some p ≡ lookup (nat_eq n) entries →
+    more ≡ set_value (nat_eq n) entries q → q ≡ p → more ≡ entries
 same_entries n p q entries more there wrote same = wrote ∙ set_value_same (nat_eq n) entries q (sym there ∙ ap Some (sym same))
 
 -- where a growth was refused, nothing changed
-pub all_kept : (r : Result Answer WorldFault) (t u : Tree) (n : ℕ) (p q : ProcessState) (entries more : List (ℕ × ProcessState)) → Some p ≡ lookup (nat_eq n) entries → more ≡ set_value (nat_eq n) entries q
+pub all_kept : (r : Result Answer WorldFault) (t u : Tree) (n : ℕ) (p q : ProcessState) (entries more : List (ℕ × ProcessState)) →
+    Some p ≡ lookup (nat_eq n) entries → more ≡ set_value (nat_eq n) entries q
     → OnErr r ((u ≡ t) × (q ≡ p)) → OnErr r ((u ≡ t) × (more ≡ entries))
 all_kept (Ok answer) t u n p q entries more there wrote same = tt
 all_kept (Err fault) t u n p q entries more there wrote same = (same.0, same_entries n p q entries more there wrote same.1)
 
-pub world_kept : (r : Result Answer WorldFault) (t u : Tree) (table : CallTable) (entries more : List (ℕ × ProcessState)) (s : WorldState) → record { tree = t; table = table; processes = entries } ≡ s
+pub world_kept : (r : Result Answer WorldFault) (t u : Tree) (table : CallTable) (entries more : List (ℕ × ProcessState)) (s : WorldState) →
+    record { tree = t; table = table; processes = entries } ≡ s
     → OnErr r ((u ≡ t) × (more ≡ entries)) → OnErr r (record { tree = u; table = table; processes = more } ≡ s)
 world_kept (Ok answer) t u table entries more s is same = tt
 world_kept (Err fault) t u table entries more s is same = (λ i. record { tree = same.0 i; table = table; processes = same.1 i }) ∙ is
 
-pub processes_kept : (r : Result Answer WorldFault) (t : Tree) (table : CallTable) (entries more : List (ℕ × ProcessState)) (s : WorldState) → record { tree = t; table = table; processes = entries } ≡ s
+pub processes_kept : (r : Result Answer WorldFault) (t : Tree) (table : CallTable) (entries more : List (ℕ × ProcessState))
+    (s : WorldState) → record { tree = t; table = table; processes = entries } ≡ s
     → OnErr r (more ≡ entries) → OnErr r (record { tree = t; table = table; processes = more } ≡ s)
 processes_kept (Ok answer) t table entries more s is same = tt
 processes_kept (Err fault) t table entries more s is same = ap (λ es. record { tree = t; table = table; processes = es }) same ∙ is

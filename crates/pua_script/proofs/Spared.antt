@@ -1,32 +1,18 @@
 -- No request takes a row away that isn't covered with `c`.
-use Rattle.std.proofs.Common.{◌≡◌, ℕ, Bool, true, false, cond, refl, sym, ap, ◌∙◌}
-use Rattle.std.specs.Prelude.{Some, None, is_some, ◌||◌, nat_le, length}
-use Rattle.std.proofs.lemmas.Bool.{eqb-true, and_parts, not-true}
+use Rattle.pua_script.proofs.Common.{◌≡◌, ℕ, Bool, true, false, cond, refl, sym, ap, ◌∙◌, Some, None, is_some, nat_le, eqb-true, and_parts}
+use Rattle.pua_script.proofs.Common.{not-true, Tree, WellFormed, Spot, is_dir, look, spot_named, EAGAIN, Dropped, Found, Whole, Slot, holds}
+use Rattle.pua_script.proofs.Common.{CallTable, rule_of, ending_of, last_of, History, working_dir, cover, cover_fault, Call, Cover, All}
+use Rattle.pua_script.proofs.Common.{Asked, Change, AddNode, CutRow, ShiftRow, TieRow, CopyAs, NameFits, World, Fails, Copies, history_of}
+use Rattle.pua_script.proofs.Common.{apply, change_effect, tree_left, Action, has_c, most_processes}
+use Rattle.std.specs.Prelude.{◌||◌, length}
 use Rattle.std.proofs.lemmas.Nat.{and_comm}
-use Rattle.pua_tree.specs.Tree.{Tree, WellFormed, Spot, is_dir, look}
-use Rattle.pua_path.specs.Fits.{spot_named}
-use Rattle.pua_path.specs.declared.errno.Errno.TheVariants.{EACCES, EAGAIN}
-use Rattle.pua_path.specs.declared.text.Ending.TheVariants.{Dropped}
-use Rattle.pua_path.specs.declared.found.Found.{Found}
-use Rattle.pua_path.specs.declared.found.Found.TheVariants.{Whole, Slot}
+use Rattle.pua_path.specs.declared.errno.Errno.TheVariants.{EACCES}
 use Rattle.pua_path.specs.declared.found.Way.TheVariants as way
-use Rattle.pua_calls.specs.Promises.{holds, creating}
-use Rattle.pua_calls.specs.Calls.{CallTable, rule_of, ending_of, last_of}
-use Rattle.pua_policy.specs.History.{History, working_dir}
-use Rattle.pua_policy.specs.Verdict.{cover, cover_fault}
+use Rattle.pua_calls.specs.Promises.{creating}
 use Rattle.pua_policy.proofs.ForCallers.{second_holds}
-use Rattle.pua_calls.specs.declared.call.Call.{Call}
 use Rattle.pua_calls.specs.declared.call.Call.TheVariants as call
-use Rattle.pua_policy.specs.declared.answer.Cover.{Cover}
-use Rattle.pua_policy.specs.declared.answer.Cover.TheVariants.{All, Nothing, Only}
-use Rattle.pua_script.specs.Requests.{Asked}
-use Rattle.pua_script.specs.Decide.{Change, AddNode, CutRow, ShiftRow, TieRow, CopyAs}
-use Rattle.pua_script.specs.Judged.{NameFits}
-use Rattle.pua_script.specs.Replay.{World, Fails, Copies, history_of, apply, made}
-use Rattle.pua_script.specs.Worlds.{tree_left}
-use Rattle.pua_script.specs.declared.request.Action.{Action}
-use Rattle.pua_script.specs.Confinement.{has_c, NeedsC, TakingNeedsC}
-use Rattle.pua_script.specs.Limits.{process_limit}
+use Rattle.pua_policy.specs.declared.answer.Cover.TheVariants.{Nothing, Only}
+use Rattle.pua_script.specs.Confinement.{NeedsC, TakingNeedsC}
 use Rattle.pua_script.proofs.Applied.{by_own_tree}
 use Rattle.pua_script.proofs.Guarding.{grounds}
 use Rattle.pua_script.proofs.Grounds.{Grounds, takes}
@@ -51,7 +37,8 @@ covered_by_c (Only given) perms needs e = ap (λ b. cond b None (Some EACCES)) (
 
 module _ (t : Tree) (h : History) where
   -- what was found is what stands in its row, as veils see it
-  pub spot_has_c : (object : Found) (spot : Spot) → NameFits t object → spot_named object ≡ Some spot → has_c (cover t h object) ≡ true → SpotHasC t h spot
+  pub spot_has_c : (object : Found) (spot : Spot) → NameFits t object → spot_named object ≡ Some spot → has_c (cover t h object) ≡ true →
+      SpotHasC t h spot
   spot_has_c (Whole dir (way.Named parent name)) spot fits named has x here =
       let place : (parent, name) ≡ spot = cc in
       let here_too : look t parent name ≡ Some x = ap (λ (s : Spot). look t s.0 s.1) place ∙ here in
@@ -88,7 +75,8 @@ module _ (t : Tree) (h : History) where
   HasC _ = Unit {0}
 
   module _ (well : WellFormed t) (table : CallTable) (needs : TakingNeedsC table) where
-    pub has_spot : (x : Found) → NameFits t x → (perms : ℕ) → holds perms creating ≡ true → cover_fault (cover t h x) perms ≡ None → (s : Spot) → spot_named x ≡ Some s → SpotHasC t h s
+    pub has_spot : (x : Found) → NameFits t x → (perms : ℕ) → holds perms creating ≡ true → cover_fault (cover t h x) perms ≡ None →
+        (s : Spot) → spot_named x ≡ Some s → SpotHasC t h s
     has_spot x fits perms has covered s is = spot_has_c x s fits is (c_from_cover (cover t h x) perms has covered)
 
     taking_needs : (c : Call) → takes c ≡ true → NeedsC (rule_of table c)
@@ -101,17 +89,20 @@ module _ (t : Tree) (h : History) where
         let fits = name_fits t well (working_dir h) (ending_of g.call) g.path (last_of g.call) g.object g.on.found in
         has_spot g.object fits _ (taking_needs g.call g.taken) g.on.covered spot g.at
     has_c_by action (ShiftRow from to) g = (
-      has_spot g.old (name_fits t well (working_dir h) Dropped g.old_path table.rename.old.last g.old g.two.found_old) _ needs.rename_old g.two.covered_old from g.at_old,
-      has_spot g.new (name_fits t well (working_dir h) Dropped g.new_path table.rename.new.last g.new g.two.found_new) _ needs.rename_new g.two.covered_new to g.at_new,
+      has_spot g.old (name_fits t well (working_dir h) Dropped g.old_path table.rename.old.last g.old g.two.found_old) _ needs.rename_old
+          g.two.covered_old from g.at_old,
+      has_spot g.new (name_fits t well (working_dir h) Dropped g.new_path table.rename.new.last g.new g.two.found_new) _ needs.rename_new
+          g.two.covered_new to g.at_new,
     )
     has_c_by action _ g = tt
 
-spares_made : (w : World) → WellFormed w.tree → (h : History) (c : Change) → HasC w.tree h c → Spares w.tree h (tree_left w.tree (made w h c))
+spares_made : (w : World) → WellFormed w.tree → (h : History) (c : Change) → HasC w.tree h c →
+    Spares w.tree h (tree_left w.tree (change_effect w h c))
 spares_made w well h (AddNode spot node) has = spares_add w.tree h well spot.0 spot.1 node
 spares_made w well h (CutRow spot) has = spares_cut w.tree h spot.0 spot.1 has
 spares_made w well h (ShiftRow old new) has = spares_shift w.tree h old.0 new.0 old.1 new.1 has.0 has.1
 spares_made w well h (TieRow spot x) has = spares_tie w.tree h spot.0 spot.1 x
-spares_made w well h (CopyAs new) has = by (is_some (history_of w new) || nat_le process_limit (length w.histories))
+spares_made w well h (CopyAs new) has = by (is_some (history_of w new) || nat_le most_processes (length w.histories))
   where
     by : (full : Bool) → Spares w.tree h (tree_left w.tree (cond full (Fails EAGAIN) (Copies new)))
     by true = spares_all w.tree h

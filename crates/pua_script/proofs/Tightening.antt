@@ -1,24 +1,14 @@
 -- What one request leaves of a process that can put no veil any more, whoever makes it.
-use Rattle.std.proofs.Common.{◌≡◌, ℕ, [], ◌∷◌, Bool, true, false, cond, ◌&&◌, ◌||◌, refl, sym, ap, subst, ◌∙◌, inl, inr}
-use Rattle.std.specs.Prelude.{Some, IsTrue, filter, ◌==◌}
-use Rattle.std.proofs.lemmas.Bool.{false≢true, true≢false, eqb-true, eq-eqb}
-use Rattle.std.specs.Ordering.{nat_cmp}
-use Rattle.std.specs.Cmp.{nat_cmp_total}
-use Rattle.std.specs.FinMap.{nat_cmp-IsAntisymmetric}
-use Rattle.pua_tree.proofs.ForCallers.{put_here}
-use Rattle.pua_calls.specs.Calls.{CallTable}
-use Rattle.pua_policy.specs.History.{History, Event, Pledged, Unveiled, Locked, Moved, Ended, is_ended, working_dir}
-use Rattle.pua_policy.specs.Verdict.{is_unveil}
+use Rattle.pua_script.proofs.Common.{◌≡◌, ℕ, [], ◌∷◌, Bool, true, false, cond, ◌&&◌, ◌||◌, refl, sym, ap, subst, ◌∙◌, inl, inr, Some}
+use Rattle.pua_script.proofs.Common.{IsTrue, filter, ◌==◌, false≢true, true≢false, eqb-true, eq-eqb, nat_cmp, nat_cmp_total}
+use Rattle.pua_script.proofs.Common.{nat_cmp-IsAntisymmetric, put_here, CallTable, History, Event, Pledged, Unveiled, Locked, Moved, Ended}
+use Rattle.pua_script.proofs.Common.{is_ended, working_dir, is_unveil, Asked, World, Effect, Fails, Kills, Leaves, Copies, effect}
+use Rattle.pua_script.proofs.Common.{history_of, apply, answer_and_world, left_by, answer_to, IsConfined, is_exec, is_chdir, is_done}
+use Rattle.pua_script.proofs.Common.{is_member, HasHistoryOf, Answer, Gone, Action}
 use Rattle.pua_policy.proofs.ForCallers.{held_never_grows}
-use Rattle.pua_script.specs.Requests.{Asked}
-use Rattle.pua_script.specs.Replay.{World, Effect, Fails, Kills, Leaves, Copies, effect, history_of, apply, served, left_by, answer_to}
-use Rattle.pua_script.specs.Laws.{IsConfined}
 use Rattle.pua_script.specs.Worlds.{history_left}
-use Rattle.pua_script.specs.Family.{is_okay, is_exec, is_chdir, is_done, is_member, HasHistoryOf}
+use Rattle.pua_script.specs.Family.{is_okay}
 use Rattle.pua_script.specs.Tightening.{EachRequestNarrows}
-use Rattle.pua_script.specs.declared.answer.Answer.{Answer}
-use Rattle.pua_script.specs.declared.answer.Answer.TheVariants.{Gone}
-use Rattle.pua_script.specs.declared.request.Action.{Action}
 use Rattle.pua_script.proofs.Narrowing.{is_step, GoesOn, Fine, fails, kills, leaves, copies, fine_effect, confined_after}
 use Rattle.pua_script.proofs.Others.{IsNew, copied_apart, effect_is_new, others_leave}
 use Rattle.pua_script.proofs.Allowing.{IsWithin, allows_no_more}
@@ -58,7 +48,8 @@ pub record Steps (moves : Bool) (before after : History) : Type 0 where
   pub dir : moves ≡ false → working_dir after ≡ working_dir before
 
 pub within_self : (h : History) → IsConfined h → IsWithin h h
-within_self h confined = record { tightens = record { unveils = refl; promises = λ set sound holding. holding; confined = confined }; ended = λ lives. lives }
+within_self h confined =
+    record { tightens = record { unveils = refl; promises = λ set sound holding. holding; confined = confined }; ended = λ lives. lives }
 
 pub within_twice : (a b c : History) → IsWithin a b → IsWithin b c → IsWithin a c
 within_twice a b c first second = record {
@@ -111,7 +102,8 @@ module _ (table : CallTable) (w : World) (h : History) (confined : IsConfined h)
     where
       by : (okay : Bool) → is_okay (answer_to does) ≡ okay → (is_exec action && okay) ≡ false → Fine moves h does
       by false told none = refused_fine moves h does told
-      by true told none = fine_effect moves table w h action confined (and_left (is_exec action) none) (λ is. ap (λ b. b && is_okay (answer_to does)) is ∙ told)
+      by true told none = fine_effect moves table w h action confined (and_left (is_exec action) none)
+          (λ is. ap (λ b. b && is_okay (answer_to does)) is ∙ told)
         where
           and_left : (a : Bool) → (a && true) ≡ false → a ≡ false
           and_left true e = e
@@ -121,7 +113,8 @@ module _ (table : CallTable) (w : World) (h : History) (confined : IsConfined h)
   request_steps none = steps moves h (history_left h does) confined (goes_left (fine_request none))
 
 -- the history of the one that asked is what the effect leaves
-left_here : (w : World) (process : ℕ) (h : History) (e : Effect) → IsNew w e → history_of w process ≡ Some h → history_of (left_by w process h e) process ≡ Some (history_left h e)
+left_here : (w : World) (process : ℕ) (h : History) (e : Effect) → IsNew w e → history_of w process ≡ Some h →
+    history_of (left_by w process h e) process ≡ Some (history_left h e)
 left_here w process h (Fails errno) new here = here
 left_here w process h Kills new here = put_here nat_cmp nat_cmp_total nat_cmp-IsAntisymmetric process (Ended ∷ h) w.histories
 left_here w process h (Leaves t after) new here = put_here nat_cmp nat_cmp_total nat_cmp-IsAntisymmetric process after w.histories
@@ -138,14 +131,20 @@ module _ (table : CallTable) (w : World) (ask : Asked) (h : History) (confined :
       HasHistoryOf done.1 ask.process (λ after. Steps (is_chdir ask.action && is_okay done.0) h after)
 
   after_served : history_of w ask.process ≡ Some h → (ended : Bool) →
-      After (cond {A = Answer × World} ended (Gone, w) (answer_to (effect table w h ask.action), left_by w ask.process h (effect table w h ask.action)))
+      After (cond {A = Answer × World} ended (Gone, w) (
+        answer_to (effect table w h ask.action),
+        left_by w ask.process h (effect table w h ask.action),
+      ))
   after_served here true none = (h, here, record { within = within_self h confined; dir = λ still. refl })
   after_served here false none =
-      let e = effect table w h ask.action in
-      (history_left h e, left_here w ask.process h e (effect_is_new table w h ask.action) here, request_steps table w h confined ask.action none)
+      let e = effect table w h ask.action in (
+        history_left h e,
+        left_here w ask.process h e (effect_is_new table w h ask.action) here,
+        request_steps table w h confined ask.action none,
+      )
 
   pub own_request : history_of w ask.process ≡ Some h → After (apply table w ask)
-  own_request here = subst (λ o. After (served table w ask o)) (sym here) (after_served here (is_ended h))
+  own_request here = subst (λ o. After (answer_and_world table w ask o)) (sym here) (after_served here (is_ended h))
 
 -- the request of anyone
 pub is_one : (process other : ℕ) → is_member (process ∷ []) other ≡ (process == other)
@@ -155,18 +154,27 @@ is_one process other = by (process == other)
     by true = refl
     by false = refl
 
-module _ (table : CallTable) (w : World) (ask : Asked) (process : ℕ) (h : History) (here : history_of w process ≡ Some h) (confined : IsConfined h)
+module _ (table : CallTable) (w : World) (ask : Asked) (process : ℕ) (h : History) (here : history_of w process ≡ Some h)
+    (confined : IsConfined h)
     (none : is_done is_exec table w ask (process ∷ []) ≡ false) where
   abbrev moved_by : Bool
   moved_by = is_done is_chdir table w ask (process ∷ [])
 
-  own_or_other : (same : Bool) → (process == ask.process) ≡ same → HasHistoryOf (apply table w ask).1 process (λ after. Steps moved_by h after)
-  own_or_other false other =
-      (h, others_leave table w ask process h here (λ e. false≢true (sym other ∙ eq-eqb process ask.process (sym e))), record { within = within_self h confined; dir = λ still. refl })
+  own_or_other : (same : Bool) → (process == ask.process) ≡ same →
+      HasHistoryOf (apply table w ask).1 process (λ after. Steps moved_by h after)
+  own_or_other false other = (
+    h,
+    others_leave table w ask process h here (λ e. false≢true (sym other ∙ eq-eqb process ask.process (sym e))),
+    record { within = within_self h confined; dir = λ still. refl },
+  )
   own_or_other true same =
       let is : process ≡ ask.process = eqb-true process ask.process same in
-      let own = own_request table w ask h confined (sym (ap (history_of w) is) ∙ here) (sym (ap (λ b. b && is_own is_exec table w ask) (is_one process ask.process ∙ same)) ∙ none) in
-      (own.0, ap (history_of (apply table w ask).1) is ∙ own.1, subst (λ b. Steps b h own.0) (sym (ap (λ b. b && is_own is_chdir table w ask) (is_one process ask.process ∙ same))) own.2)
+      let own = own_request table w ask h confined (sym (ap (history_of w) is) ∙
+      here) (sym (ap (λ b. b && is_own is_exec table w ask) (is_one process ask.process ∙ same)) ∙ none) in (
+        own.0,
+        ap (history_of (apply table w ask).1) is ∙ own.1,
+        subst (λ b. Steps b h own.0) (sym (ap (λ b. b && is_own is_chdir table w ask) (is_one process ask.process ∙ same))) own.2,
+      )
 
   pub each_steps : HasHistoryOf (apply table w ask).1 process (λ after. Steps moved_by h after)
   each_steps = own_or_other (process == ask.process) refl

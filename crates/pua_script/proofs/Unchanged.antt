@@ -1,38 +1,34 @@
 -- Who doesn't hold cpath may make no call whose alternatives all name it.
-use Rattle.std.proofs.Common.{◌≡◌, ℕ, List, [], ◌∷◌, Bool, true, false, cond, refl, sym, ap, ◌∙◌, ◌||◌}
-use Rattle.std.specs.List.{list_any, AllByRecursion}
-use Rattle.std.specs.Prelude.{IsTrue, is_some, nat_le, length}
-use Rattle.std.proofs.lemmas.Bool.{false≢true}
-use Rattle.pua_tree.specs.Tree.{Tree}
-use Rattle.pua_path.specs.declared.errno.Errno.TheVariants.{EAGAIN}
-use Rattle.pua_calls.specs.Promises.{holds, cpath}
-use Rattle.pua_policy.specs.History.{History, held, has_error, is_ended, may_any}
-use Rattle.pua_calls.specs.Calls.{Rule, CallTable, rule_of}
-use Rattle.pua_calls.specs.declared.call.Call.{Call}
+use Rattle.pua_script.proofs.Common.{◌≡◌, ℕ, List, [], ◌∷◌, Bool, true, false, cond, refl, sym, ap, ◌∙◌, ◌||◌, list_any, AllByRecursion}
+use Rattle.pua_script.proofs.Common.{IsTrue, is_some, nat_le, false≢true, Tree, EAGAIN, holds, History, held_set, has_error, is_ended}
+use Rattle.pua_script.proofs.Common.{may_any, CallTable, rule_of, Call, Yes, most_processes, tree_left, Change, AddNode, CutRow, ShiftRow}
+use Rattle.pua_script.proofs.Common.{TieRow, CopyAs, World, Fails, Copies, history_of, change_effect, Action}
+use Rattle.std.specs.Prelude.{length}
+use Rattle.pua_calls.specs.Promises.{cpath}
+use Rattle.pua_calls.specs.Calls.{Rule}
 use Rattle.pua_calls.specs.declared.call.Call.TheVariants as call
-use Rattle.pua_policy.specs.declared.answer.May.TheVariants.{Yes, Enosys, Death}
+use Rattle.pua_policy.specs.declared.answer.May.TheVariants.{Enosys, Death}
 use Rattle.pua_policy.proofs.ForCallers.{holds_through}
-use Rattle.pua_script.specs.Limits.{process_limit}
-use Rattle.pua_script.specs.Worlds.{tree_left}
 use Rattle.pua_script.specs.Confinement.{NamesCpath, ChangingNeedsCpath, CpathChanges}
-use Rattle.pua_script.specs.Decide.{Change, AddNode, CutRow, ShiftRow, TieRow, CopyAs}
-use Rattle.pua_script.specs.Replay.{World, Fails, Copies, history_of, made}
-use Rattle.pua_script.specs.declared.request.Action.{Action}
 use Rattle.pua_script.proofs.Guarding.{grounds}
 use Rattle.pua_script.proofs.Grounds.{Grounds, makes, takes}
 use Rattle.pua_script.proofs.Applied.{by_own_tree}
 
-module _ (h : History) (lacks : holds (held h) cpath ≡ false) where
-  none_held : (alternatives : List ℕ) → AllByRecursion (λ set. IsTrue (holds set cpath)) alternatives → list_any (holds (held h)) alternatives ≡ false
+module _ (h : History) (lacks : holds (held_set h) cpath ≡ false) where
+  none_held : (alternatives : List ℕ) → AllByRecursion (λ set. IsTrue (holds set cpath)) alternatives →
+      list_any (holds (held_set h)) alternatives ≡ false
   none_held [] names = refl
-  none_held (set ∷ sets) names = by (holds (held h) set) refl (none_held sets names.1)
+  none_held (set ∷ sets) names = by (holds (held_set h) set) refl (none_held sets names.1)
     where
-      by : (b : Bool) → holds (held h) set ≡ b → list_any (holds (held h)) sets ≡ false → (b || list_any (holds (held h)) sets) ≡ false
-      by true is rest = absurd (false≢true (sym lacks ∙ holds_through (held h) set cpath is names.0))
+      by : (b : Bool) → holds (held_set h) set ≡ b → list_any (holds (held_set h)) sets ≡ false →
+          (b || list_any (holds (held_set h)) sets) ≡ false
+      by true is rest = absurd (false≢true (sym lacks ∙ holds_through (held_set h) set cpath is names.0))
       by false is rest = rest
 
   pub may_not : (alternatives : List ℕ) → AllByRecursion (λ set. IsTrue (holds set cpath)) alternatives → may_any h alternatives ≡ Yes → ⊥
-  may_not alternatives names e = by (is_ended h) (has_error h) (ap (λ b. cond (is_ended h) Death (cond b Yes (cond (has_error h) Enosys Death))) (sym (none_held alternatives names)) ∙ e)
+  may_not alternatives names e =
+      by (is_ended h) (has_error h) (ap (λ b. cond (is_ended h) Death (cond b Yes (cond (has_error h) Enosys Death)))
+      (sym (none_held alternatives names)) ∙ e)
     where
       by : (a c : Bool) → cond a Death (cond c Enosys Death) ≡ Yes → ⊥
       by true c e = cc
@@ -48,19 +44,19 @@ is_edit (TieRow spot x) = true
 is_edit _ = false
 
 -- any other leaves it
-keeps : (w : World) (h : History) (c : Change) → is_edit c ≡ false → tree_left w.tree (made w h c) ≡ w.tree
+keeps : (w : World) (h : History) (c : Change) → is_edit c ≡ false → tree_left w.tree (change_effect w h c) ≡ w.tree
 keeps w h (AddNode spot node) none = absurd (false≢true (sym none))
 keeps w h (CutRow spot) none = absurd (false≢true (sym none))
 keeps w h (ShiftRow old new) none = absurd (false≢true (sym none))
 keeps w h (TieRow spot x) none = absurd (false≢true (sym none))
-keeps w h (CopyAs new) none = by (is_some (history_of w new) || nat_le process_limit (length w.histories))
+keeps w h (CopyAs new) none = by (is_some (history_of w new) || nat_le most_processes (length w.histories))
   where
     by : (full : Bool) → tree_left w.tree (cond full (Fails EAGAIN) (Copies new)) ≡ w.tree
     by true = refl
     by false = refl
 keeps w h _ none = refl
 
-module _ (table : CallTable) (needs : ChangingNeedsCpath table) (t : Tree) (h : History) (lacks : holds (held h) cpath ≡ false) where
+module _ (table : CallTable) (needs : ChangingNeedsCpath table) (t : Tree) (h : History) (lacks : holds (held_set h) cpath ≡ false) where
   never : {A : Type 0} (rule : Rule) → NamesCpath rule → may_any h rule.alternatives ≡ Yes → A
   never rule names may = absurd (may_not h lacks rule.alternatives names may)
 
@@ -84,4 +80,6 @@ module _ (table : CallTable) (needs : ChangingNeedsCpath table) (t : Tree) (h : 
   no_edit action _ g = refl
 
 pub cpath_changes : CpathChanges
-cpath_changes table needs w ask h here lacks = by_own_tree table w ask h here (λ t. t ≡ w.tree) refl (λ c guards. keeps w h c (no_edit table needs w.tree h lacks ask.action c (grounds table w.tree h ask.action c guards)))
+cpath_changes table needs w ask h here lacks =
+    by_own_tree table w ask h here (λ t. t ≡ w.tree) refl
+    (λ c guards. keeps w h c (no_edit table needs w.tree h lacks ask.action c (grounds table w.tree h ask.action c guards)))

@@ -11,5 +11,5 @@ answer_text Killed = codes "killed"
 answer_text Gone = codes "gone"
 
 -- a line with its end
-abbrev pub ended : List ℕ → List ℕ
-ended line = line ++ 10 ∷ []
+abbrev pub with_end : List ℕ → List ℕ
+with_end line = line ++ 10 ∷ []

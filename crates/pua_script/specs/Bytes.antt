@@ -33,15 +33,18 @@ pub record IsByteTree (t : Tree) : Type 0 where
 
 -- a request leaves such a tree
 abbrev pub RequestsKeepTrees : Type 0
-RequestsKeepTrees = (table : CallTable) (w : World) (ask : Asked) → IsByteTree w.tree → IsTrue (is_in_bytes ask.action) → IsByteTree (apply table w ask).1.tree
+RequestsKeepTrees = (table : CallTable) (w : World) (ask : Asked) → IsByteTree w.tree → IsTrue (is_in_bytes ask.action) →
+    IsByteTree (apply table w ask).1.tree
 
 -- so each world on the way of requests in bytes has a tree
 abbrev pub ReplaysKeepTrees : Type 0
-ReplaysKeepTrees = (table : CallTable) (w : World) (asks : List Asked) → IsByteTree w.tree → IsTrue (are_in_bytes asks) → TreesAlong table w asks
+ReplaysKeepTrees = (table : CallTable) (w : World) (asks : List Asked) → IsByteTree w.tree → IsTrue (are_in_bytes asks) →
+    TreesAlong table w asks
 
 -- and leaves such a tree at the end
 abbrev pub ReplaysKeepByteTrees : Type 0
-ReplaysKeepByteTrees = (table : CallTable) (w : World) (asks : List Asked) → IsByteTree w.tree → IsTrue (are_in_bytes asks) → IsByteTree (world_after table w asks).tree
+ReplaysKeepByteTrees = (table : CallTable) (w : World) (asks : List Asked) → IsByteTree w.tree → IsTrue (are_in_bytes asks) →
+    IsByteTree (world_after table w asks).tree
 
 -- what is read as a listing is such a tree
 abbrev pub ListingsListByteTrees : Type 0

@@ -7,7 +7,7 @@ use Rattle.pua_path.specs.declared.found.Found.TheVariants.{Whole, Slot}
 use Rattle.pua_path.specs.declared.found.Way.TheVariants.{Named}
 use Rattle.pua_calls.specs.Promises.{holds, cpath, creating}
 use Rattle.pua_calls.specs.Calls.{Rule, CallTable, rule_of}
-use Rattle.pua_policy.specs.History.{History, held}
+use Rattle.pua_policy.specs.History.{History, held_set}
 use Rattle.pua_policy.specs.Verdict.{cover}
 use Rattle.pua_policy.specs.declared.answer.Cover.{Cover}
 use Rattle.pua_policy.specs.declared.answer.Cover.TheVariants.{All, Nothing, Only}
@@ -20,7 +20,9 @@ use Rattle.pua_script.specs.Family.{is_exec, none_done, members_alone}
 abbrev pub NeedsC : Rule → Type 0
 NeedsC rule = IsTrue (holds rule.perms creating)
 
--- what takes a name away needs `c`: two calls, and rename, which takes away its old name and what has the new one. Link takes none away, so nothing is asked of it: the row of its old name stays, but by the new one what it names may be written
+-- what takes a name away needs `c`: two calls, and rename, which takes away its old name and what has the new one. Link
+-- takes none away, so nothing is asked of it: the row of its old name stays, but by the new one what it names may be
+-- written
 pub record TakingNeedsC (table : CallTable) : Type 0 where
   pub rmdir : NeedsC (rule_of table call.Rmdir)
   pub unlink : NeedsC (rule_of table call.Unlink)
@@ -59,17 +61,19 @@ pub record RowStays (h : History) (t u : Tree) (spot : Spot) (x : ℕ) : Type 0 
 
 -- each row that the history doesn't cover with `c` stays
 abbrev pub UncoveredStay : History → Tree → Tree → Type 0
-UncoveredStay h t u = (spot : Spot) (x : ℕ) → look t spot.0 spot.1 ≡ Some x → IsFalse (has_c (cover t h (object_in t spot x))) → RowStays h t u spot x
+UncoveredStay h t u = (spot : Spot) (x : ℕ) → look t spot.0 spot.1 ≡ Some x → IsFalse (has_c (cover t h (object_in t spot x))) →
+    RowStays h t u spot x
 
 -- one request, by the history of the one that asks, from one tree to another; nothing is asked of that history
 abbrev pub EachRequestSpares : Type 0
 EachRequestSpares = (table : CallTable) → TakingNeedsC table → (w : World) (ask : Asked) (h : History) →
-    WellFormed w.tree → WellFormed (apply table w ask).1.tree → history_of w ask.process ≡ Some h → UncoveredStay h w.tree (apply table w ask).1.tree
+    WellFormed w.tree → WellFormed (apply table w ask).1.tree → history_of w ask.process ≡ Some h →
+    UncoveredStay h w.tree (apply table w ask).1.tree
 
 -- and without cpath the tree stays
 abbrev pub CpathChanges : Type 0
 CpathChanges = (table : CallTable) → ChangingNeedsCpath table → (w : World) (ask : Asked) (h : History) →
-    history_of w ask.process ≡ Some h → IsFalse (holds (held h) cpath) → (apply table w ask).1.tree ≡ w.tree
+    history_of w ask.process ≡ Some h → IsFalse (holds (held_set h) cpath) → (apply table w ask).1.tree ≡ w.tree
 
 -- each world on the way has a tree
 abbrev pub TreesAlong : CallTable → World → List Asked → Type 0
@@ -79,7 +83,7 @@ TreesAlong table w (ask ∷ asks) = WellFormed w.tree × TreesAlong table (apply
 -- the second part over a list of requests: by the history at its beginning each uncovered row stays, and without cpath the tree stays
 pub record Confines (table : CallTable) (w : World) (now : History) (asks : List Asked) : Type 0 where
   pub spares : TakingNeedsC table → TreesAlong table w asks → UncoveredStay now w.tree (world_after table w asks).tree
-  pub unchanged : ChangingNeedsCpath table → IsFalse (holds (held now) cpath) → (world_after table w asks).tree ≡ w.tree
+  pub unchanged : ChangingNeedsCpath table → IsFalse (holds (held_set now) cpath) → (world_after table w asks).tree ≡ w.tree
 
 -- where members alone ask, and no exec of theirs is answered ok
 abbrev pub FamilyConfines : CallTable → World → List Asked → Type 0

@@ -1,5 +1,7 @@
--- What a request decides to change, by the tree and the history of the one that asks: all checks in their order. Of other processes, and of the room that a change needs, nothing is known here.
-use Rattle.std.specs.Prelude.{ℕ, Bool, true, false, not, ◌||◌, if◌then◌else◌, List, [], ◌∷◌, Option, Some, None, option_map, Result, Ok, Err, is_some}
+-- What a request decides to change, by the tree and what the one that asks keeps: all checks in their order. Of other
+-- processes, and of the room that a change needs, nothing is known here.
+use Rattle.std.specs.Prelude.{ℕ, Bool, true, false, not, ◌||◌, if◌then◌else◌, List, [], ◌∷◌, Option, Some, None, option_map, Result, Ok}
+use Rattle.std.specs.Prelude.{Err, is_some}
 use Rattle.pua_tree.specs.Tree.{Tree, Node, Spot, is_empty}
 use Rattle.pua_tree.specs.Edits.{is_inside, is_same_node}
 use Rattle.pua_path.specs.Paths.{path_fault}
@@ -7,11 +9,13 @@ use Rattle.pua_path.specs.Resolution.{resolution_of_text}
 use Rattle.pua_path.specs.Fits.{spot_named, node_named}
 use Rattle.pua_calls.specs.Promises.{proc, unveil}
 use Rattle.pua_calls.specs.Calls.{CallTable, NameRule, PairRule, rule_of, last_of, ending_of}
-use Rattle.pua_policy.specs.History.{History, Event, Pledged, Unveiled, Locked, Moved, Ended, working_dir, is_locked, pledge_fault, unveil_fault, may_any}
+use Rattle.pua_policy.specs.History.{History, Event, Pledged, Unveiled, Locked, Moved, Ended, ProcessState, state_of, working_dir}
+use Rattle.pua_policy.specs.History.{may_any_on, pledge_fault_on, unveil_fault, unveil_fault_on}
 use Rattle.pua_policy.specs.Misfits.{misfit, misfit_errno}
 use Rattle.pua_policy.specs.declared.reason.Misfit.{Misfit}
-use Rattle.pua_policy.specs.declared.reason.Misfit.TheVariants.{Missing, Exists, IsDirectory, IsNoFile, IsNoDirectory, IsNotEmpty, ByDot, ByDotDot, ByNothing}
-use Rattle.pua_policy.specs.Verdict.{place_of, cover, cover_fault, or_fault, object_of, refusal_of}
+use Rattle.pua_policy.specs.declared.reason.Misfit.TheVariants.{Missing, Exists, IsDirectory, IsNoFile, IsNoDirectory, IsNotEmpty, ByDot}
+use Rattle.pua_policy.specs.declared.reason.Misfit.TheVariants.{ByDotDot, ByNothing}
+use Rattle.pua_policy.specs.Verdict.{place_of, cover, cover_on, cover_fault, or_fault, object_of, refusal_of}
 use Rattle.pua_tree.specs.declared.node.Kind.{Kind}
 use Rattle.pua_tree.specs.declared.node.Kind.TheVariants as kind
 use Rattle.pua_path.specs.declared.errno.Errno.{Errno}
@@ -30,6 +34,7 @@ use Rattle.pua_calls.specs.declared.call.Call.TheVariants as call
 use Rattle.pua_policy.specs.declared.answer.UnveilFault.{UnveilFault}
 use Rattle.pua_policy.specs.declared.answer.UnveilFault.TheVariants.{NotPermitted, TooManyPlaces}
 use Rattle.pua_policy.specs.declared.answer.UnveilFault.TheVariants as unveil_faults
+use Rattle.pua_policy.specs.declared.answer.Cover.{Cover}
 use Rattle.pua_policy.specs.declared.answer.May.{May}
 use Rattle.pua_policy.specs.declared.answer.Refusal.{Refusal}
 use Rattle.pua_policy.specs.declared.answer.Refusal.TheVariants.{Failed}
@@ -38,7 +43,8 @@ use Rattle.pua_script.specs.declared.request.Given.TheVariants.{Good, Unknown}
 use Rattle.pua_script.specs.declared.request.Action.{Action}
 use Rattle.pua_script.specs.declared.request.Action.TheVariants.{OnPath, Symlink, Rename, Link, Pledge, Unveil, Lock, Fork, Exit}
 
--- what a request that is granted changes: nothing, a row of the tree, the program with what it leaves of execpromises, the history by an event, or the number of processes
+-- what a request that is granted changes: nothing, a row of the tree, the program with what it leaves of execpromises,
+-- the history by an event, or the number of processes
 pub data Change : Type 0 where
   NoChange : Change
   AddNode : Spot → Node → Change
@@ -62,32 +68,35 @@ pub data Side : Type 0 where
   Old : Side
   New : Side
 
--- what is told of each check that fails: R of promises, and E of all checks behind them
+-- what is told of each check that fails, whichever process asks: R of the request, and E of the check
 pub record Telling (E R : Type 0) : Type 0 where
-  -- none of these sets of promises is held
-  pub promises : History → List ℕ → Option R
-  -- a fault behind them, as what is told of the request
+  -- a fault behind the promises, as what is told of the request
   pub failed : E → R
   -- the target of a link is no path
   pub target : List ℕ → Option E
-  -- a path names nothing
-  pub path : Side → Tree → ℕ → Ending → List ℕ → Last → Result Found E
-  -- the veils leave an object less than these permissions
-  pub cover : Side → Tree → History → Found → ℕ → Option E
   -- an object is wrong in this way
   pub misfit : Side → Found → Misfit → E
   -- the new name is inside what the old one names
   pub inside : Found → Found → E
   -- an argument of pledge is unknown: of the two, whether it is execpromises
   pub unknown_promise : Bool → E
-  -- a pledge asks for more than was given
-  pub beyond : History → Option ℕ → Option ℕ → Option E
-  -- the veils are locked
-  pub locked : E
   -- the letters of an unveil are unknown
   pub unknown_letter : E
+
+-- the checks that rest on the process that asks
+pub record Asker (E R : Type 0) : Type 0 where
+  -- none of these sets of promises is held
+  pub promises : List ℕ → Option R
+  -- a path names nothing
+  pub path : Side → Tree → Ending → List ℕ → Last → Result Found E
+  -- the veils leave an object less than these permissions
+  pub cover : Side → Tree → Found → ℕ → Option E
+  -- a pledge asks for more than was given
+  pub beyond : Option ℕ → Option ℕ → Option E
+  -- the veils are locked
+  pub locked : Option E
   -- a place may not have these permissions
-  pub place : History → Place → ℕ → Option E
+  pub place : Place → ℕ → Option E
 
 -- further checks where nothing refuses
 abbrev pub unless_refused : {R : Type 0} → Option R → Outcome R → Outcome R
@@ -161,11 +170,13 @@ top_by tell _ = None
 -- what is wrong with the ways by which two paths were named: no `.`, no `..`, and not the root
 abbrev pub ways_by : {E : Type 0} → (Side → Found → Misfit → E) → Found → Found → Option E
 ways_by tell old new =
-    or_fault (dots_by (tell Old old) old) (or_fault (dots_by (tell New new) new) (or_fault (top_by (tell Old old) old) (top_by (tell New new) new)))
+    or_fault (dots_by (tell Old old) old)
+    (or_fault (dots_by (tell New new) new) (or_fault (top_by (tell Old old) old) (top_by (tell New new) new)))
 
 -- what is wrong with the new name of a rename, by the kinds of both
 abbrev pub kinds_by : {E : Type 0} → (Misfit → E) → Tree → Found → Found → Option E
-kinds_by tell t old (Whole y way) = or_fault (fault_if (not (is_whole old)) (tell IsDirectory)) (fault_if (not (is_empty t y)) (tell IsNotEmpty))
+kinds_by tell t old (Whole y way) =
+    or_fault (fault_if (not (is_whole old)) (tell IsDirectory)) (fault_if (not (is_empty t y)) (tell IsNotEmpty))
 kinds_by tell t old (Slot dir name None) = None
 kinds_by tell t old (Slot dir name (Some y)) = fault_if (is_whole old) (tell IsNoDirectory)
 
@@ -176,7 +187,8 @@ inside_by fault t x (Some spot) = fault_if (is_inside t x spot.0) fault
 
 -- what is wrong with a link's names: a directory gets none, and the new one is free
 abbrev pub names_by : {E : Type 0} → (Side → Found → Misfit → E) → Found → Found → Option E
-names_by tell old new = or_fault (fault_if (is_whole old) (tell Old old IsNoFile)) (fault_if (is_some (node_named new)) (tell New new Exists))
+names_by tell old new =
+    or_fault (fault_if (is_whole old) (tell Old old IsNoFile)) (fault_if (is_some (node_named new)) (tell New new Exists))
 
 abbrev pub shifting : Option Spot → Option Spot → Change
 shifting (Some old) (Some new) = ShiftRow old new
@@ -195,20 +207,23 @@ is_unknown Unknown = true
 is_unknown _ = false
 
 -- what a call on a path changes, whose promises are held
-abbrev pub object_by : {E R : Type 0} → Telling E R → CallTable → Tree → History → Call → List ℕ → (Found → Outcome R) → Outcome R
-object_by told table t h call path further =
-    on_named told.failed (told.path Sole t (working_dir h) (ending_of call) path (last_of call)) λ object.
-    unless_failed told.failed (or_fault (told.cover Sole t h object (rule_of table call).perms) (option_map (told.misfit Sole object) (misfit t call (object_of t object)))) (further object)
+abbrev pub object_by : {E R : Type 0} → Telling E R → CallTable → Tree → Asker E R → Call → List ℕ → (Found → Outcome R) → Outcome R
+object_by told table t asker call path further =
+    on_named told.failed (asker.path Sole t (ending_of call) path (last_of call)) λ object.
+    unless_failed told.failed (or_fault (asker.cover Sole t object (rule_of table call).perms)
+    (option_map (told.misfit Sole object) (misfit t call (object_of t object)))) (further object)
 
-abbrev pub call_by : {E R : Type 0} → Telling E R → CallTable → Tree → History → Call → List ℕ → Outcome R
-call_by told table t h call path =
-    unless_refused (told.promises h (rule_of table call).alternatives) (object_by told table t h call path (λ object. Ok (change_by table call object)))
+abbrev pub call_by : {E R : Type 0} → Telling E R → CallTable → Tree → Asker E R → Call → List ℕ → Outcome R
+call_by told table t asker call path =
+    unless_refused (asker.promises (rule_of table call).alternatives)
+    (object_by told table t asker call path (λ object. Ok (change_by table call object)))
 
 -- the promise, then the target's text, then the path
-abbrev pub symlink_by : {E R : Type 0} → Telling E R → CallTable → Tree → History → List ℕ → List ℕ → Outcome R
-symlink_by told table t h target path =
-    unless_refused (told.promises h (rule_of table call.Symlink).alternatives)
-    (unless_failed told.failed (told.target target) (object_by told table t h call.Symlink path (λ object. Ok (adding (link_node target) object))))
+abbrev pub symlink_by : {E R : Type 0} → Telling E R → CallTable → Tree → Asker E R → List ℕ → List ℕ → Outcome R
+symlink_by told table t asker target path =
+    unless_refused (asker.promises (rule_of table call.Symlink).alternatives)
+    (unless_failed told.failed (told.target target)
+    (object_by told table t asker call.Symlink path (λ object. Ok (adding (link_node target) object))))
 
 -- a rename of what both paths named, once both are covered
 abbrev pub rename_by : {E R : Type 0} → Telling E R → Tree → Found → Found → Option ℕ → Outcome R
@@ -216,7 +231,8 @@ rename_by told t old new None = Err (told.failed (told.misfit Old old Missing))
 rename_by told t old new (Some x) =
     unless_failed told.failed (ways_by told.misfit old new)
     (if is_same_node x (node_named new) then Ok NoChange
-    else unless_failed told.failed (or_fault (inside_by (told.inside old new) t x (spot_named new)) (kinds_by (told.misfit New new) t old new))
+    else unless_failed told.failed (or_fault (inside_by (told.inside old new) t x (spot_named new))
+    (kinds_by (told.misfit New new) t old new))
     (Ok (shifting (spot_named old) (spot_named new))))
 
 -- a further name for what the old path named, once both are covered
@@ -225,64 +241,68 @@ link_by told old new None = Err (told.failed (told.misfit Old old Missing))
 link_by told old new (Some x) = unless_failed told.failed (names_by told.misfit old new) (Ok (tying x (spot_named new)))
 
 -- what is wrong with the covers of two objects
-abbrev pub covers_by : {E R : Type 0} → Telling E R → PairRule → Tree → History → Found → Found → Option E
-covers_by told pair t h old new = or_fault (told.cover Old t h old pair.old.needs.perms) (told.cover New t h new pair.new.needs.perms)
+abbrev pub covers_by : {E R : Type 0} → PairRule → Tree → Asker E R → Found → Found → Option E
+covers_by pair t asker old new = or_fault (asker.cover Old t old pair.old.needs.perms) (asker.cover New t new pair.new.needs.perms)
 
 -- what two paths named, where the veils leave enough of both: the old path first each time
-abbrev pub objects_by : {E R : Type 0} → Telling E R → PairRule → Tree → History → Ending → List ℕ → List ℕ → (Found → Found → Outcome R) → Outcome R
-objects_by told pair t h ending old_path new_path further =
-    on_named told.failed (told.path Old t (working_dir h) ending old_path pair.old.last) λ old.
-    on_named told.failed (told.path New t (working_dir h) ending new_path pair.new.last) λ new.
-    unless_failed told.failed (covers_by told pair t h old new) (further old new)
+abbrev pub objects_by : {E R : Type 0} → Telling E R → PairRule → Tree → Asker E R → Ending → List ℕ → List ℕ →
+    (Found → Found → Outcome R) → Outcome R
+objects_by told pair t asker ending old_path new_path further =
+    on_named told.failed (asker.path Old t ending old_path pair.old.last) λ old.
+    on_named told.failed (asker.path New t ending new_path pair.new.last) λ new.
+    unless_failed told.failed (covers_by pair t asker old new) (further old new)
 
 -- two paths: the promises of both names first
-abbrev pub pair_by : {E R : Type 0} → Telling E R → PairRule → Tree → History → Ending → List ℕ → List ℕ → (Found → Found → Outcome R) → Outcome R
-pair_by told pair t h ending old_path new_path further =
-    unless_refused (told.promises h pair.old.needs.alternatives)
-    (unless_refused (told.promises h pair.new.needs.alternatives) (objects_by told pair t h ending old_path new_path further))
+abbrev pub pair_by : {E R : Type 0} → Telling E R → PairRule → Tree → Asker E R → Ending → List ℕ → List ℕ → (Found → Found → Outcome R) →
+    Outcome R
+pair_by told pair t asker ending old_path new_path further =
+    unless_refused (asker.promises pair.old.needs.alternatives)
+    (unless_refused (asker.promises pair.new.needs.alternatives) (objects_by told pair t asker ending old_path new_path further))
 
 -- a veil on a place, after the veils kept so far
-abbrev pub veiling_by : {E R : Type 0} → Telling E R → History → Place → ℕ → Outcome R
-veiling_by told h place perms = unless_failed told.failed (told.place h place perms) (Ok (AddEvent (Unveiled place perms)))
+abbrev pub veiling_by : {E R : Type 0} → Telling E R → Asker E R → Place → ℕ → Outcome R
+veiling_by told asker place perms = unless_failed told.failed (asker.place place perms) (Ok (AddEvent (Unveiled place perms)))
 
 -- the letters of an unveil, then its path, then the place
-abbrev pub veil_by : {E R : Type 0} → Telling E R → Tree → History → List ℕ → Option ℕ → Outcome R
-veil_by told t h path None = Err (told.failed told.unknown_letter)
-veil_by told t h path (Some perms) =
-    on_named told.failed (told.path Sole t (working_dir h) ending.Dot path Followed) λ object. veiling_by told h (place_of object) perms
+abbrev pub veil_by : {E R : Type 0} → Telling E R → Tree → Asker E R → List ℕ → Option ℕ → Outcome R
+veil_by told t asker path None = Err (told.failed told.unknown_letter)
+veil_by told t asker path (Some perms) =
+    on_named told.failed (asker.path Sole t ending.Dot path Followed) λ object. veiling_by told asker (place_of object) perms
 
 -- an unveil of a path: the promise and the lock first
-abbrev pub unveil_by : {E R : Type 0} → Telling E R → Tree → History → List ℕ → Option ℕ → Outcome R
-unveil_by told t h path perms =
-    unless_refused (told.promises h (unveil ∷ [])) (unless_failed told.failed (fault_if (is_locked h) told.locked) (veil_by told t h path perms))
+abbrev pub unveil_by : {E R : Type 0} → Telling E R → Tree → Asker E R → List ℕ → Option ℕ → Outcome R
+unveil_by told t asker path perms =
+    unless_refused (asker.promises (unveil ∷ [])) (unless_failed told.failed asker.locked
+    (veil_by told t asker path perms))
 
-abbrev pub lock_by : {E R : Type 0} → Telling E R → History → Outcome R
-lock_by told h = unless_refused (told.promises h (unveil ∷ [])) (Ok (AddEvent Locked))
+abbrev pub lock_by : {E R : Type 0} → Asker E R → Outcome R
+lock_by asker = unless_refused (asker.promises (unveil ∷ [])) (Ok (AddEvent Locked))
 
-abbrev pub fork_by : {E R : Type 0} → Telling E R → History → ℕ → Outcome R
-fork_by told h new = unless_refused (told.promises h (proc ∷ [])) (Ok (CopyAs new))
+abbrev pub fork_by : {E R : Type 0} → Asker E R → ℕ → Outcome R
+fork_by asker new = unless_refused (asker.promises (proc ∷ [])) (Ok (CopyAs new))
 
 -- what is given and given up, after what was before
-abbrev pub pledging_by : {E R : Type 0} → Telling E R → History → Option ℕ → Option ℕ → Outcome R
-pledging_by told h promises execpromises =
-    unless_failed told.failed (told.beyond h promises execpromises) (Ok (AddEvent (Pledged promises execpromises)))
+abbrev pub pledging_by : {E R : Type 0} → Telling E R → Asker E R → Option ℕ → Option ℕ → Outcome R
+pledging_by told asker promises execpromises =
+    unless_failed told.failed (asker.beyond promises execpromises) (Ok (AddEvent (Pledged promises execpromises)))
 
-abbrev pub pledge_by : {E R : Type 0} → Telling E R → History → Given → Given → Outcome R
-pledge_by told h promises execpromises =
+abbrev pub pledge_by : {E R : Type 0} → Telling E R → Asker E R → Given → Given → Outcome R
+pledge_by told asker promises execpromises =
     unless_failed told.failed (fault_if (is_unknown promises || is_unknown execpromises) (told.unknown_promise (not (is_unknown promises))))
-    (pledging_by told h (given_set promises) (given_set execpromises))
+    (pledging_by told asker (given_set promises) (given_set execpromises))
 
 -- what a living process's request changes, or what is told of why it is refused: all checks in their order
-abbrev pub decide_by : {E R : Type 0} → Telling E R → CallTable → Tree → History → Action → Outcome R
-decide_by told table t h (OnPath call path) = call_by told table t h call path
-decide_by told table t h (Symlink target path) = symlink_by told table t h target path
-decide_by told table t h (Rename old new) = pair_by told table.rename t h ending.Dropped old new (λ a b. rename_by told t a b (node_named a))
-decide_by told table t h (Link old new) = pair_by told table.link t h ending.Dot old new (λ a b. link_by told a b (node_named a))
-decide_by told table t h (Pledge promises execpromises) = pledge_by told h promises execpromises
-decide_by told table t h (Unveil path perms) = unveil_by told t h path perms
-decide_by told table t h Lock = lock_by told h
-decide_by told table t h (Fork new) = fork_by told h new
-decide_by told table t h Exit = Ok (AddEvent Ended)
+abbrev pub decide_by : {E R : Type 0} → Telling E R → CallTable → Tree → Asker E R → Action → Outcome R
+decide_by told table t asker (OnPath call path) = call_by told table t asker call path
+decide_by told table t asker (Symlink target path) = symlink_by told table t asker target path
+decide_by told table t asker (Rename old new) =
+    pair_by told table.rename t asker ending.Dropped old new (λ a b. rename_by told t a b (node_named a))
+decide_by told table t asker (Link old new) = pair_by told table.link t asker ending.Dot old new (λ a b. link_by told a b (node_named a))
+decide_by told table t asker (Pledge promises execpromises) = pledge_by told asker promises execpromises
+decide_by told table t asker (Unveil path perms) = unveil_by told t asker path perms
+decide_by told table t asker Lock = lock_by asker
+decide_by told table t asker (Fork new) = fork_by asker new
+decide_by told table t asker Exit = Ok (AddEvent Ended)
 
 -- an errno is told of a check that fails, and of promises whether the process ends
 abbrev pub unveil_errno : Option UnveilFault → Option Errno
@@ -293,32 +313,47 @@ unveil_errno (Some unveil_faults.OutOfMemory) = None
 
 abbrev pub refusals : Telling Errno Refusal
 refusals = record {
-  promises = λ h sets. refusal_of (may_any h sets);
   failed = λ errno. Failed errno;
   target = path_fault;
-  path = λ side t from ending text last. resolution_of_text t from ending text last;
-  cover = λ side t h object perms. cover_fault (cover t h object) perms;
   misfit = λ side object wrong. misfit_errno wrong;
   inside = λ old new. EINVAL;
   unknown_promise = λ of_exec. EINVAL;
-  beyond = pledge_fault;
-  locked = EPERM;
   unknown_letter = EINVAL;
-  place = λ h place perms. unveil_errno (unveil_fault h place perms);
 }
+
+abbrev pub Asking : Type 0
+Asking = Asker Errno Refusal
+
+-- a process that asks, by what it keeps, by the covers of objects and by why an unveil is refused
+abbrev pub asker_by : ProcessState → (Tree → Found → Cover) → (Place → ℕ → Option UnveilFault) → Asking
+asker_by p covers unveils = record {
+  promises = λ sets. refusal_of (may_any_on p sets);
+  path = λ side t ending text last. resolution_of_text t p.dir ending text last;
+  cover = λ side t object perms. cover_fault (covers t object) perms;
+  beyond = pledge_fault_on p;
+  locked = fault_if p.locked EPERM;
+  place = λ place perms. unveil_errno (unveils place perms);
+}
+
+abbrev pub asker_on : ProcessState → Asking
+asker_on p = asker_by p (λ t object. cover_on t p object) (unveil_fault_on p)
+
+-- and by its history
+abbrev pub asker_of : History → Asking
+asker_of h = asker_by (state_of h) (λ t object. cover t h object) (unveil_fault h)
 
 -- the checks of a decision, by names of their own
 abbrev pub fails : Errno → Decision
 fails errno = Err (Failed errno)
 
-abbrev pub promised : May → Decision → Decision
-promised may further = unless_refused (refusal_of may) further
+abbrev pub if_may : May → Decision → Decision
+if_may may further = unless_refused (refusal_of may) further
 
-abbrev pub checked : Option Errno → Decision → Decision
-checked fault further = unless_failed (λ errno. Failed errno) fault further
+abbrev pub unless_fault : Option Errno → Decision → Decision
+unless_fault fault further = unless_failed (λ errno. Failed errno) fault further
 
-abbrev pub named : {X : Type 0} → Result X Errno → (X → Decision) → Decision
-named found further = on_named (λ errno. Failed errno) found further
+abbrev pub if_named : {X : Type 0} → Result X Errno → (X → Decision) → Decision
+if_named found further = on_named (λ errno. Failed errno) found further
 
 abbrev pub dots_fault : Found → Option Errno
 dots_fault object = dots_by (λ wrong. misfit_errno wrong) object
@@ -339,17 +374,14 @@ inside_fault t x spot = inside_by EINVAL t x spot
 abbrev pub named_by : NameRule → Tree → History → Ending → List ℕ → Result Found Errno
 named_by name t h ending path = resolution_of_text t (working_dir h) ending path name.last
 
-abbrev pub covers_fault : PairRule → Tree → History → Found → Found → Option Errno
-covers_fault pair t h old new = or_fault (cover_fault (cover t h old) pair.old.needs.perms) (cover_fault (cover t h new) pair.new.needs.perms)
+abbrev pub decide_object : CallTable → Tree → Asking → Call → List ℕ → (Found → Decision) → Decision
+decide_object table t asker call path further = object_by refusals table t asker call path further
 
-abbrev pub decide_object : CallTable → Tree → History → Call → List ℕ → (Found → Decision) → Decision
-decide_object table t h call path further = object_by refusals table t h call path further
+abbrev pub decide_call : CallTable → Tree → Asking → Call → List ℕ → Decision
+decide_call table t asker call path = call_by refusals table t asker call path
 
-abbrev pub decide_call : CallTable → Tree → History → Call → List ℕ → Decision
-decide_call table t h call path = call_by refusals table t h call path
-
-abbrev pub decide_symlink : CallTable → Tree → History → List ℕ → List ℕ → Decision
-decide_symlink table t h target path = symlink_by refusals table t h target path
+abbrev pub decide_symlink : CallTable → Tree → Asking → List ℕ → List ℕ → Decision
+decide_symlink table t asker target path = symlink_by refusals table t asker target path
 
 abbrev pub decide_rename : Tree → Found → Found → Option ℕ → Decision
 decide_rename t old new node = rename_by refusals t old new node
@@ -357,33 +389,37 @@ decide_rename t old new node = rename_by refusals t old new node
 abbrev pub decide_link : Found → Found → Option ℕ → Decision
 decide_link old new node = link_by refusals old new node
 
-abbrev pub decide_objects : PairRule → Tree → History → Ending → List ℕ → List ℕ → (Found → Found → Decision) → Decision
-decide_objects pair t h ending old_path new_path further = objects_by refusals pair t h ending old_path new_path further
+abbrev pub decide_objects : PairRule → Tree → Asking → Ending → List ℕ → List ℕ → (Found → Found → Decision) → Decision
+decide_objects pair t asker ending old_path new_path further = objects_by refusals pair t asker ending old_path new_path further
 
-abbrev pub decide_pair : PairRule → Tree → History → Ending → List ℕ → List ℕ → (Found → Found → Decision) → Decision
-decide_pair pair t h ending old_path new_path further = pair_by refusals pair t h ending old_path new_path further
+abbrev pub decide_pair : PairRule → Tree → Asking → Ending → List ℕ → List ℕ → (Found → Found → Decision) → Decision
+decide_pair pair t asker ending old_path new_path further = pair_by refusals pair t asker ending old_path new_path further
 
-abbrev pub veiling : History → Place → ℕ → Decision
-veiling h place perms = veiling_by refusals h place perms
+abbrev pub veiling : Asking → Place → ℕ → Decision
+veiling asker place perms = veiling_by refusals asker place perms
 
-abbrev pub decide_veil : Tree → History → List ℕ → Option ℕ → Decision
-decide_veil t h path perms = veil_by refusals t h path perms
+abbrev pub decide_veil : Tree → Asking → List ℕ → Option ℕ → Decision
+decide_veil t asker path perms = veil_by refusals t asker path perms
 
-abbrev pub decide_unveil : Tree → History → List ℕ → Option ℕ → Decision
-decide_unveil t h path perms = unveil_by refusals t h path perms
+abbrev pub decide_unveil : Tree → Asking → List ℕ → Option ℕ → Decision
+decide_unveil t asker path perms = unveil_by refusals t asker path perms
 
-abbrev pub decide_lock : History → Decision
-decide_lock h = lock_by refusals h
+abbrev pub decide_lock : Asking → Decision
+decide_lock asker = lock_by asker
 
-abbrev pub decide_fork : History → ℕ → Decision
-decide_fork h new = fork_by refusals h new
+abbrev pub decide_fork : Asking → ℕ → Decision
+decide_fork asker new = fork_by asker new
 
-abbrev pub pledging : History → Option ℕ → Option ℕ → Decision
-pledging h promises execpromises = pledging_by refusals h promises execpromises
+abbrev pub pledging : Asking → Option ℕ → Option ℕ → Decision
+pledging asker promises execpromises = pledging_by refusals asker promises execpromises
 
-abbrev pub decide_pledge : History → Given → Given → Decision
-decide_pledge h promises execpromises = pledge_by refusals h promises execpromises
+abbrev pub decide_pledge : Asking → Given → Given → Decision
+decide_pledge asker promises execpromises = pledge_by refusals asker promises execpromises
 
--- what a living process's request changes, or why it is refused
+-- what a process's request changes, or why it is refused, by what the process keeps
+abbrev pub decide_on : CallTable → Tree → ProcessState → Action → Decision
+decide_on table t p action = decide_by refusals table t (asker_on p) action
+
+-- and by its history
 abbrev pub decide : CallTable → Tree → History → Action → Decision
-decide table t h action = decide_by refusals table t h action
+decide table t h action = decide_by refusals table t (asker_of h) action

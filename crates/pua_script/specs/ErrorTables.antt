@@ -16,17 +16,18 @@ use Rattle.pua_script.specs.declared.request.Given.TheVariants.{Good, Null}
 abbrev pub error_table : CallTable
 error_table = with_rule standard_table Stat (record { alternatives = error ∷ []; perms = 0 })
 
-abbrev pub locked : History
-locked = Locked ∷ new_history
+abbrev pub locked_history : History
+locked_history = Locked ∷ new_history
 
 abbrev pub pledged_error : History
-pledged_error = Pledged (Some error) None ∷ locked
+pledged_error = Pledged (Some error) None ∷ locked_history
 
 -- after the lock a first pledge of `error` allows what was not allowed before it
 pub record ErrorTables : Type 0 where
-  pub before : is_allowed (verdict_on empty_tree error_table locked Stat (codes "/")) ≡ false
+  pub before : is_allowed (verdict_on empty_tree error_table locked_history Stat (codes "/")) ≡ false
   pub after : is_allowed (verdict_on empty_tree error_table pledged_error Stat (codes "/")) ≡ true
-  pub asked : history_of (world_after error_table (record { tree = empty_tree; histories = (1, locked) ∷ [] }) (record { process = 1; action = Pledge (Good error) Null } ∷ [])) 1 ≡ Some pledged_error
+  pub asked : history_of (world_after error_table (record { tree = empty_tree; histories = (1, locked_history) ∷ [] })
+      (record { process = 1; action = Pledge (Good error) Null } ∷ [])) 1 ≡ Some pledged_error
 
 pub error_tables : ErrorTables
 error_tables = record { before = refl; after = refl; asked = refl }

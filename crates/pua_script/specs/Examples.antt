@@ -6,10 +6,11 @@ use Rattle.pua_tree.specs.Tree.{Tree}
 use Rattle.pua_calls.specs.Calls.{CallTable, standard_table, openbsd_table}
 use Rattle.pua_script.specs.Requests.{Asked}
 use Rattle.pua_script.specs.Scripts.{script}
-use Rattle.pua_script.specs.Replay.{answers, new_world}
+use Rattle.pua_script.specs.Replay.{answers_to, new_world}
 use Rattle.pua_script.specs.Family.{is_exec, none_done}
 use Rattle.pua_tree.specs.declared.fault.ListingFault.{ListingFault}
-use Rattle.pua_path.specs.declared.errno.Errno.TheVariants.{EPERM, ENOENT, EACCES, EAGAIN, EBUSY, EEXIST, ENOTDIR, EISDIR, EINVAL, ELOOP, ENAMETOOLONG, ENOTEMPTY, ENOSYS}
+use Rattle.pua_path.specs.declared.errno.Errno.TheVariants.{EPERM, ENOENT, EACCES, EAGAIN, EBUSY, EEXIST, ENOTDIR, EISDIR, EINVAL, ELOOP}
+use Rattle.pua_path.specs.declared.errno.Errno.TheVariants.{ENAMETOOLONG, ENOTEMPTY, ENOSYS}
 use Rattle.pua_script.specs.declared.answer.Answer.{Answer}
 use Rattle.pua_script.specs.declared.answer.Answer.TheVariants.{Okay, Failed, Killed, Gone}
 use Rattle.pua_script.specs.declared.fault.ScriptFault.{ScriptFault}
@@ -17,7 +18,7 @@ use Rattle.pua_script.specs.declared.fault.ScriptFault.TheVariants.{BadLine, Bad
 
 -- the answers of a script over a listing, where both are accepted
 abbrev pub answers_by : CallTable → Result Tree ListingFault → Result (List Asked) ScriptFault → List Answer
-answers_by table (Ok t) (Ok asks) = answers table (new_world t) asks
+answers_by table (Ok t) (Ok asks) = answers_to table (new_world t) asks
 answers_by table _ _ = []
 
 abbrev pub answers_over : Result Tree ListingFault → Result (List Asked) ScriptFault → List Answer
@@ -39,25 +40,34 @@ abbrev pub root_alone : List (List ℕ)
 root_alone = codes "tree 1" ∷ codes "0 dir" ∷ []
 
 abbrev pub example : List (List ℕ)
-example = codes "tree 1" ∷ codes "0 dir" ∷ codes "1 dir 0 etc" ∷ codes "2 file 1 passwd" ∷ codes "3 dir 0 tmp" ∷ codes "4 link 0 t tmp" ∷ codes "5 link 3 up ../etc" ∷ codes "6 link 3 self self" ∷ codes "7 prog 3 sh" ∷ []
+example = codes "tree 1" ∷ codes "0 dir" ∷ codes "1 dir 0 etc" ∷ codes "2 file 1 passwd" ∷ codes "3 dir 0 tmp" ∷ codes "4 link 0 t tmp"
+    ∷ codes "5 link 3 up ../etc" ∷ codes "6 link 3 self self" ∷ codes "7 prog 3 sh" ∷ []
 
 -- a directory with files and a directory in which something stands, and a file
-abbrev pub ordered : List (List ℕ)
-ordered = root_alone ++ codes "1 dir 0 d" ∷ codes "2 file 1 f" ∷ codes "3 file 1 g" ∷ codes "4 file 0 f" ∷ codes "5 dir 1 e" ∷ codes "6 file 5 x" ∷ []
+abbrev pub ordered_tree : List (List ℕ)
+ordered_tree = root_alone ++ codes "1 dir 0 d" ∷ codes "2 file 1 f" ∷ codes "3 file 1 g" ∷ codes "4 file 0 f" ∷ codes "5 dir 1 e"
+    ∷ codes "6 file 5 x" ∷ []
 
 -- what is checked first of two things that are wrong with a rename, for each two that follow on one another
 pub record RenameRows : Type 0 where
-  pub promise_before_old_path : answers_of ordered (codes "1 pledge stdio,error -" ∷ codes "1 rename /no/x /y" ∷ []) ≡ Okay ∷ Failed ENOSYS ∷ []
-  pub old_path_before_new_path : answers_of ordered (codes "1 rename /f/x /no/x" ∷ []) ≡ Failed ENOTDIR ∷ []
-  pub new_path_before_old_cover : answers_of ordered (codes "1 unveil /d rwc" ∷ codes "1 rename /f /d/f/x" ∷ []) ≡ Okay ∷ Failed ENOTDIR ∷ []
-  pub old_cover_before_new_cover : answers_of ordered (codes "1 unveil /d rwc" ∷ codes "1 unveil /d/f r" ∷ codes "1 rename /d/f /x" ∷ []) ≡ Okay ∷ Okay ∷ Failed EACCES ∷ []
-  pub new_cover_before_missing : answers_of ordered (codes "1 unveil /d rwc" ∷ codes "1 unveil /d/g r" ∷ codes "1 rename /d/no /d/g" ∷ []) ≡ Okay ∷ Okay ∷ Failed EACCES ∷ []
-  pub missing_before_dots : answers_of ordered (codes "1 rename /no /d/." ∷ []) ≡ Failed ENOENT ∷ []
-  pub dots_before_top : answers_of ordered (codes "1 rename / /d/." ∷ codes "1 rename /d/.. /" ∷ []) ≡ Failed EINVAL ∷ Failed EINVAL ∷ []
-  pub top_before_same : answers_of ordered (codes "1 rename / /" ∷ []) ≡ Failed EBUSY ∷ []
-  pub same_before_kinds : answers_of ordered (codes "1 rename /d /d" ∷ []) ≡ Okay ∷ []
-  pub inside_before_kinds : answers_of ordered (codes "1 rename /d /d/e" ∷ codes "1 rename /d /d/f" ∷ []) ≡ Failed EINVAL ∷ Failed EINVAL ∷ []
-  pub not_directory_before_empty : answers_of ordered (codes "1 rename /f /d" ∷ codes "1 rename /d/e /f" ∷ []) ≡ Failed EISDIR ∷ Failed ENOTDIR ∷ []
+  pub promise_before_old_path : answers_of ordered_tree (codes "1 pledge stdio,error -" ∷ codes "1 rename /no/x /y" ∷ []) ≡ Okay
+      ∷ Failed ENOSYS ∷ []
+  pub old_path_before_new_path : answers_of ordered_tree (codes "1 rename /f/x /no/x" ∷ []) ≡ Failed ENOTDIR ∷ []
+  pub new_path_before_old_cover : answers_of ordered_tree (codes "1 unveil /d rwc" ∷ codes "1 rename /f /d/f/x" ∷ []) ≡ Okay
+      ∷ Failed ENOTDIR ∷ []
+  pub old_cover_before_new_cover : answers_of ordered_tree (codes "1 unveil /d rwc" ∷ codes "1 unveil /d/f r" ∷ codes "1 rename /d/f /x"
+      ∷ []) ≡ Okay ∷ Okay ∷ Failed EACCES ∷ []
+  pub new_cover_before_missing : answers_of ordered_tree (codes "1 unveil /d rwc" ∷ codes "1 unveil /d/g r" ∷ codes "1 rename /d/no /d/g"
+      ∷ []) ≡ Okay ∷ Okay ∷ Failed EACCES ∷ []
+  pub missing_before_dots : answers_of ordered_tree (codes "1 rename /no /d/." ∷ []) ≡ Failed ENOENT ∷ []
+  pub dots_before_top : answers_of ordered_tree (codes "1 rename / /d/." ∷ codes "1 rename /d/.. /" ∷ []) ≡ Failed EINVAL ∷ Failed EINVAL
+      ∷ []
+  pub top_before_same : answers_of ordered_tree (codes "1 rename / /" ∷ []) ≡ Failed EBUSY ∷ []
+  pub same_before_kinds : answers_of ordered_tree (codes "1 rename /d /d" ∷ []) ≡ Okay ∷ []
+  pub inside_before_kinds : answers_of ordered_tree (codes "1 rename /d /d/e" ∷ codes "1 rename /d /d/f" ∷ []) ≡ Failed EINVAL
+      ∷ Failed EINVAL ∷ []
+  pub not_directory_before_empty : answers_of ordered_tree (codes "1 rename /f /d" ∷ codes "1 rename /d/e /f" ∷ []) ≡ Failed EISDIR
+      ∷ Failed ENOTDIR ∷ []
 
 pub rename_rows : RenameRows
 rename_rows = record {
@@ -76,16 +86,22 @@ rename_rows = record {
 
 -- the same of a link
 pub record LinkRows : Type 0 where
-  pub promise_before_old_path : answers_of ordered (codes "1 pledge stdio,error -" ∷ codes "1 link /no/x /y" ∷ []) ≡ Okay ∷ Failed ENOSYS ∷ []
-  pub old_path_before_new_path : answers_of ordered (codes "1 link /f/x /no/x" ∷ []) ≡ Failed ENOTDIR ∷ []
-  pub new_path_before_old_cover : answers_of ordered (codes "1 unveil /d rwc" ∷ codes "1 link /f /d/f/x" ∷ []) ≡ Okay ∷ Failed ENOTDIR ∷ []
-  pub old_cover_before_new_cover : answers_of ordered (codes "1 unveil /d rwc" ∷ codes "1 unveil /d/f r" ∷ codes "1 link /d/f /x" ∷ []) ≡ Okay ∷ Okay ∷ Failed EACCES ∷ []
-  pub new_cover_before_missing : answers_of ordered (codes "1 unveil /d rwc" ∷ codes "1 unveil /d/g r" ∷ codes "1 link /d/no /d/g" ∷ []) ≡ Okay ∷ Okay ∷ Failed EACCES ∷ []
-  pub missing_before_there : answers_of ordered (codes "1 link /no /f" ∷ []) ≡ Failed ENOENT ∷ []
-  pub directory_before_there : answers_of ordered (codes "1 link /d /f" ∷ codes "1 link / /f" ∷ []) ≡ Failed EPERM ∷ Failed EPERM ∷ []
-  pub there : answers_of ordered (codes "1 link /f /d" ∷ codes "1 link /f /d/." ∷ codes "1 link /f /f" ∷ []) ≡ Failed EEXIST ∷ Failed EEXIST ∷ Failed EEXIST ∷ []
+  pub promise_before_old_path : answers_of ordered_tree (codes "1 pledge stdio,error -" ∷ codes "1 link /no/x /y" ∷ []) ≡ Okay
+      ∷ Failed ENOSYS ∷ []
+  pub old_path_before_new_path : answers_of ordered_tree (codes "1 link /f/x /no/x" ∷ []) ≡ Failed ENOTDIR ∷ []
+  pub new_path_before_old_cover : answers_of ordered_tree (codes "1 unveil /d rwc" ∷ codes "1 link /f /d/f/x" ∷ []) ≡ Okay ∷ Failed ENOTDIR
+      ∷ []
+  pub old_cover_before_new_cover : answers_of ordered_tree (codes "1 unveil /d rwc" ∷ codes "1 unveil /d/f r" ∷ codes "1 link /d/f /x" ∷ [])
+      ≡ Okay ∷ Okay ∷ Failed EACCES ∷ []
+  pub new_cover_before_missing : answers_of ordered_tree (codes "1 unveil /d rwc" ∷ codes "1 unveil /d/g r" ∷ codes "1 link /d/no /d/g"
+      ∷ []) ≡ Okay ∷ Okay ∷ Failed EACCES ∷ []
+  pub missing_before_there : answers_of ordered_tree (codes "1 link /no /f" ∷ []) ≡ Failed ENOENT ∷ []
+  pub directory_before_there : answers_of ordered_tree (codes "1 link /d /f" ∷ codes "1 link / /f" ∷ []) ≡ Failed EPERM ∷ Failed EPERM ∷ []
+  pub there : answers_of ordered_tree (codes "1 link /f /d" ∷ codes "1 link /f /d/." ∷ codes "1 link /f /f" ∷ []) ≡ Failed EEXIST
+      ∷ Failed EEXIST ∷ Failed EEXIST ∷ []
   -- a slash at the end is a part `.` of either path
-  pub final_slash : answers_of ordered (codes "1 link /f/ /new" ∷ codes "1 link /f /new/" ∷ codes "1 link /f /new" ∷ []) ≡ Failed ENOTDIR ∷ Failed ENOENT ∷ Okay ∷ []
+  pub final_slash : answers_of ordered_tree (codes "1 link /f/ /new" ∷ codes "1 link /f /new/" ∷ codes "1 link /f /new" ∷ [])
+      ≡ Failed ENOTDIR ∷ Failed ENOENT ∷ Okay ∷ []
 
 pub link_rows : LinkRows
 link_rows = record {
@@ -124,24 +140,29 @@ abbrev pub aliases_and_spool : List (List ℕ)
 aliases_and_spool = root_alone ++ codes "1 dir 0 mail" ∷ codes "2 file 1 aliases" ∷ codes "3 dir 0 spool" ∷ []
 
 abbrev pub aliases_written : List (List ℕ)
-aliases_written = codes "1 unveil /mail r" ∷ codes "1 unveil /spool rwc" ∷ codes "1 unveil - -" ∷ codes "1 open-w /mail/aliases" ∷ codes "1 link /mail/aliases /spool/a" ∷ codes "1 open-w /spool/a" ∷ []
+aliases_written = codes "1 unveil /mail r" ∷ codes "1 unveil /spool rwc" ∷ codes "1 unveil - -" ∷ codes "1 open-w /mail/aliases"
+    ∷ codes "1 link /mail/aliases /spool/a" ∷ codes "1 open-w /spool/a" ∷ []
 
 -- by the rules of OpenBSD and the standard ones: rename and link need what the table says of them, promises before paths
 pub record PairRows : Type 0 where
-  pub letters_of_link : answers_by_openbsd ordered read_and_made ≡ Okay ∷ Okay ∷ Okay ∷ []
-  pub standard_letters_of_link : answers_of ordered read_and_made ≡ Okay ∷ Okay ∷ Failed EACCES ∷ []
-  pub letters_of_rename : answers_by_openbsd ordered made_alone ≡ Okay ∷ Failed EACCES ∷ []
-  pub standard_letters_of_rename : answers_of ordered made_alone ≡ Okay ∷ Okay ∷ []
+  pub letters_of_link : answers_by_openbsd ordered_tree read_and_made ≡ Okay ∷ Okay ∷ Okay ∷ []
+  pub standard_letters_of_link : answers_of ordered_tree read_and_made ≡ Okay ∷ Okay ∷ Failed EACCES ∷ []
+  pub letters_of_rename : answers_by_openbsd ordered_tree made_alone ≡ Okay ∷ Failed EACCES ∷ []
+  pub standard_letters_of_rename : answers_of ordered_tree made_alone ≡ Okay ∷ Okay ∷ []
   pub followed : answers_by_openbsd file_linked link_linked ≡ Okay ∷ Failed EINVAL ∷ Failed ENOENT ∷ []
   pub kept : answers_of file_linked link_linked ≡ Okay ∷ Okay ∷ Okay ∷ []
-  pub promises_of_old : answers_by_openbsd ordered (codes "1 pledge stdio,cpath,error -" ∷ codes "1 rename /no/x /y" ∷ codes "1 link /no/x /y" ∷ []) ≡ Okay ∷ Failed ENOSYS ∷ Failed ENOSYS ∷ []
-  pub standard_promises_of_old : answers_of ordered (codes "1 pledge stdio,cpath,error -" ∷ codes "1 rename /no/x /y" ∷ codes "1 link /no/x /y" ∷ []) ≡ Okay ∷ Failed ENOENT ∷ Failed ENOENT ∷ []
-  pub promises_of_new : answers_by_openbsd ordered (codes "1 pledge stdio,rpath -" ∷ codes "1 link /no/x /y" ∷ []) ≡ Okay ∷ Killed ∷ []
+  pub promises_of_old : answers_by_openbsd ordered_tree (codes "1 pledge stdio,cpath,error -" ∷ codes "1 rename /no/x /y"
+      ∷ codes "1 link /no/x /y" ∷ []) ≡ Okay ∷ Failed ENOSYS ∷ Failed ENOSYS ∷ []
+  pub standard_promises_of_old : answers_of ordered_tree (codes "1 pledge stdio,cpath,error -" ∷ codes "1 rename /no/x /y"
+      ∷ codes "1 link /no/x /y" ∷ []) ≡ Okay ∷ Failed ENOENT ∷ Failed ENOENT ∷ []
+  pub promises_of_new : answers_by_openbsd ordered_tree (codes "1 pledge stdio,rpath -" ∷ codes "1 link /no/x /y" ∷ []) ≡ Okay ∷ Killed ∷ []
   -- what may be read alone is written by the name that it was given
   pub aliases : answers_by_openbsd aliases_and_spool aliases_written ≡ Okay ∷ Okay ∷ Okay ∷ Failed EACCES ∷ Okay ∷ Okay ∷ []
-  pub standard_aliases : answers_of aliases_and_spool aliases_written ≡ Okay ∷ Okay ∷ Okay ∷ Failed EACCES ∷ Failed EACCES ∷ Failed ENOENT ∷ []
+  pub standard_aliases : answers_of aliases_and_spool aliases_written ≡ Okay ∷ Okay ∷ Okay ∷ Failed EACCES ∷ Failed EACCES ∷ Failed ENOENT
+      ∷ []
   -- another table changes nothing of the order of further checks
-  pub directory_linked : answers_by_openbsd example (codes "1 link /t /u" ∷ codes "1 rename /etc /tmp" ∷ []) ≡ Failed EPERM ∷ Failed ENOTEMPTY ∷ []
+  pub directory_linked : answers_by_openbsd example (codes "1 link /t /u" ∷ codes "1 rename /etc /tmp" ∷ []) ≡ Failed EPERM
+      ∷ Failed ENOTEMPTY ∷ []
 
 pub pair_rows : PairRows
 pair_rows = record {
@@ -163,57 +184,95 @@ pub record ReplayRows : Type 0 where
   -- a link to itself is not followed without end
   pub link_loops : answers_of example (codes "1 stat /tmp/self" ∷ codes "1 lstat /tmp/self" ∷ []) ≡ Failed ELOOP ∷ Okay ∷ []
   -- a directory that is made again is another node, so its veil is gone
-  pub directory_made_again : answers_of (root_alone ++ codes "1 dir 0 d" ∷ []) (codes "1 fork 2" ∷ codes "1 unveil /d rwc" ∷ codes "1 unveil - -" ∷ codes "2 rmdir /d" ∷ codes "2 mkdir /d" ∷ codes "1 stat /d" ∷ []) ≡ Okay ∷ Okay ∷ Okay ∷ Okay ∷ Okay ∷ Failed ENOENT ∷ []
+  pub directory_made_again : answers_of (root_alone ++ codes "1 dir 0 d" ∷ []) (codes "1 fork 2" ∷ codes "1 unveil /d rwc"
+      ∷ codes "1 unveil - -" ∷ codes "2 rmdir /d" ∷ codes "2 mkdir /d" ∷ codes "1 stat /d" ∷ []) ≡ Okay ∷ Okay ∷ Okay ∷ Okay ∷ Okay
+      ∷ Failed ENOENT ∷ []
   -- a file's veil stays at its name
-  pub file_made_again : answers_of (root_alone ++ codes "1 file 0 f" ∷ []) (codes "1 fork 2" ∷ codes "1 unveil /f rw" ∷ codes "2 unlink /f" ∷ codes "1 stat /f" ∷ codes "2 create /f" ∷ codes "1 stat /f" ∷ []) ≡ Okay ∷ Okay ∷ Okay ∷ Failed ENOENT ∷ Okay ∷ Okay ∷ []
+  pub file_made_again : answers_of (root_alone ++ codes "1 file 0 f" ∷ []) (codes "1 fork 2" ∷ codes "1 unveil /f rw" ∷ codes "2 unlink /f"
+      ∷ codes "1 stat /f" ∷ codes "2 create /f" ∷ codes "1 stat /f" ∷ []) ≡ Okay ∷ Okay ∷ Okay ∷ Failed ENOENT ∷ Okay ∷ Okay ∷ []
   -- under `error` a request is narrowed to what was held
-  pub narrowed_under_error : answers_of root_alone (codes "1 pledge stdio,rpath,error -" ∷ codes "1 mkdir /a" ∷ codes "1 pledge stdio,wpath,error -" ∷ codes "1 stat /" ∷ []) ≡ Okay ∷ Failed ENOSYS ∷ Okay ∷ Failed ENOSYS ∷ []
+  pub narrowed_under_error : answers_of root_alone (codes "1 pledge stdio,rpath,error -" ∷ codes "1 mkdir /a"
+      ∷ codes "1 pledge stdio,wpath,error -" ∷ codes "1 stat /" ∷ []) ≡ Okay ∷ Failed ENOSYS ∷ Okay ∷ Failed ENOSYS ∷ []
   -- without `error` a restricted call ends the process
   pub killed : answers_of root_alone (codes "1 pledge = -" ∷ codes "1 stat /" ∷ codes "1 exit" ∷ []) ≡ Okay ∷ Killed ∷ Gone ∷ []
   -- a pledge that asks for more, or names an unknown keyword, changes nothing
-  pub refused_pledges : answers_of root_alone (codes "1 pledge stdio,rpath -" ∷ codes "1 pledge stdio,rpath,wpath -" ∷ codes "1 pledge stdio,zpath -" ∷ codes "1 stat /" ∷ []) ≡ Okay ∷ Failed EPERM ∷ Failed EINVAL ∷ Okay ∷ []
+  pub refused_pledges : answers_of root_alone (codes "1 pledge stdio,rpath -" ∷ codes "1 pledge stdio,rpath,wpath -"
+      ∷ codes "1 pledge stdio,zpath -" ∷ codes "1 stat /" ∷ []) ≡ Okay ∷ Failed EPERM ∷ Failed EINVAL ∷ Okay ∷ []
   -- only the nearest veil counts
-  pub nearest_veil : answers_of example (codes "1 unveil / r" ∷ codes "1 unveil /tmp =" ∷ codes "1 stat /tmp/sh" ∷ codes "1 stat /etc" ∷ []) ≡ Okay ∷ Okay ∷ Failed EACCES ∷ Okay ∷ []
+  pub nearest_veil : answers_of example (codes "1 unveil / r" ∷ codes "1 unveil /tmp =" ∷ codes "1 stat /tmp/sh" ∷ codes "1 stat /etc" ∷ [])
+      ≡ Okay ∷ Okay ∷ Failed EACCES ∷ Okay ∷ []
   -- renames and removals in their order of checks
-  pub renames : answers_of example (codes "1 rename /tmp /tmp/x" ∷ codes "1 rename /etc /tmp" ∷ codes "1 rename /etc/passwd /tmp/sh" ∷ codes "1 stat /etc/passwd" ∷ codes "1 rmdir /etc" ∷ codes "1 rmdir /tmp/." ∷ codes "1 rmdir /" ∷ codes "1 rmdir /t/" ∷ codes "1 unlink /t/" ∷ []) ≡ Failed EINVAL ∷ Failed ENOTEMPTY ∷ Okay ∷ Failed ENOENT ∷ Okay ∷ Failed EINVAL ∷ Failed EBUSY ∷ Failed ENOTDIR ∷ Failed EPERM ∷ []
+  pub renames : answers_of example (codes "1 rename /tmp /tmp/x" ∷ codes "1 rename /etc /tmp" ∷ codes "1 rename /etc/passwd /tmp/sh"
+      ∷ codes "1 stat /etc/passwd" ∷ codes "1 rmdir /etc" ∷ codes "1 rmdir /tmp/." ∷ codes "1 rmdir /" ∷ codes "1 rmdir /t/"
+      ∷ codes "1 unlink /t/" ∷ []) ≡ Failed EINVAL ∷ Failed ENOTEMPTY ∷ Okay ∷ Failed ENOENT ∷ Okay ∷ Failed EINVAL ∷ Failed EBUSY
+      ∷ Failed ENOTDIR ∷ Failed EPERM ∷ []
   -- with execpromises the veils stay
-  pub exec_with_promises : answers_of example (codes "1 unveil /tmp rx" ∷ codes "1 pledge stdio,rpath,exec stdio,rpath" ∷ codes "1 exec /tmp/sh" ∷ codes "1 stat /etc" ∷ codes "1 stat /tmp" ∷ codes "1 chmod /tmp" ∷ []) ≡ Okay ∷ Okay ∷ Okay ∷ Failed ENOENT ∷ Okay ∷ Killed ∷ []
+  pub exec_with_promises : answers_of example (codes "1 unveil /tmp rx" ∷ codes "1 pledge stdio,rpath,exec stdio,rpath"
+      ∷ codes "1 exec /tmp/sh" ∷ codes "1 stat /etc" ∷ codes "1 stat /tmp" ∷ codes "1 chmod /tmp" ∷ []) ≡ Okay ∷ Okay ∷ Okay ∷ Failed ENOENT
+      ∷ Okay ∷ Killed ∷ []
   -- without execpromises the veils are dropped
-  pub exec_without_promises : answers_of example (codes "1 unveil /tmp rx" ∷ codes "1 stat /etc" ∷ codes "1 exec /tmp/sh" ∷ codes "1 stat /etc" ∷ []) ≡ Okay ∷ Failed ENOENT ∷ Okay ∷ Okay ∷ []
+  pub exec_without_promises : answers_of example (codes "1 unveil /tmp rx" ∷ codes "1 stat /etc" ∷ codes "1 exec /tmp/sh"
+      ∷ codes "1 stat /etc" ∷ []) ≡ Okay ∷ Failed ENOENT ∷ Okay ∷ Okay ∷ []
   -- a relative path fails where the working directory was removed
-  pub working_directory_removed : answers_of (root_alone ++ codes "1 dir 0 d" ∷ []) (codes "1 chdir /d" ∷ codes "1 rmdir /d" ∷ codes "1 stat ." ∷ codes "1 stat .." ∷ codes "1 stat /" ∷ []) ≡ Okay ∷ Okay ∷ Failed ENOENT ∷ Failed ENOENT ∷ Okay ∷ []
+  pub working_directory_removed : answers_of (root_alone ++ codes "1 dir 0 d" ∷ []) (codes "1 chdir /d" ∷ codes "1 rmdir /d"
+      ∷ codes "1 stat ." ∷ codes "1 stat .." ∷ codes "1 stat /" ∷ []) ≡ Okay ∷ Okay ∷ Failed ENOENT ∷ Failed ENOENT ∷ Okay ∷ []
   -- create goes through a dangling link, and mkdir does not
-  pub dangling_link : answers_of (root_alone ++ codes "1 link 0 l x" ∷ []) (codes "1 mkdir /l" ∷ codes "1 create /l" ∷ codes "1 lstat /x" ∷ codes "1 unlink /l" ∷ codes "1 stat /x" ∷ []) ≡ Failed EEXIST ∷ Okay ∷ Okay ∷ Okay ∷ Okay ∷ []
+  pub dangling_link : answers_of (root_alone ++ codes "1 link 0 l x" ∷ []) (codes "1 mkdir /l" ∷ codes "1 create /l" ∷ codes "1 lstat /x"
+      ∷ codes "1 unlink /l" ∷ codes "1 stat /x" ∷ []) ≡ Failed EEXIST ∷ Okay ∷ Okay ∷ Okay ∷ Okay ∷ []
   -- the lock before the letters
   pub lock_before_letters : answers_of root_alone (codes "1 unveil - -" ∷ codes "1 unveil / q" ∷ []) ≡ Okay ∷ Failed EPERM ∷ []
   -- the promise before the lock
-  pub promise_before_lock : answers_of root_alone (codes "1 unveil - -" ∷ codes "1 pledge stdio,rpath,error -" ∷ codes "1 unveil / r" ∷ []) ≡ Okay ∷ Okay ∷ Failed ENOSYS ∷ []
+  pub promise_before_lock : answers_of root_alone (codes "1 unveil - -" ∷ codes "1 pledge stdio,rpath,error -" ∷ codes "1 unveil / r" ∷ [])
+      ≡ Okay ∷ Okay ∷ Failed ENOSYS ∷ []
   -- of a symlink the target before the path, and the promise before both
-  pub symlinks : answers_of example (codes "1 symlink = /etc/passwd/x" ∷ codes "1 pledge stdio,error -" ∷ codes "1 symlink = /x" ∷ []) ≡ Failed ENOENT ∷ Okay ∷ Failed ENOSYS ∷ []
+  pub symlinks : answers_of example (codes "1 symlink = /etc/passwd/x" ∷ codes "1 pledge stdio,error -" ∷ codes "1 symlink = /x" ∷ [])
+      ≡ Failed ENOENT ∷ Okay ∷ Failed ENOSYS ∷ []
   -- an unknown keyword in either argument before a promise that is not held
-  pub unknown_before_increase : answers_of root_alone (codes "1 pledge stdio,rpath -" ∷ codes "1 pledge stdio,wpath zpath" ∷ []) ≡ Okay ∷ Failed EINVAL ∷ []
+  pub unknown_before_increase : answers_of root_alone (codes "1 pledge stdio,rpath -" ∷ codes "1 pledge stdio,wpath zpath" ∷ []) ≡ Okay
+      ∷ Failed EINVAL ∷ []
   -- unveil's checks in their order
-  pub unveils : answers_of example (codes "1 unveil /etc r" ∷ codes "1 unveil /etc rw" ∷ codes "1 unveil /etc/passwd rw" ∷ codes "1 unveil /etc q" ∷ codes "1 unveil /no/x r" ∷ codes "1 unveil - -" ∷ codes "1 unveil /tmp r" ∷ codes "1 unveil - -" ∷ []) ≡ Okay ∷ Failed EPERM ∷ Okay ∷ Failed EINVAL ∷ Failed ENOENT ∷ Okay ∷ Failed EPERM ∷ Okay ∷ []
+  pub unveils : answers_of example (codes "1 unveil /etc r" ∷ codes "1 unveil /etc rw" ∷ codes "1 unveil /etc/passwd rw"
+      ∷ codes "1 unveil /etc q" ∷ codes "1 unveil /no/x r" ∷ codes "1 unveil - -" ∷ codes "1 unveil /tmp r" ∷ codes "1 unveil - -" ∷ [])
+      ≡ Okay ∷ Failed EPERM ∷ Okay ∷ Failed EINVAL ∷ Failed ENOENT ∷ Okay ∷ Failed EPERM ∷ Okay ∷ []
   -- a directory's veil goes with its node
-  pub veil_moves : answers_of (root_alone ++ codes "1 dir 0 d" ∷ codes "2 file 1 f" ∷ []) (codes "1 fork 2" ∷ codes "1 unveil /d r" ∷ codes "2 rename /d /e" ∷ codes "1 stat /e/f" ∷ codes "1 stat /d" ∷ codes "1 unveil /e rw" ∷ []) ≡ Okay ∷ Okay ∷ Okay ∷ Okay ∷ Failed ENOENT ∷ Failed EPERM ∷ []
+  pub veil_moves : answers_of (root_alone ++ codes "1 dir 0 d" ∷ codes "2 file 1 f" ∷ []) (codes "1 fork 2" ∷ codes "1 unveil /d r"
+      ∷ codes "2 rename /d /e" ∷ codes "1 stat /e/f" ∷ codes "1 stat /d" ∷ codes "1 unveil /e rw" ∷ []) ≡ Okay ∷ Okay ∷ Okay ∷ Okay
+      ∷ Failed ENOENT ∷ Failed EPERM ∷ []
   -- a name's veil does not cover a directory
-  pub name_becomes_directory : answers_of root_alone (codes "1 fork 2" ∷ codes "1 unveil /f rwc" ∷ codes "2 mkdir /f" ∷ codes "1 stat /f" ∷ codes "2 rmdir /f" ∷ codes "1 create /f" ∷ []) ≡ Okay ∷ Okay ∷ Okay ∷ Failed ENOENT ∷ Okay ∷ Okay ∷ []
+  pub name_becomes_directory : answers_of root_alone (codes "1 fork 2" ∷ codes "1 unveil /f rwc" ∷ codes "2 mkdir /f" ∷ codes "1 stat /f"
+      ∷ codes "2 rmdir /f" ∷ codes "1 create /f" ∷ []) ≡ Okay ∷ Okay ∷ Okay ∷ Failed ENOENT ∷ Okay ∷ Okay ∷ []
   -- processes that were never made, and faults of a text
-  pub gone_and_long : answers_of root_alone (codes "2 stat /" ∷ codes "1 fork 1" ∷ codes "1 stat =" ∷ codes "1 stat /aaaaaaaaaaaaaaaaaaaaaaaaaaaaaaaaaaaaaaaaaaaaaaaaaaaaaaaaaaaaaaaaaaaaaaaaaaaaaaaaaaaaaaaaaaaaaaaaaaaaaaaaaaaaaaaaaaaaaaaaaaaaaaaaaaaaaaaaaaaaaaaaaaaaaaaaaaaaaaaaaaaaaaaaaaaaaaaaaaaaaaaaaaaaaaaaaaaaaaaaaaaaaaaaaaaaaaaaaaaaaaaaaaaaaaaaaaaaaaaaaaaaaaaaaaaaaaaa" ∷ []) ≡ Gone ∷ Failed EAGAIN ∷ Failed ENOENT ∷ Failed ENAMETOOLONG ∷ []
+  pub gone_and_long : answers_of root_alone (codes "2 stat /" ∷ codes "1 fork 1" ∷ codes "1 stat ="
+      ∷ codes "1 stat /aaaaaaaaaaaaaaaaaaaaaaaaaaaaaaaaaaaaaaaaaaaaaaaaaaaaaaaaaaaaaaaaaaaaaaaaaaaaaaaaaaaaaaaaaaaaaaaaaaaaaaaaaaaaaaaaaaaaaaaaaaaaaaaaaaaaaaaaaaaaaaaaaaaaaaaaaaaaaaaaaaaaaaaaaaaaaaaaaaaaaaaaaaaaaaaaaaaaaaaaaaaaaaaaaaaaaaaaaaaaaaaaaaaaaaaaaaaaaaaaaaaaaaaaaaaaaaaa" ∷ []) ≡ Gone ∷ Failed EAGAIN ∷ Failed ENOENT ∷ Failed ENAMETOOLONG ∷ []
   -- calls that fail under `error` leave the process alive
-  pub error_then_unveil : answers_of example (codes "1 unveil /etc r" ∷ codes "1 pledge stdio,rpath,error -" ∷ codes "1 unveil /tmp r" ∷ codes "1 pledge stdio,rpath,wpath,error -" ∷ codes "1 open-w /etc/passwd" ∷ codes "1 unveil - -" ∷ codes "1 stat /etc" ∷ []) ≡ Okay ∷ Okay ∷ Failed ENOSYS ∷ Okay ∷ Failed ENOSYS ∷ Failed ENOSYS ∷ Okay ∷ []
+  pub error_then_unveil : answers_of example (codes "1 unveil /etc r" ∷ codes "1 pledge stdio,rpath,error -" ∷ codes "1 unveil /tmp r"
+      ∷ codes "1 pledge stdio,rpath,wpath,error -" ∷ codes "1 open-w /etc/passwd" ∷ codes "1 unveil - -" ∷ codes "1 stat /etc" ∷ []) ≡ Okay
+      ∷ Okay ∷ Failed ENOSYS ∷ Okay ∷ Failed ENOSYS ∷ Failed ENOSYS ∷ Okay ∷ []
   -- another process may move a file under a veil
-  pub moved_by_another : answers_of example (codes "1 fork 2" ∷ codes "1 unveil /etc r" ∷ codes "1 unveil - -" ∷ codes "1 fork 3" ∷ codes "2 rename /tmp/sh /etc/sh" ∷ codes "1 stat /etc/sh" ∷ codes "3 stat /etc/sh" ∷ codes "3 unveil /tmp r" ∷ codes "3 stat /tmp" ∷ []) ≡ Okay ∷ Okay ∷ Okay ∷ Okay ∷ Okay ∷ Okay ∷ Okay ∷ Failed EPERM ∷ Failed ENOENT ∷ []
+  pub moved_by_another : answers_of example (codes "1 fork 2" ∷ codes "1 unveil /etc r" ∷ codes "1 unveil - -" ∷ codes "1 fork 3"
+      ∷ codes "2 rename /tmp/sh /etc/sh" ∷ codes "1 stat /etc/sh" ∷ codes "3 stat /etc/sh" ∷ codes "3 unveil /tmp r" ∷ codes "3 stat /tmp"
+      ∷ []) ≡ Okay ∷ Okay ∷ Okay ∷ Okay ∷ Okay ∷ Okay ∷ Okay ∷ Failed EPERM ∷ Failed ENOENT ∷ []
   -- what is not covered with c stays
-  pub confined : answers_of example (codes "1 unveil /tmp rwc" ∷ codes "1 unveil /tmp/sh r" ∷ codes "1 unveil - -" ∷ codes "1 rename /tmp /x" ∷ codes "1 rename /tmp/self /tmp/z" ∷ codes "1 unlink /tmp/sh" ∷ codes "1 rename /tmp/z /tmp/sh" ∷ codes "1 rmdir /tmp" ∷ codes "1 unlink /etc/passwd" ∷ codes "1 stat /tmp/sh" ∷ []) ≡ Okay ∷ Okay ∷ Okay ∷ Failed ENOENT ∷ Okay ∷ Failed EACCES ∷ Failed EACCES ∷ Failed ENOTEMPTY ∷ Failed ENOENT ∷ Okay ∷ []
+  pub confined : answers_of example (codes "1 unveil /tmp rwc" ∷ codes "1 unveil /tmp/sh r" ∷ codes "1 unveil - -"
+      ∷ codes "1 rename /tmp /x" ∷ codes "1 rename /tmp/self /tmp/z" ∷ codes "1 unlink /tmp/sh" ∷ codes "1 rename /tmp/z /tmp/sh"
+      ∷ codes "1 rmdir /tmp" ∷ codes "1 unlink /etc/passwd" ∷ codes "1 stat /tmp/sh" ∷ []) ≡ Okay ∷ Okay ∷ Okay ∷ Failed ENOENT ∷ Okay
+      ∷ Failed EACCES ∷ Failed EACCES ∷ Failed ENOTEMPTY ∷ Failed ENOENT ∷ Okay ∷ []
   -- a further name is not covered by the veil of the first one, and keeps the node when the first one goes
-  pub second_name : answers_of (root_alone ++ codes "1 dir 0 d" ∷ codes "2 file 1 f" ∷ []) (codes "1 fork 2" ∷ codes "1 unveil /d/f r" ∷ codes "2 link /d/f /g" ∷ codes "1 stat /g" ∷ codes "2 unlink /d/f" ∷ codes "1 stat /d/f" ∷ codes "2 stat /g" ∷ codes "2 link /g /d/f" ∷ codes "1 stat /d/f" ∷ []) ≡ Okay ∷ Okay ∷ Okay ∷ Failed ENOENT ∷ Okay ∷ Failed ENOENT ∷ Okay ∷ Okay ∷ Okay ∷ []
+  pub second_name : answers_of (root_alone ++ codes "1 dir 0 d" ∷ codes "2 file 1 f" ∷ []) (codes "1 fork 2" ∷ codes "1 unveil /d/f r"
+      ∷ codes "2 link /d/f /g" ∷ codes "1 stat /g" ∷ codes "2 unlink /d/f" ∷ codes "1 stat /d/f" ∷ codes "2 stat /g"
+      ∷ codes "2 link /g /d/f" ∷ codes "1 stat /d/f" ∷ []) ≡ Okay ∷ Okay ∷ Okay ∷ Failed ENOENT ∷ Okay ∷ Failed ENOENT ∷ Okay ∷ Okay ∷ Okay
+      ∷ []
   -- links, and a rename between two names of one node, which moves nothing
-  pub links : answers_of (root_alone ++ codes "1 dir 0 d" ∷ codes "2 file 1 f" ∷ []) (codes "1 link /d/f /g" ∷ codes "1 rename /g /d/f" ∷ codes "1 stat /g" ∷ codes "1 link /d /e" ∷ codes "1 link /g /d/f" ∷ codes "1 link /nope /h" ∷ codes "1 link /g /h" ∷ codes "1 unlink /g" ∷ codes "1 stat /h" ∷ []) ≡ Okay ∷ Okay ∷ Okay ∷ Failed EPERM ∷ Failed EEXIST ∷ Failed ENOENT ∷ Okay ∷ Okay ∷ Okay ∷ []
+  pub links : answers_of (root_alone ++ codes "1 dir 0 d" ∷ codes "2 file 1 f" ∷ []) (codes "1 link /d/f /g" ∷ codes "1 rename /g /d/f"
+      ∷ codes "1 stat /g" ∷ codes "1 link /d /e" ∷ codes "1 link /g /d/f" ∷ codes "1 link /nope /h" ∷ codes "1 link /g /h"
+      ∷ codes "1 unlink /g" ∷ codes "1 stat /h" ∷ []) ≡ Okay ∷ Okay ∷ Okay ∷ Failed EPERM ∷ Failed EEXIST ∷ Failed ENOENT ∷ Okay ∷ Okay
+      ∷ Okay ∷ []
   -- a symbolic link at the old path's end is not followed: it is what gets the further name
-  pub link_kept : answers_of example (codes "1 link /tmp/self /l" ∷ codes "1 lstat /l" ∷ codes "1 link /t /u" ∷ codes "1 readlink /u" ∷ codes "1 rmdir /u" ∷ []) ≡ Okay ∷ Okay ∷ Okay ∷ Okay ∷ Failed ENOTDIR ∷ []
+  pub link_kept : answers_of example (codes "1 link /tmp/self /l" ∷ codes "1 lstat /l" ∷ codes "1 link /t /u" ∷ codes "1 readlink /u"
+      ∷ codes "1 rmdir /u" ∷ []) ≡ Okay ∷ Okay ∷ Okay ∷ Okay ∷ Failed ENOTDIR ∷ []
   -- a number is used once, and an ended process is gone
-  pub forks_and_exits : answers_of root_alone (codes "1 fork 2" ∷ codes "1 fork 2" ∷ codes "2 exit" ∷ codes "2 stat /" ∷ codes "2 fork 3" ∷ codes "1 fork 3" ∷ []) ≡ Okay ∷ Failed EAGAIN ∷ Okay ∷ Gone ∷ Gone ∷ Okay ∷ []
+  pub forks_and_exits : answers_of root_alone (codes "1 fork 2" ∷ codes "1 fork 2" ∷ codes "2 exit" ∷ codes "2 stat /" ∷ codes "2 fork 3"
+      ∷ codes "1 fork 3" ∷ []) ≡ Okay ∷ Failed EAGAIN ∷ Okay ∷ Gone ∷ Gone ∷ Okay ∷ []
 
 pub replay_rows : ReplayRows
 replay_rows = record {
@@ -252,7 +311,8 @@ exec_of_locked = codes "1 unveil /tmp rx" ∷ codes "1 unveil - -" ∷ codes "1 
 
 -- a program that starts another with the promises that it was started with
 abbrev pub exec_twice : List (List ℕ)
-exec_twice = codes "1 unveil /tmp rx" ∷ codes "1 pledge - stdio,rpath,exec" ∷ codes "1 exec /tmp/sh" ∷ codes "1 exec /tmp/sh" ∷ codes "1 stat /etc" ∷ codes "1 mkdir /tmp/x" ∷ []
+exec_twice = codes "1 unveil /tmp rx" ∷ codes "1 pledge - stdio,rpath,exec" ∷ codes "1 exec /tmp/sh" ∷ codes "1 exec /tmp/sh"
+    ∷ codes "1 stat /etc" ∷ codes "1 mkdir /tmp/x" ∷ []
 
 pub record ExecRows : Type 0 where
   pub reaches_more : answers_of example exec_of_locked ≡ Okay ∷ Okay ∷ Failed ENOENT ∷ Okay ∷ Okay ∷ []
@@ -282,4 +342,13 @@ pub record ScriptRows : Type 0 where
   pub null_perms : fault_of (codes "1 unveil /a -") ≡ Err (BadList 1)
 
 pub script_rows : ScriptRows
-script_rows = record { process_zero = refl; unknown_call = refl; bad_new_process = refl; no_path = refl; nul_in_path = refl; empty_word = refl; null_path = refl; null_perms = refl }
+script_rows = record {
+  process_zero = refl;
+  unknown_call = refl;
+  bad_new_process = refl;
+  no_path = refl;
+  nul_in_path = refl;
+  empty_word = refl;
+  null_path = refl;
+  null_perms = refl;
+}

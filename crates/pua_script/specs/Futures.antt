@@ -4,7 +4,7 @@ use Rattle.pua_calls.specs.Calls.{CallTable, table_by_rules, rule_of}
 use Rattle.pua_calls.specs.TableTexts.{table_over}
 use Rattle.pua_calls.specs.declared.rules.Rules.{Rules}
 use Rattle.pua_calls.specs.Promises.{holds, cpath}
-use Rattle.pua_policy.specs.History.{History, ProcessState, StandsFor, held}
+use Rattle.pua_policy.specs.History.{History, ProcessState, StandsFor, held_set}
 use Rattle.pua_script.specs.Requests.{Asked}
 use Rattle.pua_script.specs.Replay.{World, history_of, world_after}
 use Rattle.pua_script.specs.Tightening.{NoCallNeedsError, IsNarrowedBy, EndsWithin}
@@ -27,10 +27,13 @@ RulesNarrow = (rules : Rules) → TableNarrows (table_by_rules rules)
 
 -- of a table that a text gives over such a one the laws ask no more than of its calls: rename and link need what they need by that one
 pub record ReadTablesNarrow : Type 0 where
-  pub error : (base : CallTable) → NoCallNeedsError base → (text : List ℕ) (table : CallTable) → table_over base text ≡ Ok table → NoCallNeedsError table
-  pub taking : (base : CallTable) → TakingNeedsC base → (text : List ℕ) (table : CallTable) → table_over base text ≡ Ok table → NeedsC (rule_of table Rmdir) → NeedsC (rule_of table Unlink) → TakingNeedsC table
+  pub error : (base : CallTable) → NoCallNeedsError base → (text : List ℕ) (table : CallTable) → table_over base text ≡ Ok table →
+      NoCallNeedsError table
+  pub taking : (base : CallTable) → TakingNeedsC base → (text : List ℕ) (table : CallTable) → table_over base text ≡ Ok table →
+      NeedsC (rule_of table Rmdir) → NeedsC (rule_of table Unlink) → TakingNeedsC table
   pub changing : (base : CallTable) → ChangingNeedsCpath base → (text : List ℕ) (table : CallTable) → table_over base text ≡ Ok table →
-      NamesCpath (rule_of table Create) → NamesCpath (rule_of table Mkdir) → NamesCpath (rule_of table Rmdir) → NamesCpath (rule_of table Unlink) → NamesCpath (rule_of table Symlink) →
+      NamesCpath (rule_of table Create) → NamesCpath (rule_of table Mkdir) → NamesCpath (rule_of table Rmdir) →
+      NamesCpath (rule_of table Unlink) → NamesCpath (rule_of table Symlink) →
       ChangingNeedsCpath table
 
 -- a process is kept at the number, and stands for a history of this kind
@@ -49,24 +52,27 @@ IsNarrowing before ask after = (w : World) → StandsForWorld before w → (proc
 
 -- by the history of the one that asks, each row that isn't covered with `c` stays, if the table asks for `c` where a name is taken away
 abbrev pub IsSparing : WorldState → Asked → WorldState → Type 0
-IsSparing before ask after = TakingNeedsC before.table → (w : World) → StandsForWorld before w → (h : History) → history_of w ask.process ≡ Some h → UncoveredStay h before.tree after.tree
+IsSparing before ask after = TakingNeedsC before.table → (w : World) → StandsForWorld before w → (h : History) →
+    history_of w ask.process ≡ Some h → UncoveredStay h before.tree after.tree
 
 -- a list of requests was served, and each world on the way has a tree
 abbrev pub HaveTrees : WorldState → List Asked → Type 0
 HaveTrees before asks = (w : World) → StandsForWorld before w → TreesAlong before.table w asks
 
 abbrev pub AreDone : WorldState → List Asked → List Answer → WorldState → Type 0
-AreDone before asks told after = AreServed before asks told after × HaveTrees before asks
+AreDone before asks answers after = AreServed before asks answers after × HaveTrees before asks
 
 -- some first ones of the requests were
 abbrev pub AreDoneInPart : WorldState → List Asked → WorldState → Type 0
 AreDoneInPart before asks after = (count : ℕ)
-    × ((w : World) → StandsForWorld before w → StandsForWorld after (world_after before.table w (take count asks)) × (after.table ≡ before.table) × TreesAlong before.table w (take count asks))
+    × ((w : World) → StandsForWorld before w → StandsForWorld after (world_after before.table w (take count asks)) ×
+    (after.table ≡ before.table) × TreesAlong before.table w (take count asks))
 
--- by the history of a confined process at the beginning, and if the table asks for `c` and for cpath where it has to: each row that isn't covered with `c` stays, and without cpath the tree does
+-- by the history of a confined process at the beginning, and if the table asks for `c` and for cpath where it has to:
+-- each row that isn't covered with `c` stays, and without cpath the tree does
 pub record IsConfining (before : WorldState) (now : History) (after : WorldState) : Type 0 where
   pub spares : TakingNeedsC before.table → UncoveredStay now before.tree after.tree
-  pub unchanged : ChangingNeedsCpath before.table → IsFalse (holds (held now) cpath) → after.tree ≡ before.tree
+  pub unchanged : ChangingNeedsCpath before.table → IsFalse (holds (held_set now) cpath) → after.tree ≡ before.tree
 
 -- what a list of requests leaves of the family of a process that was confined, as long as no exec of a
 -- member is answered ok: each member stands afterwards for a history that allows no more, and where

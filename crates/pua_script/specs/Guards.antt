@@ -9,7 +9,9 @@ use Rattle.pua_calls.specs.Promises.{proc, unveil}
 use Rattle.pua_calls.specs.Calls.{CallTable, PairRule, rule_of}
 use Rattle.pua_policy.specs.History.{History, Pledged, Unveiled, Locked, Ended, working_dir, is_locked, pledge_fault, unveil_fault, may_any}
 use Rattle.pua_policy.specs.Verdict.{place_of, cover, cover_fault, object_named, object_fault, object_of}
-use Rattle.pua_script.specs.Decide.{link_node, is_whole, kinds_fault, inside_fault, unveil_errno, given_set, is_unknown, Change, NoChange, AddNode, CutRow, ShiftRow, TieRow, AddEvent, CopyAs, adding, change_by, shifting, tying, ways_fault, named_by, decide}
+use Rattle.pua_script.specs.Decide.{link_node, is_whole, kinds_fault, inside_fault, unveil_errno, given_set, is_unknown, Change, NoChange}
+use Rattle.pua_script.specs.Decide.{AddNode, CutRow, ShiftRow, TieRow, AddEvent, CopyAs, adding, change_by, shifting, tying, ways_fault}
+use Rattle.pua_script.specs.Decide.{named_by, decide}
 use Rattle.pua_path.specs.declared.text.Ending.{Ending}
 use Rattle.pua_path.specs.declared.text.Ending.TheVariants as ending
 use Rattle.pua_path.specs.declared.found.Last.TheVariants.{Followed}
@@ -29,7 +31,8 @@ pub record OnOne (table : CallTable) (t : Tree) (h : History) (call : Call) (pat
   pub fitting : object_fault t call (object_of t object) ≡ None
 
 -- two paths: the promises and the letters of both names, and the node that the old one named
-pub record OnTwo (pair : PairRule) (t : Tree) (h : History) (ending : Ending) (old_path new_path : List ℕ) (old new : Found) (x : ℕ) : Type 0 where
+pub record OnTwo (pair : PairRule) (t : Tree) (h : History) (ending : Ending) (old_path new_path : List ℕ) (old new : Found) (x : ℕ) : Type
+    0 where
   pub promised_old : may_any h pair.old.needs.alternatives ≡ may.Yes
   pub promised_new : may_any h pair.new.needs.alternatives ≡ may.Yes
   pub found_old : named_by pair.old t h ending old_path ≡ Ok old
@@ -80,7 +83,8 @@ pub record IsPledge (h : History) (promises execpromises : Given) (change : Chan
 -- which checks a request passed that changes this
 abbrev pub IsDecided : CallTable → Tree → History → Action → Change → Type 0
 IsDecided table t h (OnPath call path) change = (object : Found) × OnOne table t h call path object × (change ≡ change_by table call object)
-IsDecided table t h (Symlink target path) change = (object : Found) × OnOne table t h call.Symlink path object × (path_fault target ≡ None) × (change ≡ adding (link_node target) object)
+IsDecided table t h (Symlink target path) change = (object : Found) × OnOne table t h call.Symlink path object × (path_fault target ≡ None)
+    × (change ≡ adding (link_node target) object)
 IsDecided table t h (Rename old new) change = IsRename table.rename t h old new change
 IsDecided table t h (Link old new) change = IsLink table.link t h old new change
 IsDecided table t h (Pledge promises execpromises) change = IsPledge h promises execpromises change
@@ -91,7 +95,8 @@ IsDecided table t h Exit change = change ≡ AddEvent Ended
 
 -- each decision had its guards
 abbrev pub DecisionsAreGuarded : Type 0
-DecisionsAreGuarded = (table : CallTable) (t : Tree) (h : History) (action : Action) (change : Change) → decide table t h action ≡ Ok change → IsDecided table t h action change
+DecisionsAreGuarded = (table : CallTable) (t : Tree) (h : History) (action : Action) (change : Change) →
+    decide table t h action ≡ Ok change → IsDecided table t h action change
 
 -- a spot at which nothing stands
 abbrev pub IsFree : Tree → Spot → Type 0

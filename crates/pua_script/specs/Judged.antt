@@ -1,16 +1,20 @@
 -- What the code decides, by the definitions.
-use Rattle.std.specs.Prelude.{ℕ, List, Result, Ok, Err, IsTrue, option_copied}
+use Rattle.std.specs.Prelude.{ℕ, List, Result, Ok, Err}
 use Rattle.std.specs.Borrow.{Bor}
-use Rattle.pua_tree.specs.Tree.{Tree, Spot, target_fits}
+use Rattle.pua_tree.specs.Tree.{Node, Tree, Spot}
+use Rattle.pua_tree.specs.declared.node.Kind.TheVariants as kind
 use Rattle.pua_path.specs.Fits.{FoundFits, StandsAsNamed}
 use Rattle.pua_path.specs.declared.found.Found.{Found}
-use Rattle.pua_policy.specs.History.{History, Locked, Moved, Ended}
+use Rattle.pua_policy.specs.History.{Locked, Moved, Ended}
 use Rattle.pua_policy.specs.Verdict.{place_of}
 use Rattle.pua_policy.specs.declared.answer.Refusal.{Refusal}
-use Rattle.pua_script.specs.Decide.{NoChange, AddNode, CutRow, ShiftRow, TieRow, BeginProgram, AddEvent, Decision, pledging, veiling}
-use Rattle.pua_script.specs.Guards.{IsFree, IsPossible}
+use Rattle.pua_script.specs.Decide.{NoChange, AddNode, CutRow, ShiftRow, TieRow, BeginProgram, AddEvent, Asking, Decision, pledging}
+use Rattle.pua_script.specs.Decide.{veiling}
+use Rattle.pua_script.specs.Decide.{plain_node, link_node}
 use Rattle.pua_script.specs.declared.granted.Granted.{Granted}
 use Rattle.pua_script.specs.declared.granted.Granted.TheVariants as granted
+use Rattle.pua_script.specs.declared.granted.NewNode.{NewNode}
+use Rattle.pua_script.specs.declared.granted.NewNode.TheVariants as new_nodes
 
 -- a spot whose name is lent
 abbrev pub spot_now : ℕ × Bor (List ℕ) → Spot
@@ -21,19 +25,25 @@ pub record NameFits (t : Tree) (object : Found) : Type 0 where
   pub fits : FoundFits t object
   pub named : StandsAsNamed t object
 
+-- a node that is to be added
+abbrev pub node_made : NewNode → Node
+node_made new_nodes.File = plain_node kind.File
+node_made new_nodes.Directory = plain_node kind.Dir
+node_made (new_nodes.Link target) = link_node target.now.bytes
+
 -- what was granted, as a decision: of a pledge and an unveil the process itself judges the last check
-abbrev pub decision_by : History → Granted → Decision
-decision_by h granted.NoChange = Ok NoChange
-decision_by h (granted.AddNode dir name kind target) = Ok (AddNode (dir, name.now) (record { kind = kind; target = option_copied target }))
-decision_by h (granted.CutRow dir name) = Ok (CutRow (dir, name.now))
-decision_by h (granted.ShiftRow from name to new_name) = Ok (ShiftRow (from, name.now) (to, new_name.now))
-decision_by h (granted.TieRow dir name x) = Ok (TieRow (dir, name.now) x)
-decision_by h (granted.BeginProgram left) = Ok (BeginProgram left)
-decision_by h (granted.Pledge promises execpromises) = pledging h promises execpromises
-decision_by h (granted.Unveil object perms) = veiling h (place_of object.now) perms
-decision_by h granted.Lock = Ok (AddEvent Locked)
-decision_by h (granted.Enter dir) = Ok (AddEvent (Moved dir))
-decision_by h granted.Exit = Ok (AddEvent Ended)
+abbrev pub decision_by : Asking → Granted → Decision
+decision_by asker granted.NoChange = Ok NoChange
+decision_by asker (granted.AddNode dir name node) = Ok (AddNode (dir, name.now) (node_made node))
+decision_by asker (granted.CutRow dir name) = Ok (CutRow (dir, name.now))
+decision_by asker (granted.ShiftRow from name to new_name) = Ok (ShiftRow (from, name.now) (to, new_name.now))
+decision_by asker (granted.TieRow dir name x) = Ok (TieRow (dir, name.now) x)
+decision_by asker (granted.BeginProgram left) = Ok (BeginProgram left)
+decision_by asker (granted.Pledge promises execpromises) = pledging asker promises execpromises
+decision_by asker (granted.Unveil object perms) = veiling asker (place_of object.now) perms
+decision_by asker granted.Lock = Ok (AddEvent Locked)
+decision_by asker (granted.Enter dir) = Ok (AddEvent (Moved dir))
+decision_by asker granted.Exit = Ok (AddEvent Ended)
 
 -- further checks of what was judged
 abbrev pub on_judged : {X : Type 0} → Result X Refusal → (X → Decision) → Decision
@@ -41,14 +51,6 @@ on_judged (Ok x) further = further x
 on_judged (Err refusal) further = Err refusal
 
 -- what was granted, or refused, as a decision
-abbrev pub decided : History → Result Granted Refusal → Decision
-decided h (Ok granted) = decision_by h granted
-decided h (Err refusal) = Err refusal
-
--- what was granted can be done: want of room, or of memory, is the only fault of its edit
-abbrev pub CanBeDone : Tree → Granted → Type 0
-CanBeDone t (granted.AddNode dir name kind target) = IsFree t (dir, name.now) × IsTrue (target_fits kind (option_copied target))
-CanBeDone t (granted.CutRow dir name) = IsPossible t (CutRow (dir, name.now))
-CanBeDone t (granted.ShiftRow from name to new_name) = IsPossible t (ShiftRow (from, name.now) (to, new_name.now))
-CanBeDone t (granted.TieRow dir name x) = IsPossible t (TieRow (dir, name.now) x)
-CanBeDone t _ = Unit {0}
+abbrev pub decision_for : Asking → Result Granted Refusal → Decision
+decision_for asker (Ok granted) = decision_by asker granted
+decision_for asker (Err refusal) = Err refusal

@@ -4,7 +4,7 @@ use Rattle.pua_tree.specs.Tree.{Tree, WellFormed}
 use Rattle.pua_tree.specs.Edits.{has_name_room, has_room}
 use Rattle.pua_path.specs.declared.errno.Errno.TheVariants.{ENOSPC}
 use Rattle.pua_calls.specs.Promises.{holds, unveil}
-use Rattle.pua_policy.specs.History.{History, held, is_locked}
+use Rattle.pua_policy.specs.History.{History, held_set, is_locked}
 use Rattle.pua_calls.specs.Calls.{CallTable}
 use Rattle.pua_policy.specs.declared.answer.Refusal.TheVariants.{Failed}
 use Rattle.pua_calls.specs.declared.call.Call.{Call}
@@ -14,17 +14,17 @@ use Rattle.pua_script.specs.declared.request.Action.TheVariants.{OnPath, Symlink
 use Rattle.pua_script.specs.Requests.{Asked}
 use Rattle.pua_script.specs.Decide.{Change, AddNode, TieRow, decide}
 use Rattle.pua_script.specs.Guards.{IsPossible}
-use Rattle.pua_script.specs.Replay.{World, Fails, made, effect, answers, world_after}
+use Rattle.pua_script.specs.Replay.{World, Fails, change_effect, effect, answers_to, world_after}
 
 -- a list of requests may be cut anywhere
 abbrev pub ReplayComposes : Type 0
 ReplayComposes = (table : CallTable) (w : World) (first second : List Asked) →
-    (answers table w (first ++ second) ≡ answers table w first ++ answers table (world_after table w first) second)
+    (answers_to table w (first ++ second) ≡ answers_to table w first ++ answers_to table (world_after table w first) second)
     × (world_after table w (first ++ second) ≡ world_after table (world_after table w first) second)
 
 -- the process can put no veil any more: it is locked, or doesn't hold `unveil`
 abbrev pub IsConfined : History → Type 0
-IsConfined h = (is_locked h ≡ true) ⊎ (holds (held h) unveil ≡ false)
+IsConfined h = (is_locked h ≡ true) ⊎ (holds (held_set h) unveil ≡ false)
 
 -- the calls that add a node
 abbrev pub adds_node : Call → Bool
@@ -45,7 +45,8 @@ DecisionsArePossible = (table : CallTable) (t : Tree) (h : History) (action : Ac
 
 -- such a change fails exactly where it wants room, and then with ENOSPC
 abbrev pub ChangesLackRoom : Type 0
-ChangesLackRoom = (w : World) (h : History) (change : Change) → IsPossible w.tree change → (made w h change ≡ Fails ENOSPC) ↔ IsTrue (wants_room w.tree change)
+ChangesLackRoom = (w : World) (h : History) (change : Change) → IsPossible w.tree change →
+    (change_effect w h change ≡ Fails ENOSPC) ↔ IsTrue (wants_room w.tree change)
 
 -- nothing else is answered ENOSPC: no check before a change is
 abbrev pub RefusalsLackNoRoom : Type 0

@@ -7,7 +7,7 @@ use Rattle.pua_tree.specs.Edits.{add, tie, cut, shift}
 use Rattle.pua_calls.specs.Calls.{CallTable}
 use Rattle.pua_policy.specs.History.{History, Ended, new_history, is_ended, after_exec}
 use Rattle.pua_script.specs.Requests.{Asked}
-use Rattle.pua_script.specs.Limits.{process_limit}
+use Rattle.pua_script.specs.Limits.{most_processes}
 use Rattle.pua_script.specs.Decide.{Change, NoChange, AddNode, CutRow, ShiftRow, TieRow, BeginProgram, AddEvent, CopyAs, Decision, decide}
 use Rattle.pua_tree.specs.declared.fault.TreeFault.{TreeFault}
 use Rattle.pua_path.specs.declared.errno.Errno.{Errno}
@@ -45,9 +45,9 @@ pub data Effect : Type 0 where
   Copies : ℕ → Effect
 
 -- what an edit leaves; the checks before it leave want of room as its only fault
-abbrev pub edited : History → Result (ℕ × Tree) TreeFault → Effect
-edited h (Ok result) = Leaves result.1 h
-edited h (Err fault) = Fails ENOSPC
+abbrev pub edit_effect : History → Result (ℕ × Tree) TreeFault → Effect
+edit_effect h (Ok result) = Leaves result.1 h
+edit_effect h (Err fault) = Fails ENOSPC
 
 abbrev pub edited_tree : History → Result Tree TreeFault → Effect
 edited_tree h (Ok t) = Leaves t h
@@ -55,28 +55,28 @@ edited_tree h (Err fault) = Fails ENOSPC
 
 -- so many processes at most, and no number twice
 abbrev pub fork_effect : World → History → ℕ → Effect
-fork_effect w h new = if is_some (history_of w new) || nat_le process_limit (length w.histories) then Fails EAGAIN else Copies new
+fork_effect w h new = if is_some (history_of w new) || nat_le most_processes (length w.histories) then Fails EAGAIN else Copies new
 
 -- what a change comes to in a world, whose tree may lack room for it, or its processes
-abbrev pub made : World → History → Change → Effect
-made w h NoChange = Leaves w.tree h
-made w h (AddNode spot node) = edited h (add w.tree spot.0 spot.1 node)
-made w h (CutRow spot) = edited h (cut w.tree spot.0 spot.1)
-made w h (ShiftRow old new) = edited_tree h (shift w.tree old.0 old.1 new.0 new.1)
-made w h (TieRow spot x) = edited_tree h (tie w.tree spot.0 spot.1 x)
-made w h (BeginProgram left) = Leaves w.tree (after_exec left h)
-made w h (AddEvent event) = Leaves w.tree (event ∷ h)
-made w h (CopyAs new) = fork_effect w h new
+abbrev pub change_effect : World → History → Change → Effect
+change_effect w h NoChange = Leaves w.tree h
+change_effect w h (AddNode spot node) = edit_effect h (add w.tree spot.0 spot.1 node)
+change_effect w h (CutRow spot) = edit_effect h (cut w.tree spot.0 spot.1)
+change_effect w h (ShiftRow old new) = edited_tree h (shift w.tree old.0 old.1 new.0 new.1)
+change_effect w h (TieRow spot x) = edited_tree h (tie w.tree spot.0 spot.1 x)
+change_effect w h (BeginProgram left) = Leaves w.tree (after_exec left h)
+change_effect w h (AddEvent event) = Leaves w.tree (event ∷ h)
+change_effect w h (CopyAs new) = fork_effect w h new
 
 -- the effect of a refused request
-abbrev pub refused : Refusal → Effect
-refused (refusals.Failed errno) = Fails errno
-refused refusals.Killed = Kills
+abbrev pub refusal_effect : Refusal → Effect
+refusal_effect (refusals.Failed errno) = Fails errno
+refusal_effect refusals.Killed = Kills
 
 -- what a decision comes to
 abbrev pub come_of : World → History → Decision → Effect
-come_of w h (Ok change) = made w h change
-come_of w h (Err refusal) = refused refusal
+come_of w h (Ok change) = change_effect w h change
+come_of w h (Err refusal) = refusal_effect refusal
 
 -- what a living process's request does: it is decided, and then a change is made
 abbrev pub effect : CallTable → World → History → Action → Effect
@@ -99,18 +99,18 @@ abbrev pub do_decided : World → ℕ → History → Decision → Answer × Wor
 do_decided w process h decision = let does : Effect = come_of w h decision in (answer_to does, left_by w process h does)
 
 -- a request's answer and the world after it; a process that ended or was never made is gone
-abbrev pub served : CallTable → World → Asked → Option History → Answer × World
-served table w ask None = (Gone, w)
-served table w ask (Some h) =
+abbrev pub answer_and_world : CallTable → World → Asked → Option History → Answer × World
+answer_and_world table w ask None = (Gone, w)
+answer_and_world table w ask (Some h) =
     if is_ended h then (Gone, w) else do_decided w ask.process h (decide table w.tree h ask.action)
 
 abbrev pub apply : CallTable → World → Asked → Answer × World
-apply table w ask = served table w ask (history_of w ask.process)
+apply table w ask = answer_and_world table w ask (history_of w ask.process)
 
 -- the answers to requests, one after another, and the world after all of them
-abbrev pub answers : CallTable → World → List Asked → List Answer
-answers table w [] = []
-answers table w (ask ∷ asks) = let done : Answer × World = apply table w ask in done.0 ∷ answers table done.1 asks
+abbrev pub answers_to : CallTable → World → List Asked → List Answer
+answers_to table w [] = []
+answers_to table w (ask ∷ asks) = let done : Answer × World = apply table w ask in done.0 ∷ answers_to table done.1 asks
 
 abbrev pub world_after : CallTable → World → List Asked → World
 world_after table w [] = w

@@ -1,7 +1,7 @@
 -- A line of a script, as a value.
 use Rattle.std.specs.Prelude.{ℕ, Bool, true, false, not, ◌&&◌, List, nat_le}
 use Rattle.pua_tree.specs.Names.{has_byte}
-use Rattle.pua_script.specs.Limits.{number_limit}
+use Rattle.pua_script.specs.Limits.{most_number}
 use Rattle.pua_calls.specs.declared.call.Call.{Call}
 use Rattle.pua_calls.specs.declared.call.Call.TheVariants as call
 use Rattle.pua_script.specs.declared.request.Action.{Action}
@@ -14,7 +14,7 @@ pub record Asked : Type 0 where
 
 -- a number that a process may have
 abbrev pub is_process_number : ℕ → Bool
-is_process_number n = nat_le 1 n && nat_le n number_limit
+is_process_number n = nat_le 1 n && nat_le n most_number
 
 -- bytes without NUL
 abbrev pub has_no_nul : List ℕ → Bool

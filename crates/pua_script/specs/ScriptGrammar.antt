@@ -1,5 +1,6 @@
 -- What a script is as a text: lines, each of which spells a request by its fields.
-use Rattle.std.specs.Prelude.{◌≡◌, ◌≢◌, ℕ, ◌≤◌, List, [], ◌∷◌, length, Option, Some, None, Ok, Err, codes, decimal, IsTrue, IsFalse, nat_lt, ◌↔◌}
+use Rattle.std.specs.Prelude.{◌≡◌, ◌≢◌, ℕ, ◌≤◌, List, [], ◌∷◌, length, Option, Some, None, Ok, Err, codes, decimal, IsTrue, IsFalse, nat_lt}
+use Rattle.std.specs.Prelude.{◌↔◌}
 use Rattle.std.specs.List.{list_all}
 use Rattle.std.specs.Str.Lines.{lines}
 use Rattle.pua_tree.specs.Spelling.{spelling, fields, is_field}
@@ -7,7 +8,7 @@ use Rattle.pua_calls.specs.Promises.{promises_of, perms_of}
 use Rattle.pua_calls.specs.Calls.{call_name}
 use Rattle.pua_path.specs.declared.errno.Errno.{Errno}
 use Rattle.pua_calls.specs.declared.call.Call.{Call}
-use Rattle.pua_script.specs.Limits.{line_limit, number_limit}
+use Rattle.pua_script.specs.Limits.{most_script_lines, most_number}
 use Rattle.pua_script.specs.Requests.{Asked, is_symlink, has_no_nul}
 use Rattle.pua_script.specs.Scripts.{has_empty_word, script}
 use Rattle.pua_script.specs.declared.request.Given.{Given}
@@ -18,7 +19,8 @@ use Rattle.pua_script.specs.declared.request.Action.TheVariants.{OnPath, Symlink
 -- a path or a target: `=` is the empty text, and anything else spells bytes without NUL
 pub data SpellsPath (field : List ℕ) : List ℕ → Type 0 where
   empty : field ≡ codes "=" → SpellsPath field []
-  spelled : {text : List ℕ} → field ≢ codes "=" → IsTrue (list_all (λ b. nat_lt b 256) text) → IsTrue (has_no_nul text) → field ≡ spelling text → SpellsPath field text
+  spelled : {text : List ℕ} → field ≢ codes "=" → IsTrue (list_all (λ b. nat_lt b 256) text) → IsTrue (has_no_nul text) →
+      field ≡ spelling text → SpellsPath field text
 
 -- keywords between commas, none of them empty, and neither `-` nor `=`
 pub record IsList (field : List ℕ) : Type 0 where
@@ -41,14 +43,21 @@ pub data SpellsPerms (field : List ℕ) : Option ℕ → Type 0 where
 
 -- the fields of a call and its arguments
 pub data SpellsAction : List (List ℕ) → Action → Type 0 where
-  on_path : {word a path : List ℕ} {call : Call} → IsFalse (is_symlink call) → word ≡ call_name call → SpellsPath a path → SpellsAction (word ∷ a ∷ []) (OnPath call path)
-  symlink : {word a b target path : List ℕ} → word ≡ codes "symlink" → SpellsPath a target → SpellsPath b path → SpellsAction (word ∷ a ∷ b ∷ []) (Symlink target path)
-  rename : {word a b old new : List ℕ} → word ≡ codes "rename" → SpellsPath a old → SpellsPath b new → SpellsAction (word ∷ a ∷ b ∷ []) (Rename old new)
-  link : {word a b old new : List ℕ} → word ≡ codes "link" → SpellsPath a old → SpellsPath b new → SpellsAction (word ∷ a ∷ b ∷ []) (Link old new)
-  pledge : {word a b : List ℕ} {promises execpromises : Given} → word ≡ codes "pledge" → SpellsGiven a promises → SpellsGiven b execpromises → SpellsAction (word ∷ a ∷ b ∷ []) (Pledge promises execpromises)
-  unveil : {word a b path : List ℕ} {perms : Option ℕ} → word ≡ codes "unveil" → a ≢ codes "-" → b ≢ codes "-" → SpellsPath a path → SpellsPerms b perms → SpellsAction (word ∷ a ∷ b ∷ []) (Unveil path perms)
+  on_path : {word a path : List ℕ} {call : Call} → IsFalse (is_symlink call) → word ≡ call_name call → SpellsPath a path →
+      SpellsAction (word ∷ a ∷ []) (OnPath call path)
+  symlink : {word a b target path : List ℕ} → word ≡ codes "symlink" → SpellsPath a target → SpellsPath b path →
+      SpellsAction (word ∷ a ∷ b ∷ []) (Symlink target path)
+  rename : {word a b old new : List ℕ} → word ≡ codes "rename" → SpellsPath a old → SpellsPath b new →
+      SpellsAction (word ∷ a ∷ b ∷ []) (Rename old new)
+  link : {word a b old new : List ℕ} → word ≡ codes "link" → SpellsPath a old → SpellsPath b new →
+      SpellsAction (word ∷ a ∷ b ∷ []) (Link old new)
+  pledge : {word a b : List ℕ} {promises execpromises : Given} → word ≡ codes "pledge" → SpellsGiven a promises →
+      SpellsGiven b execpromises → SpellsAction (word ∷ a ∷ b ∷ []) (Pledge promises execpromises)
+  unveil : {word a b path : List ℕ} {perms : Option ℕ} → word ≡ codes "unveil" → a ≢ codes "-" → b ≢ codes "-" → SpellsPath a path →
+      SpellsPerms b perms → SpellsAction (word ∷ a ∷ b ∷ []) (Unveil path perms)
   lock : {word a b : List ℕ} → word ≡ codes "unveil" → a ≡ codes "-" → b ≡ codes "-" → SpellsAction (word ∷ a ∷ b ∷ []) Lock
-  fork : {word a : List ℕ} {new : ℕ} → word ≡ codes "fork" → a ≡ decimal new → 1 ≤ new → new ≤ number_limit → SpellsAction (word ∷ a ∷ []) (Fork new)
+  fork : {word a : List ℕ} {new : ℕ} → word ≡ codes "fork" → a ≡ decimal new → 1 ≤ new → new ≤ most_number →
+      SpellsAction (word ∷ a ∷ []) (Fork new)
   exit : {word : List ℕ} → word ≡ codes "exit" → SpellsAction (word ∷ []) Exit
 
 -- a line: the decimal of the process, and the fields of what it asks for, with single spaces between fields
@@ -57,7 +66,7 @@ pub record SpellsRequest (line : List ℕ) (ask : Asked) : Type 0 where
   pub more : List (List ℕ)
   pub split : fields line ≡ decimal ask.process ∷ more
   pub low : 1 ≤ ask.process
-  pub high : ask.process ≤ number_limit
+  pub high : ask.process ≤ most_number
   pub spells : SpellsAction more ask.action
 
 -- each line spells its request
@@ -69,7 +78,7 @@ SpellRequests (line ∷ lines) (ask ∷ asks) = SpellsRequest line ask × SpellR
 
 -- the bytes are a script of these requests
 abbrev pub IsScript : List ℕ → List Asked → Type 0
-IsScript bytes asks = (length (lines bytes) ≤ line_limit) × SpellRequests (lines bytes) asks
+IsScript bytes asks = (length (lines bytes) ≤ most_script_lines) × SpellRequests (lines bytes) asks
 
 -- the reader accepts exactly the scripts of a list of requests
 abbrev pub ScriptsAreRead : Type 0

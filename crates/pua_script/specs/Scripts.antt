@@ -1,15 +1,16 @@
 -- Which bytes are a script of which requests, and else which fault comes first.
-use Rattle.std.specs.Prelude.{◌≡◌, ◌≢◌, MatchResult, ℕ, suc, Bool, not, if◌then◌else◌, List, [], ◌∷◌, length, take, nat_lt, ◌==◌, Option, Some, None, Result, Ok, Err, codes, ok_or, option_map}
+use Rattle.std.specs.Prelude.{◌≡◌, ◌≢◌, MatchResult, ℕ, suc, Bool, not, if◌then◌else◌, List, [], ◌∷◌, length, take, nat_lt, ◌==◌, Option}
+use Rattle.std.specs.Prelude.{Some, None, Result, Ok, Err, codes, ok_or, option_map}
 use Rattle.std.specs.List.{list_all, list_any, slice_split}
 use Rattle.std.specs.Result.{result_ok}
 use Rattle.std.specs.Str.Lines.{lines}
 use Rattle.pua_tree.specs.Names.{same_bytes}
-use Rattle.pua_tree.specs.Spelling.{unspelled, fields, is_field, number_within}
+use Rattle.pua_tree.specs.Spelling.{bytes_spelled, fields, is_field, number_within}
 use Rattle.pua_tree.specs.Steps.{◌>>=◌}
 use Rattle.pua_tree.specs.Listing.{only_if}
 use Rattle.pua_calls.specs.Promises.{promises_of, perms_of}
 use Rattle.pua_calls.specs.Calls.{call_named}
-use Rattle.pua_script.specs.Limits.{line_limit, number_limit}
+use Rattle.pua_script.specs.Limits.{most_script_lines, most_number}
 use Rattle.pua_script.specs.Requests.{Asked, is_symlink, has_no_nul}
 use Rattle.pua_path.specs.declared.errno.Errno.{Errno}
 use Rattle.pua_calls.specs.declared.call.Call.{Call}
@@ -29,7 +30,7 @@ is_equals field = same_bytes field (codes "=")
 
 -- the bytes of a path or a target; `=` is the empty text
 abbrev pub path_in : List ℕ → Option (List ℕ)
-path_in field = if is_equals field then Some [] else only_if has_no_nul (unspelled field)
+path_in field = if is_equals field then Some [] else only_if has_no_nul (bytes_spelled field)
 
 -- a list of keywords with an empty word
 abbrev pub has_empty_word : List ℕ → Bool
@@ -64,7 +65,7 @@ pub data Form : Type 0 where
 abbrev pub form_of : List ℕ → List (List ℕ) → Option Form
 form_of word [] = if same_bytes word (codes "exit") then Some ExitForm else None
 form_of word (a ∷ []) =
-    if same_bytes word (codes "fork") then option_map ForkForm (number_within 1 number_limit a)
+    if same_bytes word (codes "fork") then option_map ForkForm (number_within 1 most_number a)
     else option_map (λ call. PathForm call a) (only_if (λ call. not (is_symlink call)) (call_named word))
 form_of word (a ∷ b ∷ []) =
     if same_bytes word (codes "symlink") then Some (SymlinkForm a b)
@@ -112,7 +113,7 @@ action_in n more = ok_or (form_in more) (BadCall n) >>= action_of n
 abbrev pub request_of_fields : ℕ → List (List ℕ) → Result Asked ScriptFault
 request_of_fields n [] = Err (BadLine n)
 request_of_fields n (process ∷ more) = do
-  number ← ok_or (number_within 1 number_limit process) (BadLine n)
+  number ← ok_or (number_within 1 most_number process) (BadLine n)
   action ← action_in n more
   Ok (record { process = number; action = action })
 
@@ -127,7 +128,8 @@ requests_of n (text ∷ texts) = request_of n text >>= λ request. requests_of (
 
 -- the requests of which the bytes are a script, or their first fault
 abbrev pub script : List ℕ → Result (List Asked) ScriptFault
-script bytes = requests_of 1 (take line_limit (lines bytes)) >>= λ requests. if nat_lt line_limit (length (lines bytes)) then Err TooMany else Ok requests
+script bytes = requests_of 1 (take most_script_lines (lines bytes)) >>= λ requests. if nat_lt most_script_lines (length (lines bytes)) then
+    Err TooMany else Ok requests
 
 -- a reader answers as the definition does, unless a growth was refused
 abbrev pub IsReadAs : {A : Type 0} → Result A ScriptFault → Result A ScriptFault → Type 0

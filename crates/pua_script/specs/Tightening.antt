@@ -6,7 +6,7 @@ use Rattle.pua_path.specs.Paths.{is_absolute}
 use Rattle.pua_calls.specs.Promises.{holds}
 use Rattle.pua_calls.specs.Calls.{CallTable}
 pub use Rattle.pua_calls.specs.Tables.{NamesNoError, NoCallNeedsError}
-use Rattle.pua_policy.specs.History.{History, held, working_dir}
+use Rattle.pua_policy.specs.History.{History, held_set, working_dir}
 use Rattle.pua_policy.specs.Verdict.{is_unveil, verdict_on, is_allowed}
 use Rattle.pua_calls.specs.declared.call.Call.{Call}
 use Rattle.pua_script.specs.Requests.{Asked}
@@ -19,10 +19,11 @@ use Rattle.pua_script.specs.declared.answer.Answer.TheVariants.{Okay}
 -- the later history has the unveils of the earlier one as they are, adds no promise but `error`, and can put no veil
 pub record Tightens (before after : History) : Type 0 where
   pub unveils : filter is_unveil after ≡ filter is_unveil before
-  pub promises : (set : ℕ) → NamesNoError set → IsTrue (holds (held after) set) → IsTrue (holds (held before) set)
+  pub promises : (set : ℕ) → NamesNoError set → IsTrue (holds (held_set after) set) → IsTrue (holds (held_set before) set)
   pub confined : IsConfined after
 
--- what it is for a history to allow no more than another over each tree: on each absolute path, and on each path at all where both work in one directory
+-- what it is for a history to allow no more than another over each tree: on each absolute path, and on each path at all
+-- where both work in one directory
 pub record AllowsNoMore (table : CallTable) (before after : History) : Type 0 where
   pub absolute : (t : Tree) (call : Call) (text : List ℕ) → IsTrue (is_absolute text) →
       IsTrue (is_allowed (verdict_on t table after call text)) → IsTrue (is_allowed (verdict_on t table before call text))
@@ -37,7 +38,8 @@ OthersLeave = (table : CallTable) (w : World) (ask : Asked) (process : ℕ) (h :
 -- so where others alone ask it stays: promises, execpromises, veils, lock, directory and end with it
 abbrev pub OthersLeaveAlways : Type 0
 OthersLeaveAlways = (table : CallTable) (w : World) (asks : List Asked) (process : ℕ) (h : History) →
-    history_of w process ≡ Some h → AllByRecursion (λ ask. ask.process ≡ process → ⊥) asks → history_of (world_after table w asks) process ≡ Some h
+    history_of w process ≡ Some h → AllByRecursion (λ ask. ask.process ≡ process → ⊥) asks →
+    history_of (world_after table w asks) process ≡ Some h
 
 -- one request of anyone: a confined process that did no exec is tightened, and stays in its directory but for its own chdir
 pub record IsNarrowedBy (table : CallTable) (w : World) (ask : Asked) (process : ℕ) (h after : History) : Type 0 where

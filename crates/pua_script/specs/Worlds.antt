@@ -7,7 +7,7 @@ use Rattle.pua_tree.specs.Tree.{Tree}
 use Rattle.pua_calls.specs.Calls.{CallTable}
 use Rattle.pua_policy.specs.History.{History, ProcessState, StandsFor}
 use Rattle.pua_script.specs.Requests.{Asked}
-use Rattle.pua_script.specs.Replay.{World, Effect, Kills, Leaves, Copies, history_of, apply, effect, answers, world_after, answer_to}
+use Rattle.pua_script.specs.Replay.{World, Effect, Kills, Leaves, Copies, history_of, apply, effect, answers_to, world_after, answer_to}
 use Rattle.pua_policy.specs.History.{Ended}
 use Rattle.pua_script.specs.declared.answer.Answer.{Answer}
 use Rattle.pua_script.specs.declared.answer.Answer.TheVariants.{Okay}
@@ -47,15 +47,18 @@ pub record HasReplay (s : WorldState) : Type 0 where
 abbrev pub IsOkay : WorldState → Asked → Type 0
 IsOkay s ask = (w : World) → StandsForWorld s w → (apply s.table w ask).0 ≡ Okay
 
--- the answer is the replay's by the world's table, and the world afterwards stands for the replay's, whichever world it stood for; the table stays
+-- the answer is the replay's by the world's table, and the world afterwards stands for the replay's, whichever world it
+-- stood for; the table stays
 abbrev pub IsServed : WorldState → Asked → Answer → WorldState → Type 0
 IsServed before ask answer after =
-    (w : World) → StandsForWorld before w → (answer ≡ (apply before.table w ask).0) × StandsForWorld after (apply before.table w ask).1 × (after.table ≡ before.table)
+    (w : World) → StandsForWorld before w → (answer ≡ (apply before.table w ask).0) × StandsForWorld after (apply before.table w ask).1 ×
+    (after.table ≡ before.table)
 
 -- the same for a list of requests
 abbrev pub AreServed : WorldState → List Asked → List Answer → WorldState → Type 0
-AreServed before asks told after =
-    (w : World) → StandsForWorld before w → (told ≡ answers before.table w asks) × StandsForWorld after (world_after before.table w asks) × (after.table ≡ before.table)
+AreServed before asks answers after =
+    (w : World) → StandsForWorld before w →
+    (answers ≡ answers_to before.table w asks) × StandsForWorld after (world_after before.table w asks) × (after.table ≡ before.table)
 
 -- what the world keeps at a number stands for the history at that number, in each world for which it stands
 abbrev pub IsProcessOf : WorldState → ℕ → Option ProcessState → Type 0
@@ -109,14 +112,15 @@ AttemptsEdit t h effect (Ok answer) tree = Edits t h effect answer tree
 AttemptsEdit t h effect (Err fault) tree = answer_to effect ≡ Okay
 
 -- a living process did what it asked for, whichever history it stands for
-abbrev pub Acts : CallTable → Tree → ProcessState → Action → Result Answer WorldFault → Tree → ProcessState → Type 0
-Acts table t before action result tree after =
-    (w : World) (h : History) → w.tree ≡ t → StandsFor before h → Attempts t h (effect table w h action) result tree after
+pub record Acts (table : CallTable) (t : Tree) (before : ProcessState) (action : Action) (result : Result Answer WorldFault) (tree : Tree)
+    (after : ProcessState) : Type 0 where
+  pub does : (w : World) (h : History) → w.tree ≡ t → StandsFor before h → Attempts t h (effect table w h action) result tree after
 
 -- two worlds of the replay for which one world stands answer alike by each table, and one world stands for both afterwards
 pub record AnswerAlike (table : CallTable) (v w : World) (asks : List Asked) : Type 0 where
-  pub told : answers table v asks ≡ answers table w asks
+  pub told : answers_to table v asks ≡ answers_to table w asks
   pub left : (after : WorldState) × StandsForWorld after (world_after table v asks) × StandsForWorld after (world_after table w asks)
 
 abbrev pub WorldsAnswerAlike : Type 0
-WorldsAnswerAlike = (s : WorldState) (v w : World) (asks : List Asked) → StandsForWorld s v → StandsForWorld s w → AnswerAlike s.table v w asks
+WorldsAnswerAlike = (s : WorldState) (v w : World) (asks : List Asked) → StandsForWorld s v → StandsForWorld s w →
+    AnswerAlike s.table v w asks

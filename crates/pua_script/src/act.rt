@@ -1,11 +1,12 @@
-//! What a living process's request does, where it makes no process: it is judged, and then it is done.
+//! What a process's request does, where it makes no process: it is judged, and then it is done.
 //!
 //! Each request with paths has a function of its own: a compiled function clears all its variables when
 //! it begins, and what a path names takes some 280 bytes.
 
-ghost use Rattle.std.specs.Prelude.{◌≡◌, ℕ, List, IfOk, OnErr, IsFalse, false};
+ghost use Rattle.std.specs.Prelude.{◌≡◌, ℕ, List, OnErr, IsFalse};
 ghost use Rattle.pua_policy.specs.History.{History, StandsFor};
-ghost use Rattle.pua_script.specs.Judged.{CanBeDone, decided};
+ghost use Rattle.pua_script.specs.Decide.{asker_of};
+ghost use Rattle.pua_script.specs.Judged.{decision_for};
 ghost use Rattle.pua_script.specs.Replay.{come_of};
 ghost use Rattle.pua_calls.specs.Calls.{CallTable as Rules};
 ghost use Rattle.pua_script.specs.Worlds.{Acts, Attempts, is_fork};
@@ -26,7 +27,7 @@ use pua_calls::{Call, CallTable, Perms};
 use pua_policy::{Process, Refusal};
 use pua_tree::FileTree;
 
-/// Does what a living process asks for, where it is no fork. All checks come first, in their order;
+/// Does what a process asks for, where it is no fork. All checks come first, in their order;
 /// what is granted then lends the names of what they found. Whether the tree has room is asked last.
 pub(crate) fn act<T: FileTree>(
     tree: &mut T,
@@ -34,13 +35,12 @@ pub(crate) fn act<T: FileTree>(
     process: &mut Process,
     action: &Action,
 ) -> Result<Answer, WorldFault>
-    requires living { process.old.ended ≡ false }
     requires other { IsFalse (is_fork action.now) }
-    ensures exact { Acts table.now (T.content tree.old) process.old action.now result (T.content tree.new) process.new }
-    ensures unchanged { OnErr result ((T.content tree.new ≡ T.content tree.old) × (process.new ≡ process.old)) }
+    ensures exact { Acts table.now (T.content tree.old) process.old action.now result
+        (T.content tree.new) process.new }
+    ensures unchanged { OnErr result ((T.content tree.new ≡ T.content tree.old) ×
+        (process.new ≡ process.old)) }
 {
-    tree.known();
-    process.known();
     match action {
         Action::OnPath(call, path) => call_on(tree, table, process, *call, path.bytes()),
         Action::Symlink(target, path) => {
@@ -69,14 +69,11 @@ fn call_on<T: FileTree>(
     call: Call,
     path: &[u8],
 ) -> Result<Answer, WorldFault>
-    requires living { process.old.ended ≡ false }
     ensures exact { Acts table.now (T.content tree.old) process.old (OnPath call path.now)
         result (T.content tree.new) process.new }
     ensures unchanged { OnErr result
         ((T.content tree.new ≡ T.content tree.old) × (process.new ≡ process.old)) }
 {
-    tree.known();
-    process.known();
     let object = judge_call(tree, table, process, call, path);
     answer(tree, process, &grant_call(table, call, &object))
 }
@@ -89,16 +86,13 @@ fn symlink<T: FileTree>(
     target: &[u8],
     path: &[u8],
 ) -> Result<Answer, WorldFault>
-    requires living { process.old.ended ≡ false }
     ensures exact { Acts table.now (T.content tree.old) process.old (Symlink target.now path.now)
         result (T.content tree.new) process.new }
     ensures unchanged { OnErr result
         ((T.content tree.new ≡ T.content tree.old) × (process.new ≡ process.old)) }
 {
-    tree.known();
-    process.known();
-    let object = judge_symlink(tree, table, process, target, path);
-    answer(tree, process, &grant_symlink(target, &object))
+    let judged = judge_symlink(tree, table, process, target, path);
+    answer(tree, process, &grant_symlink(&judged))
 }
 
 /// Renames what the old path names.
@@ -109,14 +103,11 @@ fn rename<T: FileTree>(
     old: &[u8],
     new: &[u8],
 ) -> Result<Answer, WorldFault>
-    requires living { process.old.ended ≡ false }
     ensures exact { Acts table.now (T.content tree.old) process.old (Rename old.now new.now)
         result (T.content tree.new) process.new }
     ensures unchanged { OnErr result
         ((T.content tree.new ≡ T.content tree.old) × (process.new ≡ process.old)) }
 {
-    tree.known();
-    process.known();
     let pair = judge_rename(tree, table, process, old, new);
     let granted = grant_rename(tree, &pair);
     answer(tree, process, &granted)
@@ -130,14 +121,11 @@ fn link<T: FileTree>(
     old: &[u8],
     new: &[u8],
 ) -> Result<Answer, WorldFault>
-    requires living { process.old.ended ≡ false }
     ensures exact { Acts table.now (T.content tree.old) process.old (Link old.now new.now)
         result (T.content tree.new) process.new }
     ensures unchanged { OnErr result
         ((T.content tree.new ≡ T.content tree.old) × (process.new ≡ process.old)) }
 {
-    tree.known();
-    process.known();
     let pair = judge_link(tree, table, process, old, new);
     answer(tree, process, &grant_link(&pair))
 }
@@ -149,15 +137,12 @@ fn unveil<T: FileTree>(
     path: &[u8],
     perms: Option<Perms>,
 ) -> Result<Answer, WorldFault>
-    requires living { process.old.ended ≡ false }
     ensures exact { (table : Rules) →
         Acts table (T.content tree.old) process.old (Unveil path.now perms)
         result (T.content tree.new) process.new }
     ensures unchanged { OnErr result
         ((T.content tree.new ≡ T.content tree.old) × (process.new ≡ process.old)) }
 {
-    tree.known();
-    process.known();
     let veil = judge_unveil(tree, process, path, perms);
     answer(tree, process, &grant_unveil(&veil))
 }
@@ -168,13 +153,13 @@ fn answer<T: FileTree>(
     process: &mut Process,
     granted: &Result<Granted<'_>, Refusal>,
 ) -> Result<Answer, WorldFault>
-    requires living { process.old.ended ≡ false }
-    requires possible { IfOk granted.now (CanBeDone (T.content tree.old)) }
     ensures exact { (h : History) (histories : List (ℕ × History)) → StandsFor process.old h →
         Attempts (T.content tree.old) h
-        (come_of (record { tree = T.content tree.old; histories = histories }) h (decided h granted.now))
+        (come_of (record { tree = T.content tree.old; histories = histories }) h
+        (decision_for (asker_of h) granted.now))
         result (T.content tree.new) process.new }
-    ensures unchanged { OnErr result ((T.content tree.new ≡ T.content tree.old) × (process.new ≡ process.old)) }
+    ensures unchanged { OnErr result ((T.content tree.new ≡ T.content tree.old) ×
+        (process.new ≡ process.old)) }
 {
     match granted {
         Ok(granted) => make(tree, process, granted),

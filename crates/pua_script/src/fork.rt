@@ -4,13 +4,13 @@ ghost use Rattle.std.specs.Prelude.{◌≡◌, ◌||◌, IfOk, OnErr, is_some, l
 ghost use Rattle.std.specs.Map.{lookup};
 ghost use Rattle.pua_tree.specs.Tree.{Tree};
 ghost use Rattle.pua_calls.specs.Calls.{CallTable};
-ghost use Rattle.pua_script.specs.Limits.{process_limit};
+ghost use Rattle.pua_script.specs.Limits.{most_processes};
 ghost use Rattle.pua_script.specs.Worlds.{IsServed, IsOkay};
 ghost use Rattle.pua_script.specs.declared.request.Action.TheVariants as actions;
 
 use crate::answer::Answer;
 use crate::fault::WorldFault;
-use crate::limits::PROCESS_LIMIT;
+use crate::limits::MOST_PROCESSES;
 use crate::process::refuse;
 use indexmap::IndexMap;
 use pua_calls::Promises;
@@ -27,9 +27,12 @@ pub(crate) fn fork(
     number: u32,
     new: u32,
 ) -> Result<Answer, WorldFault>
-    ensures served { IfOk result (λ answer. (t : Tree) (table : CallTable) → IsServed (record { tree = t; table = table; processes = processes.old.entries })
-        (record { process = number; action = actions.Fork new }) answer (record { tree = t; table = table; processes = processes.new.entries })) }
-    ensures memory { OnErr result ((t : Tree) (table : CallTable) → IsOkay (record { tree = t; table = table; processes = processes.old.entries })
+    ensures served { IfOk result (λ answer. (t : Tree) (table : CallTable) →
+        IsServed (record { tree = t; table = table; processes = processes.old.entries })
+        (record { process = number; action = actions.Fork new }) answer
+        (record { tree = t; table = table; processes = processes.new.entries })) }
+    ensures memory { OnErr result ((t : Tree) (table : CallTable) →
+        IsOkay (record { tree = t; table = table; processes = processes.old.entries })
         (record { process = number; action = actions.Fork new })) }
     ensures unchanged { OnErr result (processes.new.entries ≡ processes.old.entries) }
 {
@@ -59,7 +62,8 @@ pub(crate) fn fork(
 /// Whether no process may be made with this number: one was made with it before, or no more
 /// are made.
 fn is_refused(processes: &IndexMap<u32, Process>, new: u32) -> bool
-    ensures { result ≡ (is_some (lookup (nat_eq new) processes.now.entries) || nat_le process_limit (length processes.now.entries)) }
+    ensures { result ≡ (is_some (lookup (nat_eq new) processes.now.entries)
+        || nat_le most_processes (length processes.now.entries)) }
 {
-    processes.contains_key(&new) || processes.len() >= PROCESS_LIMIT
+    processes.contains_key(&new) || processes.len() >= MOST_PROCESSES
 }

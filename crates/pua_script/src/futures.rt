@@ -1,11 +1,13 @@
 //! Laws on what becomes of a process that can put no veil any more, because it is locked or does not
 //! hold `unveil`, whatever is asked afterwards. Each is the contract of a function that does nothing.
 
-ghost use Rattle.pua_script.specs.Bytes.{ListingsListByteTrees, ReplaysKeepByteTrees, ReplaysKeepTrees, RequestsKeepTrees, ScriptsAskInBytes};
+ghost use Rattle.pua_script.specs.Bytes.{ListingsListByteTrees, ReplaysKeepByteTrees};
+ghost use Rattle.pua_script.specs.Bytes.{ReplaysKeepTrees, RequestsKeepTrees, ScriptsAskInBytes};
 ghost use Rattle.pua_script.specs.Confinement.{CpathChanges, EachRequestSpares, FamiliesConfine};
 ghost use Rattle.pua_script.specs.ErrorTables.{ErrorTables};
 ghost use Rattle.pua_script.specs.Futures.{ReadTablesNarrow, RulesNarrow};
-ghost use Rattle.pua_script.specs.Tightening.{EachRequestNarrows, FamiliesNarrow, ForksCopy, OthersLeave, OthersLeaveAlways};
+ghost use Rattle.pua_script.specs.Tightening.{EachRequestNarrows, FamiliesNarrow, ForksCopy};
+ghost use Rattle.pua_script.specs.Tightening.{OthersLeave, OthersLeaveAlways};
 
 /// A request leaves the history of each process but the one that asks: its promises and execpromises,
 /// its veils and lock, its directory, and whether it has ended. A process that is forked begins with

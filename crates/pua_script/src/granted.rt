@@ -1,21 +1,44 @@
 //! What granted requests change.
 
-ghost use Rattle.std.specs.Prelude.{◌≡◌, ℕ, List, OnErr, IsOk, IsFalse, IsTrue, None, false, option_copied};
-ghost use Rattle.pua_tree.specs.Tree.{Tree, is_dir, is_living, look, target_fits};
+ghost use Rattle.std.specs.Prelude.{◌≡◌, ℕ, List, OnErr, IsTrue, option_copied};
+ghost use Rattle.pua_tree.specs.Tree.{Tree, target_fits};
 ghost use Rattle.pua_tree.specs.Edits.{add, cut, shift, tie};
 ghost use Rattle.pua_policy.specs.History.{History, StandsFor};
 ghost use Rattle.pua_policy.specs.Verdict.{place_of};
-ghost use Rattle.pua_script.specs.Decide.{pledging, veiling};
-ghost use Rattle.pua_script.specs.Judged.{CanBeDone, decision_by};
-ghost use Rattle.pua_script.specs.Replay.{World, come_of, edited, edited_tree};
+ghost use Rattle.pua_script.specs.Decide.{asker_of, pledging, veiling};
+ghost use Rattle.pua_script.specs.Judged.{decision_by, node_made};
+ghost use Rattle.pua_script.specs.Replay.{World, come_of, edit_effect, edited_tree};
 ghost use Rattle.pua_script.specs.Worlds.{Attempts, AttemptsEdit, Does, Edits};
 
 use crate::answer::Answer;
 use crate::fault::WorldFault;
 use pua_calls::{ExecPromises, Perms, Promises};
-use pua_path::{Errno, Found};
+use pua_path::{Errno, Found, PathText};
 use pua_policy::{Place, Process, UnveilFault};
 use pua_tree::{FileTree, Kind, Name, NodeId, TreeFault};
+
+/// A node that is to be added. A link's target was read as a path, as a link's must be.
+#[derive(Clone, Copy)]
+pub(crate) enum NewNode<'a> {
+    File,
+    Directory,
+    Link(&'a PathText<'a>),
+}
+
+impl NewNode<'_> {
+    /// Its kind, and the target of a link.
+    fn parts(&self) -> (Kind, Option<&[u8]>)
+        ensures node { node_made self.now
+            ≡ record { kind = result.0; target = option_copied result.1 } }
+        ensures fits { IsTrue (target_fits result.0 (option_copied result.1)) }
+    {
+        match *self {
+            NewNode::File => (Kind::File, None),
+            NewNode::Directory => (Kind::Dir, None),
+            NewNode::Link(target) => (Kind::Link, Some(target.bytes())),
+        }
+    }
+}
 
 /// What a request changes that is granted. Names are lent by what the request's paths named, so that
 /// no name is copied before the tree takes it.
@@ -23,8 +46,8 @@ use pua_tree::{FileTree, Kind, Name, NodeId, TreeFault};
 pub(crate) enum Granted<'a> {
     /// Nothing.
     NoChange,
-    /// A node of this kind, a link with its target, is added under a name that nothing has.
-    AddNode(NodeId, &'a Name, Kind, Option<&'a [u8]>),
+    /// A node is added under a name that nothing has.
+    AddNode(NodeId, &'a Name, NewNode<'a>),
     /// The row of this name in a directory is taken away.
     CutRow(NodeId, &'a Name),
     /// The row of the first name moves to the second.
@@ -52,17 +75,17 @@ pub(crate) fn make<T: FileTree>(
     process: &mut Process,
     granted: &Granted<'_>,
 ) -> Result<Answer, WorldFault>
-    requires living { process.old.ended ≡ false }
-    requires possible { CanBeDone (T.content tree.old) granted.now }
     ensures exact { (h : History) (histories : List (ℕ × History)) → StandsFor process.old h →
         Attempts (T.content tree.old) h
-        (come_of (record { tree = T.content tree.old; histories = histories }) h (decision_by h granted.now))
+        (come_of (record { tree = T.content tree.old; histories = histories }) h
+        (decision_by (asker_of h) granted.now))
         result (T.content tree.new) process.new }
-    ensures unchanged { OnErr result ((T.content tree.new ≡ T.content tree.old) × (process.new ≡ process.old)) }
+    ensures unchanged { OnErr result ((T.content tree.new ≡ T.content tree.old) ×
+        (process.new ≡ process.old)) }
 {
     match *granted {
         Granted::NoChange => Ok(Answer::Okay),
-        Granted::AddNode(dir, name, kind, target) => add(tree, dir, name, kind, target),
+        Granted::AddNode(dir, name, node) => add(tree, dir, name, &node),
         Granted::CutRow(dir, name) => Ok(cut(tree, dir, name)),
         Granted::ShiftRow(from, name, to, new_name) => shift(tree, from, name, to, new_name),
         Granted::TieRow(dir, name, node) => tie(tree, dir, name, node),
@@ -87,43 +110,40 @@ pub(crate) fn make<T: FileTree>(
     }
 }
 
-/// Adds a node where nothing stands. `ENOSPC` exactly where the tree has no room: what was checked
-/// before leaves no other fault.
+/// Adds a node. `ENOSPC` where the tree refuses it: what was checked before leaves want of room as the
+/// only reason.
 fn add<T: FileTree>(
     tree: &mut T,
     dir: NodeId,
     name: &Name,
-    kind: Kind,
-    target: Option<&[u8]>,
+    node: &NewNode<'_>,
 ) -> Result<Answer, WorldFault>
-    requires target { IsTrue (target_fits kind (option_copied target)) }
-    requires dir { IsTrue (is_dir (T.content tree.old) dir) }
-    requires free { look (T.content tree.old) dir name.now ≡ None }
     ensures exact { (h : History) → AttemptsEdit (T.content tree.old) h
-        (edited h (add (T.content tree.old) dir name.now (record { kind = kind; target = option_copied target.entry })))
+        (edit_effect h (add (T.content tree.old) dir name.now (node_made node.now)))
         result (T.content tree.new) }
     ensures unchanged { OnErr result (T.content tree.new ≡ T.content tree.old) }
 {
+    let (kind, target) = node.parts();
     match tree.add(dir, *name, kind, target) {
         Ok(_number) => Ok(Answer::Okay),
-        Err(TreeFault::Full) => Ok(Answer::Failed(Errno::ENOSPC)),
         Err(TreeFault::OutOfMemory) => Err(WorldFault::OutOfMemory),
-        Err(_) => unreachable!(),
+        Err(_) => Ok(Answer::Failed(Errno::ENOSPC)),
     }
 }
 
-/// Takes a row away. What was checked before leaves no fault.
+/// Takes a row away, which needs no room: what was checked before leaves no fault.
 fn cut<T: FileTree>(tree: &mut T, dir: NodeId, name: &Name) -> Answer
-    requires { IsOk (cut (T.content tree.old) dir name.now) }
-    ensures { (h : History) → Edits (T.content tree.old) h (edited h (cut (T.content tree.old) dir name.now)) result (T.content tree.new) }
+    ensures { (h : History) →
+        Edits (T.content tree.old) h (edit_effect h (cut (T.content tree.old) dir name.now)) result
+        (T.content tree.new) }
 {
     match tree.cut(dir, name) {
         Ok(_number) => Answer::Okay,
-        Err(_fault) => unreachable!(),
+        Err(_fault) => Answer::Failed(Errno::ENOSPC),
     }
 }
 
-/// Moves a row. What was checked before leaves want of memory as the only fault.
+/// Moves a row, which needs no room: what was checked before leaves want of memory as the only fault.
 fn shift<T: FileTree>(
     tree: &mut T,
     from: NodeId,
@@ -131,7 +151,6 @@ fn shift<T: FileTree>(
     to: NodeId,
     new_name: &Name,
 ) -> Result<Answer, WorldFault>
-    requires { IsOk (shift (T.content tree.old) from name.now to new_name.now) }
     ensures exact { (h : History) → AttemptsEdit (T.content tree.old) h
         (edited_tree h (shift (T.content tree.old) from name.now to new_name.now))
         result (T.content tree.new) }
@@ -140,22 +159,18 @@ fn shift<T: FileTree>(
     match tree.shift(from, name, to, *new_name) {
         Ok(()) => Ok(Answer::Okay),
         Err(TreeFault::OutOfMemory) => Err(WorldFault::OutOfMemory),
-        Err(_) => unreachable!(),
+        Err(_) => Ok(Answer::Failed(Errno::ENOSPC)),
     }
 }
 
-/// Adds a row for a node that is no directory, at a name that is free. `ENOSPC` exactly where the
-/// tree has no room for a further name: what was checked before leaves no other fault.
+/// Gives a node a further name. `ENOSPC` where the tree refuses it: what was checked before leaves
+/// want of room as the only reason.
 fn tie<T: FileTree>(
     tree: &mut T,
     dir: NodeId,
     name: &Name,
     node: NodeId,
 ) -> Result<Answer, WorldFault>
-    requires dir { IsTrue (is_dir (T.content tree.old) dir) }
-    requires free { look (T.content tree.old) dir name.now ≡ None }
-    requires living { IsTrue (is_living (T.content tree.old) node) }
-    requires other { IsFalse (is_dir (T.content tree.old) node) }
     ensures exact { (h : History) → AttemptsEdit (T.content tree.old) h
         (edited_tree h (tie (T.content tree.old) dir name.now node))
         result (T.content tree.new) }
@@ -163,9 +178,8 @@ fn tie<T: FileTree>(
 {
     match tree.tie(dir, *name, node) {
         Ok(()) => Ok(Answer::Okay),
-        Err(TreeFault::Full) => Ok(Answer::Failed(Errno::ENOSPC)),
         Err(TreeFault::OutOfMemory) => Err(WorldFault::OutOfMemory),
-        Err(_) => unreachable!(),
+        Err(_) => Ok(Answer::Failed(Errno::ENOSPC)),
     }
 }
 
@@ -176,7 +190,8 @@ fn pledge(
     execpromises: Option<Promises>,
 ) -> Answer
     ensures { (h : History) (w : World) → StandsFor process.old h →
-        Does w.tree h (come_of w h (pledging h promises execpromises)) result w.tree process.new }
+        Does w.tree h (come_of w h (pledging (asker_of h) promises execpromises)) result w.tree
+        process.new }
 {
     match process.pledge(promises, execpromises) {
         Ok(()) => Answer::Okay,
@@ -188,7 +203,8 @@ fn pledge(
 /// (unveil(2)).
 fn unveil(process: &mut Process, found: &Found, perms: Perms) -> Result<Answer, WorldFault>
     ensures exact { (h : History) (w : World) → StandsFor process.old h →
-        Attempts w.tree h (come_of w h (veiling h (place_of found.now) perms)) result w.tree process.new }
+        Attempts w.tree h (come_of w h (veiling (asker_of h) (place_of found.now) perms)) result
+        w.tree process.new }
     ensures unchanged { OnErr result (process.new ≡ process.old) }
 {
     match process.unveil_at(place_of(found), perms) {

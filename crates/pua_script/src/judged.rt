@@ -1,21 +1,23 @@
 //! What paths name to a process, and what requests on one path are to change.
 
-ghost use Rattle.std.specs.Prelude.{◌≡◌, Ok, IfOk, option_copied};
+ghost use Rattle.std.specs.Prelude.{◌≡◌, Ok, IfOk};
 ghost use Rattle.pua_path.specs.Resolution.{resolution_of_text};
 ghost use Rattle.pua_path.specs.declared.found.Found as founds;
-ghost use Rattle.pua_policy.specs.History.{History, StandsFor};
 ghost use Rattle.pua_policy.specs.Verdict.{place_of};
-ghost use Rattle.pua_script.specs.Decide.{Decision, adding, change_by, decide_call, decide_object, decide_symlink, decide_unveil, going, link_node, removing, veiling};
-ghost use Rattle.pua_script.specs.Judged.{NameFits, decided, decision_by, on_judged};
+ghost use Rattle.pua_script.specs.Decide.{Asking, Decision, adding, asker_on, change_by};
+ghost use Rattle.pua_script.specs.Decide.{decide_call, decide_object, decide_symlink};
+ghost use Rattle.pua_script.specs.Decide.{decide_unveil, going, link_node, removing, veiling};
+ghost use Rattle.pua_script.specs.Judged.{NameFits, decision_for, decision_by};
+ghost use Rattle.pua_script.specs.Judged.{node_made, on_judged};
 
-use crate::granted::Granted;
+use crate::granted::{Granted, NewNode};
 use crate::pair::{node_named, spot_named};
-use pua_calls::needs::{ending, need};
+use pua_calls::needs::ending;
 use pua_calls::{Call, CallTable, Perms, Promises};
 use pua_path::{Counted, Ending, Errno, Found, Last, PathText, Probe, resolve};
 use pua_policy::judge::{object_verdict, promised, promised_for};
 use pua_policy::{Process, Refusal};
-use pua_tree::{FileTree, Kind, NodeId};
+use pua_tree::{FileTree, NodeId};
 
 /// What a path names from a directory.
 #[inline(always)]
@@ -44,11 +46,12 @@ fn judge_object<T: FileTree>(
     call: Call,
     path: &[u8],
 ) -> Result<Found, Refusal>
-    ensures { (h : History) → StandsFor process.now h → (further : founds.Found → Decision) →
-        decide_object table.now (T.content tree.now) h call path.now further ≡ on_judged result further }
+    ensures { (further : founds.Found → Decision) →
+        decide_object table.now (T.content tree.now) (asker_on process.now) call path.now further
+        ≡ on_judged result further }
 {
     let mut probe = Counted::new(tree);
-    let last = need(call).last;
+    let last = call.last();
     let found = match named(&mut probe, process.dir(), path, ending(call), last) {
         Ok(found) => found,
         Err(errno) => return Err(Refusal::Failed(errno)),
@@ -67,8 +70,8 @@ pub(crate) fn judge_call<T: FileTree>(
     call: Call,
     path: &[u8],
 ) -> Result<Found, Refusal>
-    ensures { (h : History) → StandsFor process.now h →
-        on_judged result (λ object. Ok (change_by table.now call object)) ≡ decide_call table.now (T.content tree.now) h call path.now }
+    ensures { on_judged result (λ object. Ok (change_by table.now call object))
+        ≡ decide_call table.now (T.content tree.now) (asker_on process.now) call path.now }
 {
     promised_for(process, table, call)?;
     judge_object(tree, table, process, call, path)
@@ -80,7 +83,9 @@ pub(crate) fn grant_call<'a>(
     call: Call,
     judged: &'a Result<Found, Refusal>,
 ) -> Result<Granted<'a>, Refusal>
-    ensures { (h : History) → decided h result ≡ on_judged judged.now (λ object. Ok (change_by table.now call object)) }
+    ensures { (asker : Asking) →
+        decision_for asker result
+        ≡ on_judged judged.now (λ object. Ok (change_by table.now call object)) }
 {
     match judged {
         Ok(found) => Ok(change_by(table, call, found)),
@@ -90,11 +95,12 @@ pub(crate) fn grant_call<'a>(
 
 /// What an allowed call changes, by what its path named.
 fn change_by<'a>(table: &CallTable, call: Call, found: &'a Found) -> Granted<'a>
-    ensures { (h : History) → decision_by h result ≡ Ok (change_by table.now call found.now) }
+    ensures { (asker : Asking) →
+        decision_by asker result ≡ Ok (change_by table.now call found.now) }
 {
     match call {
-        Call::Create => adding(Kind::File, None, found),
-        Call::Mkdir => adding(Kind::Dir, None, found),
+        Call::Create => adding(NewNode::File, found),
+        Call::Mkdir => adding(NewNode::Directory, found),
         Call::Rmdir | Call::Unlink => removing(found),
         Call::Chdir => entering(found),
         Call::Exec => Granted::BeginProgram(table.execpromises()),
@@ -103,18 +109,19 @@ fn change_by<'a>(table: &CallTable, call: Call, found: &'a Found) -> Granted<'a>
 }
 
 /// A node where nothing stands.
-fn adding<'a>(kind: Kind, target: Option<&'a [u8]>, found: &'a Found) -> Granted<'a>
-    ensures { (h : History) → decision_by h result ≡ Ok (adding (record { kind = kind; target = option_copied target.entry }) found.now) }
+fn adding<'a>(node: NewNode<'a>, found: &'a Found) -> Granted<'a>
+    ensures { (asker : Asking) →
+        decision_by asker result ≡ Ok (adding (node_made node.entry) found.now) }
 {
     match (spot_named(found), node_named(found)) {
-        (Some((dir, name)), None) => Granted::AddNode(dir, name, kind, target),
+        (Some((dir, name)), None) => Granted::AddNode(dir, name, node),
         _ => Granted::NoChange,
     }
 }
 
 /// The row of what has a name.
 fn removing<'a>(found: &'a Found) -> Granted<'a>
-    ensures { (h : History) → decision_by h result ≡ Ok (removing found.now) }
+    ensures { (asker : Asking) → decision_by asker result ≡ Ok (removing found.now) }
 {
     match (spot_named(found), node_named(found)) {
         (Some((dir, name)), Some(_)) => Granted::CutRow(dir, name),
@@ -124,7 +131,7 @@ fn removing<'a>(found: &'a Found) -> Granted<'a>
 
 /// A directory as the working directory.
 fn entering<'a>(found: &'a Found) -> Granted<'a>
-    ensures { (h : History) → decision_by h result ≡ Ok (going found.now) }
+    ensures { (asker : Asking) → decision_by asker result ≡ Ok (going found.now) }
 {
     match found {
         Found::Whole { dir, .. } => Granted::Enter(*dir),
@@ -132,33 +139,38 @@ fn entering<'a>(found: &'a Found) -> Granted<'a>
     }
 }
 
-/// What the path of a symlink names: the promise, then the target's text, then the path.
-pub(crate) fn judge_symlink<T: FileTree>(
+/// The target of a symlink, and what its path names: the promise, then the target's text, then the
+/// path.
+pub(crate) fn judge_symlink<'a, T: FileTree>(
     tree: &T,
     table: &CallTable,
     process: &Process,
-    target: &[u8],
+    target: &'a [u8],
     path: &[u8],
-) -> Result<Found, Refusal>
-    ensures { (h : History) → StandsFor process.now h →
-        on_judged result (λ object. Ok (adding (link_node target.now) object)) ≡ decide_symlink table.now (T.content tree.now) h target.now path.now }
+) -> Result<(PathText<'a>, Found), Refusal>
+    ensures { on_judged result (λ link. Ok (adding (link_node link.0.bytes) link.1))
+        ≡ decide_symlink table.now (T.content tree.now) (asker_on process.now) target.now
+        path.now }
 {
     promised_for(process, table, Call::Symlink)?;
-    if let Err(errno) = PathText::read(target, Ending::Dot) {
-        return Err(Refusal::Failed(errno));
-    }
-    judge_object(tree, table, process, Call::Symlink, path)
+    let target = match PathText::read(target, Ending::Dot) {
+        Ok(target) => target,
+        Err(errno) => return Err(Refusal::Failed(errno)),
+    };
+    let found = judge_object(tree, table, process, Call::Symlink, path)?;
+    Ok((target, found))
 }
 
-/// A link with this target, where nothing stands.
+/// A link with its target, where nothing stands.
 pub(crate) fn grant_symlink<'a>(
-    target: &'a [u8],
-    judged: &'a Result<Found, Refusal>,
+    judged: &'a Result<(PathText<'a>, Found), Refusal>,
 ) -> Result<Granted<'a>, Refusal>
-    ensures { (h : History) → decided h result ≡ on_judged judged.now (λ object. Ok (adding (link_node target.now) object)) }
+    ensures { (asker : Asking) →
+        decision_for asker result
+        ≡ on_judged judged.now (λ link. Ok (adding (link_node link.0.bytes) link.1)) }
 {
     match judged {
-        Ok(found) => Ok(adding(Kind::Link, Some(target), found)),
+        Ok((target, found)) => Ok(adding(NewNode::Link(target), found)),
         Err(refusal) => Err(*refusal),
     }
 }
@@ -171,8 +183,8 @@ pub(crate) fn judge_unveil<T: FileTree>(
     path: &[u8],
     perms: Option<Perms>,
 ) -> Result<(Found, Perms), Refusal>
-    ensures { (h : History) → StandsFor process.now h →
-        on_judged result (λ veil. veiling h (place_of veil.0) veil.1) ≡ decide_unveil (T.content tree.now) h path.now perms }
+    ensures { on_judged result (λ veil. veiling (asker_on process.now) (place_of veil.0) veil.1)
+        ≡ decide_unveil (T.content tree.now) (asker_on process.now) path.now perms }
 {
     promised(process, Promises::UNVEIL)?;
     if process.locked() {
@@ -192,7 +204,9 @@ pub(crate) fn judge_unveil<T: FileTree>(
 pub(crate) fn grant_unveil<'a>(
     judged: &'a Result<(Found, Perms), Refusal>,
 ) -> Result<Granted<'a>, Refusal>
-    ensures { (h : History) → decided h result ≡ on_judged judged.now (λ veil. veiling h (place_of veil.0) veil.1) }
+    ensures { (asker : Asking) →
+        decision_for asker result
+        ≡ on_judged judged.now (λ veil. veiling asker (place_of veil.0) veil.1) }
 {
     match judged {
         Ok((found, perms)) => Ok(Granted::Unveil(found, *perms)),

@@ -2,20 +2,22 @@
 //! function that does nothing.
 
 ghost use Rattle.std.specs.Prelude.{◌≡◌};
-ghost use Rattle.pua_script.specs.Examples.{ExecRows, LinkRows, PairRows, RenameRows, ReplayRows, ScriptRows};
+ghost use Rattle.pua_script.specs.Examples.{ExecRows, LinkRows, PairRows, RenameRows, ReplayRows};
+ghost use Rattle.pua_script.specs.Examples.{ScriptRows};
 ghost use Rattle.pua_script.specs.Guards.{DecisionsAreGuarded};
-ghost use Rattle.pua_script.specs.Limits.{line_limit, number_limit, process_limit};
-ghost use Rattle.pua_script.specs.Laws.{ChangesLackRoom, DecisionsArePossible, RefusalsLackNoRoom, ReplayComposes, RequestsLackRoom};
+ghost use Rattle.pua_script.specs.Limits.{most_script_lines, most_number, most_processes};
+ghost use Rattle.pua_script.specs.Laws.{ChangesLackRoom, DecisionsArePossible, RefusalsLackNoRoom};
+ghost use Rattle.pua_script.specs.Laws.{ReplayComposes, RequestsLackRoom};
 ghost use Rattle.pua_script.specs.ScriptGrammar.{ScriptsAreRead};
 ghost use Rattle.pua_script.specs.Worlds.{WorldsAnswerAlike};
 
-use crate::limits::{LINE_LIMIT, NUMBER_LIMIT, PROCESS_LIMIT};
+use crate::limits::{MOST_NUMBER, MOST_PROCESSES, MOST_SCRIPT_LINES};
 
 /// The constants are the limits that the definitions speak of.
 pub fn limits_law()
-    ensures lines { LINE_LIMIT ≡ line_limit }
-    ensures numbers { NUMBER_LIMIT ≡ number_limit }
-    ensures processes { PROCESS_LIMIT ≡ process_limit }
+    ensures lines { MOST_SCRIPT_LINES ≡ most_script_lines }
+    ensures numbers { MOST_NUMBER ≡ most_number }
+    ensures processes { MOST_PROCESSES ≡ most_processes }
 {}
 
 /// Examples of what is no script.

@@ -28,7 +28,7 @@ pub use laws::{
     decide_law, limits_law, replay_examples, replay_law, room_law, script_examples, script_law,
     standing_law,
 };
-pub use limits::{LINE_LIMIT, NUMBER_LIMIT, PROCESS_LIMIT};
+pub use limits::{MOST_NUMBER, MOST_PROCESSES, MOST_SCRIPT_LINES};
 pub use line::read_request;
 pub use request::{Action, Given, PathBytes, Request};
 pub use script::{Script, read_script};

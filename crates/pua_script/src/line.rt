@@ -1,16 +1,19 @@
 //! One line of a script.
 
 ghost use Rattle.std.specs.Prelude.{◌≡◌, ◌∷◌, [], map, ok_or};
-ghost use Rattle.pua_script.specs.Scripts.{IsReadAs, is_dash, is_equals, has_empty_word, path_in, given_in, perms_in, unveil_of, with_paths, action_in, action_of, request_of, request_of_fields};
+ghost use Rattle.pua_script.specs.Scripts.{IsReadAs, is_dash, is_equals, has_empty_word, path_in};
+ghost use Rattle.pua_script.specs.Scripts.{given_in, perms_in, unveil_of, with_paths, action_in};
+ghost use Rattle.pua_script.specs.Scripts.{action_of, request_of, request_of_fields};
 ghost use Rattle.pua_script.specs.Scripts.Form.{PledgeForm};
 ghost use Rattle.pua_script.specs.declared.request.Action.TheVariants.{Symlink, Rename, Link};
-ghost use Rattle.pua_script.specs.declared.fault.ScriptFault.TheVariants.{BadCall, BadList, BadPath};
+ghost use Rattle.pua_script.specs.declared.fault.ScriptFault.TheVariants.{BadCall, BadList};
+ghost use Rattle.pua_script.specs.declared.fault.ScriptFault.TheVariants.{BadPath};
 
 use crate::fault::ScriptFault;
-use crate::limits::NUMBER_LIMIT;
+use crate::limits::MOST_NUMBER;
 use crate::request::{Action, Given, PathBytes, Request};
 use pua_calls::{Call, Perms, Promises};
-use pua_tree::{Fields, number_within, unspelled};
+use pua_tree::{Fields, are_plain, number_within, unspelled};
 use std::alloc::Global;
 
 /// Reads one line of a script, whose number is told with a fault. `OutOfMemory` where a growth was
@@ -31,7 +34,7 @@ fn read_fields(alloc: Global, number: u32, fields: &[&[u8]]) -> Result<Request, 
     let Some((process, more)) = fields.split_first() else {
         return Err(ScriptFault::BadLine(number));
     };
-    let Some(process) = number_within(1, NUMBER_LIMIT, process) else {
+    let Some(process) = number_within(1, MOST_NUMBER, process) else {
         return Err(ScriptFault::BadLine(number));
     };
     let action = read_action(alloc, number, more)?;
@@ -67,7 +70,7 @@ fn read_one(alloc: Global, number: u32, word: &[u8], a: &[u8]) -> Result<Action,
     ensures { IsReadAs (action_in number (word.now ∷ a.now ∷ [])) result }
 {
     if word == b"fork".as_slice() {
-        return match number_within(1, NUMBER_LIMIT, a) {
+        return match number_within(1, MOST_NUMBER, a) {
             Some(new) => Ok(Action::Fork(new)),
             None => Err(ScriptFault::BadCall(number)),
         };
@@ -158,12 +161,17 @@ fn read_unveil(alloc: Global, number: u32, path: &[u8], perms: &[u8]) -> Result<
     Ok(Action::Unveil(path, read_perms(perms)))
 }
 
-/// The bytes of a path or a target; `=` is the empty text.
+/// The bytes of a path or a target; `=` is the empty text. Plain bytes, as most fields have, spell
+/// themselves, and none is NUL.
+#[tactic(auto, using(crate::proofs::Reading::plain_path))]
 fn read_path(alloc: Global, number: u32, field: &[u8]) -> Result<PathBytes, ScriptFault>
     ensures { IsReadAs (ok_or (path_in field.now) (BadPath number)) result }
 {
     if is_empty_text(field) {
         return Ok(PathBytes::new(Vec::new(alloc)));
+    }
+    if are_plain(field) {
+        return PathBytes::copied(alloc, field).map_err(|_| ScriptFault::OutOfMemory);
     }
     match unspelled(alloc, field) {
         Ok(Some(bytes)) if !bytes.contains(&0) => Ok(PathBytes::new(bytes)),

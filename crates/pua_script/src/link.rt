@@ -4,9 +4,9 @@ ghost use Rattle.std.specs.Prelude.{◌≡◌, Ok};
 ghost use Rattle.pua_path.specs.Fits.{node_named, spot_named};
 ghost use Rattle.pua_path.specs.declared.found.Found as found;
 ghost use Rattle.pua_path.specs.declared.text.Ending.TheVariants as ending;
-ghost use Rattle.pua_policy.specs.History.{History, StandsFor};
-ghost use Rattle.pua_script.specs.Decide.{Decision, decide_link, decide_pair, tying};
-ghost use Rattle.pua_script.specs.Judged.{decided, decision_by, on_judged};
+ghost use Rattle.pua_script.specs.Decide.{Asking, Decision, asker_on, decide_link, decide_pair};
+ghost use Rattle.pua_script.specs.Decide.{tying};
+ghost use Rattle.pua_script.specs.Judged.{decision_for, decision_by, on_judged};
 
 use crate::granted::Granted;
 use crate::pair::{Pair, is_whole, judge_pair, node_named, spot_named};
@@ -25,8 +25,10 @@ pub(crate) fn judge_link<T: FileTree>(
     old: &[u8],
     new: &[u8],
 ) -> Result<Pair, Refusal>
-    ensures { (h : History) → StandsFor process.now h → (further : found.Found → found.Found → Decision) →
-        decide_pair table.now.link (T.content tree.now) h ending.Dot old.now new.now further ≡ on_judged result (λ pair. further pair.from pair.to) }
+    ensures { (further : found.Found → found.Found → Decision) →
+        decide_pair table.now.link (T.content tree.now) (asker_on process.now) ending.Dot old.now
+        new.now further
+        ≡ on_judged result (λ pair. further pair.from pair.to) }
 {
     judge_pair(tree, table.link(), process, Ending::Dot, old, new)
 }
@@ -34,7 +36,9 @@ pub(crate) fn judge_link<T: FileTree>(
 /// What a link is to change: what its old path named gets a further name, unless something is wrong
 /// with what both paths named.
 pub(crate) fn grant_link<'a>(judged: &'a Result<Pair, Refusal>) -> Result<Granted<'a>, Refusal>
-    ensures { (h : History) → decided h result ≡ on_judged judged.now (λ pair. decide_link pair.from pair.to (node_named pair.from)) }
+    ensures { (asker : Asking) →
+        decision_for asker result
+        ≡ on_judged judged.now (λ pair. decide_link pair.from pair.to (node_named pair.from)) }
 {
     match judged {
         Ok(pair) => decide_tie(&pair.from, &pair.to),
@@ -45,7 +49,8 @@ pub(crate) fn grant_link<'a>(judged: &'a Result<Pair, Refusal>) -> Result<Grante
 /// A further name for what was found. `ENOENT` where nothing has the old name, `EPERM` where a
 /// directory has it, and `EEXIST` where something has the new one: the first of these.
 fn decide_tie<'a>(from: &Found, to: &'a Found) -> Result<Granted<'a>, Refusal>
-    ensures { (h : History) → decided h result ≡ decide_link from.now to.now (node_named from.now) }
+    ensures { (asker : Asking) →
+        decision_for asker result ≡ decide_link from.now to.now (node_named from.now) }
 {
     let Some(node) = node_named(from) else {
         return Err(Refusal::Failed(Errno::ENOENT));
@@ -61,7 +66,7 @@ fn decide_tie<'a>(from: &Found, to: &'a Found) -> Result<Granted<'a>, Refusal>
 
 /// A further name for a node, where the name was found.
 fn tying<'a>(node: NodeId, to: &'a Found) -> Granted<'a>
-    ensures { (h : History) → decision_by h result ≡ Ok (tying node (spot_named to.now)) }
+    ensures { (asker : Asking) → decision_by asker result ≡ Ok (tying node (spot_named to.now)) }
 {
     match spot_named(to) {
         Some((dir, name)) => Granted::TieRow(dir, name, node),

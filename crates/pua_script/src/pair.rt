@@ -3,9 +3,9 @@
 ghost use Rattle.std.specs.Prelude.{◌≡◌, IfOk, option_map};
 ghost use Rattle.pua_path.specs.Fits.{spot_named, node_named};
 ghost use Rattle.pua_path.specs.declared.found.Found as found;
-ghost use Rattle.pua_policy.specs.History.{History, StandsFor};
 ghost use Rattle.pua_policy.specs.Verdict.{FoundFits};
-ghost use Rattle.pua_script.specs.Decide.{Decision, covers_fault, decide_objects, decide_pair, is_whole, named};
+ghost use Rattle.pua_script.specs.Decide.{Decision, asker_on, covers_by, decide_objects};
+ghost use Rattle.pua_script.specs.Decide.{decide_pair, is_whole, if_named};
 ghost use Rattle.pua_script.specs.Judged.{NameFits, on_judged, spot_now};
 
 use crate::judged::named;
@@ -32,9 +32,12 @@ pub(crate) fn judge_pair<T: FileTree>(
     old: &[u8],
     new: &[u8],
 ) -> Result<Pair, Refusal>
-    ensures exact { (h : History) → StandsFor process.now h → (further : found.Found → found.Found → Decision) →
-        decide_pair need.now (T.content tree.now) h ending old.now new.now further ≡ on_judged result (λ pair. further pair.from pair.to) }
-    ensures fit { IfOk result (λ pair. NameFits (T.content tree.now) pair.from × NameFits (T.content tree.now) pair.to) }
+    ensures exact { (further : found.Found → found.Found → Decision) →
+        decide_pair need.now (T.content tree.now) (asker_on process.now) ending old.now new.now
+        further
+        ≡ on_judged result (λ pair. further pair.from pair.to) }
+    ensures fit { IfOk result (λ pair. NameFits (T.content tree.now) pair.from ×
+        NameFits (T.content tree.now) pair.to) }
 {
     promised_any(process, need.old_name().alternatives())?;
     promised_any(process, need.new_name().alternatives())?;
@@ -53,9 +56,12 @@ fn pair_named<T: FileTree>(
     old: &[u8],
     new: &[u8],
 ) -> Result<Pair, Errno>
-    ensures exact { (h : History) → StandsFor process.now h → (further : found.Found → found.Found → Decision) →
-        decide_objects need.now (T.content tree.now) h ending old.now new.now further ≡ named result (λ pair. further pair.from pair.to) }
-    ensures fit { IfOk result (λ pair. NameFits (T.content tree.now) pair.from × NameFits (T.content tree.now) pair.to) }
+    ensures exact { (further : found.Found → found.Found → Decision) →
+        decide_objects need.now (T.content tree.now) (asker_on process.now) ending old.now new.now
+        further
+        ≡ if_named result (λ pair. further pair.from pair.to) }
+    ensures fit { IfOk result (λ pair. NameFits (T.content tree.now) pair.from ×
+        NameFits (T.content tree.now) pair.to) }
 {
     let mut probe = Counted::new(tree);
     let dir = process.dir();
@@ -77,7 +83,8 @@ fn covers_fault<'t, P: Probe<'t>>(
 ) -> Option<Errno>
     requires from { FoundFits (P.tree probe.old) from.now }
     requires to { FoundFits (P.tree probe.old) to.now }
-    ensures { (h : History) → StandsFor process.now h → result ≡ covers_fault need.now (P.tree probe.old) h from.now to.now }
+    ensures { result ≡ covers_by need.now (P.tree probe.old) (asker_on process.now) from.now
+        to.now }
 {
     let cover = process.cover(probe, from);
     if let Some(errno) = cover_fault(cover, need.old_name().perms()) {

@@ -3,9 +3,10 @@
 ghost use Rattle.std.specs.Prelude.{◌≡◌};
 ghost use Rattle.pua_tree.specs.Tree.{Tree};
 ghost use Rattle.pua_policy.specs.History.{History, StandsFor};
-ghost use Rattle.pua_script.specs.Decide.{decide_lock, decide_pledge, given_set, is_unknown};
-ghost use Rattle.pua_script.specs.Judged.{decided};
-ghost use Rattle.pua_script.specs.Replay.{refused};
+ghost use Rattle.pua_script.specs.Decide.{Asking, asker_on, decide_lock, decide_pledge, given_set};
+ghost use Rattle.pua_script.specs.Decide.{is_unknown};
+ghost use Rattle.pua_script.specs.Judged.{decision_for};
+ghost use Rattle.pua_script.specs.Replay.{refusal_effect};
 ghost use Rattle.pua_script.specs.Worlds.{Does};
 
 use crate::answer::Answer;
@@ -19,7 +20,8 @@ use pua_policy::{Process, Refusal};
 /// What a process is answered that does not get what it asks for. It ends where it did what it did not
 /// promise, and else lives on as it was.
 pub(crate) fn refuse(process: &mut Process, refusal: Refusal) -> Answer
-    ensures { (h : History) (t : Tree) → StandsFor process.old h → Does t h (refused refusal) result t process.new }
+    ensures { (h : History) (t : Tree) → StandsFor process.old h →
+        Does t h (refusal_effect refusal) result t process.new }
 {
     match refusal {
         Refusal::Failed(errno) => Answer::Failed(errno),
@@ -35,7 +37,8 @@ pub(crate) fn decide_pledge<'a>(
     promises: &Given,
     execpromises: &Given,
 ) -> Result<Granted<'a>, Refusal>
-    ensures { (h : History) → decided h result ≡ decide_pledge h promises.now execpromises.now }
+    ensures { (asker : Asking) →
+        decision_for asker result ≡ decide_pledge asker promises.now execpromises.now }
 {
     if is_unknown(promises) || is_unknown(execpromises) {
         return Err(Refusal::Failed(Errno::EINVAL));
@@ -60,7 +63,7 @@ fn given_set(given: &Given) -> Option<Promises>
 
 /// What an unveil with two NULLs is to change.
 pub(crate) fn decide_lock<'a>(process: &Process) -> Result<Granted<'a>, Refusal>
-    ensures { (h : History) → StandsFor process.now h → decided h result ≡ decide_lock h }
+    ensures { decision_for (asker_on process.now) result ≡ decide_lock (asker_on process.now) }
 {
     promised(process, Promises::UNVEIL)?;
     Ok(Granted::Lock)

@@ -7,10 +7,11 @@ ghost use Rattle.pua_tree.specs.Edits.{is_same_node};
 ghost use Rattle.pua_path.specs.Fits.{spot_named, node_named};
 ghost use Rattle.pua_path.specs.declared.found.Found as found;
 ghost use Rattle.pua_path.specs.declared.text.Ending.TheVariants as ending;
-ghost use Rattle.pua_policy.specs.History.{History, StandsFor};
 ghost use Rattle.pua_policy.specs.Verdict.{or_fault};
-ghost use Rattle.pua_script.specs.Decide.{Decision, decide_pair, decide_rename, dots_fault, inside_fault, is_whole, kinds_fault, shifting, top_fault, ways_fault};
-ghost use Rattle.pua_script.specs.Judged.{NameFits, decided, decision_by, on_judged};
+ghost use Rattle.pua_script.specs.Decide.{Asking, Decision, asker_on, decide_pair, decide_rename};
+ghost use Rattle.pua_script.specs.Decide.{dots_fault, inside_fault, is_whole, kinds_fault};
+ghost use Rattle.pua_script.specs.Decide.{shifting, top_fault, ways_fault};
+ghost use Rattle.pua_script.specs.Judged.{NameFits, decision_for, decision_by, on_judged};
 
 use crate::granted::Granted;
 use crate::pair::{Pair, is_whole, judge_pair, node_named, spot_named};
@@ -28,8 +29,10 @@ pub(crate) fn judge_rename<T: FileTree>(
     old: &[u8],
     new: &[u8],
 ) -> Result<Pair, Refusal>
-    ensures exact { (h : History) → StandsFor process.now h → (further : found.Found → found.Found → Decision) →
-        decide_pair table.now.rename (T.content tree.now) h ending.Dropped old.now new.now further ≡ on_judged result (λ pair. further pair.from pair.to) }
+    ensures exact { (further : found.Found → found.Found → Decision) →
+        decide_pair table.now.rename (T.content tree.now) (asker_on process.now) ending.Dropped
+        old.now new.now further
+        ≡ on_judged result (λ pair. further pair.from pair.to) }
     ensures fit { IfOk result (λ pair. NameFits (T.content tree.now) pair.to) }
 {
     judge_pair(tree, table.rename(), process, Ending::Dropped, old, new)
@@ -42,7 +45,10 @@ pub(crate) fn grant_rename<'a, T: FileTree>(
     judged: &'a Result<Pair, Refusal>,
 ) -> Result<Granted<'a>, Refusal>
     requires { IfOk judged.now (λ pair. NameFits (T.content tree.now) pair.to) }
-    ensures { (h : History) → decided h result ≡ on_judged judged.now (λ pair. decide_rename (T.content tree.now) pair.from pair.to (node_named pair.from)) }
+    ensures { (asker : Asking) →
+        decision_for asker result
+        ≡ on_judged judged.now (λ pair. decide_rename (T.content tree.now) pair.from pair.to
+        (node_named pair.from)) }
 {
     match judged {
         Ok(pair) => decide_shift(tree, &pair.from, &pair.to),
@@ -57,7 +63,9 @@ fn decide_shift<'a, T: FileTree>(
     to: &'a Found,
 ) -> Result<Granted<'a>, Refusal>
     requires { NameFits (T.content tree.now) to.now }
-    ensures { (h : History) → decided h result ≡ decide_rename (T.content tree.now) from.now to.now (node_named from.now) }
+    ensures { (asker : Asking) →
+        decision_for asker result ≡ decide_rename (T.content tree.now) from.now to.now
+        (node_named from.now) }
 {
     let Some(node) = node_named(from) else {
         return Err(Refusal::Failed(Errno::ENOENT));
@@ -76,7 +84,8 @@ fn decide_shift<'a, T: FileTree>(
 
 /// The row at one name moves to another.
 fn shifting<'a>(from: &'a Found, to: &'a Found) -> Granted<'a>
-    ensures { (h : History) → decision_by h result ≡ Ok (shifting (spot_named from.now) (spot_named to.now)) }
+    ensures { (asker : Asking) →
+        decision_by asker result ≡ Ok (shifting (spot_named from.now) (spot_named to.now)) }
 {
     match (spot_named(from), spot_named(to)) {
         (Some((from, name)), Some((to, new_name))) => Granted::ShiftRow(from, name, to, new_name),
@@ -133,7 +142,8 @@ fn top_fault(found: &Found) -> Option<Errno>
 /// what the kinds of both make impossible.
 fn move_fault<T: FileTree>(tree: &T, node: NodeId, from: &Found, to: &Found) -> Option<Errno>
     requires { NameFits (T.content tree.now) to.now }
-    ensures { result ≡ or_fault (inside_fault (T.content tree.now) node (spot_named to.now)) (kinds_fault (T.content tree.now) node from.now to.now) }
+    ensures { result ≡ or_fault (inside_fault (T.content tree.now) node (spot_named to.now))
+        (kinds_fault (T.content tree.now) node from.now to.now) }
 {
     inside_fault(tree, node, to).or(kinds_fault(tree, from, to))
 }

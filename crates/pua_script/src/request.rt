@@ -1,12 +1,17 @@
 //! What lines of scripts ask for.
 
 use pua_calls::{Call, Perms, Promises};
+use smallvec::SmallVec;
+use std::alloc::{AllocError, Global};
 use std::marker::Model;
+
+/// The most bytes of a path that lie in the value itself, so that it asks for no memory.
+const MOST_INLINE: usize = 24;
 
 /// The bytes of a path or of a link's target, as a script spells them.
 #[derive(Drop)]
 pub struct PathBytes {
-    bytes: Vec<u8>,
+    bytes: SmallVec<u8, MOST_INLINE>,
 }
 
 impl Model for PathBytes {
@@ -70,7 +75,7 @@ impl Model for Request {
     ghost invariant = { λ a. IsTrue (is_asked (record { process = a.process; action = a.action })) };
 }
 
-ghost use Rattle.std.specs.Prelude.{◌≡◌, IsTrue, List, ℕ};
+ghost use Rattle.std.specs.Prelude.{◌≡◌, IfOk, IsTrue, List, ℕ};
 
 impl PathBytes {
     /// The bytes as they are, without their spelling.
@@ -80,10 +85,20 @@ impl PathBytes {
         self.bytes.as_slice()
     }
 
+    /// A copy of these bytes, which asks for memory only where they don't fit into the value.
+    pub(crate) fn copied(alloc: Global, bytes: &[u8]) -> Result<PathBytes, AllocError>
+        ensures { IfOk result (λ path. path ≡ bytes.now) }
+    {
+        let bytes = SmallVec::from_slice(alloc, bytes)?;
+        Ok(PathBytes { bytes })
+    }
+
     pub(crate) fn new(bytes: Vec<u8>) -> PathBytes
         ensures { result ≡ bytes.items }
     {
-        PathBytes { bytes }
+        PathBytes {
+            bytes: SmallVec::from_vec(bytes),
+        }
     }
 }
 

@@ -1,7 +1,7 @@
 //! Scripts, and how they are read.
 
 use crate::fault::ScriptFault;
-use crate::limits::LINE_LIMIT;
+use crate::limits::MOST_SCRIPT_LINES;
 use crate::line::read_request;
 use crate::request::Request;
 use bstr::ByteSlice;
@@ -49,7 +49,7 @@ pub fn read_script(alloc: Global, bytes: &[u8]) -> Result<Script, ScriptFault>
     let mut requests = Vec::new(alloc);
     let mut number = 0;
     for line in bytes.lines() {
-        if number == LINE_LIMIT {
+        if number == MOST_SCRIPT_LINES {
             return Err(ScriptFault::TooMany);
         }
         number += 1;

@@ -31,18 +31,22 @@ impl<T: FileTree> Model for World<T> {
 
     ghost Value = { WorldState };
 
-    ghost view = { λ a. record { tree = T.content a.tree; table = a.table; processes = a.processes.entries } };
+    ghost view = { λ a. record
+        { tree = T.content a.tree; table = a.table; processes = a.processes.entries } };
 
-    ghost invariant = { λ a. HasReplay (record { tree = T.content a.tree; table = a.table; processes = a.processes.entries }) };
+    ghost invariant = { λ a. HasReplay
+        (record { tree = T.content a.tree; table = a.table; processes = a.processes.entries }) };
 }
 
 ghost use Rattle.std.specs.Prelude.{◌≡◌, IfOk, OnErr, MatchResult, IsFalse, option_copied};
 ghost use Rattle.pua_tree.specs.Tree.{Tree, WellFormed};
 ghost use Rattle.pua_calls.specs.Calls.{CallTable as Calls};
 ghost use Rattle.pua_calls.specs.Tables.{NoCallNeedsError};
-ghost use Rattle.pua_script.specs.Futures.{AreDone, AreDoneInPart, AreHeld, AreServedInPart, IsNarrowing, IsSparing};
+ghost use Rattle.pua_script.specs.Futures.{AreDone, AreDoneInPart, AreHeld, AreServedInPart};
+ghost use Rattle.pua_script.specs.Futures.{IsNarrowing, IsSparing};
 ghost use Rattle.pua_script.specs.Replay.{new_world};
-ghost use Rattle.pua_script.specs.Worlds.{AreNumbersOf, HasReplay, StandsForWorld, IsProcessOf, IsOkay, IsServed, AreServed, is_fork, process_at};
+ghost use Rattle.pua_script.specs.Worlds.{AreNumbersOf, HasReplay, StandsForWorld, IsProcessOf};
+ghost use Rattle.pua_script.specs.Worlds.{IsOkay, IsServed, AreServed, is_fork, process_at};
 
 impl<T: FileTree> World<T> {
     /// A world over this tree with process 1 alone, which is new. It answers calls by this table.
@@ -99,10 +103,7 @@ impl<T: FileTree> World<T> {
     pub fn numbers(&self, alloc: Global) -> Result<Vec<u32>, OutOfMemory>
         ensures { IfOk result (λ numbers. AreNumbersOf self.now numbers.items) }
     {
-        match sorted_keys(alloc, &self.processes) {
-            Ok(numbers) => Ok(numbers),
-            Err(_) => Err(OutOfMemory),
-        }
+        Ok(sorted_keys(alloc, &self.processes)?)
     }
 
     /// Serves one request, and answers it, by the rules of the calls' manual pages, and by this
@@ -163,7 +164,8 @@ impl<T: FileTree> World<T> {
     /// and where members alone ask, each row that the process couldn't touch with `c` stays, if the
     /// table asks for `c` where a name is taken away.
     pub fn run(&mut self, alloc: Global, script: &Script) -> Result<Vec<Answer>, WorldFault>
-        ensures served { IfOk result (λ told. AreServed self.old script.now told.items self.new) }
+        ensures served { IfOk result
+            (λ answers. AreServed self.old script.now answers.items self.new) }
         ensures held { IfOk result (λ _. AreHeld self.old script.now self.new) }
         ensures in_part { OnErr result (AreServedInPart self.old script.now self.new) }
     {
@@ -174,39 +176,41 @@ impl<T: FileTree> World<T> {
 
     /// Serves requests one after another, over trees.
     fn serve_each(&mut self, alloc: Global, script: &Script) -> Result<Vec<Answer>, WorldFault>
-        ensures { MatchResult result (λ told. AreDone self.old script.now told.items self.new) (λ _. AreDoneInPart self.old script.now self.new) }
+        ensures { MatchResult result (λ answers. AreDone self.old script.now answers.items self.new)
+            (λ _. AreDoneInPart self.old script.now self.new) }
     {
         self.tree.known();
         let requests = script.requests();
-        let Ok(mut told) = Vec::with_capacity(alloc, requests.len()) else {
+        let Ok(mut answers) = Vec::with_capacity(alloc, requests.len()) else {
             return Err(WorldFault::OutOfMemory);
         };
         for request in requests {
             let answer = self.apply(request)?;
-            let Ok(()) = told.push(answer) else {
+            let Ok(()) = answers.push(answer) else {
                 return Err(WorldFault::OutOfMemory);
             };
         }
-        Ok(told)
+        Ok(answers)
     }
 }
 
 /// Process 1 alone, which is new.
 fn first_process(alloc: Global) -> Result<IndexMap<u32, Process>, OutOfMemory>
     ensures { IfOk result (λ processes. (t : Tree) (rules : Calls) →
-        StandsForWorld (record { tree = t; table = rules; processes = processes.entries }) (new_world t)) }
+        StandsForWorld (record { tree = t; table = rules; processes = processes.entries })
+        (new_world t)) }
 {
     let process = Process::new(alloc)?;
     let mut processes = IndexMap::new(alloc);
-    let Ok(_) = processes.insert(FIRST_PROCESS, process) else {
-        return Err(OutOfMemory);
-    };
+    processes.insert(FIRST_PROCESS, process)?;
     Ok(processes)
 }
 
 /// The keys of processes, in ascending order.
 fn sorted_keys(alloc: Global, processes: &IndexMap<u32, Process>) -> Result<Vec<u32>, AllocError>
-    ensures { IfOk result (λ numbers. (t : Tree) (rules : Calls) → AreNumbersOf (record { tree = t; table = rules; processes = processes.now.entries }) numbers.items) }
+    ensures { IfOk result (λ numbers. (t : Tree) (rules : Calls) →
+        AreNumbersOf (record { tree = t; table = rules; processes = processes.now.entries })
+        numbers.items) }
 {
     let mut numbers: Vec<u32> = processes.keys().copied().collect(alloc)?;
     numbers.sort_unstable();
@@ -222,11 +226,24 @@ fn serve<T: FileTree>(
     action: &Action,
 ) -> Result<Answer, WorldFault>
     requires { IsFalse (is_fork action.now) }
-    ensures served { IfOk result (λ answer. IsServed (record { tree = T.content tree.old; table = table.now; processes = processes.old.entries })
-        (record { process = number; action = action.now }) answer (record { tree = T.content tree.new; table = table.now; processes = processes.new.entries })) }
-    ensures memory { OnErr result (IsOkay (record { tree = T.content tree.old; table = table.now; processes = processes.old.entries })
+    ensures served { IfOk result
+        (λ answer. IsServed (record
+        { tree = T.content tree.old; table = table.now; processes = processes.old.entries })
+        (record { process = number; action = action.now }) answer
+        (record {
+          tree = T.content tree.new;
+          table = table.now;
+          processes = processes.new.entries;
+        })) }
+    ensures memory { OnErr result
+        (IsOkay (record {
+          tree = T.content tree.old;
+          table = table.now;
+          processes = processes.old.entries;
+        })
         (record { process = number; action = action.now })) }
-    ensures unchanged { OnErr result ((T.content tree.new ≡ T.content tree.old) × (processes.new.entries ≡ processes.old.entries)) }
+    ensures unchanged { OnErr result ((T.content tree.new ≡ T.content tree.old) ×
+        (processes.new.entries ≡ processes.old.entries)) }
 {
     match processes.get_mut(&number) {
         Some(process) if !process.ended() => act(tree, table, process, action),

@@ -1,16 +1,18 @@
 -- Trees that differ in rows of one name, in which no directory stands: their directories lie alike. So it is before and behind an edit.
-use Rattle.std.proofs.Common.{◌≡◌, ◌≢◌, ℕ, zero, suc, ◌≤◌, ◌<◌, List, [], ◌∷◌, length, Bool, true, false, cond, Some, None, Option, Ok, refl, sym, ap, subst, ◌∙◌, arith}
-use Rattle.std.specs.Prelude.{◌==◌, not, is_some, option_map}
-use Rattle.std.specs.Ordering.{nat_cmp}
-use Rattle.std.specs.Cmp.{nat_cmp_total}
-use Rattle.std.specs.FinMap.{put, find as find_key, nat_cmp-IsAntisymmetric}
-use Rattle.std.proofs.lemmas.Bool.{false≢true, eqb-true, eq-eqb}
-use lib.Pointwise.{bytes_decides}
-use Rattle.pua_tree.specs.Names.{same_bytes}
-use Rattle.pua_tree.specs.Tree.{Tree, Node, Spot, WellFormed, spot_cmp, node_at, is_dir, is_dir_kind, is_living, look, above, climb, climb_within, rows_of}
-use Rattle.pua_tree.specs.Edits.{add, tie, cut, cut_found, is_full_dir, has_room, has_name_room, with_new, with_row, without_row, without_node, without_unnamed}
-use Rattle.pua_tree.proofs.ForCallers.{Reaches, sound_from, row_says, row_of, above_is, above_dir, climb_ends, spots_total, exact_spots, put_here, put_elsewhere, without_here, without_elsewhere, tally_counts, tally_found, past, tested, same_Some, same_Ok, none, None≢Some, is_living_dir, same_dir}
-use Rattle.pua_since.specs.Frames.{DifferAt}
+use Rattle.pua_since.proofs.Common.{◌≡◌, ◌≢◌, ℕ, zero, suc, ◌≤◌, ◌<◌, List, [], ◌∷◌, length, Bool, true, false, cond, Some, None, Option}
+use Rattle.pua_since.proofs.Common.{Ok, refl, sym, ap, subst, ◌∙◌, arith, ◌==◌, not, is_some, nat_cmp, nat_cmp_total, put}
+use Rattle.pua_since.proofs.Common.{nat_cmp-IsAntisymmetric, false≢true, eqb-true, bytes_decides, same_bytes, Tree, Node, Spot, WellFormed}
+use Rattle.pua_since.proofs.Common.{is_dir, is_dir_kind, look, put_here, put_elsewhere, DifferAt}
+use Rattle.std.specs.Prelude.{option_map}
+use Rattle.std.specs.FinMap.{find as find_key}
+use Rattle.std.proofs.lemmas.Bool.{eq-eqb}
+use Rattle.pua_tree.specs.Tree.{spot_cmp, node_at, is_living, above, climb}
+use Rattle.pua_tree.specs.Tree.{climb_within, rows_of}
+use Rattle.pua_tree.specs.Edits.{add, tie, cut, cut_found, is_full_dir, has_room, has_name_room, with_new, with_row, without_row}
+use Rattle.pua_tree.specs.Edits.{without_node, without_unnamed}
+use Rattle.pua_tree.proofs.ForCallers.{Reaches, sound_from, row_says, row_of, above_is, above_dir, climb_ends, spots_total, exact_spots}
+use Rattle.pua_tree.proofs.ForCallers.{without_here, without_elsewhere, tally_counts, tally_found, past, tested}
+use Rattle.pua_tree.proofs.ForCallers.{same_Some, same_Ok, none, None≢Some, is_living_dir, same_dir}
 
 -- a climb to the root has all directories on the way, however many steps more it may take
 root_alone : (t : Tree) (n : ℕ) → climb_within n t 0 ≡ 0 ∷ []

@@ -1,19 +1,12 @@
 -- Who a process was, by the forks that were done.
-use Rattle.std.proofs.Common.{◌≡◌, ℕ, zero, suc, min, List, [], ◌∷◌, length, drop, refl, ap, ◌∙◌, arith}
-use Rattle.pua_calls.specs.Calls.{CallTable}
-use Rattle.pua_script.specs.Requests.{Asked}
-use Rattle.pua_script.specs.Replay.{World, answers, apply}
-use Rattle.pua_script.specs.Family.{is_okay}
-use Rattle.std.specs.Prelude.{if◌then◌else◌}
-use Rattle.pua_script.specs.declared.answer.Answer.{Answer}
-use Rattle.pua_script.specs.declared.answer.Answer.TheVariants.{Okay, Failed, Killed, Gone}
-use Rattle.pua_script.specs.declared.request.Action.{Action}
-use Rattle.pua_script.specs.declared.request.Action.TheVariants.{Fork}
-use Rattle.pua_why.specs.Since.{parent_by, came_from, forebear}
-use Rattle.pua_since.specs.Watched.{fork_by, fork_told, forks_done, forebear_by}
+use Rattle.pua_since.proofs.Common.{◌≡◌, ℕ, zero, suc, List, [], ◌∷◌, length, drop, refl, ap, ◌∙◌, arith, CallTable, Asked, World}
+use Rattle.pua_since.proofs.Common.{answers_to, apply, is_okay, if◌then◌else◌, Answer, Okay, Failed, Killed, Gone, Action, Fork, parent_by}
+use Rattle.pua_since.proofs.Common.{came_from, forebear, forks_done, forebear_by}
+use Rattle.std.proofs.Common.{min}
+use Rattle.pua_since.specs.Watched.{forks_with, fork_told}
 
 by_fork : (ask : Asked) (action : Action) (forks : List (ℕ × ℕ)) (process : ℕ) →
-    forebear_by (fork_by ask action forks) process ≡ parent_by action ask.process (forebear_by forks process)
+    forebear_by (forks_with ask action forks) process ≡ parent_by action ask.process (forebear_by forks process)
 by_fork ask (Fork new) forks process = refl
 by_fork ask _ forks process = refl
 
@@ -27,10 +20,10 @@ by_answer ask Gone forks process = refl
 
 -- the forks of the answers tell who each process was
 pub forebears_tell : (table : CallTable) (w : World) (asks : List Asked) (process : ℕ) →
-    forebear_by (forks_done asks (answers table w asks)) process ≡ forebear table w asks process
+    forebear_by (forks_done asks (answers_to table w asks)) process ≡ forebear table w asks process
 forebears_tell table w [] process = refl
 forebears_tell table w (ask ∷ asks) process =
-    by_answer ask (apply table w ask).0 (forks_done asks (answers table (apply table w ask).1 asks)) process
+    by_answer ask (apply table w ask).0 (forks_done asks (answers_to table (apply table w ask).1 asks)) process
     ∙ ap (came_from table w ask) (forebears_tell table (apply table w ask).1 asks process)
 
 none_told : (asks : List Asked) → forks_done asks [] ≡ []

@@ -1,35 +1,31 @@
 -- A path that follows no link goes the same way in a tree that differs in rows of another name.
-use Rattle.std.proofs.Common.{◌≡◌, ◌≤◌, ℕ, zero, suc, List, [], ◌∷◌, ◌++◌, map, Bool, true, false, Option, Some, None, option_map, Result, Ok, Err, refl, sym, ap, subst, ◌∙◌, arith}
-use Rattle.std.specs.Prelude.{if◌then◌else◌, ◌&&◌, not}
-use Rattle.std.specs.List.{list_any}
-use Rattle.pua_tree.specs.Names.{same_bytes, components}
-use Rattle.pua_tree.specs.Tree.{Tree, Node, Spot, WellFormed, is_dir, is_dir_kind, look, node_at, above, climb}
+use Rattle.pua_since.proofs.Common.{◌≡◌, ◌≤◌, ℕ, zero, suc, List, [], ◌∷◌, ◌++◌, map, Bool, true, false, Option, Some, None, Result, Ok}
+use Rattle.pua_since.proofs.Common.{Err, refl, sym, ap, subst, ◌∙◌, arith, if◌then◌else◌, ◌&&◌, not, list_any, same_bytes, Tree, Node, Spot}
+use Rattle.pua_since.proofs.Common.{WellFormed, is_dir, is_dir_kind, look, PathTrace, trace_from, trace_of_text, Ending, Last, Found}
+use Rattle.pua_since.proofs.Common.{PathFault, DifferAt, PathFollowsNone, has_part, or_parts}
+use Rattle.std.proofs.Common.{option_map}
+use Rattle.pua_tree.specs.Names.{components}
+use Rattle.pua_tree.specs.Tree.{node_at, above, climb}
 use Rattle.pua_tree.specs.declared.node.Kind.{Kind}
 use Rattle.pua_tree.specs.declared.node.Kind.TheVariants as kinds
-use Rattle.pua_path.specs.Limits.{link_limit}
+use Rattle.pua_path.specs.Limits.{most_links}
 use Rattle.pua_path.specs.Paths.{part_of, parts_of, ending_parts, ends_in_slash, is_absolute, text_fault}
 use Rattle.pua_path.specs.Resolution.{Standing, Directory, Linked, Plain, Nothing, standing_of, standing_at, is_followed, start_of}
-use Rattle.pua_path.specs.Traces.{Trace, PathTrace, at_once, behind, slot_or_stop, walk_traced, trace_parts, fails_in, as_path_trace, trace_from, trace_of_text}
-use Rattle.pua_path.specs.declared.text.Ending.{Ending}
+use Rattle.pua_path.specs.Traces.{Trace, at_once, after_links, slot_or_stop, walk_traced, trace_parts, fails_in, as_path_trace}
 use Rattle.pua_path.specs.declared.text.Ending.TheVariants as ending
 use Rattle.pua_path.specs.declared.found.Part.{Part}
 use Rattle.pua_path.specs.declared.found.Part.TheVariants as parts
-use Rattle.pua_path.specs.declared.found.Last.{Last}
 use Rattle.pua_path.specs.declared.found.Way.{Way}
 use Rattle.pua_path.specs.declared.found.Way.TheVariants.{Named, Dot, DotDot, Top}
-use Rattle.pua_path.specs.declared.found.Found.{Found}
 use Rattle.pua_path.specs.declared.found.Found.TheVariants.{Whole, Slot}
 use Rattle.pua_path.specs.declared.traced.Stop.{Stop}
 use Rattle.pua_path.specs.declared.traced.Stop.TheVariants.{NoEntry, NoDirectory}
 use Rattle.pua_path.specs.declared.traced.TextFault.{TextFault}
-use Rattle.pua_path.specs.declared.traced.PathFault.{PathFault}
 use Rattle.pua_path.specs.declared.traced.PathFault.TheVariants.{InText, NoStart}
 use Rattle.pua_path.proofs.ForCallers.{above_lives}
 use Rattle.pua_policy.specs.Laws.{places_over}
 use Rattle.pua_policy.specs.Verdict.{object_of, object_of_kind}
 use Rattle.pua_policy.specs.declared.place.Place.TheVariants as place
-use Rattle.pua_since.specs.Frames.{DifferAt, PathFollowsNone, has_part}
-use Rattle.std.proofs.lemmas.Bool.{or_parts}
 
 -- none of the names in parts is this one
 abbrev pub NamesNot : List ℕ → List Part → Type 0
@@ -228,8 +224,10 @@ module _ (name : List ℕ) (s t : Tree) (fits : WellFormed s) (differ : DifferAt
   parts_go mode zero dir way ps some living others none = absurd (omega arith)
   parts_go mode (suc links) dir way ps some living others none =
       walk_goes mode (suc links)
-      (λ spot target rest. behind (spot ∷ []) (trace_parts links s mode (start_of target spot.0) Top (parts_of ending.Dot target ++ rest)))
-      (λ spot target rest. behind (spot ∷ []) (trace_parts links t mode (start_of target spot.0) Top (parts_of ending.Dot target ++ rest)))
+      (λ spot target rest. after_links (spot ∷ []) (trace_parts links s mode (start_of target spot.0) Top (parts_of ending.Dot target
+      ++ rest)))
+      (λ spot target rest. after_links (spot ∷ []) (trace_parts links t mode (start_of target spot.0) Top (parts_of ending.Dot target
+      ++ rest)))
       (λ spot target rest e. more_than_none spot _ e) ps dir way living others none
 
   from_kept : (from : ℕ) (end : Ending) (text : List ℕ) (mode : Last) → has_part name text ≡ false →
@@ -238,8 +236,8 @@ module _ (name : List ℕ) (s t : Tree) (fits : WellFormed s) (differ : DifferAt
   from_kept from end text mode other none =
       subst (λ b. IsKept s t (trace_from s from end text mode)
       (if not (is_absolute text) && not b then fails_in NoStart
-      else as_path_trace (trace_parts link_limit t mode (start_of text from) Top (parts_of end text))))
-      (sym (differ.dirs from)) (by link_limit (omega arith) (is_absolute text) (is_dir s from) refl none)
+      else as_path_trace (trace_parts most_links t mode (start_of text from) Top (parts_of end text))))
+      (sym (differ.dirs from)) (by most_links (omega arith) (is_absolute text) (is_dir s from) refl none)
     where
       by : (links : ℕ) → 1 ≤ links → (absolute living : Bool) → is_dir s from ≡ living →
           PathTrace.links (if not absolute && not living then fails_in NoStart

@@ -1,34 +1,31 @@
 -- The checks of a request tell the same in a world that differs in rows alone that can't touch it.
-use Rattle.std.proofs.Common.{◌≡◌, ℕ, List, [], ◌∷◌, false, Option, Some, None, option_map, Result, Ok, Err, refl, sym, ap, subst, ◌∙◌}
-use Rattle.std.specs.Prelude.{if◌then◌else◌}
-use Rattle.std.specs.List.{list_any}
-use Rattle.pua_tree.specs.Tree.{Tree, WellFormed}
+use Rattle.pua_since.proofs.Common.{◌≡◌, ℕ, List, [], ◌∷◌, false, Option, Some, None, Result, Ok, Err, refl, sym, ap, subst, ◌∙◌}
+use Rattle.pua_since.proofs.Common.{if◌then◌else◌, list_any, Tree, WellFormed, PathTrace, trace_of_text, Ending, Found, Last, PathFault}
+use Rattle.pua_since.proofs.Common.{CallTable, History, working_dir, perms_kept, Call, Change, NoChange, CopyAs, change_by, World}
+use Rattle.pua_since.proofs.Common.{history_of, Action, OnPath, Symlink, Rename, Link, Pledge, Unveil, Lock, Fork, Exit, Fault, Ended}
+use Rattle.pua_since.proofs.Common.{DifferAt, PathFollowsNone, has_part, or_parts}
+use Rattle.std.proofs.Common.{option_map}
 use Rattle.pua_path.specs.Fits.{node_named}
-use Rattle.pua_path.specs.Traces.{PathTrace, text_fault, trace_of_text}
-use Rattle.pua_path.specs.declared.text.Ending.{Ending}
+use Rattle.pua_path.specs.Traces.{text_fault}
 use Rattle.pua_path.specs.declared.text.Ending.TheVariants as ending
-use Rattle.pua_path.specs.declared.found.Found.{Found}
-use Rattle.pua_path.specs.declared.found.Last.{Last}
 use Rattle.pua_path.specs.declared.found.Last.TheVariants.{Followed}
-use Rattle.pua_path.specs.declared.traced.PathFault.{PathFault}
 use Rattle.pua_calls.specs.Promises.{unveil}
-use Rattle.pua_calls.specs.Calls.{CallTable, PairRule, rule_of, last_of, ending_of}
-use Rattle.pua_policy.specs.History.{History, working_dir, is_ended, is_locked, kept}
+use Rattle.pua_calls.specs.Calls.{PairRule, rule_of, last_of, ending_of}
+use Rattle.pua_policy.specs.History.{is_ended, is_locked}
 use Rattle.pua_policy.specs.Misfits.{Object, IsDir, IsFile, IsProg, IsLink, IsMissing, misfit}
 use Rattle.pua_policy.specs.Reasons.{promising, covering, first_kept}
 use Rattle.pua_policy.specs.Verdict.{is_unveil, object_of, or_fault}
-use Rattle.pua_calls.specs.declared.call.Call.{Call}
 use Rattle.pua_calls.specs.declared.call.Call.TheVariants as call
 use Rattle.pua_policy.specs.declared.reason.Covering.TheVariants.{InView}
-use Rattle.pua_script.specs.Decide.{Change, NoChange, AddNode, CutRow, ShiftRow, TieRow, BeginProgram, AddEvent, CopyAs, Outcome, Side, Sole, Old, New, unless_refused, unless_failed, on_named, fault_if, adding, link_node, change_by, object_by, objects_by, link_by, veil_by}
-use Rattle.pua_script.specs.Replay.{World, history_of}
-use Rattle.pua_script.specs.declared.request.Action.{Action}
-use Rattle.pua_script.specs.declared.request.Action.TheVariants.{OnPath, Symlink, Rename, Link, Pledge, Unveil, Lock, Fork, Exit}
-use Rattle.pua_why.specs.Reasons.{Fault, BadTarget, Unfit, IsLocked, Ended, unpromised, told_path, uncovered, faults, reasoned, reason_of}
+use Rattle.pua_script.specs.Decide.{AddNode, CutRow, ShiftRow, TieRow, BeginProgram, AddEvent, Outcome, Side}
+use Rattle.pua_script.specs.Decide.{Sole, Old, New, unless_refused, unless_failed, on_named, fault_if, adding, link_node}
+use Rattle.pua_script.specs.Decide.{object_by, objects_by, link_by, veil_by}
+use Rattle.pua_why.specs.Reasons.{BadTarget, Unfit, IsLocked, unpromised_fault, told_path, uncovered_fault, faults}
+use Rattle.pua_why.specs.Reasons.{faults_of, change_or_fault, reason_of}
 use Rattle.pua_why.specs.Checked.{process_fault, checks_fault, checked_by}
-use Rattle.pua_since.specs.Frames.{DifferAt, PathFollowsNone, ActionFollowsNone, FollowsNone, has_part, names_part, is_removal, looks_further, IsSpared, IsUntouched, RowsSpare}
+use Rattle.pua_since.specs.Frames.{ActionFollowsNone, FollowsNone, names_part, is_removal}
+use Rattle.pua_since.specs.Frames.{looks_further, IsSpared, IsUntouched, RowsSpare}
 use Rattle.pua_since.proofs.FrameWalks.{IsAlike, NamesAlike, IsKept, path_kept}
-use Rattle.std.proofs.lemmas.Bool.{or_parts}
 
 -- how a path of a process goes
 abbrev went : Tree → History → Ending → List ℕ → Last → PathTrace
@@ -52,9 +49,10 @@ named_same s t side there here f g is each =
 
 module _ (s t : Tree) (h : History) where
   cover_same : (side : Side) (object : Found) (perms : ℕ) → IsAlike s t object →
-      uncovered side object perms (covering t h object) ≡ uncovered side object perms (covering s h object)
+      uncovered_fault side object perms (covering t h object) ≡ uncovered_fault side object perms (covering s h object)
   cover_same side object perms alike =
-      ap (λ places. uncovered side object perms (if list_any is_unveil h then first_kept (kept h) places else InView)) alike.places
+      ap (λ places. uncovered_fault side object perms (if list_any is_unveil h then first_kept (perms_kept h) places else InView))
+      alike.places
 
   -- what is wrong with an object, but whether a directory to be removed is empty
   misfit_same : (c : Call) (object : Object) → is_removal c ≡ false → misfit t c object ≡ misfit s c object
@@ -73,7 +71,8 @@ module _ (s t : Tree) (h : History) where
 
   module _ (table : CallTable) where
     call_same : (c : Call) (path : List ℕ) (further : Found → Outcome Fault) → is_removal c ≡ false →
-        Keeps s t h (ending_of c) path (last_of c) → object_by faults table t h c path further ≡ object_by faults table s h c path further
+        Keeps s t h (ending_of c) path (last_of c) →
+        object_by faults table t (faults_of h) c path further ≡ object_by faults table s (faults_of h) c path further
     call_same c path further near is =
         named_same s t Sole (went s h (ending_of c) path (last_of c)) (went t h (ending_of c) path (last_of c)) _ _ is λ x alike.
         (λ i. unless_failed (λ fault. fault)
@@ -81,7 +80,7 @@ module _ (s t : Tree) (h : History) where
 
   pair_same : (pair : PairRule) (end : Ending) (old new : List ℕ) (further : Found → Found → Outcome Fault) →
       Keeps s t h end old pair.old.last → Keeps s t h end new pair.new.last →
-      objects_by faults pair t h end old new further ≡ objects_by faults pair s h end old new further
+      objects_by faults pair t (faults_of h) end old new further ≡ objects_by faults pair s (faults_of h) end old new further
   pair_same pair end old new further first second =
       named_same s t Old (went s h end old pair.old.last) (went t h end old pair.old.last) _ _ first λ a is_a.
       named_same s t New (went s h end new pair.new.last) (went t h end new pair.new.last) _ _ second λ b is_b.
@@ -89,7 +88,7 @@ module _ (s t : Tree) (h : History) where
       (or_fault (cover_same Old a pair.old.needs.perms is_a i) (cover_same New b pair.new.needs.perms is_b i)) (further a b))
 
   veil_same : (path : List ℕ) (perms : Option ℕ) → Keeps s t h ending.Dot path Followed →
-      veil_by faults t h path perms ≡ veil_by faults s h path perms
+      veil_by faults t (faults_of h) path perms ≡ veil_by faults s (faults_of h) path perms
   veil_same path None is = refl
   veil_same path (Some perms) is =
       named_same s t Sole (went s h ending.Dot path Followed) (went t h ending.Dot path Followed) _ _ is λ x alike. refl
@@ -110,25 +109,25 @@ module _ (name : List ℕ) (s t : Tree) (fits : WellFormed s) (differ : DifferAt
 
   -- all checks of a living process's request
   reasoned_same : (action : Action) → ActionFollowsNone table s h action → looks_further action ≡ false → names_part name action ≡ false →
-      reasoned table t h action ≡ reasoned table s h action
+      change_or_fault table t h action ≡ change_or_fault table s h action
   reasoned_same (OnPath c path) none near other =
-      ap (unless_refused (unpromised (promising h (rule_of table c).alternatives)))
+      ap (unless_refused (unpromised_fault (promising h (rule_of table c).alternatives)))
       (call_same s t h table c path (λ object. Ok (change_by table c object)) near (path_keeps (ending_of c) path (last_of c) other none))
   reasoned_same (Symlink target path) none near other =
-      ap (λ d. unless_refused (unpromised (promising h (rule_of table call.Symlink).alternatives))
+      ap (λ d. unless_refused (unpromised_fault (promising h (rule_of table call.Symlink).alternatives))
       (unless_failed (λ fault. fault) (option_map BadTarget (text_fault target)) d))
       (call_same s t h table call.Symlink path (λ object. Ok (adding (link_node target) object)) refl
       (path_keeps (ending_of call.Symlink) path (last_of call.Symlink) other none))
   reasoned_same (Rename old new) none near other = cc
   reasoned_same (Link old new) none near other =
       let both = or_parts (has_part name old) (has_part name new) other in
-      ap (λ d. unless_refused (unpromised (promising h table.link.old.needs.alternatives))
-      (unless_refused (unpromised (promising h table.link.new.needs.alternatives)) d))
+      ap (λ d. unless_refused (unpromised_fault (promising h table.link.old.needs.alternatives))
+      (unless_refused (unpromised_fault (promising h table.link.new.needs.alternatives)) d))
       (pair_same s t h table.link ending.Dot old new (λ a b. link_by faults a b (node_named a))
       (path_keeps ending.Dot old table.link.old.last both.0 none.0) (path_keeps ending.Dot new table.link.new.last both.1 none.1))
   reasoned_same (Pledge promises execpromises) none near other = refl
   reasoned_same (Unveil path perms) none near other =
-      ap (λ d. unless_refused (unpromised (promising h (unveil ∷ [])))
+      ap (λ d. unless_refused (unpromised_fault (promising h (unveil ∷ [])))
       (unless_failed (λ fault. fault) (fault_if (is_locked h) IsLocked) d))
       (veil_same s t h path perms (path_keeps ending.Dot path Followed other none))
   reasoned_same Lock none near other = refl
@@ -175,7 +174,7 @@ module _ (w : World) (t : Tree) where
     told_same (Some h) none =
         ap (λ fault. if is_ended h then Ended else reason_of fault)
         (ap (checks_fault Other) (reasoned_same name w.tree t fits differ table h action none spared.near spared.unnamed)
-        ∙ checks_same (reasoned table w.tree h action))
+        ∙ checks_same (change_or_fault table w.tree h action))
 
     stays_none : (o : Option History) → FollowsNone table w.tree action o → FollowsNone table t action o
     stays_none None none = tt

@@ -1,29 +1,21 @@
 -- What is kept of all questions holds behind a further request too.
-use Rattle.std.proofs.Common.{◌≡◌, ℕ, zero, suc, ◌<◌, ◌↔◌, List, [], ◌∷◌, ◌++◌, map, length, true, false, Some, None, Option, refl, sym, ap, subst, ◌∙◌, arith}
-use Rattle.std.specs.Prelude.{All, IsTrue, IsSome, max, slice_get, slice_set}
+use Rattle.pua_since.proofs.Common.{◌≡◌, ℕ, zero, suc, ◌<◌, List, [], ◌∷◌, ◌++◌, map, length, true, false, Some, None, Option, refl, sym}
+use Rattle.pua_since.proofs.Common.{ap, subst, ◌∙◌, arith, IsTrue, slice_get, nat_cmp, is_sorted, false≢true, slice_get_within, CallTable}
+use Rattle.pua_since.proofs.Common.{Asked, World, answers_to, apply, world_after, Answer, Okay, Failed, Killed, Gone, Action, OnPath}
+use Rattle.pua_since.proofs.Common.{Symlink, Rename, Link, Pledge, Unveil, Lock, Fork, Exit, has_changed, has_forked, AreHanded, AreWatched}
+use Rattle.pua_since.proofs.Common.{IsHanded, IsWatched, fork_seen, forks_done, forks_left, forebear_by, handed_by, made_by, Question}
+use Rattle.pua_since.proofs.Common.{Watch, Watches, one_request_more}
+use Rattle.std.proofs.Common.{◌↔◌}
+use Rattle.std.specs.Prelude.{All, IsSome, max, slice_set}
 use Rattle.std.specs.Option.{option_to_list}
-use Rattle.std.specs.Ordering.{nat_cmp}
-use Rattle.std.specs.FinMap.{is_sorted}
-use Rattle.std.proofs.lemmas.Bool.{false≢true}
 use Rattle.std.proofs.lemmas.List.{reverse-append}
 use Rattle.std.proofs.lemmas.List.Elements.{All-map, All-push, All-same, All-set, All-weaker, AllWithin-from_all}
-use Rattle.std.proofs.lemmas.Option.{get_or_from_slice_get, slice_get_within}
-use Rattle.pua_calls.specs.Calls.{CallTable}
-use Rattle.pua_script.specs.Requests.{Asked}
-use Rattle.pua_script.specs.Replay.{World, answers, apply, world_after}
-use Rattle.pua_script.specs.declared.answer.Answer.{Answer}
-use Rattle.pua_script.specs.declared.answer.Answer.TheVariants.{Okay, Failed, Killed, Gone}
-use Rattle.pua_script.specs.declared.request.Action.{Action}
-use Rattle.pua_script.specs.declared.request.Action.TheVariants.{OnPath, Symlink, Rename, Link, Pledge, Unveil, Lock, Fork, Exit}
-use Rattle.pua_since.specs.Changes.{has_changed, has_forked, LeavesAsIs}
-use Rattle.pua_since.specs.Watched.{AreHanded, AreWatched, IsAbout, IsBegunIn, IsHanded, IsWatched, fork_by, fork_told, fork_seen, forks_done, forks_left, forebear_by, handed_by, made_by}
-use Rattle.pua_since.specs.declared.watch.Question.{Question}
-use Rattle.pua_since.specs.declared.watch.Watch.{Watch}
+use Rattle.std.proofs.lemmas.Option.{get_or_from_slice_get}
+use Rattle.pua_since.specs.Changes.{LeavesAsIs}
+use Rattle.pua_since.specs.Watched.{IsAbout, IsBegunIn, forks_with, fork_told}
 use Rattle.pua_since.specs.declared.watches.Fork.{Fork as Made}
-use Rattle.pua_since.specs.declared.watches.Watches.{Watches}
 use Rattle.pua_since.proofs.Forks.{forebears_tell}
 use Rattle.pua_since.proofs.Watching.{begun, came_itself, handed_on, not_forked, stays_handed, stays_watched}
-use Rattle.pua_script.proofs.ForCallers.{one_request_more}
 
 no_fork : (ask : Asked) (answer : Answer) (more : List (ℕ × ℕ)) → has_forked ask.action answer ≡ false → fork_told ask answer more ≡ more
 no_fork ask (Failed errno) more e = refl
@@ -31,7 +23,7 @@ no_fork ask Killed more e = refl
 no_fork ask Gone more e = refl
 no_fork ask Okay more e = by ask.action e
   where
-    by : (action : Action) → has_forked action Okay ≡ false → fork_by ask action more ≡ more
+    by : (action : Action) → has_forked action Okay ≡ false → forks_with ask action more ≡ more
     by (Fork new) e = cc
     by (OnPath call path) e = refl
     by (Symlink target path) e = refl
@@ -93,7 +85,7 @@ module _ (table : CallTable) (w : World) (done : List Asked) (ask : Asked) (left
   Next = (apply table (world_after table w done) ask).1
 
   abbrev Later : List (ℕ × ℕ)
-  Later = forks_done left (answers table (apply table (world_after table w done) ask).1 left)
+  Later = forks_done left (answers_to table (apply table (world_after table w done) ask).1 left)
 
   -- no process was made
   pub stay_handed : has_forked ask.action (apply table Before ask).0 ≡ false → AreHanded table w done ask left s
@@ -126,7 +118,7 @@ module _ (table : CallTable) (w : World) (done : List Asked) (ask : Asked) (left
       let alone = not_forked ask.action (apply table Before ask).0 none in
       record {
         forks = watched.forks ∙ no_fork ask (apply table Before ask).0 Later alone
-            ∙ ap (λ v. forks_done left (answers table v left)) (sym (one_request_more table w done ask));
+            ∙ ap (λ v. forks_done left (answers_to table v left)) (sym (one_request_more table w done ask));
         each = All-weaker (IsWatched table w done (ask ∷ left)) (IsWatched table w (done ++ ask ∷ []) left)
             (λ watch. stays_watched table w done ask left watch same (λ process. came_itself table Before ask process alone))
             s.watches.items watched.each;

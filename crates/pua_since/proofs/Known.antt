@@ -1,23 +1,22 @@
 -- A line with the bytes of an earlier one asks the same, so its question stands at the same place.
-use Rattle.std.proofs.Common.{◌≡◌, ℕ, Bool, true, false, List, [], ◌∷◌, ◌++◌, refl, sym, ap, subst, ◌∙◌, arith, Option, Some, None, Result, Ok, Err, All}
-use Rattle.std.specs.Prelude.{if◌then◌else◌, ok_or}
+use Rattle.pua_since.proofs.Common.{◌≡◌, ℕ, Bool, true, false, List, [], ◌∷◌, ◌++◌, refl, sym, ap, subst, ◌∙◌, arith, Option, Some, None}
+use Rattle.pua_since.proofs.Common.{Result, Ok, Err, if◌then◌else◌, Bor, Asked, Action, Symlink, Rename, Link, Unveil, Lock, IsRequestAt}
+use Rattle.pua_since.proofs.Common.{IsKeptThrough, Watch}
+use Rattle.std.proofs.Common.{All}
+use Rattle.std.specs.Prelude.{ok_or}
 use Rattle.std.specs.Map.{lookup}
 use Rattle.std.proofs.lemmas.List.Elements.{All-head, All-tail, All-push, All-weaker}
-use Rattle.std.specs.Borrow.{Bor}
 use Rattle.std.specs.List.{list_all}
 use Rattle.std.specs.Result.{result_ok}
 use Rattle.pua_tree.specs.Spelling.{fields, is_field, number_within}
 use Rattle.pua_tree.specs.Steps.{◌>>=◌}
-use Rattle.pua_script.specs.Limits.{number_limit}
-use Rattle.pua_script.specs.Requests.{Asked}
-use Rattle.pua_script.specs.Scripts.{Form, PathForm, SymlinkForm, RenameForm, LinkForm, PledgeForm, UnveilForm, ForkForm, ExitForm, action_of, form_in, given_in, is_dash, path_in, perms_in, request_of, request_of_fields, unveil_of, with_paths}
+use Rattle.pua_script.specs.Limits.{most_number}
+use Rattle.pua_script.specs.Scripts.{Form, PathForm, SymlinkForm, RenameForm, LinkForm, PledgeForm, UnveilForm, ForkForm, ExitForm}
+use Rattle.pua_script.specs.Scripts.{action_of, form_in, given_in, is_dash, path_in, perms_in, request_of, request_of_fields, unveil_of}
+use Rattle.pua_script.specs.Scripts.{with_paths}
 use Rattle.pua_script.specs.declared.fault.ScriptFault.{ScriptFault}
 use Rattle.pua_script.specs.declared.fault.ScriptFault.TheVariants.{BadLine, BadCall, BadPath, BadList}
-use Rattle.pua_script.specs.declared.request.Action.{Action}
-use Rattle.pua_script.specs.declared.request.Action.TheVariants.{Symlink, Rename, Link, Unveil, Lock}
-use Rattle.pua_since.specs.Dates.{AreKnown, IsKnown, IsRequestAt}
-use Rattle.pua_since.specs.Watched.{IsKeptThrough}
-use Rattle.pua_since.specs.declared.watch.Watch.{Watch}
+use Rattle.pua_since.specs.Dates.{AreKnown, IsLineKnown}
 use Rattle.pua_since.proofs.Keeping.{request_kept}
 
 -- both read the same, or nothing
@@ -28,7 +27,8 @@ same_found : {A : Type 0} (o : Option A) (e f : ScriptFault) → SameOk (ok_or o
 same_found None e f = refl
 same_found (Some x) e f = refl
 
-same_then : {A B : Type 0} (r s : Result A ScriptFault) (g h : A → Result B ScriptFault) → SameOk r s → ((x : A) → SameOk (g x) (h x)) → SameOk (r >>= g) (s >>= h)
+same_then : {A B : Type 0} (r s : Result A ScriptFault) (g h : A → Result B ScriptFault) → SameOk r s → ((x : A) → SameOk (g x) (h x)) →
+    SameOk (r >>= g) (s >>= h)
 same_then {A = A} (Ok x) (Ok y) g h e so = so x ∙ ap (λ o. result_ok (h o)) (inside x y e)
   where
     inside : (a b : A) → result_ok {T = A} {E = ScriptFault} (Ok a) ≡ result_ok {T = A} {E = ScriptFault} (Ok b) → a ≡ b
@@ -39,17 +39,23 @@ same_then (Err e) (Err f) g h same so = refl
 
 module _ (n m : ℕ) where
   same_paths : (make : List ℕ → List ℕ → Action) (a b : List ℕ) → SameOk (with_paths n make a b) (with_paths m make a b)
-  same_paths make a b = same_then _ _ _ _ (same_found (path_in a) (BadPath n) (BadPath m)) λ first. same_then _ _ _ _ (same_found (path_in b) (BadPath n) (BadPath m)) λ second. refl
+  same_paths make a b =
+      same_then _ _ _ _ (same_found (path_in a) (BadPath n) (BadPath m)) λ first. same_then _ _ _ _
+      (same_found (path_in b) (BadPath n) (BadPath m)) λ second. refl
 
   same_unveil : (path perms : List ℕ) → SameOk (unveil_of n path perms) (unveil_of m path perms)
   same_unveil path perms = by (is_dash path) (is_dash perms)
     where
-      letters : (none : Bool) (text : List ℕ) → SameOk (if none then Err (BadList n) else Ok (Unveil text (perms_in perms))) (if none then Err (BadList m) else Ok (Unveil text (perms_in perms)))
+      letters : (none : Bool) (text : List ℕ) →
+          SameOk (if none then Err (BadList n) else Ok (Unveil text (perms_in perms)))
+          (if none then Err (BadList m) else Ok (Unveil text (perms_in perms)))
       letters true text = refl
       letters false text = refl
 
-      by : (a b : Bool) → SameOk (if a then (if b then Ok Lock else Err (BadList n)) else (ok_or (path_in path) (BadPath n) >>= λ text. if b then Err (BadList n) else Ok (Unveil text (perms_in perms))))
-          (if a then (if b then Ok Lock else Err (BadList m)) else (ok_or (path_in path) (BadPath m) >>= λ text. if b then Err (BadList m) else Ok (Unveil text (perms_in perms))))
+      by : (a b : Bool) → SameOk (if a then (if b then Ok Lock else Err (BadList n)) else (ok_or (path_in path) (BadPath n) >>= λ text. if b
+          then Err (BadList n) else Ok (Unveil text (perms_in perms))))
+          (if a then (if b then Ok Lock else Err (BadList m)) else (ok_or (path_in path) (BadPath m) >>= λ text. if b then Err (BadList m)
+          else Ok (Unveil text (perms_in perms))))
       by true true = refl
       by true false = refl
       by false b = same_then _ _ _ _ (same_found (path_in path) (BadPath n) (BadPath m)) (letters b)
@@ -59,7 +65,9 @@ module _ (n m : ℕ) where
   same_action (SymlinkForm a b) = same_paths Symlink a b
   same_action (RenameForm a b) = same_paths Rename a b
   same_action (LinkForm a b) = same_paths Link a b
-  same_action (PledgeForm a b) = same_then _ _ _ _ (same_found (given_in a) (BadList n) (BadList m)) λ promises. same_then _ _ _ _ (same_found (given_in b) (BadList n) (BadList m)) λ execpromises. refl
+  same_action (PledgeForm a b) =
+      same_then _ _ _ _ (same_found (given_in a) (BadList n) (BadList m)) λ promises. same_then _ _ _ _
+      (same_found (given_in b) (BadList n) (BadList m)) λ execpromises. refl
   same_action (UnveilForm a b) = same_unveil a b
   same_action (ForkForm new) = refl
   same_action ExitForm = refl
@@ -67,13 +75,14 @@ module _ (n m : ℕ) where
   same_fields : (fs : List (List ℕ)) → SameOk (request_of_fields n fs) (request_of_fields m fs)
   same_fields [] = refl
   same_fields (process ∷ more) =
-      same_then _ _ _ _ (same_found (number_within 1 number_limit process) (BadLine n) (BadLine m)) λ number.
+      same_then _ _ _ _ (same_found (number_within 1 most_number process) (BadLine n) (BadLine m)) λ number.
       same_then _ _ _ _ (same_then _ _ _ _ (same_found (form_in more) (BadCall n) (BadCall m)) same_action) λ action. refl
 
   same_request : (text : List ℕ) → SameOk (request_of n text) (request_of m text)
   same_request text = by (list_all is_field (fields text))
     where
-      by : (good : Bool) → SameOk (if good then request_of_fields n (fields text) else Err (BadLine n)) (if good then request_of_fields m (fields text) else Err (BadLine m))
+      by : (good : Bool) → SameOk (if good then request_of_fields n (fields text) else Err (BadLine n))
+          (if good then request_of_fields m (fields text) else Err (BadLine m))
       by true = same_fields (fields text)
       by false = refl
 
@@ -85,44 +94,58 @@ asks_same n m text a b read again = by (sym (ap result_ok read) ∙ same_request
     by e = cc
 
 -- what is so of each line is so of the one that is found
-found_one : {A : Type 0} (P : A × ℕ → Type 0) (test : A → Bool) (lines : List (A × ℕ)) (place : ℕ) → All P lines → lookup test lines ≡ Some place → (line : A) × (test line ≡ true) × P (line, place)
+found_one : {A : Type 0} (P : A × ℕ → Type 0) (test : A → Bool) (lines : List (A × ℕ)) (place : ℕ) → All P lines →
+    lookup test lines ≡ Some place → (line : A) × (test line ≡ true) × P (line, place)
 found_one P test [] place all e = cc
 found_one {A = A} P test (line ∷ lines) place all e = by (test line.0) refl e (found_one P test lines place (All-tail P line lines all))
   where
     inside : (a b : ℕ) → Some a ≡ Some b → a ≡ b
     inside a b is = cc
 
-    by : (b : Bool) → test line.0 ≡ b → (if b then Some line.1 else lookup test lines) ≡ Some place → (lookup test lines ≡ Some place → (other : A) × (test other ≡ true) × P (other, place)) → (other : A) × (test other ≡ true) × P (other, place)
+    by : (b : Bool) → test line.0 ≡ b → (if b then Some line.1 else lookup test lines) ≡ Some place →
+        (lookup test lines ≡ Some place → (other : A) × (test other ≡ true) × P (other, place)) →
+        (other : A) × (test other ≡ true) × P (other, place)
     by true passes e later = (line.0, passes, subst (λ at. P (line.0, at)) (inside line.1 place e) (All-head P line lines all))
     by false passes e later = later e
 
 abbrev IsSameLine : (Bor (List ℕ) → Bool) → List ℕ → Type 0
 IsSameLine test line = (other : Bor (List ℕ)) → test other ≡ true → line ≡ other.now
 
-pub found_request : (watches : List Watch) (test : Bor (List ℕ) → Bool) (line : List ℕ) → IsSameLine test line → (lines : List (Bor (List ℕ) × ℕ)) (place n : ℕ) (ask : Asked) → AreKnown watches lines → lookup test lines ≡ Some place
+pub found_request : (watches : List Watch) (test : Bor (List ℕ) → Bool) (line : List ℕ) → IsSameLine test line →
+    (lines : List (Bor (List ℕ) × ℕ)) (place n : ℕ) (ask : Asked) → AreKnown watches lines → lookup test lines ≡ Some place
     → request_of n line ≡ Ok ask → IsRequestAt watches place ask 0
 found_request watches test line same lines place n ask known found read =
-    let other = found_one (IsKnown watches) test lines place known found in
+    let other = found_one (IsLineKnown watches) test lines place known found in
     let known_as = other.2 in
     subst (λ asked. IsRequestAt watches place asked 0)
     (asks_same known_as.0 n other.0.now known_as.1 ask known_as.2 (ap (request_of n) (sym (same other.0 other.1)) ∙ read)) known_as.3
 
 -- what is known stays so
-one_known : (old new : List Watch) → IsKeptThrough old new → (line : Bor (List ℕ) × ℕ) → IsKnown old line → IsKnown new line
+one_known : (old new : List Watch) → IsKeptThrough old new → (line : Bor (List ℕ) × ℕ) → IsLineKnown old line → IsLineKnown new line
 one_known old new kept line known = (known.0, known.1, known.2, request_kept old new line.1 known.1 0 kept known.3)
 
-pub known_kept : (old new : List Watch) → IsKeptThrough old new → (lines : List (Bor (List ℕ) × ℕ)) → AreKnown old lines → AreKnown new lines
-known_kept old new kept lines known = All-weaker (IsKnown old) (IsKnown new) (one_known old new kept) lines known
+pub known_kept : (old new : List Watch) → IsKeptThrough old new → (lines : List (Bor (List ℕ) × ℕ)) → AreKnown old lines →
+    AreKnown new lines
+known_kept old new kept lines known = All-weaker (IsLineKnown old) (IsLineKnown new) (one_known old new kept) lines known
 
 -- a request that is wanted somewhere is one
-pub request_wanted : (watches : List Watch) (place : ℕ) (ask : Asked) (lines : ℕ) → IsRequestAt watches place ask lines → IsRequestAt watches place ask 0
+pub request_wanted : (watches : List Watch) (place : ℕ) (ask : Asked) (lines : ℕ) → IsRequestAt watches place ask lines →
+    IsRequestAt watches place ask 0
 request_wanted watches place ask lines at = record {
   question = at.question;
-  stands = record { watch = at.stands.watch; stands = at.stands.stands; about = at.stands.about; asks = at.stands.asks; wanted = omega arith };
+  stands = record {
+    watch = at.stands.watch;
+    stands = at.stands.stands;
+    about = at.stands.about;
+    asks = at.stands.asks;
+    wanted = omega arith;
+  };
   asks = at.asks;
 }
 
 -- a further line
-pub known_more : (watches : List Watch) (lines more : List (Bor (List ℕ) × ℕ)) (line : Bor (List ℕ)) (place n : ℕ) (ask : Asked) → more ≡ lines ++ (line, place) ∷ [] → AreKnown watches lines → request_of n line.now ≡ Ok ask → IsRequestAt watches place ask 0 → AreKnown watches more
+pub known_more : (watches : List Watch) (lines more : List (Bor (List ℕ) × ℕ)) (line : Bor (List ℕ)) (place n : ℕ) (ask : Asked) →
+    more ≡ lines ++ (line, place) ∷ [] → AreKnown watches lines → request_of n line.now ≡ Ok ask → IsRequestAt watches place ask 0 →
+    AreKnown watches more
 known_more watches lines more line place n ask pushed known read at =
-    subst (AreKnown watches) (sym pushed) (All-push (IsKnown watches) lines (line, place) known (n, ask, read, at))
+    subst (AreKnown watches) (sym pushed) (All-push (IsLineKnown watches) lines (line, place) known (n, ask, read, at))

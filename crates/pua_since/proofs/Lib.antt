@@ -1,3 +1,4 @@
+pub mod Common
 pub mod Made
 pub mod Dated
 pub mod Answered

@@ -1,32 +1,27 @@
 -- A process that was made stays made, so whoever asks in its name later on is itself.
-use Rattle.std.proofs.Common.{◌≡◌, ℕ, List, [], ◌∷◌, Bool, true, false, cond, ◌||◌, refl, ap, ◌∙◌}
-use Rattle.std.specs.Prelude.{is_some, Ok, ◌==◌, nat_le, length}
-use Rattle.std.specs.Ordering.{nat_cmp}
-use Rattle.std.specs.Cmp.{nat_cmp_total}
-use Rattle.std.specs.FinMap.{put, find as find_key, nat_cmp-IsAntisymmetric}
-use Rattle.std.proofs.lemmas.Bool.{eqb-true, eqb-false}
-use Rattle.pua_tree.proofs.ForCallers.{put_here, put_elsewhere}
+use Rattle.pua_since.proofs.Common.{◌≡◌, ℕ, List, [], ◌∷◌, Bool, true, false, cond, refl, ap, ◌∙◌, is_some, ◌==◌, nat_cmp, nat_cmp_total}
+use Rattle.pua_since.proofs.Common.{put, nat_cmp-IsAntisymmetric, eqb-true, put_here, put_elsewhere, CallTable, History, CopyAs, decide}
+use Rattle.pua_since.proofs.Common.{is_okay, World, Effect, Fails, Kills, Leaves, Copies, history_of, apply, left_by, answer_to, Asked}
+use Rattle.pua_since.proofs.Common.{Action, Fork, by_request, parent_by, came_from, forebear}
+use Rattle.std.proofs.Common.{◌||◌}
+use Rattle.std.specs.Prelude.{Ok, nat_le, length}
+use Rattle.std.specs.FinMap.{find as find_key}
+use Rattle.std.proofs.lemmas.Bool.{eqb-false}
 use Rattle.pua_path.specs.declared.errno.Errno.TheVariants.{EAGAIN}
-use Rattle.pua_calls.specs.Calls.{CallTable}
-use Rattle.pua_policy.specs.History.{History, may_any}
+use Rattle.pua_policy.specs.History.{may_any}
 use Rattle.pua_calls.specs.Promises.{proc}
 use Rattle.pua_policy.specs.declared.answer.May.{May}
 use Rattle.pua_policy.specs.declared.answer.May.TheVariants as may
-use Rattle.pua_script.specs.Decide.{CopyAs, promised, decide}
-use Rattle.pua_script.specs.Family.{is_okay}
-use Rattle.pua_script.specs.Limits.{process_limit}
-use Rattle.pua_script.specs.Replay.{World, Effect, Fails, Kills, Leaves, Copies, history_of, apply, left_by, answer_to, come_of, do_decided}
-use Rattle.pua_script.specs.Requests.{Asked}
-use Rattle.pua_script.specs.declared.request.Action.{Action}
-use Rattle.pua_script.specs.declared.request.Action.TheVariants.{Fork}
-use Rattle.pua_script.proofs.ForCallers.{by_request}
-use Rattle.pua_why.specs.Since.{parent_by, came_from, forebear}
+use Rattle.pua_script.specs.Decide.{if_may}
+use Rattle.pua_script.specs.Limits.{most_processes}
+use Rattle.pua_script.specs.Replay.{come_of, do_decided}
 
 -- the number has a history
 abbrev pub IsMade : World → ℕ → Type 0
 IsMade w process = is_some (history_of w process) ≡ true
 
-put_keeps : (process at : ℕ) (h : History) (w : World) → IsMade w process → is_some (find_key nat_cmp process (put nat_cmp at h w.histories)) ≡ true
+put_keeps : (process at : ℕ) (h : History) (w : World) → IsMade w process →
+    is_some (find_key nat_cmp process (put nat_cmp at h w.histories)) ≡ true
 put_keeps process at h w made = by (process == at) refl
   where
     by : (b : Bool) → (process == at) ≡ b → is_some (find_key nat_cmp process (put nat_cmp at h w.histories)) ≡ true
@@ -50,13 +45,14 @@ request_keeps table w ask process made =
 
 -- a number that is taken is given to no new process
 module _ (table : CallTable) (w : World) (asker new : ℕ) (made : IsMade w new) where
-  taken : (h : History) (m : May) → is_okay (do_decided w asker h (promised m (Ok (CopyAs new)))).0 ≡ false
-  taken h may.Yes = ap (λ b. is_okay (answer_to (cond (b || nat_le process_limit (length w.histories)) (Fails EAGAIN) (Copies new)))) made
+  taken : (h : History) (m : May) → is_okay (do_decided w asker h (if_may m (Ok (CopyAs new)))).0 ≡ false
+  taken h may.Yes = ap (λ b. is_okay (answer_to (cond (b || nat_le most_processes (length w.histories)) (Fails EAGAIN) (Copies new)))) made
   taken h may.Enosys = refl
   taken h may.Death = refl
 
   pub fork_fails : is_okay (apply table w (record { process = asker; action = Fork new })).0 ≡ false
-  fork_fails = by_request table w (record { process = asker; action = Fork new }) (λ done. is_okay done.0 ≡ false) refl (λ h _. taken h (may_any h (proc ∷ [])))
+  fork_fails = by_request table w (record { process = asker; action = Fork new }) (λ done. is_okay done.0 ≡ false) refl
+      (λ h _. taken h (may_any h (proc ∷ [])))
 
 itself : (table : CallTable) (w : World) (ask : Asked) (process : ℕ) → IsMade w process → came_from table w ask process ≡ process
 itself table w ask process made = by ask.action refl
@@ -65,18 +61,21 @@ itself table w ask process made = by ask.action refl
     same true = refl
     same false = refl
 
-    forked : (new : ℕ) → ask.action ≡ Fork new → (b : Bool) → (new == process) ≡ b → cond (is_okay (apply table w ask).0) (cond b ask.process process) process ≡ process
+    forked : (new : ℕ) → ask.action ≡ Fork new → (b : Bool) → (new == process) ≡ b →
+        cond (is_okay (apply table w ask).0) (cond b ask.process process) process ≡ process
     forked new e false apart = same (is_okay (apply table w ask).0)
     forked new e true is =
         ap (λ b. cond b ask.process process)
         ((λ i. is_okay (apply table w (record { process = ask.process; action = e i })).0)
         ∙ fork_fails table w ask.process new (ap (λ q. is_some (history_of w q)) (eqb-true new process is) ∙ made))
 
-    by : (action : Action) → ask.action ≡ action → cond (is_okay (apply table w ask).0) (parent_by action ask.process process) process ≡ process
+    by : (action : Action) → ask.action ≡ action → cond (is_okay (apply table w ask).0) (parent_by action ask.process process) process
+        ≡ process
     by (Fork new) e = forked new e (new == process) refl
     by _ e = same (is_okay (apply table w ask).0)
 
-pub stays_itself : (table : CallTable) (asks : List Asked) (w : World) (process : ℕ) → IsMade w process → forebear table w asks process ≡ process
+pub stays_itself : (table : CallTable) (asks : List Asked) (w : World) (process : ℕ) → IsMade w process →
+    forebear table w asks process ≡ process
 stays_itself table [] w process made = refl
 stays_itself table (ask ∷ asks) w process made =
     ap (came_from table w ask) (stays_itself table asks (apply table w ask).1 process (request_keeps table w ask process made))

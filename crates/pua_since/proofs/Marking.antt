@@ -1,12 +1,10 @@
 -- The names in a path have their marks.
-use Rattle.std.proofs.Common.{◌≡◌, ◌⊎◌, ◌==◌, ℕ, Bool, true, false, cond, List, [], ◌∷◌, ◌++◌, length, map, nat_lt, inl, inr, subst}
+use Rattle.pua_since.proofs.Common.{◌≡◌, ℕ, Bool, true, false, cond, List, [], ◌∷◌, ◌++◌, length, map, inl, inr, subst, Bor, list_any}
+use Rattle.pua_since.proofs.Common.{slice_split, false≢true, bytes_decides, has_part, is_marked, mark_of}
+use Rattle.std.proofs.Common.{◌⊎◌, ◌==◌, nat_lt}
 use Rattle.std.specs.Prelude.{◌||◌}
-use Rattle.std.specs.Borrow.{Bor}
-use Rattle.std.specs.List.{list_any, filter, slice_split}
-use Rattle.std.proofs.lemmas.Bool.{false≢true, or_cases, or_left, or_right}
-use lib.Pointwise.{bytes_decides}
-use Rattle.pua_since.specs.Frames.{has_part}
-use Rattle.pua_since.specs.Concerns.{is_marked, mark_of}
+use Rattle.std.specs.List.{filter}
+use Rattle.std.proofs.lemmas.Bool.{or_cases, or_left, or_right}
 use Rattle.pua_since.proofs.Parts.{is_piece}
 
 -- one of some is one of all

@@ -1,11 +1,9 @@
 -- The components of a path by its pieces between slashes.
-use Rattle.std.proofs.Common.{◌≡◌, ◌==◌, ℕ, Bool, true, List, length, nat_lt, ap, ◌∙◌}
-use Rattle.std.specs.List.{list_any, slice_split}
+use Rattle.pua_since.proofs.Common.{◌≡◌, ℕ, Bool, true, List, length, ap, ◌∙◌, list_any, slice_split, same_bytes, bytes_decides, has_part}
+use Rattle.std.proofs.Common.{◌==◌, nat_lt}
 use Rattle.std.proofs.lemmas.Bool.{and_parts}
 use Rattle.std.proofs.lemmas.Map.Views.{any-filter_same}
-use Rattle.pua_tree.specs.Names.{same_bytes, is_name}
-use lib.Pointwise.{bytes_decides}
-use Rattle.pua_since.specs.Frames.{has_part}
+use Rattle.pua_tree.specs.Names.{is_name}
 
 abbrev pub is_piece : List ℕ → List ℕ → Bool
 is_piece name piece = same_bytes piece name

@@ -1,19 +1,13 @@
 -- The requests of a replay are served one after another.
-use Rattle.std.proofs.Common.{◌≡◌, ℕ, zero, suc, ◌+◌, ◌<◌, ◌≤◌, List, [], ◌∷◌, ◌++◌, length, take, drop, get_or, refl, sym, ap, subst, ◌∙◌, arith}
+use Rattle.pua_since.proofs.Common.{◌≡◌, ℕ, zero, suc, ◌+◌, ◌<◌, ◌≤◌, List, [], ◌∷◌, ◌++◌, length, take, drop, get_or, refl, sym, ap, subst}
+use Rattle.pua_since.proofs.Common.{◌∙◌, arith, take_all, CallTable, Asked, World, answers_to, apply, world_after, WorldState}
+use Rattle.pua_since.proofs.Common.{StandsForWorld, Answer, AreWatched, IsKeptThrough, Watches, one_request_more}
 use Rattle.std.specs.List.{enumerate_from, zip}
 use Rattle.std.proofs.Math.Seq.{drop-cons, take-suc}
-use Rattle.std.proofs.lemmas.List.{length-take, take_all, drop_all}
+use Rattle.std.proofs.lemmas.List.{length-take, drop_all}
 use Rattle.std.proofs.lemmas.List.FromFn.{length-enumerate_from, get_or-enumerate_from}
 use Rattle.std.proofs.lemmas.Slice.Zip.{length-zip, get_or-zip}
-use Rattle.pua_calls.specs.Calls.{CallTable}
-use Rattle.pua_script.specs.Requests.{Asked}
-use Rattle.pua_script.specs.Replay.{World, answers, apply, world_after}
-use Rattle.pua_script.specs.Worlds.{WorldState, StandsForWorld}
-use Rattle.pua_script.specs.declared.answer.Answer.{Answer}
-use Rattle.pua_since.specs.Watched.{AreWatched, IsKeptThrough}
-use Rattle.pua_since.specs.declared.watches.Watches.{Watches}
 use Rattle.pua_since.proofs.Keeping.{kept_twice}
-use Rattle.pua_script.proofs.ForCallers.{one_request_more}
 
 -- where this turn's request and answer stand
 pub one_turn : (asks : List Asked) (told : List Answer) (n index : ℕ) (ask : Asked) (answer : Answer) →
@@ -34,26 +28,26 @@ one_turn asks told n index ask answer within here =
       ap (λ (two : Asked × Answer). two.1) pair,
     )
 
-length-answers : (table : CallTable) (w : World) (asks : List Asked) → length (answers table w asks) ≡ length asks
+length-answers : (table : CallTable) (w : World) (asks : List Asked) → length (answers_to table w asks) ≡ length asks
 length-answers table w [] = refl
 length-answers table w (ask ∷ asks) = ap suc (length-answers table (apply table w ask).1 asks)
 
 -- the answers behind some requests are those of the world behind them
 answers_behind : (table : CallTable) (w : World) (asks : List Asked) (n : ℕ) →
-    drop n (answers table w asks) ≡ answers table (world_after table w (take n asks)) (drop n asks)
+    drop n (answers_to table w asks) ≡ answers_to table (world_after table w (take n asks)) (drop n asks)
 answers_behind table w asks zero = refl
 answers_behind table w [] (suc n) = refl
 answers_behind table w (ask ∷ asks) (suc n) = answers_behind table (apply table w ask).1 asks n
 
 next_answer : (table : CallTable) (w : World) (asks : List Asked) (told : List Answer) (n : ℕ) (ask : Asked) (answer : Answer) →
-    told ≡ answers table w asks → n < length asks → n < length told →
+    told ≡ answers_to table w asks → n < length asks → n < length told →
     ask ≡ get_or asks n ask → answer ≡ get_or told n answer → answer ≡ (apply table (world_after table w (take n asks)) ask).0
 next_answer table w asks told n ask answer is first second asked here =
     let v : World = world_after table w (take n asks) in
     let rest : drop n asks ≡ ask ∷ drop (suc n) asks = drop-cons asks n ask first ∙ ap (λ x. x ∷ drop (suc n) asks) (sym asked) in
-    let answered : (answer ∷ drop (suc n) told) ≡ answers table v (ask ∷ drop (suc n) asks) =
+    let answered : (answer ∷ drop (suc n) told) ≡ answers_to table v (ask ∷ drop (suc n) asks) =
     sym (drop-cons told n answer second ∙ ap (λ x. x ∷ drop (suc n) told) (sym here)) ∙ ap (drop n) is ∙ answers_behind table w asks n
-    ∙ ap (answers table v) rest in
+    ∙ ap (answers_to table v) rest in
     head answer (apply table v ask).0 _ _ answered
   where
     head : (a b : Answer) (more others : List Answer) → (a ∷ more) ≡ (b ∷ others) → a ≡ b
@@ -72,9 +66,9 @@ Moves s ask after table = (w : World) → StandsForWorld s w → StandsForWorld 
 pub record AreServedSo (s : WorldState) (start : Watches) (asks : List Asked) (told : List Answer) (n : ℕ) (now : WorldState)
     (watches : Watches) : Type 0 where
   pub kept : IsKeptThrough start.watches.items watches.watches.items
-  pub world : (w : World) → StandsForWorld s w → told ≡ answers s.table w asks →
+  pub world : (w : World) → StandsForWorld s w → told ≡ answers_to s.table w asks →
       StandsForWorld now (world_after s.table w (take n asks)) × (now.table ≡ s.table)
-  pub watched : (w : World) → StandsForWorld s w → told ≡ answers s.table w asks → AreWatched s.table w [] asks start →
+  pub watched : (w : World) → StandsForWorld s w → told ≡ answers_to s.table w asks → AreWatched s.table w [] asks start →
       AreWatched s.table w (take n asks) (drop n asks) watches
 
 module _ (s : WorldState) (start : Watches) (asks : List Asked) (told : List Answer) (n : ℕ) (now : WorldState) (watches : Watches)
@@ -95,8 +89,10 @@ module _ (s : WorldState) (start : Watches) (asks : List Asked) (told : List Ans
             let was = so_far.world w stands is in
             let moved : Moves now ask after s.table = subst (Moves now ask after) was.1 moving in
             let v : World = world_after s.table w (take n asks) in
-            let next = moved v was.0 in
-            (subst (StandsForWorld after) (sym (ap (world_after s.table w) taken ∙ one_request_more s.table w (take n asks) ask)) next.0, next.1);
+            let next = moved v was.0 in (
+              subst (StandsForWorld after) (sym (ap (world_after s.table w) taken ∙ one_request_more s.table w (take n asks) ask)) next.0,
+              next.1,
+            );
         watched = λ w stands is watched.
             let was = so_far.world w stands is in
             let asked : Asks now watches ask answer (index + 1) later s.table =
@@ -113,7 +109,7 @@ module _ (s : WorldState) (start : Watches) (asks : List Asked) (told : List Ans
       count = omega arith
 
   module _ (ended : n ≡ length (enumerate_from 0 (zip asks told))) (w : World) (stands : StandsForWorld s w)
-      (is : told ≡ answers s.table w asks) where
+      (is : told ≡ answers_to s.table w asks) where
     all_done : length asks ≤ n
     all_done = omega (
       arith,

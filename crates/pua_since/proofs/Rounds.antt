@@ -1,21 +1,16 @@
 -- One question after another is asked again.
-use Rattle.std.proofs.Common.{◌≡◌, ℕ, ◌+◌, ◌<◌, ◌≤◌, ◌≢◌, List, [], ◌∷◌, ◌++◌, length, set, get_or, refl, sym, ap, subst, ◌∙◌, arith}
+use Rattle.pua_since.proofs.Common.{◌≡◌, ℕ, ◌+◌, ◌<◌, ◌≤◌, ◌≢◌, List, [], ◌∷◌, ◌++◌, length, set, get_or, refl, sym, ap, subst, ◌∙◌, arith}
+use Rattle.pua_since.proofs.Common.{Asked, World, answers_to, apply, world_after, WorldState, StandsForWorld, TouchesOnly, AreHanded}
+use Rattle.pua_since.proofs.Common.{AreWatched, forks_done, made_by, IsHanded, IsKeptThrough, IsSameTopic, IsWatched, Touched, Watch}
+use Rattle.pua_since.proofs.Common.{Watches, one_request_more}
 use Rattle.std.specs.List.{AllWithin}
 use Rattle.std.proofs.lemmas.List.{length-set, get_or-set_other}
 use Rattle.std.proofs.lemmas.List.Elements.{All-same, AllWithin-more_set}
 use Rattle.std.proofs.lemmas.Option.{slice_get_read}
-use Rattle.pua_script.specs.Requests.{Asked}
-use Rattle.pua_script.specs.Replay.{World, answers, apply, world_after}
-use Rattle.pua_script.specs.Worlds.{WorldState, StandsForWorld}
-use Rattle.pua_since.specs.Concerns.{TouchesOnly}
-use Rattle.pua_since.specs.Watched.{AreHanded, AreWatched, forks_done, made_by, IsAskedOnce, IsHanded, IsKeptThrough, IsSameTopic, IsWatched}
-use Rattle.pua_since.specs.declared.touched.Touched.{Touched}
-use Rattle.pua_since.specs.declared.watch.Watch.{Watch}
-use Rattle.pua_since.specs.declared.watches.Watches.{Watches}
+use Rattle.pua_since.specs.Watched.{IsAskedOnce}
 use Rattle.pua_since.proofs.Topics.{kept_by_set}
 use Rattle.pua_since.proofs.Watching.{asked_or_spared}
 use Rattle.pua_since.proofs.Keeping.{kept_twice}
-use Rattle.pua_script.proofs.ForCallers.{one_request_more}
 
 -- the first n were asked again where that may concern them, and the others not yet
 pub record AreAsked (s : WorldState) (touched : Touched) (line n : ℕ) (start : Watches) (watches : List Watch) : Type 0 where
@@ -69,7 +64,7 @@ all_asked s touched line n start after watches forks is asked all w done ask lef
     let now = asked.each w done ask left stands only number handed in
     record {
       forks = ap (λ made. made_by made.items) forks ∙ handed.forks
-          ∙ ap (λ v. forks_done left (answers s.table v left)) (sym (one_request_more s.table w done ask));
+          ∙ ap (λ v. forks_done left (answers_to s.table v left)) (sym (one_request_more s.table w done ask));
       each = All-same (IsWatched s.table w (done ++ ask ∷ []) left) after.watches.items watches is
           (λ k d within. now.0 k d (omega arith) (omega (arith, within, all)));
     }

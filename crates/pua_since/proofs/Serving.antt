@@ -1,15 +1,9 @@
 -- A request is served, and the questions that it may concern are asked again.
-use Rattle.std.proofs.Common.{◌≡◌, ℕ, ◌+◌, List, [], ◌∷◌, ◌++◌, length, sym, ap, subst, ◌∙◌}
-use Rattle.pua_tree.specs.Tree.{WellFormed}
-use Rattle.pua_calls.specs.Calls.{CallTable}
-use Rattle.pua_script.specs.Requests.{Asked}
-use Rattle.pua_script.specs.Replay.{World, apply, world_after}
-use Rattle.pua_script.specs.Worlds.{WorldState, StandsForWorld, IsServed}
-use Rattle.pua_script.specs.declared.answer.Answer.{Answer}
-use Rattle.pua_since.specs.Concerns.{TouchesOnly, touched_by}
-use Rattle.pua_since.specs.Watched.{AreHanded, AreWatched}
-use Rattle.pua_since.specs.declared.touched.Touched.{Touched}
-use Rattle.pua_since.specs.declared.watches.Watches.{Watches}
+use Rattle.pua_since.proofs.Common.{◌≡◌, ℕ, ◌+◌, List, [], ◌∷◌, ◌++◌, length, sym, ap, subst, ◌∙◌, WellFormed, CallTable, Asked, World}
+use Rattle.pua_since.proofs.Common.{apply, world_after, WorldState, StandsForWorld, Answer, TouchesOnly, AreHanded, AreWatched, Touched}
+use Rattle.pua_since.proofs.Common.{Watches}
+use Rattle.pua_script.specs.Worlds.{IsServed}
+use Rattle.pua_since.specs.Concerns.{touched_by}
 use Rattle.pua_since.proofs.Touching.{touches_only}
 
 -- what is said of asking again

@@ -1,10 +1,8 @@
 -- Since which line something is so, by one request more.
-use Rattle.std.proofs.Common.{◌≡◌, ℕ, suc, ◌+◌, List, [], ◌∷◌, ◌++◌, length, Bool, true, false, Some, None, Option, refl, ap, ◌∙◌, arith}
-use Rattle.std.specs.Prelude.{not, ◌&&◌, if◌then◌else◌}
-use Rattle.pua_calls.specs.Calls.{CallTable}
-use Rattle.pua_script.specs.Requests.{Asked}
-use Rattle.pua_script.specs.Replay.{World, apply, world_after}
-use Rattle.pua_why.specs.Since.{Test, came_from, forebear, later_or, since}
+use Rattle.pua_since.proofs.Common.{◌≡◌, ℕ, suc, ◌+◌, List, [], ◌∷◌, ◌++◌, length, Bool, true, false, Some, None, Option, refl, ap, ◌∙◌}
+use Rattle.pua_since.proofs.Common.{arith, not, ◌&&◌, if◌then◌else◌, CallTable, Asked, World, apply, world_after, Test, came_from, forebear}
+use Rattle.pua_since.proofs.Common.{since}
+use Rattle.pua_why.specs.Since.{later_or}
 
 pub forebear_more : (table : CallTable) (w : World) (done : List Asked) (ask : Asked) (process : ℕ) →
     forebear table w (done ++ ask ∷ []) process ≡ forebear table w done (came_from table (world_after table w done) ask process)

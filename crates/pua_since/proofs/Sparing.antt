@@ -1,36 +1,29 @@
 -- What a question is told stays, where what was touched doesn't concern it.
-use Rattle.std.proofs.Common.{◌≡◌, ℕ, List, Bool, true, false, Some, None, Option, Ok, Err, refl, sym, ap, subst, ◌∙◌}
-use Rattle.std.specs.Prelude.{IsTrue, not, ◌&&◌, ◌==◌, nat_le, if◌then◌else◌}
-use Rattle.std.specs.Option.{option_eq, option_map_or}
-use Rattle.std.proofs.lemmas.Bool.{false≢true, or_parts}
-use Rattle.pua_tree.specs.Names.{same_bytes}
-use Rattle.pua_calls.specs.Calls.{CallTable}
-use Rattle.pua_policy.specs.History.{History, is_ended, kept}
+use Rattle.pua_since.proofs.Common.{◌≡◌, ℕ, List, Bool, true, false, Some, None, Option, Ok, Err, refl, sym, ap, subst, ◌∙◌, IsTrue, not}
+use Rattle.pua_since.proofs.Common.{◌&&◌, ◌==◌, if◌then◌else◌, option_eq, option_map_or, false≢true, or_parts, same_bytes, CallTable}
+use Rattle.pua_since.proofs.Common.{History, perms_kept, Change, NoChange, CopyAs, World, history_of, Action, Fault, Ended, is_marked}
+use Rattle.pua_since.proofs.Common.{mark_of, IsToldOf, is_told, kept_in, Touched, Question, Told, Watch}
+use Rattle.std.specs.Prelude.{nat_le}
+use Rattle.pua_policy.specs.History.{is_ended}
 use Rattle.pua_policy.specs.Verdict.{or_fault}
-use Rattle.pua_script.specs.Limits.{process_limit}
-use Rattle.pua_script.specs.Decide.{Change, NoChange, AddNode, CutRow, ShiftRow, TieRow, BeginProgram, AddEvent, CopyAs, Outcome, fault_if}
-use Rattle.pua_script.specs.Replay.{World, history_of}
-use Rattle.pua_script.specs.declared.request.Action.{Action}
-use Rattle.pua_why.specs.Checked.{checked, checked_by, checks_fault, process_fault}
+use Rattle.pua_script.specs.Limits.{most_processes}
+use Rattle.pua_script.specs.Decide.{AddNode, CutRow, ShiftRow, TieRow, BeginProgram, AddEvent, Outcome, fault_if}
+use Rattle.pua_why.specs.Checked.{reason_checked, checked_by, checks_fault, process_fault}
 use Rattle.pua_why.specs.Keys.{reason_key}
-use Rattle.pua_why.specs.Reasons.{Fault, NumberTaken, NoProcessLeft, Ended, reason_of, reasoned}
+use Rattle.pua_why.specs.Reasons.{NumberTaken, NoProcessLeft, reason_of, change_or_fault}
 use Rattle.pua_since.specs.Frames.{FollowsNone, IsUntouched}
-use Rattle.pua_since.specs.Concerns.{ChangesOnly, ChangesProcess, ChangesRows, is_bounded, is_concerned, is_marked, is_named, mark_of}
-use Rattle.pua_since.specs.Watched.{AreMarked, IsPlain, IsToldOf, is_told, kept_in}
-use Rattle.pua_since.specs.declared.touched.Touched.{Touched}
+use Rattle.pua_since.specs.Concerns.{ChangesOnly, ChangesProcess, ChangesRows, is_bounded, is_concerned, is_named}
+use Rattle.pua_since.specs.Watched.{AreMarked, IsPlain}
 use Rattle.pua_since.specs.declared.touched.Touched.TheVariants.{Nothing, Row, Process, Anything}
-use Rattle.pua_since.specs.declared.watch.Question.{Question}
 use Rattle.pua_since.specs.declared.watch.Question.TheVariants as asks
-use Rattle.pua_since.specs.declared.watch.Told.{Told}
 use Rattle.pua_since.specs.declared.watch.Told.TheVariants as tells
-use Rattle.pua_since.specs.declared.watch.Watch.{Watch}
 use Rattle.pua_since.proofs.Framed.{rows_spare}
 
 -- two worlds tell the same of a question
 abbrev TellsSame : CallTable → World → World → ℕ → Question → Type 0
 TellsSame table w v process (asks.Request action) =
-    checked table v (record { process = process; action = action.now })
-    ≡ checked table w (record { process = process; action = action.now })
+    reason_checked table v (record { process = process; action = action.now })
+    ≡ reason_checked table w (record { process = process; action = action.now })
 TellsSame table w v process (asks.Veil place) = kept_in v process place.now ≡ kept_in w process place.now
 
 -- so a question that is told something is told the same
@@ -72,7 +65,7 @@ module _ (table : CallTable) (name : List ℕ) (w v : World) (rows : ChangesRows
 module _ (table : CallTable) (w v : World) (own : ℕ) (only : ChangesProcess own w v) (process : ℕ) (other : process == own ≡ false) where
   same_fault : (c : Change) → process_fault v c ≡ process_fault w c
   same_fault (CopyAs new) = λ i. or_fault (fault_if (only.there new i) (NumberTaken new))
-      (fault_if (nat_le process_limit (only.count i)) NoProcessLeft)
+      (fault_if (nat_le most_processes (only.count i)) NoProcessLeft)
   same_fault NoChange = refl
   same_fault (AddNode spot node) = refl
   same_fault (CutRow spot) = refl
@@ -89,12 +82,13 @@ module _ (table : CallTable) (w v : World) (own : ℕ) (only : ChangesProcess ow
   same_by action None = refl
   same_by action (Some h) =
       ap (λ fault. if is_ended h then Ended else reason_of fault)
-      (ap (λ t. checks_fault v (reasoned table t h action)) only.tree ∙ same_checks (reasoned table w.tree h action))
+      (ap (λ t. checks_fault v (change_or_fault table t h action)) only.tree ∙ same_checks (change_or_fault table w.tree h action))
 
   process_same : (question : Question) → TellsSame table w v process question
   process_same (asks.Request action) = ap (checked_by table v action.now) (only.others process other)
       ∙ same_by action.now (history_of w process)
-  process_same (asks.Veil place) = ap (λ (o : Option History). option_map_or (λ h. kept h place.now) o None) (only.others process other)
+  process_same (asks.Veil place) =
+      ap (λ (o : Option History). option_map_or (λ h. perms_kept h place.now) o None) (only.others process other)
 
   process_plain : (question : Question) → IsPlain table w process question → IsPlain table v process question
   process_plain (asks.Request action) plain = (

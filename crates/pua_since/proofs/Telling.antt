@@ -1,42 +1,39 @@
 -- The lines of a run with reasons, one request after another.
-use Rattle.std.proofs.Common.{◌≡◌, ◌+◌, ℕ, suc, List, [], ◌∷◌, ◌++◌, length, flat_map, refl, sym, ap, subst, ◌∙◌, append_assoc, append-nil, add-one, Option, inl, inr}
-use Rattle.std.specs.Prelude.{◌⊎◌, decimal}
+use Rattle.pua_since.proofs.Common.{◌≡◌, ◌+◌, ℕ, suc, List, [], ◌∷◌, ◌++◌, length, flat_map, refl, sym, ap, subst, ◌∙◌, append_assoc}
+use Rattle.pua_since.proofs.Common.{append-nil, Option, inl, inr, ◌⊎◌, CallTable, with_end, Asked, World, answers_to, apply, world_after}
+use Rattle.pua_since.proofs.Common.{WorldState, StandsForWorld, Answer, Okay, Failed, Killed, Gone, reason, date_of, reason_since}
+use Rattle.pua_since.proofs.Common.{since_text, answer_words, ArePlacesOf, AreWatched, IsKeptThrough, Watch, Watches, one_request_more}
+use Rattle.std.proofs.Common.{add-one}
+use Rattle.std.specs.Prelude.{decimal}
 use Rattle.std.proofs.lemmas.List.{length_push}
-use Rattle.pua_calls.specs.Calls.{CallTable}
-use Rattle.pua_script.specs.AnswerTexts.{ended}
-use Rattle.pua_script.specs.Requests.{Asked}
-use Rattle.pua_script.specs.Replay.{World, answers, apply, world_after}
-use Rattle.pua_script.specs.Worlds.{WorldState, StandsForWorld}
-use Rattle.pua_script.specs.declared.answer.Answer.{Answer}
-use Rattle.pua_script.specs.declared.answer.Answer.TheVariants.{Okay, Failed, Killed, Gone}
-use Rattle.pua_why.specs.Reasons.{reason}
-use Rattle.pua_why.specs.Texts.{answer_why, date_of, reason_since, since_text, why_lines, words}
-use Rattle.pua_since.specs.Dates.{ArePlacesOf, line_of, places_left}
-use Rattle.pua_since.specs.Watched.{AreWatched, IsKeptThrough}
-use Rattle.pua_since.specs.declared.watch.Watch.{Watch}
-use Rattle.pua_since.specs.declared.watches.Watches.{Watches}
+use Rattle.pua_why.specs.Texts.{answer_why, why_lines}
+use Rattle.pua_since.specs.Dates.{question_line, places_left}
 use Rattle.pua_since.proofs.Answered.{okay_is_granted}
 use Rattle.pua_since.proofs.Keeping.{kept_all, kept_twice}
 use Rattle.pua_since.proofs.Placing.{places_kept}
 use Rattle.pua_since.proofs.Veiled.{request_at}
-use Rattle.pua_script.proofs.ForCallers.{one_request_more}
 
 -- since when the next request has its reason
-next_date : (table : CallTable) (w : World) (past left : List Asked) (s : Watches) → AreWatched table w past left s → (ask : Asked) (more : List Asked) (answer : Answer) (told : List Answer) (places : List ℕ) → answer ≡ (apply table (world_after table w past) ask).0
+next_date : (table : CallTable) (w : World) (past left : List Asked) (s : Watches) → AreWatched table w past left s →
+    (ask : Asked) (more : List Asked) (answer : Answer) (told : List Answer) (places : List ℕ) →
+    answer ≡ (apply table (world_after table w past) ask).0
     → ArePlacesOf s.watches.items (length past) (ask ∷ more) (answer ∷ told) places
-    → date_of (reason table (world_after table w past) ask) (line_of s.watches.items answer places) ≡ reason_since table w past ask (reason table (world_after table w past) ask)
+    → date_of (reason table (world_after table w past) ask) (question_line s.watches.items answer places) ≡ reason_since table w past ask
+    (reason table (world_after table w past) ask)
 next_date table w past left s are ask more Okay told places answered at =
     let granted = okay_is_granted table (world_after table w past) ask answered in
     rw granted refl
 next_date table w past left s are ask more (Failed errno) told [] answered at = absurd at
 next_date table w past left s are ask more Killed told [] answered at = absurd at
 next_date table w past left s are ask more Gone told [] answered at = absurd at
-next_date table w past left s are ask more (Failed errno) told (place ∷ places) answered at = request_at table w past left s are place ask at.0
+next_date table w past left s are ask more (Failed errno) told (place ∷ places) answered at =
+    request_at table w past left s are place ask at.0
 next_date table w past left s are ask more Killed told (place ∷ places) answered at = request_at table w past left s are place ask at.0
 next_date table w past left s are ask more Gone told (place ∷ places) answered at = request_at table w past left s are place ask at.0
 
 -- the places of those behind it
-next_places : (watches : List Watch) (n : ℕ) (ask : Asked) (more : List Asked) (answer : Answer) (told : List Answer) (places : List ℕ) → ArePlacesOf watches n (ask ∷ more) (answer ∷ told) places → ArePlacesOf watches (suc n) more told (places_left answer places)
+next_places : (watches : List Watch) (n : ℕ) (ask : Asked) (more : List Asked) (answer : Answer) (told : List Answer) (places : List ℕ) →
+    ArePlacesOf watches n (ask ∷ more) (answer ∷ told) places → ArePlacesOf watches (suc n) more told (places_left answer places)
 next_places watches n ask more Okay told places at = at
 next_places watches n ask more (Failed errno) told [] at = absurd at
 next_places watches n ask more Killed told [] at = absurd at
@@ -46,48 +43,64 @@ next_places watches n ask more Killed told (place ∷ places) at = at.1
 next_places watches n ask more Gone told (place ∷ places) at = at.1
 
 -- some requests were served and told of, and others are still to be
-pub record IsTold (before : WorldState) (kept_before : Watches) (requests : List Asked) (told : List Answer) (places : List ℕ) (now : WorldState) (kept_now : Watches) (left : List Asked) (told_left : List Answer) (left_places : List ℕ) (n : ℕ) (text : List ℕ) : Type 0 where
+pub record IsTold (before : WorldState) (kept_before : Watches) (requests : List Asked) (told : List Answer) (places : List ℕ)
+    (now : WorldState) (kept_now : Watches) (left : List Asked) (told_left : List Answer) (left_places : List ℕ) (n : ℕ) (text : List ℕ) :
+    Type 0 where
   pub past : List Asked
   pub split : requests ≡ past ++ left
   pub count : n ≡ length past
   pub kept : IsKeptThrough kept_before.watches.items kept_now.watches.items
-  pub world : (w : World) → StandsForWorld before w → told ≡ answers before.table w requests
-      → StandsForWorld now (world_after before.table w past) × (now.table ≡ before.table) × (told_left ≡ answers before.table (world_after before.table w past) left)
-  pub watched : (w : World) → StandsForWorld before w → told ≡ answers before.table w requests → AreWatched before.table w [] requests kept_before → AreWatched before.table w past left kept_now
-  pub lines : (w : World) → StandsForWorld before w → told ≡ answers before.table w requests → AreWatched before.table w [] requests kept_before → ArePlacesOf kept_before.watches.items 0 requests told places
-      → (flat_map ended (why_lines before.table w [] 1 requests) ≡ text ++ flat_map ended (why_lines before.table w past (suc n) left)) × ArePlacesOf kept_now.watches.items n left told_left left_places
+  pub world : (w : World) → StandsForWorld before w → told ≡ answers_to before.table w requests
+      → StandsForWorld now (world_after before.table w past) × (now.table ≡ before.table) ×
+      (told_left ≡ answers_to before.table (world_after before.table w past) left)
+  pub watched : (w : World) → StandsForWorld before w → told ≡ answers_to before.table w requests →
+      AreWatched before.table w [] requests kept_before → AreWatched before.table w past left kept_now
+  pub lines : (w : World) → StandsForWorld before w → told ≡ answers_to before.table w requests →
+      AreWatched before.table w [] requests kept_before → ArePlacesOf kept_before.watches.items 0 requests told places
+      → (flat_map with_end (why_lines before.table w [] 1 requests) ≡ text
+      ++ flat_map with_end (why_lines before.table w past (suc n) left)) × ArePlacesOf kept_now.watches.items n left told_left
+      left_places
 
 -- none yet
-pub none_told : (before : WorldState) (kept_before : Watches) (requests : List Asked) (told : List Answer) (places : List ℕ) (left : List Asked) (told_left : List Answer) (left_places : List ℕ) (n : ℕ) (text : List ℕ)
-    → left ≡ requests → told_left ≡ told → left_places ≡ places → n ≡ 0 → text ≡ [] → IsTold before kept_before requests told places before kept_before left told_left left_places n text
+pub none_told : (before : WorldState) (kept_before : Watches) (requests : List Asked) (told : List Answer) (places : List ℕ)
+    (left : List Asked) (told_left : List Answer) (left_places : List ℕ) (n : ℕ) (text : List ℕ)
+    → left ≡ requests → told_left ≡ told → left_places ≡ places → n ≡ 0 → text ≡ [] →
+    IsTold before kept_before requests told places before kept_before left told_left left_places n text
 none_told before kept_before requests told places left told_left left_places n text same same_told same_places count empty = record {
   past = [];
   split = sym same;
   count = count;
   kept = kept_all kept_before.watches.items;
-  world = λ w stands answered. (stands, refl, same_told ∙ answered ∙ ap (answers before.table w) (sym same));
+  world = λ w stands answered. (stands, refl, same_told ∙ answered ∙ ap (answers_to before.table w) (sym same));
   watched = λ w stands answered are. subst (λ asks. AreWatched before.table w [] asks kept_before) (sym same) are;
   lines = λ w stands answered are at. (
-    sym (λ i. empty i ++ flat_map ended (why_lines before.table w [] (suc (count i)) (same i))),
-    subst (λ (X : Type 0). X) (λ i. ArePlacesOf kept_before.watches.items (sym count i) (sym same i) (sym same_told i) (sym same_places i)) at,
+    sym (λ i. empty i ++ flat_map with_end (why_lines before.table w [] (suc (count i)) (same i))),
+    subst (λ (X : Type 0). X) (λ i. ArePlacesOf kept_before.watches.items (sym count i) (sym same i) (sym same_told i) (sym same_places i))
+        at,
   );
 }
 
 -- what is told and done of one more
-pub record IsTurn (now : WorldState) (kept_now : Watches) (next : WorldState) (kept_next : Watches) (ask : Asked) (answer : Answer) (line : Option ℕ) (number : ℕ) (text more : List ℕ) : Type 0 where
+pub record IsTurn (now : WorldState) (kept_now : Watches) (next : WorldState) (kept_next : Watches) (ask : Asked) (answer : Answer)
+    (line : Option ℕ) (number : ℕ) (text more : List ℕ) : Type 0 where
   pub kept : IsKeptThrough kept_now.watches.items kept_next.watches.items
   pub world : (w : World) → StandsForWorld now w → StandsForWorld next (apply now.table w ask).1 × (next.table ≡ now.table)
-  pub watched : (w : World) (done left : List Asked) → StandsForWorld now (world_after now.table w done) → answer ≡ (apply now.table (world_after now.table w done) ask).0 → number ≡ length done + 1
+  pub watched : (w : World) (done left : List Asked) → StandsForWorld now (world_after now.table w done) →
+      answer ≡ (apply now.table (world_after now.table w done) ask).0 → number ≡ length done + 1
       → AreWatched now.table w done (ask ∷ left) kept_now → AreWatched now.table w (done ++ ask ∷ []) left kept_next
-  pub told : (w : World) → StandsForWorld now w → answer ≡ (apply now.table w ask).0 → more ≡ text ++ ended (decimal number ++ 32 ∷ (words now.table w ask ++ since_text (date_of (reason now.table w ask) line)))
+  pub told : (w : World) → StandsForWorld now w → answer ≡ (apply now.table w ask).0 →
+      more ≡ text ++ with_end (decimal number ++ 32 ∷ (answer_words now.table w ask ++ since_text (date_of (reason now.table w ask) line)))
 
-module _ (before : WorldState) (kept_before : Watches) (requests : List Asked) (told : List Answer) (places : List ℕ) (now : WorldState) (kept_now : Watches) (n : ℕ) (text : List ℕ)
-    (ask : Asked) (more : List Asked) (answer : Answer) (told_more : List Answer) (left_places : List ℕ) (so : IsTold before kept_before requests told places now kept_now (ask ∷ more) (answer ∷ told_more) left_places n text)
-    (next : WorldState) (kept_next : Watches) (more_text : List ℕ) (turn : IsTurn now kept_now next kept_next ask answer (line_of kept_now.watches.items answer left_places) (n + 1) text more_text) where
+module _ (before : WorldState) (kept_before : Watches) (requests : List Asked) (told : List Answer) (places : List ℕ) (now : WorldState)
+    (kept_now : Watches) (n : ℕ) (text : List ℕ)
+    (ask : Asked) (more : List Asked) (answer : Answer) (told_more : List Answer) (left_places : List ℕ)
+    (so : IsTold before kept_before requests told places now kept_now (ask ∷ more) (answer ∷ told_more) left_places n text)
+    (next : WorldState) (kept_next : Watches) (more_text : List ℕ) (turn : IsTurn now kept_now next kept_next ask answer
+    (question_line kept_now.watches.items answer left_places) (n + 1) text more_text) where
   abbrev behind : List Asked
   behind = so.past ++ ask ∷ []
 
-  module _ (w : World) (stands : StandsForWorld before w) (answered : told ≡ answers before.table w requests) where
+  module _ (w : World) (stands : StandsForWorld before w) (answered : told ≡ answers_to before.table w requests) where
     abbrev reached : World
     reached = world_after before.table w so.past
 
@@ -97,12 +110,14 @@ module _ (before : WorldState) (kept_before : Watches) (requests : List Asked) (
     first_answer : answer ≡ (apply before.table reached ask).0
     first_answer = let both = (so.world w stands answered).2 in cc
 
-    later_answers : told_more ≡ answers before.table (world_after before.table w behind) more
+    later_answers : told_more ≡ answers_to before.table (world_after before.table w behind) more
     later_answers =
-        let both : told_more ≡ answers before.table (apply before.table reached ask).1 more = let all = (so.world w stands answered).2 in cc in
-        both ∙ ap (λ v. answers before.table v more) (sym (one_request_more before.table w so.past ask))
+        let both : told_more ≡ answers_to before.table (apply before.table reached ask).1 more = let all = (so.world w stands answered).2 in
+        cc in
+        both ∙ ap (λ v. answers_to before.table v more) (sym (one_request_more before.table w so.past ask))
 
-    turn_world : StandsForWorld next (world_after before.table w behind) × (next.table ≡ before.table) × (told_more ≡ answers before.table (world_after before.table w behind) more)
+    turn_world : StandsForWorld next (world_after before.table w behind) × (next.table ≡ before.table) ×
+        (told_more ≡ answers_to before.table (world_after before.table w behind) more)
     turn_world =
         let after = turn.world reached (so.world w stands answered).0 in (
           subst (StandsForWorld next) ((λ i. (apply (same i) reached ask).1) ∙ sym (one_request_more before.table w so.past ask)) after.0,
@@ -119,20 +134,27 @@ module _ (before : WorldState) (kept_before : Watches) (requests : List Asked) (
         (subst (λ t. AreWatched t w so.past (ask ∷ more) kept_now) back are))
 
     turn_lines : AreWatched before.table w [] requests kept_before → ArePlacesOf kept_before.watches.items 0 requests told places
-        → (flat_map ended (why_lines before.table w [] 1 requests) ≡ more_text ++ flat_map ended (why_lines before.table w behind (suc (n + 1)) more)) × ArePlacesOf kept_next.watches.items (n + 1) more told_more (places_left answer left_places)
+        → (flat_map with_end (why_lines before.table w [] 1 requests) ≡ more_text
+        ++ flat_map with_end (why_lines before.table w behind (suc (n + 1)) more)) ×
+        ArePlacesOf kept_next.watches.items (n + 1) more told_more (places_left answer left_places)
     turn_lines are at =
         let lines = so.lines w stands answered are at in
-        let dated = next_date before.table w so.past (ask ∷ more) kept_now (so.watched w stands answered are) ask more answer told_more left_places first_answer
+        let dated = next_date before.table w so.past (ask ∷ more) kept_now (so.watched w stands answered are) ask more answer told_more
+        left_places first_answer
         (subst (λ k. ArePlacesOf kept_now.watches.items k (ask ∷ more) (answer ∷ told_more) left_places) so.count lines.1) in
-        let pushed : more_text ≡ text ++ ended (decimal (n + 1) ++ 32 ∷ answer_why before.table w so.past ask) =
+        let pushed : more_text ≡ text ++ with_end (decimal (n + 1) ++ 32 ∷ answer_why before.table w so.past ask) =
         turn.told reached (so.world w stands answered).0 (first_answer ∙ sym (λ i. (apply (same i) reached ask).0))
-        ∙ (λ i. text ++ ended (decimal (n + 1) ++ 32 ∷ (words (same i) reached ask ++ since_text (date_of (reason (same i) reached ask) (line_of kept_now.watches.items answer left_places)))))
-        ∙ ap (λ date. text ++ ended (decimal (n + 1) ++ 32 ∷ (words before.table reached ask ++ since_text date))) dated in
-        let rest : List ℕ = flat_map ended (why_lines before.table w behind (suc (suc n)) more) in (
+        ∙ (λ i. text ++ with_end
+        (decimal (n + 1) ++ 32
+        ∷ (answer_words (same i) reached ask
+        ++ since_text (date_of (reason (same i) reached ask) (question_line kept_now.watches.items answer left_places)))))
+        ∙ ap (λ date. text ++ with_end (decimal (n + 1) ++ 32 ∷ (answer_words before.table reached ask ++ since_text date))) dated in
+        let rest : List ℕ = flat_map with_end (why_lines before.table w behind (suc (suc n)) more) in (
           lines.0
-              ∙ sym (append_assoc text (ended (decimal (suc n) ++ 32 ∷ answer_why before.table w so.past ask)) rest)
-              ∙ sym ((λ i. pushed i ++ flat_map ended (why_lines before.table w behind (suc (n + 1)) more))
-              ∙ (λ i. (text ++ ended (decimal (add-one n i) ++ 32 ∷ answer_why before.table w so.past ask)) ++ flat_map ended (why_lines before.table w behind (suc (add-one n i)) more))),
+              ∙ sym (append_assoc text (with_end (decimal (suc n) ++ 32 ∷ answer_why before.table w so.past ask)) rest)
+              ∙ sym ((λ i. pushed i ++ flat_map with_end (why_lines before.table w behind (suc (n + 1)) more))
+              ∙ (λ i. (text ++ with_end (decimal (add-one n i) ++ 32 ∷ answer_why before.table w so.past ask))
+              ++ flat_map with_end (why_lines before.table w behind (suc (add-one n i)) more))),
           subst (λ k. ArePlacesOf kept_next.watches.items k more told_more (places_left answer left_places)) (sym (add-one n))
               (places_kept kept_now.watches.items kept_next.watches.items turn.kept (suc n) more told_more (places_left answer left_places)
               (next_places kept_now.watches.items n ask more answer told_more left_places lines.1)),
@@ -150,23 +172,37 @@ module _ (before : WorldState) (kept_before : Watches) (requests : List Asked) (
   }
 
 -- one more, by what its iteration finds
-pub turned : (before : WorldState) (kept_before : Watches) (requests : List Asked) (told : List Answer) (places : List ℕ) (now : WorldState) (kept_now : Watches) (left : List Asked) (told_left : List Answer) (left_places : List ℕ) (n : ℕ) (text : List ℕ)
-    (ask : Asked) (more : List Asked) (answer : Answer) (told_more : List Answer) (more_places : List ℕ) (m : ℕ) (line : Option ℕ) (next : WorldState) (kept_next : Watches) (more_text : List ℕ)
-    → IsTold before kept_before requests told places now kept_now left told_left left_places n text → left ≡ ask ∷ more → told_left ≡ answer ∷ told_more → m ≡ n + 1 → line ≡ line_of kept_now.watches.items answer left_places → more_places ≡ places_left answer left_places
-    → IsTurn now kept_now next kept_next ask answer line (n + 1) text more_text → IsTold before kept_before requests told places next kept_next more told_more more_places m more_text
-turned before kept_before requests told places now kept_now left told_left left_places n text ask more answer told_more more_places m line next kept_next more_text so asked answered count by_line by_places turn =
-    subst (λ (X : Type 0). X) (λ i. IsTold before kept_before requests told places next kept_next more told_more (sym by_places i) (sym count i) more_text)
+pub turned : (before : WorldState) (kept_before : Watches) (requests : List Asked) (told : List Answer) (places : List ℕ) (now : WorldState)
+    (kept_now : Watches) (left : List Asked) (told_left : List Answer) (left_places : List ℕ) (n : ℕ) (text : List ℕ)
+    (ask : Asked) (more : List Asked) (answer : Answer) (told_more : List Answer) (more_places : List ℕ) (m : ℕ) (line : Option ℕ)
+    (next : WorldState) (kept_next : Watches) (more_text : List ℕ)
+    → IsTold before kept_before requests told places now kept_now left told_left left_places n text → left ≡ ask ∷ more →
+    told_left ≡ answer ∷ told_more → m ≡ n + 1 → line ≡ question_line kept_now.watches.items answer left_places →
+    more_places ≡ places_left answer left_places
+    → IsTurn now kept_now next kept_next ask answer line (n + 1) text more_text →
+    IsTold before kept_before requests told places next kept_next more told_more more_places m more_text
+turned before kept_before requests told places now kept_now left told_left left_places n text ask more answer told_more more_places m line
+    next kept_next more_text so asked answered count by_line by_places turn =
+    subst (λ (X : Type 0). X) (λ i. IsTold before kept_before requests told places next kept_next more told_more (sym by_places i)
+    (sym count i) more_text)
     (one_more before kept_before requests told places now kept_now n text ask more answer told_more left_places
-    (subst (λ (X : Type 0). X) (λ i. IsTold before kept_before requests told places now kept_now (asked i) (answered i) left_places n text) so) next kept_next more_text
+    (subst (λ (X : Type 0). X) (λ i. IsTold before kept_before requests told places now kept_now (asked i) (answered i) left_places n text)
+    so) next kept_next more_text
     (subst (λ l. IsTurn now kept_now next kept_next ask answer l (n + 1) text more_text) by_line turn))
 
 -- all were told of
-pub all_told : (before : WorldState) (kept_before : Watches) (requests : List Asked) (told : List Answer) (places : List ℕ) (now : WorldState) (kept_now : Watches) (left : List Asked) (told_left : List Answer) (left_places : List ℕ) (n : ℕ) (text : List ℕ)
-    → IsTold before kept_before requests told places now kept_now left told_left left_places n text → (left ≡ []) ⊎ (told_left ≡ []) → (w : World) → StandsForWorld before w → told ≡ answers before.table w requests → left ≡ []
+pub all_told : (before : WorldState) (kept_before : Watches) (requests : List Asked) (told : List Answer) (places : List ℕ)
+    (now : WorldState) (kept_now : Watches) (left : List Asked) (told_left : List Answer) (left_places : List ℕ) (n : ℕ) (text : List ℕ)
+    → IsTold before kept_before requests told places now kept_now left told_left left_places n text → (left ≡ []) ⊎ (told_left ≡ []) →
+    (w : World) → StandsForWorld before w → told ≡ answers_to before.table w requests → left ≡ []
 all_told before kept_before requests told places now kept_now [] told_left left_places n text so empty w stands answered = refl
-all_told before kept_before requests told places now kept_now (ask ∷ more) told_left left_places n text so (inl empty) w stands answered = cc
-all_told before kept_before requests told places now kept_now (ask ∷ more) told_left left_places n text so (inr empty) w stands answered = let all = (so.world w stands answered).2 in cc
+all_told before kept_before requests told places now kept_now (ask ∷ more) told_left left_places n text so (inl empty) w stands answered =
+    cc
+all_told before kept_before requests told places now kept_now (ask ∷ more) told_left left_places n text so (inr empty) w stands answered =
+    let all = (so.world w stands answered).2 in cc
 
-pub past_all : (before : WorldState) (kept_before : Watches) (requests : List Asked) (told : List Answer) (places : List ℕ) (now : WorldState) (kept_now : Watches) (left : List Asked) (told_left : List Answer) (left_places : List ℕ) (n : ℕ) (text : List ℕ)
+pub past_all : (before : WorldState) (kept_before : Watches) (requests : List Asked) (told : List Answer) (places : List ℕ)
+    (now : WorldState) (kept_now : Watches) (left : List Asked) (told_left : List Answer) (left_places : List ℕ) (n : ℕ) (text : List ℕ)
     → (so : IsTold before kept_before requests told places now kept_now left told_left left_places n text) → left ≡ [] → so.past ≡ requests
-past_all before kept_before requests told places now kept_now left told_left left_places n text so none = sym (so.split ∙ ap (λ more. so.past ++ more) none ∙ append-nil so.past)
+past_all before kept_before requests told places now kept_now left told_left left_places n text so none =
+    sym (so.split ∙ ap (λ more. so.past ++ more) none ∙ append-nil so.past)

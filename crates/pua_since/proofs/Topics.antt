@@ -1,9 +1,8 @@
 -- Each question stays at its place.
-use Rattle.std.proofs.Common.{◌≡◌, ℕ, zero, suc, ◌≤◌, List, [], ◌∷◌, ◌++◌, map, Bool, true, false, Some, refl, sym, ap, subst, ◌∙◌, arith}
-use Rattle.std.specs.Prelude.{slice_get, slice_set, if◌then◌else◌}
-use Rattle.pua_since.specs.declared.watch.Question.{Question}
-use Rattle.pua_since.specs.declared.watch.Watch.{Watch}
-use Rattle.pua_since.specs.Watched.{IsSameTopic, IsTopicAt, IsKeptThrough}
+use Rattle.pua_since.proofs.Common.{◌≡◌, ℕ, zero, suc, ◌≤◌, List, [], ◌∷◌, ◌++◌, map, Bool, true, false, Some, refl, sym, ap, subst, ◌∙◌}
+use Rattle.pua_since.proofs.Common.{arith, slice_get, if◌then◌else◌, Question, Watch, IsSameTopic, IsKeptThrough}
+use Rattle.std.specs.Prelude.{slice_set}
+use Rattle.pua_since.specs.Watched.{IsTopicAt}
 use Rattle.pua_since.proofs.Keeping.{kept_all}
 
 module _ (watch : Watch) (watches : List Watch) (place process : ℕ) (question : Question) (lines : ℕ) where

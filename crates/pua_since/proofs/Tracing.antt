@@ -1,15 +1,12 @@
 -- What a text that is a path names is what the path names, and so is its trace; what is no path follows no link.
-use Rattle.std.proofs.Common.{◌≡◌, ◌==◌, ℕ, List, [], ◌∷◌, length, true, Some, None, Option, refl, arith, eqb-true}
+use Rattle.pua_since.proofs.Common.{◌≡◌, ℕ, List, [], ◌∷◌, length, true, Some, None, Option, refl, arith, Tree, trace_from, Ending, Last}
+use Rattle.pua_since.proofs.Common.{PathFollowsNone}
+use Rattle.std.proofs.Common.{◌==◌, eqb-true}
 use Rattle.std.specs.Prelude.{option_map}
-use Rattle.pua_tree.specs.Tree.{Tree}
 use Rattle.pua_path.specs.Paths.{path_fault, text_errno, text_fault}
 use Rattle.pua_path.specs.Resolution.{resolution, resolution_of_text}
-use Rattle.pua_path.specs.Traces.{trace_from}
 use Rattle.pua_path.specs.declared.errno.Errno.{Errno}
-use Rattle.pua_path.specs.declared.text.Ending.{Ending}
-use Rattle.pua_path.specs.declared.found.Last.{Last}
 use Rattle.pua_path.specs.declared.traced.TextFault.{TextFault}
-use Rattle.pua_since.specs.Frames.{PathFollowsNone}
 
 module _ (t : Tree) (from : ℕ) (ending : Ending) (text : List ℕ) (mode : Last) where
   pub no_path : (errno : Errno) → path_fault text ≡ Some errno → PathFollowsNone t from ending text mode

@@ -1,27 +1,20 @@
 -- A request that can't have changed a world leaves it as it is.
-use Rattle.std.proofs.Common.{◌≡◌, ℕ, List, false, cond, Some, Ok, refl, sym, ap, ◌∙◌}
-use Rattle.std.specs.Prelude.{IsTrue, T}
+use Rattle.pua_since.proofs.Common.{◌≡◌, ℕ, List, false, cond, Some, Ok, refl, sym, ap, ◌∙◌, IsTrue, nat_cmp, nat_cmp_total, put, is_sorted}
+use Rattle.pua_since.proofs.Common.{nat_cmp-IsAntisymmetric, Found, CallTable, History, Call, Refusal, Asked, Change, NoChange, change_by}
+use Rattle.pua_since.proofs.Common.{decide, World, apply, Effect, Fails, Kills, Leaves, Copies, history_of, answer_to, left_by, Answer}
+use Rattle.pua_since.proofs.Common.{Action, OnPath, Symlink, Rename, Link, Pledge, Unveil, Lock, Fork, Exit, by_request, has_changed}
+use Rattle.std.specs.Prelude.{T}
 use Rattle.std.specs.declared.cmp.Ordering.{Ordering}
 use Rattle.std.specs.declared.cmp.Ordering.TheVariants.{Less, Equal, Greater}
-use Rattle.std.specs.Ordering.{nat_cmp, is_eq}
-use Rattle.std.specs.Cmp.{nat_cmp_total}
-use Rattle.std.specs.FinMap.{put, find as find_key, is_sorted, nat_cmp-IsAntisymmetric}
+use Rattle.std.specs.Ordering.{is_eq}
+use Rattle.std.specs.FinMap.{find as find_key}
 use Rattle.std.specs.FinMap.Entries.{find-put, find_tied, is_sorted-put, same_entries}
-use Rattle.pua_path.specs.declared.found.Found.{Found}
-use Rattle.pua_calls.specs.Calls.{CallTable}
-use Rattle.pua_policy.specs.History.{History}
-use Rattle.pua_calls.specs.declared.call.Call.{Call}
 use Rattle.pua_calls.specs.declared.call.Call.TheVariants as call
-use Rattle.pua_policy.specs.declared.answer.Refusal.{Refusal}
 use Rattle.pua_policy.specs.declared.answer.Refusal.TheVariants.{Failed, Killed}
-use Rattle.pua_script.specs.Requests.{Asked}
-use Rattle.pua_script.specs.Decide.{Change, NoChange, change_by, decide}
-use Rattle.pua_script.specs.Replay.{World, apply, Effect, Fails, Kills, Leaves, Copies, history_of, answer_to, left_by, made, refused}
-use Rattle.pua_script.specs.declared.answer.Answer.{Answer}
-use Rattle.pua_script.specs.declared.request.Action.{Action}
-use Rattle.pua_script.specs.declared.request.Action.TheVariants.{OnPath, Symlink, Rename, Link, Pledge, Unveil, Lock, Fork, Exit}
-use Rattle.pua_script.proofs.ForCallers.{by_request, by_decision, decisions_are_guarded}
-use Rattle.pua_since.specs.Changes.{call_changes, action_changes, has_changed, LeavesAsIs}
+use Rattle.pua_script.specs.Replay.{change_effect}
+use Rattle.pua_script.specs.Replay.{refusal_effect}
+use Rattle.pua_script.proofs.ForCallers.{by_decision, decisions_are_guarded}
+use Rattle.pua_since.specs.Changes.{call_changes, action_changes, LeavesAsIs}
 use Rattle.std.specs.Bool.{passes}
 
 -- putting what is there
@@ -51,14 +44,14 @@ no_change table _ object e = refl
 
 module _ (table : CallTable) (w : World) (ask : Asked) (sorted : IsTrue (is_sorted nat_cmp w.histories)) (h : History)
     (here : history_of w ask.process ≡ Some h) where
-  kept : left_by w ask.process h (made w h NoChange) ≡ w
+  kept : left_by w ask.process h (change_effect w h NoChange) ≡ w
   kept = ap (λ histories. record w { histories = histories }) (put_there ask.process h w.histories sorted here)
 
   by_action : (action : Action) (c : Change) → decide table w.tree h action ≡ Ok c → action_changes action ≡ false →
-      left_by w ask.process h (made w h c) ≡ w
+      left_by w ask.process h (change_effect w h c) ≡ w
   by_action (OnPath asked path) c is e =
       let guarded = decisions_are_guarded table w.tree h (OnPath asked path) c is in
-      ap (λ d. left_by w ask.process h (made w h d)) (guarded.2 ∙ no_change table asked guarded.0 e) ∙ kept
+      ap (λ d. left_by w ask.process h (change_effect w h d)) (guarded.2 ∙ no_change table asked guarded.0 e) ∙ kept
   by_action (Symlink target path) c is e = cc
   by_action (Rename old new) c is e = cc
   by_action (Link old new) c is e = cc
@@ -75,7 +68,7 @@ module _ (table : CallTable) (w : World) (ask : Asked) (sorted : IsTrue (is_sort
   by_effect (Leaves t after) okay none = okay none
   by_effect (Copies new) okay none = okay none
 
-  refusing : (r : Refusal) → has_changed ask.action (answer_to (refused r)) ≡ false → left_by w ask.process h (refused r) ≡ w
+  refusing : (r : Refusal) → has_changed ask.action (answer_to (refusal_effect r)) ≡ false → left_by w ask.process h (refusal_effect r) ≡ w
   refusing (Failed errno) none = refl
   refusing Killed none = cc
 
@@ -86,7 +79,7 @@ unchanged table w ask sorted =
     λ h here. by_decision w h (λ e. has_changed ask.action (answer_to e) ≡ false → left_by w ask.process h e ≡ w)
     (decide table w.tree h ask.action)
     (refusing table w ask sorted h here)
-    (λ c is. by_effect table w ask sorted h here (made w h c) (by_action table w ask sorted h here ask.action c is))
+    (λ c is. by_effect table w ask sorted h here (change_effect w h c) (by_action table w ask sorted h here ask.action c is))
 
 -- a request that can't have changed a world leaves it as it is
 pub unchanged_stay : (action : Action) (answer : Answer) → has_changed action answer ≡ false → LeavesAsIs action answer

@@ -1,34 +1,20 @@
 -- What is kept of a question holds behind a further request too.
-use Rattle.std.proofs.Common.{◌≡◌, ℕ, ◌+◌, ◌≤◌, List, [], ◌∷◌, ◌++◌, length, Bool, true, false, Some, None, Option, refl, sym, ap, subst, ◌∙◌, arith, eq-eqb}
-use Rattle.std.specs.Prelude.{◌==◌, not, ◌&&◌, if◌then◌else◌}
-use Rattle.std.specs.Option.{option_eq}
-use Rattle.std.proofs.lemmas.Bool.{eqb-true}
+use Rattle.pua_since.proofs.Common.{◌≡◌, ℕ, ◌+◌, ◌≤◌, List, [], ◌∷◌, ◌++◌, length, Bool, true, false, Some, None, Option, refl, sym, ap}
+use Rattle.pua_since.proofs.Common.{subst, ◌∙◌, arith, ◌==◌, not, ◌&&◌, if◌then◌else◌, option_eq, eqb-true, bytes_decides, same_bytes}
+use Rattle.pua_since.proofs.Common.{CallTable, Asked, World, answers_to, apply, world_after, is_okay, Answer, Okay, Failed, Killed, Gone}
+use Rattle.pua_since.proofs.Common.{Action, OnPath, Symlink, Rename, Link, Pledge, Unveil, Lock, Fork, Exit, Test, parent_by, came_from}
+use Rattle.pua_since.proofs.Common.{forebear, since, has_changed, has_forked, TouchesOnly, IsToldOf, is_told, IsWatched, IsHanded}
+use Rattle.pua_since.proofs.Common.{forks_done, forebear_by, handed_by, Touched, Question, Told, Watch, one_request_more}
+use Rattle.std.proofs.Common.{eq-eqb}
 use Rattle.std.proofs.lemmas.List.{length-append}
-use lib.Pointwise.{bytes_decides}
-use Rattle.pua_tree.specs.Names.{same_bytes}
-use Rattle.pua_calls.specs.Calls.{CallTable}
-use Rattle.pua_script.specs.Requests.{Asked}
-use Rattle.pua_script.specs.Replay.{World, answers, apply, world_after}
-use Rattle.pua_script.specs.Family.{is_okay}
-use Rattle.pua_script.specs.declared.answer.Answer.{Answer}
-use Rattle.pua_script.specs.declared.answer.Answer.TheVariants.{Okay, Failed, Killed, Gone}
-use Rattle.pua_script.specs.declared.request.Action.{Action}
-use Rattle.pua_script.specs.declared.request.Action.TheVariants.{OnPath, Symlink, Rename, Link, Pledge, Unveil, Lock, Fork, Exit}
-use Rattle.pua_why.specs.Since.{Test, parent_by, came_from, forebear, since}
-use Rattle.pua_since.specs.Changes.{has_changed, has_forked}
-use Rattle.pua_since.specs.Concerns.{TouchesOnly, is_concerned}
-use Rattle.pua_since.specs.Watched.{IsPlain, IsToldOf, is_same_told, is_told, IsAbout, IsAskedOnce, IsBegunIn, IsWatched, IsHanded, forks_done, forebear_by, handed_by}
-use Rattle.pua_since.specs.declared.touched.Touched.{Touched}
-use Rattle.pua_since.specs.declared.watch.Question.{Question}
+use Rattle.pua_since.specs.Concerns.{is_concerned}
+use Rattle.pua_since.specs.Watched.{IsPlain, is_same_told, IsAbout, IsAskedOnce, IsBegunIn}
 use Rattle.pua_since.specs.declared.watch.Question.TheVariants as asks
-use Rattle.pua_since.specs.declared.watch.Told.{Told}
 use Rattle.pua_since.specs.declared.watch.Told.TheVariants as tells
-use Rattle.pua_since.specs.declared.watch.Watch.{Watch}
 use Rattle.pua_since.proofs.Sincing.{turns, turned_or, since_more}
 use Rattle.pua_since.proofs.Forks.{forebears_tell}
 use Rattle.pua_since.proofs.Sparing.{IsSparedIn, is_bounded_by, spared}
 use Rattle.std.specs.Cmp.{both_ways}
-use Rattle.pua_script.proofs.ForCallers.{one_request_more}
 
 option_same : (a b : Option ℕ) → option_eq ◌==◌ a b ≡ true → a ≡ b
 option_same None None e = refl
@@ -150,7 +136,7 @@ module _ (table : CallTable) (w : World) (done : List Asked) (ask : Asked) (left
   }
 
   -- where it made one
-  pub handed_on : (forks : List (ℕ × ℕ)) → forks ≡ forks_done left (answers table Next left) → (watch : Watch) →
+  pub handed_on : (forks : List (ℕ × ℕ)) → forks ≡ forks_done left (answers_to table Next left) → (watch : Watch) →
       IsWatched table w done (ask ∷ left) watch → IsHanded table w done ask left (handed_by forks watch)
   handed_on forks are watch h =
       let asker : forebear_by forks watch.process ≡ forebear table Next left watch.process =

@@ -1,5 +1,6 @@
 -- What a request that was served touches of a world, and which questions that concerns.
-use Rattle.std.specs.Prelude.{◌≡◌, ⊤, ℕ, Bool, true, false, not, ◌||◌, ◌&&◌, ◌==◌, ◌+◌, ◌*◌, ◌%◌, List, [], ◌∷◌, length, Option, Some, None, Result, Ok, is_some}
+use Rattle.std.specs.Prelude.{◌≡◌, ⊤, ℕ, Bool, true, false, not, ◌||◌, ◌&&◌, ◌==◌, ◌+◌, ◌*◌, ◌%◌, List, [], ◌∷◌, length, Option, Some, None}
+use Rattle.std.specs.Prelude.{Result, Ok, is_some}
 use Rattle.std.specs.Int.{bit_at}
 use Rattle.pua_tree.specs.Tree.{Tree, WellFormed}
 use Rattle.pua_path.specs.Resolution.{resolution_of_text}
@@ -40,12 +41,12 @@ abbrev pub is_marked : ℕ → ℕ → Bool
 is_marked marks mark = bit_at marks (mark % 64) == 1
 
 -- the row of what was found, where it is no directory
-abbrev pub row_of : Result Found Errno → Touched
-row_of (Ok (Slot dir name _)) = Row name (mark_of name)
-row_of _ = Anything
+abbrev pub row_touched : Result Found Errno → Touched
+row_touched (Ok (Slot dir name _)) = Row name (mark_of name)
+row_touched _ = Anything
 
 abbrev pub row_from : Tree → History → List ℕ → Ending → Last → Touched
-row_from t h path ending mode = row_of (resolution_of_text t (working_dir h) ending path mode)
+row_from t h path ending mode = row_touched (resolution_of_text t (working_dir h) ending path mode)
 
 -- the row that a path of a process names
 abbrev pub row_with : Tree → List ℕ → Ending → Last → Option History → Touched

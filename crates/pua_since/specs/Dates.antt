@@ -17,7 +17,7 @@ use Rattle.pua_script.specs.declared.request.Action.{Action}
 use Rattle.pua_why.specs.Facts.{Fact, Under}
 use Rattle.pua_why.specs.Reasons.{reason}
 use Rattle.pua_why.specs.Since.{Test, since}
-use Rattle.pua_why.specs.Texts.{date_of, has_veil, reason_since, veil_since}
+use Rattle.pua_why.specs.Texts.{date_of, has_veil_on, reason_since, veil_since}
 use Rattle.pua_since.specs.Watched.{IsTopicAt, kept_in, line_at}
 use Rattle.pua_since.specs.declared.chain.Dates.{Dates}
 use Rattle.pua_since.specs.declared.watch.Question.{Question}
@@ -36,10 +36,10 @@ pub record IsRequestAt (watches : List Watch) (place : ℕ) (ask : Asked) (lines
   pub asks : action_asked question ≡ Some ask.action
 
 -- the line of the question at the next of these places, and the places behind it; a request that is answered `ok` has none
-abbrev pub line_of : List Watch → Answer → List ℕ → Option ℕ
-line_of watches Okay places = None
-line_of watches answer [] = None
-line_of watches answer (place ∷ places) = line_at watches place
+abbrev pub question_line : List Watch → Answer → List ℕ → Option ℕ
+question_line watches Okay places = None
+question_line watches answer [] = None
+question_line watches answer (place ∷ places) = line_at watches place
 
 abbrev pub places_left : Answer → List ℕ → List ℕ
 places_left Okay places = places
@@ -58,11 +58,11 @@ ArePlacesOf watches n (ask ∷ more) (answer ∷ told) places = PlacesFrom watch
 ArePlacesOf watches n _ _ places = places ≡ []
 
 -- lines that were read, with the places of the questions of their requests
-abbrev pub IsKnown : List Watch → Bor (List ℕ) × ℕ → Type 0
-IsKnown watches line = (n : ℕ) × (ask : Asked) × (request_of n line.0.now ≡ Ok ask) × IsRequestAt watches line.1 ask 0
+abbrev pub IsLineKnown : List Watch → Bor (List ℕ) × ℕ → Type 0
+IsLineKnown watches line = (n : ℕ) × (ask : Asked) × (request_of n line.0.now ≡ Ok ask) × IsRequestAt watches line.1 ask 0
 
 abbrev pub AreKnown : List Watch → List (Bor (List ℕ) × ℕ) → Type 0
-AreKnown watches lines = All (IsKnown watches) lines
+AreKnown watches lines = All (IsLineKnown watches) lines
 
 -- the veil that is asked about
 abbrev pub place_asked : Question → Option Place
@@ -86,7 +86,7 @@ lacks_veil place w process = option_eq ◌==◌ (kept_in w process place) None
 -- since which line a process keeps at a place the letters that it keeps there behind these requests, or none
 abbrev pub letters_date : CallTable → World → List Asked → ℕ → Place → Option ℕ → Option ℕ
 letters_date table w asks process place None = since (lacks_veil place) table w 1 asks process
-letters_date table w asks process place (Some given) = since (has_veil place given) table w 1 asks process
+letters_date table w asks process place (Some given) = since (has_veil_on place given) table w 1 asks process
 
 abbrev pub veil_date : CallTable → World → List Asked → (ℕ × Place) → Option ℕ
 veil_date table w asks veil = letters_date table w asks veil.0 veil.1 (kept_in (world_after table w asks) veil.0 veil.1)
@@ -127,5 +127,6 @@ fact_line watches (Some place) = line_at watches place
 
 -- since which lines what is told of a request behind others is so: its reason, and the veils of its facts
 pub record AreDatesOf (table : CallTable) (w : World) (asks : List Asked) (ask : Asked) (facts : List Fact) (dates : Dates) : Type 0 where
-  pub answer : date_of (reason table (world_after table w asks) ask) dates.answer ≡ reason_since table w asks ask (reason table (world_after table w asks) ask)
+  pub answer : date_of (reason table (world_after table w asks) ask) dates.answer ≡ reason_since table w asks ask
+      (reason table (world_after table w asks) ask)
   pub veils : dates.facts.items ≡ map (veil_since table w asks ask) facts

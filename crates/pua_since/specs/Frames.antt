@@ -15,7 +15,7 @@ use Rattle.pua_calls.specs.declared.call.Call.TheVariants as call
 use Rattle.pua_script.specs.Replay.{World, history_of}
 use Rattle.pua_script.specs.declared.request.Action.{Action}
 use Rattle.pua_script.specs.declared.request.Action.TheVariants.{OnPath, Symlink, Rename, Link, Unveil}
-use Rattle.pua_why.specs.Checked.{checked}
+use Rattle.pua_why.specs.Checked.{reason_checked}
 
 -- a tree differs from another in rows of one name alone, in which no directory stands
 pub record DifferAt (name : List ℕ) (s t : Tree) : Type 0 where
@@ -85,8 +85,8 @@ pub record IsSpared (name : List ℕ) (action : Action) : Type 0 where
 
 -- so they tell the same in a world that differs in such rows alone, and follow no link there
 pub record IsUntouched (table : CallTable) (w v : World) (process : ℕ) (action : Action) : Type 0 where
-  pub same : checked table v (record { process = process; action = action })
-      ≡ checked table w (record { process = process; action = action })
+  pub same : reason_checked table v (record { process = process; action = action })
+      ≡ reason_checked table w (record { process = process; action = action })
   pub links : FollowsNoLink table v process action
 
 abbrev pub RowsSpare : Type 0

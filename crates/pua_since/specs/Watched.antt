@@ -1,17 +1,18 @@
 -- Questions that are asked of each world of a replay, as the code keeps them.
-use Rattle.std.specs.Prelude.{◌≡◌, ◌≤◌, ⊤, ℕ, Bool, true, false, IsTrue, ◌==◌, if◌then◌else◌, List, [], ◌∷◌, length, map, reverse, slice_get, Option, Some, None, All}
+use Rattle.std.specs.Prelude.{◌≡◌, ◌≤◌, ⊤, ℕ, Bool, true, false, IsTrue, ◌==◌, if◌then◌else◌, List, [], ◌∷◌, length, map, reverse}
+use Rattle.std.specs.Prelude.{slice_get, Option, Some, None, All}
 use Rattle.std.specs.Option.{option_eq, option_map_or}
 use Rattle.pua_tree.specs.Names.{same_bytes}
 use Rattle.pua_calls.specs.Calls.{CallTable}
-use Rattle.pua_policy.specs.History.{kept}
+use Rattle.pua_policy.specs.History.{perms_kept}
 use Rattle.pua_policy.specs.declared.place.Place.{Place}
 use Rattle.pua_script.specs.Requests.{Asked}
-use Rattle.pua_script.specs.Replay.{World, history_of, answers, apply, world_after}
+use Rattle.pua_script.specs.Replay.{World, history_of, answers_to, apply, world_after}
 use Rattle.pua_script.specs.declared.answer.Answer.{Answer}
 use Rattle.pua_script.specs.declared.answer.Answer.TheVariants.{Okay}
 use Rattle.pua_script.specs.declared.request.Action.{Action}
 use Rattle.pua_script.specs.declared.request.Action.TheVariants.{Fork}
-use Rattle.pua_why.specs.Checked.{checked}
+use Rattle.pua_why.specs.Checked.{reason_checked}
 use Rattle.pua_why.specs.Keys.{reason_key}
 use Rattle.pua_why.specs.Since.{Test, came_from, forebear, since}
 use Rattle.pua_since.specs.Frames.{FollowsNoLink, looks_further}
@@ -27,12 +28,12 @@ use Rattle.pua_since.specs.declared.watches.Watches.{Watches}
 
 -- the letters of the veil that a process keeps at a place
 abbrev pub kept_in : World → ℕ → Place → Option ℕ
-kept_in w process place = option_map_or (λ h. kept h place) (history_of w process) None
+kept_in w process place = option_map_or (λ h. perms_kept h place) (history_of w process) None
 
 -- what a world tells of a question about a process: the key of what the checks of a request tell, or the letters of a veil
 abbrev pub IsToldOf : CallTable → World → ℕ → Question → Told → Type 0
 IsToldOf table w process (asks.Request action) (tells.Reason key) =
-    key ≡ reason_key (checked table w (record { process = process; action = action.now }))
+    key ≡ reason_key (reason_checked table w (record { process = process; action = action.now }))
 IsToldOf table w process (asks.Veil place) (tells.Veil perms) = perms ≡ kept_in w process place.now
 IsToldOf table w process _ _ = ⊥
 
@@ -54,7 +55,7 @@ is_same_told _ _ = false
 -- the test of a question that this is told of it
 abbrev pub is_told : CallTable → Question → Told → Test
 is_told table (asks.Request action) (tells.Reason key) w process =
-    same_bytes (reason_key (checked table w (record { process = process; action = action.now }))) key
+    same_bytes (reason_key (reason_checked table w (record { process = process; action = action.now }))) key
 is_told table (asks.Veil place) (tells.Veil perms) w process = option_eq ◌==◌ (kept_in w process place.now) perms
 is_told table _ _ w process = false
 
@@ -113,12 +114,12 @@ pub record IsHanded (table : CallTable) (w : World) (done : List Asked) (ask : A
   pub marks : AreMarked watch.marks watch.question
 
 -- the forks that were done
-abbrev pub fork_by : Asked → Action → List (ℕ × ℕ) → List (ℕ × ℕ)
-fork_by ask (Fork new) more = (ask.process, new) ∷ more
-fork_by ask _ more = more
+abbrev pub forks_with : Asked → Action → List (ℕ × ℕ) → List (ℕ × ℕ)
+forks_with ask (Fork new) more = (ask.process, new) ∷ more
+forks_with ask _ more = more
 
 abbrev pub fork_told : Asked → Answer → List (ℕ × ℕ) → List (ℕ × ℕ)
-fork_told ask Okay more = fork_by ask ask.action more
+fork_told ask Okay more = forks_with ask ask.action more
 fork_told ask _ more = more
 
 abbrev pub forks_done : List Asked → List Answer → List (ℕ × ℕ)
@@ -146,12 +147,12 @@ forks_left s = made_by s.forks.items
 
 -- the questions of a replay: the forks that are still to be done, and each question
 pub record AreWatched (table : CallTable) (w : World) (done left : List Asked) (s : Watches) : Type 0 where
-  pub forks : forks_left s ≡ forks_done left (answers table (world_after table w done) left)
+  pub forks : forks_left s ≡ forks_done left (answers_to table (world_after table w done) left)
   pub each : All (IsWatched table w done left) s.watches.items
 
 -- the same behind a further request, as long as no question was asked again
 pub record AreHanded (table : CallTable) (w : World) (done : List Asked) (ask : Asked) (left : List Asked) (s : Watches) : Type 0 where
-  pub forks : forks_left s ≡ forks_done left (answers table (apply table (world_after table w done) ask).1 left)
+  pub forks : forks_left s ≡ forks_done left (answers_to table (apply table (world_after table w done) ask).1 left)
   pub each : All (IsHanded table w done ask left) s.watches.items
 
 -- at a place stands this question about this process, and its answer is wanted behind so many lines

@@ -2,8 +2,8 @@
 
 ghost use Rattle.std.specs.Prelude.{◌≡◌, ◌++◌, ◌∷◌, [], List, IfOk, OnOk, flat_map, map};
 ghost use Rattle.std.specs.Prelude.{option_map, string_bytes};
-ghost use Rattle.pua_script.specs.AnswerTexts.{ended};
-ghost use Rattle.pua_script.specs.Replay.{World as Replayed, answers, apply, world_after};
+ghost use Rattle.pua_script.specs.AnswerTexts.{with_end};
+ghost use Rattle.pua_script.specs.Replay.{World as Replayed, answers_to, apply, world_after};
 ghost use Rattle.pua_script.specs.Requests.{Asked};
 ghost use Rattle.pua_script.specs.Worlds.{StandsForWorld};
 ghost use Rattle.pua_why.specs.Facts.{facts_of};
@@ -33,18 +33,18 @@ pub fn chain_text<T: FileTree>(
     before: &mut World<T>,
     after: &mut World<T>,
     requests: &[Request],
-    told: &[Answer],
+    answers: &[Answer],
     request: &Request,
 ) -> Result<String, OutOfMemory>
     ensures { IfOk result (λ text. (w : Replayed) → StandsForWorld before.old w →
-        told.now ≡ answers before.old.table w requests.now →
+        answers.now ≡ answers_to before.old.table w requests.now →
         StandsForWorld after.old (world_after before.old.table w requests.now) →
         after.old.table ≡ before.old.table → string_bytes text
-        ≡ flat_map ended (chain before.old.table w requests.now request.now)) }
+        ≡ flat_map with_end (chain before.old.table w requests.now request.now)) }
 {
     let passed = facts(alloc, after, request.process(), request.action())?;
     let passed = passed.as_slice();
-    let dates = dates_of(alloc, before, requests, told, request, passed)?;
+    let dates = dates_of(alloc, before, requests, answers, request, passed)?;
     let Ok(answer) = after.apply(request) else {
         return Err(OutOfMemory);
     };
@@ -69,25 +69,25 @@ fn dates_of<T: FileTree>(
     alloc: Global,
     world: &mut World<T>,
     requests: &[Request],
-    told: &[Answer],
+    answers: &[Answer],
     request: &Request,
     passed: &[Fact],
 ) -> Result<Dates, OutOfMemory>
     ensures dates { IfOk result (λ dates. (w : Replayed) → StandsForWorld world.old w →
-        told.now ≡ answers world.old.table w requests.now →
+        answers.now ≡ answers_to world.old.table w requests.now →
         map fact_seen passed.now
         ≡ facts_of world.old.table (world_after world.old.table w requests.now) request.now →
         AreDatesOf world.old.table w requests.now request.now (map fact_seen passed.now) dates) }
     ensures world { OnOk result ((w : Replayed) → StandsForWorld world.old w →
-        told.now ≡ answers world.old.table w requests.now →
+        answers.now ≡ answers_to world.old.table w requests.now →
         StandsForWorld world.new (world_after world.old.table w requests.now)
         × (world.new.table ≡ world.old.table)) }
 {
-    let mut watches = Watches::new(alloc, requests, told)?;
+    let mut watches = Watches::new(alloc, requests, answers)?;
     let (process, question) = (request.process(), Question::Request(request.action()));
     let own = watches.add(alloc, world, process, question, requests.len())?;
     let veils = watch_facts(alloc, world, process, passed, requests.len(), &mut watches)?;
-    watches.serve_all(alloc, world, requests, told)?;
+    watches.serve_all(alloc, world, requests, answers)?;
     Ok(Dates {
         answer: watches.line(own),
         facts: fact_lines(alloc, &watches, veils.as_slice())?,
@@ -197,7 +197,7 @@ fn lines_of<T: FileTree>(
         map fact_seen passed.now
         ≡ facts_of world.now.table (world_after world.now.table w done) request.now →
         AreDatesOf world.now.table w done request.now (map fact_seen passed.now) dates.now →
-        string_bytes text ≡ flat_map ended (chain world.now.table w done request.now)) }
+        string_bytes text ≡ flat_map with_end (chain world.now.table w done request.now)) }
 {
     let mut text = String::new(alloc);
     let Ok(mut paths) = TreePaths::new(alloc, world.tree()) else {

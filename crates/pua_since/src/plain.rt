@@ -8,7 +8,7 @@ ghost use Rattle.pua_since.specs.Frames.{ActionFollowsNone, FollowsNoLink, PairF
 ghost use Rattle.pua_since.specs.Frames.{PathFollowsNone, looks_further};
 
 use crate::concerns::looks_further;
-use pua_calls::needs::{ending, need};
+use pua_calls::needs::ending;
 use pua_calls::{Call, CallTable, PairNeed};
 use pua_path::{Counted, Ending, Last, Links, PathText, trace};
 use pua_policy::Process;
@@ -51,11 +51,11 @@ fn follows_none<T: FileTree>(
     let dir = process.dir();
     match action {
         Action::OnPath(call, path) => {
-            let (ending, last) = (ending(*call), need(*call).last);
+            let (ending, last) = (ending(*call), call.last());
             path_follows_none(tree, dir, path.bytes(), ending, last, links)
         }
         Action::Symlink(_, path) => {
-            let (ending, last) = (ending(Call::Symlink), need(Call::Symlink).last);
+            let (ending, last) = (ending(Call::Symlink), Call::Symlink.last());
             path_follows_none(tree, dir, path.bytes(), ending, last, links)
         }
         Action::Rename(old, new) => {

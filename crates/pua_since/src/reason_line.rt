@@ -5,7 +5,7 @@ ghost use Rattle.pua_script.specs.Replay.{World as Replayed, apply};
 ghost use Rattle.pua_script.specs.Worlds.{StandsForWorld};
 ghost use Rattle.pua_why.specs.Reasons.{reason};
 ghost use Rattle.pua_why.specs.Seen.{reason_seen};
-ghost use Rattle.pua_why.specs.Texts.{date_of, reason_text, since_text, spaced, words};
+ghost use Rattle.pua_why.specs.Texts.{date_of, reason_text, since_text, spaced_words, answer_words};
 
 use pua_script::{Action, Answer, World};
 use pua_tree::FileTree;
@@ -27,7 +27,7 @@ pub(crate) fn push_answer<T: FileTree>(
     ensures { OnOk result ((w : Replayed) → StandsForWorld world.now w →
         answer ≡ (apply world.now.table w (record { process = process; action = action.now })).0 →
         string_bytes text.new ≡ string_bytes text.old
-        ++ (words world.now.table w (record { process = process; action = action.now })
+        ++ (answer_words world.now.table w (record { process = process; action = action.now })
         ++ since_text (date_of (reason world.now.table w
         (record { process = process; action = action.now })) line))) }
 {
@@ -50,7 +50,7 @@ fn push_words<T: FileTree>(
     reason: &Reason<'_>,
 ) -> Result<(), AllocError>
     ensures { OnOk result (string_bytes text.new ≡ string_bytes text.old
-        ++ spaced (reason_text world.now.tree (reason_seen reason.now))) }
+        ++ spaced_words (reason_text world.now.tree (reason_seen reason.now))) }
 {
     // These have no path, and a script may have many: the rows of the tree are not gathered for them.
     match reason {
@@ -68,7 +68,8 @@ fn push_words<T: FileTree>(
 
 /// Adds words with a blank before them, if there are any.
 fn push_spaced(text: &mut String, words: &str) -> Result<(), AllocError>
-    ensures { OnOk result (string_bytes text.new ≡ string_bytes text.old ++ spaced words.now) }
+    ensures { OnOk result
+        (string_bytes text.new ≡ string_bytes text.old ++ spaced_words words.now) }
 {
     if words.is_empty() {
         return Ok(());

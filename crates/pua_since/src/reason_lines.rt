@@ -2,15 +2,16 @@
 
 ghost use Rattle.std.specs.Prelude.{◌≡◌, ◌++◌, ◌∷◌, [], ℕ, List, Ok, IfOk, OnOk, decimal, flat_map};
 ghost use Rattle.std.specs.Prelude.{string_bytes};
-ghost use Rattle.pua_script.specs.AnswerTexts.{ended};
-ghost use Rattle.pua_script.specs.Replay.{World as Replayed, answers, apply, world_after};
+ghost use Rattle.pua_script.specs.AnswerTexts.{with_end};
+ghost use Rattle.pua_script.specs.Replay.{World as Replayed, answers_to, apply, world_after};
 ghost use Rattle.pua_script.specs.Requests.{Asked};
 ghost use Rattle.pua_script.specs.Scripts.{request_of, script};
 ghost use Rattle.std.specs.Slice.Iter.{iter_rest};
 ghost use Rattle.pua_script.specs.Worlds.{StandsForWorld};
 ghost use Rattle.pua_why.specs.Reasons.{reason};
-ghost use Rattle.pua_why.specs.Texts.{date_of, since_text, why_lines, words};
-ghost use Rattle.pua_since.specs.Dates.{AreKnown, ArePlacesOf, IsRequestAt, line_of, places_left};
+ghost use Rattle.pua_why.specs.Texts.{date_of, since_text, why_lines, answer_words};
+ghost use Rattle.pua_since.specs.Dates.{AreKnown, ArePlacesOf, IsRequestAt, question_line};
+ghost use Rattle.pua_since.specs.Dates.{places_left};
 ghost use Rattle.pua_since.specs.Watched.{AreWatched, IsKeptThrough};
 
 use crate::reason_line::push_answer;
@@ -33,13 +34,13 @@ pub(crate) fn watch_lines<'a, T: FileTree>(
     world: &World<T>,
     script_bytes: &[u8],
     requests: &'a [Request],
-    told: &[Answer],
+    answers: &[Answer],
     watches: &mut Watches<'a>,
 ) -> Result<Vec<usize>, OutOfMemory>
     ensures places { IfOk result (λ places. (w : Replayed) → StandsForWorld world.now w →
         script script_bytes.now ≡ Ok requests.now →
-        told.now ≡ answers world.now.table w requests.now →
-        ArePlacesOf watches.new.watches.items 0 requests.now told.now places.items) }
+        answers.now ≡ answers_to world.now.table w requests.now →
+        ArePlacesOf watches.new.watches.items 0 requests.now answers.now places.items) }
     ensures watched { OnOk result ((w : Replayed) (left : List Asked) →
         StandsForWorld world.now w → AreWatched world.now.table w [] left watches.old →
         AreWatched world.now.table w [] left watches.new) }
@@ -48,7 +49,7 @@ pub(crate) fn watch_lines<'a, T: FileTree>(
 {
     let mut known = IndexMap::new(alloc);
     let mut places = Vec::new(alloc);
-    let lines = script_bytes.lines().zip(requests.iter().zip(told));
+    let lines = script_bytes.lines().zip(requests.iter().zip(answers));
     for (done, (line, (request, answer))) in lines.enumerate() {
         if let Answer::Okay = answer {
             continue;
@@ -105,21 +106,21 @@ pub(crate) fn lines_text<T: FileTree>(
     alloc: Global,
     world: &mut World<T>,
     requests: &[Request],
-    told: &[Answer],
+    answers: &[Answer],
     places: &[usize],
     watches: &mut Watches<'_>,
 ) -> Result<String, OutOfMemory>
     ensures text { IfOk result (λ text. (w : Replayed) → StandsForWorld world.old w →
-        told.now ≡ answers world.old.table w requests.now →
+        answers.now ≡ answers_to world.old.table w requests.now →
         AreWatched world.old.table w [] requests.now watches.old →
-        ArePlacesOf watches.old.watches.items 0 requests.now told.now places.now →
-        string_bytes text ≡ flat_map ended (why_lines world.old.table w [] 1 requests.now)) }
+        ArePlacesOf watches.old.watches.items 0 requests.now answers.now places.now →
+        string_bytes text ≡ flat_map with_end (why_lines world.old.table w [] 1 requests.now)) }
     ensures watched { OnOk result ((w : Replayed) → StandsForWorld world.old w →
-        told.now ≡ answers world.old.table w requests.now →
+        answers.now ≡ answers_to world.old.table w requests.now →
         AreWatched world.old.table w [] requests.now watches.old →
         AreWatched world.old.table w requests.now [] watches.new) }
     ensures world { OnOk result ((w : Replayed) → StandsForWorld world.old w →
-        told.now ≡ answers world.old.table w requests.now →
+        answers.now ≡ answers_to world.old.table w requests.now →
         StandsForWorld world.new (world_after world.old.table w requests.now)
         × (world.new.table ≡ world.old.table)) }
     ensures kept { OnOk result (IsKeptThrough watches.old.watches.items
@@ -127,7 +128,7 @@ pub(crate) fn lines_text<T: FileTree>(
 {
     let mut text = String::new(alloc);
     let mut left = places.iter();
-    for (done, (request, answer)) in requests.iter().zip(told).enumerate() {
+    for (done, (request, answer)) in requests.iter().zip(answers).enumerate() {
         let line = next_line(watches, *answer, &mut left);
         let number = done + 1;
         let Ok(()) = push_line(alloc, &mut text, number, world, request, *answer, line) else {
@@ -141,7 +142,7 @@ pub(crate) fn lines_text<T: FileTree>(
 /// Since which line the next of these questions is told what it is, which is asked about a request that
 /// is answered so; None where that is `ok`, so that it has no question.
 fn next_line(watches: &Watches<'_>, answer: Answer, left: &mut Iter<'_, usize>) -> Option<usize>
-    ensures line { result ≡ line_of watches.now.watches.items answer (iter_rest left.old) }
+    ensures line { result ≡ question_line watches.now.watches.items answer (iter_rest left.old) }
     ensures left { iter_rest left.new ≡ places_left answer (iter_rest left.old) }
 {
     match answer {
@@ -162,8 +163,8 @@ fn push_line<T: FileTree>(
 ) -> Result<(), AllocError>
     ensures { OnOk result ((w : Replayed) → StandsForWorld world.now w →
         answer ≡ (apply world.now.table w request.now).0 →
-        string_bytes text.new ≡ string_bytes text.old ++ ended (decimal number ++ 32 ∷
-        (words world.now.table w request.now
+        string_bytes text.new ≡ string_bytes text.old ++ with_end (decimal number ++ 32 ∷
+        (answer_words world.now.table w request.now
         ++ since_text (date_of (reason world.now.table w request.now) line)))) }
 {
     let mut digits = Buffer::new();
@@ -183,20 +184,20 @@ pub fn reason_text<T: FileTree>(
     world: &mut World<T>,
     script_bytes: &[u8],
     requests: &[Request],
-    told: &[Answer],
+    answers: &[Answer],
 ) -> Result<String, OutOfMemory>
     ensures { IfOk result (λ text. (w : Replayed) → StandsForWorld world.old w →
         script script_bytes.now ≡ Ok requests.now →
-        told.now ≡ answers world.old.table w requests.now →
-        string_bytes text ≡ flat_map ended (why_lines world.old.table w [] 1 requests.now)) }
+        answers.now ≡ answers_to world.old.table w requests.now →
+        string_bytes text ≡ flat_map with_end (why_lines world.old.table w [] 1 requests.now)) }
 {
-    let mut watches = Watches::new(alloc, requests, told)?;
-    let places = watch_lines(alloc, world, script_bytes, requests, told, &mut watches)?;
+    let mut watches = Watches::new(alloc, requests, answers)?;
+    let places = watch_lines(alloc, world, script_bytes, requests, answers, &mut watches)?;
     lines_text(
         alloc,
         world,
         requests,
-        told,
+        answers,
         places.as_slice(),
         &mut watches,
     )

@@ -4,12 +4,13 @@ ghost use Rattle.std.specs.Prelude.{◌≡◌, Ok};
 ghost use Rattle.pua_policy.specs.History.{History, StandsFor};
 ghost use Rattle.pua_script.specs.Replay.{World as Replayed};
 ghost use Rattle.pua_script.specs.Worlds.{StandsForWorld};
-ghost use Rattle.pua_since.specs.Concerns.{action_touches, call_touches, row_by, row_from, row_of};
+ghost use Rattle.pua_since.specs.Concerns.{action_touches, call_touches, row_by, row_from};
+ghost use Rattle.pua_since.specs.Concerns.{row_touched};
 ghost use Rattle.pua_since.specs.Concerns.{touched_by};
 
 use crate::marks::mark_of;
 use pua_calls::Call;
-use pua_calls::needs::{ending, need};
+use pua_calls::needs::ending;
 use pua_path::{Counted, Ending, Found, Last, PathText, resolve};
 use pua_policy::Process;
 use pua_script::{Action, Answer, Request, World};
@@ -52,7 +53,7 @@ fn action_touches<T: FileTree>(world: &World<T>, process: u32, action: &Action) 
     match action {
         Action::OnPath(call, path) => call_touches(world, process, *call, path.bytes()),
         Action::Symlink(_, path) => {
-            let last = need(Call::Symlink).last;
+            let last = Call::Symlink.last();
             row_by(world, process, path.bytes(), ending(Call::Symlink), last)
         }
         Action::Link(_, path) => {
@@ -72,9 +73,7 @@ fn call_touches<T: FileTree>(world: &World<T>, process: u32, call: Call, path: &
         result ≡ call_touches w process call path.now }
 {
     match call {
-        Call::Create | Call::Unlink => {
-            row_by(world, process, path, ending(call), need(call).last)
-        }
+        Call::Create | Call::Unlink => { row_by(world, process, path, ending(call), call.last()) }
         Call::Chdir | Call::Exec => Touched::Process(process),
         Call::Mkdir | Call::Rmdir | Call::Symlink => Touched::Anything,
         _ => Touched::Nothing,
@@ -121,7 +120,7 @@ fn row_from<T: FileTree>(
 
 /// The row of what was found, where it is no directory.
 fn row_of(found: &Found) -> Touched
-    ensures { result ≡ row_of (Ok found.now) }
+    ensures { result ≡ row_touched (Ok found.now) }
 {
     match found {
         Found::Slot { name, .. } => Touched::Row(*name, mark_of(name.bytes())),

@@ -2,8 +2,8 @@
 
 ghost use Rattle.std.specs.Prelude.{◌≡◌, ◌++◌, [], List, Ok, IfOk, OnOk, flat_map, map};
 ghost use Rattle.std.specs.Prelude.{string_bytes};
-ghost use Rattle.pua_script.specs.AnswerTexts.{ended};
-ghost use Rattle.pua_script.specs.Replay.{World as Replayed, answers};
+ghost use Rattle.pua_script.specs.AnswerTexts.{with_end};
+ghost use Rattle.pua_script.specs.Replay.{World as Replayed, answers_to};
 ghost use Rattle.pua_script.specs.Requests.{Asked};
 ghost use Rattle.pua_script.specs.Scripts.{script};
 ghost use Rattle.pua_script.specs.Worlds.{StandsForWorld};
@@ -65,24 +65,24 @@ pub fn dated_text<T: FileTree>(
     world: &mut World<T>,
     script_bytes: &[u8],
     requests: &[Request],
-    told: &[Answer],
+    answers: &[Answer],
     veils: &[(u32, &Place)],
 ) -> Result<(String, Vec<Option<usize>>), OutOfMemory>
     ensures { IfOk result (λ dated. (w : Replayed) → StandsForWorld world.old w →
         script script_bytes.now ≡ Ok requests.now →
-        told.now ≡ answers world.old.table w requests.now →
-        (string_bytes dated.0 ≡ flat_map ended (why_lines world.old.table w [] 1 requests.now))
+        answers.now ≡ answers_to world.old.table w requests.now →
+        (string_bytes dated.0 ≡ flat_map with_end (why_lines world.old.table w [] 1 requests.now))
         × (dated.1.items ≡ map (veil_date world.old.table w requests.now)
         (map veil_seen veils.now))) }
 {
-    let mut watches = Watches::new(alloc, requests, told)?;
+    let mut watches = Watches::new(alloc, requests, answers)?;
     let own = watch_veils(alloc, world, veils, requests.len(), &mut watches)?;
-    let places = watch_lines(alloc, world, script_bytes, requests, told, &mut watches)?;
+    let places = watch_lines(alloc, world, script_bytes, requests, answers, &mut watches)?;
     let text = lines_text(
         alloc,
         world,
         requests,
-        told,
+        answers,
         places.as_slice(),
         &mut watches,
     )?;

@@ -2,7 +2,7 @@
 
 ghost use Rattle.std.specs.Prelude.{◌≡◌, ℕ, ◌<◌, ◌+◌, ◌++◌, ◌∷◌, [], List, IfOk, OnOk, length, map};
 ghost use Rattle.pua_calls.specs.Calls.{CallTable};
-ghost use Rattle.pua_script.specs.Replay.{World as Replayed, answers, apply, world_after};
+ghost use Rattle.pua_script.specs.Replay.{World as Replayed, answers_to, apply, world_after};
 ghost use Rattle.pua_script.specs.Requests.{Asked};
 ghost use Rattle.pua_script.specs.Worlds.{StandsForWorld};
 ghost use Rattle.pua_since.specs.Concerns.{TouchesOnly};
@@ -38,15 +38,15 @@ impl<'a> Watches<'a> {
     pub(crate) fn new(
         alloc: Global,
         requests: &[Request],
-        told: &[Answer],
+        answers: &[Answer],
     ) -> Result<Watches<'a>, OutOfMemory>
         ensures watched { IfOk result (λ watches. (table : CallTable) (w : Replayed) →
-            told.now ≡ answers table w requests.now →
+            answers.now ≡ answers_to table w requests.now →
             AreWatched table w [] requests.now watches) }
         ensures none { IfOk result (λ watches. watches.watches.items ≡ []) }
     {
         Ok(Watches {
-            forks: forks_of(alloc, requests, told)?,
+            forks: forks_of(alloc, requests, answers)?,
             watches: Vec::new(alloc),
         })
     }
@@ -139,19 +139,19 @@ impl<'a> Watches<'a> {
         alloc: Global,
         world: &mut World<T>,
         requests: &[Request],
-        told: &[Answer],
+        answers: &[Answer],
     ) -> Result<(), OutOfMemory>
         ensures watched { OnOk result ((w : Replayed) → StandsForWorld world.old w →
-            told.now ≡ answers world.old.table w requests.now →
+            answers.now ≡ answers_to world.old.table w requests.now →
             AreWatched world.old.table w [] requests.now self.old →
             AreWatched world.old.table w requests.now [] self.new) }
         ensures world { OnOk result ((w : Replayed) → StandsForWorld world.old w →
-            told.now ≡ answers world.old.table w requests.now →
+            answers.now ≡ answers_to world.old.table w requests.now →
             StandsForWorld world.new (world_after world.old.table w requests.now)
             × (world.new.table ≡ world.old.table)) }
         ensures kept { IsKeptThrough self.old.watches.items self.new.watches.items }
     {
-        for (index, (request, answer)) in requests.iter().zip(told).enumerate() {
+        for (index, (request, answer)) in requests.iter().zip(answers).enumerate() {
             self.serve(alloc, world, request, *answer, index + 1)?;
         }
         Ok(())
@@ -209,11 +209,15 @@ impl<'a> Watches<'a> {
 }
 
 /// The forks among requests that were done, the last one first.
-fn forks_of(alloc: Global, requests: &[Request], told: &[Answer]) -> Result<Vec<Fork>, OutOfMemory>
-    ensures { IfOk result (λ forks. made_by forks.items ≡ forks_done requests.now told.now) }
+fn forks_of(
+    alloc: Global,
+    requests: &[Request],
+    answers: &[Answer],
+) -> Result<Vec<Fork>, OutOfMemory>
+    ensures { IfOk result (λ forks. made_by forks.items ≡ forks_done requests.now answers.now) }
 {
     let mut forks = Vec::new(alloc);
-    for (request, answer) in requests.iter().zip(told) {
+    for (request, answer) in requests.iter().zip(answers) {
         add_fork(&mut forks, request, *answer)?;
     }
     forks.reverse();

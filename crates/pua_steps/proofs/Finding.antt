@@ -1,20 +1,11 @@
 -- The frame and the visit that a search for a letter finds.
-use Rattle.std.proofs.Common.{ℕ, zero, suc, ◌+◌, ◌<◌, ◌≤◌, ◌≡◌, List, [], ◌∷◌, Option, Some, None, cond, ◌==◌, refl, ap, arith, sym, ◌∙◌, length, take, drop, get_or, inl, inr, subst, ◌^◌}
-use Rattle.std.proofs.lemmas.Bool.{cases_Bool, cases_eq, eq-eqb, eqb-true}
-use Rattle.std.specs.Prelude.{IfSome}
-use Rattle.std.specs.List.{AllByRecursion}
-use Rattle.pua_steps.specs.Order.{IsSplit}
-use Rattle.pua_steps.specs.Table.{IsTable, IsState, IsVisit, IsEntry, Rising, visit_of, missed, first_of, with_letter, visits_from, missing_at}
-use Rattle.pua_steps.specs.Lists.{IsListed, IsOpen, within, span_of, list_of, narrow_of, rest_of}
-use Rattle.pua_steps.specs.declared.state.State.{State}
-use Rattle.pua_steps.specs.declared.visit.Visit.{Visit}
-use Rattle.pua_steps.specs.declared.steps.Entry.{Entry}
-use Rattle.pua_steps.specs.declared.steps.Row.{Row}
-use Rattle.pua_steps.specs.declared.steps.Steps.{Steps}
-use Rattle.pua_steps.specs.declared.frame.Frame.{Frame}
+use Rattle.pua_steps.proofs.Common.{ℕ, zero, suc, ◌+◌, ◌<◌, ◌≤◌, ◌≡◌, List, [], ◌∷◌, Option, Some, None, cond, ◌==◌, refl, ap, arith, sym}
+use Rattle.pua_steps.proofs.Common.{◌∙◌, length, take, drop, get_or, inl, inr, subst, ◌^◌, cases_Bool, cases_eq, eq-eqb, eqb-true, IfSome}
+use Rattle.pua_steps.proofs.Common.{AllByRecursion, IsSplit, IsTable, IsState, IsVisit, IsEntry, Rising, visit_of, missing_visit, first_of}
+use Rattle.pua_steps.proofs.Common.{visits_from, missing_at, AreListsOf, IsOpen, within, span_of, list_of, narrow_of, rest_of, State, Visit}
+use Rattle.pua_steps.proofs.Common.{Entry, Row, Steps, Frame, Span, Lists}
+use Rattle.pua_steps.specs.Table.{with_letter}
 use Rattle.pua_steps.specs.declared.live.Live as table
-use Rattle.pua_steps.specs.declared.lists.Span.{Span}
-use Rattle.pua_steps.specs.declared.lists.Lists.{Lists}
 use Rattle.pua_steps.proofs.Visits.{some_at, all_at, row_missing, visit_is}
 use Rattle.pua_steps.proofs.Listing.{all_within, drop-drop, list_rises}
 use Rattle.pua_steps.proofs.Splitting.{Cut, cut_at, split_missed, split_found}
@@ -29,7 +20,8 @@ least next [] d rises j h = absurd (omega (arith, h))
 least next (e ∷ es) d rises zero h = rises.0
 least next (e ∷ es) d rises (suc j) h = omega (arith, least (suc e.letter) es d rises.1 j (omega (arith, h)), rises.0)
 
-pub upward : (next : ℕ) (es : List Entry) (d : Entry) → Rising next es → (i j : ℕ) → i ≤ j → j < length es → (get_or es i d).letter ≤ (get_or es j d).letter
+pub upward : (next : ℕ) (es : List Entry) (d : Entry) → Rising next es → (i j : ℕ) → i ≤ j → j < length es →
+    (get_or es i d).letter ≤ (get_or es j d).letter
 upward next [] d rises i j le h = absurd (omega (arith, h))
 upward next (e ∷ es) d rises zero zero le h = omega arith
 upward next (e ∷ es) d rises zero (suc j) le h = omega (arith, least (suc e.letter) es d rises.1 j (omega (arith, h)))
@@ -38,13 +30,16 @@ upward next (e ∷ es) d rises (suc i) (suc j) le h = upward (suc e.letter) es d
 
 -- what a search says of the entries before its place and of the first one from it on
 
-pub before_place : (a i : ℕ) (es : List Entry) (d : Entry) → i ≤ length es → ((k : ℕ) → k < i → (get_or es k d).letter < a) → AllByRecursion (λ e. e.letter < a) (take i es)
+pub before_place : (a i : ℕ) (es : List Entry) (d : Entry) → i ≤ length es → ((k : ℕ) → k < i → (get_or es k d).letter < a) →
+    AllByRecursion (λ e. e.letter < a) (take i es)
 before_place a zero [] d h each = tt
 before_place a zero (e ∷ es) d h each = tt
 before_place a (suc i) [] d h each = tt
-before_place a (suc i) (e ∷ es) d h each = (each 0 (omega arith), before_place a i es d (omega (arith, h)) (λ k less. each (suc k) (omega (arith, less))))
+before_place a (suc i) (e ∷ es) d h each =
+    (each 0 (omega arith), before_place a i es d (omega (arith, h)) (λ k less. each (suc k) (omega (arith, less))))
 
-pub after_place : (a i : ℕ) (es : List Entry) (d : Entry) → ((k : ℕ) → i ≤ k → k < length es → a ≤ (get_or es k d).letter) → IfSome (first_of (drop i es)) (λ e. a ≤ e.letter)
+pub after_place : (a i : ℕ) (es : List Entry) (d : Entry) → ((k : ℕ) → i ≤ k → k < length es → a ≤ (get_or es k d).letter) →
+    IfSome (first_of (drop i es)) (λ e. a ≤ e.letter)
 after_place a zero [] d each = tt
 after_place a zero (e ∷ es) d each = each 0 (omega arith) (omega arith)
 after_place a (suc i) [] d each = tt
@@ -71,7 +66,8 @@ with_some a (Some x) e h =
       | inr apart ↦ (let bad : None ≡ Some e = ap (λ b. cond b (Some x) None) (sym apart) ∙ h in absurd cc)
     ]
 
-module _ (t : Steps) (s : State) (es : List Entry) (a p : ℕ) (is : IsState t s) (within_all : a < t.letters) (known : AllByRecursion (λ e. IsEntry t e) es) (rises : Rising 0 es)
+module _ (t : Steps) (s : State) (es : List Entry) (a p : ℕ) (is : IsState t s) (within_all : a < t.letters)
+    (known : AllByRecursion (λ e. IsEntry t e) es) (rises : Rising 0 es)
     (low : AllByRecursion (λ e. e.letter < a) (take p es)) (high : IfSome (first_of (drop p es)) (λ e. a ≤ e.letter)) where
   abbrev m : ℕ
   m = missing_at t s.dir
@@ -82,7 +78,8 @@ module _ (t : Steps) (s : State) (es : List Entry) (a p : ℕ) (is : IsState t s
   cut : Cut t.letters m s.used a 0 es (drop p es)
   cut = cut_at t.letters m s.used a p 0 es (omega arith) within_all rises low high
 
-  missed_parts : with_letter a (first_of (drop p es)) ≡ None → IsSplit a (from 0 es) (missed m a) (from (a + 1) (drop p es)) × Rising (a + 1) (drop p es)
+  missed_parts : with_letter a (first_of (drop p es)) ≡ None → IsSplit a (from 0 es) (missing_visit m a) (from (a + 1) (drop p es)) ×
+      Rising (a + 1) (drop p es)
   missed_parts none = split_missed t.letters m s.used a 0 es (drop p es) within_all cut (with_none a (first_of (drop p es)) high none)
 
   module _ (e : Entry) (some : with_letter a (first_of (drop p es)) ≡ Some e) where
@@ -99,7 +96,8 @@ module _ (t : Steps) (s : State) (es : List Entry) (a p : ℕ) (is : IsState t s
     found_parts = split_found t.letters m s.used a 0 es (drop p es) (drop (p + 1) es) e cut stands.1 named.1
 
 -- the same by where the list stands
-module _ (t : Steps) (v : table.Live) (limit : ℕ) (ls : Lists) (known : IsTable t) (listed : IsListed t v limit ls) (l : ℕ) (short : l < limit) (s : State) (is : IsState t s) (a : ℕ) (within_all : a < t.letters)
+module _ (t : Steps) (v : table.Live) (limit : ℕ) (ls : Lists) (known : IsTable t) (listed : AreListsOf t v limit ls) (l : ℕ)
+    (short : l < limit) (s : State) (is : IsState t s) (a : ℕ) (within_all : a < t.letters)
     (span : Span) (there : span ≡ span_of ls l s.dir) where
   abbrev part : List Entry
   part = within ls.entries.items span.place span.end
@@ -125,46 +123,63 @@ module _ (t : Steps) (v : table.Live) (limit : ℕ) (ls : Lists) (known : IsTabl
   opens : (place q : ℕ) → place ≡ span.place + q → Rising (a + 1) (drop q part) → IsOpen t ls (frame_at place)
   opens place q e rises = record { state = is; inside = inside; rises = subst (Rising (a + 1)) (sym (part_from place q e)) rises }
 
-  splits : (place q : ℕ) (x y : Visit) → place ≡ span.place + q → y ≡ x → IsSplit a (visits_from t.letters (missing_at t s.dir) s.used 0 part) x (visits_from t.letters (missing_at t s.dir) s.used (a + 1) (drop q part))
+  splits : (place q : ℕ) (x y : Visit) → place ≡ span.place + q → y ≡ x →
+      IsSplit a (visits_from t.letters (missing_at t s.dir) s.used 0 part) x (visits_from t.letters (missing_at t s.dir) s.used (a + 1)
+      (drop q part))
       → IsSplit a (narrow_of t v l s) y (rest_of t ls (frame_at place))
   unfolding narrow_of rest_of
   splits place q x y e visit split =
-      subst (λ ws. IsSplit a (visits_from t.letters (missing_at t s.dir) s.used 0 ws) y (visits_from t.letters (missing_at t s.dir) s.used (a + 1) (within ls.entries.items place span.end))) same
-      (subst (λ ws. IsSplit a (visits_from t.letters (missing_at t s.dir) s.used 0 part) y (visits_from t.letters (missing_at t s.dir) s.used (a + 1) ws)) (sym (part_from place q e))
-      (subst (λ z. IsSplit a (visits_from t.letters (missing_at t s.dir) s.used 0 part) z (visits_from t.letters (missing_at t s.dir) s.used (a + 1) (drop q part))) (sym visit) split))
+      subst (λ ws. IsSplit a (visits_from t.letters (missing_at t s.dir) s.used 0 ws) y (visits_from t.letters (missing_at t s.dir) s.used
+      (a + 1) (within ls.entries.items place span.end))) same
+      (subst (λ ws. IsSplit a (visits_from t.letters (missing_at t s.dir) s.used 0 part) y
+      (visits_from t.letters (missing_at t s.dir) s.used (a + 1) ws)) (sym (part_from place q e))
+      (subst (λ z. IsSplit a (visits_from t.letters (missing_at t s.dir) s.used 0 part) z (visits_from t.letters (missing_at t s.dir) s.used
+      (a + 1) (drop q part))) (sym visit) split))
 
-  module _ (p : ℕ) (low : AllByRecursion (λ e. e.letter < a) (take p part)) (high : IfSome (first_of (drop p part)) (λ e. a ≤ e.letter)) where
-    module _ (none : with_letter a (first_of (within ls.entries.items (span.place + p) span.end)) ≡ None) where
-      lacks : with_letter a (first_of (drop p part)) ≡ None
-      lacks = ap (λ es. with_letter a (first_of es)) (sym (part_from (span.place + p) p refl)) ∙ none
+  module _ (p : ℕ) (low : AllByRecursion (λ e. e.letter < a) (take p part)) (high : IfSome (first_of (drop p part)) (λ e. a ≤ e.letter))
+    where
+      module _ (none : with_letter a (first_of (within ls.entries.items (span.place + p) span.end)) ≡ None) where
+        lacks : with_letter a (first_of (drop p part)) ≡ None
+        lacks = ap (λ es. with_letter a (first_of es)) (sym (part_from (span.place + p) p refl)) ∙ none
 
-      pub missed_open : IsOpen t ls (frame_at (span.place + p))
-      missed_open = opens (span.place + p) p refl (missed_parts t s part a p is within_all part_known part_rises low high lacks).1
+        pub missed_open : IsOpen t ls (frame_at (span.place + p))
+        missed_open = opens (span.place + p) p refl (missed_parts t s part a p is within_all part_known part_rises low high lacks).1
 
-      module _ (r : Row) (here : r ≡ get_or t.rows.items s.dir r) where
-        pub missed_visit : IsVisit t (record { letter = a; calls = r.missing; behind = None })
-        missed_visit = record { letter = within_all; calls = subst (λ k. k < 2 ^ 14) (row_missing t s.dir r is.dir here) (known s.dir is.dir).missing; behind = tt }
+        module _ (r : Row) (here : r ≡ get_or t.rows.items s.dir r) where
+          pub missed_visit : IsVisit t (record { letter = a; calls = r.missing; behind = None })
+          missed_visit = record {
+            letter = within_all;
+            calls = subst (λ k. k < 2 ^ 14) (row_missing t s.dir r is.dir here) (known s.dir is.dir).missing;
+            behind = tt;
+          }
 
-        pub missed_split : IsSplit a (narrow_of t v l s) (record { letter = a; calls = r.missing; behind = None }) (rest_of t ls (frame_at (span.place + p)))
-        missed_split =
-            splits (span.place + p) p (missed (missing_at t s.dir) a) (record { letter = a; calls = r.missing; behind = None }) refl (ap (λ k. missed k a) (sym (row_missing t s.dir r is.dir here)))
-            (missed_parts t s part a p is within_all part_known part_rises low high lacks).0
+          pub missed_split : IsSplit a (narrow_of t v l s) (record { letter = a; calls = r.missing; behind = None })
+              (rest_of t ls (frame_at (span.place + p)))
+          missed_split =
+              splits (span.place + p) p (missing_visit (missing_at t s.dir) a) (record { letter = a; calls = r.missing; behind = None })
+              refl
+              (ap (λ k. missing_visit k a) (sym (row_missing t s.dir r is.dir here)))
+              (missed_parts t s part a p is within_all part_known part_rises low high lacks).0
 
-    module _ (e : Entry) (some : with_letter a (first_of (within ls.entries.items (span.place + p) span.end)) ≡ Some e) where
-      has : with_letter a (first_of (drop p part)) ≡ Some e
-      has = ap (λ es. with_letter a (first_of es)) (sym (part_from (span.place + p) p refl)) ∙ some
+      module _ (e : Entry) (some : with_letter a (first_of (within ls.entries.items (span.place + p) span.end)) ≡ Some e) where
+        has : with_letter a (first_of (drop p part)) ≡ Some e
+        has = ap (λ es. with_letter a (first_of es)) (sym (part_from (span.place + p) p refl)) ∙ some
 
-      after : span.place + p + 1 ≡ span.place + (p + 1)
-      after = omega arith
+        after : span.place + p + 1 ≡ span.place + (p + 1)
+        after = omega arith
 
-      pub found_entry : IsEntry t e
-      found_entry = entry_found t s part a p is within_all part_known part_rises low high e has
+        pub found_entry : IsEntry t e
+        found_entry = entry_found t s part a p is within_all part_known part_rises low high e has
 
-      pub found_visit : (x : Visit) → x ≡ visit_of s.used e → IsVisit t x
-      found_visit x visit = subst (IsVisit t) (sym visit) (visit_is t s.used e found_entry is.used)
+        pub found_visit : (x : Visit) → x ≡ visit_of s.used e → IsVisit t x
+        found_visit x visit = subst (IsVisit t) (sym visit) (visit_is t s.used e found_entry is.used)
 
-      pub found_open : IsOpen t ls (frame_at (span.place + p + 1))
-      found_open = opens (span.place + p + 1) (p + 1) after (found_parts t s part a p is within_all part_known part_rises low high e has).1
+        pub found_open : IsOpen t ls (frame_at (span.place + p + 1))
+        found_open = opens (span.place + p + 1) (p + 1) after (found_parts t s part a p is within_all part_known part_rises low high e
+            has).1
 
-      pub found_split : (x : Visit) → x ≡ visit_of s.used e → IsSplit a (narrow_of t v l s) x (rest_of t ls (frame_at (span.place + p + 1)))
-      found_split x visit = splits (span.place + p + 1) (p + 1) (visit_of s.used e) x after visit (found_parts t s part a p is within_all part_known part_rises low high e has).0
+        pub found_split : (x : Visit) → x ≡ visit_of s.used e →
+            IsSplit a (narrow_of t v l s) x (rest_of t ls (frame_at (span.place + p + 1)))
+        found_split x visit =
+            splits (span.place + p + 1) (p + 1) (visit_of s.used e) x after visit (found_parts t s part a p is within_all part_known
+            part_rises low high e has).0

@@ -1,8 +1,7 @@
 -- The letters at the front of a word that stay.
-use Rattle.std.proofs.Common.{ℕ, ◌≤◌, ◌≡◌, List, [], ◌∷◌, ◌++◌, refl, ap, arith, sym, ◌∙◌, length, length-append, append_assoc, take, Option}
-use Rattle.std.specs.Prelude.{option_to_list}
+use Rattle.pua_steps.proofs.Common.{ℕ, ◌≤◌, ◌≡◌, List, [], ◌∷◌, ◌++◌, refl, ap, arith, sym, ◌∙◌, length, length-append, append_assoc, take}
+use Rattle.pua_steps.proofs.Common.{Option, option_to_list, IsLonger}
 use Rattle.std.proofs.lemmas.List.{take-append-le, take-take}
-use Rattle.pua_steps.specs.Lists.{IsLonger}
 use Rattle.pua_steps.specs.Ready.{StaysFront}
 use Rattle.pua_steps.proofs.Listing.{longer_length}
 
@@ -20,17 +19,25 @@ front_more k m n a b c first more = record {
 }
 
 -- a word that lost its last letter
-pub longer_popped : (front word whole : List ℕ) (last : Option ℕ) → word ≡ front ++ option_to_list last → IsLonger ℕ word whole → IsLonger ℕ front whole
-longer_popped front word whole last split longer = record { more = option_to_list last ++ longer.more; parts = longer.parts ∙ ap (λ ws. ws ++ longer.more) split ∙ append_assoc front (option_to_list last) longer.more }
+pub longer_popped : (front word whole : List ℕ) (last : Option ℕ) → word ≡ front ++ option_to_list last → IsLonger ℕ word whole →
+    IsLonger ℕ front whole
+longer_popped front word whole last split longer =
+    record {
+      more = option_to_list last ++ longer.more;
+      parts = longer.parts ∙ ap (λ ws. ws ++ longer.more) split ∙
+          append_assoc front (option_to_list last) longer.more;
+    }
 
 -- a word that lost letters and got others
-pub front_by : (k n : ℕ) (old word more new : List ℕ) → IsLonger ℕ word old → new ≡ word ++ more → n ≤ length word → n ≤ k → StaysFront k old n new
+pub front_by : (k n : ℕ) (old word more new : List ℕ) → IsLonger ℕ word old → new ≡ word ++ more → n ≤ length word → n ≤ k →
+    StaysFront k old n new
 front_by k n old word more new longer e within less = record {
   less = less;
   front = record {
     before = omega (arith, within, longer_length word old longer);
     after = omega (arith, within, ap length e, length-append word more);
-    same = ap (take n) e ∙ take-append-le n word more within ∙ sym (take-append-le n word longer.more within) ∙ ap (take n) (sym longer.parts);
+    same = ap (take n) e ∙ take-append-le n word more within ∙ sym (take-append-le n word longer.more within) ∙
+        ap (take n) (sym longer.parts);
   };
 }
 
@@ -48,7 +55,12 @@ front_fewer k n old word new longer stays = record {
 pub front_gone : (k n : ℕ) (old new : List ℕ) → n ≡ 0 → StaysFront k old n new
 front_gone k n old new e = record {
   less = omega (arith, e);
-  front = record { before = omega (arith, e); after = omega (arith, e); same = ap (λ i. take i new) e ∙ nothing new ∙ sym (nothing old) ∙ ap (λ i. take i old) (sym e) };
+  front = record {
+    before = omega (arith, e);
+    after = omega (arith, e);
+    same = ap (λ i. take i new) e ∙ nothing new ∙ sym (nothing old) ∙
+        ap (λ i. take i old) (sym e);
+  };
 }
   where
     nothing : (xs : List ℕ) → take 0 xs ≡ []

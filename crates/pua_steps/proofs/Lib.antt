@@ -1,4 +1,5 @@
 pub mod Base
+pub mod Common
 pub mod Moved
 pub mod Moves
 pub mod Turns

@@ -1,20 +1,20 @@
 -- Sets of calls as lists.
-use Rattle.std.proofs.Common.{ℕ, zero, suc, ◌+◌, ◌<◌, ◌≤◌, ◌≡◌, [], ◌∷◌, Bool, true, false, cond, ◌==◌, ◌&&◌, nat_lt, refl, ap, arith, sym, ◌∙◌, filter, inl, inr}
+use Rattle.pua_steps.proofs.Common.{ℕ, zero, suc, ◌+◌, ◌<◌, ◌≤◌, ◌≡◌, [], ◌∷◌, Bool, true, false, cond, ◌==◌, ◌&&◌, nat_lt, refl, ap, arith}
+use Rattle.pua_steps.proofs.Common.{sym, ◌∙◌, filter, inl, inr, bit_at, range_with_len, cases_eq, cases_lt, lt-ltb, le-ltb, has_call}
+use Rattle.pua_steps.proofs.Common.{calls_of}
 use Rattle.std.specs.Prelude.{◌≢◌}
-use Rattle.std.specs.Int.{bit_at}
-use Rattle.std.specs.List.{range_with_len}
-use Rattle.std.proofs.lemmas.Bool.{cases_eq, cases_lt, lt-ltb, le-ltb}
-use Rattle.pua_steps.specs.Calls.{has_call, calls_of}
 
 module _ (f g : ℕ → Bool) where
   same_from : (k n : ℕ) → ((i : ℕ) → k ≤ i → i < k + n → g i ≡ f i) → filter f (range_with_len k n) ≡ filter g (range_with_len k n)
   same_from k zero same = refl
   same_from k (suc n) same =
-      ap (λ b. cond b (k ∷ filter f (range_with_len (k + 1) n)) (filter f (range_with_len (k + 1) n))) (sym (same k (omega arith) (omega arith)))
+      ap (λ b. cond b (k ∷ filter f (range_with_len (k + 1) n)) (filter f (range_with_len (k + 1) n)))
+      (sym (same k (omega arith) (omega arith)))
       ∙ ap (λ xs. cond (g k) (k ∷ xs) xs) (same_from (k + 1) n (λ i low high. same i (omega (arith, low)) (omega (arith, high))))
 
   -- the first member that passes is taken, and the others stay
-  first_from : (t k n : ℕ) → k ≤ t → t < k + n → ((i : ℕ) → i < t → f i ≡ false) → f t ≡ true → g t ≡ false → ((i : ℕ) → i < k + n → i ≢ t → g i ≡ f i)
+  first_from : (t k n : ℕ) → k ≤ t → t < k + n → ((i : ℕ) → i < t → f i ≡ false) → f t ≡ true → g t ≡ false →
+      ((i : ℕ) → i < k + n → i ≢ t → g i ≡ f i)
       → filter f (range_with_len k n) ≡ t ∷ filter g (range_with_len k n)
   first_from t k zero low high before here gone others = absurd (omega (arith, low, high))
   first_from t k (suc n) low high before here gone others =
@@ -31,15 +31,18 @@ module _ (f g : ℕ → Bool) where
             let no : f k ≡ false = before k less in
             let none : g k ≡ false = others k (omega arith) apart ∙ no in
             ap (λ b. cond b (k ∷ filter f (range_with_len (k + 1) n)) (filter f (range_with_len (k + 1) n))) no
-            ∙ first_from t (k + 1) n (omega (arith, less)) (omega (arith, high)) before here gone (λ i within other. others i (omega (arith, within)) other)
+            ∙ first_from t (k + 1) n (omega (arith, less)) (omega (arith, high)) before here gone
+            (λ i within other. others i (omega (arith, within)) other)
             ∙ ap (λ b. t ∷ cond b (k ∷ filter g (range_with_len (k + 1) n)) (filter g (range_with_len (k + 1) n))) (sym none)
       ]
 
-pub first_taken : (set rest call : ℕ) → call < 14 → bit_at set call ≡ 1 → ((i : ℕ) → i < call → bit_at set i ≡ 0) → bit_at rest call ≡ 0 → ((i : ℕ) → i < 16 → i ≢ call → bit_at rest i ≡ bit_at set i)
+pub first_taken : (set rest call : ℕ) → call < 14 → bit_at set call ≡ 1 → ((i : ℕ) → i < call → bit_at set i ≡ 0) → bit_at rest call ≡ 0 →
+    ((i : ℕ) → i < 16 → i ≢ call → bit_at rest i ≡ bit_at set i)
     → calls_of set ≡ call ∷ calls_of rest
 unfolding calls_of
 first_taken set rest call within here before gone others =
-    first_from (has_call set) (has_call rest) call 0 14 (omega arith) (omega (arith, within)) (λ i less. ap (λ b. b == 1) (before i less)) (ap (λ b. b == 1) here) (ap (λ b. b == 1) gone)
+    first_from (has_call set) (has_call rest) call 0 14 (omega arith) (omega (arith, within)) (λ i less. ap (λ b. b == 1) (before i less))
+    (ap (λ b. b == 1) here) (ap (λ b. b == 1) gone)
     (λ i low other. ap (λ b. b == 1) (others i (omega (arith, low)) other))
 
 pub no_calls : calls_of 0 ≡ []
@@ -47,19 +50,24 @@ unfolding calls_of
 no_calls = refl
 
 -- members that fail a second test are taken out
-kept_from : (p q h : ℕ → Bool) (k n : ℕ) → ((i : ℕ) → k ≤ i → i < k + n → h i ≡ (p i && q i)) → filter h (range_with_len k n) ≡ filter q (filter p (range_with_len k n))
+kept_from : (p q h : ℕ → Bool) (k n : ℕ) → ((i : ℕ) → k ≤ i → i < k + n → h i ≡ (p i && q i)) →
+    filter h (range_with_len k n) ≡ filter q (filter p (range_with_len k n))
 kept_from p q h k zero same = refl
 kept_from p q h k (suc n) same =
     ap (λ b. cond b (k ∷ filter h (range_with_len (k + 1) n)) (filter h (range_with_len (k + 1) n))) (same k (omega arith) (omega arith))
     ∙ ap (λ xs. cond (p k && q k) (k ∷ xs) xs) (kept_from p q h (k + 1) n (λ i low high. same i (omega (arith, low)) (omega (arith, high))))
-    ∙ elim (p k) as (λ b. cond (b && q k) (k ∷ filter q (filter p (range_with_len (k + 1) n))) (filter q (filter p (range_with_len (k + 1) n))) ≡ filter q (cond b (k ∷ filter p (range_with_len (k + 1) n)) (filter p (range_with_len (k + 1) n)))) [ true ↦ refl | false ↦ refl ]
+    ∙ elim (p k) as (λ b. cond (b && q k) (k ∷ filter q (filter p (range_with_len (k + 1) n)))
+    (filter q (filter p (range_with_len (k + 1) n)))
+    ≡ filter q (cond b (k ∷ filter p (range_with_len (k + 1) n)) (filter p (range_with_len (k + 1) n)))) [ true ↦ refl | false ↦ refl ]
 
 -- the calls up to one are taken out of a set
-pub calls_dropped : (set rest call : ℕ) → ((i : ℕ) → i ≤ call → bit_at rest i ≡ 0) → ((i : ℕ) → i < 16 → call < i → bit_at rest i ≡ bit_at set i) → calls_of rest ≡ filter (λ other. nat_lt call other) (calls_of set)
+pub calls_dropped : (set rest call : ℕ) → ((i : ℕ) → i ≤ call → bit_at rest i ≡ 0) →
+    ((i : ℕ) → i < 16 → call < i → bit_at rest i ≡ bit_at set i) → calls_of rest ≡ filter (λ other. nat_lt call other) (calls_of set)
 unfolding calls_of
 calls_dropped set rest call low high =
     kept_from (has_call set) (λ other. nat_lt call other) (has_call rest) 0 14 (λ i from to. elim (cases_lt call i) [
-      | inl h ↦ ap (λ b. b == 1) (high i (omega (arith, to)) h) ∙ sym (ap (λ b. has_call set i && b) (lt-ltb call i h) ∙ and_true (has_call set i))
+      | inl h ↦ ap (λ b. b == 1) (high i (omega (arith, to)) h) ∙ sym (ap (λ b. has_call set i && b) (lt-ltb call i h) ∙
+          and_true (has_call set i))
       | inr h ↦ ap (λ b. b == 1) (low i h) ∙ sym (ap (λ b. has_call set i && b) (le-ltb call i h) ∙ and_false (has_call set i))
     ])
   where

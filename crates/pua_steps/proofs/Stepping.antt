@@ -1,25 +1,23 @@
 -- Sets of numbers of links tell of the states to which words lead.
-use Rattle.std.proofs.Common.{ℕ, zero, suc, ◌+◌, ◌-◌, ◌*◌, ◌^◌, ◌<◌, ◌≤◌, ◌≡◌, List, [], ◌∷◌, ◌++◌, Option, Some, None, Bool, true, false, cond, ◌||◌, ◌&&◌, ◌==◌, nat_lt, nat_le, refl, ap, arith, sym, ◌∙◌, length, map, get_or, set, option_map, count_ones, bit_and, inl, inr, subst}
-use Rattle.std.specs.Prelude.{IfSome, option_to_list, flat_map, ◌⊎◌}
-use Rattle.std.specs.Int.{bit_at}
-use Rattle.std.specs.List.{range_with_len, AllByRecursion, cons_option}
+use Rattle.pua_steps.proofs.Common.{ℕ, zero, suc, ◌+◌, ◌-◌, ◌*◌, ◌^◌, ◌<◌, ◌≤◌, ◌≡◌, List, [], ◌∷◌, ◌++◌, Option, Some, None, Bool, true}
+use Rattle.pua_steps.proofs.Common.{false, cond, ◌||◌, ◌&&◌, ◌==◌, nat_lt, nat_le, refl, ap, arith, sym, ◌∙◌, length, map, get_or, set}
+use Rattle.pua_steps.proofs.Common.{option_map, count_ones, bit_and, inl, inr, subst, IfSome, option_to_list, flat_map, bit_at}
+use Rattle.pua_steps.proofs.Common.{range_with_len, AllByRecursion, bit_at_above, cases_eq, cases_lt, and_parts, eqb-true, eq-eqb, ne_eqb}
+use Rattle.pua_steps.proofs.Common.{le-leb, lt-leb, below, some_pair, visit_of, missing_visit, gap, visits_from, graph_of, missing_at}
+use Rattle.pua_steps.proofs.Common.{entries_at, IsState, IsTable, IsSized, states_after, distinct, has_state, AreSets, lands_some}
+use Rattle.pua_steps.proofs.Common.{lands_from, total, State, Visit, Entry, Steps, or-false}
+use Rattle.std.specs.Prelude.{◌⊎◌}
+use Rattle.std.specs.List.{cons_option}
 use Rattle.std.proofs.lemmas.List.Elements.{filter_map-append}
 use Rattle.std.proofs.lemmas.List.{get_or-set_same, get_or-set_other, length-set}
-use Rattle.std.proofs.lemmas.Nat.Bits.{bit_at-zero, bit_at_above}
-use Rattle.std.proofs.lemmas.Bool.{cases_eq, cases_order, cases_lt, and_parts, or_cases, eqb-true, eq-eqb, ne_eqb, leb-true, le-leb, lt-leb}
-use Rattle.pua_steps.specs.Graph.{below, some_pair}
-use Rattle.pua_steps.specs.Table.{visit_of, missed, gap, visits_from, graph_of, missing_at, entries_at, IsState, IsTable}
-use Rattle.pua_steps.specs.Live.{IsSized}
-use Rattle.pua_steps.specs.Reached.{states_behind, reached, is_same, is_among, distinct, live_among, stood, AreSets, lands, lands_some, lands_from, total}
-use Rattle.pua_steps.specs.declared.state.State.{State}
-use Rattle.pua_steps.specs.declared.visit.Visit.{Visit}
-use Rattle.pua_steps.specs.declared.steps.Entry.{Entry}
-use Rattle.pua_steps.specs.declared.steps.Steps.{Steps}
+use Rattle.std.proofs.lemmas.Nat.Bits.{bit_at-zero}
+use Rattle.std.proofs.lemmas.Bool.{cases_order, or_cases, leb-true}
+use Rattle.pua_steps.specs.Reached.{states_behind, is_same, is_among, live_among, lands}
 use Rattle.pua_steps.specs.declared.live.Live as table
 use Rattle.pua_steps.proofs.Counting.{same_is, among_filter, distinct_by_rows, Within, layer_ones, total_same, count, count_same}
 use Rattle.pua_steps.proofs.Closing.{states_stay, bound_at}
 use Rattle.pua_steps.proofs.Base.{all_filtered, all_joined}
-use Rattle.std.proofs.Math.Bool.{or_assoc, or-false}
+use Rattle.std.proofs.Math.Bool.{or_assoc}
 use Rattle.std.specs.Cmp.{both_ways}
 
 -- lists with a member that passes
@@ -65,7 +63,8 @@ among_any s (x ∷ xs) = ap (λ b. is_same s x || b) (among_any s xs)
 
 among_append : (s : State) (xs ys : List State) → is_among s (xs ++ ys) ≡ (is_among s xs || is_among s ys)
 among_append s [] ys = refl
-among_append s (x ∷ xs) ys = ap (λ b. is_same s x || b) (among_append s xs ys) ∙ sym (or_assoc (is_same s x) (is_among s xs) (is_among s ys))
+among_append s (x ∷ xs) ys = ap (λ b. is_same s x || b) (among_append s xs ys) ∙
+    sym (or_assoc (is_same s x) (is_among s xs) (is_among s ys))
 
 among_flat : (s : State) (f : State → List State) (xs : List State) → is_among s (flat_map f xs) ≡ any (λ x. is_among s (f x)) xs
 among_flat s f [] = refl
@@ -77,47 +76,66 @@ leads e used d u = elim e.to [ None ↦ false | Some to ↦ (d == to) && (u == u
 
 gap_states : (m next n : ℕ) → states_behind (gap m next n) ≡ []
 unfolding gap
-gap_states m next n = elim (m == 0) as (λ b. states_behind (cond b [] (map (missed m) (range_with_len next n))) ≡ []) [ true ↦ refl | false ↦ none (range_with_len next n) ]
+gap_states m next n = elim (m == 0) as (λ b. states_behind (cond b [] (map (missing_visit m) (range_with_len next n))) ≡ []) [
+  | true ↦ refl
+  | false ↦ none (range_with_len next n)
+]
   where
-    none : (is : List ℕ) → states_behind (map (missed m) is) ≡ []
+    none : (is : List ℕ) → states_behind (map (missing_visit m) is) ≡ []
     none [] = refl
     none (i ∷ is) = none is
 
-visit_leads : (used : ℕ) (e : Entry) (d u : ℕ) → u ≤ 32 → is_among (record { dir = d; used = u }) (option_to_list (visit_of used e).behind) ≡ leads e used d u
+visit_leads : (used : ℕ) (e : Entry) (d u : ℕ) → u ≤ 32 → is_among (record { dir = d; used = u }) (option_to_list (visit_of used e).behind)
+    ≡ leads e used d u
 unfolding visit_of
 visit_leads used e d u low =
     elim (cases_lt 32 (used + e.links)) [
-      | inr under ↦ ap (λ b. is_among (record { dir = d; used = u }) (option_to_list (cond {A = Visit} b (record { letter = e.letter; calls = e.all; behind = option_map (λ to. record { dir = to; used = used + e.links }) e.to }) (record { letter = e.letter; calls = e.kept; behind = None })).behind)) (le-leb (used + e.links) 32 under) ∙ near e.to
-      | inl over ↦ ap (λ b. is_among (record { dir = d; used = u }) (option_to_list (cond {A = Visit} b (record { letter = e.letter; calls = e.all; behind = option_map (λ to. record { dir = to; used = used + e.links }) e.to }) (record { letter = e.letter; calls = e.kept; behind = None })).behind)) (lt-leb (used + e.links) 32 over) ∙ far e.to over
+      | inr under ↦ ap (λ b. is_among (record { dir = d; used = u })
+          (option_to_list (cond {A = Visit} b
+          (record { letter = e.letter; calls = e.all; behind = option_map (λ to. record { dir = to; used = used + e.links }) e.to })
+          (record { letter = e.letter; calls = e.kept; behind = None })).behind)) (le-leb (used + e.links) 32 under) ∙ near e.to
+      | inl over ↦ ap (λ b. is_among (record { dir = d; used = u })
+          (option_to_list (cond {A = Visit} b
+          (record { letter = e.letter; calls = e.all; behind = option_map (λ to. record { dir = to; used = used + e.links }) e.to })
+          (record { letter = e.letter; calls = e.kept; behind = None })).behind)) (lt-leb (used + e.links) 32 over) ∙ far e.to over
     ]
   where
     and_false : (b : Bool) → false ≡ (b && false)
     and_false true = refl
     and_false false = refl
 
-    near : (o : Option ℕ) → is_among (record { dir = d; used = u }) (option_to_list (option_map (λ to. record { dir = to; used = used + e.links }) o)) ≡ elim o [ None ↦ false | Some to ↦ (d == to) && (u == used + e.links) ]
+    near : (o : Option ℕ) →
+        is_among (record { dir = d; used = u }) (option_to_list (option_map (λ to. record { dir = to; used = used + e.links }) o))
+        ≡ elim o [ None ↦ false | Some to ↦ (d == to) && (u == used + e.links) ]
     near None = refl
     near (Some to) = or-false ((d == to) && (u == used + e.links))
 
     far : (o : Option ℕ) → 32 < used + e.links → false ≡ elim o [ None ↦ false | Some to ↦ (d == to) && (u == used + e.links) ]
     far None over = refl
-    far (Some to) over = and_false (d == to) ∙ ap (λ b. (d == to) && b) (sym (ne_eqb u (used + e.links) (λ same. omega (arith, same, over, low))))
+    far (Some to) over = and_false (d == to) ∙
+        ap (λ b. (d == to) && b) (sym (ne_eqb u (used + e.links) (λ same. omega (arith, same, over, low))))
 
-visits_lead : (letters m used next : ℕ) (es : List Entry) (d u : ℕ) → u ≤ 32 → is_among (record { dir = d; used = u }) (states_behind (visits_from letters m used next es)) ≡ any (λ e. leads e used d u) es
+visits_lead : (letters m used next : ℕ) (es : List Entry) (d u : ℕ) → u ≤ 32 →
+    is_among (record { dir = d; used = u }) (states_behind (visits_from letters m used next es)) ≡ any (λ e. leads e used d u) es
 unfolding visits_from
 visits_lead letters m used next [] d u low = ap (is_among (record { dir = d; used = u })) (gap_states m next (letters - next))
 visits_lead letters m used next (e ∷ es) d u low =
     let y : State = record { dir = d; used = u } in
     let rest : List Visit = visits_from letters m used (suc e.letter) es in
-    ap (is_among y) (filter_map-append (λ (v : Visit). v.behind) (gap m next (e.letter - next)) (visit_of used e ∷ rest) ∙ ap (λ ss. ss ++ states_behind (visit_of used e ∷ rest)) (gap_states m next (e.letter - next)))
+    ap (is_among y) (filter_map-append (λ (v : Visit). v.behind) (gap m next (e.letter - next)) (visit_of used e ∷ rest) ∙
+    ap (λ ss. ss ++ states_behind (visit_of used e ∷ rest)) (gap_states m next (e.letter - next)))
     ∙ one (visit_of used e).behind (states_behind rest)
-    ∙ ap (λ b. b || is_among y (states_behind rest)) (visit_leads used e d u low) ∙ ap (λ b. leads e used d u || b) (visits_lead letters m used (suc e.letter) es d u low)
+    ∙ ap (λ b. b || is_among y (states_behind rest)) (visit_leads used e d u low) ∙
+    ap (λ b. leads e used d u || b) (visits_lead letters m used (suc e.letter) es d u low)
   where
-    one : (o : Option State) (ss : List State) → is_among (record { dir = d; used = u }) (cons_option o ss) ≡ (is_among (record { dir = d; used = u }) (option_to_list o) || is_among (record { dir = d; used = u }) ss)
+    one : (o : Option State) (ss : List State) →
+        is_among (record { dir = d; used = u }) (cons_option o ss) ≡ (is_among (record { dir = d; used = u }) (option_to_list o)
+        || is_among (record { dir = d; used = u }) ss)
     one None ss = refl
     one (Some s) ss = sym (or_assoc (is_same (record { dir = d; used = u }) s) false (is_among (record { dir = d; used = u }) ss))
 
-graph_leads : (t : Steps) (s : State) (d u : ℕ) → u ≤ 32 → is_among (record { dir = d; used = u }) (states_behind (graph_of t 0 s)) ≡ any (λ e. leads e s.used d u) (entries_at t s.dir)
+graph_leads : (t : Steps) (s : State) (d u : ℕ) → u ≤ 32 →
+    is_among (record { dir = d; used = u }) (states_behind (graph_of t 0 s)) ≡ any (λ e. leads e s.used d u) (entries_at t s.dir)
 unfolding graph_of
 graph_leads t s d u low = visits_lead t.letters (missing_at t s.dir) s.used 0 (entries_at t s.dir) d u low
 
@@ -125,26 +143,32 @@ some_any : (es : List Entry) (set d u : ℕ) → lands_some es set d u ≡ any (
 some_any [] set d u = refl
 some_any (e ∷ es) set d u = ap (λ b. lands e set d u || b) (some_any es set d u)
 
-from_pick : (t : Steps) (sets : List ℕ) (n d u : ℕ) → lands_from t sets n d u ≡ true → (k : ℕ) × ((k < n) × (lands_some (entries_at t k) (get_or sets k 0) d u ≡ true))
+from_pick : (t : Steps) (sets : List ℕ) (n d u : ℕ) → lands_from t sets n d u ≡ true →
+    (k : ℕ) × ((k < n) × (lands_some (entries_at t k) (get_or sets k 0) d u ≡ true))
 from_pick t sets zero d u e = absurd cc
 from_pick t sets (suc n) d u e = elim (or_cases (lands_from t sets n d u) (lands_some (entries_at t n) (get_or sets n 0) d u) e) [
   | inl h ↦ let more = from_pick t sets n d u h in (more.0, (omega (arith, more.1.0), more.1.1))
   | inr h ↦ (n, (omega arith, h))
 ]
 
-from_put : (t : Steps) (sets : List ℕ) (n d u k : ℕ) → k < n → lands_some (entries_at t k) (get_or sets k 0) d u ≡ true → lands_from t sets n d u ≡ true
+from_put : (t : Steps) (sets : List ℕ) (n d u k : ℕ) → k < n → lands_some (entries_at t k) (get_or sets k 0) d u ≡ true →
+    lands_from t sets n d u ≡ true
 from_put t sets zero d u k h e = absurd (omega (arith, h))
 from_put t sets (suc n) d u k h e = elim (cases_lt k n) [
   | inl less ↦ or_left (lands_from t sets n d u) (lands_some (entries_at t n) (get_or sets n 0) d u) (from_put t sets n d u k less e)
-  | inr past ↦ let same : k ≡ n = omega (arith, h, past) in or_right (lands_from t sets n d u) (lands_some (entries_at t n) (get_or sets n 0) d u) (ap (λ i. lands_some (entries_at t i) (get_or sets i 0) d u) (sym same) ∙ e)
+  | inr past ↦ let same : k ≡ n = omega (arith, h, past) in
+      or_right (lands_from t sets n d u) (lands_some (entries_at t n) (get_or sets n 0) d u)
+      (ap (λ i. lands_some (entries_at t i) (get_or sets i 0) d u) (sym same) ∙ e)
 ]
 
 -- what lands comes from a member of the set
-lands_back : (e : Entry) (set d u : ℕ) → lands e set d u ≡ true → (e.links ≤ u) × ((bit_at set (u - e.links) == 1) ≡ true) × (leads e (u - e.links) d u ≡ true)
+lands_back : (e : Entry) (set d u : ℕ) → lands e set d u ≡ true → (e.links ≤ u) × ((bit_at set (u - e.links) == 1) ≡ true) ×
+    (leads e (u - e.links) d u ≡ true)
 lands_back e set d u h = by e.to h
   where
     by : (o : Option ℕ) → (elim o [ None ↦ false | Some to ↦ (to == d) && (nat_le e.links u && (bit_at set (u - e.links) == 1)) ]) ≡ true
-        → (e.links ≤ u) × ((bit_at set (u - e.links) == 1) ≡ true) × ((elim o [ None ↦ false | Some to ↦ (d == to) && (u == (u - e.links) + e.links) ]) ≡ true)
+        → (e.links ≤ u) × ((bit_at set (u - e.links) == 1) ≡ true) ×
+        ((elim o [ None ↦ false | Some to ↦ (d == to) && (u == (u - e.links) + e.links) ]) ≡ true)
     by None h = absurd cc
     by (Some to) h =
         let both = and_parts (to == d) (nat_le e.links u && (bit_at set (u - e.links) == 1)) h in
@@ -156,7 +180,8 @@ lands_back e set d u h = by e.to h
 lands_on : (e : Entry) (set used d u : ℕ) → leads e used d u ≡ true → (bit_at set used == 1) ≡ true → lands e set d u ≡ true
 lands_on e set used d u h bit = by e.to h
   where
-    by : (o : Option ℕ) → (elim o [ None ↦ false | Some to ↦ (d == to) && (u == used + e.links) ]) ≡ true → (elim o [ None ↦ false | Some to ↦ (to == d) && (nat_le e.links u && (bit_at set (u - e.links) == 1)) ]) ≡ true
+    by : (o : Option ℕ) → (elim o [ None ↦ false | Some to ↦ (d == to) && (u == used + e.links) ]) ≡ true →
+        (elim o [ None ↦ false | Some to ↦ (to == d) && (nat_le e.links u && (bit_at set (u - e.links) == 1)) ]) ≡ true
     by None h = absurd cc
     by (Some to) h =
         let both = and_parts (d == to) (u == used + e.links) h in
@@ -166,25 +191,31 @@ lands_on e set used d u h bit = by e.to h
         rw (eq-eqb to d (sym (eqb-true d to both.0)), low) (ap (λ k. bit_at set k == 1) (sym back) ∙ bit)
 
 -- the sets after a step
-module _ (t : Steps) (ss : List State) (sets : List ℕ) (are : AreSets (length t.rows.items) ss sets) (all : AllByRecursion (Within (length t.rows.items)) ss) where
+module _ (t : Steps) (ss : List State) (sets : List ℕ) (are : AreSets (length t.rows.items) ss sets)
+    (all : AllByRecursion (Within (length t.rows.items)) ss) where
   abbrev f : State → List State
   f s = states_behind (graph_of t 0 s)
 
   pub stepped : (d u : ℕ) → u ≤ 32 → lands_from t sets (length t.rows.items) d u ≡ is_among (record { dir = d; used = u }) (flat_map f ss)
   stepped d u low =
-      both_ways (lands_from t sets (length t.rows.items) d u) (any (λ s. is_among (record { dir = d; used = u }) (f s)) ss) forth back ∙ sym (among_flat (record { dir = d; used = u }) f ss)
+      both_ways (lands_from t sets (length t.rows.items) d u) (any (λ s. is_among (record { dir = d; used = u }) (f s)) ss) forth back ∙
+      sym (among_flat (record { dir = d; used = u }) f ss)
     where
       forth : lands_from t sets (length t.rows.items) d u ≡ true → any (λ s. is_among (record { dir = d; used = u }) (f s)) ss ≡ true
       forth h =
           let row = from_pick t sets (length t.rows.items) d u h in
-          let one = pick (λ e. lands e (get_or sets row.0 0) d u) (entries_at t row.0) (sym (some_any (entries_at t row.0) (get_or sets row.0 0) d u) ∙ row.1.1) in
+          let one = pick (λ e. lands e (get_or sets row.0 0) d u) (entries_at t row.0)
+          (sym (some_any (entries_at t row.0) (get_or sets row.0 0) d u) ∙ row.1.1) in
           let from = lands_back one.0 (get_or sets row.0 0) d u one.1.1 in
           let s : State = record { dir = row.0; used = u - one.0.links } in
-          let was : any (is_same s) ss ≡ true = sym (among_any s ss) ∙ sym (are.tells row.0 (u - one.0.links) row.1.0 (omega (arith, low))) ∙ from.1 in
+          let was : any (is_same s) ss ≡ true = sym (among_any s ss) ∙ sym (are.tells row.0 (u - one.0.links) row.1.0 (omega (arith, low)))
+          ∙ from.1 in
           let met = pick (is_same s) ss was in
           let same : s ≡ met.0 = same_is s met.0 met.1.1 in
-          let here : is_among (record { dir = d; used = u }) (f s) ≡ true = graph_leads t s d u low ∙ put (λ e. leads e s.used d u) (entries_at t s.dir) one.0 one.1.0 from.2 in
-          put (λ s. is_among (record { dir = d; used = u }) (f s)) ss met.0 met.1.0 (ap (λ s. is_among (record { dir = d; used = u }) (f s)) (sym same) ∙ here)
+          let here : is_among (record { dir = d; used = u }) (f s) ≡ true = graph_leads t s d u low ∙
+          put (λ e. leads e s.used d u) (entries_at t s.dir) one.0 one.1.0 from.2 in
+          put (λ s. is_among (record { dir = d; used = u }) (f s)) ss met.0 met.1.0 (ap (λ s. is_among (record { dir = d; used = u }) (f s))
+          (sym same) ∙ here)
 
       back : any (λ s. is_among (record { dir = d; used = u }) (f s)) ss ≡ true → lands_from t sets (length t.rows.items) d u ≡ true
       back h =
@@ -192,60 +223,80 @@ module _ (t : Steps) (ss : List State) (sets : List ℕ) (are : AreSets (length 
           let s : State = met.0 in
           let is = in_all (Within (length t.rows.items)) ss s all met.1.0 in
           let one = pick (λ e. leads e s.used d u) (entries_at t s.dir) (sym (graph_leads t s d u low) ∙ met.1.1) in
-          let bit : (bit_at (get_or sets s.dir 0) s.used == 1) ≡ true = are.tells s.dir s.used is.0 is.1 ∙ among_any s ss ∙ put (is_same s) ss s met.1.0 (same_self s) in
+          let bit : (bit_at (get_or sets s.dir 0) s.used == 1) ≡ true = are.tells s.dir s.used is.0 is.1 ∙ among_any s ss ∙
+          put (is_same s) ss s met.1.0 (same_self s) in
           from_put t sets (length t.rows.items) d u s.dir is.0
-          (some_any (entries_at t s.dir) (get_or sets s.dir 0) d u ∙ put (λ e. lands e (get_or sets s.dir 0) d u) (entries_at t s.dir) one.0 one.1.0 (lands_on one.0 (get_or sets s.dir 0) s.used d u one.1.1 bit))
+          (some_any (entries_at t s.dir) (get_or sets s.dir 0) d u ∙
+          put (λ e. lands e (get_or sets s.dir 0) d u) (entries_at t s.dir) one.0 one.1.0
+          (lands_on one.0 (get_or sets s.dir 0) s.used d u one.1.1 bit))
 
-pub next_sets : (t : Steps) (ss : List State) (sets next : List ℕ) → AreSets (length t.rows.items) ss sets → AllByRecursion (Within (length t.rows.items)) ss → length next ≡ length t.rows.items
-    → ((d : ℕ) → d < length t.rows.items → get_or next d 0 < 2 ^ 33) → ((d u : ℕ) → d < length t.rows.items → u ≤ 32 → stood next d u ≡ lands_from t sets (length t.rows.items) d u)
+pub next_sets : (t : Steps) (ss : List State) (sets next : List ℕ) → AreSets (length t.rows.items) ss sets →
+    AllByRecursion (Within (length t.rows.items)) ss → length next ≡ length t.rows.items
+    → ((d : ℕ) → d < length t.rows.items → get_or next d 0 < 2 ^ 33) →
+    ((d u : ℕ) → d < length t.rows.items → u ≤ 32 → has_state next d u ≡ lands_from t sets (length t.rows.items) d u)
     → AreSets (length t.rows.items) (flat_map (λ s. states_behind (graph_of t 0 s)) ss) next
-next_sets t ss sets next are all many small tells = record { many = many; small = small; tells = λ d u h low. tells d u h low ∙ stepped t ss sets are all d u low }
+next_sets t ss sets next are all many small tells =
+    record { many = many; small = small; tells = λ d u h low. tells d u h low ∙ stepped t ss sets are all d u low }
 
 -- all states to which words lead are of the table
-behind_within : (t : Steps) (vs : List Visit) → AllByRecursion (λ v. IfSome v.behind (λ s. IsState t s)) vs → AllByRecursion (Within (length t.rows.items)) (states_behind vs)
+behind_within : (t : Steps) (vs : List Visit) → AllByRecursion (λ v. IfSome v.behind (λ s. IsState t s)) vs →
+    AllByRecursion (Within (length t.rows.items)) (states_behind vs)
 behind_within t [] all = tt
 behind_within t (v ∷ vs) all = by v.behind all.0 (behind_within t vs all.1)
   where
-    by : (o : Option State) → IfSome o (λ s. IsState t s) → AllByRecursion (Within (length t.rows.items)) (states_behind vs) → AllByRecursion (Within (length t.rows.items)) (cons_option o (states_behind vs))
+    by : (o : Option State) → IfSome o (λ s. IsState t s) → AllByRecursion (Within (length t.rows.items)) (states_behind vs) →
+        AllByRecursion (Within (length t.rows.items)) (cons_option o (states_behind vs))
     by None h more = more
     by (Some s) h more = ((h.dir, h.used), more)
 
-steps_within : (t : Steps) → IsTable t → (ss : List State) → AllByRecursion (Within (length t.rows.items)) ss → AllByRecursion (Within (length t.rows.items)) (flat_map (λ s. states_behind (graph_of t 0 s)) ss)
+steps_within : (t : Steps) → IsTable t → (ss : List State) → AllByRecursion (Within (length t.rows.items)) ss →
+    AllByRecursion (Within (length t.rows.items)) (flat_map (λ s. states_behind (graph_of t 0 s)) ss)
 steps_within t known [] all = tt
-steps_within t known (s ∷ ss) all = all_joined (Within (length t.rows.items)) (states_behind (graph_of t 0 s)) (flat_map (λ s. states_behind (graph_of t 0 s)) ss)
+steps_within t known (s ∷ ss) all =
+    all_joined (Within (length t.rows.items)) (states_behind (graph_of t 0 s)) (flat_map (λ s. states_behind (graph_of t 0 s)) ss)
     (behind_within t (graph_of t 0 s) (states_stay t known 0 s (record { dir = all.0.0; used = all.0.1 }))) (steps_within t known ss all.1)
 
-pub reached_more : (t : Steps) (n : ℕ) (o : Option State) → reached (graph_of t 0) (n + 1) o ≡ flat_map (λ s. states_behind (graph_of t 0 s)) (reached (graph_of t 0) n o)
-unfolding reached
-reached_more t n o = let more : n + 1 ≡ suc n = omega arith in ap (λ k. reached (graph_of t 0) k o) more
+pub reached_more : (t : Steps) (n : ℕ) (o : Option State) →
+    states_after (graph_of t 0) (n + 1) o ≡ flat_map (λ s. states_behind (graph_of t 0 s)) (states_after (graph_of t 0) n o)
+unfolding states_after
+reached_more t n o = let more : n + 1 ≡ suc n = omega arith in ap (λ k. states_after (graph_of t 0) k o) more
 
-pub reached_first : (t : Steps) (o : Option State) → reached (graph_of t 0) 0 o ≡ option_to_list o
-unfolding reached
+pub reached_first : (t : Steps) (o : Option State) → states_after (graph_of t 0) 0 o ≡ option_to_list o
+unfolding states_after
 reached_first t o = refl
 
-pub reached_within : (t : Steps) → IsTable t → (n : ℕ) (o : Option State) → IfSome o (λ s. IsState t s) → AllByRecursion (Within (length t.rows.items)) (reached (graph_of t 0) n o)
-unfolding reached
+pub reached_within : (t : Steps) → IsTable t → (n : ℕ) (o : Option State) → IfSome o (λ s. IsState t s) →
+    AllByRecursion (Within (length t.rows.items)) (states_after (graph_of t 0) n o)
+unfolding states_after
 reached_within t known zero None is = tt
 reached_within t known zero (Some s) is = ((is.dir, is.used), tt)
-reached_within t known (suc n) o is = steps_within t known (reached (graph_of t 0) n o) (reached_within t known n o is)
+reached_within t known (suc n) o is = steps_within t known (states_after (graph_of t 0) n o) (reached_within t known n o is)
 
 -- the members of the sets below the bounds are the live states, each once
-pub layer_counts : (t : Steps) (v : table.Live) (limit l : ℕ) (ss : List State) (sets : List ℕ) → IsSized t v limit → l ≤ limit → AreSets v.dirs ss sets → AllByRecursion (Within (length t.rows.items)) ss
-    → total (λ d. count_ones (bit_and (get_or sets d 0) (2 ^ get_or v.bounds.items (l * v.dirs + d) 0 - 1))) v.dirs ≡ length (distinct (live_among (graph_of t) l ss))
+pub layer_counts : (t : Steps) (v : table.Live) (limit l : ℕ) (ss : List State) (sets : List ℕ) → IsSized t v limit → l ≤ limit →
+    AreSets v.dirs ss sets → AllByRecursion (Within (length t.rows.items)) ss
+    → total (λ d. count_ones (bit_and (get_or sets d 0) (2 ^ get_or v.bounds.items (l * v.dirs + d) 0 - 1))) v.dirs
+    ≡ length (distinct (live_among (graph_of t) l ss))
 layer_counts t v limit l ss sets sized short are all =
-    total_same (λ d. count_ones (bit_and (get_or sets d 0) (2 ^ get_or v.bounds.items (l * v.dirs + d) 0 - 1))) (λ d. count (λ u. is_among (record { dir = d; used = u }) (live_among (graph_of t) l ss)) 0 33) v.dirs each
+    total_same (λ d. count_ones (bit_and (get_or sets d 0) (2 ^ get_or v.bounds.items (l * v.dirs + d) 0 - 1)))
+    (λ d. count (λ u. is_among (record { dir = d; used = u }) (live_among (graph_of t) l ss)) 0 33) v.dirs each
     ∙ ap (total (λ d. count (λ u. is_among (record { dir = d; used = u }) (live_among (graph_of t) l ss)) 0 33)) sized.dirs
-    ∙ sym (distinct_by_rows (length t.rows.items) (live_among (graph_of t) l ss) (all_filtered (Within (length t.rows.items)) (λ s. some_pair (below (graph_of t) l (Some s))) ss all))
+    ∙ sym (distinct_by_rows (length t.rows.items) (live_among (graph_of t) l ss)
+    (all_filtered (Within (length t.rows.items)) (λ s. some_pair (below (graph_of t) l (Some s))) ss all))
   where
-    live_by : (d u : ℕ) → d < v.dirs → u ≤ 32 → nat_lt u (get_or v.bounds.items (l * v.dirs + d) 0) ≡ some_pair (below (graph_of t) l (Some (record { dir = d; used = u })))
+    live_by : (d u : ℕ) → d < v.dirs → u ≤ 32 →
+        nat_lt u (get_or v.bounds.items (l * v.dirs + d) 0) ≡ some_pair (below (graph_of t) l (Some (record { dir = d; used = u })))
     live_by d u h low = bound_at t v limit sized l d u short (omega (arith, h, sized.dirs)) low
 
-    each : (d : ℕ) → d < v.dirs → count_ones (bit_and (get_or sets d 0) (2 ^ get_or v.bounds.items (l * v.dirs + d) 0 - 1)) ≡ count (λ u. is_among (record { dir = d; used = u }) (live_among (graph_of t) l ss)) 0 33
+    each : (d : ℕ) → d < v.dirs → count_ones (bit_and (get_or sets d 0) (2 ^ get_or v.bounds.items (l * v.dirs + d) 0 - 1))
+        ≡ count (λ u. is_among (record { dir = d; used = u }) (live_among (graph_of t) l ss)) 0 33
     each d h =
         layer_ones (get_or sets d 0) (get_or v.bounds.items (l * v.dirs + d) 0) (are.small d h)
-        ∙ count_same (λ u. nat_lt u (get_or v.bounds.items (l * v.dirs + d) 0) && (bit_at (get_or sets d 0) u == 1)) (λ u. is_among (record { dir = d; used = u }) (live_among (graph_of t) l ss)) 0 33
+        ∙ count_same (λ u. nat_lt u (get_or v.bounds.items (l * v.dirs + d) 0) && (bit_at (get_or sets d 0) u == 1))
+        (λ u. is_among (record { dir = d; used = u }) (live_among (graph_of t) l ss)) 0 33
         (λ u from to. let low : u ≤ 32 = omega (arith, to) in
-        ap (λ b. b && (bit_at (get_or sets d 0) u == 1)) (live_by d u h low) ∙ ap (λ b. some_pair (below (graph_of t) l (Some (record { dir = d; used = u }))) && b) (are.tells d u h low)
+        ap (λ b. b && (bit_at (get_or sets d 0) u == 1)) (live_by d u h low) ∙
+        ap (λ b. some_pair (below (graph_of t) l (Some (record { dir = d; used = u }))) && b) (are.tells d u h low)
         ∙ sym (among_filter (λ s. some_pair (below (graph_of t) l (Some s))) (record { dir = d; used = u }) ss))
 
 -- before the first letter
@@ -256,26 +307,35 @@ first_bits used u =
           let none : u - used ≡ 0 = omega (arith, e) in
           rw (le-leb used u (omega (arith, e)), eq-eqb u used e) (ap (λ k. bit_at 1 k == 1) none)
       | inr (inl less) ↦ rw (lt-leb used u less, ne_eqb u used (λ e. omega (arith, e, less))) refl
-      | inr (inr more) ↦ rw (le-leb used u (omega (arith, more)), ne_eqb u used (λ e. omega (arith, e, more))) (ap (λ b. b == 1) (bit_at_above 1 1 (u - used) (omega arith) (omega (arith, more))))
+      | inr (inr more) ↦ rw (
+        le-leb used u (omega (arith, more)),
+        ne_eqb u used (λ e. omega (arith, e, more)),
+      ) (ap (λ b. b == 1) (bit_at_above 1 1 (u - used) (omega arith) (omega (arith, more))))
     ]
 
 no_bit : (u : ℕ) → bit_at 0 u ≡ 0
 no_bit u = bit_at-zero u
 
-pub one_set : (dirs : ℕ) (empty sets : List ℕ) (s : State) (m : ℕ) → length empty ≡ dirs → ((d : ℕ) → get_or empty d 0 ≡ 0) → s.dir < dirs → m < 2 ^ 33 → ((u : ℕ) → u ≤ 32 → (bit_at m u == 1) ≡ (nat_le s.used u && (bit_at 1 (u - s.used) == 1)))
+pub one_set : (dirs : ℕ) (empty sets : List ℕ) (s : State) (m : ℕ) → length empty ≡ dirs → ((d : ℕ) → get_or empty d 0 ≡ 0) → s.dir < dirs →
+    m < 2 ^ 33 → ((u : ℕ) → u ≤ 32 → (bit_at m u == 1) ≡ (nat_le s.used u && (bit_at 1 (u - s.used) == 1)))
     → sets ≡ set empty s.dir m → AreSets dirs (s ∷ []) sets
 one_set dirs empty sets s m many none low small bits stored = record {
   many = ap length stored ∙ length-set empty s.dir m ∙ many;
   small = λ d h. elim (cases_eq s.dir d) [
-    | inl e ↦ subst (λ x. x < 2 ^ 33) (sym (ap (λ xs. get_or xs d 0) stored ∙ ap (λ k. get_or (set empty s.dir m) k 0) (sym e) ∙ get_or-set_same empty s.dir m 0 (omega (arith, low, many)))) small
-    | inr apart ↦ let other : get_or sets d 0 ≡ 0 = ap (λ xs. get_or xs d 0) stored ∙ get_or-set_other empty s.dir d m 0 (λ e. apart (sym e)) ∙ none d in omega (arith, other)
+    | inl e ↦ subst (λ x. x < 2 ^ 33) (sym (ap (λ xs. get_or xs d 0) stored ∙ ap (λ k. get_or (set empty s.dir m) k 0) (sym e) ∙
+        get_or-set_same empty s.dir m 0 (omega (arith, low, many)))) small
+    | inr apart ↦ let other : get_or sets d 0 ≡ 0 = ap (λ xs. get_or xs d 0) stored ∙
+        get_or-set_other empty s.dir d m 0 (λ e. apart (sym e)) ∙ none d in omega (arith, other)
   ];
   tells = λ d u h high. elim (cases_eq s.dir d) [
     | inl e ↦
-        ap (λ x. bit_at x u == 1) (ap (λ xs. get_or xs d 0) stored ∙ ap (λ k. get_or (set empty s.dir m) k 0) (sym e) ∙ get_or-set_same empty s.dir m 0 (omega (arith, low, many)))
-        ∙ bits u high ∙ first_bits s.used u ∙ sym (or_none ((d == s.dir) && (u == s.used)) ∙ ap (λ b. b && (u == s.used)) (eq-eqb d s.dir (sym e)))
+        ap (λ x. bit_at x u == 1) (ap (λ xs. get_or xs d 0) stored ∙ ap (λ k. get_or (set empty s.dir m) k 0) (sym e) ∙
+        get_or-set_same empty s.dir m 0 (omega (arith, low, many)))
+        ∙ bits u high ∙ first_bits s.used u ∙
+        sym (or_none ((d == s.dir) && (u == s.used)) ∙ ap (λ b. b && (u == s.used)) (eq-eqb d s.dir (sym e)))
     | inr apart ↦
-        ap (λ x. bit_at x u == 1) (ap (λ xs. get_or xs d 0) stored ∙ get_or-set_other empty s.dir d m 0 (λ e. apart (sym e)) ∙ none d) ∙ ap (λ b. b == 1) (no_bit u)
+        ap (λ x. bit_at x u == 1) (ap (λ xs. get_or xs d 0) stored ∙ get_or-set_other empty s.dir d m 0 (λ e. apart (sym e)) ∙ none d) ∙
+        ap (λ b. b == 1) (no_bit u)
         ∙ sym (or_none ((d == s.dir) && (u == s.used)) ∙ ap (λ b. b && (u == s.used)) (ne_eqb d s.dir (λ e. apart (sym e))))
   ];
 }

@@ -1,14 +1,11 @@
 -- What a bound and a list say of an entry.
-use Rattle.std.proofs.Common.{◌≡◌, ◌≢◌, ◌<◌, ◌≤◌, ℕ, Bool, true, false, not, ◌||◌, ◌==◌, nat_lt, sym, ap, ◌∙◌, arith, inl, inr}
+use Rattle.pua_steps.proofs.Common.{◌≡◌, ◌<◌, ◌≤◌, ℕ, Bool, true, false, not, ◌||◌, ◌==◌, nat_lt, sym, ap, ◌∙◌, arith, inl, inr, cases_Bool}
+use Rattle.pua_steps.proofs.Common.{cases_eq, eqb-true, lt-ltb, le-ltb, bound_of, is_useful, graph_of, visit_of, Entry, Steps}
+use Rattle.std.proofs.Common.{◌≢◌}
 use Rattle.std.specs.Prelude.{◌⊎◌}
-use Rattle.std.proofs.lemmas.Bool.{cases_Bool, cases_eq, eqb-true, eqb-false, lt-ltb, le-ltb}
+use Rattle.std.proofs.lemmas.Bool.{eqb-false}
 use Rattle.pua_steps.specs.Limits.{most_links}
-use Rattle.pua_steps.specs.Live.{bound_of}
-use Rattle.pua_steps.specs.Lists.{is_useful}
-use Rattle.pua_steps.specs.Table.{graph_of, visit_of}
 use Rattle.pua_steps.specs.Telling.{gives, EntriesTell, IsAmong}
-use Rattle.pua_steps.specs.declared.steps.Entry.{Entry}
-use Rattle.pua_steps.specs.declared.steps.Steps.{Steps}
 use Rattle.pua_steps.specs.declared.live.Live as table
 use Rattle.pua_steps.proofs.Filling.{entry_gives}
 use Rattle.pua_steps.proofs.Narrowing.{cells, useless}
@@ -18,9 +15,11 @@ module _ (t : Steps) (v : table.Live) (limit l : ℕ) (e : Entry) (is : IsAmong 
   bound = bound_of v.bounds.items v.dirs l e
 
   told : (u : ℕ) → u ≤ most_links → gives (graph_of t) l (visit_of u e) ≡ nat_lt u bound
-  told u low = entry_gives (graph_of t) v.bounds.items v.dirs l (cells t v limit is.table is.sized l is.left) t u e is.entry is.sized.dirs low
+  told u low = entry_gives (graph_of t) v.bounds.items v.dirs l (cells t v limit is.table is.sized l is.left) t u e is.entry is.sized.dirs
+      low
 
-  useful_gives : (m : ℕ) → is_useful m v.bounds.items v.dirs l e ≡ true → (m ≢ 0) ⊎ ((u : ℕ) × ((u ≤ most_links) × (gives (graph_of t) l (visit_of u e) ≡ true)))
+  useful_gives : (m : ℕ) → is_useful m v.bounds.items v.dirs l e ≡ true →
+      (m ≢ 0) ⊎ ((u : ℕ) × ((u ≤ most_links) × (gives (graph_of t) l (visit_of u e) ≡ true)))
   useful_gives m on =
       elim (cases_Bool (m == 0)) [
         | inr some ↦ inl (eqb-false m 0 some)
@@ -47,5 +46,8 @@ pub entries_tell : EntriesTell
 entries_tell = record {
   bound = λ t v limit l u e is low. sym (told t v limit l e is u low);
   useful = λ t v limit l missing e is on. useful_gives t v limit l e is missing on;
-  useless = λ t v limit l missing e is off. (none_missing t v limit l e is missing off, λ u low. useless_gives t v limit l e is missing u off low);
+  useless = λ t v limit l missing e is off. (
+    none_missing t v limit l e is missing off,
+    λ u low. useless_gives t v limit l e is missing u off low,
+  );
 }

@@ -1,15 +1,13 @@
 -- What each turn of the code does to what is still to be done.
-use Rattle.std.proofs.Common.{ℕ, suc, ◌+◌, ◌-◌, ◌<◌, ◌≡◌, List, [], ◌∷◌, ◌++◌, Option, Some, None, true, refl, ap, arith, sym, ◌∙◌, length, length-append, append-nil}
-use Rattle.std.specs.Prelude.{option_to_list}
-use Rattle.pua_steps.specs.Graph.{Graph, Word}
-use Rattle.pua_steps.specs.Trail.{Event, Live, under_all, with_calls, deeper, pending, ahead}
-use Rattle.pua_steps.specs.declared.state.State.{State}
-use Rattle.pua_steps.specs.declared.visit.Visit.{Visit}
+use Rattle.pua_steps.proofs.Common.{ℕ, suc, ◌+◌, ◌-◌, ◌<◌, ◌≡◌, List, [], ◌∷◌, ◌++◌, Option, Some, None, true, refl, ap, arith, sym, ◌∙◌}
+use Rattle.pua_steps.proofs.Common.{length, length-append, append-nil, option_to_list, Graph, Word, TrailEvent, Live, under_all, with_calls}
+use Rattle.pua_steps.proofs.Common.{deeper, pending, ahead, State, Visit}
 use Rattle.pua_steps.proofs.Moves.{under_all-nil, under_all-line, deeper_live, pending_push, pending_back}
 
 module _ (g : Graph) (live : Live) (limit : ℕ) where
   -- the word loses its last letter
-  pub shortened : (word front : Word) (last : Option ℕ) (rests : List (List Visit)) → length rests ≡ length word → word ≡ front ++ option_to_list last
+  pub shortened : (word front : Word) (last : Option ℕ) (rests : List (List Visit)) → length rests ≡ length word →
+      word ≡ front ++ option_to_list last
       → pending g live limit 0 word rests ≡ pending g live limit 0 front rests
   shortened word front None rests even split = ap (λ v. pending g live limit 0 v rests) (split ∙ append-nil front)
   shortened word front (Some b) rests even split =
@@ -23,27 +21,34 @@ module _ (g : Graph) (live : Live) (limit : ℕ) where
 
   -- a word's calls are all given
   module _ (word : Word) (rests : List (List Visit)) where
-    pub closed : (o : Option State) → deeper g live (limit - length word) o ≡ [] → ahead g live limit word [] o rests ≡ pending g live limit 0 word rests
+    pub closed : (o : Option State) → deeper g live (limit - length word) o ≡ [] →
+        ahead g live limit word [] o rests ≡ pending g live limit 0 word rests
     unfolding ahead with_calls
-    closed o dead = ap (λ es. under_all word es ++ pending g live limit 0 word rests) dead ∙ ap (λ es. es ++ pending g live limit 0 word rests) (under_all-nil word)
+    closed o dead = ap (λ es. under_all word es ++ pending g live limit 0 word rests) dead ∙
+        ap (λ es. es ++ pending g live limit 0 word rests) (under_all-nil word)
 
     pub opened : (s : State) → length rests ≡ length word → length word < limit → live (limit - length word) s ≡ true
         → ahead g live limit word [] (Some s) rests ≡ pending g live limit 0 word (rests ++ g (limit - suc (0 + length word)) s ∷ [])
     unfolding ahead with_calls
     opened s even h lives =
         let same : limit - length word ≡ suc (limit - suc (0 + length word)) = omega (arith, h) in
-        ap (λ es. under_all word es ++ pending g live limit 0 word rests) (deeper_live g live (limit - length word) (limit - suc (0 + length word)) s same lives)
+        ap (λ es. under_all word es ++ pending g live limit 0 word rests)
+        (deeper_live g live (limit - length word) (limit - suc (0 + length word)) s same lives)
         ∙ sym (pending_push g live limit 0 word rests (g (limit - suc (0 + length word)) s) even)
 
     -- a call is given
-    pub given : (o : Option State) (c : ℕ) (left : List ℕ) → ahead g live limit word (c ∷ left) o rests ≡ Some (word, c) ∷ ahead g live limit word left o rests
+    pub given : (o : Option State) (c : ℕ) (left : List ℕ) → ahead g live limit word (c ∷ left) o rests ≡ Some (
+      word,
+      c,
+    ) ∷ ahead g live limit word left o rests
     unfolding ahead with_calls
     given o c left =
-        let more : List Event = with_calls left ++ deeper g live (limit - length word) o in
-        let rest : List Event = pending g live limit 0 word rests in
+        let more : List TrailEvent = with_calls left ++ deeper g live (limit - length word) o in
+        let rest : List TrailEvent = pending g live limit 0 word rests in
         ap (λ es. es ++ rest) (under_all-line word [] c more ∙ ap (λ v. Some (v, c) ∷ under_all word more) (append-nil word))
 
     -- what comes after a word counts by what it leads to
-    pub alike : (left : List ℕ) (o p : Option State) → deeper g live (limit - length word) o ≡ deeper g live (limit - length word) p → ahead g live limit word left o rests ≡ ahead g live limit word left p rests
+    pub alike : (left : List ℕ) (o p : Option State) → deeper g live (limit - length word) o ≡ deeper g live (limit - length word) p →
+        ahead g live limit word left o rests ≡ ahead g live limit word left p rests
     unfolding ahead
     alike left o p same = ap (λ es. under_all word (with_calls left ++ es) ++ pending g live limit 0 word rests) same

@@ -2,9 +2,9 @@
 use Rattle.std.specs.Prelude.{◌≡◌, ◌+◌, ℕ, true, false, List, [], ◌∷◌, length, map, get_or, Option, Some, None, refl}
 use Rattle.std.specs.List.{range_with_len}
 use Rattle.pua_steps.specs.Calls.{calls_of}
-use Rattle.pua_steps.specs.Graph.{Graph, cons, alone, below, reach}
-use Rattle.pua_steps.specs.Order.{comes_after, rest_after}
-use Rattle.pua_steps.specs.Reached.{reached, live_count}
+use Rattle.pua_steps.specs.Graph.{Graph, cons, alone, below, graph_reach}
+use Rattle.pua_steps.specs.Order.{comes_after, pairs_after}
+use Rattle.pua_steps.specs.Reached.{states_after, live_count}
 use Rattle.pua_steps.specs.Table.{visit_of, gap, visits_from}
 use Rattle.pua_steps.specs.declared.state.State.{State}
 use Rattle.pua_steps.specs.declared.steps.Entry.{Entry}
@@ -29,10 +29,11 @@ abbrev pub link : ℕ → ℕ → ℕ → Entry
 link letter calls links = record { letter = letter; all = calls; kept = 0; links = links; to = None }
 
 -- a root alone, with calls on `..`
-abbrev pub root_alone : Graph
-root_alone = graph_by 1 (0 ∷ []) ((record { letter = 0; all = 6155; kept = 6155; links = 0; to = Some 0 } ∷ []) ∷ [])
+abbrev pub root_graph : Graph
+root_graph = graph_by 1 (0 ∷ []) ((record { letter = 0; all = 6155; kept = 6155; links = 0; to = Some 0 } ∷ []) ∷ [])
 
--- the letters `..`, etc, passwd, self, sh, t, tmp and up; the directories root, etc and tmp; t is a link to tmp and up one to etc; stat, lstat and open-r are allowed on passwd
+-- the letters `..`, etc, passwd, self, sh, t, tmp and up; the directories root, etc and tmp; t is a link to tmp and up
+-- one to etc; stat, lstat and open-r are allowed on passwd
 abbrev pub one_file : Graph
 one_file = graph_by 8 (0 ∷ 0 ∷ 0 ∷ [])
     ((way 0 0 0 ∷ way 1 0 1 ∷ way 5 1 2 ∷ way 6 0 2 ∷ []) ∷ (way 0 0 0 ∷ leaf 2 11 ∷ []) ∷ (way 0 0 0 ∷ way 7 1 1 ∷ []) ∷ [])
@@ -56,12 +57,13 @@ link_too_far = graph_by 3 (0 ∷ 0 ∷ []) ((way 0 20 1 ∷ []) ∷ (link 2 1 13
 -- a directory to which a name and 20 chains of links lead, and in it a file to which 13 chains of links lead
 abbrev pub chains : Graph
 chains = graph_by 36 (0 ∷ 0 ∷ [])
-    ((way 0 0 0 ∷ map (λ (n : ℕ). way (1 + n) n 1) (range_with_len 0 21)) ∷ (way 0 0 0 ∷ leaf 22 11 ∷ map (λ (n : ℕ). link (22 + n) 9 n) (range_with_len 1 13)) ∷ [])
+    ((way 0 0 0 ∷ map (λ (n : ℕ). way (1 + n) n 1) (range_with_len 0 21))
+    ∷ (way 0 0 0 ∷ leaf 22 11 ∷ map (λ (n : ℕ). link (22 + n) 9 n) (range_with_len 1 13)) ∷ [])
 
 pub record LiveRows : Type 0 where
-  pub root_alone_0 : live_count root_alone 0 first 0 ≡ 0
-  pub root_alone_1 : live_count root_alone 1 first 1 ≡ 1
-  pub nowhere : live_count root_alone 3 None 3 ≡ 0
+  pub root_alone_0 : live_count root_graph 0 first 0 ≡ 0
+  pub root_alone_1 : live_count root_graph 1 first 1 ≡ 1
+  pub nowhere : live_count root_graph 3 None 3 ≡ 0
   pub missing_name_2 : live_count missing_name 2 first 2 ≡ 2
   pub one_file_2 : live_count one_file 2 first 2 ≡ 2
   pub one_file_3 : live_count one_file 3 first 3 ≡ 8
@@ -71,18 +73,29 @@ pub record LiveRows : Type 0 where
   pub chains_2 : live_count chains 2 first 2 ≡ 22
 
 pub live_rows : LiveRows
-unfolding visits_from gap visit_of calls_of below cons alone reached
-live_rows = record { root_alone_0 = refl; root_alone_1 = refl; nowhere = refl; missing_name_2 = refl; one_file_2 = refl; one_file_3 = refl; dead_3 = refl; links_32 = refl; links_33 = refl; chains_2 = refl }
+unfolding visits_from gap visit_of calls_of below cons alone states_after
+live_rows = record {
+  root_alone_0 = refl;
+  root_alone_1 = refl;
+  nowhere = refl;
+  missing_name_2 = refl;
+  one_file_2 = refl;
+  one_file_3 = refl;
+  dead_3 = refl;
+  links_32 = refl;
+  links_33 = refl;
+  chains_2 = refl;
+}
 
-pub record ReachRows : Type 0 where
-  pub one_file_5 : length (reach one_file 5 0 first) ≡ 81
-  pub one_file : reach one_file 2 0 first ≡ (1 ∷ 2 ∷ [], 0) ∷ (1 ∷ 2 ∷ [], 1) ∷ (1 ∷ 2 ∷ [], 3) ∷ []
-  pub missing_name : reach missing_name 2 0 first ≡ (0 ∷ 1 ∷ [], 7) ∷ (0 ∷ 1 ∷ [], 10) ∷ (1 ∷ [], 7) ∷ (1 ∷ [], 10) ∷ []
-  pub dead : reach dead_alphabet 3 0 first ≡ []
-  pub links_32 : reach link_by_link 2 0 first ≡ (0 ∷ 1 ∷ [], 0) ∷ []
-  pub chains : length (reach chains 2 0 first) ≡ 607
+pub record StepsRows : Type 0 where
+  pub one_file_5 : length (graph_reach one_file 5 0 first) ≡ 81
+  pub one_file : graph_reach one_file 2 0 first ≡ (1 ∷ 2 ∷ [], 0) ∷ (1 ∷ 2 ∷ [], 1) ∷ (1 ∷ 2 ∷ [], 3) ∷ []
+  pub missing_name : graph_reach missing_name 2 0 first ≡ (0 ∷ 1 ∷ [], 7) ∷ (0 ∷ 1 ∷ [], 10) ∷ (1 ∷ [], 7) ∷ (1 ∷ [], 10) ∷ []
+  pub dead : graph_reach dead_alphabet 3 0 first ≡ []
+  pub links_32 : graph_reach link_by_link 2 0 first ≡ (0 ∷ 1 ∷ [], 0) ∷ []
+  pub chains : length (graph_reach chains 2 0 first) ≡ 607
 
-pub reach_rows : ReachRows
+pub reach_rows : StepsRows
 unfolding visits_from gap visit_of calls_of below cons alone
 reach_rows = record { one_file_5 = refl; one_file = refl; missing_name = refl; dead = refl; links_32 = refl; chains = refl }
 
@@ -92,8 +105,8 @@ pub record OrderRows : Type 0 where
   pub letter : comes_after (1 ∷ 5 ∷ [], 13) (2 ∷ [], 0) ≡ true
   pub call : comes_after (1 ∷ [], 3) (1 ∷ [], 4) ≡ true
   pub itself : comes_after (1 ∷ [], 3) (1 ∷ [], 3) ≡ false
-  pub resumed : rest_after (0 ∷ 1 ∷ [], 10) (reach missing_name 2 0 first) ≡ (1 ∷ [], 7) ∷ (1 ∷ [], 10) ∷ []
-  pub resumed_nowhere : rest_after (0 ∷ 1 ∷ 0 ∷ [], 0) (reach missing_name 2 0 first) ≡ (1 ∷ [], 7) ∷ (1 ∷ [], 10) ∷ []
+  pub resumed : pairs_after (0 ∷ 1 ∷ [], 10) (graph_reach missing_name 2 0 first) ≡ (1 ∷ [], 7) ∷ (1 ∷ [], 10) ∷ []
+  pub resumed_nowhere : pairs_after (0 ∷ 1 ∷ 0 ∷ [], 0) (graph_reach missing_name 2 0 first) ≡ (1 ∷ [], 7) ∷ (1 ∷ [], 10) ∷ []
 
 pub order_rows : OrderRows
 unfolding visits_from gap visit_of calls_of below cons alone

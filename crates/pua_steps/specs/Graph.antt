@@ -11,7 +11,8 @@ Word = List ℕ
 abbrev pub Pair : Type 0
 Pair = Word × ℕ
 
--- what the letters of each state lead to, in the order of the letters, where at most so many letters may come after them: a letter on which no call is allowed and from which no word goes on may be left out
+-- what the letters of each state lead to, in the order of the letters, where at most so many letters may come after
+-- them: a letter on which no call is allowed and from which no word goes on may be left out
 abbrev pub Graph : Type 0
 Graph = ℕ → State → List Visit
 
@@ -30,7 +31,8 @@ abbrev pub from_state : Option State → (State → List Pair) → List Pair
 from_state None go = []
 from_state (Some s) go = go s
 
--- the pairs that are allowed on words that go on from a state by at most l letters, in order: a word's own, and then those of its extensions
+-- the pairs that are allowed on words that go on from a state by at most l letters, in order: a word's own, and then
+-- those of its extensions
 unfoldable pub below : Graph → ℕ → Option State → List Pair
 below g zero o = []
 below g (suc l) o = from_state o (λ s. flat_map (λ v. cons v.letter (alone (calls_of v.calls) ++ below g l v.behind)) (g l s))
@@ -40,8 +42,8 @@ unfoldable pub rows : Graph → ℕ → List Visit → List Pair
 rows g l vs = flat_map (λ v. cons v.letter (alone (calls_of v.calls) ++ below g l v.behind)) vs
 
 -- all pairs that are allowed: the calls of the empty word are given, and the state in which the first letter stands
-abbrev pub reach : Graph → ℕ → ℕ → Option State → List Pair
-reach g limit calls base = alone (calls_of calls) ++ below g limit base
+abbrev pub graph_reach : Graph → ℕ → ℕ → Option State → List Pair
+graph_reach g limit calls base = alone (calls_of calls) ++ below g limit base
 
 -- whether there is a pair
 abbrev pub some_pair : List Pair → Bool

@@ -12,7 +12,9 @@ use Rattle.pua_steps.specs.declared.live.Live as table
 use Rattle.pua_steps.specs.declared.lists.Span.{Span}
 use Rattle.pua_steps.specs.declared.lists.Lists.{Lists}
 
--- an entry is left out where, whatever links were followed before, no call is allowed on its letter and no word goes on from it. Where calls are allowed on letters without entries none is left out, since its letter would be taken for one of these. This is said by the bounds, as the lists are made; `Telling` says it by what is allowed
+-- an entry is left out where, whatever links were followed before, no call is allowed on its letter and no word goes on
+-- from it. Where calls are allowed on letters without entries none is left out, since its letter would be taken for one
+-- of these. This is said by the bounds, as the lists are made; `Telling` says it by what is allowed
 abbrev pub is_useful : ℕ → List ℕ → ℕ → ℕ → Entry → Bool
 is_useful missing bounds dirs left e = not (missing == 0) || not (bound_of bounds dirs left e == 0)
 
@@ -32,7 +34,7 @@ within es place end = drop place (take end es)
 abbrev pub span_of : Lists → ℕ → ℕ → Span
 span_of ls l d = get_or ls.spans.items (get_or ls.layers.items l 0 + d) (record { place = 0; end = 0 })
 
-pub record IsList (es : List Entry) (s : Span) (list : List Entry) : Type 0 where
+pub record IsListAt (es : List Entry) (s : Span) (list : List Entry) : Type 0 where
   pub order : s.place ≤ s.end
   pub inside : s.end ≤ length es
   pub same : within es s.place s.end ≡ list
@@ -40,10 +42,10 @@ pub record IsList (es : List Entry) (s : Span) (list : List Entry) : Type 0 wher
 -- the lists where at most l letters may come after a letter
 pub record IsLayer (t : Steps) (v : table.Live) (ls : Lists) (l : ℕ) : Type 0 where
   pub runs : get_or ls.layers.items l 0 + length t.rows.items ≤ length ls.spans.items
-  pub stand : (d : ℕ) → d < length t.rows.items → IsList ls.entries.items (span_of ls l d) (list_of t v l d)
+  pub stand : (d : ℕ) → d < length t.rows.items → IsListAt ls.entries.items (span_of ls l d) (list_of t v l d)
 
 -- the lists of so many layers
-pub record IsListed (t : Steps) (v : table.Live) (n : ℕ) (ls : Lists) : Type 0 where
+pub record AreListsOf (t : Steps) (v : table.Live) (n : ℕ) (ls : Lists) : Type 0 where
   pub known : AllByRecursion (λ e. IsEntry t e) ls.entries.items
   pub many : length ls.layers.items ≡ n
   pub layers : (l : ℕ) → l < n → IsLayer t v ls l

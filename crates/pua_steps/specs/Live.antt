@@ -1,5 +1,6 @@
 -- What a table of live states says.
-use Rattle.std.specs.Prelude.{◌≡◌, ◌<◌, ◌≤◌, ℕ, suc, ◌+◌, ◌-◌, ◌*◌, max, ◌==◌, false, cond, nat_lt, List, length, get_or, Option, Some, None}
+use Rattle.std.specs.Prelude.{◌≡◌, ◌<◌, ◌≤◌, ℕ, suc, ◌+◌, ◌-◌, ◌*◌, max, ◌==◌, false, cond, nat_lt, List, length, get_or, Option, Some}
+use Rattle.std.specs.Prelude.{None}
 use Rattle.pua_steps.specs.Limits.{most_links, most_bound}
 use Rattle.pua_steps.specs.Trail.{Live}
 use Rattle.pua_steps.specs.Graph.{Graph, below, some_pair}
@@ -18,7 +19,8 @@ abbrev pub entrance : Live → ℕ → Option State → Option State
 entrance live l None = None
 entrance live l (Some s) = cond (live l s) (Some s) None
 
--- a number tells of a directory with so many letters left: below it are just the numbers of links with which a call is allowed on a word after it
+-- a number tells of a directory with so many letters left: below it are just the numbers of links with which a call is
+-- allowed on a word after it
 pub record IsBound (g : Graph) (l d b : ℕ) : Type 0 where
   pub most : b ≤ most_bound
   pub tells : (u : ℕ) → u ≤ most_links → nat_lt u b ≡ some_pair (below g l (Some (record { dir = d; used = u })))
@@ -36,4 +38,8 @@ pub record IsSized (t : Steps) (v : table.Live) (limit : ℕ) : Type 0 where
 
 -- the bound that a letter alone gives, as it is reckoned; `Telling` says it by what is allowed
 abbrev pub bound_of : List ℕ → ℕ → ℕ → Entry → ℕ
-bound_of bounds dirs left e = cond (e.kept == 0) (max (cond (e.all == 0) 0 (most_bound - e.links)) (elim e.to [ None ↦ 0 | Some d ↦ get_or bounds (left * dirs + d) 0 - e.links ])) most_bound
+bound_of bounds dirs left e =
+    cond (e.kept == 0) (max (cond (e.all == 0) 0 (most_bound - e.links)) (elim e.to [
+      | None ↦ 0
+      | Some d ↦ get_or bounds (left * dirs + d) 0 - e.links
+    ])) most_bound

@@ -16,10 +16,11 @@ abbrev pub comes_after : Pair → Pair → Bool
 comes_after p q = is_lt (pair_cmp p q)
 
 -- those that come after a pair
-abbrev pub rest_after : Pair → List Pair → List Pair
-rest_after p ps = filter (comes_after p) ps
+abbrev pub pairs_after : Pair → List Pair → List Pair
+pairs_after p ps = filter (comes_after p) ps
 
--- the visits of the letters before one, of the letter itself, if there is one, and of those after it. Where there is none, nothing is allowed on the letter and no word goes on from it
+-- the visits of the letters before one, of the letter itself, if there is one, and of those after it. Where there is
+-- none, nothing is allowed on the letter and no word goes on from it
 pub record IsSplit (a : ℕ) (all : List Visit) (x : Visit) (after : List Visit) : Type 0 where
   pub front : List Visit
   pub present : Bool

@@ -1,5 +1,6 @@
 -- The live states: those to which words lead, and from which words with allowed calls go on.
-use Rattle.std.specs.Prelude.{◌≡◌, ◌<◌, ◌≤◌, ◌^◌, ◌+◌, ◌-◌, ℕ, zero, suc, Bool, false, cond, ◌&&◌, ◌||◌, ◌==◌, nat_le, List, [], ◌∷◌, length, get_or, Option, Some, None, option_to_list, flat_map, filter, filter_map}
+use Rattle.std.specs.Prelude.{◌≡◌, ◌<◌, ◌≤◌, ◌^◌, ◌+◌, ◌-◌, ℕ, zero, suc, Bool, false, cond, ◌&&◌, ◌||◌, ◌==◌, nat_le, List, [], ◌∷◌}
+use Rattle.std.specs.Prelude.{length, get_or, Option, Some, None, option_to_list, flat_map, filter, filter_map}
 use Rattle.std.specs.Int.{bit_at}
 use Rattle.pua_steps.specs.Limits.{most_links, most_bound}
 use Rattle.pua_steps.specs.Graph.{Graph, below, some_pair}
@@ -13,9 +14,9 @@ abbrev pub states_behind : List Visit → List State
 states_behind vs = filter_map (λ (v : Visit). v.behind) vs
 
 -- the states to which the words of so many letters lead, one for each word
-unfoldable pub reached : (State → List Visit) → ℕ → Option State → List State
-reached g zero o = option_to_list o
-reached g (suc n) o = flat_map (λ s. states_behind (g s)) (reached g n o)
+unfoldable pub states_after : (State → List Visit) → ℕ → Option State → List State
+states_after g zero o = option_to_list o
+states_after g (suc n) o = flat_map (λ s. states_behind (g s)) (states_after g n o)
 
 abbrev pub is_same : State → State → Bool
 is_same a b = (a.dir == b.dir) && (a.used == b.used)
@@ -36,7 +37,7 @@ live_among g l ss = filter (λ s. some_pair (below g l (Some s))) ss
 -- how many states, by the letters that may still come, are live: with the last n letters of the limit
 abbrev pub live_count : Graph → ℕ → Option State → ℕ → ℕ
 live_count g limit o zero = 0
-live_count g limit o (suc n) = live_count g limit o n + length (distinct (live_among g (limit - n) (reached (g 0) n o)))
+live_count g limit o (suc n) = live_count g limit o n + length (distinct (live_among g (limit - n) (states_after (g 0) n o)))
 
 -- the sum of the first n
 abbrev pub total : (ℕ → ℕ) → ℕ → ℕ
@@ -44,13 +45,13 @@ total f zero = 0
 total f (suc n) = total f n + f n
 
 -- sets of numbers of links as bits, one for each directory
-abbrev pub stood : List ℕ → ℕ → ℕ → Bool
-stood sets d u = bit_at (get_or sets d 0) u == 1
+abbrev pub has_state : List ℕ → ℕ → ℕ → Bool
+has_state sets d u = bit_at (get_or sets d 0) u == 1
 
 pub record AreSets (dirs : ℕ) (ss : List State) (sets : List ℕ) : Type 0 where
   pub many : length sets ≡ dirs
   pub small : (d : ℕ) → d < dirs → get_or sets d 0 < 2 ^ most_bound
-  pub tells : (d u : ℕ) → d < dirs → u ≤ most_links → stood sets d u ≡ is_among (record { dir = d; used = u }) ss
+  pub tells : (d u : ℕ) → d < dirs → u ≤ most_links → has_state sets d u ≡ is_among (record { dir = d; used = u }) ss
 
 -- an entry leads from one of a set's numbers of links to a directory and a number of links
 abbrev pub lands : Entry → ℕ → ℕ → ℕ → Bool

@@ -1,5 +1,6 @@
 -- The graph that a table of steps is.
-use Rattle.std.specs.Prelude.{◌≡◌, ◌<◌, ◌≤◌, ◌^◌, ℕ, suc, ◌+◌, ◌-◌, Bool, not, ◌&&◌, cond, nat_lt, nat_le, ◌==◌, List, [], ◌∷◌, ◌++◌, map, length, get_or, Option, Some, None, option_map, IfSome, ⊤}
+use Rattle.std.specs.Prelude.{◌≡◌, ◌<◌, ◌≤◌, ◌^◌, ℕ, suc, ◌+◌, ◌-◌, Bool, not, ◌&&◌, cond, nat_lt, nat_le, ◌==◌, List, [], ◌∷◌, ◌++◌, map}
+use Rattle.std.specs.Prelude.{length, get_or, Option, Some, None, option_map, IfSome, ⊤}
 use Rattle.std.specs.List.{range_with_len, AllByRecursion}
 use Rattle.pua_steps.specs.Limits.{most_links, call_count}
 use Rattle.pua_steps.specs.Graph.{Graph}
@@ -28,8 +29,8 @@ visit_of used e = cond (nat_le (used + e.links) most_links)
     (record { letter = e.letter; calls = e.all; behind = option_map (λ to. record { dir = to; used = used + e.links }) e.to })
     (record { letter = e.letter; calls = e.kept; behind = None })
 
-abbrev pub missed : ℕ → ℕ → Visit
-missed missing letter = record { letter = letter; calls = missing; behind = None }
+abbrev pub missing_visit : ℕ → ℕ → Visit
+missing_visit missing letter = record { letter = letter; calls = missing; behind = None }
 
 abbrev pub first_of : List Entry → Option Entry
 first_of [] = None
@@ -51,12 +52,13 @@ has_gap missing next end = not (missing == 0) && nat_lt next end
 
 -- so many letters without entries
 unfoldable pub gap : ℕ → ℕ → ℕ → List Visit
-gap missing next n = cond (missing == 0) [] (map (missed missing) (range_with_len next n))
+gap missing next n = cond (missing == 0) [] (map (missing_visit missing) (range_with_len next n))
 
 -- the letters from one on: those with entries, and between them the others if a call is allowed on them
 unfoldable pub visits_from : ℕ → ℕ → ℕ → ℕ → List Entry → List Visit
 visits_from letters missing used next [] = gap missing next (letters - next)
-visits_from letters missing used next (e ∷ es) = gap missing next (e.letter - next) ++ visit_of used e ∷ visits_from letters missing used (suc e.letter) es
+visits_from letters missing used next (e ∷ es) =
+    gap missing next (e.letter - next) ++ visit_of used e ∷ visits_from letters missing used (suc e.letter) es
 
 unfoldable pub graph_of : Steps → Graph
 graph_of t l s = visits_from t.letters (missing_at t s.dir) s.used 0 (entries_at t s.dir)

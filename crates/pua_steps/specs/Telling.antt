@@ -22,10 +22,15 @@ pub record IsAmong (t : Steps) (v : table.Live) (limit l : ℕ) (e : Entry) : Ty
   pub entry : IsEntry t e
   pub left : l ≤ limit
 
--- the bound of an entry is above just those numbers of links followed before with which it gives something. An entry is useful in a directory where calls are allowed on letters without entries, and else just if it gives something after some number of links
+-- the bound of an entry is above just those numbers of links followed before with which it gives something. An entry is
+-- useful in a directory where calls are allowed on letters without entries, and else just if it gives something after
+-- some number of links
 pub record EntriesTell : Type 0 where
-  pub bound : (t : Steps) (v : table.Live) (limit l u : ℕ) (e : Entry) → IsAmong t v limit l e → u ≤ most_links → nat_lt u (bound_of v.bounds.items v.dirs l e) ≡ gives (graph_of t) l (visit_of u e)
-  pub useful : (t : Steps) (v : table.Live) (limit l missing : ℕ) (e : Entry) → IsAmong t v limit l e → is_useful missing v.bounds.items v.dirs l e ≡ true
+  pub bound : (t : Steps) (v : table.Live) (limit l u : ℕ) (e : Entry) → IsAmong t v limit l e → u ≤ most_links →
+      nat_lt u (bound_of v.bounds.items v.dirs l e) ≡ gives (graph_of t) l (visit_of u e)
+  pub useful : (t : Steps) (v : table.Live) (limit l missing : ℕ) (e : Entry) → IsAmong t v limit l e →
+      is_useful missing v.bounds.items v.dirs l e ≡ true
       → (missing ≢ 0) ⊎ ((u : ℕ) × ((u ≤ most_links) × (gives (graph_of t) l (visit_of u e) ≡ true)))
-  pub useless : (t : Steps) (v : table.Live) (limit l missing : ℕ) (e : Entry) → IsAmong t v limit l e → is_useful missing v.bounds.items v.dirs l e ≡ false
+  pub useless : (t : Steps) (v : table.Live) (limit l missing : ℕ) (e : Entry) → IsAmong t v limit l e →
+      is_useful missing v.bounds.items v.dirs l e ≡ false
       → (missing ≡ 0) × ((u : ℕ) → u ≤ most_links → gives (graph_of t) l (visit_of u e) ≡ false)

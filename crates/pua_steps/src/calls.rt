@@ -9,7 +9,8 @@ ghost use Rattle.pua_steps.specs.Calls.{calls_of};
 pub fn take_first(calls: &mut u16) -> Option<u8>
     requires { calls.old < 2 ^ call_count }
     ensures { MatchOption result ((calls.new ≡ calls.old) × (calls.old ≡ 0))
-        (λ call. (calls.new < 2 ^ call_count) × (call < call_count) × (calls_of calls.old ≡ call ∷ calls_of calls.new)) }
+        (λ call. (calls.new < 2 ^ call_count) × (call < call_count) ×
+        (calls_of calls.old ≡ call ∷ calls_of calls.new)) }
 {
     let set = *calls;
     if set == 0 {

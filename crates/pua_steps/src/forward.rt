@@ -1,12 +1,15 @@
 //! How many states are live: a pass forward through the table, letter by letter, with the set of
 //! numbers of links with which each directory is reached, a bit for each number.
 
-ghost use Rattle.std.specs.Prelude.{◌≡◌, ◌≤◌, ◌<◌, ◌+◌, ◌*◌, ◌-◌, ◌^◌, ◌||◌, ◌&&◌, ◌==◌, nat_le, ℕ, suc, length, get_or, IfOk, IfSome, bit_and, count_ones, option_to_list};
+ghost use Rattle.std.specs.Prelude.{◌≡◌, ◌≤◌, ◌<◌, ◌+◌, ◌*◌, ◌-◌, ◌^◌, ◌||◌, ◌&&◌, ◌==◌, nat_le, ℕ};
+ghost use Rattle.std.specs.Prelude.{suc, length, get_or, IfOk, IfSome, bit_and, count_ones};
+ghost use Rattle.std.specs.Prelude.{option_to_list};
 ghost use Rattle.std.specs.Int.{bit_at};
 ghost use Rattle.std.specs.List.{AllByRecursion};
 ghost use Rattle.pua_steps.specs.Limits.{most_letters, most_links, most_bound};
 ghost use Rattle.pua_steps.specs.Live.{IsSized};
-ghost use Rattle.pua_steps.specs.Reached.{stood, lands, lands_some, lands_from, total, AreSets, live_count};
+ghost use Rattle.pua_steps.specs.Reached.{has_state, lands, lands_some, lands_from, total, AreSets};
+ghost use Rattle.pua_steps.specs.Reached.{live_count};
 ghost use Rattle.pua_steps.specs.Table.{IsTable, IsState, IsEntry, graph_of};
 
 use crate::live::Live;
@@ -22,11 +25,14 @@ const EVERY: u64 = 8_589_934_591;
 fn spread(entries: &[Entry], set: u64, next: &mut Vec<u64>)
     requires links { AllByRecursion (λ e. e.links ≤ most_links) entries.now }
     requires to { AllByRecursion (λ e. IfSome e.to (λ d. d < length next.old.items)) entries.now }
-    requires small { (d : ℕ) → d < length next.old.items → get_or next.old.items d 0 < 2 ^ most_bound }
+    requires small { (d : ℕ) → d < length next.old.items →
+        get_or next.old.items d 0 < 2 ^ most_bound }
     ensures many { length next.new.items ≡ length next.old.items }
-    ensures small { (d : ℕ) → d < length next.old.items → get_or next.new.items d 0 < 2 ^ most_bound }
+    ensures small { (d : ℕ) → d < length next.old.items →
+        get_or next.new.items d 0 < 2 ^ most_bound }
     ensures tells { (d : ℕ) (u : ℕ) → d < length next.old.items → u ≤ most_links →
-        stood next.new.items d u ≡ (stood next.old.items d u || lands_some entries.now set d u) }
+        has_state next.new.items d u
+        ≡ (has_state next.old.items d u || lands_some entries.now set d u) }
 {
     for entry in entries {
         entry.land(set, next);
@@ -39,11 +45,14 @@ impl Entry {
     fn land(&self, set: u64, next: &mut Vec<u64>)
         requires links { self.now.links ≤ most_links }
         requires to { IfSome self.now.to (λ d. d < length next.old.items) }
-        requires small { (d : ℕ) → d < length next.old.items → get_or next.old.items d 0 < 2 ^ most_bound }
+        requires small { (d : ℕ) → d < length next.old.items →
+            get_or next.old.items d 0 < 2 ^ most_bound }
         ensures many { length next.new.items ≡ length next.old.items }
-        ensures small { (d : ℕ) → d < length next.old.items → get_or next.new.items d 0 < 2 ^ most_bound }
+        ensures small { (d : ℕ) → d < length next.old.items →
+            get_or next.new.items d 0 < 2 ^ most_bound }
         ensures tells { (d : ℕ) (u : ℕ) → d < length next.old.items → u ≤ most_links →
-            stood next.new.items d u ≡ (stood next.old.items d u || lands self.now set d u) }
+            has_state next.new.items d u
+            ≡ (has_state next.old.items d u || lands self.now set d u) }
     {
         let Some(to) = self.to else {
             return;
@@ -82,8 +91,10 @@ fn step_all(alloc: Global, steps: &Steps, sets: &[u64]) -> Result<Vec<u64>, Allo
     ensures many { IfOk result (λ next. length next.items ≡ length steps.now.rows.items) }
     ensures small { IfOk result (λ next. (d : ℕ) → d < length steps.now.rows.items →
         get_or next.items d 0 < 2 ^ most_bound) }
-    ensures tells { IfOk result (λ next. (d : ℕ) (u : ℕ) → d < length steps.now.rows.items → u ≤ most_links →
-        stood next.items d u ≡ lands_from steps.now sets.now (length steps.now.rows.items) d u) }
+    ensures tells { IfOk result (λ next. (d : ℕ) (u : ℕ) → d < length steps.now.rows.items →
+        u ≤ most_links →
+        has_state next.items d u
+        ≡ lands_from steps.now sets.now (length steps.now.rows.items) d u) }
 {
     let dirs = steps.rows.len();
     let mut next = empty_sets(alloc, dirs)?;

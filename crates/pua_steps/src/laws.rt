@@ -1,6 +1,6 @@
 //! Laws and worked examples, each the contract of a function that does nothing.
 
-ghost use Rattle.pua_steps.specs.Examples.{LiveRows, ReachRows, OrderRows};
+ghost use Rattle.pua_steps.specs.Examples.{LiveRows, StepsRows, OrderRows};
 ghost use Rattle.pua_steps.specs.Telling.{EntriesTell};
 ghost use Rattle.pua_steps.specs.Within.{ReachIsWithin};
 
@@ -8,7 +8,7 @@ ghost use Rattle.pua_steps.specs.Within.{ReachIsWithin};
 /// of these come after a pair.
 pub fn steps_examples()
     ensures live { LiveRows }
-    ensures reach { ReachRows }
+    ensures reach { StepsRows }
     ensures order { OrderRows }
 {}
 

@@ -1,10 +1,12 @@
 //! The entries that a walk reads: of each directory those whose letters may give something.
 
-ghost use Rattle.std.specs.Prelude.{◌≡◌, ◌≤◌, ◌<◌, ◌+◌, ◌*◌, ◌++◌, ◌∷◌, [], ℕ, suc, cond, length, take, drop, get_or, min, None, IfOk, IfSome, MatchOption};
+ghost use Rattle.std.specs.Prelude.{◌≡◌, ◌≤◌, ◌<◌, ◌+◌, ◌*◌, ◌++◌, ◌∷◌, [], ℕ, suc, cond, length};
+ghost use Rattle.std.specs.Prelude.{take, drop, get_or, min, None, IfOk, IfSome, MatchOption};
 ghost use Rattle.std.specs.List.{AllByRecursion};
 ghost use Rattle.pua_steps.specs.Limits.{most_links};
 ghost use Rattle.pua_steps.specs.Live.{IsSized};
-ghost use Rattle.pua_steps.specs.Lists.{is_useful, list_of, span_of, within, IsList, IsListed, IsLonger};
+ghost use Rattle.pua_steps.specs.Lists.{is_useful, list_of, span_of, within, IsListAt, AreListsOf};
+ghost use Rattle.pua_steps.specs.Lists.{IsLonger};
 ghost use Rattle.pua_steps.specs.Table.{IsTable, IsEntry, Rising, first_of, with_letter};
 ghost use Rattle.pua_steps.specs.declared.steps.Entry.{Entry};
 ghost use Rattle.pua_steps.specs.declared.lists.Span.{Span};
@@ -61,7 +63,7 @@ impl Lists {
     ) -> Result<Lists, AllocError>
         requires table { IsTable steps.now }
         requires sized { IsSized steps.now live.now limit }
-        ensures { IfOk result (λ lists. IsListed steps.now live.now limit lists) }
+        ensures { IfOk result (λ lists. AreListsOf steps.now live.now limit lists) }
     {
         let mut lists = Lists {
             entries: Vec::new(alloc),
@@ -81,8 +83,8 @@ impl Lists {
         requires table { IsTable steps.now }
         requires dirs { live.now.dirs ≡ length steps.now.rows.items }
         requires layer { left * live.now.dirs + live.now.dirs ≤ length live.now.bounds.items }
-        requires before { IsListed steps.now live.now left self.old }
-        ensures { IfOk result (λ _. IsListed steps.now live.now (suc left) self.new) }
+        requires before { AreListsOf steps.now live.now left self.old }
+        ensures { IfOk result (λ _. AreListsOf steps.now live.now (suc left) self.new) }
     {
         if left > 0 && live.repeats(left) {
             let shared = self.layers[left - 1];
@@ -102,14 +104,17 @@ impl Lists {
         requires layer { left * live.now.dirs + live.now.dirs ≤ length live.now.bounds.items }
         requires known { AllByRecursion (λ e. IsEntry steps.now e) self.old.entries.items }
         ensures layers { IfOk result (λ _. self.new.layers ≡ self.old.layers) }
-        ensures known { IfOk result (λ _. AllByRecursion (λ e. IsEntry steps.now e) self.new.entries.items) }
-        ensures entries { IfOk result (λ _. IsLonger Entry self.old.entries.items self.new.entries.items) }
+        ensures known { IfOk result
+            (λ _. AllByRecursion (λ e. IsEntry steps.now e) self.new.entries.items) }
+        ensures entries { IfOk result
+            (λ _. IsLonger Entry self.old.entries.items self.new.entries.items) }
         ensures spans { IfOk result (λ _. IsLonger Span self.old.spans.items self.new.spans.items) }
         ensures many { IfOk result (λ _.
             length self.new.spans.items ≡ length self.old.spans.items + length steps.now.rows.items) }
         ensures lists { IfOk result (λ _. (d : ℕ) → d < length steps.now.rows.items →
-            IsList self.new.entries.items
-            (get_or self.new.spans.items (length self.old.spans.items + d) (record { place = 0; end = 0 }))
+            IsListAt self.new.entries.items
+            (get_or self.new.spans.items (length self.old.spans.items + d)
+            (record { place = 0; end = 0 }))
             (list_of steps.now live.now left d)) }
     {
         for dir in 0..steps.rows.len() {
@@ -134,7 +139,8 @@ impl Lists {
         ensures entries { IfOk result (λ _.
             self.new.entries.items ≡ self.old.entries.items ++ list_of steps.now live.now left dir) }
         ensures spans { IfOk result (λ _. self.new.spans.items ≡ self.old.spans.items
-            ++ record { place = length self.old.entries.items; end = length self.new.entries.items } ∷ []) }
+            ++ record { place = length self.old.entries.items; end = length self.new.entries.items }
+            ∷ []) }
     {
         let place = self.entries.len();
         let row = &steps.rows[dir];
@@ -224,7 +230,8 @@ impl Lists {
         ensures few { result ≤ length (within self.now.entries.items span.place span.end) }
         ensures low { AllByRecursion (λ e. e.letter < letter)
             (take result (within self.now.entries.items span.place span.end)) }
-        ensures high { IfSome (first_of (drop result (within self.now.entries.items span.place span.end)))
+        ensures high { IfSome
+            (first_of (drop result (within self.now.entries.items span.place span.end)))
             (λ e. letter ≤ e.letter) }
         ensures reads { reads.new ≤ reads.old + 64 }
         ensures raised { min reads.old 18446744073709551615 ≤ reads.new }
@@ -253,7 +260,8 @@ impl Lists {
         reads: &mut u64,
     ) -> Option<Entry>
         requires { end ≤ length self.now.entries.items }
-        ensures entry { result ≡ with_letter letter (first_of (within self.now.entries.items place end)) }
+        ensures entry { result
+            ≡ with_letter letter (first_of (within self.now.entries.items place end)) }
         ensures reads { reads.new ≤ reads.old + 1 }
         ensures raised { min reads.old 18446744073709551615 ≤ reads.new }
     {

@@ -1,6 +1,7 @@
 //! The table of live states.
 
-ghost use Rattle.std.specs.Prelude.{◌≡◌, ◌≢◌, ◌≤◌, ◌<◌, ◌+◌, ◌-◌, ◌*◌, ◌^◌, ℕ, suc, true, false, length, get_or, IfSome, IfOk};
+ghost use Rattle.std.specs.Prelude.{◌≡◌, ◌≢◌, ◌≤◌, ◌<◌, ◌+◌, ◌-◌, ◌*◌, ◌^◌, ℕ, suc, true, false};
+ghost use Rattle.std.specs.Prelude.{length, get_or, IfSome, IfOk};
 ghost use Rattle.pua_steps.specs.Limits.{most_letters, most_links};
 ghost use Rattle.pua_steps.specs.Table.{IsTable, graph_of};
 ghost use Rattle.pua_steps.specs.Live.{live_of, entrance, bound_of, IsBound, IsFilled, IsSized};
@@ -110,7 +111,8 @@ fn behind(steps: &Steps, bounds: &[u8], left: usize, dir: usize) -> u8
     requires table { IsTable steps.now }
     requires dir { dir < length steps.now.rows.items }
     requires filled { IsFilled (graph_of steps.now) (length steps.now.rows.items) bounds.now }
-    requires layer { left * length steps.now.rows.items + length steps.now.rows.items ≤ length bounds.now }
+    requires layer { left * length steps.now.rows.items + length steps.now.rows.items
+        ≤ length bounds.now }
     ensures { IsBound (graph_of steps.now) (suc left) dir result }
 {
     let row = &steps.rows[dir];

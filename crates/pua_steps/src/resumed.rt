@@ -1,16 +1,17 @@
 //! A walk that goes on after a pair.
 
-ghost use Rattle.std.specs.Prelude.{◌≡◌, ◌<◌, ◌≤◌, ◌+◌, ◌^◌, ◌*◌, ◌∷◌, [], ℕ, List, suc, length, Some, IfOk, IfSome};
+ghost use Rattle.std.specs.Prelude.{◌≡◌, ◌<◌, ◌≤◌, ◌+◌, ◌^◌, ◌*◌, ◌∷◌, [], ℕ, List, suc, length};
+ghost use Rattle.std.specs.Prelude.{Some, IfOk, IfSome};
 ghost use Rattle.std.specs.List.{AllByRecursion};
 ghost use Rattle.pua_steps.specs.Limits.{most_letters, call_count};
-ghost use Rattle.pua_steps.specs.Graph.{reach};
-ghost use Rattle.pua_steps.specs.Order.{rest_after};
+ghost use Rattle.pua_steps.specs.Graph.{graph_reach};
+ghost use Rattle.pua_steps.specs.Order.{pairs_after};
 ghost use Rattle.pua_steps.specs.Limits.{search_cost};
 ghost use Rattle.pua_steps.specs.Live.{IsSized};
-ghost use Rattle.pua_steps.specs.Lists.{IsListed};
+ghost use Rattle.pua_steps.specs.Lists.{AreListsOf};
 ghost use Rattle.pua_steps.specs.Table.{IsTable, IsState, graph_of};
 ghost use Rattle.pua_steps.specs.Trail.{pairs_of};
-ghost use Rattle.pua_steps.specs.Ready.{IsReady, IsOf, trail};
+ghost use Rattle.pua_steps.specs.Ready.{IsReady, IsSameWalk, trail};
 ghost use Rattle.pua_steps.specs.Resuming.{to_give_after};
 
 use crate::calls::calls_after;
@@ -37,7 +38,7 @@ impl Walk {
     ) -> Result<Walk, AllocError>
         requires table { IsTable tables.steps }
         requires sized { IsSized tables.steps tables.live limit }
-        requires listed { IsListed tables.steps tables.live limit tables.lists }
+        requires listed { AreListsOf tables.steps tables.live limit tables.lists }
         requires calls { calls < 2 ^ call_count }
         requires base { IfSome base (λ s. IsState tables.steps s) }
         requires word { AllByRecursion (λ letter. letter < tables.steps.letters) word.now }
@@ -47,7 +48,10 @@ impl Walk {
         ensures reads { IfOk result (λ walk.
             walk.tables.reads ≤ tables.reads + search_cost * length word.now) }
         ensures left { IfOk result (λ walk.
-            pairs_of (trail walk) ≡ rest_after (word.now, call) (reach (graph_of tables.steps) limit calls base)) }
+            pairs_of (trail walk) ≡ pairs_after (
+              word.now,
+              call,
+            ) (graph_reach (graph_of tables.steps) limit calls base)) }
     {
         let mut walk = Walk::begin(alloc, tables, calls, base, limit)?;
         walk.go_to(word, call);
@@ -62,9 +66,13 @@ impl Walk {
         requires word { AllByRecursion (λ letter. letter < self.old.tables.steps.letters) word.now }
         requires call { call < call_count }
         ensures ready { IsReady self.new }
-        ensures same { IsOf self.old self.new }
-        ensures reads { self.new.tables.reads ≤ self.old.tables.reads + search_cost * length word.now }
-        ensures left { pairs_of (trail self.new) ≡ rest_after (word.now, call) (pairs_of (trail self.old)) }
+        ensures same { IsSameWalk self.old self.new }
+        ensures reads { self.new.tables.reads ≤ self.old.tables.reads
+            + search_cost * length word.now }
+        ensures left { pairs_of (trail self.new) ≡ pairs_after (
+          word.now,
+          call,
+        ) (pairs_of (trail self.old)) }
     {
         for letter in word {
             let Some(state) = self.behind else {
@@ -83,7 +91,7 @@ impl Walk {
         requires short { length self.old.word.items < self.old.limit }
         requires letter { letter < self.old.tables.steps.letters }
         ensures ready { IsReady self.new }
-        ensures same { IsOf self.old self.new }
+        ensures same { IsSameWalk self.old self.new }
         ensures reads { self.new.tables.reads ≤ self.old.tables.reads + search_cost }
         ensures gives { (way : List ℕ) (call : ℕ) →
             to_give_after self.old (letter ∷ way) call ≡ to_give_after self.new way call }

@@ -4,7 +4,7 @@ ghost use Rattle.std.specs.Prelude.{◌≡◌, ◌≤◌, ◌+◌, ◌*◌, ℕ,
 ghost use Rattle.std.specs.List.{AllByRecursion};
 ghost use Rattle.pua_steps.specs.Lists.{IsOpen};
 ghost use Rattle.pua_steps.specs.Table.{IsTable, IsEntry};
-ghost use Rattle.pua_steps.specs.Ready.{IsGiven, IsScanned, IsCounted, is_idle};
+ghost use Rattle.pua_steps.specs.Ready.{IsLetterGiven, IsScanned, IsCounted, is_idle};
 
 use crate::frame::Frame;
 use crate::lists::Lists;
@@ -38,7 +38,7 @@ pub(crate) fn next_visit(
     requires dirs { live.now.dirs ≡ length steps.now.rows.items }
     requires open { IsOpen steps.now lists.now frame.old }
     ensures open { IsOpen steps.now lists.now frame.new }
-    ensures given { IfSome result (λ v. IsGiven steps.now live.now left v) }
+    ensures given { IfSome result (λ v. IsLetterGiven steps.now live.now left v) }
     ensures next { (n : ℕ) × (IsCounted seen.old n seen.new
         × IsScanned steps.now live.now lists.now left frame.old result frame.new n) }
 {

@@ -1,6 +1,7 @@
 //! The table of steps: what each letter in each directory leads to.
 
-ghost use Rattle.std.specs.Prelude.{◌≡◌, ◌<◌, ◌≤◌, ◌∷◌, [], MatchOption, IfSome, None, Some, min, ◌+◌, option_map};
+ghost use Rattle.std.specs.Prelude.{◌≡◌, ◌<◌, ◌≤◌, ◌∷◌, [], MatchOption, IfSome, None, Some, min};
+ghost use Rattle.std.specs.Prelude.{◌+◌, option_map};
 ghost use Rattle.std.specs.List.{AllByRecursion};
 ghost use Rattle.pua_steps.specs.Limits.{most_links};
 ghost use Rattle.pua_steps.specs.Lists.{IsOpen, rest_of};
@@ -75,7 +76,10 @@ impl Entry {
 
 /// Counts a letter that comes after all entries of a list, so that none was read and counted for it.
 fn count_past(entry: Option<Entry>, reads: &mut u64)
-    ensures { reads.new ≡ elim entry [ None ↦ min (reads.old + 1) 18446744073709551615 | Some _ ↦ reads.old ] }
+    ensures { reads.new ≡ elim entry [
+      | None ↦ min (reads.old + 1) 18446744073709551615
+      | Some _ ↦ reads.old
+    ] }
 {
     if entry.is_none() {
         *reads = reads.saturating_add(1);

@@ -1,11 +1,12 @@
 //! The tables of a walk, and the one way to their entries: what reads an entry is counted here.
 
-ghost use Rattle.std.specs.Prelude.{◌≡◌, ◌<◌, ◌≤◌, ◌+◌, ◌*◌, ◌^◌, ℕ, suc, length, get_or, min, IfOk, IfSome};
+ghost use Rattle.std.specs.Prelude.{◌≡◌, ◌<◌, ◌≤◌, ◌+◌, ◌*◌, ◌^◌, ℕ, suc, length, get_or, min};
+ghost use Rattle.std.specs.Prelude.{IfOk, IfSome};
 ghost use Rattle.pua_steps.specs.Limits.{most_letters, search_cost};
 ghost use Rattle.pua_steps.specs.Live.{IsSized, entrance, live_of};
-ghost use Rattle.pua_steps.specs.Lists.{IsListed, IsOpen, narrow_of, rest_of, span_of};
+ghost use Rattle.pua_steps.specs.Lists.{AreListsOf, IsOpen, narrow_of, rest_of, span_of};
 ghost use Rattle.pua_steps.specs.Order.{IsSplit};
-ghost use Rattle.pua_steps.specs.Ready.{IsCounted, IsGiven, IsScanned};
+ghost use Rattle.pua_steps.specs.Ready.{IsCounted, IsLetterGiven, IsScanned};
 ghost use Rattle.pua_steps.specs.Reached.{live_count};
 ghost use Rattle.pua_steps.specs.Table.{IsState, IsTable, IsVisit, graph_of};
 
@@ -31,7 +32,7 @@ pub struct Tables {
 
 /// What a letter of a state leads to, and the state open from the letter after it on.
 #[derive(Clone, Copy)]
-pub(crate) struct Found {
+pub(crate) struct NextVisit {
     pub(crate) frame: Frame,
     pub(crate) visit: Visit,
 }
@@ -45,7 +46,7 @@ impl Tables {
         requires fits { suc limit * length steps.rows.items < 2 ^ 64 }
         ensures steps { IfOk result (λ tables. tables.steps ≡ steps) }
         ensures sized { IfOk result (λ tables. IsSized steps tables.live limit) }
-        ensures listed { IfOk result (λ tables. IsListed steps tables.live limit tables.lists) }
+        ensures listed { IfOk result (λ tables. AreListsOf steps tables.live limit tables.lists) }
         ensures reads { IfOk result (λ tables. tables.reads ≡ 0) }
     {
         let live = Live::fill(alloc, &steps, limit)?;
@@ -78,14 +79,16 @@ impl Tables {
         requires base { IfSome base (λ s. IsState self.now.steps s) }
         requires limit { limit ≤ most_letters }
         requires small { self.now.live.dirs * 1088 < 2 ^ 64 }
-        ensures { IfOk result (λ count. count ≡ live_count (graph_of self.now.steps) limit base limit) }
+        ensures { IfOk result (λ count. count ≡ live_count (graph_of self.now.steps) limit base
+            limit) }
     {
         self.live.count(alloc, &self.steps, base, limit)
     }
 
     /// The state, if it is live where at most `left` letters may come. No letter is read.
     pub(crate) fn entrance(&self, left: usize, state: Option<State>) -> Option<State>
-        requires layer { left * self.now.live.dirs + self.now.live.dirs ≤ length self.now.live.bounds.items }
+        requires layer { left * self.now.live.dirs + self.now.live.dirs
+            ≤ length self.now.live.bounds.items }
         requires state { IfSome state (λ s. s.dir < self.now.live.dirs) }
         ensures { result ≡ entrance (live_of self.now.live) left state }
     {
@@ -95,7 +98,8 @@ impl Tables {
     /// A state with all letters of its list still to be tried. No letter is read.
     pub(crate) fn open(&self, left: usize, state: State) -> Frame
         requires layer { left < length self.now.lists.layers.items }
-        requires dir { get_or self.now.lists.layers.items left 0 + state.dir < length self.now.lists.spans.items }
+        requires dir { get_or self.now.lists.layers.items left 0 + state.dir
+            < length self.now.lists.spans.items }
         ensures { result ≡ record {
           state = state;
           next = 0;
@@ -112,17 +116,19 @@ impl Tables {
     pub(crate) fn next_visit(&mut self, left: usize, frame: &mut Frame) -> Option<Visit>
         requires table { IsTable self.old.steps }
         requires dirs { self.old.live.dirs ≡ length self.old.steps.rows.items }
-        requires layer { left * self.old.live.dirs + self.old.live.dirs ≤ length self.old.live.bounds.items }
-        requires listed { IsListed self.old.steps self.old.live
+        requires layer { left * self.old.live.dirs + self.old.live.dirs
+            ≤ length self.old.live.bounds.items }
+        requires listed { AreListsOf self.old.steps self.old.live
             (length self.old.lists.layers.items) self.old.lists }
         requires open { IsOpen self.old.steps self.old.lists frame.old }
         ensures steps { self.new.steps ≡ self.old.steps }
         ensures live { self.new.live ≡ self.old.live }
         ensures lists { self.new.lists ≡ self.old.lists }
         ensures open { IsOpen self.old.steps self.old.lists frame.new }
-        ensures given { IfSome result (λ v. IsGiven self.old.steps self.old.live left v) }
+        ensures given { IfSome result (λ v. IsLetterGiven self.old.steps self.old.live left v) }
         ensures next { (n : ℕ) × (IsCounted self.old.reads n self.new.reads
-            × IsScanned self.old.steps self.old.live self.old.lists left frame.old result frame.new n) }
+            × IsScanned self.old.steps self.old.live self.old.lists left frame.old result frame.new
+            n) }
     {
         next_visit(
             &self.steps,
@@ -136,9 +142,9 @@ impl Tables {
 
     /// Finds a letter among those of a state, by one binary search in its list, where at most `left`
     /// letters may come after it. Each letter that is read is counted.
-    pub(crate) fn find(&mut self, left: usize, state: State, letter: usize) -> Found
+    pub(crate) fn find(&mut self, left: usize, state: State, letter: usize) -> NextVisit
         requires table { IsTable self.old.steps }
-        requires listed { IsListed self.old.steps self.old.live
+        requires listed { AreListsOf self.old.steps self.old.live
             (length self.old.lists.layers.items) self.old.lists }
         requires left { left < length self.old.lists.layers.items }
         requires state { IsState self.old.steps state }
@@ -148,7 +154,8 @@ impl Tables {
         ensures lists { self.new.lists ≡ self.old.lists }
         ensures open { IsOpen self.old.steps self.old.lists result.frame }
         ensures visit { IsVisit self.old.steps result.visit }
-        ensures split { IsSplit letter (narrow_of self.old.steps self.old.live left state) result.visit
+        ensures split { IsSplit letter (narrow_of self.old.steps self.old.live left state)
+            result.visit
             (rest_of self.old.steps self.old.lists result.frame) }
         ensures reads { self.new.reads ≤ self.old.reads + search_cost }
         ensures raised { min self.old.reads 18446744073709551615 ≤ self.new.reads }
@@ -160,7 +167,7 @@ impl Tables {
         let next = letter + 1;
         let end = span.end;
         let Some(entry) = self.lists.entry_of(place, end, letter, &mut self.reads) else {
-            return Found {
+            return NextVisit {
                 frame: Frame {
                     state,
                     next,
@@ -174,7 +181,7 @@ impl Tables {
                 },
             };
         };
-        Found {
+        NextVisit {
             frame: Frame {
                 state,
                 next,

@@ -1,13 +1,15 @@
 //! The walk through the words over a table of steps.
 
-ghost use Rattle.std.specs.Prelude.{◌≡◌, ◌≢◌, ◌≤◌, ◌<◌, ◌+◌, ◌∷◌, ◌++◌, [], ℕ, IfSome, ◌*◌, ◌^◌, suc, IfOk, length, vec_capacity, MatchOption};
+ghost use Rattle.std.specs.Prelude.{◌≡◌, ◌≢◌, ◌≤◌, ◌<◌, ◌+◌, ◌∷◌, ◌++◌, [], ℕ, IfSome, ◌*◌, ◌^◌};
+ghost use Rattle.std.specs.Prelude.{suc, IfOk, length, vec_capacity, MatchOption};
 ghost use Rattle.pua_steps.specs.Limits.{most_letters, call_count};
-ghost use Rattle.pua_steps.specs.Graph.{reach};
+ghost use Rattle.pua_steps.specs.Graph.{graph_reach};
 ghost use Rattle.pua_steps.specs.Table.{IsTable, IsState, graph_of};
 ghost use Rattle.pua_steps.specs.Live.{IsSized};
-ghost use Rattle.pua_steps.specs.Lists.{IsListed};
+ghost use Rattle.pua_steps.specs.Lists.{AreListsOf};
 ghost use Rattle.pua_steps.specs.Trail.{pairs_of};
-ghost use Rattle.pua_steps.specs.Ready.{IsReady, IsBetween, IsOf, IsTurned, IsNext, IsCounted, IsUnchanged, StaysFront, left_over, trail};
+ghost use Rattle.pua_steps.specs.Ready.{IsReady, IsBetween, IsSameWalk, IsTurned, IsNextPair};
+ghost use Rattle.pua_steps.specs.Ready.{IsCounted, IsUnchanged, StaysFront, left_over, trail};
 
 use crate::calls::take_first;
 use crate::frame::Frame;
@@ -50,14 +52,14 @@ impl Walk {
     ) -> Result<Walk, AllocError>
         requires table { IsTable tables.steps }
         requires sized { IsSized tables.steps tables.live limit }
-        requires listed { IsListed tables.steps tables.live limit tables.lists }
+        requires listed { AreListsOf tables.steps tables.live limit tables.lists }
         requires calls { calls < 2 ^ call_count }
         requires base { IfSome base (λ s. IsState tables.steps s) }
         ensures ready { IfOk result (λ walk. IsReady walk) }
         ensures of { IfOk result (λ walk. (walk.tables ≡ tables) × (walk.limit ≡ limit)) }
         ensures fresh { IfOk result (λ walk. (walk.word.items ≡ []) × (walk.frames.items ≡ [])) }
         ensures left { IfOk result (λ walk.
-            pairs_of (trail walk) ≡ reach (graph_of tables.steps) limit calls base) }
+            pairs_of (trail walk) ≡ graph_reach (graph_of tables.steps) limit calls base) }
     {
         let word = Vec::with_capacity(alloc, limit)?;
         let frames = Vec::with_capacity(alloc, limit)?;
@@ -79,11 +81,15 @@ impl Walk {
     pub fn next_call(&mut self) -> Option<u8>
         requires ready { IsReady self.old }
         ensures ready { IsReady self.new }
-        ensures same { IsOf self.old self.new }
-        ensures line { MatchOption result ((pairs_of (trail self.old) ≡ []) × (pairs_of (trail self.new) ≡ []))
-            (λ call. pairs_of (trail self.old) ≡ (self.new.word.items, call) ∷ pairs_of (trail self.new)) }
+        ensures same { IsSameWalk self.old self.new }
+        ensures line { MatchOption result ((pairs_of (trail self.old) ≡ []) ×
+            (pairs_of (trail self.new) ≡ []))
+            (λ call. pairs_of (trail self.old) ≡ (
+              self.new.word.items,
+              call,
+            ) ∷ pairs_of (trail self.new)) }
         ensures count { (n : ℕ) × (IsCounted self.old.tables.reads n self.new.tables.reads
-            × IsNext self.old result self.new n) }
+            × IsNextPair self.old result self.new n) }
         ensures cost { self.new.tables.reads ≤ self.old.tables.reads
             + 2 * (self.old.limit * self.old.tables.steps.letters) }
         ensures unchanged { IsUnchanged self.old.word.items self.new.unchanged self.new.word.items }
@@ -122,10 +128,11 @@ impl Walk {
     fn go_on(&mut self) -> Option<u8>
         requires { IsReady self.old }
         ensures ready { IsReady self.new }
-        ensures same { IsOf self.old self.new }
+        ensures same { IsSameWalk self.old self.new }
         ensures next { (n : ℕ) × (IsCounted self.old.tables.reads n self.new.tables.reads
-            × IsNext self.old result self.new n) }
-        ensures unchanged { StaysFront self.old.unchanged self.old.word.items self.new.unchanged self.new.word.items }
+            × IsNextPair self.old result self.new n) }
+        ensures unchanged { StaysFront self.old.unchanged self.old.word.items self.new.unchanged
+            self.new.word.items }
         ensures stays { self.old.calls ≢ 0 →
             (self.new.word ≡ self.old.word) × (self.new.unchanged ≡ self.old.unchanged) }
     {
@@ -145,10 +152,11 @@ impl Walk {
         requires ready { IsReady self.old }
         requires given { self.old.calls ≡ 0 }
         ensures ready { IsReady self.new }
-        ensures same { IsOf self.old self.new }
+        ensures same { IsSameWalk self.old self.new }
         ensures next { (n : ℕ) × (IsCounted self.old.tables.reads n self.new.tables.reads
             × IsTurned (trail self.old) result self.new n) }
-        ensures unchanged { StaysFront self.old.unchanged self.old.word.items self.new.unchanged self.new.word.items }
+        ensures unchanged { StaysFront self.old.unchanged self.old.word.items self.new.unchanged
+            self.new.word.items }
     {
         if let Some(state) = self.behind {
             self.behind = None;
@@ -165,10 +173,11 @@ impl Walk {
     fn turn(&mut self) -> bool
         requires { IsBetween self.old }
         ensures ready { IsReady self.new }
-        ensures same { IsOf self.old self.new }
+        ensures same { IsSameWalk self.old self.new }
         ensures next { (n : ℕ) × (IsCounted self.old.tables.reads n self.new.tables.reads
             × IsTurned (left_over self.old self.old.frames.items) result self.new n) }
-        ensures unchanged { StaysFront self.old.unchanged self.old.word.items self.new.unchanged self.new.word.items }
+        ensures unchanged { StaysFront self.old.unchanged self.old.word.items self.new.unchanged
+            self.new.word.items }
     {
         while !self.frames.is_empty() {
             let deepest = self.frames.len() - 1;

@@ -1,14 +1,11 @@
 -- The names that lead to a place, row by row.
-use Rattle.std.proofs.Common.{◌≡◌, ℕ, zero, suc, List, [], ◌∷◌, ◌++◌, map, length, sym, ap, ◌∙◌, append_assoc, append-nil}
-use Rattle.std.specs.Prelude.{Some, None, reverse}
-use Rattle.std.proofs.lemmas.List.{length-map}
-use Rattle.pua_policy.specs.declared.place.Place.{Place}
-use Rattle.std.specs.Option.{option_map_or}
-use Rattle.std.specs.Borrow.{Bor}
-use Rattle.pua_tree.specs.Tree.{Tree, spot_of}
+use Rattle.pua_texts.proofs.Common.{◌≡◌, ℕ, suc, List, [], ◌∷◌, ◌++◌, map, length, sym, ap, ◌∙◌, append_assoc, append-nil, Some, None}
+use Rattle.pua_texts.proofs.Common.{reverse, length-map, Place, option_map_or, Bor, Tree, names_up, place_dir, place_names}
+use Rattle.std.proofs.Common.{zero}
+use Rattle.pua_tree.specs.Tree.{spot_of}
 use Rattle.pua_tree.specs.LentRows.{lent_entry}
 use Rattle.pua_tree.specs.declared.tree.LentRow.{LentRow}
-use Rattle.pua_texts.specs.States.{names_up, own_name, place_dir, place_names}
+use Rattle.pua_texts.specs.States.{own_name}
 use Rattle.pua_tree.proofs.ForCallers.{map-reverse}
 
 -- a name more, of a directory that stands in a row
@@ -22,15 +19,18 @@ names_more t dir n k row so_far stands more =
 -- none, of one that stands in none
 pub names_none : (t : Tree) (dir k : ℕ) (so_far : List (List ℕ)) → None ≡ spot_of t dir → so_far ++ names_up k t dir ≡ so_far
 names_none t dir zero so_far none = append-nil so_far
-names_none t dir (suc n) so_far none = ap (λ spot. so_far ++ option_map_or (λ s. s.1 ∷ names_up n t s.0) spot []) (sym none) ∙ append-nil so_far
+names_none t dir (suc n) so_far none = ap (λ spot. so_far ++ option_map_or (λ s. s.1 ∷ names_up n t s.0) spot []) (sym none) ∙
+    append-nil so_far
 
 pub names_done : (t : Tree) (dir k : ℕ) (so_far : List (List ℕ)) → k ≡ 0 → so_far ++ names_up k t dir ≡ so_far
 names_done t dir k so_far none = ap (λ m. so_far ++ names_up m t dir) none ∙ append-nil so_far
 
 -- the names of a place, the last of them first
-pub found_names : (t : Tree) (rows lent : List LentRow) (own over new : List (Bor (List ℕ))) (place : Place) (dir : ℕ) → lent ≡ rows → map lent_entry rows ≡ t.rows
+pub found_names : (t : Tree) (rows lent : List LentRow) (own over new : List (Bor (List ℕ))) (place : Place) (dir : ℕ) → lent ≡ rows →
+    map lent_entry rows ≡ t.rows
     → map (λ name. name.now) own ≡ own_name place → dir ≡ place_dir place
-    → ((u : Tree) → map lent_entry lent ≡ u.rows → map (λ name. name.now) over ≡ map (λ name. name.now) own ++ names_up (length lent) u dir) → new ≡ reverse over
+    → ((u : Tree) → map lent_entry lent ≡ u.rows →
+    map (λ name. name.now) over ≡ map (λ name. name.now) own ++ names_up (length lent) u dir) → new ≡ reverse over
     → map (λ name. name.now) new ≡ reverse (place_names t place)
 found_names t rows lent own over new place dir same all owned at climbed turned =
     let counted : length lent ≡ length t.rows = ap length same ∙ sym (length-map rows lent_entry) ∙ ap length all in

@@ -1,7 +1,5 @@
 -- What a process that was made stands for.
-use Rattle.std.proofs.Common.{◌≡◌, refl}
-use Rattle.std.specs.Prelude.{Option, Some, None}
-use Rattle.pua_policy.specs.History.{History, ProcessState, StandsFor}
+use Rattle.pua_texts.proofs.Common.{◌≡◌, refl, Option, Some, None, History, ProcessState, StandsFor}
 use Rattle.pua_script.specs.Worlds.{StandsAt}
 
 -- what a process stands for at a number is a history that was made

@@ -1,26 +1,15 @@
 -- The lines of lists, step by step.
-use Rattle.std.proofs.Common.{◌≡◌, ℕ, ◌+◌, List, [], ◌∷◌, ◌++◌, ◌<◌, ◌≤◌, ◌∙◌, slice_index_or, get_or, subst, refl, sym, ap, map, drop, length, append_assoc, append-nil, Bool, true, false, cond}
-use Rattle.std.specs.Prelude.{filter, ◌==◌}
+use Rattle.pua_texts.proofs.Common.{◌≡◌, ℕ, ◌+◌, List, [], ◌∷◌, ◌++◌, ◌<◌, ◌≤◌, ◌∙◌, slice_index_or, get_or, subst, refl, sym, ap, map}
+use Rattle.pua_texts.proofs.Common.{drop, length, append_assoc, append-nil, Bool, true, false, cond, filter, ◌==◌, drop_more}
+use Rattle.pua_texts.proofs.Common.{drop_of_length-le, spelling, CallTable, call_name, calls, has, calls_in, Call, Stat, History}
+use Rattle.pua_texts.proofs.Common.{ProcessState, StandsFor, Tree, Word, from_root, printed_path, Root, kind_word, with_commas, lines_of}
+use Rattle.pua_texts.proofs.Common.{Bor, with_end, object_lines}
 use Rattle.std.proofs.lemmas.Grind.{flat_map-append}
 use Rattle.std.proofs.lemmas.Bool.{true≢false}
-use Rattle.std.proofs.lemmas.List.{drop_more}
-use Rattle.std.proofs.Math.ListN.{drop_of_length-le}
-use Rattle.pua_tree.specs.Spelling.{byte_spelling, spelling}
-use Rattle.pua_calls.specs.Calls.{CallTable, call_name, calls}
-use Rattle.pua_calls.specs.CallSets.{has, calls_in}
-use Rattle.pua_calls.specs.declared.call.Call.{Call}
-use Rattle.pua_calls.specs.declared.call.Call.TheVariants.{Stat}
-use Rattle.pua_policy.specs.History.{History, ProcessState, StandsFor}
-use Rattle.pua_tree.specs.Tree.{Tree}
-use Rattle.pua_audit.specs.Reach.{Word, from_root, printed_path}
-use Rattle.pua_audit.specs.declared.base.Base.TheVariants.{Root}
-use Rattle.pua_objects.specs.Lines.{kind_word}
-use Rattle.pua_objects.specs.Objects.{Item, with_commas}
-use Rattle.pua_objects.specs.Ready.{IsListed, HasNoLine, lines_of}
+use Rattle.pua_tree.specs.Spelling.{byte_spelling}
+use Rattle.pua_objects.specs.Objects.{Item}
+use Rattle.pua_objects.specs.Ready.{IsLineListed, HasNoLine}
 use Rattle.pua_objects.specs.declared.line.ObjectLine.{ObjectLine}
-use Rattle.std.specs.Borrow.{Bor}
-use Rattle.pua_texts.specs.Lines.{ended}
-use Rattle.pua_texts.specs.ObjectLines.{object_lines}
 
 -- a path from the root goes on with a slash and a spelled name
 pub name_next : (name : List ℕ) (word : Word) → spelling (from_root (name ∷ word)) ≡ (47 ∷ spelling name) ++ spelling (from_root word)
@@ -30,9 +19,11 @@ name_next name word = ap (λ t. 47 ∷ t) (flat_map-append byte_spelling name (f
 abbrev pub path_left : List (Bor (List ℕ)) → ℕ → List ℕ
 path_left names i = spelling (from_root (map (λ name. name.now) (drop i names))) ++ 32 ∷ []
 
-pub path_more : (names : List (Bor (List ℕ))) (name : Bor (List ℕ)) (i : ℕ) → i < length names → name ≡ slice_index_or names i name → path_left names i ≡ (47 ∷ spelling name.now) ++ path_left names (i + 1)
+pub path_more : (names : List (Bor (List ℕ))) (name : Bor (List ℕ)) (i : ℕ) → i < length names → name ≡ slice_index_or names i name →
+    path_left names i ≡ (47 ∷ spelling name.now) ++ path_left names (i + 1)
 path_more names name i within is =
-    ap (λ ns. spelling (from_root (map (λ n. n.now) ns)) ++ 32 ∷ []) (drop_more names i name within ∙ ap (λ n. n ∷ drop (i + 1) names) (sym is))
+    ap (λ ns. spelling (from_root (map (λ n. n.now) ns)) ++ 32 ∷ []) (drop_more names i name within ∙
+    ap (λ n. n ∷ drop (i + 1) names) (sym is))
     ∙ ap (λ t. t ++ 32 ∷ []) (name_next name.now (map (λ n. n.now) (drop (i + 1) names)))
     ∙ append_assoc (47 ∷ spelling name.now) (spelling (from_root (map (λ n. n.now) (drop (i + 1) names)))) (32 ∷ [])
 
@@ -40,12 +31,14 @@ pub path_done : (names : List (Bor (List ℕ))) (i : ℕ) → length names ≤ i
 path_done names i past = ap (λ ns. spelling (from_root (map (λ n. n.now) ns)) ++ 32 ∷ []) (drop_of_length-le names past)
 
 -- a path with names is printed as they are spelled, behind a slash each
-pub path_printed : (names : List (Bor (List ℕ))) → (length names == 0) ≡ false → path_left names 0 ≡ printed_path Root (map (λ name. name.now) names) ++ 32 ∷ []
+pub path_printed : (names : List (Bor (List ℕ))) → (length names == 0) ≡ false →
+    path_left names 0 ≡ printed_path Root (map (λ name. name.now) names) ++ 32 ∷ []
 path_printed [] some = absurd (true≢false some)
 path_printed (name ∷ names) some = refl
 
 -- the kind, the path and the calls stand before what ends the line
-pub parts_before : (kind path names end : List ℕ) → (kind ++ 32 ∷ []) ++ ((path ++ 32 ∷ []) ++ (names ++ end)) ≡ (kind ++ 32 ∷ path ++ 32 ∷ names) ++ end
+pub parts_before : (kind path names end : List ℕ) →
+    (kind ++ 32 ∷ []) ++ ((path ++ 32 ∷ []) ++ (names ++ end)) ≡ (kind ++ 32 ∷ path ++ 32 ∷ names) ++ end
 parts_before kind path names end =
     append_assoc kind (32 ∷ []) ((path ++ 32 ∷ []) ++ (names ++ end))
     ∙ ap (λ t. kind ++ 32 ∷ t) (append_assoc path (32 ∷ []) (names ++ end))
@@ -53,7 +46,8 @@ parts_before kind path names end =
     ∙ sym (append_assoc (kind ++ 32 ∷ path) (32 ∷ names) end)
 
 -- and make the line with its end
-pub line_parts : (kind path names : List ℕ) → (kind ++ 32 ∷ []) ++ ((path ++ 32 ∷ []) ++ (names ++ 10 ∷ [])) ≡ ended (kind ++ 32 ∷ path ++ 32 ∷ names)
+pub line_parts : (kind path names : List ℕ) →
+    (kind ++ 32 ∷ []) ++ ((path ++ 32 ∷ []) ++ (names ++ 10 ∷ [])) ≡ with_end (kind ++ 32 ∷ path ++ 32 ∷ names)
 line_parts kind path names = parts_before kind path names (10 ∷ [])
 
 -- names with a separator before the first, and commas before the others
@@ -77,18 +71,24 @@ pub calls_all : (set : ℕ) → calls_left set [] 0 ≡ with_commas (map call_na
 calls_all set = sym (joined_is (map call_name (filter (has set) calls)))
 
 kept_or_not : (set : ℕ) (before : List ℕ) (call : Call) (more : List Call) (own : Bool) → has set call ≡ own →
-    joined before (map call_name (filter (has set) (call ∷ more))) ≡ cond own (before ++ call_name call ++ joined (44 ∷ []) (map call_name (filter (has set) more))) (joined before (map call_name (filter (has set) more)))
-kept_or_not set before call more true is = ap (λ b. joined before (map call_name (cond b (call ∷ filter (has set) more) (filter (has set) more)))) is
-kept_or_not set before call more false is = ap (λ b. joined before (map call_name (cond b (call ∷ filter (has set) more) (filter (has set) more)))) is
+    joined before (map call_name (filter (has set) (call ∷ more)))
+    ≡ cond own (before ++ call_name call ++ joined (44 ∷ []) (map call_name (filter (has set) more)))
+    (joined before (map call_name (filter (has set) more)))
+kept_or_not set before call more true is =
+    ap (λ b. joined before (map call_name (cond b (call ∷ filter (has set) more) (filter (has set) more)))) is
+kept_or_not set before call more false is =
+    ap (λ b. joined before (map call_name (cond b (call ∷ filter (has set) more) (filter (has set) more)))) is
 
 -- a call of the set comes next
-pub call_taken : (set : ℕ) (before : List ℕ) (i : ℕ) → i < length calls → has set (get_or calls i Stat) ≡ true → calls_left set before i ≡ (before ++ call_name (get_or calls i Stat)) ++ calls_left set (44 ∷ []) (i + 1)
+pub call_taken : (set : ℕ) (before : List ℕ) (i : ℕ) → i < length calls → has set (get_or calls i Stat) ≡ true →
+    calls_left set before i ≡ (before ++ call_name (get_or calls i Stat)) ++ calls_left set (44 ∷ []) (i + 1)
 call_taken set before i within own =
     ap (λ cs. joined before (map call_name (filter (has set) cs))) (drop_more calls i Stat within)
     ∙ kept_or_not set before (get_or calls i Stat) (drop (i + 1) calls) true own
 
 -- another one adds nothing
-pub call_left : (set : ℕ) (before : List ℕ) (i : ℕ) → i < length calls → has set (get_or calls i Stat) ≡ false → calls_left set before i ≡ calls_left set before (i + 1)
+pub call_left : (set : ℕ) (before : List ℕ) (i : ℕ) → i < length calls → has set (get_or calls i Stat) ≡ false →
+    calls_left set before i ≡ calls_left set before (i + 1)
 call_left set before i within own =
     ap (λ cs. joined before (map call_name (filter (has set) cs))) (drop_more calls i Stat within)
     ∙ kept_or_not set before (get_or calls i Stat) (drop (i + 1) calls) false own
@@ -98,20 +98,26 @@ calls_done set before i past = ap (λ cs. joined before (map call_name (filter (
 
 -- the line of an object, by what the code gives of it
 abbrev pub text_given : ObjectLine → List (Bor (List ℕ)) → List ℕ
-text_given given names = ended (kind_word given.kind ++ 32 ∷ printed_path Root (map (λ name. name.now) names) ++ 32 ∷ with_commas (map call_name (calls_in given.calls)))
+text_given given names =
+    with_end (kind_word given.kind ++ 32 ∷ printed_path Root (map (λ name. name.now) names) ++ 32
+    ∷ with_commas (map call_name (calls_in given.calls)))
 
 -- the line that a list gives stands before those that it has still to give
-pub line_next : (t u : Tree) (a b : CallTable) (p q : ProcessState) (h : History) (old new : List Item) (word : Word) (given : ObjectLine) (names : List (Bor (List ℕ)))
-    → t ≡ u → a ≡ b → p ≡ q → StandsFor q h → IsListed t a p old new word given → map (λ name. name.now) names ≡ word
+pub line_next : (t u : Tree) (a b : CallTable) (p q : ProcessState) (h : History) (old new : List Item) (word : Word) (given : ObjectLine)
+    (names : List (Bor (List ℕ)))
+    → t ≡ u → a ≡ b → p ≡ q → StandsFor q h → IsLineListed t a p old new word given → map (λ name. name.now) names ≡ word
     → object_lines u (lines_of u b h old) ≡ text_given given names ++ object_lines u (lines_of u b h new)
 line_next t u a b p q h old new word given names same equal alike stands listed is =
     subst (λ (v : Tree). object_lines v (lines_of v b h old) ≡ text_given given names ++ object_lines v (lines_of v b h new)) same
     (subst (λ (c : CallTable). object_lines t (lines_of t c h old) ≡ text_given given names ++ object_lines t (lines_of t c h new)) equal
     (ap (object_lines t) (listed.lines h (subst (λ (r : ProcessState). StandsFor r h) (sym alike) stands))
-    ∙ ap (λ kind. ended (kind ++ 32 ∷ printed_path Root word ++ 32 ∷ with_commas (map call_name (calls_in given.calls))) ++ object_lines t (lines_of t a h new)) (sym listed.kind)
-    ∙ ap (λ (w : Word). ended (kind_word given.kind ++ 32 ∷ printed_path Root w ++ 32 ∷ with_commas (map call_name (calls_in given.calls))) ++ object_lines t (lines_of t a h new)) (sym is)))
+    ∙ ap (λ kind. with_end (kind ++ 32 ∷ printed_path Root word ++ 32 ∷ with_commas (map call_name (calls_in given.calls)))
+    ++ object_lines t (lines_of t a h new)) (sym listed.kind)
+    ∙ ap (λ (w : Word). with_end (kind_word given.kind ++ 32 ∷ printed_path Root w ++ 32
+    ∷ with_commas (map call_name (calls_in given.calls))) ++ object_lines t (lines_of t a h new)) (sym is)))
 
-pub no_line : (t u : Tree) (a b : CallTable) (p q : ProcessState) (h : History) (left : List Item) → t ≡ u → a ≡ b → p ≡ q → StandsFor q h → HasNoLine t a p left → object_lines u (lines_of u b h left) ≡ []
+pub no_line : (t u : Tree) (a b : CallTable) (p q : ProcessState) (h : History) (left : List Item) → t ≡ u → a ≡ b → p ≡ q → StandsFor q h →
+    HasNoLine t a p left → object_lines u (lines_of u b h left) ≡ []
 no_line t u a b p q h left same equal alike stands none =
     subst (λ (v : Tree). object_lines v (lines_of v b h left) ≡ []) same
     (subst (λ (c : CallTable). object_lines t (lines_of t c h left) ≡ []) equal

@@ -1,28 +1,31 @@
 -- The lines of pairs, in blocks.
-use Rattle.std.proofs.Common.{◌≡◌, ℕ, ◌+◌, List, [], ◌∷◌, ◌++◌, length, take, refl, sym, ap, ◌∙◌, append_assoc}
+use Rattle.pua_texts.proofs.Common.{◌≡◌, ℕ, ◌+◌, List, [], ◌∷◌, ◌++◌, length, take, refl, sym, ap, ◌∙◌, append_assoc, spelling, call_name}
+use Rattle.pua_texts.proofs.Common.{Call, Word, with_end, pair_lines}
 use Rattle.std.specs.Prelude.{IsTrue}
 use Rattle.std.specs.List.{list_all}
 use Rattle.std.proofs.lemmas.Bool.{and_parts}
 use Rattle.std.proofs.Math.Seq.{take-append-add}
-use Rattle.pua_tree.specs.Spelling.{is_plain, byte_spelling, spelling}
-use Rattle.pua_calls.specs.Calls.{call_name}
-use Rattle.pua_calls.specs.declared.call.Call.{Call}
-use Rattle.pua_audit.specs.Reach.{Word, Pair, path_of}
+use Rattle.pua_tree.specs.Spelling.{is_plain, byte_spelling}
+use Rattle.pua_audit.specs.Reach.{Pair, path_of}
 use Rattle.pua_audit.specs.declared.base.Base.{Base}
-use Rattle.pua_texts.specs.Lines.{ended, pair_lines}
 
 -- the first pair's line stands before those of the others
-pub first_line : (base : Base) (word : Word) (call : Call) (path : List ℕ) (left more : List Pair) → path ≡ path_of base word → left ≡ (word, call) ∷ more
-    → pair_lines base left ≡ ended (spelling path ++ 32 ∷ call_name call) ++ pair_lines base more
-first_line base word call path left more p l = ap (pair_lines base) l ∙ ap (λ text. ended (spelling text ++ 32 ∷ call_name call) ++ pair_lines base more) (sym p)
+pub first_line : (base : Base) (word : Word) (call : Call) (path : List ℕ) (left more : List Pair) → path ≡ path_of base word →
+    left ≡ (word, call) ∷ more
+    → pair_lines base left ≡ with_end (spelling path ++ 32 ∷ call_name call) ++ pair_lines base more
+first_line base word call path left more p l = ap (pair_lines base) l ∙
+    ap (λ text. with_end (spelling text ++ 32 ∷ call_name call) ++ pair_lines base more) (sym p)
 
 -- a blank, a name and LF stand after a spelled path
-pub line_ends : (front path name : List ℕ) → (front ++ path) ++ ended (32 ∷ name) ≡ front ++ ended (path ++ 32 ∷ name)
-line_ends front path name = append_assoc front path (ended (32 ∷ name)) ∙ ap (λ r. front ++ r) (sym (append_assoc path (32 ∷ name) (10 ∷ [])))
+pub line_ends : (front path name : List ℕ) → (front ++ path) ++ with_end (32 ∷ name) ≡ front ++ with_end (path ++ 32 ∷ name)
+line_ends front path name = append_assoc front path (with_end (32 ∷ name)) ∙
+    ap (λ r. front ++ r) (sym (append_assoc path (32 ∷ name) (10 ∷ [])))
 
 -- what stands after a name is cut off
-pub name_kept : (n : ℕ) (block padded name : List ℕ) → n ≡ length block + length name → take (length name) padded ≡ name → take n (block ++ padded) ≡ block ++ name
-name_kept n block padded name many is = ap (λ k. take k (block ++ padded)) many ∙ take-append-add block padded (length name) ∙ ap (λ t. block ++ t) is
+pub name_kept : (n : ℕ) (block padded name : List ℕ) → n ≡ length block + length name → take (length name) padded ≡ name →
+    take n (block ++ padded) ≡ block ++ name
+name_kept n block padded name many is = ap (λ k. take k (block ++ padded)) many ∙ take-append-add block padded (length name) ∙
+    ap (λ t. block ++ t) is
 
 -- bytes that stand for themselves are their own spelling
 pub spelling_plain : (bytes : List ℕ) → IsTrue (list_all is_plain bytes) → spelling bytes ≡ bytes

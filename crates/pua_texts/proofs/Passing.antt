@@ -1,10 +1,10 @@
 -- Texts that are added to a block, one after another.
-use Rattle.std.proofs.Common.{◌≡◌, ℕ, List, [], ◌++◌, Option, Result, Ok, Err, refl, sym, ap, ◌∙◌, subst, append_assoc, append-nil}
+use Rattle.pua_texts.proofs.Common.{◌≡◌, ℕ, List, [], ◌++◌, Ok, Err, refl, sym, ap, ◌∙◌, subst, append_assoc, append-nil, Passes, PutFault}
+use Rattle.std.proofs.Common.{Option, Result}
 use Rattle.std.specs.Prelude.{OnOk, OnErr}
 use Rattle.std.proofs.KnownBytes.{Appends-nil, Appends-trans}
 use Rattle.pua_io.specs.Sinks.{Adds, AddsFront, HasFailed, Writes}
-use Rattle.pua_texts.specs.Blocks.{HandsOn, Passes}
-use Rattle.pua_io.specs.declared.sink.PutFault.{PutFault}
+use Rattle.pua_texts.specs.Blocks.{HandsOn}
 use Rattle.pua_io.proofs.ForCallers.{writes_then, writes_front}
 
 -- no text
@@ -12,7 +12,8 @@ pub passes_none : (block : List ℕ) (a : Option (List ℕ)) (n : ℕ) → Passe
 passes_none block a n = (record { text = []; parts = append-nil block; adds = Appends-nil a }, refl)
 
 -- a text for which there is room in what the block then is
-pub passes_room : (text old room new : List ℕ) (a b : Option (List ℕ)) (n m : ℕ) → HandsOn old room a b → m ≡ n → new ≡ room ++ text → Passes text (Ok tt) old new a b n m
+pub passes_room : (text old room new : List ℕ) (a b : Option (List ℕ)) (n m : ℕ) → HandsOn old room a b → m ≡ n → new ≡ room ++ text →
+    Passes text (Ok tt) old new a b n m
 passes_room text old room new a b n m hands same added = (
   record {
     text = hands.text;
@@ -23,7 +24,8 @@ passes_room text old room new a b n m hands same added = (
 )
 
 -- the putting of a block failed before a text was added
-pub passes_unput : (text old : List ℕ) (fault : PutFault) (new : List ℕ) (a b : Option (List ℕ)) (n m : ℕ) → AddsFront old a b → HasFailed n m → Passes text (Err fault) old new a b n m
+pub passes_unput : (text old : List ℕ) (fault : PutFault) (new : List ℕ) (a b : Option (List ℕ)) (n m : ℕ) → AddsFront old a b →
+    HasFailed n m → Passes text (Err fault) old new a b n m
 passes_unput text old fault new a b n m front failed = writes_front old text fault a b n m (front, failed)
 
 -- a text, and then another one
@@ -44,10 +46,12 @@ passes_then first second old mid new r a b c n m k begun more = by_result r more
       more.1 ∙ begun.1,
     )
     by_result (Err fault) more =
-        subst (λ t. Writes t (Err fault) a c n k) (sym parts) (writes_then begun.0.text (mid ++ second) (Err fault) a b c n m k begun.0.adds begun.1 more)
+        subst (λ t. Writes t (Err fault) a c n k) (sym parts) (writes_then begun.0.text (mid ++ second) (Err fault) a b c n m k begun.0.adds
+        begun.1 more)
 
 -- the front of a text could not be added
-pub passes_front : (first rest old new newer : List ℕ) (fault : PutFault) (a b : Option (List ℕ)) (n m : ℕ) → Passes first (Err fault) old new a b n m → Passes (first ++ rest) (Err fault) old newer a b n m
+pub passes_front : (first rest old new newer : List ℕ) (fault : PutFault) (a b : Option (List ℕ)) (n m : ℕ) →
+    Passes first (Err fault) old new a b n m → Passes (first ++ rest) (Err fault) old newer a b n m
 passes_front first rest old new newer fault a b n m failed =
     subst (λ t. Writes t (Err fault) a b n m) (append_assoc old first rest) (writes_front (old ++ first) rest fault a b n m failed)
 
@@ -71,20 +75,24 @@ passing_more text rest first more old mid new a b c n m k begun is next = record
 
 -- the next part could not be added
 pub passing_fails : (text rest first more old mid new newer : List ℕ) (fault : PutFault) (a b c : Option (List ℕ)) (n m k : ℕ)
-    → Passing text rest old mid a b n m → rest ≡ first ++ more → Passes first (Err fault) mid new b c m k → Passes text (Err fault) old newer a c n k
+    → Passing text rest old mid a b n m → rest ≡ first ++ more → Passes first (Err fault) mid new b c m k →
+    Passes text (Err fault) old newer a c n k
 passing_fails text rest first more old mid new newer fault a b c n m k begun is next =
     subst (λ t. Passes t (Err fault) old newer a c n k) (sym (begun.parts ∙ ap (λ t. begun.done ++ t) is))
-    (passes_then begun.done (first ++ more) old mid newer (Err fault) a b c n m k begun.passes (passes_front first more mid new newer fault b c m k next))
+    (passes_then begun.done (first ++ more) old mid newer (Err fault) a b c n m k begun.passes
+    (passes_front first more mid new newer fault b c m k next))
 
 -- the last part
 pub passing_last : (text rest first old mid new : List ℕ) (r : Result (Unit {0}) PutFault) (a b c : Option (List ℕ)) (n m k : ℕ)
     → Passing text rest old mid a b n m → rest ≡ first → Passes first r mid new b c m k → Passes text r old new a c n k
 passing_last text rest first old mid new r a b c n m k begun is last =
-    subst (λ t. Passes t r old new a c n k) (sym (begun.parts ∙ ap (λ t. begun.done ++ t) is)) (passes_then begun.done first old mid new r a b c n m k begun.passes last)
+    subst (λ t. Passes t r old new a c n k) (sym (begun.parts ∙ ap (λ t. begun.done ++ t) is))
+    (passes_then begun.done first old mid new r a b c n m k begun.passes last)
 
 -- a block that is put, and then a text of its own
 pub passes_put : (text old new : List ℕ) (r : Result (Unit {0}) PutFault) (a b c : Option (List ℕ)) (n m k : ℕ)
-    → Adds old a b → m ≡ n → new ≡ [] → OnOk r (Adds text b c) → OnOk r (k ≡ m) → OnErr r (AddsFront text b c) → OnErr r (HasFailed m k) → Passes text r old new a c n k
+    → Adds old a b → m ≡ n → new ≡ [] → OnOk r (Adds text b c) → OnOk r (k ≡ m) → OnErr r (AddsFront text b c) → OnErr r (HasFailed m k) →
+    Passes text r old new a c n k
 passes_put text old new (Ok done) a b c n m k adds same empty whole unfailed front failed = (
   record {
     text = old ++ text;
@@ -93,9 +101,11 @@ passes_put text old new (Ok done) a b c n m k adds same empty whole unfailed fro
   },
   unfailed ∙ same,
 )
-passes_put text old new (Err fault) a b c n m k adds same empty whole unfailed front failed = writes_then old text (Err fault) a b c n m k adds same (front, failed)
+passes_put text old new (Err fault) a b c n m k adds same empty whole unfailed front failed =
+    writes_then old text (Err fault) a b c n m k adds same (front, failed)
 
 -- a text is added, and all that the block then holds is put
-pub passes_written : (text old block : List ℕ) (r : Result (Unit {0}) PutFault) (a b c : Option (List ℕ)) (n m k : ℕ) → Passes text (Ok tt) old block a b n m → Writes block r b c m k → Writes (old ++ text) r a c n k
+pub passes_written : (text old block : List ℕ) (r : Result (Unit {0}) PutFault) (a b c : Option (List ℕ)) (n m k : ℕ) →
+    Passes text (Ok tt) old block a b n m → Writes block r b c m k → Writes (old ++ text) r a c n k
 passes_written text old block r a b c n m k added put =
     subst (λ t. Writes t r a c n k) (sym added.0.parts) (writes_then added.0.text block r a b c n m k added.0.adds added.1 put)

@@ -1,15 +1,13 @@
 -- What a list says of a state, against what the code has of it.
-use Rattle.std.proofs.Common.{◌≡◌, ℕ, ◌+◌, ◌<◌, ◌≤◌, Bool, true, false, List, [], ◌∷◌, ◌++◌, length, map, drop, slice_index_or, get_or, refl, sym, ap, ◌∙◌, inl, inr, ◌⊎◌, true≢false, append_assoc, append-nil}
-use Rattle.std.specs.Prelude.{codes, reverse, ◌↔◌, ◌==◌, if◌then◌else◌}
-use Rattle.std.proofs.lemmas.List.{drop_more}
-use Rattle.std.proofs.Math.ListN.{drop_of_length-le}
-use Rattle.std.specs.Borrow.{Bor}
-use Rattle.pua_tree.specs.Tree.{Tree, is_dir}
-use Rattle.pua_calls.specs.Promises.{holds, unveil, letters_of}
-use Rattle.pua_policy.specs.History.{held, is_locked}
-use Rattle.pua_policy.specs.declared.place.Place.{Place}
-use Rattle.pua_audit.specs.Reach.{Word}
-use Rattle.pua_texts.specs.States.{ConfinedIsPrinted, or_equals, path_or_hyphen, place_dir, place_names, place_text, veil_lines}
+use Rattle.pua_texts.proofs.Common.{◌≡◌, ℕ, ◌+◌, ◌<◌, ◌≤◌, Bool, true, false, List, [], ◌∷◌, ◌++◌, length, map, drop, slice_index_or}
+use Rattle.pua_texts.proofs.Common.{get_or, refl, sym, ap, ◌∙◌, append_assoc, append-nil, codes, reverse, ◌==◌, if◌then◌else◌, drop_more}
+use Rattle.pua_texts.proofs.Common.{drop_of_length-le, Bor, Tree, is_dir, perm_letters, Place, Word, or_equals, path_or_hyphen, place_dir}
+use Rattle.pua_texts.proofs.Common.{place_names, veil_lines}
+use Rattle.std.proofs.Common.{inl, inr, ◌⊎◌, true≢false}
+use Rattle.std.specs.Prelude.{◌↔◌}
+use Rattle.pua_calls.specs.Promises.{holds, unveil}
+use Rattle.pua_policy.specs.History.{held_set, is_locked}
+use Rattle.pua_texts.specs.States.{ConfinedIsPrinted, veil_place_text}
 use Rattle.pua_texts.proofs.ObjectLines.{joined, line_parts}
 
 -- the word by whether the process is locked and holds `unveil`
@@ -21,7 +19,8 @@ abbrev is_open : List ℕ → Bool
 is_open [] = false
 is_open (b ∷ more) = b == 111
 
-told : (locked holding : Bool) → ((locked ≡ true) ⊎ (holding ≡ false)) ↔ ((word_by locked holding ≡ codes "locked") ⊎ (word_by locked holding ≡ codes "given-up"))
+told : (locked holding : Bool) →
+    ((locked ≡ true) ⊎ (holding ≡ false)) ↔ ((word_by locked holding ≡ codes "locked") ⊎ (word_by locked holding ≡ codes "given-up"))
 told true holding = (λ is. inl refl, λ is. inl refl)
 told false false = (λ is. inr refl, λ is. inr refl)
 told false true = (
@@ -38,37 +37,44 @@ told false true = (
     unlike (inr is) = true≢false (ap is_open is)
 
 pub confined_is_printed : ConfinedIsPrinted
-confined_is_printed h = told (is_locked h) (holds (held h) unveil)
+confined_is_printed h = told (is_locked h) (holds (held_set h) unveil)
 
 -- a veil as it is lent
 abbrev pub shown : Bor Place × Bor ℕ → Place × ℕ
 shown veil = (veil.0.now, veil.1.now)
 
 -- the line of the next veil stands before those that are still to come
-pub veil_next : (t : Tree) (lent : List (Bor Place × Bor ℕ)) (veil : Bor Place × Bor ℕ) (i : ℕ) (stands : Bool) (names : Word) → i < length lent → veil ≡ slice_index_or lent i veil
+pub veil_next : (t : Tree) (lent : List (Bor Place × Bor ℕ)) (veil : Bor Place × Bor ℕ) (i : ℕ) (stands : Bool) (names : Word) →
+    i < length lent → veil ≡ slice_index_or lent i veil
     → stands ≡ is_dir t (place_dir veil.0.now) → names ≡ reverse (place_names t veil.0.now)
-    → veil_lines t (map shown (drop i lent)) ≡ (codes "veil " ++ ((path_or_hyphen stands names ++ 32 ∷ []) ++ (or_equals (letters_of veil.1.now) ++ 10 ∷ []))) ++ veil_lines t (map shown (drop (i + 1) lent))
+    → veil_lines t (map shown (drop i lent))
+    ≡ (codes "veil " ++ ((path_or_hyphen stands names ++ 32 ∷ []) ++ (or_equals (perm_letters veil.1.now) ++ 10 ∷ [])))
+    ++ veil_lines t (map shown (drop (i + 1) lent))
 veil_next t lent veil i stands names within is stood named =
     ap (λ vs. veil_lines t (map shown vs)) (drop_more lent i veil within ∙ ap (λ v. v ∷ drop (i + 1) lent) (sym is))
     ∙ ap (λ line. line ++ veil_lines t (map shown (drop (i + 1) lent)))
-    (sym (line_parts (codes "veil") (place_text t veil.0.now) (or_equals (letters_of veil.1.now)))
-    ∙ (λ j. codes "veil " ++ ((path_or_hyphen (sym stood j) (sym named j) ++ 32 ∷ []) ++ (or_equals (letters_of veil.1.now) ++ 10 ∷ []))))
+    (sym (line_parts (codes "veil") (veil_place_text t veil.0.now) (or_equals (perm_letters veil.1.now)))
+    ∙ (λ j. codes "veil " ++ ((path_or_hyphen (sym stood j) (sym named j) ++ 32 ∷ []) ++ (or_equals (perm_letters veil.1.now) ++ 10 ∷ []))))
 
 pub veils_done : (t : Tree) (lent : List (Bor Place × Bor ℕ)) (i : ℕ) → length lent ≤ i → veil_lines t (map shown (drop i lent)) ≡ []
 veils_done t lent i past = ap (λ vs. veil_lines t (map shown vs)) (drop_of_length-le lent past)
 
 -- the next name stands before those that are still to come
 pub joined_next : (text before : List ℕ) (names : List (Bor (List ℕ))) (i : ℕ) (d : Bor (List ℕ)) → i < length names
-    → text ++ joined before (map (λ n. n.now) (drop i names)) ≡ (text ++ (before ++ (get_or names i d).now)) ++ joined (44 ∷ []) (map (λ n. n.now) (drop (i + 1) names))
+    → text ++ joined before (map (λ n. n.now) (drop i names)) ≡ (text ++ (before ++ (get_or names i d).now))
+    ++ joined (44 ∷ []) (map (λ n. n.now) (drop (i + 1) names))
 joined_next text before names i d within =
     ap (λ ns. text ++ joined before (map (λ n. n.now) ns)) (drop_more names i d within)
     ∙ sym (append_assoc text (before ++ (get_or names i d).now) (joined (44 ∷ []) (map (λ n. n.now) (drop (i + 1) names))))
 
-pub joined_done : (text before : List ℕ) (names : List (Bor (List ℕ))) (i : ℕ) → length names ≤ i → text ++ joined before (map (λ n. n.now) (drop i names)) ≡ text
-joined_done text before names i past = ap (λ ns. text ++ joined before (map (λ n. n.now) ns)) (drop_of_length-le names past) ∙ append-nil text
+pub joined_done : (text before : List ℕ) (names : List (Bor (List ℕ))) (i : ℕ) → length names ≤ i →
+    text ++ joined before (map (λ n. n.now) (drop i names)) ≡ text
+joined_done text before names i past = ap (λ ns. text ++ joined before (map (λ n. n.now) ns)) (drop_of_length-le names past) ∙
+    append-nil text
 
 -- four lines, one after another
-pub four_lines : (old n0 n1 n2 n3 a b c d : List ℕ) → n0 ≡ old ++ a → n1 ≡ n0 ++ b → n2 ≡ n1 ++ c → n3 ≡ n2 ++ d → n3 ≡ old ++ (((a ++ b) ++ c) ++ d)
+pub four_lines : (old n0 n1 n2 n3 a b c d : List ℕ) → n0 ≡ old ++ a → n1 ≡ n0 ++ b → n2 ≡ n1 ++ c → n3 ≡ n2 ++ d →
+    n3 ≡ old ++ (((a ++ b) ++ c) ++ d)
 four_lines old n0 n1 n2 n3 a b c d first second third fourth =
     fourth
     ∙ ap (λ t. t ++ d) (third ∙ ap (λ t. t ++ c) (second ∙ ap (λ t. t ++ b) first ∙ append_assoc old a b) ∙ append_assoc old (a ++ b) c)

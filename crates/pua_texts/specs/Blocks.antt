@@ -15,5 +15,6 @@ Passes text (Ok done) old new a b before after = HandsOn (old ++ text) new a b �
 Passes text (Err fault) old new a b before after = AddsFront (old ++ text) a b × HasFailed before after
 
 -- the same, of a sink of which this is known
-abbrev pub PassesOn : {A : Type 0} → (A → Option (List ℕ)) → (A → ℕ) → List ℕ → Result (Unit {0}) PutFault → List ℕ → List ℕ → A → A → Type 0
+abbrev pub PassesOn : {A : Type 0} → (A → Option (List ℕ)) → (A → ℕ) → List ℕ → Result (Unit {0}) PutFault → List ℕ → List ℕ → A → A →
+    Type 0
 PassesOn written failed text r old new a b = Passes text r old new (written a) (written b) (failed a) (failed b)

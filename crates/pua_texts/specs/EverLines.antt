@@ -5,15 +5,15 @@ use Rattle.pua_calls.specs.Calls.{CallTable}
 use Rattle.pua_policy.specs.History.{History}
 use Rattle.pua_audit.specs.Reach.{Word, printed_path}
 use Rattle.pua_audit.specs.declared.base.Base.TheVariants.{Root}
-use Rattle.pua_ever.specs.Ever.{EverLine, ever, ever_text as line_text}
+use Rattle.pua_ever.specs.Ever.{EverLine, ever, ever_line_text as line_text}
 use Rattle.pua_ever.specs.declared.line.EverThing.{EverThing}
 use Rattle.pua_ever.specs.declared.line.EverThing.TheVariants.{Stands, Comes}
 use Rattle.pua_objects.specs.declared.kind.ObjectKind.{ObjectKind}
 use Rattle.pua_texts.specs.States.{head_lines}
-use Rattle.pua_texts.specs.Lines.{ended}
+use Rattle.pua_texts.specs.Lines.{with_end}
 
 abbrev pub ever_lines : Tree → List EverLine → List ℕ
-ever_lines t lines = flat_map (λ line. ended (line_text t line)) lines
+ever_lines t lines = flat_map (λ line. with_end (line_text t line)) lines
 
 -- what kind of thing the code gives
 abbrev pub kind_of : EverThing → ObjectKind

@@ -50,5 +50,5 @@ abbrev pub AreListsBy : {A : Type 0} → (ℕ → Option History) → (ℕ → H
 AreListsBy made Is [] lists = lists ≡ []
 AreListsBy made Is (process ∷ more) lists = BeginsBy (Is process) (made process) (AreListsBy made Is more) lists
 
-abbrev pub AreListsOf : CallTable → World → List ℕ → List ListState → Type 0
-AreListsOf table w = AreListsBy (history_of w) (IsListOf table w.tree)
+abbrev pub AreProcessLists : CallTable → World → List ℕ → List ListState → Type 0
+AreProcessLists table w = AreListsBy (history_of w) (IsListOf table w.tree)

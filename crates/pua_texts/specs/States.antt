@@ -1,16 +1,17 @@
 -- What a list says of the state of a process: its promises, whether it may put veils, and its veils with where their places stand.
-use Rattle.std.specs.Prelude.{◌↔◌, ◌⊎◌, ◌≡◌, ℕ, zero, suc, Bool, if◌then◌else◌, List, [], ◌∷◌, ◌++◌, flat_map, length, reverse, Option, Some, None, codes, decimal}
+use Rattle.std.specs.Prelude.{◌↔◌, ◌⊎◌, ◌≡◌, ℕ, zero, suc, Bool, if◌then◌else◌, List, [], ◌∷◌, ◌++◌, flat_map, length, reverse, Option}
+use Rattle.std.specs.Prelude.{Some, None, codes, decimal}
 use Rattle.std.specs.Option.{option_map_or}
 use Rattle.pua_tree.specs.Tree.{Tree, is_dir, spot_of}
-use Rattle.pua_calls.specs.Promises.{holds, unveil, keywords_of, letters_of}
-use Rattle.pua_policy.specs.History.{History, held, held_for_exec, is_ended, is_locked, pledged, veils}
+use Rattle.pua_calls.specs.Promises.{holds, unveil, keywords_of, perm_letters}
+use Rattle.pua_policy.specs.History.{History, held_set, held_for_exec, is_ended, is_locked, pledged_set, veils}
 use Rattle.pua_policy.specs.declared.place.Place.{Place}
 use Rattle.pua_policy.specs.declared.place.Place.TheVariants.{Dir, Slot}
 use Rattle.pua_script.specs.Laws.{IsConfined}
 use Rattle.pua_audit.specs.Reach.{Word, printed_path}
 use Rattle.pua_audit.specs.declared.base.Base.TheVariants.{Root}
 use Rattle.pua_objects.specs.Objects.{with_commas}
-use Rattle.pua_texts.specs.Lines.{ended}
+use Rattle.pua_texts.specs.Lines.{with_end}
 
 -- a text, or `=` where it is empty
 abbrev pub or_equals : List ℕ → List ℕ
@@ -18,22 +19,22 @@ or_equals [] = codes "="
 or_equals (b ∷ more) = b ∷ more
 
 -- the keywords of promises, in their order; `-` where no pledge gave any
-abbrev pub promises_text : Option ℕ → List ℕ
-promises_text None = codes "-"
-promises_text (Some promises) = or_equals (with_commas (keywords_of promises))
+abbrev pub pledged_text : Option ℕ → List ℕ
+pledged_text None = codes "-"
+pledged_text (Some promises) = or_equals (with_commas (keywords_of promises))
 
 -- whether the process may still put veils: what it held before its first pledge has `unveil`
 abbrev pub unveil_word : History → List ℕ
-unveil_word h = if is_locked h then codes "locked" else (if holds (held h) unveil then codes "open" else codes "given-up")
+unveil_word h = if is_locked h then codes "locked" else (if holds (held_set h) unveil then codes "open" else codes "given-up")
 
 -- the lines of a living process before those of its veils
 abbrev pub living_lines : History → List ℕ
-living_lines h = ended (codes "process alive") ++ ended (codes "promises " ++ promises_text (pledged h))
-    ++ ended (codes "execpromises " ++ promises_text (held_for_exec h)) ++ ended (codes "unveil " ++ unveil_word h)
+living_lines h = with_end (codes "process alive") ++ with_end (codes "promises " ++ pledged_text (pledged_set h))
+    ++ with_end (codes "execpromises " ++ pledged_text (held_for_exec h)) ++ with_end (codes "unveil " ++ unveil_word h)
 
 -- an ended process has one line
 abbrev pub own_lines : History → List ℕ
-own_lines h = if is_ended h then ended (codes "process ended") else living_lines h
+own_lines h = if is_ended h then with_end (codes "process ended") else living_lines h
 
 -- the veils that a living process keeps, in the order in which their places were first kept
 abbrev pub living_veils : History → List (Place × ℕ)
@@ -41,7 +42,7 @@ living_veils h = if is_ended h then [] else veils h
 
 -- the heading of a list, by what it is a list of and the number of its process
 abbrev pub heading_line : List ℕ → ℕ → List ℕ
-heading_line title process = ended (title ++ 32 ∷ decimal process)
+heading_line title process = with_end (title ++ 32 ∷ decimal process)
 
 -- the names of a directory and of those above it, up to the root, which stands in no row; at most so many
 abbrev pub names_up : ℕ → Tree → ℕ → Word
@@ -70,11 +71,11 @@ place_names t place = own_name place ++ names_over t (place_dir place)
 abbrev pub path_or_hyphen : Bool → Word → List ℕ
 path_or_hyphen stands word = if stands then printed_path Root word else codes "-"
 
-abbrev pub place_text : Tree → Place → List ℕ
-place_text t place = path_or_hyphen (is_dir t (place_dir place)) (reverse (place_names t place))
+abbrev pub veil_place_text : Tree → Place → List ℕ
+veil_place_text t place = path_or_hyphen (is_dir t (place_dir place)) (reverse (place_names t place))
 
 abbrev pub veil_line : Tree → (Place × ℕ) → List ℕ
-veil_line t veil = ended (codes "veil " ++ place_text t veil.0 ++ 32 ∷ or_equals (letters_of veil.1))
+veil_line t veil = with_end (codes "veil " ++ veil_place_text t veil.0 ++ 32 ∷ or_equals (perm_letters veil.1))
 
 abbrev pub veil_lines : Tree → List (Place × ℕ) → List ℕ
 veil_lines t vs = flat_map (veil_line t) vs

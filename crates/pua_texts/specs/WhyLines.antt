@@ -11,7 +11,7 @@ use Rattle.pua_script.specs.Replay.{World, history_of, world_after}
 use Rattle.pua_objects.specs.Objects.{Line, Subject, At, Others, line_text, objects}
 use Rattle.pua_why.specs.Columns.{columns, covering_in}
 use Rattle.pua_texts.specs.States.{head_lines}
-use Rattle.pua_texts.specs.Lines.{ended}
+use Rattle.pua_texts.specs.Lines.{with_end}
 
 -- the table of calls, the world before a script, and its requests
 pub record Posed : Type 0 where
@@ -30,11 +30,13 @@ covering_on t h (Others dir) = covering_in t h dir
 
 abbrev pub why_line : Posed → ℕ → History → Line → List ℕ
 why_line p process h line =
-    ended (line_text (world_left p).tree line ++ columns p.table p.world p.asks process h line.calls (covering_on (world_left p).tree h line.subject))
+    with_end (line_text (world_left p).tree line ++ columns p.table p.world p.asks process h line.calls
+    (covering_on (world_left p).tree h line.subject))
 
 -- the list of a process with reasons: its heading, its state, and a line for each object on which its history allows a call
 abbrev pub why_list : Posed → ℕ → History → List ℕ
-why_list p process h = head_lines (world_left p).tree (codes "objects") process h ++ flat_map (why_line p process h) (objects (world_left p).tree p.table h)
+why_list p process h =
+    head_lines (world_left p).tree (codes "objects") process h ++ flat_map (why_line p process h) (objects (world_left p).tree p.table h)
 
 -- a number that was never made has no list
 abbrev pub why_list_of : Posed → ℕ → List ℕ

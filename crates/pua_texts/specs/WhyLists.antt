@@ -1,5 +1,6 @@
 -- Lists with reasons that the code has begun, as the definitions see them.
-use Rattle.std.specs.Prelude.{◌≡◌, ⊤, ℕ, List, [], ◌∷◌, ◌++◌, map, flat_map, if◌then◌else◌, Some, codes, decimal, string_bytes, unwrap_or, Option}
+use Rattle.std.specs.Prelude.{◌≡◌, ⊤, ℕ, List, [], ◌∷◌, ◌++◌, map, flat_map, if◌then◌else◌, Some, codes, decimal, string_bytes, unwrap_or}
+use Rattle.std.specs.Prelude.{Option}
 use Rattle.pua_tree.specs.Tree.{Tree}
 use Rattle.pua_path.specs.declared.found.Way.TheVariants.{Top}
 use Rattle.pua_path.specs.declared.found.Found.{Found}
@@ -16,7 +17,7 @@ use Rattle.pua_objects.specs.Objects.{Item, Subject, At, Others, items}
 use Rattle.pua_objects.specs.Ready.{lines_of}
 use Rattle.pua_why.specs.Columns.{veil_columns}
 use Rattle.pua_why.specs.Since.{since}
-use Rattle.pua_why.specs.Texts.{has_veil, letters_text, place_text}
+use Rattle.pua_why.specs.Texts.{has_veil_on, letters_text, place_text}
 use Rattle.pua_texts.specs.Lists.{AreListsBy, HeadState, IsHeadOf}
 use Rattle.pua_texts.specs.WhyLines.{Posed, why_line, world_left}
 use Rattle.pua_texts.specs.declared.why_columns.VeilColumns.{VeilColumns}
@@ -47,7 +48,11 @@ veil_behind t place given line = 32 ∷ place_text t place ++ 32 ∷ letters_tex
 
 -- the columns of a veil that a process keeps at the end of a script
 abbrev pub veil_kept : Posed → ℕ → (Place × ℕ) → VeilState
-veil_kept p process veil = record { place = veil.0; text = veil_behind (world_left p).tree veil.0 veil.1 (since (has_veil veil.0 veil.1) p.table p.world 1 p.asks process) }
+veil_kept p process veil =
+    record {
+      place = veil.0;
+      text = veil_behind (world_left p).tree veil.0 veil.1 (since (has_veil_on veil.0 veil.1) p.table p.world 1 p.asks process);
+    }
 
 abbrev pub veils_behind : Posed → ℕ → List (Place × ℕ) → List VeilState
 veils_behind p process vs = map (veil_kept p process) vs

@@ -2,7 +2,7 @@
 
 ghost use Rattle.std.specs.Prelude.{◌≡◌, ◌++◌, ◌∷◌, IfOk, OnOk, string_bytes, option_map};
 ghost use Rattle.pua_script.specs.AnswerTexts.{answer_text as answer_word};
-ghost use Rattle.pua_texts.specs.Lines.{answer_lines, ended, front_of};
+ghost use Rattle.pua_texts.specs.Lines.{answer_lines, with_end, front_of};
 
 use itoa::Buffer;
 use pua_script::Answer;
@@ -10,12 +10,12 @@ use std::alloc::{AllocError, Global};
 use std::fmt::Write;
 
 /// A line for each answer, with the number of its line in the script, counted from 1.
-pub fn answer_text(alloc: Global, told: &[Answer]) -> Result<String, AllocError>
-    ensures { IfOk result (λ text. string_bytes text ≡ answer_lines 1 told.now) }
+pub fn answer_text(alloc: Global, answers: &[Answer]) -> Result<String, AllocError>
+    ensures { IfOk result (λ text. string_bytes text ≡ answer_lines 1 answers.now) }
 {
     let mut text = String::new(alloc);
     let mut digits = Buffer::new();
-    for (place, answer) in told.iter().enumerate() {
+    for (place, answer) in answers.iter().enumerate() {
         push_answer(&mut text, digits.format(place + 1), *answer)?;
     }
     Ok(text)
@@ -23,7 +23,7 @@ pub fn answer_text(alloc: Global, told: &[Answer]) -> Result<String, AllocError>
 
 /// Adds the line of an answer to a request whose number has these digits.
 fn push_answer(text: &mut String, digits: &str, answer: Answer) -> Result<(), AllocError>
-    ensures { OnOk result (string_bytes text.new ≡ string_bytes text.old ++ ended (digits.now
+    ensures { OnOk result (string_bytes text.new ≡ string_bytes text.old ++ with_end (digits.now
         ++ 32 ∷ answer_word answer)) }
 {
     text.push_str(digits)?;
@@ -46,17 +46,17 @@ fn push_word(text: &mut String, answer: Answer) -> Result<(), AllocError>
 /// resumed, which doesn't write them again.
 pub fn front_text(
     alloc: Global,
-    told: &[Answer],
+    answers: &[Answer],
     process: u32,
     after: Option<&[u8]>,
 ) -> Result<String, AllocError>
     ensures { IfOk result (λ text. string_bytes text
-        ≡ front_of (option_map (λ s. s.now) after.entry) process told.now) }
+        ≡ front_of (option_map (λ s. s.now) after.entry) process answers.now) }
 {
     if after.is_some() {
         return Ok(String::new(alloc));
     }
-    let mut text = answer_text(alloc, told)?;
+    let mut text = answer_text(alloc, answers)?;
     writeln!(text, "reach {process}")?;
     Ok(text)
 }

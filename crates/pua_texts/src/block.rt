@@ -8,7 +8,7 @@ ghost use Rattle.pua_io.specs.Sinks.{AddsFront, HasFailed, WritesTo};
 
 use crate::fault::TextFault;
 use pua_io::{PutFault, Sink, put_all};
-use pua_path::PATH_LIMIT;
+use pua_path::MOST_PATH;
 use pua_tree::OutOfMemory;
 use std::alloc::Global;
 use std::marker::Model;
@@ -19,7 +19,7 @@ pub(crate) const MOST_END: usize = 16;
 
 /// How many bytes a line takes at most while it is written: each byte of its path may be spelled by
 /// four, and those that are copied for its end stand after it.
-pub(crate) const MOST_LINE: usize = 4 * PATH_LIMIT + MOST_END;
+pub(crate) const MOST_LINE: usize = 4 * MOST_PATH + MOST_END;
 
 /// How many bytes a block has room for.
 pub(crate) const BLOCK: usize = 65_536;

@@ -4,13 +4,13 @@ ghost use Rattle.std.specs.Prelude.{◌++◌, ◌∷◌, codes, map};
 ghost use Rattle.pua_calls.specs.Calls.{call_name};
 ghost use Rattle.pua_calls.specs.CallSets.{calls_in};
 ghost use Rattle.pua_policy.specs.History.{History, StandsFor};
-ghost use Rattle.pua_ever.specs.EverLines.{lines_of};
+ghost use Rattle.pua_ever.specs.EverLines.{ever_lines_of};
 ghost use Rattle.pua_objects.specs.Lines.{kind_word};
 ghost use Rattle.pua_objects.specs.Objects.{with_commas};
 ghost use Rattle.pua_texts.specs.Blocks.{PassesOn};
 ghost use Rattle.pua_texts.specs.KeptPaths.{IsKept};
 ghost use Rattle.pua_texts.specs.EverLines.{ever_lines, kind_of, path_or_new};
-ghost use Rattle.pua_texts.specs.Lines.{ended};
+ghost use Rattle.pua_texts.specs.Lines.{with_end};
 
 use crate::block::Block;
 use crate::kept_path::KeptPath;
@@ -31,7 +31,7 @@ pub(crate) fn add_ever<T: FileTree, S: Sink>(
 ) -> Result<(), PutFault>
     ensures { (h : History) → StandsFor list.old.process h →
         PassesOn S.written S.failed
-        (ever_lines list.old.tree (lines_of list.old.tree list.old.table h list.old.left))
+        (ever_lines list.old.tree (ever_lines_of list.old.tree list.old.table h list.old.left))
         result block.old block.new sink.old sink.new }
 {
     path.clear();
@@ -53,7 +53,7 @@ fn add_thing<S: Sink>(
 ) -> Result<(), PutFault>
     requires kept { IsKept (map (λ name. name.now) word.now) path.now }
     ensures { PassesOn S.written S.failed
-        (ended (kind_word (kind_of line.thing) ++ 32 ∷ path_or_new line.thing (map
+        (with_end (kind_word (kind_of line.thing) ++ 32 ∷ path_or_new line.thing (map
         (λ name. name.now) word.now) ++ 32 ∷ with_commas (map call_name (calls_in line.calls))))
         result block.old block.new sink.old sink.new }
 {
@@ -74,7 +74,7 @@ fn add_coming<S: Sink>(
     sink: &mut S,
 ) -> Result<(), PutFault>
     ensures { PassesOn S.written S.failed
-        (ended (kind_word kind ++ 32 ∷ codes "new" ++ 32 ∷ with_commas (map call_name
+        (with_end (kind_word kind ++ 32 ∷ codes "new" ++ 32 ∷ with_commas (map call_name
         (calls_in calls))))
         result block.old block.new sink.old sink.new }
 {

@@ -13,7 +13,7 @@ use std::alloc::Global;
 use std::marker::Model;
 
 /// How many names are kept at most. Where they are short, so many fill a block.
-const MOST_NAMES: usize = 8_192;
+const MOST_KEPT_NAMES: usize = 8_192;
 
 /// The first names of a path as they are printed. What the next path shares with it is not spelled
 /// again. Its room is reserved when it is made, so a path with more names than have room is kept in
@@ -41,7 +41,7 @@ impl KeptPath {
         ensures { IfOk result (λ path. path ≡ record { text = []; starts = [] }) }
     {
         let text = Block::new(alloc)?;
-        match Vec::with_capacity(alloc, MOST_NAMES) {
+        match Vec::with_capacity(alloc, MOST_KEPT_NAMES) {
             Ok(starts) => Ok(KeptPath { text, starts }),
             Err(_) => Err(OutOfMemory),
         }
@@ -105,14 +105,15 @@ impl KeptPath {
     /// Whether there is room for a further name.
     fn has_room(&self) -> bool
         ensures { result ≡ true →
-            (length self.now.starts < MOST_NAMES) × (length self.now.text + MOST_LINE ≤ BLOCK) }
+            (length self.now.starts < MOST_KEPT_NAMES)
+            × (length self.now.text + MOST_LINE ≤ BLOCK) }
     {
-        self.starts.len() < MOST_NAMES && self.text.len() <= BLOCK - MOST_LINE
+        self.starts.len() < MOST_KEPT_NAMES && self.text.len() <= BLOCK - MOST_LINE
     }
 
     /// Keeps a further name.
     fn push(&mut self, name: &Name)
-        requires names { length self.old.starts < MOST_NAMES }
+        requires names { length self.old.starts < MOST_KEPT_NAMES }
         requires room { length self.old.text + MOST_LINE ≤ BLOCK }
         ensures { self.new ≡ record {
           text = self.old.text ++ (47 ∷ spelling name.now);

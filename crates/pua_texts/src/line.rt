@@ -2,9 +2,9 @@
 
 ghost use Rattle.std.specs.Prelude.{◌≡◌, ◌≤◌, ◌+◌, ◌*◌, ◌++◌, ◌∷◌, length, IsTrue, take};
 ghost use Rattle.pua_tree.specs.Spelling.{spelling};
-ghost use Rattle.pua_path.specs.Limits.{path_limit};
+ghost use Rattle.pua_path.specs.Limits.{most_path};
 ghost use Rattle.pua_calls.specs.Calls.{call_name};
-ghost use Rattle.pua_texts.specs.Lines.{ended, pair_lines};
+ghost use Rattle.pua_texts.specs.Lines.{with_end, pair_lines};
 ghost use Rattle.pua_texts.specs.Blocks.{PassesOn};
 
 use crate::block::{BLOCK, Block, MOST_END, MOST_LINE};
@@ -15,7 +15,7 @@ use pua_path::Probe;
 use pua_tree::{are_plain, byte_spelling};
 
 /// How many bytes the name of a call has at most.
-pub(crate) const MOST_NAME: usize = 8;
+pub(crate) const MOST_CALL_NAME: usize = 8;
 
 /// Adds a line for each pair that an audit has still to give to a block, which is put where the next
 /// line might not fit. Its memory is used again.
@@ -41,10 +41,10 @@ pub(crate) fn add_pairs<'t, P: Probe<'t>, S: Sink>(
 /// is needs no spelling.
 #[tactic(auto, using(crate::proofs::Pairs::line_ends))]
 fn add_line(block: &mut Block, plain: bool, path: &[u8], call: Call)
-    requires short { length path.now ≤ path_limit }
+    requires short { length path.now ≤ most_path }
     requires plain { IsTrue plain → spelling path.now ≡ path.now }
     requires free { length block.old + MOST_LINE ≤ BLOCK }
-    ensures { block.new ≡ block.old ++ ended (spelling path.now ++ 32 ∷ call_name call) }
+    ensures { block.new ≡ block.old ++ with_end (spelling path.now ++ 32 ∷ call_name call) }
 {
     add_printed(block, plain, path);
     add_end(block, call);
@@ -56,7 +56,7 @@ fn add_line(block: &mut Block, plain: bool, path: &[u8], call: Call)
 #[inline(always)]
 fn add_end(block: &mut Block, call: Call)
     requires { length block.old + MOST_END ≤ BLOCK }
-    ensures { block.new ≡ block.old ++ ended (32 ∷ call_name call) }
+    ensures { block.new ≡ block.old ++ with_end (32 ∷ call_name call) }
 {
     let padded = padded_end(call);
     let end = block.len() + call.name().len() + 2;
@@ -66,7 +66,7 @@ fn add_end(block: &mut Block, call: Call)
 
 /// A blank, the name of a call and LF, with blanks after them.
 fn padded_end(call: Call) -> &'static [u8]
-    ensures end { take (length (call_name call) + 2) result.now ≡ ended (32 ∷ call_name call) }
+    ensures end { take (length (call_name call) + 2) result.now ≡ with_end (32 ∷ call_name call) }
     ensures width { length result.now ≡ MOST_END }
     ensures short { length (call_name call) + 2 ≤ MOST_END }
 {
@@ -93,11 +93,11 @@ fn padded_end(call: Call) -> &'static [u8]
 #[tactic(auto, using(crate::proofs::Pairs::spelling_plain))]
 #[inline(always)]
 pub(crate) fn add_printed(block: &mut Block, plain: bool, path: &[u8])
-    requires short { length path.now ≤ path_limit }
+    requires short { length path.now ≤ most_path }
     requires plain { IsTrue plain → spelling path.now ≡ path.now }
-    requires free { length block.old + 4 * path_limit ≤ BLOCK }
+    requires free { length block.old + 4 * most_path ≤ BLOCK }
     ensures path { block.new ≡ block.old ++ spelling path.now }
-    ensures short { length block.new ≤ length block.old + 4 * path_limit }
+    ensures short { length block.new ≤ length block.old + 4 * most_path }
 {
     if plain || are_plain(path) {
         block.push(path);
@@ -121,9 +121,9 @@ fn spell(block: &mut Block, path: &[u8])
 /// program knows beforehand is quick, so those after the name are copied too, and cut off again.
 #[inline(always)]
 pub(crate) fn add_call(block: &mut Block, call: Call)
-    requires { length block.old + MOST_NAME ≤ BLOCK }
+    requires { length block.old + MOST_CALL_NAME ≤ BLOCK }
     ensures name { block.new ≡ block.old ++ call_name call }
-    ensures short { length block.new ≤ length block.old + MOST_NAME }
+    ensures short { length block.new ≤ length block.old + MOST_CALL_NAME }
 {
     let padded = padded_name(call);
     let end = block.len() + call.name().len();
@@ -134,8 +134,8 @@ pub(crate) fn add_call(block: &mut Block, call: Call)
 /// The name of a call with blanks after it.
 fn padded_name(call: Call) -> &'static [u8]
     ensures name { take (length (call_name call)) result.now ≡ call_name call }
-    ensures width { length result.now ≡ MOST_NAME }
-    ensures short { length (call_name call) ≤ MOST_NAME }
+    ensures width { length result.now ≡ MOST_CALL_NAME }
+    ensures short { length (call_name call) ≤ MOST_CALL_NAME }
 {
     match call {
         Call::Stat => b"stat    ",

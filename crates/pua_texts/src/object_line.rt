@@ -13,11 +13,11 @@ ghost use Rattle.pua_tree.specs.Spelling.{spelling};
 ghost use Rattle.pua_texts.specs.Blocks.{PassesOn};
 ghost use Rattle.pua_texts.specs.KeptPaths.{IsKept};
 ghost use Rattle.pua_texts.specs.ObjectLines.{object_lines};
-ghost use Rattle.pua_texts.specs.Lines.{ended};
+ghost use Rattle.pua_texts.specs.Lines.{with_end};
 
 use crate::block::{BLOCK, Block, MOST_LINE};
 use crate::kept_path::KeptPath;
-use crate::line::{MOST_NAME, add_call, add_printed};
+use crate::line::{MOST_CALL_NAME, add_call, add_printed};
 use pua_calls::{Call, Calls};
 use pua_io::{PutFault, Sink};
 use pua_objects::{ObjectKind, ObjectLine, Objects};
@@ -56,7 +56,7 @@ pub(crate) fn add_line<S: Sink>(
 ) -> Result<(), PutFault>
     requires kept { IsKept (map (λ name. name.now) word.now) path.now }
     ensures { PassesOn S.written S.failed
-        (ended (kind_word line.kind ++ 32 ∷ printed_path base.Root (map
+        (with_end (kind_word line.kind ++ 32 ∷ printed_path base.Root (map
         (λ name. name.now) word.now) ++ 32 ∷ with_commas (map call_name (calls_in line.calls))))
         result block.old block.new sink.old sink.new }
 {
@@ -174,9 +174,9 @@ fn add_names(block: &mut Block, calls: Calls)
 
 /// Adds the name of a call, with a comma before it unless it is the first of its line.
 fn add_next(block: &mut Block, is_first: bool, call: Call)
-    requires { length block.old + (MOST_NAME + 1) ≤ BLOCK }
+    requires { length block.old + (MOST_CALL_NAME + 1) ≤ BLOCK }
     ensures name { block.new ≡ block.old ++ ((if is_first then [] else 44 ∷ []) ++ call_name call) }
-    ensures short { length block.new ≤ length block.old + (MOST_NAME + 1) }
+    ensures short { length block.new ≤ length block.old + (MOST_CALL_NAME + 1) }
 {
     if !is_first {
         block.push(b",");

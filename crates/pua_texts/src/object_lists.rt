@@ -5,7 +5,7 @@ ghost use Rattle.pua_calls.specs.Calls.{CallTable as Rules};
 ghost use Rattle.pua_script.specs.Replay.{World as Replayed};
 ghost use Rattle.pua_script.specs.Worlds.{StandsForWorld};
 ghost use Rattle.pua_texts.specs.Blocks.{PassesOn};
-ghost use Rattle.pua_texts.specs.Lists.{AreListsOf};
+ghost use Rattle.pua_texts.specs.Lists.{AreProcessLists};
 ghost use Rattle.pua_texts.specs.ObjectLines.{lists_of};
 ghost use Rattle.pua_texts.specs.Tells.{TellsTo};
 
@@ -50,7 +50,7 @@ fn begin_lists<'t, T: FileTree>(
     numbers: &[u32],
 ) -> Result<VecDeque<ProcessList<'t, T>>, OutOfMemory>
     ensures { IfOk result (λ lists. (w : Replayed) → StandsForWorld world.now w →
-        AreListsOf world.now.table w numbers.now lists.items) }
+        AreProcessLists world.now.table w numbers.now lists.items) }
 {
     let mut lists = VecDeque::new(alloc);
     for number in numbers {
@@ -75,7 +75,7 @@ fn add_lists<'t, T: FileTree, S: Sink>(
     sink: &mut S,
 ) -> Result<(), PutFault>
     ensures { (table : Rules) (w : Replayed) (numbers : List ℕ) → places.old.tree ≡ w.tree →
-        AreListsOf table w numbers lists.old.items →
+        AreProcessLists table w numbers lists.old.items →
         PassesOn S.written S.failed
         (front.now ++ lists_of table w numbers)
         result block.old block.new sink.old sink.new }

@@ -5,8 +5,8 @@ ghost use Rattle.std.specs.Prelude.{string_bytes};
 ghost use Rattle.pua_policy.specs.History.{History, StandsFor};
 ghost use Rattle.pua_objects.specs.Objects.{with_commas};
 ghost use Rattle.pua_texts.specs.States.{heading_line, living_lines, or_equals, own_lines};
-ghost use Rattle.pua_texts.specs.States.{promises_text, unveil_word};
-ghost use Rattle.pua_texts.specs.Lines.{ended};
+ghost use Rattle.pua_texts.specs.States.{pledged_text, unveil_word};
+ghost use Rattle.pua_texts.specs.Lines.{with_end};
 
 use pua_calls::Promises;
 use pua_policy::Process;
@@ -63,7 +63,7 @@ fn push_living(alloc: Global, text: &mut String, process: &Process) -> Result<()
 
 /// Adds a line of a label and a value.
 fn push_line(text: &mut String, label: &str, value: &str) -> Result<(), AllocError>
-    ensures { OnOk result (string_bytes text.new ≡ string_bytes text.old ++ ended (label.now
+    ensures { OnOk result (string_bytes text.new ≡ string_bytes text.old ++ with_end (label.now
         ++ value.now)) }
 {
     writeln!(text, "{label}{value}")
@@ -86,7 +86,7 @@ fn unveil_state(process: &Process) -> &'static str
 /// Promises as a script has them: keywords with commas between them, `=` for none, and `-` where
 /// none were given.
 fn spelled_promises(alloc: Global, promises: Option<Promises>) -> Result<String, AllocError>
-    ensures { IfOk result (λ text. string_bytes text ≡ promises_text promises) }
+    ensures { IfOk result (λ text. string_bytes text ≡ pledged_text promises) }
 {
     let Some(promises) = promises else {
         return String::from_str(alloc, "-");

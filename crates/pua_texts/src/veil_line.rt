@@ -1,7 +1,7 @@
 //! The lines of veils, written in blocks.
 
 ghost use Rattle.std.specs.Prelude.{◌≡◌, ◌≤◌, ◌++◌, ◌∷◌, [], codes, length, map};
-ghost use Rattle.pua_calls.specs.Promises.{letters_of};
+ghost use Rattle.pua_calls.specs.Promises.{perm_letters};
 ghost use Rattle.pua_texts.specs.Blocks.{PassesOn};
 ghost use Rattle.pua_texts.specs.States.{or_equals, path_or_hyphen, veil_lines};
 
@@ -43,7 +43,7 @@ fn add_veil<S: Sink>(
 ) -> Result<(), PutFault>
     ensures { PassesOn S.written S.failed
         (codes "veil " ++ ((path_or_hyphen stands (map (λ name. name.now) names.now)
-        ++ 32 ∷ []) ++ (or_equals (letters_of perms) ++ 10 ∷ [])))
+        ++ 32 ∷ []) ++ (or_equals (perm_letters perms) ++ 10 ∷ [])))
         result block.old block.new sink.old sink.new }
 {
     block.add(b"veil ", sink)?;
@@ -72,7 +72,7 @@ fn add_place<S: Sink>(
 /// Adds the letters of a veil, or `=`, and LF.
 fn add_letters<S: Sink>(block: &mut Block, perms: Perms, sink: &mut S) -> Result<(), PutFault>
     ensures { PassesOn S.written S.failed
-        (or_equals (letters_of perms) ++ 10 ∷ [])
+        (or_equals (perm_letters perms) ++ 10 ∷ [])
         result block.old block.new sink.old sink.new }
 {
     block.make_room(sink)?;
@@ -83,7 +83,7 @@ fn add_letters<S: Sink>(block: &mut Block, perms: Perms, sink: &mut S) -> Result
 
 /// The letters of a veil, or `=` where it has none.
 pub(crate) fn shown_letters(perms: Perms) -> &'static str
-    ensures letters { result.now ≡ or_equals (letters_of perms) }
+    ensures letters { result.now ≡ or_equals (perm_letters perms) }
     ensures short { length result.now ≤ 4 }
 {
     let letters = perms.letters();

@@ -280,7 +280,8 @@ fn covering_of<T: FileTree>(tree: &T, process: &Process, subject: &Subject<'_>) 
     ensures covered { let about = subject_given (T.content tree.now) subject.now in
         SubjectFits (T.content tree.now) about → (h : History) → StandsFor process.now h →
         result ≡ covering_on (T.content tree.now) h about }
-    ensures kept { SubjectFits (T.content tree.now) (subject_given (T.content tree.now) subject.now) →
+    ensures kept { SubjectFits (T.content tree.now)
+        (subject_given (T.content tree.now) subject.now) →
         (h : History) → StandsFor process.now h → IsAmongVeils (veils h) result }
 {
     tree.known();

@@ -1,12 +1,8 @@
 -- What is served and audited over two trees of the same content is the same.
-use Rattle.std.proofs.Common.{◌≡◌, List, [], sym, ap, ◌∙◌, subst}
-use Rattle.std.specs.Prelude.{Some, Result, Ok, Err}
-use Rattle.pua_tree.specs.Tree.{Tree}
-use Rattle.pua_calls.specs.Calls.{CallTable}
-use Rattle.pua_policy.specs.History.{History}
-use Rattle.pua_script.specs.Requests.{Asked}
-use Rattle.pua_script.specs.Replay.{World, new_world, answers, history_of, world_after}
-use Rattle.pua_script.specs.Worlds.{StandsForWorld, StandsAt}
+use Rattle.pua_tool.proofs.Common.{◌≡◌, List, [], sym, ap, ◌∙◌, subst, Some, Result, Tree, CallTable, History, Asked, World, new_world}
+use Rattle.pua_tool.proofs.Common.{answers_to, history_of, world_after, StandsForWorld, is_made}
+use Rattle.std.specs.Prelude.{Ok, Err}
+use Rattle.pua_script.specs.Worlds.{StandsAt}
 use Rattle.pua_audit.specs.AuditState.{AuditState}
 use Rattle.pua_audit.specs.Reach.{Pair}
 use Rattle.pua_audit.specs.Begin.{Beginning, beginning, still_to_come}
@@ -14,14 +10,13 @@ use Rattle.pua_audit.specs.declared.fault.AuditFault.{AuditFault}
 use Rattle.pua_tool.specs.Alike.{IsAuditedOver, AnswersAlike, LinesAlike}
 use Rattle.pua_tool.specs.Texts.{Wanted}
 use Rattle.pua_texts.specs.Lines.{pair_lines}
-use Rattle.pua_texts.proofs.ForCallers.{is_made}
 use Rattle.pua_tool.proofs.Replays.{left_by_same}
 
 answers_over : (t : Tree) → AnswersAlike t t
-answers_over t rules asks told said after left run other =
+answers_over t rules asks answers said after left run other =
     let one = run.served (new_world t) run.new in
     let two = other.served (new_world t) other.new in (
-      one.0 ∙ ap (λ table. answers table (new_world t) asks) (run.table ∙ sym other.table) ∙ sym two.0,
+      one.0 ∙ ap (λ table. answers_to table (new_world t) asks) (run.table ∙ sym other.table) ∙ sym two.0,
       one.1.tree ∙ ap (λ table. (world_after table (new_world t) asks).tree) (run.table ∙ sym other.table) ∙ sym two.1.tree,
     )
 
@@ -40,7 +35,8 @@ module _ (rules : CallTable) (t : Tree) (asks : List Asked) (wanted : Wanted) wh
   stands_in : (audit : AuditState) (a : IsAuditedOver rules t asks wanted audit) → StandsForWorld a.after left_by
   stands_in audit a = left_by_same a.run.before.table rules (new_world t) asks a.run.table (a.run.served (new_world t) a.run.new).1
 
-  process_in : (audit : AuditState) (a : IsAuditedOver rules t asks wanted audit) → StandsAt (Some a.process) (history_of left_by wanted.process)
+  process_in : (audit : AuditState) (a : IsAuditedOver rules t asks wanted audit) →
+      StandsAt (Some a.process) (history_of left_by wanted.process)
   process_in audit a =
       subst (λ kept. StandsAt kept (history_of left_by wanted.process)) a.there ((stands_in audit a).processes wanted.process)
 

@@ -1,21 +1,24 @@
 -- How commands end, after the faults that they tell and the flush of the output.
-use Rattle.std.proofs.Common.{ℕ, ◌<◌, ◌≡◌, ◌≢◌, ◌⊎◌, List, length, take, Option, Result, Ok, Err, OnErr, OnOk, arith, inl, inr, sym, ◌∙◌, subst, take_all}
+use Rattle.pua_tool.proofs.Common.{ℕ, ◌≡◌, ◌≢◌, List, Ok, Err, arith, sym, ◌∙◌, subst, Adds, AddsFront}
+use Rattle.std.proofs.Common.{◌<◌, ◌⊎◌, length, take, Option, Result, OnErr, OnOk, inl, inr}
+use Rattle.std.proofs.Common.{take_all}
 use Rattle.std.proofs.lemmas.Bool.{cases_order}
 use Rattle.std.specs.Io.KnownBytes.{Keeps}
 use Rattle.std.proofs.KnownBytes.{Appends-kept}
 use Rattle.pua_io.specs.Held.{Held}
 use Rattle.pua_tool.specs.Performed.{HasAnswered, HasEnded, HasHalted}
-use Rattle.pua_io.specs.Sinks.{Adds, AddsFront, HasFailed, counted}
+use Rattle.pua_io.specs.Sinks.{HasFailed, next_count}
 use Rattle.pua_io.specs.declared.sink.PutFault.{PutFault}
 use Rattle.pua_tool.specs.declared.status.TheConstants.{DONE, DEVICE}
 use Rattle.pua_io.proofs.ForCallers.{counted_has_failed}
 
 -- a count of failures that rose stays so after a flush
-failed_still : (flushed : Result (Unit {0}) PutFault) (before between after : ℕ) → OnOk flushed (after ≡ between) → OnErr flushed (after ≡ counted between) → HasFailed before between → HasFailed before after
+failed_still : (flushed : Result (Unit {0}) PutFault) (before between after : ℕ) → OnOk flushed (after ≡ between) →
+    OnErr flushed (after ≡ next_count between) → HasFailed before between → HasFailed before after
 failed_still (Ok done) before between after same rises failed = subst (λ k. HasFailed before k) (sym same) failed
 failed_still (Err fault) before between after same rises (inl less) = by_counted (counted_has_failed between)
   where
-    by_counted : HasFailed between (counted between) → HasFailed before after
+    by_counted : HasFailed between (next_count between) → HasFailed before after
     by_counted (inl more) = inl (omega (arith, rises, less, more))
     by_counted (inr most) = inr (rises ∙ most)
 failed_still (Err fault) before between after same rises (inr most) = inr (omega (arith, rises, most))
@@ -26,40 +29,62 @@ front_still text a b c front keeps = (front.0, front.1, Appends-kept a b c (take
 
 -- a whole text is a front of it
 whole_front : (text : List ℕ) (a b c : Option (List ℕ)) → Adds text a b → Keeps b c → AddsFront text a c
-whole_front text a b c adds keeps =
-    (length text, omega arith, subst (λ t. Adds t a c) (sym (take_all (length text) text (omega arith))) (Appends-kept a b c text adds keeps))
+whole_front text a b c adds keeps = (
+  length text,
+  omega arith,
+  subst (λ t. Adds t a c) (sym (take_all (length text) text (omega arith))) (Appends-kept a b c text adds keeps),
+)
 
 -- a command that halted, and a flush after it
 pub ended_by_halt : (held : Held) (flushed : Result (Unit {0}) PutFault) (a b c : Option (List ℕ)) (before between after : ℕ)
-    → OnOk flushed (after ≡ between) → OnErr flushed (after ≡ counted between) → Keeps b c → HasHalted held a b before between → HasEnded held a c before after
+    → OnOk flushed (after ≡ between) → OnErr flushed (after ≡ next_count between) → Keeps b c → HasHalted held a b before between →
+    HasEnded held a c before after
 ended_by_halt held flushed a b c before between after same rises keeps (inl (command, sound, inl (lacks, unwritten))) =
     inl (command, sound, inl (lacks, subst (λ x. Keeps x c) unwritten keeps))
 ended_by_halt held flushed a b c before between after same rises keeps (inl (command, sound, inr cut)) =
-    inl (command, sound, inr (record { text = cut.text; asks = cut.asks; adds = front_still cut.text a b c cut.adds keeps; failed = failed_still flushed before between after same rises cut.failed }))
+    inl (
+      command,
+      sound,
+      inr
+          (record {
+            text = cut.text;
+            asks = cut.asks;
+            adds = front_still cut.text a b c cut.adds keeps;
+            failed = failed_still flushed before between after same rises cut.failed;
+          }),
+    )
 ended_by_halt held flushed a b c before between after same rises keeps (inr (text, front, failed)) =
     inr (text, front_still text a b c front keeps, failed_still flushed before between after same rises failed)
 
 -- a command that was done, and a flush that failed
 pub ended_by_flush : (held : Held) (a b c : Option (List ℕ)) (before between after : ℕ)
-    → between ≡ before → after ≡ counted between → Keeps b c → HasAnswered held a b → HasEnded held a c before after
+    → between ≡ before → after ≡ next_count between → Keeps b c → HasAnswered held a b → HasEnded held a c before after
 ended_by_flush held a b c before between after same rises keeps answered = by_answer answered
   where
     failed : HasFailed before after
-    failed = subst (λ k. HasFailed before k) (sym rises) (subst (λ k. HasFailed k (counted between)) same (counted_has_failed between))
+    failed = subst (λ k. HasFailed before k) (sym rises) (subst (λ k. HasFailed k (next_count between)) same (counted_has_failed between))
 
     by_answer : HasAnswered held a b → HasEnded held a c before after
     by_answer (inl (command, sound, done)) =
-        inl (command, sound, inr (record { text = done.text; asks = done.asks; adds = whole_front done.text a b c done.adds keeps; failed = failed }))
+        inl (
+          command,
+          sound,
+          inr
+              (record { text = done.text; asks = done.asks; adds = whole_front done.text a b c done.adds keeps; failed = failed }),
+        )
     by_answer (inr (text, some, adds)) = inr (text, whole_front text a b c adds keeps, failed)
 
 -- an output that was flushed when a command ended with a device's status, or after one that was done
-pub ended_by_status : (held : Held) (flushed : Result (Unit {0}) PutFault) (status result : ℕ) (a b c : Option (List ℕ)) (before between after : ℕ)
-    → OnOk flushed (result ≡ status) → (status ≢ DONE → result ≡ status) → OnOk flushed (after ≡ between) → OnErr flushed (after ≡ counted between) → Keeps b c
+pub ended_by_status : (held : Held) (flushed : Result (Unit {0}) PutFault) (status result : ℕ) (a b c : Option (List ℕ))
+    (before between after : ℕ)
+    → OnOk flushed (result ≡ status) → (status ≢ DONE → result ≡ status) → OnOk flushed (after ≡ between) →
+    OnErr flushed (after ≡ next_count between) → Keeps b c
     → (status ≡ DONE → HasAnswered held a b) → (status ≡ DONE → between ≡ before) → (status ≡ DEVICE → HasHalted held a b before between)
     → result ≡ DEVICE → HasEnded held a c before after
 ended_by_status held (Ok done) status result a b c before between after kept stopped same rises keeps answered unfailed halted device =
     ended_by_halt held (Ok done) a b c before between after same rises keeps (halted (sym kept ∙ device))
-ended_by_status held (Err fault) status result a b c before between after kept stopped same rises keeps answered unfailed halted device = by_order (cases_order status 0)
+ended_by_status held (Err fault) status result a b c before between after kept stopped same rises keeps answered unfailed halted device =
+    by_order (cases_order status 0)
   where
     by_order : (status ≡ 0) ⊎ ((status < 0) ⊎ (0 < status)) → HasEnded held a c before after
     by_order (inl done) = ended_by_flush held a b c before between after (unfailed done) rises keeps (answered done)

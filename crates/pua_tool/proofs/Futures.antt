@@ -1,24 +1,22 @@
 -- What a family reaches and changes, by what its histories allow.
-use Rattle.std.proofs.Common.{◌≡◌, ℕ, List, [], ◌∷◌, ◌++◌, map, codes, Bool, true, refl, sym, ap, subst, ◌∙◌}
+use Rattle.pua_tool.proofs.Common.{◌≡◌, ℕ, List, [], ◌∷◌, ◌++◌, map, refl, sym, ap, subst, ◌∙◌, Tree, listing, CallTable, History, Asked}
+use Rattle.pua_tool.proofs.Common.{script, new_world, world_after}
+use Rattle.std.proofs.Common.{codes, Bool, true}
 use Rattle.std.specs.Prelude.{Ok}
 use Rattle.std.proofs.lemmas.Bool.{and_parts}
 use Rattle.std.proofs.lemmas.List.Folds.{list_all-append}
-use Rattle.pua_tree.specs.Tree.{Tree, distinct_names}
-use Rattle.pua_tree.specs.Listing.{listing}
+use Rattle.pua_tree.specs.Tree.{distinct_names}
 use Rattle.pua_path.specs.Paths.{is_absolute}
-use Rattle.pua_calls.specs.Calls.{CallTable}
-use Rattle.pua_policy.specs.History.{History, working_dir}
+use Rattle.pua_policy.specs.History.{working_dir}
 use Rattle.pua_audit.specs.Reach.{path_of, alphabet_of}
 use Rattle.pua_audit.specs.SubLists.{SubList}
 use Rattle.pua_audit.specs.declared.base.Base.{Base}
 use Rattle.pua_audit.specs.declared.base.Base.TheVariants.{Root, Cwd}
 use Rattle.pua_audit.proofs.ForCallers.{fewer_reach_less, reach_needs_rows}
-use Rattle.pua_script.specs.Requests.{Asked}
-use Rattle.pua_script.specs.Scripts.{script}
-use Rattle.pua_script.specs.Replay.{new_world, world_after}
 use Rattle.pua_script.specs.Bytes.{is_in_bytes, are_in_bytes, IsByteTree}
 use Rattle.pua_script.specs.Tightening.{AllowsNoMore}
-use Rattle.pua_script.proofs.ForCallers.{families_narrow, families_confine, replays_keep_trees, replays_keep_byte_trees, listings_list_byte_trees, scripts_ask_in_bytes}
+use Rattle.pua_script.proofs.ForCallers.{families_narrow, families_confine, replays_keep_trees, replays_keep_byte_trees}
+use Rattle.pua_script.proofs.ForCallers.{listings_list_byte_trees, scripts_ask_in_bytes}
 use Rattle.pua_tool.proofs.Tables.{tables_need_no_error}
 use Rattle.pua_tool.specs.Futures.{reach_over, ReachesNoMore, Narrowing, NarrowingNow, Confinement, NarrowingAsRead, ConfinementAsRead}
 
@@ -26,7 +24,8 @@ root_path : (word : List (List ℕ)) → is_absolute (path_of Root word) ≡ tru
 root_path [] = refl
 root_path (letter ∷ word) = refl
 
-reaches_no_more : (table : CallTable) (t : Tree) (now last : History) (still : Bool) → AllowsNoMore table now last → (still ≡ true → working_dir last ≡ working_dir now) → ReachesNoMore table t now last still
+reaches_no_more : (table : CallTable) (t : Tree) (now last : History) (still : Bool) → AllowsNoMore table now last →
+    (still ≡ true → working_dir last ≡ working_dir now) → ReachesNoMore table t now last still
 reaches_no_more table t now last still allows dirs = record {
   root = λ alphabet limit. fewer_reach_less
       (record { tree = t; table = table; history = last; base = Root; alphabet = alphabet; limit = limit })
@@ -44,14 +43,18 @@ narrowing table sound w process now asks here confined none member belongs =
     (one.0, one.1, (one.2.tightens, λ t. reaches_no_more table t now one.0 _ (one.2.allows sound) one.2.dir))
 
 -- over a tree with the same rows and nodes the same letters, and so the same reach
-same_reach : (table : CallTable) (h : History) (base : Base) (candidates : List (List ℕ)) (limit : ℕ) (t u : Tree) → u.rows ≡ t.rows → u.nodes ≡ t.nodes →
+same_reach : (table : CallTable) (h : History) (base : Base) (candidates : List (List ℕ)) (limit : ℕ) (t u : Tree) → u.rows ≡ t.rows →
+    u.nodes ≡ t.nodes →
     reach_over u table h base (alphabet_of u candidates) limit ≡ reach_over t table h base (alphabet_of t candidates) limit
 same_reach table h base candidates limit t u rows nodes =
     ap (λ all. reach_over u table h base (distinct_names (codes ".." ∷ candidates ++ map (λ row. row.0.1) all)) limit) rows
-    ∙ reach_needs_rows (record { tree = t; table = table; history = h; base = base; alphabet = alphabet_of t candidates; limit = limit }) u rows nodes
+    ∙ reach_needs_rows (record { tree = t; table = table; history = h; base = base; alphabet = alphabet_of t candidates; limit = limit }) u
+    rows nodes
 
-at_base : (table : CallTable) (t : Tree) (now last : History) (still : Bool) → ReachesNoMore table t now last still → (base : Base) → (base ≡ Cwd → still ≡ true) →
-    (alphabet : List (List ℕ)) (limit : ℕ) → SubList (reach_over t table last base alphabet limit) (reach_over t table now base alphabet limit)
+at_base : (table : CallTable) (t : Tree) (now last : History) (still : Bool) → ReachesNoMore table t now last still → (base : Base) →
+    (base ≡ Cwd → still ≡ true) →
+    (alphabet : List (List ℕ)) (limit : ℕ) →
+    SubList (reach_over t table last base alphabet limit) (reach_over t table now base alphabet limit)
 at_base table t now last still no_more Root moved alphabet limit = no_more.root alphabet limit
 at_base table t now last still no_more Cwd moved alphabet limit = no_more.cwd (moved refl) alphabet limit
 
@@ -63,7 +66,8 @@ narrowing_now table sound w process now asks here confined none rows nodes membe
       one.0,
       one.1,
       λ base moved candidates limit.
-          subst (λ pairs. SubList pairs (reach_over t table now base (alphabet_of t candidates) limit)) (sym (same_reach table one.0 base candidates limit t u rows nodes))
+          subst (λ pairs. SubList pairs (reach_over t table now base (alphabet_of t candidates) limit))
+          (sym (same_reach table one.0 base candidates limit t u rows nodes))
           (at_base table t now one.0 _ (one.2.1 t) base moved (alphabet_of t candidates) limit),
     )
 
@@ -82,7 +86,8 @@ narrowing_as_read choice tree_bytes script_bytes table t first asks given listed
     (one.0, one.1, one.2.1 (world_after table w asks).tree)
 
 -- all texts that are read are bytes: those of the tree, of the first lines, and of the others
-module _ (tree_bytes script_bytes : List ℕ) (table : CallTable) (t : Tree) (first asks : List Asked) (listed : listing tree_bytes ≡ Ok t) (scripted : script script_bytes ≡ Ok (first ++ asks)) where
+module _ (tree_bytes script_bytes : List ℕ) (table : CallTable) (t : Tree) (first asks : List Asked) (listed : listing tree_bytes ≡ Ok t)
+    (scripted : script script_bytes ≡ Ok (first ++ asks)) where
   both_in_bytes : (are_in_bytes first ≡ true) × (are_in_bytes asks ≡ true)
   both_in_bytes = and_parts (are_in_bytes first) (are_in_bytes asks)
       (sym (list_all-append (λ ask. is_in_bytes ask.action) first asks) ∙ scripts_ask_in_bytes script_bytes (first ++ asks) scripted)
@@ -94,6 +99,7 @@ pub confinement_as_read : ConfinementAsRead
 confinement_as_read choice tree_bytes script_bytes table t first asks given listed scripted process now here confined none alone =
     let w = world_after table (new_world t) first in
     let both = confinement table w process now asks here confined none alone in (
-      λ taking. both.spares taking (tree_in_bytes tree_bytes script_bytes table t first asks listed scripted) (both_in_bytes tree_bytes script_bytes table t first asks listed scripted).1,
+      λ taking. both.spares taking (tree_in_bytes tree_bytes script_bytes table t first asks listed scripted)
+          (both_in_bytes tree_bytes script_bytes table t first asks listed scripted).1,
       both.unchanged,
     )

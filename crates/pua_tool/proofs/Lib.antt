@@ -1,3 +1,4 @@
+pub mod Common
 pub mod Replays
 pub mod Tables
 pub mod Futures

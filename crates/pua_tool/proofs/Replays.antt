@@ -1,29 +1,25 @@
 -- What is replayed, step by step.
-use Rattle.std.proofs.Common.{◌≡◌, ℕ, List, subst}
-use Rattle.std.specs.Prelude.{Result, Ok, Err}
-use Rattle.pua_tree.specs.Tree.{Tree}
-use Rattle.pua_tree.specs.Listing.{listing}
-use Rattle.pua_tree.specs.Steps.{◌>>=◌}
-use Rattle.pua_calls.specs.Calls.{CallTable}
-use Rattle.pua_script.specs.Requests.{Asked}
-use Rattle.pua_script.specs.Scripts.{script}
-use Rattle.pua_script.specs.Replay.{World, new_world, answers, world_after}
-use Rattle.pua_script.specs.Worlds.{StandsForWorld, WorldState}
-use Rattle.pua_tool.specs.Texts.{Chosen, Replayed, as_listing, as_script, table_by, replayed}
-use Rattle.pua_tool.specs.declared.fault.ToolFault.{ToolFault}
+use Rattle.pua_tool.proofs.Common.{◌≡◌, ℕ, List, subst, Result, Tree, listing, ◌>>=◌, CallTable, Asked, script, World, new_world}
+use Rattle.pua_tool.proofs.Common.{answers_to, world_after, StandsForWorld, Chosen, Replayed, as_listing, as_script, table_by, replay_of}
+use Rattle.pua_tool.proofs.Common.{ToolFault}
+use Rattle.std.specs.Prelude.{Ok, Err}
+use Rattle.pua_script.specs.Worlds.{WorldState}
 
 -- a world that stands for what one table leaves stands for what the same table leaves
-pub left_by_same : {state : WorldState} (a b : CallTable) (w : World) (asks : List Asked) → a ≡ b → StandsForWorld state (world_after a w asks) → StandsForWorld state (world_after b w asks)
+pub left_by_same : {state : WorldState} (a b : CallTable) (w : World) (asks : List Asked) → a ≡ b →
+    StandsForWorld state (world_after a w asks) → StandsForWorld state (world_after b w asks)
 left_by_same {state} a b w asks same = subst (λ (t : CallTable). StandsForWorld state (world_after t w asks)) same
 
 module _ (choice : Chosen) (tree_bytes script_bytes : List ℕ) where
   abbrev left_by : CallTable → Tree → List Asked → Replayed
-  left_by table t asks = record { table = table; told = answers table (new_world t) asks; world = world_after table (new_world t) asks }
+  left_by table t asks =
+      record { table = table; answers = answers_to table (new_world t) asks; world = world_after table (new_world t) asks }
 
   pub replayed_is : (table : CallTable) (t : Tree) (asks : List Asked)
       → table_by choice ≡ Ok table → as_listing (listing tree_bytes) ≡ Ok t → as_script (script script_bytes) ≡ Ok asks
-      → replayed choice tree_bytes script_bytes ≡ Ok (record { table = table; told = answers table (new_world t) asks; world = world_after table (new_world t) asks })
-  unfolding replayed
+      → replay_of choice tree_bytes script_bytes
+      ≡ Ok (record { table = table; answers = answers_to table (new_world t) asks; world = world_after table (new_world t) asks })
+  unfolding replay_of
   replayed_is table t asks b l s = λ i. b i >>= λ table. l i >>= λ t. s i >>= λ asks. Ok (left_by table t asks)
 
   abbrev served : CallTable → Tree → Result (List Asked) ToolFault → Result Replayed ToolFault
@@ -33,19 +29,19 @@ module _ (choice : Chosen) (tree_bytes script_bytes : List ℕ) where
   listed table read = read >>= λ t. served table t (as_script (script script_bytes))
 
   -- a table's fault comes first
-  pub table_refuses : (fault : ToolFault) → table_by choice ≡ Err fault → replayed choice tree_bytes script_bytes ≡ Err fault
-  unfolding replayed
+  pub table_refuses : (fault : ToolFault) → table_by choice ≡ Err fault → replay_of choice tree_bytes script_bytes ≡ Err fault
+  unfolding replay_of
   table_refuses fault b = λ i. b i >>= λ table. listed table (as_listing (listing tree_bytes))
 
   -- a listing's fault comes where the table has none
   pub listing_refuses : (table : CallTable) (fault : ToolFault) → table_by choice ≡ Ok table → as_listing (listing tree_bytes) ≡ Err fault
-      → replayed choice tree_bytes script_bytes ≡ Err fault
-  unfolding replayed
+      → replay_of choice tree_bytes script_bytes ≡ Err fault
+  unfolding replay_of
   listing_refuses table fault b l = λ i. b i >>= λ table. listed table (l i)
 
   -- a script's fault comes where both have none
   pub script_refuses : (table : CallTable) (t : Tree) (fault : ToolFault)
       → table_by choice ≡ Ok table → as_listing (listing tree_bytes) ≡ Ok t → as_script (script script_bytes) ≡ Err fault
-      → replayed choice tree_bytes script_bytes ≡ Err fault
-  unfolding replayed
+      → replay_of choice tree_bytes script_bytes ≡ Err fault
+  unfolding replay_of
   script_refuses table t fault b l s = λ i. b i >>= λ table. l i >>= λ t. served table t (s i)

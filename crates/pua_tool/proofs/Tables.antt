@@ -1,15 +1,16 @@
 -- No table that is gone by needs `error`.
-use Rattle.std.proofs.Common.{◌≡◌, ℕ, List, refl, ap, subst, ◌∙◌}
-use Rattle.std.specs.Prelude.{Option, Some, None, Result, Ok, Err}
-use Rattle.pua_calls.specs.Calls.{CallTable, table_by_rules}
+use Rattle.pua_tool.proofs.Common.{◌≡◌, ℕ, List, refl, ap, subst, ◌∙◌, Option, Some, None, Result, CallTable, Chosen, table_by}
+use Rattle.std.specs.Prelude.{Ok, Err}
+use Rattle.pua_calls.specs.Calls.{table_by_rules}
 use Rattle.pua_calls.specs.Tables.{NoCallNeedsError}
 use Rattle.pua_calls.specs.TableTexts.{table_over}
 use Rattle.pua_calls.specs.declared.table.read.TableFault.{TableFault}
 use Rattle.pua_calls.proofs.ForCallers.{texts_need_no_error}
 use Rattle.pua_script.proofs.ForCallers.{rules_narrow}
-use Rattle.pua_tool.specs.Texts.{Chosen, as_table, table_by, with_rows}
+use Rattle.pua_tool.specs.Texts.{as_table, with_rows}
 
-rows_need_no_error : (base : CallTable) → NoCallNeedsError base → (rows : Option (List ℕ)) (table : CallTable) → with_rows base rows ≡ Ok table → NoCallNeedsError table
+rows_need_no_error : (base : CallTable) → NoCallNeedsError base → (rows : Option (List ℕ)) (table : CallTable) →
+    with_rows base rows ≡ Ok table → NoCallNeedsError table
 rows_need_no_error base sound None table is = subst NoCallNeedsError same sound
   where
     same : base ≡ table
@@ -23,4 +24,5 @@ rows_need_no_error base sound (Some text) table is = by (table_over base text) r
     by (Err fault) reads is = cc
 
 pub tables_need_no_error : (choice : Chosen) (table : CallTable) → table_by choice ≡ Ok table → NoCallNeedsError table
-tables_need_no_error choice table is = rows_need_no_error (table_by_rules choice.rules) (rules_narrow choice.rules).error choice.rows table is
+tables_need_no_error choice table is = rows_need_no_error (table_by_rules choice.rules) (rules_narrow choice.rules).error choice.rows table
+    is

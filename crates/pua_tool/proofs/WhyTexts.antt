@@ -1,24 +1,20 @@
 -- The texts with reasons, step by step.
-use Rattle.std.proofs.Common.{◌≡◌, ℕ, ◌+◌, ◌<◌, ◌≤◌, List, ◌∷◌, ◌++◌, ◌∙◌, get_or, drop, length, map, sym, subst, ap, append-nil, append_assoc}
-use Rattle.std.specs.Prelude.{Option, Result, Ok, Err, flat_map}
+use Rattle.pua_tool.proofs.Common.{◌≡◌, ℕ, List, ◌∷◌, ◌++◌, ◌∙◌, map, sym, subst, ap, Option, Result, flat_map, Tree, listing, ◌>>=◌}
+use Rattle.pua_tool.proofs.Common.{CallTable, Asked, script, World, new_world, world_after, StandsForWorld, Answers, Chosen, as_listing}
+use Rattle.pua_tool.proofs.Common.{as_script, table_by, ToolFault}
+use Rattle.std.proofs.Common.{◌+◌, ◌<◌, ◌≤◌, get_or, drop, length, append-nil}
+use Rattle.std.proofs.Common.{append_assoc}
+use Rattle.std.specs.Prelude.{Ok, Err}
 use Rattle.std.specs.Borrow.{Bor}
 use Rattle.std.proofs.lemmas.List.{drop_more}
 use Rattle.std.proofs.Math.ListN.{drop_of_length-le}
-use Rattle.pua_tree.specs.Tree.{Tree}
-use Rattle.pua_tree.specs.Listing.{listing}
-use Rattle.pua_tree.specs.Steps.{◌>>=◌}
-use Rattle.pua_calls.specs.Calls.{CallTable}
-use Rattle.pua_script.specs.Requests.{Asked}
-use Rattle.pua_script.specs.Scripts.{script, request_of}
-use Rattle.pua_script.specs.Replay.{World, new_world, world_after}
-use Rattle.pua_script.specs.Worlds.{StandsForWorld, WorldState}
+use Rattle.pua_script.specs.Scripts.{request_of}
+use Rattle.pua_script.specs.Worlds.{WorldState}
 use Rattle.pua_script.specs.declared.fault.ScriptFault.{ScriptFault}
 use Rattle.pua_words.specs.declared.command.Processes.{Processes}
-use Rattle.pua_tool.specs.EverTexts.{Answers}
-use Rattle.pua_tool.specs.Texts.{Chosen, as_listing, as_script, table_by}
 use Rattle.pua_texts.specs.WhyLines.{Posed}
-use Rattle.pua_tool.specs.WhyTexts.{as_request, chain_lines, objects_why_text, posed, reason_lines, request_line, run_why_text, why_lists_asked, why_text}
-use Rattle.pua_tool.specs.declared.fault.ToolFault.{ToolFault}
+use Rattle.pua_tool.specs.WhyTexts.{as_request, chain_lines, objects_why_text, posed_script, reason_lines, request_line, run_why_text}
+use Rattle.pua_tool.specs.WhyTexts.{why_lists_asked, why_text}
 use Rattle.pua_tool.proofs.EverTexts.{answers_told}
 use Rattle.pua_tool.proofs.Replays.{left_by_same}
 
@@ -28,7 +24,8 @@ script_is (Ok others) asks is = let same : others ≡ asks = cc in ap Ok same
 script_is (Err fault) asks is = cc
 
 -- a world that stands for what one table leaves of some requests stands for what the same table leaves of the same requests
-pub left_by_these : {state : WorldState} (a b : CallTable) (w : World) (asks others : List Asked) → a ≡ b → asks ≡ others → StandsForWorld state (world_after a w asks) → StandsForWorld state (world_after b w others)
+pub left_by_these : {state : WorldState} (a b : CallTable) (w : World) (asks others : List Asked) → a ≡ b → asks ≡ others →
+    StandsForWorld state (world_after a w asks) → StandsForWorld state (world_after b w others)
 left_by_these {state} a b w asks others same alike stands =
     subst (λ (those : List Asked). StandsForWorld state (world_after b w those)) alike (left_by_same a b w asks same stands)
 
@@ -44,36 +41,39 @@ module _ (choice : Chosen) (tree_bytes script_bytes : List ℕ) where
 
   pub posed_is : (table : CallTable) (t : Tree) (asks : List Asked)
       → table_by choice ≡ Ok table → as_listing (listing tree_bytes) ≡ Ok t → as_script (script script_bytes) ≡ Ok asks
-      → posed choice tree_bytes script_bytes ≡ Ok (record { table = table; world = new_world t; asks = asks })
-  unfolding posed
+      → posed_script choice tree_bytes script_bytes ≡ Ok (record { table = table; world = new_world t; asks = asks })
+  unfolding posed_script
   posed_is table t asks b l s = λ i. b i >>= λ table. l i >>= λ t. s i >>= λ asks. Ok (posed_by table t asks)
 
   -- a table's fault comes first
-  pub table_refuses : (fault : ToolFault) → table_by choice ≡ Err fault → posed choice tree_bytes script_bytes ≡ Err fault
-  unfolding posed
+  pub table_refuses : (fault : ToolFault) → table_by choice ≡ Err fault → posed_script choice tree_bytes script_bytes ≡ Err fault
+  unfolding posed_script
   table_refuses fault b = λ i. b i >>= λ table. listed table (as_listing (listing tree_bytes))
 
   -- a listing's fault comes where the table has none
   pub listing_refuses : (table : CallTable) (fault : ToolFault) → table_by choice ≡ Ok table → as_listing (listing tree_bytes) ≡ Err fault
-      → posed choice tree_bytes script_bytes ≡ Err fault
-  unfolding posed
+      → posed_script choice tree_bytes script_bytes ≡ Err fault
+  unfolding posed_script
   listing_refuses table fault b l = λ i. b i >>= λ table. listed table (l i)
 
   -- a script's fault comes where both have none
   pub script_refuses : (table : CallTable) (t : Tree) (fault : ToolFault)
       → table_by choice ≡ Ok table → as_listing (listing tree_bytes) ≡ Ok t → as_script (script script_bytes) ≡ Err fault
-      → posed choice tree_bytes script_bytes ≡ Err fault
-  unfolding posed
+      → posed_script choice tree_bytes script_bytes ≡ Err fault
+  unfolding posed_script
   script_refuses table t fault b l s = λ i. b i >>= λ table. l i >>= λ t. asked table t (s i)
 
   -- what refuses a run comes first
-  pub run_refuses : (fault : ToolFault) → posed choice tree_bytes script_bytes ≡ Err fault → run_why_text choice tree_bytes script_bytes ≡ Err fault
+  pub run_refuses : (fault : ToolFault) → posed_script choice tree_bytes script_bytes ≡ Err fault →
+      run_why_text choice tree_bytes script_bytes ≡ Err fault
   run_refuses fault is = λ i. is i >>= λ p. Ok (reason_lines p)
 
   -- the lines of a run that is told are the answer
-  pub run_told : (p : Posed) (r : Result (Unit {0}) ToolFault) (a b : Option (List ℕ)) (n m : ℕ) → posed choice tree_bytes script_bytes ≡ Ok p
+  pub run_told : (p : Posed) (r : Result (Unit {0}) ToolFault) (a b : Option (List ℕ)) (n m : ℕ) →
+      posed_script choice tree_bytes script_bytes ≡ Ok p
       → Answers (Ok (reason_lines p)) r a b n m → Answers (run_why_text choice tree_bytes script_bytes) r a b n m
-  run_told p r a b n m is = answers_told (run_why_text choice tree_bytes script_bytes) (reason_lines p) r a b n m (λ i. is i >>= λ p. Ok (reason_lines p))
+  run_told p r a b n m is =
+      answers_told (run_why_text choice tree_bytes script_bytes) (reason_lines p) r a b n m (λ i. is i >>= λ p. Ok (reason_lines p))
 
   module _ (process : ℕ) (fields : List (List ℕ)) where
     abbrev request : Result Asked ToolFault
@@ -83,39 +83,46 @@ module _ (choice : Chosen) (tree_bytes script_bytes : List ℕ) where
     told_by p read = read >>= λ ask. Ok (chain_lines p ask)
 
     -- what refuses the script comes first
-    pub why_refuses : (fault : ToolFault) → posed choice tree_bytes script_bytes ≡ Err fault → why_text choice tree_bytes script_bytes process fields ≡ Err fault
+    pub why_refuses : (fault : ToolFault) → posed_script choice tree_bytes script_bytes ≡ Err fault →
+        why_text choice tree_bytes script_bytes process fields ≡ Err fault
     unfolding why_text
     why_refuses fault is = λ i. is i >>= λ p. told_by p request
 
     -- what refuses the request comes where the script is not refused
-    pub request_refuses : (p : Posed) (fault : ToolFault) → posed choice tree_bytes script_bytes ≡ Ok p → as_request (request_of 1 (request_line process fields)) ≡ Err fault
+    pub request_refuses : (p : Posed) (fault : ToolFault) → posed_script choice tree_bytes script_bytes ≡ Ok p →
+        as_request (request_of 1 (request_line process fields)) ≡ Err fault
         → why_text choice tree_bytes script_bytes process fields ≡ Err fault
     unfolding why_text
     request_refuses p fault is r = (λ i. is i >>= λ p. told_by p request) ∙ (λ i. told_by p (r i))
 
-    why_is : (p : Posed) (ask : Asked) → posed choice tree_bytes script_bytes ≡ Ok p → as_request (request_of 1 (request_line process fields)) ≡ Ok ask
+    why_is : (p : Posed) (ask : Asked) → posed_script choice tree_bytes script_bytes ≡ Ok p →
+        as_request (request_of 1 (request_line process fields)) ≡ Ok ask
         → why_text choice tree_bytes script_bytes process fields ≡ Ok (chain_lines p ask)
     unfolding why_text
     why_is p ask is r = (λ i. is i >>= λ p. told_by p request) ∙ (λ i. told_by p (r i))
 
     -- the chain that is told is the answer
     pub why_told : (p : Posed) (ask : Asked) (r : Result (Unit {0}) ToolFault) (a b : Option (List ℕ)) (n m : ℕ)
-        → posed choice tree_bytes script_bytes ≡ Ok p → as_request (request_of 1 (request_line process fields)) ≡ Ok ask
+        → posed_script choice tree_bytes script_bytes ≡ Ok p → as_request (request_of 1 (request_line process fields)) ≡ Ok ask
         → Answers (Ok (chain_lines p ask)) r a b n m → Answers (why_text choice tree_bytes script_bytes process fields) r a b n m
-    why_told p ask r a b n m is read = answers_told (why_text choice tree_bytes script_bytes process fields) (chain_lines p ask) r a b n m (why_is p ask is read)
+    why_told p ask r a b n m is read =
+        answers_told (why_text choice tree_bytes script_bytes process fields) (chain_lines p ask) r a b n m (why_is p ask is read)
 
   module _ (which : Processes) where
     -- what refuses the script comes first
-    pub objects_refuse : (fault : ToolFault) → posed choice tree_bytes script_bytes ≡ Err fault → objects_why_text choice tree_bytes script_bytes which ≡ Err fault
+    pub objects_refuse : (fault : ToolFault) → posed_script choice tree_bytes script_bytes ≡ Err fault →
+        objects_why_text choice tree_bytes script_bytes which ≡ Err fault
     unfolding objects_why_text
     objects_refuse fault is = λ i. is i >>= λ p. why_lists_asked p which
 
-    objects_are : (p : Posed) → posed choice tree_bytes script_bytes ≡ Ok p → objects_why_text choice tree_bytes script_bytes which ≡ why_lists_asked p which
+    objects_are : (p : Posed) → posed_script choice tree_bytes script_bytes ≡ Ok p →
+        objects_why_text choice tree_bytes script_bytes which ≡ why_lists_asked p which
     unfolding objects_why_text
     objects_are p is = λ i. is i >>= λ p. why_lists_asked p which
 
     -- the lists that are asked for are the answer
-    pub objects_answer : (p : Posed) (r : Result (Unit {0}) ToolFault) (a b : Option (List ℕ)) (n m : ℕ) → posed choice tree_bytes script_bytes ≡ Ok p
+    pub objects_answer : (p : Posed) (r : Result (Unit {0}) ToolFault) (a b : Option (List ℕ)) (n m : ℕ) →
+        posed_script choice tree_bytes script_bytes ≡ Ok p
         → Answers (why_lists_asked p which) r a b n m → Answers (objects_why_text choice tree_bytes script_bytes which) r a b n m
     objects_answer p r a b n m is = subst (λ (answer : Result (List ℕ) ToolFault). Answers answer r a b n m) (sym (objects_are p is))
 
@@ -130,4 +137,5 @@ field_more line fields i d within =
     ∙ sym (append_assoc line (32 ∷ (get_or fields i d).now) (fields_left fields (i + 1)))
 
 pub fields_done : (line : List ℕ) (fields : List (Bor (List ℕ))) (i : ℕ) → length fields ≤ i → line ++ fields_left fields i ≡ line
-fields_done line fields i past = ap (λ fs. line ++ flat_map (λ f. 32 ∷ f) (map (λ f. f.now) fs)) (drop_of_length-le fields past) ∙ append-nil line
+fields_done line fields i past = ap (λ fs. line ++ flat_map (λ f. 32 ∷ f) (map (λ f. f.now) fs)) (drop_of_length-le fields past) ∙
+    append-nil line

@@ -13,17 +13,17 @@ use Rattle.pua_tool.specs.Texts.{Wanted}
 use Rattle.pua_texts.specs.Lines.{pair_lines}
 
 -- a script was served over a tree, by a world that was new and answers by this table
-pub record IsRunOver (rules : CallTable) (t : Tree) (asks : List Asked) (told : List Answer) (after : WorldState) : Type 0 where
+pub record IsRunOver (rules : CallTable) (t : Tree) (asks : List Asked) (answers : List Answer) (after : WorldState) : Type 0 where
   pub before : WorldState
   pub new : StandsForWorld before (new_world t)
   pub table : before.table ≡ rules
-  pub served : AreServed before asks told after
+  pub served : AreServed before asks answers after
 
 -- and then an audit of a process began, over the tree that was left
 pub record IsAuditedOver (rules : CallTable) (t : Tree) (asks : List Asked) (wanted : Wanted) (audit : AuditState) : Type 0 where
-  pub told : List Answer
+  pub answers : List Answer
   pub after : WorldState
-  pub run : IsRunOver rules t asks told after
+  pub run : IsRunOver rules t asks answers after
   pub process : ProcessState
   pub there : process_at after wanted.process ≡ Some process
   pub begun : (h : History) → StandsFor process h → (b : Beginning) ×
@@ -32,10 +32,11 @@ pub record IsAuditedOver (rules : CallTable) (t : Tree) (asks : List Asked) (wan
 
 -- over both trees the answers are the same, and so are the trees that are left
 abbrev pub AnswersAlike : Tree → Tree → Type 0
-AnswersAlike t u = (rules : CallTable) (asks : List Asked) (told said : List Answer) (after left : WorldState) →
-    IsRunOver rules t asks told after → IsRunOver rules u asks said left → (told ≡ said) × (after.tree ≡ left.tree)
+AnswersAlike t u = (rules : CallTable) (asks : List Asked) (answers said : List Answer) (after left : WorldState) →
+    IsRunOver rules t asks answers after → IsRunOver rules u asks said left → (answers ≡ said) × (after.tree ≡ left.tree)
 
 -- and so are the lines of an audit
 abbrev pub LinesAlike : Tree → Tree → Type 0
 LinesAlike t u = (rules : CallTable) (asks : List Asked) (wanted : Wanted) (audit other : AuditState) →
-    IsAuditedOver rules t asks wanted audit → IsAuditedOver rules u asks wanted other → pair_lines audit.base audit.left ≡ pair_lines other.base other.left
+    IsAuditedOver rules t asks wanted audit → IsAuditedOver rules u asks wanted other →
+    pair_lines audit.base audit.left ≡ pair_lines other.base other.left

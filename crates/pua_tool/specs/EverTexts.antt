@@ -6,7 +6,7 @@ use Rattle.pua_ever.specs.Refusals.{refusal}
 use Rattle.pua_ever.specs.declared.refusal.Refusal.{Refusal}
 use Rattle.pua_ever.specs.declared.refusal.Refusal.TheVariants as refused
 use Rattle.pua_io.specs.Sinks.{Adds, AddsFront, HasFailed}
-use Rattle.pua_tool.specs.Texts.{Chosen, Replayed, replayed}
+use Rattle.pua_tool.specs.Texts.{Chosen, Replayed, replay_of}
 use Rattle.pua_texts.specs.Lines.{answer_lines}
 use Rattle.pua_tool.specs.declared.fault.ToolFault.{ToolFault}
 use Rattle.pua_tool.specs.declared.fault.ToolFault.TheVariants.{NoProcess, Write, OutOfMemory, CanUnveil, LacksC, RenameLacksC, LinkLacksC}
@@ -20,25 +20,28 @@ ever_fault process refused.RenameLacksC = RenameLacksC
 ever_fault process refused.LinkLacksC = LinkLacksC
 
 -- a text, unless there is a reason for none
-abbrev pub unless_refused : ℕ → Option Refusal → List ℕ → Result (List ℕ) ToolFault
-unless_refused process None text = Ok text
-unless_refused process (Some reason) text = Err (ever_fault process reason)
+abbrev pub unless_reason : ℕ → Option Refusal → List ℕ → Result (List ℕ) ToolFault
+unless_reason process None text = Ok text
+unless_reason process (Some reason) text = Err (ever_fault process reason)
 
 -- the answers, and then the list for ever of a process, or what refuses it: it was never made, or there is a reason for none
 abbrev pub ever_after : Replayed → ℕ → Result (List ℕ) ToolFault
 ever_after done process =
     ok_or (history_of done.world process) NoProcess
-    >>= λ h. unless_refused process (refusal done.table h) (answer_lines 1 done.told ++ ever_list done.table done.world.tree process h)
+    >>= λ h. unless_reason process (refusal done.table h) (answer_lines 1 done.answers ++ ever_list done.table done.world.tree process h)
 
--- the list for ever of a process at the end of a script over a listing, or the first fault: the table's, the listing's, the script's, a process never made, or a reason for no list
+-- the list for ever of a process at the end of a script over a listing, or the first fault: the table's, the listing's,
+-- the script's, a process never made, or a reason for no list
 unfoldable pub ever_text : Chosen → List ℕ → List ℕ → ℕ → Result (List ℕ) ToolFault
-ever_text choice tree_bytes script_bytes process = replayed choice tree_bytes script_bytes >>= λ done. ever_after done process
+ever_text choice tree_bytes script_bytes process = replay_of choice tree_bytes script_bytes >>= λ done. ever_after done process
 
--- what a fault leaves: of a put that failed a front of the text; every other fault comes before anything is written, and is the answer unless memory was refused
-pub record IsUnanswered (answer : Result (List ℕ) ToolFault) (fault : ToolFault) (old new : Option (List ℕ)) (before after : ℕ) : Type 0 where
-  pub write : fault ≡ Write → (text : List ℕ) × (answer ≡ Ok text) × AddsFront text old new × HasFailed before after
-  pub refused : fault ≢ Write → fault ≢ OutOfMemory → answer ≡ Err fault
-  pub unwritten : fault ≢ Write → new ≡ old
+-- what a fault leaves: of a put that failed a front of the text; every other fault comes before anything is written,
+-- and is the answer unless memory was refused
+pub record IsUnanswered (answer : Result (List ℕ) ToolFault) (fault : ToolFault) (old new : Option (List ℕ)) (before after : ℕ) : Type 0
+  where
+    pub write : fault ≡ Write → (text : List ℕ) × (answer ≡ Ok text) × AddsFront text old new × HasFailed before after
+    pub refused : fault ≢ Write → fault ≢ OutOfMemory → answer ≡ Err fault
+    pub unwritten : fault ≢ Write → new ≡ old
 
 -- what the telling of an answer leaves
 abbrev pub Answers : Result (List ℕ) ToolFault → Result (Unit {0}) ToolFault → Option (List ℕ) → Option (List ℕ) → ℕ → ℕ → Type 0
@@ -46,5 +49,6 @@ Answers answer (Ok done) old new before after = (text : List ℕ) × (answer ≡
 Answers answer (Err fault) old new before after = IsUnanswered answer fault old new before after
 
 -- the same, of a sink of which this is known
-abbrev pub AnswersTo : {A : Type 0} → (A → Option (List ℕ)) → (A → ℕ) → Result (List ℕ) ToolFault → Result (Unit {0}) ToolFault → A → A → Type 0
+abbrev pub AnswersTo : {A : Type 0} → (A → Option (List ℕ)) → (A → ℕ) → Result (List ℕ) ToolFault → Result (Unit {0}) ToolFault → A → A →
+    Type 0
 AnswersTo written failed answer r a b = Answers answer r (written a) (written b) (failed a) (failed b)

@@ -8,12 +8,12 @@ use Rattle.pua_script.specs.declared.fault.ScriptFault.TheVariants.{BadCall}
 use Rattle.pua_audit.specs.declared.base.Base.TheVariants.{Root, Cwd}
 use Rattle.pua_audit.specs.declared.fault.AuditFault.TheVariants.{BadResume}
 use Rattle.pua_words.specs.declared.command.Processes.TheVariants.{One, All}
-use Rattle.pua_tool.specs.Texts.{Wanted, by_standard, replayed, begun, run_text, audit_text}
+use Rattle.pua_tool.specs.Texts.{Wanted, by_standard, replay_of, audit_start, run_text, audit_text}
 use Rattle.pua_tool.specs.ObjectTexts.{objects_text}
 use Rattle.pua_tool.specs.declared.fault.ToolFault.TheVariants.{Listing, Script, NoProcess, Audit}
 
-abbrev pub root_alone : List ℕ
-root_alone = text_of_lines (codes "tree 1" ∷ codes "0 dir" ∷ [])
+abbrev pub root_listing : List ℕ
+root_listing = text_of_lines (codes "tree 1" ∷ codes "0 dir" ∷ [])
 
 abbrev pub creating_alone : List ℕ
 creating_alone = text_of_lines (codes "1 pledge stdio,cpath -" ∷ [])
@@ -27,11 +27,12 @@ changing = text_of_lines (codes "1 pledge stdio,fattr -" ∷ codes "1 chmod /" �
 abbrev pub forking : List ℕ
 forking = text_of_lines (codes "1 fork 2" ∷ codes "2 chdir /" ∷ [])
 
-abbrev pub veiling : List ℕ
-veiling = text_of_lines (codes "1 mkdir /d" ∷ codes "1 unveil /d rwc" ∷ codes "1 unveil /d/a\\040b =" ∷ codes "1 unveil /d rc" ∷ codes "1 pledge - =" ∷ codes "1 unveil - -" ∷ [])
+abbrev pub veiling_script : List ℕ
+veiling_script = text_of_lines (codes "1 mkdir /d" ∷ codes "1 unveil /d rwc" ∷ codes "1 unveil /d/a\\040b =" ∷ codes "1 unveil /d rc"
+    ∷ codes "1 pledge - =" ∷ codes "1 unveil - -" ∷ [])
 
-abbrev pub removing : List ℕ
-removing = text_of_lines (codes "1 mkdir /d" ∷ codes "1 unveil /d rc" ∷ codes "1 rmdir /d" ∷ [])
+abbrev pub removing_script : List ℕ
+removing_script = text_of_lines (codes "1 mkdir /d" ∷ codes "1 unveil /d rc" ∷ codes "1 rmdir /d" ∷ [])
 
 abbrev pub root_and_directory : List ℕ
 root_and_directory = text_of_lines (codes "tree 1" ∷ codes "0 dir" ∷ codes "1 dir 0 a\\040b" ∷ [])
@@ -43,41 +44,53 @@ abbrev pub plain_job : Wanted
 plain_job = record { limit = 2; process = 1; base = Root; after = None; candidates = codes "a" ∷ [] }
 
 pub record TextRows : Type 0 where
-  pub run : run_text by_standard root_alone ending ≡ Ok (text_of_lines (codes "1 ok" ∷ codes "2 killed" ∷ codes "3 gone" ∷ []))
-  pub run_of_no_lines : run_text by_standard root_alone [] ≡ Ok []
-  pub run_by_standard : run_text by_standard root_alone changing ≡ Ok (text_of_lines (codes "1 ok" ∷ codes "2 ok" ∷ []))
-  pub run_by_openbsd : run_text (record by_standard { rules = Openbsd }) root_alone changing ≡ Ok (text_of_lines (codes "1 ok" ∷ codes "2 killed" ∷ []))
-  pub audit : audit_text by_standard root_alone creating_alone plain_job
-      ≡ Ok (text_of_lines (codes "1 ok" ∷ codes "reach 1" ∷ codes "/../a mkdir" ∷ codes "/../a symlink" ∷ codes "/a mkdir" ∷ codes "/a symlink" ∷ []))
-  pub resumed : audit_text by_standard root_alone creating_alone (record plain_job { after = Some (codes "symlink:/../a") })
+  pub run : run_text by_standard root_listing ending ≡ Ok (text_of_lines (codes "1 ok" ∷ codes "2 killed" ∷ codes "3 gone" ∷ []))
+  pub run_of_no_lines : run_text by_standard root_listing [] ≡ Ok []
+  pub run_by_standard : run_text by_standard root_listing changing ≡ Ok (text_of_lines (codes "1 ok" ∷ codes "2 ok" ∷ []))
+  pub run_by_openbsd : run_text (record by_standard { rules = Openbsd }) root_listing changing
+      ≡ Ok (text_of_lines (codes "1 ok" ∷ codes "2 killed" ∷ []))
+  pub audit : audit_text by_standard root_listing creating_alone plain_job
+      ≡ Ok (text_of_lines (codes "1 ok" ∷ codes "reach 1" ∷ codes "/../a mkdir" ∷ codes "/../a symlink" ∷ codes "/a mkdir"
+      ∷ codes "/a symlink" ∷ []))
+  pub resumed : audit_text by_standard root_listing creating_alone (record plain_job { after = Some (codes "symlink:/../a") })
       ≡ Ok (text_of_lines (codes "/a mkdir" ∷ codes "/a symlink" ∷ []))
-  pub spelled : audit_text by_standard root_alone creating_alone (record plain_job { limit = 1; candidates = codes "a\\040b" ∷ [] })
+  pub spelled : audit_text by_standard root_listing creating_alone (record plain_job { limit = 1; candidates = codes "a\\040b" ∷ [] })
       ≡ Ok (text_of_lines (codes "1 ok" ∷ codes "reach 1" ∷ codes "/a\\040b mkdir" ∷ codes "/a\\040b symlink" ∷ []))
   pub beneath_a_spelled_name : audit_text by_standard root_and_directory creating_alone (record plain_job { candidates = codes "x" ∷ [] })
-      ≡ Ok (text_of_lines (codes "1 ok" ∷ codes "reach 1" ∷ codes "/../a\\040b rmdir" ∷ codes "/../x mkdir" ∷ codes "/../x symlink" ∷ codes "/a\\040b rmdir"
-      ∷ codes "/a\\040b/a\\040b mkdir" ∷ codes "/a\\040b/a\\040b symlink" ∷ codes "/a\\040b/x mkdir" ∷ codes "/a\\040b/x symlink" ∷ codes "/x mkdir" ∷ codes "/x symlink" ∷ []))
-  pub ended_process : audit_text by_standard root_alone ending plain_job
+      ≡ Ok (text_of_lines (codes "1 ok" ∷ codes "reach 1" ∷ codes "/../a\\040b rmdir" ∷ codes "/../x mkdir" ∷ codes "/../x symlink"
+      ∷ codes "/a\\040b rmdir"
+      ∷ codes "/a\\040b/a\\040b mkdir" ∷ codes "/a\\040b/a\\040b symlink" ∷ codes "/a\\040b/x mkdir" ∷ codes "/a\\040b/x symlink"
+      ∷ codes "/x mkdir" ∷ codes "/x symlink" ∷ []))
+  pub ended_process : audit_text by_standard root_listing ending plain_job
       ≡ Ok (text_of_lines (codes "1 ok" ∷ codes "2 killed" ∷ codes "3 gone" ∷ codes "reach 1" ∷ []))
-  pub another_process : audit_text by_standard root_alone forking (record plain_job { limit = 0; process = 2; base = Cwd })
-      ≡ Ok (text_of_lines (codes "1 ok" ∷ codes "2 ok" ∷ codes "reach 2" ∷ codes ". stat" ∷ codes ". lstat" ∷ codes ". open-r" ∷ codes ". chmod" ∷ codes ". chdir" ∷ []))
-  pub objects : objects_text by_standard root_alone creating_alone (One 1)
-      ≡ Ok (text_of_lines (codes "1 ok" ∷ codes "objects 1" ∷ codes "process alive" ∷ codes "promises cpath,stdio" ∷ codes "execpromises -" ∷ codes "unveil given-up" ∷ codes "other / mkdir,symlink" ∷ []))
-  pub ended_objects : objects_text by_standard root_alone ending (One 1) ≡ Ok (text_of_lines (codes "1 ok" ∷ codes "2 killed" ∷ codes "3 gone" ∷ codes "objects 1" ∷ codes "process ended" ∷ []))
-  pub veiled_objects : objects_text by_standard root_alone veiling (One 1)
-      ≡ Ok (text_of_lines (codes "1 ok" ∷ codes "2 ok" ∷ codes "3 ok" ∷ codes "4 ok" ∷ codes "5 ok" ∷ codes "6 ok" ∷ codes "objects 1" ∷ codes "process alive" ∷ codes "promises -" ∷ codes "execpromises =" ∷ codes "unveil locked"
-      ∷ codes "veil /d rc" ∷ codes "veil /d/a\\040b =" ∷ codes "dir /d stat,lstat,open-r,rmdir,chdir" ∷ codes "other /d mkdir,symlink" ∷ []))
-  pub removed_place : objects_text by_standard root_alone removing (One 1)
-      ≡ Ok (text_of_lines (codes "1 ok" ∷ codes "2 ok" ∷ codes "3 ok" ∷ codes "objects 1" ∷ codes "process alive" ∷ codes "promises -" ∷ codes "execpromises -" ∷ codes "unveil open" ∷ codes "veil - rc" ∷ []))
-  pub all_objects : objects_text by_standard root_alone pairing All
-      ≡ Ok (text_of_lines (codes "1 ok" ∷ codes "2 ok" ∷ codes "3 ok" ∷ codes "objects 1" ∷ codes "process ended" ∷ codes "objects 7" ∷ codes "process alive" ∷ codes "promises =" ∷ codes "execpromises -" ∷ codes "unveil given-up" ∷ []))
-  pub never_listed : objects_text by_standard root_alone [] (One 2) ≡ Err NoProcess
-  pub bad_listing : audit_text by_standard (text_of_lines (codes "tree 1" ∷ codes "0 dir" ∷ codes "1 dir 0" ∷ [])) (codes "1") plain_job ≡ Err (Listing (BadLine 3))
-  pub bad_script : audit_text by_standard root_alone (codes "1 stat") (record plain_job { process = 2 }) ≡ Err (Script (BadCall 1))
-  pub never_made : audit_text by_standard root_alone [] (record plain_job { process = 2; limit = 17 }) ≡ Err NoProcess
-  pub bad_resume : audit_text by_standard root_alone [] (record plain_job { after = Some (codes "stat:/nope") }) ≡ Err (Audit BadResume)
+  pub another_process : audit_text by_standard root_listing forking (record plain_job { limit = 0; process = 2; base = Cwd })
+      ≡ Ok (text_of_lines (codes "1 ok" ∷ codes "2 ok" ∷ codes "reach 2" ∷ codes ". stat" ∷ codes ". lstat" ∷ codes ". open-r"
+      ∷ codes ". chmod" ∷ codes ". chdir" ∷ []))
+  pub objects : objects_text by_standard root_listing creating_alone (One 1)
+      ≡ Ok (text_of_lines (codes "1 ok" ∷ codes "objects 1" ∷ codes "process alive" ∷ codes "promises cpath,stdio" ∷ codes "execpromises -"
+      ∷ codes "unveil given-up" ∷ codes "other / mkdir,symlink" ∷ []))
+  pub ended_objects : objects_text by_standard root_listing ending (One 1)
+      ≡ Ok (text_of_lines (codes "1 ok" ∷ codes "2 killed" ∷ codes "3 gone" ∷ codes "objects 1" ∷ codes "process ended" ∷ []))
+  pub veiled_objects : objects_text by_standard root_listing veiling_script (One 1)
+      ≡ Ok (text_of_lines (codes "1 ok" ∷ codes "2 ok" ∷ codes "3 ok" ∷ codes "4 ok" ∷ codes "5 ok" ∷ codes "6 ok" ∷ codes "objects 1"
+      ∷ codes "process alive" ∷ codes "promises -" ∷ codes "execpromises =" ∷ codes "unveil locked"
+      ∷ codes "veil /d rc" ∷ codes "veil /d/a\\040b =" ∷ codes "dir /d stat,lstat,open-r,rmdir,chdir" ∷ codes "other /d mkdir,symlink"
+      ∷ []))
+  pub removed_place : objects_text by_standard root_listing removing_script (One 1)
+      ≡ Ok (text_of_lines (codes "1 ok" ∷ codes "2 ok" ∷ codes "3 ok" ∷ codes "objects 1" ∷ codes "process alive" ∷ codes "promises -"
+      ∷ codes "execpromises -" ∷ codes "unveil open" ∷ codes "veil - rc" ∷ []))
+  pub all_objects : objects_text by_standard root_listing pairing All
+      ≡ Ok (text_of_lines (codes "1 ok" ∷ codes "2 ok" ∷ codes "3 ok" ∷ codes "objects 1" ∷ codes "process ended" ∷ codes "objects 7"
+      ∷ codes "process alive" ∷ codes "promises =" ∷ codes "execpromises -" ∷ codes "unveil given-up" ∷ []))
+  pub never_listed : objects_text by_standard root_listing [] (One 2) ≡ Err NoProcess
+  pub bad_listing : audit_text by_standard (text_of_lines (codes "tree 1" ∷ codes "0 dir" ∷ codes "1 dir 0" ∷ [])) (codes "1") plain_job
+      ≡ Err (Listing (BadLine 3))
+  pub bad_script : audit_text by_standard root_listing (codes "1 stat") (record plain_job { process = 2 }) ≡ Err (Script (BadCall 1))
+  pub never_made : audit_text by_standard root_listing [] (record plain_job { process = 2; limit = 17 }) ≡ Err NoProcess
+  pub bad_resume : audit_text by_standard root_listing [] (record plain_job { after = Some (codes "stat:/nope") }) ≡ Err (Audit BadResume)
 
 pub text_rows : TextRows
-unfolding digits replayed begun objects_text
+unfolding digits replay_of audit_start objects_text
 text_rows = record {
   run = refl;
   run_of_no_lines = refl;

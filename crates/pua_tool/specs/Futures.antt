@@ -4,7 +4,7 @@ use Rattle.pua_tree.specs.Tree.{Tree}
 use Rattle.pua_tree.specs.Listing.{listing}
 use Rattle.pua_calls.specs.Promises.{holds, cpath}
 use Rattle.pua_calls.specs.Calls.{CallTable}
-use Rattle.pua_policy.specs.History.{History, held}
+use Rattle.pua_policy.specs.History.{History, held_set}
 use Rattle.pua_script.specs.Requests.{Asked}
 use Rattle.pua_script.specs.Scripts.{script}
 use Rattle.pua_script.specs.Replay.{World, new_world, history_of, world_after}
@@ -21,12 +21,16 @@ use Rattle.pua_tool.specs.Texts.{Chosen, table_by}
 
 -- what a process reaches by its history over a tree
 abbrev pub reach_over : Tree → CallTable → History → Base → List (List ℕ) → ℕ → List Pair
-reach_over t table h base alphabet limit = reach (record { tree = t; table = table; history = h; base = base; alphabet = alphabet; limit = limit })
+reach_over t table h base alphabet limit =
+    reach (record { tree = t; table = table; history = h; base = base; alphabet = alphabet; limit = limit })
 
--- a history reaches no more than another over a tree, with all letters and limits: from the root, and from the working directory if no member moved
+-- a history reaches no more than another over a tree, with all letters and limits: from the root, and from the working
+-- directory if no member moved
 pub record ReachesNoMore (table : CallTable) (t : Tree) (now last : History) (still : Bool) : Type 0 where
-  pub root : (alphabet : List (List ℕ)) (limit : ℕ) → SubList (reach_over t table last Root alphabet limit) (reach_over t table now Root alphabet limit)
-  pub cwd : IsTrue still → (alphabet : List (List ℕ)) (limit : ℕ) → SubList (reach_over t table last Cwd alphabet limit) (reach_over t table now Cwd alphabet limit)
+  pub root : (alphabet : List (List ℕ)) (limit : ℕ) →
+      SubList (reach_over t table last Root alphabet limit) (reach_over t table now Root alphabet limit)
+  pub cwd : IsTrue still → (alphabet : List (List ℕ)) (limit : ℕ) →
+      SubList (reach_over t table last Cwd alphabet limit) (reach_over t table now Cwd alphabet limit)
 
 -- the first part: whatever is asked by anyone, as long as no exec of a member is answered ok, over each tree, so over the last one
 abbrev pub Narrowing : Type 0
@@ -36,30 +40,34 @@ Narrowing = (table : CallTable) → NoCallNeedsError table → (w : World) (proc
     HasHistoryOf (world_after table w asks) member (λ last. Tightens now last
     × ((t : Tree) → ReachesNoMore table t now last (none_done is_chdir table w asks (process ∷ []))))
 
--- so where rows, kinds and targets are again those of now, each member's reach over the last tree lies within the process's reach over the tree of now
+-- so where rows, kinds and targets are again those of now, each member's reach over the last tree lies within the
+-- process's reach over the tree of now
 abbrev pub NarrowingNow : Type 0
 NarrowingNow = (table : CallTable) → NoCallNeedsError table → (w : World) (process : ℕ) (now : History) (asks : List Asked) →
     history_of w process ≡ Some now → IsConfined now → IsTrue (none_done is_exec table w asks (process ∷ [])) →
     (world_after table w asks).tree.rows ≡ w.tree.rows → (world_after table w asks).tree.nodes ≡ w.tree.nodes →
     (member : ℕ) → IsTrue (is_member (family table w asks (process ∷ [])) member) →
-    HasHistoryOf (world_after table w asks) member (λ last. (base : Base) → (base ≡ Cwd → IsTrue (none_done is_chdir table w asks (process ∷ []))) →
+    HasHistoryOf (world_after table w asks) member (λ last. (base : Base) →
+    (base ≡ Cwd → IsTrue (none_done is_chdir table w asks (process ∷ []))) →
     (candidates : List (List ℕ)) (limit : ℕ) →
     SubList (reach_over (world_after table w asks).tree table last base (alphabet_of (world_after table w asks).tree candidates) limit)
     (reach_over w.tree table now base (alphabet_of w.tree candidates) limit))
 
 -- the second part: each row that isn't covered with `c` stays, and without cpath the tree does. A text is a list of numbers here,
 -- and the first is so of texts that are bytes; those of a listing and a script are
-pub record Confines (table : CallTable) (w : World) (now : History) (asks : List Asked) : Type 0 where
-  pub spares : TakingNeedsC table → IsByteTree w.tree → IsTrue (are_in_bytes asks) → UncoveredStay now w.tree (world_after table w asks).tree
-  pub unchanged : ChangingNeedsCpath table → IsFalse (holds (held now) cpath) → (world_after table w asks).tree ≡ w.tree
+pub record ConfinesInBytes (table : CallTable) (w : World) (now : History) (asks : List Asked) : Type 0 where
+  pub spares : TakingNeedsC table → IsByteTree w.tree → IsTrue (are_in_bytes asks) →
+      UncoveredStay now w.tree (world_after table w asks).tree
+  pub unchanged : ChangingNeedsCpath table → IsFalse (holds (held_set now) cpath) → (world_after table w asks).tree ≡ w.tree
 
 -- where members alone ask, and no exec of theirs is answered ok
 abbrev pub Confinement : Type 0
 Confinement = (table : CallTable) (w : World) (process : ℕ) (now : History) (asks : List Asked) →
     history_of w process ≡ Some now → IsConfined now → IsTrue (none_done is_exec table w asks (process ∷ [])) →
-    IsTrue (members_alone table w asks (process ∷ [])) → Confines table w now asks
+    IsTrue (members_alone table w asks (process ∷ [])) → ConfinesInBytes table w now asks
 
--- over a table, a listing and a script as a command reads them: the script's first lines left a world, and the lines after them are the further requests
+-- over a table, a listing and a script as a command reads them: the script's first lines left a world, and the lines
+-- after them are the further requests
 abbrev pub AsRead : (CallTable → World → List Asked → Type 0) → Type 0
 AsRead Holds = (choice : Chosen) (tree_bytes script_bytes : List ℕ) (table : CallTable) (t : Tree) (first asks : List Asked) →
     table_by choice ≡ Ok table → listing tree_bytes ≡ Ok t → script script_bytes ≡ Ok (first ++ asks) →
@@ -76,13 +84,14 @@ IsNarrowed table w asks = (process : ℕ) (now : History) →
 abbrev pub NarrowingAsRead : Type 0
 NarrowingAsRead = AsRead IsNarrowed
 
--- where its family alone asks, what the process can't touch with `c` stays, and without cpath all does, each by the tables of which it is so
-abbrev pub IsConfining : CallTable → World → List Asked → Type 0
-IsConfining table w asks = (process : ℕ) (now : History) →
+-- where its family alone asks, what the process can't touch with `c` stays, and without cpath all does, each by the
+-- tables of which it is so
+abbrev pub IsConfiningFamily : CallTable → World → List Asked → Type 0
+IsConfiningFamily table w asks = (process : ℕ) (now : History) →
     history_of w process ≡ Some now → IsConfined now → IsTrue (none_done is_exec table w asks (process ∷ [])) →
     IsTrue (members_alone table w asks (process ∷ [])) →
     (TakingNeedsC table → UncoveredStay now w.tree (world_after table w asks).tree)
-    × (ChangingNeedsCpath table → IsFalse (holds (held now) cpath) → (world_after table w asks).tree ≡ w.tree)
+    × (ChangingNeedsCpath table → IsFalse (holds (held_set now) cpath) → (world_after table w asks).tree ≡ w.tree)
 
 abbrev pub ConfinementAsRead : Type 0
-ConfinementAsRead = AsRead IsConfining
+ConfinementAsRead = AsRead IsConfiningFamily

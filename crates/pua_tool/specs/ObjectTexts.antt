@@ -6,7 +6,7 @@ use Rattle.pua_script.specs.Replay.{World, history_of}
 use Rattle.pua_script.specs.declared.answer.Answer.{Answer}
 use Rattle.pua_words.specs.declared.command.Processes.{Processes}
 use Rattle.pua_words.specs.declared.command.Processes.TheVariants.{One, All}
-use Rattle.pua_tool.specs.Texts.{Chosen, Replayed, replayed}
+use Rattle.pua_tool.specs.Texts.{Chosen, Replayed, replay_of}
 use Rattle.pua_texts.specs.Lines.{answer_lines}
 use Rattle.pua_tool.specs.declared.fault.ToolFault.{ToolFault}
 use Rattle.pua_tool.specs.declared.fault.ToolFault.TheVariants.{NoProcess}
@@ -19,15 +19,16 @@ numbers_asked w All = Ok (map (λ made. made.0) w.histories)
 
 -- the answers, and then the lists
 abbrev pub objects_after : CallTable → List Answer → World → List ℕ → List ℕ
-objects_after table told w numbers = answer_lines 1 told ++ lists_of table w numbers
+objects_after table answers w numbers = answer_lines 1 answers ++ lists_of table w numbers
 
 -- the answers, and then the lists of the processes that are asked for, or why there are none
 abbrev pub lists_asked : Replayed → Processes → Result (List ℕ) ToolFault
-lists_asked done which = numbers_asked done.world which >>= λ numbers. Ok (objects_after done.table done.told done.world numbers)
+lists_asked done which = numbers_asked done.world which >>= λ numbers. Ok (objects_after done.table done.answers done.world numbers)
 
--- the lists of processes at the end of a script over a listing, or the first fault: the table's, the listing's, the script's, or a process never made
+-- the lists of processes at the end of a script over a listing, or the first fault: the table's, the listing's, the
+-- script's, or a process never made
 unfoldable pub objects_text : Chosen → List ℕ → List ℕ → Processes → Result (List ℕ) ToolFault
 objects_text choice tree_bytes script_bytes which = do
-  done ← replayed choice tree_bytes script_bytes
+  done ← replay_of choice tree_bytes script_bytes
   numbers ← numbers_asked done.world which
-  Ok (objects_after done.table done.told done.world numbers)
+  Ok (objects_after done.table done.answers done.world numbers)

@@ -14,7 +14,7 @@ use Rattle.pua_tool.specs.declared.status.TheConstants.{REFUSED}
 use Rattle.pua_io.specs.Held.{Held, Holds, HoldsNothing}
 use Rattle.pua_io.specs.Sinks.{Adds, AddsFront, HasFailed}
 use Rattle.pua_tool.specs.Statuses.{status_of}
-use Rattle.pua_tool.specs.Texts.{Chosen, given, run_text, audit_text, wanted_by}
+use Rattle.pua_tool.specs.Texts.{Chosen, given_bytes, run_text, audit_text, wanted_by}
 use Rattle.pua_tool.specs.ObjectTexts.{objects_text}
 use Rattle.pua_tool.specs.EverTexts.{ever_text}
 use Rattle.pua_tool.specs.WhyTexts.{objects_why_text, run_why_text, why_text}
@@ -77,7 +77,7 @@ pub record LacksTable (held : Held) (command : Command) (name : List ℕ) : Type
   pub script : List ℕ
   pub tree_held : Holds held command.tree.now tree
   pub script_held : Holds held command.script.now script
-  pub named : given command.table ≡ Some name
+  pub named : given_bytes command.table ≡ Some name
   pub nothing : HoldsNothing held name
 
 -- one of the inputs is missing: the tree's, or else the script's, or else the table's
@@ -126,14 +126,17 @@ abbrev pub HasAnswered : Held → Option (List ℕ) → Option (List ℕ) → Ty
 HasAnswered held old new = ((command : Command) × AsksSoundly command.text × IsDone held command old new)
     ⊎ ((text : List ℕ) × (0 < length text) × Adds text old new)
 
--- why words ended with a device's status: a command's input is missing and nothing was written, or a put failed and a front of a text was written
+-- why words ended with a device's status: a command's input is missing and nothing was written, or a put failed and a
+-- front of a text was written
 abbrev pub HasHalted : Held → Option (List ℕ) → Option (List ℕ) → ℕ → ℕ → Type 0
 HasHalted held old new before after =
-    ((command : Command) × AsksSoundly command.text × ((LacksInput held command × (new ≡ old)) ⊎ IsCutShort held command old new before after))
+    ((command : Command) × AsksSoundly command.text ×
+    ((LacksInput held command × (new ≡ old)) ⊎ IsCutShort held command old new before after))
     ⊎ ((text : List ℕ) × AddsFront text old new × HasFailed before after)
 
 -- the same after the output was handed on, or could not be: where nothing was written, known bytes stay, and a front may be the whole text
 abbrev pub HasEnded : Held → Option (List ℕ) → Option (List ℕ) → ℕ → ℕ → Type 0
 HasEnded held old new before after =
-    ((command : Command) × AsksSoundly command.text × ((LacksInput held command × Keeps old new) ⊎ IsCutShort held command old new before after))
+    ((command : Command) × AsksSoundly command.text ×
+    ((LacksInput held command × Keeps old new) ⊎ IsCutShort held command old new before after))
     ⊎ ((text : List ℕ) × AddsFront text old new × HasFailed before after)

@@ -13,7 +13,7 @@ use Rattle.pua_calls.specs.declared.table.read.TableFault.{TableFault}
 use Rattle.pua_policy.specs.History.{History}
 use Rattle.pua_script.specs.Requests.{Asked}
 use Rattle.pua_script.specs.Scripts.{script}
-use Rattle.pua_script.specs.Replay.{World, new_world, history_of, answers, world_after}
+use Rattle.pua_script.specs.Replay.{World, new_world, history_of, answers_to, world_after}
 use Rattle.pua_script.specs.declared.answer.Answer.{Answer}
 use Rattle.pua_script.specs.declared.fault.ScriptFault.{ScriptFault}
 use Rattle.pua_audit.specs.Begin.{Beginning, beginning, still_to_come}
@@ -34,16 +34,28 @@ pub record Wanted : Type 0 where
   pub after : Option (List ℕ)
   pub candidates : List (List ℕ)
 
-abbrev pub wanted : Job → Wanted
-wanted job = record { limit = job.limit; process = job.process; base = job.base; after = option_map (λ text. text.now) job.after; candidates = map (λ text. text.now) job.candidates.now }
+abbrev pub wants_of : Job → Wanted
+wants_of job = record {
+  limit = job.limit;
+  process = job.process;
+  base = job.base;
+  after = option_map (λ text. text.now) job.after;
+  candidates = map (λ text. text.now) job.candidates.now;
+}
 
 -- what the words of an audit ask for
 abbrev pub wanted_by : AuditWords → Wanted
-wanted_by words = record { limit = words.limit; process = words.process; base = words.base; after = option_map (λ text. text.now) words.after; candidates = map (λ text. text.now) words.names.items }
+wanted_by words = record {
+  limit = words.limit;
+  process = words.process;
+  base = words.base;
+  after = option_map (λ text. text.now) words.after;
+  candidates = map (λ text. text.now) words.names.items;
+}
 
 -- the bytes of a text that may be given
-abbrev pub given : Option (Bor (List ℕ)) → Option (List ℕ)
-given text = option_map (λ text. text.now) text
+abbrev pub given_bytes : Option (Bor (List ℕ)) → Option (List ℕ)
+given_bytes text = option_map (λ text. text.now) text
 
 abbrev pub as_table : Result CallTable TableFault → Result CallTable ToolFault
 as_table (Ok table) = Ok table
@@ -58,8 +70,8 @@ pub record Chosen : Type 0 where
 abbrev pub by_standard : Chosen
 by_standard = record { rules = Profile; rows = None }
 
-abbrev pub chosen : TableChoice → Chosen
-chosen table = record { rules = table.rules; rows = given table.rows }
+abbrev pub choice_of : TableChoice → Chosen
+choice_of table = record { rules = table.rules; rows = given_bytes table.rows }
 
 -- the rules of the profile, with a text
 abbrev pub by_profile : Option (List ℕ) → Chosen
@@ -67,7 +79,7 @@ by_profile text = record { rules = Profile; rows = text }
 
 -- what the job of an audit chooses by these rules
 abbrev pub by_job : Rules → Job → Chosen
-by_job rules job = record { rules = rules; rows = given job.table }
+by_job rules job = record { rules = rules; rows = given_bytes job.table }
 
 -- a table with the rows that a text gives over it, or the text's fault
 abbrev pub with_rows : CallTable → Option (List ℕ) → Result CallTable ToolFault
@@ -93,26 +105,26 @@ as_audit (Err fault) = Err (Audit fault)
 -- the table of calls, what a script was answered by it over a listing, and the world that it left
 pub record Replayed : Type 0 where
   pub table : CallTable
-  pub told : List Answer
+  pub answers : List Answer
   pub world : World
 
 -- the replay of a script over a listing, by the table that is chosen, or the first fault: the table's, the listing's, or the script's
-unfoldable pub replayed : Chosen → List ℕ → List ℕ → Result Replayed ToolFault
-replayed choice tree_bytes script_bytes = do
+unfoldable pub replay_of : Chosen → List ℕ → List ℕ → Result Replayed ToolFault
+replay_of choice tree_bytes script_bytes = do
   table ← table_by choice
   t ← as_listing (listing tree_bytes)
   asks ← as_script (script script_bytes)
-  Ok (record { table = table; told = answers table (new_world t) asks; world = world_after table (new_world t) asks })
+  Ok (record { table = table; answers = answers_to table (new_world t) asks; world = world_after table (new_world t) asks })
 
 -- a line for each answer of a script over a listing
 abbrev pub run_text : Chosen → List ℕ → List ℕ → Result (List ℕ) ToolFault
 run_text choice tree_bytes script_bytes = do
-  done ← replayed choice tree_bytes script_bytes
-  Ok (answer_lines 1 done.told)
+  done ← replay_of choice tree_bytes script_bytes
+  Ok (answer_lines 1 done.answers)
 
 -- a replay, and the audit that begins where it ends
-pub record Begun : Type 0 where
-  pub told : List Answer
+pub record BegunAudit : Type 0 where
+  pub answers : List Answer
   pub beginning : Beginning
 
 -- where the audit begins that is asked for, of a process with this history over a tree
@@ -120,21 +132,22 @@ abbrev pub beginning_of : Tree → CallTable → History → Wanted → Result B
 beginning_of t table h wanted = beginning t table h wanted.base wanted.candidates wanted.limit wanted.after
 
 -- the audit of a process where a replay ends, or why there is none: a process never made, or what no audit begins with
-abbrev pub begun_after : Replayed → Wanted → Result Begun ToolFault
+abbrev pub begun_after : Replayed → Wanted → Result BegunAudit ToolFault
 begun_after done wanted = do
   h ← ok_or (history_of done.world wanted.process) NoProcess
   b ← as_audit (beginning_of done.world.tree done.table h wanted)
-  Ok (record { told = done.told; beginning = b })
+  Ok (record { answers = done.answers; beginning = b })
 
--- the audit of a process at the end of a script over a listing, or the first fault: the table's, the listing's, the script's, a process never made, or what no audit begins with
-unfoldable pub begun : Chosen → List ℕ → List ℕ → Wanted → Result Begun ToolFault
-begun choice tree_bytes script_bytes wanted = do
-  done ← replayed choice tree_bytes script_bytes
+-- the audit of a process at the end of a script over a listing, or the first fault: the table's, the listing's, the
+-- script's, a process never made, or what no audit begins with
+unfoldable pub audit_start : Chosen → List ℕ → List ℕ → Wanted → Result BegunAudit ToolFault
+audit_start choice tree_bytes script_bytes wanted = do
+  done ← replay_of choice tree_bytes script_bytes
   begun_after done wanted
 
 -- the front, and a line for each pair that is still to come
-abbrev pub text_of : Wanted → Begun → List ℕ
-text_of wanted b = front_of wanted.after wanted.process b.told ++ pair_lines b.beginning.scope.base (still_to_come b.beginning)
+abbrev pub text_of : Wanted → BegunAudit → List ℕ
+text_of wanted b = front_of wanted.after wanted.process b.answers ++ pair_lines b.beginning.scope.base (still_to_come b.beginning)
 
 -- the text of an audit where a replay ends, or why there is none
 abbrev pub audit_after : Replayed → Wanted → Result (List ℕ) ToolFault
@@ -142,4 +155,4 @@ audit_after done wanted = begun_after done wanted >>= λ b. Ok (text_of wanted b
 
 -- the whole text of an audit, or what refuses it
 abbrev pub audit_text : Chosen → List ℕ → List ℕ → Wanted → Result (List ℕ) ToolFault
-audit_text choice tree_bytes script_bytes wanted = begun choice tree_bytes script_bytes wanted >>= λ b. Ok (text_of wanted b)
+audit_text choice tree_bytes script_bytes wanted = audit_start choice tree_bytes script_bytes wanted >>= λ b. Ok (text_of wanted b)

@@ -1,11 +1,11 @@
 -- What a fault's line leaves in the sink for faults.
 use Rattle.std.specs.Prelude.{◌≡◌, ⊤, ℕ, List, ◌++◌, Option, Result, codes, string_bytes}
-use Rattle.pua_words.specs.Usages.{line_text}
+use Rattle.pua_words.specs.Usages.{usage_line_text}
 use Rattle.pua_words.specs.declared.words.Stop.{Stop}
 use Rattle.pua_words.specs.declared.words.Stop.TheVariants as stop
 use Rattle.pua_io.specs.Sinks.{Adds, AddsFront, HasFailed, Writes}
 use Rattle.pua_tool.specs.Statuses.{fault_status}
-use Rattle.pua_texts.specs.Lines.{ended}
+use Rattle.pua_texts.specs.Lines.{with_end}
 use Rattle.pua_io.specs.declared.sink.PutFault.{PutFault}
 use Rattle.pua_tool.specs.declared.fault.ToolFault.{ToolFault}
 use Rattle.pua_tool.specs.declared.fault.ToolFault.TheVariants.{Write, OutOfMemory, NoProcess}
@@ -14,15 +14,15 @@ use Rattle.pua_tool.specs.declared.outcome.CommandFault.TheVariants.{Usage, Unre
 
 -- the line of a put that failed
 abbrev pub cannot_write : List ℕ
-cannot_write = ended (codes "pua: cannot write")
+cannot_write = with_end (codes "pua: cannot write")
 
 -- the line of a growth of memory that was refused
 abbrev pub out_of_memory : List ℕ
-out_of_memory = ended (codes "pua: out of memory")
+out_of_memory = with_end (codes "pua: out of memory")
 
 -- the line of a process that was never made
 abbrev pub no_process : List ℕ
-no_process = ended (codes "pua: no such process")
+no_process = with_end (codes "pua: no such process")
 
 -- the writing of the line of a fault of the tool; of the others' lines nothing is said
 abbrev pub TellsToolFault : ToolFault → Result (Unit {0}) PutFault → Option (List ℕ) → Option (List ℕ) → ℕ → ℕ → Type 0
@@ -33,8 +33,8 @@ TellsToolFault _ done old new before after = ⊤
 
 -- the writing of the line of a command's fault
 abbrev pub TellsFault : CommandFault → Result (Unit {0}) PutFault → Option (List ℕ) → Option (List ℕ) → ℕ → ℕ → Type 0
-TellsFault (Usage line) done old new before after = Writes (ended (line_text line)) done old new before after
-TellsFault (Unreadable name) done old new before after = Writes (ended (codes "pua: cannot read " ++ name.now)) done old new before after
+TellsFault (Usage line) done old new before after = Writes (with_end (usage_line_text line)) done old new before after
+TellsFault (Unreadable name) done old new before after = Writes (with_end (codes "pua: cannot read " ++ name.now)) done old new before after
 TellsFault (Tool fault) done old new before after = TellsToolFault fault done old new before after
 
 -- a command's fault was told: by all of its line, or by a front of it before a put that failed
@@ -46,8 +46,8 @@ abbrev pub TellsStatus : ℕ → Option (List ℕ) → Option (List ℕ) → ℕ
 TellsStatus status old new before after = (fault : CommandFault) × (fault_status fault ≡ status) × IsFaultTold fault old new before after
 
 -- so was a line
-abbrev pub IsTold : List ℕ → Option (List ℕ) → Option (List ℕ) → ℕ → ℕ → Type 0
-IsTold line old new before after = (done : Result (Unit {0}) PutFault) × Writes line done old new before after
+abbrev pub IsLineTold : List ℕ → Option (List ℕ) → Option (List ℕ) → ℕ → ℕ → Type 0
+IsLineTold line old new before after = (done : Result (Unit {0}) PutFault) × Writes line done old new before after
 
 -- the text that the words ask for was written
 abbrev pub Shows : Stop → Option (List ℕ) → Option (List ℕ) → Type 0
@@ -64,5 +64,5 @@ ShowsFront stop.OutOfMemory old new before after = ⊥
 -- the line of words that are no command was told
 abbrev pub TellsUsage : Stop → Option (List ℕ) → Option (List ℕ) → ℕ → ℕ → Type 0
 TellsUsage (stop.Display text) old new before after = ⊥
-TellsUsage (stop.Usage line) old new before after = IsTold (ended (line_text line)) old new before after
+TellsUsage (stop.Usage line) old new before after = IsLineTold (with_end (usage_line_text line)) old new before after
 TellsUsage stop.OutOfMemory old new before after = ⊥

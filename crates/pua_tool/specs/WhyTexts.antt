@@ -9,15 +9,15 @@ use Rattle.pua_script.specs.declared.fault.ScriptFault.{ScriptFault}
 use Rattle.pua_why.specs.Texts.{why_lines, chain}
 use Rattle.pua_words.specs.declared.command.Processes.{Processes}
 use Rattle.pua_tool.specs.Texts.{Chosen, as_listing, as_script, table_by}
-use Rattle.pua_texts.specs.Lines.{ended}
+use Rattle.pua_texts.specs.Lines.{with_end}
 use Rattle.pua_tool.specs.ObjectTexts.{numbers_asked}
 use Rattle.pua_tool.specs.declared.fault.ToolFault.{ToolFault}
 use Rattle.pua_tool.specs.declared.fault.ToolFault.TheVariants.{Request}
 use Rattle.pua_texts.specs.WhyLines.{Posed, why_lists_of, world_left}
 
 -- a script over a listing, by the table that is chosen, or the first fault: the table's, the listing's, or the script's
-unfoldable pub posed : Chosen → List ℕ → List ℕ → Result Posed ToolFault
-posed choice tree_bytes script_bytes = do
+unfoldable pub posed_script : Chosen → List ℕ → List ℕ → Result Posed ToolFault
+posed_script choice tree_bytes script_bytes = do
   table ← table_by choice
   t ← as_listing (listing tree_bytes)
   asks ← as_script (script script_bytes)
@@ -25,10 +25,10 @@ posed choice tree_bytes script_bytes = do
 
 -- a line for each request: its number, its answer, and why and since when it is so
 abbrev pub reason_lines : Posed → List ℕ
-reason_lines p = flat_map ended (why_lines p.table p.world [] 1 p.asks)
+reason_lines p = flat_map with_end (why_lines p.table p.world [] 1 p.asks)
 
 abbrev pub run_why_text : Chosen → List ℕ → List ℕ → Result (List ℕ) ToolFault
-run_why_text choice tree_bytes script_bytes = posed choice tree_bytes script_bytes >>= λ p. Ok (reason_lines p)
+run_why_text choice tree_bytes script_bytes = posed_script choice tree_bytes script_bytes >>= λ p. Ok (reason_lines p)
 
 -- a line of a script, by its process and the fields behind
 abbrev pub request_line : ℕ → List (List ℕ) → List ℕ
@@ -40,12 +40,13 @@ as_request (Err fault) = Err (Request fault)
 
 -- a line for each check that a request passes behind the script, and its answer
 abbrev pub chain_lines : Posed → Asked → List ℕ
-chain_lines p ask = flat_map ended (chain p.table p.world p.asks ask)
+chain_lines p ask = flat_map with_end (chain p.table p.world p.asks ask)
 
--- what decides the request with these fields behind a script over a listing, or the first fault: the table's, the listing's, the script's, or that of the fields
+-- what decides the request with these fields behind a script over a listing, or the first fault: the table's, the
+-- listing's, the script's, or that of the fields
 unfoldable pub why_text : Chosen → List ℕ → List ℕ → ℕ → List (List ℕ) → Result (List ℕ) ToolFault
 why_text choice tree_bytes script_bytes process fields = do
-  p ← posed choice tree_bytes script_bytes
+  p ← posed_script choice tree_bytes script_bytes
   ask ← as_request (request_of 1 (request_line process fields))
   Ok (chain_lines p ask)
 
@@ -53,9 +54,10 @@ why_text choice tree_bytes script_bytes process fields = do
 abbrev pub why_lists_asked : Posed → Processes → Result (List ℕ) ToolFault
 why_lists_asked p which = numbers_asked (world_left p) which >>= λ numbers. Ok (reason_lines p ++ why_lists_of p numbers)
 
--- the lists with reasons at the end of a script over a listing, or the first fault: the table's, the listing's, the script's, or a process never made
+-- the lists with reasons at the end of a script over a listing, or the first fault: the table's, the listing's, the
+-- script's, or a process never made
 unfoldable pub objects_why_text : Chosen → List ℕ → List ℕ → Processes → Result (List ℕ) ToolFault
 objects_why_text choice tree_bytes script_bytes which = do
-  p ← posed choice tree_bytes script_bytes
+  p ← posed_script choice tree_bytes script_bytes
   numbers ← numbers_asked (world_left p) which
   Ok (reason_lines p ++ why_lists_of p numbers)

@@ -7,7 +7,7 @@ ghost use Rattle.pua_calls.specs.declared.rules.Rules.TheVariants as rule;
 ghost use Rattle.pua_tool.specs.Begun.{IsReplay};
 ghost use Rattle.pua_tool.specs.EverTexts.{AnswersTo};
 ghost use Rattle.pua_tool.specs.Texts.{Replayed, as_audit, audit_after, audit_text};
-ghost use Rattle.pua_tool.specs.Texts.{beginning_of, by_job, wanted};
+ghost use Rattle.pua_tool.specs.Texts.{beginning_of, by_job, wants_of};
 ghost use Rattle.pua_io.specs.Sinks.{Adds, AddsFront, HasFailed};
 
 use crate::fault::ToolFault;
@@ -32,17 +32,19 @@ pub fn audit_to<S: Sink>(
     sink: &mut S,
 ) -> Result<(), ToolFault>
     ensures whole { OnOk result ((text : List ℕ)
-        × (audit_text (by_job rule.Profile job.now) tree_bytes.now script_bytes.now (wanted job.now)
+        × (audit_text (by_job rule.Profile job.now) tree_bytes.now script_bytes.now
+        (wants_of job.now)
         ≡ Ok text) × Adds text (S.written sink.old) (S.written sink.new)) }
     ensures unfailed { OnOk result (S.failed sink.new ≡ S.failed sink.old) }
     ensures write { result ≡ Err ToolFault.Write → (text : List ℕ)
-        × (audit_text (by_job rule.Profile job.now) tree_bytes.now script_bytes.now (wanted job.now)
+        × (audit_text (by_job rule.Profile job.now) tree_bytes.now script_bytes.now
+        (wants_of job.now)
         ≡ Ok text)
         × AddsFront text (S.written sink.old) (S.written sink.new)
         × HasFailed (S.failed sink.old) (S.failed sink.new) }
     ensures refused { IfErr result (λ fault. fault ≢ ToolFault.Write →
         fault ≢ ToolFault.OutOfMemory →
-        (audit_text (by_job rule.Profile job.now) tree_bytes.now script_bytes.now (wanted job.now)
+        (audit_text (by_job rule.Profile job.now) tree_bytes.now script_bytes.now (wants_of job.now)
         ≡ Err fault)) }
     ensures unwritten { IfErr result (λ fault. fault ≢ ToolFault.Write →
         S.written sink.new ≡ S.written sink.old) }
@@ -69,17 +71,17 @@ pub fn audit_by<S: Sink>(
     sink: &mut S,
 ) -> Result<(), ToolFault>
     ensures whole { OnOk result ((text : List ℕ)
-        × (audit_text (by_job rules job.now) tree_bytes.now script_bytes.now (wanted job.now)
+        × (audit_text (by_job rules job.now) tree_bytes.now script_bytes.now (wants_of job.now)
         ≡ Ok text) × Adds text (S.written sink.old) (S.written sink.new)) }
     ensures unfailed { OnOk result (S.failed sink.new ≡ S.failed sink.old) }
     ensures write { result ≡ Err ToolFault.Write → (text : List ℕ)
-        × (audit_text (by_job rules job.now) tree_bytes.now script_bytes.now (wanted job.now)
+        × (audit_text (by_job rules job.now) tree_bytes.now script_bytes.now (wants_of job.now)
         ≡ Ok text)
         × AddsFront text (S.written sink.old) (S.written sink.new)
         × HasFailed (S.failed sink.old) (S.failed sink.new) }
     ensures refused { IfErr result (λ fault. fault ≢ ToolFault.Write →
         fault ≢ ToolFault.OutOfMemory →
-        (audit_text (by_job rules job.now) tree_bytes.now script_bytes.now (wanted job.now)
+        (audit_text (by_job rules job.now) tree_bytes.now script_bytes.now (wants_of job.now)
         ≡ Err fault)) }
     ensures unwritten { IfErr result (λ fault. fault ≢ ToolFault.Write →
         S.written sink.new ≡ S.written sink.old) }
@@ -103,14 +105,15 @@ fn pairs_to<S: Sink>(
     sink: &mut S,
 ) -> Result<(), ToolFault>
     ensures { (done : Replayed) → IsReplay replay.now done →
-        AnswersTo S.written S.failed (audit_after done (wanted job.now)) result sink.old sink.new }
+        AnswersTo S.written S.failed
+        (audit_after done (wants_of job.now)) result sink.old sink.new }
 {
     let world = &replay.world;
     let Some(process) = world.process(job.process) else {
         return Err(ToolFault::NoProcess);
     };
     let mut list = begin(alloc, world.tree(), process, world.table(), job)?;
-    let Ok(front) = front_text(alloc, replay.told.as_slice(), job.process, job.after) else {
+    let Ok(front) = front_text(alloc, replay.answers.as_slice(), job.process, job.after) else {
         return Err(ToolFault::OutOfMemory);
     };
     told(write_audit(alloc, front.as_str(), &mut list, sink))
@@ -125,10 +128,10 @@ fn begin<'t, T: FileTree>(
     job: &Job<'_>,
 ) -> Result<AuditList<'t, T>, ToolFault>
     ensures begun { IfOk result (λ list. (h : History) → StandsFor process.now h →
-        (b : Beginning) × (beginning_of (T.content tree.now) table.now h (wanted job.now) ≡ Ok b)
+        (b : Beginning) × (beginning_of (T.content tree.now) table.now h (wants_of job.now) ≡ Ok b)
         × (list.left ≡ still_to_come b) × (list.base ≡ b.scope.base)) }
     ensures refused { IfErr result (λ fault. fault ≢ ToolFault.OutOfMemory → (h : History) →
-        as_audit (beginning_of (T.content tree.now) table.now h (wanted job.now)) ≡ Err fault) }
+        as_audit (beginning_of (T.content tree.now) table.now h (wants_of job.now)) ≡ Err fault) }
     ensures unwritten { IfErr result (λ fault. fault ≢ ToolFault.Write) }
 {
     let list = AuditList::begin(

@@ -2,13 +2,13 @@
 
 ghost use Rattle.std.specs.Prelude.{◌≡◌, ◌≢◌, ◌≤◌, [], OnErr, OnOk, map};
 ghost use Rattle.std.specs.Io.Buffered.{writer_buffer, writer_contents};
-ghost use Rattle.pua_words.specs.Usages.{line_for, line_text};
+ghost use Rattle.pua_words.specs.Usages.{line_for, usage_line_text};
 ghost use Rattle.pua_words.specs.Commands.{AsksSoundly};
 ghost use Rattle.pua_words.specs.declared.command.Command.{Command};
 ghost use Rattle.pua_tool.specs.Performed.{HasAnswered, HasEnded, HasHalted, IsRefused};
 ghost use Rattle.pua_io.specs.Sinks.{Adds, AddsFront, HasFailed};
-ghost use Rattle.pua_texts.specs.Lines.{ended};
-ghost use Rattle.pua_tool.specs.Told.{IsTold, Shows, ShowsFront, TellsStatus, TellsUsage};
+ghost use Rattle.pua_texts.specs.Lines.{with_end};
+ghost use Rattle.pua_tool.specs.Told.{IsLineTold, Shows, ShowsFront, TellsStatus, TellsUsage};
 ghost use Rattle.pua_tool.specs.Told.{cannot_write};
 
 use crate::fault::ToolFault;
@@ -36,7 +36,7 @@ pub fn program<I: Inputs, W: Write + Drop, E: Sink>(
     ensures refused { result ≡ REFUSED → (c : Command) × AsksSoundly c.text
         × IsRefused (I.holds inputs.old) c }
     ensures usage { result ≡ USAGE →
-        IsTold (ended (line_text (line_for (map (λ word. word.now) words.now))))
+        IsLineTold (with_end (usage_line_text (line_for (map (λ word. word.now) words.now))))
         (E.written err.old) (E.written err.new) (E.failed err.old) (E.failed err.new) }
     ensures device { result ≡ DEVICE → HasEnded (I.holds inputs.old)
         (writer_contents W.contents out.old.0)
@@ -60,7 +60,7 @@ fn at_end<E: Sink>(status: u8, flushed: Result<(), PutFault>, err: &mut E) -> u8
     ensures stopped { status ≢ DONE → result ≡ status }
     ensures device { OnErr flushed (status ≡ DONE → result ≡ DEVICE) }
     ensures told { OnErr flushed (status ≡ DONE →
-        IsTold cannot_write (E.written err.old) (E.written err.new) (E.failed err.old)
+        IsLineTold cannot_write (E.written err.old) (E.written err.new) (E.failed err.old)
         (E.failed err.new)) }
     ensures reported { result ≢ status → TellsStatus result
         (E.written err.old) (E.written err.new) (E.failed err.old) (E.failed err.new) }
@@ -93,7 +93,7 @@ pub fn command<I: Inputs, O: Sink, E: Sink>(
     ensures refused { result ≡ REFUSED → (c : Command) × AsksSoundly c.text
         × IsRefused (I.holds inputs.old) c }
     ensures usage { result ≡ USAGE →
-        IsTold (ended (line_text (line_for (map (λ word. word.now) words.now))))
+        IsLineTold (with_end (usage_line_text (line_for (map (λ word. word.now) words.now))))
         (E.written err.old) (E.written err.new) (E.failed err.old) (E.failed err.new) }
     ensures device { result ≡ DEVICE → HasHalted (I.holds inputs.old)
         (O.written out.old) (O.written out.new) (O.failed out.old) (O.failed out.new) }

@@ -3,7 +3,7 @@
 ghost use Rattle.std.specs.Prelude.{◌≡◌, ◌≢◌, ℕ, List, Ok, Err, IfErr, OnOk};
 ghost use Rattle.pua_tool.specs.Begun.{IsReplay};
 ghost use Rattle.pua_tool.specs.EverTexts.{AnswersTo, ever_after, ever_text};
-ghost use Rattle.pua_tool.specs.Texts.{Replayed, chosen};
+ghost use Rattle.pua_tool.specs.Texts.{Replayed, choice_of};
 ghost use Rattle.pua_io.specs.Sinks.{Adds, AddsFront, HasFailed};
 
 use crate::ever_fault::fault_of;
@@ -39,16 +39,16 @@ pub fn ever_to<S: Sink>(
     sink: &mut S,
 ) -> Result<(), ToolFault>
     ensures whole { OnOk result ((text : List ℕ)
-        × (ever_text (chosen table.entry) tree_bytes.now script_bytes.now process ≡ Ok text)
+        × (ever_text (choice_of table.entry) tree_bytes.now script_bytes.now process ≡ Ok text)
         × Adds text (S.written sink.old) (S.written sink.new)) }
     ensures unfailed { OnOk result (S.failed sink.new ≡ S.failed sink.old) }
     ensures write { result ≡ Err ToolFault.Write → (text : List ℕ)
-        × (ever_text (chosen table.entry) tree_bytes.now script_bytes.now process ≡ Ok text)
+        × (ever_text (choice_of table.entry) tree_bytes.now script_bytes.now process ≡ Ok text)
         × AddsFront text (S.written sink.old) (S.written sink.new)
         × HasFailed (S.failed sink.old) (S.failed sink.new) }
     ensures refused { IfErr result (λ fault. fault ≢ ToolFault.Write →
         fault ≢ ToolFault.OutOfMemory →
-        (ever_text (chosen table.entry) tree_bytes.now script_bytes.now process ≡ Err fault)) }
+        (ever_text (choice_of table.entry) tree_bytes.now script_bytes.now process ≡ Err fault)) }
     ensures unwritten { IfErr result (λ fault. fault ≢ ToolFault.Write →
         S.written sink.new ≡ S.written sink.old) }
 {
@@ -77,7 +77,7 @@ fn list_to<S: Sink>(
         Ok(ever) => ever,
         Err(fault) => return Err(fault_of(number, fault)),
     };
-    let Ok(front) = answer_text(alloc, replay.told.as_slice()) else {
+    let Ok(front) = answer_text(alloc, replay.answers.as_slice()) else {
         return Err(ToolFault::OutOfMemory);
     };
     told(write_ever(

@@ -2,7 +2,7 @@
 
 ghost use Rattle.std.specs.Prelude.{◌≡◌, ◌≢◌, ℕ, List, Err};
 ghost use Rattle.pua_ever.specs.Refusals.{refusal_in};
-ghost use Rattle.pua_tool.specs.EverTexts.{ever_fault, unless_refused};
+ghost use Rattle.pua_tool.specs.EverTexts.{ever_fault, unless_reason};
 
 use crate::fault::ToolFault;
 use pua_ever::{EverFault, Refusal};
@@ -10,7 +10,7 @@ use pua_ever::{EverFault, Refusal};
 /// Why the list for ever of the process with this number was not begun, as the tool reports it.
 pub(crate) fn fault_of(number: u32, fault: EverFault) -> ToolFault
     ensures told { (text : List ℕ) → result ≢ ToolFault.OutOfMemory →
-        unless_refused number (refusal_in fault) text ≡ Err result }
+        unless_reason number (refusal_in fault) text ≡ Err result }
     ensures unwritten { result ≢ ToolFault.Write }
 {
     match fault {

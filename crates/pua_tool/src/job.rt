@@ -1,7 +1,7 @@
 //! What an audit is asked for.
 
 ghost use Rattle.std.specs.Prelude.{◌≡◌};
-ghost use Rattle.pua_tool.specs.Texts.{given, wanted, wanted_by};
+ghost use Rattle.pua_tool.specs.Texts.{given_bytes, wants_of, wanted_by};
 
 use pua_audit::Base;
 use pua_words::AuditWords;
@@ -25,8 +25,8 @@ pub struct Job<'a> {
 
 /// What the words of an audit ask for, with these bytes of a table.
 pub(crate) fn job_of<'w>(words: &'w AuditWords<'_>, table: Option<&'w [u8]>) -> Job<'w>
-    ensures wanted { wanted result ≡ wanted_by words.now }
-    ensures table { given result.table ≡ given table.entry }
+    ensures wanted { wants_of result ≡ wanted_by words.now }
+    ensures table { given_bytes result.table ≡ given_bytes table.entry }
 {
     Job {
         limit: words.limit,

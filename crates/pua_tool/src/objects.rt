@@ -9,7 +9,7 @@ ghost use Rattle.pua_tool.specs.ObjectTexts.{lists_asked, numbers_asked, objects
 ghost use Rattle.pua_texts.specs.Tells.{Tells};
 ghost use Rattle.pua_tool.specs.Begun.{IsReplay};
 ghost use Rattle.pua_tool.specs.EverTexts.{Answers, AnswersTo};
-ghost use Rattle.pua_tool.specs.Texts.{Replayed as Served, chosen};
+ghost use Rattle.pua_tool.specs.Texts.{Replayed as Served, choice_of};
 ghost use Rattle.pua_io.specs.Sinks.{Adds, AddsFront, HasFailed};
 
 use crate::fault::ToolFault;
@@ -49,16 +49,17 @@ pub fn objects_to<S: Sink>(
     sink: &mut S,
 ) -> Result<(), ToolFault>
     ensures whole { OnOk result ((text : List ℕ)
-        × (objects_text (chosen table.entry) tree_bytes.now script_bytes.now processes
+        × (objects_text (choice_of table.entry) tree_bytes.now script_bytes.now processes
         ≡ Ok text) × Adds text (S.written sink.old) (S.written sink.new)) }
     ensures unfailed { OnOk result (S.failed sink.new ≡ S.failed sink.old) }
     ensures write { result ≡ Err ToolFault.Write → (text : List ℕ)
-        × (objects_text (chosen table.entry) tree_bytes.now script_bytes.now processes ≡ Ok text)
+        × (objects_text (choice_of table.entry) tree_bytes.now script_bytes.now processes ≡ Ok text)
         × AddsFront text (S.written sink.old) (S.written sink.new)
         × HasFailed (S.failed sink.old) (S.failed sink.new) }
     ensures refused { IfErr result (λ fault. fault ≢ ToolFault.Write →
         fault ≢ ToolFault.OutOfMemory →
-        (objects_text (chosen table.entry) tree_bytes.now script_bytes.now processes ≡ Err fault)) }
+        (objects_text (choice_of table.entry) tree_bytes.now script_bytes.now processes
+        ≡ Err fault)) }
     ensures unwritten { IfErr result (λ fault. fault ≢ ToolFault.Write →
         S.written sink.new ≡ S.written sink.old) }
 {
@@ -80,7 +81,7 @@ fn asked_to<S: Sink>(
         AnswersTo S.written S.failed (lists_asked done processes) result sink.old sink.new }
 {
     let numbers = numbers_of(alloc, &replay.world, processes)?;
-    let Ok(front) = answer_text(alloc, replay.told.as_slice()) else {
+    let Ok(front) = answer_text(alloc, replay.answers.as_slice()) else {
         return Err(ToolFault::OutOfMemory);
     };
     told(write_lists(

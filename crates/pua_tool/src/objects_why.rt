@@ -2,7 +2,7 @@
 
 ghost use Rattle.std.specs.Prelude.{◌≡◌, ◌≢◌, ◌++◌, ℕ, List, Ok, Err, IfErr, OnOk};
 ghost use Rattle.pua_script.specs.Scripts.{script};
-ghost use Rattle.pua_tool.specs.Texts.{chosen};
+ghost use Rattle.pua_tool.specs.Texts.{choice_of};
 ghost use Rattle.pua_tool.specs.PosedScripts.{IsPosed};
 ghost use Rattle.pua_texts.specs.Tells.{TellsTo};
 ghost use Rattle.pua_texts.specs.WhyLines.{Posed as Asking, why_lists_of};
@@ -38,17 +38,17 @@ pub fn objects_why_to<S: Sink>(
     sink: &mut S,
 ) -> Result<(), ToolFault>
     ensures whole { OnOk result ((text : List ℕ)
-        × (objects_why_text (chosen table.entry) tree_bytes.now script_bytes.now processes
+        × (objects_why_text (choice_of table.entry) tree_bytes.now script_bytes.now processes
         ≡ Ok text) × Adds text (S.written sink.old) (S.written sink.new)) }
     ensures unfailed { OnOk result (S.failed sink.new ≡ S.failed sink.old) }
     ensures write { result ≡ Err ToolFault.Write → (text : List ℕ)
-        × (objects_why_text (chosen table.entry) tree_bytes.now script_bytes.now processes
+        × (objects_why_text (choice_of table.entry) tree_bytes.now script_bytes.now processes
         ≡ Ok text)
         × AddsFront text (S.written sink.old) (S.written sink.new)
         × HasFailed (S.failed sink.old) (S.failed sink.new) }
     ensures refused { IfErr result (λ fault. fault ≢ ToolFault.Write →
         fault ≢ ToolFault.OutOfMemory →
-        (objects_why_text (chosen table.entry) tree_bytes.now script_bytes.now processes
+        (objects_why_text (choice_of table.entry) tree_bytes.now script_bytes.now processes
         ≡ Err fault)) }
     ensures unwritten { IfErr result (λ fault. fault ≢ ToolFault.Write →
         S.written sink.new ≡ S.written sink.old) }
@@ -89,7 +89,7 @@ fn write_all<S: Sink>(
         TellsTo S.written S.failed (reason_lines p ++ why_lists_of p numbers.now)
         result sink.old sink.new }
 {
-    let (requests, told) = (posed.script.requests(), posed.told.as_slice());
+    let (requests, answers) = (posed.script.requests(), posed.answers.as_slice());
     let veils = veils_of(alloc, &posed.after, numbers)?;
     let veils = veils.as_slice();
     let (front, lines) = dated_text(
@@ -97,7 +97,7 @@ fn write_all<S: Sink>(
         &mut posed.before,
         script_bytes,
         requests,
-        told,
+        answers,
         veils,
     )?;
     let (front, lines) = (front.as_str(), lines.as_slice());

@@ -3,7 +3,7 @@
 ghost use Rattle.std.specs.Prelude.{◌≡◌, IfErr, OnOk};
 ghost use Rattle.pua_io.specs.Sinks.{Adds, Writes};
 ghost use Rattle.pua_tool.specs.Statuses.{fault_status, status_after};
-ghost use Rattle.pua_texts.specs.Lines.{ended};
+ghost use Rattle.pua_texts.specs.Lines.{with_end};
 ghost use Rattle.pua_tool.specs.Told.{IsFaultTold, TellsFault};
 
 use crate::fault::{CANNOT_WRITE, NO_PROCESS, OUT_OF_MEMORY, ToolFault};
@@ -58,7 +58,7 @@ impl CommandFault<'_> {
 
 /// Writes a line and its end.
 fn put_line<E: Sink>(err: &mut E, line: &str) -> Result<(), PutFault>
-    ensures { Writes (ended line.now) result (E.written err.old) (E.written err.new)
+    ensures { Writes (with_end line.now) result (E.written err.old) (E.written err.new)
         (E.failed err.old) (E.failed err.new) }
 {
     put_all(err, line.as_bytes())?;

@@ -5,10 +5,10 @@ ghost use Rattle.pua_tree.specs.Listing.{listing};
 ghost use Rattle.pua_tree.specs.Tree.{Tree};
 ghost use Rattle.pua_script.specs.Scripts.{script};
 ghost use Rattle.pua_script.specs.Worlds.{StandsForWorld};
-ghost use Rattle.pua_tool.specs.Texts.{as_listing, as_script, chosen};
+ghost use Rattle.pua_tool.specs.Texts.{as_listing, as_script, choice_of};
 ghost use Rattle.pua_tool.specs.PosedScripts.{IsNewOver, IsPosed};
 ghost use Rattle.pua_texts.specs.WhyLines.{Posed as Asking};
-ghost use Rattle.pua_tool.specs.WhyTexts.{posed};
+ghost use Rattle.pua_tool.specs.WhyTexts.{posed_script};
 
 use crate::fault::ToolFault;
 use crate::script::{ProgramTree, read_requests, read_table, read_tree, release};
@@ -22,7 +22,7 @@ use std::alloc::Global;
 #[derive(Drop)]
 pub(crate) struct Posed {
     pub(crate) script: Script,
-    pub(crate) told: Vec<Answer>,
+    pub(crate) answers: Vec<Answer>,
     pub(crate) before: World<ProgramTree>,
     pub(crate) after: World<ProgramTree>,
 }
@@ -45,10 +45,10 @@ pub(crate) fn pose(
     choice: TableChoice<'_>,
 ) -> Result<Posed, ToolFault>
     ensures done { IfOk result (λ done. (p : Asking)
-        × (posed (chosen choice.entry) tree_bytes.now script_bytes.now ≡ Ok p)
+        × (posed_script (choice_of choice.entry) tree_bytes.now script_bytes.now ≡ Ok p)
         × (script script_bytes.now ≡ Ok p.asks) × IsPosed done p) }
     ensures refused { IfErr result (λ fault. fault ≢ ToolFault.OutOfMemory →
-        (posed (chosen choice.entry) tree_bytes.now script_bytes.now ≡ Err fault)) }
+        (posed_script (choice_of choice.entry) tree_bytes.now script_bytes.now ≡ Err fault)) }
     ensures unwritten { IfErr result (λ fault. fault ≢ ToolFault.Write) }
 {
     let table = read_table(alloc, choice)?;
@@ -94,14 +94,14 @@ fn serve(
     ensures memory { IfErr result (λ fault. fault ≡ ToolFault.OutOfMemory) }
     ensures unwritten { IfErr result (λ fault. fault ≢ ToolFault.Write) }
 {
-    let Ok(told) = after.run(alloc, &requests) else {
+    let Ok(answers) = after.run(alloc, &requests) else {
         release(before);
         release(after);
         return Err(ToolFault::OutOfMemory);
     };
     Ok(Posed {
         script: requests,
-        told,
+        answers,
         before,
         after,
     })

@@ -1,7 +1,7 @@
 //! The text of a run.
 
 ghost use Rattle.std.specs.Prelude.{◌≡◌, ◌≢◌, ℕ, List, Ok, Err, IfErr, IfOk, OnOk, string_bytes};
-ghost use Rattle.pua_tool.specs.Texts.{by_profile, chosen, given, run_text};
+ghost use Rattle.pua_tool.specs.Texts.{by_profile, choice_of, given_bytes, run_text};
 ghost use Rattle.pua_io.specs.Sinks.{Adds, AddsFront, HasFailed};
 
 use crate::fault::ToolFault;
@@ -23,17 +23,17 @@ pub fn run_to<S: Sink>(
     sink: &mut S,
 ) -> Result<(), ToolFault>
     ensures whole { OnOk result ((text : List ℕ)
-        × (run_text (by_profile (given table.entry)) tree_bytes.now script_bytes.now
+        × (run_text (by_profile (given_bytes table.entry)) tree_bytes.now script_bytes.now
         ≡ Ok text) × Adds text (S.written sink.old) (S.written sink.new)) }
     ensures unfailed { OnOk result (S.failed sink.new ≡ S.failed sink.old) }
     ensures write { result ≡ Err ToolFault.Write → (text : List ℕ)
-        × (run_text (by_profile (given table.entry)) tree_bytes.now script_bytes.now
+        × (run_text (by_profile (given_bytes table.entry)) tree_bytes.now script_bytes.now
         ≡ Ok text)
         × AddsFront text (S.written sink.old) (S.written sink.new)
         × HasFailed (S.failed sink.old) (S.failed sink.new) }
     ensures refused { IfErr result (λ fault. fault ≢ ToolFault.Write →
         fault ≢ ToolFault.OutOfMemory →
-        (run_text (by_profile (given table.entry)) tree_bytes.now script_bytes.now
+        (run_text (by_profile (given_bytes table.entry)) tree_bytes.now script_bytes.now
         ≡ Err fault)) }
     ensures unwritten { IfErr result (λ fault. fault ≢ ToolFault.Write →
         S.written sink.new ≡ S.written sink.old) }
@@ -60,16 +60,16 @@ pub fn run_by<S: Sink>(
     sink: &mut S,
 ) -> Result<(), ToolFault>
     ensures whole { OnOk result ((text : List ℕ)
-        × (run_text (chosen table.entry) tree_bytes.now script_bytes.now ≡ Ok text)
+        × (run_text (choice_of table.entry) tree_bytes.now script_bytes.now ≡ Ok text)
         × Adds text (S.written sink.old) (S.written sink.new)) }
     ensures unfailed { OnOk result (S.failed sink.new ≡ S.failed sink.old) }
     ensures write { result ≡ Err ToolFault.Write → (text : List ℕ)
-        × (run_text (chosen table.entry) tree_bytes.now script_bytes.now ≡ Ok text)
+        × (run_text (choice_of table.entry) tree_bytes.now script_bytes.now ≡ Ok text)
         × AddsFront text (S.written sink.old) (S.written sink.new)
         × HasFailed (S.failed sink.old) (S.failed sink.new) }
     ensures refused { IfErr result (λ fault. fault ≢ ToolFault.Write →
         fault ≢ ToolFault.OutOfMemory →
-        (run_text (chosen table.entry) tree_bytes.now script_bytes.now ≡ Err fault)) }
+        (run_text (choice_of table.entry) tree_bytes.now script_bytes.now ≡ Err fault)) }
     ensures unwritten { IfErr result (λ fault. fault ≢ ToolFault.Write →
         S.written sink.new ≡ S.written sink.old) }
 {
@@ -85,14 +85,14 @@ fn text_of(
     script_bytes: &[u8],
     table: TableChoice<'_>,
 ) -> Result<String, ToolFault>
-    ensures done { IfOk result (λ text. run_text (chosen table.entry) tree_bytes.now
+    ensures done { IfOk result (λ text. run_text (choice_of table.entry) tree_bytes.now
         script_bytes.now ≡ Ok (string_bytes text)) }
     ensures refused { IfErr result (λ fault. fault ≢ ToolFault.OutOfMemory →
-        (run_text (chosen table.entry) tree_bytes.now script_bytes.now ≡ Err fault)) }
+        (run_text (choice_of table.entry) tree_bytes.now script_bytes.now ≡ Err fault)) }
     ensures unwritten { IfErr result (λ fault. fault ≢ ToolFault.Write) }
 {
     let replay = replay_script(alloc, tree_bytes, script_bytes, table)?;
-    let text = answer_text(alloc, replay.told.as_slice());
+    let text = answer_text(alloc, replay.answers.as_slice());
     replay.release();
     match text {
         Ok(text) => Ok(text),

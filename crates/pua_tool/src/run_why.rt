@@ -2,7 +2,7 @@
 
 ghost use Rattle.std.specs.Prelude.{◌≡◌, ◌≢◌, ℕ, List, Ok, Err, IfErr, IfOk, OnOk, string_bytes};
 ghost use Rattle.pua_script.specs.Scripts.{script};
-ghost use Rattle.pua_tool.specs.Texts.{chosen};
+ghost use Rattle.pua_tool.specs.Texts.{choice_of};
 ghost use Rattle.pua_tool.specs.PosedScripts.{IsPosed};
 ghost use Rattle.pua_texts.specs.WhyLines.{Posed as Asking};
 ghost use Rattle.pua_tool.specs.WhyTexts.{reason_lines, run_why_text};
@@ -34,16 +34,16 @@ pub fn run_why_to<S: Sink>(
     sink: &mut S,
 ) -> Result<(), ToolFault>
     ensures whole { OnOk result ((text : List ℕ)
-        × (run_why_text (chosen table.entry) tree_bytes.now script_bytes.now ≡ Ok text)
+        × (run_why_text (choice_of table.entry) tree_bytes.now script_bytes.now ≡ Ok text)
         × Adds text (S.written sink.old) (S.written sink.new)) }
     ensures unfailed { OnOk result (S.failed sink.new ≡ S.failed sink.old) }
     ensures write { result ≡ Err ToolFault.Write → (text : List ℕ)
-        × (run_why_text (chosen table.entry) tree_bytes.now script_bytes.now ≡ Ok text)
+        × (run_why_text (choice_of table.entry) tree_bytes.now script_bytes.now ≡ Ok text)
         × AddsFront text (S.written sink.old) (S.written sink.new)
         × HasFailed (S.failed sink.old) (S.failed sink.new) }
     ensures refused { IfErr result (λ fault. fault ≢ ToolFault.Write →
         fault ≢ ToolFault.OutOfMemory →
-        (run_why_text (chosen table.entry) tree_bytes.now script_bytes.now ≡ Err fault)) }
+        (run_why_text (choice_of table.entry) tree_bytes.now script_bytes.now ≡ Err fault)) }
     ensures unwritten { IfErr result (λ fault. fault ≢ ToolFault.Write →
         S.written sink.new ≡ S.written sink.old) }
 {
@@ -61,6 +61,6 @@ fn text_of(alloc: Global, script_bytes: &[u8], posed: &mut Posed) -> Result<Stri
     ensures { IfOk result (λ text. (p : Asking) → script script_bytes.now ≡ Ok p.asks →
         IsPosed posed.old p → string_bytes text ≡ reason_lines p) }
 {
-    let (requests, told) = (posed.script.requests(), posed.told.as_slice());
-    reason_text(alloc, &mut posed.before, script_bytes, requests, told)
+    let (requests, answers) = (posed.script.requests(), posed.answers.as_slice());
+    reason_text(alloc, &mut posed.before, script_bytes, requests, answers)
 }

@@ -4,8 +4,9 @@ ghost use Rattle.std.specs.Prelude.{◌≡◌, ◌≢◌, List, Ok, Err, IfOk, I
 ghost use Rattle.pua_tree.specs.Listing.{listing};
 ghost use Rattle.pua_script.specs.Requests.{Asked};
 ghost use Rattle.pua_script.specs.Scripts.{script};
-ghost use Rattle.pua_tool.specs.Texts.{Replayed, as_listing, as_script, chosen, replayed, table_by};
-ghost use Rattle.pua_tool.specs.Begun.{IsReplay, left_by};
+ghost use Rattle.pua_tool.specs.Texts.{Replayed, as_listing, as_script, choice_of, replay_of};
+ghost use Rattle.pua_tool.specs.Texts.{table_by};
+ghost use Rattle.pua_tool.specs.Begun.{IsReplay, replay_by};
 
 use crate::fault::ToolFault;
 use crate::table::TableChoice;
@@ -21,7 +22,7 @@ pub(crate) type ProgramTree = SlabTree;
 #[derive(Drop)]
 pub(crate) struct Replay {
     pub(crate) world: World<ProgramTree>,
-    pub(crate) told: Vec<Answer>,
+    pub(crate) answers: Vec<Answer>,
 }
 
 impl Replay {
@@ -45,10 +46,10 @@ pub(crate) fn replay_script(
     table: TableChoice<'_>,
 ) -> Result<Replay, ToolFault>
     ensures done { IfOk result (λ replay. (done : Replayed)
-        × (replayed (chosen table.entry) tree_bytes.now script_bytes.now ≡ Ok done)
+        × (replay_of (choice_of table.entry) tree_bytes.now script_bytes.now ≡ Ok done)
         × IsReplay replay done) }
     ensures refused { IfErr result (λ fault. fault ≢ ToolFault.OutOfMemory →
-        (replayed (chosen table.entry) tree_bytes.now script_bytes.now ≡ Err fault)) }
+        (replay_of (choice_of table.entry) tree_bytes.now script_bytes.now ≡ Err fault)) }
     ensures unwritten { IfErr result (λ fault. fault ≢ ToolFault.Write) }
 {
     let table = read_table(alloc, table)?;
@@ -66,7 +67,7 @@ fn replay_over(
 ) -> Result<Replay, ToolFault>
     ensures done { IfOk result (λ replay. (asks : List Asked)
         × (as_script (script script_bytes.now) ≡ Ok asks)
-        × IsReplay replay (left_by table tree asks)) }
+        × IsReplay replay (replay_by table tree asks)) }
     ensures refused { IfErr result (λ fault. fault ≢ ToolFault.OutOfMemory →
         (as_script (script script_bytes.now) ≡ Err fault)) }
     ensures unwritten { IfErr result (λ fault. fault ≢ ToolFault.Write) }
@@ -82,25 +83,25 @@ fn replay_requests(
     table: CallTable,
     requests: &Script,
 ) -> Result<Replay, ToolFault>
-    ensures done { IfOk result (λ replay. IsReplay replay (left_by table tree requests.now)) }
+    ensures done { IfOk result (λ replay. IsReplay replay (replay_by table tree requests.now)) }
     ensures memory { IfErr result (λ fault. fault ≡ ToolFault.OutOfMemory) }
     ensures unwritten { IfErr result (λ fault. fault ≢ ToolFault.Write) }
 {
     let Ok(mut world) = World::new(alloc, tree, table) else {
         return Err(ToolFault::OutOfMemory);
     };
-    let Ok(told) = world.run(alloc, requests) else {
+    let Ok(answers) = world.run(alloc, requests) else {
         release(world);
         return Err(ToolFault::OutOfMemory);
     };
-    Ok(Replay { world, told })
+    Ok(Replay { world, answers })
 }
 
 /// The table that is chosen.
 pub(crate) fn read_table(alloc: Global, choice: TableChoice<'_>) -> Result<CallTable, ToolFault>
-    ensures read { IfOk result (λ table. table_by (chosen choice.entry) ≡ Ok table) }
+    ensures read { IfOk result (λ table. table_by (choice_of choice.entry) ≡ Ok table) }
     ensures refused { IfErr result (λ fault. fault ≢ ToolFault.OutOfMemory →
-        (table_by (chosen choice.entry) ≡ Err fault)) }
+        (table_by (choice_of choice.entry) ≡ Err fault)) }
     ensures unwritten { IfErr result (λ fault. fault ≢ ToolFault.Write) }
 {
     let base = CallTable::of(choice.rules);

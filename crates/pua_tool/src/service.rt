@@ -8,7 +8,7 @@ ghost use Rattle.pua_tool.specs.Performed.{IsTableUnheld, IsUnheld, IsUntaken, L
 ghost use Rattle.pua_tool.specs.Performed.{text_asked};
 ghost use Rattle.pua_io.specs.Sinks.{Adds, AddsFront, HasFailed};
 ghost use Rattle.pua_tool.specs.Statuses.{fault_status};
-ghost use Rattle.pua_tool.specs.Texts.{given};
+ghost use Rattle.pua_tool.specs.Texts.{given_bytes};
 ghost use Rattle.pua_tool.specs.Told.{IsFaultTold};
 ghost use Rattle.pua_tool.specs.declared.outcome.CommandFault.{CommandFault};
 
@@ -130,7 +130,7 @@ fn take_table<'c, I: Inputs>(
     ensures held { IfOk result (λ bytes. HoldsTable (I.holds inputs.old) name.entry (option_map
         (λ bytes. bytes.items) bytes)) }
     ensures unheld { IfErr result (λ fault. IsTableUnheld (I.holds inputs.old)
-        (given name.entry) fault) }
+        (given_bytes name.entry) fault) }
 {
     match name {
         Some(name) => Ok(Some(take_named(alloc, name, inputs)?)),

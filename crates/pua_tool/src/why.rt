@@ -5,7 +5,7 @@ ghost use Rattle.std.specs.Prelude.{string_bytes};
 ghost use Rattle.pua_script.specs.Requests.{Asked};
 ghost use Rattle.pua_script.specs.Scripts.{request_of};
 ghost use Rattle.pua_tool.specs.PosedScripts.{IsPosed};
-ghost use Rattle.pua_tool.specs.Texts.{chosen};
+ghost use Rattle.pua_tool.specs.Texts.{choice_of};
 ghost use Rattle.pua_texts.specs.WhyLines.{Posed as Asking};
 ghost use Rattle.pua_tool.specs.WhyTexts.{as_request, chain_lines, request_line};
 ghost use Rattle.pua_tool.specs.WhyTexts.{why_text};
@@ -41,18 +41,18 @@ pub fn why_to<S: Sink>(
     sink: &mut S,
 ) -> Result<(), ToolFault>
     ensures whole { OnOk result ((text : List ℕ)
-        × (why_text (chosen table.entry) tree_bytes.now script_bytes.now process
+        × (why_text (choice_of table.entry) tree_bytes.now script_bytes.now process
         (map (λ field. field.now) fields.now) ≡ Ok text)
         × Adds text (S.written sink.old) (S.written sink.new)) }
     ensures unfailed { OnOk result (S.failed sink.new ≡ S.failed sink.old) }
     ensures write { result ≡ Err ToolFault.Write → (text : List ℕ)
-        × (why_text (chosen table.entry) tree_bytes.now script_bytes.now process
+        × (why_text (choice_of table.entry) tree_bytes.now script_bytes.now process
         (map (λ field. field.now) fields.now) ≡ Ok text)
         × AddsFront text (S.written sink.old) (S.written sink.new)
         × HasFailed (S.failed sink.old) (S.failed sink.new) }
     ensures refused { IfErr result (λ fault. fault ≢ ToolFault.Write →
         fault ≢ ToolFault.OutOfMemory →
-        (why_text (chosen table.entry) tree_bytes.now script_bytes.now process
+        (why_text (choice_of table.entry) tree_bytes.now script_bytes.now process
         (map (λ field. field.now) fields.now) ≡ Err fault)) }
     ensures unwritten { IfErr result (λ fault. fault ≢ ToolFault.Write →
         S.written sink.new ≡ S.written sink.old) }
@@ -133,7 +133,7 @@ fn text_of(alloc: Global, posed: &mut Posed, request: &Request) -> Result<String
     ensures { IfOk result (λ text. (p : Asking) → IsPosed posed.old p →
         string_bytes text ≡ chain_lines p request.now) }
 {
-    let (requests, told) = (posed.script.requests(), posed.told.as_slice());
+    let (requests, answers) = (posed.script.requests(), posed.answers.as_slice());
     let (before, after) = (&mut posed.before, &mut posed.after);
-    chain_text(alloc, before, after, requests, told, request)
+    chain_text(alloc, before, after, requests, answers, request)
 }

@@ -1,18 +1,15 @@
 -- Lemmas of no one subject: tests, options, results, byte strings and lists.
-use Rattle.std.proofs.Common.{◌≡◌, ◌≢◌, ◌<◌, Bool, true, false, cond, T, ℕ, List, [], ◌∷◌, ◌++◌, map, reverse, find, Option, Some, None, Result, Ok, Err, ok_or, option_map, unwrap_or, is_some, is_ok, eqb, nat_cmp, refl, sym, ap, subst, ◌∙◌, true≢false, is_eq}
-use Rattle.std.specs.Prelude.{IsTrue}
+use Rattle.pua_tree.proofs.Common.{◌≡◌, ◌≢◌, ◌<◌, Bool, true, false, cond, T, ℕ, List, [], ◌∷◌, ◌++◌, map, reverse, Option, Some, None}
+use Rattle.pua_tree.proofs.Common.{Result, Ok, Err, option_map, unwrap_or, is_some, eqb, refl, sym, ap, subst, ◌∙◌, true≢false, IsTrue}
+use Rattle.pua_tree.proofs.Common.{Equal-is, nat_cmp_total, tied_itself, Greater, eq_by_cmp, nat_cmp-IsAntisymmetric, same_from_decides}
+use Rattle.pua_tree.proofs.Common.{map-append, reverse-append, bytes_decides, only_if, same_bytes}
+use Rattle.std.proofs.Common.{find}
+use Rattle.std.proofs.Common.{ok_or, is_ok, nat_cmp}
+use Rattle.std.proofs.Common.{is_eq}
 use Rattle.std.specs.Result.{result_ok}
-use Rattle.std.specs.Cmp.{Equal-is, nat_cmp_is, nat_cmp_total, tied_itself}
-use Rattle.std.specs.declared.cmp.Ordering.TheVariants.{Greater}
-use Rattle.std.specs.Ordering.{eq_by_cmp}
-use Rattle.std.specs.FinMap.{nat_cmp-IsAntisymmetric}
+use Rattle.std.specs.Cmp.{nat_cmp_is}
 use Rattle.std.proofs.lemmas.Bool.{eq-eqb, eqb-true}
-use Rattle.std.proofs.lemmas.Bool.Decides.{same_from_decides}
-use Rattle.std.proofs.lemmas.List.{map-append, reverse-append}
-use lib.Pointwise.{bytes_decides}
 use Rattle.pua_tree.specs.Steps.{◌>>=◌}
-use Rattle.pua_tree.specs.Listing.{only_if}
-use Rattle.pua_tree.specs.Names.{same_bytes}
 
 -- a fact as a test's answer; std's `passes` turns it round
 pub holds : (b : Bool) → T b → b ≡ true
@@ -101,8 +98,10 @@ other_word word other ne = elim (same_bytes word other) as (λ b. same_bytes wor
 
 -- numbers tie where they are the same
 pub nat_tie : (p n : ℕ) → eq_by_cmp nat_cmp p n ≡ eqb n p
-nat_tie p n = same_from_decides {P = p ≡ n} _ _
-    (λ e. nat_cmp-IsAntisymmetric p n ((Equal-is _).0 e), λ e. subst (λ s. eq_by_cmp nat_cmp p s ≡ true) e (ap is_eq (tied_itself nat_cmp_total p)))
+nat_tie p n = same_from_decides {P = p ≡ n} _ _ (
+  λ e. nat_cmp-IsAntisymmetric p n ((Equal-is _).0 e),
+  λ e. subst (λ s. eq_by_cmp nat_cmp p s ≡ true) e (ap is_eq (tied_itself nat_cmp_total p)),
+)
     (λ e. sym (eqb-true n p e), λ e. eq-eqb n p (sym e))
 
 -- a number after a lower one
@@ -121,10 +120,15 @@ first_passes test (y ∷ ys) x e = by (test y) refl e (first_passes test ys x)
 -- finding after a map is a map after finding
 pub find-map : {X Y : Type 0} (f : X → Y) (p : Y → Bool) (xs : List X) → find p (map f xs) ≡ option_map f (find (λ x. p (f x)) xs)
 find-map f p [] = refl
-find-map f p (x ∷ xs) = elim (p (f x)) as (λ b. cond b (Some (f x)) (find p (map f xs)) ≡ option_map f (cond b (Some x) (find (λ x. p (f x)) xs))) [ true ↦ refl | false ↦ find-map f p xs ]
+find-map f p (x ∷ xs) =
+    elim (p (f x)) as (λ b. cond b (Some (f x)) (find p (map f xs)) ≡ option_map f (cond b (Some x) (find (λ x. p (f x)) xs))) [
+      | true ↦ refl
+      | false ↦ find-map f p xs
+    ]
 
 -- a list turned round after a map
 pub map-reverse : {A B : Type 0} (f : A → B) (xs : List A) → map f (reverse xs) ≡ reverse (map f xs)
 map-reverse f [] = refl
 map-reverse f (x ∷ xs) =
-    ap (map f) (reverse-append (x ∷ []) xs) ∙ map-append f (reverse xs) (x ∷ []) ∙ ap (λ ys. ys ++ f x ∷ []) (map-reverse f xs) ∙ sym (reverse-append (f x ∷ []) (map f xs))
+    ap (map f) (reverse-append (x ∷ []) xs) ∙ map-append f (reverse xs) (x ∷ []) ∙ ap (λ ys. ys ++ f x ∷ []) (map-reverse f xs) ∙
+    sym (reverse-append (f x ∷ []) (map f xs))

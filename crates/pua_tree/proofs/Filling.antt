@@ -1,8 +1,7 @@
 -- Fields are taken off a line one by one, and the first six kept.
-use Rattle.std.proofs.Common.{◌≡◌, ◌≤◌, ◌&&◌, ℕ, Bool, true, false, List, [], ◌∷◌, ◌++◌, length, Option, Some, None, sym, ap, ◌∙◌, cond, take}
-use Rattle.std.specs.List.{list_all}
-use Rattle.std.proofs.lemmas.List.{append-nil, take_all, take-append-le}
-use Rattle.pua_tree.specs.Spelling.{is_field}
+use Rattle.pua_tree.proofs.Common.{◌≡◌, ◌≤◌, ◌&&◌, ℕ, Bool, true, false, List, [], ◌∷◌, ◌++◌, length, Option, Some, None, sym, ap, ◌∙◌}
+use Rattle.pua_tree.proofs.Common.{cond, take, list_all, take_all, is_field}
+use Rattle.std.proofs.lemmas.List.{append-nil, take-append-le}
 
 -- what becomes of fields that were kept, and those that are still to be read
 abbrev pub filled : List (List ℕ) → List (List ℕ) → Option (List (List ℕ))
@@ -12,10 +11,12 @@ passed : (test other : Bool) (x : Option (List (List ℕ))) → test ≡ true �
 passed test other x e = ap (λ t. cond (t && other) x None) e
 
 -- one more field, and no room for it
-pub filled-full : (kept : List (List ℕ)) (field : List ℕ) (rest : List (List ℕ)) → is_field field ≡ true → 6 ≤ length kept → filled kept (field ∷ rest) ≡ filled kept rest
+pub filled-full : (kept : List (List ℕ)) (field : List ℕ) (rest : List (List ℕ)) → is_field field ≡ true → 6 ≤ length kept →
+    filled kept (field ∷ rest) ≡ filled kept rest
 filled-full kept field rest good full =
     passed (is_field field) (list_all is_field rest) (Some (take 6 (kept ++ field ∷ rest))) good
-    ∙ ap (λ fs. cond (list_all is_field rest) (Some fs) None) (take-append-le 6 kept (field ∷ rest) full ∙ sym (take-append-le 6 kept rest full))
+    ∙ ap (λ fs. cond (list_all is_field rest) (Some fs) None) (take-append-le 6 kept (field ∷ rest) full ∙
+    sym (take-append-le 6 kept rest full))
 
 -- no field is left
 pub filled-end : (kept : List (List ℕ)) → length kept ≤ 6 → filled kept [] ≡ Some kept

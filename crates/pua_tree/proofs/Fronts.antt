@@ -1,20 +1,18 @@
 -- Names in the order of the numbers that their first bytes write.
-use Rattle.std.proofs.Common.{◌≡◌, ℕ, zero, suc, ◌+◌, ◌-◌, ◌*◌, ◌<◌, ◌≤◌, true, List, [], ◌∷◌, ◌++◌, length, get_or, replicate, refl, sym, ap, subst, ◌∙◌, arith, nat_lt, nat_le, true≢false}
-use Rattle.std.specs.Prelude.{IsTrue}
-use Rattle.std.specs.declared.cmp.Ordering.{Ordering}
-use Rattle.std.specs.declared.cmp.Ordering.TheVariants.{Less, Equal, Greater}
-use Rattle.std.specs.Ordering.{nat_cmp, ordering_then, MatchOrdering, is_ne}
-use Rattle.std.specs.Cmp.{ranks, nat_cmp_is, nat_cmp_total, tied_itself}
+use Rattle.pua_tree.proofs.Common.{◌≡◌, ℕ, zero, suc, ◌+◌, ◌-◌, ◌*◌, ◌<◌, ◌≤◌, true, List, [], ◌∷◌, ◌++◌, length, get_or, replicate, refl}
+use Rattle.pua_tree.proofs.Common.{sym, ap, subst, ◌∙◌, arith, nat_lt, nat_le, true≢false, IsTrue, Ordering, Less, Equal, Greater, nat_cmp}
+use Rattle.pua_tree.proofs.Common.{ordering_then, nat_cmp_total, tied_itself, list_all, and_parts, ltb-true, is_name, padded_name}
+use Rattle.std.specs.Ordering.{MatchOrdering, is_ne}
+use Rattle.std.specs.Cmp.{ranks, nat_cmp_is}
 use Rattle.std.specs.Cmp.Lexicographic.{slice_cmp}
 use Rattle.std.specs.Int.{w64, from_be_bytes}
-use Rattle.std.specs.List.{list_all}
-use Rattle.std.proofs.lemmas.Bool.{and_parts, ltb-true}
-use Rattle.pua_tree.specs.Names.{is_name, is_name_byte, front, padded}
+use Rattle.pua_tree.specs.Names.{is_name_byte, front}
 use Rattle.pua_tree.proofs.Base.{greater}
 
 -- eight bytes of a longer list as a number
 pub front-eight : (bytes : List ℕ) → 8 ≤ length bytes
-    → from_be_bytes w64 (get_or bytes 0 0 ∷ get_or bytes 1 0 ∷ get_or bytes 2 0 ∷ get_or bytes 3 0 ∷ get_or bytes 4 0 ∷ get_or bytes 5 0 ∷ get_or bytes 6 0 ∷ get_or bytes 7 0 ∷ [])
+    → from_be_bytes w64 (get_or bytes 0 0 ∷ get_or bytes 1 0 ∷ get_or bytes 2 0 ∷ get_or bytes 3 0 ∷ get_or bytes 4 0 ∷ get_or bytes 5 0
+    ∷ get_or bytes 6 0 ∷ get_or bytes 7 0 ∷ [])
     ≡ front 8 0 bytes
 front-eight [] h = absurd (omega arith)
 front-eight (a ∷ []) h = absurd (omega arith)
@@ -30,10 +28,11 @@ front-eight (a ∷ b ∷ c ∷ d ∷ e ∷ f ∷ g ∷ i ∷ more) h = omega ari
 front-zeros : (n a : ℕ) (bytes : List ℕ) (k : ℕ) → front n a (bytes ++ replicate k 0) ≡ front n a bytes
 front-zeros zero a bytes k = refl
 front-zeros (suc n) a [] zero = refl
-front-zeros (suc n) a [] (suc k) = let same : a * 256 + 0 ≡ a * 256 = omega arith in ap (λ b. front n b (replicate k 0)) same ∙ front-zeros n (a * 256) [] k
+front-zeros (suc n) a [] (suc k) = let same : a * 256 + 0 ≡ a * 256 = omega arith in ap (λ b. front n b (replicate k 0)) same ∙
+    front-zeros n (a * 256) [] k
 front-zeros (suc n) a (b ∷ bytes) k = front-zeros n (a * 256 + b) bytes k
 
-pub front-padded : (name : List ℕ) → front 8 0 (padded name) ≡ front 8 0 name
+pub front-padded : (name : List ℕ) → front 8 0 (padded_name name) ≡ front 8 0 name
 front-padded name = front-zeros 8 0 name (255 - length name)
 
 is_byte : (b : ℕ) → is_name_byte b ≡ true → (0 < b) × (b < 256)
@@ -76,20 +75,29 @@ by_front (suc n) a (x ∷ xs) (y ∷ ys) g h =
     by (nat_cmp x y) (ranks x y) (and_parts (is_name_byte x) _ g).1 (and_parts (is_name_byte y) _ h).1 (by_front n (a * 256 + x) xs ys)
   where
     by : (r : Ordering) → MatchOrdering r (x < y) (x ≡ y) (y < x) → list_all is_name_byte xs ≡ true → list_all is_name_byte ys ≡ true
-        → (list_all is_name_byte xs ≡ true → list_all is_name_byte ys ≡ true → ordering_then (nat_cmp (front n (a * 256 + x) xs) (front n (a * 256 + x) ys)) (slice_cmp nat_cmp xs ys) ≡ slice_cmp nat_cmp xs ys)
-        → ordering_then (nat_cmp (front n (a * 256 + x) xs) (front n (a * 256 + y) ys)) (ordering_then r (slice_cmp nat_cmp xs ys)) ≡ ordering_then r (slice_cmp nat_cmp xs ys)
-    by Less l p q alike = let under : x < y = l in ap (λ r. ordering_then r Less) (below _ _ (rises n (a * 256 + x) (a * 256 + y) xs ys p (omega arith)))
-    by Greater l p q alike = let over : y < x = l in ap (λ r. ordering_then r Greater) (greater _ _ (rises n (a * 256 + y) (a * 256 + x) ys xs q (omega arith)))
+        → (list_all is_name_byte xs ≡ true → list_all is_name_byte ys ≡ true →
+        ordering_then (nat_cmp (front n (a * 256 + x) xs) (front n (a * 256 + x) ys)) (slice_cmp nat_cmp xs ys)
+        ≡ slice_cmp nat_cmp xs ys)
+        → ordering_then (nat_cmp (front n (a * 256 + x) xs) (front n (a * 256 + y) ys)) (ordering_then r (slice_cmp nat_cmp xs ys))
+        ≡ ordering_then r (slice_cmp nat_cmp xs ys)
+    by Less l p q alike = let under : x < y = l in
+        ap (λ r. ordering_then r Less) (below _ _ (rises n (a * 256 + x) (a * 256 + y) xs ys p (omega arith)))
+    by Greater l p q alike = let over : y < x = l in
+        ap (λ r. ordering_then r Greater) (greater _ _ (rises n (a * 256 + y) (a * 256 + x) ys xs q (omega arith)))
     by Equal l p q alike = let level : x ≡ y = l in
-        subst (λ z. ordering_then (nat_cmp (front n (a * 256 + x) xs) (front n (a * 256 + z) ys)) (slice_cmp nat_cmp xs ys) ≡ slice_cmp nat_cmp xs ys) level (alike p q)
+        subst (λ z. ordering_then (nat_cmp (front n (a * 256 + x) xs) (front n (a * 256 + z) ys)) (slice_cmp nat_cmp xs ys)
+        ≡ slice_cmp nat_cmp xs ys) level (alike p q)
 
 -- the bytes of a name
 pub name_bytes : (name : List ℕ) → IsTrue (is_name name) → list_all is_name_byte name ≡ true
-name_bytes name h = (and_parts (list_all is_name_byte name) _ (and_parts (nat_le (length name) 255) _ (and_parts (nat_lt 0 (length name)) _ h).1).1).0
+name_bytes name h = (and_parts (list_all is_name_byte name) _
+    (and_parts (nat_le (length name) 255) _ (and_parts (nat_lt 0 (length name)) _ h).1).1).0
 
 -- the order of numbers that are not equal is that of the names
-pub front_decides : (xs ys : List ℕ) (r : Ordering) (a b : ℕ) → IsTrue (is_name xs) → IsTrue (is_name ys) → a ≡ front 8 0 xs → b ≡ front 8 0 ys → r ≡ nat_cmp a b → is_ne r ≡ true → r ≡ slice_cmp nat_cmp xs ys
-front_decides xs ys r a b g h p q e n = by r n (ap (λ o. ordering_then o (slice_cmp nat_cmp xs ys)) (e ∙ (λ i. nat_cmp (p i) (q i))) ∙ by_front 8 0 xs ys (name_bytes xs g) (name_bytes ys h))
+pub front_decides : (xs ys : List ℕ) (r : Ordering) (a b : ℕ) → IsTrue (is_name xs) → IsTrue (is_name ys) → a ≡ front 8 0 xs →
+    b ≡ front 8 0 ys → r ≡ nat_cmp a b → is_ne r ≡ true → r ≡ slice_cmp nat_cmp xs ys
+front_decides xs ys r a b g h p q e n = by r n (ap (λ o. ordering_then o (slice_cmp nat_cmp xs ys)) (e ∙ (λ i. nat_cmp (p i) (q i))) ∙
+    by_front 8 0 xs ys (name_bytes xs g) (name_bytes ys h))
   where
     by : (o : Ordering) → is_ne o ≡ true → ordering_then o (slice_cmp nat_cmp xs ys) ≡ slice_cmp nat_cmp xs ys → o ≡ slice_cmp nat_cmp xs ys
     by Less t f = f

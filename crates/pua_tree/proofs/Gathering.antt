@@ -1,41 +1,46 @@
 -- What a reader has gathered of a listing, looked up and added to.
-use Rattle.std.proofs.Common.{◌≡◌, ◌<◌, ◌≤◌, ℕ, Bool, List, [], ◌∷◌, ◌++◌, Ok, Err, true, false, is_some, ltb, refl, sym, ap, subst, ◌∙◌}
-use Rattle.std.proofs.lemmas.Bool.{le-ltb, lt-ltb}
-use Rattle.pua_tree.specs.Tree.{Tree, look}
+use Rattle.pua_tree.proofs.Common.{◌≡◌, ◌<◌, ◌≤◌, ℕ, Bool, List, [], ◌∷◌, ◌++◌, Ok, Err, true, false, is_some, ltb, refl, sym, ap, subst}
+use Rattle.pua_tree.proofs.Common.{◌∙◌, le-ltb, lt-ltb, Tree, look, is_taken, tree_of, Gathers, Follows, tree_with}
 use Rattle.pua_tree.specs.Listing as listing
-use Rattle.pua_tree.specs.Listing.{is_taken, tree_of, admitted}
-use Rattle.pua_tree.specs.Reading.{Gathers, Follows, grown}
+use Rattle.pua_tree.specs.Listing.{entry_or_fault}
 use Rattle.pua_tree.specs.declared.fault.ListingFault.TheVariants.{Taken, TooMany}
 use Rattle.pua_tree.proofs.ListingIsTree as trees
 use Rattle.pua_tree.proofs.Entries.{Fits, fits_from, entries_push, taken_is_found, last_number_push, tree_push}
 
 -- a name stands in the tree where an entry has taken it
-pub taken_here : (hard : Bool) (t : Tree) (greatest : ℕ) (es : List listing.Entry) (e : listing.Entry) → Gathers hard t greatest es → is_some (look t e.parent e.name) ≡ is_taken es e.parent e.name
+pub taken_here : (hard : Bool) (t : Tree) (greatest : ℕ) (es : List listing.Entry) (e : listing.Entry) → Gathers hard t greatest es →
+    is_some (look t e.parent e.name) ≡ is_taken es e.parent e.name
 taken_here hard t greatest es e g = ap (λ u. is_some (look u e.parent e.name)) g.tree ∙ taken_is_found es e.parent e.name
 
-pub taken_entry : (hard : Bool) (t : Tree) (greatest : ℕ) (es : List listing.Entry) (n : ℕ) (e : listing.Entry) → Gathers hard t greatest es → is_some (look t e.parent e.name) ≡ true → admitted es n e ≡ Err (Taken n)
-taken_entry hard t greatest es n e g h = let taken : is_taken es e.parent e.name ≡ true = sym (taken_here hard t greatest es e g) ∙ h in rw taken refl
+pub taken_entry : (hard : Bool) (t : Tree) (greatest : ℕ) (es : List listing.Entry) (n : ℕ) (e : listing.Entry) →
+    Gathers hard t greatest es → is_some (look t e.parent e.name) ≡ true → entry_or_fault es n e ≡ Err (Taken n)
+taken_entry hard t greatest es n e g h = let taken : is_taken es e.parent e.name ≡ true = sym (taken_here hard t greatest es e g) ∙ h in
+    rw taken refl
 
-pub crowded_entry : (hard : Bool) (t : Tree) (greatest : ℕ) (es : List listing.Entry) (n : ℕ) (e : listing.Entry) → Gathers hard t greatest es → is_some (look t e.parent e.name) ≡ false → 4097 < n → admitted es n e ≡ Err (TooMany n)
+pub crowded_entry : (hard : Bool) (t : Tree) (greatest : ℕ) (es : List listing.Entry) (n : ℕ) (e : listing.Entry) →
+    Gathers hard t greatest es → is_some (look t e.parent e.name) ≡ false → 4097 < n → entry_or_fault es n e ≡ Err (TooMany n)
 crowded_entry hard t greatest es n e g h more =
     let free : is_taken es e.parent e.name ≡ false = sym (taken_here hard t greatest es e g) ∙ h in
     let over : ltb 4097 n ≡ true = lt-ltb 4097 n more in
     rw (free, over) refl
 
-pub admitted_entry : (hard : Bool) (t : Tree) (greatest : ℕ) (es : List listing.Entry) (n : ℕ) (e : listing.Entry) → Gathers hard t greatest es → is_some (look t e.parent e.name) ≡ false → n ≤ 4097 → admitted es n e ≡ Ok e
+pub admitted_entry : (hard : Bool) (t : Tree) (greatest : ℕ) (es : List listing.Entry) (n : ℕ) (e : listing.Entry) →
+    Gathers hard t greatest es → is_some (look t e.parent e.name) ≡ false → n ≤ 4097 → entry_or_fault es n e ≡ Ok e
 admitted_entry hard t greatest es n e g h few =
     let free : is_taken es e.parent e.name ≡ false = sym (taken_here hard t greatest es e g) ∙ h in
     let within : ltb 4097 n ≡ false = le-ltb 4097 n few in
     rw (free, within) refl
 
 -- an entry that fits the earlier ones may be put into the tree
-pub fit_follows : (hard : Bool) (t : Tree) (greatest : ℕ) (es : List listing.Entry) (e : listing.Entry) → Gathers hard t greatest es → Fits hard es e → Follows t e
+pub fit_follows : (hard : Bool) (t : Tree) (greatest : ℕ) (es : List listing.Entry) (e : listing.Entry) → Gathers hard t greatest es →
+    Fits hard es e → Follows t e
 fit_follows hard t greatest es e g f = subst (λ u. Follows u e) (sym g.tree) (trees.fit_follows hard es e g.fit f)
 
 -- entries to which one more has been read
-pub gathered_more : (hard : Bool) (t : Tree) (greatest : ℕ) (es : List listing.Entry) (e : listing.Entry) → Gathers hard t greatest es → Fits hard es e → Gathers hard (grown t e) e.number (es ++ e ∷ [])
+pub gathered_more : (hard : Bool) (t : Tree) (greatest : ℕ) (es : List listing.Entry) (e : listing.Entry) → Gathers hard t greatest es →
+    Fits hard es e → Gathers hard (tree_with t e) e.number (es ++ e ∷ [])
 gathered_more hard t greatest es e g f = record {
   fit = entries_push hard [] es e g.fit (fits_from hard es e f);
-  tree = ap (λ u. grown u e) g.tree ∙ sym (tree_push hard es e g.fit f);
+  tree = ap (λ u. tree_with u e) g.tree ∙ sym (tree_push hard es e g.fit f);
   highest = sym (last_number_push es e);
 }

@@ -1,61 +1,77 @@
 -- How a line is judged by what the lines before it have gathered.
-use Rattle.std.proofs.Common.{◌≡◌, ℕ, Bool, not, ◌&&◌, List, [], Option, Some, None, Ok, Err, IsTrue, ltb, refl, ap, ◌∙◌}
-use Rattle.pua_tree.specs.Names.{is_target}
-use Rattle.pua_tree.specs.Spelling.{name_of, number_within, unspelled}
-use Rattle.pua_tree.specs.Tree.{Node, Tree, is_dir, is_living}
+use Rattle.pua_tree.proofs.Common.{◌≡◌, ℕ, Bool, not, ◌&&◌, List, [], Option, Some, None, Ok, Err, ltb, refl, ap, ◌∙◌, is_target, name_of}
+use Rattle.pua_tree.proofs.Common.{number_within, bytes_spelled, Node, Tree, is_dir, is_living, ListingLine, only_if, number_in, parent_in}
+use Rattle.pua_tree.proofs.Common.{hard_node_in, node_of, listing_line, entry_of, last_number, is_earlier_dir, is_earlier_other, Gathers}
+use Rattle.pua_tree.proofs.Common.{Kind, Link, ListingFault}
+use Rattle.std.proofs.Common.{IsTrue}
 use Rattle.pua_tree.specs.Listing as listing
-use Rattle.pua_tree.specs.Listing.{Line, only_if, number_in, parent_in, node_in, node_of, line_of, entry_of, admitted, last_number, is_earlier_dir, is_earlier_other}
-use Rattle.pua_tree.specs.Reading.{Gathers}
-use Rattle.pua_tree.specs.declared.node.Kind.{Kind}
-use Rattle.pua_tree.specs.declared.node.Kind.TheVariants.{Link}
+use Rattle.pua_tree.specs.Listing.{entry_or_fault}
 use Rattle.pua_tree.specs.declared.fault.NameFault.{NameFault}
-use Rattle.pua_tree.specs.declared.fault.ListingFault.{ListingFault}
 use Rattle.pua_tree.specs.declared.fault.ListingFault.TheVariants.{BadParent, BadName, BadNode}
 use Rattle.pua_tree.proofs.Base.{only_if_same}
 use Rattle.pua_tree.proofs.Entries.{entries_rise, earlier_dir_is_found, earlier_other_is_found}
 
 -- the number of a line, over what was gathered
-pub number_here : (hard : Bool) (t : Tree) (greatest : ℕ) (es : List listing.Entry) (line : Line) → Gathers hard t greatest es → only_if (λ n. ltb greatest n) (number_within 1 999999 line.number) ≡ number_in es line
+pub number_here : (hard : Bool) (t : Tree) (greatest : ℕ) (es : List listing.Entry) (line : ListingLine) → Gathers hard t greatest es →
+    only_if (λ n. ltb greatest n) (number_within 1 999999 line.number) ≡ number_in es line
 number_here hard t greatest es line g = ap (λ l. only_if (λ n. ltb l n) (number_within 1 999999 line.number)) g.highest
 
 -- a directory of the tree is one of an earlier line
-pub dir_here : (hard : Bool) (t : Tree) (greatest : ℕ) (es : List listing.Entry) → Gathers hard t greatest es → (n : ℕ) → is_dir t n ≡ is_earlier_dir es n
+pub dir_here : (hard : Bool) (t : Tree) (greatest : ℕ) (es : List listing.Entry) → Gathers hard t greatest es → (n : ℕ) →
+    is_dir t n ≡ is_earlier_dir es n
 dir_here hard t greatest es g n = ap (λ u. is_dir u n) g.tree ∙ earlier_dir_is_found es n 0 (entries_rise hard [] es g.fit)
 
 -- its parent
-pub parent_here : (hard : Bool) (t : Tree) (greatest : ℕ) (es : List listing.Entry) (line : Line) → Gathers hard t greatest es → only_if (is_dir t) (number_within 0 999999 line.parent) ≡ parent_in es line
-parent_here hard t greatest es line g = only_if_same (is_dir t) (is_earlier_dir es) (number_within 0 999999 line.parent) (dir_here hard t greatest es g)
+pub parent_here : (hard : Bool) (t : Tree) (greatest : ℕ) (es : List listing.Entry) (line : ListingLine) → Gathers hard t greatest es →
+    only_if (is_dir t) (number_within 0 999999 line.parent) ≡ parent_in es line
+parent_here hard t greatest es line g =
+    only_if_same (is_dir t) (is_earlier_dir es) (number_within 0 999999 line.parent) (dir_here hard t greatest es g)
 
 -- a node of the tree, and no directory, is one that an earlier line made
-pub other_here : (hard : Bool) (t : Tree) (greatest : ℕ) (es : List listing.Entry) → Gathers hard t greatest es → (n : ℕ) → (is_living t n && not (is_dir t n)) ≡ is_earlier_other es n
-other_here hard t greatest es g n = ap (λ u. is_living u n && not (is_dir u n)) g.tree ∙ earlier_other_is_found es n 0 (entries_rise hard [] es g.fit)
+pub other_here : (hard : Bool) (t : Tree) (greatest : ℕ) (es : List listing.Entry) → Gathers hard t greatest es → (n : ℕ) →
+    (is_living t n && not (is_dir t n)) ≡ is_earlier_other es n
+other_here hard t greatest es g n = ap (λ u. is_living u n && not (is_dir u n)) g.tree ∙
+    earlier_other_is_found es n 0 (entries_rise hard [] es g.fit)
 
 -- the node of a hard link
-pub node_here : (hard : Bool) (t : Tree) (greatest : ℕ) (es : List listing.Entry) (line : Line) → Gathers hard t greatest es → only_if (λ x. is_living t x && not (is_dir t x)) (number_within 1 999999 line.last) ≡ node_in es line
-node_here hard t greatest es line g = only_if_same (λ x. is_living t x && not (is_dir t x)) (is_earlier_other es) (number_within 1 999999 line.last) (other_here hard t greatest es g)
+pub node_here : (hard : Bool) (t : Tree) (greatest : ℕ) (es : List listing.Entry) (line : ListingLine) → Gathers hard t greatest es →
+    only_if (λ x. is_living t x && not (is_dir t x)) (number_within 1 999999 line.last) ≡ hard_node_in es line
+node_here hard t greatest es line g =
+    only_if_same (λ x. is_living t x && not (is_dir t x)) (is_earlier_other es) (number_within 1 999999 line.last)
+    (other_here hard t greatest es g)
 
-pub tied_node : (es : List listing.Entry) (n number node : ℕ) (line : Line) → line.kind ≡ None → node_in es line ≡ Some node → node_of es n number line line.kind ≡ Ok (node, None)
+pub tied_node : (es : List listing.Entry) (n number node : ℕ) (line : ListingLine) → line.kind ≡ None → hard_node_in es line ≡ Some node →
+    node_of es n number line line.kind ≡ Ok (node, None)
 tied_node es n number node line k e = rw (k, e) refl
 
-pub no_node : (es : List listing.Entry) (n number : ℕ) (line : Line) → line.kind ≡ None → node_in es line ≡ None → node_of es n number line line.kind ≡ Err (BadNode n)
+pub no_node : (es : List listing.Entry) (n number : ℕ) (line : ListingLine) → line.kind ≡ None → hard_node_in es line ≡ None →
+    node_of es n number line line.kind ≡ Err (BadNode n)
 no_node es n number line k e = rw (k, e) refl
 
-pub bad_parent : (hard : Bool) (es : List listing.Entry) (n : ℕ) (text : List ℕ) (line : Line) (number : ℕ) → line_of hard text ≡ Some line → number_in es line ≡ Some number → parent_in es line ≡ None → entry_of hard es n text ≡ Err (BadParent n)
+pub bad_parent : (hard : Bool) (es : List listing.Entry) (n : ℕ) (text : List ℕ) (line : ListingLine) (number : ℕ) →
+    listing_line hard text ≡ Some line → number_in es line ≡ Some number → parent_in es line ≡ None →
+    entry_of hard es n text ≡ Err (BadParent n)
 bad_parent hard es n text line number l m p = rw (l, m, p) refl
 
-pub bad_name : (hard : Bool) (es : List listing.Entry) (n : ℕ) (text : List ℕ) (line : Line) (number parent : ℕ) (fault : NameFault) → line_of hard text ≡ Some line → number_in es line ≡ Some number → parent_in es line ≡ Some parent → name_of line.name ≡ Err fault
+pub bad_name : (hard : Bool) (es : List listing.Entry) (n : ℕ) (text : List ℕ) (line : ListingLine) (number parent : ℕ)
+    (fault : NameFault) → listing_line hard text ≡ Some line → number_in es line ≡ Some number → parent_in es line ≡ Some parent →
+    name_of line.name ≡ Err fault
     → entry_of hard es n text ≡ Err (BadName n)
 bad_name hard es n text line number parent fault l m p q = rw (l, m, p, q) refl
 
-pub bad_node : (hard : Bool) (es : List listing.Entry) (n : ℕ) (text : List ℕ) (line : Line) (number parent : ℕ) (name : List ℕ) (fault : ListingFault) → line_of hard text ≡ Some line → number_in es line ≡ Some number → parent_in es line ≡ Some parent
+pub bad_node : (hard : Bool) (es : List listing.Entry) (n : ℕ) (text : List ℕ) (line : ListingLine) (number parent : ℕ) (name : List ℕ)
+    (fault : ListingFault) → listing_line hard text ≡ Some line → number_in es line ≡ Some number → parent_in es line ≡ Some parent
     → name_of line.name ≡ Ok name → node_of es n number line line.kind ≡ Err fault → entry_of hard es n text ≡ Err fault
 bad_node hard es n text line number parent name fault l m p q k = rw (l, m, p, q, k) refl
 
-pub whole_entry : (hard : Bool) (es : List listing.Entry) (n : ℕ) (text : List ℕ) (line : Line) (number parent : ℕ) (name : List ℕ) (node : ℕ) (made : Option Node) → line_of hard text ≡ Some line → number_in es line ≡ Some number → parent_in es line ≡ Some parent
-    → name_of line.name ≡ Ok name → node_of es n number line line.kind ≡ Ok (node, made) → entry_of hard es n text ≡ admitted es n (record { number = number; parent = parent; name = name; node = node; made = made })
+pub whole_entry : (hard : Bool) (es : List listing.Entry) (n : ℕ) (text : List ℕ) (line : ListingLine) (number parent : ℕ) (name : List ℕ)
+    (node : ℕ) (made : Option Node) → listing_line hard text ≡ Some line → number_in es line ≡ Some number → parent_in es line ≡ Some parent
+    → name_of line.name ≡ Ok name → node_of es n number line line.kind ≡ Ok (node, made) →
+    entry_of hard es n text ≡ entry_or_fault es n (record { number = number; parent = parent; name = name; node = node; made = made })
 whole_entry hard es n text line number parent name node made l m p q k = rw (l, m, p, q, k) refl
 
 -- a link's target that was read
-pub link_target : (es : List listing.Entry) (n number : ℕ) (line : Line) (kind : Kind) (target : List ℕ) → kind ≡ Link → unspelled line.last ≡ Some target → IsTrue (is_target target)
+pub link_target : (es : List listing.Entry) (n number : ℕ) (line : ListingLine) (kind : Kind) (target : List ℕ) → kind ≡ Link →
+    bytes_spelled line.last ≡ Some target → IsTrue (is_target target)
     → node_of es n number line (Some kind) ≡ Ok (number, Some (record { kind = kind; target = Some target }))
 link_target es n number line kind target k u t = rw (k, u, t) refl

@@ -1,5 +1,5 @@
 -- What is among the lifetimes of several references is in the one that each of them has.
-use Rattle.std.proofs.Common.{ℕ, List, [], ◌++◌}
+use Rattle.pua_tree.proofs.Common.{ℕ, List, [], ◌++◌}
 use mathlib.Core.List.{Mem, Mem-prop, mem-append, not-mem-nil}
 use mathlib.Core.Logic.Or
 

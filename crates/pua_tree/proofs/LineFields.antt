@@ -1,11 +1,10 @@
 -- A line by the first six of its fields.
-use Rattle.std.proofs.Common.{◌≡◌, ◌<◌, ◌≤◌, ◌⊎◌, ℕ, Bool, true, false, List, [], ◌∷◌, length, get_or, map, Option, Some, None, refl, sym, ap, ◌∙◌, arith, cond, take, inl, inr, option_map}
+use Rattle.pua_tree.proofs.Common.{◌≡◌, ◌<◌, ◌≤◌, ◌⊎◌, ℕ, Bool, true, false, List, [], ◌∷◌, length, get_or, map, Option, Some, None, refl}
+use Rattle.pua_tree.proofs.Common.{sym, ap, ◌∙◌, arith, cond, take, inl, inr, option_map, list_all, fields, is_field, ListingLine}
+use Rattle.pua_tree.proofs.Common.{listing_line, line_of_fields, Kind}
 use Rattle.std.specs.Borrow.{Bor}
-use Rattle.std.specs.List.{list_all}
 use Rattle.pua_tree.specs.Fields.{first_fields}
-use Rattle.pua_tree.specs.Spelling.{fields, is_field}
-use Rattle.pua_tree.specs.Listing.{Line, line_of, line_of_fields, plain_kind, long_kind}
-use Rattle.pua_tree.specs.declared.node.Kind.{Kind}
+use Rattle.pua_tree.specs.Listing.{plain_kind, long_kind}
 
 -- a line with six fields or more is none
 line_of_fields-take : (hard : Bool) (all : List (List ℕ)) → line_of_fields hard all ≡ line_of_fields hard (take 6 all)
@@ -17,17 +16,20 @@ line_of_fields-take hard (a ∷ b ∷ c ∷ d ∷ []) = refl
 line_of_fields-take hard (a ∷ b ∷ c ∷ d ∷ e ∷ []) = refl
 line_of_fields-take hard (a ∷ b ∷ c ∷ d ∷ e ∷ f ∷ more) = refl
 
-by_test : (hard test : Bool) (all kept : List (List ℕ)) → Some kept ≡ cond test (Some (take 6 all)) None → cond test (line_of_fields hard all) None ≡ line_of_fields hard kept
+by_test : (hard test : Bool) (all kept : List (List ℕ)) → Some kept ≡ cond test (Some (take 6 all)) None →
+    cond test (line_of_fields hard all) None ≡ line_of_fields hard kept
 by_test hard true all kept e = let same : kept ≡ take 6 all = cc in line_of_fields-take hard all ∙ ap (line_of_fields hard) (sym same)
 by_test hard false all kept e = cc
 
 -- the line whose first fields these are
-pub line_of-first_fields : (hard : Bool) (text : List ℕ) (kept : List (List ℕ)) → Some kept ≡ first_fields text → line_of hard text ≡ line_of_fields hard kept
+pub line_of-first_fields : (hard : Bool) (text : List ℕ) (kept : List (List ℕ)) → Some kept ≡ first_fields text →
+    listing_line hard text ≡ line_of_fields hard kept
 line_of-first_fields hard text kept e = by_test hard (list_all is_field (fields text)) (fields text) kept e
 
 -- the line of four fields, where they lie in the text
-abbrev pub plain_line : List (Bor (List ℕ)) → Bor (List ℕ) → Kind → Line
-plain_line s d kind = record { number = (get_or s 0 d).now; kind = Some kind; parent = (get_or s 2 d).now; name = (get_or s 3 d).now; last = [] }
+abbrev pub plain_line : List (Bor (List ℕ)) → Bor (List ℕ) → Kind → ListingLine
+plain_line s d kind =
+    record { number = (get_or s 0 d).now; kind = Some kind; parent = (get_or s 2 d).now; name = (get_or s 3 d).now; last = [] }
 
 pub line_of_fields-four : (hard : Bool) (s : List (Bor (List ℕ))) (d : Bor (List ℕ)) → length s ≡ 4
     → line_of_fields hard (map (λ f. f.now) s) ≡ option_map (plain_line s d) (plain_kind (get_or s 1 d).now)
@@ -39,7 +41,8 @@ line_of_fields-four hard (a ∷ b ∷ c ∷ f ∷ []) d e = refl
 line_of_fields-four hard (a ∷ b ∷ c ∷ f ∷ g ∷ more) d e = absurd (omega arith)
 
 -- too few fields, or too many
-pub line_of_fields-other : (hard : Bool) (s : List (Bor (List ℕ))) → (length s < 4) ⊎ (6 ≤ length s) → line_of_fields hard (map (λ f. f.now) s) ≡ None
+pub line_of_fields-other : (hard : Bool) (s : List (Bor (List ℕ))) → (length s < 4) ⊎ (6 ≤ length s) →
+    line_of_fields hard (map (λ f. f.now) s) ≡ None
 line_of_fields-other hard [] e = refl
 line_of_fields-other hard (a ∷ []) e = refl
 line_of_fields-other hard (a ∷ b ∷ []) e = refl
@@ -49,8 +52,14 @@ line_of_fields-other hard (a ∷ b ∷ c ∷ d ∷ f ∷ []) e = elim e [ inl fe
 line_of_fields-other hard (a ∷ b ∷ c ∷ d ∷ f ∷ g ∷ more) e = refl
 
 -- the line of five fields
-abbrev pub long_line : List (Bor (List ℕ)) → Bor (List ℕ) → Option Kind → Line
-long_line s d kind = record { number = (get_or s 0 d).now; kind = kind; parent = (get_or s 2 d).now; name = (get_or s 3 d).now; last = (get_or s 4 d).now }
+abbrev pub long_line : List (Bor (List ℕ)) → Bor (List ℕ) → Option Kind → ListingLine
+long_line s d kind = record {
+  number = (get_or s 0 d).now;
+  kind = kind;
+  parent = (get_or s 2 d).now;
+  name = (get_or s 3 d).now;
+  last = (get_or s 4 d).now;
+}
 
 pub line_of_fields-five : (hard : Bool) (s : List (Bor (List ℕ))) (d : Bor (List ℕ)) → length s ≡ 5
     → line_of_fields hard (map (λ f. f.now) s) ≡ option_map (long_line s d) (long_kind hard (get_or s 1 d).now)

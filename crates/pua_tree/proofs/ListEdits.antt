@@ -1,38 +1,35 @@
 -- Edits of the lists that hold a tree, as edits of the tree.
-use Rattle.std.proofs.Common.{◌≡◌, ◌≤◌, ℕ, ◌+◌, ◌++◌, ltb, IsTrue, true, false, not, ◌&&◌, ◌||◌, cond, List, [], ◌∷◌, map, Option, Some, None, option_map, ◌==◌, count_by, eqb, refl, sym, ap, ◌∙◌}
-use Rattle.std.specs.List.{list_all, list_any, cons_option}
-use Rattle.std.specs.Ordering.{nat_cmp, is_eq}
-use Rattle.std.specs.FinMap.{is_sorted, put}
-use Rattle.std.specs.FinMap.Entries.{where_key, is_sorted-where_key}
-use Rattle.std.proofs.lemmas.Bool.{and_parts, and_from}
+use Rattle.pua_tree.proofs.Common.{◌≡◌, ◌≤◌, ℕ, ◌+◌, ◌++◌, ltb, true, false, not, ◌&&◌, ◌||◌, cond, List, [], ◌∷◌, map, Option, Some, None}
+use Rattle.pua_tree.proofs.Common.{option_map, ◌==◌, count_by, eqb, refl, sym, ap, ◌∙◌, list_all, list_any, cons_option, nat_cmp, is_eq}
+use Rattle.pua_tree.proofs.Common.{is_sorted, put, where_key, is_sorted-where_key, and_parts, and_from, sum_by-zero, WellFormed}
+use Rattle.pua_tree.proofs.Common.{without_row, without_unnamed, with_row, Entry, Enters, grown_by, row_entry, node_entry, held_tree}
+use Rattle.pua_tree.proofs.Common.{ListRow, passes}
+use Rattle.std.proofs.Common.{IsTrue}
 use Rattle.std.proofs.lemmas.List.{append-nil}
-use Rattle.std.proofs.lemmas.List.Folds.{sum_by-zero}
 use Rattle.pua_tree.specs.Tree as tree
-use Rattle.pua_tree.specs.Tree.{WellFormed, node_fits}
-use Rattle.pua_tree.specs.Edits.{without_row, without_unnamed, without_node, with_row}
-use Rattle.pua_tree.specs.Listing.{Entry}
-use Rattle.pua_tree.specs.Reading.{Enters, grown_by}
-use Rattle.pua_tree.specs.ListTree.{row_entry, node_entry, held_tree}
-use Rattle.pua_tree.specs.declared.list.Row.{Row}
-use Rattle.pua_tree.specs.declared.list.Node.{Node}
-use Rattle.std.specs.Bool.{passes}
+use Rattle.pua_tree.specs.Tree.{node_fits}
+use Rattle.pua_tree.specs.Edits.{without_node}
+use Rattle.pua_tree.specs.declared.list.ListNode.{ListNode}
 use Rattle.pua_tree.proofs.Base.{holds}
 use Rattle.pua_tree.proofs.Entries.{put_last}
 use Rattle.pua_tree.proofs.Raised.{raised_keeps}
 
-no_row : (rows : List Row) (x : ℕ) → list_all (λ row. eqb (cond (row.1 == x) 1 0) 0) (map row_entry rows) ≡ not (list_any (λ row. row.node == x) rows)
+no_row : (rows : List ListRow) (x : ℕ) →
+    list_all (λ row. eqb (cond (row.1 == x) 1 0) 0) (map row_entry rows) ≡ not (list_any (λ row. row.node == x) rows)
 no_row [] x = refl
 no_row (r ∷ rows) x =
-    elim (r.node == x) as (λ b. (eqb (cond b 1 0) 0 && list_all (λ row. eqb (cond (row.1 == x) 1 0) 0) (map row_entry rows)) ≡ not (b || list_any (λ row. row.node == x) rows)) [
+    elim (r.node == x) as (λ b. (eqb (cond b 1 0) 0 && list_all (λ row. eqb (cond (row.1 == x) 1 0) 0) (map row_entry rows))
+    ≡ not (b || list_any (λ row. row.node == x) rows)) [
       | true ↦ refl
       | false ↦ no_row rows x
     ]
 
 -- a node stands in no row where none has it
-rows_none : (rows : List Row) (x : ℕ) → (count_by (λ row. row.1 == x) (map row_entry rows) == 0) ≡ not (list_any (λ row. row.node == x) rows)
+rows_none : (rows : List ListRow) (x : ℕ) →
+    (count_by (λ row. row.1 == x) (map row_entry rows) == 0) ≡ not (list_any (λ row. row.node == x) rows)
 rows_none rows x = sum_by-zero (λ row. cond (row.1 == x) 1 0) (map row_entry rows) ∙ no_row rows x
 
-pub unnamed_taken : (rows : List Row) (nodes left : List Node) (x next : ℕ) → list_any (λ row. row.node == x) rows ≡ false
+pub unnamed_taken : (rows : List ListRow) (nodes left : List ListNode) (x next : ℕ) → list_any (λ row. row.node == x) rows ≡ false
     → map node_entry left ≡ where_key nat_cmp (λ other. not (is_eq (nat_cmp x other))) (map node_entry nodes)
     → held_tree rows left next ≡ without_unnamed (held_tree rows nodes next) x
 unnamed_taken rows nodes left x next none e =
@@ -40,7 +37,7 @@ unnamed_taken rows nodes left x next none e =
     let taken : held_tree rows left next ≡ without_node t x = λ i. record { rows = map row_entry rows; nodes = e i; next = next } in
     taken ∙ sym (ap (λ b. cond b (without_node t x) t) (rows_none rows x ∙ ap not none))
 
-pub named_kept : (rows : List Row) (nodes : List Node) (x next : ℕ) → list_any (λ row. row.node == x) rows ≡ true
+pub named_kept : (rows : List ListRow) (nodes : List ListNode) (x next : ℕ) → list_any (λ row. row.node == x) rows ≡ true
     → held_tree rows nodes next ≡ without_unnamed (held_tree rows nodes next) x
 named_kept rows nodes x next some =
     let t = held_tree rows nodes next in
@@ -48,19 +45,20 @@ named_kept rows nodes x next some =
 
 pub sorted_without : (dir : ℕ) (name : List ℕ) (es : List (tree.Spot × ℕ)) → IsTrue (is_sorted tree.spot_cmp es)
     → IsTrue (is_sorted tree.spot_cmp (where_key tree.spot_cmp (λ spot. not (is_eq (tree.spot_cmp (dir, name) spot))) es))
-sorted_without dir name es h = holds _ (is_sorted-where_key tree.spot_cmp (λ spot. not (is_eq (tree.spot_cmp (dir, name) spot))) es (passes _ h))
+sorted_without dir name es h =
+    holds _ (is_sorted-where_key tree.spot_cmp (λ spot. not (is_eq (tree.spot_cmp (dir, name) spot))) es (passes _ h))
 
-pub row_gone : (rows left : List Row) (nodes : List Node) (next dir : ℕ) (name : List ℕ)
+pub row_gone : (rows left : List ListRow) (nodes : List ListNode) (next dir : ℕ) (name : List ℕ)
     → map row_entry left ≡ where_key tree.spot_cmp (λ spot. not (is_eq (tree.spot_cmp (dir, name) spot))) (map row_entry rows)
     → held_tree left nodes next ≡ without_row (held_tree rows nodes next) dir name
 row_gone rows left nodes next dir name e = λ i. record { rows = e i; nodes = map node_entry nodes; next = next }
 
-pub row_came : (rows more : List Row) (nodes : List Node) (next dir : ℕ) (name : List ℕ) (x : ℕ)
+pub row_came : (rows more : List ListRow) (nodes : List ListNode) (next dir : ℕ) (name : List ℕ) (x : ℕ)
     → map row_entry more ≡ put tree.spot_cmp (dir, name) x (map row_entry rows)
     → held_tree more nodes next ≡ with_row (held_tree rows nodes next) dir name x
 row_came rows more nodes next dir name x e = λ i. record { rows = e i; nodes = map node_entry nodes; next = next }
 
-pub row_moved : (rows left more : List Row) (nodes : List Node) (next from : ℕ) (name : List ℕ) (to : ℕ) (new_name : List ℕ) (x : ℕ)
+pub row_moved : (rows left more : List ListRow) (nodes : List ListNode) (next from : ℕ) (name : List ℕ) (to : ℕ) (new_name : List ℕ) (x : ℕ)
     → map row_entry left ≡ where_key tree.spot_cmp (λ spot. not (is_eq (tree.spot_cmp (from, name) spot))) (map row_entry rows)
     → map row_entry more ≡ put tree.spot_cmp (to, new_name) x (map row_entry left)
     → held_tree more nodes next ≡ with_row (without_row (held_tree rows nodes next) from name) to new_name x
@@ -75,7 +73,8 @@ numbers_below t (e ∷ es) h =
     and_from _ _ (and_parts _ _ parts.0).0 (numbers_below t es parts.1)
 
 -- an entry more in the lists, as what it makes of the tree
-pub entry_came : (rows more : List Row) (nodes all : List Node) (next : ℕ) (e : Entry) (m : Option tree.Node) → WellFormed (held_tree rows nodes next) → next ≤ e.number → Enters (held_tree rows nodes next) e m
+pub entry_came : (rows more : List ListRow) (nodes all : List ListNode) (next : ℕ) (e : Entry) (m : Option tree.Node) →
+    WellFormed (held_tree rows nodes next) → next ≤ e.number → Enters (held_tree rows nodes next) e m
     → map row_entry more ≡ put tree.spot_cmp (e.parent, e.name) e.node (map row_entry rows)
     → map node_entry all ≡ map node_entry nodes ++ cons_option (option_map (λ node. (e.node, node)) m) []
     → held_tree more all (e.number + 1) ≡ grown_by (held_tree rows nodes next) e m

@@ -1,15 +1,14 @@
 -- What a listing describes is a tree.
-use Rattle.std.proofs.Common.{◌≡◌, ℕ, ◌+◌, Bool, true, false, ltb, List, [], ◌∷◌, ◌++◌, length, Option, Some, None, is_some, refl, sym, subst, ◌∙◌, arith, append-nil, append_assoc}
-use Rattle.std.specs.Prelude.{IsTrue}
-use Rattle.std.proofs.lemmas.Bool.{lt-ltb, eqb-true, and_parts, not-true}
-use Rattle.pua_tree.specs.Tree.{Node, WellFormed, is_dir, is_living, look, target_fits}
-use Rattle.pua_tree.specs.Listing.{Entry, rows_of_entries, tree_of}
-use Rattle.pua_tree.specs.Grammar.{entry_fits, entries_fit, made_fits, target_stands}
-use Rattle.pua_tree.specs.Reading.{Follows, Enters}
-use Rattle.pua_tree.specs.declared.node.Kind.{Kind}
-use Rattle.pua_tree.specs.declared.node.Kind.TheVariants.{Dir, File, Prog, Link}
+use Rattle.pua_tree.proofs.Common.{◌≡◌, ℕ, ◌+◌, Bool, true, false, ltb, List, [], ◌∷◌, ◌++◌, length, Option, Some, None, is_some, refl, sym}
+use Rattle.pua_tree.proofs.Common.{subst, ◌∙◌, arith, append-nil, append_assoc, IsTrue, lt-ltb, and_parts, not-true, Node, WellFormed}
+use Rattle.pua_tree.proofs.Common.{is_dir, is_living, look, target_fits, Entry, tree_of, entry_fits, entries_fit, made_fits, Follows}
+use Rattle.pua_tree.proofs.Common.{Enters, Kind, Dir, File, Prog, Link}
+use Rattle.std.proofs.lemmas.Bool.{eqb-true}
+use Rattle.pua_tree.specs.Listing.{rows_of_entries}
+use Rattle.pua_tree.specs.Grammar.{target_stands}
 use Rattle.pua_tree.proofs.Raised.{grown_keeps}
-use Rattle.pua_tree.proofs.Entries.{Fits, fits_parts, entries_rise, entries_push, earlier_dir_is_found, earlier_other_is_found, taken_is_found, rows_few, tree_push}
+use Rattle.pua_tree.proofs.Entries.{Fits, fits_parts, entries_rise, entries_push, earlier_dir_is_found, earlier_other_is_found}
+use Rattle.pua_tree.proofs.Entries.{taken_is_found, rows_few, tree_push}
 
 target_kept : (kind : Kind) (target : Option (List ℕ)) → IsTrue (target_stands kind target) → IsTrue (target_fits kind target)
 target_kept Dir None h = refl
@@ -55,13 +54,16 @@ fit_follows hard es e h f = record {
 empty_is_tree : WellFormed (tree_of [])
 empty_is_tree = record { rows_in_order = refl; nodes_in_order = refl; root = refl; rows_fit = refl; nodes_fit = refl }
 
-still_tree : (hard : Bool) (earlier es : List Entry) → IsTrue (entries_fit hard [] earlier) → WellFormed (tree_of earlier) → IsTrue (entries_fit hard earlier es) → WellFormed (tree_of (earlier ++ es))
+still_tree : (hard : Bool) (earlier es : List Entry) → IsTrue (entries_fit hard [] earlier) → WellFormed (tree_of earlier) →
+    IsTrue (entries_fit hard earlier es) → WellFormed (tree_of (earlier ++ es))
 still_tree hard earlier [] a w h = subst (λ l. WellFormed (tree_of l)) (sym (append-nil earlier)) w
 still_tree hard earlier (e ∷ es) a w h =
     let parts = and_parts (entry_fits hard earlier e) (entries_fit hard (earlier ++ e ∷ []) es) h in
     let fits = fits_parts hard earlier e parts.0 in
-    let grows : WellFormed (tree_of (earlier ++ e ∷ [])) = subst WellFormed (sym (tree_push hard earlier e a fits)) (grown_keeps (tree_of earlier) e w (fit_follows hard earlier e a fits)) in
-    subst (λ l. WellFormed (tree_of l)) (append_assoc earlier (e ∷ []) es) (still_tree hard (earlier ++ e ∷ []) es (entries_push hard [] earlier e a parts.0) grows parts.1)
+    let grows : WellFormed (tree_of (earlier ++ e ∷ [])) =
+    subst WellFormed (sym (tree_push hard earlier e a fits)) (grown_keeps (tree_of earlier) e w (fit_follows hard earlier e a fits)) in
+    subst (λ l. WellFormed (tree_of l)) (append_assoc earlier (e ∷ []) es)
+    (still_tree hard (earlier ++ e ∷ []) es (entries_push hard [] earlier e a parts.0) grows parts.1)
 
 -- the tree of entries each of which fits those before it
 pub well_formed : (hard : Bool) (es : List Entry) → IsTrue (entries_fit hard [] es) → WellFormed (tree_of es)

@@ -1,15 +1,15 @@
 -- Where a key stands among entries in order, as a binary search finds it.
-use Rattle.std.proofs.Common.{◌≡◌, ◌≢◌, ◌<◌, ◌≤◌, ℕ, zero, suc, List, [], ◌∷◌, length, get_or, set, not, map, Some, None, Result, Ok, Err, IfOk, IfErr, Bool, true, false, cond, T, IsTrue, ◌&&◌, refl, sym, ap, subst, ◌∙◌, inl, inr, arith}
+use Rattle.pua_tree.proofs.Common.{◌≡◌, ◌≢◌, ◌<◌, ◌≤◌, ℕ, zero, suc, List, [], ◌∷◌, length, get_or, not, map, Some, None, Result, Ok, Err}
+use Rattle.pua_tree.proofs.Common.{Bool, true, false, cond, T, ◌&&◌, refl, sym, ap, subst, ◌∙◌, inl, inr, arith, Ordering, Less, Equal}
+use Rattle.pua_tree.proofs.Common.{Greater, passes, is_eq, is_lt, IsTotalOrder, tied_itself, find, put, is_sorted, where_key, below_all}
+use Rattle.pua_tree.proofs.Common.{by_order}
+use Rattle.std.proofs.Common.{set}
+use Rattle.std.proofs.Common.{IfOk, IfErr, IsTrue}
 use Rattle.std.proofs.lemmas.Bool.{cases_lt}
 use Rattle.std.specs.List.{insert, remove, HoldsAt}
 use Rattle.std.specs.List.Sorted.{IsNonDecreasingBy, IsBinarySearchResult, IsSearchInRange}
-use Rattle.std.specs.declared.cmp.Ordering.{Ordering}
-use Rattle.std.specs.declared.cmp.Ordering.TheVariants.{Less, Equal, Greater}
-use Rattle.std.specs.Bool.{passes}
-use Rattle.std.specs.Ordering.{is_eq, is_lt, ordering_reverse, ordering_index}
-use Rattle.std.specs.Cmp.{IsTotalOrder, tied_itself, alike_right}
-use Rattle.std.specs.FinMap.{find, put, is_sorted}
-use Rattle.std.specs.FinMap.Entries.{where_key, below_all, by_order}
+use Rattle.std.specs.Ordering.{ordering_reverse, ordering_index}
+use Rattle.std.specs.Cmp.{alike_right}
 
 pub left : (a b : Bool) → T (a && b) → T a
 left true b h = tt
@@ -38,7 +38,8 @@ module _ {X K V : Type 0} {R : K → K → Ordering} (o : IsTotalOrder R) (entry
   below_at k (x ∷ xs) (suc i) d h lt = below_at k xs i d (right _ _ h) (omega arith)
 
   -- a later key is greater
-  pub rises : (xs : List X) (i j : ℕ) (d : X) → T (is_sorted R (map entry xs)) → i < j → j < length xs → R (entry (get_or xs i d)).0 (entry (get_or xs j d)).0 ≡ Less
+  pub rises : (xs : List X) (i j : ℕ) (d : X) → T (is_sorted R (map entry xs)) → i < j → j < length xs →
+      R (entry (get_or xs i d)).0 (entry (get_or xs j d)).0 ≡ Less
   rises [] i j d h lt le = absurd (omega arith)
   rises (x ∷ xs) zero zero d h lt le = absurd (omega arith)
   rises (x ∷ xs) zero (suc j) d h lt le = below_at _ xs j d (left _ _ h) (omega arith)
@@ -60,12 +61,14 @@ module _ {X K V : Type 0} {R : K → K → Ordering} (o : IsTotalOrder R) (entry
         | inr more ↦ let same : j ≡ i = omega arith in rw same (omega arith)
       ]
 
-  found_at : (xs : List X) (q : K) (i : ℕ) (d : X) → T (is_sorted R (map entry xs)) → i < length xs → key_cmp q (get_or xs i d) ≡ Equal → find R q (map entry xs) ≡ Some (entry (get_or xs i d)).1
+  found_at : (xs : List X) (q : K) (i : ℕ) (d : X) → T (is_sorted R (map entry xs)) → i < length xs → key_cmp q (get_or xs i d) ≡ Equal →
+      find R q (map entry xs) ≡ Some (entry (get_or xs i d)).1
   found_at [] q i d h lt e = absurd (omega arith)
   found_at (x ∷ xs) q zero d h lt e = ap (λ r. cond (is_eq r) (Some (entry x).1) (find R q (map entry xs))) (turned _ _ Equal e)
   found_at (x ∷ xs) q (suc i) d h lt e =
       let before : R (entry x).0 q ≡ Less = sym (alike_right o _ q (entry x).0 e) ∙ below_at _ xs i d (left _ _ h) (omega arith) in
-      ap (λ r. cond (is_eq r) (Some (entry x).1) (find R q (map entry xs))) (turned _ _ Less before) ∙ found_at xs q i d (right _ _ h) (omega arith) e
+      ap (λ r. cond (is_eq r) (Some (entry x).1) (find R q (map entry xs))) (turned _ _ Less before) ∙
+      found_at xs q i d (right _ _ h) (omega arith) e
 
   missed : (xs : List X) (q : K) → ((k : ℕ) (d : X) → k < length xs → key_cmp q (get_or xs k d) ≢ Equal) → find R q (map entry xs) ≡ None
   missed [] q h = refl
@@ -77,23 +80,28 @@ module _ {X K V : Type 0} {R : K → K → Ordering} (o : IsTotalOrder R) (entry
       ] refl
 
   -- the entry goes to the place between the lesser and the greater keys
-  put_at : (xs : List X) (q : K) (v : V) (i : ℕ) → i ≤ length xs → ((k : ℕ) (d : X) → k < i → key_cmp q (get_or xs k d) ≡ Less) → ((d : X) → i < length xs → key_cmp q (get_or xs i d) ≡ Greater)
+  put_at : (xs : List X) (q : K) (v : V) (i : ℕ) → i ≤ length xs → ((k : ℕ) (d : X) → k < i → key_cmp q (get_or xs k d) ≡ Less) →
+      ((d : X) → i < length xs → key_cmp q (get_or xs i d) ≡ Greater)
       → put R q v (map entry xs) ≡ insert (map entry xs) i (q, v)
   put_at [] q v zero le below above = refl
   put_at [] q v (suc i) le below above = absurd (omega arith)
   put_at (x ∷ xs) q v zero le below above =
-      ap (λ r. by_order r ((q, v) ∷ entry x ∷ map entry xs) (((entry x).0, v) ∷ map entry xs) (entry x ∷ put R q v (map entry xs))) (turned _ _ Greater (above x (omega arith)))
+      ap (λ r. by_order r ((q, v) ∷ entry x ∷ map entry xs) (((entry x).0, v) ∷ map entry xs) (entry x ∷ put R q v (map entry xs)))
+      (turned _ _ Greater (above x (omega arith)))
   put_at (x ∷ xs) q v (suc i) le below above =
-      ap (λ r. by_order r ((q, v) ∷ entry x ∷ map entry xs) (((entry x).0, v) ∷ map entry xs) (entry x ∷ put R q v (map entry xs))) (turned _ _ Less (below 0 x (omega arith)))
+      ap (λ r. by_order r ((q, v) ∷ entry x ∷ map entry xs) (((entry x).0, v) ∷ map entry xs) (entry x ∷ put R q v (map entry xs)))
+      (turned _ _ Less (below 0 x (omega arith)))
       ∙ ap (λ es. entry x ∷ es) (put_at xs q v i (omega arith) (λ k d lt. below (suc k) d (omega arith)) (λ d lt. above d (omega arith)))
 
   -- what a binary search by key answers
-  pub found_place : (xs : List X) (q : K) (r : Result ℕ ℕ) → IsTrue (is_sorted R (map entry xs)) → IsSearchInRange r (length xs) → IsBinarySearchResult (key_cmp q) xs r
+  pub found_place : (xs : List X) (q : K) (r : Result ℕ ℕ) → IsTrue (is_sorted R (map entry xs)) → IsSearchInRange r (length xs) →
+      IsBinarySearchResult (key_cmp q) xs r
       → IfOk r (λ i. (i < length xs) × HoldsAt (λ x. find R q (map entry xs) ≡ Some (entry x).1) xs i)
   found_place xs q (Ok i) h bound p = (bound, λ d. found_at xs q i d (passes _ h) bound (p d))
   found_place xs q (Err i) h bound p = tt
 
-  pub missing_place : (xs : List X) (q : K) (r : Result ℕ ℕ) → IsTrue (is_sorted R (map entry xs)) → IsSearchInRange r (length xs) → IsBinarySearchResult (key_cmp q) xs r
+  pub missing_place : (xs : List X) (q : K) (r : Result ℕ ℕ) → IsTrue (is_sorted R (map entry xs)) → IsSearchInRange r (length xs) →
+      IsBinarySearchResult (key_cmp q) xs r
       → IfErr r (λ i. (i ≤ length xs) × (find R q (map entry xs) ≡ None))
   missing_place xs q (Ok i) h bound p = tt
   missing_place xs q (Err i) h bound p =
@@ -105,14 +113,16 @@ module _ {X K V : Type 0} {R : K → K → Ordering} (o : IsTotalOrder R) (entry
         ]),
       )
 
-  pub put_place : (xs : List X) (q : K) (r : Result ℕ ℕ) → IsTrue (is_sorted R (map entry xs)) → IsSearchInRange r (length xs) → IsBinarySearchResult (key_cmp q) xs r
+  pub put_place : (xs : List X) (q : K) (r : Result ℕ ℕ) → IsTrue (is_sorted R (map entry xs)) → IsSearchInRange r (length xs) →
+      IsBinarySearchResult (key_cmp q) xs r
       → IfErr r (λ i. (v : V) → put R q v (map entry xs) ≡ insert (map entry xs) i (q, v))
   put_place xs q (Ok i) h bound p = tt
   put_place xs q (Err i) h bound p =
       let parts = p (searchable xs q (passes _ h)) in
       λ v. put_at xs q v i bound (λ k d lt. parts.0 k d (omega arith) lt) (λ d lt. parts.1 i d (omega arith) lt)
 
-  pub key_place : (exact : (a b : K) → R a b ≡ Equal → a ≡ b) (xs : List X) (q : K) (r : Result ℕ ℕ) → IsBinarySearchResult (key_cmp q) xs r → IfOk r (λ i. HoldsAt (λ x. (entry x).0 ≡ q) xs i)
+  pub key_place : (exact : (a b : K) → R a b ≡ Equal → a ≡ b) (xs : List X) (q : K) (r : Result ℕ ℕ) →
+      IsBinarySearchResult (key_cmp q) xs r → IfOk r (λ i. HoldsAt (λ x. (entry x).0 ≡ q) xs i)
   key_place exact xs q (Ok i) p = λ d. exact _ _ (p d)
   key_place exact xs q (Err i) p = tt
 
@@ -121,7 +131,8 @@ module _ {X K V : Type 0} {R : K → K → Ordering} (o : IsTotalOrder R) (entry
   keep_above k [] h = refl
   keep_above k (e ∷ es) h =
       let rest = keep_above k es (right _ _ h) in
-      ap (λ r. cond (not (is_eq r)) (e ∷ where_key R (λ other. not (is_eq (R k other))) es) (where_key R (λ other. not (is_eq (R k other))) es)) (is_less _ (left _ _ h)) ∙ ap (λ l. e ∷ l) rest
+      ap (λ r. cond (not (is_eq r)) (e ∷ where_key R (λ other. not (is_eq (R k other))) es)
+      (where_key R (λ other. not (is_eq (R k other))) es)) (is_less _ (left _ _ h)) ∙ ap (λ l. e ∷ l) rest
 
   pub removed_at : (xs : List X) (q : K) (i : ℕ) → T (is_sorted R (map entry xs)) → i < length xs → HoldsAt (λ x. (entry x).0 ≡ q) xs i
       → map entry (remove xs i) ≡ where_key R (λ other. not (is_eq (R q other))) (map entry xs)
@@ -129,7 +140,8 @@ module _ {X K V : Type 0} {R : K → K → Ordering} (o : IsTotalOrder R) (entry
   removed_at (x ∷ xs) q zero h lt e =
       let rest = where_key R (λ other. not (is_eq (R q other))) (map entry xs) in
       let tie : R q (entry x).0 ≡ Equal = ap (R q) (e x) ∙ tied_itself o q in
-      sym (ap (λ r. cond (not (is_eq r)) (entry x ∷ rest) rest) tie ∙ keep_above q (map entry xs) (subst (λ k. T (below_all R k (map entry xs))) (e x) (left _ _ h)))
+      sym (ap (λ r. cond (not (is_eq r)) (entry x ∷ rest) rest) tie ∙
+      keep_above q (map entry xs) (subst (λ k. T (below_all R k (map entry xs))) (e x) (left _ _ h)))
   removed_at (x ∷ xs) q (suc i) h lt e =
       let rest = where_key R (λ other. not (is_eq (R q other))) (map entry xs) in
       let before : R (entry x).0 q ≡ Less = sym (ap (R (entry x).0) (e x)) ∙ below_at _ xs i x (left _ _ h) (omega arith) in
@@ -139,24 +151,28 @@ module _ {X K V : Type 0} {R : K → K → Ordering} (o : IsTotalOrder R) (entry
   pub absent_removed : (q : K) (es : List (K × V)) → find R q es ≡ None → where_key R (λ other. not (is_eq (R q other))) es ≡ es
   absent_removed q [] h = refl
   absent_removed q (e ∷ es) h =
-      elim (is_eq (R q e.0)) as (λ b. cond b (Some e.1) (find R q es) ≡ None → cond (not b) (e ∷ where_key R (λ other. not (is_eq (R q other))) es) (where_key R (λ other. not (is_eq (R q other))) es) ≡ e ∷ es) [
+      elim (is_eq (R q e.0)) as (λ b. cond b (Some e.1) (find R q es) ≡ None →
+      cond (not b) (e ∷ where_key R (λ other. not (is_eq (R q other))) es) (where_key R (λ other. not (is_eq (R q other))) es) ≡ e ∷ es) [
         | true ↦ λ some. absurd (cc)
         | false ↦ λ none. ap (λ l. e ∷ l) (absent_removed q es none)
       ] h
 
   -- the entries with one in another's place, or at a new one
-  pub replaced_at : (xs : List X) (q : K) (v : V) (i : ℕ) (y : X) → T (is_sorted R (map entry xs)) → i < length xs → HoldsAt (λ x. (entry x).0 ≡ q) xs i → entry y ≡ (q, v)
+  pub replaced_at : (xs : List X) (q : K) (v : V) (i : ℕ) (y : X) → T (is_sorted R (map entry xs)) → i < length xs →
+      HoldsAt (λ x. (entry x).0 ≡ q) xs i → entry y ≡ (q, v)
       → map entry (set xs i y) ≡ put R q v (map entry xs)
   replaced_at [] q v i y h lt e new = absurd (omega arith)
   replaced_at (x ∷ xs) q v zero y h lt e new =
       let tie : R q (entry x).0 ≡ Equal = ap (R q) (e x) ∙ tied_itself o q in
       let same : entry y ≡ ((entry x).0, v) = new ∙ ap (λ (k : K). (k, v)) (sym (e x)) in
       ap (λ l. l ∷ map entry xs) same
-      ∙ sym (ap (λ r. by_order r ((q, v) ∷ entry x ∷ map entry xs) (((entry x).0, v) ∷ map entry xs) (entry x ∷ put R q v (map entry xs))) tie)
+      ∙ sym (ap (λ r. by_order r ((q, v) ∷ entry x ∷ map entry xs) (((entry x).0, v) ∷ map entry xs) (entry x ∷ put R q v (map entry xs)))
+      tie)
   replaced_at (x ∷ xs) q v (suc i) y h lt e new =
       let before : R (entry x).0 q ≡ Less = sym (ap (R (entry x).0) (e x)) ∙ below_at _ xs i x (left _ _ h) (omega arith) in
       ap (λ l. entry x ∷ l) (replaced_at xs q v i y (right _ _ h) (omega arith) e new)
-      ∙ sym (ap (λ r. by_order r ((q, v) ∷ entry x ∷ map entry xs) (((entry x).0, v) ∷ map entry xs) (entry x ∷ put R q v (map entry xs))) (turned _ _ Less before))
+      ∙ sym (ap (λ r. by_order r ((q, v) ∷ entry x ∷ map entry xs) (((entry x).0, v) ∷ map entry xs) (entry x ∷ put R q v (map entry xs)))
+      (turned _ _ Less before))
 
 pub inserted_at : {A B : Type 0} (f : A → B) (xs : List A) (i : ℕ) (x : A) → map f (insert xs i x) ≡ insert (map f xs) i (f x)
 inserted_at f [] zero x = refl

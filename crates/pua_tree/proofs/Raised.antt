@@ -1,8 +1,6 @@
 -- A tree whose next number is raised is a tree.
-use Rattle.std.proofs.Common.{◌≤◌, ◌+◌, ℕ, zero, suc, Option, Some, None, refl, arith}
-use Rattle.pua_tree.specs.Tree.{Node, Tree, WellFormed, above}
-use Rattle.pua_tree.specs.Listing.{Entry}
-use Rattle.pua_tree.specs.Reading.{Follows, Enters, grown, grown_by}
+use Rattle.pua_tree.proofs.Common.{◌≤◌, ◌+◌, ℕ, zero, suc, Option, Some, None, refl, arith, Node, Tree, WellFormed, above, Entry, Follows}
+use Rattle.pua_tree.proofs.Common.{Enters, tree_with, grown_by}
 use Rattle.pua_tree.proofs.EditsKeep.{edits_keep_trees}
 use Rattle.pua_tree.proofs.Sound.{Sound, Reaches, sound_from, well_formed_from}
 
@@ -27,12 +25,14 @@ raised_keeps t next w le =
     })
 
 -- so is a tree with an entry more that may follow
-pub grown_keeps : (t : Tree) (e : Entry) → WellFormed t → Follows t e → WellFormed (grown t e)
+pub grown_keeps : (t : Tree) (e : Entry) → WellFormed t → Follows t e → WellFormed (tree_with t e)
 grown_keeps t e w f = by e.made f.enters
   where
     by : (m : Option Node) → Enters t e m → WellFormed (grown_by t e m)
     by None tied =
         let le = f.number in
-        (edits_keep_trees.tying (record t { next = e.number + 1 }) (grown_by t e None) e.parent e.node e.name (raised_keeps t (e.number + 1) w (omega (arith, le))) f.named tied).0
+        (edits_keep_trees.tying (record t { next = e.number + 1 }) (grown_by t e None) e.parent e.node e.name
+        (raised_keeps t (e.number + 1) w (omega (arith, le))) f.named tied).0
     by (Some made) added =
-        (edits_keep_trees.adding (record t { next = e.number }) (grown_by t e (Some made)) e.parent e.number e.name made (raised_keeps t e.number w f.number) f.named added.1 added.2).0
+        (edits_keep_trees.adding (record t { next = e.number }) (grown_by t e (Some made)) e.parent e.number e.name made
+        (raised_keeps t e.number w f.number) f.named added.1 added.2).0

@@ -1,25 +1,21 @@
 -- What rows in order say of a directory and of a node.
-use Rattle.std.proofs.Common.{◌≡◌, ◌<◌, ◌≤◌, ℕ, zero, suc, List, [], ◌∷◌, ◌++◌, length, get_or, map, Option, Some, None, Result, Ok, Err, Bool, true, false, not, cond, ◌&&◌, ◌||◌, ◌==◌, ◌≢◌, T, IsTrue, unwrap_or, option_map, find, refl, sym, ap, ◌∙◌, inl, inr, arith, is_ok, reverse, Bor}
-use Rattle.std.specs.List.{list_all, list_any}
+use Rattle.pua_tree.proofs.Common.{◌≡◌, ◌<◌, ◌≤◌, ℕ, zero, suc, List, [], ◌∷◌, ◌++◌, length, get_or, map, Option, Some, None, Result, Ok}
+use Rattle.pua_tree.proofs.Common.{Err, Bool, true, false, not, cond, ◌&&◌, ◌||◌, ◌==◌, ◌≢◌, T, unwrap_or, option_map, refl, sym, ap, ◌∙◌}
+use Rattle.pua_tree.proofs.Common.{inl, inr, arith, reverse, list_all, list_any, Less, Equal, Greater, nat_cmp, ordering_then, is_sorted}
+use Rattle.pua_tree.proofs.Common.{nat_cmp-IsAntisymmetric, map-append, reverse-append, by_order, Spot, Tree, distinct_names, spot_cmp}
+use Rattle.pua_tree.proofs.Common.{name_cmp, above, is_dir, is_living, row_fits, is_name, row_entry, lent_entry, ListRow, passes}
+use Rattle.std.proofs.Common.{IsTrue, find}
+use Rattle.std.proofs.Common.{is_ok, Bor}
 use Rattle.std.specs.List.Sorted.{IsNonDecreasingBy, IsBinarySearchResult, IsSearchInRange}
-use Rattle.std.specs.declared.cmp.Ordering.TheVariants.{Less, Equal, Greater}
-use Rattle.std.specs.Ordering.{nat_cmp, ordering_index, ordering_then}
-use Rattle.std.specs.FinMap.{is_sorted, nat_cmp-IsAntisymmetric}
+use Rattle.std.specs.Ordering.{ordering_index}
 use Rattle.std.proofs.lemmas.Bool.{cases_lt}
-use Rattle.std.proofs.lemmas.List.{map-append, reverse-append}
 use Rattle.std.specs.BTreeSet.{insert_key}
 use Rattle.std.specs.Ordering.{match_ordering}
-use Rattle.std.specs.FinMap.Entries.{by_order}
 use Rattle.std.proofs.lemmas.Bool.Decides.{nat_tests}
-use Rattle.pua_tree.specs.Tree.{Spot, Tree, with_name, distinct_names, spot_cmp, name_cmp, spot_of, above, is_dir, is_living, row_fits}
-use Rattle.pua_tree.specs.Names.{is_name}
-use Rattle.pua_tree.specs.ListTree.{row_entry}
-use Rattle.pua_tree.specs.LentRows.{lent_entry}
-use Rattle.pua_tree.specs.declared.list.Row.{Row}
+use Rattle.pua_tree.specs.Tree.{with_name, spot_of}
 use Rattle.pua_tree.specs.declared.tree.LentRow.{LentRow}
 use Rattle.pua_tree.proofs.Base.{find-map}
 use Rattle.pua_tree.proofs.Content.{spots_total}
-use Rattle.std.specs.Bool.{passes}
 use Rattle.pua_tree.proofs.Places.{left, right, rises}
 
 -- of two spots in order the later is of no lower directory
@@ -34,32 +30,38 @@ not_lower a b e =
 index_rises : (a b d : ℕ) → a ≤ b → ordering_index (nat_cmp a d) ≤ ordering_index (nat_cmp b d)
 index_rises a b d le = grind (arith, nat_tests)
 
-dirs_searchable : (rows : List Row) (d : ℕ) → IsTrue (is_sorted spot_cmp (map row_entry rows)) → IsNonDecreasingBy (λ row. ordering_index (nat_cmp row.dir d)) rows
+dirs_searchable : (rows : List ListRow) (d : ℕ) → IsTrue (is_sorted spot_cmp (map row_entry rows)) →
+    IsNonDecreasingBy (λ row. ordering_index (nat_cmp row.dir d)) rows
 dirs_searchable rows d h i j row le lt =
     elim (cases_lt i j) [
-      | inl less ↦ index_rises _ _ d (not_lower (row_entry (get_or rows i row)).0 (row_entry (get_or rows j row)).0 (rises spots_total row_entry rows i j row (passes _ h) less lt))
+      | inl less ↦ index_rises _ _ d (not_lower (row_entry (get_or rows i row)).0 (row_entry (get_or rows j row)).0
+          (rises spots_total row_entry rows i j row (passes _ h) less lt))
       | inr more ↦ let same : j ≡ i = omega arith in rw same (omega arith)
     ]
 
 differs : (a b : ℕ) → a ≢ b → (a == b) ≡ false
 differs a b ne = grind (arith, nat_tests)
 
-any_at : (rows : List Row) (d i : ℕ) (row : Row) → i < length rows → nat_cmp (get_or rows i row).dir d ≡ Equal → list_any (λ r. r.0.0 == d) (map row_entry rows) ≡ true
+any_at : (rows : List ListRow) (d i : ℕ) (row : ListRow) → i < length rows → nat_cmp (get_or rows i row).dir d ≡ Equal →
+    list_any (λ r. r.0.0 == d) (map row_entry rows) ≡ true
 any_at [] d i row lt e = absurd (omega arith)
 any_at (x ∷ xs) d zero row lt e =
     let same : x.dir ≡ d = nat_cmp-IsAntisymmetric _ _ e in
     let here : (x.dir == d) ≡ true = grind (arith, nat_tests) in
     rw here refl
-any_at (x ∷ xs) d (suc i) row lt e = rw (any_at xs d i row (omega arith) e) (elim (x.dir == d) as (λ b. (b || true) ≡ true) [ true ↦ refl | false ↦ refl ])
+any_at (x ∷ xs) d (suc i) row lt e =
+    rw (any_at xs d i row (omega arith) e) (elim (x.dir == d) as (λ b. (b || true) ≡ true) [ true ↦ refl | false ↦ refl ])
 
-none_at : (rows : List Row) (d : ℕ) → ((i : ℕ) (row : Row) → i < length rows → (get_or rows i row).dir ≢ d) → list_any (λ r. r.0.0 == d) (map row_entry rows) ≡ false
+none_at : (rows : List ListRow) (d : ℕ) → ((i : ℕ) (row : ListRow) → i < length rows → (get_or rows i row).dir ≢ d) →
+    list_any (λ r. r.0.0 == d) (map row_entry rows) ≡ false
 none_at [] d h = refl
 none_at (x ∷ xs) d h =
     let here : (x.dir == d) ≡ false = differs x.dir d (h 0 x (omega arith)) in
     rw here (none_at xs d (λ i row lt. h (suc i) row (omega arith)))
 
 -- a search by directory finds whether one of them is this
-pub any_row : (rows : List Row) (d : ℕ) (r : Result ℕ ℕ) → IsTrue (is_sorted spot_cmp (map row_entry rows)) → IsSearchInRange r (length rows) → IsBinarySearchResult (λ row. nat_cmp row.dir d) rows r
+pub any_row : (rows : List ListRow) (d : ℕ) (r : Result ℕ ℕ) → IsTrue (is_sorted spot_cmp (map row_entry rows)) →
+    IsSearchInRange r (length rows) → IsBinarySearchResult (λ row. nat_cmp row.dir d) rows r
     → is_ok r ≡ list_any (λ row. row.0.0 == d) (map row_entry rows)
 any_row [] d (Ok i) h bound p = absurd (omega (arith, bound))
 any_row (x ∷ xs) d (Ok i) h bound p = sym (any_at (x ∷ xs) d i x bound (p x))
@@ -70,12 +72,18 @@ any_row rows d (Err i) h bound p =
       | inr more ↦ let other : nat_cmp (get_or rows k row).dir d ≡ Greater = parts.1 k row more lt in grind (arith, nat_tests)
     ]))
 
-found_row : (rows : List Row) (x : ℕ) → option_map (λ spot. spot.0) (option_map (λ row. row.0) (find (λ row. row.1 == x) (map row_entry rows))) ≡ option_map (λ row. row.dir) (find (λ row. row.node == x) rows)
+found_row : (rows : List ListRow) (x : ℕ) →
+    option_map (λ spot. spot.0) (option_map (λ row. row.0) (find (λ row. row.1 == x) (map row_entry rows))) ≡ option_map (λ row. row.dir)
+    (find (λ row. row.node == x) rows)
 found_row [] x = refl
-found_row (r ∷ rows) x = elim (r.node == x) as (λ b. option_map (λ spot. spot.0) (option_map (λ row. row.0) (cond b (Some (row_entry r)) (find (λ row. row.1 == x) (map row_entry rows)))) ≡ option_map (λ row. row.dir) (cond b (Some r) (find (λ row. row.node == x) rows))) [
-  | true ↦ refl
-  | false ↦ found_row rows x
-]
+found_row (r ∷ rows) x =
+    elim (r.node == x) as
+    (λ b. option_map (λ spot. spot.0)
+    (option_map (λ row. row.0) (cond b (Some (row_entry r)) (find (λ row. row.1 == x) (map row_entry rows)))) ≡ option_map (λ row. row.dir)
+    (cond b (Some r) (find (λ row. row.node == x) rows))) [
+      | true ↦ refl
+      | false ↦ found_row rows x
+    ]
 
 fourth : (a b c d : Bool) → T (a && (b && (c && d))) → T d
 fourth a b c d h = right c d (right b (c && d) (right a (b && (c && d)) h))
@@ -84,7 +92,7 @@ denied : (b : Bool) → T (not b) → b ≡ false
 denied true h = absurd h
 denied false h = refl
 
-root_missing : (t : Tree) (rows : List Row) → T (list_all (row_fits t) (map row_entry rows)) → find (λ row. row.node == 0) rows ≡ None
+root_missing : (t : Tree) (rows : List ListRow) → T (list_all (row_fits t) (map row_entry rows)) → find (λ row. row.node == 0) rows ≡ None
 root_missing t [] h = refl
 root_missing t (r ∷ rows) h =
     let fits : T (row_fits t (row_entry r)) = left (row_fits t (row_entry r)) (list_all (row_fits t) (map row_entry rows)) h in
@@ -92,33 +100,38 @@ root_missing t (r ∷ rows) h =
     rw here (root_missing t rows (right (row_fits t (row_entry r)) (list_all (row_fits t) (map row_entry rows)) h))
 
 -- the directory above is that of the first row of the number
-pub above_row : (t : Tree) (rows : List Row) (d : ℕ) → t.rows ≡ map row_entry rows → IsTrue (list_all (row_fits t) t.rows) → unwrap_or (option_map (λ row. row.dir) (find (λ row. row.node == d) rows)) 0 ≡ above t d
+pub above_row : (t : Tree) (rows : List ListRow) (d : ℕ) → t.rows ≡ map row_entry rows → IsTrue (list_all (row_fits t) t.rows) →
+    unwrap_or (option_map (λ row. row.dir) (find (λ row. row.node == d) rows)) 0 ≡ above t d
 above_row t rows zero e h = ap (λ o. unwrap_or (option_map (λ row. row.dir) o) 0) (root_missing t rows (passes _ (rw e at h)))
 above_row t rows (suc d) e h = rw e (ap (λ o. unwrap_or o 0) (sym (found_row rows (suc d))))
 
 pub with_name_is : (n : List ℕ) (ns : List (List ℕ)) → insert_key name_cmp ns n ≡ with_name n ns
 with_name_is n [] = refl
 with_name_is n (m ∷ ms) =
-    elim (name_cmp n m) as (λ o. match_ordering o (n ∷ m ∷ ms) (m ∷ ms) (m ∷ insert_key name_cmp ms n) ≡ by_order o (n ∷ m ∷ ms) (m ∷ ms) (m ∷ with_name n ms)) [
+    elim (name_cmp n m) as (λ o. match_ordering o (n ∷ m ∷ ms) (m ∷ ms) (m ∷ insert_key name_cmp ms n) ≡ by_order o (n ∷ m ∷ ms) (m ∷ ms)
+    (m ∷ with_name n ms)) [
       | Less ↦ refl
       | Equal ↦ refl
       | Greater ↦ ap (λ names. m ∷ names) (with_name_is n ms)
     ]
 
 -- the names of rows from the last one on, with the name of one row more
-pub one_name_more : (rows : List (Bor Row)) (row : Bor Row) (names more : List (List ℕ)) → names ≡ distinct_names (map (λ r. r.name) (reverse (map (λ r. r.now) rows))) → more ≡ insert_key name_cmp names row.now.name
+pub one_name_more : (rows : List (Bor ListRow)) (row : Bor ListRow) (names more : List (List ℕ)) →
+    names ≡ distinct_names (map (λ r. r.name) (reverse (map (λ r. r.now) rows))) → more ≡ insert_key name_cmp names row.now.name
     → more ≡ distinct_names (map (λ r. r.name) (reverse (map (λ r. r.now) (rows ++ row ∷ []))))
 one_name_more rows row names more so_far new =
     new ∙ with_name_is row.now.name names ∙ ap (with_name row.now.name) so_far
-    ∙ sym (ap (λ (rs : List Row). distinct_names (map (λ r. r.name) (reverse rs))) (map-append (λ r. r.now) rows (row ∷ [])) ∙ ap (λ (rs : List Row). distinct_names (map (λ r. r.name) rs)) (reverse-append (map (λ r. r.now) rows) (row.now ∷ [])))
+    ∙ sym (ap (λ (rs : List ListRow). distinct_names (map (λ r. r.name) (reverse rs))) (map-append (λ r. r.now) rows (row ∷ [])) ∙
+    ap (λ (rs : List ListRow). distinct_names (map (λ r. r.name) rs)) (reverse-append (map (λ r. r.now) rows) (row.now ∷ [])))
 
 -- the names of rows by their entries
-pub entry_names : (rows : List Row) → map (λ entry. entry.0.1) (map row_entry rows) ≡ map (λ row. row.name) rows
+pub entry_names : (rows : List ListRow) → map (λ entry. entry.0.1) (map row_entry rows) ≡ map (λ row. row.name) rows
 entry_names [] = refl
 entry_names (r ∷ rows) = ap (λ names. r.name ∷ names) (entry_names rows)
 
 -- the row that is found among those that are lent is the tree's
-pub found_spot : (rows : List LentRow) (t : Tree) (dir : ℕ) (o : Option (Bor LentRow)) → map lent_entry rows ≡ t.rows → option_map (λ row. row.now) o ≡ find (λ row. row.node == dir) rows
+pub found_spot : (rows : List LentRow) (t : Tree) (dir : ℕ) (o : Option (Bor LentRow)) → map lent_entry rows ≡ t.rows →
+    option_map (λ row. row.now) o ≡ find (λ row. row.node == dir) rows
     → option_map (λ row. (lent_entry row.now).0) o ≡ spot_of t dir
 found_spot rows t dir o all found =
     twice o
@@ -126,6 +139,7 @@ found_spot rows t dir o all found =
     ∙ ap (option_map (λ entry. entry.0)) (sym (find-map lent_entry (λ entry. entry.1 == dir) rows))
     ∙ ap (λ es. option_map (λ entry. entry.0) (find (λ entry. entry.1 == dir) es)) all
   where
-    twice : (o : Option (Bor LentRow)) → option_map (λ row. (lent_entry row.now).0) o ≡ option_map (λ entry. entry.0) (option_map lent_entry (option_map (λ row. row.now) o))
+    twice : (o : Option (Bor LentRow)) →
+        option_map (λ row. (lent_entry row.now).0) o ≡ option_map (λ entry. entry.0) (option_map lent_entry (option_map (λ row. row.now) o))
     twice None = refl
     twice (Some row) = refl

@@ -1,49 +1,51 @@
 -- What edits of a tree in slots rest on, by what the tree is.
-use Rattle.std.proofs.Common.{◌≡◌, ◌≢◌, ◌≤◌, ℕ, ◌+◌, Bool, true, false, not, ◌==◌, cond, T, List, Option, Some, None, option_map, is_some, refl, sym, ap, ◌∙◌, arith, inl, inr, eqb, eqb-true, eq-eqb, ne_eqb, Ok}
-use Rattle.std.specs.Prelude.{IfSome, IsSome, option_and_then}
-use Rattle.std.specs.Ordering.{nat_cmp, is_eq}
-use Rattle.std.specs.FinMap.{find, put, is_sorted}
-use Rattle.std.specs.FinMap.Entries.{where_key, is_sorted-put, is_sorted-where_key, same_entries}
-use Rattle.std.proofs.lemmas.Bool.{false≢true}
-use Rattle.std.proofs.lemmas.List.Folds.{sum_by-zero}
+use Rattle.pua_tree.proofs.Common.{◌≡◌, ◌≢◌, ◌≤◌, ℕ, ◌+◌, Bool, true, false, not, ◌==◌, cond, T, List, Option, Some, None, option_map}
+use Rattle.pua_tree.proofs.Common.{is_some, refl, sym, ap, ◌∙◌, arith, inl, inr, eqb, eqb-true, eq-eqb, Ok, IfSome, IsSome, option_and_then}
+use Rattle.pua_tree.proofs.Common.{nat_cmp, is_eq, find, put, is_sorted, where_key, is_sorted-put, is_sorted-where_key, same_entries}
+use Rattle.pua_tree.proofs.Common.{false≢true, sum_by-zero, Tree, WellFormed, spot_cmp, is_dir, is_dir_kind, is_living, look, Entry, Enters}
+use Rattle.pua_tree.proofs.Common.{grown_by, row_at, slot_of, node_in, made_of, held_rows, held_nodes, held_in_slots, rows_in, names_of}
+use Rattle.pua_tree.proofs.Common.{AreConsistent, Dir, Slots, SlotNode}
+use Rattle.std.proofs.Common.{ne_eqb}
 use Rattle.slab.specs.Slab.{get as slot_get}
 use Rattle.pua_tree.specs.Tree as tree
-use Rattle.pua_tree.specs.Tree.{Tree, WellFormed, spot_cmp, is_dir, is_dir_kind, is_living, look, empty_tree}
+use Rattle.pua_tree.specs.Tree.{empty_tree}
 use Rattle.pua_tree.specs.Edits.{add, tie}
-use Rattle.pua_tree.specs.Listing.{Entry}
-use Rattle.pua_tree.specs.Reading.{Enters, grown_by, said_node}
-use Rattle.pua_tree.specs.declared.gathered.Made.{Made}
+use Rattle.pua_tree.specs.Reading.{said_node}
+use Rattle.pua_tree.specs.declared.gathered.MadeNode.{MadeNode}
 use Rattle.pua_tree.proofs.Raised.{raised_keeps}
 use Rattle.pua_tree.specs.declared.fault.TreeFault.TheVariants.{NotDir, Taken, Missing, IsDir}
-use Rattle.pua_tree.specs.Slots.{row_at, slot_of, node_in, made_of, held_rows, held_nodes, held_in_slots, rows_in, names_of, one_at, IsKept, IsNew, MayStand, with_made}
-use Rattle.pua_tree.specs.declared.node.Kind.TheVariants.{Dir}
-use Rattle.pua_tree.specs.declared.slots.Slots.{Slots}
-use Rattle.pua_tree.specs.declared.slots.Node.{Node}
+use Rattle.pua_tree.specs.Slots.{one_at}
+use Rattle.pua_tree.specs.Slots.{IsNew, MayStand, with_made}
 use Rattle.pua_tree.proofs.Base.{mapped, none, past}
 use Rattle.pua_tree.proofs.Content.{spots_total, exact_spots}
-use Rattle.pua_tree.proofs.Tallies.{tally_counts, all_from_found, same_or_other, put_here, put_elsewhere, without_here, without_elsewhere, without_at}
+use Rattle.pua_tree.proofs.Tallies.{tally_counts, all_from_found, same_or_other, put_here, put_elsewhere, without_here, without_elsewhere}
+use Rattle.pua_tree.proofs.Tallies.{without_at}
 use Rattle.pua_tree.proofs.InOrder.{counted-without}
 use Rattle.pua_tree.proofs.Sound.{sound_from, row_says}
 use Rattle.pua_tree.proofs.EditsKeep.{no_rows, next_is_new, next_not_root}
 use Rattle.pua_tree.proofs.SlotsHold.{rows_found, nodes_found, rows_sorted}
 
 -- a row of the tree is one of the slots
-pub found_row : (s : Slots) (next : ℕ) (t : Tree) (dir : ℕ) (name : List ℕ) (o : Option ℕ) → held_in_slots s next ≡ t → look t dir name ≡ o → row_at s (dir, name) ≡ o
+pub found_row : (s : Slots) (next : ℕ) (t : Tree) (dir : ℕ) (name : List ℕ) (o : Option ℕ) → held_in_slots s next ≡ t →
+    look t dir name ≡ o → row_at s (dir, name) ≡ o
 found_row s next t dir name o e l = sym (rows_found s (dir, name)) ∙ ap (λ (u : Tree). look u dir name) e ∙ l
 
 -- so is a living node
 pub living_in : (s : Slots) (x : ℕ) → is_some (find nat_cmp x (held_nodes s)) ≡ true → IsSome (node_in s x)
 living_in s x h = fused (node_in s x) ∙ ap is_some (sym (nodes_found s x)) ∙ h
   where
-    fused : (o : Option Node) → is_some o ≡ is_some (option_map made_of o)
+    fused : (o : Option SlotNode) → is_some o ≡ is_some (option_map made_of o)
     fused None = refl
     fused (Some n) = refl
 
-pub row_living : (s : Slots) (next dir x : ℕ) (name : List ℕ) → WellFormed (held_in_slots s next) → row_at s (dir, name) ≡ Some x → is_some (find nat_cmp x (held_nodes s)) ≡ true
-row_living s next dir x name w e = (row_says (held_in_slots s next) (sound_from (held_in_slots s next) w) (dir, name) x (rows_found s (dir, name) ∙ e)).2
+pub row_living : (s : Slots) (next dir x : ℕ) (name : List ℕ) → WellFormed (held_in_slots s next) → row_at s (dir, name) ≡ Some x →
+    is_some (find nat_cmp x (held_nodes s)) ≡ true
+row_living s next dir x name w e =
+    (row_says (held_in_slots s next) (sound_from (held_in_slots s next) w) (dir, name) x (rows_found s (dir, name) ∙ e)).2
 
-pub dir_found : (s : Slots) (next x : ℕ) (n : Node) → node_in s x ≡ Some n → n.kind ≡ Dir → is_dir (held_in_slots s next) x ≡ true
-dir_found s next x n e k = ap (λ (o : Option tree.Node). is_dir_kind (option_map (λ m. m.kind) o)) (nodes_found s x ∙ ap (λ (o : Option Node). option_map made_of o) e) ∙ ap (λ j. is_dir_kind (Some j)) k
+pub dir_found : (s : Slots) (next x : ℕ) (n : SlotNode) → node_in s x ≡ Some n → n.kind ≡ Dir → is_dir (held_in_slots s next) x ≡ true
+dir_found s next x n e k = ap (λ (o : Option tree.Node). is_dir_kind (option_map (λ m. m.kind) o)) (nodes_found s x ∙
+    ap (λ (o : Option SlotNode). option_map made_of o) e) ∙ ap (λ j. is_dir_kind (Some j)) k
 
 -- what is no directory may have further names
 pub no_dir_may : (s : Slots) (next x : ℕ) → WellFormed (held_in_slots s next) → is_dir (held_in_slots s next) x ≡ false → MayStand s x
@@ -53,7 +55,7 @@ no_dir_may s next x w other = record {
 }
 
 -- the next number is new in every way
-module _ (s : Slots) (next : ℕ) (w : WellFormed (held_in_slots s next)) (kept : IsKept s) where
+module _ (s : Slots) (next : ℕ) (w : WellFormed (held_in_slots s next)) (kept : AreConsistent s) where
   new_number : is_living (held_in_slots s next) next ≡ false
   new_number = next_is_new (held_in_slots s next) (sound_from (held_in_slots s next) w)
 
@@ -61,22 +63,26 @@ module _ (s : Slots) (next : ℕ) (w : WellFormed (held_in_slots s next)) (kept 
   next_no_slot =
       elim (slot_of s next) as (λ o. slot_of s next ≡ o → o ≡ None) [
         | None ↦ λ e. refl
-        | Some slot ↦ λ e. absurd (false≢true (sym new_number ∙ ap is_some (nodes_found s next) ∙ mapped (node_in s next) (ap (λ (o : Option ℕ). is_some (option_and_then (slot_get s.nodes) o)) e ∙ kept.filed.filled next slot e)))
+        | Some slot ↦ λ e. absurd (false≢true (sym new_number ∙ ap is_some (nodes_found s next) ∙
+            mapped (node_in s next) (ap (λ (o : Option ℕ). is_some (option_and_then (slot_get s.nodes) o)) e ∙
+            kept.filed.filled next slot e)))
       ] refl
     where
-      mapped : (o : Option Node) → is_some o ≡ true → is_some (option_map made_of o) ≡ true
+      mapped : (o : Option SlotNode) → is_some o ≡ true → is_some (option_map made_of o) ≡ true
       mapped None h = h
       mapped (Some n) h = refl
 
   pub next_no_names : names_of (held_rows s) next ≡ 0
-  next_no_names = sym (tally_counts {K = tree.Spot} (λ y. y == next) (held_rows s)) ∙ no_rows (held_in_slots s next) (sound_from (held_in_slots s next) w) next new_number
+  next_no_names = sym (tally_counts {K = tree.Spot} (λ y. y == next) (held_rows s)) ∙
+      no_rows (held_in_slots s next) (sound_from (held_in_slots s next) w) next new_number
 
   pub next_no_rows : rows_in (held_rows s) next ≡ 0
   next_no_rows = eqb-true (rows_in (held_rows s) next) 0
       (sum_by-zero (λ (row : tree.Spot × ℕ). cond (row.0.0 == next) 1 0) (held_rows s)
       ∙ all_from_found spot_cmp spots_total exact_spots (λ row. eqb (cond (row.0.0 == next) 1 0) 0) (held_rows s) (rows_sorted s) (λ at x f.
       (let dir = (row_says (held_in_slots s next) (sound_from (held_in_slots s next) w) at x f).0 in
-      let other : (at.0 == next) ≡ false = ne_eqb at.0 next (λ e. false≢true (sym new_number ∙ living_dir next (ap (is_dir (held_in_slots s next)) (sym e) ∙ dir))) in
+      let other : (at.0 == next) ≡ false =
+      ne_eqb at.0 next (λ e. false≢true (sym new_number ∙ living_dir next (ap (is_dir (held_in_slots s next)) (sym e) ∙ dir))) in
       ap (λ b. eqb (cond b 1 0) 0) other)))
     where
       dir_lives : (o : Option tree.Node) → is_dir_kind (option_map (λ n. n.kind) o) ≡ true → is_some o ≡ true
@@ -90,7 +96,8 @@ module _ (s : Slots) (next : ℕ) (w : WellFormed (held_in_slots s next)) (kept 
   next_no_root = next_not_root (held_in_slots s next) (sound_from (held_in_slots s next) w)
 
 -- what a row that goes leaves
-module _ (old new : Slots) (at : tree.Spot) (rows : held_rows new ≡ where_key spot_cmp (λ spot. not (is_eq (spot_cmp at spot))) (held_rows old)) where
+module _ (old new : Slots) (at : tree.Spot) (rows : held_rows new ≡ where_key spot_cmp (λ spot. not (is_eq (spot_cmp at spot)))
+    (held_rows old)) where
   pub free_left : (spot : tree.Spot) → row_at old spot ≡ None → row_at new spot ≡ None
   free_left spot free =
       sym (rows_found new spot) ∙ ap (find spot_cmp spot) rows ∙ without_at spot_cmp spots_total exact_spots spot at (held_rows old)
@@ -104,22 +111,28 @@ module _ (old new : Slots) (at : tree.Spot) (rows : held_rows new ≡ where_key 
   free_there = sym (rows_found new at) ∙ ap (find spot_cmp at) rows ∙ without_here spot_cmp spots_total exact_spots at (held_rows old)
 
   pub others_left : (spot : tree.Spot) → spot ≢ at → row_at new spot ≡ row_at old spot
-  others_left spot n = sym (rows_found new spot) ∙ ap (find spot_cmp spot) rows ∙ without_elsewhere spot_cmp spots_total exact_spots spot at (held_rows old) n ∙ rows_found old spot
+  others_left spot n = sym (rows_found new spot) ∙ ap (find spot_cmp spot) rows ∙
+      without_elsewhere spot_cmp spots_total exact_spots spot at (held_rows old) n ∙ rows_found old spot
 
   pub names_left : (x : ℕ) → row_at old at ≡ Some x → (y : ℕ) → names_of (held_rows new) y + one_at x y ≡ names_of (held_rows old) y
   names_left x there y =
       ap (λ r. names_of r y + one_at x y) rows
-      ∙ counted-without spot_cmp spots_total exact_spots (λ row. row.1 == y) at x (held_rows old) (rows_sorted old) (rows_found old at ∙ there)
+      ∙ counted-without spot_cmp spots_total exact_spots (λ row. row.1 == y) at x (held_rows old) (rows_sorted old) (rows_found old at ∙
+      there)
 
 -- nodes that are held alike are of one kind
-pub kind_was : (old new : Slots) (x : ℕ) (n : Node) → held_nodes new ≡ held_nodes old → node_in new x ≡ Some n → n.kind ≡ Dir → (m : Node) × (node_in old x ≡ Some m) × (m.kind ≡ Dir)
+pub kind_was : (old new : Slots) (x : ℕ) (n : SlotNode) → held_nodes new ≡ held_nodes old → node_in new x ≡ Some n → n.kind ≡ Dir →
+    (m : SlotNode) × (node_in old x ≡ Some m) × (m.kind ≡ Dir)
 kind_was old new x n nodes e k =
-    let m = mapped made_of (node_in old x) (made_of n) (sym (nodes_found old x) ∙ ap (find nat_cmp x) (sym nodes) ∙ nodes_found new x ∙ ap (λ (o : Option Node). option_map made_of o) e) in
+    let m = mapped made_of (node_in old x) (made_of n) (sym (nodes_found old x) ∙ ap (find nat_cmp x) (sym nodes) ∙ nodes_found new x ∙
+    ap (λ (o : Option SlotNode). option_map made_of o) e) in
     (m.0, m.1, ap (λ (made : tree.Node). made.kind) m.2 ∙ k)
 
 -- a directory that stood in one row stands in none after that row goes
-pub stands_no_more : (old new : Slots) (at : tree.Spot) (x : ℕ) → held_rows new ≡ where_key spot_cmp (λ spot. not (is_eq (spot_cmp at spot))) (held_rows old) → held_nodes new ≡ held_nodes old → row_at old at ≡ Some x → x ≢ 0
-    → ((n : Node) → node_in old x ≡ Some n → n.kind ≡ Dir → names_of (held_rows old) x ≡ 1) → MayStand new x
+pub stands_no_more : (old new : Slots) (at : tree.Spot) (x : ℕ) →
+    held_rows new ≡ where_key spot_cmp (λ spot. not (is_eq (spot_cmp at spot))) (held_rows old) → held_nodes new ≡ held_nodes old →
+    row_at old at ≡ Some x → x ≢ 0
+    → ((n : SlotNode) → node_in old x ≡ Some n → n.kind ≡ Dir → names_of (held_rows old) x ≡ 1) → MayStand new x
 stands_no_more old new at x rows nodes there not_root once = record {
   not_root = not_root;
   dir_once = λ n e k. (let was = kind_was old new x n nodes e k in
@@ -129,12 +142,16 @@ stands_no_more old new at x rows nodes there not_root once = record {
 }
 
 -- a directory of a tree has one name
-pub named_once : (s : Slots) (next x : ℕ) → WellFormed (held_in_slots s next) → x ≢ 0 → (n : Node) → node_in s x ≡ Some n → n.kind ≡ Dir → names_of (held_rows s) x ≡ 1
-named_once s next x w nz n e k = sym (tally_counts {K = tree.Spot} (λ y. y == x) (held_rows s)) ∙ (sound_from (held_in_slots s next) w).once x (dir_found s next x n e k) nz
+pub named_once : (s : Slots) (next x : ℕ) → WellFormed (held_in_slots s next) → x ≢ 0 → (n : SlotNode) → node_in s x ≡ Some n →
+    n.kind ≡ Dir → names_of (held_rows s) x ≡ 1
+named_once s next x w nz n e k = sym (tally_counts {K = tree.Spot} (λ y. y == x) (held_rows s)) ∙
+    (sound_from (held_in_slots s next) w).once x (dir_found s next x n e k) nz
 
 -- and keeps it where another node's row goes
-pub named_once_still : (old new : Slots) (next : ℕ) (at : tree.Spot) (y x : ℕ) → WellFormed (held_in_slots old next) → held_rows new ≡ where_key spot_cmp (λ spot. not (is_eq (spot_cmp at spot))) (held_rows old)
-    → held_nodes new ≡ held_nodes old → row_at old at ≡ Some y → y ≢ x → x ≢ 0 → (n : Node) → node_in new x ≡ Some n → n.kind ≡ Dir → names_of (held_rows new) x ≡ 1
+pub named_once_still : (old new : Slots) (next : ℕ) (at : tree.Spot) (y x : ℕ) → WellFormed (held_in_slots old next) →
+    held_rows new ≡ where_key spot_cmp (λ spot. not (is_eq (spot_cmp at spot))) (held_rows old)
+    → held_nodes new ≡ held_nodes old → row_at old at ≡ Some y → y ≢ x → x ≢ 0 → (n : SlotNode) → node_in new x ≡ Some n → n.kind ≡ Dir →
+    names_of (held_rows new) x ≡ 1
 named_once_still old new next at y x w rows nodes there other nz n e k =
     let was = kind_was old new x n nodes e k in
     let once = named_once old next x w nz was.0 was.1 was.2 in
@@ -142,15 +159,18 @@ named_once_still old new next at y x w rows nodes there other nz n e k =
     omega (arith, names_left old new at rows y there x, once, apart)
 
 pub row_not_root : (s : Slots) (next dir x : ℕ) (name : List ℕ) → WellFormed (held_in_slots s next) → row_at s (dir, name) ≡ Some x → x ≢ 0
-row_not_root s next dir x name w e = (row_says (held_in_slots s next) (sound_from (held_in_slots s next) w) (dir, name) x (rows_found s (dir, name) ∙ e)).3
+row_not_root s next dir x name w e =
+    (row_says (held_in_slots s next) (sound_from (held_in_slots s next) w) (dir, name) x (rows_found s (dir, name) ∙ e)).3
 
 -- spots of different nodes differ
-pub spots_apart : (t : Tree) (from : ℕ) (name : List ℕ) (to : ℕ) (new_name : List ℕ) (x : ℕ) → look t from name ≡ Some x → look t to new_name ≢ Some x → ◌≢◌ {A = tree.Spot} (from, name) (to, new_name)
+pub spots_apart : (t : Tree) (from : ℕ) (name : List ℕ) (to : ℕ) (new_name : List ℕ) (x : ℕ) → look t from name ≡ Some x →
+    look t to new_name ≢ Some x → ◌≢◌ {A = tree.Spot} (from, name) (to, new_name)
 spots_apart t from name to new_name x found other e = other (ap (λ (spot : tree.Spot). find spot_cmp spot t.rows) (sym e) ∙ found)
 
 -- a row put at a spot whose row was taken away is put in its place
 pub put_over : (spot at : tree.Spot) (x : ℕ) (rows : List (tree.Spot × ℕ)) → T (is_sorted spot_cmp rows)
-    → put spot_cmp spot x (where_key spot_cmp (λ other. not (is_eq (spot_cmp at other))) (where_key spot_cmp (λ other. not (is_eq (spot_cmp spot other))) rows))
+    → put spot_cmp spot x (where_key spot_cmp (λ other. not (is_eq (spot_cmp at other)))
+    (where_key spot_cmp (λ other. not (is_eq (spot_cmp spot other))) rows))
     ≡ put spot_cmp spot x (where_key spot_cmp (λ other. not (is_eq (spot_cmp at other))) rows)
 put_over spot at x rows h =
     let thinner = where_key spot_cmp (λ other. not (is_eq (spot_cmp spot other))) rows in
@@ -158,7 +178,8 @@ put_over spot at x rows h =
     let right = where_key spot_cmp (λ other. not (is_eq (spot_cmp at other))) rows in
     let thin : T (is_sorted spot_cmp left) = is_sorted-where_key spot_cmp _ thinner (is_sorted-where_key spot_cmp _ rows h) in
     same_entries spot_cmp spots_total exact_spots (put spot_cmp spot x left) (put spot_cmp spot x right)
-    (is_sorted-put spot_cmp spots_total spot x left thin) (is_sorted-put spot_cmp spots_total spot x right (is_sorted-where_key spot_cmp _ rows h))
+    (is_sorted-put spot_cmp spots_total spot x left thin)
+    (is_sorted-put spot_cmp spots_total spot x right (is_sorted-where_key spot_cmp _ rows h))
     (λ q. elim (same_or_other spot_cmp spots_total exact_spots q spot) [
       | inl s ↦ ap (λ p. find spot_cmp p (put spot_cmp spot x left)) s.0 ∙ put_here spot_cmp spots_total exact_spots spot x left
           ∙ sym (ap (λ p. find spot_cmp p (put spot_cmp spot x right)) s.0 ∙ put_here spot_cmp spots_total exact_spots spot x right)
@@ -168,7 +189,8 @@ put_over spot at x rows h =
     ])
 
 -- where a node may be added, no row stands
-pub add_free : (t : Tree) (dir : ℕ) (name : List ℕ) (node : tree.Node) (after : ℕ × Tree) → add t dir name node ≡ Ok after → look t dir name ≡ None
+pub add_free : (t : Tree) (dir : ℕ) (name : List ℕ) (node : tree.Node) (after : ℕ × Tree) → add t dir name node ≡ Ok after →
+    look t dir name ≡ None
 add_free t dir name node after e =
     let in_dir = past (not (is_dir t dir)) NotDir _ after e in
     let free = past (is_some (look t dir name)) Taken _ after in_dir.1 in
@@ -178,7 +200,8 @@ add_free t dir name node after e =
 pub empty_is_tree : WellFormed empty_tree
 empty_is_tree = record { rows_in_order = refl; nodes_in_order = refl; root = refl; rows_fit = refl; nodes_fit = refl }
 
-tie_free : (t : Tree) (dir x : ℕ) (name : List ℕ) (after : Tree) → tie t dir name x ≡ Ok after → (look t dir name ≡ None) × (is_dir t x ≡ false)
+tie_free : (t : Tree) (dir x : ℕ) (name : List ℕ) (after : Tree) → tie t dir name x ≡ Ok after →
+    (look t dir name ≡ None) × (is_dir t x ≡ false)
 tie_free t dir x name after e =
     let in_dir = past (not (is_dir t dir)) NotDir _ after e in
     let lives = past (not (is_living t x)) Missing _ after in_dir.1 in
@@ -187,13 +210,15 @@ tie_free t dir x name after e =
     (none (look t dir name) free.0, other.0)
 
 -- what the slots have of an entry that may follow
-module _ (s : Slots) (next : ℕ) (w : WellFormed (held_in_slots s next)) (kept : IsKept s) (e : Entry) (later : next ≤ e.number) where
+module _ (s : Slots) (next : ℕ) (w : WellFormed (held_in_slots s next)) (kept : AreConsistent s) (e : Entry) (later : next ≤ e.number) where
   raised : WellFormed (held_in_slots s e.number)
   raised = raised_keeps (held_in_slots s next) e.number w later
 
   pub free_spot : (m : Option tree.Node) → Enters (held_in_slots s next) e m → row_at s (e.parent, e.name) ≡ None
-  free_spot None tied = sym (rows_found s (e.parent, e.name)) ∙ (tie_free (record (held_in_slots s next) { next = e.number + 1 }) e.parent e.node e.name _ tied).0
-  free_spot (Some made) added = sym (rows_found s (e.parent, e.name)) ∙ add_free (record (held_in_slots s next) { next = e.number }) e.parent e.name made _ added.2
+  free_spot None tied = sym (rows_found s (e.parent, e.name)) ∙
+      (tie_free (record (held_in_slots s next) { next = e.number + 1 }) e.parent e.node e.name _ tied).0
+  free_spot (Some made) added = sym (rows_found s (e.parent, e.name)) ∙
+      add_free (record (held_in_slots s next) { next = e.number }) e.parent e.name made _ added.2
 
   new_node : e.node ≡ e.number → IsNew s e.node
   new_node same = record {
@@ -202,26 +227,32 @@ module _ (s : Slots) (next : ℕ) (w : WellFormed (held_in_slots s next)) (kept 
     no_names = ap (names_of (held_rows s)) same ∙ next_no_names s e.number raised kept;
   }
 
-  pub new_where_made : (made : Option Made) → Enters (held_in_slots s next) e (option_map said_node made) → IfSome made (λ _. IsNew s e.node)
+  pub new_where_made : (made : Option MadeNode) → Enters (held_in_slots s next) e (option_map said_node made) →
+      IfSome made (λ _. IsNew s e.node)
   new_where_made None tied = tt
   new_where_made (Some made) added = new_node added.0
 
-  pub may_enter : (after : Slots) (m : Option tree.Node) → Enters (held_in_slots s next) e m → held_rows after ≡ held_rows s → held_nodes after ≡ with_made e.node m (held_nodes s) → MayStand after e.node
+  pub may_enter : (after : Slots) (m : Option tree.Node) → Enters (held_in_slots s next) e m → held_rows after ≡ held_rows s →
+      held_nodes after ≡ with_made e.node m (held_nodes s) → MayStand after e.node
   may_enter after None tied rows nodes =
       let no_dir = (tie_free (record (held_in_slots s next) { next = e.number + 1 }) e.parent e.node e.name _ tied).1 in
       record {
         not_root = λ z. false≢true (sym no_dir ∙ ap (is_dir (held_in_slots s next)) z ∙ w.root);
-        dir_once = λ n f k. (let was = kind_was s after e.node n nodes f k in absurd (false≢true (sym no_dir ∙ dir_found s next e.node was.0 was.1 was.2)));
+        dir_once = λ n f k. (let was = kind_was s after e.node n nodes f k in
+            absurd (false≢true (sym no_dir ∙ dir_found s next e.node was.0 was.1 was.2)));
       }
   may_enter after (Some made) added rows nodes = record {
     not_root = λ z. next_no_root s e.number raised kept (sym added.0 ∙ z);
     dir_once = λ n f k. ap (λ r. names_of r e.node) rows ∙ (new_node added.0).no_names;
   }
 
-  pub grown_held : (after : Slots) (m : Option tree.Node) → Enters (held_in_slots s next) e m → held_rows after ≡ put spot_cmp (e.parent, e.name) e.node (held_rows s) → held_nodes after ≡ with_made e.node m (held_nodes s)
+  pub grown_held : (after : Slots) (m : Option tree.Node) → Enters (held_in_slots s next) e m →
+      held_rows after ≡ put spot_cmp (e.parent, e.name) e.node (held_rows s) → held_nodes after ≡ with_made e.node m (held_nodes s)
       → held_in_slots after (e.number + 1) ≡ grown_by (held_in_slots s next) e m
   grown_held after None tied rows nodes = λ i. record { rows = rows i; nodes = nodes i; next = e.number + 1 }
   grown_held after (Some made) added rows nodes =
-      let number_rows : held_rows after ≡ put spot_cmp (e.parent, e.name) e.number (held_rows s) = rows ∙ ap (λ x. put spot_cmp (e.parent, e.name) x (held_rows s)) added.0 in
-      let number_nodes : held_nodes after ≡ put nat_cmp e.number made (held_nodes s) = nodes ∙ ap (λ x. put nat_cmp x made (held_nodes s)) added.0 in
+      let number_rows : held_rows after ≡ put spot_cmp (e.parent, e.name) e.number (held_rows s) = rows ∙
+      ap (λ x. put spot_cmp (e.parent, e.name) x (held_rows s)) added.0 in
+      let number_nodes : held_nodes after ≡ put nat_cmp e.number made (held_nodes s) = nodes ∙
+      ap (λ x. put nat_cmp x made (held_nodes s)) added.0 in
       λ i. record { rows = number_rows i; nodes = number_nodes i; next = e.number + 1 }

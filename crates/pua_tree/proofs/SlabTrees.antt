@@ -1,72 +1,80 @@
 -- A tree in slots, looked up by what each node knows of how it stands.
-use Rattle.std.proofs.Common.{◌≡◌, ℕ, Bool, true, false, not, ◌&&◌, ◌||◌, ◌==◌, cond, List, [], ◌∷◌, Option, Some, None, option_map, refl, sym, ap, subst, ◌∙◌, eqb, eqb-true}
-use Rattle.std.specs.Prelude.{IfSome, option_and_then}
-use Rattle.std.specs.List.{list_any, list_all}
-use Rattle.std.proofs.lemmas.Bool.{eqb-false, false≢true}
-use Rattle.std.proofs.lemmas.List.Folds.{sum_by-zero}
+use Rattle.pua_tree.proofs.Common.{◌≡◌, ℕ, Bool, true, false, not, ◌&&◌, ◌||◌, ◌==◌, cond, List, [], ◌∷◌, Option, Some, None, option_map}
+use Rattle.pua_tree.proofs.Common.{refl, sym, ap, subst, ◌∙◌, eqb, eqb-true, IfSome, option_and_then, list_any, list_all, eqb-false}
+use Rattle.pua_tree.proofs.Common.{false≢true, sum_by-zero, Tree, WellFormed, spot_cmp, kind_at, is_dir, is_dir_kind, above, node_in}
+use Rattle.pua_tree.proofs.Common.{made_of, held_rows, held_in_slots, AreConsistent, Dir, Slots, SlotNode}
 use Rattle.pua_tree.specs.Tree as tree
-use Rattle.pua_tree.specs.Tree.{Tree, WellFormed, spot_cmp, kind_at, target_at, parent, is_empty, is_dir, is_dir_kind, above, has_no_row}
-use Rattle.pua_tree.specs.Slots.{node_in, made_of, held_rows, held_in_slots, IsKept}
-use Rattle.pua_tree.specs.declared.node.Kind.TheVariants.{Dir}
-use Rattle.pua_tree.specs.declared.slots.Slots.{Slots}
-use Rattle.pua_tree.specs.declared.slots.Node.{Node}
+use Rattle.pua_tree.specs.Tree.{target_at, parent, is_empty, has_no_row}
 use Rattle.pua_tree.proofs.SlotsHold.{nodes_found}
 use Rattle.pua_tree.proofs.Sound.{sound_from, row_of, dir_kind}
 
-dir_node : (o : Option Node) → is_dir_kind (option_map (λ n. n.kind) (option_map made_of o)) ≡ true → (n : Node) × (o ≡ Some n) × (n.kind ≡ Dir)
+dir_node : (o : Option SlotNode) → is_dir_kind (option_map (λ n. n.kind) (option_map made_of o)) ≡ true →
+    (n : SlotNode) × (o ≡ Some n) × (n.kind ≡ Dir)
 dir_node None e = absurd (false≢true e)
 dir_node (Some n) e = (n, refl, dir_kind n.kind e)
 
 -- a living directory has a node
-pub dir_in : (s : Slots) (next d : ℕ) → is_dir (held_in_slots s next) d ≡ true → (n : Node) × (node_in s d ≡ Some n) × (n.kind ≡ Dir)
-dir_in s next d h = dir_node (node_in s d) (ap (λ (o : Option tree.Node). is_dir_kind (option_map (λ n. n.kind) o)) (sym (nodes_found s d)) ∙ h)
+pub dir_in : (s : Slots) (next d : ℕ) → is_dir (held_in_slots s next) d ≡ true → (n : SlotNode) × (node_in s d ≡ Some n) × (n.kind ≡ Dir)
+dir_in s next d h = dir_node (node_in s d) (ap (λ (o : Option tree.Node). is_dir_kind (option_map (λ n. n.kind) o)) (sym (nodes_found s d))
+    ∙ h)
 
 -- which knows the directory above it
-pub above_known : (s : Slots) (next d : ℕ) (n : Node) → WellFormed (held_in_slots s next) → IsKept s → is_dir (held_in_slots s next) d ≡ true → node_in s d ≡ Some n → n.kind ≡ Dir → above (held_in_slots s next) d ≡ n.standing.above
+pub above_known : (s : Slots) (next d : ℕ) (n : SlotNode) → WellFormed (held_in_slots s next) → AreConsistent s →
+    is_dir (held_in_slots s next) d ≡ true → node_in s d ≡ Some n → n.kind ≡ Dir → above (held_in_slots s next) d ≡ n.standing.above
 above_known s next d n w kept dir here kind =
     elim (d == 0) as (λ b. (d == 0) ≡ b → above (held_in_slots s next) d ≡ n.standing.above) [
-      | true ↦ λ t. ap (above (held_in_slots s next)) (eqb-true d 0 t) ∙ sym (kept.standing.above_root n (ap (node_in s) (sym (eqb-true d 0 t)) ∙ here))
+      | true ↦ λ t. ap (above (held_in_slots s next)) (eqb-true d 0 t) ∙
+          sym (kept.standing.above_root n (ap (node_in s) (sym (eqb-true d 0 t)) ∙ here))
       | false ↦ λ t. (let r = row_of (held_in_slots s next) (sound_from (held_in_slots s next) w) d dir (eqb-false d 0 t) in
           r.2 ∙ sym (kept.standing.dir_above r.0 d n r.1 here kind))
     ] refl
 
-no_row_counted : (rows : List (tree.Spot × ℕ)) (d : ℕ) → list_all (λ row. eqb (cond (row.0.0 == d) 1 0) 0) rows ≡ not (list_any (λ row. row.0.0 == d) rows)
+no_row_counted : (rows : List (tree.Spot × ℕ)) (d : ℕ) →
+    list_all (λ row. eqb (cond (row.0.0 == d) 1 0) 0) rows ≡ not (list_any (λ row. row.0.0 == d) rows)
 no_row_counted [] d = refl
 no_row_counted (r ∷ rows) d =
-    elim (r.0.0 == d) as (λ b. (eqb (cond b 1 0) 0 && list_all (λ row. eqb (cond (row.0.0 == d) 1 0) 0) rows) ≡ not (b || list_any (λ row. row.0.0 == d) rows)) [
+    elim (r.0.0 == d) as (λ b. (eqb (cond b 1 0) 0 && list_all (λ row. eqb (cond (row.0.0 == d) 1 0) 0) rows)
+    ≡ not (b || list_any (λ row. row.0.0 == d) rows)) [
       | true ↦ refl
       | false ↦ no_row_counted rows d
     ]
 
 -- and whether it has rows
-pub empty_known : (s : Slots) (next d : ℕ) (n : Node) → IsKept s → node_in s d ≡ Some n → (n.standing.rows == 0) ≡ has_no_row (held_in_slots s next) d
+pub empty_known : (s : Slots) (next d : ℕ) (n : SlotNode) → AreConsistent s → node_in s d ≡ Some n →
+    (n.standing.rows == 0) ≡ has_no_row (held_in_slots s next) d
 empty_known s next d n kept here =
-    ap (λ r. r == 0) (kept.standing.rows_counted d n here) ∙ sum_by-zero (λ (row : tree.Spot × ℕ). cond (row.0.0 == d) 1 0) (held_rows s) ∙ no_row_counted (held_rows s) d
+    ap (λ r. r == 0) (kept.standing.rows_counted d n here) ∙ sum_by-zero (λ (row : tree.Spot × ℕ). cond (row.0.0 == d) 1 0) (held_rows s) ∙
+    no_row_counted (held_rows s) d
 
 -- what a tree answers, by what its slots have
-pub kind_known : (s : Slots) (next x : ℕ) → option_map (λ (n : Node). n.kind) (node_in s x) ≡ kind_at (held_in_slots s next) x
+pub kind_known : (s : Slots) (next x : ℕ) → option_map (λ (n : SlotNode). n.kind) (node_in s x) ≡ kind_at (held_in_slots s next) x
 kind_known s next x = fused (node_in s x) ∙ ap (λ (o : Option tree.Node). option_map (λ n. n.kind) o) (sym (nodes_found s x))
   where
-    fused : (o : Option Node) → option_map (λ (n : Node). n.kind) o ≡ option_map (λ n. n.kind) (option_map made_of o)
+    fused : (o : Option SlotNode) → option_map (λ (n : SlotNode). n.kind) o ≡ option_map (λ n. n.kind) (option_map made_of o)
     fused None = refl
     fused (Some n) = refl
 
-pub target_known : (s : Slots) (next x : ℕ) → option_and_then (λ (n : Node). option_map (λ target. target.items) n.target) (node_in s x) ≡ target_at (held_in_slots s next) x
+pub target_known : (s : Slots) (next x : ℕ) → option_and_then (λ (n : SlotNode). option_map (λ target. target.items) n.target) (node_in s x)
+    ≡ target_at (held_in_slots s next) x
 target_known s next x = fused (node_in s x) ∙ ap (λ (o : Option tree.Node). option_and_then (λ n. n.target) o) (sym (nodes_found s x))
   where
-    fused : (o : Option Node) → option_and_then (λ (n : Node). option_map (λ target. target.items) n.target) o ≡ option_and_then (λ n. n.target) (option_map made_of o)
+    fused : (o : Option SlotNode) → option_and_then (λ (n : SlotNode). option_map (λ target. target.items) n.target) o
+        ≡ option_and_then (λ n. n.target) (option_map made_of o)
     fused None = refl
     fused (Some n) = refl
 
-pub parent_known : (s : Slots) (next d : ℕ) → WellFormed (held_in_slots s next) → IsKept s → is_dir (held_in_slots s next) d ≡ true → option_map (λ (n : Node). n.standing.above) (node_in s d) ≡ parent (held_in_slots s next) d
+pub parent_known : (s : Slots) (next d : ℕ) → WellFormed (held_in_slots s next) → AreConsistent s → is_dir (held_in_slots s next) d ≡ true →
+    option_map (λ (n : SlotNode). n.standing.above) (node_in s d) ≡ parent (held_in_slots s next) d
 parent_known s next d w kept dir =
     let n = dir_in s next d dir in
-    ap (λ (o : Option Node). option_map (λ (m : Node). m.standing.above) o) n.1
+    ap (λ (o : Option SlotNode). option_map (λ (m : SlotNode). m.standing.above) o) n.1
     ∙ ap Some (sym (above_known s next d n.0 w kept dir n.1 n.2))
     ∙ sym (ap (λ b. cond b (Some (above (held_in_slots s next) d)) None) dir)
 
-pub emptiness_known : (s : Slots) (next d : ℕ) (answer : Bool) → IsKept s → is_dir (held_in_slots s next) d ≡ true → IfSome (node_in s d) (λ n. answer ≡ (n.standing.rows == 0)) → answer ≡ is_empty (held_in_slots s next) d
+pub emptiness_known : (s : Slots) (next d : ℕ) (answer : Bool) → AreConsistent s → is_dir (held_in_slots s next) d ≡ true →
+    IfSome (node_in s d) (λ n. answer ≡ (n.standing.rows == 0)) → answer ≡ is_empty (held_in_slots s next) d
 emptiness_known s next d answer kept dir says =
     let n = dir_in s next d dir in
-    let known : answer ≡ (n.0.standing.rows == 0) = subst (λ (o : Option Node). IfSome o (λ n. answer ≡ (n.standing.rows == 0))) n.1 says in
+    let known : answer ≡ (n.0.standing.rows == 0) =
+    subst (λ (o : Option SlotNode). IfSome o (λ n. answer ≡ (n.standing.rows == 0))) n.1 says in
     known ∙ empty_known s next d n.0 kept n.1 ∙ sym (ap (λ b. b && has_no_row (held_in_slots s next) d) dir)

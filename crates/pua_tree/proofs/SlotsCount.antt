@@ -1,45 +1,46 @@
 -- As many rows and nodes are held as the maps have entries.
-use Rattle.std.proofs.Common.{◌≡◌, ℕ, suc, Bool, true, false, cond, List, [], ◌∷◌, map, length, Option, Some, None, option_map, refl, sym, ap, ◌∙◌, eqb-true, eq-eqb, true≢false}
-use Rattle.std.specs.Prelude.{IsSome, option_and_then}
-use Rattle.std.specs.Map.{lookup, keys_of}
+use Rattle.pua_tree.proofs.Common.{◌≡◌, ℕ, suc, Bool, true, false, cond, List, [], ◌∷◌, map, length, Option, Some, None, option_map, refl}
+use Rattle.pua_tree.proofs.Common.{sym, ap, ◌∙◌, eqb-true, eq-eqb, true≢false, IsSome, option_and_then, lookup, keys_of, Ordering, Less}
+use Rattle.pua_tree.proofs.Common.{Equal, Greater, nat_cmp, is_eq, find, put, by_order, Slab, index_map_len, spot_cmp, made_of, in_order}
+use Rattle.pua_tree.proofs.Common.{with_entry, held_rows, held_nodes, Slots, SlotNode}
 use Rattle.std.specs.List.{IsDistinct, AllByRecursion}
 use Rattle.std.proofs.lemmas.Map.Keys.{IsDistinct-head, IsDistinct-tail}
-use Rattle.std.specs.declared.cmp.Ordering.{Ordering}
-use Rattle.std.specs.declared.cmp.Ordering.TheVariants.{Less, Equal, Greater}
-use Rattle.std.specs.Ordering.{nat_cmp, is_eq}
-use Rattle.std.specs.FinMap.{find, put}
-use Rattle.std.specs.FinMap.Entries.{by_order}
-use Rattle.slab.specs.Slab.{Slab, get as slot_get}
-use Rattle.indexmap.specs.IndexMap.{index_map_len, IsUnique}
+use Rattle.slab.specs.Slab.{get as slot_get}
+use Rattle.indexmap.specs.IndexMap.{IsUnique}
 use Rattle.pua_tree.specs.Tree as tree
-use Rattle.pua_tree.specs.Tree.{spot_cmp}
-use Rattle.pua_tree.specs.Slots.{made_of, in_order, with_entry, held_rows, held_nodes, IsFiled}
+use Rattle.pua_tree.specs.Slots.{IsFiled}
 use Rattle.pua_tree.specs.declared.spot.Spot.{Spot}
-use Rattle.pua_tree.specs.declared.slots.Slots.{Slots}
-use Rattle.pua_tree.specs.declared.slots.Node.{Node}
 use Rattle.pua_tree.specs.contracts.spot.SpotPartialEq.TheImpl.{ghosts as spot_ghosts}
 use Rattle.pua_tree.specs.contracts.node.NodeIdPartialEq.TheImpl.{ghosts as number_ghosts}
 use Rattle.pua_tree.proofs.Base.{Some≢None}
 use Rattle.pua_tree.proofs.SlotsHold.{rows_found_in, nodes_found_in}
 
-length-put : {K X : Type 0} (R : K → K → Ordering) (k : K) (v : X) (es : List (K × X)) → find R k es ≡ None → length (put R k v es) ≡ suc (length es)
+length-put : {K X : Type 0} (R : K → K → Ordering) (k : K) (v : X) (es : List (K × X)) → find R k es ≡ None →
+    length (put R k v es) ≡ suc (length es)
 length-put R k v [] none = refl
 length-put R k v (e ∷ es) none =
-    elim (R k e.0) as (λ r. cond (is_eq r) (Some e.1) (find R k es) ≡ None → length (by_order r ((k, v) ∷ e ∷ es) ((e.0, v) ∷ es) (e ∷ put R k v es)) ≡ suc (suc (length es))) [
+    elim (R k e.0) as (λ r. cond (is_eq r) (Some e.1) (find R k es) ≡ None →
+    length (by_order r ((k, v) ∷ e ∷ es) ((e.0, v) ∷ es) (e ∷ put R k v es)) ≡ suc (suc (length es))) [
       | Less ↦ λ n. refl
       | Equal ↦ λ n. absurd (Some≢None e.1 n)
       | Greater ↦ λ n. ap suc (length-put R k v es n)
     ] none
 
 -- a key that is no later one's is not found later
-first_only : {K X : Type 0} (eq : K → K → Bool) (k : K) (es : List (K × X)) → AllByRecursion (λ y. eq k y ≡ false) (keys_of es) → lookup (eq k) es ≡ None
+first_only : {K X : Type 0} (eq : K → K → Bool) (k : K) (es : List (K × X)) → AllByRecursion (λ y. eq k y ≡ false) (keys_of es) →
+    lookup (eq k) es ≡ None
 first_only eq k [] h = refl
 first_only eq k (e ∷ es) h = ap (λ b. cond b (Some e.1) (lookup (eq k) es)) h.0 ∙ first_only eq k es h.1
 
-rows_as_many : (es : List (Spot × ℕ)) → IsDistinct spot_ghosts.eq (keys_of es) → length (in_order spot_cmp (map {B = tree.Spot × Option ℕ} (λ e. ((e.0.dir, e.0.name), Some e.1)) es)) ≡ length es
+rows_as_many : (es : List (Spot × ℕ)) → IsDistinct spot_ghosts.eq (keys_of es) →
+    length (in_order spot_cmp (map {B = tree.Spot × Option ℕ} (λ e. ((e.0.dir, e.0.name), Some e.1)) es)) ≡ length es
 rows_as_many [] d = refl
 rows_as_many (e ∷ es) d =
-    length-put spot_cmp (e.0.dir, e.0.name) e.1 (in_order spot_cmp (map {B = tree.Spot × Option ℕ} (λ e. ((e.0.dir, e.0.name), Some e.1)) es)) (rows_found_in es (e.0.dir, e.0.name) ∙ first_only spot_ghosts.eq e.0 es (IsDistinct-head spot_ghosts.eq e.0 (keys_of es) d))
+    length-put spot_cmp (
+      e.0.dir,
+      e.0.name,
+    ) e.1 (in_order spot_cmp (map {B = tree.Spot × Option ℕ} (λ e. ((e.0.dir, e.0.name), Some e.1)) es))
+    (rows_found_in es (e.0.dir, e.0.name) ∙ first_only spot_ghosts.eq e.0 es (IsDistinct-head spot_ghosts.eq e.0 (keys_of es) d))
     ∙ ap suc (rows_as_many es (IsDistinct-tail spot_ghosts.eq e.0 (keys_of es) d))
 
 pub row_count_is : (s : Slots) → IsUnique spot_ghosts.eq s.rows → length (held_rows s) ≡ index_map_len s.rows
@@ -49,21 +50,27 @@ some_value : {X : Type 0} (o : Option X) → IsSome o → (x : X) × (o ≡ Some
 some_value None h = absurd (true≢false (sym h))
 some_value (Some x) h = (x, refl)
 
-nodes_as_many : (slots : Slab Node) (es : List (ℕ × ℕ)) → IsDistinct number_ghosts.eq (keys_of es) → ((x slot : ℕ) → lookup (number_ghosts.eq x) es ≡ Some slot → IsSome (slot_get slots slot))
+nodes_as_many : (slots : Slab SlotNode) (es : List (ℕ × ℕ)) → IsDistinct number_ghosts.eq (keys_of es) →
+    ((x slot : ℕ) → lookup (number_ghosts.eq x) es ≡ Some slot → IsSome (slot_get slots slot))
     → length (in_order nat_cmp (map {B = ℕ × Option tree.Node} (λ e. (e.0, option_map made_of (slot_get slots e.1))) es)) ≡ length es
 nodes_as_many slots [] d filled = refl
 nodes_as_many slots (e ∷ es) d filled =
     let rest = in_order nat_cmp (map {B = ℕ × Option tree.Node} (λ e. (e.0, option_map made_of (slot_get slots e.1))) es) in
-    let none : lookup (number_ghosts.eq e.0) es ≡ None = first_only number_ghosts.eq e.0 es (IsDistinct-head number_ghosts.eq e.0 (keys_of es) d) in
-    let node = some_value (slot_get slots e.1) (filled e.0 e.1 (ap (λ b. cond b (Some e.1) (lookup (number_ghosts.eq e.0) es)) (eq-eqb e.0 e.0 refl))) in
-    let absent : find nat_cmp e.0 rest ≡ None = nodes_found_in slots es e.0 ∙ ap (λ (o : Option ℕ). option_map made_of (option_and_then (slot_get slots) o)) none in
+    let none : lookup (number_ghosts.eq e.0) es ≡ None =
+    first_only number_ghosts.eq e.0 es (IsDistinct-head number_ghosts.eq e.0 (keys_of es) d) in
+    let node = some_value (slot_get slots e.1)
+    (filled e.0 e.1 (ap (λ b. cond b (Some e.1) (lookup (number_ghosts.eq e.0) es)) (eq-eqb e.0 e.0 refl))) in
+    let absent : find nat_cmp e.0 rest ≡ None = nodes_found_in slots es e.0 ∙
+    ap (λ (o : Option ℕ). option_map made_of (option_and_then (slot_get slots) o)) none in
     ap (λ v. length (with_entry nat_cmp e.0 (option_map made_of v) rest)) node.1
     ∙ length-put nat_cmp e.0 (made_of node.0) rest absent
-    ∙ ap suc (nodes_as_many slots es (IsDistinct-tail number_ghosts.eq e.0 (keys_of es) d) (λ x slot l. filled x slot (ap (λ b. cond b (Some e.1) (lookup (number_ghosts.eq x) es)) (apart x slot l) ∙ l)))
+    ∙ ap suc (nodes_as_many slots es (IsDistinct-tail number_ghosts.eq e.0 (keys_of es) d)
+    (λ x slot l. filled x slot (ap (λ b. cond b (Some e.1) (lookup (number_ghosts.eq x) es)) (apart x slot l) ∙ l)))
   where
     apart : (x slot : ℕ) → lookup (number_ghosts.eq x) es ≡ Some slot → number_ghosts.eq x e.0 ≡ false
     apart x slot l = elim (number_ghosts.eq x e.0) as (λ b. number_ghosts.eq x e.0 ≡ b → b ≡ false) [
-      | true ↦ λ t. absurd (Some≢None slot (sym l ∙ ap (λ y. lookup (number_ghosts.eq y) es) (eqb-true x e.0 t) ∙ first_only number_ghosts.eq e.0 es (IsDistinct-head number_ghosts.eq e.0 (keys_of es) d)))
+      | true ↦ λ t. absurd (Some≢None slot (sym l ∙ ap (λ y. lookup (number_ghosts.eq y) es) (eqb-true x e.0 t) ∙
+          first_only number_ghosts.eq e.0 es (IsDistinct-head number_ghosts.eq e.0 (keys_of es) d)))
       | false ↦ λ f. refl
     ] refl
 

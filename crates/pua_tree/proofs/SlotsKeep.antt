@@ -1,18 +1,15 @@
 -- Rows put into slots and taken out of them leave every node knowing how it stands.
-use Rattle.std.proofs.Common.{◌≡◌, ◌≢◌, ℕ, ◌+◌, ◌-◌, ◌<◌, ◌^◌, true, false, not, ◌==◌, cond, List, length, Option, Some, None, option_map, refl, sym, ap, ◌∙◌, arith, inl, inr, eqb-true, eq-eqb, ne_eqb}
-use Rattle.std.specs.Prelude.{IfSome}
-use Rattle.std.specs.Ordering.{is_eq}
-use Rattle.std.specs.FinMap.{find, put}
-use Rattle.std.specs.FinMap.Entries.{where_key}
+use Rattle.pua_tree.proofs.Common.{◌≡◌, ◌≢◌, ℕ, ◌+◌, ◌-◌, ◌<◌, ◌^◌, true, false, not, ◌==◌, cond, List, length, Option, Some, None}
+use Rattle.pua_tree.proofs.Common.{option_map, refl, sym, ap, ◌∙◌, arith, inl, inr, eqb-true, eq-eqb, IfSome, is_eq, find, put, where_key}
+use Rattle.pua_tree.proofs.Common.{spot_cmp, row_at, node_in, made_of, held_rows, held_nodes, rows_in, names_of, AreConsistent, Dir, Slots}
+use Rattle.pua_tree.proofs.Common.{SlotNode}
+use Rattle.std.proofs.Common.{ne_eqb}
 use Rattle.std.proofs.lemmas.List.Sums.{count_by-le-length}
 use Rattle.indexmap.specs.IndexMap.{UpdatesBy}
 use Rattle.pua_tree.specs.Tree as tree
-use Rattle.pua_tree.specs.Tree.{spot_cmp}
-use Rattle.pua_tree.specs.Slots.{row_at, node_in, made_of, held_rows, held_nodes, rows_in, names_of, restood, one_at, row_gained, row_lost, name_gained, name_lost, Restands, IsKept, MayStand}
-use Rattle.pua_tree.specs.declared.node.Kind.TheVariants.{Dir}
-use Rattle.pua_tree.specs.declared.slots.Slots.{Slots}
-use Rattle.pua_tree.specs.declared.slots.Node.{Node}
-use Rattle.pua_tree.specs.declared.slots.Standing.{Standing}
+use Rattle.pua_tree.specs.Slots.{with_stance, one_at, row_gained}
+use Rattle.pua_tree.specs.Slots.{row_lost, name_gained, name_lost, Restands, MayStand}
+use Rattle.pua_tree.specs.declared.slots.Stance.{Stance}
 use Rattle.pua_tree.specs.contracts.spot.SpotPartialEq.TheImpl.{ghosts as spot_ghosts}
 use Rattle.pua_tree.proofs.Base.{mapped, same_Some, Some≢None}
 use Rattle.pua_tree.proofs.Content.{spots_total, exact_spots}
@@ -28,24 +25,25 @@ pub rows_by : (s t : Slots) → s.rows ≡ t.rows → held_rows s ≡ held_rows 
 rows_by s t e = λ i. held_rows (record s { rows = e i })
 
 -- two changes of standings in turn
-module _ (old mid new : Slots) (f g : ℕ → Standing → Standing) (a : Restands old mid f) (b : Restands mid new g) where
-  abbrev changed : ℕ → Node → Node
-  changed y n = restood (g y (f y n.standing)) n
+module _ (old mid new : Slots) (f g : ℕ → Stance → Stance) (a : Restands old mid f) (b : Restands mid new g) where
+  abbrev changed : ℕ → SlotNode → SlotNode
+  changed y n = with_stance (g y (f y n.standing)) n
 
   both : (y : ℕ) → node_in new y ≡ option_map (changed y) (node_in old y)
-  both y = b.nodes y ∙ ap (option_map (λ n. restood (g y n.standing) n)) (a.nodes y) ∙ fused (node_in old y)
+  both y = b.nodes y ∙ ap (option_map (λ n. with_stance (g y n.standing) n)) (a.nodes y) ∙ fused (node_in old y)
     where
-      fused : (o : Option Node) → option_map (λ n. restood (g y n.standing) n) (option_map (λ n. restood (f y n.standing) n) o) ≡ option_map (changed y) o
+      fused : (o : Option SlotNode) → option_map (λ n. with_stance (g y n.standing) n) (option_map (λ n. with_stance (f y n.standing) n) o)
+          ≡ option_map (changed y) o
       fused None = refl
       fused (Some n) = refl
 
-  was : (y : ℕ) (m : Node) → node_in new y ≡ Some m → (n : Node) × (node_in old y ≡ Some n) × (changed y n ≡ m)
+  was : (y : ℕ) (m : SlotNode) → node_in new y ≡ Some m → (n : SlotNode) × (node_in old y ≡ Some n) × (changed y n ≡ m)
   was y m e = mapped (changed y) (node_in old y) m (sym (both y) ∙ e)
 
   made_alike : (y : ℕ) → option_map made_of (node_in new y) ≡ option_map made_of (node_in old y)
-  made_alike y = ap (λ (o : Option Node). option_map made_of o) (both y) ∙ fused (node_in old y)
+  made_alike y = ap (λ (o : Option SlotNode). option_map made_of o) (both y) ∙ fused (node_in old y)
     where
-      fused : (o : Option Node) → option_map made_of (option_map (changed y) o) ≡ option_map made_of o
+      fused : (o : Option SlotNode) → option_map made_of (option_map (changed y) o) ≡ option_map made_of o
       fused None = refl
       fused (Some n) = refl
 
@@ -59,8 +57,9 @@ one_here : (d : ℕ) → one_at d d ≡ 1
 one_here d = ap (λ b. cond b 1 0) (eq-eqb d d refl)
 
 -- a row put
-module _ (old between more new : Slots) (at : tree.Spot) (x : ℕ) (kept : IsKept old)
-    (updates : UpdatesBy spot_ghosts.eq (spot_ghosts.eq (key_at at)) old.rows between.rows (Some x)) (same : (y : ℕ) → node_in between y ≡ node_in old y)
+module _ (old between more new : Slots) (at : tree.Spot) (x : ℕ) (kept : AreConsistent old)
+    (updates : UpdatesBy spot_ghosts.eq (spot_ghosts.eq (key_at at)) old.rows between.rows (Some x)) (same : (y : ℕ) →
+    node_in between y ≡ node_in old y)
     (free : row_at old at ≡ None) (may : MayStand old x) where
   none_there : find spot_cmp at (held_rows old) ≡ None
   none_there = rows_found old at ∙ free
@@ -74,10 +73,10 @@ module _ (old between more new : Slots) (at : tree.Spot) (x : ℕ) (kept : IsKep
   module _ (a : Restands between more (row_gained at.0)) where
     pub few_names : length (held_rows old) < 2 ^ 63 → IfSome (node_in more x) (λ node. node.standing.names < 2 ^ 63)
     few_names small = each (node_in more x) (λ m e.
-        let w = mapped (λ n. restood (row_gained at.0 x n.standing) n) (node_in between x) m (sym (a.nodes x) ∙ e) in
+        let w = mapped (λ n. with_stance (row_gained at.0 x n.standing) n) (node_in between x) m (sym (a.nodes x) ∙ e) in
         let counted = kept.standing.names_counted x w.0 (sym (same x) ∙ w.1) in
         let within = count_by-le-length (λ (row : tree.Spot × ℕ). row.1 == x) (held_rows old) in
-        let names : w.0.standing.names ≡ m.standing.names = ap (λ (n : Node). n.standing.names) w.2 in
+        let names : w.0.standing.names ≡ m.standing.names = ap (λ (n : SlotNode). n.standing.names) w.2 in
         omega (arith, counted, within, small, names))
 
     module _ (b : Restands more new (name_gained at.0 x)) where
@@ -85,59 +84,71 @@ module _ (old between more new : Slots) (at : tree.Spot) (x : ℕ) (kept : IsKep
       rows_after_put = rows_by new between (b.rows ∙ a.rows) ∙ rows_put old between at x updates
 
       pub nodes_after_put : held_nodes new ≡ held_nodes old
-      nodes_after_put = nodes_same old new (λ y. made_alike between more new (row_gained at.0) (name_gained at.0 x) a b y ∙ ap (λ (o : Option Node). option_map made_of o) (same y))
+      nodes_after_put = nodes_same old new (λ y. made_alike between more new (row_gained at.0) (name_gained at.0 x) a b y ∙
+          ap (λ (o : Option SlotNode). option_map made_of o) (same y))
 
-      stood : (y : ℕ) (m : Node) → node_in new y ≡ Some m → (n : Node) × (node_in old y ≡ Some n) × (changed between more new (row_gained at.0) (name_gained at.0 x) a b y n ≡ m)
+      stood : (y : ℕ) (m : SlotNode) → node_in new y ≡ Some m →
+          (n : SlotNode) × (node_in old y ≡ Some n) × (changed between more new (row_gained at.0) (name_gained at.0 x) a b y n ≡ m)
       stood y m e = let w = was between more new (row_gained at.0) (name_gained at.0 x) a b y m e in (w.0, sym (same y) ∙ w.1, w.2)
 
-      pub kept_after_put : IsKept new
+      pub kept_after_put : AreConsistent new
       kept_after_put = record {
         filed = b.filed;
         standing = record {
           rows_counted = λ y m e. (let w = stood y m e in
-              sym (ap (λ (n : Node). n.standing.rows) w.2)
+              sym (ap (λ (n : SlotNode). n.standing.rows) w.2)
               ∙ ap (λ r. r + one_at at.0 y) (kept.standing.rows_counted y w.0 w.1)
               ∙ sym (counted-put spot_cmp spots_total exact_spots (λ row. row.0.0 == y) at x (held_rows old) none_there)
               ∙ sym (ap (λ rows. rows_in rows y) rows_after_put));
           names_counted = λ y m e. (let w = stood y m e in
-              sym (ap (λ (n : Node). n.standing.names) w.2)
+              sym (ap (λ (n : SlotNode). n.standing.names) w.2)
               ∙ ap (λ r. r + one_at x y) (kept.standing.names_counted y w.0 w.1)
               ∙ sym (counted-put spot_cmp spots_total exact_spots (λ row. row.1 == y) at x (held_rows old) none_there)
               ∙ sym (ap (λ rows. names_of rows y) rows_after_put));
           dir_above = λ spot y m f e d. (let w = stood y m e in
-              let found : find spot_cmp spot (put spot_cmp at x (held_rows old)) ≡ Some y = ap (find spot_cmp spot) (sym rows_after_put) ∙ f in
-              let above : m.standing.above ≡ cond (x == y) at.0 w.0.standing.above = sym (ap (λ (n : Node). n.standing.above) w.2) in
-              let kind : w.0.kind ≡ Dir = ap (λ (n : Node). n.kind) w.2 ∙ d in
+              let found : find spot_cmp spot (put spot_cmp at x (held_rows old)) ≡ Some y = ap (find spot_cmp spot) (sym rows_after_put) ∙
+              f in
+              let above : m.standing.above ≡ cond (x == y) at.0 w.0.standing.above = sym (ap (λ (n : SlotNode). n.standing.above) w.2) in
+              let kind : w.0.kind ≡ Dir = ap (λ (n : SlotNode). n.kind) w.2 ∙ d in
               elim (same_or_other spot_cmp spots_total exact_spots spot at) [
-                | inl s ↦ (let here : x ≡ y = same_Some x y (sym (put_here spot_cmp spots_total exact_spots at x (held_rows old)) ∙ ap (λ q. find spot_cmp q (put spot_cmp at x (held_rows old))) (sym s.0) ∙ found) in
+                | inl s ↦ (let here : x ≡ y = same_Some x y (sym (put_here spot_cmp spots_total exact_spots at x (held_rows old)) ∙
+                    ap (λ q. find spot_cmp q (put spot_cmp at x (held_rows old))) (sym s.0) ∙ found) in
                     above ∙ ap (λ t. cond t at.0 w.0.standing.above) (eq-eqb x y here) ∙ ap (λ (q : tree.Spot). q.0) (sym s.0))
-                | inr s ↦ (let row : find spot_cmp spot (held_rows old) ≡ Some y = sym (put_elsewhere spot_cmp spots_total exact_spots spot at x (held_rows old) s.0) ∙ found in
+                | inr s ↦ (let row : find spot_cmp spot (held_rows old) ≡ Some y =
+                    sym (put_elsewhere spot_cmp spots_total exact_spots spot at x (held_rows old) s.0) ∙ found in
                     above ∙ elsewhere spot y w.0 kind w.1 row)
               ]);
           above_root = λ m e. (let w = stood 0 m e in
-              sym (ap (λ (n : Node). n.standing.above) w.2) ∙ ap (λ t. cond t at.0 w.0.standing.above) (ne_eqb x 0 may.not_root) ∙ kept.standing.above_root w.0 w.1);
+              sym (ap (λ (n : SlotNode). n.standing.above) w.2) ∙ ap (λ t. cond t at.0 w.0.standing.above) (ne_eqb x 0 may.not_root) ∙
+              kept.standing.above_root w.0 w.1);
         };
       }
         where
-          elsewhere : (spot : tree.Spot) (y : ℕ) (n : Node) → n.kind ≡ Dir → node_in old y ≡ Some n → find spot_cmp spot (held_rows old) ≡ Some y → cond (x == y) at.0 n.standing.above ≡ spot.0
+          elsewhere : (spot : tree.Spot) (y : ℕ) (n : SlotNode) → n.kind ≡ Dir → node_in old y ≡ Some n →
+              find spot_cmp spot (held_rows old) ≡ Some y → cond (x == y) at.0 n.standing.above ≡ spot.0
           elsewhere spot y n kind e row =
               elim (x == y) as (λ b. (x == y) ≡ b → cond b at.0 n.standing.above ≡ spot.0) [
                 | true ↦ λ t. (let here : x ≡ y = eqb-true x y t in
-                    absurd (named (held_rows old) spot y row (ap (names_of (held_rows old)) (sym here) ∙ may.dir_once n (ap (node_in old) here ∙ e) kind)))
+                    absurd (named (held_rows old) spot y row (ap (names_of (held_rows old)) (sym here) ∙
+                    may.dir_once n (ap (node_in old) here ∙ e) kind)))
                 | false ↦ λ _. kept.standing.dir_above spot y n row e kind
               ] refl
 
 -- a row taken away
-module _ (old between more new : Slots) (at : tree.Spot) (x : ℕ) (kept : IsKept old)
-    (updates : UpdatesBy spot_ghosts.eq (spot_ghosts.eq (key_at at)) old.rows between.rows None) (same : (y : ℕ) → node_in between y ≡ node_in old y)
+module _ (old between more new : Slots) (at : tree.Spot) (x : ℕ) (kept : AreConsistent old)
+    (updates : UpdatesBy spot_ghosts.eq (spot_ghosts.eq (key_at at)) old.rows between.rows None) (same : (y : ℕ) →
+    node_in between y ≡ node_in old y)
     (there : row_at old at ≡ Some x) where
   found_there : find spot_cmp at (held_rows old) ≡ Some x
   found_there = rows_found old at ∙ there
 
-  one_row_fewer : (y : ℕ) → rows_in (where_key spot_cmp (λ spot. not (is_eq (spot_cmp at spot))) (held_rows old)) y + one_at at.0 y ≡ rows_in (held_rows old) y
-  one_row_fewer y = counted-without spot_cmp spots_total exact_spots (λ row. row.0.0 == y) at x (held_rows old) (rows_sorted old) found_there
+  one_row_fewer : (y : ℕ) → rows_in (where_key spot_cmp (λ spot. not (is_eq (spot_cmp at spot))) (held_rows old)) y + one_at at.0 y
+      ≡ rows_in (held_rows old) y
+  one_row_fewer y = counted-without spot_cmp spots_total exact_spots (λ row. row.0.0 == y) at x (held_rows old) (rows_sorted old)
+      found_there
 
-  one_name_fewer : (y : ℕ) → names_of (where_key spot_cmp (λ spot. not (is_eq (spot_cmp at spot))) (held_rows old)) y + one_at x y ≡ names_of (held_rows old) y
+  one_name_fewer : (y : ℕ) → names_of (where_key spot_cmp (λ spot. not (is_eq (spot_cmp at spot))) (held_rows old)) y + one_at x y
+      ≡ names_of (held_rows old) y
   one_name_fewer y = counted-without spot_cmp spots_total exact_spots (λ row. row.1 == y) at x (held_rows old) (rows_sorted old) found_there
 
   pub some_rows : IfSome (node_in between at.0) (λ node. 0 < node.standing.rows)
@@ -148,9 +159,9 @@ module _ (old between more new : Slots) (at : tree.Spot) (x : ℕ) (kept : IsKep
   module _ (a : Restands between more (row_lost at.0)) where
     pub some_names : IfSome (node_in more x) (λ node. 0 < node.standing.names)
     some_names = each (node_in more x) (λ m e.
-        let w = mapped (λ n. restood (row_lost at.0 x n.standing) n) (node_in between x) m (sym (a.nodes x) ∙ e) in
+        let w = mapped (λ n. with_stance (row_lost at.0 x n.standing) n) (node_in between x) m (sym (a.nodes x) ∙ e) in
         let counted = kept.standing.names_counted x w.0 (sym (same x) ∙ w.1) in
-        let names : w.0.standing.names ≡ m.standing.names = ap (λ (n : Node). n.standing.names) w.2 in
+        let names : w.0.standing.names ≡ m.standing.names = ap (λ (n : SlotNode). n.standing.names) w.2 in
         omega (arith, counted, names, one_name_fewer x, one_here x))
 
     module _ (b : Restands more new (name_lost x)) where
@@ -158,9 +169,11 @@ module _ (old between more new : Slots) (at : tree.Spot) (x : ℕ) (kept : IsKep
       rows_after_take = rows_by new between (b.rows ∙ a.rows) ∙ rows_taken old between at updates
 
       pub nodes_after_take : held_nodes new ≡ held_nodes old
-      nodes_after_take = nodes_same old new (λ y. made_alike between more new (row_lost at.0) (name_lost x) a b y ∙ ap (λ (o : Option Node). option_map made_of o) (same y))
+      nodes_after_take = nodes_same old new (λ y. made_alike between more new (row_lost at.0) (name_lost x) a b y ∙
+          ap (λ (o : Option SlotNode). option_map made_of o) (same y))
 
-      left : (y : ℕ) (m : Node) → node_in new y ≡ Some m → (n : Node) × (node_in old y ≡ Some n) × (changed between more new (row_lost at.0) (name_lost x) a b y n ≡ m)
+      left : (y : ℕ) (m : SlotNode) → node_in new y ≡ Some m →
+          (n : SlotNode) × (node_in old y ≡ Some n) × (changed between more new (row_lost at.0) (name_lost x) a b y n ≡ m)
       left y m e = let w = was between more new (row_lost at.0) (name_lost x) a b y m e in (w.0, sym (same y) ∙ w.1, w.2)
 
       fewer : (n before after one_less : ℕ) → n ≡ before → after + one_less ≡ before → n - one_less ≡ after
@@ -168,28 +181,33 @@ module _ (old between more new : Slots) (at : tree.Spot) (x : ℕ) (kept : IsKep
 
       row_was : (spot : tree.Spot) (y : ℕ) → find spot_cmp spot (held_rows new) ≡ Some y → find spot_cmp spot (held_rows old) ≡ Some y
       row_was spot y f =
-          let found : find spot_cmp spot (where_key spot_cmp (λ other. not (is_eq (spot_cmp at other))) (held_rows old)) ≡ Some y = ap (find spot_cmp spot) (sym rows_after_take) ∙ f in
+          let found : find spot_cmp spot (where_key spot_cmp (λ other. not (is_eq (spot_cmp at other))) (held_rows old)) ≡ Some y =
+          ap (find spot_cmp spot) (sym rows_after_take) ∙ f in
           elim (same_or_other spot_cmp spots_total exact_spots spot at) [
-            | inl s ↦ absurd (Some≢None y (sym found ∙ ap (λ q. find spot_cmp q (where_key spot_cmp (λ other. not (is_eq (spot_cmp at other))) (held_rows old))) s.0 ∙ without_here spot_cmp spots_total exact_spots at (held_rows old)))
+            | inl s ↦ absurd (Some≢None y (sym found ∙
+                ap (λ q. find spot_cmp q (where_key spot_cmp (λ other. not (is_eq (spot_cmp at other))) (held_rows old))) s.0 ∙
+                without_here spot_cmp spots_total exact_spots at (held_rows old)))
             | inr s ↦ sym (without_elsewhere spot_cmp spots_total exact_spots spot at (held_rows old) s.0) ∙ found
           ]
 
-      pub kept_after_take : IsKept new
+      pub kept_after_take : AreConsistent new
       kept_after_take = record {
         filed = b.filed;
         standing = record {
           rows_counted = λ y m e. (let w = left y m e in
-              sym (ap (λ (n : Node). n.standing.rows) w.2)
-              ∙ fewer w.0.standing.rows (rows_in (held_rows old) y) _ (one_at at.0 y) (kept.standing.rows_counted y w.0 w.1) (one_row_fewer y)
+              sym (ap (λ (n : SlotNode). n.standing.rows) w.2)
+              ∙ fewer w.0.standing.rows (rows_in (held_rows old) y) _ (one_at at.0 y) (kept.standing.rows_counted y w.0 w.1)
+              (one_row_fewer y)
               ∙ sym (ap (λ rows. rows_in rows y) rows_after_take));
           names_counted = λ y m e. (let w = left y m e in
-              sym (ap (λ (n : Node). n.standing.names) w.2)
-              ∙ fewer w.0.standing.names (names_of (held_rows old) y) _ (one_at x y) (kept.standing.names_counted y w.0 w.1) (one_name_fewer y)
+              sym (ap (λ (n : SlotNode). n.standing.names) w.2)
+              ∙ fewer w.0.standing.names (names_of (held_rows old) y) _ (one_at x y) (kept.standing.names_counted y w.0 w.1)
+              (one_name_fewer y)
               ∙ sym (ap (λ rows. names_of rows y) rows_after_take));
           dir_above = λ spot y m f e d. (let w = left y m e in
-              sym (ap (λ (n : Node). n.standing.above) w.2)
-              ∙ kept.standing.dir_above spot y w.0 (row_was spot y f) w.1 (ap (λ (n : Node). n.kind) w.2 ∙ d));
+              sym (ap (λ (n : SlotNode). n.standing.above) w.2)
+              ∙ kept.standing.dir_above spot y w.0 (row_was spot y f) w.1 (ap (λ (n : SlotNode). n.kind) w.2 ∙ d));
           above_root = λ m e. (let w = left 0 m e in
-              sym (ap (λ (n : Node). n.standing.above) w.2) ∙ kept.standing.above_root w.0 w.1);
+              sym (ap (λ (n : SlotNode). n.standing.above) w.2) ∙ kept.standing.above_root w.0 w.1);
         };
       }

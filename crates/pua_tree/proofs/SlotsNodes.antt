@@ -1,19 +1,16 @@
 -- Nodes put into slots and taken out of them.
-use Rattle.std.proofs.Common.{◌≡◌, ◌≢◌, ℕ, ◌+◌, true, false, ◌==◌, cond, Option, Some, None, is_some, refl, sym, ap, subst, ◌∙◌, arith, eqb-true, eq-eqb, ne_eqb, true≢false}
-use Rattle.std.specs.Prelude.{IsSome, option_and_then}
-use Rattle.std.specs.FinMap.{find}
-use Rattle.std.proofs.lemmas.Bool.{eqb-false}
-use Rattle.indexmap.specs.IndexMap.{index_map_len}
+use Rattle.pua_tree.proofs.Common.{◌≡◌, ◌≢◌, ℕ, ◌+◌, true, false, ◌==◌, cond, Option, Some, None, is_some, refl, sym, ap, subst, ◌∙◌, arith}
+use Rattle.pua_tree.proofs.Common.{eqb-true, eq-eqb, true≢false, IsSome, option_and_then, find, eqb-false, index_map_len, spot_cmp, slot_of}
+use Rattle.pua_tree.proofs.Common.{node_in, held_rows, rows_in, names_of, AreConsistent, Slots, SlotNode}
+use Rattle.std.proofs.Common.{ne_eqb}
 use Rattle.slab.specs.Slab.{get as slot_get, slab_len, Updates}
-use Rattle.pua_tree.specs.Tree.{spot_cmp}
-use Rattle.pua_tree.specs.Slots.{slot_of, node_in, held_rows, rows_in, names_of, IsFiled, IsKept}
-use Rattle.pua_tree.specs.declared.slots.Slots.{Slots}
-use Rattle.pua_tree.specs.declared.slots.Node.{Node}
+use Rattle.pua_tree.specs.Slots.{IsFiled}
 use Rattle.pua_tree.proofs.Base.{same_Some, None≢Some}
 use Rattle.pua_tree.proofs.SlotsKeep.{named}
 
 -- what is found alike is kept alike
-pub kept_alike : (old new : Slots) → held_rows new ≡ held_rows old → ((x : ℕ) → node_in new x ≡ node_in old x) → IsFiled new → IsKept old → IsKept new
+pub kept_alike : (old new : Slots) → held_rows new ≡ held_rows old → ((x : ℕ) → node_in new x ≡ node_in old x) → IsFiled new →
+    AreConsistent old → AreConsistent new
 kept_alike old new rows found filed kept = record {
   filed = filed;
   standing = record {
@@ -24,7 +21,8 @@ kept_alike old new rows found filed kept = record {
   };
 }
 
-pub filed_alike : (old new : Slots) → ((x : ℕ) → slot_of new x ≡ slot_of old x) → ((slot : ℕ) → slot_get new.nodes slot ≡ slot_get old.nodes slot)
+pub filed_alike : (old new : Slots) → ((x : ℕ) → slot_of new x ≡ slot_of old x) →
+    ((slot : ℕ) → slot_get new.nodes slot ≡ slot_get old.nodes slot)
     → slab_len new.nodes ≡ slab_len old.nodes → index_map_len new.numbers ≡ index_map_len old.numbers → IsFiled old → IsFiled new
 filed_alike old new slots got nodes numbers f = record {
   filled = λ x slot e. ap is_some (got slot) ∙ f.filled x slot (sym (slots x) ∙ e);
@@ -32,7 +30,8 @@ filed_alike old new slots got nodes numbers f = record {
   no_other = nodes ∙ f.no_other ∙ sym numbers;
 }
 
-pub found_alike : (old new : Slots) → ((x : ℕ) → slot_of new x ≡ slot_of old x) → ((slot : ℕ) → slot_get new.nodes slot ≡ slot_get old.nodes slot) → (x : ℕ) → node_in new x ≡ node_in old x
+pub found_alike : (old new : Slots) → ((x : ℕ) → slot_of new x ≡ slot_of old x) →
+    ((slot : ℕ) → slot_get new.nodes slot ≡ slot_get old.nodes slot) → (x : ℕ) → node_in new x ≡ node_in old x
 found_alike old new slots got x =
     ap (λ (o : Option ℕ). option_and_then (slot_get new.nodes) o) (slots x) ∙ by (slot_of old x)
   where
@@ -41,9 +40,10 @@ found_alike old new slots got x =
     by (Some slot) = got slot
 
 -- a node put into a slot that had none, under a number that had none
-module _ (old new : Slots) (x slot : ℕ) (node : Node) (f : IsFiled old) (free : slot_of old x ≡ None)
+module _ (old new : Slots) (x slot : ℕ) (node : SlotNode) (f : IsFiled old) (free : slot_of old x ≡ None)
     (numbered : (q : ℕ) → slot_of new q ≡ cond (x == q) (Some slot) (slot_of old q)) (vacant : slot_get old.nodes slot ≡ None)
-    (put : Updates old.nodes new.nodes slot (Some node)) (more_nodes : slab_len new.nodes ≡ slab_len old.nodes + 1) (more_numbers : index_map_len new.numbers ≡ index_map_len old.numbers + 1) where
+    (put : Updates old.nodes new.nodes slot (Some node)) (more_nodes : slab_len new.nodes ≡ slab_len old.nodes + 1)
+    (more_numbers : index_map_len new.numbers ≡ index_map_len old.numbers + 1) where
   not_vacant : (q s : ℕ) → slot_of old q ≡ Some s → s ≢ slot
   not_vacant q s e here = true≢false (sym (f.filled q s e) ∙ ap is_some (ap (slot_get old.nodes) here ∙ vacant))
 
@@ -57,13 +57,16 @@ module _ (old new : Slots) (x slot : ℕ) (node : Node) (f : IsFiled old) (free 
   pub found_added : (q : ℕ) → node_in new q ≡ cond (q == x) (Some node) (node_in old q)
   found_added q =
       elim (x == q) as (λ b. (x == q) ≡ b → node_in new q ≡ cond (q == x) (Some node) (node_in old q)) [
-        | true ↦ λ t. ap (λ (o : Option ℕ). option_and_then (slot_get new.nodes) o) (numbered q ∙ ap (λ b. cond b (Some slot) (slot_of old q)) t) ∙ put.changed
+        | true ↦ λ t. ap (λ (o : Option ℕ). option_and_then (slot_get new.nodes) o) (numbered q ∙
+            ap (λ b. cond b (Some slot) (slot_of old q)) t) ∙ put.changed
             ∙ sym (ap (λ b. cond b (Some node) (node_in old q)) (eq-eqb q x (sym (eqb-true x q t))))
-        | false ↦ λ t. ap (λ (o : Option ℕ). option_and_then (slot_get new.nodes) o) (numbered q ∙ ap (λ b. cond b (Some slot) (slot_of old q)) t) ∙ other (slot_of old q) refl
+        | false ↦ λ t. ap (λ (o : Option ℕ). option_and_then (slot_get new.nodes) o) (numbered q ∙
+            ap (λ b. cond b (Some slot) (slot_of old q)) t) ∙ other (slot_of old q) refl
             ∙ sym (ap (λ b. cond b (Some node) (node_in old q)) (ne_eqb q x (λ e. eqb-false x q t (sym e))))
       ] refl
     where
-      other : (o : Option ℕ) → slot_of old q ≡ o → option_and_then (slot_get new.nodes) o ≡ option_and_then (slot_get old.nodes) (slot_of old q)
+      other : (o : Option ℕ) → slot_of old q ≡ o →
+          option_and_then (slot_get new.nodes) o ≡ option_and_then (slot_get old.nodes) (slot_of old q)
       other None e = ap (λ (p : Option ℕ). option_and_then (slot_get old.nodes) p) (sym e)
       other (Some s) e = put.others s (not_vacant q s e) ∙ ap (λ (p : Option ℕ). option_and_then (slot_get old.nodes) p) (sym e)
 
@@ -86,30 +89,38 @@ module _ (old new : Slots) (x slot : ℕ) (node : Node) (f : IsFiled old) (free 
     no_other = more_nodes ∙ ap (λ n. n + 1) f.no_other ∙ sym more_numbers;
   }
 
-  pub kept_added : IsKept old → held_rows new ≡ held_rows old → rows_in (held_rows old) x ≡ 0 → names_of (held_rows old) x ≡ 0
-      → node.standing.rows ≡ 0 → node.standing.names ≡ 0 → node.standing.above ≡ 0 → IsKept new
+  pub kept_added : AreConsistent old → held_rows new ≡ held_rows old → rows_in (held_rows old) x ≡ 0 → names_of (held_rows old) x ≡ 0
+      → node.standing.rows ≡ 0 → node.standing.names ≡ 0 → node.standing.above ≡ 0 → AreConsistent new
   kept_added kept rows no_rows no_names zero_rows zero_names zero_above = record {
     filed = filed_added;
     standing = record {
-      rows_counted = λ q n e. by q n e (λ m. m.standing.rows ≡ rows_in (held_rows new) q) (λ t. zero_rows ∙ sym (ap (rows_in (held_rows new)) t ∙ ap (λ r. rows_in r x) rows ∙ no_rows)) (λ w. kept.standing.rows_counted q n w ∙ ap (λ r. rows_in r q) (sym rows));
-      names_counted = λ q n e. by q n e (λ m. m.standing.names ≡ names_of (held_rows new) q) (λ t. zero_names ∙ sym (ap (names_of (held_rows new)) t ∙ ap (λ r. names_of r x) rows ∙ no_names)) (λ w. kept.standing.names_counted q n w ∙ ap (λ r. names_of r q) (sym rows));
+      rows_counted = λ q n e. by q n e (λ m. m.standing.rows ≡ rows_in (held_rows new) q) (λ t. zero_rows ∙
+          sym (ap (rows_in (held_rows new)) t ∙ ap (λ r. rows_in r x) rows ∙ no_rows)) (λ w. kept.standing.rows_counted q n w ∙
+          ap (λ r. rows_in r q) (sym rows));
+      names_counted = λ q n e. by q n e (λ m. m.standing.names ≡ names_of (held_rows new) q) (λ t. zero_names ∙
+          sym (ap (names_of (held_rows new)) t ∙ ap (λ r. names_of r x) rows ∙ no_names)) (λ w. kept.standing.names_counted q n w ∙
+          ap (λ r. names_of r q) (sym rows));
       dir_above = λ at q n g e d. (let row : find spot_cmp at (held_rows old) ≡ Some q = ap (find spot_cmp at) (sym rows) ∙ g in
-          by q n e (λ m. m.standing.above ≡ at.0) (λ t. absurd (named (held_rows old) at q row (ap (names_of (held_rows old)) t ∙ no_names))) (λ w. kept.standing.dir_above at q n row w d));
+          by q n e (λ m. m.standing.above ≡ at.0) (λ t. absurd (named (held_rows old) at q row (ap (names_of (held_rows old)) t ∙
+          no_names))) (λ w. kept.standing.dir_above at q n row w d));
       above_root = λ n e. by 0 n e (λ m. m.standing.above ≡ 0) (λ t. zero_above) (λ w. kept.standing.above_root n w);
     };
   }
     where
-      by : (q : ℕ) (n : Node) → node_in new q ≡ Some n → (P : Node → Type 0) → (q ≡ x → P node) → (node_in old q ≡ Some n → P n) → P n
+      by : (q : ℕ) (n : SlotNode) → node_in new q ≡ Some n → (P : SlotNode → Type 0) → (q ≡ x → P node) → (node_in old q ≡ Some n → P n) →
+          P n
       by q n e P here there =
           elim (q == x) as (λ b. (q == x) ≡ b → P n) [
-            | true ↦ λ t. subst P (same_Some node n (sym (found_added q ∙ ap (λ b. cond b (Some node) (node_in old q)) t) ∙ e)) (here (eqb-true q x t))
+            | true ↦ λ t. subst P (same_Some node n (sym (found_added q ∙ ap (λ b. cond b (Some node) (node_in old q)) t) ∙ e))
+                (here (eqb-true q x t))
             | false ↦ λ t. there (sym (found_added q ∙ ap (λ b. cond b (Some node) (node_in old q)) t) ∙ e)
           ] refl
 
 -- a node taken out of its slot
 module _ (old new : Slots) (x slot : ℕ) (f : IsFiled old) (had : slot_of old x ≡ Some slot)
     (numbered : (q : ℕ) → slot_of new q ≡ cond (x == q) None (slot_of old q))
-    (taken : Updates old.nodes new.nodes slot None) (fewer_nodes : slab_len new.nodes + 1 ≡ slab_len old.nodes) (fewer_numbers : index_map_len new.numbers + 1 ≡ index_map_len old.numbers) where
+    (taken : Updates old.nodes new.nodes slot None) (fewer_nodes : slab_len new.nodes + 1 ≡ slab_len old.nodes)
+    (fewer_numbers : index_map_len new.numbers + 1 ≡ index_map_len old.numbers) where
   not_taken : (q s : ℕ) → x ≢ q → slot_of old q ≡ Some s → s ≢ slot
   not_taken q s n e here = n (f.apart x q slot had (e ∙ ap Some here))
 
@@ -125,11 +136,13 @@ module _ (old new : Slots) (x slot : ℕ) (f : IsFiled old) (had : slot_of old x
       elim (x == q) as (λ b. (x == q) ≡ b → node_in new q ≡ cond (q == x) None (node_in old q)) [
         | true ↦ λ t. ap (λ (o : Option ℕ). option_and_then (slot_get new.nodes) o) (numbered q ∙ ap (λ b. cond b None (slot_of old q)) t)
             ∙ sym (ap (λ b. cond b None (node_in old q)) (eq-eqb q x (sym (eqb-true x q t))))
-        | false ↦ λ t. ap (λ (o : Option ℕ). option_and_then (slot_get new.nodes) o) (numbered q ∙ ap (λ b. cond b None (slot_of old q)) t) ∙ other (eqb-false x q t) (slot_of old q) refl
+        | false ↦ λ t. ap (λ (o : Option ℕ). option_and_then (slot_get new.nodes) o) (numbered q ∙ ap (λ b. cond b None (slot_of old q)) t)
+            ∙ other (eqb-false x q t) (slot_of old q) refl
             ∙ sym (ap (λ b. cond b None (node_in old q)) (ne_eqb q x (λ e. eqb-false x q t (sym e))))
       ] refl
     where
-      other : x ≢ q → (o : Option ℕ) → slot_of old q ≡ o → option_and_then (slot_get new.nodes) o ≡ option_and_then (slot_get old.nodes) (slot_of old q)
+      other : x ≢ q → (o : Option ℕ) → slot_of old q ≡ o →
+          option_and_then (slot_get new.nodes) o ≡ option_and_then (slot_get old.nodes) (slot_of old q)
       other n None e = ap (λ (p : Option ℕ). option_and_then (slot_get old.nodes) p) (sym e)
       other n (Some s) e = taken.others s (not_taken q s n e) ∙ ap (λ (p : Option ℕ). option_and_then (slot_get old.nodes) p) (sym e)
 
@@ -141,7 +154,8 @@ module _ (old new : Slots) (x slot : ℕ) (f : IsFiled old) (had : slot_of old x
   }
 
 -- what is left is kept
-pub kept_dropped : (old new : Slots) (x : ℕ) → IsKept old → held_rows new ≡ held_rows old → ((q : ℕ) → node_in new q ≡ cond (q == x) None (node_in old q)) → IsFiled new → IsKept new
+pub kept_dropped : (old new : Slots) (x : ℕ) → AreConsistent old → held_rows new ≡ held_rows old →
+    ((q : ℕ) → node_in new q ≡ cond (q == x) None (node_in old q)) → IsFiled new → AreConsistent new
 kept_dropped old new x kept rows found filed = record {
   filed = filed;
   standing = record {
@@ -152,7 +166,7 @@ kept_dropped old new x kept rows found filed = record {
   };
 }
   where
-    was : (q : ℕ) (n : Node) → node_in new q ≡ Some n → node_in old q ≡ Some n
+    was : (q : ℕ) (n : SlotNode) → node_in new q ≡ Some n → node_in old q ≡ Some n
     was q n e = elim (q == x) as (λ b. (q == x) ≡ b → node_in old q ≡ Some n) [
       | true ↦ λ t. absurd (None≢Some n (sym (found q ∙ ap (λ b. cond b None (node_in old q)) t) ∙ e))
       | false ↦ λ t. sym (found q ∙ ap (λ b. cond b None (node_in old q)) t) ∙ e

@@ -1,14 +1,13 @@
 -- The rows of a map, sorted by their spots, are the rows that are held.
-use Rattle.std.proofs.Common.{◌≡◌, ℕ, ◌+◌, Bool, true, false, cond, ◌&&◌, T, List, [], ◌∷◌, map, length, Some, None, refl, sym, ap, subst, ◌∙◌, arith, IsPermutation, true≢false}
-use Rattle.std.specs.Map.{lookup, keys_of}
+use Rattle.pua_tree.proofs.Common.{◌≡◌, ℕ, ◌+◌, Bool, true, false, cond, ◌&&◌, T, List, [], ◌∷◌, map, length, Some, None, refl, sym, ap}
+use Rattle.pua_tree.proofs.Common.{subst, ◌∙◌, arith, true≢false, lookup, keys_of, Ordering, Less, Equal, Greater, nat_cmp, is_eq, is_lt}
+use Rattle.pua_tree.proofs.Common.{eq_by_cmp, ordering_then, IsTotalOrder, Equal-is, find, is_sorted, below_all, same_entries, spot_cmp}
+use Rattle.pua_tree.proofs.Common.{name_cmp, lent_entry, held_rows, Slots}
+use Rattle.std.proofs.Common.{IsPermutation}
 use Rattle.std.specs.List.{IsDistinct, AllByRecursion}
 use Rattle.std.specs.List.Sorted.{IsSorted, IsStrictlySortedBy}
-use Rattle.std.specs.declared.cmp.Ordering.{Ordering}
-use Rattle.std.specs.declared.cmp.Ordering.TheVariants.{Less, Equal, Greater}
-use Rattle.std.specs.Ordering.{nat_cmp, is_eq, is_lt, eq_by_cmp, ordering_then, ordering_reverse}
-use Rattle.std.specs.Cmp.{IsTotalOrder, eq_by_cmp_equiv, Equal-is}
-use Rattle.std.specs.FinMap.{find, is_sorted}
-use Rattle.std.specs.FinMap.Entries.{below_all, same_entries}
+use Rattle.std.specs.Ordering.{ordering_reverse}
+use Rattle.std.specs.Cmp.{eq_by_cmp_equiv}
 use Rattle.std.proofs.lemmas.List.Sorted.{Contains-permutation, IsPermutation-map, IsPermutation-sym}
 use Rattle.std.proofs.lemmas.Map.Keys.{IsDistinct-IsPermutation, apart_from_distinct, sorted_from_all_adjacent, sorted_head, sorted_tail}
 use Rattle.std.proofs.lemmas.Map.Views.{Contains-from_lookup, lookup-from_Contains}
@@ -17,11 +16,7 @@ use Rattle.std.proofs.lemmas.List.{length-map}
 use lib.ListN.{get_or}
 use Rattle.indexmap.specs.IndexMap.{IsUnique}
 use Rattle.pua_tree.specs.Tree as tree
-use Rattle.pua_tree.specs.Tree.{spot_cmp, name_cmp}
-use Rattle.pua_tree.specs.LentRows.{lent_entry}
-use Rattle.pua_tree.specs.Slots.{held_rows}
 use Rattle.pua_tree.specs.declared.spot.Spot.{Spot}
-use Rattle.pua_tree.specs.declared.slots.Slots.{Slots}
 use Rattle.pua_tree.specs.declared.tree.LentRow.{LentRow}
 use Rattle.pua_tree.specs.contracts.spot.SpotPartialEq.TheImpl.{ghosts as spot_ghosts}
 use Rattle.pua_tree.specs.contracts.tree.LentRowOrd.TheImpl.{ghosts as lent_ghosts}
@@ -35,7 +30,8 @@ module _ {K X : Type 0} (R : K → K → Ordering) (o : IsTotalOrder R) (exact :
   find_is q (e ∷ es) = ap (λ v. cond (eq_by_cmp R q e.0) (Some e.1) v) (find_is q es)
 
   -- what is found does not hang on the order of entries with distinct keys
-  found_alike : (es fs : List (K × X)) → IsPermutation es fs → IsDistinct (eq_by_cmp R) (keys_of es) → IsDistinct (eq_by_cmp R) (keys_of fs) → (q : K) → lookup (eq_by_cmp R q) es ≡ lookup (eq_by_cmp R q) fs
+  found_alike : (es fs : List (K × X)) → IsPermutation es fs → IsDistinct (eq_by_cmp R) (keys_of es) →
+      IsDistinct (eq_by_cmp R) (keys_of fs) → (q : K) → lookup (eq_by_cmp R q) es ≡ lookup (eq_by_cmp R q) fs
   found_alike es fs moved d e q =
       elim (lookup (eq_by_cmp R q) es) as (λ v. lookup (eq_by_cmp R q) es ≡ v → v ≡ lookup (eq_by_cmp R q) fs) [
         | Some v ↦ λ is. sym (over es fs moved e v is)
@@ -45,8 +41,13 @@ module _ {K X : Type 0} (R : K → K → Ordering) (o : IsTotalOrder R) (exact :
         ] refl
       ] refl
     where
-      over : (us vs : List (K × X)) → IsPermutation us vs → IsDistinct (eq_by_cmp R) (keys_of vs) → (v : X) → lookup (eq_by_cmp R q) us ≡ Some v → lookup (eq_by_cmp R q) vs ≡ Some v
-      over us vs p h v is = lookup-from_Contains (eq_by_cmp_equiv o) q v vs h (Contains-permutation us vs (q, v) p (Contains-from_lookup (λ x y t. exact x y ((Equal-is _).0 t)) q v us is))
+      over : (us vs : List (K × X)) → IsPermutation us vs → IsDistinct (eq_by_cmp R) (keys_of vs) → (v : X) →
+          lookup (eq_by_cmp R q) us ≡ Some v → lookup (eq_by_cmp R q) vs ≡ Some v
+      over us vs p h v is =
+          lookup-from_Contains (eq_by_cmp_equiv o) q v vs h (Contains-permutation us vs (
+            q,
+            v,
+          ) p (Contains-from_lookup (λ x y t. exact x y ((Equal-is _).0 t)) q v us is))
 
   below : (k : K) (es : List (K × X)) → AllByRecursion (λ y. R k y ≡ Less) (keys_of es) → T (below_all R k es)
   below k [] h = tt
@@ -67,7 +68,8 @@ entry_of e = ((e.0.dir, e.0.name), e.1)
 abbrev same_spot : tree.Spot → tree.Spot → Bool
 same_spot = eq_by_cmp spot_cmp
 
-all_differ : (k : Spot) (es : List (Spot × ℕ)) → AllByRecursion (λ y. spot_ghosts.eq k y ≡ false) (keys_of es) → AllByRecursion (λ y. same_spot (k.dir, k.name) y ≡ false) (keys_of (map entry_of es))
+all_differ : (k : Spot) (es : List (Spot × ℕ)) → AllByRecursion (λ y. spot_ghosts.eq k y ≡ false) (keys_of es) →
+    AllByRecursion (λ y. same_spot (k.dir, k.name) y ≡ false) (keys_of (map entry_of es))
 all_differ k [] h = tt
 all_differ k (e ∷ es) h = (same_tie (k.dir, k.name) (e.0.dir, e.0.name) ∙ h.0, all_differ k es h.1)
 
@@ -81,7 +83,8 @@ looked_up : (q : tree.Spot) (es : List (Spot × ℕ)) → lookup (same_spot q) (
 looked_up q [] = refl
 looked_up q (e ∷ es) = λ i. cond (same_tie q (e.0.dir, e.0.name) i) (Some e.1) (looked_up q es i)
 
-after : (dirs names nodes : Ordering) → is_lt (ordering_then dirs (ordering_then names nodes)) ≡ false → is_eq (ordering_then dirs names) ≡ false → ordering_then dirs names ≡ Greater
+after : (dirs names nodes : Ordering) → is_lt (ordering_then dirs (ordering_then names nodes)) ≡ false →
+    is_eq (ordering_then dirs names) ≡ false → ordering_then dirs names ≡ Greater
 after Less names nodes h d = absurd (true≢false h)
 after Equal Less nodes h d = absurd (true≢false h)
 after Equal Equal nodes h d = absurd (true≢false d)
@@ -89,29 +92,38 @@ after Equal Greater nodes h d = refl
 after Greater names nodes h d = refl
 
 -- a row that is not before another, at another spot, stands behind it
-behind : (r u : LentRow) → is_lt (lent_ghosts.cmp u r) ≡ false → same_spot (lent_entry r).0 (lent_entry u).0 ≡ false → spot_cmp (lent_entry r).0 (lent_entry u).0 ≡ Less
+behind : (r u : LentRow) → is_lt (lent_ghosts.cmp u r) ≡ false → same_spot (lent_entry r).0 (lent_entry u).0 ≡ false →
+    spot_cmp (lent_entry r).0 (lent_entry u).0 ≡ Less
 behind r u h d =
     spots_total.antisymm (lent_entry r).0 (lent_entry u).0
-    ∙ ap ordering_reverse (after (nat_cmp u.dir r.dir) (name_cmp u.name.now r.name.now) (nat_cmp u.node r.node) h (turned_key (lent_entry u).0 (lent_entry r).0 ∙ d))
+    ∙ ap ordering_reverse (after (nat_cmp u.dir r.dir) (name_cmp u.name.now r.name.now) (nat_cmp u.node r.node) h
+    (turned_key (lent_entry u).0 (lent_entry r).0 ∙ d))
 
-rise : (rows : List LentRow) → IsSorted lent_ghosts.cmp rows → IsDistinct same_spot (keys_of (map lent_entry rows)) → T (is_sorted spot_cmp (map lent_entry rows))
+rise : (rows : List LentRow) → IsSorted lent_ghosts.cmp rows → IsDistinct same_spot (keys_of (map lent_entry rows)) →
+    T (is_sorted spot_cmp (map lent_entry rows))
 rise [] order d = tt
 rise (r ∷ rs) order d =
     let keys : List tree.Spot = keys_of (map lent_entry (r ∷ rs)) in
     let first = (lent_entry r).0 in
     let as_many : length keys ≡ length (r ∷ rs) = length-map (map lent_entry (r ∷ rs)) (λ e. e.0) ∙ length-map (r ∷ rs) lent_entry in
-    let read : (k : ℕ) → get_or keys k first ≡ (lent_entry (get_or (r ∷ rs) k r)).0 = λ k. get_or-map (λ (e : tree.Spot × ℕ). e.0) (map lent_entry (r ∷ rs)) k (lent_entry r) ∙ ap (λ (e : tree.Spot × ℕ). e.0) (get_or-map lent_entry (r ∷ rs) k r) in
+    let read : (k : ℕ) → get_or keys k first ≡ (lent_entry (get_or (r ∷ rs) k r)).0 =
+    λ k. get_or-map (λ (e : tree.Spot × ℕ). e.0) (map lent_entry (r ∷ rs)) k (lent_entry r) ∙
+    ap (λ (e : tree.Spot × ℕ). e.0) (get_or-map lent_entry (r ∷ rs) k r) in
     rising spot_cmp spots_total exact_spots (map lent_entry (r ∷ rs)) (sorted_from_all_adjacent spots_total keys first
-    (λ k small. (λ i. spot_cmp (read k i) (read (k + 1) i)) ∙ behind (get_or (r ∷ rs) k r) (get_or (r ∷ rs) (k + 1) r) (order k r (omega arith) (omega (arith, small, as_many)))
+    (λ k small. (λ i. spot_cmp (read k i) (read (k + 1) i)) ∙
+    behind (get_or (r ∷ rs) k r) (get_or (r ∷ rs) (k + 1) r) (order k r (omega arith) (omega (arith, small, as_many)))
     (sym (λ i. same_spot (read k i) (read (k + 1) i)) ∙ apart_from_distinct same_spot keys k (k + 1) first d (omega arith) small)))
 
 -- the rows that are lent, sorted
-pub rows_lent : (s : Slots) (kept rows : List LentRow) → IsUnique spot_ghosts.eq s.rows → map lent_entry kept ≡ map entry_of s.rows.entries → IsPermutation kept rows → IsSorted lent_ghosts.cmp rows
+pub rows_lent : (s : Slots) (kept rows : List LentRow) → IsUnique spot_ghosts.eq s.rows →
+    map lent_entry kept ≡ map entry_of s.rows.entries → IsPermutation kept rows → IsSorted lent_ghosts.cmp rows
     → map lent_entry rows ≡ held_rows s
 rows_lent s kept rows unique collected moved order =
-    let moved_rows : IsPermutation (map entry_of s.rows.entries) (map lent_entry rows) = rw collected at (IsPermutation-map lent_entry kept rows moved) in
+    let moved_rows : IsPermutation (map entry_of s.rows.entries) (map lent_entry rows) =
+    rw collected at (IsPermutation-map lent_entry kept rows moved) in
     let differ : IsDistinct same_spot (keys_of (map entry_of s.rows.entries)) = spots_differ s.rows.entries unique in
-    let still : IsDistinct same_spot (keys_of (map lent_entry rows)) = IsDistinct-IsPermutation same_spot turned_key _ _ (IsPermutation-map (λ (e : tree.Spot × ℕ). e.0) _ _ moved_rows) differ in
+    let still : IsDistinct same_spot (keys_of (map lent_entry rows)) =
+    IsDistinct-IsPermutation same_spot turned_key _ _ (IsPermutation-map (λ (e : tree.Spot × ℕ). e.0) _ _ moved_rows) differ in
     same_entries spot_cmp spots_total exact_spots (map lent_entry rows) (held_rows s) (rise rows order still) (rows_sorted s)
     (λ q. find_is spot_cmp spots_total exact_spots q (map lent_entry rows)
     ∙ sym (found_alike spot_cmp spots_total exact_spots (map entry_of s.rows.entries) (map lent_entry rows) moved_rows differ still q)

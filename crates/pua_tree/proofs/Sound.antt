@@ -1,17 +1,17 @@
 -- A well-formed tree by its look-ups, and climbing by the number of steps to the root.
-use Rattle.std.proofs.Common.{◌≡◌, ◌≢◌, ℕ, zero, suc, ◌+◌, ◌≤◌, ◌<◌, true, false, ◌||◌, cond, T, List, length, Option, Some, None, option_map, unwrap_or, is_some, ◌==◌, refl, sym, ap, subst, ◌∙◌, arith, inl, inr, eqb-true, eq-eqb, leb-true, le-leb, ltb-true, lt-ltb}
-use Rattle.std.specs.Prelude.{option_and_then}
-use Rattle.std.specs.Bool.{passes}
-use Rattle.std.specs.List.{list_any}
-use Rattle.std.specs.Ordering.{nat_cmp}
-use Rattle.std.specs.Cmp.{nat_cmp_total}
-use Rattle.std.specs.FinMap.{find as find_key, is_sorted, nat_cmp-IsAntisymmetric}
-use Rattle.std.specs.FinMap.Entries.{length_without, is_sorted-where_key}
-use Rattle.std.proofs.lemmas.Bool.{and_parts, and_from, or_cases, or_from, or_left, or_right, false≢true, not-true}
-use Rattle.pua_tree.specs.Names.{is_name}
-use Rattle.pua_tree.specs.Tree.{Node, Spot, Tree, WellFormed, spot_cmp, node_at, kind_at, look, found_at, is_dir, is_dir_kind, is_living, above, climb_within, rows_of, row_fits, node_fits, target_fits, rows_fit_kind}
-use Rattle.pua_tree.specs.declared.node.Kind.{Kind}
-use Rattle.pua_tree.specs.declared.node.Kind.TheVariants.{Dir, File, Prog, Link}
+use Rattle.pua_tree.proofs.Common.{◌≡◌, ◌≢◌, ℕ, zero, suc, ◌+◌, ◌≤◌, ◌<◌, true, false, ◌||◌, cond, T, List, length, Option, Some, None}
+use Rattle.pua_tree.proofs.Common.{option_map, unwrap_or, is_some, ◌==◌, refl, sym, ap, subst, ◌∙◌, arith, inl, inr, eqb-true, eq-eqb}
+use Rattle.pua_tree.proofs.Common.{option_and_then, passes, list_any, nat_cmp, nat_cmp_total, is_sorted, nat_cmp-IsAntisymmetric}
+use Rattle.pua_tree.proofs.Common.{is_sorted-where_key, and_parts, and_from, or_cases, false≢true, not-true, is_name, Node, Spot, Tree}
+use Rattle.pua_tree.proofs.Common.{WellFormed, spot_cmp, kind_at, look, is_dir, is_dir_kind, is_living, above, climb_within, row_fits}
+use Rattle.pua_tree.proofs.Common.{target_fits, Kind, Dir, File, Prog, Link}
+use Rattle.std.proofs.Common.{leb-true}
+use Rattle.std.proofs.Common.{le-leb, ltb-true, lt-ltb}
+use Rattle.std.specs.FinMap.{find as find_key}
+use Rattle.std.specs.FinMap.Entries.{length_without}
+use Rattle.std.proofs.lemmas.Bool.{or_from, or_left, or_right}
+use Rattle.pua_tree.specs.Tree.{node_at, found_at}
+use Rattle.pua_tree.specs.Tree.{rows_of, node_fits, rows_fit_kind}
 use Rattle.pua_tree.proofs.Base.{holds}
 use Rattle.pua_tree.proofs.Content.{spots_total, exact_spots}
 use Rattle.pua_tree.proofs.Tallies.{tally, tally_counts, without, without_elsewhere, all_found, all_from_found, found_from_tally, only_key}
@@ -41,7 +41,8 @@ pub record Sound (t : Tree) : Type 0 where
 pub above_is : (t : Tree) (d : ℕ) (s : Spot) → d ≢ 0 → rows_with t d ≡ 1 → find_key spot_cmp s t.rows ≡ Some d → above t d ≡ s.0
 above_is t zero s n l f = absurd (n refl)
 above_is t (suc d) s n l f =
-    ap (λ (o : Option Spot). unwrap_or (option_map (λ spot. spot.0) o) 0) (only_key spot_cmp spots_total exact_spots (λ y. y == suc d) s (suc d) t.rows l f (eq-eqb (suc d) (suc d) refl))
+    ap (λ (o : Option Spot). unwrap_or (option_map (λ spot. spot.0) o) 0) (only_key spot_cmp spots_total exact_spots (λ y. y == suc d) s
+    (suc d) t.rows l f (eq-eqb (suc d) (suc d) refl))
 
 -- the number of steps is one
 pub same_steps : (t : Tree) (j k d : ℕ) → Reaches t j d → Reaches t k d → j ≡ k
@@ -78,7 +79,8 @@ climb_root t zero d x h e = or_from (d == x) false h refl
 climb_root t (suc n) zero x h e = or_from (0 == x) false h refl
 climb_root t (suc n) (suc d) x h e = absurd (omega arith)
 
-pub climb_more : (t : Tree) (n d x : ℕ) → (d == x) ≡ false → d ≢ 0 → list_any (λ e. e == x) (climb_within (suc n) t d) ≡ list_any (λ e. e == x) (climb_within n t (above t d))
+pub climb_more : (t : Tree) (n d x : ℕ) → (d == x) ≡ false → d ≢ 0 →
+    list_any (λ e. e == x) (climb_within (suc n) t d) ≡ list_any (λ e. e == x) (climb_within n t (above t d))
 climb_more t n zero x h z = absurd (z refl)
 climb_more t n (suc d) x h z = ap (λ b. b || list_any (λ e. e == x) (climb_within n t (above t (suc d)))) h
 
@@ -89,7 +91,8 @@ climb_last t d x = elim (d == x) as (λ b. (b || false) ≡ b) [ true ↦ refl |
 abbrev pub InRow : Tree → Spot → ℕ → Type 0
 InRow t s x = find_key spot_cmp s t.rows ≡ Some x
 
-pub row_parts : (t : Tree) (s : Spot) (x : ℕ) → row_fits t (s, x) ≡ true → (is_dir t s.0 ≡ true) × (is_name s.1 ≡ true) × (is_living t x ≡ true) × (x ≢ 0)
+pub row_parts : (t : Tree) (s : Spot) (x : ℕ) → row_fits t (s, x) ≡ true →
+    (is_dir t s.0 ≡ true) × (is_name s.1 ≡ true) × (is_living t x ≡ true) × (x ≢ 0)
 row_parts t s x h =
     let a = and_parts _ _ h in
     let b = and_parts _ _ a.1 in
@@ -100,7 +103,8 @@ row_parts t s x h =
 abbrev others : ℕ → List (ℕ × Node) → List (ℕ × Node)
 others d es = without nat_cmp nat_cmp_total nat_cmp-IsAntisymmetric d es
 
-one_fewer : (d : ℕ) (es : List (ℕ × Node)) → T (is_sorted nat_cmp es) → is_some (find_key nat_cmp d es) ≡ true → 1 + length (others d es) ≡ length es
+one_fewer : (d : ℕ) (es : List (ℕ × Node)) → T (is_sorted nat_cmp es) → is_some (find_key nat_cmp d es) ≡ true →
+    1 + length (others d es) ≡ length es
 one_fewer d es h here = ap (λ b. cond b 1 0 + length (others d es)) (sym here) ∙ length_without nat_cmp nat_cmp_total d es h
 
 module _ (t : Tree) (f : Sound t) where
@@ -124,7 +128,10 @@ module _ (t : Tree) (f : Sound t) where
 
   living_dir : (d : ℕ) → is_dir t d ≡ true → is_some (find_key nat_cmp d t.nodes) ≡ true
   living_dir d h =
-      elim (node_at t d) as (λ o. is_dir_kind (option_map (λ n. n.kind) o) ≡ true → is_some o ≡ true) [ None ↦ λ e. absurd (false≢true e) | Some n ↦ λ e. refl ] h
+      elim (node_at t d) as (λ o. is_dir_kind (option_map (λ n. n.kind) o) ≡ true → is_some o ≡ true) [
+        | None ↦ λ e. absurd (false≢true e)
+        | Some n ↦ λ e. refl
+      ] h
 
   -- a way of k steps has k directories and the root, which are all different: so as many nodes hold them
   steps_bound : (k d : ℕ) (es : List (ℕ × Node)) → T (is_sorted nat_cmp es)
@@ -134,7 +141,8 @@ module _ (t : Tree) (f : Sound t) where
   steps_bound (suc k) d es h held dir r =
       let fewer = one_fewer d es h (held (suc k) d (omega arith) r dir) in
       let rest = steps_bound k (above t d) (others d es) (is_sorted-where_key nat_cmp _ es h)
-      (λ j e l way de. ap is_some (without_elsewhere nat_cmp nat_cmp_total nat_cmp-IsAntisymmetric e d es (λ s. let steps = same_steps t j (suc k) d (subst (Reaches t j) s way) r in omega arith)) ∙ held j e (omega arith) way de)
+      (λ j e l way de. ap is_some (without_elsewhere nat_cmp nat_cmp_total nat_cmp-IsAntisymmetric e d es (λ s. let steps =
+      same_steps t j (suc k) d (subst (Reaches t j) s way) r in omega arith)) ∙ held j e (omega arith) way de)
       (above_dir d dir r.0) r.1 in
       omega arith
 
@@ -175,11 +183,15 @@ fits_by t f (suc x) Dir living dir =
     let way = f.rooted (suc x) (dir refl) (λ z. omega arith) in
     and_from _ _ (eq-eqb (rows_of t (suc x)) 1 (sym (tally_counts (λ y. y == suc x) t.rows) ∙ f.once (suc x) (dir refl) (λ z. omega arith)))
     (let enough = climb_ends t f (suc x) (dir refl) way.0 way.1 in climbed t way.0 (length t.nodes) (suc x) (omega arith) way.1)
-fits_by t f (suc x) File living dir = le-leb 1 _ (subst (λ r. 1 ≤ r) (tally_counts (λ y. y == suc x) t.rows) (f.named (suc x) living (λ z. omega arith)))
-fits_by t f (suc x) Prog living dir = le-leb 1 _ (subst (λ r. 1 ≤ r) (tally_counts (λ y. y == suc x) t.rows) (f.named (suc x) living (λ z. omega arith)))
-fits_by t f (suc x) Link living dir = le-leb 1 _ (subst (λ r. 1 ≤ r) (tally_counts (λ y. y == suc x) t.rows) (f.named (suc x) living (λ z. omega arith)))
+fits_by t f (suc x) File living dir =
+    le-leb 1 _ (subst (λ r. 1 ≤ r) (tally_counts (λ y. y == suc x) t.rows) (f.named (suc x) living (λ z. omega arith)))
+fits_by t f (suc x) Prog living dir =
+    le-leb 1 _ (subst (λ r. 1 ≤ r) (tally_counts (λ y. y == suc x) t.rows) (f.named (suc x) living (λ z. omega arith)))
+fits_by t f (suc x) Link living dir =
+    le-leb 1 _ (subst (λ r. 1 ≤ r) (tally_counts (λ y. y == suc x) t.rows) (f.named (suc x) living (λ z. omega arith)))
 
-node_parts : (t : Tree) (x : ℕ) (n : Node) → node_fits t (x, n) ≡ true → (x < t.next) × (target_fits n.kind n.target ≡ true) × (rows_fit_kind t x n.kind ≡ true)
+node_parts : (t : Tree) (x : ℕ) (n : Node) → node_fits t (x, n) ≡ true → (x < t.next) × (target_fits n.kind n.target ≡ true) ×
+    (rows_fit_kind t x n.kind ≡ true)
 node_parts t x n h =
     let a = and_parts _ _ h in
     let b = and_parts _ _ a.1 in
@@ -192,8 +204,10 @@ sound_from t w = record {
   root = w.root;
   row = all_found spot_cmp spots_total exact_spots (row_fits t) t.rows w.rows_fit;
   node = λ x n e. (let parts = node_parts t x n (fits x n e) in (parts.0, parts.1));
-  unnamed_root = (let n = dir_node (node_at t 0) w.root in tally_counts (λ y. y == 0) t.rows ∙ eqb-true (rows_of t 0) 0 (rows_fit 0 n.0 n.1));
-  named = λ x living z. (let n = living_node (node_at t x) living in subst (λ r. 1 ≤ r) (sym (tally_counts (λ y. y == x) t.rows)) (named_by t x n.0.kind z (rows_fit x n.0 n.1)));
+  unnamed_root = (let n = dir_node (node_at t 0) w.root in tally_counts (λ y. y == 0) t.rows ∙
+      eqb-true (rows_of t 0) 0 (rows_fit 0 n.0 n.1));
+  named = λ x living z. (let n = living_node (node_at t x) living in
+      subst (λ r. 1 ≤ r) (sym (tally_counts (λ y. y == x) t.rows)) (named_by t x n.0.kind z (rows_fit x n.0 n.1)));
   once = λ d dir z. tally_counts (λ y. y == d) t.rows ∙ (dir_fits d dir z).0;
   rooted = λ d dir z. (dir_fits d dir z).1;
 }
@@ -217,7 +231,8 @@ well_formed_from t f = record {
   rows_fit = all_from_found spot_cmp spots_total exact_spots (row_fits t) t.rows f.rows_sorted f.row;
   nodes_fit = all_from_found nat_cmp nat_cmp_total nat_cmp-IsAntisymmetric (node_fits t) t.nodes f.nodes_sorted
       (λ x n e. and_from _ _ (lt-ltb x t.next (f.node x n e).0) (and_from _ _ (f.node x n e).1
-      (fits_by t f x n.kind (ap is_some e) (λ k. ap (λ o. is_dir_kind (option_map (λ m. m.kind) o)) e ∙ ap (λ j. is_dir_kind (Some j)) k))));
+      (fits_by t f x n.kind (ap is_some e) (λ k. ap (λ o. is_dir_kind (option_map (λ m. m.kind) o)) e ∙
+      ap (λ j. is_dir_kind (Some j)) k))));
 }
 
 -- bytes that are no name's are found nowhere

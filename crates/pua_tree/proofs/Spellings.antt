@@ -1,15 +1,24 @@
 -- Each byte string has one spelling, each number one decimal, and fields are what stands between spaces.
-use Rattle.std.proofs.Common.{◌≡◌, ℕ, zero, suc, ◌+◌, ◌-◌, ◌*◌, ◌/◌, ◌%◌, ◌^◌, ◌<◌, ◌≤◌, Bool, true, false, cond, not, ◌&&◌, ◌||◌, eqb, leb, ltb, List, [], ◌∷◌, ◌++◌, length, drop, get_or, Option, Some, None, Ok, Err, decimal, fold, refl, sym, ap, subst, ◌∙◌, arith, true≢false, ◌⊎◌, inl, inr, pos_of_ne-zero, rules}
-use Rattle.std.specs.Prelude.{IsTrue}
-use Rattle.std.specs.List.{list_all, onto_first, join_with_byte}
-use Rattle.std.proofs.lemmas.Bool.{lt-ltb, le-leb, leb-true, ltb-true, le-ltb, eq-eqb, eqb-true, eqb-false, ne_eqb, and_parts, and_from, not-true, not_from_false, or_cases, or_left, or_right, cases_eq, cond-true, cond-false}
-use Rattle.std.proofs.lemmas.List.{length-append}
+use Rattle.pua_tree.proofs.Common.{◌≡◌, ℕ, zero, suc, ◌+◌, ◌-◌, ◌*◌, ◌^◌, ◌<◌, ◌≤◌, Bool, true, false, cond, not, ◌&&◌, ◌||◌, eqb, leb, ltb}
+use Rattle.pua_tree.proofs.Common.{List, [], ◌∷◌, ◌++◌, length, drop, get_or, Option, Some, None, Ok, Err, refl, sym, ap, subst, ◌∙◌, arith}
+use Rattle.pua_tree.proofs.Common.{true≢false, ◌⊎◌, inl, inr, rules, IsTrue, list_all, onto_first, lt-ltb, le-leb, leb-true, ltb-true}
+use Rattle.pua_tree.proofs.Common.{le-ltb, eqb-false, ne_eqb, and_parts, and_from, not-true, or_cases, cond-true, cond-false, length-append}
+use Rattle.pua_tree.proofs.Common.{is_name, same_bytes, has_byte, is_plain, with_front, bytes_spelled, name_of, name_of_bytes, fields}
+use Rattle.pua_tree.proofs.Common.{is_field, decimal_value, number_within}
+use Rattle.std.proofs.Common.{◌/◌, ◌%◌}
+use Rattle.std.proofs.Common.{decimal, fold}
+use Rattle.std.proofs.Common.{pos_of_ne-zero}
+use Rattle.std.specs.List.{join_with_byte}
+use Rattle.std.proofs.lemmas.Bool.{eq-eqb, eqb-true}
+use Rattle.std.proofs.lemmas.Bool.{not_from_false, or_left, or_right, cases_eq}
 use Rattle.std.proofs.lemmas.List.Folds.{list_all-append}
 use Rattle.std.proofs.lemmas.List.Splits.{join_with_byte-slice_split}
 use Rattle.std.proofs.lemmas.Str.Parse.{IsNumeralModel, numerals_by_fold}
-use Rattle.std.proofs.lemmas.Fmt.{decimal_digit, digits_decimal, digits_value-decimal, decimal-digits_value, decimal_nonempty, first_decimal}
-use Rattle.pua_tree.specs.Names.{is_name, same_bytes, has_byte, is_name_byte}
-use Rattle.pua_tree.specs.Spelling.{is_plain, byte_spelling, spelling, is_octal, escaped_byte, front_byte, with_front, unspelled_from, unspelled, name_of, name_of_bytes, fields, is_field, is_digit, is_decimal, decimal_value, number_within}
+use Rattle.std.proofs.lemmas.Fmt.{decimal_digit, digits_decimal, digits_value-decimal, decimal-digits_value, decimal_nonempty}
+use Rattle.std.proofs.lemmas.Fmt.{first_decimal}
+use Rattle.pua_tree.specs.Names.{is_name_byte}
+use Rattle.pua_tree.specs.Spelling.{byte_spelling, spelling, is_octal, escaped_byte, front_byte, unspelled_from}
+use Rattle.pua_tree.specs.Spelling.{is_digit, is_decimal}
 use Rattle.pua_tree.specs.declared.fault.NameFault.TheVariants.{BadSpelling, Empty, TooLong, NotAName}
 pub use Rattle.pua_tree.proofs.Base.{same_Some, None≢Some, guarded, Err≢Ok, same_Ok, passed, tested}
 
@@ -28,39 +37,47 @@ octal : (d : ℕ) → d < 8 → IsTrue (is_octal (48 + d))
 octal d h = and_from _ _ (le-leb 48 (48 + d) (omega arith)) (le-leb (48 + d) 55 (omega (arith, h)))
 
 -- the front of a spelling gives its byte
-unspelled_plain : (b : ℕ) (more : List ℕ) → IsTrue (is_plain b) → unspelled (b ∷ more) ≡ with_front (Some b) (unspelled more)
+unspelled_plain : (b : ℕ) (more : List ℕ) → IsTrue (is_plain b) → bytes_spelled (b ∷ more) ≡ with_front (Some b) (bytes_spelled more)
 unspelled_plain b more h =
-    ap (λ t. with_front (cond t (escaped_byte more) (cond (is_plain b) (Some b) None)) (unspelled_from (cond t 3 0) more)) (no_backslash b h)
+    ap (λ t. with_front (cond t (escaped_byte more) (cond (is_plain b) (Some b) None)) (unspelled_from (cond t 3 0) more))
+    (no_backslash b h)
     ∙ ap (λ t. with_front (cond t (Some b) None) (unspelled_from 0 more)) h
 
 -- a text of plain bytes spells itself
-pub unspelled_as_it_stands : (text : List ℕ) → IsTrue (list_all is_plain text) → unspelled text ≡ Some text
+pub unspelled_as_it_stands : (text : List ℕ) → IsTrue (list_all is_plain text) → bytes_spelled text ≡ Some text
 unspelled_as_it_stands [] h = refl
 unspelled_as_it_stands (b ∷ more) h =
     let parts = and_parts (is_plain b) (list_all is_plain more) h in
     unspelled_plain b more parts.0 ∙ ap (with_front (Some b)) (unspelled_as_it_stands more parts.1)
 
-unspelled_escaped : (b : ℕ) (more : List ℕ) → b < 256 → is_plain b ≡ false → unspelled ((92 ∷ (48 + b / 64) ∷ (48 + b / 8 % 8) ∷ (48 + b % 8) ∷ []) ++ more) ≡ with_front (Some b) (unspelled more)
-unspelled_escaped b more h p = ap (λ o. with_front o (unspelled more)) (go _ value)
+unspelled_escaped : (b : ℕ) (more : List ℕ) → b < 256 → is_plain b ≡ false →
+    bytes_spelled ((92 ∷ (48 + b / 64) ∷ (48 + b / 8 % 8) ∷ (48 + b % 8) ∷ []) ++ more) ≡ with_front (Some b) (bytes_spelled more)
+unspelled_escaped b more h p = ap (λ o. with_front o (bytes_spelled more)) (go _ value)
   where
     value : 64 * ((48 + b / 64) - 48) + 8 * ((48 + b / 8 % 8) - 48) + ((48 + b % 8) - 48) ≡ b
     value = omega arith
 
-    go : (v : ℕ) → v ≡ b → cond (is_octal (48 + b / 64) && (is_octal (48 + b / 8 % 8) && (is_octal (48 + b % 8) && (leb v 255 && not (is_plain v))))) (Some v) None ≡ Some b
+    go : (v : ℕ) → v ≡ b →
+        cond (is_octal (48 + b / 64) && (is_octal (48 + b / 8 % 8) && (is_octal (48 + b % 8) && (leb v 255 && not (is_plain v))))) (Some v)
+        None ≡ Some b
     go v e =
-        ap (λ t. cond t (Some v) None) (and_from _ _ (octal (b / 64) (omega (arith, h))) (and_from _ _ (octal (b / 8 % 8) (omega arith)) (and_from _ _ (octal (b % 8) (omega arith))
+        ap (λ t. cond t (Some v) None)
+        (and_from _ _ (octal (b / 64) (omega (arith, h)))
+        (and_from _ _ (octal (b / 8 % 8) (omega arith)) (and_from _ _ (octal (b % 8) (omega arith))
         (and_from _ _ (le-leb v 255 (omega (arith, e, h))) (not_from_false _ (ap is_plain e ∙ p))))))
         ∙ ap Some e
 
-unspelled_front : (b : ℕ) (more : List ℕ) → b < 256 → unspelled (byte_spelling b ++ more) ≡ with_front (Some b) (unspelled more)
+unspelled_front : (b : ℕ) (more : List ℕ) → b < 256 → bytes_spelled (byte_spelling b ++ more) ≡ with_front (Some b) (bytes_spelled more)
 unspelled_front b more h =
-    elim (is_plain b) as (λ t. is_plain b ≡ t → unspelled (cond t (b ∷ []) (92 ∷ (48 + b / 64) ∷ (48 + b / 8 % 8) ∷ (48 + b % 8) ∷ []) ++ more) ≡ with_front (Some b) (unspelled more)) [
+    elim (is_plain b) as (λ t. is_plain b ≡ t →
+    bytes_spelled (cond t (b ∷ []) (92 ∷ (48 + b / 64) ∷ (48 + b / 8 % 8) ∷ (48 + b % 8) ∷ []) ++ more)
+    ≡ with_front (Some b) (bytes_spelled more)) [
       | true ↦ λ p. unspelled_plain b more p
       | false ↦ λ p. unspelled_escaped b more h p
     ] refl
 
 -- a spelling is read back
-pub unspelled-spelling : (bs : List ℕ) → IsTrue (list_all is_byte bs) → unspelled (spelling bs) ≡ Some bs
+pub unspelled-spelling : (bs : List ℕ) → IsTrue (list_all is_byte bs) → bytes_spelled (spelling bs) ≡ Some bs
 unspelled-spelling [] h = refl
 unspelled-spelling (b ∷ bs) h =
     let parts = and_parts (is_byte b) (list_all is_byte bs) h in
@@ -69,7 +86,8 @@ unspelled-spelling (b ∷ bs) h =
 digit_of : (x : ℕ) → IsTrue (is_octal x) → (48 ≤ x) × (x ≤ 55)
 digit_of x h = (leb-true 48 x (and_parts _ _ h).0, leb-true x 55 (and_parts (leb 48 x) (leb x 55) h).1)
 
-three_digits : (x y z v : ℕ) → (48 ≤ x) × (x ≤ 55) → (48 ≤ y) × (y ≤ 55) → (48 ≤ z) × (z ≤ 55) → 64 * (x - 48) + 8 * (y - 48) + (z - 48) ≡ v → (x ≡ 48 + v / 64) × (y ≡ 48 + v / 8 % 8) × (z ≡ 48 + v % 8)
+three_digits : (x y z v : ℕ) → (48 ≤ x) × (x ≤ 55) → (48 ≤ y) × (y ≤ 55) → (48 ≤ z) × (z ≤ 55) →
+    64 * (x - 48) + 8 * (y - 48) + (z - 48) ≡ v → (x ≡ 48 + v / 64) × (y ≡ 48 + v / 8 % 8) × (z ≡ 48 + v % 8)
 three_digits x y z v a b c e = (omega arith, omega arith, omega arith)
 
 -- an escape that was read as a byte is that byte's spelling
@@ -79,16 +97,21 @@ escape_read (x ∷ []) v e = absurd (None≢Some v e)
 escape_read (x ∷ y ∷ []) v e = absurd (None≢Some v e)
 escape_read (x ∷ y ∷ z ∷ rest) v e =
     let w : ℕ = 64 * (x - 48) + 8 * (y - 48) + (z - 48) in
-    let read : IsTrue (is_octal x && (is_octal y && (is_octal z && (leb w 255 && not (is_plain w))))) × (w ≡ v) = guarded (is_octal x && (is_octal y && (is_octal z && (leb w 255 && not (is_plain w))))) w v e in
+    let read : IsTrue (is_octal x && (is_octal y && (is_octal z && (leb w 255 && not (is_plain w))))) × (w ≡ v) =
+    guarded (is_octal x && (is_octal y && (is_octal z && (leb w 255 && not (is_plain w))))) w v e in
     let first = and_parts (is_octal x) (is_octal y && (is_octal z && (leb w 255 && not (is_plain w)))) read.0 in
     let second = and_parts (is_octal y) (is_octal z && (leb w 255 && not (is_plain w))) first.1 in
     let third = and_parts (is_octal z) (leb w 255 && not (is_plain w)) second.1 in
     let last = and_parts (leb w 255) (not (is_plain w)) third.1 in
     let hidden : is_plain v ≡ false = ap is_plain (sym read.1) ∙ not-true _ last.1 in
-    let same = three_digits x y z v (digit_of x first.0) (digit_of y second.0) (digit_of z third.0) read.1 in
-    (omega (arith, leb-true w 255 last.0, read.1), (λ i. 92 ∷ same.0 i ∷ same.1 i ∷ same.2 i ∷ rest) ∙ ap (λ t. cond t (v ∷ []) (92 ∷ (48 + v / 64) ∷ (48 + v / 8 % 8) ∷ (48 + v % 8) ∷ []) ++ rest) (sym hidden))
+    let same = three_digits x y z v (digit_of x first.0) (digit_of y second.0) (digit_of z third.0) read.1 in (
+      omega (arith, leb-true w 255 last.0, read.1),
+      (λ i. 92 ∷ same.0 i ∷ same.1 i ∷ same.2 i ∷ rest) ∙
+          ap (λ t. cond t (v ∷ []) (92 ∷ (48 + v / 64) ∷ (48 + v / 8 % 8) ∷ (48 + v % 8) ∷ []) ++ rest) (sym hidden),
+    )
 
-front_read : (b v : ℕ) (more : List ℕ) → front_byte b more ≡ Some v → (v < 256) × (b ∷ more ≡ byte_spelling v ++ drop (cond (eqb b 92) 3 0) more)
+front_read : (b v : ℕ) (more : List ℕ) → front_byte b more ≡ Some v →
+    (v < 256) × (b ∷ more ≡ byte_spelling v ++ drop (cond (eqb b 92) 3 0) more)
 front_read b v more e = go (eqb b 92) refl
   where
     go : (t : Bool) → eqb b 92 ≡ t → (v < 256) × (b ∷ more ≡ byte_spelling v ++ drop (cond (eqb b 92) 3 0) more)
@@ -98,15 +121,19 @@ front_read b v more e = go (eqb b 92) refl
     go false q =
         let read = guarded (is_plain b) b v (ap (λ t. cond t (escaped_byte more) (cond (is_plain b) (Some b) None)) (sym q) ∙ e) in (
           omega (arith, read.1, leb-true b 126 (and_parts (leb b 126) _ (and_parts (leb 33 b) _ read.0).1).0),
-          ap (λ x. x ∷ more) read.1 ∙ ap (λ t. cond t (v ∷ []) (92 ∷ (48 + v / 64) ∷ (48 + v / 8 % 8) ∷ (48 + v % 8) ∷ []) ++ more) (sym (ap is_plain (sym read.1) ∙ read.0)) ∙ ap (λ t. byte_spelling v ++ drop (cond t 3 0) more) (sym q),
+          ap (λ x. x ∷ more) read.1 ∙
+              ap (λ t. cond t (v ∷ []) (92 ∷ (48 + v / 64) ∷ (48 + v / 8 % 8) ∷ (48 + v % 8) ∷ []) ++ more) (sym (ap is_plain (sym read.1) ∙
+              read.0)) ∙ ap (λ t. byte_spelling v ++ drop (cond t 3 0) more) (sym q),
         )
 
-both_read : (front : Option ℕ) (rest : Option (List ℕ)) (bs : List ℕ) → with_front front rest ≡ Some bs → (v : ℕ) × (vs : List ℕ) × (front ≡ Some v) × (rest ≡ Some vs) × (bs ≡ v ∷ vs)
+both_read : (front : Option ℕ) (rest : Option (List ℕ)) (bs : List ℕ) → with_front front rest ≡ Some bs →
+    (v : ℕ) × (vs : List ℕ) × (front ≡ Some v) × (rest ≡ Some vs) × (bs ≡ v ∷ vs)
 both_read None rest bs e = absurd (None≢Some bs e)
 both_read (Some v) None bs e = absurd (None≢Some bs e)
 both_read (Some v) (Some vs) bs e = (v, vs, refl, refl, same_Some bs (v ∷ vs) (sym e))
 
-text_read : (skipped : ℕ) (text bs : List ℕ) → unspelled_from skipped text ≡ Some bs → (drop skipped text ≡ spelling bs) × IsTrue (list_all is_byte bs)
+text_read : (skipped : ℕ) (text bs : List ℕ) → unspelled_from skipped text ≡ Some bs →
+    (drop skipped text ≡ spelling bs) × IsTrue (list_all is_byte bs)
 text_read zero [] bs e = subst (λ l. ([] ≡ spelling l) × IsTrue (list_all is_byte l)) (same_Some [] bs e) (refl, refl)
 text_read (suc k) [] bs e = subst (λ l. ([] ≡ spelling l) × IsTrue (list_all is_byte l)) (same_Some [] bs e) (refl, refl)
 text_read (suc k) (b ∷ more) bs e = text_read k more bs e
@@ -118,15 +145,15 @@ text_read zero (b ∷ more) bs e =
     (front.1 ∙ ap (λ l. byte_spelling both.0 ++ l) rest.0, and_from _ _ (lt-ltb both.0 256 front.0) rest.1)
 
 -- what a text spells is spelled by that text alone, and is made of bytes
-pub spelling-unspelled : (text bs : List ℕ) → unspelled text ≡ Some bs → text ≡ spelling bs
+pub spelling-unspelled : (text bs : List ℕ) → bytes_spelled text ≡ Some bs → text ≡ spelling bs
 spelling-unspelled text bs e = (text_read 0 text bs e).0
 
-pub bytes_unspelled : (text bs : List ℕ) → unspelled text ≡ Some bs → IsTrue (list_all is_byte bs)
+pub bytes_unspelled : (text bs : List ℕ) → bytes_spelled text ≡ Some bs → IsTrue (list_all is_byte bs)
 bytes_unspelled text bs e = (text_read 0 text bs e).1
 
 -- bytes that have one spelling are the same
 pub spelling_tells : (bs cs : List ℕ) → IsTrue (list_all is_byte bs) → IsTrue (list_all is_byte cs) → spelling bs ≡ spelling cs → bs ≡ cs
-spelling_tells bs cs h k e = same_Some bs cs (sym (unspelled-spelling bs h) ∙ ap unspelled e ∙ unspelled-spelling cs k)
+spelling_tells bs cs h k e = same_Some bs cs (sym (unspelled-spelling bs h) ∙ ap bytes_spelled e ∙ unspelled-spelling cs k)
 
 -- a name is made of bytes, and has neither a slash nor a NUL
 name_bytes : (n : List ℕ) → IsTrue (list_all is_name_byte n) → IsTrue (list_all is_byte n) × (has_byte 47 n ≡ false)
@@ -139,9 +166,14 @@ name_bytes (b ∷ n) h =
 
 name_parts : (n : List ℕ) → IsTrue (is_name n) → (0 < length n) × (length n ≤ 255) × IsTrue (list_all is_name_byte n)
 name_parts n h =
-    let first = and_parts (ltb 0 (length n)) (leb (length n) 255 && (list_all is_name_byte n && (not (same_bytes n (46 ∷ [])) && not (same_bytes n (46 ∷ 46 ∷ []))))) h in
-    let second = and_parts (leb (length n) 255) (list_all is_name_byte n && (not (same_bytes n (46 ∷ [])) && not (same_bytes n (46 ∷ 46 ∷ [])))) first.1 in
-    (ltb-true 0 (length n) first.0, leb-true (length n) 255 second.0, (and_parts (list_all is_name_byte n) (not (same_bytes n (46 ∷ [])) && not (same_bytes n (46 ∷ 46 ∷ []))) second.1).0)
+    let first = and_parts (ltb 0 (length n)) (leb (length n) 255
+    && (list_all is_name_byte n && (not (same_bytes n (46 ∷ [])) && not (same_bytes n (46 ∷ 46 ∷ []))))) h in
+    let second = and_parts (leb (length n) 255) (list_all is_name_byte n
+    && (not (same_bytes n (46 ∷ [])) && not (same_bytes n (46 ∷ 46 ∷ [])))) first.1 in (
+      ltb-true 0 (length n) first.0,
+      leb-true (length n) 255 second.0,
+      (and_parts (list_all is_name_byte n) (not (same_bytes n (46 ∷ [])) && not (same_bytes n (46 ∷ 46 ∷ []))) second.1).0,
+    )
 
 pub name_is_bytes : (n : List ℕ) → IsTrue (is_name n) → IsTrue (list_all is_byte n)
 name_is_bytes n h = (name_bytes n (name_parts n h).2).0
@@ -158,12 +190,13 @@ name_of-spelling n h =
 
 -- a text that is read as a name is its spelling
 pub name_read : (text n : List ℕ) → name_of text ≡ Ok n → (text ≡ spelling n) × IsTrue (is_name n)
-name_read text n e = go (unspelled text) refl e
+name_read text n e = go (bytes_spelled text) refl e
   where
-    go : (o : Option (List ℕ)) → unspelled text ≡ o → name_of_bytes o ≡ Ok n → (text ≡ spelling n) × IsTrue (is_name n)
+    go : (o : Option (List ℕ)) → bytes_spelled text ≡ o → name_of_bytes o ≡ Ok n → (text ≡ spelling n) × IsTrue (is_name n)
     go None q e = absurd (Err≢Ok BadSpelling n e)
     go (Some m) q e =
-        let named = tested (is_name m) NotAName m n (passed (ltb 255 (length m)) TooLong _ n (passed (eqb (length m) 0) Empty _ n (passed (has_byte 47 m) BadSpelling _ n e))) in
+        let named = tested (is_name m) NotAName m n
+        (passed (ltb 255 (length m)) TooLong _ n (passed (eqb (length m) 0) Empty _ n (passed (has_byte 47 m) BadSpelling _ n e))) in
         (spelling-unspelled text m q ∙ ap spelling named.1, subst (λ l. IsTrue (is_name l)) named.1 named.0)
 
 -- the number that a decimal writes
@@ -179,24 +212,32 @@ is_decimal-decimal n small = go (decimal n) (decimal_nonempty n small) (digits_d
 
     go : (ds : List ℕ) → 0 < length ds → IsTrue (list_all is_digit ds) → (48 < get_or ds 0 0) ⊎ (length ds ≡ 1) → IsTrue (is_decimal ds)
     go [] some d l = absurd (omega arith)
-    go (b ∷ more) some d (inl l) = and_from (list_all is_digit (b ∷ more)) _ d (or_left _ _ (not_from_false _ (ne_eqb b 48 (λ e. omega (arith, e, l)))))
-    go (b ∷ more) some d (inr l) = and_from (list_all is_digit (b ∷ more)) _ d (or_right (not (eqb b 48)) _ (eq-eqb (length more) 0 (omega (arith, l))))
+    go (b ∷ more) some d (inl l) =
+        and_from (list_all is_digit (b ∷ more)) _ d (or_left _ _ (not_from_false _ (ne_eqb b 48 (λ e. omega (arith, e, l)))))
+    go (b ∷ more) some d (inr l) =
+        and_from (list_all is_digit (b ∷ more)) _ d (or_right (not (eqb b 48)) _ (eq-eqb (length more) 0 (omega (arith, l))))
 
 pub decimal_within : (low high n : ℕ) → low ≤ n → n ≤ high → n < 2 ^ 64 → number_within low high (decimal n) ≡ Some n
 decimal_within low high n a b small =
     let value : decimal_value (decimal n) ≡ n = digits_value-decimal own n small in
-    cond-true (is_decimal (decimal n) && (leb low (decimal_value (decimal n)) && leb (decimal_value (decimal n)) high)) (Some (decimal_value (decimal n))) None
-    (and_from _ _ (is_decimal-decimal n small) (and_from _ _ (le-leb low _ (omega (arith, value, a))) (le-leb _ high (omega (arith, value, b)))))
+    cond-true (is_decimal (decimal n) && (leb low (decimal_value (decimal n)) && leb (decimal_value (decimal n)) high))
+    (Some (decimal_value (decimal n))) None
+    (and_from _ _ (is_decimal-decimal n small) (and_from _ _ (le-leb low _ (omega (arith, value, a)))
+    (le-leb _ high (omega (arith, value, b)))))
     ∙ ap Some value
 
-pub number_read : (low high : ℕ) (text : List ℕ) (n : ℕ) → high < 2 ^ 64 → number_within low high text ≡ Some n → (text ≡ decimal n) × (low ≤ n) × (n ≤ high)
+pub number_read : (low high : ℕ) (text : List ℕ) (n : ℕ) → high < 2 ^ 64 → number_within low high text ≡ Some n →
+    (text ≡ decimal n) × (low ≤ n) × (n ≤ high)
 number_read low high text n small e =
     let read = guarded (is_decimal text && (leb low (decimal_value text) && leb (decimal_value text) high)) (decimal_value text) n e in
     let parts = and_parts (is_decimal text) (leb low (decimal_value text) && leb (decimal_value text) high) read.0 in
     let bounds = and_parts (leb low (decimal_value text)) (leb (decimal_value text) high) parts.1 in
     let above = leb-true low (decimal_value text) bounds.0 in
-    let below = leb-true (decimal_value text) high bounds.1 in
-    (sym (written text parts.0 (omega (arith, below, small))) ∙ ap decimal read.1, omega (arith, above, read.1), omega (arith, below, read.1))
+    let below = leb-true (decimal_value text) high bounds.1 in (
+      sym (written text parts.0 (omega (arith, below, small))) ∙ ap decimal read.1,
+      omega (arith, above, read.1),
+      omega (arith, below, read.1),
+    )
   where
     written : (ds : List ℕ) → IsTrue (is_decimal ds) → decimal_value ds < 2 ^ 64 → decimal (decimal_value ds) ≡ ds
     written [] d l = absurd (true≢false (sym d))
@@ -213,14 +254,16 @@ pub fields_cons : (a b : List ℕ) → IsTrue (list_all is_visible a) → fields
 fields_cons [] b h = refl
 fields_cons (x ∷ a) b h =
     let parts = and_parts (is_visible x) (list_all is_visible a) h in
-    ap (λ t. cond t ([] ∷ fields (a ++ 32 ∷ b)) (onto_first x (fields (a ++ 32 ∷ b)))) (ne_eqb x 32 (λ e. omega (arith, e, leb-true 33 x (and_parts (leb 33 x) (leb x 126) parts.0).0)))
+    ap (λ t. cond t ([] ∷ fields (a ++ 32 ∷ b)) (onto_first x (fields (a ++ 32 ∷ b))))
+    (ne_eqb x 32 (λ e. omega (arith, e, leb-true 33 x (and_parts (leb 33 x) (leb x 126) parts.0).0)))
     ∙ ap (onto_first x) (fields_cons a b parts.1)
 
 pub fields_one : (a : List ℕ) → IsTrue (list_all is_visible a) → fields a ≡ a ∷ []
 fields_one [] h = refl
 fields_one (x ∷ a) h =
     let parts = and_parts (is_visible x) (list_all is_visible a) h in
-    ap (λ t. cond t ([] ∷ fields a) (onto_first x (fields a))) (ne_eqb x 32 (λ e. omega (arith, e, leb-true 33 x (and_parts (leb 33 x) (leb x 126) parts.0).0)))
+    ap (λ t. cond t ([] ∷ fields a) (onto_first x (fields a)))
+    (ne_eqb x 32 (λ e. omega (arith, e, leb-true 33 x (and_parts (leb 33 x) (leb x 126) parts.0).0)))
     ∙ ap (onto_first x) (fields_one a parts.1)
 
 pub fields_joined : (line : List ℕ) → join_with_byte 32 (fields line) ≡ line
@@ -240,10 +283,15 @@ visible_decimal n small = visible_digits (decimal n) (digits_decimal own n small
 
 visible_byte : (b : ℕ) → b < 256 → (0 < length (byte_spelling b)) × IsTrue (list_all is_visible (byte_spelling b))
 visible_byte b h =
-    elim (is_plain b) as (λ t. is_plain b ≡ t → (0 < length (cond t (b ∷ []) (92 ∷ (48 + b / 64) ∷ (48 + b / 8 % 8) ∷ (48 + b % 8) ∷ []))) × IsTrue (list_all is_visible (cond t (b ∷ []) (92 ∷ (48 + b / 64) ∷ (48 + b / 8 % 8) ∷ (48 + b % 8) ∷ [])))) [
+    elim (is_plain b) as (λ t. is_plain b ≡ t → (0 < length (cond t (b ∷ []) (92 ∷ (48 + b / 64) ∷ (48 + b / 8 % 8) ∷ (48 + b % 8) ∷ []))) ×
+    IsTrue (list_all is_visible (cond t (b ∷ []) (92 ∷ (48 + b / 64) ∷ (48 + b / 8 % 8) ∷ (48 + b % 8) ∷ [])))) [
       | true ↦ λ p. let parts = and_parts (leb 33 b) (leb b 126 && not (eqb b 92)) p in
           (omega arith, and_from _ _ (and_from _ _ parts.0 (and_parts (leb b 126) _ parts.1).0) refl)
-      | false ↦ λ p. (omega arith, and_from _ _ (shown (b / 64) (omega (arith, h))) (and_from _ _ (shown (b / 8 % 8) (omega arith)) (and_from _ _ (shown (b % 8) (omega arith)) refl)))
+      | false ↦ λ p. (
+        omega arith,
+        and_from _ _ (shown (b / 64) (omega (arith, h)))
+            (and_from _ _ (shown (b / 8 % 8) (omega arith)) (and_from _ _ (shown (b % 8) (omega arith)) refl)),
+      )
     ] refl
   where
     shown : (d : ℕ) → d < 8 → IsTrue (is_visible (48 + d))
@@ -253,7 +301,8 @@ pub visible_spelling : (bs : List ℕ) → IsTrue (list_all is_byte bs) → IsTr
 visible_spelling [] h = refl
 visible_spelling (b ∷ bs) h =
     let parts = and_parts (is_byte b) (list_all is_byte bs) h in
-    list_all-append is_visible (byte_spelling b) (spelling bs) ∙ and_from _ _ (visible_byte b (ltb-true b 256 parts.0)).1 (visible_spelling bs parts.1)
+    list_all-append is_visible (byte_spelling b) (spelling bs) ∙
+    and_from _ _ (visible_byte b (ltb-true b 256 parts.0)).1 (visible_spelling bs parts.1)
 
 pub is_field-decimal : (n : ℕ) → n < 2 ^ 64 → IsTrue (is_field (decimal n))
 is_field-decimal n small = and_from _ _ (lt-ltb 0 _ (decimal_nonempty n small)) (visible_decimal n small)

@@ -1,13 +1,11 @@
 -- Lists of entries in the order of their keys: what is found in them, and how many entries have a value of some kind.
-use Rattle.std.proofs.Common.{◌≡◌, ◌≢◌, ◌⊎◌, ℕ, ◌+◌, ◌≤◌, Bool, true, false, not, ◌&&◌, cond, T, List, [], ◌∷◌, Option, Some, None, option_map, count_by, find as find_where, refl, sym, ap, subst, ◌∙◌, arith, inl, inr}
-use Rattle.std.specs.List.{list_all, list_any}
-use Rattle.std.specs.declared.cmp.Ordering.{Ordering}
-use Rattle.std.specs.declared.cmp.Ordering.TheVariants.{Less, Equal, Greater}
-use Rattle.std.specs.Ordering.{is_eq, is_lt}
-use Rattle.std.specs.Cmp.{IsTotalOrder, tied_itself, Equal-is}
-use Rattle.std.specs.FinMap.{find, put, is_sorted}
-use Rattle.std.specs.FinMap.Entries.{by_order, where_key, below_all, find-put, find-where_key}
-use Rattle.std.proofs.lemmas.Bool.{and_parts, and_from, or_parts, false≢true}
+use Rattle.pua_tree.proofs.Common.{◌≡◌, ◌≢◌, ◌⊎◌, ℕ, ◌+◌, ◌≤◌, Bool, true, false, not, ◌&&◌, cond, T, List, [], ◌∷◌, Option, Some, None}
+use Rattle.pua_tree.proofs.Common.{option_map, count_by, refl, sym, ap, subst, ◌∙◌, arith, inl, inr, list_all, list_any, Ordering, Less}
+use Rattle.pua_tree.proofs.Common.{Equal, Greater, is_eq, is_lt, IsTotalOrder, tied_itself, Equal-is, find, put, is_sorted, by_order}
+use Rattle.pua_tree.proofs.Common.{where_key, below_all, find-put, and_parts, and_from, false≢true}
+use Rattle.std.proofs.Common.{find as find_where}
+use Rattle.std.specs.FinMap.Entries.{find-where_key}
+use Rattle.std.proofs.lemmas.Bool.{or_parts}
 use Rattle.std.proofs.lemmas.List.Recursion.{is_sum_by}
 use Rattle.pua_tree.proofs.Base.{same_Some, Some≢None}
 
@@ -69,7 +67,10 @@ module _ {K : Type 0} (R : K → K → Ordering) (o : IsTotalOrder R) (exact : (
     sorted_head e es h = elim (below_all R e.0 es) as (λ b. T (b && is_sorted R es) → T b) [ true ↦ λ _. tt | false ↦ λ b. b ] h
 
     pub sorted_tail : (e : K × X) (es : List (K × X)) → T (is_sorted R (e ∷ es)) → T (is_sorted R es)
-    sorted_tail e es h = elim (below_all R e.0 es) as (λ b. T (b && is_sorted R es) → T (is_sorted R es)) [ true ↦ λ b. b | false ↦ λ b. absurd b ] h
+    sorted_tail e es h = elim (below_all R e.0 es) as (λ b. T (b && is_sorted R es) → T (is_sorted R es)) [
+      | true ↦ λ b. b
+      | false ↦ λ b. absurd b
+    ] h
 
     pub put_here : (k : K) (v : X) (es : List (K × X)) → find R k (put R k v es) ≡ Some v
     put_here k v es = find-put R o k k v es ∙ ap (λ b. cond b (Some v) (find R k es)) (ties k)
@@ -87,7 +88,8 @@ module _ {K : Type 0} (R : K → K → Ordering) (o : IsTotalOrder R) (exact : (
     without_elsewhere q k es n = without_at q k es ∙ ap (λ b. cond (not b) (find R q es) None) (differ k q (λ s. n (sym s)))
 
     -- what is found past the first entry is not found at it
-    found_later : (k : K) (v : X) (e : K × X) (es : List (K × X)) → T (is_sorted R (e ∷ es)) → find R k es ≡ Some v → is_eq (R k e.0) ≡ false
+    found_later : (k : K) (v : X) (e : K × X) (es : List (K × X)) → T (is_sorted R (e ∷ es)) → find R k es ≡ Some v →
+        is_eq (R k e.0) ≡ false
     found_later k v e es h f =
         elim (same_or_other k e.0) [
           | inl s ↦ absurd (Some≢None v (sym f ∙ ap (λ x. find R x es) s.0 ∙ absent e.0 es (sorted_head e es h)))
@@ -95,7 +97,8 @@ module _ {K : Type 0} (R : K → K → Ordering) (o : IsTotalOrder R) (exact : (
         ]
 
     -- a test of all entries is one of what is found
-    pub all_found : (q : (K × X) → Bool) (es : List (K × X)) → list_all q es ≡ true → (k : K) (v : X) → find R k es ≡ Some v → q (k, v) ≡ true
+    pub all_found : (q : (K × X) → Bool) (es : List (K × X)) → list_all q es ≡ true → (k : K) (v : X) → find R k es ≡ Some v →
+        q (k, v) ≡ true
     all_found q [] h k v f = absurd (Some≢None v (sym f))
     all_found q (e ∷ es) h k v f =
         let parts = and_parts (q e) (list_all q es) h in
@@ -105,14 +108,17 @@ module _ {K : Type 0} (R : K → K → Ordering) (o : IsTotalOrder R) (exact : (
           | inr s ↦ all_found q es parts.1 k v (sym (ap (λ b. cond b (Some e.1) (find R k es)) s.1) ∙ f)
         ]
 
-    pub all_from_found : (q : (K × X) → Bool) (es : List (K × X)) → T (is_sorted R es) → ((k : K) (v : X) → find R k es ≡ Some v → q (k, v) ≡ true) → list_all q es ≡ true
+    pub all_from_found : (q : (K × X) → Bool) (es : List (K × X)) → T (is_sorted R es) →
+        ((k : K) (v : X) → find R k es ≡ Some v → q (k, v) ≡ true) → list_all q es ≡ true
     all_from_found q [] h each = refl
     all_from_found q (e ∷ es) h each =
         and_from (q e) (list_all q es)
         (each e.0 e.1 (ap (λ b. cond b (Some e.1) (find R e.0 es)) (ties e.0)))
-        (all_from_found q es (sorted_tail e es h) (λ k v f. each k v (ap (λ b. cond b (Some e.1) (find R k es)) (found_later k v e es h f) ∙ f)))
+        (all_from_found q es (sorted_tail e es h) (λ k v f. each k v (ap (λ b. cond b (Some e.1) (find R k es)) (found_later k v e es h f) ∙
+        f)))
 
-    pub none_found : (q : (K × X) → Bool) (es : List (K × X)) → list_any q es ≡ false → (k : K) (v : X) → find R k es ≡ Some v → q (k, v) ≡ false
+    pub none_found : (q : (K × X) → Bool) (es : List (K × X)) → list_any q es ≡ false → (k : K) (v : X) → find R k es ≡ Some v →
+        q (k, v) ≡ false
     none_found q [] h k v f = absurd (Some≢None v (sym f))
     none_found q (e ∷ es) h k v f =
         let parts = or_parts (q e) (list_any q es) h in
@@ -123,25 +129,32 @@ module _ {K : Type 0} (R : K → K → Ordering) (o : IsTotalOrder R) (exact : (
         ]
 
     -- how a tally changes
-    pub tally-put : (p : X → Bool) (k : K) (v : X) (es : List (K × X)) → T (is_sorted R es) → tally p (put R k v es) + one_at p (find R k es) ≡ tally p es + one p v
+    pub tally-put : (p : X → Bool) (k : K) (v : X) (es : List (K × X)) → T (is_sorted R es) →
+        tally p (put R k v es) + one_at p (find R k es) ≡ tally p es + one p v
     tally-put p k v [] h = omega arith
     tally-put p k v (e ∷ es) h =
         let below = sorted_head e es h in
         let rest = tally-put p k v es (sorted_tail e es h) in
-        elim (R k e.0) as (λ r. R k e.0 ≡ r → tally p (by_order r ((k, v) ∷ e ∷ es) ((e.0, v) ∷ es) (e ∷ put R k v es)) + one_at p (cond (is_eq r) (Some e.1) (find R k es)) ≡ (one p e.1 + tally p es) + one p v) [
+        elim (R k e.0) as (λ r. R k e.0 ≡ r →
+        tally p (by_order r ((k, v) ∷ e ∷ es) ((e.0, v) ∷ es) (e ∷ put R k v es)) + one_at p (cond (is_eq r) (Some e.1) (find R k es))
+        ≡ (one p e.1 + tally p es) + one p v) [
           | Less ↦ λ r. let none : one_at p (find R k es) ≡ 0 = ap (one_at p) (absent k es (below_less k e.0 es r below)) in omega arith
           | Equal ↦ λ r. omega arith
           | Greater ↦ λ r. omega arith
         ] refl
 
-    pub tally-without : (p : X → Bool) (k : K) (es : List (K × X)) → T (is_sorted R es) → tally p (without k es) + one_at p (find R k es) ≡ tally p es
+    pub tally-without : (p : X → Bool) (k : K) (es : List (K × X)) → T (is_sorted R es) →
+        tally p (without k es) + one_at p (find R k es) ≡ tally p es
     tally-without p k [] h = refl
     tally-without p k (e ∷ es) h =
         let rest = tally-without p k es (sorted_tail e es h) in
         elim (same_or_other k e.0) [
-          | inl s ↦ (let none : one_at p (find R k es) ≡ 0 = ap (λ x. one_at p (find R x es)) s.0 ∙ ap (one_at p) (absent e.0 es (sorted_head e es h)) in
-              subst (λ b. tally p (cond (not b) (e ∷ without k es) (without k es)) + one_at p (cond b (Some e.1) (find R k es)) ≡ one p e.1 + tally p es) (sym s.1) (omega arith))
-          | inr s ↦ subst (λ b. tally p (cond (not b) (e ∷ without k es) (without k es)) + one_at p (cond b (Some e.1) (find R k es)) ≡ one p e.1 + tally p es) (sym s.1) (omega arith)
+          | inl s ↦ (let none : one_at p (find R k es) ≡ 0 = ap (λ x. one_at p (find R x es)) s.0 ∙
+              ap (one_at p) (absent e.0 es (sorted_head e es h)) in
+              subst (λ b. tally p (cond (not b) (e ∷ without k es) (without k es)) + one_at p (cond b (Some e.1) (find R k es)) ≡ one p e.1
+              + tally p es) (sym s.1) (omega arith))
+          | inr s ↦ subst (λ b. tally p (cond (not b) (e ∷ without k es) (without k es)) + one_at p (cond b (Some e.1) (find R k es))
+              ≡ one p e.1 + tally p es) (sym s.1) (omega arith)
         ]
 
     pub tally_found : (p : X → Bool) (k : K) (v : X) (es : List (K × X)) → find R k es ≡ Some v → p v ≡ true → 1 ≤ tally p es
@@ -153,7 +166,8 @@ module _ {K : Type 0} (R : K → K → Ordering) (o : IsTotalOrder R) (exact : (
           | inr s ↦ (let later = tally_found p k v es (sym (ap (λ b. cond b (Some e.1) (find R k es)) s.1) ∙ f) h in omega arith)
         ]
 
-    pub found_from_tally : (p : X → Bool) (es : List (K × X)) → T (is_sorted R es) → 1 ≤ tally p es → (k : K) × (v : X) × (find R k es ≡ Some v) × (p v ≡ true)
+    pub found_from_tally : (p : X → Bool) (es : List (K × X)) → T (is_sorted R es) → 1 ≤ tally p es →
+        (k : K) × (v : X) × (find R k es ≡ Some v) × (p v ≡ true)
     found_from_tally p [] h l = absurd (omega arith)
     found_from_tally p (e ∷ es) h l =
         elim (p e.1) as (λ b. p e.1 ≡ b → 1 ≤ cond b 1 0 + tally p es → (k : K) × (v : X) × (find R k (e ∷ es) ≡ Some v) × (p v ≡ true)) [
@@ -163,7 +177,8 @@ module _ {K : Type 0} (R : K → K → Ordering) (o : IsTotalOrder R) (exact : (
         ] refl l
 
     -- the one entry that passes is the first that does
-    pub only_key : (p : X → Bool) (k : K) (v : X) (es : List (K × X)) → tally p es ≡ 1 → find R k es ≡ Some v → p v ≡ true → option_map (λ e. e.0) (find_where (λ e. p e.1) es) ≡ Some k
+    pub only_key : (p : X → Bool) (k : K) (v : X) (es : List (K × X)) → tally p es ≡ 1 → find R k es ≡ Some v → p v ≡ true →
+        option_map (λ e. e.0) (find_where (λ e. p e.1) es) ≡ Some k
     only_key p k v [] l f h = absurd (Some≢None v (sym f))
     only_key p k v (e ∷ es) l f h =
         elim (same_or_other k e.0) [
@@ -171,7 +186,8 @@ module _ {K : Type 0} (R : K → K → Ordering) (o : IsTotalOrder R) (exact : (
               ap (λ b. option_map (λ d. d.0) (cond b (Some e) (find_where (λ d. p d.1) es))) (ap p values ∙ h) ∙ ap Some (sym s.0))
           | inr s ↦ (let later = sym (ap (λ b. cond b (Some e.1) (find R k es)) s.1) ∙ f in
               let some = tally_found p k v es later h in
-              elim (p e.1) as (λ b. cond b 1 0 + tally p es ≡ 1 → option_map (λ d. d.0) (cond b (Some e) (find_where (λ d. p d.1) es)) ≡ Some k) [
+              elim (p e.1) as (λ b. cond b 1 0 + tally p es ≡ 1 →
+              option_map (λ d. d.0) (cond b (Some e) (find_where (λ d. p d.1) es)) ≡ Some k) [
                 | true ↦ λ m. absurd (omega arith)
                 | false ↦ λ m. (let less : tally p es ≡ 1 = omega arith in only_key p k v es less later h)
               ] l)

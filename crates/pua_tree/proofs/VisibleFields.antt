@@ -1,11 +1,12 @@
 -- The first field of a line by its first byte that is not visible.
-use Rattle.std.proofs.Common.{◌≡◌, ◌<◌, ◌≤◌, ◌&&◌, ◌==◌, ℕ, ◌+◌, Bool, true, false, List, [], ◌∷◌, ◌++◌, length, get_or, Some, None, refl, sym, ap, ◌∙◌, arith, cond, not, suc, nat_lt, nat_le, take, drop, true≢false}
-use Rattle.std.specs.List.{list_all, onto_first, position, position_or_len}
-use Rattle.std.proofs.lemmas.Bool.{and_parts, and_from, ltb-true, ltb-false, lt-ltb, eqb-true, not-true, not-false}
+use Rattle.pua_tree.proofs.Common.{◌≡◌, ◌<◌, ◌≤◌, ◌&&◌, ◌==◌, ℕ, ◌+◌, Bool, true, false, List, [], ◌∷◌, ◌++◌, length, get_or, Some, None}
+use Rattle.pua_tree.proofs.Common.{refl, sym, ap, ◌∙◌, arith, cond, not, suc, nat_lt, nat_le, take, drop, true≢false, list_all, onto_first}
+use Rattle.pua_tree.proofs.Common.{and_parts, and_from, ltb-true, ltb-false, lt-ltb, not-true, take_all, fields, is_field}
+use Rattle.std.specs.List.{position, position_or_len}
+use Rattle.std.proofs.lemmas.Bool.{eqb-true, not-false}
 use Rattle.std.proofs.lemmas.List.Splits.{slice_split-cons_no}
 use Rattle.std.proofs.lemmas.List.Sums.{split_at_first, prefix_len_stops}
-use Rattle.std.proofs.lemmas.List.{take_all, length-take-le}
-use Rattle.pua_tree.specs.Spelling.{fields, is_field}
+use Rattle.std.proofs.lemmas.List.{length-take-le}
 use Rattle.pua_tree.proofs.Pieces.{not_found}
 use Rattle.pua_tree.proofs.Base.{guarded}
 
@@ -61,18 +62,21 @@ hidden_first : (x : ℕ) (pieces : List (List ℕ)) → visible x ≡ false → 
 hidden_first x [] v = ap (λ t. not (t && true)) v
 hidden_first x (piece ∷ pieces) v = ap (λ t. not (t && list_all visible piece)) v
 
-bad_field : (xs : List ℕ) (b : ℕ) (ys : List ℕ) → list_all visible xs ≡ true → visible b ≡ false → (b == 32) ≡ false → begins_badly (fields (xs ++ b ∷ ys)) ≡ true
+bad_field : (xs : List ℕ) (b : ℕ) (ys : List ℕ) → list_all visible xs ≡ true → visible b ≡ false → (b == 32) ≡ false →
+    begins_badly (fields (xs ++ b ∷ ys)) ≡ true
 bad_field [] b ys h v s = ap begins_badly (slice_split-cons_no (λ c. c == 32) b ys s) ∙ hidden_first b (fields ys) v
 bad_field (x ∷ xs) b ys h v s =
     let parts = and_parts (visible x) _ h in
-    ap begins_badly (slice_split-cons_no (λ c. c == 32) x (xs ++ b ∷ ys) (no_space x parts.0)) ∙ still_badly x (fields (xs ++ b ∷ ys)) (bad_field xs b ys parts.1 v s)
+    ap begins_badly (slice_split-cons_no (λ c. c == 32) x (xs ++ b ∷ ys) (no_space x parts.0)) ∙
+    still_badly x (fields (xs ++ b ∷ ys)) (bad_field xs b ys parts.1 v s)
 
 -- what stands before the first hidden byte
 all_before : (xs : List ℕ) → list_all visible (take (position_or_len hidden xs) xs) ≡ true
 all_before [] = refl
 all_before (x ∷ xs) = by (visible x) refl (all_before xs)
   where
-    by : (v : Bool) → visible x ≡ v → list_all visible (take (position_or_len hidden xs) xs) ≡ true → list_all visible (take (cond (not (not v)) (1 + position_or_len hidden xs) 0) (x ∷ xs)) ≡ true
+    by : (v : Bool) → visible x ≡ v → list_all visible (take (position_or_len hidden xs) xs) ≡ true →
+        list_all visible (take (cond (not (not v)) (1 + position_or_len hidden xs) 0) (x ∷ xs)) ≡ true
     by true e behind = let next : 1 + position_or_len hidden xs ≡ suc (position_or_len hidden xs) = omega arith in
         ap (λ n. list_all visible (take n (x ∷ xs))) next ∙ ap (λ t. t && list_all visible (take (position_or_len hidden xs) xs)) e ∙ behind
     by false e behind = refl
@@ -87,8 +91,11 @@ some_byte (x ∷ xs) e = omega arith
 -- a line of visible bytes
 pub whole_line : (line : List ℕ) → position hidden line ≡ None → 0 < length line → (is_field line ≡ true) × (fields line ≡ line ∷ [])
 whole_line line e some =
-    let far : length line ≤ position_or_len hidden line = ltb-false (position_or_len hidden line) (length line) (not_found (nat_lt (position_or_len hidden line) (length line)) (position_or_len hidden line) e) in
-    let all : list_all visible line ≡ true = ap (list_all visible) (sym (take_all (position_or_len hidden line) line far)) ∙ all_before line in
+    let far : length line ≤ position_or_len hidden line =
+    ltb-false (position_or_len hidden line) (length line) (not_found (nat_lt (position_or_len hidden line) (length line))
+    (position_or_len hidden line) e) in
+    let all : list_all visible line ≡ true = ap (list_all visible) (sym (take_all (position_or_len hidden line) line far)) ∙
+    all_before line in
     (and_from _ _ (lt-ltb 0 (length line) some) all, only_field line all)
 
 module _ (line : List ℕ) (end : ℕ) (is : position hidden line ≡ Some end) where
@@ -106,11 +113,13 @@ module _ (line : List ℕ) (end : ℕ) (is : position hidden line ≡ Some end) 
   stopped = ap (λ n. hidden (get_or line n 0)) (sym place.1) ∙ position_stops line place.0
 
   -- a field, and what stands behind the space that ends it
-  pub field_taken : 0 < end → get_or line end 0 ≡ 32 → (is_field (take end line) ≡ true) × (fields line ≡ take end line ∷ fields (drop (end + 1) line))
+  pub field_taken : 0 < end → get_or line end 0 ≡ 32 →
+      (is_field (take end line) ≡ true) × (fields line ≡ take end line ∷ fields (drop (end + 1) line))
   field_taken some space =
       let long : length (take end line) ≡ end = length-take-le end line (omega (arith, place)) in (
         and_from _ _ (lt-ltb 0 (length (take end line)) (omega (arith, long))) front_visible,
-        ap fields cut ∙ ap (λ b. fields (take end line ++ (b ∷ drop (end + 1) line))) space ∙ first_field (take end line) (drop (end + 1) line) front_visible,
+        ap fields cut ∙ ap (λ b. fields (take end line ++ (b ∷ drop (end + 1) line))) space ∙
+            first_field (take end line) (drop (end + 1) line) front_visible,
       )
 
   -- no byte before a space
@@ -124,8 +133,10 @@ module _ (line : List ℕ) (end : ℕ) (is : position hidden line ≡ Some end) 
       by true e = ap (λ l. list_all is_field (fields l)) cut
           ∙ ap (λ b. list_all is_field (fields (take end line ++ (b ∷ drop (end + 1) line)))) (eqb-true (get_or line end 0) 32 e)
           ∙ ap (λ l. list_all is_field (fields (l ++ (32 ∷ drop (end + 1) line)))) front
-      by false e = none_if_badly (fields line) (ap (λ l. begins_badly (fields l)) cut ∙ bad_field (take end line) (get_or line end 0) (drop (end + 1) line) front_visible (not-true _ stopped) e)
+      by false e = none_if_badly (fields line) (ap (λ l. begins_badly (fields l)) cut ∙
+          bad_field (take end line) (get_or line end 0) (drop (end + 1) line) front_visible (not-true _ stopped) e)
 
   -- a byte that is no space
   pub bad_byte : (get_or line end 0 == 32) ≡ false → list_all is_field (fields line) ≡ false
-  bad_byte e = none_if_badly (fields line) (ap (λ l. begins_badly (fields l)) cut ∙ bad_field (take end line) (get_or line end 0) (drop (end + 1) line) front_visible (not-true _ stopped) e)
+  bad_byte e = none_if_badly (fields line) (ap (λ l. begins_badly (fields l)) cut ∙
+      bad_field (take end line) (get_or line end 0) (drop (end + 1) line) front_visible (not-true _ stopped) e)

@@ -1,5 +1,6 @@
 -- The changes of a tree as changes of its rows, each with its faults in their order.
-use Rattle.std.specs.Prelude.{ℕ, ◌+◌, Bool, false, not, ◌&&◌, if◌then◌else◌, List, length, nat_lt, ◌==◌, Option, Some, None, Result, Ok, Err, is_some, IsOk, ◌≡◌}
+use Rattle.std.specs.Prelude.{ℕ, ◌+◌, Bool, false, not, ◌&&◌, if◌then◌else◌, List, length, nat_lt, ◌==◌, Option, Some, None, Result, Ok}
+use Rattle.std.specs.Prelude.{Err, is_some, IsOk, ◌≡◌}
 use Rattle.std.specs.List.{list_any}
 use Rattle.std.specs.Ordering.{nat_cmp, is_eq}
 use Rattle.std.specs.FinMap.{put}
@@ -71,9 +72,9 @@ abbrev pub cut : Tree → ℕ → List ℕ → Result (ℕ × Tree) TreeFault
 cut t dir name = if not (is_dir t dir) then Err NotDir else cut_found t dir name (look t dir name)
 
 -- the row of x moved to a spot at which nothing stands, or y
-abbrev pub moved : Tree → ℕ → List ℕ → ℕ → List ℕ → ℕ → Option ℕ → Tree
-moved t from name to new_name x None = with_row (without_row t from name) to new_name x
-moved t from name to new_name x (Some y) = without_unnamed (with_row (without_row t from name) to new_name x) y
+abbrev pub with_row_moved : Tree → ℕ → List ℕ → ℕ → List ℕ → ℕ → Option ℕ → Tree
+with_row_moved t from name to new_name x None = with_row (without_row t from name) to new_name x
+with_row_moved t from name to new_name x (Some y) = without_unnamed (with_row (without_row t from name) to new_name x) y
 
 abbrev pub is_same_node : ℕ → Option ℕ → Bool
 is_same_node x None = false
@@ -93,7 +94,7 @@ shift_found t from name to new_name (Some x) there =
     if is_same_node x there then Ok t
     else (if is_inside t x to then Err Inside
     else (if is_full_dir_there t there then Err NotEmpty
-    else Ok (moved t from name to new_name x there)))
+    else Ok (with_row_moved t from name to new_name x there)))
 
 -- moves a row; what stood at the new spot is taken away with its last row, and a move between two rows of one node changes nothing
 abbrev pub shift : Tree → ℕ → List ℕ → ℕ → List ℕ → Result Tree TreeFault

@@ -3,9 +3,10 @@ use Rattle.std.specs.Prelude.{◌≡◌, ℕ, List, [], ◌∷◌, ◌++◌, Som
 use Rattle.pua_tree.specs.Tree.{Node, Tree, WellFormed}
 use Rattle.pua_tree.specs.Edits.{add, tie, cut, shift}
 use Rattle.pua_tree.specs.Spelling.{name_of}
-use Rattle.pua_tree.specs.Listing.{Entry, listing, admitted}
+use Rattle.pua_tree.specs.Listing.{Entry, listing, entry_or_fault}
 use Rattle.pua_tree.specs.declared.node.Kind.TheVariants.{Dir, File, Prog, Link}
-use Rattle.pua_tree.specs.declared.fault.ListingFault.TheVariants.{BadHeader, BadLine, BadNumber, BadParent, BadName, BadTarget, Taken, TooMany, BadNode}
+use Rattle.pua_tree.specs.declared.fault.ListingFault.TheVariants.{BadHeader, BadLine, BadNumber, BadParent, BadName, BadTarget, Taken}
+use Rattle.pua_tree.specs.declared.fault.ListingFault.TheVariants.{TooMany, BadNode}
 use Rattle.pua_tree.specs.declared.fault.NameFault.TheVariants.{BadSpelling, Empty, TooLong, NotAName}
 use Rattle.pua_tree.specs.declared.fault.TreeFault.TheVariants.{Missing, NotDir, NotEmpty, Inside, Full, IsDir, Taken as NameTaken}
 
@@ -15,7 +16,8 @@ text_of_lines lines = flat_map (λ line. line ++ 10 ∷ []) lines
 
 -- a small tree with a directory link, a link to a sibling, a link to itself and a program
 abbrev pub example_listing : List ℕ
-example_listing = text_of_lines (codes "tree 1" ∷ codes "0 dir" ∷ codes "1 dir 0 etc" ∷ codes "2 file 1 passwd" ∷ codes "3 dir 0 tmp" ∷ codes "4 link 0 t tmp" ∷ codes "5 link 3 up ../etc" ∷ codes "6 link 3 self self" ∷ codes "7 prog 3 sh" ∷ [])
+example_listing = text_of_lines (codes "tree 1" ∷ codes "0 dir" ∷ codes "1 dir 0 etc" ∷ codes "2 file 1 passwd" ∷ codes "3 dir 0 tmp"
+    ∷ codes "4 link 0 t tmp" ∷ codes "5 link 3 up ../etc" ∷ codes "6 link 3 self self" ∷ codes "7 prog 3 sh" ∷ [])
 
 abbrev plain : Node
 plain = record { kind = File; target = None }
@@ -25,8 +27,18 @@ example_entry = record { number = 1; parent = 0; name = codes "a"; node = 1; mad
 
 abbrev pub example_tree : Tree
 example_tree = record {
-  rows = ((0, codes "etc"), 1) ∷ ((0, codes "t"), 4) ∷ ((0, codes "tmp"), 3) ∷ ((1, codes "passwd"), 2) ∷ ((3, codes "self"), 6) ∷ ((3, codes "sh"), 7) ∷ ((3, codes "up"), 5) ∷ [];
-  nodes = (0, record { kind = Dir; target = None }) ∷ (1, record { kind = Dir; target = None }) ∷ (2, record { kind = File; target = None }) ∷ (3, record { kind = Dir; target = None }) ∷ (4, record { kind = Link; target = Some (codes "tmp") }) ∷ (5, record { kind = Link; target = Some (codes "../etc") }) ∷ (6, record { kind = Link; target = Some (codes "self") }) ∷ (7, record { kind = Prog; target = None }) ∷ [];
+  rows = ((0, codes "etc"), 1) ∷ ((0, codes "t"), 4) ∷ ((0, codes "tmp"), 3) ∷ ((1, codes "passwd"), 2) ∷ (
+    (3, codes "self"),
+    6,
+  ) ∷ ((3, codes "sh"), 7) ∷ ((3, codes "up"), 5) ∷ [];
+  nodes = (0, record { kind = Dir; target = None }) ∷ (1, record { kind = Dir; target = None }) ∷ (2, record { kind = File; target = None })
+      ∷ (3, record { kind = Dir; target = None }) ∷ (4, record { kind = Link; target = Some (codes "tmp") }) ∷ (
+        5,
+        record { kind = Link; target = Some (codes "../etc") },
+      ) ∷ (6, record { kind = Link; target = Some (codes "self") }) ∷ (
+        7,
+        record { kind = Prog; target = None },
+      ) ∷ [];
   next = 8;
 }
 
@@ -34,18 +46,22 @@ example_tree = record {
 abbrev pub tree_of_two_names : Tree
 tree_of_two_names = record {
   rows = ((0, codes "a"), 1) ∷ ((0, codes "b"), 2) ∷ ((1, codes "c"), 2) ∷ [];
-  nodes = (0, record { kind = Dir; target = None }) ∷ (1, record { kind = Dir; target = None }) ∷ (2, record { kind = File; target = None }) ∷ [];
+  nodes = (0, record { kind = Dir; target = None }) ∷ (1, record { kind = Dir; target = None }) ∷ (2, record { kind = File; target = None })
+      ∷ [];
   next = 3;
 }
 
 -- what is no listing, by its first fault
 pub record ListingRows : Type 0 where
   pub example : listing example_listing ≡ Ok example_tree
-  pub returns_and_feeds : listing (codes "tree 1" ++ 13 ∷ 10 ∷ codes "0 dir" ++ 13 ∷ 10 ∷ codes "1 dir 0 a" ++ 13 ∷ 10 ∷ []) ≡ listing (text_of_lines (codes "tree 1" ∷ codes "0 dir" ∷ codes "1 dir 0 a" ∷ []))
+  pub returns_and_feeds : listing (codes "tree 1" ++ 13 ∷ 10 ∷ codes "0 dir" ++ 13 ∷ 10 ∷ codes "1 dir 0 a" ++ 13 ∷ 10 ∷ [])
+      ≡ listing (text_of_lines (codes "tree 1" ∷ codes "0 dir" ∷ codes "1 dir 0 a" ∷ []))
   pub no_bytes : listing (text_of_lines ([])) ≡ Err BadHeader
   pub header_alone : listing (text_of_lines (codes "tree 1" ∷ [])) ≡ Err (BadLine 2)
-  pub same_number : listing (text_of_lines (codes "tree 1" ∷ codes "0 dir" ∷ codes "2 dir 0 a" ∷ codes "2 file 0 b" ∷ [])) ≡ Err (BadNumber 4)
-  pub parent_is_file : listing (text_of_lines (codes "tree 1" ∷ codes "0 dir" ∷ codes "1 file 0 a" ∷ codes "2 file 1 b" ∷ [])) ≡ Err (BadParent 4)
+  pub same_number : listing (text_of_lines (codes "tree 1" ∷ codes "0 dir" ∷ codes "2 dir 0 a" ∷ codes "2 file 0 b" ∷ []))
+      ≡ Err (BadNumber 4)
+  pub parent_is_file : listing (text_of_lines (codes "tree 1" ∷ codes "0 dir" ∷ codes "1 file 0 a" ∷ codes "2 file 1 b" ∷ []))
+      ≡ Err (BadParent 4)
   pub dots : listing (text_of_lines (codes "tree 1" ∷ codes "0 dir" ∷ codes "1 dir 0 .." ∷ [])) ≡ Err (BadName 3)
   pub plain_escaped : listing (text_of_lines (codes "tree 1" ∷ codes "0 dir" ∷ codes "1 dir 0 \\141" ∷ [])) ≡ Err (BadName 3)
   pub nul_target : listing (text_of_lines (codes "tree 1" ∷ codes "0 dir" ∷ codes "1 link 0 a \\000" ∷ [])) ≡ Err (BadTarget 3)
@@ -54,16 +70,23 @@ pub record ListingRows : Type 0 where
   pub two_spaces : listing (text_of_lines (codes "tree 1" ∷ codes "0 dir" ∷ codes "1 dir  0 a" ∷ [])) ≡ Err (BadLine 3)
   pub short_line : listing (text_of_lines (codes "tree 1" ∷ codes "0 dir" ∷ codes "1 dir 0" ∷ [])) ≡ Err (BadLine 3)
   pub other_header : listing (text_of_lines (codes "tree 3" ∷ codes "0 dir" ∷ [])) ≡ Err BadHeader
-  pub two_names : listing (text_of_lines (codes "tree 2" ∷ codes "0 dir" ∷ codes "1 dir 0 a" ∷ codes "2 file 0 b" ∷ codes "3 hard 1 c 2" ∷ [])) ≡ Ok (record tree_of_two_names { next = 4 })
-  pub after_hard : listing (text_of_lines (codes "tree 2" ∷ codes "0 dir" ∷ codes "1 file 0 a" ∷ codes "3 hard 0 b 1" ∷ codes "3 file 0 c" ∷ [])) ≡ Err (BadNumber 5)
-  pub hard_to_dir : listing (text_of_lines (codes "tree 2" ∷ codes "0 dir" ∷ codes "1 dir 0 d" ∷ codes "2 hard 0 e 1" ∷ [])) ≡ Err (BadNode 4)
+  pub two_names : listing (text_of_lines (codes "tree 2" ∷ codes "0 dir" ∷ codes "1 dir 0 a" ∷ codes "2 file 0 b" ∷ codes "3 hard 1 c 2"
+      ∷ [])) ≡ Ok (record tree_of_two_names { next = 4 })
+  pub after_hard : listing (text_of_lines (codes "tree 2" ∷ codes "0 dir" ∷ codes "1 file 0 a" ∷ codes "3 hard 0 b 1" ∷ codes "3 file 0 c"
+      ∷ [])) ≡ Err (BadNumber 5)
+  pub hard_to_dir : listing (text_of_lines (codes "tree 2" ∷ codes "0 dir" ∷ codes "1 dir 0 d" ∷ codes "2 hard 0 e 1" ∷ []))
+      ≡ Err (BadNode 4)
   pub hard_to_root : listing (text_of_lines (codes "tree 2" ∷ codes "0 dir" ∷ codes "1 hard 0 e 0" ∷ [])) ≡ Err (BadNode 3)
   pub hard_to_itself : listing (text_of_lines (codes "tree 2" ∷ codes "0 dir" ∷ codes "1 hard 0 e 1" ∷ [])) ≡ Err (BadNode 3)
-  pub hard_to_later : listing (text_of_lines (codes "tree 2" ∷ codes "0 dir" ∷ codes "1 hard 0 e 2" ∷ codes "2 file 0 f" ∷ [])) ≡ Err (BadNode 3)
-  pub hard_to_hard : listing (text_of_lines (codes "tree 2" ∷ codes "0 dir" ∷ codes "1 file 0 a" ∷ codes "2 hard 0 b 1" ∷ codes "3 hard 0 c 2" ∷ [])) ≡ Err (BadNode 5)
+  pub hard_to_later : listing (text_of_lines (codes "tree 2" ∷ codes "0 dir" ∷ codes "1 hard 0 e 2" ∷ codes "2 file 0 f" ∷ []))
+      ≡ Err (BadNode 3)
+  pub hard_to_hard : listing (text_of_lines (codes "tree 2" ∷ codes "0 dir" ∷ codes "1 file 0 a" ∷ codes "2 hard 0 b 1"
+      ∷ codes "3 hard 0 c 2" ∷ [])) ≡ Err (BadNode 5)
   pub hard_taken : listing (text_of_lines (codes "tree 2" ∷ codes "0 dir" ∷ codes "1 file 0 a" ∷ codes "2 hard 0 a 1" ∷ [])) ≡ Err (Taken 4)
-  pub hard_is_no_dir : listing (text_of_lines (codes "tree 2" ∷ codes "0 dir" ∷ codes "1 file 0 a" ∷ codes "2 hard 0 b 1" ∷ codes "3 file 2 c" ∷ [])) ≡ Err (BadParent 5)
-  pub unknown_kind : listing (text_of_lines (codes "tree 1" ∷ codes "0 dir" ∷ codes "1 file 0 a" ∷ codes "2 hard 0 b 1" ∷ [])) ≡ Err (BadLine 4)
+  pub hard_is_no_dir : listing (text_of_lines (codes "tree 2" ∷ codes "0 dir" ∷ codes "1 file 0 a" ∷ codes "2 hard 0 b 1"
+      ∷ codes "3 file 2 c" ∷ [])) ≡ Err (BadParent 5)
+  pub unknown_kind : listing (text_of_lines (codes "tree 1" ∷ codes "0 dir" ∷ codes "1 file 0 a" ∷ codes "2 hard 0 b 1" ∷ []))
+      ≡ Err (BadLine 4)
   pub first_0 : listing (take 0 example_listing) ≡ Err BadHeader
   pub first_5 : listing (take 5 example_listing) ≡ Err BadHeader
   pub first_6 : listing (take 6 example_listing) ≡ Err (BadLine 2)
@@ -73,7 +96,39 @@ pub record ListingRows : Type 0 where
   pub bytes : length example_listing ≡ 118
 
 pub listing_rows : ListingRows
-listing_rows = record { example = refl; returns_and_feeds = refl; no_bytes = refl; header_alone = refl; same_number = refl; parent_is_file = refl; dots = refl; plain_escaped = refl; nul_target = refl; taken = refl; leading_zero = refl; two_spaces = refl; short_line = refl; other_header = refl; two_names = refl; after_hard = refl; hard_to_dir = refl; hard_to_root = refl; hard_to_itself = refl; hard_to_later = refl; hard_to_hard = refl; hard_taken = refl; hard_is_no_dir = refl; unknown_kind = refl; first_0 = refl; first_5 = refl; first_6 = refl; first_48 = refl; first_49 = refl; first_63 = refl; bytes = refl }
+listing_rows = record {
+  example = refl;
+  returns_and_feeds = refl;
+  no_bytes = refl;
+  header_alone = refl;
+  same_number = refl;
+  parent_is_file = refl;
+  dots = refl;
+  plain_escaped = refl;
+  nul_target = refl;
+  taken = refl;
+  leading_zero = refl;
+  two_spaces = refl;
+  short_line = refl;
+  other_header = refl;
+  two_names = refl;
+  after_hard = refl;
+  hard_to_dir = refl;
+  hard_to_root = refl;
+  hard_to_itself = refl;
+  hard_to_later = refl;
+  hard_to_hard = refl;
+  hard_taken = refl;
+  hard_is_no_dir = refl;
+  unknown_kind = refl;
+  first_0 = refl;
+  first_5 = refl;
+  first_6 = refl;
+  first_48 = refl;
+  first_49 = refl;
+  first_63 = refl;
+  bytes = refl;
+}
 
 -- of two faults of a line the earlier is answered, and of two lines that of the first
 pub record FaultOrderRows : Type 0 where
@@ -83,16 +138,32 @@ pub record FaultOrderRows : Type 0 where
   pub number_before_parent : listing (text_of_lines (codes "tree 1" ∷ codes "0 dir" ∷ codes "0 dir 7 a" ∷ [])) ≡ Err (BadNumber 3)
   pub parent_before_name : listing (text_of_lines (codes "tree 1" ∷ codes "0 dir" ∷ codes "1 dir 7 .." ∷ [])) ≡ Err (BadParent 3)
   pub name_before_target : listing (text_of_lines (codes "tree 1" ∷ codes "0 dir" ∷ codes "1 link 0 .. \\000" ∷ [])) ≡ Err (BadName 3)
-  pub target_before_taken : listing (text_of_lines (codes "tree 1" ∷ codes "0 dir" ∷ codes "1 dir 0 a" ∷ codes "2 link 0 a \\000" ∷ [])) ≡ Err (BadTarget 4)
+  pub target_before_taken : listing (text_of_lines (codes "tree 1" ∷ codes "0 dir" ∷ codes "1 dir 0 a" ∷ codes "2 link 0 a \\000" ∷ []))
+      ≡ Err (BadTarget 4)
   pub name_before_node : listing (text_of_lines (codes "tree 2" ∷ codes "0 dir" ∷ codes "1 hard 0 .. 0" ∷ [])) ≡ Err (BadName 3)
-  pub node_before_taken : listing (text_of_lines (codes "tree 2" ∷ codes "0 dir" ∷ codes "1 dir 0 a" ∷ codes "2 hard 0 a 1" ∷ [])) ≡ Err (BadNode 4)
-  pub taken_before_room : admitted (example_entry ∷ []) 4098 example_entry ≡ Err (Taken 4098)
-  pub no_room : admitted [] 4098 example_entry ≡ Err (TooMany 4098)
-  pub last_room : admitted [] 4097 example_entry ≡ Ok example_entry
+  pub node_before_taken : listing (text_of_lines (codes "tree 2" ∷ codes "0 dir" ∷ codes "1 dir 0 a" ∷ codes "2 hard 0 a 1" ∷ []))
+      ≡ Err (BadNode 4)
+  pub taken_before_room : entry_or_fault (example_entry ∷ []) 4098 example_entry ≡ Err (Taken 4098)
+  pub no_room : entry_or_fault [] 4098 example_entry ≡ Err (TooMany 4098)
+  pub last_room : entry_or_fault [] 4097 example_entry ≡ Ok example_entry
   pub earlier_line_first : listing (text_of_lines (codes "tree 1" ∷ codes "0 dir" ∷ codes "1 dir 0 .." ∷ codes "x" ∷ [])) ≡ Err (BadName 3)
 
 pub fault_order_rows : FaultOrderRows
-fault_order_rows = record { header_before_root = refl; root_before_entries = refl; line_before_number = refl; number_before_parent = refl; parent_before_name = refl; name_before_target = refl; target_before_taken = refl; name_before_node = refl; node_before_taken = refl; taken_before_room = refl; no_room = refl; last_room = refl; earlier_line_first = refl }
+fault_order_rows = record {
+  header_before_root = refl;
+  root_before_entries = refl;
+  line_before_number = refl;
+  number_before_parent = refl;
+  parent_before_name = refl;
+  name_before_target = refl;
+  target_before_taken = refl;
+  name_before_node = refl;
+  node_before_taken = refl;
+  taken_before_room = refl;
+  no_room = refl;
+  last_room = refl;
+  earlier_line_first = refl;
+}
 
 -- what is no name, by its first fault
 pub record NameRows : Type 0 where
@@ -107,7 +178,17 @@ pub record NameRows : Type 0 where
   pub three_dots : name_of (codes "...") ≡ Ok (codes "...")
 
 pub name_rows : NameRows
-name_rows = record { slash_before_empty = refl; slash_before_length = refl; escape_of_plain = refl; nothing = refl; length_before_nul = refl; longest = refl; nul = refl; dot = refl; three_dots = refl }
+name_rows = record {
+  slash_before_empty = refl;
+  slash_before_length = refl;
+  escape_of_plain = refl;
+  nothing = refl;
+  length_before_nul = refl;
+  longest = refl;
+  nul = refl;
+  dot = refl;
+  three_dots = refl;
+}
 
 -- the example tree is a tree
 abbrev pub ExampleIsTree : Type 0
@@ -119,15 +200,23 @@ example_is_tree = record { rows_in_order = refl; nodes_in_order = refl; root = r
 -- the example tree after its program came to stand where its one file stood
 abbrev pub tree_after_move : Tree
 tree_after_move = record {
-  rows = ((0, codes "etc"), 1) ∷ ((0, codes "t"), 4) ∷ ((0, codes "tmp"), 3) ∷ ((1, codes "passwd"), 7) ∷ ((3, codes "self"), 6) ∷ ((3, codes "up"), 5) ∷ [];
-  nodes = (0, record { kind = Dir; target = None }) ∷ (1, record { kind = Dir; target = None }) ∷ (3, record { kind = Dir; target = None }) ∷ (4, record { kind = Link; target = Some (codes "tmp") }) ∷ (5, record { kind = Link; target = Some (codes "../etc") }) ∷ (6, record { kind = Link; target = Some (codes "self") }) ∷ (7, record { kind = Prog; target = None }) ∷ [];
+  rows = ((0, codes "etc"), 1) ∷ ((0, codes "t"), 4) ∷ ((0, codes "tmp"), 3) ∷ ((1, codes "passwd"), 7) ∷ (
+    (3, codes "self"),
+    6,
+  ) ∷ ((3, codes "up"), 5) ∷ [];
+  nodes = (0, record { kind = Dir; target = None }) ∷ (1, record { kind = Dir; target = None }) ∷ (3, record { kind = Dir; target = None })
+      ∷ (4, record { kind = Link; target = Some (codes "tmp") }) ∷ (5, record { kind = Link; target = Some (codes "../etc") }) ∷ (
+        6,
+        record { kind = Link; target = Some (codes "self") },
+      ) ∷ (7, record { kind = Prog; target = None }) ∷ [];
   next = 8;
 }
 
 abbrev pub small_tree : Tree
 small_tree = record {
   rows = ((0, codes "a"), 1) ∷ ((0, codes "b"), 2) ∷ [];
-  nodes = (0, record { kind = Dir; target = None }) ∷ (1, record { kind = Dir; target = None }) ∷ (2, record { kind = File; target = None }) ∷ [];
+  nodes = (0, record { kind = Dir; target = None }) ∷ (1, record { kind = Dir; target = None }) ∷ (2, record { kind = File; target = None })
+      ∷ [];
   next = 3;
 }
 
@@ -135,7 +224,8 @@ small_tree = record {
 abbrev pub tree_of_second_name : Tree
 tree_of_second_name = record {
   rows = ((0, codes "a"), 1) ∷ ((1, codes "c"), 2) ∷ [];
-  nodes = (0, record { kind = Dir; target = None }) ∷ (1, record { kind = Dir; target = None }) ∷ (2, record { kind = File; target = None }) ∷ [];
+  nodes = (0, record { kind = Dir; target = None }) ∷ (1, record { kind = Dir; target = None }) ∷ (2, record { kind = File; target = None })
+      ∷ [];
   next = 3;
 }
 
@@ -145,7 +235,10 @@ pub record EditRows : Type 0 where
     3,
     record {
       rows = ((0, codes "a"), 1) ∷ ((0, codes "b"), 2) ∷ ((1, codes "c"), 3) ∷ [];
-      nodes = (0, record { kind = Dir; target = None }) ∷ (1, record { kind = Dir; target = None }) ∷ (2, record { kind = File; target = None }) ∷ (3, plain) ∷ [];
+      nodes = (0, record { kind = Dir; target = None }) ∷ (1, record { kind = Dir; target = None }) ∷ (
+        2,
+        record { kind = File; target = None },
+      ) ∷ (3, plain) ∷ [];
       next = 4;
     },
   )
@@ -153,7 +246,8 @@ pub record EditRows : Type 0 where
   pub name_taken : add (record example_tree { next = 4294967295 }) 0 (codes "tmp") plain ≡ Err NameTaken
   pub no_number : add (record example_tree { next = 4294967295 }) 0 (codes "tmpp") plain ≡ Err Full
   pub tied : tie small_tree 1 (codes "c") 2 ≡ Ok tree_of_two_names
-  pub tied_without_number : tie (record small_tree { next = 4294967295 }) 1 (codes "c") 2 ≡ Ok (record tree_of_two_names { next = 4294967295 })
+  pub tied_without_number : tie (record small_tree { next = 4294967295 }) 1 (codes "c") 2
+      ≡ Ok (record tree_of_two_names { next = 4294967295 })
   pub tie_in_file : tie small_tree 2 (codes "c") 9 ≡ Err NotDir
   pub tie_nothing : tie small_tree 0 (codes "b") 9 ≡ Err Missing
   pub tie_dir : tie small_tree 0 (codes "b") 1 ≡ Err IsDir
@@ -193,4 +287,30 @@ pub record EditRows : Type 0 where
   pub onto_full_dir : shift example_tree 0 (codes "etc") 0 (codes "tmp") ≡ Err NotEmpty
 
 pub edit_rows : EditRows
-edit_rows = record { added = refl; into_file = refl; name_taken = refl; no_number = refl; tied = refl; tied_without_number = refl; tie_in_file = refl; tie_nothing = refl; tie_dir = refl; tie_taken = refl; cut_one_name = refl; cut_last_name = refl; between_names = refl; cut_dir = refl; cut_in_link = refl; cut_nothing = refl; cut_full_dir = refl; moved = refl; onto_empty_dir = refl; in_place = refl; move_from_file = refl; move_to_gone = refl; move_nothing = refl; into_itself = refl; onto_full_dir = refl }
+edit_rows = record {
+  added = refl;
+  into_file = refl;
+  name_taken = refl;
+  no_number = refl;
+  tied = refl;
+  tied_without_number = refl;
+  tie_in_file = refl;
+  tie_nothing = refl;
+  tie_dir = refl;
+  tie_taken = refl;
+  cut_one_name = refl;
+  cut_last_name = refl;
+  between_names = refl;
+  cut_dir = refl;
+  cut_in_link = refl;
+  cut_nothing = refl;
+  cut_full_dir = refl;
+  moved = refl;
+  onto_empty_dir = refl;
+  in_place = refl;
+  move_from_file = refl;
+  move_to_gone = refl;
+  move_nothing = refl;
+  into_itself = refl;
+  onto_full_dir = refl;
+}

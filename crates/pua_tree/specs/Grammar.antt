@@ -1,25 +1,26 @@
 -- What a listing is as a text: the lines that spell its entries, each of which fits those before it.
-use Rattle.std.specs.Prelude.{◌≡◌, ℕ, ◌+◌, Bool, true, false, not, ◌&&◌, if◌then◌else◌, List, [], ◌∷◌, ◌++◌, map, length, Option, Some, None, codes, decimal, IsTrue, nat_lt, nat_le, ◌==◌, option_map, Ok, ◌↔◌}
+use Rattle.std.specs.Prelude.{◌≡◌, ℕ, ◌+◌, Bool, true, false, not, ◌&&◌, if◌then◌else◌, List, [], ◌∷◌, ◌++◌, map, length, Option, Some}
+use Rattle.std.specs.Prelude.{None, codes, decimal, IsTrue, nat_lt, nat_le, ◌==◌, option_map, Ok, ◌↔◌}
 use Rattle.std.specs.List.{list_all}
 use Rattle.std.specs.Str.Lines.{lines}
 use Rattle.pua_tree.specs.Limits.{highest_listed, most_listed}
 use Rattle.pua_tree.specs.Names.{is_name, is_target}
-use Rattle.pua_tree.specs.Spelling.{spelling, unspelled}
+use Rattle.pua_tree.specs.Spelling.{spelling, bytes_spelled}
 use Rattle.pua_tree.specs.Tree.{Node, Tree, WellFormed}
 use Rattle.pua_tree.specs.Listing.{Entry, last_number, is_earlier_dir, is_earlier_other, is_taken, tree_of, listing, listing_of_lines}
 use Rattle.pua_tree.specs.declared.node.Kind.{Kind}
 use Rattle.pua_tree.specs.declared.node.Kind.TheVariants.{Dir, File, Prog, Link}
 
-abbrev pub kind_word : Kind → List ℕ
-kind_word Dir = codes "dir"
-kind_word File = codes "file"
-kind_word Prog = codes "prog"
-kind_word Link = codes "link"
+abbrev pub listing_kind_word : Kind → List ℕ
+listing_kind_word Dir = codes "dir"
+listing_kind_word File = codes "file"
+listing_kind_word Prog = codes "prog"
+listing_kind_word Link = codes "link"
 
 -- the word of a line: the kind of what it makes, if it makes something
 abbrev pub line_word : Option Kind → List ℕ
 line_word None = codes "hard"
-line_word (Some kind) = kind_word kind
+line_word (Some kind) = listing_kind_word kind
 
 -- a link's target stands in a field of its own, and so does the node of a hard link
 abbrev pub target_field : Option (List ℕ) → List ℕ
@@ -32,7 +33,8 @@ last_field node (Some made) = target_field made.target
 
 -- the line that spells an entry
 abbrev pub entry_text : Entry → List ℕ
-entry_text e = decimal e.number ++ 32 ∷ line_word (option_map (λ made. made.kind) e.made) ++ 32 ∷ decimal e.parent ++ 32 ∷ spelling e.name ++ last_field e.node e.made
+entry_text e = decimal e.number ++ 32 ∷ line_word (option_map (λ made. made.kind) e.made) ++ 32 ∷ decimal e.parent ++ 32 ∷ spelling e.name
+    ++ last_field e.node e.made
 
 -- a target stands exactly at links, and its bytes are below 256, as a name's are
 abbrev pub target_stands : Kind → Option (List ℕ) → Bool
@@ -73,7 +75,8 @@ ListingsAreRead = (bytes : List ℕ) (t : Tree) → (listing bytes ≡ Ok t) ↔
 
 -- the lines of a listing of the first form list the same tree in the second
 abbrev pub SecondFormsAgree : Type 0
-SecondFormsAgree = (texts : List (List ℕ)) (t : Tree) → listing_of_lines (header_text false ∷ texts) ≡ Ok t → listing_of_lines (header_text true ∷ texts) ≡ Ok t
+SecondFormsAgree = (texts : List (List ℕ)) (t : Tree) → listing_of_lines (header_text false ∷ texts) ≡ Ok t →
+    listing_of_lines (header_text true ∷ texts) ≡ Ok t
 
 -- what a listing lists is a tree
 abbrev pub ListingsListTrees : Type 0
@@ -81,4 +84,5 @@ ListingsListTrees = (bytes : List ℕ) (t : Tree) → IsListing bytes t → Well
 
 -- a text spells these bytes exactly where it is their spelling, so bytes have one spelling
 abbrev pub SpellingsAreRead : Type 0
-SpellingsAreRead = (text bytes : List ℕ) → (unspelled text ≡ Some bytes) ↔ (IsTrue (list_all (λ b. nat_lt b 256) bytes) × (text ≡ spelling bytes))
+SpellingsAreRead = (text bytes : List ℕ) →
+    (bytes_spelled text ≡ Some bytes) ↔ (IsTrue (list_all (λ b. nat_lt b 256) bytes) × (text ≡ spelling bytes))

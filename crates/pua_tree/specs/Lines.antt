@@ -1,7 +1,13 @@
 -- A line as its reader gives it.
-use Rattle.pua_tree.specs.Listing.{Line}
-use Rattle.pua_tree.specs.declared.line.Line.{Line as Parts}
+use Rattle.pua_tree.specs.Listing.{ListingLine}
+use Rattle.pua_tree.specs.declared.line.ListingLine.{ListingLine as Parts}
 
 -- what the parts of a line are, where each lies in the line
-abbrev pub line_read : Parts → Line
-line_read parts = record { number = parts.number.now; kind = parts.kind; parent = parts.parent.now; name = parts.name.now; last = parts.last.now }
+abbrev pub line_read : Parts → ListingLine
+line_read parts = record {
+  number = parts.number.now;
+  kind = parts.kind;
+  parent = parts.parent.now;
+  name = parts.name.now;
+  last = parts.last.now;
+}

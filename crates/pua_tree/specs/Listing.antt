@@ -1,18 +1,20 @@
 -- Which bytes are a listing of which tree, and else which fault comes first.
-use Rattle.std.specs.Prelude.{ℕ, suc, Bool, true, false, not, ◌&&◌, ◌||◌, if◌then◌else◌, List, [], ◌∷◌, ◌++◌, filter_map, nat_lt, ◌==◌, Option, Some, None, Result, Ok, Err, codes, ok_or, option_map}
+use Rattle.std.specs.Prelude.{ℕ, suc, Bool, true, false, not, ◌&&◌, ◌||◌, if◌then◌else◌, List, [], ◌∷◌, ◌++◌, filter_map, nat_lt, ◌==◌}
+use Rattle.std.specs.Prelude.{Option, Some, None, Result, Ok, Err, codes, ok_or, option_map}
 use Rattle.std.specs.List.{list_all, list_any}
 use Rattle.std.specs.Str.Lines.{lines}
 use Rattle.std.specs.FinMap.{put}
 use Rattle.pua_tree.specs.Limits.{highest_listed, most_lines}
 use Rattle.pua_tree.specs.Names.{same_bytes, is_target}
-use Rattle.pua_tree.specs.Spelling.{unspelled, name_of, fields, is_field, number_within}
+use Rattle.pua_tree.specs.Spelling.{bytes_spelled, name_of, fields, is_field, number_within}
 use Rattle.pua_tree.specs.Tree.{Node, Spot, Tree, spot_cmp, is_dir_kind}
 use Rattle.pua_tree.specs.Steps.{◌>>=◌}
 use Rattle.std.specs.Result.{result_ok}
 use Rattle.pua_tree.specs.declared.node.Kind.{Kind}
 use Rattle.pua_tree.specs.declared.node.Kind.TheVariants.{Dir, File, Prog, Link}
 use Rattle.pua_tree.specs.declared.fault.ListingFault.{ListingFault}
-use Rattle.pua_tree.specs.declared.fault.ListingFault.TheVariants.{BadHeader, BadLine, BadNumber, BadParent, BadName, BadTarget, Taken, TooMany, BadNode}
+use Rattle.pua_tree.specs.declared.fault.ListingFault.TheVariants.{BadHeader, BadLine, BadNumber, BadParent, BadName, BadTarget, Taken}
+use Rattle.pua_tree.specs.declared.fault.ListingFault.TheVariants.{TooMany, BadNode}
 
 -- what one line says: a row, and the node that the line makes under its number; a `hard` line makes none
 pub record Entry : Type 0 where
@@ -23,7 +25,7 @@ pub record Entry : Type 0 where
   pub made : Option Node
 
 -- the fields of a line by what they are for; a `hard` line has no kind, and its last field is a node where a link's is a target
-pub record Line : Type 0 where
+pub record ListingLine : Type 0 where
   pub number : List ℕ
   pub kind : Option Kind
   pub parent : List ℕ
@@ -43,15 +45,15 @@ long_kind hard word =
     else (if hard && same_bytes word (codes "hard") then Some None else None)
 
 -- four fields for a directory, a file or a program, and five for a link and a hard link
-abbrev pub line_of_fields : Bool → List (List ℕ) → Option Line
+abbrev pub line_of_fields : Bool → List (List ℕ) → Option ListingLine
 line_of_fields hard (number ∷ word ∷ parent ∷ name ∷ []) =
     option_map (λ kind. record { number = number; kind = Some kind; parent = parent; name = name; last = [] }) (plain_kind word)
 line_of_fields hard (number ∷ word ∷ parent ∷ name ∷ last ∷ []) =
     option_map (λ kind. record { number = number; kind = kind; parent = parent; name = name; last = last }) (long_kind hard word)
 line_of_fields hard _ = None
 
-abbrev pub line_of : Bool → List ℕ → Option Line
-line_of hard text = if list_all is_field (fields text) then line_of_fields hard (fields text) else None
+abbrev pub listing_line : Bool → List ℕ → Option ListingLine
+listing_line hard text = if list_all is_field (fields text) then line_of_fields hard (fields text) else None
 
 -- the number of the line before, or 0
 abbrev pub last_number : List Entry → ℕ
@@ -81,40 +83,44 @@ only_if test None = None
 only_if test (Some x) = if test x then Some x else None
 
 -- the parts of a line, read over the earlier lines
-abbrev pub number_in : List Entry → Line → Option ℕ
+abbrev pub number_in : List Entry → ListingLine → Option ℕ
 number_in earlier line = only_if (λ n. nat_lt (last_number earlier) n) (number_within 1 highest_listed line.number)
 
-abbrev pub parent_in : List Entry → Line → Option ℕ
+abbrev pub parent_in : List Entry → ListingLine → Option ℕ
 parent_in earlier line = only_if (is_earlier_dir earlier) (number_within 0 highest_listed line.parent)
 
-abbrev pub node_in : List Entry → Line → Option ℕ
-node_in earlier line = only_if (is_earlier_other earlier) (number_within 1 highest_listed line.last)
+abbrev pub hard_node_in : List Entry → ListingLine → Option ℕ
+hard_node_in earlier line = only_if (is_earlier_other earlier) (number_within 1 highest_listed line.last)
 
-abbrev pub target_in : Line → Option (List ℕ)
-target_in line = only_if is_target (unspelled line.last)
+abbrev pub target_in : ListingLine → Option (List ℕ)
+target_in line = only_if is_target (bytes_spelled line.last)
 
 -- the node of line n's row, and what the line makes under its number: a link has a target, and a hard link makes nothing
-abbrev pub node_of : List Entry → ℕ → ℕ → Line → Option Kind → Result (ℕ × Option Node) ListingFault
-node_of earlier n number line None = ok_or (node_in earlier line) (BadNode n) >>= λ x. Ok (x, None)
-node_of earlier n number line (Some Link) = ok_or (target_in line) (BadTarget n) >>= λ target. Ok (number, Some (record { kind = Link; target = Some target }))
+abbrev pub node_of : List Entry → ℕ → ℕ → ListingLine → Option Kind → Result (ℕ × Option Node) ListingFault
+node_of earlier n number line None = ok_or (hard_node_in earlier line) (BadNode n) >>= λ x. Ok (x, None)
+node_of earlier n number line (Some Link) = ok_or (target_in line) (BadTarget n) >>= λ target. Ok (
+  number,
+  Some (record { kind = Link; target = Some target }),
+)
 node_of earlier n number line (Some kind) = Ok (number, Some (record { kind = kind; target = None }))
 
 abbrev pub is_taken : List Entry → ℕ → List ℕ → Bool
 is_taken earlier parent name = list_any (λ e. e.parent == parent && same_bytes e.name name) earlier
 
 -- the entry of line n, if its name is free and there is room; line 2 is the root's
-abbrev pub admitted : List Entry → ℕ → Entry → Result Entry ListingFault
-admitted earlier n e = if is_taken earlier e.parent e.name then Err (Taken n) else (if nat_lt most_lines n then Err (TooMany n) else Ok e)
+abbrev pub entry_or_fault : List Entry → ℕ → Entry → Result Entry ListingFault
+entry_or_fault earlier n e =
+    if is_taken earlier e.parent e.name then Err (Taken n) else (if nat_lt most_lines n then Err (TooMany n) else Ok e)
 
 -- what line n says after the earlier ones, or its first fault
 abbrev pub entry_of : Bool → List Entry → ℕ → List ℕ → Result Entry ListingFault
 entry_of hard earlier n text = do
-  line ← ok_or (line_of hard text) (BadLine n)
+  line ← ok_or (listing_line hard text) (BadLine n)
   number ← ok_or (number_in earlier line) (BadNumber n)
   parent ← ok_or (parent_in earlier line) (BadParent n)
   name ← ok_or (result_ok (name_of line.name)) (BadName n)
   node ← node_of earlier n number line line.kind
-  admitted earlier n (record { number = number; parent = parent; name = name; node = node.0; made = node.1 })
+  entry_or_fault earlier n (record { number = number; parent = parent; name = name; node = node.0; made = node.1 })
 
 -- what further lines say after the earlier ones, or the fault of the first line that has one
 abbrev pub entries_of : Bool → List Entry → ℕ → List (List ℕ) → Result (List Entry) ListingFault
@@ -126,8 +132,8 @@ abbrev pub rows_of_entries : List Entry → List (Spot × ℕ)
 rows_of_entries [] = []
 rows_of_entries (e ∷ es) = put spot_cmp (e.parent, e.name) e.node (rows_of_entries es)
 
-abbrev pub node_entry : Entry → Option (ℕ × Node)
-node_entry e = option_map (λ made. (e.number, made)) e.made
+abbrev pub made_entry : Entry → Option (ℕ × Node)
+made_entry e = option_map (λ made. (e.number, made)) e.made
 
 abbrev pub root_node : Node
 root_node = record { kind = Dir; target = None }
@@ -135,7 +141,7 @@ root_node = record { kind = Dir; target = None }
 abbrev pub tree_of : List Entry → Tree
 tree_of es = record {
   rows = rows_of_entries es;
-  nodes = (0, root_node) ∷ filter_map node_entry es;
+  nodes = (0, root_node) ∷ filter_map made_entry es;
   next = suc (last_number es);
 }
 

@@ -8,15 +8,15 @@ use Rattle.pua_tree.specs.Edits.{add, tie, with_new, with_row}
 use Rattle.pua_tree.specs.Listing as listing
 use Rattle.pua_tree.specs.Listing.{last_number, tree_of}
 use Rattle.pua_tree.specs.Grammar.{entries_fit}
-use Rattle.pua_tree.specs.declared.gathered.Entry.{Entry}
-use Rattle.pua_tree.specs.declared.gathered.Made.{Made}
+use Rattle.pua_tree.specs.declared.gathered.LineEntry.{LineEntry}
+use Rattle.pua_tree.specs.declared.gathered.MadeNode.{MadeNode}
 
 -- what an entry says
-abbrev pub said_node : Made → tree.Node
+abbrev pub said_node : MadeNode → tree.Node
 said_node made = record { kind = made.kind; target = option_map (λ target. target.items) made.target }
 
-abbrev pub said : Entry → listing.Entry
-said e = record { number = e.number; parent = e.parent; name = e.name; node = e.node; made = option_map said_node e.made }
+abbrev pub entry_said : LineEntry → listing.Entry
+entry_said e = record { number = e.number; parent = e.parent; name = e.name; node = e.node; made = option_map said_node e.made }
 
 -- the tree with an entry more: the node that it makes, under its number, in a new row; or, where it makes none, a new row
 -- of its node, and a next number above its own
@@ -24,8 +24,8 @@ abbrev pub grown_by : Tree → listing.Entry → Option tree.Node → Tree
 grown_by t e None = with_row (record t { next = e.number + 1 }) e.parent e.name e.node
 grown_by t e (Some made) = with_new (record t { next = e.number }) e.parent e.name made
 
-abbrev pub grown : Tree → listing.Entry → Tree
-grown t e = grown_by t e e.made
+abbrev pub tree_with : Tree → listing.Entry → Tree
+tree_with t e = grown_by t e e.made
 
 -- the edit by which an entry comes to the tree finds no fault
 abbrev pub Enters : Tree → listing.Entry → Option tree.Node → Type 0

@@ -1,5 +1,6 @@
 -- What rows and numbers in maps, and nodes in slots, hold of a tree.
-use Rattle.std.specs.Prelude.{ℕ, ◌≡◌, ◌≢◌, ◌==◌, ◌+◌, ◌-◌, not, if◌then◌else◌, List, [], ◌∷◌, map, count_by, Option, Some, None, IsSome, option_map, option_and_then}
+use Rattle.std.specs.Prelude.{ℕ, ◌≡◌, ◌≢◌, ◌==◌, ◌+◌, ◌-◌, not, if◌then◌else◌, List, [], ◌∷◌, map, count_by, Option, Some, None, IsSome}
+use Rattle.std.specs.Prelude.{option_map, option_and_then}
 use Rattle.std.specs.declared.cmp.Ordering.{Ordering}
 use Rattle.std.specs.Ordering.{nat_cmp, is_eq}
 use Rattle.std.specs.FinMap.{find as find_key, put}
@@ -10,12 +11,12 @@ use Rattle.pua_tree.specs.Tree as tree
 use Rattle.pua_tree.specs.Tree.{spot_cmp}
 use Rattle.pua_tree.specs.declared.node.Kind.TheVariants.{Dir}
 use Rattle.pua_tree.specs.declared.slots.Slots.{Slots}
-use Rattle.pua_tree.specs.declared.slots.Node.{Node}
-use Rattle.pua_tree.specs.declared.slots.Standing.{Standing}
+use Rattle.pua_tree.specs.declared.slots.SlotNode.{SlotNode}
+use Rattle.pua_tree.specs.declared.slots.Stance.{Stance}
 use Rattle.pua_tree.specs.contracts.spot.SpotPartialEq.TheImpl.{ghosts as spot_ghosts}
 use Rattle.pua_tree.specs.contracts.node.NodeIdPartialEq.TheImpl.{ghosts as number_ghosts}
 
-abbrev pub made_of : Node → tree.Node
+abbrev pub made_of : SlotNode → tree.Node
 made_of node = record { kind = node.kind; target = option_map (λ target. target.items) node.target }
 
 -- the node in the row at a spot
@@ -27,7 +28,7 @@ abbrev pub slot_of : Slots → ℕ → Option ℕ
 slot_of s x = get number_ghosts.eq s.numbers x
 
 -- the node of a number
-abbrev pub node_in : Slots → ℕ → Option Node
+abbrev pub node_in : Slots → ℕ → Option SlotNode
 node_in s x = option_and_then (slot_get s.nodes) (slot_of s x)
 
 -- entries in the order of their keys: of entries of one key the first counts, and one without a value stands for none
@@ -65,48 +66,50 @@ pub record IsFiled (s : Slots) : Type 0 where
 
 -- each node knows how it stands in the rows
 pub record StandsIn (rows : List (tree.Spot × ℕ)) (s : Slots) : Type 0 where
-  pub rows_counted : (x : ℕ) (node : Node) → node_in s x ≡ Some node → node.standing.rows ≡ rows_in rows x
-  pub names_counted : (x : ℕ) (node : Node) → node_in s x ≡ Some node → node.standing.names ≡ names_of rows x
-  pub dir_above : (at : tree.Spot) (x : ℕ) (node : Node) → find_key spot_cmp at rows ≡ Some x → node_in s x ≡ Some node → node.kind ≡ Dir → node.standing.above ≡ at.0
-  pub above_root : (node : Node) → node_in s 0 ≡ Some node → node.standing.above ≡ 0
+  pub rows_counted : (x : ℕ) (node : SlotNode) → node_in s x ≡ Some node → node.standing.rows ≡ rows_in rows x
+  pub names_counted : (x : ℕ) (node : SlotNode) → node_in s x ≡ Some node → node.standing.names ≡ names_of rows x
+  pub dir_above : (at : tree.Spot) (x : ℕ) (node : SlotNode) → find_key spot_cmp at rows ≡ Some x → node_in s x ≡ Some node →
+      node.kind ≡ Dir → node.standing.above ≡ at.0
+  pub above_root : (node : SlotNode) → node_in s 0 ≡ Some node → node.standing.above ≡ 0
 
 -- what is true of rows and nodes in slots after each of their changes
-pub record IsKept (s : Slots) : Type 0 where
+pub record AreConsistent (s : Slots) : Type 0 where
   pub filed : IsFiled s
   pub standing : StandsIn (held_rows s) s
 
 -- a node that stands otherwise
-abbrev pub restood : Standing → Node → Node
-restood standing node = record node { standing = standing }
+abbrev pub with_stance : Stance → SlotNode → SlotNode
+with_stance standing node = record node { standing = standing }
 
 -- standings have changed so, and nothing else
-pub record Restands (old new : Slots) (change : ℕ → Standing → Standing) : Type 0 where
+pub record Restands (old new : Slots) (change : ℕ → Stance → Stance) : Type 0 where
   pub rows : new.rows ≡ old.rows
   pub numbers : new.numbers ≡ old.numbers
   pub filed : IsFiled new
-  pub nodes : (x : ℕ) → node_in new x ≡ option_map (λ node. restood (change x node.standing) node) (node_in old x)
+  pub nodes : (x : ℕ) → node_in new x ≡ option_map (λ node. with_stance (change x node.standing) node) (node_in old x)
 
 abbrev pub one_at : ℕ → ℕ → ℕ
 one_at x y = if x == y then 1 else 0
 
 -- one row more, or fewer, in a directory
-abbrev pub row_gained : ℕ → ℕ → Standing → Standing
+abbrev pub row_gained : ℕ → ℕ → Stance → Stance
 row_gained dir x standing = record standing { rows = standing.rows + one_at dir x }
 
-abbrev pub row_lost : ℕ → ℕ → Standing → Standing
+abbrev pub row_lost : ℕ → ℕ → Stance → Stance
 row_lost dir x standing = record standing { rows = standing.rows - one_at dir x }
 
 -- one name more of a node, in a directory, or one name fewer
-abbrev pub name_gained : ℕ → ℕ → ℕ → Standing → Standing
-name_gained dir node x standing = record standing { names = standing.names + one_at node x; above = if node == x then dir else standing.above }
+abbrev pub name_gained : ℕ → ℕ → ℕ → Stance → Stance
+name_gained dir node x standing =
+    record standing { names = standing.names + one_at node x; above = if node == x then dir else standing.above }
 
-abbrev pub name_lost : ℕ → ℕ → Standing → Standing
+abbrev pub name_lost : ℕ → ℕ → Stance → Stance
 name_lost node x standing = record standing { names = standing.names - one_at node x }
 
 -- a node that may come to stand in a further row: not the root, and a directory only where it stands in none
 pub record MayStand (s : Slots) (x : ℕ) : Type 0 where
   pub not_root : x ≢ 0
-  pub dir_once : (node : Node) → node_in s x ≡ Some node → node.kind ≡ Dir → names_of (held_rows s) x ≡ 0
+  pub dir_once : (node : SlotNode) → node_in s x ≡ Some node → node.kind ≡ Dir → names_of (held_rows s) x ≡ 0
 
 -- a number that no node has, and no row names
 pub record IsNew (s : Slots) (x : ℕ) : Type 0 where

@@ -1,5 +1,6 @@
 -- How bytes are spelled in the fields of listings, scripts and output, and how lines are split.
-use Rattle.std.specs.Prelude.{ℕ, zero, suc, ◌+◌, ◌-◌, ◌*◌, ◌/◌, ◌%◌, Bool, false, not, ◌&&◌, ◌||◌, if◌then◌else◌, List, [], ◌∷◌, length, nat_lt, nat_le, ◌==◌, Option, Some, None, Result, Ok, Err, flat_map, fold}
+use Rattle.std.specs.Prelude.{ℕ, zero, suc, ◌+◌, ◌-◌, ◌*◌, ◌/◌, ◌%◌, Bool, false, not, ◌&&◌, ◌||◌, if◌then◌else◌, List, [], ◌∷◌, length}
+use Rattle.std.specs.Prelude.{nat_lt, nat_le, ◌==◌, Option, Some, None, Result, Ok, Err, flat_map, fold}
 use Rattle.std.specs.List.{list_all, slice_split}
 use Rattle.pua_tree.specs.Limits.{most_name}
 use Rattle.pua_tree.specs.Names.{has_byte, is_name}
@@ -43,8 +44,8 @@ unspelled_from skipped [] = Some []
 unspelled_from zero (b ∷ more) = with_front (front_byte b more) (unspelled_from (if b == 92 then 3 else 0) more)
 unspelled_from (suc skipped) (b ∷ more) = unspelled_from skipped more
 
-abbrev pub unspelled : List ℕ → Option (List ℕ)
-unspelled text = unspelled_from 0 text
+abbrev pub bytes_spelled : List ℕ → Option (List ℕ)
+bytes_spelled text = unspelled_from 0 text
 
 -- the name that a text spells, or the first fault
 abbrev pub name_of_bytes : Option (List ℕ) → Result (List ℕ) NameFault
@@ -56,7 +57,7 @@ name_of_bytes (Some n) =
     else (if is_name n then Ok n else Err NotAName)))
 
 abbrev pub name_of : List ℕ → Result (List ℕ) NameFault
-name_of text = name_of_bytes (unspelled text)
+name_of text = name_of_bytes (bytes_spelled text)
 
 -- the fields of a line: what stands between single spaces
 abbrev pub fields : List ℕ → List (List ℕ)

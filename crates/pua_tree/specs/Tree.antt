@@ -1,6 +1,7 @@
 -- A tree as rows, living nodes and the next number. Rows and nodes stand in the order of their keys,
 -- so trees with the same rows, kinds, targets and next number are equal.
-use Rattle.std.specs.Prelude.{ℕ, zero, suc, Bool, true, false, not, ◌&&◌, if◌then◌else◌, List, [], ◌∷◌, length, map, nat_lt, nat_le, ◌==◌, Option, Some, None, IsTrue, unwrap_or, option_map, option_and_then, count_by, is_some, is_none, find}
+use Rattle.std.specs.Prelude.{ℕ, zero, suc, Bool, true, false, not, ◌&&◌, if◌then◌else◌, List, [], ◌∷◌, length, map, nat_lt, nat_le, ◌==◌}
+use Rattle.std.specs.Prelude.{Option, Some, None, IsTrue, unwrap_or, option_map, option_and_then, count_by, is_some, is_none, find}
 use Rattle.std.specs.List.{list_all, list_any}
 use Rattle.std.specs.declared.cmp.Ordering.{Ordering}
 use Rattle.std.specs.Ordering.{nat_cmp, ordering_then}

@@ -1,11 +1,28 @@
 //! Why names, trees and listings are refused.
 
+ghost use Rattle.std.specs.Prelude.{◌≡◌};
+ghost use Rattle.pua_tree.specs.declared.fault.TreeFault.TheVariants as tree_fault;
+ghost use Rattle.pua_tree.specs.declared.fault.ListingFault.TheVariants as listing_fault;
+
+use std::alloc::{AllocError, AllocFailed};
 use thiserror::Error;
 
 /// A growth of memory was refused.
 #[derive(Clone, Copy, Debug, PartialEq, Eq, Error)]
 #[error("out of memory")]
 pub struct OutOfMemory;
+
+impl From<AllocError> for OutOfMemory {
+    fn from(_refused: AllocError) -> OutOfMemory {
+        OutOfMemory
+    }
+}
+
+impl<T: Drop> From<AllocFailed<T>> for OutOfMemory {
+    fn from(_refused: AllocFailed<T>) -> OutOfMemory {
+        OutOfMemory
+    }
+}
 
 /// Why a spelling is not that of a name: the first of these that holds.
 #[derive(Clone, Copy, Debug, PartialEq, Eq, Error)]
@@ -53,6 +70,22 @@ pub enum TreeFault {
     IsDir,
 }
 
+impl From<OutOfMemory> for TreeFault {
+    ghost from_gives = { λ _ fault. fault ≡ tree_fault.OutOfMemory };
+
+    fn from(_refused: OutOfMemory) -> TreeFault {
+        TreeFault::OutOfMemory
+    }
+}
+
+impl From<AllocError> for TreeFault {
+    ghost from_gives = { λ _ fault. fault ≡ tree_fault.OutOfMemory };
+
+    fn from(_refused: AllocError) -> TreeFault {
+        TreeFault::OutOfMemory
+    }
+}
+
 /// Why bytes are no listing: the fault of the first line that has one, with the number of that
 /// line, counted from 1.
 #[derive(Clone, Copy, Debug, PartialEq, Eq, Error)]
@@ -90,4 +123,12 @@ pub enum ListingFault {
     /// earlier line made.
     #[error("line {0}: bad node")]
     BadNode(u32),
+}
+
+impl From<OutOfMemory> for ListingFault {
+    ghost from_gives = { λ _ fault. fault ≡ listing_fault.OutOfMemory };
+
+    fn from(_refused: OutOfMemory) -> ListingFault {
+        ListingFault::OutOfMemory
+    }
 }

@@ -1,10 +1,12 @@
 //! The fields of a line of a listing or script: what stands between single spaces.
 
-ghost use Rattle.std.specs.Prelude.{◌≡◌, ◌<◌, ◌&&◌, ◌∷◌, [], length, IfSome, IfNone, Some, None, if◌then◌else◌, map, nat_le, not, take, true, false};
+ghost use Rattle.std.specs.Prelude.{◌≡◌, ◌<◌, ◌&&◌, ◌∷◌, [], length, IfSome, IfNone, Some, None};
+ghost use Rattle.std.specs.Prelude.{if◌then◌else◌, map, nat_le, not, take, true, false};
 ghost use Rattle.std.specs.List.{list_all, position};
 ghost use Rattle.std.specs.Option.{option_map_or};
 ghost use Rattle.pua_tree.specs.Fields.{first_fields};
-ghost use Rattle.pua_tree.specs.Spelling.{decimal_value, fields, is_decimal, is_digit, is_field, number_within};
+ghost use Rattle.pua_tree.specs.Spelling.{decimal_value, fields, is_decimal, is_digit, is_field};
+ghost use Rattle.pua_tree.specs.Spelling.{number_within};
 
 use crate::spelling::is_visible;
 use std::marker::Model;
@@ -61,8 +63,10 @@ impl<'a> Fields<'a> {
 /// that or a later one is no field. Each byte is looked at once.
 fn take_field(line: &[u8]) -> Option<(&[u8], Option<&[u8]>)>
     ensures field { IfSome result (λ taken. is_field taken.0.now ≡ true) }
-    ensures fields { IfSome result (λ taken. fields line.now ≡ taken.0.now ∷ option_map_or (λ rest. fields rest.now) taken.1 []) }
-    ensures shorter { IfSome result (λ taken. IfSome taken.1 (λ rest. length rest.now < length line.now)) }
+    ensures fields { IfSome result (λ taken. fields line.now ≡ taken.0.now
+        ∷ option_map_or (λ rest. fields rest.now) taken.1 []) }
+    ensures shorter { IfSome result
+        (λ taken. IfSome taken.1 (λ rest. length rest.now < length line.now)) }
     ensures none { IfNone result (list_all is_field (fields line.now) ≡ false) }
 {
     if line.is_empty() {
@@ -120,7 +124,8 @@ fn is_digit(byte: u8) -> bool
 
 /// The number that digits write, if it is not above this bound.
 fn value_up_to(high: u32, digits: &[u8]) -> Option<u32>
-    ensures { result ≡ (if nat_le (decimal_value digits.now) high then Some (decimal_value digits.now) else None) }
+    ensures { result ≡ (if nat_le (decimal_value digits.now) high then Some
+        (decimal_value digits.now) else None) }
 {
     let mut value = 0u64;
     for digit in digits {

@@ -9,17 +9,17 @@ use std::alloc::Global;
 /// What one line of a listing says: a row, and the node that the line makes under its number. A hard
 /// link makes none: the node of its row is of an earlier line.
 #[derive(Drop)]
-pub(crate) struct Entry {
+pub(crate) struct LineEntry {
     pub(crate) number: u32,
     pub(crate) parent: NodeId,
     pub(crate) name: Name,
     pub(crate) node: NodeId,
-    pub(crate) made: Option<Made>,
+    pub(crate) made: Option<MadeNode>,
 }
 
 /// A node that a line makes, and where it leads if it is a link.
 #[derive(Drop)]
-pub(crate) struct Made {
+pub(crate) struct MadeNode {
     pub(crate) kind: Kind,
     pub(crate) target: Option<Vec<u8>>,
 }
@@ -29,7 +29,7 @@ pub(crate) struct Made {
 pub(crate) trait Gathered: FileTree + Drop {
     ghost use Rattle.std.specs.Prelude.{◌≡◌, OnOk, OnErr, IfOk};
     ghost use Rattle.pua_tree.specs.Tree.{empty_tree};
-    ghost use Rattle.pua_tree.specs.Reading.{Follows, grown, said};
+    ghost use Rattle.pua_tree.specs.Reading.{Follows, tree_with, entry_said};
 
     /// The root alone, with room for so many rows. The only error is that the memory for it is
     /// refused.
@@ -39,8 +39,9 @@ pub(crate) trait Gathered: FileTree + Drop {
     /// Puts the node of an entry into a new row, and the node itself into the tree where the entry
     /// makes it. The next number is then above the entry's. The only error is that memory for it is
     /// refused; the tree is then as it was.
-    fn put(&mut self, entry: Entry) -> Result<(), OutOfMemory>
-        requires { Follows (Self.content self.old) (said entry) }
-        ensures grown { OnOk result (Self.content self.new ≡ grown (Self.content self.old) (said entry)) }
+    fn put(&mut self, entry: LineEntry) -> Result<(), OutOfMemory>
+        requires { Follows (Self.content self.old) (entry_said entry) }
+        ensures grown { OnOk result (Self.content self.new ≡ tree_with (Self.content self.old)
+            (entry_said entry)) }
         ensures unchanged { OnErr result (Self.content self.new ≡ Self.content self.old) };
 }

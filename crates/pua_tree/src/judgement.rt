@@ -50,12 +50,15 @@ pub(crate) trait Judged {
         ensures { result ≡ (held self.now).next };
 }
 
-ghost use Rattle.std.specs.Prelude.{◌≡◌, ◌≢◌, ◌<◌, Some, None, Ok, Err, IsTrue, IfOk, IfSome, OnOk, MatchResult, MatchOption, ◌==◌, false};
+ghost use Rattle.std.specs.Prelude.{◌≡◌, ◌≢◌, ◌<◌, Some, None, Ok, Err, IsTrue, IfOk, IfSome, OnOk};
+ghost use Rattle.std.specs.Prelude.{MatchResult, MatchOption, ◌==◌, false};
 ghost use Rattle.std.specs.List.{list_any};
 ghost use Rattle.pua_tree.specs.Limits.{number_end};
 ghost use Rattle.pua_tree.specs.Names.{is_name};
 ghost use Rattle.pua_tree.specs.Tree.{Node, is_dir, look, found_at, climb};
-ghost use Rattle.pua_tree.specs.Edits.{add, tie, cut, shift, is_full_dir, has_name_room, has_room, with_row, with_new, without_row, without_unnamed, moved};
+ghost use Rattle.pua_tree.specs.Edits.{add, tie, cut, shift, is_full_dir, has_name_room, has_room};
+ghost use Rattle.pua_tree.specs.Edits.{with_row, with_new, without_row, without_unnamed};
+ghost use Rattle.pua_tree.specs.Edits.{with_row_moved};
 
 /// The node whose name in a directory has these bytes, and its kind.
 pub(crate) fn find<T: Judged>(tree: &T, dir: NodeId, bytes: &[u8]) -> Option<(NodeId, Kind)>
@@ -73,8 +76,10 @@ pub(crate) fn find<T: Judged>(tree: &T, dir: NodeId, bytes: &[u8]) -> Option<(No
 /// Whether a node may be added under this name, or else the first fault.
 pub(crate) fn may_add<T: Judged>(tree: &T, dir: NodeId, name: &Name) -> Result<(), TreeFault>
     ensures exact { let held = T.held tree.now in MatchResult result
-        (λ _. (node : Node) → add held dir name.now node ≡ Ok (held.next, with_new held dir name.now node))
-        (λ fault. (fault ≢ TreeFault.OutOfMemory) × ((node : Node) → add held dir name.now node ≡ Err fault)) }
+        (λ _. (node : Node) →
+        add held dir name.now node ≡ Ok (held.next, with_new held dir name.now node))
+        (λ fault. (fault ≢ TreeFault.OutOfMemory) × ((node : Node) →
+        add held dir name.now node ≡ Err fault)) }
     ensures number { OnOk result ((T.held tree.now).next < number_end) }
     ensures name { IsTrue (is_name name.now) }
 {
@@ -126,7 +131,10 @@ pub(crate) fn may_tie<T: Judged>(
 /// The node of a row that may be taken away, or else the first fault.
 pub(crate) fn may_cut<T: Judged>(tree: &T, dir: NodeId, name: &Name) -> Result<NodeId, TreeFault>
     ensures exact { let held = T.held tree.now in MatchResult result
-        (λ node. cut held dir name.now ≡ Ok (node, without_unnamed (without_row held dir name.now) node))
+        (λ node. cut held dir name.now ≡ Ok (
+          node,
+          without_unnamed (without_row held dir name.now) node,
+        ))
         (λ fault. cut held dir name.now ≡ Err fault) }
     ensures found { IfOk result (λ node. look (T.held tree.now) dir name.now ≡ Some node) }
 {
@@ -152,9 +160,13 @@ pub(crate) fn may_shift<T: Judged>(
 ) -> Result<Option<NodeId>, TreeFault>
     ensures exact { let held = T.held tree.now in MatchResult result
         (λ moves. MatchOption moves (shift held from name.now to new_name.now ≡ Ok held)
-        (λ node. shift held from name.now to new_name.now ≡ Ok (moved held from name.now to new_name.now node (look held to new_name.now))))
-        (λ fault. (fault ≢ TreeFault.OutOfMemory) × (shift held from name.now to new_name.now ≡ Err fault)) }
-    ensures found { let held = T.held tree.now in IfOk result (λ moves. IfSome moves (λ node. (look held from name.now ≡ Some node) × (look held to new_name.now ≢ Some node))) }
+        (λ node. shift held from name.now to new_name.now
+        ≡ Ok (with_row_moved held from name.now to new_name.now node (look held to new_name.now))))
+        (λ fault. (fault ≢ TreeFault.OutOfMemory) ×
+        (shift held from name.now to new_name.now ≡ Err fault)) }
+    ensures found { let held = T.held tree.now in
+        IfOk result (λ moves. IfSome moves (λ node. (look held from name.now ≡ Some node) ×
+        (look held to new_name.now ≢ Some node))) }
     ensures name { IsTrue (is_name new_name.now) }
 {
     new_name.known();

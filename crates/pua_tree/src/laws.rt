@@ -2,8 +2,10 @@
 //! that does nothing.
 
 ghost use Rattle.pua_tree.specs.Laws.{TreesAreTheirRows, EditsKeepTrees, LimitsAreTheirs};
-ghost use Rattle.pua_tree.specs.Grammar.{ListingsAreRead, ListingsListTrees, SecondFormsAgree, SpellingsAreRead};
-ghost use Rattle.pua_tree.specs.Examples.{ListingRows, FaultOrderRows, NameRows, EditRows, ExampleIsTree};
+ghost use Rattle.pua_tree.specs.Grammar.{ListingsAreRead, ListingsListTrees, SecondFormsAgree};
+ghost use Rattle.pua_tree.specs.Grammar.{SpellingsAreRead};
+ghost use Rattle.pua_tree.specs.Examples.{ListingRows, FaultOrderRows, NameRows, EditRows};
+ghost use Rattle.pua_tree.specs.Examples.{ExampleIsTree};
 
 /// Trees with the same rows, the same living nodes, each of the same kind and target, and the same
 /// next number are equal.

@@ -1,7 +1,7 @@
 //! The fields of a line of a listing by what they are for.
 
 ghost use Rattle.std.specs.Prelude.{◌≡◌, option_map};
-ghost use Rattle.pua_tree.specs.Listing.{line_of, plain_kind, long_kind};
+ghost use Rattle.pua_tree.specs.Listing.{listing_line, plain_kind, long_kind};
 ghost use Rattle.pua_tree.specs.Lines.{line_read};
 
 use crate::field::Fields;
@@ -12,7 +12,7 @@ use crate::node::Kind;
 /// its last field is a node; other lines have none, and it is empty here. All but the kind are as
 /// they are spelled.
 #[derive(Clone, Copy)]
-pub(crate) struct Line<'a> {
+pub(crate) struct ListingLine<'a> {
     pub(crate) number: &'a [u8],
     pub(crate) kind: Option<Kind>,
     pub(crate) parent: &'a [u8],
@@ -23,19 +23,19 @@ pub(crate) struct Line<'a> {
 /// The line that a text without its end is, and None where a field is empty or holds what no field
 /// may, the kind is unknown, or there are more or fewer fields than its kind has. The word `hard` is
 /// known where `hard` says so.
-pub(crate) fn read_line(hard: bool, text: &[u8]) -> Option<Line<'_>>
-    ensures { option_map line_read result ≡ line_of hard text.now }
+pub(crate) fn read_line(hard: bool, text: &[u8]) -> Option<ListingLine<'_>>
+    ensures { option_map line_read result ≡ listing_line hard text.now }
 {
     let fields = Fields::read(text)?;
     match fields.as_slice() {
-        [number, word, parent, name] => Some(Line {
+        [number, word, parent, name] => Some(ListingLine {
             number,
             kind: Some(plain_kind(word)?),
             parent,
             name,
             last: &[],
         }),
-        [number, word, parent, name, last] => Some(Line {
+        [number, word, parent, name, last] => Some(ListingLine {
             number,
             kind: long_kind(hard, word)?,
             parent,

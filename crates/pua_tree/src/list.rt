@@ -1,7 +1,7 @@
 //! A tree kept as a list of rows and a list of nodes, each in the order of its keys.
 
 use crate::fault::{OutOfMemory, TreeFault};
-use crate::gathered::{Entry, Gathered, Made};
+use crate::gathered::{Gathered, LineEntry, MadeNode};
 use crate::judgement::{self, Judged, may_add, may_cut, may_shift, may_tie};
 use crate::list_edits::{copied_target, push_made, put_row, reserve_one, take_row, take_unnamed};
 use crate::name::Name;
@@ -15,7 +15,7 @@ use std::marker::Model;
 
 /// A node that has a name in a directory.
 #[derive(Clone, Copy)]
-pub(crate) struct Row {
+pub(crate) struct ListRow {
     pub(crate) dir: NodeId,
     pub(crate) name: Name,
     pub(crate) node: NodeId,
@@ -23,7 +23,7 @@ pub(crate) struct Row {
 
 /// A living node, and where it leads if it is a link.
 #[derive(Drop)]
-pub(crate) struct Node {
+pub(crate) struct ListNode {
     pub(crate) id: NodeId,
     pub(crate) kind: Kind,
     pub(crate) target: Option<Vec<u8>>,
@@ -32,8 +32,8 @@ pub(crate) struct Node {
 /// A tree of files in two lists: rows by directory and name, and nodes by number.
 #[derive(Drop)]
 pub struct ListTree {
-    rows: Vec<Row>,
-    nodes: Vec<Node>,
+    rows: Vec<ListRow>,
+    nodes: Vec<ListNode>,
     next: u32,
 }
 
@@ -49,13 +49,14 @@ impl Model for ListTree {
     ghost invariant = { λ a. WellFormed (held_tree a.rows.items a.nodes.items a.next) };
 }
 
-ghost use Rattle.std.specs.Prelude.{ℕ, ◌≡◌, ◌<◌, ◌≤◌, Some, None, IsTrue, IfOk, IfErr, ◌==◌, unwrap_or, find, length, map, option_map};
+ghost use Rattle.std.specs.Prelude.{ℕ, ◌≡◌, ◌<◌, ◌≤◌, Some, None, IsTrue, IfOk, IfErr, ◌==◌};
+ghost use Rattle.std.specs.Prelude.{unwrap_or, find, length, map, option_map};
 ghost use Rattle.std.specs.List.{HoldsAt, insert, list_any};
 ghost use Rattle.std.specs.Ordering.{nat_cmp};
 ghost use Rattle.std.specs.FinMap.{is_sorted, find as find_key, put};
 ghost use Rattle.pua_tree.specs.Tree.{spot_cmp, is_dir, distinct_names};
 ghost use Rattle.pua_tree.specs.LentRows.{lent_entry};
-ghost use Rattle.pua_tree.specs.ListTree.{row_entry, node_entry, made_of, held_tree};
+ghost use Rattle.pua_tree.specs.ListTree.{row_entry, node_entry, made_of_list_node, held_tree};
 
 impl FileTree for ListTree {
     ghost content = { λ t. t };
@@ -97,11 +98,11 @@ impl FileTree for ListTree {
 
     #[tactic(auto, using(crate::proofs::Rows::entry_names))]
     fn names(&self, alloc: Global) -> Result<Vec<Name>, TreeFault> {
-        row_names(alloc, &self.rows).map_err(|_| TreeFault::OutOfMemory)
+        Ok(row_names(alloc, &self.rows)?)
     }
 
     fn rows(&self, alloc: Global) -> Result<Vec<LentRow<'_>>, OutOfMemory> {
-        lent_rows(alloc, &self.rows).map_err(|_| OutOfMemory)
+        Ok(lent_rows(alloc, &self.rows)?)
     }
 
     fn add(
@@ -113,28 +114,24 @@ impl FileTree for ListTree {
     ) -> Result<NodeId, TreeFault> {
         may_add(self, dir, &name)?;
         let alloc = *self.nodes.allocator();
-        let target = copied_target(alloc, target).map_err(|_| TreeFault::OutOfMemory)?;
+        let target = copied_target(alloc, target)?;
         let number = self.next;
         let node = NodeId::new(number);
-        let entry = Entry {
+        let entry = LineEntry {
             number,
             parent: dir,
             name,
             node,
-            made: Some(Made { kind, target }),
+            made: Some(MadeNode { kind, target }),
         };
-        match self.put(entry) {
-            Ok(()) => Ok(node),
-            Err(OutOfMemory) => Err(TreeFault::OutOfMemory),
-        }
+        self.put(entry)?;
+        Ok(node)
     }
 
     fn tie(&mut self, dir: NodeId, name: Name, node: NodeId) -> Result<(), TreeFault> {
         may_tie(self, dir, &name, node)?;
-        if self.rows.reserve(1).is_err() {
-            return Err(TreeFault::OutOfMemory);
-        }
-        put_row(&mut self.rows, Row { dir, name, node });
+        self.rows.reserve(1)?;
+        put_row(&mut self.rows, ListRow { dir, name, node });
         Ok(())
     }
 
@@ -160,7 +157,7 @@ impl FileTree for ListTree {
         take_row(&mut self.rows, from, name);
         put_row(
             &mut self.rows,
-            Row {
+            ListRow {
                 dir: to,
                 name: new_name,
                 node,
@@ -175,18 +172,14 @@ impl FileTree for ListTree {
 
 impl Gathered for ListTree {
     fn root_alone(alloc: Global, rows: usize) -> Result<ListTree, OutOfMemory> {
-        let Ok(rows) = Vec::with_capacity(alloc, rows) else {
-            return Err(OutOfMemory);
-        };
+        let rows = Vec::with_capacity(alloc, rows)?;
         let mut nodes = Vec::new(alloc);
-        let root = Node {
+        let root = ListNode {
             id: NodeId::ROOT,
             kind: Kind::Dir,
             target: None,
         };
-        if nodes.push(root).is_err() {
-            return Err(OutOfMemory);
-        }
+        nodes.push(root)?;
         Ok(ListTree {
             rows,
             nodes,
@@ -194,18 +187,16 @@ impl Gathered for ListTree {
         })
     }
 
-    fn put(&mut self, entry: Entry) -> Result<(), OutOfMemory> {
-        if reserve_one(&mut self.rows, &mut self.nodes).is_err() {
-            return Err(OutOfMemory);
-        }
-        let Entry {
+    fn put(&mut self, entry: LineEntry) -> Result<(), OutOfMemory> {
+        reserve_one(&mut self.rows, &mut self.nodes)?;
+        let LineEntry {
             number,
             parent: dir,
             name,
             node,
             made,
         } = entry;
-        put_row(&mut self.rows, Row { dir, name, node });
+        put_row(&mut self.rows, ListRow { dir, name, node });
         push_made(&mut self.nodes, node, made);
         self.next = number + 1;
         Ok(())
@@ -268,7 +259,7 @@ impl ListTree {
     }
 }
 
-impl Row {
+impl ListRow {
     /// The row as a tree lends it.
     fn lent(&self) -> LentRow<'_>
         ensures { lent_entry result ≡ row_entry self.now }
@@ -289,28 +280,37 @@ impl Row {
 }
 
 /// Where the row of this spot stands among rows in order, or else where it would stand.
-pub(crate) fn row_place(rows: &[Row], dir: NodeId, name: &Name) -> Result<usize, usize>
+pub(crate) fn row_place(rows: &[ListRow], dir: NodeId, name: &Name) -> Result<usize, usize>
     requires { IsTrue (is_sorted spot_cmp (map row_entry rows.now)) }
-    ensures found { IfOk result (λ i. (i < length rows.now) × HoldsAt (λ row. find_key spot_cmp (dir, name.now) (map row_entry rows.now) ≡ Some row.node) rows.now i) }
-    ensures missing { IfErr result (λ i. (i ≤ length rows.now) × (find_key spot_cmp (dir, name.now) (map row_entry rows.now) ≡ None)) }
-    ensures spot { IfOk result (λ i. HoldsAt (λ row. (row_entry row).0 ≡ (dir, name.now)) rows.now i) }
-    ensures place { IfErr result (λ i. (node : ℕ) → put spot_cmp (dir, name.now) node (map row_entry rows.now) ≡ insert (map row_entry rows.now) i ((dir, name.now), node)) }
+    ensures found { IfOk result (λ i. (i < length rows.now) ×
+        HoldsAt (λ row. find_key spot_cmp (dir, name.now) (map row_entry rows.now) ≡ Some row.node)
+        rows.now i) }
+    ensures missing { IfErr result (λ i. (i ≤ length rows.now) ×
+        (find_key spot_cmp (dir, name.now) (map row_entry rows.now) ≡ None)) }
+    ensures spot { IfOk result (λ i. HoldsAt (λ row. (row_entry row).0 ≡ (dir, name.now)) rows.now
+        i) }
+    ensures place { IfErr result (λ i. (node : ℕ) →
+        put spot_cmp (dir, name.now) node (map row_entry rows.now) ≡ insert (map row_entry rows.now)
+        i ((dir, name.now), node)) }
 {
     rows.binary_search_by(|row| row.cmp_spot(dir, name))
 }
 
 /// Where the node of this number stands among nodes in order, or else where it would stand.
-pub(crate) fn node_place(nodes: &[Node], id: NodeId) -> Result<usize, usize>
+pub(crate) fn node_place(nodes: &[ListNode], id: NodeId) -> Result<usize, usize>
     requires { IsTrue (is_sorted nat_cmp (map node_entry nodes.now)) }
-    ensures found { IfOk result (λ i. (i < length nodes.now) × HoldsAt (λ node. find_key nat_cmp id (map node_entry nodes.now) ≡ Some (made_of node)) nodes.now i) }
-    ensures missing { IfErr result (λ i. (i ≤ length nodes.now) × (find_key nat_cmp id (map node_entry nodes.now) ≡ None)) }
+    ensures found { IfOk result (λ i. (i < length nodes.now) ×
+        HoldsAt (λ node. find_key nat_cmp id (map node_entry nodes.now)
+        ≡ Some (made_of_list_node node)) nodes.now i) }
+    ensures missing { IfErr result (λ i. (i ≤ length nodes.now) ×
+        (find_key nat_cmp id (map node_entry nodes.now) ≡ None)) }
     ensures number { IfOk result (λ i. HoldsAt (λ node. node.id ≡ id) nodes.now i) }
 {
     nodes.binary_search_by_key(&id, |node| node.id)
 }
 
 /// Whether a row stands in this directory.
-fn has_row(rows: &[Row], dir: NodeId) -> bool
+fn has_row(rows: &[ListRow], dir: NodeId) -> bool
     requires { IsTrue (is_sorted spot_cmp (map row_entry rows.now)) }
     ensures { result ≡ list_any (λ row. row.0.0 == dir) (map row_entry rows.now) }
 {
@@ -318,8 +318,9 @@ fn has_row(rows: &[Row], dir: NodeId) -> bool
 }
 
 /// The directory in which this node stands, and the root where it stands in none.
-fn dir_above(rows: &[Row], node: NodeId) -> NodeId
-    ensures { result ≡ unwrap_or (option_map (λ row. row.dir) (find (λ row. row.node == node) rows.now)) 0 }
+fn dir_above(rows: &[ListRow], node: NodeId) -> NodeId
+    ensures { result ≡ unwrap_or
+        (option_map (λ row. row.dir) (find (λ row. row.node == node) rows.now)) 0 }
 {
     rows.iter()
         .find(|row| row.node == node)
@@ -327,7 +328,7 @@ fn dir_above(rows: &[Row], node: NodeId) -> NodeId
 }
 
 /// The names in the rows: each once, in the order of their bytes.
-fn row_names(alloc: Global, rows: &[Row]) -> Result<Vec<Name>, AllocError>
+fn row_names(alloc: Global, rows: &[ListRow]) -> Result<Vec<Name>, AllocError>
     ensures { IfOk result (λ all. all.items ≡ distinct_names (map (λ row. row.name) rows.now)) }
 {
     let names = name_set(alloc, rows)?;
@@ -335,14 +336,14 @@ fn row_names(alloc: Global, rows: &[Row]) -> Result<Vec<Name>, AllocError>
 }
 
 /// The rows as a tree lends them.
-fn lent_rows(alloc: Global, rows: &[Row]) -> Result<Vec<LentRow<'_>>, AllocError>
+fn lent_rows(alloc: Global, rows: &[ListRow]) -> Result<Vec<LentRow<'_>>, AllocError>
     ensures { IfOk result (λ lent. map lent_entry lent.items ≡ map row_entry rows.now) }
 {
-    rows.iter().map(Row::lent).collect(alloc)
+    rows.iter().map(ListRow::lent).collect(alloc)
 }
 
 /// The names in the rows, as a set.
-fn name_set(alloc: Global, rows: &[Row]) -> Result<BTreeSet<Name>, AllocError>
+fn name_set(alloc: Global, rows: &[ListRow]) -> Result<BTreeSet<Name>, AllocError>
     ensures { IfOk result (λ names. names.keys ≡ distinct_names (map (λ row. row.name) rows.now)) }
 {
     let mut names = BTreeSet::new(alloc);

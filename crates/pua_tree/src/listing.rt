@@ -1,19 +1,23 @@
 //! The reader of listings: one pass over the lines, each judged against those before it. It fills
 //! whatever tree takes its entries.
 
-ghost use Rattle.std.specs.Prelude.{ℕ, List, ◌≡◌, ◌≢◌, ◌≤◌, ◌+◌, ◌++◌, ◌∷◌, [], Some, Ok, Err, MatchResult, MatchOption, OnOk, OnErr, IfOk, IfErr, nat_lt, length, option_map, not, ◌&&◌, ◌==◌, min, count_by};
+ghost use Rattle.std.specs.Prelude.{ℕ, List, ◌≡◌, ◌≢◌, ◌≤◌, ◌+◌, ◌++◌, ◌∷◌, [], Some, Ok, Err};
+ghost use Rattle.std.specs.Prelude.{MatchResult, MatchOption, OnOk, OnErr, IfOk, IfErr, nat_lt};
+ghost use Rattle.std.specs.Prelude.{length, option_map, not, ◌&&◌, ◌==◌, min, count_by};
 ghost use Rattle.std.specs.Bool.{OnTrue, OnFalse};
 ghost use Rattle.pua_tree.specs.Limits.{highest_listed};
 ghost use Rattle.pua_tree.specs.Spelling.{number_within};
 ghost use Rattle.pua_tree.specs.Tree.{is_dir, is_living};
 ghost use Rattle.pua_tree.specs.Lines.{line_read};
-ghost use Rattle.pua_tree.specs.Listing.{listing, listing_of_lines, after_header, entry_of, entries_of, admitted, only_if, node_of, Entry as Said};
-ghost use Rattle.pua_tree.specs.Reading.{Gathers, IsGathered, said, said_node};
+ghost use Rattle.pua_tree.specs.Listing.{listing, listing_of_lines, after_header, entry_of};
+ghost use Rattle.pua_tree.specs.Listing.{entries_of, entry_or_fault, only_if, node_of};
+ghost use Rattle.pua_tree.specs.Listing.{Entry as Said};
+ghost use Rattle.pua_tree.specs.Reading.{Gathers, IsGathered, entry_said, said_node};
 
-use crate::fault::{ListingFault, OutOfMemory};
+use crate::fault::ListingFault;
 use crate::field::number_within;
-use crate::gathered::{Entry, Gathered, Made};
-use crate::line::{Line, read_line};
+use crate::gathered::{Gathered, LineEntry, MadeNode};
+use crate::line::{ListingLine, read_line};
 use crate::link_target::is_target;
 use crate::list::ListTree;
 use crate::name::Name;
@@ -39,7 +43,8 @@ const MOST_LINES: u32 = MOST_LISTED + 1;
 /// comes only where a growth was refused.
 pub fn read_listing(alloc: Global, bytes: &[u8]) -> Result<ListTree, ListingFault>
     ensures ok { IfOk result (λ tree. listing bytes.now ≡ Ok tree) }
-    ensures err { IfErr result (λ fault. fault ≢ ListingFault.OutOfMemory → listing bytes.now ≡ Err fault) }
+    ensures err { IfErr result (λ fault. fault ≢ ListingFault.OutOfMemory →
+        listing bytes.now ≡ Err fault) }
 {
     read_tree(alloc, bytes)
 }
@@ -47,7 +52,8 @@ pub fn read_listing(alloc: Global, bytes: &[u8]) -> Result<ListTree, ListingFaul
 /// The same tree by the same rules, with the same faults, kept in slots that are used again.
 pub fn read_listing_slab(alloc: Global, bytes: &[u8]) -> Result<SlabTree, ListingFault>
     ensures ok { IfOk result (λ tree. listing bytes.now ≡ Ok tree) }
-    ensures err { IfErr result (λ fault. fault ≢ ListingFault.OutOfMemory → listing bytes.now ≡ Err fault) }
+    ensures err { IfErr result (λ fault. fault ≢ ListingFault.OutOfMemory →
+        listing bytes.now ≡ Err fault) }
 {
     read_tree(alloc, bytes)
 }
@@ -138,18 +144,16 @@ fn read_entries<T: Gathered>(
 impl<T: Gathered> Reading<T> {
     /// The root alone, with room for so many rows.
     fn new(alloc: Global, hard: bool, rows: usize) -> Result<Reading<T>, ListingFault>
-        ensures ok { IfOk result (λ reading. Gathers hard (T.content reading.tree) reading.greatest []) }
+        ensures ok { IfOk result (λ reading. Gathers hard (T.content reading.tree) reading.greatest
+            []) }
         ensures hard { IfOk result (λ reading. reading.hard ≡ hard) }
         ensures err { OnErr result (result ≡ Err ListingFault.OutOfMemory) }
     {
-        match T::root_alone(alloc, rows) {
-            Ok(tree) => Ok(Reading {
-                hard,
-                tree,
-                greatest: 0,
-            }),
-            Err(OutOfMemory) => Err(ListingFault::OutOfMemory),
-        }
+        Ok(Reading {
+            hard,
+            tree: T::root_alone(alloc, rows)?,
+            greatest: 0,
+        })
     }
 
     /// Reads line `n`, which comes after those read so far.
@@ -175,18 +179,16 @@ impl<T: Gathered> Reading<T> {
             return Err(ListingFault::TooMany(n));
         }
         self.greatest = entry.number;
-        match self.tree.put(entry) {
-            Ok(()) => Ok(()),
-            Err(OutOfMemory) => Err(ListingFault::OutOfMemory),
-        }
+        self.tree.put(entry)?;
+        Ok(())
     }
 
     /// What line `n` says, whether or not its name is free and there is room for it.
-    fn entry(&self, alloc: Global, n: u32, text: &[u8]) -> Result<Entry, ListingFault>
+    fn entry(&self, alloc: Global, n: u32, text: &[u8]) -> Result<LineEntry, ListingFault>
         ensures { (es : List Said)
             → Gathers self.now.hard (T.content self.now.tree) self.now.greatest es
             → MatchResult result
-            (λ e. entry_of self.now.hard es n text.now ≡ admitted es n (said e))
+            (λ e. entry_of self.now.hard es n text.now ≡ entry_or_fault es n (entry_said e))
             (λ fault. fault ≢ ListingFault.OutOfMemory
             → entry_of self.now.hard es n text.now ≡ Err fault) }
     {
@@ -203,7 +205,7 @@ impl<T: Gathered> Reading<T> {
             return Err(ListingFault::BadName(n));
         };
         let (node, made) = self.node_of(alloc, n, number, &line)?;
-        Ok(Entry {
+        Ok(LineEntry {
             number,
             parent,
             name,
@@ -218,8 +220,8 @@ impl<T: Gathered> Reading<T> {
         alloc: Global,
         n: u32,
         number: u32,
-        line: &Line<'_>,
-    ) -> Result<(NodeId, Option<Made>), ListingFault>
+        line: &ListingLine<'_>,
+    ) -> Result<(NodeId, Option<MadeNode>), ListingFault>
         ensures { (es : List Said)
             → Gathers self.now.hard (T.content self.now.tree) self.now.greatest es
             → MatchResult result
@@ -235,7 +237,7 @@ impl<T: Gathered> Reading<T> {
             },
             Some(kind) => {
                 let target = target_of(alloc, n, kind, line)?;
-                Ok((NodeId::new(number), Some(Made { kind, target })))
+                Ok((NodeId::new(number), Some(MadeNode { kind, target })))
             }
         }
     }
@@ -275,7 +277,7 @@ fn target_of(
     alloc: Global,
     n: u32,
     kind: Kind,
-    line: &Line<'_>,
+    line: &ListingLine<'_>,
 ) -> Result<Option<Vec<u8>>, ListingFault>
     ensures ok { IfOk result (λ target. (es : List Said) (number : ℕ)
         → node_of es n number (line_read line.now) (Some kind)
@@ -287,9 +289,8 @@ fn target_of(
     if kind != Kind::Link {
         return Ok(None);
     }
-    match unspelled(alloc, line.last) {
-        Ok(Some(target)) if is_target(target.as_slice()) => Ok(Some(target)),
-        Ok(_) => Err(ListingFault::BadTarget(n)),
-        Err(_) => Err(ListingFault::OutOfMemory),
+    match unspelled(alloc, line.last)? {
+        Some(target) if is_target(target.as_slice()) => Ok(Some(target)),
+        _ => Err(ListingFault::BadTarget(n)),
     }
 }

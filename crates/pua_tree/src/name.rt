@@ -16,20 +16,22 @@ pub struct Name {
 
 impl Model for Name {
     ghost use Rattle.std.specs.Prelude.{◌≡◌, ℕ, List, length, take, IsTrue};
-    ghost use Rattle.pua_tree.specs.Names.{is_name, padded};
+    ghost use Rattle.pua_tree.specs.Names.{is_name, padded_name};
 
     ghost Value = { List ℕ };
 
     ghost view = { λ a. take a.len a.bytes };
 
-    ghost invariant = { λ a. (padded (take a.len a.bytes) ≡ a.bytes) × (length (take a.len a.bytes) ≡ a.len) × IsTrue (is_name (take a.len a.bytes)) };
+    ghost invariant = { λ a. (padded_name (take a.len a.bytes) ≡ a.bytes) ×
+        (length (take a.len a.bytes) ≡ a.len) × IsTrue (is_name (take a.len a.bytes)) };
 
-    ghost inverse = { λ n. record { bytes = padded n; len = length n } };
+    ghost inverse = { λ n. record { bytes = padded_name n; len = length n } };
 
     ghost inverse_ok = { λ a h i. record { bytes = h.0 i; len = h.1 i } };
 }
 
-ghost use Rattle.std.specs.Prelude.{◌≡◌, ◌==◌, ◌≤◌, [], ◌∷◌, length, IsTrue, Some, None, if◌then◌else◌};
+ghost use Rattle.std.specs.Prelude.{◌≡◌, ◌==◌, ◌≤◌, [], ◌∷◌, length, IsTrue, Some, None};
+ghost use Rattle.std.specs.Prelude.{if◌then◌else◌};
 ghost use Rattle.std.proofs.Common.{rules};
 ghost use Rattle.std.specs.Cmp.{partial_order_from_own_ties};
 ghost use Rattle.std.specs.Cmp.Rules.{comparing, hashing};
@@ -37,7 +39,7 @@ ghost use Rattle.std.specs.Ordering.{nat_cmp, as_partial_cmp};
 ghost use Rattle.std.specs.Cmp.Lexicographic.{slice_cmp, pointwise};
 ghost use Rattle.std.specs.List.{list_all};
 ghost use Rattle.pua_tree.specs.Limits.{most_name};
-ghost use Rattle.pua_tree.specs.Names.{is_name, is_name_byte, front, padded};
+ghost use Rattle.pua_tree.specs.Names.{is_name, is_name_byte, front, padded_name};
 ghost use Rattle.pua_tree.specs.Spelling.{name_of, name_of_bytes};
 
 impl Name {
@@ -219,7 +221,7 @@ fn is_name_byte(byte: u8) -> bool
 #[inline(always)]
 fn padded(bytes: &[u8]) -> [u8; Name::MOST]
     requires { length bytes.now ≤ most_name }
-    ensures { result ≡ padded bytes.now }
+    ensures { result ≡ padded_name bytes.now }
 {
     let mut padded = [0; Name::MOST];
     padded[..bytes.len()].copy_from_slice(bytes);

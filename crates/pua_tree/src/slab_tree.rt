@@ -1,7 +1,7 @@
 //! A tree that uses slots again: rows by their spots, and nodes in slots that are found by number.
 
 use crate::fault::{OutOfMemory, TreeFault};
-use crate::gathered::{Entry, Gathered, Made};
+use crate::gathered::{Gathered, LineEntry, MadeNode};
 use crate::judgement::{self, Judged, may_add, may_cut, may_shift, may_tie};
 use crate::list_edits::copied_target;
 use crate::name::Name;
@@ -24,13 +24,13 @@ pub struct SlabTree {
 
 impl Model for SlabTree {
     ghost use Rattle.pua_tree.specs.Tree.{Tree, WellFormed};
-    ghost use Rattle.pua_tree.specs.Slots.{IsKept, held_in_slots};
+    ghost use Rattle.pua_tree.specs.Slots.{AreConsistent, held_in_slots};
 
     ghost Value = { Tree };
 
     ghost view = { λ a. held_in_slots a.slots a.next };
 
-    ghost invariant = { λ a. WellFormed (held_in_slots a.slots a.next) × IsKept a.slots };
+    ghost invariant = { λ a. WellFormed (held_in_slots a.slots a.next) × AreConsistent a.slots };
 }
 
 ghost use Rattle.std.specs.Prelude.{◌≡◌};
@@ -69,11 +69,11 @@ impl FileTree for SlabTree {
     }
 
     fn names(&self, alloc: Global) -> Result<Vec<Name>, TreeFault> {
-        self.slots.names(alloc).map_err(|_| TreeFault::OutOfMemory)
+        Ok(self.slots.names(alloc)?)
     }
 
     fn rows(&self, alloc: Global) -> Result<Vec<LentRow<'_>>, OutOfMemory> {
-        self.slots.lent_rows(alloc).map_err(|_| OutOfMemory)
+        Ok(self.slots.lent_rows(alloc)?)
     }
 
     fn add(
@@ -85,27 +85,23 @@ impl FileTree for SlabTree {
     ) -> Result<NodeId, TreeFault> {
         may_add(self, dir, &name)?;
         let alloc = self.slots.allocator();
-        let target = copied_target(alloc, target).map_err(|_| TreeFault::OutOfMemory)?;
+        let target = copied_target(alloc, target)?;
         let number = self.next;
         let node = NodeId::new(number);
-        let entry = Entry {
+        let entry = LineEntry {
             number,
             parent: dir,
             name,
             node,
-            made: Some(Made { kind, target }),
+            made: Some(MadeNode { kind, target }),
         };
-        match self.put(entry) {
-            Ok(()) => Ok(node),
-            Err(OutOfMemory) => Err(TreeFault::OutOfMemory),
-        }
+        self.put(entry)?;
+        Ok(node)
     }
 
     fn tie(&mut self, dir: NodeId, name: Name, node: NodeId) -> Result<(), TreeFault> {
         may_tie(self, dir, &name, node)?;
-        if self.slots.reserve_row().is_err() {
-            return Err(TreeFault::OutOfMemory);
-        }
+        self.slots.reserve_row()?;
         self.slots.put_row(dir, name, node);
         Ok(())
     }
@@ -127,9 +123,7 @@ impl FileTree for SlabTree {
         let Some(node) = may_shift(self, from, name, to, &new_name)? else {
             return Ok(());
         };
-        if self.slots.reserve_row().is_err() {
-            return Err(TreeFault::OutOfMemory);
-        }
+        self.slots.reserve_row()?;
         let spot = Spot {
             dir: to,
             name: new_name,
@@ -148,17 +142,13 @@ impl FileTree for SlabTree {
 
 impl Gathered for SlabTree {
     fn root_alone(alloc: Global, rows: usize) -> Result<SlabTree, OutOfMemory> {
-        match Slots::root_alone(alloc, rows) {
-            Ok(slots) => Ok(SlabTree { slots, next: 1 }),
-            Err(_) => Err(OutOfMemory),
-        }
+        let slots = Slots::root_alone(alloc, rows)?;
+        Ok(SlabTree { slots, next: 1 })
     }
 
-    fn put(&mut self, entry: Entry) -> Result<(), OutOfMemory> {
-        if self.slots.reserve_node().is_err() {
-            return Err(OutOfMemory);
-        }
-        let Entry {
+    fn put(&mut self, entry: LineEntry) -> Result<(), OutOfMemory> {
+        self.slots.reserve_node()?;
+        let LineEntry {
             number,
             parent: dir,
             name,

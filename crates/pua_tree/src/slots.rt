@@ -1,6 +1,6 @@
 //! Rows by their spots, and nodes in slots that are used again, found by their numbers.
 
-use crate::gathered::Made;
+use crate::gathered::MadeNode;
 use crate::name::Name;
 use crate::node::{Kind, NodeId};
 use crate::spot::Spot;
@@ -12,16 +12,16 @@ use std::collections::BTreeSet;
 
 /// A living node, where it leads if it is a link, and how it stands in the tree.
 #[derive(Drop)]
-pub(crate) struct Node {
+pub(crate) struct SlotNode {
     pub(crate) kind: Kind,
     pub(crate) target: Option<Vec<u8>>,
-    pub(crate) standing: Standing,
+    pub(crate) standing: Stance,
 }
 
 /// How a node stands in the tree: in which directory it came to stand last, how many rows a
 /// directory has, and how many names the node has.
 #[derive(Clone, Copy)]
-pub(crate) struct Standing {
+pub(crate) struct Stance {
     pub(crate) above: NodeId,
     pub(crate) rows: usize,
     pub(crate) names: usize,
@@ -32,21 +32,26 @@ pub(crate) struct Standing {
 pub(crate) struct Slots {
     pub(crate) rows: IndexMap<Spot, NodeId>,
     pub(crate) numbers: IndexMap<NodeId, usize>,
-    pub(crate) nodes: Slab<Node>,
+    pub(crate) nodes: Slab<SlotNode>,
 }
 
-ghost use Rattle.std.specs.Prelude.{ℕ, ◌≡◌, ◌≢◌, ◌<◌, ◌≤◌, ◌+◌, ◌==◌, ◌^◌, Some, None, IsSome, IfSome, IfOk, OnOk, if◌then◌else◌, option_copied, option_map, option_and_then, length, map, not};
+ghost use Rattle.std.specs.Prelude.{ℕ, ◌≡◌, ◌≢◌, ◌<◌, ◌≤◌, ◌+◌, ◌==◌, ◌^◌, Some, None, IsSome};
+ghost use Rattle.std.specs.Prelude.{IfSome, IfOk, OnOk, if◌then◌else◌, option_copied, option_map};
+ghost use Rattle.std.specs.Prelude.{option_and_then, length, map, not};
 ghost use Rattle.std.specs.Ordering.{is_eq, nat_cmp};
 ghost use Rattle.std.specs.FinMap.{put};
 ghost use Rattle.std.specs.FinMap.Entries.{where_key};
 ghost use Rattle.indexmap.specs.IndexMap.{spare};
 ghost use Rattle.slab.specs.Slab.{HasRoomFor};
-ghost use Rattle.pua_tree.specs.declared.slots.Node.{Node};
+ghost use Rattle.pua_tree.specs.declared.slots.SlotNode.{SlotNode};
 ghost use Rattle.pua_tree.specs.Tree.{spot_cmp, empty_tree, distinct_names};
 ghost use Rattle.pua_tree.specs.Edits.{without_unnamed};
 ghost use Rattle.pua_tree.specs.Reading.{said_node};
 ghost use Rattle.pua_tree.specs.LentRows.{lent_entry};
-ghost use Rattle.pua_tree.specs.Slots.{held_rows, held_nodes, held_in_slots, names_of, IsNew, MayStand, with_made, row_at, slot_of, node_in, IsFiled, IsKept, Restands, row_gained, row_lost, name_gained, name_lost};
+ghost use Rattle.pua_tree.specs.Slots.{held_rows, held_nodes, held_in_slots, names_of, IsNew};
+ghost use Rattle.pua_tree.specs.Slots.{MayStand, with_made, row_at, slot_of, node_in, IsFiled};
+ghost use Rattle.pua_tree.specs.Slots.{AreConsistent, Restands, row_gained, row_lost, name_gained};
+ghost use Rattle.pua_tree.specs.Slots.{name_lost};
 
 impl Slots {
     /// The node in the row at this spot.
@@ -58,7 +63,7 @@ impl Slots {
     }
 
     /// The node of this number.
-    fn node(&self, id: NodeId) -> Option<&Node>
+    fn node(&self, id: NodeId) -> Option<&SlotNode>
         ensures { option_copied result ≡ node_in self.now id }
     {
         let slot = self.slot(id)?;
@@ -77,7 +82,9 @@ impl Slots {
 
     /// Where the node of this number leads, if it is a link.
     pub(crate) fn target(&self, id: NodeId) -> Option<&[u8]>
-        ensures { option_copied result ≡ option_and_then (λ node. option_map (λ target. target.items) node.target) (node_in self.now id) }
+        ensures { option_copied result
+            ≡ option_and_then (λ node. option_map (λ target. target.items) node.target)
+            (node_in self.now id) }
     {
         match &self.node(id)?.target {
             Some(target) => Some(target.as_slice()),
@@ -106,7 +113,7 @@ impl Slots {
     }
 
     /// How the node of this number stands.
-    fn standing(&self, id: NodeId) -> Option<Standing>
+    fn standing(&self, id: NodeId) -> Option<Stance>
         ensures { result ≡ option_map (λ node. node.standing) (node_in self.now id) }
     {
         match self.node(id) {
@@ -197,11 +204,11 @@ impl Slots {
 
     /// Puts a row at a spot that has none.
     pub(crate) fn put_row(&mut self, dir: NodeId, name: Name, node: NodeId)
-        requires kept { IsKept self.old }
+        requires kept { AreConsistent self.old }
         requires room { 0 < spare self.old.rows }
         requires free { row_at self.old (dir, name) ≡ None }
         requires dir_once { MayStand self.old node }
-        ensures kept { IsKept self.new }
+        ensures kept { AreConsistent self.new }
         ensures rows { held_rows self.new ≡ put spot_cmp (dir, name) node (held_rows self.old) }
         ensures nodes { held_nodes self.new ≡ held_nodes self.old }
     {
@@ -214,10 +221,12 @@ impl Slots {
 
     /// Takes away the row of this directory and name, in which this node stands.
     pub(crate) fn take_row(&mut self, dir: NodeId, name: &Name, node: NodeId)
-        requires kept { IsKept self.old }
+        requires kept { AreConsistent self.old }
         requires there { row_at self.old (dir, name.now) ≡ Some node }
-        ensures kept { IsKept self.new }
-        ensures rows { held_rows self.new ≡ where_key spot_cmp (λ spot. not (is_eq (spot_cmp (dir, name.now) spot))) (held_rows self.old) }
+        ensures kept { AreConsistent self.new }
+        ensures rows { held_rows self.new
+            ≡ where_key spot_cmp (λ spot. not (is_eq (spot_cmp (dir, name.now) spot)))
+            (held_rows self.old) }
         ensures nodes { held_nodes self.new ≡ held_nodes self.old }
         ensures room { spare self.old.rows ≤ spare self.new.rows }
     {
@@ -236,14 +245,19 @@ impl Slots {
         new_name: Name,
         node: NodeId,
     )
-        requires kept { IsKept self.old }
+        requires kept { AreConsistent self.old }
         requires room { 0 < spare self.old.rows }
         requires there { row_at self.old (from, name.now) ≡ Some node }
         requires free { row_at self.old (to, new_name) ≡ None }
         requires not_root { node ≢ 0 }
-        requires dir_once { (n : Node) → node_in self.old node ≡ Some n → n.kind ≡ Kind.Dir → names_of (held_rows self.old) node ≡ 1 }
-        ensures kept { IsKept self.new }
-        ensures rows { held_rows self.new ≡ put spot_cmp (to, new_name) node (where_key spot_cmp (λ spot. not (is_eq (spot_cmp (from, name.now) spot))) (held_rows self.old)) }
+        requires dir_once { (n : SlotNode) → node_in self.old node ≡ Some n → n.kind ≡ Kind.Dir →
+            names_of (held_rows self.old) node ≡ 1 }
+        ensures kept { AreConsistent self.new }
+        ensures rows { held_rows self.new ≡ put spot_cmp (
+          to,
+          new_name,
+        ) node (where_key spot_cmp
+            (λ spot. not (is_eq (spot_cmp (from, name.now) spot))) (held_rows self.old)) }
         ensures nodes { held_nodes self.new ≡ held_nodes self.old }
     {
         self.take_row(from, name, node);
@@ -252,20 +266,23 @@ impl Slots {
 
     /// Puts a node under a number that no node has and no row names.
     pub(crate) fn add_node(&mut self, id: NodeId, kind: Kind, target: Option<Vec<u8>>)
-        requires kept { IsKept self.old }
+        requires kept { AreConsistent self.old }
         requires slot_room { HasRoomFor self.old.nodes 1 }
         requires number_room { 0 < spare self.old.numbers }
         requires new { IsNew self.old id }
-        ensures kept { IsKept self.new }
+        ensures kept { AreConsistent self.new }
         ensures rows { self.new.rows ≡ self.old.rows }
-        ensures nodes { held_nodes self.new ≡ put nat_cmp id (record { kind = kind; target = option_map (λ bytes. bytes.items) target }) (held_nodes self.old) }
+        ensures nodes { held_nodes self.new
+            ≡ put nat_cmp id (record
+            { kind = kind; target = option_map (λ bytes. bytes.items) target })
+            (held_nodes self.old) }
     {
-        let standing = Standing {
+        let standing = Stance {
             above: NodeId::ROOT,
             rows: 0,
             names: 0,
         };
-        let slot = self.nodes.insert_reserved(Node {
+        let slot = self.nodes.insert_reserved(SlotNode {
             kind,
             target,
             standing,
@@ -274,27 +291,29 @@ impl Slots {
     }
 
     /// Puts the node that an entry of a listing makes, if it makes one.
-    pub(crate) fn add_made(&mut self, id: NodeId, made: Option<Made>)
-        requires kept { IsKept self.old }
+    pub(crate) fn add_made(&mut self, id: NodeId, made: Option<MadeNode>)
+        requires kept { AreConsistent self.old }
         requires slot_room { HasRoomFor self.old.nodes 1 }
         requires number_room { 0 < spare self.old.numbers }
         requires new { IfSome made (λ _. IsNew self.old id) }
-        ensures kept { IsKept self.new }
+        ensures kept { AreConsistent self.new }
         ensures rows { self.new.rows ≡ self.old.rows }
-        ensures nodes { held_nodes self.new ≡ with_made id (option_map said_node made) (held_nodes self.old) }
+        ensures nodes { held_nodes self.new ≡ with_made id (option_map said_node made)
+            (held_nodes self.old) }
     {
-        if let Some(Made { kind, target }) = made {
+        if let Some(MadeNode { kind, target }) = made {
             self.add_node(id, kind, target);
         }
     }
 
     /// Takes the node of this number away. Its slot is the next that is used.
     fn drop_node(&mut self, id: NodeId)
-        requires kept { IsKept self.old }
+        requires kept { AreConsistent self.old }
         requires living { IsSome (slot_of self.old id) }
-        ensures kept { IsKept self.new }
+        ensures kept { AreConsistent self.new }
         ensures rows { self.new.rows ≡ self.old.rows }
-        ensures nodes { held_nodes self.new ≡ where_key nat_cmp (λ other. not (is_eq (nat_cmp id other))) (held_nodes self.old) }
+        ensures nodes { held_nodes self.new
+            ≡ where_key nat_cmp (λ other. not (is_eq (nat_cmp id other))) (held_nodes self.old) }
     {
         let slot = self.numbers.swap_remove(&id).unwrap();
         self.nodes.remove(slot);
@@ -302,11 +321,12 @@ impl Slots {
 
     /// Takes the node of this number away, if it has no name.
     pub(crate) fn drop_unnamed(&mut self, id: NodeId)
-        requires kept { IsKept self.old }
+        requires kept { AreConsistent self.old }
         requires living { IsSome (node_in self.old id) }
-        ensures kept { IsKept self.new }
+        ensures kept { AreConsistent self.new }
         ensures rows { self.new.rows ≡ self.old.rows }
-        ensures unnamed { (next : ℕ) → held_in_slots self.new next ≡ without_unnamed (held_in_slots self.old next) id }
+        ensures unnamed { (next : ℕ) →
+            held_in_slots self.new next ≡ without_unnamed (held_in_slots self.old next) id }
     {
         if self
             .standing(id)
@@ -318,8 +338,8 @@ impl Slots {
 
     /// Makes room for a further row. The only error is that memory is refused.
     pub(crate) fn reserve_row(&mut self) -> Result<(), AllocError>
-        requires { IsKept self.old }
-        ensures kept { IsKept self.new }
+        requires { AreConsistent self.old }
+        ensures kept { AreConsistent self.new }
         ensures same { (next : ℕ) → held_in_slots self.new next ≡ held_in_slots self.old next }
         ensures room { OnOk result (0 < spare self.new.rows) }
     {
@@ -328,8 +348,8 @@ impl Slots {
 
     /// Makes room for a further row and a further node. The only error is that memory is refused.
     pub(crate) fn reserve_node(&mut self) -> Result<(), AllocError>
-        requires { IsKept self.old }
-        ensures kept { IsKept self.new }
+        requires { AreConsistent self.old }
+        ensures kept { AreConsistent self.new }
         ensures same { (next : ℕ) → held_in_slots self.new next ≡ held_in_slots self.old next }
         ensures row_room { OnOk result (0 < spare self.new.rows) }
         ensures number_room { OnOk result (0 < spare self.new.numbers) }
@@ -342,7 +362,7 @@ impl Slots {
 
     /// The root alone, with room for so many rows. The only error is that memory is refused.
     pub(crate) fn root_alone(alloc: Global, rows: usize) -> Result<Slots, AllocError>
-        ensures kept { IfOk result IsKept }
+        ensures kept { IfOk result AreConsistent }
         ensures root { IfOk result (λ slots. held_in_slots slots 1 ≡ empty_tree) }
     {
         let mut slots = Slots {
@@ -362,7 +382,8 @@ impl Slots {
     /// The names in the rows: each once, in the order of their bytes. The only error is that memory
     /// is refused.
     pub(crate) fn names(&self, alloc: Global) -> Result<Vec<Name>, AllocError>
-        ensures { IfOk result (λ all. all.items ≡ distinct_names (map (λ row. row.0.1) (held_rows self.now))) }
+        ensures { IfOk result
+            (λ all. all.items ≡ distinct_names (map (λ row. row.0.1) (held_rows self.now))) }
     {
         let names = self.name_set(alloc)?;
         names.into_iter().copied().collect(alloc)
@@ -370,7 +391,8 @@ impl Slots {
 
     /// The names in the rows, as a set that lends them.
     fn name_set(&self, alloc: Global) -> Result<BTreeSet<&Name>, AllocError>
-        ensures { IfOk result (λ names. map (λ name. name.now) names.keys ≡ distinct_names (map (λ row. row.0.1) (held_rows self.now))) }
+        ensures { IfOk result (λ names. map (λ name. name.now) names.keys
+            ≡ distinct_names (map (λ row. row.0.1) (held_rows self.now))) }
     {
         let mut names = BTreeSet::new(alloc);
         for spot in self.rows.keys().as_slice().iter().rev() {

@@ -23,10 +23,12 @@ impl Model for SpelledByte {
     ghost invariant = { λ a. a.len ≤ 4 };
 }
 
-ghost use Rattle.std.specs.Prelude.{◌≡◌, ◌<◌, ◌≤◌, ◌&&◌, nat_le, ℕ, List, Some, None, length, option_map, IfSome, OnSome, IfOk, IsTrue, MatchOption};
+ghost use Rattle.std.specs.Prelude.{◌≡◌, ◌<◌, ◌≤◌, ◌&&◌, nat_le, ℕ, List, Some, None, length};
+ghost use Rattle.std.specs.Prelude.{option_map, IfSome, OnSome, IfOk, IsTrue, MatchOption};
 ghost use Rattle.std.specs.List.{list_all};
-ghost use Rattle.pua_tree.specs.Spelling.{byte_spelling, escaped_byte, is_octal, is_plain, unspelled, with_front};
-ghost use Rattle.pua_tree.specs.Writes.{overwritten};
+ghost use Rattle.pua_tree.specs.Spelling.{byte_spelling, escaped_byte, is_octal, is_plain};
+ghost use Rattle.pua_tree.specs.Spelling.{bytes_spelled, with_front};
+ghost use Rattle.pua_tree.specs.Writes.{room_after};
 
 impl SpelledByte {
     /// Its 1 or 4 bytes.
@@ -58,7 +60,7 @@ pub fn byte_spelling(byte: u8) -> SpelledByte
 /// The bytes that a text spells, and None where it is no spelling. The memory for them is reserved
 /// once; the only error is that this is refused.
 pub fn unspelled(alloc: Global, text: &[u8]) -> Result<Option<Vec<u8>>, OutOfMemory>
-    ensures { IfOk result (λ o. option_map (λ v. v.items) o ≡ unspelled text.now) }
+    ensures { IfOk result (λ o. option_map (λ v. v.items) o ≡ bytes_spelled text.now) }
 {
     if are_plain(text) {
         return as_it_stands(alloc, text);
@@ -66,9 +68,7 @@ pub fn unspelled(alloc: Global, text: &[u8]) -> Result<Option<Vec<u8>>, OutOfMem
     let Some(len) = unspell_into(text, &mut []) else {
         return Ok(None);
     };
-    let Ok(mut bytes) = vec![in alloc; 0; len] else {
-        return Err(OutOfMemory);
-    };
+    let mut bytes = vec![in alloc; 0; len]?;
     unspell_into(text, bytes.as_mut_slice());
     Ok(Some(bytes))
 }
@@ -77,23 +77,17 @@ pub fn unspelled(alloc: Global, text: &[u8]) -> Result<Option<Vec<u8>>, OutOfMem
 #[tactic(auto, using(crate::proofs::Spellings::unspelled_as_it_stands))]
 fn as_it_stands(alloc: Global, text: &[u8]) -> Result<Option<Vec<u8>>, OutOfMemory>
     requires { IsTrue (list_all is_plain text.now) }
-    ensures { IfOk result (λ o. option_map (λ v. v.items) o ≡ unspelled text.now) }
+    ensures { IfOk result (λ o. option_map (λ v. v.items) o ≡ bytes_spelled text.now) }
 {
-    let Ok(mut bytes) = Vec::with_capacity(alloc, text.len()) else {
-        return Err(OutOfMemory);
-    };
-    if bytes.extend_from_slice(text).is_err() {
-        return Err(OutOfMemory);
-    }
-    Ok(Some(bytes))
+    Ok(Some(Vec::from_slice(alloc, text)?))
 }
 
 /// Writes the bytes that a text spells into a room, as far as they fit, and answers how many they
 /// are; None where the text is no spelling, which leaves a front of the room overwritten.
 pub(crate) fn unspell_into(text: &[u8], room: &mut [u8]) -> Option<usize>
-    ensures { MatchOption result (unspelled text.now ≡ None)
-        (λ len. (bytes : List ℕ) × (unspelled text.now ≡ Some bytes) × (len ≡ length bytes)
-        × (room.new ≡ overwritten room.old 0 bytes)) }
+    ensures { MatchOption result (bytes_spelled text.now ≡ None)
+        (λ len. (bytes : List ℕ) × (bytes_spelled text.now ≡ Some bytes) × (len ≡ length bytes)
+        × (room.new ≡ room_after room.old 0 bytes)) }
 {
     let mut len = 0;
     let mut rest = text;
@@ -111,8 +105,8 @@ pub(crate) fn unspell_into(text: &[u8], room: &mut [u8]) -> Option<usize>
 /// The first byte that a text spells, and the text after its spelling.
 fn first_spelled(text: &[u8]) -> Option<(u8, &[u8])>
     requires { 0 < length text.now }
-    ensures first { MatchOption result (unspelled text.now ≡ None)
-        (λ r. unspelled text.now ≡ with_front (Some r.0) (unspelled r.1.now)) }
+    ensures first { MatchOption result (bytes_spelled text.now ≡ None)
+        (λ r. bytes_spelled text.now ≡ with_front (Some r.0) (bytes_spelled r.1.now)) }
     ensures shorter { IfSome result (λ r. length r.1.now < length text.now) }
 {
     let first = text[0];

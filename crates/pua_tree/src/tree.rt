@@ -23,9 +23,11 @@ pub struct LentRow<'t> {
 /// A tree of files: rows that give a node a name in a directory, the living nodes with their kinds
 /// and targets, and a number above each of them.
 pub trait FileTree {
-    ghost use Rattle.std.specs.Prelude.{◌≡◌, Ok, Err, IsTrue, IfOk, IfErr, OnErr, MatchResult, option_copied, map};
+    ghost use Rattle.std.specs.Prelude.{◌≡◌, Ok, Err, IsTrue, IfOk, IfErr, OnErr, MatchResult};
+    ghost use Rattle.std.specs.Prelude.{option_copied, map};
     ghost use Rattle.pua_tree.specs.LentRows.{lent_entry};
-    ghost use Rattle.pua_tree.specs.Tree.{Tree, WellFormed, kind_at, look, found_at, parent, target_at, target_fits, is_empty, names};
+    ghost use Rattle.pua_tree.specs.Tree.{Tree, WellFormed, kind_at, look, found_at, parent};
+    ghost use Rattle.pua_tree.specs.Tree.{target_at, target_fits, is_empty, names};
     ghost use Rattle.pua_tree.specs.Edits.{Refuses, add, tie, cut, shift};
 
     /// What the tree holds.
@@ -86,7 +88,9 @@ pub trait FileTree {
         target: Option<&[u8]>,
     ) -> Result<NodeId, TreeFault>
         requires { IsTrue (target_fits kind (option_copied target)) }
-        ensures exact { let rule = add (content self.old) dir name (record { kind = kind; target = option_copied target.entry }) in
+        ensures exact { let rule =
+            add (content self.old) dir name
+            (record { kind = kind; target = option_copied target.entry }) in
             MatchResult result (λ id. rule ≡ Ok (id, content self.new)) (Refuses rule) }
         ensures unchanged { OnErr result (content self.new ≡ content self.old) };
 

@@ -1,29 +1,22 @@
 -- What a chain tells.
-use Rattle.std.proofs.Common.{◌≡◌, ℕ, suc, ◌+◌, Bool, true, false, List, [], ◌∷◌, ◌++◌, map, length, Some, None, refl, sym, ap, ◌∙◌, append_assoc, append-nil, arith, Result, Ok, Err, Option}
-use Rattle.std.specs.Prelude.{if◌then◌else◌, decimal, option_map, bit_or}
-use Rattle.std.specs.List.{list_any}
-use Rattle.pua_tree.specs.Tree.{Tree, Spot, climb}
-use Rattle.pua_path.specs.declared.found.Found.{Found}
-use Rattle.pua_path.specs.declared.text.Ending.{Ending}
+use Rattle.pua_why.proofs.Common.{◌≡◌, ℕ, suc, ◌+◌, Bool, true, false, List, [], ◌∷◌, ◌++◌, map, length, Some, None, refl, sym, ap, ◌∙◌}
+use Rattle.pua_why.proofs.Common.{append_assoc, append-nil, arith, Result, Ok, Err, Option, if◌then◌else◌, decimal, option_map, list_any}
+use Rattle.pua_why.proofs.Common.{Tree, Spot, climb, Found, Ending, PathTrace, PathFault, CallTable, PairRule, rule_of, History, perms_kept}
+use Rattle.pua_why.proofs.Common.{object_of, or_fault, Call, Change, Outcome, Side, Sole, Old, New, unless_refused, unless_failed, on_named}
+use Rattle.pua_why.proofs.Common.{change_by, pair_by, misfit, InView, Promising, Holds, HasEnded, Lacks, promising, covering, Fault, Unfit}
+use Rattle.pua_why.proofs.Common.{unpromised_fault, told_path, uncovered_fault, faults, faults_of, Fact, Needs, Follows, facts_promised}
+use Rattle.pua_why.proofs.Common.{facts_named, facts_under, call_trace, name_trace, Place}
+use Rattle.std.specs.Prelude.{bit_or}
 use Rattle.pua_path.specs.declared.text.Ending.TheVariants as ending
-use Rattle.pua_path.specs.Traces.{PathTrace}
-use Rattle.pua_path.specs.declared.traced.PathFault.{PathFault}
-use Rattle.pua_calls.specs.Calls.{CallTable, PairRule, rule_of}
-use Rattle.pua_policy.specs.History.{History, kept}
-use Rattle.pua_policy.specs.Verdict.{is_unveil, nearest, object_of, or_fault}
-use Rattle.pua_calls.specs.declared.call.Call.{Call}
+use Rattle.pua_policy.specs.Verdict.{is_unveil, nearest}
 use Rattle.pua_policy.specs.declared.place.Place.TheVariants.{Dir}
 use Rattle.pua_policy.specs.declared.answer.Cover.TheVariants.{All}
-use Rattle.pua_script.specs.Decide.{Change, Outcome, Side, Sole, Old, New, unless_refused, unless_failed, on_named, change_by, pair_by}
-use Rattle.pua_policy.specs.Misfits.{misfit}
-use Rattle.pua_policy.specs.declared.reason.Covering.TheVariants.{InView}
-use Rattle.pua_policy.specs.Reasons.{Promising, Holds, HasEnded, Lacks, promising, kept_or, first_kept, covering, cover_of}
-use Rattle.pua_why.specs.Reasons.{Fault, Unfit, unpromised, told_path, uncovered, faults}
-use Rattle.pua_why.specs.Facts.{Fact, Needs, Follows, Names, Under, needing, facts_promised, facts_found, facts_named, facts_covered, facts_under, call_trace, call_facts, name_trace, pair_facts}
+use Rattle.pua_policy.specs.Reasons.{kept_or, first_kept, cover_of}
+use Rattle.pua_why.specs.Facts.{Names, Under, needing, facts_found, facts_covered}
+use Rattle.pua_why.specs.Facts.{call_facts, pair_facts}
 use Rattle.pua_why.specs.Texts.{answer_why, why_lines}
 use Rattle.pua_why.specs.Columns.{CoveringsIn}
 use Rattle.pua_why.specs.Laws.{ChainsEnd, FactsOf, GrantsAreTold, PairFactsOf, PairsAreTold}
-use Rattle.pua_policy.specs.declared.place.Place.{Place}
 
 pub chains_end : ChainsEnd
 chains_end table w done [] ask n =
@@ -34,28 +27,31 @@ chains_end table w done [] ask n =
 chains_end table w done (first ∷ asks) ask n =
     ap (λ more. (decimal n ++ 32 ∷ answer_why table w done first) ∷ more)
     (chains_end table w (done ++ first ∷ []) asks ask (suc n)
-    ∙ (λ i. why_lines table w (done ++ first ∷ []) (suc n) asks ++ (decimal (plus_one n (length asks) i) ++ 32 ∷ answer_why table w (append_assoc done (first ∷ []) asks i) ask) ∷ []))
+    ∙ (λ i. why_lines table w (done ++ first ∷ []) (suc n) asks
+    ++ (decimal (plus_one n (length asks) i) ++ 32 ∷ answer_why table w (append_assoc done (first ∷ []) asks i) ask) ∷ []))
   where
     plus_one : (m k : ℕ) → suc m + k ≡ m + suc k
     plus_one m k = omega arith
 
 -- the first place with a veil, as a cover
-first_covers : (h : History) (places : List Place) → cover_of (first_kept (kept h) places) ≡ nearest (map (kept h) places)
+first_covers : (h : History) (places : List Place) → cover_of (first_kept (perms_kept h) places) ≡ nearest (map (perms_kept h) places)
 first_covers h [] = refl
-first_covers h (place ∷ places) = by (kept h place) (first_covers h places)
+first_covers h (place ∷ places) = by (perms_kept h place) (first_covers h places)
   where
-    by : (o : Option ℕ) → cover_of (first_kept (kept h) places) ≡ nearest (map (kept h) places) → cover_of (kept_or place o (first_kept (kept h) places)) ≡ nearest (o ∷ map (kept h) places)
+    by : (o : Option ℕ) → cover_of (first_kept (perms_kept h) places) ≡ nearest (map (perms_kept h) places) →
+        cover_of (kept_or place o (first_kept (perms_kept h) places)) ≡ nearest (o ∷ map (perms_kept h) places)
     by (Some perms) e = refl
     by None e = e
 
-at_dirs : (h : History) (ds : List ℕ) → map (kept h) (map Dir ds) ≡ map (λ dir. kept h (Dir dir)) ds
+at_dirs : (h : History) (ds : List ℕ) → map (perms_kept h) (map Dir ds) ≡ map (λ dir. perms_kept h (Dir dir)) ds
 at_dirs h [] = refl
-at_dirs h (d ∷ ds) = ap (λ more. kept h (Dir d) ∷ more) (at_dirs h ds)
+at_dirs h (d ∷ ds) = ap (λ more. perms_kept h (Dir d) ∷ more) (at_dirs h ds)
 
 pub coverings_in : CoveringsIn
 coverings_in t h dir = by (list_any is_unveil h)
   where
-    by : (v : Bool) → cover_of (if v then first_kept (kept h) (map Dir (climb t dir)) else InView) ≡ (if v then nearest (map (λ over. kept h (Dir over)) (climb t dir)) else All)
+    by : (v : Bool) → cover_of (if v then first_kept (perms_kept h) (map Dir (climb t dir)) else InView)
+        ≡ (if v then nearest (map (λ over. perms_kept h (Dir over)) (climb t dir)) else All)
     by true = first_covers h (map Dir (climb t dir)) ∙ ap nearest (at_dirs h (climb t dir))
     by false = refl
 
@@ -81,12 +77,15 @@ module _ (t : Tree) (table : CallTable) (h : History) (call : Call) (text : List
   abbrev further : Found → List Fact
   further object = facts_under Sole t h object perms []
 
-  facts_as : (set : ℕ) (object : Found) → promising h (rule_of table call).alternatives ≡ Holds set → (call_trace t h call text).outcome ≡ Ok object →
-      uncovered Sole object perms (covering t h object) ≡ None →
-      call_facts table t h call text ≡ Needs set ∷ map (Follows Sole) (call_trace t h call text).links ++ Names Sole object ∷ Under Sole (covering t h object) ∷ []
+  facts_as : (set : ℕ) (object : Found) → promising h (rule_of table call).alternatives ≡ Holds set →
+      (call_trace t h call text).outcome ≡ Ok object →
+      uncovered_fault Sole object perms (covering t h object) ≡ None →
+      call_facts table t h call text ≡ Needs set ∷ map (Follows Sole) (call_trace t h call text).links ++ Names Sole object
+      ∷ Under Sole (covering t h object) ∷ []
   facts_as set object p o u =
       (λ i. facts_promised (p i) (map (Follows Sole) (call_trace t h call text).links ++ facts_found Sole (o i) further))
-      ∙ (λ i. needing set (map (Follows Sole) (call_trace t h call text).links ++ Names Sole object ∷ facts_covered Sole (covering t h object) (u i) []))
+      ∙ (λ i. needing set (map (Follows Sole) (call_trace t h call text).links ++ Names Sole object
+      ∷ facts_covered Sole (covering t h object) (u i) []))
       ∙ needing_first Sole set (call_trace t h call text).links object (Under Sole (covering t h object) ∷ [])
 
 pub grants_are_told : GrantsAreTold
@@ -96,9 +95,11 @@ grants_are_told t table h call text change e =
     wrong : Found → Option Fault
     wrong object = option_map (Unfit Sole object) (misfit t call (object_of t object))
 
-    by : (p : Promising) → promising h (rule_of table call).alternatives ≡ p → (o : Result Found PathFault) → (call_trace t h call text).outcome ≡ o →
-        unless_refused (unpromised p) (on_named (λ fault. fault) (told_path Sole o) λ object.
-        unless_failed (λ fault. fault) (or_fault (uncovered Sole object (rule_of table call).perms (covering t h object)) (wrong object)) (Ok (change_by table call object))) ≡ Ok change →
+    by : (p : Promising) → promising h (rule_of table call).alternatives ≡ p → (o : Result Found PathFault) →
+        (call_trace t h call text).outcome ≡ o →
+        unless_refused (unpromised_fault p) (on_named (λ fault. fault) (told_path Sole o) λ object.
+        unless_failed (λ fault. fault) (or_fault (uncovered_fault Sole object (rule_of table call).perms (covering t h object))
+        (wrong object)) (Ok (change_by table call object))) ≡ Ok change →
         FactsOf t table h call text
     by (Holds set) p (Ok object) o e = record {
       promises = set;
@@ -129,31 +130,41 @@ module _ (pair : PairRule) (t : Tree) (h : History) (end : Ending) (a b : List �
   covers old new = facts_under Old t h old pair.old.needs.perms (facts_under New t h new pair.new.needs.perms [])
 
   abbrev of_old : Found → Option Fault
-  of_old old = uncovered Old old pair.old.needs.perms (covering t h old)
+  of_old old = uncovered_fault Old old pair.old.needs.perms (covering t h old)
 
   abbrev of_new : Found → Option Fault
-  of_new new = uncovered New new pair.new.needs.perms (covering t h new)
+  of_new new = uncovered_fault New new pair.new.needs.perms (covering t h new)
 
   abbrev both : Found → Found → Option Fault
   both old new = or_fault (of_old old) (of_new new)
 
-  pair_as : (x y : ℕ) (old new : Found) → promising h pair.old.needs.alternatives ≡ Holds x → promising h pair.new.needs.alternatives ≡ Holds y → first.outcome ≡ Ok old → second.outcome ≡ Ok new →
+  pair_as : (x y : ℕ) (old new : Found) → promising h pair.old.needs.alternatives ≡ Holds x →
+      promising h pair.new.needs.alternatives ≡ Holds y → first.outcome ≡ Ok old → second.outcome ≡ Ok new →
       both old new ≡ None →
-      pair_facts pair t h end a b ≡ Needs (bit_or x y) ∷ (map (Follows Old) first.links ++ Names Old old ∷ (map (Follows New) second.links ++ Names New new
+      pair_facts pair t h end a b ≡ Needs (bit_or x y) ∷ (map (Follows Old) first.links ++ Names Old old
+      ∷ (map (Follows New) second.links ++ Names New new
       ∷ Under Old (covering t h old) ∷ Under New (covering t h new) ∷ []))
   pair_as x y old new po pn o n none =
-      (λ i. facts_promised (po i) (facts_promised (pn i) (map (Follows Old) first.links ++ facts_found Old (o i) λ old. facts_named New second (covers old))))
+      (λ i. facts_promised (po i) (facts_promised (pn i) (map (Follows Old) first.links ++ facts_found Old (o i) λ old. facts_named New
+      second (covers old))))
       ∙ ap (needing x) (needing_first Old y first.links old (facts_named New second (covers old)))
-      ∙ (λ i. Needs (bit_or x y) ∷ (map (Follows Old) first.links ++ Names Old old ∷ (map (Follows New) second.links ++ facts_found New (n i) (covers old))))
+      ∙ (λ i. Needs (bit_or x y)
+      ∷ (map (Follows Old) first.links ++ Names Old old ∷ (map (Follows New) second.links ++ facts_found New (n i) (covers old))))
       ∙ (λ i. Needs (bit_or x y) ∷ (map (Follows Old) first.links ++ Names Old old ∷ (map (Follows New) second.links ++ Names New new
-      ∷ facts_covered Old (covering t h old) (first_none (of_old old) (of_new new) none i) (facts_covered New (covering t h new) (second_none (of_old old) (of_new new) none i) []))))
+      ∷ facts_covered Old (covering t h old) (first_none (of_old old) (of_new new) none i)
+      (facts_covered New (covering t h new) (second_none (of_old old) (of_new new) none i) []))))
 
-  pair_told : (further : Found → Found → Outcome Fault) (change : Change) → pair_by faults pair t h end a b further ≡ Ok change → PairFactsOf pair t h end a b
-  pair_told further change e = by (promising h pair.old.needs.alternatives) refl (promising h pair.new.needs.alternatives) refl first.outcome refl second.outcome refl e
+  pair_told : (further : Found → Found → Outcome Fault) (change : Change) →
+      pair_by faults pair t (faults_of h) end a b further ≡ Ok change → PairFactsOf pair t h end a b
+  pair_told further change e =
+      by (promising h pair.old.needs.alternatives) refl (promising h pair.new.needs.alternatives) refl first.outcome refl second.outcome
+      refl e
     where
       by : (p : Promising) → promising h pair.old.needs.alternatives ≡ p → (q : Promising) → promising h pair.new.needs.alternatives ≡ q →
           (o : Result Found PathFault) → first.outcome ≡ o → (n : Result Found PathFault) → second.outcome ≡ n →
-          unless_refused (unpromised p) (unless_refused (unpromised q) (on_named (λ fault. fault) (told_path Old o) λ old. on_named (λ fault. fault) (told_path New n) λ new.
+          unless_refused (unpromised_fault p)
+          (unless_refused (unpromised_fault q) (on_named (λ fault. fault) (told_path Old o) λ old. on_named (λ fault. fault)
+          (told_path New n) λ new.
           unless_failed (λ fault. fault) (both old new) (further old new))) ≡ Ok change → PairFactsOf pair t h end a b
       by (Holds x) p (Holds y) q (Ok old) o (Ok new) n e = record {
         old_promises = x;

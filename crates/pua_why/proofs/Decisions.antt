@@ -1,30 +1,33 @@
 -- A decision, a verdict and an answer are functions of what is reasoned.
-use Rattle.std.proofs.Common.{◌≡◌, ℕ, Bool, true, false, List, [], ◌∷◌, length, Some, None, refl, ap, ◌∙◌, Result, Ok, Err, Option}
-use Rattle.std.specs.Prelude.{if◌then◌else◌, ◌||◌, ◌&&◌, not, is_some, nat_le, option_map}
-use Rattle.pua_tree.specs.Tree.{Tree, Spot, is_empty}
-use Rattle.pua_tree.specs.Edits.{add, cut, tie, shift, is_inside, is_same_node}
-use Rattle.pua_tree.specs.declared.fault.TreeFault.{TreeFault}
+use Rattle.pua_why.proofs.Common.{◌≡◌, ℕ, Bool, true, false, List, [], ◌∷◌, length, Some, None, refl, ap, ◌∙◌, Result, Ok, Err, Option}
+use Rattle.pua_why.proofs.Common.{if◌then◌else◌, ◌||◌, not, is_some, nat_le, option_map, Tree, Spot, add, cut, tie, shift, TreeFault}
+use Rattle.pua_why.proofs.Common.{spot_named, node_named, Ending, Followed, Found, Whole, Slot, text_fault, trace_of_text, TextFault}
+use Rattle.pua_why.proofs.Common.{PathFault, holds, unveil, CallTable, PairRule, rule_of, History, is_ended, is_locked, perms_kept}
+use Rattle.pua_why.proofs.Common.{working_dir, object_of, or_fault, Place, Call, most_processes, Change, NoChange, AddNode, CutRow}
+use Rattle.pua_why.proofs.Common.{ShiftRow, TieRow, BeginProgram, AddEvent, CopyAs, Outcome, Side, Sole, Old, New, unless_refused}
+use Rattle.pua_why.proofs.Common.{unless_failed, on_named, adding, link_node, change_by, shifting, fault_if, pair_by, World, history_of}
+use Rattle.pua_why.proofs.Common.{change_effect, come_of, edit_effect, edited_tree, OnPath, Symlink, Rename, Link, Pledge, Unveil, Lock}
+use Rattle.pua_why.proofs.Common.{Fork, Exit, Answer, lacking, misfit, InView, By, Promising, Holds, HasEnded, Lacks, promising, covering}
+use Rattle.pua_why.proofs.Common.{Fault, LacksLetters, Unfit, IsLocked, NumberTaken, NoProcessLeft, unpromised_fault, told_path}
+use Rattle.pua_why.proofs.Common.{uncovered_fault, place_beyond, faults, faults_of, change_or_fault, no_room, room_fault, outcome_fault}
+use Rattle.pua_why.proofs.Common.{decision_of}
+use Rattle.std.specs.Prelude.{◌&&◌}
+use Rattle.pua_tree.specs.Tree.{is_empty}
+use Rattle.pua_tree.specs.Edits.{is_inside, is_same_node}
 use Rattle.pua_path.specs.Paths.{path_fault}
 use Rattle.pua_path.specs.Resolution.{resolution_of_text}
-use Rattle.pua_path.specs.Fits.{spot_named, node_named}
 use Rattle.pua_path.specs.declared.errno.Errno.{Errno}
 use Rattle.pua_path.specs.declared.errno.Errno.TheVariants.{EPERM, EACCES, EAGAIN, EINVAL}
-use Rattle.pua_path.specs.declared.text.Ending.{Ending}
 use Rattle.pua_path.specs.declared.text.Ending.TheVariants as ending
-use Rattle.pua_path.specs.declared.found.Last.TheVariants.{Followed}
 use Rattle.pua_path.specs.declared.found.Way.TheVariants as way
-use Rattle.pua_path.specs.declared.found.Found.{Found}
-use Rattle.pua_path.specs.declared.found.Found.TheVariants.{Whole, Slot}
-use Rattle.pua_path.specs.Traces.{text_errno, text_fault, object_or_errno, trace_of_text}
-use Rattle.pua_path.specs.declared.traced.TextFault.{TextFault}
-use Rattle.pua_path.specs.declared.traced.PathFault.{PathFault}
+use Rattle.pua_path.specs.Traces.{text_errno, object_or_errno}
 use Rattle.pua_path.proofs.ForCallers.{text_traces_answer}
-use Rattle.pua_calls.specs.Promises.{holds, proc, unveil}
-use Rattle.pua_calls.specs.Calls.{CallTable, PairRule, rule_of, last_of, ending_of}
-use Rattle.pua_policy.specs.History.{History, pledged, held_for_exec, has_error, is_within, is_ended, is_locked, kept, veils, working_dir, place_fault, place_limit, unveil_fault, pledge_fault, may_any}
-use Rattle.pua_policy.specs.Verdict.{place_of, object_of, object_fault, object_named, cover, cover_fault, or_fault, found_fault, allowed_unless, if_promised, refusal_of, refused, verdict_of}
-use Rattle.pua_policy.specs.declared.place.Place.{Place}
-use Rattle.pua_calls.specs.declared.call.Call.{Call}
+use Rattle.pua_calls.specs.Promises.{proc}
+use Rattle.pua_calls.specs.Calls.{last_of, ending_of}
+use Rattle.pua_policy.specs.History.{pledged_set, held_for_exec, has_error, is_within, veils}
+use Rattle.pua_policy.specs.History.{place_fault, most_places, unveil_fault, pledge_fault, may_any}
+use Rattle.pua_policy.specs.Verdict.{place_of, object_fault, object_named, cover, cover_fault, found_fault}
+use Rattle.pua_policy.specs.Verdict.{allowed_unless, if_promised, refusal_of, refusal_verdict, verdict_of}
 use Rattle.pua_calls.specs.declared.call.Call.TheVariants as call
 use Rattle.pua_policy.specs.declared.answer.May.{May}
 use Rattle.pua_policy.specs.declared.answer.May.TheVariants as may
@@ -33,24 +36,25 @@ use Rattle.pua_policy.specs.declared.answer.Refusal.{Refusal}
 use Rattle.pua_policy.specs.declared.answer.Refusal.TheVariants as refusal
 use Rattle.pua_policy.specs.declared.answer.Verdict.{Verdict}
 use Rattle.pua_policy.specs.declared.answer.Verdict.TheVariants as verdict
-use Rattle.pua_script.specs.Limits.{process_limit}
-use Rattle.pua_script.specs.Decide.{Change, NoChange, AddNode, CutRow, ShiftRow, TieRow, BeginProgram, AddEvent, CopyAs, Outcome, Decision, Side, Sole, Old, New, unless_refused, unless_failed, on_named, adding, link_node, change_by, shifting, tying, fault_if, dots_by, top_by, ways_by, kinds_by, inside_by, is_whole, given_set, is_unknown, object_by, rename_by, link_by, pair_by, veil_by, unveil_errno, refusals, decide}
+use Rattle.pua_script.specs.Decide.{Decision}
+use Rattle.pua_script.specs.Decide.{tying, dots_by, top_by, ways_by, kinds_by, inside_by, is_whole, given_set, is_unknown}
+use Rattle.pua_script.specs.Decide.{object_by, rename_by, link_by, veil_by, unveil_errno, refusals, asker_of, decide}
 use Rattle.pua_policy.specs.Misfits.{misfit_errno}
 use Rattle.pua_policy.specs.declared.reason.Misfit.{Misfit}
 use Rattle.pua_policy.specs.declared.reason.Misfit.TheVariants.{IsDirectory, IsNoFile, IsNoDirectory, IsNotEmpty, Exists}
 use Rattle.pua_script.specs.Replay as replay
-use Rattle.pua_script.specs.Replay.{World, history_of, made, come_of, edited, edited_tree, answer_to, left_by, served}
-use Rattle.pua_script.specs.declared.request.Action.TheVariants.{OnPath, Symlink, Rename, Link, Pledge, Unveil, Lock, Fork, Exit}
-use Rattle.pua_script.specs.declared.answer.Answer.{Answer}
+use Rattle.pua_script.specs.Replay.{answer_to, left_by}
+use Rattle.pua_script.specs.Replay.{answer_and_world}
 use Rattle.pua_script.specs.declared.answer.Answer.TheVariants.{Gone}
-use Rattle.pua_calls.specs.Promises.{lacking}
-use Rattle.pua_policy.specs.Misfits.{misfit}
 use Rattle.pua_policy.specs.declared.reason.Covering.{Covering}
-use Rattle.pua_policy.specs.declared.reason.Covering.TheVariants.{InView, NoneOver, By}
-use Rattle.pua_policy.specs.Reasons.{Promising, Holds, HasEnded, Lacks, promising, may_of, covering, cover_of}
+use Rattle.pua_policy.specs.declared.reason.Covering.TheVariants.{NoneOver}
+use Rattle.pua_policy.specs.Reasons.{may_of, cover_of}
 use Rattle.pua_why.specs.Reasons as reasons
-use Rattle.pua_why.specs.Reasons.{Fault, BadTarget, LacksLetters, Unfit, Inside, UnknownPromise, AsksPromises, IsLocked, AsksLetters, NoPlaceLeft, NumberTaken, NoProcessLeft, fault_refusal, unpromised, told_path, uncovered, beyond, pledge_beyond, place_beyond, unveil_beyond, faults, reasoned, no_room, room_fault, outcome_fault, reason_of, reason_by, refusal_answer, answer_of}
-use Rattle.pua_why.specs.Laws.{decision_of, ReasonsGiveDecisions, verdict_by, ReasonsGiveVerdicts, ReasonsGiveAnswers}
+use Rattle.pua_why.specs.Reasons.{BadTarget, Inside, UnknownPromise, AsksPromises, AsksLetters}
+use Rattle.pua_why.specs.Reasons.{NoPlaceLeft, fault_refusal}
+use Rattle.pua_why.specs.Reasons.{beyond, pledge_beyond, unveil_beyond}
+use Rattle.pua_why.specs.Reasons.{reason_of, reason_by, refusal_answer, answer_of}
+use Rattle.pua_why.specs.Laws.{ReasonsGiveDecisions, verdict_by, ReasonsGiveVerdicts, ReasonsGiveAnswers}
 use Rattle.pua_policy.proofs.ForCallers.{promisings_answer, coverings_cover}
 
 -- a fault and an errno, as what becomes of the request
@@ -65,7 +69,8 @@ refused_as : (o : Option Fault) (d : Outcome Fault) → decision_of (unless_refu
 refused_as None d = refl
 refused_as (Some fault) d = refl
 
-failed_as : (o : Option Fault) (d : Outcome Fault) → decision_of (unless_failed (λ fault. fault) o d) ≡ unless_refused (Told o) (decision_of d)
+failed_as : (o : Option Fault) (d : Outcome Fault) →
+    decision_of (unless_failed (λ fault. fault) o d) ≡ unless_refused (Told o) (decision_of d)
 failed_as None d = refl
 failed_as (Some fault) d = refl
 
@@ -73,7 +78,8 @@ checked_as : (o : Option Errno) (d : Decision) → unless_refused (Failing o) d 
 checked_as None d = refl
 checked_as (Some errno) d = refl
 
-refused_told : (o : Option Fault) (p : Option Refusal) (d : Outcome Fault) (e : Decision) → Told o ≡ p → decision_of d ≡ e → decision_of (unless_refused o d) ≡ unless_refused p e
+refused_told : (o : Option Fault) (p : Option Refusal) (d : Outcome Fault) (e : Decision) → Told o ≡ p → decision_of d ≡ e →
+    decision_of (unless_refused o d) ≡ unless_refused p e
 refused_told o p d e same next = refused_as o d ∙ (λ i. unless_refused (same i) (next i))
 
 failed_told : (o : Option Fault) (p : Option Errno) (d : Outcome Fault) (e : Decision) → Told o ≡ Failing p → decision_of d ≡ e →
@@ -81,13 +87,17 @@ failed_told : (o : Option Fault) (p : Option Errno) (d : Outcome Fault) (e : Dec
 failed_told o p d e same next = failed_as o d ∙ (λ i. unless_refused (same i) (next i)) ∙ checked_as p e
 
 -- on what a path named
-named_as : (side : Side) (outcome : Result Found PathFault) (f : Found → Outcome Fault) (g : Found → Decision) → ((x : Found) → decision_of (f x) ≡ g x) →
-    decision_of (on_named (λ fault. fault) (told_path side outcome) f) ≡ on_named (λ errno. refusal.Failed errno) (object_or_errno outcome) g
+named_as : (side : Side) (outcome : Result Found PathFault) (f : Found → Outcome Fault) (g : Found → Decision) →
+    ((x : Found) → decision_of (f x) ≡ g x) →
+    decision_of (on_named (λ fault. fault) (told_path side outcome) f) ≡ on_named (λ errno. refusal.Failed errno) (object_or_errno outcome)
+    g
 named_as side (Ok x) f g each = each x
 named_as side (Err fault) f g each = refl
 
-named_told : (side : Side) (outcome : Result Found PathFault) (r : Result Found Errno) (f : Found → Outcome Fault) (g : Found → Decision) → object_or_errno outcome ≡ r →
-    ((x : Found) → decision_of (f x) ≡ g x) → decision_of (on_named (λ fault. fault) (told_path side outcome) f) ≡ on_named (λ errno. refusal.Failed errno) r g
+named_told : (side : Side) (outcome : Result Found PathFault) (r : Result Found Errno) (f : Found → Outcome Fault) (g : Found → Decision) →
+    object_or_errno outcome ≡ r →
+    ((x : Found) → decision_of (f x) ≡ g x) →
+    decision_of (on_named (λ fault. fault) (told_path side outcome) f) ≡ on_named (λ errno. refusal.Failed errno) r g
 named_told side outcome r f g is each = named_as side outcome f g each ∙ ap (λ r. on_named (λ errno. refusal.Failed errno) r g) is
 
 -- the first of two faults
@@ -102,18 +112,19 @@ or_fails (Some errno) b = refl
 or_told : (a b : Option Fault) (c d : Option Errno) → Told a ≡ Failing c → Told b ≡ Failing d → Told (or_fault a b) ≡ Failing (or_fault c d)
 or_told a b c d first second = or_as a b ∙ (λ i. or_fault (first i) (second i)) ∙ or_fails c d
 
-when_told : (v : Bool) (fault : Fault) (errno : Errno) → fault_refusal fault ≡ refusal.Failed errno → Told (fault_if v fault) ≡ Failing (fault_if v errno)
+when_told : (v : Bool) (fault : Fault) (errno : Errno) → fault_refusal fault ≡ refusal.Failed errno →
+    Told (fault_if v fault) ≡ Failing (fault_if v errno)
 when_told true fault errno e = ap (λ (r : Refusal). Some r) e
 when_told false fault errno e = refl
 
 -- promises, targets, covers and objects
-unpromised_told : (p : Promising) → Told (unpromised p) ≡ refusal_of (may_of p)
+unpromised_told : (p : Promising) → Told (unpromised_fault p) ≡ refusal_of (may_of p)
 unpromised_told (Holds set) = refl
 unpromised_told HasEnded = refl
 unpromised_told (Lacks true sets) = refl
 unpromised_told (Lacks false sets) = refl
 
-promises_told : (h : History) (sets : List ℕ) → Told (unpromised (promising h sets)) ≡ refusal_of (may_any h sets)
+promises_told : (h : History) (sets : List ℕ) → Told (unpromised_fault (promising h sets)) ≡ refusal_of (may_any h sets)
 promises_told h sets = unpromised_told (promising h sets) ∙ ap refusal_of (promisings_answer h sets)
 
 target_told : (target : List ℕ) → Told (option_map BadTarget (text_fault target)) ≡ Failing (path_fault target)
@@ -123,67 +134,90 @@ target_told target = by (text_fault target)
     by None = refl
     by (Some fault) = refl
 
-uncovered_told : (side : Side) (object : Found) (perms : ℕ) (over : Covering) → Told (uncovered side object perms over) ≡ Failing (cover_fault (cover_of over) perms)
+uncovered_told : (side : Side) (object : Found) (perms : ℕ) (over : Covering) →
+    Told (uncovered_fault side object perms over) ≡ Failing (cover_fault (cover_of over) perms)
 uncovered_told side object perms InView = refl
 uncovered_told side object perms NoneOver = refl
 uncovered_told side object perms (By place given) = by (holds given perms)
   where
-    by : (v : Bool) → Told (if v then None else Some (LacksLetters side place given (lacking given perms))) ≡ Failing (if v then None else Some EACCES)
+    by : (v : Bool) → Told (if v then None else Some (LacksLetters side place given (lacking given perms)))
+        ≡ Failing (if v then None else Some EACCES)
     by true = refl
     by false = refl
 
-wrong_told : (object : Found) (wrong : Option Misfit) → Told (option_map (Unfit Sole object) wrong) ≡ Failing (option_map misfit_errno wrong)
+wrong_told : (object : Found) (wrong : Option Misfit) →
+    Told (option_map (Unfit Sole object) wrong) ≡ Failing (option_map misfit_errno wrong)
 wrong_told object None = refl
 wrong_told object (Some wrong) = refl
 
 module _ (t : Tree) (h : History) where
-  cover_told : (side : Side) (object : Found) (perms : ℕ) → Told (uncovered side object perms (covering t h object)) ≡ Failing (cover_fault (cover t h object) perms)
-  cover_told side object perms = uncovered_told side object perms (covering t h object) ∙ ap (λ c. Failing (cover_fault c perms)) (coverings_cover t h object)
+  cover_told : (side : Side) (object : Found) (perms : ℕ) →
+      Told (uncovered_fault side object perms (covering t h object)) ≡ Failing (cover_fault (cover t h object) perms)
+  cover_told side object perms = uncovered_told side object perms (covering t h object) ∙
+      ap (λ c. Failing (cover_fault c perms)) (coverings_cover t h object)
 
-  object_told : (c : Call) (object : Found) → Told (option_map (Unfit Sole object) (misfit t c (object_of t object))) ≡ Failing (object_fault t c (object_of t object))
+  object_told : (c : Call) (object : Found) →
+      Told (option_map (Unfit Sole object) (misfit t c (object_of t object))) ≡ Failing (object_fault t c (object_of t object))
   object_told c object = wrong_told object (misfit t c (object_of t object))
 
   -- a call of the table, whose promises are held
   call_told : (table : CallTable) (c : Call) (path : List ℕ) (f : Found → Change) →
-      decision_of (object_by faults table t h c path (λ x. Ok (f x))) ≡ object_by refusals table t h c path (λ x. Ok (f x))
+      decision_of (object_by faults table t (faults_of h) c path (λ x. Ok (f x)))
+      ≡ object_by refusals table t (asker_of h) c path (λ x. Ok (f x))
   call_told table c path f =
-      named_told Sole (trace_of_text t (working_dir h) (ending_of c) path (last_of c)).outcome (object_named t h c path) _ _ (text_traces_answer t (working_dir h) (ending_of c) path (last_of c)) λ x.
-      failed_told _ (found_fault t table h c x) (Ok (f x)) (Ok (f x)) (or_told _ _ _ _ (cover_told Sole x (rule_of table c).perms) (object_told c x)) refl
+      named_told Sole (trace_of_text t (working_dir h) (ending_of c) path (last_of c)).outcome (object_named t h c path) _ _
+      (text_traces_answer t (working_dir h) (ending_of c) path (last_of c)) λ x.
+      failed_told _ (found_fault t table h c x) (Ok (f x)) (Ok (f x)) (or_told _ _ _ _ (cover_told Sole x (rule_of table c).perms)
+      (object_told c x)) refl
 
   -- two paths
-  pair_told : (rules : PairRule) (end : Ending) (old new : List ℕ) (f : Found → Found → Outcome Fault) (g : Found → Found → Decision) → ((a b : Found) → decision_of (f a b) ≡ g a b) →
-      decision_of (pair_by faults rules t h end old new f) ≡ pair_by refusals rules t h end old new g
+  pair_told : (rules : PairRule) (end : Ending) (old new : List ℕ) (f : Found → Found → Outcome Fault) (g : Found → Found → Decision) →
+      ((a b : Found) → decision_of (f a b) ≡ g a b) →
+      decision_of (pair_by faults rules t (faults_of h) end old new f) ≡ pair_by refusals rules t (asker_of h) end old new g
   pair_told rules end old new f g each =
       refused_told _ _ _ _ (promises_told h rules.old.needs.alternatives)
       (refused_told _ _ _ _ (promises_told h rules.new.needs.alternatives)
-      (named_told Old (trace_of_text t (working_dir h) end old rules.old.last).outcome (resolution_of_text t (working_dir h) end old rules.old.last) _ _ (text_traces_answer t (working_dir h) end old rules.old.last) λ a.
-      named_told New (trace_of_text t (working_dir h) end new rules.new.last).outcome (resolution_of_text t (working_dir h) end new rules.new.last) _ _ (text_traces_answer t (working_dir h) end new rules.new.last) λ b.
-      failed_told _ _ (f a b) (g a b) (or_told _ _ _ _ (cover_told Old a rules.old.needs.perms) (cover_told New b rules.new.needs.perms)) (each a b)))
+      (named_told Old (trace_of_text t (working_dir h) end old rules.old.last).outcome
+      (resolution_of_text t (working_dir h) end old rules.old.last) _ _ (text_traces_answer t (working_dir h) end old rules.old.last)
+      λ a.
+      named_told New (trace_of_text t (working_dir h) end new rules.new.last).outcome
+      (resolution_of_text t (working_dir h) end new rules.new.last) _ _ (text_traces_answer t (working_dir h) end new rules.new.last)
+      λ b.
+      failed_told _ _ (f a b) (g a b) (or_told _ _ _ _ (cover_told Old a rules.old.needs.perms) (cover_told New b rules.new.needs.perms))
+      (each a b)))
 
-dots_told : (side : Side) (object x : Found) → Told (dots_by (λ wrong. Unfit side object wrong) x) ≡ Failing (dots_by (λ wrong. misfit_errno wrong) x)
+dots_told : (side : Side) (object x : Found) →
+    Told (dots_by (λ wrong. Unfit side object wrong) x) ≡ Failing (dots_by (λ wrong. misfit_errno wrong) x)
 dots_told side object (Whole dir way.Dot) = refl
 dots_told side object (Whole dir way.DotDot) = refl
 dots_told side object (Whole dir way.Top) = refl
 dots_told side object (Whole dir (way.Named parent name)) = refl
 dots_told side object (Slot dir name x) = refl
 
-top_told : (side : Side) (object x : Found) → Told (top_by (λ wrong. Unfit side object wrong) x) ≡ Failing (top_by (λ wrong. misfit_errno wrong) x)
+top_told : (side : Side) (object x : Found) →
+    Told (top_by (λ wrong. Unfit side object wrong) x) ≡ Failing (top_by (λ wrong. misfit_errno wrong) x)
 top_told side object (Whole dir way.Dot) = refl
 top_told side object (Whole dir way.DotDot) = refl
 top_told side object (Whole dir way.Top) = refl
 top_told side object (Whole dir (way.Named parent name)) = refl
 top_told side object (Slot dir name x) = refl
 
-ways_told : (a b : Found) → Told (ways_by (λ side object wrong. Unfit side object wrong) a b) ≡ Failing (ways_by (λ side object wrong. misfit_errno wrong) a b)
-ways_told a b = or_told _ _ _ _ (dots_told Old a a) (or_told _ _ _ _ (dots_told New b b) (or_told _ _ _ _ (top_told Old a a) (top_told New b b)))
+ways_told : (a b : Found) →
+    Told (ways_by (λ side object wrong. Unfit side object wrong) a b) ≡ Failing (ways_by (λ side object wrong. misfit_errno wrong) a b)
+ways_told a b = or_told _ _ _ _ (dots_told Old a a)
+    (or_told _ _ _ _ (dots_told New b b) (or_told _ _ _ _ (top_told Old a a) (top_told New b b)))
 
-kinds_told : (t : Tree) (side : Side) (object old new : Found) → Told (kinds_by (λ wrong. Unfit side object wrong) t old new) ≡ Failing (kinds_by (λ wrong. misfit_errno wrong) t old new)
+kinds_told : (t : Tree) (side : Side) (object old new : Found) →
+    Told (kinds_by (λ wrong. Unfit side object wrong) t old new) ≡ Failing (kinds_by (λ wrong. misfit_errno wrong) t old new)
 kinds_told t side object old (Whole y by) =
-    or_told _ _ _ _ (when_told (not (is_whole old)) (Unfit side object IsDirectory) (misfit_errno IsDirectory) refl) (when_told (not (is_empty t y)) (Unfit side object IsNotEmpty) (misfit_errno IsNotEmpty) refl)
+    or_told _ _ _ _ (when_told (not (is_whole old)) (Unfit side object IsDirectory) (misfit_errno IsDirectory) refl)
+    (when_told (not (is_empty t y)) (Unfit side object IsNotEmpty) (misfit_errno IsNotEmpty) refl)
 kinds_told t side object old (Slot dir name None) = refl
-kinds_told t side object old (Slot dir name (Some y)) = when_told (is_whole old) (Unfit side object IsNoDirectory) (misfit_errno IsNoDirectory) refl
+kinds_told t side object old (Slot dir name (Some y)) =
+    when_told (is_whole old) (Unfit side object IsNoDirectory) (misfit_errno IsNoDirectory) refl
 
-inside_told : (t : Tree) (x : ℕ) (a b : Found) (spot : Option Spot) → Told (inside_by (Inside a b) t x spot) ≡ Failing (inside_by EINVAL t x spot)
+inside_told : (t : Tree) (x : ℕ) (a b : Found) (spot : Option Spot) →
+    Told (inside_by (Inside a b) t x spot) ≡ Failing (inside_by EINVAL t x spot)
 inside_told t x a b None = refl
 inside_told t x a b (Some spot) = when_told (is_inside t x spot.0) (Inside a b) EINVAL refl
 
@@ -195,22 +229,26 @@ rename_told t a b (Some x) = failed_told _ _ _ _ (ways_told a b) (by (is_same_no
     moves = Ok (shifting (spot_named a) (spot_named b))
 
     by : (v : Bool) →
-        decision_of (if v then Ok NoChange else unless_failed (λ fault. fault) (or_fault (inside_by (Inside a b) t x (spot_named b)) (kinds_by (λ wrong. Unfit New b wrong) t a b)) (Ok (shifting (spot_named a) (spot_named b))))
-        ≡ (if v then Ok NoChange else unless_failed (λ errno. refusal.Failed errno) (or_fault (inside_by EINVAL t x (spot_named b)) (kinds_by (λ wrong. misfit_errno wrong) t a b)) moves)
+        decision_of (if v then Ok NoChange else unless_failed (λ fault. fault) (or_fault (inside_by (Inside a b) t x (spot_named b))
+        (kinds_by (λ wrong. Unfit New b wrong) t a b)) (Ok (shifting (spot_named a) (spot_named b))))
+        ≡ (if v then Ok NoChange else unless_failed (λ errno. refusal.Failed errno)
+        (or_fault (inside_by EINVAL t x (spot_named b)) (kinds_by (λ wrong. misfit_errno wrong) t a b)) moves)
     by true = refl
     by false = failed_told _ _ _ moves (or_told _ _ _ _ (inside_told t x a b (spot_named b)) (kinds_told t New b a b)) refl
 
 link_told : (a b : Found) (node : Option ℕ) → decision_of (link_by faults a b node) ≡ link_by refusals a b node
 link_told a b None = refl
 link_told a b (Some x) = failed_told _ _ _ (Ok (tying x (spot_named b)))
-    (or_told _ _ _ _ (when_told (is_whole a) (Unfit Old a IsNoFile) (misfit_errno IsNoFile) refl) (when_told (is_some (node_named b)) (Unfit New b Exists) (misfit_errno Exists) refl)) refl
+    (or_told _ _ _ _ (when_told (is_whole a) (Unfit Old a IsNoFile) (misfit_errno IsNoFile) refl)
+    (when_told (is_some (node_named b)) (Unfit New b Exists) (misfit_errno Exists) refl)) refl
 
 -- a pledge
 pledge_told : (h : History) (p x : Option ℕ) → Told (pledge_beyond h p x) ≡ Failing (pledge_fault h p x)
-pledge_told h p x = by (has_error h) (is_within p (pledged h)) (is_within x (held_for_exec h))
+pledge_told h p x = by (has_error h) (is_within p (pledged_set h)) (is_within x (held_for_exec h))
   where
     by : (w u v : Bool) →
-        Told (if w then None else or_fault (fault_if (not u) (AsksPromises false (beyond p (pledged h)))) (fault_if (not v) (AsksPromises true (beyond x (held_for_exec h)))))
+        Told (if w then None else or_fault (fault_if (not u) (AsksPromises false (beyond p (pledged_set h))))
+        (fault_if (not v) (AsksPromises true (beyond x (held_for_exec h)))))
         ≡ Failing (if w || (u && v) then None else Some EPERM)
     by true u v = refl
     by false false v = refl
@@ -218,44 +256,52 @@ pledge_told h p x = by (has_error h) (is_within p (pledged h)) (is_within x (hel
     by false true true = refl
 
 -- an unveil
-place_told : (place : Place) (o : Option ℕ) (places perms : ℕ) → Told (place_beyond place o places perms) ≡ Failing (unveil_errno (place_fault o places perms))
+place_told : (place : Place) (o : Option ℕ) (places perms : ℕ) →
+    Told (place_beyond place o places perms) ≡ Failing (unveil_errno (place_fault o places perms))
 place_told place (Some given) places perms = by (holds given perms)
   where
-    by : (v : Bool) → Told (if v then None else Some (AsksLetters place given (lacking given perms))) ≡ Failing (unveil_errno (if v then None else Some NotPermitted))
+    by : (v : Bool) → Told (if v then None else Some (AsksLetters place given (lacking given perms)))
+        ≡ Failing (unveil_errno (if v then None else Some NotPermitted))
     by true = refl
     by false = refl
-place_told place None places perms = by (nat_le place_limit places)
+place_told place None places perms = by (nat_le most_places places)
   where
     by : (v : Bool) → Told (if v then Some NoPlaceLeft else None) ≡ Failing (unveil_errno (if v then Some TooManyPlaces else None))
     by true = refl
     by false = refl
 
-unveil_told : (h : History) (place : Place) (perms : ℕ) → Told (unveil_beyond h place perms) ≡ Failing (unveil_errno (unveil_fault h place perms))
+unveil_told : (h : History) (place : Place) (perms : ℕ) →
+    Told (unveil_beyond h place perms) ≡ Failing (unveil_errno (unveil_fault h place perms))
 unveil_told h place perms = by (is_locked h)
   where
-    by : (v : Bool) → Told (if v then Some IsLocked else place_beyond place (kept h place) (length (veils h)) perms)
-        ≡ Failing (unveil_errno (if v then Some NotPermitted else place_fault (kept h place) (length (veils h)) perms))
+    by : (v : Bool) → Told (if v then Some IsLocked else place_beyond place (perms_kept h place) (length (veils h)) perms)
+        ≡ Failing (unveil_errno (if v then Some NotPermitted else place_fault (perms_kept h place) (length (veils h)) perms))
     by true = refl
-    by false = place_told place (kept h place) (length (veils h)) perms
+    by false = place_told place (perms_kept h place) (length (veils h)) perms
 
-veil_told : (t : Tree) (h : History) (path : List ℕ) (letters : Option ℕ) → decision_of (veil_by faults t h path letters) ≡ veil_by refusals t h path letters
+veil_told : (t : Tree) (h : History) (path : List ℕ) (letters : Option ℕ) →
+    decision_of (veil_by faults t (faults_of h) path letters) ≡ veil_by refusals t (asker_of h) path letters
 veil_told t h path None = refl
 veil_told t h path (Some perms) =
-    named_told Sole (trace_of_text t (working_dir h) ending.Dot path Followed).outcome (resolution_of_text t (working_dir h) ending.Dot path Followed) _ _ (text_traces_answer t (working_dir h) ending.Dot path Followed) λ x.
+    named_told Sole (trace_of_text t (working_dir h) ending.Dot path Followed).outcome (resolution_of_text t (working_dir h) ending.Dot path
+    Followed) _ _ (text_traces_answer t (working_dir h) ending.Dot path Followed) λ x.
     failed_told _ _ _ _ (unveil_told h (place_of x) perms) refl
 
 pub reasons_give_decisions : ReasonsGiveDecisions
-reasons_give_decisions table t h (OnPath c path) = refused_told _ _ _ _ (promises_told h (rule_of table c).alternatives) (call_told t h table c path (change_by table c))
+reasons_give_decisions table t h (OnPath c path) =
+    refused_told _ _ _ _ (promises_told h (rule_of table c).alternatives) (call_told t h table c path (change_by table c))
 reasons_give_decisions table t h (Symlink target path) =
     refused_told _ _ _ _ (promises_told h (rule_of table call.Symlink).alternatives)
     (failed_told _ _ _ _ (target_told target) (call_told t h table call.Symlink path (adding (link_node target))))
-reasons_give_decisions table t h (Rename old new) = pair_told t h table.rename ending.Dropped old new _ _ (λ a b. rename_told t a b (node_named a))
+reasons_give_decisions table t h (Rename old new) =
+    pair_told t h table.rename ending.Dropped old new _ _ (λ a b. rename_told t a b (node_named a))
 reasons_give_decisions table t h (Link old new) = pair_told t h table.link ending.Dot old new _ _ (λ a b. link_told a b (node_named a))
 reasons_give_decisions table t h (Pledge p x) =
     failed_told _ _ _ _ (when_told (is_unknown p || is_unknown x) (UnknownPromise (not (is_unknown p))) EINVAL refl)
     (failed_told _ _ _ _ (pledge_told h (given_set p) (given_set x)) refl)
 reasons_give_decisions table t h (Unveil path perms) =
-    refused_told _ _ _ _ (promises_told h (unveil ∷ [])) (failed_told _ _ _ _ (when_told (is_locked h) IsLocked EPERM refl) (veil_told t h path perms))
+    refused_told _ _ _ _ (promises_told h (unveil ∷ [])) (failed_told _ _ _ _ (when_told (is_locked h) IsLocked EPERM refl)
+    (veil_told t h path perms))
 reasons_give_decisions table t h Lock = refused_told _ _ _ _ (promises_told h (unveil ∷ [])) refl
 reasons_give_decisions table t h (Fork new) = refused_told _ _ _ _ (promises_told h (proc ∷ [])) refl
 reasons_give_decisions table t h Exit = refl
@@ -263,7 +309,7 @@ reasons_give_decisions table t h Exit = refl
 -- a decision on a call, as a verdict
 abbrev verdict_as : Decision → Verdict
 verdict_as (Ok change) = verdict.Allowed
-verdict_as (Err r) = refused r
+verdict_as (Err r) = refusal_verdict r
 
 verdict_told : (d : Outcome Fault) → verdict_by d ≡ verdict_as (decision_of d)
 verdict_told (Ok change) = refl
@@ -274,7 +320,8 @@ verdict_for t table h c m (Ok x) = if_promised m (allowed_unless (found_fault t 
 verdict_for t table h c m (Err errno) = if_promised m (verdict.Failed errno)
 
 decided_as : (t : Tree) (table : CallTable) (h : History) (c : Call) (m : May) (r : Result Found Errno) →
-    verdict_as (unless_refused (refusal_of m) (on_named (λ errno. refusal.Failed errno) r λ x. unless_failed (λ errno. refusal.Failed errno) (found_fault t table h c x) (Ok (change_by table c x))))
+    verdict_as (unless_refused (refusal_of m) (on_named (λ errno. refusal.Failed errno) r λ x. unless_failed (λ errno. refusal.Failed errno)
+    (found_fault t table h c x) (Ok (change_by table c x))))
     ≡ verdict_for t table h c m r
 decided_as t table h c may.Yes (Ok x) = by (found_fault t table h c x)
   where
@@ -294,7 +341,7 @@ verdict_is t table h c (Err errno) = refl
 
 pub reasons_give_verdicts : ReasonsGiveVerdicts
 reasons_give_verdicts t table h c text =
-    verdict_told (reasoned table t h (OnPath c text)) ∙ ap verdict_as (reasons_give_decisions table t h (OnPath c text))
+    verdict_told (change_or_fault table t h (OnPath c text)) ∙ ap verdict_as (reasons_give_decisions table t h (OnPath c text))
     ∙ decided_as t table h c (may_any h (rule_of table c).alternatives) (object_named t h c text)
     ∙ verdict_is t table h c (object_named t h c text)
 
@@ -302,7 +349,7 @@ reasons_give_verdicts t table h c text =
 abbrev told : Option Fault → Answer
 told fault = answer_of (reason_of fault)
 
-edited_told : (h : History) (r : Result (ℕ × Tree) TreeFault) → told (no_room (edited h r)) ≡ answer_to (edited h r)
+edited_told : (h : History) (r : Result (ℕ × Tree) TreeFault) → told (no_room (edit_effect h r)) ≡ answer_to (edit_effect h r)
 edited_told h (Ok x) = refl
 edited_told h (Err fault) = refl
 
@@ -310,7 +357,7 @@ edited_tree_told : (h : History) (r : Result Tree TreeFault) → told (no_room (
 edited_tree_told h (Ok x) = refl
 edited_tree_told h (Err fault) = refl
 
-made_told : (w : World) (h : History) (change : Change) → told (room_fault w h change) ≡ answer_to (made w h change)
+made_told : (w : World) (h : History) (change : Change) → told (room_fault w h change) ≡ answer_to (change_effect w h change)
 made_told w h NoChange = refl
 made_told w h (AddNode spot node) = edited_told h (add w.tree spot.0 spot.1 node)
 made_told w h (CutRow spot) = edited_told h (cut w.tree spot.0 spot.1)
@@ -318,14 +365,15 @@ made_told w h (ShiftRow old new) = edited_tree_told h (shift w.tree old.0 old.1 
 made_told w h (TieRow spot x) = edited_tree_told h (tie w.tree spot.0 spot.1 x)
 made_told w h (BeginProgram left) = refl
 made_told w h (AddEvent event) = refl
-made_told w h (CopyAs new) = by (is_some (history_of w new)) (nat_le process_limit (length w.histories))
+made_told w h (CopyAs new) = by (is_some (history_of w new)) (nat_le most_processes (length w.histories))
   where
-    by : (u v : Bool) → told (or_fault (fault_if u (NumberTaken new)) (fault_if v NoProcessLeft)) ≡ answer_to (if u || v then replay.Fails EAGAIN else replay.Copies new)
+    by : (u v : Bool) → told (or_fault (fault_if u (NumberTaken new)) (fault_if v NoProcessLeft))
+        ≡ answer_to (if u || v then replay.Fails EAGAIN else replay.Copies new)
     by true v = refl
     by false true = refl
     by false false = refl
 
-refusal_told : (r : Refusal) → refusal_answer r ≡ answer_to (replay.refused r)
+refusal_told : (r : Refusal) → refusal_answer r ≡ answer_to (replay.refusal_effect r)
 refusal_told (refusal.Failed errno) = refl
 refusal_told refusal.Killed = refl
 
@@ -336,11 +384,16 @@ outcome_told w h (Err fault) = refusal_told (fault_refusal fault)
 pub reasons_give_answers : ReasonsGiveAnswers
 reasons_give_answers table w ask = by (history_of w ask.process)
   where
-    living : (h : History) (v : Bool) → answer_of (if v then reasons.Ended else reason_of (outcome_fault w h (reasoned table w.tree h ask.action)))
-        ≡ (if◌then◌else◌ {A = Answer × World} v (Gone, w) (answer_to (come_of w h (decide table w.tree h ask.action)), left_by w ask.process h (come_of w h (decide table w.tree h ask.action)))).0
+    living : (h : History) (v : Bool) →
+        answer_of (if v then reasons.Ended else reason_of (outcome_fault w h (change_or_fault table w.tree h ask.action)))
+        ≡ (if◌then◌else◌ {A = Answer × World} v (Gone, w) (
+          answer_to (come_of w h (decide table w.tree h ask.action)),
+          left_by w ask.process h (come_of w h (decide table w.tree h ask.action)),
+        )).0
     living h true = refl
-    living h false = outcome_told w h (reasoned table w.tree h ask.action) ∙ ap (λ d. answer_to (come_of w h d)) (reasons_give_decisions table w.tree h ask.action)
+    living h false = outcome_told w h (change_or_fault table w.tree h ask.action) ∙
+        ap (λ d. answer_to (come_of w h d)) (reasons_give_decisions table w.tree h ask.action)
 
-    by : (o : Option History) → answer_of (reason_by table w ask.action o) ≡ (served table w ask o).0
+    by : (o : Option History) → answer_of (reason_by table w ask.action o) ≡ (answer_and_world table w ask o).0
     by None = refl
     by (Some h) = living h (is_ended h)

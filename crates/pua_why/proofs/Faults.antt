@@ -1,18 +1,10 @@
 -- What a fault of a call on a path says is so.
-use Rattle.std.proofs.Common.{◌≡◌, ℕ, List, Some, None, refl, Ok, Err, Option, subst}
-use Rattle.std.specs.Prelude.{IfSome, option_map}
-use Rattle.pua_tree.specs.Tree.{Tree}
-use Rattle.pua_path.specs.declared.found.Found.{Found}
-use Rattle.pua_calls.specs.Calls.{CallTable, rule_of}
-use Rattle.pua_policy.specs.History.{History}
-use Rattle.pua_policy.specs.Verdict.{object_of}
-use Rattle.pua_calls.specs.declared.call.Call.{Call}
-use Rattle.pua_script.specs.Decide.{Change, Sole, change_by, object_by}
+use Rattle.pua_why.proofs.Common.{◌≡◌, ℕ, List, Some, None, refl, Ok, Err, Option, subst, option_map, Tree, Found, CallTable, rule_of}
+use Rattle.pua_why.proofs.Common.{History, object_of, Call, Change, Sole, change_by, misfit, covering, Fault, Unfit, faults, faults_of}
+use Rattle.pua_why.proofs.Common.{call_trace}
+use Rattle.std.specs.Prelude.{IfSome}
+use Rattle.pua_script.specs.Decide.{object_by}
 use Rattle.pua_policy.specs.declared.reason.Misfit.{Misfit}
-use Rattle.pua_policy.specs.Misfits.{misfit}
-use Rattle.pua_policy.specs.Reasons.{covering}
-use Rattle.pua_why.specs.Reasons.{Fault, Unfit, faults}
-use Rattle.pua_why.specs.Facts.{call_trace}
 use Rattle.pua_policy.specs.ReasonLaws.{MisfitHolds}
 use Rattle.pua_why.specs.Laws.{CallFaultHolds, CallFaultsHold}
 use Rattle.pua_why.proofs.Steps.{refused_true, failed_true, named_true, either_true, unpromised_true, uncovered_true}
@@ -22,7 +14,8 @@ module _ (t : Tree) (table : CallTable) (h : History) (c : Call) (text : List �
   abbrev Is : Fault → Type 0
   Is = CallFaultHolds t table h c text
 
-  wrong_true : (object : Found) (wrong : Option Misfit) (bad : Fault) → misfit t c (object_of t object) ≡ wrong → (call_trace t h c text).outcome ≡ Ok object →
+  wrong_true : (object : Found) (wrong : Option Misfit) (bad : Fault) → misfit t c (object_of t object) ≡ wrong →
+      (call_trace t h c text).outcome ≡ Ok object →
       option_map (Unfit Sole object) wrong ≡ Some bad → Is bad
   wrong_true object None bad m o e = cc
   wrong_true object (Some wrong) bad m o e =
@@ -30,17 +23,20 @@ module _ (t : Tree) (table : CallTable) (h : History) (c : Call) (text : List �
       subst Is same (o, m, subst (λ x. IfSome x (MisfitHolds t (object_of t object))) m (misfits_hold t c (object_of t object)))
 
   -- once its promises are held
-  pub object_true : (f : Found → Change) (fault : Fault) → object_by faults table t h c text (λ x. Ok (f x)) ≡ Err fault → Is fault
+  pub object_true : (f : Found → Change) (fault : Fault) →
+      object_by faults table t (faults_of h) c text (λ x. Ok (f x)) ≡ Err fault → Is fault
   object_true f fault e =
       named_true Sole (call_trace t h c text).outcome _ fault Is (λ bad o. o)
       (λ object o e. failed_true _ _ fault Is
       (λ bad e. either_true _ _ bad Is
-      (uncovered_true Sole object (rule_of table c).perms (covering t h object) bad Is (λ none. (o, none)) (λ place given over lacks. (object, o, over, lacks, refl)))
+      (uncovered_true Sole object (rule_of table c).perms (covering t h object) bad Is (λ none. (o, none))
+      (λ place given over lacks. (object, o, over, lacks, refl)))
       (wrong_true object (misfit t c (object_of t object)) bad refl o) e)
       (λ granted. cc) e) e
 
 pub call_faults_hold : CallFaultsHold
 call_faults_hold t table h c text fault e =
     refused_true _ _ fault (CallFaultHolds t table h c text)
-    (λ bad e. unpromised_true h (rule_of table c).alternatives bad (CallFaultHolds t table h c text) (λ ended. ended) (λ error lacks is. is) e)
+    (λ bad e. unpromised_true h (rule_of table c).alternatives bad (CallFaultHolds t table h c text) (λ ended. ended) (λ error lacks is. is)
+    e)
     (λ e. object_true t table h c text (change_by table c) fault e) e

@@ -1,33 +1,31 @@
 -- What a request passed, as it is told one after another.
-use Rattle.std.proofs.Common.{◌≡◌, ℕ, false, List, [], ◌∷◌, ◌++◌, map, Some, None, refl, sym, ap, ◌∙◌, append_assoc, Result, Ok, Err, Option}
-use Rattle.std.specs.Prelude.{if◌then◌else◌, bit_or, length, is_some, option_map}
-use Rattle.pua_tree.specs.Tree.{Spot}
-use Rattle.pua_path.specs.declared.found.Found.{Found}
-use Rattle.pua_path.specs.declared.traced.PathFault.{PathFault}
-use Rattle.pua_path.specs.Traces.{PathTrace}
-use Rattle.pua_policy.specs.History.{History, held, is_locked, kept, veils}
-use Rattle.pua_policy.specs.declared.place.Place.{Place}
-use Rattle.pua_why.specs.Reasons.{IsLocked, place_beyond, unveil_beyond}
-use Rattle.pua_policy.specs.Reasons.{Promising, Holds}
-use Rattle.pua_script.specs.Decide.{Outcome, Side, unless_refused, unless_failed}
-use Rattle.pua_path.specs.declared.traced.TextFault.{TextFault}
+use Rattle.pua_why.proofs.Common.{◌≡◌, ℕ, false, List, [], ◌∷◌, ◌++◌, map, Some, None, refl, sym, ap, ◌∙◌, append_assoc, Result, Ok, Err}
+use Rattle.pua_why.proofs.Common.{Option, if◌then◌else◌, is_some, option_map, Spot, Found, PathFault, PathTrace, History, Place, IsLocked}
+use Rattle.pua_why.proofs.Common.{place_beyond, faults_of, Promising, Holds, Outcome, Side, unless_refused, unless_failed, TextFault}
+use Rattle.pua_why.proofs.Common.{fault_seen, refused_by, Fact, Needs, Follows, facts_promised, facts_named}
+use Rattle.std.specs.Prelude.{bit_or, length}
+use Rattle.pua_policy.specs.History.{ProcessState, StandsFor, veil_at}
+use Rattle.pua_policy.proofs.ForCallers.{keeps, kept_by, covering_by}
+use Rattle.pua_why.specs.Reasons.{unveil_beyond_on, faults_by, faults_on}
 use Rattle.pua_why.specs.declared.told.Fault as told
 use Rattle.pua_why.specs.Reasons as reasons
-use Rattle.pua_why.specs.Seen.{fault_seen}
-use Rattle.pua_why.specs.Checked.{refused_by}
-use Rattle.pua_why.specs.Facts.{Fact, Needs, Follows, needing, facts_promised, facts_found, facts_named}
+use Rattle.pua_why.specs.Facts.{needing, facts_found}
 
 -- promises stand before what a path named
-pub needing_named : (set : ℕ) (side : Side) (trace : PathTrace) (more : Found → List Fact) → needing set (facts_named side trace more) ≡ Needs set ∷ facts_named side trace more
+pub needing_named : (set : ℕ) (side : Side) (trace : PathTrace) (more : Found → List Fact) →
+    needing set (facts_named side trace more) ≡ Needs set ∷ facts_named side trace more
 needing_named set side trace more = by trace.links trace.outcome
   where
-    by : (links : List Spot) (outcome : Result Found PathFault) → needing set (map (Follows side) links ++ facts_found side outcome more) ≡ Needs set ∷ map (Follows side) links ++ facts_found side outcome more
+    by : (links : List Spot) (outcome : Result Found PathFault) →
+        needing set (map (Follows side) links ++ facts_found side outcome more) ≡ Needs set ∷ map (Follows side) links
+        ++ facts_found side outcome more
     by [] (Ok object) = refl
     by [] (Err fault) = refl
     by (spot ∷ links) outcome = refl
 
 -- held promises, and then what a path named
-pub promised_named : (old one final : List Fact) (set : ℕ) (side : Side) (trace : PathTrace) (more : Found → List Fact) (p : Promising) → Holds set ≡ p → one ≡ old ++ Needs set ∷ []
+pub promised_named : (old one final : List Fact) (set : ℕ) (side : Side) (trace : PathTrace) (more : Found → List Fact) (p : Promising) →
+    Holds set ≡ p → one ≡ old ++ Needs set ∷ []
     → final ≡ one ++ facts_named side trace more → final ≡ old ++ facts_promised p (facts_named side trace more)
 promised_named old one final set side trace more p held first rest =
     rest ∙ ap (λ facts. facts ++ facts_named side trace more) first
@@ -36,7 +34,8 @@ promised_named old one final set side trace more p held first rest =
     ∙ ap (λ q. old ++ facts_promised q (facts_named side trace more)) held
 
 -- of two names, both promises as one set
-pub both_named : (old one final : List Fact) (set other : ℕ) (side : Side) (trace : PathTrace) (more : Found → List Fact) (p q : Promising) → Holds set ≡ p → Holds other ≡ q → one ≡ old ++ Needs (bit_or set other) ∷ []
+pub both_named : (old one final : List Fact) (set other : ℕ) (side : Side) (trace : PathTrace) (more : Found →
+    List Fact) (p q : Promising) → Holds set ≡ p → Holds other ≡ q → one ≡ old ++ Needs (bit_or set other) ∷ []
     → final ≡ one ++ facts_named side trace more → final ≡ old ++ facts_promised p (facts_promised q (facts_named side trace more))
 both_named old one final set other side trace more p q held held_too first rest =
     rest ∙ ap (λ facts. facts ++ facts_named side trace more) first
@@ -45,16 +44,23 @@ both_named old one final set other side trace more p q held held_too first rest 
     ∙ (λ i. old ++ facts_promised (held i) (facts_promised (held_too i) (facts_named side trace more)))
 
 -- what is kept at a place decides, where the veils are not locked
-pub kept_beyond : (h : History) (place : Place) (perms given : ℕ) → false ≡ is_locked h → Some given ≡ kept h place → place_beyond place (Some given) (length (veils h)) perms ≡ unveil_beyond h place perms
-kept_beyond h place perms given unlocked at = λ i. if unlocked i then Some IsLocked else place_beyond place (at i) (length (veils h)) perms
+pub kept_beyond : (p : ProcessState) (place : Place) (perms given : ℕ) → false ≡ p.locked → Some given ≡ veil_at p.veils place →
+    place_beyond place (Some given) (length p.veils) perms ≡ unveil_beyond_on p (veil_at p.veils) place perms
+kept_beyond p place perms given unlocked at = λ i. if unlocked i then Some IsLocked else place_beyond place (at i) (length p.veils) perms
 
 -- held promises let the further checks decide
-pub promises_passed : (fault further : Option told.Fault) (p : Option reasons.Fault) (d : Outcome reasons.Fault) → is_some fault ≡ false → option_map fault_seen fault ≡ p
+pub promises_passed : (fault further : Option told.Fault) (p : Option reasons.Fault) (d : Outcome reasons.Fault) → is_some fault ≡ false →
+    option_map fault_seen fault ≡ p
     → option_map fault_seen further ≡ refused_by d → option_map fault_seen further ≡ refused_by (unless_refused p d)
 promises_passed None further p d none told rest = rest ∙ ap (λ q. refused_by (unless_refused q d)) told
 promises_passed (Some fault) further p d none told rest = cc
 
 -- and a target that is a path
 pub target_passed : (further : Option told.Fault) (o : Option TextFault) (d : Outcome reasons.Fault) → None ≡ o
-    → option_map fault_seen further ≡ refused_by d → option_map fault_seen further ≡ refused_by (unless_failed (λ fault. fault) (option_map reasons.BadTarget o) d)
+    → option_map fault_seen further ≡ refused_by d →
+    option_map fault_seen further ≡ refused_by (unless_failed (λ fault. fault) (option_map reasons.BadTarget o) d)
 target_passed further o d none rest = rest ∙ ap (λ q. refused_by (unless_failed (λ fault. fault) (option_map reasons.BadTarget q) d)) none
+
+-- a process is told faults as its history is
+pub faults_stand : (p : ProcessState) (h : History) → StandsFor p h → faults_on p ≡ faults_of h
+faults_stand p h s = λ i. faults_by (keeps p h s i) (λ t object. sym (covering_by p h s t object) i) (λ place. sym (kept_by p h s place) i)

@@ -1,19 +1,17 @@
 -- What a request passed, as it is told piece by piece.
-use Rattle.std.proofs.Common.{◌≡◌, ℕ, Bool, true, false, List, [], ◌∷◌, ◌++◌, map, Some, None, sym, ap, ◌∙◌, append_assoc, append-nil, Ok, Option}
-use Rattle.std.specs.Prelude.{if◌then◌else◌}
-use Rattle.pua_tree.specs.Tree.{Spot}
-use Rattle.pua_path.specs.declared.found.Found.{Found}
-use Rattle.pua_path.specs.Traces.{PathTrace}
-use Rattle.pua_policy.specs.Reasons.{Promising, Holds}
-use Rattle.pua_script.specs.Decide.{Side, Sole}
-use Rattle.pua_why.specs.Facts.{Fact, Needs, Follows, Names, facts_promised, facts_named}
+use Rattle.pua_why.proofs.Common.{◌≡◌, ℕ, Bool, true, false, List, [], ◌∷◌, ◌++◌, map, Some, None, sym, ap, ◌∙◌, append_assoc, append-nil}
+use Rattle.pua_why.proofs.Common.{Ok, Option, if◌then◌else◌, Spot, Found, PathTrace, Promising, Holds, Side, Sole, Fact, Needs, Follows}
+use Rattle.pua_why.proofs.Common.{facts_promised, facts_named}
+use Rattle.pua_why.specs.Facts.{Names}
 use Rattle.pua_why.specs.Seen.{on_named_fact}
 use Rattle.pua_why.proofs.Adding.{then_more}
 use Rattle.pua_why.proofs.Needing.{promised_named}
 
 -- the links of a path, and what it names
-pub name_told : (old one final : List Fact) (side : Side) (links : List Spot) (object : Found) (trace : PathTrace) (more : Found → List Fact) → ◌≡◌ {A = PathTrace} (record { links = links; outcome = Ok object }) trace
-    → one ≡ old ++ map (Follows side) links → final ≡ one ++ Names side object ∷ [] → final ++ more object ≡ old ++ facts_named side trace more
+pub name_told : (old one final : List Fact) (side : Side) (links : List Spot) (object : Found) (trace : PathTrace) (more : Found →
+    List Fact) → ◌≡◌ {A = PathTrace} (record { links = links; outcome = Ok object }) trace
+    → one ≡ old ++ map (Follows side) links → final ≡ one ++ Names side object ∷ [] →
+    final ++ more object ≡ old ++ facts_named side trace more
 name_told old one final side links object trace more traced begun went =
     ap (λ facts. facts ++ more object) (then_more old one final (map (Follows side) links) (Names side object ∷ []) begun went)
     ∙ append_assoc old (map (Follows side) links ++ Names side object ∷ []) (more object)
@@ -26,13 +24,16 @@ nothing_named facts None = append-nil facts
 nothing_named facts (Some object) = append-nil facts
 
 -- an unveil of a process whose veils are not locked
-pub unveil_named : (old one final : List Fact) (set : ℕ) (named : Option Found) (trace : PathTrace) (p : Promising) (locked : Bool) → Holds set ≡ p → false ≡ locked → one ≡ old ++ Needs set ∷ []
-    → final ++ on_named_fact named (λ object. []) ≡ one ++ facts_named Sole trace (λ object. []) → final ≡ old ++ facts_promised p (if locked then [] else facts_named Sole trace (λ object. []))
+pub unveil_named : (old one final : List Fact) (set : ℕ) (named : Option Found) (trace : PathTrace) (p : Promising) (locked : Bool) →
+    Holds set ≡ p → false ≡ locked → one ≡ old ++ Needs set ∷ []
+    → final ++ on_named_fact named (λ object. []) ≡ one ++ facts_named Sole trace (λ object. []) →
+    final ≡ old ++ facts_promised p (if locked then [] else facts_named Sole trace (λ object. []))
 unveil_named old one final set named trace p locked held unlocked first rest =
     promised_named old one final set Sole trace (λ object. []) p held first (sym (nothing_named final named) ∙ rest)
     ∙ ap (λ v. old ++ facts_promised p (if v then [] else facts_named Sole trace (λ object. []))) unlocked
 
 -- what covers both objects, where what covers the old one lacks nothing
-pub covers_told : (old one final second : List Fact) (covered : Bool) (first : List Fact → List Fact) → covered ≡ true → ((more : List Fact) → one ++ (if covered then more else []) ≡ old ++ first more)
+pub covers_told : (old one final second : List Fact) (covered : Bool) (first : List Fact → List Fact) → covered ≡ true →
+    ((more : List Fact) → one ++ (if covered then more else []) ≡ old ++ first more)
     → final ≡ one ++ second → final ≡ old ++ first second
 covers_told old one final second covered first is passed went = went ∙ ap (λ v. one ++ (if v then second else [])) (sym is) ∙ passed second

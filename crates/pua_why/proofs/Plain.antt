@@ -1,23 +1,16 @@
 -- A request that is no fork is granted no further process.
-use Rattle.std.proofs.Common.{◌≡◌, ℕ, Some, None, refl, sym, ap, ◌∙◌, inl, inr, ◌⊎◌, Ok, Err, Option, true≢false}
+use Rattle.pua_why.proofs.Common.{◌≡◌, ℕ, Some, None, refl, sym, ap, ◌∙◌, Ok, Err, Option, Tree, Spot, spot_named, node_named, Found, Whole}
+use Rattle.pua_why.proofs.Common.{Slot, CallTable, History, Call, Change, NoChange, Outcome, shifting, link_node, change_by, World, OnPath}
+use Rattle.pua_why.proofs.Common.{Symlink, Rename, Link, Pledge, Unveil, Lock, Fork, Exit, Fault, change_or_fault, decision_of, refused_by}
+use Rattle.std.proofs.Common.{inl, inr, ◌⊎◌, true≢false}
 use Rattle.std.specs.Prelude.{IsFalse}
-use Rattle.pua_tree.specs.Tree.{Tree, Node, Spot}
-use Rattle.pua_path.specs.Fits.{spot_named, node_named}
-use Rattle.pua_path.specs.declared.found.Found.{Found}
-use Rattle.pua_path.specs.declared.found.Found.TheVariants.{Whole, Slot}
-use Rattle.pua_calls.specs.Calls.{CallTable}
-use Rattle.pua_policy.specs.History.{History}
-use Rattle.pua_calls.specs.declared.call.Call.{Call}
+use Rattle.pua_tree.specs.Tree.{Node}
 use Rattle.pua_calls.specs.declared.call.Call.TheVariants as call
-use Rattle.pua_script.specs.Decide.{Change, NoChange, Outcome, placing, cutting, going, shifting, tying, link_node, change_by}
+use Rattle.pua_script.specs.Decide.{placing, cutting, going, tying}
 use Rattle.pua_script.specs.Guards.{IsDecided, IsShift}
-use Rattle.pua_script.specs.Replay.{World}
 use Rattle.pua_script.specs.Worlds.{is_fork}
 use Rattle.pua_script.specs.declared.request.Action.{Action}
-use Rattle.pua_script.specs.declared.request.Action.TheVariants.{OnPath, Symlink, Rename, Link, Pledge, Unveil, Lock, Fork, Exit}
-use Rattle.pua_why.specs.Reasons.{Fault, reasoned}
-use Rattle.pua_why.specs.Laws.{decision_of}
-use Rattle.pua_why.specs.Checked.{process_fault, checks_fault, refused_by}
+use Rattle.pua_why.specs.Checked.{process_fault, checks_fault}
 use Rattle.pua_why.proofs.Decisions.{reasons_give_decisions}
 use Rattle.pua_script.proofs.ForCallers.{decisions_are_guarded}
 
@@ -71,9 +64,11 @@ module _ (w : World) where
   is_plain : (change other : Change) → change ≡ other → Plain other → Plain change
   is_plain change other is plain = ap (process_fault w) is ∙ plain
 
-  plain_decided : (table : CallTable) (t : Tree) (h : History) (action : Action) (change : Change) → IsFalse (is_fork action) → IsDecided table t h action change → Plain change
+  plain_decided : (table : CallTable) (t : Tree) (h : History) (action : Action) (change : Change) → IsFalse (is_fork action) →
+      IsDecided table t h action change → Plain change
   plain_decided table t h (OnPath c path) change other d = is_plain change _ d.2 (plain_change table c d.0)
-  plain_decided table t h (Symlink target path) change other d = is_plain change _ d.3 (plain_placing (link_node target) (spot_named d.0) (node_named d.0))
+  plain_decided table t h (Symlink target path) change other d =
+      is_plain change _ d.3 (plain_placing (link_node target) (spot_named d.0) (node_named d.0))
   plain_decided table t h (Rename old new) change other d = moved d.moves
     where
       moved : ((change ≡ NoChange) ⊎ IsShift t d.old d.new d.node change) → Plain change
@@ -86,9 +81,11 @@ module _ (w : World) where
   plain_decided table t h (Fork new) change other d = absurd (true≢false other)
   plain_decided table t h Exit change other d = is_plain change _ d refl
 
-  pub plain_checks : (table : CallTable) (t : Tree) (h : History) (action : Action) → IsFalse (is_fork action) → checks_fault w (reasoned table t h action) ≡ refused_by (reasoned table t h action)
-  plain_checks table t h action other = by (reasoned table t h action) refl
+  pub plain_checks : (table : CallTable) (t : Tree) (h : History) (action : Action) → IsFalse (is_fork action) →
+      checks_fault w (change_or_fault table t h action) ≡ refused_by (change_or_fault table t h action)
+  plain_checks table t h action other = by (change_or_fault table t h action) refl
     where
-      by : (o : Outcome Fault) → reasoned table t h action ≡ o → checks_fault w o ≡ refused_by o
+      by : (o : Outcome Fault) → change_or_fault table t h action ≡ o → checks_fault w o ≡ refused_by o
       by (Err fault) is = refl
-      by (Ok change) is = plain_decided table t h action change other (decisions_are_guarded table t h action change (sym (reasons_give_decisions table t h action) ∙ ap decision_of is))
+      by (Ok change) is = plain_decided table t h action change other
+          (decisions_are_guarded table t h action change (sym (reasons_give_decisions table t h action) ∙ ap decision_of is))

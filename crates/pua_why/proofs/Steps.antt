@@ -1,18 +1,11 @@
 -- A check that fails does so with what is true, or the checks behind it fail.
-use Rattle.std.proofs.Common.{◌≡◌, ℕ, Bool, true, false, List, Some, None, refl, Result, Ok, Err, Option, subst}
-use Rattle.std.specs.Prelude.{if◌then◌else◌}
-use Rattle.pua_path.specs.declared.found.Found.{Found}
-use Rattle.pua_path.specs.declared.traced.PathFault.{PathFault}
-use Rattle.pua_calls.specs.Promises.{holds}
-use Rattle.pua_policy.specs.History.{History, is_ended}
-use Rattle.pua_policy.specs.Verdict.{or_fault}
-use Rattle.pua_policy.specs.declared.place.Place.{Place}
-use Rattle.pua_script.specs.Decide.{Outcome, Side, unless_refused, unless_failed, on_named, fault_if}
-use Rattle.pua_calls.specs.Promises.{lacking}
+use Rattle.pua_why.proofs.Common.{◌≡◌, ℕ, Bool, true, false, List, Some, None, refl, Result, Ok, Err, Option, subst, if◌then◌else◌, Found}
+use Rattle.pua_why.proofs.Common.{PathFault, holds, History, is_ended, or_fault, Place, Outcome, Side, unless_refused, unless_failed}
+use Rattle.pua_why.proofs.Common.{on_named, fault_if, lacking, InView, By, Promising, Holds, HasEnded, Lacks, promising, Fault}
+use Rattle.pua_why.proofs.Common.{LacksLetters, unpromised_fault, told_path, uncovered_fault}
 use Rattle.pua_policy.specs.declared.reason.Covering.{Covering}
-use Rattle.pua_policy.specs.declared.reason.Covering.TheVariants.{InView, NoneOver, By}
-use Rattle.pua_policy.specs.Reasons.{Promising, Holds, HasEnded, Lacks, promising}
-use Rattle.pua_why.specs.Reasons.{Fault, Ends, LacksPromises, BadPath, Uncovered, LacksLetters, unpromised, told_path, uncovered}
+use Rattle.pua_policy.specs.declared.reason.Covering.TheVariants.{NoneOver}
+use Rattle.pua_why.specs.Reasons.{Ends, LacksPromises, BadPath, Uncovered}
 use Rattle.pua_policy.specs.ReasonLaws.{PromisingHolds}
 use Rattle.pua_policy.proofs.ForCallers.{promisings_hold}
 
@@ -20,24 +13,28 @@ use Rattle.pua_policy.proofs.ForCallers.{promisings_hold}
 pub same_fault : (a b : Fault) → ◌≡◌ {A = Outcome Fault} (Err a) (Err b) → a ≡ b
 same_fault a b e = cc
 
-pub refused_true : (o : Option Fault) (d : Outcome Fault) (fault : Fault) (Is : Fault → Type 0) → ((bad : Fault) → o ≡ Some bad → Is bad) → (d ≡ Err fault → Is fault) →
+pub refused_true : (o : Option Fault) (d : Outcome Fault) (fault : Fault) (Is : Fault → Type 0) → ((bad : Fault) → o ≡ Some bad → Is bad) →
+    (d ≡ Err fault → Is fault) →
     unless_refused o d ≡ Err fault → Is fault
 refused_true None d fault Is stops more e = more e
 refused_true (Some bad) d fault Is stops more e = subst Is (same_fault bad fault e) (stops bad refl)
 
-pub failed_true : (o : Option Fault) (d : Outcome Fault) (fault : Fault) (Is : Fault → Type 0) → ((bad : Fault) → o ≡ Some bad → Is bad) → (d ≡ Err fault → Is fault) →
+pub failed_true : (o : Option Fault) (d : Outcome Fault) (fault : Fault) (Is : Fault → Type 0) → ((bad : Fault) → o ≡ Some bad → Is bad) →
+    (d ≡ Err fault → Is fault) →
     unless_failed (λ fault. fault) o d ≡ Err fault → Is fault
 failed_true None d fault Is stops more e = more e
 failed_true (Some bad) d fault Is stops more e = subst Is (same_fault bad fault e) (stops bad refl)
 
 pub named_true : (side : Side) (outcome : Result Found PathFault) (further : Found → Outcome Fault) (fault : Fault) (Is : Fault → Type 0) →
-    ((bad : PathFault) → outcome ≡ Err bad → Is (BadPath side bad)) → ((object : Found) → outcome ≡ Ok object → further object ≡ Err fault → Is fault) →
+    ((bad : PathFault) → outcome ≡ Err bad → Is (BadPath side bad)) → ((object : Found) → outcome ≡ Ok object → further object ≡ Err fault →
+    Is fault) →
     on_named (λ fault. fault) (told_path side outcome) further ≡ Err fault → Is fault
 named_true side (Ok object) further fault Is fails more e = more object refl e
 named_true side (Err bad) further fault Is fails more e = subst Is (same_fault (BadPath side bad) fault e) (fails bad refl)
 
 -- of two faults the first, or the second
-pub either_true : (a b : Option Fault) (bad : Fault) (Is : Fault → Type 0) → (a ≡ Some bad → Is bad) → (b ≡ Some bad → Is bad) → or_fault a b ≡ Some bad → Is bad
+pub either_true : (a b : Option Fault) (bad : Fault) (Is : Fault → Type 0) → (a ≡ Some bad → Is bad) → (b ≡ Some bad → Is bad) →
+    or_fault a b ≡ Some bad → Is bad
 either_true None b bad Is first second e = second e
 either_true (Some x) b bad Is first second e = first e
 
@@ -46,23 +43,26 @@ when_true true said bad Is is e = let same : said ≡ bad = cc in subst Is same 
 when_true false said bad Is is e = cc
 
 pub unpromised_true : (h : History) (sets : List ℕ) (bad : Fault) (Is : Fault → Type 0) →
-    (is_ended h ≡ true → Is Ends) → ((error : Bool) (lacks : List ℕ) → PromisingHolds h sets (Lacks error lacks) → Is (LacksPromises error lacks)) →
-    unpromised (promising h sets) ≡ Some bad → Is bad
+    (is_ended h ≡ true → Is Ends) → ((error : Bool) (lacks : List ℕ) → PromisingHolds h sets (Lacks error lacks) →
+    Is (LacksPromises error lacks)) →
+    unpromised_fault (promising h sets) ≡ Some bad → Is bad
 unpromised_true h sets bad Is ends lacks e = by (promising h sets) (promisings_hold h sets) e
   where
-    by : (p : Promising) → PromisingHolds h sets p → unpromised p ≡ Some bad → Is bad
+    by : (p : Promising) → PromisingHolds h sets p → unpromised_fault p ≡ Some bad → Is bad
     by (Holds set) is e = cc
     by HasEnded is e = let same : Ends ≡ bad = cc in subst Is same (ends is)
     by (Lacks error sets) is e = let same : LacksPromises error sets ≡ bad = cc in subst Is same (lacks error sets is)
 
 pub uncovered_true : (side : Side) (object : Found) (perms : ℕ) (over : Covering) (bad : Fault) (Is : Fault → Type 0) →
     (over ≡ NoneOver → Is (Uncovered side object)) →
-    ((place : Place) (given : ℕ) → over ≡ By place given → holds given perms ≡ false → Is (LacksLetters side place given (lacking given perms))) →
-    uncovered side object perms over ≡ Some bad → Is bad
+    ((place : Place) (given : ℕ) → over ≡ By place given → holds given perms ≡ false →
+    Is (LacksLetters side place given (lacking given perms))) →
+    uncovered_fault side object perms over ≡ Some bad → Is bad
 uncovered_true side object perms InView bad Is none lacks e = cc
 uncovered_true side object perms NoneOver bad Is none lacks e = let same : Uncovered side object ≡ bad = cc in subst Is same (none refl)
 uncovered_true side object perms (By place given) bad Is none lacks e = by (holds given perms) refl e
   where
-    by : (v : Bool) → holds given perms ≡ v → (if v then None else Some (LacksLetters side place given (lacking given perms))) ≡ Some bad → Is bad
+    by : (v : Bool) → holds given perms ≡ v → (if v then None else Some (LacksLetters side place given (lacking given perms))) ≡ Some bad →
+        Is bad
     by true v e = cc
     by false v e = let same : LacksLetters side place given (lacking given perms) ≡ bad = cc in subst Is same (lacks place given refl v)

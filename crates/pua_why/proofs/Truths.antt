@@ -1,39 +1,38 @@
 -- What a fault of a request says is so.
-use Rattle.std.proofs.Common.{◌≡◌, ℕ, Bool, true, false, List, [], ◌∷◌, length, Some, None, refl, sym, inl, inr, Result, Ok, Err, Option, subst, ap, ◌∙◌}
-use Rattle.std.specs.Prelude.{if◌then◌else◌, not, ◌||◌, is_some, nat_le, option_map}
-use Rattle.pua_tree.specs.Tree.{Tree, Spot, is_empty}
-use Rattle.pua_tree.specs.Edits.{add, cut, tie, shift, is_inside, is_same_node}
-use Rattle.pua_tree.specs.declared.fault.TreeFault.{TreeFault}
-use Rattle.pua_path.specs.Fits.{spot_named, node_named}
+use Rattle.pua_why.proofs.Common.{◌≡◌, ℕ, Bool, true, false, List, [], ◌∷◌, length, Some, None, refl, sym, Result, Ok, Err, Option, subst}
+use Rattle.pua_why.proofs.Common.{ap, ◌∙◌, if◌then◌else◌, not, ◌||◌, is_some, nat_le, option_map, Tree, Spot, add, cut, tie, shift}
+use Rattle.pua_why.proofs.Common.{TreeFault, spot_named, node_named, Ending, Followed, Found, Whole, Slot, text_fault, trace_of_text}
+use Rattle.pua_why.proofs.Common.{TextFault, holds, unveil, CallTable, PairRule, rule_of, History, is_locked, perms_kept, working_dir}
+use Rattle.pua_why.proofs.Common.{or_fault, Place, most_processes, Change, NoChange, AddNode, CutRow, ShiftRow, TieRow, BeginProgram}
+use Rattle.pua_why.proofs.Common.{AddEvent, CopyAs, Outcome, Side, Sole, Old, New, unless_refused, unless_failed, adding, link_node}
+use Rattle.pua_why.proofs.Common.{shifting, pair_by, World, history_of, change_effect, come_of, edit_effect, edited_tree, OnPath, Symlink}
+use Rattle.pua_why.proofs.Common.{Rename, Link, Pledge, Unveil, Lock, Fork, Exit, lacking, By, promising, covering, Fault, LacksLetters}
+use Rattle.pua_why.proofs.Common.{Unfit, IsLocked, NumberTaken, NoProcessLeft, unpromised_fault, place_beyond, faults, faults_of}
+use Rattle.pua_why.proofs.Common.{change_or_fault, no_room, room_fault, outcome_fault, name_trace, decision_of}
+use Rattle.std.proofs.Common.{inl, inr}
+use Rattle.pua_tree.specs.Tree.{is_empty}
+use Rattle.pua_tree.specs.Edits.{is_inside, is_same_node}
 use Rattle.pua_path.specs.declared.errno.Errno.TheVariants.{ENOSPC}
-use Rattle.pua_path.specs.declared.text.Ending.{Ending}
 use Rattle.pua_path.specs.declared.text.Ending.TheVariants as ending
-use Rattle.pua_path.specs.declared.found.Last.TheVariants.{Followed}
 use Rattle.pua_path.specs.declared.found.Way.TheVariants as way
-use Rattle.pua_path.specs.declared.found.Found.{Found}
-use Rattle.pua_path.specs.declared.found.Found.TheVariants.{Whole, Slot}
-use Rattle.pua_path.specs.Traces.{text_fault, trace_of_text}
-use Rattle.pua_path.specs.declared.traced.TextFault.{TextFault}
-use Rattle.pua_calls.specs.Promises.{holds, proc, unveil}
-use Rattle.pua_calls.specs.Calls.{CallTable, PairRule, rule_of}
-use Rattle.pua_policy.specs.History.{History, pledged, held_for_exec, has_error, is_within, is_locked, kept, veils, working_dir, place_limit}
-use Rattle.pua_policy.specs.Verdict.{place_of, or_fault}
-use Rattle.pua_policy.specs.declared.place.Place.{Place}
+use Rattle.pua_calls.specs.Promises.{proc}
+use Rattle.pua_policy.specs.History.{pledged_set, held_for_exec, has_error, is_within, veils}
+use Rattle.pua_policy.specs.History.{most_places}
+use Rattle.pua_policy.specs.Verdict.{place_of}
 use Rattle.pua_calls.specs.declared.call.Call.TheVariants as call
-use Rattle.pua_script.specs.Limits.{process_limit}
-use Rattle.pua_script.specs.Decide.{Change, NoChange, AddNode, CutRow, ShiftRow, TieRow, BeginProgram, AddEvent, CopyAs, Outcome, Side, Sole, Old, New, unless_refused, unless_failed, dots_by, top_by, kinds_by, inside_by, is_whole, given_set, is_unknown, adding, link_node, shifting, rename_by, link_by, pair_by, veil_by}
-use Rattle.pua_policy.specs.declared.reason.Misfit.TheVariants.{Missing, Exists, IsDirectory, IsNoFile, IsNoDirectory, IsNotEmpty, ByDot, ByDotDot, ByNothing}
-use Rattle.pua_script.specs.Replay.{World, Fails, history_of, made, effect, come_of, edited, edited_tree}
+use Rattle.pua_script.specs.Decide.{dots_by, top_by, kinds_by, inside_by, is_whole}
+use Rattle.pua_script.specs.Decide.{given_set, is_unknown, rename_by, link_by, veil_by}
+use Rattle.pua_policy.specs.declared.reason.Misfit.TheVariants.{Missing, Exists, IsDirectory, IsNoFile, IsNoDirectory, IsNotEmpty, ByDot}
+use Rattle.pua_policy.specs.declared.reason.Misfit.TheVariants.{ByDotDot, ByNothing}
+use Rattle.pua_script.specs.Replay.{Fails, effect}
 use Rattle.pua_script.specs.declared.request.Given.{Given}
 use Rattle.pua_script.specs.declared.request.Action.{Action}
-use Rattle.pua_script.specs.declared.request.Action.TheVariants.{OnPath, Symlink, Rename, Link, Pledge, Unveil, Lock, Fork, Exit}
-use Rattle.pua_calls.specs.Promises.{lacking}
-use Rattle.pua_policy.specs.declared.reason.Covering.TheVariants.{By}
-use Rattle.pua_policy.specs.Reasons.{promising, covering}
-use Rattle.pua_why.specs.Reasons.{Fault, Ends, LacksPromises, BadTarget, BadPath, Uncovered, LacksLetters, Unfit, Inside, UnknownPromise, AsksPromises, IsLocked, UnknownLetter, AsksLetters, NoPlaceLeft, NumberTaken, NoProcessLeft, NoRoom, unpromised, beyond, asks_beyond, place_beyond, unveil_beyond, faults, reasoned, no_room, room_fault, outcome_fault}
-use Rattle.pua_why.specs.Facts.{name_trace}
-use Rattle.pua_why.specs.Laws.{CallFaultHolds, decision_of}
-use Rattle.pua_why.specs.Truths.{PromiseFaultHolds, SymlinkFaultHolds, side_outcome, PairFaultHolds, PledgeFaultHolds, UnveilFaultHolds, CheckFaultHolds, CheckFaultsHold, RoomFaultHolds, RequestFaultHolds, RequestFaultsHold, FullTreesAreFull}
+use Rattle.pua_why.specs.Reasons.{Ends, LacksPromises, BadTarget, BadPath, Uncovered, Inside, UnknownPromise}
+use Rattle.pua_why.specs.Reasons.{AsksPromises, UnknownLetter, AsksLetters, NoPlaceLeft, NoRoom}
+use Rattle.pua_why.specs.Reasons.{beyond, asks_beyond, unveil_beyond}
+use Rattle.pua_why.specs.Laws.{CallFaultHolds}
+use Rattle.pua_why.specs.Truths.{PromiseFaultHolds, SymlinkFaultHolds, side_outcome, PairFaultHolds, PledgeFaultHolds, UnveilFaultHolds}
+use Rattle.pua_why.specs.Truths.{CheckFaultHolds, CheckFaultsHold, RoomFaultHolds, RequestFaultHolds, RequestFaultsHold, FullTreesAreFull}
 use Rattle.pua_why.proofs.Steps.{same_fault, refused_true, failed_true, named_true, either_true, when_true, unpromised_true, uncovered_true}
 use Rattle.pua_script.proofs.ForCallers.{requests_lack}
 use Rattle.pua_why.proofs.Decisions.{reasons_give_decisions}
@@ -41,7 +40,8 @@ use Rattle.pua_why.proofs.Faults.{object_true, call_faults_hold}
 use Rattle.std.proofs.lemmas.Bool.{not-true}
 
 -- a symlink: a fault of a call on its path, or of its target
-by_target : (table : CallTable) (t : Tree) (h : History) (target path : List ℕ) (fault : Fault) → CallFaultHolds t table h call.Symlink path fault → SymlinkFaultHolds table t h target path fault
+by_target : (table : CallTable) (t : Tree) (h : History) (target path : List ℕ) (fault : Fault) →
+    CallFaultHolds t table h call.Symlink path fault → SymlinkFaultHolds table t h target path fault
 by_target table t h target path Ends is = is
 by_target table t h target path (LacksPromises error sets) is = is
 by_target table t h target path (BadTarget bad) is = absurd is
@@ -60,17 +60,20 @@ by_target table t h target path (NumberTaken n) is = is
 by_target table t h target path NoProcessLeft is = is
 by_target table t h target path NoRoom is = is
 
-target_true : (table : CallTable) (t : Tree) (h : History) (target path : List ℕ) (bad : Fault) → option_map BadTarget (text_fault target) ≡ Some bad → SymlinkFaultHolds table t h target path bad
+target_true : (table : CallTable) (t : Tree) (h : History) (target path : List ℕ) (bad : Fault) →
+    option_map BadTarget (text_fault target) ≡ Some bad → SymlinkFaultHolds table t h target path bad
 target_true table t h target path bad e = by (text_fault target) refl e
   where
     by : (o : Option TextFault) → text_fault target ≡ o → option_map BadTarget o ≡ Some bad → SymlinkFaultHolds table t h target path bad
     by None o e = cc
     by (Some fault) o e = let same : BadTarget fault ≡ bad = cc in subst (SymlinkFaultHolds table t h target path) same o
 
-symlink_true : (table : CallTable) (t : Tree) (h : History) (target path : List ℕ) (fault : Fault) → reasoned table t h (Symlink target path) ≡ Err fault → SymlinkFaultHolds table t h target path fault
+symlink_true : (table : CallTable) (t : Tree) (h : History) (target path : List ℕ) (fault : Fault) →
+    change_or_fault table t h (Symlink target path) ≡ Err fault → SymlinkFaultHolds table t h target path fault
 symlink_true table t h target path fault e =
     refused_true _ _ fault (SymlinkFaultHolds table t h target path)
-    (λ bad e. unpromised_true h (rule_of table call.Symlink).alternatives bad (SymlinkFaultHolds table t h target path) (λ ended. ended) (λ error lacks is. is) e)
+    (λ bad e. unpromised_true h (rule_of table call.Symlink).alternatives bad (SymlinkFaultHolds table t h target path) (λ ended. ended)
+    (λ error lacks is. is) e)
     (λ e. failed_true _ _ fault (SymlinkFaultHolds table t h target path) (λ bad e. target_true table t h target path bad e)
     (λ e. by_target table t h target path fault (object_true t table h call.Symlink path (adding (link_node target)) fault e)) e) e
 
@@ -82,15 +85,20 @@ module _ (pair : PairRule) (t : Tree) (h : History) (end : Ending) (a b : List �
   abbrev Led : Side → Found → Type 0
   Led side object = side_outcome pair t h end a b side ≡ Ok object
 
-  dots_true : (side : Side) (object : Found) (bad : Fault) → Led side object → dots_by (λ wrong. Unfit side object wrong) object ≡ Some bad → Pair bad
-  dots_true side (Whole dir way.Dot) bad o e = let same : Unfit side (Whole dir way.Dot) ByDot ≡ bad = cc in subst Pair same (o, (dir, refl))
-  dots_true side (Whole dir way.DotDot) bad o e = let same : Unfit side (Whole dir way.DotDot) ByDotDot ≡ bad = cc in subst Pair same (o, (dir, refl))
+  dots_true : (side : Side) (object : Found) (bad : Fault) → Led side object →
+      dots_by (λ wrong. Unfit side object wrong) object ≡ Some bad → Pair bad
+  dots_true side (Whole dir way.Dot) bad o e = let same : Unfit side (Whole dir way.Dot) ByDot ≡ bad = cc in
+      subst Pair same (o, (dir, refl))
+  dots_true side (Whole dir way.DotDot) bad o e = let same : Unfit side (Whole dir way.DotDot) ByDotDot ≡ bad = cc in
+      subst Pair same (o, (dir, refl))
   dots_true side (Whole dir way.Top) bad o e = cc
   dots_true side (Whole dir (way.Named parent name)) bad o e = cc
   dots_true side (Slot dir name x) bad o e = cc
 
-  top_true : (side : Side) (object : Found) (bad : Fault) → Led side object → top_by (λ wrong. Unfit side object wrong) object ≡ Some bad → Pair bad
-  top_true side (Whole dir way.Top) bad o e = let same : Unfit side (Whole dir way.Top) ByNothing ≡ bad = cc in subst Pair same (o, (dir, refl))
+  top_true : (side : Side) (object : Found) (bad : Fault) → Led side object → top_by (λ wrong. Unfit side object wrong) object ≡ Some bad →
+      Pair bad
+  top_true side (Whole dir way.Top) bad o e = let same : Unfit side (Whole dir way.Top) ByNothing ≡ bad = cc in
+      subst Pair same (o, (dir, refl))
   top_true side (Whole dir way.Dot) bad o e = cc
   top_true side (Whole dir way.DotDot) bad o e = cc
   top_true side (Whole dir (way.Named parent name)) bad o e = cc
@@ -102,15 +110,22 @@ module _ (pair : PairRule) (t : Tree) (h : History) (end : Ending) (a b : List �
       (when_true (not (is_whole old)) (Unfit New (Whole y by) IsDirectory) bad Pair (λ v. (n, refl)))
       (when_true (not (is_empty t y)) (Unfit New (Whole y by) IsNotEmpty) bad Pair (λ v. (n, (y, by, refl, not-true (is_empty t y) v)))) e
   kinds_true old (Slot dir name None) bad n e = cc
-  kinds_true old (Slot dir name (Some y)) bad n e = when_true (is_whole old) (Unfit New (Slot dir name (Some y)) IsNoDirectory) bad Pair (λ v. (n, (refl, refl))) e
+  kinds_true old (Slot dir name (Some y)) bad n e =
+      when_true (is_whole old) (Unfit New (Slot dir name (Some y)) IsNoDirectory) bad Pair (λ v. (n, (refl, refl))) e
 
-  inside_true : (x : ℕ) (old new : Found) (spot : Option Spot) (bad : Fault) → Led Old old → Led New new → node_named old ≡ Some x → spot_named new ≡ spot →
+  inside_true : (x : ℕ) (old new : Found) (spot : Option Spot) (bad : Fault) → Led Old old → Led New new → node_named old ≡ Some x →
+      spot_named new ≡ spot →
       inside_by (Inside old new) t x spot ≡ Some bad → Pair bad
   inside_true x old new None bad o n is_x is_spot e = cc
   inside_true x old new (Some spot) bad o n is_x is_spot e =
-      when_true (is_inside t x spot.0) (Inside old new) bad Pair (λ v. (o, n, record { node = x; spot = spot; is_node = is_x; is_spot = is_spot; inside = v })) e
+      when_true (is_inside t x spot.0) (Inside old new) bad Pair (λ v. (
+        o,
+        n,
+        record { node = x; spot = spot; is_node = is_x; is_spot = is_spot; inside = v },
+      )) e
 
-  rename_true : (old new : Found) (node : Option ℕ) (fault : Fault) → node_named old ≡ node → Led Old old → Led New new → rename_by faults t old new node ≡ Err fault → Pair fault
+  rename_true : (old new : Found) (node : Option ℕ) (fault : Fault) → node_named old ≡ node → Led Old old → Led New new →
+      rename_by faults t old new node ≡ Err fault → Pair fault
   rename_true old new None fault is o n e = subst Pair (same_fault (Unfit Old old Missing) fault e) (o, is)
   rename_true old new (Some x) fault is o n e =
       failed_true _ _ fault Pair
@@ -120,14 +135,17 @@ module _ (pair : PairRule) (t : Tree) (h : History) (end : Ending) (a b : List �
       (λ e. by (is_same_node x (node_named new)) e) e
     where
       by : (v : Bool) →
-          (if v then Ok NoChange else unless_failed (λ fault. fault) (or_fault (inside_by (Inside old new) t x (spot_named new)) (kinds_by (λ wrong. Unfit New new wrong) t old new)) (Ok (shifting (spot_named old) (spot_named new)))) ≡ Err fault → Pair fault
+          (if v then Ok NoChange else unless_failed (λ fault. fault) (or_fault (inside_by (Inside old new) t x (spot_named new))
+          (kinds_by (λ wrong. Unfit New new wrong) t old new)) (Ok (shifting (spot_named old) (spot_named new)))) ≡ Err fault →
+          Pair fault
       by true e = cc
       by false e =
           failed_true _ _ fault Pair
           (λ bad e. either_true _ _ bad Pair (inside_true x old new (spot_named new) bad o n is refl) (kinds_true old new bad n) e)
           (λ granted. cc) e
 
-  link_true : (old new : Found) (node : Option ℕ) (fault : Fault) → node_named old ≡ node → Led Old old → Led New new → link_by faults old new node ≡ Err fault → Pair fault
+  link_true : (old new : Found) (node : Option ℕ) (fault : Fault) → node_named old ≡ node → Led Old old → Led New new →
+      link_by faults old new node ≡ Err fault → Pair fault
   link_true old new None fault is o n e = subst Pair (same_fault (Unfit Old old Missing) fault e) (o, is)
   link_true old new (Some x) fault is o n e =
       failed_true _ _ fault Pair
@@ -137,12 +155,14 @@ module _ (pair : PairRule) (t : Tree) (h : History) (end : Ending) (a b : List �
       (λ granted. cc) e
 
   cover_true : (side : Side) (object : Found) (bad : Fault) (perms : ℕ) → Led side object →
-      ((place : Place) (given : ℕ) → covering t h object ≡ By place given → holds given perms ≡ false → Pair (LacksLetters side place given (lacking given perms))) →
-      faults.cover side t h object perms ≡ Some bad → Pair bad
+      ((place : Place) (given : ℕ) → covering t h object ≡ By place given → holds given perms ≡ false →
+      Pair (LacksLetters side place given (lacking given perms))) →
+      (faults_of h).cover side t object perms ≡ Some bad → Pair bad
   cover_true side object bad perms o lacks e = uncovered_true side object perms (covering t h object) bad Pair (λ none. (o, none)) lacks e
 
-  pair_true : (further : Found → Found → Outcome Fault) (fault : Fault) → ((old new : Found) → Led Old old → Led New new → further old new ≡ Err fault → Pair fault) →
-      pair_by faults pair t h end a b further ≡ Err fault → Pair fault
+  pair_true : (further : Found → Found → Outcome Fault) (fault : Fault) →
+      ((old new : Found) → Led Old old → Led New new → further old new ≡ Err fault → Pair fault) →
+      pair_by faults pair t (faults_of h) end a b further ≡ Err fault → Pair fault
   pair_true further fault each e =
       refused_true _ _ fault Pair
       (λ bad e. unpromised_true h pair.old.needs.alternatives bad Pair (λ ended. ended) (λ error lacks is. inl is) e)
@@ -158,14 +178,18 @@ module _ (pair : PairRule) (t : Tree) (h : History) (end : Ending) (a b : List �
 
 -- a pledge
 asks_true : (h : History) (p x : Given) (of_exec : Bool) (request given : Option ℕ) (bad : Fault) →
-    (is_within request given ≡ false → PledgeFaultHolds h p x (AsksPromises of_exec (beyond request given))) → asks_beyond of_exec request given ≡ Some bad → PledgeFaultHolds h p x bad
+    (is_within request given ≡ false → PledgeFaultHolds h p x (AsksPromises of_exec (beyond request given))) →
+    asks_beyond of_exec request given ≡ Some bad → PledgeFaultHolds h p x bad
 asks_true h p x of_exec request given bad is e =
-    when_true (not (is_within request given)) (AsksPromises of_exec (beyond request given)) bad (PledgeFaultHolds h p x) (λ v. is (not-true (is_within request given) v)) e
+    when_true (not (is_within request given)) (AsksPromises of_exec (beyond request given)) bad (PledgeFaultHolds h p x)
+    (λ v. is (not-true (is_within request given) v)) e
 
-pledge_true : (table : CallTable) (t : Tree) (h : History) (p x : Given) (fault : Fault) → reasoned table t h (Pledge p x) ≡ Err fault → PledgeFaultHolds h p x fault
+pledge_true : (table : CallTable) (t : Tree) (h : History) (p x : Given) (fault : Fault) →
+    change_or_fault table t h (Pledge p x) ≡ Err fault → PledgeFaultHolds h p x fault
 pledge_true table t h p x fault e =
     failed_true _ _ fault (PledgeFaultHolds h p x)
-    (λ bad e. when_true (is_unknown p || is_unknown x) (UnknownPromise (not (is_unknown p))) bad (PledgeFaultHolds h p x) (λ v. unknown (is_unknown p) refl v) e)
+    (λ bad e. when_true (is_unknown p || is_unknown x) (UnknownPromise (not (is_unknown p))) bad (PledgeFaultHolds h p x)
+    (λ v. unknown (is_unknown p) refl v) e)
     (λ e. failed_true _ _ fault (PledgeFaultHolds h p x) (λ bad e. more bad (has_error h) refl e) (λ granted. cc) e) e
   where
     unknown : (v : Bool) → is_unknown p ≡ v → v || is_unknown x ≡ true → PledgeFaultHolds h p x (UnknownPromise (not v))
@@ -173,11 +197,12 @@ pledge_true table t h p x fault e =
     unknown false is e = e
 
     more : (bad : Fault) (v : Bool) → has_error h ≡ v →
-        (if v then None else or_fault (asks_beyond false (given_set p) (pledged h)) (asks_beyond true (given_set x) (held_for_exec h))) ≡ Some bad → PledgeFaultHolds h p x bad
+        (if v then None else or_fault (asks_beyond false (given_set p) (pledged_set h)) (asks_beyond true (given_set x) (held_for_exec h)))
+        ≡ Some bad → PledgeFaultHolds h p x bad
     more bad true v e = cc
     more bad false v e =
         either_true _ _ bad (PledgeFaultHolds h p x)
-        (asks_true h p x false (given_set p) (pledged h) bad (λ lacks. (v, lacks, refl)))
+        (asks_true h p x false (given_set p) (pledged_set h) bad (λ lacks. (v, lacks, refl)))
         (asks_true h p x true (given_set x) (held_for_exec h) bad (λ lacks. (v, lacks, refl))) e
 
 -- an unveil
@@ -185,40 +210,48 @@ module _ (t : Tree) (h : History) (path : List ℕ) where
   abbrev Veil : Option ℕ → Fault → Type 0
   Veil letters = UnveilFaultHolds t h path letters
 
-  place_true : (place : Place) (o : Option ℕ) (perms : ℕ) (bad : Fault) → kept h place ≡ o → place_beyond place o (length (veils h)) perms ≡ Some bad → Veil (Some perms) bad
+  place_true : (place : Place) (o : Option ℕ) (perms : ℕ) (bad : Fault) → perms_kept h place ≡ o →
+      place_beyond place o (length (veils h)) perms ≡ Some bad → Veil (Some perms) bad
   place_true place (Some given) perms bad is e = by (holds given perms) refl e
     where
-      by : (v : Bool) → holds given perms ≡ v → (if v then None else Some (AsksLetters place given (lacking given perms))) ≡ Some bad → Veil (Some perms) bad
+      by : (v : Bool) → holds given perms ≡ v → (if v then None else Some (AsksLetters place given (lacking given perms))) ≡ Some bad →
+          Veil (Some perms) bad
       by true v e = cc
-      by false v e = let same : AsksLetters place given (lacking given perms) ≡ bad = cc in subst (Veil (Some perms)) same (perms, refl, is, v, refl)
-  place_true place None perms bad is e = by (nat_le place_limit (length (veils h))) refl e
+      by false v e = let same : AsksLetters place given (lacking given perms) ≡ bad = cc in
+          subst (Veil (Some perms)) same (perms, refl, is, v, refl)
+  place_true place None perms bad is e = by (nat_le most_places (length (veils h))) refl e
     where
-      by : (v : Bool) → nat_le place_limit (length (veils h)) ≡ v → (if v then Some NoPlaceLeft else None) ≡ Some bad → Veil (Some perms) bad
+      by : (v : Bool) → nat_le most_places (length (veils h)) ≡ v → (if v then Some NoPlaceLeft else None) ≡ Some bad →
+          Veil (Some perms) bad
       by true v e = let same : NoPlaceLeft ≡ bad = cc in subst (Veil (Some perms)) same v
       by false v e = cc
 
   beyond_true : (place : Place) (perms : ℕ) (bad : Fault) → unveil_beyond h place perms ≡ Some bad → Veil (Some perms) bad
   beyond_true place perms bad e = by (is_locked h) refl e
     where
-      by : (v : Bool) → is_locked h ≡ v → (if v then Some IsLocked else place_beyond place (kept h place) (length (veils h)) perms) ≡ Some bad → Veil (Some perms) bad
+      by : (v : Bool) → is_locked h ≡ v → (if v then Some IsLocked else place_beyond place (perms_kept h place) (length (veils h)) perms)
+          ≡ Some bad → Veil (Some perms) bad
       by true v e = let same : IsLocked ≡ bad = cc in subst (Veil (Some perms)) same v
-      by false v e = place_true place (kept h place) perms bad refl e
+      by false v e = place_true place (perms_kept h place) perms bad refl e
 
-  veil_true : (letters : Option ℕ) (fault : Fault) → veil_by faults t h path letters ≡ Err fault → Veil letters fault
+  veil_true : (letters : Option ℕ) (fault : Fault) → veil_by faults t (faults_of h) path letters ≡ Err fault → Veil letters fault
   veil_true None fault e = subst (Veil None) (same_fault UnknownLetter fault e) refl
   veil_true (Some perms) fault e =
       named_true Sole (trace_of_text t (working_dir h) ending.Dot path Followed).outcome _ fault (Veil (Some perms)) (λ bad o. o)
       (λ object o e. failed_true _ _ fault (Veil (Some perms)) (λ bad e. beyond_true (place_of object) perms bad e) (λ granted. cc) e) e
 
-unveil_true : (table : CallTable) (t : Tree) (h : History) (path : List ℕ) (letters : Option ℕ) (fault : Fault) → reasoned table t h (Unveil path letters) ≡ Err fault → UnveilFaultHolds t h path letters fault
+unveil_true : (table : CallTable) (t : Tree) (h : History) (path : List ℕ) (letters : Option ℕ) (fault : Fault) →
+    change_or_fault table t h (Unveil path letters) ≡ Err fault → UnveilFaultHolds t h path letters fault
 unveil_true table t h path letters fault e =
     refused_true _ _ fault (UnveilFaultHolds t h path letters)
     (λ bad e. unpromised_true h (unveil ∷ []) bad (UnveilFaultHolds t h path letters) (λ ended. ended) (λ error lacks is. is) e)
     (λ e. failed_true _ _ fault (UnveilFaultHolds t h path letters)
-    (λ bad e. when_true (is_locked h) IsLocked bad (UnveilFaultHolds t h path letters) (λ v. v) e) (λ e. veil_true t h path letters fault e) e) e
+    (λ bad e. when_true (is_locked h) IsLocked bad (UnveilFaultHolds t h path letters) (λ v. v) e) (λ e. veil_true t h path letters fault e)
+    e) e
 
 -- promises alone
-promise_true : (h : History) (sets : List ℕ) (change : Change) (fault : Fault) → unless_refused (unpromised (promising h sets)) (Ok change) ≡ Err fault → PromiseFaultHolds h sets fault
+promise_true : (h : History) (sets : List ℕ) (change : Change) (fault : Fault) →
+    unless_refused (unpromised_fault (promising h sets)) (Ok change) ≡ Err fault → PromiseFaultHolds h sets fault
 promise_true h sets change fault e =
     refused_true _ _ fault (PromiseFaultHolds h sets)
     (λ bad e. unpromised_true h sets bad (PromiseFaultHolds h sets) (λ ended. ended) (λ error lacks is. is) e) (λ granted. cc) e
@@ -226,8 +259,12 @@ promise_true h sets change fault e =
 pub check_faults_hold : CheckFaultsHold
 check_faults_hold table t h (OnPath c path) fault e = call_faults_hold t table h c path fault e
 check_faults_hold table t h (Symlink target path) fault e = symlink_true table t h target path fault e
-check_faults_hold table t h (Rename old new) fault e = pair_true table.rename t h ending.Dropped old new _ fault (λ a b o n e. rename_true table.rename t h ending.Dropped old new a b (node_named a) fault refl o n e) e
-check_faults_hold table t h (Link old new) fault e = pair_true table.link t h ending.Dot old new _ fault (λ a b o n e. link_true table.link t h ending.Dot old new a b (node_named a) fault refl o n e) e
+check_faults_hold table t h (Rename old new) fault e =
+    pair_true table.rename t h ending.Dropped old new _ fault (λ a b o n e. rename_true table.rename t h ending.Dropped old new a b
+    (node_named a) fault refl o n e) e
+check_faults_hold table t h (Link old new) fault e =
+    pair_true table.link t h ending.Dot old new _ fault (λ a b o n e. link_true table.link t h ending.Dot old new a b (node_named a) fault
+    refl o n e) e
 check_faults_hold table t h (Pledge p x) fault e = pledge_true table t h p x fault e
 check_faults_hold table t h (Unveil path letters) fault e = unveil_true table t h path letters fault e
 check_faults_hold table t h Lock fault e = promise_true h (unveil ∷ []) _ fault e
@@ -235,33 +272,42 @@ check_faults_hold table t h (Fork new) fault e = promise_true h (proc ∷ []) _ 
 check_faults_hold table t h Exit fault e = cc
 
 -- the room of a change
-edited_true : (w : World) (h : History) (fault : Fault) (r : Result (ℕ × Tree) TreeFault) → no_room (edited h r) ≡ Some fault → (fault ≡ NoRoom) × (edited h r ≡ Fails ENOSPC)
+edited_true : (w : World) (h : History) (fault : Fault) (r : Result (ℕ × Tree) TreeFault) → no_room (edit_effect h r) ≡ Some fault →
+    (fault ≡ NoRoom) × (edit_effect h r ≡ Fails ENOSPC)
 edited_true w h fault (Ok x) e = cc
 edited_true w h fault (Err bad) e = (cc, refl)
 
-edited_tree_true : (w : World) (h : History) (fault : Fault) (r : Result Tree TreeFault) → no_room (edited_tree h r) ≡ Some fault → (fault ≡ NoRoom) × (edited_tree h r ≡ Fails ENOSPC)
+edited_tree_true : (w : World) (h : History) (fault : Fault) (r : Result Tree TreeFault) → no_room (edited_tree h r) ≡ Some fault →
+    (fault ≡ NoRoom) × (edited_tree h r ≡ Fails ENOSPC)
 edited_tree_true w h fault (Ok x) e = cc
 edited_tree_true w h fault (Err bad) e = (cc, refl)
 
-room_true : (w : World) (h : History) (change : Change) (fault : Fault) → room_fault w h change ≡ Some fault → RoomFaultHolds w h change fault
+room_true : (w : World) (h : History) (change : Change) (fault : Fault) → room_fault w h change ≡ Some fault →
+    RoomFaultHolds w h change fault
 room_true w h NoChange fault e = cc
-room_true w h (AddNode spot node) fault e = let f = edited_true w h fault (add w.tree spot.0 spot.1 node) e in subst (RoomFaultHolds w h (AddNode spot node)) (sym f.0) f.1
-room_true w h (CutRow spot) fault e = let f = edited_true w h fault (cut w.tree spot.0 spot.1) e in subst (RoomFaultHolds w h (CutRow spot)) (sym f.0) f.1
-room_true w h (ShiftRow old new) fault e = let f = edited_tree_true w h fault (shift w.tree old.0 old.1 new.0 new.1) e in subst (RoomFaultHolds w h (ShiftRow old new)) (sym f.0) f.1
-room_true w h (TieRow spot x) fault e = let f = edited_tree_true w h fault (tie w.tree spot.0 spot.1 x) e in subst (RoomFaultHolds w h (TieRow spot x)) (sym f.0) f.1
+room_true w h (AddNode spot node) fault e = let f = edited_true w h fault (add w.tree spot.0 spot.1 node) e in
+    subst (RoomFaultHolds w h (AddNode spot node)) (sym f.0) f.1
+room_true w h (CutRow spot) fault e = let f = edited_true w h fault (cut w.tree spot.0 spot.1) e in
+    subst (RoomFaultHolds w h (CutRow spot)) (sym f.0) f.1
+room_true w h (ShiftRow old new) fault e = let f = edited_tree_true w h fault (shift w.tree old.0 old.1 new.0 new.1) e in
+    subst (RoomFaultHolds w h (ShiftRow old new)) (sym f.0) f.1
+room_true w h (TieRow spot x) fault e = let f = edited_tree_true w h fault (tie w.tree spot.0 spot.1 x) e in
+    subst (RoomFaultHolds w h (TieRow spot x)) (sym f.0) f.1
 room_true w h (BeginProgram left) fault e = cc
 room_true w h (AddEvent event) fault e = cc
 room_true w h (CopyAs new) fault e =
     either_true _ _ fault (RoomFaultHolds w h (CopyAs new))
     (when_true (is_some (history_of w new)) (NumberTaken new) fault (RoomFaultHolds w h (CopyAs new)) (λ v. (refl, v)))
-    (when_true (nat_le process_limit (length w.histories)) NoProcessLeft fault (RoomFaultHolds w h (CopyAs new)) (λ v. v)) e
+    (when_true (nat_le most_processes (length w.histories)) NoProcessLeft fault (RoomFaultHolds w h (CopyAs new)) (λ v. v)) e
 
 pub request_faults_hold : RequestFaultsHold
-request_faults_hold table w h action fault e = by (reasoned table w.tree h action) refl e
+request_faults_hold table w h action fault e = by (change_or_fault table w.tree h action) refl e
   where
-    by : (d : Outcome Fault) → reasoned table w.tree h action ≡ d → outcome_fault w h d ≡ Some fault → RequestFaultHolds table w h action fault
+    by : (d : Outcome Fault) → change_or_fault table w.tree h action ≡ d → outcome_fault w h d ≡ Some fault →
+        RequestFaultHolds table w h action fault
     by (Ok change) is e = inr (record { change = change; granted = is; holds = room_true w h change fault e })
-    by (Err bad) is e = let same : bad ≡ fault = cc in inl (check_faults_hold table w.tree h action fault (is ∙ ap (λ (x : Fault). Err x) same))
+    by (Err bad) is e = let same : bad ≡ fault = cc in
+        inl (check_faults_hold table w.tree h action fault (is ∙ ap (λ (x : Fault). Err x) same))
 
 -- no check is told to lack room
 never_full : (table : CallTable) (t : Tree) (h : History) (action : Action) → CheckFaultHolds table t h action NoRoom → ⊥
@@ -275,7 +321,7 @@ never_full table t h Lock is = is
 never_full table t h (Fork new) is = is
 never_full table t h Exit is = is
 
-full_made : (w : World) (h : History) (change : Change) → RoomFaultHolds w h change NoRoom → made w h change ≡ Fails ENOSPC
+full_made : (w : World) (h : History) (change : Change) → RoomFaultHolds w h change NoRoom → change_effect w h change ≡ Fails ENOSPC
 full_made w h NoChange is = is
 full_made w h (AddNode spot node) is = is
 full_made w h (CutRow spot) is = is
@@ -286,10 +332,14 @@ full_made w h (AddEvent event) is = is
 full_made w h (CopyAs new) is = absurd is
 
 pub full_trees_are_full : FullTreesAreFull
-full_trees_are_full table w h action formed e = (requests_lack table w h action formed).exact.0 (by (reasoned table w.tree h action) refl e)
+full_trees_are_full table w h action formed e =
+    (requests_lack table w h action formed).exact.0 (by (change_or_fault table w.tree h action) refl e)
   where
-    by : (d : Outcome Fault) → reasoned table w.tree h action ≡ d → outcome_fault w h d ≡ Some NoRoom → effect table w h action ≡ Fails ENOSPC
+    by : (d : Outcome Fault) → change_or_fault table w.tree h action ≡ d → outcome_fault w h d ≡ Some NoRoom →
+        effect table w h action ≡ Fails ENOSPC
     by (Ok change) is e =
-        ap (come_of w h) (sym (reasons_give_decisions table w.tree h action) ∙ ap decision_of is) ∙ full_made w h change (room_true w h change NoRoom e)
+        ap (come_of w h) (sym (reasons_give_decisions table w.tree h action) ∙ ap decision_of is) ∙
+        full_made w h change (room_true w h change NoRoom e)
     by (Err bad) is e =
-        let same : bad ≡ NoRoom = cc in absurd (never_full table w.tree h action (check_faults_hold table w.tree h action NoRoom (is ∙ ap (λ (x : Fault). Err x) same)))
+        let same : bad ≡ NoRoom = cc in
+        absurd (never_full table w.tree h action (check_faults_hold table w.tree h action NoRoom (is ∙ ap (λ (x : Fault). Err x) same)))

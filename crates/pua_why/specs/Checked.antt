@@ -4,14 +4,15 @@ use Rattle.pua_path.specs.declared.errno.Errno.TheVariants.{ENOSPC}
 use Rattle.pua_calls.specs.Calls.{CallTable}
 use Rattle.pua_policy.specs.History.{History, is_ended}
 use Rattle.pua_policy.specs.Verdict.{or_fault}
-use Rattle.pua_script.specs.Limits.{process_limit}
+use Rattle.pua_script.specs.Limits.{most_processes}
 use Rattle.pua_script.specs.Requests.{Asked}
 use Rattle.pua_script.specs.Decide.{Change, CopyAs, Outcome, fault_if}
 use Rattle.pua_script.specs.Replay.{World, history_of, apply}
 use Rattle.pua_script.specs.declared.request.Action.{Action}
 use Rattle.pua_script.specs.declared.answer.Answer.{Answer}
 use Rattle.pua_script.specs.declared.answer.Answer.TheVariants.{Failed}
-use Rattle.pua_why.specs.Reasons.{Fault, NumberTaken, NoProcessLeft, NoRoom, Reason, NeverMade, Ended, Refused, Granted, reason_of, reason, reasoned}
+use Rattle.pua_why.specs.Reasons.{Fault, NumberTaken, NoProcessLeft, NoRoom, Reason, NeverMade, Ended, Refused, Granted, reason_of, reason}
+use Rattle.pua_why.specs.Reasons.{change_or_fault}
 
 -- the check that refused
 abbrev pub refused_by : Outcome Fault → Option Fault
@@ -20,7 +21,8 @@ refused_by (Err fault) = Some fault
 
 -- of a change, that no further process is made
 abbrev pub process_fault : World → Change → Option Fault
-process_fault w (CopyAs new) = or_fault (fault_if (is_some (history_of w new)) (NumberTaken new)) (fault_if (nat_le process_limit (length w.histories)) NoProcessLeft)
+process_fault w (CopyAs new) =
+    or_fault (fault_if (is_some (history_of w new)) (NumberTaken new)) (fault_if (nat_le most_processes (length w.histories)) NoProcessLeft)
 process_fault w _ = None
 
 abbrev pub checks_fault : World → Outcome Fault → Option Fault
@@ -29,10 +31,10 @@ checks_fault w (Err fault) = Some fault
 
 abbrev pub checked_by : CallTable → World → Action → Option History → Reason
 checked_by table w action None = NeverMade
-checked_by table w action (Some h) = if is_ended h then Ended else reason_of (checks_fault w (reasoned table w.tree h action))
+checked_by table w action (Some h) = if is_ended h then Ended else reason_of (checks_fault w (change_or_fault table w.tree h action))
 
-abbrev pub checked : CallTable → World → Asked → Reason
-checked table w ask = checked_by table w ask.action (history_of w ask.process)
+abbrev pub reason_checked : CallTable → World → Asked → Reason
+reason_checked table w ask = checked_by table w ask.action (history_of w ask.process)
 
 -- the reason of an answer, by what the checks tell: what they granted lacked room, where the answer says so
 abbrev pub granted_by : Answer → Reason
@@ -47,4 +49,4 @@ told_by answer Granted = granted_by answer
 
 -- so the reason is what the checks tell, and the answer
 abbrev pub ChecksTell : Type 0
-ChecksTell = (table : CallTable) (w : World) (ask : Asked) → told_by (apply table w ask).0 (checked table w ask) ≡ reason table w ask
+ChecksTell = (table : CallTable) (w : World) (ask : Asked) → told_by (apply table w ask).0 (reason_checked table w ask) ≡ reason table w ask

@@ -3,7 +3,7 @@ use Rattle.std.specs.Prelude.{◌≡◌, ℕ, if◌then◌else◌, List, [], ◌
 use Rattle.std.specs.List.{list_any}
 use Rattle.pua_tree.specs.Tree.{Tree, climb}
 use Rattle.pua_calls.specs.Calls.{CallTable, rule_of}
-use Rattle.pua_policy.specs.History.{History, kept}
+use Rattle.pua_policy.specs.History.{History, perms_kept}
 use Rattle.pua_policy.specs.Verdict.{is_unveil, nearest}
 use Rattle.pua_calls.specs.declared.call.Call.{Call}
 use Rattle.pua_policy.specs.declared.place.Place.TheVariants.{Dir}
@@ -14,7 +14,7 @@ use Rattle.pua_policy.specs.declared.reason.Covering.{Covering}
 use Rattle.pua_policy.specs.declared.reason.Covering.TheVariants.{InView, By}
 use Rattle.pua_policy.specs.Reasons.{Promising, Holds, promising, first_kept, cover_of}
 use Rattle.pua_why.specs.Since.{since}
-use Rattle.pua_why.specs.Texts.{promises_text, letters_text, place_text, has_veil}
+use Rattle.pua_why.specs.Texts.{promises_text, letters_text, place_text, has_veil_on}
 
 -- the set that lets a call through
 abbrev pub let_by : Promising → ℕ
@@ -28,12 +28,13 @@ resting_on table h (call ∷ calls) = bit_or (let_by (promising h (rule_of table
 
 -- what covers the further names of a directory
 abbrev pub covering_in : Tree → History → ℕ → Covering
-covering_in t h dir = if list_any is_unveil h then first_kept (kept h) (map Dir (climb t dir)) else InView
+covering_in t h dir = if list_any is_unveil h then first_kept (perms_kept h) (map Dir (climb t dir)) else InView
 
 -- place, letters and line of a veil; three dashes where none is kept
 abbrev pub veil_columns : CallTable → World → List Asked → ℕ → Covering → List ℕ
 veil_columns table w asks process (By place given) =
-    place_text (world_after table w asks).tree place ++ 32 ∷ letters_text given ++ 32 ∷ decimal (unwrap_or (since (has_veil place given) table w 1 asks process) 0)
+    place_text (world_after table w asks).tree place ++ 32 ∷ letters_text given ++ 32
+    ∷ decimal (unwrap_or (since (has_veil_on place given) table w 1 asks process) 0)
 veil_columns table w asks process _ = codes "- - -"
 
 -- what stands behind a line with these calls on what is so covered
@@ -43,4 +44,4 @@ columns table w asks process h calls over = 32 ∷ promises_text (resting_on tab
 -- the cover of further names is what covers them
 abbrev pub CoveringsIn : Type 0
 CoveringsIn = (t : Tree) (h : History) (dir : ℕ) →
-    cover_of (covering_in t h dir) ≡ (if list_any is_unveil h then nearest (map (λ over. kept h (Dir over)) (climb t dir)) else All)
+    cover_of (covering_in t h dir) ≡ (if list_any is_unveil h then nearest (map (λ over. perms_kept h (Dir over)) (climb t dir)) else All)

@@ -11,7 +11,7 @@ use Rattle.pua_script.specs.Requests.{Asked}
 use Rattle.pua_script.specs.Scripts.{script}
 use Rattle.pua_script.specs.Replay.{new_world}
 use Rattle.pua_script.specs.declared.fault.ScriptFault.{ScriptFault}
-use Rattle.pua_script.specs.Examples.{root_alone, example, ordered}
+use Rattle.pua_script.specs.Examples.{root_alone, example, ordered_tree}
 use Rattle.pua_why.specs.Texts.{why_lines, chain, promises_text}
 
 abbrev pub lines_over : CallTable → Result Tree ListingFault → Result (List Asked) ScriptFault → List (List ℕ)
@@ -24,12 +24,14 @@ why_by table tree lines = lines_over table (listing (text_of_lines tree)) (scrip
 abbrev pub why_of : List (List ℕ) → List (List ℕ) → List (List ℕ)
 why_of tree lines = why_by standard_table tree lines
 
-abbrev pub chain_over : CallTable → Result Tree ListingFault → Result (List Asked) ScriptFault → Result (List Asked) ScriptFault → List (List ℕ)
+abbrev pub chain_over : CallTable → Result Tree ListingFault → Result (List Asked) ScriptFault → Result (List Asked) ScriptFault →
+    List (List ℕ)
 chain_over table (Ok t) (Ok asks) (Ok (ask ∷ more)) = chain table (new_world t) asks ask
 chain_over table _ _ _ = []
 
 abbrev pub chain_by : CallTable → List (List ℕ) → List (List ℕ) → List ℕ → List (List ℕ)
-chain_by table tree lines line = chain_over table (listing (text_of_lines tree)) (script (text_of_lines lines)) (script (text_of_lines (line ∷ [])))
+chain_by table tree lines line =
+    chain_over table (listing (text_of_lines tree)) (script (text_of_lines lines)) (script (text_of_lines (line ∷ [])))
 
 abbrev pub chain_of : List (List ℕ) → List (List ℕ) → List ℕ → List (List ℕ)
 chain_of tree lines line = chain_by standard_table tree lines line
@@ -47,54 +49,80 @@ pub record WhyRows : Type 0 where
       codes "1 ok" ∷ codes "2 killed no rpath since line 1" ∷ codes "3 gone ended since line 2" ∷ []
   pub under_error : why_of example (codes "1 pledge stdio,error -" ∷ codes "1 create /etc/x" ∷ []) ≡
       codes "1 ok" ∷ codes "2 ENOSYS no cpath,wpath since line 1" ∷ []
-  pub path_stops : why_of example (codes "1 stat /tmp/up/no/x" ∷ codes "1 stat /etc/passwd/x" ∷ codes "1 stat /tmp/self" ∷ codes "1 stat =" ∷ []) ≡
-      codes "1 ENOENT /etc/no is missing" ∷ codes "2 ENOTDIR /etc/passwd is no directory" ∷ codes "3 ELOOP /tmp/self is link 33" ∷ codes "4 ENOENT path is empty" ∷ []
-  pub misfits : why_of example (codes "1 mkdir /etc" ∷ codes "1 open-w /etc" ∷ codes "1 unlink /tmp" ∷ codes "1 exec /etc/passwd" ∷ codes "1 exec /etc" ∷ []) ≡
-      codes "1 EEXIST /etc exists" ∷ codes "2 EISDIR /etc is a directory" ∷ codes "3 EPERM /tmp is a directory" ∷ codes "4 EACCES /etc/passwd is no program" ∷ codes "5 EACCES /etc is no program" ∷ []
-  pub more_misfits : why_of example (codes "1 readlink /etc/passwd" ∷ codes "1 rmdir /etc/passwd" ∷ codes "1 rmdir /" ∷ codes "1 rmdir /etc/." ∷ []) ≡
-      codes "1 EINVAL /etc/passwd is no link" ∷ codes "2 ENOTDIR /etc/passwd is no directory" ∷ codes "3 EBUSY path has no component" ∷ codes "4 EINVAL path ends in ." ∷ []
-  pub last_misfits : why_of example (codes "1 rmdir /etc/.." ∷ codes "1 rmdir /etc" ∷ codes "1 chdir /etc/passwd" ∷ codes "1 unlink /nope" ∷ codes "1 symlink = /l" ∷ []) ≡
-      codes "1 EINVAL path ends in .." ∷ codes "2 ENOTEMPTY /etc is not empty" ∷ codes "3 ENOTDIR /etc/passwd is no directory" ∷ codes "4 ENOENT /nope is missing" ∷ codes "5 ENOENT target is empty" ∷ []
-  pub locks : why_of example (codes "1 unveil /etc r" ∷ codes "1 unveil /etc rw" ∷ codes "1 unveil /etc q" ∷ codes "1 unveil - -" ∷ codes "1 unveil /tmp r" ∷ []) ≡
-      codes "1 ok" ∷ codes "2 EPERM no w in veil r on /etc since line 1" ∷ codes "3 EINVAL unknown letter" ∷ codes "4 ok" ∷ codes "5 EPERM locked since line 4" ∷ []
-  pub pledges : why_of root_alone (codes "1 pledge stdio,zpath -" ∷ codes "1 pledge stdio,rpath stdio" ∷ codes "1 pledge stdio,rpath,inet -" ∷ codes "1 pledge - stdio,rpath" ∷ []) ≡
-      codes "1 EINVAL unknown promise" ∷ codes "2 ok" ∷ codes "3 EPERM no inet since line 2" ∷ codes "4 EPERM no rpath in execpromises since line 2" ∷ []
+  pub path_stops : why_of example (codes "1 stat /tmp/up/no/x" ∷ codes "1 stat /etc/passwd/x" ∷ codes "1 stat /tmp/self" ∷ codes "1 stat ="
+      ∷ []) ≡
+      codes "1 ENOENT /etc/no is missing" ∷ codes "2 ENOTDIR /etc/passwd is no directory" ∷ codes "3 ELOOP /tmp/self is link 33"
+      ∷ codes "4 ENOENT path is empty" ∷ []
+  pub misfits : why_of example (codes "1 mkdir /etc" ∷ codes "1 open-w /etc" ∷ codes "1 unlink /tmp" ∷ codes "1 exec /etc/passwd"
+      ∷ codes "1 exec /etc" ∷ []) ≡
+      codes "1 EEXIST /etc exists" ∷ codes "2 EISDIR /etc is a directory" ∷ codes "3 EPERM /tmp is a directory"
+      ∷ codes "4 EACCES /etc/passwd is no program" ∷ codes "5 EACCES /etc is no program" ∷ []
+  pub more_misfits : why_of example (codes "1 readlink /etc/passwd" ∷ codes "1 rmdir /etc/passwd" ∷ codes "1 rmdir /"
+      ∷ codes "1 rmdir /etc/." ∷ []) ≡
+      codes "1 EINVAL /etc/passwd is no link" ∷ codes "2 ENOTDIR /etc/passwd is no directory" ∷ codes "3 EBUSY path has no component"
+      ∷ codes "4 EINVAL path ends in ." ∷ []
+  pub last_misfits : why_of example (codes "1 rmdir /etc/.." ∷ codes "1 rmdir /etc" ∷ codes "1 chdir /etc/passwd" ∷ codes "1 unlink /nope"
+      ∷ codes "1 symlink = /l" ∷ []) ≡
+      codes "1 EINVAL path ends in .." ∷ codes "2 ENOTEMPTY /etc is not empty" ∷ codes "3 ENOTDIR /etc/passwd is no directory"
+      ∷ codes "4 ENOENT /nope is missing" ∷ codes "5 ENOENT target is empty" ∷ []
+  pub locks : why_of example (codes "1 unveil /etc r" ∷ codes "1 unveil /etc rw" ∷ codes "1 unveil /etc q" ∷ codes "1 unveil - -"
+      ∷ codes "1 unveil /tmp r" ∷ []) ≡
+      codes "1 ok" ∷ codes "2 EPERM no w in veil r on /etc since line 1" ∷ codes "3 EINVAL unknown letter" ∷ codes "4 ok"
+      ∷ codes "5 EPERM locked since line 4" ∷ []
+  pub pledges : why_of root_alone (codes "1 pledge stdio,zpath -" ∷ codes "1 pledge stdio,rpath stdio" ∷ codes "1 pledge stdio,rpath,inet -"
+      ∷ codes "1 pledge - stdio,rpath" ∷ []) ≡
+      codes "1 EINVAL unknown promise" ∷ codes "2 ok" ∷ codes "3 EPERM no inet since line 2"
+      ∷ codes "4 EPERM no rpath in execpromises since line 2" ∷ []
   pub forks : why_of root_alone (codes "1 fork 2" ∷ codes "1 fork 2" ∷ codes "2 exit" ∷ codes "2 stat /" ∷ codes "3 stat /" ∷ []) ≡
-      codes "1 ok" ∷ codes "2 EAGAIN process 2 exists since line 1" ∷ codes "3 ok" ∷ codes "4 gone ended since line 3" ∷ codes "5 gone never made" ∷ []
+      codes "1 ok" ∷ codes "2 EAGAIN process 2 exists since line 1" ∷ codes "3 ok" ∷ codes "4 gone ended since line 3"
+      ∷ codes "5 gone never made" ∷ []
   pub children : why_of root_alone (codes "1 pledge stdio,proc -" ∷ codes "1 fork 2" ∷ codes "2 stat /" ∷ []) ≡
       codes "1 ok" ∷ codes "2 ok" ∷ codes "3 killed no rpath since line 1" ∷ []
   pub removed : why_of with_dir (codes "1 chdir /d" ∷ codes "1 rmdir /d" ∷ codes "1 stat ." ∷ []) ≡
       codes "1 ok" ∷ codes "2 ok" ∷ codes "3 ENOENT working directory is removed since line 2" ∷ []
-  pub made_again : why_of with_dir (codes "1 fork 2" ∷ codes "2 unveil /d r" ∷ codes "1 rmdir /d" ∷ codes "1 mkdir /d" ∷ codes "2 stat /d" ∷ []) ≡
+  pub made_again : why_of with_dir (codes "1 fork 2" ∷ codes "2 unveil /d r" ∷ codes "1 rmdir /d" ∷ codes "1 mkdir /d" ∷ codes "2 stat /d"
+      ∷ []) ≡
       codes "1 ok" ∷ codes "2 ok" ∷ codes "3 ok" ∷ codes "4 ok" ∷ codes "5 ENOENT no veil on /d or above since line 3" ∷ []
-  pub execs : why_of example (codes "1 pledge stdio,exec stdio,rpath" ∷ codes "1 exec /tmp/sh" ∷ codes "1 stat /" ∷ codes "1 chmod /" ∷ []) ≡
+  pub execs : why_of example (codes "1 pledge stdio,exec stdio,rpath" ∷ codes "1 exec /tmp/sh" ∷ codes "1 stat /" ∷ codes "1 chmod /" ∷ [])
+      ≡
       codes "1 ok" ∷ codes "2 ok" ∷ codes "3 ok" ∷ codes "4 killed no fattr since line 1" ∷ []
-  pub renames : why_of ordered (codes "1 rename /no /x" ∷ codes "1 rename /d /d/e" ∷ codes "1 rename /f /d" ∷ codes "1 rename /d/e /f" ∷ []) ≡
-      codes "1 ENOENT old: /no is missing" ∷ codes "2 EINVAL new: /d/e is inside /d" ∷ codes "3 EISDIR new: /d is a directory" ∷ codes "4 ENOTDIR new: /f is no directory" ∷ []
-  pub more_renames : why_of ordered (codes "1 rename /d /d/e" ∷ codes "1 rename /d/. /x" ∷ codes "1 rename / /x" ∷ codes "1 rename /d/f /no/x" ∷ []) ≡
-      codes "1 EINVAL new: /d/e is inside /d" ∷ codes "2 EINVAL old: path ends in ." ∷ codes "3 EBUSY old: path has no component" ∷ codes "4 ENOENT new: /no is missing" ∷ []
-  pub links : why_of ordered (codes "1 link /d /x" ∷ codes "1 link /f /d/f" ∷ codes "1 link /f/x /y" ∷ codes "1 link /no /y" ∷ []) ≡
-      codes "1 EPERM old: /d is a directory" ∷ codes "2 EEXIST new: /d/f exists" ∷ codes "3 ENOTDIR old: /f is no directory" ∷ codes "4 ENOENT old: /no is missing" ∷ []
-  pub veiled_renames : why_of ordered (codes "1 unveil /d rwc" ∷ codes "1 unveil /d/e r" ∷ codes "1 rename /d/f /x" ∷ codes "1 rename /d/f /d/e/y" ∷ []) ≡
-      codes "1 ok" ∷ codes "2 ok" ∷ codes "3 ENOENT new: no veil on /x or above since line 1" ∷ codes "4 EACCES new: no c in veil r on /d/e since line 2" ∷ []
+  pub renames : why_of ordered_tree (codes "1 rename /no /x" ∷ codes "1 rename /d /d/e" ∷ codes "1 rename /f /d" ∷ codes "1 rename /d/e /f"
+      ∷ []) ≡
+      codes "1 ENOENT old: /no is missing" ∷ codes "2 EINVAL new: /d/e is inside /d" ∷ codes "3 EISDIR new: /d is a directory"
+      ∷ codes "4 ENOTDIR new: /f is no directory" ∷ []
+  pub more_renames : why_of ordered_tree (codes "1 rename /d /d/e" ∷ codes "1 rename /d/. /x" ∷ codes "1 rename / /x"
+      ∷ codes "1 rename /d/f /no/x" ∷ []) ≡
+      codes "1 EINVAL new: /d/e is inside /d" ∷ codes "2 EINVAL old: path ends in ." ∷ codes "3 EBUSY old: path has no component"
+      ∷ codes "4 ENOENT new: /no is missing" ∷ []
+  pub links : why_of ordered_tree (codes "1 link /d /x" ∷ codes "1 link /f /d/f" ∷ codes "1 link /f/x /y" ∷ codes "1 link /no /y" ∷ []) ≡
+      codes "1 EPERM old: /d is a directory" ∷ codes "2 EEXIST new: /d/f exists" ∷ codes "3 ENOTDIR old: /f is no directory"
+      ∷ codes "4 ENOENT old: /no is missing" ∷ []
+  pub veiled_renames : why_of ordered_tree (codes "1 unveil /d rwc" ∷ codes "1 unveil /d/e r" ∷ codes "1 rename /d/f /x"
+      ∷ codes "1 rename /d/f /d/e/y" ∷ []) ≡
+      codes "1 ok" ∷ codes "2 ok" ∷ codes "3 ENOENT new: no veil on /x or above since line 1"
+      ∷ codes "4 EACCES new: no c in veil r on /d/e since line 2" ∷ []
   pub through_links : chain_of example (codes "1 unveil /etc r" ∷ []) (codes "1 stat /t/up/passwd") ≡
-      codes "needs rpath" ∷ codes "link /t to tmp" ∷ codes "link /tmp/up to ../etc" ∷ codes "names file /etc/passwd" ∷ codes "veil r on /etc since line 1" ∷ codes "ok" ∷ []
+      codes "needs rpath" ∷ codes "link /t to tmp" ∷ codes "link /tmp/up to ../etc" ∷ codes "names file /etc/passwd"
+      ∷ codes "veil r on /etc since line 1" ∷ codes "ok" ∷ []
   pub uncovered : chain_of example (codes "1 unveil /tmp r" ∷ []) (codes "1 stat /tmp/up/passwd") ≡
-      codes "needs rpath" ∷ codes "link /tmp/up to ../etc" ∷ codes "names file /etc/passwd" ∷ codes "ENOENT no veil on /etc/passwd or above since line 1" ∷ []
+      codes "needs rpath" ∷ codes "link /tmp/up to ../etc" ∷ codes "names file /etc/passwd"
+      ∷ codes "ENOENT no veil on /etc/passwd or above since line 1" ∷ []
   pub no_promise : chain_of example (codes "1 pledge stdio -" ∷ []) (codes "1 stat /") ≡
       codes "killed no rpath since line 1" ∷ []
-  pub two_paths : chain_of ordered (codes "1 unveil /d rwc" ∷ []) (codes "1 rename /d/f /d/h") ≡
-      codes "needs cpath" ∷ codes "old: names file /d/f" ∷ codes "new: names missing /d/h" ∷ codes "old: veil rwc on /d since line 1" ∷ codes "new: veil rwc on /d since line 1" ∷ codes "ok" ∷ []
+  pub two_paths : chain_of ordered_tree (codes "1 unveil /d rwc" ∷ []) (codes "1 rename /d/f /d/h") ≡
+      codes "needs cpath" ∷ codes "old: names file /d/f" ∷ codes "new: names missing /d/h" ∷ codes "old: veil rwc on /d since line 1"
+      ∷ codes "new: veil rwc on /d since line 1" ∷ codes "ok" ∷ []
   pub no_veils : chain_of example ([]) (codes "1 open-w /etc/passwd") ≡
       codes "needs wpath" ∷ codes "names file /etc/passwd" ∷ codes "no veils" ∷ codes "ok" ∷ []
   pub another_veil : chain_of example (codes "1 unveil /etc r" ∷ []) (codes "1 unveil /etc/passwd rw") ≡
       codes "needs unveil" ∷ codes "names file /etc/passwd" ∷ codes "ok" ∷ []
-  pub by_kernel : why_by openbsd_table ordered (codes "1 pledge stdio,cpath -" ∷ codes "1 rename /f /g" ∷ []) ≡
+  pub by_kernel : why_by openbsd_table ordered_tree (codes "1 pledge stdio,cpath -" ∷ codes "1 rename /f /g" ∷ []) ≡
       codes "1 ok" ∷ codes "2 killed no rpath since line 1" ∷ []
-  pub by_kernel_new : why_by openbsd_table ordered (codes "1 pledge stdio,rpath -" ∷ codes "1 link /f /g" ∷ []) ≡
+  pub by_kernel_new : why_by openbsd_table ordered_tree (codes "1 pledge stdio,rpath -" ∷ codes "1 link /f /g" ∷ []) ≡
       codes "1 ok" ∷ codes "2 killed no cpath since line 1" ∷ []
-  pub kernel_pair : chain_by openbsd_table ordered [] (codes "1 rename /d/f /d/h") ≡
-      codes "needs cpath,rpath" ∷ codes "old: names file /d/f" ∷ codes "new: names missing /d/h" ∷ codes "old: no veils" ∷ codes "new: no veils" ∷ codes "ok" ∷ []
+  pub kernel_pair : chain_by openbsd_table ordered_tree [] (codes "1 rename /d/f /d/h") ≡
+      codes "needs cpath,rpath" ∷ codes "old: names file /d/f" ∷ codes "new: names missing /d/h" ∷ codes "old: no veils"
+      ∷ codes "new: no veils" ∷ codes "ok" ∷ []
 
 pub why_rows : WhyRows
 unfolding digits trace_from promises_text

@@ -19,7 +19,7 @@ use Rattle.pua_script.specs.declared.request.Action.TheVariants.{OnPath, Symlink
 use Rattle.pua_policy.specs.declared.reason.Covering.{Covering}
 use Rattle.pua_policy.specs.Reasons.{Promising, Holds, promising, covering}
 use Rattle.pua_script.specs.Decide.{Side, Sole, Old, New}
-use Rattle.pua_why.specs.Reasons.{Fault, uncovered}
+use Rattle.pua_why.specs.Reasons.{Fault, uncovered_fault}
 
 pub data Fact : Type 0 where
   Needs : ℕ → Fact
@@ -51,7 +51,8 @@ facts_covered side over None more = Under side over ∷ more
 facts_covered side over (Some fault) more = []
 
 abbrev pub facts_under : Side → Tree → History → Found → ℕ → List Fact → List Fact
-facts_under side t h object perms more = facts_covered side (covering t h object) (uncovered side object perms (covering t h object)) more
+facts_under side t h object perms more =
+    facts_covered side (covering t h object) (uncovered_fault side object perms (covering t h object)) more
 
 -- the links that a call's path follows, and what it names
 abbrev pub call_trace : Tree → History → Call → List ℕ → PathTrace

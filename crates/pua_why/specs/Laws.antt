@@ -12,7 +12,7 @@ use Rattle.pua_policy.specs.ReasonLaws.{LackSome, MisfitHolds}
 use Rattle.pua_calls.specs.declared.call.Call.{Call}
 use Rattle.pua_script.specs.Requests.{Asked}
 use Rattle.pua_script.specs.AnswerTexts.{answer_text}
-use Rattle.pua_script.specs.Replay.{World, apply, answers, world_after}
+use Rattle.pua_script.specs.Replay.{World, apply, answers_to, world_after}
 use Rattle.pua_script.specs.declared.answer.Answer.{Answer}
 use Rattle.pua_calls.specs.Promises.{lacking}
 use Rattle.pua_policy.specs.Misfits.{misfit}
@@ -22,10 +22,11 @@ use Rattle.pua_policy.specs.Reasons.{Holds, promising, covering}
 use Rattle.pua_script.specs.Decide.{Change, Outcome, Decision, Sole, Old, New, decide}
 use Rattle.pua_script.specs.declared.request.Action.{Action}
 use Rattle.pua_script.specs.declared.request.Action.TheVariants.{OnPath, Rename, Link}
-use Rattle.pua_policy.specs.Verdict.{refused}
+use Rattle.pua_policy.specs.Verdict.{refusal_verdict}
 use Rattle.pua_policy.specs.declared.answer.Verdict.{Verdict}
 use Rattle.pua_policy.specs.declared.answer.Verdict.TheVariants.{Allowed}
-use Rattle.pua_why.specs.Reasons.{Fault, Ends, LacksPromises, BadPath, Uncovered, LacksLetters, Unfit, fault_refusal, reasoned, reason, answer_of}
+use Rattle.pua_why.specs.Reasons.{Fault, Ends, LacksPromises, BadPath, Uncovered, LacksLetters, Unfit, fault_refusal, change_or_fault}
+use Rattle.pua_why.specs.Reasons.{reason, answer_of}
 use Rattle.pua_why.specs.Facts.{Needs, Follows, Names, Under, call_trace, call_facts, name_trace, pair_facts}
 use Rattle.pua_why.specs.Keys.{reason_key}
 use Rattle.pua_why.specs.Since.{Test, since, IsSince}
@@ -38,15 +39,17 @@ decision_of (Err fault) = Err (fault_refusal fault)
 
 -- the decision is a function of what is reasoned
 abbrev pub ReasonsGiveDecisions : Type 0
-ReasonsGiveDecisions = (table : CallTable) (t : Tree) (h : History) (action : Action) → decision_of (reasoned table t h action) ≡ decide table t h action
+ReasonsGiveDecisions = (table : CallTable) (t : Tree) (h : History) (action : Action) →
+    decision_of (change_or_fault table t h action) ≡ decide table t h action
 
 abbrev pub verdict_by : Outcome Fault → Verdict
 verdict_by (Ok _) = Allowed
-verdict_by (Err fault) = refused (fault_refusal fault)
+verdict_by (Err fault) = refusal_verdict (fault_refusal fault)
 
 -- a reason never contradicts the verdict
 abbrev pub ReasonsGiveVerdicts : Type 0
-ReasonsGiveVerdicts = (t : Tree) (table : CallTable) (h : History) (call : Call) (text : List ℕ) → verdict_by (reasoned table t h (OnPath call text)) ≡ verdict_on t table h call text
+ReasonsGiveVerdicts = (t : Tree) (table : CallTable) (h : History) (call : Call) (text : List ℕ) →
+    verdict_by (change_or_fault table t h (OnPath call text)) ≡ verdict_on t table h call text
 
 -- nor the answer of a request
 abbrev pub ReasonsGiveAnswers : Type 0
@@ -66,25 +69,29 @@ TellMore _ n _ = ⊥
 
 -- with reasons each line is the line without them, and more
 abbrev pub WhyLinesTellMore : Type 0
-WhyLinesTellMore = (table : CallTable) (w : World) (done asks : List Asked) (n : ℕ) → TellMore (why_lines table w done n asks) n (answers table (world_after table w done) asks)
+WhyLinesTellMore = (table : CallTable) (w : World) (done asks : List Asked) (n : ℕ) →
+    TellMore (why_lines table w done n asks) n (answers_to table (world_after table w done) asks)
 
 -- the last line of a chain is what is told of the request as the script's next line
 abbrev pub ChainsEnd : Type 0
 ChainsEnd = (table : CallTable) (w : World) (done asks : List Asked) (ask : Asked) (n : ℕ) →
-    why_lines table w done n (asks ++ ask ∷ []) ≡ why_lines table w done n asks ++ (decimal (n + length asks) ++ 32 ∷ answer_why table w (done ++ asks) ask) ∷ []
+    why_lines table w done n (asks ++ ask ∷ []) ≡ why_lines table w done n asks
+    ++ (decimal (n + length asks) ++ 32 ∷ answer_why table w (done ++ asks) ask) ∷ []
 
 -- the chain of a call that is granted tells the promises, the links, the object and the veil on which it rests
 pub record FactsOf (t : Tree) (table : CallTable) (h : History) (call : Call) (text : List ℕ) : Type 0 where
   pub promises : ℕ
   pub object : Found
   pub over : Covering
-  pub told : call_facts table t h call text ≡ Needs promises ∷ map (Follows Sole) (call_trace t h call text).links ++ Names Sole object ∷ Under Sole over ∷ []
+  pub told : call_facts table t h call text ≡ Needs promises ∷ map (Follows Sole) (call_trace t h call text).links ++ Names Sole object
+      ∷ Under Sole over ∷ []
   pub held : promising h (rule_of table call).alternatives ≡ Holds promises
   pub named : (call_trace t h call text).outcome ≡ Ok object
   pub covered : covering t h object ≡ over
 
 abbrev pub GrantsAreTold : Type 0
-GrantsAreTold = (t : Tree) (table : CallTable) (h : History) (call : Call) (text : List ℕ) (change : Change) → reasoned table t h (OnPath call text) ≡ Ok change → FactsOf t table h call text
+GrantsAreTold = (t : Tree) (table : CallTable) (h : History) (call : Call) (text : List ℕ) (change : Change) →
+    change_or_fault table t h (OnPath call text) ≡ Ok change → FactsOf t table h call text
 
 -- and of a request with two paths those of both names
 pub record PairFactsOf (pair : PairRule) (t : Tree) (h : History) (ending : Ending) (old_path new_path : List ℕ) : Type 0 where
@@ -102,26 +109,32 @@ pub record PairFactsOf (pair : PairRule) (t : Tree) (h : History) (ending : Endi
   pub named_new : (name_trace pair.new t h ending new_path).outcome ≡ Ok new
 
 pub record PairsAreTold : Type 0 where
-  pub renames : (t : Tree) (table : CallTable) (h : History) (old new : List ℕ) (change : Change) → reasoned table t h (Rename old new) ≡ Ok change → PairFactsOf table.rename t h ending.Dropped old new
-  pub links : (t : Tree) (table : CallTable) (h : History) (old new : List ℕ) (change : Change) → reasoned table t h (Link old new) ≡ Ok change → PairFactsOf table.link t h ending.Dot old new
+  pub renames : (t : Tree) (table : CallTable) (h : History) (old new : List ℕ) (change : Change) →
+      change_or_fault table t h (Rename old new) ≡ Ok change → PairFactsOf table.rename t h ending.Dropped old new
+  pub links : (t : Tree) (table : CallTable) (h : History) (old new : List ℕ) (change : Change) →
+      change_or_fault table t h (Link old new) ≡ Ok change → PairFactsOf table.link t h ending.Dot old new
 
 -- what a fault of a call on a path says is so; a call on a path has no other faults
 abbrev pub CallFaultHolds : Tree → CallTable → History → Call → List ℕ → Fault → Type 0
 CallFaultHolds t table h call text Ends = is_ended h ≡ true
 CallFaultHolds t table h call text (LacksPromises error sets) = LackSome h (rule_of table call).alternatives sets
 CallFaultHolds t table h call text (BadPath Sole fault) = (call_trace t h call text).outcome ≡ Err fault
-CallFaultHolds t table h call text (Uncovered Sole object) = ((call_trace t h call text).outcome ≡ Ok object) × (covering t h object ≡ NoneOver)
+CallFaultHolds t table h call text (Uncovered Sole object) = ((call_trace t h call text).outcome ≡ Ok object) ×
+    (covering t h object ≡ NoneOver)
 CallFaultHolds t table h call text (LacksLetters Sole place given lacks) =
     (object : Found) × ((call_trace t h call text).outcome ≡ Ok object) × (covering t h object ≡ By place given)
     × (holds given (rule_of table call).perms ≡ false) × (lacks ≡ lacking given (rule_of table call).perms)
 CallFaultHolds t table h call text (Unfit Sole object wrong) =
-    ((call_trace t h call text).outcome ≡ Ok object) × (misfit t call (object_of t object) ≡ Some wrong) × MisfitHolds t (object_of t object) wrong
+    ((call_trace t h call text).outcome ≡ Ok object) × (misfit t call (object_of t object) ≡ Some wrong) ×
+    MisfitHolds t (object_of t object) wrong
 CallFaultHolds t table h call text _ = ⊥
 
 abbrev pub CallFaultsHold : Type 0
-CallFaultsHold = (t : Tree) (table : CallTable) (h : History) (call : Call) (text : List ℕ) (fault : Fault) → reasoned table t h (OnPath call text) ≡ Err fault → CallFaultHolds t table h call text fault
+CallFaultsHold = (t : Tree) (table : CallTable) (h : History) (call : Call) (text : List ℕ) (fault : Fault) →
+    change_or_fault table t h (OnPath call text) ≡ Err fault → CallFaultHolds t table h call text fault
 
--- of a request that is not allowed: whoever asked it before the line that is told had a reason of another key, and from then on it was of this one; without a line it was so throughout
+-- of a request that is not allowed: whoever asked it before the line that is told had a reason of another key, and from
+-- then on it was of this one; without a line it was so throughout
 abbrev pub ReasonsSince : Type 0
 ReasonsSince = (table : CallTable) (w : World) (asks : List Asked) (ask : Asked) →
     let test : Test = has_key table ask (reason_key (reason table (world_after table w asks) ask)) in

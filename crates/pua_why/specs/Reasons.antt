@@ -1,14 +1,15 @@
 -- Why a request is answered as it is: what is told of the check at which it is refused, and of the room that its change lacks.
-use Rattle.std.specs.Prelude.{ℕ, Bool, true, false, not, if◌then◌else◌, List, length, nat_le, Option, Some, None, option_map, Result, Ok, Err, is_some, unwrap_or}
+use Rattle.std.specs.Prelude.{ℕ, Bool, true, false, not, if◌then◌else◌, List, length, nat_le, Option, Some, None, option_map, Result, Ok}
+use Rattle.std.specs.Prelude.{Err, is_some, unwrap_or}
 use Rattle.pua_tree.specs.Tree.{Tree}
 use Rattle.pua_path.specs.declared.errno.Errno.TheVariants.{EPERM, ENOENT, E2BIG, EACCES, EAGAIN, EINVAL, ENOSPC, ENOSYS}
 use Rattle.pua_path.specs.declared.found.Found.{Found}
 use Rattle.pua_path.specs.Traces.{text_errno, text_fault, path_errno, trace_of_text}
 use Rattle.pua_path.specs.declared.traced.TextFault.{TextFault}
 use Rattle.pua_path.specs.declared.traced.PathFault.{PathFault}
-use Rattle.pua_calls.specs.Promises.{holds}
+use Rattle.pua_calls.specs.Promises.{holds, error}
 use Rattle.pua_calls.specs.Calls.{CallTable}
-use Rattle.pua_policy.specs.History.{History, pledged, held_for_exec, has_error, is_within, is_ended, is_locked, kept, veils, place_limit}
+use Rattle.pua_policy.specs.History.{History, ProcessState, state_of, held_on, is_within, is_ended, perms_kept, veil_at, most_places}
 use Rattle.pua_policy.specs.Verdict.{or_fault}
 use Rattle.pua_policy.specs.declared.place.Place.{Place}
 use Rattle.pua_policy.specs.declared.answer.Refusal.{Refusal}
@@ -16,13 +17,13 @@ use Rattle.pua_policy.specs.declared.answer.Refusal.TheVariants as refusal
 use Rattle.pua_calls.specs.Promises.{lacking}
 use Rattle.pua_policy.specs.declared.reason.Covering.{Covering}
 use Rattle.pua_policy.specs.declared.reason.Covering.TheVariants.{InView, NoneOver, By}
-use Rattle.pua_policy.specs.Reasons.{Promising, Holds, HasEnded, Lacks, promising, covering}
-use Rattle.pua_script.specs.Limits.{process_limit}
+use Rattle.pua_policy.specs.Reasons.{Promising, Holds, HasEnded, Lacks, promising_on, covering, covering_on}
+use Rattle.pua_script.specs.Limits.{most_processes}
 use Rattle.pua_script.specs.Requests.{Asked}
-use Rattle.pua_script.specs.Decide.{Change, CopyAs, Outcome, Side, Telling, fault_if, decide_by}
+use Rattle.pua_script.specs.Decide.{Change, CopyAs, Outcome, Side, Telling, Asker, fault_if, decide_by}
 use Rattle.pua_policy.specs.Misfits.{misfit_errno}
 use Rattle.pua_policy.specs.declared.reason.Misfit.{Misfit}
-use Rattle.pua_script.specs.Replay.{World, Effect, Fails, history_of, made}
+use Rattle.pua_script.specs.Replay.{World, Effect, Fails, history_of, change_effect}
 use Rattle.pua_script.specs.declared.request.Action.{Action}
 use Rattle.pua_script.specs.declared.answer.Answer.{Answer}
 use Rattle.pua_script.specs.declared.answer.Answer.TheVariants.{Okay, Failed, Killed, Gone}
@@ -69,10 +70,10 @@ fault_refusal NoProcessLeft = refusal.Failed EAGAIN
 fault_refusal NoRoom = refusal.Failed ENOSPC
 
 -- promises that are not held
-abbrev pub unpromised : Promising → Option Fault
-unpromised (Holds set) = None
-unpromised HasEnded = Some Ends
-unpromised (Lacks error sets) = Some (LacksPromises error sets)
+abbrev pub unpromised_fault : Promising → Option Fault
+unpromised_fault (Holds set) = None
+unpromised_fault HasEnded = Some Ends
+unpromised_fault (Lacks error sets) = Some (LacksPromises error sets)
 
 -- what a path names, or why it names nothing
 abbrev pub told_path : Side → Result Found PathFault → Result Found Fault
@@ -80,10 +81,11 @@ told_path side (Ok object) = Ok object
 told_path side (Err fault) = Err (BadPath side fault)
 
 -- what the veils leave is less than these permissions
-abbrev pub uncovered : Side → Found → ℕ → Covering → Option Fault
-uncovered side object perms InView = None
-uncovered side object perms NoneOver = Some (Uncovered side object)
-uncovered side object perms (By place given) = if holds given perms then None else Some (LacksLetters side place given (lacking given perms))
+abbrev pub uncovered_fault : Side → Found → ℕ → Covering → Option Fault
+uncovered_fault side object perms InView = None
+uncovered_fault side object perms NoneOver = Some (Uncovered side object)
+uncovered_fault side object perms (By place given) =
+    if holds given perms then None else Some (LacksLetters side place given (lacking given perms))
 
 -- what is asked for beyond what was given
 abbrev pub beyond : Option ℕ → Option ℕ → ℕ
@@ -93,38 +95,57 @@ abbrev pub asks_beyond : Bool → Option ℕ → Option ℕ → Option Fault
 asks_beyond of_exec request given = fault_if (not (is_within request given)) (AsksPromises of_exec (beyond request given))
 
 -- a pledge that asks for more: its promises first
+abbrev pub pledge_beyond_on : ProcessState → Option ℕ → Option ℕ → Option Fault
+pledge_beyond_on p promises execpromises =
+    if holds (held_on p) error then None
+    else or_fault (asks_beyond false promises p.promises) (asks_beyond true execpromises p.execpromises)
+
 abbrev pub pledge_beyond : History → Option ℕ → Option ℕ → Option Fault
-pledge_beyond h promises execpromises =
-    if has_error h then None else or_fault (asks_beyond false promises (pledged h)) (asks_beyond true execpromises (held_for_exec h))
+pledge_beyond h promises execpromises = pledge_beyond_on (state_of h) promises execpromises
 
 -- permissions at a place, by what is kept there and by the number of places
 abbrev pub place_beyond : Place → Option ℕ → ℕ → ℕ → Option Fault
 place_beyond place (Some given) places perms = if holds given perms then None else Some (AsksLetters place given (lacking given perms))
-place_beyond place None places perms = if nat_le place_limit places then Some NoPlaceLeft else None
+place_beyond place None places perms = if nat_le most_places places then Some NoPlaceLeft else None
+
+abbrev pub unveil_beyond_on : ProcessState → (Place → Option ℕ) → Place → ℕ → Option Fault
+unveil_beyond_on p kept_at place perms = if p.locked then Some IsLocked else place_beyond place (kept_at place) (length p.veils) perms
 
 abbrev pub unveil_beyond : History → Place → ℕ → Option Fault
-unveil_beyond h place perms = if is_locked h then Some IsLocked else place_beyond place (kept h place) (length (veils h)) perms
+unveil_beyond h place perms = unveil_beyond_on (state_of h) (perms_kept h) place perms
 
 -- a fault is told of each check that fails
 abbrev pub faults : Telling Fault Fault
 faults = record {
-  promises = λ h sets. unpromised (promising h sets);
   failed = λ fault. fault;
   target = λ text. option_map BadTarget (text_fault text);
-  path = λ side t from ending text last. told_path side (trace_of_text t from ending text last).outcome;
-  cover = λ side t h object perms. uncovered side object perms (covering t h object);
   misfit = λ side object wrong. Unfit side object wrong;
   inside = λ old new. Inside old new;
   unknown_promise = λ of_exec. UnknownPromise of_exec;
-  beyond = pledge_beyond;
-  locked = IsLocked;
   unknown_letter = UnknownLetter;
-  place = unveil_beyond;
 }
 
+-- of a process, by what it keeps, by which veils cover objects and by what is kept at each place
+abbrev pub faults_by : ProcessState → (Tree → Found → Covering) → (Place → Option ℕ) → Asker Fault Fault
+faults_by p coverings kept_at = record {
+  promises = λ sets. unpromised_fault (promising_on p sets);
+  path = λ side t ending text last. told_path side (trace_of_text t p.dir ending text last).outcome;
+  cover = λ side t object perms. uncovered_fault side object perms (coverings t object);
+  beyond = pledge_beyond_on p;
+  locked = fault_if p.locked IsLocked;
+  place = unveil_beyond_on p kept_at;
+}
+
+abbrev pub faults_on : ProcessState → Asker Fault Fault
+faults_on p = faults_by p (λ t object. covering_on t p object) (veil_at p.veils)
+
+-- and by its history
+abbrev pub faults_of : History → Asker Fault Fault
+faults_of h = faults_by (state_of h) (λ t object. covering t h object) (perms_kept h)
+
 -- what a living process's request changes, or the fault for which it is refused
-abbrev pub reasoned : CallTable → Tree → History → Action → Outcome Fault
-reasoned table t h action = decide_by faults table t h action
+abbrev pub change_or_fault : CallTable → Tree → History → Action → Outcome Fault
+change_or_fault table t h action = decide_by faults table t (faults_of h) action
 
 -- of a change, that there is no room for it
 abbrev pub no_room : Effect → Option Fault
@@ -132,8 +153,9 @@ no_room (Fails errno) = Some NoRoom
 no_room _ = None
 
 abbrev pub room_fault : World → History → Change → Option Fault
-room_fault w h (CopyAs new) = or_fault (fault_if (is_some (history_of w new)) (NumberTaken new)) (fault_if (nat_le process_limit (length w.histories)) NoProcessLeft)
-room_fault w h change = no_room (made w h change)
+room_fault w h (CopyAs new) =
+    or_fault (fault_if (is_some (history_of w new)) (NumberTaken new)) (fault_if (nat_le most_processes (length w.histories)) NoProcessLeft)
+room_fault w h change = no_room (change_effect w h change)
 
 abbrev pub outcome_fault : World → History → Outcome Fault → Option Fault
 outcome_fault w h (Ok change) = room_fault w h change
@@ -141,7 +163,7 @@ outcome_fault w h (Err fault) = Some fault
 
 -- the fault of a living process's request, if it has one
 abbrev pub request_fault : CallTable → World → History → Action → Option Fault
-request_fault table w h action = outcome_fault w h (reasoned table w.tree h action)
+request_fault table w h action = outcome_fault w h (change_or_fault table w.tree h action)
 
 -- why a request is answered as it is: the process was never made, or has ended, or it is refused, or granted
 pub data Reason : Type 0 where

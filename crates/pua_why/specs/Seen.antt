@@ -6,7 +6,9 @@ use Rattle.pua_script.specs.Decide.{Outcome}
 use Rattle.pua_why.specs.declared.told.Side.{Side}
 use Rattle.pua_why.specs.declared.told.Side.TheVariants.{Sole, Old, New}
 use Rattle.pua_why.specs.declared.told.Fault.{Fault}
-use Rattle.pua_why.specs.declared.told.Fault.TheVariants.{Ends, LacksPromises, LacksPromise, BadTarget, BadPath, Uncovered, LacksLetters, Unfit, Inside, UnknownPromise, AsksPromises, IsLocked, UnknownLetter, AsksLetters, NoPlaceLeft, NumberTaken, NoProcessLeft, NoRoom}
+use Rattle.pua_why.specs.declared.told.Fault.TheVariants.{Ends, LacksPromises, LacksPromise, BadTarget, BadPath, Uncovered, LacksLetters}
+use Rattle.pua_why.specs.declared.told.Fault.TheVariants.{Unfit, Inside, UnknownPromise, AsksPromises, IsLocked, UnknownLetter, AsksLetters}
+use Rattle.pua_why.specs.declared.told.Fault.TheVariants.{NoPlaceLeft, NumberTaken, NoProcessLeft, NoRoom}
 use Rattle.pua_why.specs.declared.told.Reason.{Reason}
 use Rattle.pua_why.specs.declared.told.Reason.TheVariants.{NeverMade, Ended, Refused, Granted}
 use Rattle.pua_why.specs.declared.told.Fact.{Fact}

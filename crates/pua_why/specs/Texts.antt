@@ -1,10 +1,11 @@
 -- How reasons and facts are written.
-use Rattle.std.specs.Prelude.{ℕ, zero, suc, ◌+◌, Bool, true, false, List, [], ◌∷◌, ◌++◌, map, flat_map, length, ◌==◌, Option, Some, None, codes, decimal, unwrap_or}
+use Rattle.std.specs.Prelude.{ℕ, zero, suc, ◌+◌, Bool, true, false, List, [], ◌∷◌, ◌++◌, map, flat_map, length, ◌==◌, Option, Some, None}
+use Rattle.std.specs.Prelude.{codes, decimal, unwrap_or}
 use Rattle.pua_tree.specs.Limits.{most_name}
 use Rattle.pua_tree.specs.Names.{same_bytes}
 use Rattle.pua_tree.specs.Spelling.{spelling}
 use Rattle.pua_tree.specs.Tree.{Tree, Spot, spot_of, look, target_at}
-use Rattle.pua_path.specs.Limits.{link_limit, path_limit}
+use Rattle.pua_path.specs.Limits.{most_links, most_path}
 use Rattle.pua_path.specs.declared.found.Found.{Found}
 use Rattle.pua_path.specs.declared.found.Found.TheVariants.{Whole, Slot}
 use Rattle.pua_path.specs.declared.traced.Stop.TheVariants.{NoEntry, NoDirectory, LinkBeyond}
@@ -12,32 +13,35 @@ use Rattle.pua_path.specs.declared.traced.TextFault.{TextFault}
 use Rattle.pua_path.specs.declared.traced.TextFault.TheVariants.{EmptyText, LongText, LongComponent, NulInText}
 use Rattle.pua_path.specs.declared.traced.PathFault.{PathFault}
 use Rattle.pua_path.specs.declared.traced.PathFault.TheVariants.{InText, NoStart, Stops}
-use Rattle.pua_calls.specs.Promises.{keywords_of, letters_of}
+use Rattle.pua_calls.specs.Promises.{keywords_of, perm_letters}
 use Rattle.pua_calls.specs.Calls.{CallTable}
-use Rattle.pua_policy.specs.History.{History, kept}
-use Rattle.pua_policy.specs.Limits.{place_limit}
+use Rattle.pua_policy.specs.History.{History, perms_kept}
+use Rattle.pua_policy.specs.Limits.{most_places}
 use Rattle.pua_policy.specs.Verdict.{Object, IsDir, IsFile, IsProg, IsLink, IsMissing, object_of}
 use Rattle.pua_policy.specs.declared.place.Place.{Place}
 use Rattle.pua_policy.specs.declared.place.Place.TheVariants as place
 use Rattle.pua_script.specs.AnswerTexts.{answer_text}
-use Rattle.pua_script.specs.Limits.{process_limit}
+use Rattle.pua_script.specs.Limits.{most_processes}
 use Rattle.pua_script.specs.Requests.{Asked}
 use Rattle.pua_script.specs.Replay.{World, history_of, world_after}
 use Rattle.pua_policy.specs.declared.reason.Covering.{Covering}
 use Rattle.pua_policy.specs.declared.reason.Covering.TheVariants.{InView, NoneOver, By}
 use Rattle.pua_script.specs.Decide.{Side, Sole, Old, New}
 use Rattle.pua_policy.specs.declared.reason.Misfit.{Misfit}
-use Rattle.pua_policy.specs.declared.reason.Misfit.TheVariants.{Missing, Exists, IsDirectory, IsNoFile, IsNoDirectory, IsNoLink, IsNoProgram, IsNotEmpty, ByDot, ByDotDot, ByNothing}
-use Rattle.pua_why.specs.Reasons.{Fault, Ends, LacksPromises, BadTarget, BadPath, Uncovered, LacksLetters, Unfit, Inside, UnknownPromise, AsksPromises, IsLocked, UnknownLetter, AsksLetters, NoPlaceLeft, NumberTaken, NoProcessLeft, NoRoom, Reason, NeverMade, Ended, Refused, Granted, reason, answer_of}
+use Rattle.pua_policy.specs.declared.reason.Misfit.TheVariants.{Missing, Exists, IsDirectory, IsNoFile, IsNoDirectory, IsNoLink}
+use Rattle.pua_policy.specs.declared.reason.Misfit.TheVariants.{IsNoProgram, IsNotEmpty, ByDot, ByDotDot, ByNothing}
+use Rattle.pua_why.specs.Reasons.{Fault, Ends, LacksPromises, BadTarget, BadPath, Uncovered, LacksLetters, Unfit, Inside, UnknownPromise}
+use Rattle.pua_why.specs.Reasons.{AsksPromises, IsLocked, UnknownLetter, AsksLetters, NoPlaceLeft, NumberTaken, NoProcessLeft, NoRoom}
+use Rattle.pua_why.specs.Reasons.{Reason, NeverMade, Ended, Refused, Granted, reason, answer_of}
 use Rattle.pua_why.specs.Keys.{reason_key}
 use Rattle.pua_why.specs.Since.{Test, since}
 use Rattle.pua_why.specs.Facts.{Fact, Needs, Follows, Names, Under, facts_of}
 
 -- words with something between them
-abbrev pub joined : List ℕ → List (List ℕ) → List ℕ
-joined between [] = []
-joined between (word ∷ []) = word
-joined between (word ∷ other ∷ more) = word ++ between ++ joined between (other ∷ more)
+abbrev pub joined_words : List ℕ → List (List ℕ) → List ℕ
+joined_words between [] = []
+joined_words between (word ∷ []) = word
+joined_words between (word ∷ other ∷ more) = word ++ between ++ joined_words between (other ∷ more)
 
 -- `=` is the empty text, as in scripts
 abbrev pub or_equals : List ℕ → List ℕ
@@ -45,29 +49,29 @@ or_equals [] = codes "="
 or_equals (b ∷ more) = b ∷ more
 
 unfoldable pub promises_text : ℕ → List ℕ
-promises_text set = or_equals (joined (codes ",") (keywords_of set))
+promises_text set = or_equals (joined_words (codes ",") (keywords_of set))
 
 abbrev pub letters_text : ℕ → List ℕ
-letters_text set = or_equals (letters_of set)
+letters_text set = or_equals (perm_letters set)
 
 -- the names that lead to a spot, where those to its directory are these
-abbrev pub names_at : Option Spot → (ℕ → List (List ℕ)) → List (List ℕ)
-names_at None names = []
-names_at (Some spot) names = names spot.0 ++ spot.1 ∷ []
+abbrev pub names_to_spot : Option Spot → (ℕ → List (List ℕ)) → List (List ℕ)
+names_to_spot None names = []
+names_to_spot (Some spot) names = names spot.0 ++ spot.1 ∷ []
 
 -- the names that lead from the root to a directory, at most so many
 abbrev pub names_to : ℕ → Tree → ℕ → List (List ℕ)
 names_to zero t dir = []
 names_to (suc n) t zero = []
-names_to (suc n) t (suc d) = names_at (spot_of t (suc d)) (names_to n t)
+names_to (suc n) t (suc d) = names_to_spot (spot_of t (suc d)) (names_to n t)
 
 -- a slash and a name, for each
-abbrev pub slashed : List (List ℕ) → List ℕ
-slashed names = flat_map (λ name. 47 ∷ spelling name) names
+abbrev pub slashed_names : List (List ℕ) → List ℕ
+slashed_names names = flat_map (λ name. 47 ∷ spelling name) names
 
 abbrev pub path_text : List (List ℕ) → List ℕ
 path_text [] = codes "/"
-path_text (name ∷ names) = slashed (name ∷ names)
+path_text (name ∷ names) = slashed_names (name ∷ names)
 
 -- no directory stands deeper than there are rows
 abbrev pub dir_names : Tree → ℕ → List (List ℕ)
@@ -94,7 +98,7 @@ side_text New = codes "new: "
 
 abbrev pub text_fault_text : TextFault → List ℕ
 text_fault_text EmptyText = codes "is empty"
-text_fault_text LongText = codes "has more than " ++ decimal path_limit ++ codes " bytes"
+text_fault_text LongText = codes "has more than " ++ decimal most_path ++ codes " bytes"
 text_fault_text LongComponent = codes "has a component of more than " ++ decimal most_name ++ codes " bytes"
 text_fault_text NulInText = codes "has a NUL"
 
@@ -103,7 +107,7 @@ path_fault_text t (InText fault) = codes "path " ++ text_fault_text fault
 path_fault_text t NoStart = codes "working directory is removed"
 path_fault_text t (Stops (NoEntry spot)) = spot_text t spot ++ codes " is missing"
 path_fault_text t (Stops (NoDirectory spot)) = spot_text t spot ++ codes " is no directory"
-path_fault_text t (Stops (LinkBeyond spot)) = spot_text t spot ++ codes " is link " ++ decimal (link_limit + 1)
+path_fault_text t (Stops (LinkBeyond spot)) = spot_text t spot ++ codes " is link " ++ decimal (most_links + 1)
 
 abbrev pub misfit_text : List ℕ → Misfit → List ℕ
 misfit_text object Missing = object ++ codes " is missing"
@@ -127,11 +131,12 @@ of_exec_text true = codes " in execpromises"
 
 abbrev pub fault_text : Tree → Fault → List ℕ
 fault_text t Ends = codes "ended"
-fault_text t (LacksPromises error sets) = joined (codes ", ") (map (λ set. codes "no " ++ promises_text set) sets)
+fault_text t (LacksPromises error sets) = joined_words (codes ", ") (map (λ set. codes "no " ++ promises_text set) sets)
 fault_text t (BadTarget fault) = codes "target " ++ text_fault_text fault
 fault_text t (BadPath side fault) = side_text side ++ path_fault_text t fault
 fault_text t (Uncovered side object) = side_text side ++ codes "no veil on " ++ found_text t object ++ codes " or above"
-fault_text t (LacksLetters side place given lacks) = side_text side ++ codes "no " ++ letters_text lacks ++ codes " in " ++ veil_text t place given
+fault_text t (LacksLetters side place given lacks) =
+    side_text side ++ codes "no " ++ letters_text lacks ++ codes " in " ++ veil_text t place given
 fault_text t (Unfit side object misfit) = side_text side ++ misfit_text (found_text t object) misfit
 fault_text t (Inside old new) = side_text New ++ found_text t new ++ codes " is inside " ++ found_text t old
 fault_text t (UnknownPromise of_exec) = codes "unknown promise" ++ of_exec_text of_exec
@@ -139,9 +144,9 @@ fault_text t (AsksPromises of_exec lacks) = codes "no " ++ promises_text lacks +
 fault_text t IsLocked = codes "locked"
 fault_text t UnknownLetter = codes "unknown letter"
 fault_text t (AsksLetters place given lacks) = codes "no " ++ letters_text lacks ++ codes " in " ++ veil_text t place given
-fault_text t NoPlaceLeft = decimal place_limit ++ codes " places have veils"
+fault_text t NoPlaceLeft = decimal most_places ++ codes " places have veils"
 fault_text t (NumberTaken n) = codes "process " ++ decimal n ++ codes " exists"
-fault_text t NoProcessLeft = decimal process_limit ++ codes " processes were made"
+fault_text t NoProcessLeft = decimal most_processes ++ codes " processes were made"
 fault_text t NoRoom = codes "tree is full"
 
 -- the words of a reason; what is allowed has none
@@ -152,12 +157,12 @@ reason_text t (Refused fault) = fault_text t fault
 reason_text t Granted = []
 
 -- an answer and the words of its reason
-abbrev pub spaced : List ℕ → List ℕ
-spaced [] = []
-spaced (b ∷ more) = 32 ∷ b ∷ more
+abbrev pub spaced_words : List ℕ → List ℕ
+spaced_words [] = []
+spaced_words (b ∷ more) = 32 ∷ b ∷ more
 
-abbrev pub words : CallTable → World → Asked → List ℕ
-words table w ask = answer_text (answer_of (reason table w ask)) ++ spaced (reason_text w.tree (reason table w ask))
+abbrev pub answer_words : CallTable → World → Asked → List ℕ
+answer_words table w ask = answer_text (answer_of (reason table w ask)) ++ spaced_words (reason_text w.tree (reason table w ask))
 
 -- the same request, by whoever the process was, has a reason with this key
 abbrev pub has_key : CallTable → Asked → List ℕ → Test
@@ -168,7 +173,8 @@ abbrev pub since_text : Option ℕ → List ℕ
 since_text None = []
 since_text (Some line) = codes " since line " ++ decimal line
 
--- since which line a reason is told to be so: what is granted has no words, that a process was never made was so from the start, and since when a tree is full is not told
+-- since which line a reason is told to be so: what is granted has no words, that a process was never made was so from
+-- the start, and since when a tree is full is not told
 abbrev pub date_of : Reason → Option ℕ → Option ℕ
 date_of Granted line = None
 date_of NeverMade line = None
@@ -183,7 +189,7 @@ reason_since table w asks ask reason = date_of reason (since (has_key table ask 
 abbrev pub answer_why : CallTable → World → List Asked → Asked → List ℕ
 answer_why table w asks ask =
     let left : World = world_after table w asks in
-    words table left ask ++ since_text (reason_since table w asks ask (reason table left ask))
+    answer_words table left ask ++ since_text (reason_since table w asks ask (reason table left ask))
 
 -- a line for each request after the first ones, the next of them being line n
 abbrev pub why_lines : CallTable → World → List Asked → ℕ → List Asked → List (List ℕ)
@@ -191,8 +197,8 @@ why_lines table w done n [] = []
 why_lines table w done n (ask ∷ asks) = (decimal n ++ 32 ∷ answer_why table w done ask) ∷ why_lines table w (done ++ ask ∷ []) (suc n) asks
 
 -- a veil has been on a place, with these permissions
-abbrev pub has_veil : Place → ℕ → Test
-has_veil place given w process = by (history_of w process)
+abbrev pub has_veil_on : Place → ℕ → Test
+has_veil_on place given w process = by (history_of w process)
   where
     is : Option ℕ → Bool
     is None = false
@@ -200,7 +206,7 @@ has_veil place given w process = by (history_of w process)
 
     by : Option History → Bool
     by None = false
-    by (Some h) = is (kept h place)
+    by (Some h) = is (perms_kept h place)
 
 abbrev pub kind_text : Object → List ℕ
 kind_text (IsDir dir way) = codes "dir"
@@ -225,7 +231,7 @@ fact_dated t line (Names side object) = side_text side ++ codes "names " ++ kind
 fact_dated t line (Under side over) = side_text side ++ covering_dated t line over
 
 abbrev pub veil_since : CallTable → World → List Asked → Asked → Fact → Option ℕ
-veil_since table w asks ask (Under side (By place given)) = since (has_veil place given) table w 1 asks ask.process
+veil_since table w asks ask (Under side (By place given)) = since (has_veil_on place given) table w 1 asks ask.process
 veil_since table w asks ask _ = None
 
 -- a fact of a request after these ones
@@ -234,4 +240,5 @@ fact_text table w asks ask fact = fact_dated (world_after table w asks).tree (ve
 
 -- all that decides one request after the others, and its answer
 abbrev pub chain : CallTable → World → List Asked → Asked → List (List ℕ)
-chain table w asks ask = map (fact_text table w asks ask) (facts_of table (world_after table w asks) ask) ++ answer_why table w asks ask ∷ []
+chain table w asks ask = map (fact_text table w asks ask) (facts_of table (world_after table w asks) ask) ++ answer_why table w asks ask
+    ∷ []

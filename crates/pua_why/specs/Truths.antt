@@ -16,13 +16,15 @@ use Rattle.pua_path.specs.declared.traced.PathFault.{PathFault}
 use Rattle.pua_calls.specs.Promises.{holds, proc, unveil}
 use Rattle.pua_policy.specs.ReasonLaws.{LackSome}
 use Rattle.pua_calls.specs.Calls.{CallTable, PairRule}
-use Rattle.pua_policy.specs.History.{History, pledged, held_for_exec, has_error, is_within, is_ended, is_locked, kept, veils, working_dir, place_limit}
+use Rattle.pua_policy.specs.History.{History, pledged_set, held_for_exec, has_error, is_within, is_ended, is_locked, perms_kept, veils}
+use Rattle.pua_policy.specs.History.{working_dir, most_places}
 use Rattle.pua_calls.specs.declared.call.Call.TheVariants as call
-use Rattle.pua_script.specs.Limits.{process_limit}
+use Rattle.pua_script.specs.Limits.{most_processes}
 use Rattle.pua_script.specs.Decide.{Change, CopyAs, Side, Sole, Old, New, given_set, is_unknown, is_whole}
 use Rattle.pua_policy.specs.declared.reason.Misfit.{Misfit}
-use Rattle.pua_policy.specs.declared.reason.Misfit.TheVariants.{Missing, Exists, IsDirectory, IsNoFile, IsNoDirectory, IsNotEmpty, ByDot, ByDotDot, ByNothing}
-use Rattle.pua_script.specs.Replay.{World, Fails, history_of, made}
+use Rattle.pua_policy.specs.declared.reason.Misfit.TheVariants.{Missing, Exists, IsDirectory, IsNoFile, IsNoDirectory, IsNotEmpty, ByDot}
+use Rattle.pua_policy.specs.declared.reason.Misfit.TheVariants.{ByDotDot, ByNothing}
+use Rattle.pua_script.specs.Replay.{World, Fails, history_of, change_effect}
 use Rattle.pua_script.specs.Laws.{LacksRoom}
 use Rattle.pua_script.specs.declared.request.Given.{Given}
 use Rattle.pua_script.specs.declared.request.Action.{Action}
@@ -30,7 +32,9 @@ use Rattle.pua_script.specs.declared.request.Action.TheVariants.{OnPath, Symlink
 use Rattle.pua_calls.specs.Promises.{lacking}
 use Rattle.pua_policy.specs.declared.reason.Covering.TheVariants.{NoneOver, By}
 use Rattle.pua_policy.specs.Reasons.{covering}
-use Rattle.pua_why.specs.Reasons.{Fault, Ends, LacksPromises, BadTarget, BadPath, Uncovered, LacksLetters, Unfit, Inside, UnknownPromise, AsksPromises, IsLocked, UnknownLetter, AsksLetters, NoPlaceLeft, NumberTaken, NoProcessLeft, NoRoom, beyond, reasoned, request_fault}
+use Rattle.pua_why.specs.Reasons.{Fault, Ends, LacksPromises, BadTarget, BadPath, Uncovered, LacksLetters, Unfit, Inside, UnknownPromise}
+use Rattle.pua_why.specs.Reasons.{AsksPromises, IsLocked, UnknownLetter, AsksLetters, NoPlaceLeft, NumberTaken, NoProcessLeft, NoRoom}
+use Rattle.pua_why.specs.Reasons.{beyond, change_or_fault, request_fault}
 use Rattle.pua_why.specs.Facts.{name_trace}
 use Rattle.pua_why.specs.Laws.{CallFaultHolds}
 
@@ -76,13 +80,16 @@ pub record IsInside (t : Tree) (old new : Found) : Type 0 where
 
 abbrev pub PairFaultHolds : PairRule → Tree → History → Ending → List ℕ → List ℕ → Fault → Type 0
 PairFaultHolds pair t h ending old new Ends = is_ended h ≡ true
-PairFaultHolds pair t h ending old new (LacksPromises error lacks) = LackSome h pair.old.needs.alternatives lacks ⊎ LackSome h pair.new.needs.alternatives lacks
+PairFaultHolds pair t h ending old new (LacksPromises error lacks) =
+    LackSome h pair.old.needs.alternatives lacks ⊎ LackSome h pair.new.needs.alternatives lacks
 PairFaultHolds pair t h ending old new (BadPath side fault) = side_outcome pair t h ending old new side ≡ Err fault
-PairFaultHolds pair t h ending old new (Uncovered side object) = (side_outcome pair t h ending old new side ≡ Ok object) × (covering t h object ≡ NoneOver)
+PairFaultHolds pair t h ending old new (Uncovered side object) = (side_outcome pair t h ending old new side ≡ Ok object) ×
+    (covering t h object ≡ NoneOver)
 PairFaultHolds pair t h ending old new (LacksLetters side place given lacks) =
     (object : Found) × (side_outcome pair t h ending old new side ≡ Ok object) × (covering t h object ≡ By place given)
     × (holds given (side_perms pair side) ≡ false) × (lacks ≡ lacking given (side_perms pair side))
-PairFaultHolds pair t h ending old new (Unfit side object wrong) = (side_outcome pair t h ending old new side ≡ Ok object) × PairMisfitHolds t object wrong
+PairFaultHolds pair t h ending old new (Unfit side object wrong) = (side_outcome pair t h ending old new side ≡ Ok object) ×
+    PairMisfitHolds t object wrong
 PairFaultHolds pair t h ending old new (Inside a b) =
     (side_outcome pair t h ending old new Old ≡ Ok a) × (side_outcome pair t h ending old new New ≡ Ok b) × IsInside t a b
 PairFaultHolds pair t h ending old new _ = ⊥
@@ -91,9 +98,10 @@ abbrev pub PledgeFaultHolds : History → Given → Given → Fault → Type 0
 PledgeFaultHolds h promises execpromises (UnknownPromise false) = is_unknown promises ≡ true
 PledgeFaultHolds h promises execpromises (UnknownPromise true) = is_unknown execpromises ≡ true
 PledgeFaultHolds h promises execpromises (AsksPromises false lacks) =
-    (has_error h ≡ false) × (is_within (given_set promises) (pledged h) ≡ false) × (lacks ≡ beyond (given_set promises) (pledged h))
+    (has_error h ≡ false) × (is_within (given_set promises) (pledged_set h) ≡ false) × (lacks ≡ beyond (given_set promises) (pledged_set h))
 PledgeFaultHolds h promises execpromises (AsksPromises true lacks) =
-    (has_error h ≡ false) × (is_within (given_set execpromises) (held_for_exec h) ≡ false) × (lacks ≡ beyond (given_set execpromises) (held_for_exec h))
+    (has_error h ≡ false) × (is_within (given_set execpromises) (held_for_exec h) ≡ false) ×
+    (lacks ≡ beyond (given_set execpromises) (held_for_exec h))
 PledgeFaultHolds h promises execpromises _ = ⊥
 
 abbrev pub UnveilFaultHolds : Tree → History → List ℕ → Option ℕ → Fault → Type 0
@@ -101,8 +109,8 @@ UnveilFaultHolds t h path letters IsLocked = is_locked h ≡ true
 UnveilFaultHolds t h path letters UnknownLetter = letters ≡ None
 UnveilFaultHolds t h path letters (BadPath Sole fault) = (trace_of_text t (working_dir h) ending.Dot path Followed).outcome ≡ Err fault
 UnveilFaultHolds t h path letters (AsksLetters place given lacks) =
-    (perms : ℕ) × (letters ≡ Some perms) × (kept h place ≡ Some given) × (holds given perms ≡ false) × (lacks ≡ lacking given perms)
-UnveilFaultHolds t h path letters NoPlaceLeft = nat_le place_limit (length (veils h)) ≡ true
+    (perms : ℕ) × (letters ≡ Some perms) × (perms_kept h place ≡ Some given) × (holds given perms ≡ false) × (lacks ≡ lacking given perms)
+UnveilFaultHolds t h path letters NoPlaceLeft = nat_le most_places (length (veils h)) ≡ true
 UnveilFaultHolds t h path letters fault = PromiseFaultHolds h (unveil ∷ []) fault
 
 -- what a fault of a check says is so
@@ -118,20 +126,21 @@ CheckFaultHolds table t h (Fork new) fault = PromiseFaultHolds h (proc ∷ []) f
 CheckFaultHolds table t h Exit fault = ⊥
 
 abbrev pub CheckFaultsHold : Type 0
-CheckFaultsHold = (table : CallTable) (t : Tree) (h : History) (action : Action) (fault : Fault) → reasoned table t h action ≡ Err fault → CheckFaultHolds table t h action fault
+CheckFaultsHold = (table : CallTable) (t : Tree) (h : History) (action : Action) (fault : Fault) →
+    change_or_fault table t h action ≡ Err fault → CheckFaultHolds table t h action fault
 
 -- what a fault of a change says is so
 abbrev pub RoomFaultHolds : World → History → Change → Fault → Type 0
 RoomFaultHolds w h (CopyAs new) (NumberTaken n) = (n ≡ new) × (is_some (history_of w new) ≡ true)
-RoomFaultHolds w h (CopyAs new) NoProcessLeft = nat_le process_limit (length w.histories) ≡ true
+RoomFaultHolds w h (CopyAs new) NoProcessLeft = nat_le most_processes (length w.histories) ≡ true
 RoomFaultHolds w h (CopyAs new) _ = ⊥
-RoomFaultHolds w h change NoRoom = made w h change ≡ Fails ENOSPC
+RoomFaultHolds w h change NoRoom = change_effect w h change ≡ Fails ENOSPC
 RoomFaultHolds w h _ _ = ⊥
 
 -- of a change that was granted
 pub record ChangeFaultHolds (table : CallTable) (w : World) (h : History) (action : Action) (fault : Fault) : Type 0 where
   pub change : Change
-  pub granted : reasoned table w.tree h action ≡ Ok change
+  pub granted : change_or_fault table w.tree h action ≡ Ok change
   pub holds : RoomFaultHolds w h change fault
 
 abbrev pub RequestFaultHolds : CallTable → World → History → Action → Fault → Type 0
@@ -139,8 +148,10 @@ RequestFaultHolds table w h action fault = CheckFaultHolds table w.tree h action
 
 -- what a fault says is so, and a request has no other faults than its own
 abbrev pub RequestFaultsHold : Type 0
-RequestFaultsHold = (table : CallTable) (w : World) (h : History) (action : Action) (fault : Fault) → request_fault table w h action ≡ Some fault → RequestFaultHolds table w h action fault
+RequestFaultsHold = (table : CallTable) (w : World) (h : History) (action : Action) (fault : Fault) →
+    request_fault table w h action ≡ Some fault → RequestFaultHolds table w h action fault
 
 -- a tree that is told to be full lacks the room that the change wants
 abbrev pub FullTreesAreFull : Type 0
-FullTreesAreFull = (table : CallTable) (w : World) (h : History) (action : Action) → WellFormed w.tree → request_fault table w h action ≡ Some NoRoom → LacksRoom table w.tree h action
+FullTreesAreFull = (table : CallTable) (w : World) (h : History) (action : Action) → WellFormed w.tree →
+    request_fault table w h action ≡ Some NoRoom → LacksRoom table w.tree h action

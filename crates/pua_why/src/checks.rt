@@ -4,23 +4,25 @@ ghost use Rattle.std.specs.Prelude.{◌≡◌, ◌∷◌, [], ℕ, IfOk, Ok, Som
 ghost use Rattle.pua_path.specs.Fits.{FoundFits, StandsAsNamed};
 ghost use Rattle.pua_path.specs.Traces.{trace_of_text};
 ghost use Rattle.pua_path.specs.declared.found.Found as founds;
-ghost use Rattle.pua_policy.specs.History.{History, StandsFor};
-ghost use Rattle.pua_policy.specs.Reasons.{covering, promising};
+ghost use Rattle.pua_policy.specs.History.{veil_at};
+ghost use Rattle.pua_policy.specs.Reasons.{covering_on, promising_on};
 ghost use Rattle.pua_policy.specs.Verdict.{place_of};
 ghost use Rattle.pua_policy.specs.declared.reason.Covering.TheVariants.{By};
-ghost use Rattle.pua_script.specs.Decide.{Change, call_by, object_by, symlink_by, unveil_by, veil_by};
+ghost use Rattle.pua_script.specs.Decide.{Change, call_by, object_by, symlink_by, unveil_by};
+ghost use Rattle.pua_script.specs.Decide.{veil_by};
 ghost use Rattle.pua_why.specs.Checked.{refused_by};
-ghost use Rattle.pua_why.specs.Reasons.{faults, place_beyond, uncovered, unpromised, unveil_beyond};
+ghost use Rattle.pua_why.specs.Reasons.{faults, faults_on, place_beyond, uncovered_fault};
+ghost use Rattle.pua_why.specs.Reasons.{unpromised_fault, unveil_beyond_on};
 ghost use Rattle.pua_why.specs.Seen.{fault_seen, side_seen};
 
 use crate::told::{Fault, Side};
-use pua_calls::needs::{ending, need};
+use pua_calls::needs::ending;
 use pua_calls::{Call, CallTable, Perms, Promises};
 use pua_path::{
     Counted, Ending, Found, Last, Links, PathFault, PathText, Probe, text_fault, trace,
 };
 use pua_policy::judge::misfit;
-use pua_policy::{Covering, PLACE_LIMIT, Place, Process, Promising};
+use pua_policy::{Covering, MOST_PLACES, Place, Process, Promising};
 use pua_tree::{FileTree, NodeId, OutOfMemory};
 use std::alloc::Global;
 
@@ -52,8 +54,8 @@ pub(crate) fn traced<'t, P: Probe<'t>>(
 
 /// The fault of promises: none of these sets is held.
 pub(crate) fn promises_fault<'s>(process: &Process, sets: &'s [Promises]) -> Option<Fault<'s>>
-    ensures { (h : History) → StandsFor process.now h →
-        option_map fault_seen result ≡ unpromised (promising h sets.now) }
+    ensures { option_map fault_seen result
+        ≡ unpromised_fault (promising_on process.now sets.now) }
 {
     match process.promising(sets) {
         Promising::Holds(_) => None,
@@ -64,8 +66,8 @@ pub(crate) fn promises_fault<'s>(process: &Process, sets: &'s [Promises]) -> Opt
 
 /// The fault of promises: this one set is not held.
 pub(crate) fn promise_fault<'s>(process: &Process, set: Promises) -> Option<Fault<'s>>
-    ensures { (h : History) → StandsFor process.now h →
-        option_map fault_seen result ≡ unpromised (promising h (set ∷ [])) }
+    ensures { option_map fault_seen result
+        ≡ unpromised_fault (promising_on process.now (set ∷ [])) }
 {
     match process.promising(&[set]) {
         Promising::Holds(_) => None,
@@ -85,9 +87,9 @@ pub(crate) fn cover_fault<'s, 't, P: Probe<'t>>(
     found: &Found,
     perms: Perms,
 ) -> Option<Fault<'s>>
-    ensures exact { FoundFits (P.tree probe.old) found.now →
-        (h : History) → StandsFor process.now h → option_map fault_seen result
-        ≡ uncovered (side_seen side) found.now perms (covering (P.tree probe.old) h found.now) }
+    ensures exact { FoundFits (P.tree probe.old) found.now → option_map fault_seen result
+        ≡ uncovered_fault (side_seen side) found.now perms
+        (covering_on (P.tree probe.old) process.now found.now) }
     ensures tree { P.tree probe.new ≡ P.tree probe.old }
 {
     let over = process.covering(probe, found);
@@ -97,7 +99,7 @@ pub(crate) fn cover_fault<'s, 't, P: Probe<'t>>(
 /// The fault of an object that is covered so, where these permissions are needed.
 fn uncovered<'s>(side: Side, found: &Found, over: &Covering, perms: Perms) -> Option<Fault<'s>>
     ensures { option_map fault_seen result
-        ≡ uncovered (side_seen side) found.now perms over.now }
+        ≡ uncovered_fault (side_seen side) found.now perms over.now }
 {
     match over {
         Covering::InView => None,
@@ -109,7 +111,7 @@ fn uncovered<'s>(side: Side, found: &Found, over: &Covering, perms: Perms) -> Op
 /// The fault of an object whose veil is kept at this place, where these permissions are needed.
 fn lacking<'s>(side: Side, place: &Place, given: Perms, perms: Perms) -> Option<Fault<'s>>
     ensures { (object : founds.Found) → option_map fault_seen result
-        ≡ uncovered (side_seen side) object perms (By place.now given) }
+        ≡ uncovered_fault (side_seen side) object perms (By place.now given) }
 {
     if given.contains(perms) {
         return None;
@@ -131,13 +133,12 @@ fn object_fault<'s, T: FileTree>(
     path: &[u8],
     links: &mut Links,
 ) -> Option<Fault<'s>>
-    ensures exact { (h : History) → StandsFor process.now h →
-        (change : founds.Found → Change) → option_map fault_seen result
-        ≡ refused_by (object_by faults table.now (T.content tree.now) h call path.now
-        (λ object. Ok (change object))) }
+    ensures { (change : founds.Found → Change) → option_map fault_seen result
+        ≡ refused_by (object_by faults table.now (T.content tree.now) (faults_on process.now) call
+        path.now (λ object. Ok (change object))) }
 {
     let mut probe = Counted::new(tree);
-    let last = need(call).last;
+    let last = call.last();
     let found = match traced(&mut probe, process.dir(), path, ending(call), last, links) {
         Ok(found) => found,
         Err(fault) => return Some(Fault::BadPath(Side::Sole, fault)),
@@ -159,8 +160,9 @@ pub(crate) fn call_fault<'s, T: FileTree>(
     path: &[u8],
     links: &mut Links,
 ) -> Option<Fault<'s>>
-    ensures { (h : History) → StandsFor process.now h → option_map fault_seen result
-        ≡ refused_by (call_by faults table.now (T.content tree.now) h call path.now) }
+    ensures { option_map fault_seen result
+        ≡ refused_by (call_by faults table.now (T.content tree.now) (faults_on process.now) call
+        path.now) }
 {
     let fault = promises_fault(process, table.alternatives(call));
     if fault.is_some() {
@@ -178,8 +180,9 @@ pub(crate) fn symlink_fault<'s, T: FileTree>(
     path: &[u8],
     links: &mut Links,
 ) -> Option<Fault<'s>>
-    ensures { (h : History) → StandsFor process.now h → option_map fault_seen result
-        ≡ refused_by (symlink_by faults table.now (T.content tree.now) h target.now path.now) }
+    ensures { option_map fault_seen result
+        ≡ refused_by (symlink_by faults table.now (T.content tree.now) (faults_on process.now)
+        target.now path.now) }
 {
     let fault = promises_fault(process, table.alternatives(Call::Symlink));
     if fault.is_some() {
@@ -200,9 +203,9 @@ pub(crate) fn unveil_fault<'s, T: FileTree>(
     perms: Option<Perms>,
     links: &mut Links,
 ) -> Result<Option<Fault<'s>>, OutOfMemory>
-    ensures { IfOk result (λ fault. (h : History) → StandsFor process.now h →
-        option_map fault_seen fault
-        ≡ refused_by (unveil_by faults (T.content tree.now) h path.now perms)) }
+    ensures { IfOk result (λ fault. option_map fault_seen fault
+        ≡ refused_by (unveil_by faults (T.content tree.now) (faults_on process.now) path.now
+        perms)) }
 {
     let fault = promise_fault(process, Promises::UNVEIL);
     if fault.is_some() {
@@ -223,9 +226,9 @@ fn veil_fault<'s, T: FileTree>(
     perms: Option<Perms>,
     links: &mut Links,
 ) -> Result<Option<Fault<'s>>, OutOfMemory>
-    ensures { IfOk result (λ fault. (h : History) → StandsFor process.now h →
-        option_map fault_seen fault
-        ≡ refused_by (veil_by faults (T.content tree.now) h path.now perms)) }
+    ensures { IfOk result (λ fault. option_map fault_seen fault
+        ≡ refused_by (veil_by faults (T.content tree.now) (faults_on process.now) path.now
+        perms)) }
 {
     let Some(perms) = perms else {
         return Ok(Some(Fault::UnknownLetter));
@@ -251,8 +254,8 @@ fn place_fault<'s>(
     place: Place,
     perms: Perms,
 ) -> Result<Option<Fault<'s>>, OutOfMemory>
-    ensures { IfOk result (λ fault. (h : History) → StandsFor process.now h →
-        option_map fault_seen fault ≡ unveil_beyond h place perms) }
+    ensures { IfOk result (λ fault. option_map fault_seen fault
+        ≡ unveil_beyond_on process.now (veil_at process.now.veils) place perms) }
 {
     if process.locked() {
         return Ok(Some(Fault::IsLocked));
@@ -260,7 +263,7 @@ fn place_fault<'s>(
     if let Some(given) = process.kept(&place) {
         return Ok(beyond_kept(place, given, perms));
     }
-    if process.places(alloc)?.len() < PLACE_LIMIT {
+    if process.places(alloc)?.len() < MOST_PLACES {
         Ok(None)
     } else {
         Ok(Some(Fault::NoPlaceLeft))

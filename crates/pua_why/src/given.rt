@@ -1,20 +1,19 @@
 //! The checks of pledges and of locks, and of a further process.
 
 ghost use Rattle.std.specs.Prelude.{◌≡◌, ℕ, IfOk, option_map};
-ghost use Rattle.pua_policy.specs.History.{History, StandsFor};
 ghost use Rattle.pua_script.specs.Decide.{CopyAs, fork_by, given_set, is_unknown};
 ghost use Rattle.pua_script.specs.Decide.{lock_by, pledge_by};
 ghost use Rattle.pua_script.specs.Replay.{World as Replayed};
 ghost use Rattle.pua_script.specs.Worlds.{StandsForWorld};
 ghost use Rattle.pua_why.specs.Checked.{process_fault, refused_by};
-ghost use Rattle.pua_why.specs.Reasons.{asks_beyond, faults, pledge_beyond};
+ghost use Rattle.pua_why.specs.Reasons.{asks_beyond, faults, faults_on, pledge_beyond_on};
 ghost use Rattle.pua_why.specs.Seen.{fault_seen};
 
 use crate::checks::promise_fault;
 use crate::told::Fault;
 use pua_calls::Promises;
 use pua_policy::Process;
-use pua_script::{Given, PROCESS_LIMIT, World};
+use pua_script::{Given, MOST_PROCESSES, World};
 use pua_tree::{FileTree, OutOfMemory};
 use std::alloc::Global;
 
@@ -25,8 +24,8 @@ pub(crate) fn pledge_fault<'s>(
     promises: &Given,
     execpromises: &Given,
 ) -> Option<Fault<'s>>
-    ensures { (h : History) → StandsFor process.now h → option_map fault_seen result
-        ≡ refused_by (pledge_by faults h promises.now execpromises.now) }
+    ensures { option_map fault_seen result
+        ≡ refused_by (pledge_by faults (faults_on process.now) promises.now execpromises.now) }
 {
     if is_unknown(promises) {
         return Some(Fault::UnknownPromise { of_exec: false });
@@ -43,8 +42,7 @@ fn beyond_given<'s>(
     promises: Option<Promises>,
     execpromises: Option<Promises>,
 ) -> Option<Fault<'s>>
-    ensures { (h : History) → StandsFor process.now h →
-        option_map fault_seen result ≡ pledge_beyond h promises execpromises }
+    ensures { option_map fault_seen result ≡ pledge_beyond_on process.now promises execpromises }
 {
     if process.held().contains(Promises::ERROR) {
         return None;
@@ -75,16 +73,15 @@ fn asks_beyond<'s>(
 
 /// The fault of an unveil with two NULLs.
 pub(crate) fn lock_fault<'s>(process: &Process) -> Option<Fault<'s>>
-    ensures { (h : History) → StandsFor process.now h →
-        option_map fault_seen result ≡ refused_by (lock_by faults h) }
+    ensures { option_map fault_seen result ≡ refused_by (lock_by (faults_on process.now)) }
 {
     promise_fault(process, Promises::UNVEIL)
 }
 
 /// The fault of a fork: the promise.
 pub(crate) fn fork_fault<'s>(process: &Process) -> Option<Fault<'s>>
-    ensures { (h : History) (new : ℕ) → StandsFor process.now h →
-        option_map fault_seen result ≡ refused_by (fork_by faults h new) }
+    ensures { (new : ℕ) →
+        option_map fault_seen result ≡ refused_by (fork_by (faults_on process.now) new) }
 {
     promise_fault(process, Promises::PROC)
 }
@@ -101,7 +98,7 @@ pub(crate) fn process_fault<'s, T: FileTree>(
     if world.process(new).is_some() {
         return Ok(Some(Fault::NumberTaken(new)));
     }
-    if world.numbers(alloc)?.len() < PROCESS_LIMIT {
+    if world.numbers(alloc)?.len() < MOST_PROCESSES {
         Ok(None)
     } else {
         Ok(Some(Fault::NoProcessLeft))

@@ -7,12 +7,11 @@ ghost use Rattle.pua_tree.specs.Tree.{climb, is_dir};
 ghost use Rattle.pua_path.specs.Fits.{FoundFits, StandsAsNamed, node_named, spot_named};
 ghost use Rattle.pua_path.specs.declared.found.Found as founds;
 ghost use Rattle.pua_path.specs.declared.text.Ending.TheVariants as endings;
-ghost use Rattle.pua_policy.specs.History.{History, StandsFor};
 ghost use Rattle.pua_script.specs.Decide.{New, Outcome, covers_by, dots_by, inside_by, is_whole};
 ghost use Rattle.pua_script.specs.Decide.{kinds_by, link_by, objects_by, pair_by, rename_by};
 ghost use Rattle.pua_script.specs.Decide.{top_by, ways_by};
 ghost use Rattle.pua_why.specs.Checked.{refused_by};
-ghost use Rattle.pua_why.specs.Reasons.{Fault as Meant, faults};
+ghost use Rattle.pua_why.specs.Reasons.{Fault as Meant, faults, faults_on};
 ghost use Rattle.pua_why.specs.Seen.{fault_seen, on_found, side_seen};
 
 use crate::checks::{cover_fault, promises_fault, traced};
@@ -38,9 +37,10 @@ pub(crate) fn rename_fault<'s, T: FileTree>(
     new: &[u8],
     links: &mut Links,
 ) -> Option<Fault<'s>>
-    ensures { (h : History) → StandsFor process.now h → option_map fault_seen result
-        ≡ refused_by (pair_by faults table.now.rename (T.content tree.now) h endings.Dropped
-        old.now new.now (λ a b. rename_by faults (T.content tree.now) a b (node_named a))) }
+    ensures { option_map fault_seen result
+        ≡ refused_by (pair_by faults table.now.rename (T.content tree.now) (faults_on process.now)
+        endings.Dropped old.now new.now
+        (λ a b. rename_by faults (T.content tree.now) a b (node_named a))) }
 {
     match judged(
         tree,
@@ -65,9 +65,9 @@ pub(crate) fn link_fault<'s, T: FileTree>(
     new: &[u8],
     links: &mut Links,
 ) -> Option<Fault<'s>>
-    ensures { (h : History) → StandsFor process.now h → option_map fault_seen result
-        ≡ refused_by (pair_by faults table.now.link (T.content tree.now) h endings.Dot
-        old.now new.now (λ a b. link_by faults a b (node_named a))) }
+    ensures { option_map fault_seen result
+        ≡ refused_by (pair_by faults table.now.link (T.content tree.now) (faults_on process.now)
+        endings.Dot old.now new.now (λ a b. link_by faults a b (node_named a))) }
 {
     match judged(tree, table.link(), process, Ending::Dot, old, new, links) {
         Ok(pair) => tie_fault(&pair),
@@ -86,9 +86,9 @@ fn judged<'s, T: FileTree>(
     new: &[u8],
     links: &mut Links,
 ) -> Result<Pair, Fault<'s>>
-    ensures exact { (h : History) → StandsFor process.now h →
-        (further : founds.Found → founds.Found → Outcome Meant) →
-        pair_by faults need.now (T.content tree.now) h ending old.now new.now further
+    ensures exact { (further : founds.Found → founds.Found → Outcome Meant) →
+        pair_by faults need.now (T.content tree.now) (faults_on process.now) ending old.now new.now
+        further
         ≡ on_found result (λ pair. further pair.old pair.new) }
     ensures named { IfOk result (λ pair. StandsAsNamed (T.content tree.now) pair.new) }
 {
@@ -111,9 +111,9 @@ fn objects<'s, T: FileTree>(
     new: &[u8],
     links: &mut Links,
 ) -> Result<Pair, Fault<'s>>
-    ensures exact { (h : History) → StandsFor process.now h →
-        (further : founds.Found → founds.Found → Outcome Meant) →
-        objects_by faults need.now (T.content tree.now) h ending old.now new.now further
+    ensures exact { (further : founds.Found → founds.Found → Outcome Meant) →
+        objects_by faults need.now (T.content tree.now) (faults_on process.now) ending old.now
+        new.now further
         ≡ on_found result (λ pair. further pair.old pair.new) }
     ensures named { IfOk result (λ pair. StandsAsNamed (T.content tree.now) pair.new) }
 {
@@ -142,8 +142,8 @@ fn covers_fault<'s, 't, P: Probe<'t>>(
     new: &Found,
 ) -> Option<Fault<'s>>
     ensures { FoundFits (P.tree probe.old) old.now → FoundFits (P.tree probe.old) new.now →
-        (h : History) → StandsFor process.now h → option_map fault_seen result
-        ≡ covers_by faults need.now (P.tree probe.old) h old.now new.now }
+        option_map fault_seen result
+        ≡ covers_by need.now (P.tree probe.old) (faults_on process.now) old.now new.now }
 {
     let fault = cover_fault(probe, process, Side::Old, old, need.old_name().perms());
     if fault.is_some() {

@@ -14,12 +14,12 @@ ghost use Rattle.pua_script.specs.Worlds.{StandsForWorld};
 ghost use Rattle.pua_why.specs.Facts.{Fact as Meant, Follows, call_facts, call_trace, facts};
 ghost use Rattle.pua_why.specs.Facts.{facts_named, facts_of, facts_promised, facts_under};
 ghost use Rattle.pua_why.specs.Facts.{names_facts, pair_facts, unveil_facts};
-ghost use Rattle.pua_why.specs.Reasons.{uncovered};
+ghost use Rattle.pua_why.specs.Reasons.{uncovered_fault};
 ghost use Rattle.pua_why.specs.Seen.{fact_seen, on_named_fact, side_seen};
 
 use crate::checks::traced;
 use crate::told::{Fact, Side};
-use pua_calls::needs::{ending, need};
+use pua_calls::needs::ending;
 use pua_calls::{Call, CallTable, PairNeed, Perms, Promises};
 use pua_path::{Counted, Ending, Found, Last, Links, Probe, Spot, Way};
 use pua_policy::{Covering, Place, Process, Promising};
@@ -144,7 +144,7 @@ impl Passed {
             facts_under Sole (T.content tree.now) h object (rule_of table.now call).perms [])) }
     {
         let mut probe = Counted::new(tree);
-        let (dir, last) = (process.dir(), need(call).last);
+        let (dir, last) = (process.dir(), call.last());
         match self.add_name(&mut probe, Side::Sole, dir, path, ending(call), last)? {
             Some(found) => {
                 let perms = table.perms(call);
@@ -336,7 +336,7 @@ impl Passed {
 /// Whether what covers an object leaves it these permissions.
 fn leaves(over: &Covering, perms: Perms) -> bool
     ensures { (side : Seen) (object : founds.Found) →
-        result ≡ is_none (uncovered side object perms over.now) }
+        result ≡ is_none (uncovered_fault side object perms over.now) }
 {
     match over {
         Covering::InView => true,

@@ -2,10 +2,11 @@
 
 ghost use Rattle.std.specs.Prelude.{◌≡◌, IfOk, None, option_map};
 ghost use Rattle.pua_policy.specs.History.{History, StandsFor};
+ghost use Rattle.pua_script.specs.Decide.{decide_by};
 ghost use Rattle.pua_script.specs.Replay.{World as Replayed, apply};
 ghost use Rattle.pua_script.specs.Worlds.{StandsForWorld};
-ghost use Rattle.pua_why.specs.Checked.{checked, checks_fault, granted_by, refused_by};
-ghost use Rattle.pua_why.specs.Reasons.{reason, reasoned};
+ghost use Rattle.pua_why.specs.Checked.{reason_checked, checks_fault, granted_by, refused_by};
+ghost use Rattle.pua_why.specs.Reasons.{change_or_fault, faults, faults_on, reason};
 ghost use Rattle.pua_why.specs.Seen.{fault_seen, reason_seen};
 
 use crate::checks::{call_fault, symlink_fault, unveil_fault};
@@ -31,7 +32,7 @@ pub fn checked<'w, T: FileTree>(
 ) -> Result<Reason<'w>, OutOfMemory>
     ensures { IfOk result (λ reason. (w : Replayed) → StandsForWorld world.now w →
         reason_seen reason
-        ≡ checked world.now.table w (record { process = number; action = action.now })) }
+        ≡ reason_checked world.now.table w (record { process = number; action = action.now })) }
 {
     let Some(process) = world.process(number) else {
         return Ok(Reason::NeverMade);
@@ -81,6 +82,7 @@ fn granted_by<'s>(answer: Answer) -> Reason<'s>
 }
 
 /// The check of a living process's request that fails.
+#[tactic(auto, using(crate::proofs::Needing::faults_stand))]
 fn request_fault<'w, T: FileTree>(
     alloc: Global,
     world: &'w World<T>,
@@ -89,7 +91,7 @@ fn request_fault<'w, T: FileTree>(
 ) -> Result<Option<Fault<'w>>, OutOfMemory>
     ensures { IfOk result (λ fault. (w : Replayed) (h : History) →
         StandsForWorld world.now w → StandsFor process.now h → option_map fault_seen fault
-        ≡ checks_fault w (reasoned world.now.table w.tree h action.now)) }
+        ≡ checks_fault w (change_or_fault world.now.table w.tree h action.now)) }
 {
     match fault_of(alloc, world.tree(), world.table(), process, action) {
         Ok(None) => further_fault(alloc, world, action),
@@ -106,9 +108,9 @@ fn further_fault<'s, T: FileTree>(
     action: &Action,
 ) -> Result<Option<Fault<'s>>, OutOfMemory>
     ensures { IfOk result (λ fault. (w : Replayed) (h : History) → StandsForWorld world.now w →
-        None ≡ refused_by (reasoned world.now.table w.tree h action.now) →
+        None ≡ refused_by (change_or_fault world.now.table w.tree h action.now) →
         option_map fault_seen fault
-        ≡ checks_fault w (reasoned world.now.table w.tree h action.now)) }
+        ≡ checks_fault w (change_or_fault world.now.table w.tree h action.now)) }
 {
     match action {
         Action::Fork(new) => process_fault(alloc, world, *new),
@@ -124,9 +126,9 @@ fn fault_of<'s, T: FileTree>(
     process: &Process,
     action: &Action,
 ) -> Result<Option<Fault<'s>>, OutOfMemory>
-    ensures { IfOk result (λ fault. (h : History) → StandsFor process.now h →
-        option_map fault_seen fault
-        ≡ refused_by (reasoned table.now (T.content tree.now) h action.now)) }
+    ensures { IfOk result (λ fault. option_map fault_seen fault
+        ≡ refused_by (decide_by faults table.now (T.content tree.now) (faults_on process.now)
+        action.now)) }
 {
     let mut links = Links::new(alloc)?;
     match action {

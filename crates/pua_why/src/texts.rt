@@ -8,7 +8,8 @@ ghost use Rattle.pua_path.specs.declared.traced.PathFault.TheVariants as faults;
 ghost use Rattle.pua_script.specs.Decide.{New};
 ghost use Rattle.pua_why.specs.Seen.{fact_seen, fault_seen, reason_seen, side_seen};
 ghost use Rattle.pua_policy.specs.Verdict.{object_of};
-ghost use Rattle.pua_why.specs.Texts.{covering_dated, fact_dated, fault_text, found_text, joined};
+ghost use Rattle.pua_why.specs.Texts.{covering_dated, fact_dated, fault_text, found_text};
+ghost use Rattle.pua_why.specs.Texts.{joined_words};
 ghost use Rattle.pua_why.specs.Texts.{kind_text, letters_text, misfit_text, of_exec_text};
 ghost use Rattle.pua_why.specs.Texts.{or_equals, path_fault_text, place_text, promises_text};
 ghost use Rattle.pua_why.specs.Texts.{reason_text, side_text, since_text, spot_text, target_text};
@@ -17,9 +18,9 @@ ghost use Rattle.pua_why.specs.Texts.{text_fault_text, veil_text};
 use crate::told::{Fact, Fault, Reason, Side};
 use crate::tree_paths::{TreePaths, push_spelled};
 use pua_calls::{Perms, Promises};
-use pua_path::{Found, PATH_LIMIT, PathFault, Spot, Stop, TextFault};
-use pua_policy::{Covering, Misfit, PLACE_LIMIT, Place};
-use pua_script::PROCESS_LIMIT;
+use pua_path::{Found, MOST_PATH, PathFault, Spot, Stop, TextFault};
+use pua_policy::{Covering, MOST_PLACES, Misfit, Place};
+use pua_script::MOST_PROCESSES;
 use pua_tree::{FileTree, Kind, Name, NodeId};
 use std::alloc::{AllocError, Global};
 use std::fmt::Write;
@@ -84,9 +85,9 @@ fn push_fault(
             given,
             lacks,
         } => push_letters(text, paths, place, given, lacks),
-        Fault::NoPlaceLeft => write!(text, "{PLACE_LIMIT} places have veils"),
+        Fault::NoPlaceLeft => write!(text, "{MOST_PLACES} places have veils"),
         Fault::NumberTaken(number) => write!(text, "process {number} exists"),
-        Fault::NoProcessLeft => write!(text, "{PROCESS_LIMIT} processes were made"),
+        Fault::NoProcessLeft => write!(text, "{MOST_PROCESSES} processes were made"),
         Fault::NoRoom => text.push_str("tree is full"),
     }
 }
@@ -109,7 +110,8 @@ fn push_lacks(
     held: Promises,
     sets: &[Promises],
 ) -> Result<(), AllocError>
-    ensures { OnOk result (string_bytes text.new ≡ string_bytes text.old ++ joined (codes ", ")
+    ensures { OnOk result
+        (string_bytes text.new ≡ string_bytes text.old ++ joined_words (codes ", ")
         (map (λ set. codes "no " ++ promises_text set) (map (lacking held) sets.now))) }
 {
     let mut is_first = true;
@@ -161,7 +163,7 @@ fn push_promises(alloc: Global, text: &mut String, promises: Promises) -> Result
 #[tactic(auto, using(crate::proofs::Joining::joined_is))]
 fn joined(alloc: Global, names: &[&str]) -> Result<String, AllocError>
     ensures { IfOk result (λ text. string_bytes text
-        ≡ joined (codes ",") (map (λ name. name.now) names.now)) }
+        ≡ joined_words (codes ",") (map (λ name. name.now) names.now)) }
 {
     let mut text = String::new(alloc);
     let mut is_first = true;
@@ -268,7 +270,7 @@ fn push_text_words(text: &mut String, fault: TextFault) -> Result<(), AllocError
 {
     match fault {
         TextFault::EmptyText => text.push_str("is empty"),
-        TextFault::LongText => write!(text, "has more than {PATH_LIMIT} bytes"),
+        TextFault::LongText => write!(text, "has more than {MOST_PATH} bytes"),
         TextFault::LongComponent => {
             write!(text, "has a component of more than {} bytes", Name::MOST)
         }

@@ -5,7 +5,7 @@ ghost use Rattle.std.specs.Prelude.{map, option_map, reverse, string_bytes};
 ghost use Rattle.pua_tree.specs.LentRows.{lent_entry};
 ghost use Rattle.pua_tree.specs.Spelling.{byte_spelling, spelling};
 ghost use Rattle.pua_tree.specs.Tree.{Tree, spot_of};
-ghost use Rattle.pua_why.specs.Texts.{dir_names, dir_text, slashed, spot_text};
+ghost use Rattle.pua_why.specs.Texts.{dir_names, dir_text, slashed_names, spot_text};
 
 use pua_tree::{FileTree, LentRow, Name, NodeId, OutOfMemory};
 use std::alloc::{AllocError, Global};
@@ -117,7 +117,7 @@ fn row_of<'r, 't>(rows: &'r [LentRow<'t>], dir: NodeId) -> Option<&'r LentRow<'t
 /// Adds a slash and a name as it is spelled, for each of these.
 fn push_names(text: &mut String, names: &[&Name]) -> Result<(), AllocError>
     ensures { OnOk result (string_bytes text.new
-        ≡ string_bytes text.old ++ slashed (map (λ name. name.now) names.now)) }
+        ≡ string_bytes text.old ++ slashed_names (map (λ name. name.now) names.now)) }
 {
     for name in names {
         push_name(text, name)?;

@@ -4,25 +4,26 @@ use Rattle.pua_words.specs.declared.command.Text.{Text}
 use Rattle.pua_words.specs.declared.command.Text.TheVariants.{Run, RunWhy, Why, Audit, Objects, ObjectsWhy, Ever}
 use Rattle.pua_words.specs.declared.command.Processes.{Processes}
 use Rattle.pua_words.specs.declared.command.Processes.TheVariants.{One, All}
-use Rattle.pua_words.specs.declared.words.TheConstants.{MOST_PROCESS}
+use Rattle.pua_words.specs.declared.words.TheConstants.{MOST_NUMBER}
 
 -- a process has a number from 1 to 999,999
 abbrev pub IsProcessNumber : ℕ → Type 0
-IsProcessNumber n = (1 ≤ n) × (n ≤ MOST_PROCESS)
+IsProcessNumber n = (1 ≤ n) × (n ≤ MOST_NUMBER)
 
 -- a list is asked of a process that may have been made, or of all
-abbrev pub AreSound : Processes → Type 0
-AreSound (One process) = IsProcessNumber process
-AreSound All = ⊤
+abbrev pub MayBeAsked : Processes → Type 0
+MayBeAsked (One process) = IsProcessNumber process
+MayBeAsked All = ⊤
 
--- an audit is asked of a process that may have been made, and so is a list for ever, a single request, and a list of objects unless it is asked of all
+-- an audit is asked of a process that may have been made, and so is a list for ever, a single request, and a list of
+-- objects unless it is asked of all
 abbrev pub AsksSoundly : Text → Type 0
 AsksSoundly Run = ⊤
 AsksSoundly RunWhy = ⊤
 AsksSoundly (Why words) = IsProcessNumber words.process
 AsksSoundly (Audit words) = IsProcessNumber words.process
-AsksSoundly (Objects words) = AreSound words.processes
-AsksSoundly (ObjectsWhy words) = AreSound words.processes
+AsksSoundly (Objects words) = MayBeAsked words.processes
+AsksSoundly (ObjectsWhy words) = MayBeAsked words.processes
 AsksSoundly (Ever words) = IsProcessNumber words.process
 
 -- the text of a run that is asked for, with reasons or without
@@ -30,7 +31,8 @@ abbrev pub run_asked : Bool → Text
 run_asked false = Run
 run_asked true = RunWhy
 
--- the list that is asked for of these processes, of now or for ever, with reasons or without; all have no list for ever together, and a list for ever has no reasons
+-- the list that is asked for of these processes, of now or for ever, with reasons or without; all have no list for ever
+-- together, and a list for ever has no reasons
 abbrev pub list_asked : Bool → Bool → Processes → Option Text
 list_asked false false processes = Some (Objects (record { processes = processes }))
 list_asked false true processes = Some (ObjectsWhy (record { processes = processes }))

@@ -1,7 +1,7 @@
 //! Which line tells how the program is used.
 
 ghost use Rattle.std.specs.Prelude.{◌≡◌, map};
-ghost use Rattle.pua_words.specs.Usages.{line_for, line_text};
+ghost use Rattle.pua_words.specs.Usages.{line_for, usage_line_text};
 
 use crate::help;
 
@@ -31,7 +31,7 @@ impl UsageLine {
 
     /// The line, without its end.
     pub fn text(self) -> &'static str
-        ensures { result.now ≡ line_text self }
+        ensures { result.now ≡ usage_line_text self }
     {
         match self {
             UsageLine::Program => help::PROGRAM_USAGE,

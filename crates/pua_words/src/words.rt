@@ -1,7 +1,8 @@
 //! The words of the command line, read by `clap`.
 
 ghost use Rattle.std.specs.Prelude.{◌≡◌, ◌↔◌, IfErr, IfOk, IfSome, Some, codes, map, option_map};
-ghost use Rattle.pua_words.specs.Commands.{AreSound, AsksSoundly, IsProcessNumber, list_asked, run_asked};
+ghost use Rattle.pua_words.specs.Commands.{MayBeAsked, AsksSoundly, IsProcessNumber, list_asked};
+ghost use Rattle.pua_words.specs.Commands.{run_asked};
 ghost use Rattle.pua_words.specs.Usages.{IsStop, line_for};
 
 use crate::command::{AuditWords, Command, EverWords, ObjectWords, Processes, Text, WhyWords};
@@ -15,7 +16,7 @@ use pua_calls::Rules;
 use std::alloc::{AllocError, Global};
 
 /// The greatest number that a process has.
-pub(crate) const MOST_PROCESS: u32 = 999_999;
+pub(crate) const MOST_NUMBER: u32 = 999_999;
 
 /// Why there is nothing to do.
 #[derive(Drop)]
@@ -189,7 +190,7 @@ fn process<'a>(alloc: Global) -> Arg<'a> {
         .value_name("P")
         .help(help::PROCESS)
         .default_value("1")
-        .value_parser(value_parser!(u32).range(1..=i64::from(MOST_PROCESS)))
+        .value_parser(value_parser!(u32).range(1..=i64::from(MOST_NUMBER)))
 }
 
 fn ever<'a>(alloc: Global) -> Arg<'a> {
@@ -345,7 +346,7 @@ fn read_objects<'a>(found: &ArgMatches<'a>) -> Option<Text<'a>>
 /// of all, since there is one of each alone, and for one with reasons.
 fn list_of<'a>(ever: bool, why: bool, processes: Processes) -> Option<Text<'a>>
     ensures asked { result ≡ list_asked ever why processes }
-    ensures sound { AreSound processes → IfSome result AsksSoundly }
+    ensures sound { MayBeAsked processes → IfSome result AsksSoundly }
 {
     match (ever, why, processes) {
         (false, false, processes) => Some(Text::Objects(ObjectWords { processes })),
@@ -357,13 +358,14 @@ fn list_of<'a>(ever: bool, why: bool, processes: Processes) -> Option<Text<'a>>
 
 /// The process of a number, or all; None for any other text.
 fn read_processes(text: Option<&str>) -> Option<Processes>
-    ensures sound { IfSome result AreSound }
-    ensures all { (result ≡ Some Processes.All) ↔ (option_map (λ s. s.now) text.entry ≡ Some (codes "all")) }
+    ensures sound { IfSome result MayBeAsked }
+    ensures all { (result ≡ Some Processes.All) ↔ (option_map (λ s. s.now) text.entry
+        ≡ Some (codes "all")) }
 {
     match text {
         Some("all") => Some(Processes::All),
         Some(number) => match number.parse::<u32>() {
-            Ok(process @ 1..=MOST_PROCESS) => Some(Processes::One(process)),
+            Ok(process @ 1..=MOST_NUMBER) => Some(Processes::One(process)),
             _ => None,
         },
         None => None,
@@ -408,7 +410,7 @@ fn read_process(found: &ArgMatches<'_>) -> Option<u32>
     ensures { IfSome result IsProcessNumber }
 {
     match found.get_one::<u32>("process") {
-        Some(process @ 1..=MOST_PROCESS) => Some(process),
+        Some(process @ 1..=MOST_NUMBER) => Some(process),
         _ => None,
     }
 }
@@ -425,7 +427,8 @@ fn read_base(text: Option<&str>) -> Base
 
 /// The rules of this name, which are those of the profile where none are named.
 fn read_rules(text: Option<&str>) -> Rules
-    ensures { (result ≡ Rules.Openbsd) ↔ (option_map (λ s. s.now) text.entry ≡ Some (codes "openbsd")) }
+    ensures { (result ≡ Rules.Openbsd) ↔ (option_map (λ s. s.now) text.entry
+        ≡ Some (codes "openbsd")) }
 {
     match text {
         Some("openbsd") => Rules::Openbsd,

@@ -1,20 +1,21 @@
 //! The walk over the table of steps, before its first pair.
 
-ghost use Rattle.std.specs.Prelude.{◌≡◌, ◌<◌, ◌≤◌, ◌+◌, ◌^◌, ◌*◌, true, false, length, Option, option_map, None, IfOk, IfSome, map};
+ghost use Rattle.std.specs.Prelude.{◌≡◌, ◌<◌, ◌≤◌, ◌+◌, ◌^◌, ◌*◌, true, false, length, Option};
+ghost use Rattle.std.specs.Prelude.{option_map, None, IfOk, IfSome, map};
 ghost use Rattle.pua_tree.specs.LentRows.{lent_entry};
 ghost use Rattle.std.specs.List.{AllByRecursion};
 ghost use Rattle.pua_path.specs.declared.found.Found.TheVariants.{Whole};
 ghost use Rattle.pua_audit.specs.Bounds.{pairs_cost};
-ghost use Rattle.pua_audit.specs.Past.{history_of};
-ghost use Rattle.pua_audit.specs.Coming.{pairs_after, pairs_at};
+ghost use Rattle.pua_audit.specs.Past.{plain_history};
+ghost use Rattle.pua_audit.specs.Coming.{pairs_resumed, pairs_at};
 ghost use Rattle.pua_audit.specs.Reach.{Pair, rest_after};
 ghost use Rattle.pua_audit.specs.Judge.{base_dir, base_way, is_open};
 ghost use Rattle.pua_audit.specs.Live.{live_states};
 ghost use Rattle.pua_audit.specs.Ready.{IsSound, letters_of, scope_in};
 ghost use Rattle.pua_audit.specs.Starting.{AreLetters, AreSound, pair_in};
-ghost use Rattle.pua_steps.specs.Graph.{reach};
+ghost use Rattle.pua_steps.specs.Graph.{graph_reach};
 ghost use Rattle.pua_steps.specs.Limits.{call_count, search_cost};
-ghost use Rattle.pua_steps.specs.Lists.{IsListed};
+ghost use Rattle.pua_steps.specs.Lists.{AreListsOf};
 ghost use Rattle.pua_steps.specs.Live.{IsSized};
 ghost use Rattle.pua_steps.specs.Ready.{IsReady, trail};
 ghost use Rattle.pua_steps.specs.Table.{IsState, IsTable, graph_of};
@@ -30,7 +31,7 @@ use std::alloc::{AllocError, Global};
 
 /// A walk over the table of steps of what is audited, and how many of its states are live.
 #[derive(Drop)]
-pub(crate) struct Begun {
+pub(crate) struct BegunWalk {
     pub(crate) walk: Walk,
     pub(crate) live: usize,
 }
@@ -46,22 +47,31 @@ impl Terms {
         probe: &mut P,
         rows: &[LentRow<'_>],
         after: Option<Resumption>,
-    ) -> Result<Begun, OutOfMemory>
+    ) -> Result<BegunWalk, OutOfMemory>
         requires tree { P.tree probe.old ≡ self.now.seen.tree }
         requires rows { map lent_entry rows.now ≡ self.now.seen.tree.rows }
         requires sound { IsSound self.now }
         requires letters { AreSound self.now.limit self.now.letters.items }
-        requires word { IfSome after (λ r. AreLetters (letters_of self.now) self.now.limit r.word.items) }
+        requires word { IfSome after (λ r. AreLetters (letters_of self.now) self.now.limit
+            r.word.items) }
         ensures ready { IfOk result (λ begun. IsReady begun.walk) }
         ensures limit { IfOk result (λ begun. begun.walk.limit ≡ self.now.limit) }
-        ensures letters { IfOk result (λ begun. begun.walk.tables.steps.letters ≡ length (letters_of self.now)) }
-        ensures pairs { IfOk result (λ begun. rest_after (scope_in self.now) (option_map (pair_in (letters_of self.now)) after) ≡ pairs_at (letters_of self.now) (pairs_of (trail begun.walk))) }
-        ensures within { IfOk result (λ begun. AllByRecursion (λ p. IsPair (length (letters_of self.now)) p) (pairs_of (trail begun.walk))) }
+        ensures letters { IfOk result (λ begun. begun.walk.tables.steps.letters
+            ≡ length (letters_of self.now)) }
+        ensures pairs { IfOk result
+            (λ begun. rest_after (scope_in self.now)
+            (option_map (pair_in (letters_of self.now)) after) ≡ pairs_at (letters_of self.now)
+            (pairs_of (trail begun.walk))) }
+        ensures within { IfOk result
+            (λ begun. AllByRecursion (λ p. IsPair (length (letters_of self.now)) p)
+            (pairs_of (trail begun.walk))) }
         ensures live { IfOk result (λ begun. begun.live ≡ length (live_states (scope_in self.now))) }
-        ensures reads { IfOk result (λ begun. begun.walk.tables.reads ≤ search_cost * self.now.limit) }
+        ensures reads { IfOk result (λ begun. begun.walk.tables.reads
+            ≤ search_cost * self.now.limit) }
         ensures unread { after ≡ None → IfOk result (λ begun. begun.walk.tables.reads ≡ 0) }
         ensures tree { P.tree probe.new ≡ P.tree probe.old }
-        ensures cost { P.count probe.new ≤ P.count probe.old + pairs_cost self.now.seen.tree (length self.now.letters.items) }
+        ensures cost { P.count probe.new ≤ P.count probe.old + pairs_cost self.now.seen.tree
+            (length self.now.letters.items) }
     {
         // Each half is a function, so that its proof begins with what is true there.
         if !self.is_open(probe) {
@@ -78,71 +88,77 @@ impl Terms {
         probe: &mut P,
         rows: &[LentRow<'_>],
         after: Option<Resumption>,
-    ) -> Result<Begun, OutOfMemory>
+    ) -> Result<BegunWalk, OutOfMemory>
         requires tree { P.tree probe.old ≡ self.now.seen.tree }
         requires rows { map lent_entry rows.now ≡ self.now.seen.tree.rows }
         requires sound { IsSound self.now }
         requires letters { AreSound self.now.limit self.now.letters.items }
-        requires word { IfSome after (λ r. AreLetters (letters_of self.now) self.now.limit r.word.items) }
+        requires word { IfSome after (λ r. AreLetters (letters_of self.now) self.now.limit
+            r.word.items) }
         requires open { is_open (scope_in self.now) ≡ true }
         ensures ready { IfOk result (λ begun. IsReady begun.walk) }
         ensures limit { IfOk result (λ begun. begun.walk.limit ≡ self.now.limit) }
-        ensures letters { IfOk result (λ begun. begun.walk.tables.steps.letters ≡ length (letters_of self.now)) }
-        ensures pairs { IfOk result (λ begun. rest_after (scope_in self.now) (option_map (pair_in (letters_of self.now)) after) ≡ pairs_at (letters_of self.now) (pairs_of (trail begun.walk))) }
-        ensures within { IfOk result (λ begun. AllByRecursion (λ p. IsPair (length (letters_of self.now)) p) (pairs_of (trail begun.walk))) }
+        ensures letters { IfOk result (λ begun. begun.walk.tables.steps.letters
+            ≡ length (letters_of self.now)) }
+        ensures pairs { IfOk result
+            (λ begun. rest_after (scope_in self.now)
+            (option_map (pair_in (letters_of self.now)) after) ≡ pairs_at (letters_of self.now)
+            (pairs_of (trail begun.walk))) }
+        ensures within { IfOk result
+            (λ begun. AllByRecursion (λ p. IsPair (length (letters_of self.now)) p)
+            (pairs_of (trail begun.walk))) }
         ensures live { IfOk result (λ begun. begun.live ≡ length (live_states (scope_in self.now))) }
-        ensures reads { IfOk result (λ begun. begun.walk.tables.reads ≤ search_cost * self.now.limit) }
+        ensures reads { IfOk result (λ begun. begun.walk.tables.reads
+            ≤ search_cost * self.now.limit) }
         ensures unread { after ≡ None → IfOk result (λ begun. begun.walk.tables.reads ≡ 0) }
         ensures tree { P.tree probe.new ≡ P.tree probe.old }
-        ensures cost { P.count probe.new + 1 ≤ P.count probe.old + pairs_cost self.now.seen.tree (length self.now.letters.items) }
+        ensures cost { P.count probe.new + 1 ≤ P.count probe.old + pairs_cost self.now.seen.tree
+            (length self.now.letters.items) }
     {
         let cover = self.process.cover(probe, &self.base_found());
         let calls = self.calls_on(probe, &Ok(self.base_found()), &cover).bits();
         let steps = self.table(alloc, probe, rows, self.base_dir(), cover)?;
         let base = Some(State { dir: 0, used: 0 });
-        let Ok(tables) = Tables::fill(alloc, steps, self.limit) else {
-            return Err(OutOfMemory);
-        };
-        let Ok(live) = tables.count(alloc, base, self.limit) else {
-            return Err(OutOfMemory);
-        };
-        let Ok(walk) = walk_after(alloc, tables, calls, base, self.limit, after) else {
-            return Err(OutOfMemory);
-        };
-        Ok(Begun { walk, live })
+        let tables = Tables::fill(alloc, steps, self.limit)?;
+        let live = tables.count(alloc, base, self.limit)?;
+        let walk = walk_after(alloc, tables, calls, base, self.limit, after)?;
+        Ok(BegunWalk { walk, live })
     }
 
     /// The same where nothing is allowed: no pair is ahead, and no state is live.
-    fn begun_closed(&self, alloc: Global) -> Result<Begun, OutOfMemory>
+    fn begun_closed(&self, alloc: Global) -> Result<BegunWalk, OutOfMemory>
         requires sound { IsSound self.now }
         requires letters { AreSound self.now.limit self.now.letters.items }
         requires closed { is_open (scope_in self.now) ≡ false }
         ensures ready { IfOk result (λ begun. IsReady begun.walk) }
         ensures limit { IfOk result (λ begun. begun.walk.limit ≡ self.now.limit) }
-        ensures letters { IfOk result (λ begun. begun.walk.tables.steps.letters ≡ length (letters_of self.now)) }
-        ensures pairs { IfOk result (λ begun. (after : Option Pair) → rest_after (scope_in self.now) after ≡ pairs_at (letters_of self.now) (pairs_of (trail begun.walk))) }
-        ensures within { IfOk result (λ begun. AllByRecursion (λ p. IsPair (length (letters_of self.now)) p) (pairs_of (trail begun.walk))) }
+        ensures letters { IfOk result (λ begun. begun.walk.tables.steps.letters
+            ≡ length (letters_of self.now)) }
+        ensures pairs { IfOk result (λ begun. (after : Option Pair) →
+            rest_after (scope_in self.now) after ≡ pairs_at (letters_of self.now)
+            (pairs_of (trail begun.walk))) }
+        ensures within { IfOk result
+            (λ begun. AllByRecursion (λ p. IsPair (length (letters_of self.now)) p)
+            (pairs_of (trail begun.walk))) }
         ensures live { IfOk result (λ begun. begun.live ≡ length (live_states (scope_in self.now))) }
-        ensures reads { IfOk result (λ begun. begun.walk.tables.reads ≤ search_cost * self.now.limit) }
+        ensures reads { IfOk result (λ begun. begun.walk.tables.reads
+            ≤ search_cost * self.now.limit) }
         ensures unread { IfOk result (λ begun. begun.walk.tables.reads ≡ 0) }
     {
         let steps = Steps {
             letters: self.letters.len(),
             rows: Vec::new(alloc),
         };
-        let Ok(tables) = Tables::fill(alloc, steps, self.limit) else {
-            return Err(OutOfMemory);
-        };
-        let Ok(walk) = Walk::begin(alloc, tables, 0, None, self.limit) else {
-            return Err(OutOfMemory);
-        };
-        Ok(Begun { walk, live: 0 })
+        let tables = Tables::fill(alloc, steps, self.limit)?;
+        let walk = Walk::begin(alloc, tables, 0, None, self.limit)?;
+        Ok(BegunWalk { walk, live: 0 })
     }
 
     /// The base itself, as it is found.
     fn base_found(&self) -> Found
         requires { IsSound self.now }
-        ensures { result ≡ Whole (base_dir self.now.base (history_of self.now.process)) (base_way self.now.base) }
+        ensures { result ≡ Whole (base_dir self.now.base (plain_history self.now.process))
+            (base_way self.now.base) }
     {
         Found::Whole {
             dir: self.base_dir(),
@@ -163,16 +179,18 @@ fn walk_after(
 ) -> Result<Walk, AllocError>
     requires table { IsTable tables.steps }
     requires sized { IsSized tables.steps tables.live limit }
-    requires listed { IsListed tables.steps tables.live limit tables.lists }
+    requires listed { AreListsOf tables.steps tables.live limit tables.lists }
     requires calls { calls < 2 ^ call_count }
     requires base { IfSome base (λ s. IsState tables.steps s) }
-    requires word { IfSome after (λ r. AllByRecursion (λ letter. letter < tables.steps.letters) r.word.items) }
+    requires word { IfSome after (λ r. AllByRecursion (λ letter. letter < tables.steps.letters)
+        r.word.items) }
     requires few { IfSome after (λ r. length r.word.items ≤ limit) }
     ensures ready { IfOk result (λ walk. IsReady walk) }
     ensures of { IfOk result (λ walk. (walk.tables.steps ≡ tables.steps) × (walk.limit ≡ limit)) }
     ensures reads { IfOk result (λ walk. walk.tables.reads ≤ tables.reads + search_cost * limit) }
     ensures unread { after ≡ None → IfOk result (λ walk. walk.tables.reads ≡ tables.reads) }
-    ensures left { IfOk result (λ walk. pairs_of (trail walk) ≡ pairs_after after (reach (graph_of tables.steps) limit calls base)) }
+    ensures left { IfOk result (λ walk. pairs_of (trail walk)
+        ≡ pairs_resumed after (graph_reach (graph_of tables.steps) limit calls base)) }
 {
     let Some(after) = after else {
         return Walk::begin(alloc, tables, calls, base, limit);

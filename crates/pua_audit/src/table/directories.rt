@@ -1,6 +1,7 @@
 //! The directories of a table of steps, in the order of their places.
 
-ghost use Rattle.std.specs.Prelude.{◌≡◌, ◌<◌, ◌≤◌, ◌^◌, [], length, get_or, nat_eq, IfOk, IfSome, IfNone};
+ghost use Rattle.std.specs.Prelude.{◌≡◌, ◌<◌, ◌≤◌, ◌^◌, [], length, get_or, nat_eq, IfOk, IfSome};
+ghost use Rattle.std.specs.Prelude.{IfNone};
 ghost use Rattle.indexmap.specs.IndexSet.{insert_key};
 ghost use Rattle.pua_tree.specs.Tree.{Tree};
 ghost use Rattle.pua_policy.specs.Descent.{cover_in};
@@ -47,26 +48,25 @@ impl Directories {
     /// The place of a directory, which is put after all others with its cover unless it is there.
     /// The error is that a growth was refused.
     pub(crate) fn place(&mut self, dir: NodeId, cover: Cover) -> Result<u32, OutOfMemory>
-        ensures place { IfOk result (λ place. (place < length self.new.numbers) × (get_or self.new.numbers place 0 ≡ dir)) }
+        ensures place { IfOk result (λ place. (place < length self.new.numbers) ×
+            (get_or self.new.numbers place 0 ≡ dir)) }
         ensures all { IfOk result (λ _. self.new.numbers ≡ insert_key nat_eq self.old.numbers dir) }
-        ensures covered { IfOk result (λ _. (t : Tree) (h : History) → cover ≡ cover_in t h dir → AreCovered t h self.old → AreCovered t h self.new) }
+        ensures covered { IfOk result (λ _. (t : Tree) (h : History) → cover ≡ cover_in t h dir →
+            AreCovered t h self.old → AreCovered t h self.new) }
     {
-        let Ok((place, added)) = self.numbers.insert_full(dir.number()) else {
-            return Err(OutOfMemory);
-        };
+        let (place, added) = self.numbers.insert_full(dir.number())?;
         let place = place as u32;
         if !added {
             return Ok(place);
         }
-        let Ok(()) = self.covers.push(cover) else {
-            return Err(OutOfMemory);
-        };
+        self.covers.push(cover)?;
         Ok(place)
     }
 
     /// The directory at a place; None after the last one. There are at most 2^32.
     pub(crate) fn at(&self, place: usize) -> Option<NodeId>
-        ensures dir { IfSome result (λ dir. (place < length self.now.numbers) × (dir ≡ get_or self.now.numbers place 0)) }
+        ensures dir { IfSome result (λ dir. (place < length self.now.numbers) ×
+            (dir ≡ get_or self.now.numbers place 0)) }
         ensures none { IfNone result (length self.now.numbers ≤ place) }
         ensures few { length self.now.numbers ≤ 2 ^ 32 }
     {
@@ -77,14 +77,16 @@ impl Directories {
     /// The cover of the directory at a place.
     pub(crate) fn cover_at(&self, place: usize) -> Cover
         requires { place < length self.now.covers }
-        ensures { (t : Tree) (h : History) → AreCovered t h self.now → result ≡ cover_in t h (get_or self.now.numbers place 0) }
+        ensures { (t : Tree) (h : History) → AreCovered t h self.now →
+            result ≡ cover_in t h (get_or self.now.numbers place 0) }
     {
         self.covers[place]
     }
 
     /// The cover of a directory, if it has a place.
     pub(crate) fn cover_in(&self, dir: NodeId) -> Option<Cover>
-        ensures { IfSome result (λ cover. (t : Tree) (h : History) → AreCovered t h self.now → cover ≡ cover_in t h dir) }
+        ensures { IfSome result (λ cover. (t : Tree) (h : History) → AreCovered t h self.now →
+            cover ≡ cover_in t h dir) }
     {
         let place = self.numbers.get_index_of(&dir.number())?;
         if place >= self.covers.len() {

@@ -1,6 +1,7 @@
 //! What a letter is in a directory.
 
-ghost use Rattle.std.specs.Prelude.{◌≡◌, ◌≢◌, ◌<◌, ◌≤◌, ◌+◌, ◌*◌, ◌&&◌, ℕ, false, true, [], length, get_or, None, Some, Ok, Err, IfOk, IfSome, IfNone, IsTrue};
+ghost use Rattle.std.specs.Prelude.{◌≡◌, ◌≢◌, ◌<◌, ◌≤◌, ◌+◌, ◌*◌, ◌&&◌, ℕ, false, true, [], length};
+ghost use Rattle.std.specs.Prelude.{get_or, None, Some, Ok, Err, IfOk, IfSome, IfNone, IsTrue};
 ghost use Rattle.pua_tree.specs.Tree.{is_dir, found_at};
 ghost use Rattle.pua_tree.specs.declared.node.Kind.{Kind};
 ghost use Rattle.pua_path.specs.Kinds.{is_file};
@@ -9,14 +10,14 @@ ghost use Rattle.pua_path.specs.Resolution.{follow, last};
 ghost use Rattle.pua_path.specs.declared.found.Last.TheVariants.{Kept};
 ghost use Rattle.pua_path.specs.declared.found.Part.TheVariants.{Name};
 ghost use Rattle.pua_policy.specs.declared.place.Place.TheVariants.{Slot};
-ghost use Rattle.pua_policy.specs.History.{kept};
+ghost use Rattle.pua_policy.specs.History.{perms_kept};
 ghost use Rattle.pua_calls.specs.CallSets.{has, keeps_link};
 ghost use Rattle.pua_calls.specs.declared.call.Call.{Call};
 ghost use Rattle.pua_policy.specs.Descent.{cover_in};
 ghost use Rattle.pua_policy.specs.Verdict.{FoundsFit, cover, verdict_of, is_allowed};
 ghost use Rattle.pua_audit.specs.Bounds.{letter_cost, object_cost};
 ghost use Rattle.pua_audit.specs.Covers.{AreCovered};
-ghost use Rattle.pua_audit.specs.Past.{history_of};
+ghost use Rattle.pua_audit.specs.Past.{plain_history};
 ghost use Rattle.pua_audit.specs.Ready.{IsSound, judge_in, letters_of, part_bytes};
 ghost use Rattle.pua_audit.specs.Entries.{AreWithin, links_of, found_of, leads_to};
 ghost use Rattle.pua_audit.specs.Table.{IsLetter};
@@ -61,13 +62,17 @@ impl Terms {
         requires sound { IsSound self.now }
         requires living { IsTrue (is_dir self.now.seen.tree dir) }
         requires letter { letter < length self.now.letters.items }
-        requires within { AreWithin self.now.seen.tree self.now.table (history_of self.now.process) dir within.now }
-        requires covered { AreCovered self.now.seen.tree (history_of self.now.process) dirs.now }
-        ensures exact { IsLetter (judge_in self.now) dir (get_or (letters_of self.now) letter []) result.all result.kept result.links result.leads }
-        ensures kept { (call : Call) → has result.kept call ≡ (has result.all call && keeps_link call) }
+        requires within { AreWithin self.now.seen.tree self.now.table
+            (plain_history self.now.process) dir within.now }
+        requires covered { AreCovered self.now.seen.tree (plain_history self.now.process) dirs.now }
+        ensures exact { IsLetter (judge_in self.now) dir (get_or (letters_of self.now) letter [])
+            result.all result.kept result.links result.leads }
+        ensures kept { (call : Call) →
+            has result.kept call ≡ (has result.all call && keeps_link call) }
         ensures links { result.links ≤ most_links }
         ensures lives { IfSome result.leads (λ to. IsTrue (is_dir self.now.seen.tree to)) }
-        ensures covered { IfSome result.leads (λ to. result.cover ≡ cover_in self.now.seen.tree (history_of self.now.process) to) }
+        ensures covered { IfSome result.leads
+            (λ to. result.cover ≡ cover_in self.now.seen.tree (plain_history self.now.process) to) }
         ensures tree { P.tree probe.new ≡ P.tree probe.old }
         ensures cost { P.count probe.new ≤ P.count probe.old + letter_cost self.now.seen.tree }
     {
@@ -94,10 +99,15 @@ impl Terms {
         requires tree { P.tree probe.old ≡ self.now.seen.tree }
         requires sound { IsSound self.now }
         requires living { IsTrue (is_dir self.now.seen.tree dir) }
-        requires within { AreWithin self.now.seen.tree self.now.table (history_of self.now.process) dir within.now }
-        ensures exact { IfSome result (λ calls. (kept : ℕ) → IsLetter (judge_in self.now) dir (part_bytes letter.now) calls kept 0 None) }
-        ensures none { IfNone result (letter.now ≡ Name (part_bytes letter.now) → kept (history_of self.now.process) (Slot dir (part_bytes letter.now)) ≡ None →
-            (node : ℕ) (kind : Kind) → found_at self.now.seen.tree dir (part_bytes letter.now) ≡ Some (node, kind) → is_file kind ≡ false) }
+        requires within { AreWithin self.now.seen.tree self.now.table
+            (plain_history self.now.process) dir within.now }
+        ensures exact { IfSome result (λ calls. (kept : ℕ) →
+            IsLetter (judge_in self.now) dir (part_bytes letter.now) calls kept 0 None) }
+        ensures none { IfNone result (letter.now ≡ Name (part_bytes letter.now) →
+            perms_kept (plain_history self.now.process) (Slot dir (part_bytes letter.now)) ≡ None →
+            (node : ℕ) (kind : Kind) →
+            found_at self.now.seen.tree dir (part_bytes letter.now) ≡ Some (node, kind) →
+            is_file kind ≡ false) }
         ensures tree { P.tree probe.new ≡ P.tree probe.old }
         ensures cost { P.count probe.new ≤ P.count probe.old + 2 }
     {
@@ -113,8 +123,10 @@ impl Terms {
     fn may_have_veil(&self, dir: NodeId, letter: &Component) -> bool
         requires { IsSound self.now }
         ensures name { result ≡ false → letter.now ≡ Name (part_bytes letter.now) }
-        ensures veil { result ≡ false → kept (history_of self.now.process) (Slot dir (part_bytes letter.now)) ≡ None }
-        ensures apart { result ≡ true → letter.now ≡ Name (part_bytes letter.now) → kept (history_of self.now.process) (Slot dir (part_bytes letter.now)) ≢ None }
+        ensures veil { result ≡ false →
+            perms_kept (plain_history self.now.process) (Slot dir (part_bytes letter.now)) ≡ None }
+        ensures apart { result ≡ true → letter.now ≡ Name (part_bytes letter.now) →
+            perms_kept (plain_history self.now.process) (Slot dir (part_bytes letter.now)) ≢ None }
     {
         if !self.process.is_veiled() {
             return !letter.is_name();
@@ -137,14 +149,18 @@ impl Terms {
         requires sound { IsSound self.now }
         requires living { IsTrue (is_dir self.now.seen.tree dir) }
         requires letter { letter < length self.now.letters.items }
-        requires covered { AreCovered self.now.seen.tree (history_of self.now.process) dirs.now }
-        ensures exact { IsLetter (judge_in self.now) dir (get_or (letters_of self.now) letter []) result.all result.kept result.links result.leads }
-        ensures kept { (call : Call) → has result.kept call ≡ (has result.all call && keeps_link call) }
+        requires covered { AreCovered self.now.seen.tree (plain_history self.now.process) dirs.now }
+        ensures exact { IsLetter (judge_in self.now) dir (get_or (letters_of self.now) letter [])
+            result.all result.kept result.links result.leads }
+        ensures kept { (call : Call) →
+            has result.kept call ≡ (has result.all call && keeps_link call) }
         ensures links { result.links ≤ most_links }
         ensures lives { IfSome result.leads (λ to. IsTrue (is_dir self.now.seen.tree to)) }
-        ensures covered { IfSome result.leads (λ to. result.cover ≡ cover_in self.now.seen.tree (history_of self.now.process) to) }
+        ensures covered { IfSome result.leads
+            (λ to. result.cover ≡ cover_in self.now.seen.tree (plain_history self.now.process) to) }
         ensures tree { P.tree probe.new ≡ P.tree probe.old }
-        ensures cost { P.count probe.new ≤ P.count probe.old + 2 * (part_cost self.now.seen.tree + object_cost self.now.seen.tree) }
+        ensures cost { P.count probe.new ≤ P.count probe.old
+            + 2 * (part_cost self.now.seen.tree + object_cost self.now.seen.tree) }
     {
         let part = self.letters[letter].part();
         let (followed, links) = counted(pua_path::follow(probe, dir, &part));
@@ -176,13 +192,20 @@ impl Terms {
         requires tree { P.tree probe.old ≡ self.now.seen.tree }
         requires sound { IsSound self.now }
         requires living { IsTrue (is_dir self.now.seen.tree dir) }
-        requires covered { AreCovered self.now.seen.tree (history_of self.now.process) dirs.now }
+        requires covered { AreCovered self.now.seen.tree (plain_history self.now.process) dirs.now }
         requires followed { followed.now ≡ found_of (follow self.now.seen.tree dir part.now) }
         requires links { links ≡ links_of (follow self.now.seen.tree dir part.now) }
-        requires near { (call : Call) → has near call ≡ is_allowed (verdict_of self.now.seen.tree self.now.table (history_of self.now.process) call followed.now) }
-        ensures exact { (call : Call) → has result call ≡ is_allowed (verdict_of self.now.seen.tree self.now.table (history_of self.now.process) call (last self.now.seen.tree dir 0 part.now Kept)) }
+        requires near { (call : Call) →
+            has near call ≡ is_allowed
+            (verdict_of self.now.seen.tree self.now.table (plain_history self.now.process) call
+            followed.now) }
+        ensures exact { (call : Call) →
+            has result call ≡ is_allowed
+            (verdict_of self.now.seen.tree self.now.table (plain_history self.now.process) call
+            (last self.now.seen.tree dir 0 part.now Kept)) }
         ensures tree { P.tree probe.new ≡ P.tree probe.old }
-        ensures cost { P.count probe.new ≤ P.count probe.old + (part_cost self.now.seen.tree + object_cost self.now.seen.tree) }
+        ensures cost { P.count probe.new ≤ P.count probe.old
+            + (part_cost self.now.seen.tree + object_cost self.now.seen.tree) }
     {
         if links == 0 && followed.is_ok() {
             return near;
@@ -202,8 +225,12 @@ impl Terms {
         requires tree { P.tree probe.old ≡ self.now.seen.tree }
         requires sound { IsSound self.now }
         requires fits { FoundsFit self.now.seen.tree found.now }
-        requires left { IfOk found.now (λ object. left.now ≡ cover self.now.seen.tree (history_of self.now.process) object) }
-        ensures exact { (call : Call) → has result call ≡ is_allowed (verdict_of self.now.seen.tree self.now.table (history_of self.now.process) call found.now) }
+        requires left { IfOk found.now
+            (λ object. left.now ≡ cover self.now.seen.tree (plain_history self.now.process) object) }
+        ensures exact { (call : Call) →
+            has result call ≡ is_allowed
+            (verdict_of self.now.seen.tree self.now.table (plain_history self.now.process) call
+            found.now) }
         ensures tree { P.tree probe.new ≡ P.tree probe.old }
         ensures cost { P.count probe.new ≤ P.count probe.old + 1 }
     {

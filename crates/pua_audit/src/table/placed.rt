@@ -19,13 +19,9 @@ pub(crate) fn placed<'l>(
     requires { Rises name_cmp (map part_bytes letters.now) }
     ensures { IfOk result (λ places. ArePlaced (map part_bytes letters.now) places) }
 {
-    let Ok(mut places) = HashMap::with_capacity(alloc, letters.len()) else {
-        return Err(OutOfMemory);
-    };
+    let mut places = HashMap::with_capacity(alloc, letters.len())?;
     for place in 0..letters.len() {
-        let Ok(_) = places.insert(letters[place].bytes(), place) else {
-            return Err(OutOfMemory);
-        };
+        places.insert(letters[place].bytes(), place)?;
     }
     Ok(places)
 }

@@ -1,6 +1,7 @@
 //! The row of a directory.
 
-ghost use Rattle.std.specs.Prelude.{◌≡◌, ◌<◌, ◌≤◌, ◌+◌, ◌&&◌, ℕ, List, [], length, get_or, option_map, Option, None, IfOk, IfSome, IsTrue};
+ghost use Rattle.std.specs.Prelude.{◌≡◌, ◌<◌, ◌≤◌, ◌+◌, ◌&&◌, ℕ, List, [], length, get_or};
+ghost use Rattle.std.specs.Prelude.{option_map, Option, None, IfOk, IfSome, IsTrue};
 ghost use Rattle.pua_tree.specs.Tree.{Tree, is_dir};
 ghost use Rattle.pua_calls.specs.CallSets.{has, keeps_link};
 ghost use Rattle.pua_policy.specs.Descent.{cover_in};
@@ -9,10 +10,10 @@ ghost use Rattle.pua_calls.specs.declared.call.Call.{Call};
 ghost use Rattle.pua_audit.specs.Bounds.{row_cost};
 ghost use Rattle.pua_audit.specs.Covers.{AreCovered};
 ghost use Rattle.pua_audit.specs.Judge.{Judge};
-ghost use Rattle.pua_audit.specs.Past.{history_of};
+ghost use Rattle.pua_audit.specs.Past.{plain_history};
 ghost use Rattle.pua_audit.specs.Ready.{IsSound, judge_in, letters_of};
-ghost use Rattle.pua_audit.specs.Rows.{AreLiving, IsGrown, IsRow};
-ghost use Rattle.pua_audit.specs.Spots.{AreSpots};
+ghost use Rattle.pua_audit.specs.Rows.{AreLiving, IsGrown, IsJudgedRow};
+ghost use Rattle.pua_audit.specs.Spots.{AreLetterSpots};
 ghost use Rattle.pua_audit.specs.Table.{IsLetter};
 ghost use Rattle.pua_steps.specs.Limits.{most_links};
 
@@ -42,17 +43,21 @@ impl Terms {
     ) -> Result<Row, OutOfMemory>
         requires tree { P.tree probe.old ≡ self.now.seen.tree }
         requires sound { IsSound self.now }
-        requires spots { AreSpots self.now.seen.tree (history_of self.now.process) (letters_of self.now) spots.now.dots.items spots.now.names.items }
+        requires spots { AreLetterSpots self.now.seen.tree (plain_history self.now.process)
+            (letters_of self.now) spots.now.dots.items spots.now.names.items }
         requires living { IsTrue (is_dir self.now.seen.tree dir) }
         requires dirs { AreLiving self.now.seen.tree dirs.old.numbers }
-        requires covers { AreCovered self.now.seen.tree (history_of self.now.process) dirs.old }
-        requires over { over ≡ cover_in self.now.seen.tree (history_of self.now.process) dir }
-        ensures row { IfOk result (λ row. IsRow (judge_in self.now) (letters_of self.now) dirs.new.numbers dir (length self.now.letters.items) row.missing row.entries.items) }
+        requires covers { AreCovered self.now.seen.tree (plain_history self.now.process) dirs.old }
+        requires over { over ≡ cover_in self.now.seen.tree (plain_history self.now.process) dir }
+        ensures row { IfOk result (λ row. IsJudgedRow (judge_in self.now) (letters_of self.now)
+            dirs.new.numbers dir (length self.now.letters.items) row.missing row.entries.items) }
         ensures grown { IfOk result (λ _. IsGrown dirs.old.numbers dirs.new.numbers) }
         ensures living { IfOk result (λ _. AreLiving self.now.seen.tree dirs.new.numbers) }
-        ensures covered { IfOk result (λ _. AreCovered self.now.seen.tree (history_of self.now.process) dirs.new) }
+        ensures covered { IfOk result
+            (λ _. AreCovered self.now.seen.tree (plain_history self.now.process) dirs.new) }
         ensures tree { P.tree probe.new ≡ P.tree probe.old }
-        ensures cost { P.count probe.new ≤ P.count probe.old + row_cost self.now.seen.tree (length self.now.letters.items) }
+        ensures cost { P.count probe.new ≤ P.count probe.old + row_cost self.now.seen.tree
+            (length self.now.letters.items) }
     {
         let within = self.within(over);
         let missing = within.missing.bits();
@@ -77,13 +82,21 @@ impl Letter {
         dirs: &mut Directories,
         entries: &mut Vec<Entry>,
     ) -> Result<(), OutOfMemory>
-        requires kept { (call : Call) → has self.now.kept call ≡ (has self.now.all call && keeps_link call) }
+        requires kept { (call : Call) →
+            has self.now.kept call ≡ (has self.now.all call && keeps_link call) }
         requires links { self.now.links ≤ most_links }
-        ensures row { IfOk result (λ _. (w : Judge) (letters : List (List ℕ)) (dir : ℕ) → IsLetter w dir (get_or letters letter []) self.now.all self.now.kept self.now.links self.now.leads
-            → IsRow w letters dirs.old.numbers dir letter missing entries.old.items → IsRow w letters dirs.new.numbers dir (letter + 1) missing entries.new.items) }
+        ensures row { IfOk result (λ _. (w : Judge) (letters : List (List ℕ)) (dir : ℕ) →
+            IsLetter w dir (get_or letters letter []) self.now.all self.now.kept self.now.links
+            self.now.leads
+            → IsJudgedRow w letters dirs.old.numbers dir letter missing entries.old.items →
+            IsJudgedRow w letters dirs.new.numbers dir (letter + 1) missing entries.new.items) }
         ensures grown { IfOk result (λ _. IsGrown dirs.old.numbers dirs.new.numbers) }
-        ensures living { IfOk result (λ _. (t : Tree) → IfSome self.now.leads (λ d. IsTrue (is_dir t d)) → AreLiving t dirs.old.numbers → AreLiving t dirs.new.numbers) }
-        ensures covered { IfOk result (λ _. (t : Tree) (h : History) → IfSome self.now.leads (λ d. self.now.cover ≡ cover_in t h d) → AreCovered t h dirs.old → AreCovered t h dirs.new) }
+        ensures living { IfOk result (λ _. (t : Tree) →
+            IfSome self.now.leads (λ d. IsTrue (is_dir t d)) → AreLiving t dirs.old.numbers →
+            AreLiving t dirs.new.numbers) }
+        ensures covered { IfOk result (λ _. (t : Tree) (h : History) →
+            IfSome self.now.leads (λ d. self.now.cover ≡ cover_in t h d) → AreCovered t h dirs.old →
+            AreCovered t h dirs.new) }
     {
         if self.is_told_by(missing) {
             return Ok(());
@@ -96,25 +109,30 @@ impl Letter {
             links: self.links,
             to,
         };
-        let Ok(()) = entries.push(entry) else {
-            return Err(OutOfMemory);
-        };
+        entries.push(entry)?;
         Ok(())
     }
 
     /// Whether it leads nowhere, and just these calls are allowed on it.
     fn is_told_by(&self, missing: Calls) -> bool
-        ensures { IsTrue result → (self.now.all ≡ missing) × (self.now.kept ≡ missing) × (self.now.leads ≡ None) }
+        ensures { IsTrue result → (self.now.all ≡ missing) × (self.now.kept ≡ missing) ×
+            (self.now.leads ≡ None) }
     {
         self.all == missing && self.kept == missing && self.leads.is_none()
     }
 
     /// The place of the directory to which it leads.
     fn place(&self, dirs: &mut Directories) -> Result<Option<u32>, OutOfMemory>
-        ensures to { IfOk result (λ to. (option_map (λ d. get_or dirs.new.numbers d 0) to ≡ self.now.leads) × IfSome to (λ d. d < length dirs.new.numbers)) }
+        ensures to { IfOk result
+            (λ to. (option_map (λ d. get_or dirs.new.numbers d 0) to ≡ self.now.leads) ×
+            IfSome to (λ d. d < length dirs.new.numbers)) }
         ensures grown { IfOk result (λ _. IsGrown dirs.old.numbers dirs.new.numbers) }
-        ensures living { IfOk result (λ _. (t : Tree) → IfSome self.now.leads (λ d. IsTrue (is_dir t d)) → AreLiving t dirs.old.numbers → AreLiving t dirs.new.numbers) }
-        ensures covered { IfOk result (λ _. (t : Tree) (h : History) → IfSome self.now.leads (λ d. self.now.cover ≡ cover_in t h d) → AreCovered t h dirs.old → AreCovered t h dirs.new) }
+        ensures living { IfOk result (λ _. (t : Tree) →
+            IfSome self.now.leads (λ d. IsTrue (is_dir t d)) → AreLiving t dirs.old.numbers →
+            AreLiving t dirs.new.numbers) }
+        ensures covered { IfOk result (λ _. (t : Tree) (h : History) →
+            IfSome self.now.leads (λ d. self.now.cover ≡ cover_in t h d) → AreCovered t h dirs.old →
+            AreCovered t h dirs.new) }
     {
         let Some(dir) = self.leads else {
             return Ok(None);

@@ -8,10 +8,11 @@ ghost use Rattle.pua_tree.specs.Tree.{name_cmp};
 ghost use Rattle.pua_path.specs.declared.found.Part.TheVariants.{Dot};
 ghost use Rattle.pua_policy.specs.declared.place.Place.TheVariants.{Slot};
 ghost use Rattle.pua_audit.specs.Laws.{Rises};
-ghost use Rattle.pua_audit.specs.Past.{history_of};
+ghost use Rattle.pua_audit.specs.Past.{plain_history};
 ghost use Rattle.pua_audit.specs.Placed.{ArePlaced};
 ghost use Rattle.pua_audit.specs.Ready.{IsSound, letters_of};
-ghost use Rattle.pua_audit.specs.Spots.{AreApartFrom, AreAtLetters, AreLettersIn, AreSpots, IsApart, IsNowhere, IsUnmarked, is_dots};
+ghost use Rattle.pua_audit.specs.Spots.{AreApartFrom, AreAtLetters, AreLettersIn, AreLetterSpots};
+ghost use Rattle.pua_audit.specs.Spots.{IsApart, IsNowhere, IsUnmarked, is_dots};
 
 use crate::table::placed::placed;
 use crate::terms::Terms;
@@ -43,7 +44,9 @@ impl Terms {
         requires rows { map lent_entry rows.now ≡ self.now.seen.tree.rows }
         requires sound { IsSound self.now }
         requires rises { Rises name_cmp (letters_of self.now) }
-        ensures { IfOk result (λ spots. AreSpots self.now.seen.tree (history_of self.now.process) (letters_of self.now) spots.dots.items spots.names.items) }
+        ensures { IfOk result
+            (λ spots. AreLetterSpots self.now.seen.tree (plain_history self.now.process)
+            (letters_of self.now) spots.dots.items spots.names.items) }
     {
         let letters = placed(alloc, self.letters.as_slice())?;
         let places = self.process.places(alloc)?;
@@ -65,8 +68,11 @@ impl Terms {
         requires placed { ArePlaced (letters_of self.now) letters.now }
         requires within { AreAtLetters (letters_of self.now) spots.old.items }
         ensures within { IfOk result (λ _. AreAtLetters (letters_of self.now) spots.new.items) }
-        ensures rows { IfOk result (λ _. (dir letter : ℕ) → letter < length (letters_of self.now) → IsUnmarked dir letter spots.new.items → IsNowhere dir (get_or (letters_of self.now) letter []) (map lent_entry rows.now)) }
-        ensures others { IfOk result (λ _. (dir letter : ℕ) → IsUnmarked dir letter spots.new.items → IsUnmarked dir letter spots.old.items) }
+        ensures rows { IfOk result (λ _. (dir letter : ℕ) → letter < length (letters_of self.now) →
+            IsUnmarked dir letter spots.new.items →
+            IsNowhere dir (get_or (letters_of self.now) letter []) (map lent_entry rows.now)) }
+        ensures others { IfOk result (λ _. (dir letter : ℕ) →
+            IsUnmarked dir letter spots.new.items → IsUnmarked dir letter spots.old.items) }
     {
         for row in rows {
             self.add_spot(spots, letters, row.dir, row.name)?;
@@ -84,8 +90,12 @@ impl Terms {
         requires placed { ArePlaced (letters_of self.now) letters.now }
         requires within { AreAtLetters (letters_of self.now) spots.old.items }
         ensures within { IfOk result (λ _. AreAtLetters (letters_of self.now) spots.new.items) }
-        ensures places { IfOk result (λ _. (dir letter : ℕ) → letter < length (letters_of self.now) → IsUnmarked dir letter spots.new.items → AreApartFrom (Slot dir (get_or (letters_of self.now) letter [])) (map (λ place. place.now) places.now)) }
-        ensures others { IfOk result (λ _. (dir letter : ℕ) → IsUnmarked dir letter spots.new.items → IsUnmarked dir letter spots.old.items) }
+        ensures places { IfOk result (λ _. (dir letter : ℕ) →
+            letter < length (letters_of self.now) → IsUnmarked dir letter spots.new.items →
+            AreApartFrom (Slot dir (get_or (letters_of self.now) letter []))
+            (map (λ place. place.now) places.now)) }
+        ensures others { IfOk result (λ _. (dir letter : ℕ) →
+            IsUnmarked dir letter spots.new.items → IsUnmarked dir letter spots.old.items) }
     {
         for place in places {
             self.add_veil(spots, letters, *place)?;
@@ -103,8 +113,11 @@ impl Terms {
         requires placed { ArePlaced (letters_of self.now) letters.now }
         requires within { AreAtLetters (letters_of self.now) spots.old.items }
         ensures within { IfOk result (λ _. AreAtLetters (letters_of self.now) spots.new.items) }
-        ensures here { IfOk result (λ _. (dir letter : ℕ) → letter < length (letters_of self.now) → IsUnmarked dir letter spots.new.items → place.now ≢ Slot dir (get_or (letters_of self.now) letter [])) }
-        ensures others { IfOk result (λ _. (other letter : ℕ) → IsUnmarked other letter spots.new.items → IsUnmarked other letter spots.old.items) }
+        ensures here { IfOk result (λ _. (dir letter : ℕ) → letter < length (letters_of self.now) →
+            IsUnmarked dir letter spots.new.items →
+            place.now ≢ Slot dir (get_or (letters_of self.now) letter [])) }
+        ensures others { IfOk result (λ _. (other letter : ℕ) →
+            IsUnmarked other letter spots.new.items → IsUnmarked other letter spots.old.items) }
     {
         let Place::Slot(dir, name) = place else {
             return Ok(());
@@ -123,32 +136,34 @@ impl Terms {
         requires placed { ArePlaced (letters_of self.now) letters.now }
         requires within { AreAtLetters (letters_of self.now) spots.old.items }
         ensures within { IfOk result (λ _. AreAtLetters (letters_of self.now) spots.new.items) }
-        ensures here { IfOk result (λ _. (letter : ℕ) → letter < length (letters_of self.now) → IsUnmarked dir letter spots.new.items → get_or (letters_of self.now) letter [] ≢ name.now) }
-        ensures others { IfOk result (λ _. (other letter : ℕ) → IsUnmarked other letter spots.new.items → IsUnmarked other letter spots.old.items) }
+        ensures here { IfOk result (λ _. (letter : ℕ) → letter < length (letters_of self.now) →
+            IsUnmarked dir letter spots.new.items →
+            get_or (letters_of self.now) letter [] ≢ name.now) }
+        ensures others { IfOk result (λ _. (other letter : ℕ) →
+            IsUnmarked other letter spots.new.items → IsUnmarked other letter spots.old.items) }
     {
         let Some(letter) = letters.get(name.bytes()) else {
             return Ok(());
         };
         let letter = *letter;
-        let Ok(()) = spots.push(LetterSpot { dir, letter }) else {
-            return Err(OutOfMemory);
-        };
+        spots.push(LetterSpot { dir, letter })?;
         Ok(())
     }
 
     /// The letters that are no names. The error is that a growth was refused.
     fn dots(&self, alloc: Global) -> Result<Vec<usize>, OutOfMemory>
-        ensures within { IfOk result (λ dots. AllByRecursion (λ place. place < length self.now.letters.items) dots.items) }
-        ensures others { IfOk result (λ dots. (letter : ℕ) → letter < length self.now.letters.items → IsApart letter dots.items → is_dots (get_or self.now.letters.items letter Dot) ≡ false) }
+        ensures within { IfOk result
+            (λ dots. AllByRecursion (λ place. place < length self.now.letters.items) dots.items) }
+        ensures others { IfOk result (λ dots. (letter : ℕ) →
+            letter < length self.now.letters.items → IsApart letter dots.items →
+            is_dots (get_or self.now.letters.items letter Dot) ≡ false) }
     {
         let mut dots = Vec::new(alloc);
         for place in 0..self.letters.len() {
             if self.letters[place].is_name() {
                 continue;
             }
-            let Ok(()) = dots.push(place) else {
-                return Err(OutOfMemory);
-            };
+            dots.push(place)?;
         }
         Ok(dots)
     }
@@ -159,12 +174,11 @@ impl Spots {
     /// The error is that a growth was refused.
     pub(crate) fn letters_in(&self, alloc: Global, dir: NodeId) -> Result<Vec<usize>, OutOfMemory>
         requires { IsNonDecreasingBy (λ spot. spot.dir) self.now.names.items }
-        ensures { IfOk result (λ letters. AreLettersIn dir self.now.dots.items self.now.names.items letters.items) }
+        ensures { IfOk result (λ letters. AreLettersIn dir self.now.dots.items self.now.names.items
+            letters.items) }
     {
         let mut letters = letters_at(alloc, spots_in(self.names.as_slice(), dir))?;
-        let Ok(()) = letters.extend_from_slice(self.dots.as_slice()) else {
-            return Err(OutOfMemory);
-        };
+        letters.extend_from_slice(self.dots.as_slice())?;
         letters.sort_unstable();
         letters.dedup();
         Ok(letters)
@@ -174,8 +188,10 @@ impl Spots {
 /// The spots in a directory, among spots in the order of their directories.
 fn spots_in(spots: &[LetterSpot], dir: NodeId) -> &[LetterSpot]
     requires { IsNonDecreasingBy (λ spot. spot.dir) spots.now }
-    ensures within { (count : ℕ) → AllByRecursion (λ spot. spot.letter < count) spots.now → AllByRecursion (λ spot. spot.letter < count) result.now }
-    ensures all { (letter : ℕ) → AllByRecursion (λ spot. spot.letter ≢ letter) result.now → IsUnmarked dir letter spots.now }
+    ensures within { (count : ℕ) → AllByRecursion (λ spot. spot.letter < count) spots.now →
+        AllByRecursion (λ spot. spot.letter < count) result.now }
+    ensures all { (letter : ℕ) → AllByRecursion (λ spot. spot.letter ≢ letter) result.now →
+        IsUnmarked dir letter spots.now }
 {
     let first = spots.partition_point(|spot| spot.dir < dir);
     let rest = &spots[first..];
@@ -189,9 +205,7 @@ fn letters_at(alloc: Global, spots: &[LetterSpot]) -> Result<Vec<usize>, OutOfMe
 {
     let mut letters = Vec::new(alloc);
     for spot in spots {
-        let Ok(()) = letters.push(spot.letter) else {
-            return Err(OutOfMemory);
-        };
+        letters.push(spot.letter)?;
     }
     Ok(letters)
 }

@@ -12,7 +12,7 @@ ghost use Rattle.pua_policy.specs.Verdict as judged;
 ghost use Rattle.pua_policy.specs.Verdict.{covered_verdict, is_allowed, object_of_kind};
 ghost use Rattle.pua_calls.specs.declared.call.Call.{Call};
 ghost use Rattle.pua_audit.specs.Entries.{AreWithin, allowed_within};
-ghost use Rattle.pua_audit.specs.Past.{history_of};
+ghost use Rattle.pua_audit.specs.Past.{plain_history};
 ghost use Rattle.pua_audit.specs.Ready.{IsSound};
 
 use crate::terms::Terms;
@@ -33,8 +33,10 @@ impl Terms {
     /// The calls on names that have no veil of their own, in any living directory that has this cover.
     pub(crate) fn within(&self, cover: Cover) -> Within
         requires { IsSound self.now }
-        ensures { (dir : ℕ) → IsTrue (is_dir self.now.seen.tree dir) → cover ≡ cover_in self.now.seen.tree (history_of self.now.process) dir
-            → AreWithin self.now.seen.tree self.now.table (history_of self.now.process) dir result }
+        ensures { (dir : ℕ) → IsTrue (is_dir self.now.seen.tree dir) →
+            cover ≡ cover_in self.now.seen.tree (plain_history self.now.process) dir
+            → AreWithin self.now.seen.tree self.now.table
+            (plain_history self.now.process) dir result }
     {
         Within {
             missing: self.calls_over(&cover, Object::Missing),
@@ -46,7 +48,10 @@ impl Terms {
     /// The calls on an object that has this cover.
     fn calls_over(&self, cover: &Cover, object: Object) -> Calls
         requires { IsSound self.now }
-        ensures { (t : Tree) (judged : judged.Object) → object ≡ object_seen t judged → (call : Call) → has result call ≡ is_allowed (covered_verdict t self.now.table (history_of self.now.process) call cover.now judged) }
+        ensures { (t : Tree) (judged : judged.Object) → object ≡ object_seen t judged →
+            (call : Call) → has result call
+            ≡ is_allowed (covered_verdict t self.now.table (plain_history self.now.process) call
+            cover.now judged) }
     {
         judge::allowed(&self.process, &self.table, *cover, object)
     }
@@ -57,7 +62,9 @@ impl Within {
     pub(crate) fn on(&self, kind: Kind) -> Option<Calls>
         ensures none { IfNone result (is_file kind ≡ false) }
         ensures file { IfSome result (λ _. is_file kind ≡ true) }
-        ensures calls { IfSome result (λ calls. (t : Tree) (table : CallTable) (h : History) (dir : ℕ) → AreWithin t table h dir self.now → (call : Call) → has calls call ≡ allowed_within t table h dir (object_of_kind (Some kind)) call) }
+        ensures calls { IfSome result (λ calls. (t : Tree) (table : CallTable) (h : History)
+            (dir : ℕ) → AreWithin t table h dir self.now → (call : Call) →
+            has calls call ≡ allowed_within t table h dir (object_of_kind (Some kind)) call) }
     {
         match kind {
             Kind::File => Some(self.file),

@@ -2,7 +2,7 @@
 
 use crate::perms::Perms;
 use crate::promises::Promises;
-use crate::table::Row;
+use crate::table::RuleRow;
 use pua_path::Last;
 use std::marker::Model;
 
@@ -10,7 +10,7 @@ use std::marker::Model;
 /// each of these permissions; and whether the path's last part is followed if it is a link.
 #[derive(Clone, Copy)]
 pub struct NameNeed {
-    row: Row,
+    row: RuleRow,
     last: Last,
 }
 
@@ -50,7 +50,7 @@ impl NameNeed {
         ensures { result ≡ standard_name }
     {
         NameNeed {
-            row: Row::one(Promises::CPATH, Perms::CREATE),
+            row: RuleRow::one(Promises::CPATH, Perms::CREATE),
             last: Last::Kept,
         }
     }
@@ -94,7 +94,7 @@ impl PairNeed {
     {
         PairNeed {
             old_name: NameNeed {
-                row: Row::one(
+                row: RuleRow::one(
                     Promises::RPATH.union(Promises::CPATH),
                     Perms::READ.union(Perms::CREATE),
                 ),
@@ -110,7 +110,7 @@ impl PairNeed {
     {
         PairNeed {
             old_name: NameNeed {
-                row: Row::one(Promises::RPATH, Perms::READ),
+                row: RuleRow::one(Promises::RPATH, Perms::READ),
                 last: Last::Followed,
             },
             new_name: NameNeed::standard(),

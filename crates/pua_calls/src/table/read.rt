@@ -7,7 +7,7 @@ ghost use Rattle.toml.specs.Errors.{IsBlank};
 ghost use Rattle.toml.specs.View.{view, items_view, table_view};
 ghost use Rattle.pua_calls.specs.Promises.{promises_of};
 ghost use Rattle.pua_calls.specs.Calls.{Rule, standard_table};
-ghost use Rattle.pua_calls.specs.Tables.{HasPairsOf, NamesNoError, NeedsNoError, alternative_limit};
+ghost use Rattle.pua_calls.specs.Tables.{HasPairsOf, NamesNoError, NeedsNoError, most_alternatives};
 ghost use Rattle.pua_calls.specs.TableTexts.{alternative_of, alternatives_of, are_alternatives};
 ghost use Rattle.pua_calls.specs.TableTexts.{are_texts, document_of, keys_ascend, row_of, rule_in};
 ghost use Rattle.pua_calls.specs.TableTexts.{rules_with, table_of, table_over, values_of};
@@ -15,7 +15,7 @@ ghost use Rattle.pua_calls.specs.TableTexts.{rules_with, table_of, table_over, v
 use crate::call::Call;
 use crate::perms::Perms;
 use crate::promises::Promises;
-use crate::table::{ALTERNATIVE_LIMIT, CallTable, Row};
+use crate::table::{CallTable, MOST_ALTERNATIVES, RuleRow};
 use std::alloc::Global;
 use thiserror::Error;
 use toml::{Table, Value};
@@ -86,7 +86,8 @@ impl CallTable {
 /// The document that a text is. The only other fault is `OutOfMemory`.
 fn document(alloc: Global, text: &[u8]) -> Result<Table, TableFault>
     ensures read { IfOk result (λ table. document_of text.now ≡ Some (table_view table)) }
-    ensures refused { IfErr result (λ fault. fault ≢ TableFault.OutOfMemory → fault ≡ TableFault.BadToml) }
+    ensures refused { IfErr result (λ fault. fault ≢ TableFault.OutOfMemory →
+        fault ≡ TableFault.BadToml) }
     ensures bad { result ≡ Err TableFault.BadToml → document_of text.now ≡ None }
     ensures memory { result ≡ Err TableFault.OutOfMemory → ¬ IsBlank text.now }
 {
@@ -115,7 +116,7 @@ fn with_rows(base: CallTable, document: &Table) -> Result<CallTable, TableFault>
 }
 
 /// The row that a value gives a call, or its first fault.
-fn row(call: Call, value: &Value) -> Result<Row, TableFault>
+fn row(call: Call, value: &Value) -> Result<RuleRow, TableFault>
     ensures exact { result ≡ rule_in call (view value.now) }
     ensures no_error { IfOk result NeedsNoError }
     ensures no_memory { result ≢ Err TableFault.OutOfMemory }
@@ -125,7 +126,7 @@ fn row(call: Call, value: &Value) -> Result<Row, TableFault>
     };
     let row = alternatives(call, items)?;
     match Perms::read(veil.as_bytes()) {
-        Ok(perms) => Ok(Row { perms, ..row }),
+        Ok(perms) => Ok(RuleRow { perms, ..row }),
         Err(_) => Err(TableFault::BadVeil(call)),
     }
 }
@@ -133,7 +134,7 @@ fn row(call: Call, value: &Value) -> Result<Row, TableFault>
 /// The texts of the promises and the text of the veil, where the value is a row.
 fn parts(value: &Value) -> Option<(&[Value], &str)>
     ensures exact { option_map (λ p. (items_view p.0.now, p.1.now)) result ≡ row_of (view value.now) }
-    ensures few { IfSome result (λ p. length p.0.now ≤ alternative_limit) }
+    ensures few { IfSome result (λ p. length p.0.now ≤ most_alternatives) }
 {
     let (promises, veil) = values(value.as_table()?)?;
     let items = promises.as_array()?.as_slice();
@@ -144,7 +145,8 @@ fn parts(value: &Value) -> Option<(&[Value], &str)>
 /// The values of `promises` and of `veil`, where these are the keys of a table.
 #[tactic(auto, using(crate::proofs::TableTexts::member_count_of))]
 fn values(table: &Table) -> Option<(&Value, &Value)>
-    ensures { option_map (λ p. (view p.0.now, view p.1.now)) result ≡ values_of (table_view table.now) }
+    ensures { option_map (λ p. (view p.0.now, view p.1.now)) result
+        ≡ values_of (table_view table.now) }
 {
     if table.len() != 2 {
         return None;
@@ -154,7 +156,8 @@ fn values(table: &Table) -> Option<(&Value, &Value)>
 
 /// The value at a key of a table.
 fn at_key<'a>(table: &'a Table, key: &str) -> Option<&'a Value>
-    ensures { option_map (λ value. view value.now) result ≡ get_member key.now (table_view table.now) }
+    ensures { option_map (λ value. view value.now) result
+        ≡ get_member key.now (table_view table.now) }
 {
     table.get(key)
 }
@@ -163,9 +166,9 @@ fn at_key<'a>(table: &'a Table, key: &str) -> Option<&'a Value>
 #[tactic(auto, using(crate::proofs::TableTexts::count_of))]
 fn are_alternatives(items: &[Value]) -> bool
     ensures exact { result ≡ are_alternatives (items_view items.now) }
-    ensures few { IsTrue result → length items.now ≤ alternative_limit }
+    ensures few { IsTrue result → length items.now ≤ most_alternatives }
 {
-    !items.is_empty() && items.len() <= ALTERNATIVE_LIMIT && are_texts(items)
+    !items.is_empty() && items.len() <= MOST_ALTERNATIVES && are_texts(items)
 }
 
 /// Whether each item is a text.
@@ -181,14 +184,16 @@ fn are_texts(items: &[Value]) -> bool
 }
 
 /// A row without permissions, of which each item is an alternative, or the first fault.
-fn alternatives(call: Call, items: &[Value]) -> Result<Row, TableFault>
-    requires { length items.now ≤ alternative_limit }
-    ensures sets { IfOk result (λ row. alternatives_of call (items_view items.now) ≡ Ok row.alternatives) }
-    ensures refused { IfErr result (λ fault. alternatives_of call (items_view items.now) ≡ Err fault) }
+fn alternatives(call: Call, items: &[Value]) -> Result<RuleRow, TableFault>
+    requires { length items.now ≤ most_alternatives }
+    ensures sets { IfOk result (λ row. alternatives_of call (items_view items.now)
+        ≡ Ok row.alternatives) }
+    ensures refused { IfErr result (λ fault. alternatives_of call (items_view items.now)
+        ≡ Err fault) }
     ensures no_error { IfOk result NeedsNoError }
     ensures no_memory { result ≢ Err TableFault.OutOfMemory }
 {
-    let mut row = Row::NONE;
+    let mut row = RuleRow::NONE;
     for item in items {
         let Some(text) = item.as_str() else {
             return Err(TableFault::BadRow(call));

@@ -14,9 +14,10 @@ use pua_script::{Answer, Request, Script, World, WorldFault};
 use pua_tree::OutOfMemory;
 use std::alloc::Global;
 
-/// Requests that take memory: edits, further names, veils at new places, copies of a process.
+/// Requests that take memory: edits, further names, veils at new places, copies of a process. The
+/// first path is too long to lie in its request, so it takes memory when it is read.
 pub(crate) const SCRIPT: &[u8] =
-    b"1 create /a\n1 mkdir /tmp/new\n1 symlink ../etc /tmp/new/l\n1 rename /a /tmp/new/b\n1 unveil /etc rw\n1 unveil /etc/passwd r\n1 fork 2\n2 unveil /tmp rwc\n2 fork 3\n3 unlink /tmp/new/l\n3 unveil /etc/passwd rw\n1 fork 2\n2 rename /tmp/new/b /tmp/c\n3 create /tmp/new/d\n1 stat /tmp\n3 stat /tmp/c\n2 link /tmp/c /tmp/l\n2 rename /tmp/l /tmp/new/m\n";
+    b"1 create /tmp/../tmp/../tmp/../tmp/../a\n1 mkdir /tmp/new\n1 symlink ../etc /tmp/new/l\n1 rename /a /tmp/new/b\n1 unveil /etc rw\n1 unveil /etc/passwd r\n1 fork 2\n2 unveil /tmp rwc\n2 fork 3\n3 unlink /tmp/new/l\n3 unveil /etc/passwd rw\n1 fork 2\n2 rename /tmp/new/b /tmp/c\n3 create /tmp/new/d\n1 stat /tmp\n3 stat /tmp/c\n2 link /tmp/c /tmp/l\n2 rename /tmp/l /tmp/new/m\n";
 
 /// How many they are.
 pub(crate) const REQUESTS: usize = 18;

@@ -5,10 +5,10 @@ ghost use Rattle.pua_path.specs.Fits.{FoundFits, StandsAsNamed};
 ghost use Rattle.pua_path.specs.Traces.{trace_from};
 ghost use Rattle.pua_path.specs.Walks.{stop_at};
 
-use super::{Walk, name_of, start_of};
+use super::{Resolving, name_of, start_of};
 use crate::errno::Errno;
 use crate::found::{Found, Last};
-use crate::limits::LINK_LIMIT;
+use crate::limits::MOST_LINKS;
 use crate::probe::Probe;
 use crate::rest::Rest;
 use crate::text::PathText;
@@ -36,7 +36,7 @@ pub fn trace<'t, P: Probe<'t>>(
     let Some(start) = start_of(probe, from, text.bytes()) else {
         return Err(PathFault::NoStart);
     };
-    let mut walk = Walk::new(start, LINK_LIMIT, Rest::of_text(text));
+    let mut walk = Resolving::new(start, MOST_LINKS, Rest::of_text(text));
     while let Some(piece) = walk.rest.next() {
         let dir = walk.here;
         let left = walk.left;

@@ -1,7 +1,7 @@
 //! What processes keep of what happened to them.
 
 use pua_calls::{Perms, Promises};
-use pua_policy::{May, PLACE_LIMIT, Place, Process, UnveilFault};
+use pua_policy::{MOST_PLACES, May, Place, Process, UnveilFault};
 use pua_tree::NodeId;
 use std::alloc::Global;
 
@@ -72,7 +72,7 @@ fn place_128_refused(alloc: Global, process: &mut Process, place: Place) {
     };
     let count = places.len();
     drop(places);
-    if count + 1 != PLACE_LIMIT {
+    if count + 1 != MOST_PLACES {
         return;
     }
     if let Err(UnveilFault::TooManyPlaces) = process.unveil_at(place, Perms::READ) {
@@ -88,7 +88,7 @@ fn place_129_accepted(alloc: Global, process: &mut Process, place: Place) {
     };
     let count = places.len();
     drop(places);
-    if count != PLACE_LIMIT || process.kept(&place).is_some() {
+    if count != MOST_PLACES || process.kept(&place).is_some() {
         return;
     }
     if let Ok(()) = process.unveil_at(place, Perms::READ) {

@@ -1,8 +1,4 @@
-use Rattle.std.proofs.Common.{◌≡◌, map, reverse}
-use Rattle.pua_tree.specs.Tree.{name_cmp}
-use Rattle.pua_audit.specs.Laws.{Rises}
-use Rattle.pua_audit.specs.Ready.{part_bytes}
-use Rattle.pua_audit.specs.Alphabets.{with_names}
+use Rattle.pua_audit.proofs.Common.{◌≡◌, map, reverse, name_cmp, Rises, part_bytes, with_names}
 use Rattle.pua_audit.proofs.alphabet.add_names.Given as goal
 
 abbrev pub invariant-loop-name : goal.invariant-loop-name

@@ -1,5 +1,4 @@
-use Rattle.std.proofs.Common.{◌≡◌, take, map}
-use Rattle.pua_audit.specs.Ready.{part_bytes}
+use Rattle.pua_audit.proofs.Common.{◌≡◌, take, map, part_bytes}
 use Rattle.pua_audit.proofs.alphabet.named.Given as goal
 
 abbrev pub invariant-loop-name : goal.invariant-loop-name

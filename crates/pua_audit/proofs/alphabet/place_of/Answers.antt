@@ -1,8 +1,5 @@
-use Rattle.std.proofs.Common.{rules}
+use Rattle.pua_audit.proofs.Common.{rules, name_cmp, Part, part_bytes}
 use Rattle.std.proofs.lemmas.Fn.{always_returns_same}
-use Rattle.pua_tree.specs.Tree.{name_cmp}
-use Rattle.pua_path.specs.declared.found.Part.{Part}
-use Rattle.pua_audit.specs.Ready.{part_bytes}
 use Rattle.pua_audit.proofs.Placing.{placed}
 use Rattle.pua_audit.proofs.alphabet.place_of.Goals as goal
 

@@ -1,7 +1,4 @@
-use Rattle.std.proofs.Common.{◌≡◌, ◌∙◌, length, map, get_or, ap, arith}
-use Rattle.std.proofs.lemmas.Grind.{common_steps}
-use Rattle.pua_audit.specs.Begin.{word_within}
-use Rattle.pua_audit.specs.Ready.{part_bytes}
+use Rattle.pua_audit.proofs.Common.{◌≡◌, ◌∙◌, length, map, get_or, ap, arith, common_steps, word_within, part_bytes}
 use Rattle.pua_audit.proofs.ResumeTexts.{empty_read, slash_alone}
 use Rattle.pua_audit.proofs.resume_text.read_absolute.Goals as goal
 

@@ -1,9 +1,5 @@
-use Rattle.std.proofs.Common.{◌≡◌, ◌≤◌, length, map, drop, vec_capacity}
-use Rattle.std.specs.List.{slice_split}
+use Rattle.pua_audit.proofs.Common.{◌≡◌, ◌≤◌, length, map, drop, vec_capacity, slice_split, word_of_pieces, part_bytes, word_of, AreLetters}
 use Rattle.std.specs.Prelude.{◌==◌}
-use Rattle.pua_audit.specs.Begin.{word_of_pieces}
-use Rattle.pua_audit.specs.Ready.{part_bytes, word_of}
-use Rattle.pua_audit.specs.Starting.{AreLetters}
 use Rattle.pua_audit.proofs.ResumeTexts.{behind_word}
 use Rattle.pua_audit.proofs.resume_text.read_pieces.Given as goal
 
@@ -15,5 +11,6 @@ invariant-loop-piece l =
     record {
       room : l.limit ≤ vec_capacity l.word;
       listed : AreLetters letters l.limit l.word.items;
-      so_far : word_of_pieces letters pieces ≡ behind_word (word_of letters l.word.items) (word_of_pieces letters (drop (length l.yielded) pieces));
+      so_far : word_of_pieces letters pieces ≡ behind_word (word_of letters l.word.items)
+          (word_of_pieces letters (drop (length l.yielded) pieces));
     }

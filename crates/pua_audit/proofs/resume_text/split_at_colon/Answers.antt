@@ -1,11 +1,13 @@
-use Rattle.std.proofs.Common.{◌+◌, ◌∙◌, take, drop, take_all, sym, ap, arith}
+use Rattle.pua_audit.proofs.Common.{◌+◌, ◌∙◌, take, drop, sym, ap, arith}
+use Rattle.std.proofs.Common.{take_all}
 use Rattle.std.proofs.lemmas.List.{length-drop}
 use Rattle.std.specs.Prelude.{◌==◌}
 use Rattle.pua_audit.proofs.ResumeTexts.{first_at, first_nowhere}
 use Rattle.pua_audit.proofs.resume_text.split_at_colon.Goals as goal
 
 pub returns-in-Some-clause-front : goal.returns-in-Some-clause-front
-returns-in-Some-clause-front c = ap (λ i. take i c.args.text.now) (first_at (λ b. b == 58) c.args.text.now c.in-Some.colon (sym c.in-Some.ensures))
+returns-in-Some-clause-front c =
+    ap (λ i. take i c.args.text.now) (first_at (λ b. b == 58) c.args.text.now c.in-Some.colon (sym c.in-Some.ensures))
 
 pub returns-in-Some-clause-back : goal.returns-in-Some-clause-back
 returns-in-Some-clause-back c =

@@ -1,4 +1,4 @@
-use Rattle.std.proofs.Common.{rules}
+use Rattle.pua_calls.proofs.Common.{rules}
 use Rattle.pua_calls.proofs.perms.letter.Goals as goal
 
 pub returns-in_default : goal.returns-in_default

@@ -1,4 +1,4 @@
-use Rattle.std.proofs.Common.{sym}
+use Rattle.pua_calls.proofs.Common.{sym}
 use Rattle.pua_calls.proofs.Keywords.{promise_of-below}
 use Rattle.pua_calls.proofs.promises.promise.Goals as goal
 

@@ -1,10 +1,5 @@
-use Rattle.std.proofs.Common.{List, Bool, sym, ap, ◌∙◌}
-use Rattle.std.specs.Prelude.{◌||◌}
-use Rattle.std.proofs.lemmas.List.Folds.{list_any-append}
-use Rattle.pua_tree.specs.Tree.{empty_tree}
-use Rattle.pua_policy.specs.Verdict.{covered_verdict, is_allowed}
-use Rattle.pua_policy.specs.declared.answer.Cover.{Cover}
-use Rattle.pua_ever.specs.Ever.{is_allowed_under}
+use Rattle.pua_ever.proofs.Common.{List, Bool, sym, ap, ◌∙◌, ◌||◌, list_any-append, empty_tree, covered_verdict, is_allowed, Cover}
+use Rattle.pua_ever.proofs.Common.{is_allowed_under}
 use Rattle.pua_ever.proofs.movable.on_dirs.Goals as goal
 
 pub returns : goal.returns

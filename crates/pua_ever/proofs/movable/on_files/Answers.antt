@@ -1,4 +1,4 @@
-use Rattle.std.proofs.Common.{rules}
+use Rattle.pua_ever.proofs.Common.{rules}
 use Rattle.pua_ever.proofs.movable.on_files.Goals as goal
 
 pub returns-then-len-eq0 : goal.returns-then-len-eq0

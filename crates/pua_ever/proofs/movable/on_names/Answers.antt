@@ -1,10 +1,5 @@
-use Rattle.std.proofs.Common.{List, ◌++◌, Bool, refl, sym, ap, ◌∙◌}
-use Rattle.std.specs.Prelude.{◌||◌}
-use Rattle.std.proofs.lemmas.List.Folds.{list_any-append}
-use Rattle.pua_tree.specs.Tree.{empty_tree}
-use Rattle.pua_policy.specs.Verdict.{IsMissing, covered_verdict, is_allowed}
-use Rattle.pua_policy.specs.declared.answer.Cover.{Cover}
-use Rattle.pua_ever.specs.Ever.{is_allowed_under}
+use Rattle.pua_ever.proofs.Common.{List, ◌++◌, Bool, refl, sym, ap, ◌∙◌, ◌||◌, list_any-append, empty_tree, IsMissing, covered_verdict}
+use Rattle.pua_ever.proofs.Common.{is_allowed, Cover, is_allowed_under}
 use Rattle.pua_ever.proofs.movable.on_names.Goals as goal
 
 pub returns : goal.returns
@@ -14,4 +9,5 @@ returns c = λ h stands call.
     let under : List Cover → Bool = λ covers. is_allowed_under c.args.table.now h covers IsMissing call in
     let named = c.under-at_names.ensures h IsMissing stands refl call ∙ ap under c.deref.ensures.value in
     let inside = c.on_dirs-in_dirs.ensures h IsMissing stands refl call in
-    c.union.ensures call ∙ (λ i. named i || inside i) ∙ sym (list_any-append passes found.names.items (found.dirs.items ++ found.entrances.items))
+    c.union.ensures call ∙ (λ i. named i || inside i) ∙
+    sym (list_any-append passes found.names.items (found.dirs.items ++ found.entrances.items))

@@ -1,10 +1,5 @@
-use Rattle.std.proofs.Common.{Bool, take, sym, ap, ◌∙◌}
-use Rattle.std.specs.Prelude.{◌||◌}
-use Rattle.std.specs.List.{list_any}
+use Rattle.pua_ever.proofs.Common.{Bool, take, sym, ap, ◌∙◌, ◌||◌, list_any, empty_tree, covered_verdict, is_allowed, Cover}
 use Rattle.std.proofs.lemmas.List.Folds.{list_any_more}
-use Rattle.pua_tree.specs.Tree.{empty_tree}
-use Rattle.pua_policy.specs.Verdict.{covered_verdict, is_allowed}
-use Rattle.pua_policy.specs.declared.answer.Cover.{Cover}
 use Rattle.pua_ever.proofs.movable.under.Goals as goal
 use Rattle.pua_calls.proofs.ForCallers.{has_none}
 

@@ -1,11 +1,4 @@
-use Rattle.std.proofs.Common.{◌≡◌, take}
-use Rattle.pua_tree.specs.Tree.{empty_tree}
-use Rattle.pua_calls.specs.CallSets.{has}
-use Rattle.pua_policy.specs.History.{History, StandsFor}
-use Rattle.pua_policy.specs.Objects.{object_seen}
-use Rattle.pua_policy.specs.Verdict.{Object}
-use Rattle.pua_calls.specs.declared.call.Call.{Call}
-use Rattle.pua_ever.specs.Ever.{is_allowed_under}
+use Rattle.pua_ever.proofs.Common.{◌≡◌, take, empty_tree, has, History, StandsFor, object_seen, Object, Call, is_allowed_under}
 use Rattle.pua_ever.proofs.movable.under.Given as goal
 
 -- of the covers so far each gave its calls

@@ -1,4 +1,4 @@
-use Rattle.std.proofs.Common.{rules}
+use Rattle.pua_ever.proofs.Common.{rules}
 use Rattle.pua_ever.proofs.openings.can_give_way.Goals as goal
 
 pub returns-then-not-contains : goal.returns-then-not-contains

@@ -1,8 +1,4 @@
-use Rattle.std.proofs.Common.{refl, sym, ap, subst, ◌∙◌}
-use Rattle.pua_path.specs.declared.found.Found.TheVariants.{Whole}
-use Rattle.pua_path.specs.declared.found.Way.TheVariants.{Top}
-use Rattle.pua_policy.specs.Verdict.{FoundFits, cover}
-use Rattle.pua_objects.proofs.ForCallers.{covers_descend}
+use Rattle.pua_ever.proofs.Common.{refl, sym, ap, subst, ◌∙◌, Whole, Top, FoundFits, cover, covers_descend}
 use Rattle.pua_ever.proofs.openings.cover_of_dir.Goals as goal
 
 pub cover-requires : goal.cover-requires
@@ -11,4 +7,5 @@ cover-requires g c = λ k. ((refl, tt), subst (λ t. FoundFits t (Whole c.args.d
 pub returns : goal.returns
 returns g c = λ h stands.
     let t = g.T.FileTree.content c.args.tree.now in
-    c.cover.ensures.exact h stands ∙ ap (λ u. cover u h (Whole c.args.dir Top)) c.new.ensures.tree ∙ (covers_descend t h c.known.ensures).directory c.args.dir Top c.requires
+    c.cover.ensures.exact h stands ∙ ap (λ u. cover u h (Whole c.args.dir Top)) c.new.ensures.tree ∙
+    (covers_descend t h c.known.ensures).directory c.args.dir Top c.requires

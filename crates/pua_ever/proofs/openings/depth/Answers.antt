@@ -1,9 +1,7 @@
-use Rattle.std.proofs.Common.{◌≡◌, ◌∙◌, ◌+◌, length, sym, ap, true, arith}
-use Rattle.std.proofs.lemmas.Bool.{eqb-false, not-true}
+use Rattle.pua_ever.proofs.Common.{◌≡◌, ◌∙◌, length, sym, ap, true, arith, not-true, Some, Tree, is_dir, above, climb, above_lives}
+use Rattle.std.proofs.Common.{◌+◌}
+use Rattle.std.proofs.lemmas.Bool.{eqb-false}
 use Rattle.std.proofs.lemmas.Option.{same_Some}
-use Rattle.std.specs.Prelude.{Some}
-use Rattle.pua_tree.specs.Tree.{Tree, is_dir, above, climb}
-use Rattle.pua_path.proofs.ForCallers.{above_lives}
 use Rattle.pua_policy.proofs.ForCallers.{length-climb_step}
 use Rattle.pua_ever.proofs.Opened.{when_some}
 use Rattle.pua_ever.proofs.openings.depth.Goals as goal
@@ -23,7 +21,8 @@ module _ (g : Over) (c : After-saturating_add-count g) where
 
   -- so one directory less is left
   less : length (climb t c.loop-at.at) ≡ length (climb t c.in-Some.above) + 1
-  less = length-climb_step t c.known.ensures c.loop-at.at (eqb-false c.loop-at.at 0 (not-true _ (sym c.loop-at-test.ensures))) up.0 ∙ ap (λ d. length (climb t d) + 1) (sym same)
+  less = length-climb_step t c.known.ensures c.loop-at.at (eqb-false c.loop-at.at 0 (not-true _ (sym c.loop-at-test.ensures))) up.0 ∙
+      ap (λ d. length (climb t d) + 1) (sym same)
 
 pub loop-at-smaller : goal.loop-at-smaller
 loop-at-smaller g c = omega (arith, less g c)

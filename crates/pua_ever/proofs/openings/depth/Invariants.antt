@@ -1,5 +1,5 @@
-use Rattle.std.proofs.Common.{ℕ, ◌≡◌, ◌+◌, min, length, true}
-use Rattle.pua_tree.specs.Tree.{is_dir, climb}
+use Rattle.pua_ever.proofs.Common.{ℕ, ◌≡◌, length, true, is_dir, climb}
+use Rattle.std.proofs.Common.{◌+◌, min}
 use Rattle.pua_ever.proofs.openings.depth.Given as goal
 
 -- so many directories were passed, and the rest of the climb has the others
@@ -8,7 +8,8 @@ invariant-loop-at g l = record {
   passed : ℕ;
   count : l.count ≡ min (passed + 1) 18446744073709551615;
   living : is_dir (g.T.FileTree.content l.fn.tree) l.at ≡ is_dir (g.T.FileTree.content l.fn.tree) l.fn.dir;
-  all : is_dir (g.T.FileTree.content l.fn.tree) l.fn.dir ≡ true → passed + length (climb (g.T.FileTree.content l.fn.tree) l.at) ≡ length (climb (g.T.FileTree.content l.fn.tree) l.fn.dir);
+  all : is_dir (g.T.FileTree.content l.fn.tree) l.fn.dir ≡ true →
+      passed + length (climb (g.T.FileTree.content l.fn.tree) l.at) ≡ length (climb (g.T.FileTree.content l.fn.tree) l.fn.dir);
 }
 
 -- which gets shorter

@@ -1,4 +1,4 @@
-use Rattle.std.proofs.Common.{rules}
+use Rattle.pua_ever.proofs.Common.{rules}
 use Rattle.pua_ever.proofs.openings.entrance.Goals as goal
 
 pub returns-in-Slot : goal.returns-in-Slot

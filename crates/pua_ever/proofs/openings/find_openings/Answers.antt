@@ -1,11 +1,7 @@
-use Rattle.std.proofs.Common.{◌≡◌, [], ◌∷◌, ◌++◌, map, sym, ap, subst, ◌∙◌}
-use Rattle.std.specs.Prelude.{filter_map, length, nat_lt, not, ◌==◌, if◌then◌else◌}
-use Rattle.std.specs.List.{list_any}
-use Rattle.pua_tree.specs.Tree.{Tree, WellFormed}
-use Rattle.pua_policy.specs.History.{History, StandsFor, has_veil}
-use Rattle.pua_policy.specs.declared.answer.Cover.TheVariants.{All}
-use Rattle.pua_ever.specs.Ever.{dir_covers, name_covers}
-use Rattle.pua_ever.specs.Openings.{dir_opening, name_opening, opened_dir, held_dir, entrance, HaveSame}
+use Rattle.pua_ever.proofs.Common.{◌≡◌, [], ◌∷◌, ◌++◌, map, sym, ap, subst, ◌∙◌, filter_map, nat_lt, not, ◌==◌, if◌then◌else◌, list_any}
+use Rattle.pua_ever.proofs.Common.{Tree, WellFormed, History, StandsFor, has_veil, All, dir_covers, name_covers, dir_opening, name_opening}
+use Rattle.pua_ever.proofs.Common.{opened_dir, held_dir, entrance_cover, HaveSame}
+use Rattle.std.specs.Prelude.{length}
 use Rattle.pua_ever.proofs.Opened.{places_of, held, empties}
 use Rattle.pua_ever.proofs.Opening.{own_covers, entrances, dirs_same, names_same, some_same}
 use Rattle.pua_ever.proofs.openings.find_openings.Goals as goal
@@ -23,29 +19,36 @@ module _ (g : Over) (c : After-drop-places g) (h : History) (stands : StandsFor 
   places = ap (map (λ place. place.now)) c.deref.ensures.value ∙ c.in_ok-places.ensures ∙ ap (map (λ veil. veil.0)) stands.veils
 
   dirs : c.in-Ok.found.dirs.items ≡ own_covers t h well
-  dirs = c.in-Ok.ensures.dirs h stands ∙ (λ i. filter_map (dir_opening t h) (places i) ++ (if has_veil (stands.veils i) then [] else All ∷ []))
+  dirs = c.in-Ok.ensures.dirs h stands ∙
+      (λ i. filter_map (dir_opening t h) (places i) ++ (if has_veil (stands.veils i) then [] else All ∷ []))
 
   stays : c.in-Ok.found.held.items ≡ held t h well
   stays = c.in-Ok.ensures.held h stands ∙ ap (filter_map (held_dir t h)) places
 
   ways : c.in-Ok.found.entrances.items ≡ entrances t h well
-  ways = c.in-Ok.ensures.entrances h stands ∙ (λ i. filter_map (entrance t h (stays i) (filter_map (opened_dir h) (places i))) (places i))
+  ways = c.in-Ok.ensures.entrances h stands ∙
+      (λ i. filter_map (entrance_cover t h (stays i) (filter_map (opened_dir h) (places i))) (places i))
 
   names : c.in-Ok.found.names.items ≡ filter_map (name_opening t h) (places_of h)
   names = c.in-Ok.ensures.names h stands ∙ ap (filter_map (name_opening t h)) places
 
 pub returns-in-Ok-clause-dirs : goal.returns-in-Ok-clause-dirs
 returns-in-Ok-clause-dirs g c = λ h stands.
-    let both : c.in-Ok.found.dirs.items ++ c.in-Ok.found.entrances.items ≡ own_covers (t g c h stands) h (well g c h stands) ++ entrances (t g c h stands) h (well g c h stands)
+    let both : c.in-Ok.found.dirs.items ++ c.in-Ok.found.entrances.items ≡ own_covers (t g c h stands) h (well g c h stands)
+    ++ entrances (t g c h stands) h (well g c h stands)
     = (λ i. dirs g c h stands i ++ ways g c h stands i) in
     subst (λ xs. HaveSame xs (dir_covers (t g c h stands) h)) (sym both) (dirs_same (t g c h stands) h (well g c h stands))
 
 pub returns-in-Ok-clause-names : goal.returns-in-Ok-clause-names
-returns-in-Ok-clause-names g c = λ h stands. subst (λ xs. HaveSame xs (name_covers (t g c h stands) h)) (sym (names g c h stands)) (names_same (t g c h stands) h (well g c h stands))
+returns-in-Ok-clause-names g c =
+    λ h stands. subst (λ xs. HaveSame xs (name_covers (t g c h stands) h)) (sym (names g c h stands))
+    (names_same (t g c h stands) h (well g c h stands))
 
 pub returns-in-Ok-clause-some : goal.returns-in-Ok-clause-some
-returns-in-Ok-clause-some g c = λ h stands. ap (λ xs. nat_lt 0 (length xs)) (dirs g c h stands) ∙ some_same (t g c h stands) h (well g c h stands)
+returns-in-Ok-clause-some g c = λ h stands. ap (λ xs. nat_lt 0 (length xs)) (dirs g c h stands) ∙
+    some_same (t g c h stands) h (well g c h stands)
 
 pub returns-in-Ok-clause-held : goal.returns-in-Ok-clause-held
 returns-in-Ok-clause-held g c = λ h dir stands is has.
-    empties (t g c h stands) h (well g c h stands) dir is has ∙ ap (λ xs. not (list_any (λ other. other == dir) xs)) (sym (stays g c h stands))
+    empties (t g c h stands) h (well g c h stands) dir is has ∙
+    ap (λ xs. not (list_any (λ other. other == dir) xs)) (sym (stays g c h stands))

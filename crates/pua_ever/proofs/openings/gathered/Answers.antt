@@ -1,9 +1,6 @@
-use Rattle.std.proofs.Common.{◌≡◌, [], ◌∷◌, ◌++◌, map, true, false, sym, ap, ◌∙◌}
-use Rattle.std.specs.Prelude.{filter_map, if◌then◌else◌}
+use Rattle.pua_ever.proofs.Common.{◌≡◌, [], ◌∷◌, ◌++◌, map, true, false, sym, ap, ◌∙◌, filter_map, if◌then◌else◌, has_veil, All}
+use Rattle.pua_ever.proofs.Common.{dir_opening, entrance_cover, opened_dir}
 use Rattle.std.proofs.lemmas.List.{append-nil}
-use Rattle.pua_policy.specs.History.{has_veil}
-use Rattle.pua_policy.specs.declared.answer.Cover.TheVariants.{All}
-use Rattle.pua_ever.specs.Openings.{dir_opening, entrance, opened_dir}
 use Rattle.pua_ever.proofs.openings.gathered.Goals as goal
 use Rattle.pua_ever.proofs.openings.gathered.Goals.{then-not-is_veiled+in_ok-push, else-not-is_veiled}
 
@@ -26,4 +23,4 @@ returns-clause-entrances g c = λ h stands.
     let t = g.T.FileTree.content c.args.tree.now in
     let places = map (λ place. place.now) c.args.places.now in
     let opened : c.in_ok-opened.opened.dirs.items ≡ filter_map (opened_dir h) places = c.in_ok-opened.ensures h stands in
-    c.in_ok-entrances.ensures h stands ∙ (λ i. filter_map (entrance t h (c.deref.ensures.value i) (opened i)) places)
+    c.in_ok-entrances.ensures h stands ∙ (λ i. filter_map (entrance_cover t h (c.deref.ensures.value i) (opened i)) places)

@@ -1,4 +1,4 @@
-use Rattle.std.proofs.Common.{rules}
+use Rattle.pua_ever.proofs.Common.{rules}
 use Rattle.pua_ever.proofs.openings.held_dir.Goals as goal
 
 pub returns-in-Dir-2 : goal.returns-in-Dir-2

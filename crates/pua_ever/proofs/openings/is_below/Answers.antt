@@ -1,11 +1,9 @@
-use Rattle.std.proofs.Common.{◌≡◌, ◌≢◌, ◌==◌, ◌∙◌, cond, length, sym, ap, arith, true, false, eqb-true}
+use Rattle.pua_ever.proofs.Common.{◌≡◌, ◌≢◌, ◌∙◌, cond, length, sym, ap, arith, true, false, Some, None, list_any, above, climb}
+use Rattle.pua_ever.proofs.Common.{above_lives}
+use Rattle.std.proofs.Common.{◌==◌, eqb-true}
 use Rattle.std.proofs.lemmas.Bool.{eqb-false}
 use Rattle.std.proofs.lemmas.Option.{same_Some}
-use Rattle.std.specs.Prelude.{Some, None}
-use Rattle.std.specs.List.{list_any}
-use Rattle.pua_tree.specs.Tree.{above, climb}
 use Rattle.pua_tree.proofs.ForCallers.{climb_here, climb_root}
-use Rattle.pua_path.proofs.ForCallers.{above_lives}
 use Rattle.pua_policy.proofs.ForCallers.{length-climb_step}
 use Rattle.pua_ever.proofs.Quiet.{below_up}
 use Rattle.pua_ever.proofs.openings.is_below.Goals as goal

@@ -1,13 +1,13 @@
-use Rattle.std.proofs.Common.{◌≡◌, ◌==◌, length, IsTrue}
-use Rattle.std.specs.List.{list_any}
-use Rattle.pua_tree.specs.Tree.{is_dir, climb}
+use Rattle.pua_ever.proofs.Common.{◌≡◌, length, list_any, is_dir, climb}
+use Rattle.std.proofs.Common.{◌==◌, IsTrue}
 use Rattle.pua_ever.proofs.openings.is_below.Given as goal
 
 -- the rest of the climb decides
 abbrev pub invariant-loop-node : goal.invariant-loop-node
 invariant-loop-node g l = record {
   living : IsTrue (is_dir (g.T.FileTree.content l.fn.tree) l.at);
-  same : list_any (λ d. d == l.fn.node) (climb (g.T.FileTree.content l.fn.tree) l.at) ≡ list_any (λ d. d == l.fn.node) (climb (g.T.FileTree.content l.fn.tree) l.fn.dir);
+  same : list_any (λ d. d == l.fn.node) (climb (g.T.FileTree.content l.fn.tree) l.at) ≡ list_any (λ d. d == l.fn.node)
+      (climb (g.T.FileTree.content l.fn.tree) l.fn.dir);
 }
 
 abbrev pub decreases-loop-node : goal.decreases-loop-node

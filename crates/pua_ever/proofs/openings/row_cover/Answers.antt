@@ -1,5 +1,4 @@
-use Rattle.std.proofs.Common.{refl, sym, subst, ◌∙◌}
-use Rattle.pua_policy.specs.Verdict.{FoundFits, cover}
+use Rattle.pua_ever.proofs.Common.{refl, sym, subst, ◌∙◌, FoundFits, cover}
 use Rattle.pua_ever.proofs.Covers.{row_fits}
 use Rattle.pua_ever.proofs.openings.row_cover.Goals as goal
 
@@ -8,7 +7,10 @@ cover-requires g c = λ k.
     let t = g.T.FileTree.content c.args.tree.now in (
       (refl, tt),
       subst (λ u. FoundFits u c.found_in-found.result) (sym c.new.ensures.tree)
-          (subst (FoundFits t) (sym c.found_in-found.ensures) (row_fits t c.known.ensures (c.args.dir, c.args.name.now) c.args.node c.requires)),
+          (subst (FoundFits t) (sym c.found_in-found.ensures) (row_fits t c.known.ensures (
+            c.args.dir,
+            c.args.name.now,
+          ) c.args.node c.requires)),
     )
 
 pub returns : goal.returns

@@ -1,4 +1,5 @@
-use Rattle.std.proofs.Common.{ℕ, ◌<◌, ◌≤◌, get_or}
+use Rattle.pua_ever.proofs.Common.{ℕ, ◌<◌, ◌≤◌}
+use Rattle.std.proofs.Common.{get_or}
 use Rattle.pua_ever.specs.Openings.{depth}
 use Rattle.pua_ever.proofs.openings.shallowest.Given as goal
 

@@ -1,4 +1,4 @@
-use Rattle.std.proofs.Common.{sym, ◌∙◌}
+use Rattle.pua_ever.proofs.Common.{sym, ◌∙◌}
 use Rattle.pua_ever.proofs.Refused.{unrefused_table, unrefused_history}
 use Rattle.pua_ever.proofs.refusal.why_refused.Goals as goal
 

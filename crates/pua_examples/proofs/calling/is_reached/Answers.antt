@@ -1,4 +1,5 @@
-use Rattle.std.proofs.Common.{◌≡◌, ◌∙◌, [], None, Ok, ap, subst, nat_eq}
+use Rattle.pua_examples.proofs.Common.{◌≡◌}
+use Rattle.std.proofs.Common.{◌∙◌, [], None, Ok, ap, subst, nat_eq}
 use Rattle.std.specs.List.{list_any}
 use Rattle.pua_calls.specs.Calls.{call_number}
 use Rattle.pua_audit.specs.Begin.{beginning}

@@ -1,4 +1,5 @@
-use Rattle.std.proofs.Common.{◌≡◌, length}
+use Rattle.pua_io.proofs.Common.{◌≡◌}
+use Rattle.std.proofs.Common.{length}
 use Rattle.pua_io.proofs.Putting.{HasPut}
 use Rattle.pua_io.proofs.sink.put_all.Given as goal
 

@@ -1,4 +1,5 @@
-use Rattle.std.proofs.Common.{◌≡◌, ◌+◌, ◌-◌, ◌≤◌, vec_len}
+use Rattle.pua_io.proofs.Common.{◌≡◌}
+use Rattle.std.proofs.Common.{◌+◌, ◌-◌, ◌≤◌, vec_len}
 use Rattle.std.specs.Io.KnownBytes.{Consumes}
 use Rattle.pua_io.specs.declared.source.TheConstants.{MOST_INPUT_BYTES}
 use Rattle.pua_io.proofs.source.read_bytes.Given as goal

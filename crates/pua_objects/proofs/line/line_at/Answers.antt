@@ -1,9 +1,7 @@
-use Rattle.std.proofs.Common.{◌≡◌, Bool, false, not, sym, ap, ◌∙◌, rules}
-use Rattle.std.specs.Prelude.{◌&&◌, ◌||◌}
+use Rattle.pua_objects.proofs.Common.{◌≡◌, Bool, false, sym, ap, ◌∙◌, rules, ◌&&◌, ◌||◌, object_of, verdict, is_allowed, Call, Cover}
+use Rattle.std.proofs.Common.{not}
 use Rattle.pua_calls.specs.CallSets.{has, keeps_link}
-use Rattle.pua_policy.specs.Verdict.{object_of, covered_verdict, verdict, is_allowed}
-use Rattle.pua_calls.specs.declared.call.Call.{Call}
-use Rattle.pua_policy.specs.declared.answer.Cover.{Cover}
+use Rattle.pua_policy.specs.Verdict.{covered_verdict}
 use Rattle.pua_policy.specs.declared.object.Object.TheVariants as see
 use Rattle.pua_objects.proofs.Lined.{is_link_seen, no_link, kept_alone, kept_or_not, lined}
 use Rattle.pua_objects.proofs.line.line_at.Goals.{then-eq, else-eq}
@@ -14,12 +12,14 @@ returns c = λ t h found stands covered seen.
     let object = c.args.object in
     let allows : Call → Bool = λ call. is_allowed (verdict t c.args.table.now h call found) in
     let judged : (call : Call) → has c.allowed-calls.result call ≡ allows call =
-    λ call. c.allowed-calls.ensures t h (object_of t found) stands seen call ∙ ap (λ (left : Cover). is_allowed (covered_verdict t c.args.table.now h call left (object_of t found))) covered in
+    λ call. c.allowed-calls.ensures t h (object_of t found) stands seen call ∙
+    ap (λ (left : Cover). is_allowed (covered_verdict t c.args.table.now h call left (object_of t found))) covered in
     let listed : (call : Call) → has c.if-eq.calls call ≡ ((keeps_link call || not (is_link_seen object)) && allows call) =
     elim c.if-eq.branch [
       | then-eq w ↦ λ call.
           let link : object ≡ see.Link = search rules in
-          ap (λ set. has set call) w.calls-is ∙ w.keeping-calls.ensures call ∙ ap (λ b. b && keeps_link call) (judged call) ∙ kept_alone (keeps_link call) (allows call)
+          ap (λ set. has set call) w.calls-is ∙ w.keeping-calls.ensures call ∙ ap (λ b. b && keeps_link call) (judged call) ∙
+          kept_alone (keeps_link call) (allows call)
           ∙ ap (λ o. (keeps_link call || not (is_link_seen o)) && allows call) (sym link)
       | else-eq w ↦ λ call.
           let other : is_link_seen object ≡ false = no_link object (λ link. search rules) in

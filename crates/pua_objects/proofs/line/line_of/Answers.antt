@@ -7,4 +7,5 @@ returns-in-Others c = λ t h subject stands on.
 
 pub returns-in_default : goal.returns-in_default
 returns-in_default c = λ t h subject stands on.
-    found_lined t c.args.table.now h subject c.args.item.now on _ c.in_default.not-Others (λ found covered seen. c.line_at.ensures t h found stands covered seen)
+    found_lined t c.args.table.now h subject c.args.item.now on _ c.in_default.not-Others (λ found covered seen. c.line_at.ensures t h found
+    stands covered seen)

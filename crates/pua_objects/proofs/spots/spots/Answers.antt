@@ -1,25 +1,27 @@
-use Rattle.std.proofs.Common.{◌≡◌, ◌++◌, map, ap, sym, subst, ◌∙◌}
-use Rattle.std.specs.Prelude.{filter_map}
+use Rattle.pua_objects.proofs.Common.{◌≡◌, ◌++◌, map, ap, sym, subst, ◌∙◌, filter_map, veils, spot_now, veil_spot, AreAtNames, AreInOrder}
 use Rattle.std.proofs.lemmas.Simd.{map-map}
 use Rattle.pua_tree.specs.LentRows.{lent_entry}
-use Rattle.pua_policy.specs.History.{veils}
-use Rattle.pua_objects.specs.Spots.{spot_now, row_spot, slot_of, AreAtNames, AreInOrder}
+use Rattle.pua_objects.specs.Spots.{row_spot}
 use Rattle.pua_objects.proofs.Gathered.{at_names}
 use Rattle.pua_objects.proofs.Entries.{spots_of}
 use Rattle.pua_objects.proofs.spots.spots.Goals as goal
 
-pub returns-in-Ok-clause-spots : goal.returns-in-Ok-clause-spots
-returns-in-Ok-clause-spots c = λ t all.
+pub returns-clause-spots : goal.returns-clause-spots
+returns-clause-spots c = λ t all.
     let vs = c.args.process.now.veils in
     let given = c.args.rows.now in
-    let rows : map row_spot given ≡ map (λ row. row.0) t.rows = sym (map-map (λ row. row.0) lent_entry given) ∙ ap (map (λ row. row.0)) all in
-    let veils : map (λ place. place.now) c.deref.result.now ≡ map (λ veil. veil.0) vs = ap (map (λ place. place.now)) c.deref.ensures.value ∙ c.in_ok-places.ensures in
-    let both : map row_spot given ++ filter_map slot_of (map (λ place. place.now) c.deref.result.now) ≡ map (λ row. row.0) t.rows ++ filter_map slot_of (map (λ veil. veil.0) vs)
-    = (λ i. rows i ++ filter_map slot_of (veils i)) in
-    spots_of t vs (map spot_now c.in-Ok.spots.items) (subst (λ given. AreInOrder given (map spot_now c.in-Ok.spots.items)) both c.in-Ok.ensures.spots)
+    let rows : map row_spot given ≡ map (λ row. row.0) t.rows = sym (map-map (λ row. row.0) lent_entry given) ∙
+    ap (map (λ row. row.0)) all in
+    let veils : map (λ place. place.now) c.deref.result.now ≡ map (λ veil. veil.0) vs = ap (map (λ place. place.now)) c.deref.ensures.value
+    ∙ c.in_ok-places.ensures in
+    let both : map row_spot given ++ filter_map veil_spot (map (λ place. place.now) c.deref.result.now) ≡ map (λ row. row.0) t.rows
+    ++ filter_map veil_spot (map (λ veil. veil.0) vs)
+    = (λ i. rows i ++ filter_map veil_spot (veils i)) in
+    let spots = map spot_now c.in_ok-distinct_spots.field-0.items in
+    spots_of t vs spots (subst (λ given. AreInOrder given spots) both c.in_ok-distinct_spots.ensures.spots)
 
-pub returns-in-Ok-clause-places : goal.returns-in-Ok-clause-places
-returns-in-Ok-clause-places c = λ h stands.
+pub returns-clause-places : goal.returns-clause-places
+returns-clause-places c = λ h stands.
     let is : map (λ place. place.now) c.deref.result.now ≡ map (λ veil. veil.0) (veils h) =
     ap (map (λ place. place.now)) c.deref.ensures.value ∙ c.in_ok-places.ensures ∙ ap (map (λ veil. veil.0)) stands.veils in
-    at_names (veils h) (subst AreAtNames is c.in-Ok.ensures.places)
+    at_names (veils h) (subst AreAtNames is c.in_ok-distinct_spots.ensures.places)

@@ -1,5 +1,4 @@
-use Rattle.std.proofs.Common.{◌≡◌, length}
-use Rattle.pua_path.specs.Remaining.{after_slashes}
+use Rattle.pua_path.proofs.Common.{◌≡◌, length, after_slashes}
 use Rattle.pua_path.proofs.piece.after_slashes.Given as goal
 
 abbrev pub invariant-loop-rest : goal.invariant-loop-rest

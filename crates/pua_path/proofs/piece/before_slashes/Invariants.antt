@@ -1,5 +1,5 @@
-use Rattle.std.proofs.Common.{◌≡◌, length}
-use Rattle.pua_tree.specs.Names.{components, has_byte}
+use Rattle.pua_path.proofs.Common.{◌≡◌, length, has_byte}
+use Rattle.pua_tree.specs.Names.{components}
 use Rattle.pua_path.proofs.piece.before_slashes.Given as goal
 
 abbrev pub invariant-loop-byte : goal.invariant-loop-byte

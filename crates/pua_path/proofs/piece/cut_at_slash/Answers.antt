@@ -1,4 +1,4 @@
-use Rattle.std.proofs.Common.{sym}
+use Rattle.pua_path.proofs.Common.{sym}
 use Rattle.pua_path.proofs.Pieces.{cut_at_first, cut_nowhere}
 use Rattle.pua_path.proofs.piece.cut_at_slash.Goals as goal
 

@@ -1,4 +1,4 @@
-use Rattle.std.proofs.Common.{refl}
+use Rattle.pua_path.proofs.Common.{refl}
 use Rattle.pua_path.proofs.Living.{seen_target}
 use Rattle.pua_path.proofs.resolver.standing_at.Goals as goal
 

@@ -1,6 +1,4 @@
-use Rattle.std.proofs.Common.{◌≡◌}
-use Rattle.pua_tree.specs.Tree.{Tree}
-use Rattle.pua_policy.specs.History.{History, StandsFor}
+use Rattle.pua_policy.proofs.Common.{◌≡◌, Tree, History, StandsFor}
 use Rattle.pua_policy.specs.Objects.{object_seen}
 use Rattle.pua_policy.specs.Verdict.{Object, covered_verdict, is_allowed}
 use Rattle.pua_calls.proofs.ForCallers.{Decides}

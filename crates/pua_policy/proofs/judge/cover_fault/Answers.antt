@@ -1,4 +1,4 @@
-use Rattle.std.proofs.Common.{rules}
+use Rattle.pua_policy.proofs.Common.{rules}
 use Rattle.pua_policy.proofs.judge.cover_fault.Goals as goal
 
 pub returns-in-Nothing : goal.returns-in-Nothing

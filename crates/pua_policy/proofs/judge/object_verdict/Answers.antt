@@ -1,4 +1,4 @@
-use Rattle.std.proofs.Common.{rules}
+use Rattle.pua_policy.proofs.Common.{rules}
 use Rattle.pua_policy.proofs.judge.object_verdict.Goals as goal
 
 pub returns-in-Some-clause-exact : goal.returns-in-Some-clause-exact

@@ -1,4 +1,4 @@
-use Rattle.std.proofs.Common.{rules, ◌∙◌}
+use Rattle.pua_policy.proofs.Common.{rules, ◌∙◌}
 use Rattle.pua_policy.proofs.Refusals.{refused_is}
 use Rattle.pua_policy.proofs.judge.verdict.Goals as goal
 

@@ -1,20 +1,8 @@
-use Rattle.std.proofs.Common.{◌∙◌}
-use Rattle.pua_script.specs.declared.request.Action.TheVariants.{OnPath}
-use Rattle.pua_script.proofs.Acting.{acts, grants_can_be_done}
+use Rattle.pua_script.proofs.Common.{◌∙◌, asker_on, OnPath}
+use Rattle.pua_script.proofs.Acting.{acts}
 use Rattle.pua_script.proofs.act.call_on.Goals as goal
-
-pub answer-requires-clause-possible : goal.answer-requires-clause-possible
-answer-requires-clause-possible g c =
-    let t = g.T.FileTree.content c.args.tree.now in
-    let own = c.known-2.ensures in
-    let h = own.history in
-    let s = own.stands in
-    grants_can_be_done c.args.table.now t h (OnPath c.args.call c.args.path.now) c.grant_call.result c.known.ensures
-    (c.grant_call.ensures h ∙ c.judge_call-object.ensures h s)
 
 pub returns-clause-exact : goal.returns-clause-exact
 returns-clause-exact g c =
-    let t = g.T.FileTree.content c.args.tree.now in
-    acts c.args.table.now t _ c.args.process.now _ (OnPath c.args.call c.args.path.now) c.grant_call.result c.answer.result
-    (λ h s. c.grant_call.ensures h ∙ c.judge_call-object.ensures h s)
-    c.answer.ensures.exact
+    acts c.args.table.now _ c.args.process.now (OnPath c.args.call c.args.path.now) c.grant_call.result
+    (c.grant_call.ensures (asker_on c.args.process.now) ∙ c.judge_call-object.ensures) _ _ c.answer.result c.answer.ensures.exact

@@ -1,22 +1,9 @@
-use Rattle.std.proofs.Common.{sym, ◌∙◌}
-use Rattle.pua_path.specs.Fits.{node_named}
-use Rattle.pua_script.specs.Decide.{decide_link}
-use Rattle.pua_script.specs.declared.request.Action.TheVariants.{Link}
-use Rattle.pua_script.proofs.Acting.{acts, grants_can_be_done}
+use Rattle.pua_script.proofs.Common.{sym, ◌∙◌, node_named, asker_on, decide_link, Link}
+use Rattle.pua_script.proofs.Acting.{acts}
 use Rattle.pua_script.proofs.act.link.Goals as goal
-
-pub answer-requires-clause-possible : goal.answer-requires-clause-possible
-answer-requires-clause-possible g c =
-    let t = g.T.FileTree.content c.args.tree.now in
-    let own = c.known-2.ensures in
-    let h = own.history in
-    let s = own.stands in
-    grants_can_be_done c.args.table.now t h (Link c.args.old.now c.args.new.now) c.grant_link.result c.known.ensures
-    (c.grant_link.ensures h ∙ sym (c.judge_link-pair.ensures h s (λ a b. decide_link a b (node_named a))))
 
 pub returns-clause-exact : goal.returns-clause-exact
 returns-clause-exact g c =
-    let t = g.T.FileTree.content c.args.tree.now in
-    acts c.args.table.now t _ c.args.process.now _ (Link c.args.old.now c.args.new.now) c.grant_link.result c.answer.result
-    (λ h s. c.grant_link.ensures h ∙ sym (c.judge_link-pair.ensures h s (λ a b. decide_link a b (node_named a))))
-    c.answer.ensures.exact
+    acts c.args.table.now _ c.args.process.now (Link c.args.old.now c.args.new.now) c.grant_link.result
+    (c.grant_link.ensures (asker_on c.args.process.now) ∙ sym (c.judge_link-pair.ensures (λ a b. decide_link a b (node_named a))))
+    _ _ c.answer.result c.answer.ensures.exact

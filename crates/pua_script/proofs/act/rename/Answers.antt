@@ -1,22 +1,9 @@
-use Rattle.std.proofs.Common.{sym, ◌∙◌}
-use Rattle.pua_path.specs.Fits.{node_named}
-use Rattle.pua_script.specs.Decide.{decide_rename}
-use Rattle.pua_script.specs.declared.request.Action.TheVariants.{Rename}
-use Rattle.pua_script.proofs.Acting.{acts, grants_can_be_done}
+use Rattle.pua_script.proofs.Common.{sym, ◌∙◌, node_named, asker_on, decide_rename, Rename}
+use Rattle.pua_script.proofs.Acting.{acts}
 use Rattle.pua_script.proofs.act.rename.Goals as goal
-
-pub answer-requires-clause-possible : goal.answer-requires-clause-possible
-answer-requires-clause-possible g c =
-    let t = g.T.FileTree.content c.args.tree.now in
-    let own = c.known-2.ensures in
-    let h = own.history in
-    let s = own.stands in
-    grants_can_be_done c.args.table.now t h (Rename c.args.old.now c.args.new.now) c.grant_rename-granted.result c.known.ensures
-    (c.grant_rename-granted.ensures h ∙ sym (c.judge_rename-pair.ensures.exact h s (λ a b. decide_rename t a b (node_named a))))
 
 pub returns-clause-exact : goal.returns-clause-exact
 returns-clause-exact g c =
-    let t = g.T.FileTree.content c.args.tree.now in
-    acts c.args.table.now t _ c.args.process.now _ (Rename c.args.old.now c.args.new.now) c.grant_rename-granted.result c.answer.result
-    (λ h s. c.grant_rename-granted.ensures h ∙ sym (c.judge_rename-pair.ensures.exact h s (λ a b. decide_rename t a b (node_named a))))
-    c.answer.ensures.exact
+    acts c.args.table.now _ c.args.process.now (Rename c.args.old.now c.args.new.now) c.grant_rename-granted.result
+    (c.grant_rename-granted.ensures (asker_on c.args.process.now)
+    ∙ sym (c.judge_rename-pair.ensures.exact (λ a b. decide_rename _ a b (node_named a)))) _ _ c.answer.result c.answer.ensures.exact

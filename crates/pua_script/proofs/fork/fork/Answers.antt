@@ -1,11 +1,5 @@
-use Rattle.std.proofs.Common.{◌∷◌, [], sym, ap, ◌∙◌, is_some, refl}
-use Rattle.std.specs.Prelude.{Ok}
-use Rattle.pua_policy.specs.History.{may_any}
-use Rattle.pua_calls.specs.Promises.{proc}
-use Rattle.pua_script.specs.Decide.{CopyAs}
-use Rattle.pua_script.specs.Replay.{come_of}
-use Rattle.pua_script.specs.Worlds.{WorldState}
-use Rattle.pua_script.specs.declared.request.Action.TheVariants.{Fork}
+use Rattle.pua_script.proofs.Common.{◌∷◌, [], sym, ap, ◌∙◌, refl, Ok, may_any, proc, CopyAs, come_of, WorldState, Fork}
+use Rattle.std.proofs.Common.{is_some}
 use Rattle.pua_script.proofs.Doing.{as_same, promises_refuse}
 use Rattle.pua_script.proofs.Serving.{serves, forks, same_entries}
 use Rattle.pua_script.proofs.fork.fork.Goals as goal
@@ -13,12 +7,14 @@ use Rattle.pua_script.proofs.fork.fork.Goals as goal
 -- a process that may fork stays as it was, so all do
 pub returns-in_default-fork-clause-unchanged : goal.returns-in_default-fork-clause-unchanged
 returns-in_default-fork-clause-unchanged c =
-    same_entries c.args.number c.in-Some.process.now c.in-Some.process.now c.args.processes.now.entries _ c.in-Some.ensures.value (c.get_mut.follows.holds c.in-Some.process.now).0 refl
+    same_entries c.args.number c.in-Some.process.now c.in-Some.process.now c.args.processes.now.entries _ c.in-Some.ensures.value
+    (c.get_mut.follows.holds c.in-Some.process.now).0 refl
 
 pub returns-in_default-insert-clause-unchanged : goal.returns-in_default-insert-clause-unchanged
 returns-in_default-insert-clause-unchanged c =
     c.in_default-insert.ensures.err
-    ∙ same_entries c.args.number c.in-Some.process.now c.in-Some.process.now c.args.processes.now.entries _ c.in-Some.ensures.value (c.get_mut.follows.holds c.in-Some.process.now).0 refl
+    ∙ same_entries c.args.number c.in-Some.process.now c.in-Some.process.now c.args.processes.now.entries _ c.in-Some.ensures.value
+    (c.get_mut.follows.holds c.in-Some.process.now).0 refl
 
 pub returns-in-Err-clause-served : goal.returns-in-Err-clause-served
 returns-in-Err-clause-served c = λ t table.
@@ -35,7 +31,10 @@ pub returns-clause-served : goal.returns-clause-served
 returns-clause-served c = λ t table.
     let there = c.in-Some.ensures.value in
     let inserted = c.in-Ok-insert.ensures in
-    let same = same_entries c.args.number c.in-Some.process.now c.in-Some.process.now c.args.processes.now.entries _ there (c.get_mut.follows.holds c.in-Some.process.now).0 refl in
-    forks (record { tree = t; table = table; processes = c.args.processes.now.entries }) c.args.number c.args.new c.in-Some.process.now c.in-Ok-fork.copy _ _ c.in-Ok-insert.field-0
-    (sym there) (sym c.ended.ensures.state ∙ c.if-ended.false) c.in-Ok.ensures.exact (sym c.is_refused-is_refused.ensures ∙ c.if-is_refused.false)
+    let same = same_entries c.args.number c.in-Some.process.now c.in-Some.process.now c.args.processes.now.entries _ there
+    (c.get_mut.follows.holds c.in-Some.process.now).0 refl in
+    forks (record { tree = t; table = table; processes = c.args.processes.now.entries }) c.args.number c.args.new c.in-Some.process.now
+    c.in-Ok-fork.copy _ _ c.in-Ok-insert.field-0
+    (sym there) (sym c.ended.ensures.state ∙ c.if-ended.false) c.in-Ok.ensures.exact (sym c.is_refused-is_refused.ensures ∙
+    c.if-is_refused.false)
     c.in-Ok-fork.ensures same inserted.updates.0 inserted.old inserted.len

@@ -1,4 +1,4 @@
-use Rattle.std.proofs.Common.{arith}
+use Rattle.pua_script.proofs.Common.{arith}
 use Rattle.pua_script.proofs.Reading.{many_arguments}
 use Rattle.pua_script.proofs.line.read_action.Goals as goal
 

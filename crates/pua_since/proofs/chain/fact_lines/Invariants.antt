@@ -1,5 +1,4 @@
-use Rattle.std.proofs.Common.{◌≡◌, map, take}
-use Rattle.pua_since.specs.Dates.{fact_line}
+use Rattle.pua_since.proofs.Common.{◌≡◌, map, take, fact_line}
 use Rattle.pua_since.proofs.chain.fact_lines.Given as goal
 
 abbrev pub invariant-loop-place : goal.invariant-loop-place

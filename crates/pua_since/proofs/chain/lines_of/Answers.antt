@@ -1,13 +1,7 @@
-use Rattle.std.proofs.Common.{◌≡◌, ◌∙◌, ◌++◌, ◌∷◌, [], sym, ap, map, flat_map, append_assoc, append-nil, string_bytes, inl, inr}
-use Rattle.std.specs.Prelude.{◌⊎◌}
-use Rattle.std.specs.Slice.Iter.{iter_rest}
+use Rattle.pua_since.proofs.Common.{◌≡◌, ◌∙◌, ◌++◌, ◌∷◌, [], sym, ap, map, flat_map, append_assoc, append-nil, string_bytes, inl, inr, ◌⊎◌}
+use Rattle.pua_since.proofs.Common.{iter_rest, with_end, apply, world_after, Asked, reason, fact_seen, date_of, since_text, answer_words}
 use Rattle.std.proofs.lemmas.Slice.Zip.{Zip-more, either_empty_from_Zip}
-use Rattle.pua_script.specs.AnswerTexts.{ended}
-use Rattle.pua_script.specs.Replay.{apply, world_after}
-use Rattle.pua_script.specs.Requests.{Asked}
-use Rattle.pua_why.specs.Reasons.{reason}
-use Rattle.pua_why.specs.Seen.{fact_seen}
-use Rattle.pua_why.specs.Texts.{date_of, fact_dated, since_text, words}
+use Rattle.pua_why.specs.Texts.{fact_dated}
 use Rattle.pua_since.proofs.Chained.{chained, dated_lines, none_left, one_line}
 use Rattle.pua_since.proofs.chain.lines_of.Goals as goal
 
@@ -17,20 +11,27 @@ loop-fact-init g c =
     let lines : iter_rest c.into_iter-fact-iterator.result.b ≡ c.args.dates.now.facts.items = cc in
     record {
       rows = c.in-Ok.ensures ∙ (λ i. (c.tree.ensures i).rows);
-      told = sym (λ i. c.new-text.ensures.bytes i ++ flat_map ended (dated_lines c.args.world.now.tree (map fact_seen (facts i)) (lines i)));
+      told = sym (λ i. c.new-text.ensures.bytes i ++ flat_map with_end (dated_lines c.args.world.now.tree (map fact_seen (facts i))
+          (lines i)));
     }
 
 pub loop-fact-preserved : goal.loop-fact-preserved
 loop-fact-preserved g c =
     let t = c.args.world.now.tree in
-    let rest = Zip-more c.loop-fact.fact-iterator c.next.new.self c.next.result (c.in-Some.fact, c.in-Some.line) c.in-Some.is c.next.ensures.steps in
+    let rest = Zip-more c.loop-fact.fact-iterator c.next.new.self c.next.result (
+      c.in-Some.fact,
+      c.in-Some.line,
+    ) c.in-Some.is c.next.ensures.steps in
     record {
       rows = c.push_fact.ensures.rows ∙ c.loop-fact.invariant.rows;
-      told = one_line t (fact_seen c.in-Some.fact.now) c.in-Some.line.now (map fact_seen (iter_rest c.next.new.self.a)) (iter_rest c.next.new.self.b) _
+      told = one_line t (fact_seen c.in-Some.fact.now) c.in-Some.line.now (map fact_seen (iter_rest c.next.new.self.a))
+          (iter_rest c.next.new.self.b) _
           (string_bytes c.loop-fact.text) (string_bytes c.push_fact.new.text) (string_bytes c.push_str.new.self)
-          (c.loop-fact.invariant.told ∙ (λ i. string_bytes c.loop-fact.text ++ flat_map ended (dated_lines t (map fact_seen (rest.0 i)) (rest.1 i))))
+          (c.loop-fact.invariant.told ∙
+          (λ i. string_bytes c.loop-fact.text ++ flat_map with_end (dated_lines t (map fact_seen (rest.0 i)) (rest.1 i))))
           (c.in_ok-push_fact.ensures.text (c.loop-fact.invariant.rows ∙ sym (λ i. (c.tree-in-loop-fact.ensures i).rows))
-          ∙ (λ i. string_bytes c.loop-fact.text ++ fact_dated (c.tree-in-loop-fact.ensures i) c.in-Some.line.now (fact_seen c.in-Some.fact.now)))
+          ∙ (λ i. string_bytes c.loop-fact.text ++ fact_dated (c.tree-in-loop-fact.ensures i) c.in-Some.line.now
+          (fact_seen c.in-Some.fact.now)))
           c.in_ok-push_str.ensures.bytes;
     }
 
@@ -40,18 +41,26 @@ returns g c w done stands told are dated =
     let table = c.args.world.now.table in
     let left = world_after table w done in
     let asked : Asked = record { process = c.process-process.result; action = c.action-action.result.now } in
-    let same : asked ≡ c.args.request.now = λ i. record { process = c.process-process.ensures.process i; action = c.action-action.ensures.action i } in
+    let same : asked ≡ c.args.request.now =
+    λ i. record { process = c.process-process.ensures.process i; action = c.action-action.ensures.action i } in
     let empty : (map fact_seen (iter_rest c.loop-fact.fact-iterator.a) ≡ []) ⊎ (iter_rest c.loop-fact.fact-iterator.b ≡ []) =
     by (either_empty_from_Zip c.loop-fact.fact-iterator c.next.new.self c.next.result c.in-None.is c.next.ensures.steps) in
-    let so_far : flat_map ended (dated_lines t (map fact_seen c.args.passed.now) c.args.dates.now.facts.items) ≡ string_bytes c.loop-fact.text =
-    c.loop-fact.invariant.told ∙ ap (λ lines. string_bytes c.loop-fact.text ++ flat_map ended lines) (none_left t _ _ empty) ∙ append-nil (string_bytes c.loop-fact.text) in
-    let answered : string_bytes c.push_answer.new.text ≡ string_bytes c.loop-fact.text ++ (words table left asked ++ since_text (date_of (reason table left asked) c.args.dates.now.answer)) =
+    let so_far : flat_map with_end (dated_lines t (map fact_seen c.args.passed.now) c.args.dates.now.facts.items)
+    ≡ string_bytes c.loop-fact.text =
+    c.loop-fact.invariant.told ∙ ap (λ lines. string_bytes c.loop-fact.text ++ flat_map with_end lines) (none_left t _ _ empty) ∙
+    append-nil (string_bytes c.loop-fact.text) in
+    let answered : string_bytes c.push_answer.new.text ≡ string_bytes c.loop-fact.text
+    ++ (answer_words table left asked ++ since_text (date_of (reason table left asked) c.args.dates.now.answer)) =
     c.in_ok-push_answer.ensures left stands (told ∙ sym (λ i. (apply table left (same i)).0)) in
     c.in_ok-push_str-2.ensures.bytes
-    ∙ ap (λ text. text ++ 10 ∷ []) (answered ∙ (λ i. string_bytes c.loop-fact.text ++ (words table left (same i) ++ since_text (date_of (reason table left (same i)) c.args.dates.now.answer))))
+    ∙ ap (λ text. text ++ 10 ∷ []) (answered ∙
+    (λ i. string_bytes c.loop-fact.text
+    ++ (answer_words table left (same i) ++ since_text (date_of (reason table left (same i)) c.args.dates.now.answer))))
     ∙ append_assoc (string_bytes c.loop-fact.text) _ (10 ∷ [])
-    ∙ chained table w done c.args.request.now (map fact_seen c.args.passed.now) c.args.dates.now t (string_bytes c.loop-fact.text) stands.tree are dated (sym so_far)
+    ∙ chained table w done c.args.request.now (map fact_seen c.args.passed.now) c.args.dates.now t (string_bytes c.loop-fact.text)
+    stands.tree are dated (sym so_far)
   where
-    by : (iter_rest c.loop-fact.fact-iterator.a ≡ []) ⊎ (iter_rest c.loop-fact.fact-iterator.b ≡ []) → (map fact_seen (iter_rest c.loop-fact.fact-iterator.a) ≡ []) ⊎ (iter_rest c.loop-fact.fact-iterator.b ≡ [])
+    by : (iter_rest c.loop-fact.fact-iterator.a ≡ []) ⊎ (iter_rest c.loop-fact.fact-iterator.b ≡ []) →
+        (map fact_seen (iter_rest c.loop-fact.fact-iterator.a) ≡ []) ⊎ (iter_rest c.loop-fact.fact-iterator.b ≡ [])
     by (inl none) = inl (ap (map fact_seen) none)
     by (inr none) = inr none

@@ -1,7 +1,4 @@
-use Rattle.std.proofs.Common.{◌≡◌, ◌++◌, map, flat_map, string_bytes}
-use Rattle.std.specs.Slice.Iter.{iter_rest}
-use Rattle.pua_script.specs.AnswerTexts.{ended}
-use Rattle.pua_why.specs.Seen.{fact_seen}
+use Rattle.pua_since.proofs.Common.{◌≡◌, ◌++◌, map, flat_map, string_bytes, iter_rest, with_end, fact_seen}
 use Rattle.pua_since.proofs.Chained.{dated_lines}
 use Rattle.pua_since.proofs.chain.lines_of.Given as goal
 
@@ -9,6 +6,7 @@ use Rattle.pua_since.proofs.chain.lines_of.Given as goal
 abbrev pub invariant-loop-fact : goal.invariant-loop-fact
 invariant-loop-fact g l = record {
   rows : l.paths.rows ≡ l.world.tree.rows;
-  told : flat_map ended (dated_lines l.world.tree (map fact_seen l.fn.passed) l.fn.dates.facts.items)
-      ≡ string_bytes l.text ++ flat_map ended (dated_lines l.world.tree (map fact_seen (iter_rest l.fact-iterator.a)) (iter_rest l.fact-iterator.b));
+  told : flat_map with_end (dated_lines l.world.tree (map fact_seen l.fn.passed) l.fn.dates.facts.items)
+      ≡ string_bytes l.text ++ flat_map with_end (dated_lines l.world.tree (map fact_seen (iter_rest l.fact-iterator.a))
+      (iter_rest l.fact-iterator.b));
 }

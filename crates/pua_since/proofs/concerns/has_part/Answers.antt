@@ -1,5 +1,5 @@
-use Rattle.std.proofs.Common.{◌≡◌, ◌==◌, rules, tests, sym, ap, ◌∙◌}
-use Rattle.std.specs.List.{list_any, slice_split}
+use Rattle.pua_since.proofs.Common.{◌≡◌, rules, sym, ap, ◌∙◌, list_any, slice_split}
+use Rattle.std.proofs.Common.{◌==◌, tests}
 use Rattle.std.proofs.lemmas.Iterator.Search.{any_from_yields_List}
 use Rattle.std.proofs.lemmas.Iterator.Splits.{YieldsList-from_slice_split}
 use Rattle.pua_since.proofs.Parts.{is_piece, part_by_pieces}

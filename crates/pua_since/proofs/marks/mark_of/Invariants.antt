@@ -1,5 +1,5 @@
-use Rattle.std.proofs.Common.{◌≡◌, ◌<◌, drop}
-use Rattle.pua_since.specs.Concerns.{mark_from, mark_of}
+use Rattle.pua_since.proofs.Common.{◌≡◌, ◌<◌, drop, mark_of}
+use Rattle.pua_since.specs.Concerns.{mark_from}
 use Rattle.pua_since.proofs.marks.mark_of.Given as goal
 
 abbrev pub invariant-loop-byte : goal.invariant-loop-byte

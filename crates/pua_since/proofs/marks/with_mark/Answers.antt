@@ -1,10 +1,9 @@
-use Rattle.std.proofs.Common.{◌≡◌, ◌*◌, ◌^◌, ◌%◌, ℕ, Bool, true, false, bit_or, refl, ap, sym, ◌∙◌, arith}
-use Rattle.std.specs.Prelude.{◌==◌}
+use Rattle.pua_since.proofs.Common.{◌≡◌, ℕ, Bool, true, false, refl, ap, sym, ◌∙◌, arith, ◌==◌, eqb-true, false≢true, is_marked}
+use Rattle.std.proofs.Common.{◌*◌, ◌^◌, ◌%◌, bit_or}
 use Rattle.std.specs.Int.{bit_at}
-use Rattle.std.proofs.lemmas.Bool.{eqb-true, eq-eqb, false≢true}
+use Rattle.std.proofs.lemmas.Bool.{eq-eqb}
 use Rattle.std.proofs.lemmas.Nat.Bits.{bit_at_set_same, bit_at_set_other}
 use mir.Syntax.{w64}
-use Rattle.pua_since.specs.Concerns.{is_marked}
 use Rattle.pua_since.proofs.marks.with_mark.Goals as goal
 
 -- the bit of a mark is set, and no other is cleared

@@ -1,5 +1,4 @@
-use Rattle.std.proofs.Common.{sym, ap, ◌∙◌}
-use Rattle.pua_path.specs.Traces.{trace_from}
+use Rattle.pua_since.proofs.Common.{sym, ap, ◌∙◌, trace_from}
 use Rattle.pua_since.proofs.Tracing.{a_path, none_of}
 use Rattle.pua_since.proofs.plain.path_follows_none.Goals as goal
 

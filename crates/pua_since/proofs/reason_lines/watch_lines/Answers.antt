@@ -1,10 +1,7 @@
-use Rattle.std.proofs.Common.{◌≡◌, ◌++◌, ◌∷◌, [], ◌∙◌, suc, sym, ap, subst, append_assoc, append-nil, length, Ok, arith, inl, inr}
-use Rattle.std.specs.Prelude.{◌⊎◌}
+use Rattle.pua_since.proofs.Common.{◌≡◌, ◌++◌, ◌∷◌, [], ◌∙◌, suc, sym, ap, subst, append_assoc, append-nil, length, Ok, arith, inl, inr}
+use Rattle.pua_since.proofs.Common.{◌⊎◌, iter_rest, requests_of, ArePlacesOf, IsRequestAt}
 use Rattle.std.specs.Str.Lines.{lines}
-use Rattle.std.specs.Slice.Iter.{iter_rest}
 use Rattle.pua_tree.proofs.ForCallers.{lines_agree}
-use Rattle.pua_script.specs.Scripts.{requests_of}
-use Rattle.pua_since.specs.Dates.{ArePlacesOf, IsRequestAt}
 use Rattle.pua_since.proofs.Keeping.{kept_all, kept_twice, request_kept}
 use Rattle.pua_since.proofs.Placing.{all_read, first_read, none_placed, none_read, passed, placed}
 use Rattle.pua_since.proofs.reason_lines.watch_lines.Goals as goal
@@ -14,14 +11,15 @@ pub loop-done-init : goal.loop-done-init
 loop-done-init g c =
     let all : c.into_iter-done-iterator.result.iter.a ≡ lines c.args.script_bytes.now = cc (lines_agree c.args.script_bytes.now) in
     let requests : iter_rest c.into_iter-done-iterator.result.iter.b.a ≡ c.args.requests.now = cc in
-    let told : iter_rest c.into_iter-done-iterator.result.iter.b.b ≡ c.args.told.now = cc in
+    let told : iter_rest c.into_iter-done-iterator.result.iter.b.b ≡ c.args.answers.now = cc in
     let count : c.into_iter-done-iterator.result.count ≡ 0 = cc in
     let none : length c.new-known.result.entries ≡ 0 = c.new-known.ensures.len in
     record {
       known = λ read k d less. absurd (omega (arith, none, less));
       lines = λ read. (1, ap (requests_of 1) all ∙ all_read c.args.script_bytes.now c.args.requests.now read ∙ sym (ap Ok requests));
       places = λ read later rest kept at.
-          subst (λ places. ArePlacesOf later 0 c.args.requests.now c.args.told.now places) (sym (ap (λ places. places ++ rest) c.new-places.ensures.items))
+          subst (λ places. ArePlacesOf later 0 c.args.requests.now c.args.answers.now places)
+          (sym (ap (λ places. places ++ rest) c.new-places.ensures.items))
           (subst (λ (X : Type 0). X) (λ i. ArePlacesOf later (count i) (requests i) (told i) rest) at);
       watched = λ w left stands before. before;
       kept = kept_all c.args.watches.now.watches.items;
@@ -34,12 +32,14 @@ loop-done-preserved-in-Okay g c =
     record {
       known = so.known;
       lines = λ read.
-          let first = first_read (so.lines read).0 c.in-Some.line.now c.next.new.self.iter.a c.in-Some.request.now (iter_rest c.next.new.self.iter.b.a)
+          let first = first_read (so.lines read).0 c.in-Some.line.now c.next.new.self.iter.a c.in-Some.request.now
+          (iter_rest c.next.new.self.iter.b.a)
           (sym (ap (requests_of (so.lines read).0) steps.0.0) ∙ (so.lines read).1 ∙ ap Ok steps.0.1.0) in
           (suc (so.lines read).0, first.1);
       places = λ read later rest kept at.
           so.places read later rest kept
-          (passed later c.loop-done.done-iterator.count c.next.new.self.count c.in-Some.request.now c.in-Some.answer.now _ _ _ _ rest steps.0.1.0 steps.0.1.1 c.in-Okay.is steps.2 at);
+          (passed later c.loop-done.done-iterator.count c.next.new.self.count c.in-Some.request.now c.in-Some.answer.now _ _ _ _ rest
+          steps.0.1.0 steps.0.1.1 c.in-Okay.is steps.2 at);
       watched = so.watched;
       kept = so.kept;
     }
@@ -51,24 +51,32 @@ loop-done-preserved g c =
     let kept_now = c.in_ok-place.ensures.kept in
     record {
       known = λ read.
-          let first = first_read (so.lines read).0 c.in-Some.line.now c.next.new.self.iter.a c.in-Some.request.now (iter_rest c.next.new.self.iter.b.a)
+          let first = first_read (so.lines read).0 c.in-Some.line.now c.next.new.self.iter.a c.in-Some.request.now
+          (iter_rest c.next.new.self.iter.b.a)
           (sym (ap (requests_of (so.lines read).0) steps.0.0) ∙ (so.lines read).1 ∙ ap Ok steps.0.1.0) in
           c.in_ok-place.ensures.known (so.lines read).0 (so.known read) first.0;
       lines = λ read.
-          let first = first_read (so.lines read).0 c.in-Some.line.now c.next.new.self.iter.a c.in-Some.request.now (iter_rest c.next.new.self.iter.b.a)
+          let first = first_read (so.lines read).0 c.in-Some.line.now c.next.new.self.iter.a c.in-Some.request.now
+          (iter_rest c.next.new.self.iter.b.a)
           (sym (ap (requests_of (so.lines read).0) steps.0.0) ∙ (so.lines read).1 ∙ ap Ok steps.0.1.0) in
           (suc (so.lines read).0, first.1);
       places = λ read later rest kept at.
-          let first = first_read (so.lines read).0 c.in-Some.line.now c.next.new.self.iter.a c.in-Some.request.now (iter_rest c.next.new.self.iter.b.a)
+          let first = first_read (so.lines read).0 c.in-Some.line.now c.next.new.self.iter.a c.in-Some.request.now
+          (iter_rest c.next.new.self.iter.b.a)
           (sym (ap (requests_of (so.lines read).0) steps.0.0) ∙ (so.lines read).1 ∙ ap Ok steps.0.1.0) in
-          let own = request_kept c.place_of.new.watches.watches.items later c.in_ok-place.place c.in-Some.request.now c.in-Some.done kept (c.in_ok-place.ensures.place (so.lines read).0 (so.known read) first.0) in
-          subst (λ places. ArePlacesOf later 0 c.args.requests.now c.args.told.now places)
-          (sym (ap (λ places. places ++ rest) c.in-Ok.ensures.items ∙ append_assoc c.loop-done.places.items (c.in_ok-place.place ∷ []) rest))
-          (so.places read later (c.in_ok-place.place ∷ rest) (kept_twice c.loop-done.watches.watches.items c.place_of.new.watches.watches.items later kept_now kept)
-          (placed later c.loop-done.done-iterator.count c.next.new.self.count c.in-Some.request.now c.in-Some.answer.now _ _ _ _ c.in_ok-place.place rest steps.0.1.0 steps.0.1.1 c.in_default.not-Okay steps.2
+          let own = request_kept c.place_of.new.watches.watches.items later c.in_ok-place.place c.in-Some.request.now c.in-Some.done kept
+          (c.in_ok-place.ensures.place (so.lines read).0 (so.known read) first.0) in
+          subst (λ places. ArePlacesOf later 0 c.args.requests.now c.args.answers.now places)
+          (sym (ap (λ places. places ++ rest) c.in-Ok.ensures.items ∙
+          append_assoc c.loop-done.places.items (c.in_ok-place.place ∷ []) rest))
+          (so.places read later (c.in_ok-place.place ∷ rest)
+          (kept_twice c.loop-done.watches.watches.items c.place_of.new.watches.watches.items later kept_now kept)
+          (placed later c.loop-done.done-iterator.count c.next.new.self.count c.in-Some.request.now c.in-Some.answer.now _ _ _ _
+          c.in_ok-place.place rest steps.0.1.0 steps.0.1.1 c.in_default.not-Okay steps.2
           (subst (λ n. IsRequestAt later c.in_ok-place.place c.in-Some.request.now n) steps.1 own) at));
       watched = λ w left stands before. c.in_ok-place.ensures.watched w left stands (so.watched w left stands before);
-      kept = kept_twice c.args.watches.now.watches.items c.loop-done.watches.watches.items c.place_of.new.watches.watches.items so.kept kept_now;
+      kept = kept_twice c.args.watches.now.watches.items c.loop-done.watches.watches.items c.place_of.new.watches.watches.items so.kept
+          kept_now;
     }
 
 pub returns : goal.returns
@@ -82,7 +90,8 @@ returns g c =
             | inl x ↦ inl (none_read (so.lines read).0 _ (sym (ap (requests_of (so.lines read).0) x.1.0) ∙ (so.lines read).1))
             | inr y ↦ elim y.1 [ inl z ↦ inl (nil_from_length _ z.1.0) | inr z ↦ inr (nil_from_length _ z.1.0) ]
           ] in
-          subst (λ places. ArePlacesOf c.loop-done.watches.watches.items 0 c.args.requests.now c.args.told.now places) (append-nil c.loop-done.places.items)
+          subst (λ places. ArePlacesOf c.loop-done.watches.watches.items 0 c.args.requests.now c.args.answers.now places)
+          (append-nil c.loop-done.places.items)
           (so.places read c.loop-done.watches.watches.items [] (kept_all c.loop-done.watches.watches.items)
           (none_placed c.loop-done.watches.watches.items c.loop-done.done-iterator.count _ _ empty));
       watched = so.watched;

@@ -1,7 +1,5 @@
-use Rattle.std.proofs.Common.{◌≡◌, ◌∙◌, [], sym, ap, map, length, subst}
-use Rattle.pua_calls.specs.Calls.{CallTable}
-use Rattle.pua_since.specs.Dates.{ArePlacesOf, AreVeilsAt, veil_seen}
-use Rattle.pua_since.specs.Watched.{AreWatched, line_at}
+use Rattle.pua_since.proofs.Common.{◌≡◌, ◌∙◌, [], sym, ap, map, length, subst, CallTable, ArePlacesOf, AreVeilsAt, veil_seen, AreWatched}
+use Rattle.pua_since.proofs.Common.{line_at}
 use Rattle.pua_since.proofs.Keeping.{kept_twice, veils_kept}
 use Rattle.pua_since.proofs.Veiled.{veils_at}
 use Rattle.pua_since.proofs.veils.dated_text.Goals as goal
@@ -12,15 +10,19 @@ returns g c w stands read told =
     let asks = c.args.requests.now in
     let kept = c.lines_text.new.watches in
     let placed : AreWatched table w [] asks c.watch_lines.new.watches =
-    c.in_ok-places.ensures.watched w asks stands (c.in_ok-own.ensures.watched w asks stands (c.in_ok-watches.ensures.watched table w told)) in
-    let places : ArePlacesOf c.watch_lines.new.watches.watches.items 0 asks c.args.told.now c.as_slice.result.now =
-    subst (λ at. ArePlacesOf c.watch_lines.new.watches.watches.items 0 asks c.args.told.now at) (sym c.as_slice.ensures.value) (c.in_ok-places.ensures.places w stands read told) in
+    c.in_ok-places.ensures.watched w asks stands (c.in_ok-own.ensures.watched w asks stands (c.in_ok-watches.ensures.watched table w told))
+    in
+    let places : ArePlacesOf c.watch_lines.new.watches.watches.items 0 asks c.args.answers.now c.as_slice.result.now =
+    subst (λ at. ArePlacesOf c.watch_lines.new.watches.watches.items 0 asks c.args.answers.now at) (sym c.as_slice.ensures.value)
+    (c.in_ok-places.ensures.places w stands read told) in
     let served : AreWatched table w asks [] kept = c.in_ok-text.ensures.watched w stands told placed in
     let own : AreVeilsAt kept.watches.items (length asks) (map veil_seen c.args.veils.now) c.in_ok-own.own.items =
     veils_kept c.watch_veils.new.watches.watches.items kept.watches.items (length asks)
-    (kept_twice c.watch_veils.new.watches.watches.items c.watch_lines.new.watches.watches.items kept.watches.items c.in_ok-places.ensures.kept c.in_ok-text.ensures.kept)
+    (kept_twice c.watch_veils.new.watches.watches.items c.watch_lines.new.watches.watches.items kept.watches.items
+    c.in_ok-places.ensures.kept c.in_ok-text.ensures.kept)
     (map veil_seen c.args.veils.now) c.in_ok-own.own.items c.in_ok-own.ensures.places in
     let lines : c.in_ok-lines_at.field-0.items ≡ map (line_at kept.watches.items) c.as_slice-2.result.now = c.in_ok-lines_at.ensures in (
       c.in_ok-text.ensures.text w stands told placed places,
-      lines ∙ ap (map (line_at kept.watches.items)) c.as_slice-2.ensures.value ∙ veils_at table w asks kept served (map veil_seen c.args.veils.now) c.in_ok-own.own.items own,
+      lines ∙ ap (map (line_at kept.watches.items)) c.as_slice-2.ensures.value ∙
+          veils_at table w asks kept served (map veil_seen c.args.veils.now) c.in_ok-own.own.items own,
     )

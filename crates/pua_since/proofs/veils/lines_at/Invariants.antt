@@ -1,5 +1,4 @@
-use Rattle.std.proofs.Common.{◌≡◌, map, take}
-use Rattle.pua_since.specs.Watched.{line_at}
+use Rattle.pua_since.proofs.Common.{◌≡◌, map, take, line_at}
 use Rattle.pua_since.proofs.veils.lines_at.Given as goal
 
 abbrev pub invariant-loop-place : goal.invariant-loop-place

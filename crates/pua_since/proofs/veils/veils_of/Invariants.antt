@@ -1,5 +1,4 @@
-use Rattle.std.proofs.Common.{◌≡◌, map, take, flat_map}
-use Rattle.pua_since.specs.Dates.{veil_seen, veils_at}
+use Rattle.pua_since.proofs.Common.{◌≡◌, map, take, flat_map, veil_seen, veils_at}
 use Rattle.pua_since.proofs.veils.veils_of.Given as goal
 
 abbrev pub invariant-loop-number : goal.invariant-loop-number

@@ -1,16 +1,13 @@
-use Rattle.std.proofs.Common.{map, take, List, []}
+use Rattle.pua_since.proofs.Common.{map, take, List, [], Asked, StandsForWorld, AreVeilsAt, veil_seen, AreWatched, IsKeptThrough, Watch}
 use Rattle.pua_script.specs.Replay.{World as Replayed}
-use Rattle.pua_script.specs.Requests.{Asked}
-use Rattle.pua_script.specs.Worlds.{StandsForWorld}
-use Rattle.pua_since.specs.Dates.{AreVeilsAt, veil_seen}
-use Rattle.pua_since.specs.Watched.{AreWatched, IsKeptThrough}
-use Rattle.pua_since.specs.declared.watch.Watch.{Watch}
 use Rattle.pua_since.proofs.veils.watch_veils.Given as goal
 
 -- whatever keeps the questions so far has those of the first veils at these places
 abbrev pub invariant-loop-number : goal.invariant-loop-number
 invariant-loop-number g l = record {
-  places : (later : List Watch) → IsKeptThrough l.watches.watches.items later → AreVeilsAt later l.last (map veil_seen (take l.number-index l.veils)) l.own.items;
-  watched : (w : Replayed) (left : List Asked) → StandsForWorld l.world w → AreWatched l.world.table w [] left l.fn.watches → AreWatched l.world.table w [] left l.watches;
+  places : (later : List Watch) → IsKeptThrough l.watches.watches.items later →
+      AreVeilsAt later l.last (map veil_seen (take l.number-index l.veils)) l.own.items;
+  watched : (w : Replayed) (left : List Asked) → StandsForWorld l.world w → AreWatched l.world.table w [] left l.fn.watches →
+      AreWatched l.world.table w [] left l.watches;
   kept : IsKeptThrough l.fn.watches.watches.items l.watches.watches.items;
 }

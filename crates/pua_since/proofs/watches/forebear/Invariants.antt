@@ -1,5 +1,4 @@
-use Rattle.std.proofs.Common.{◌≡◌, take}
-use Rattle.pua_since.specs.Watched.{forebear_by, made_by}
+use Rattle.pua_since.proofs.Common.{◌≡◌, take, forebear_by, made_by}
 use Rattle.pua_since.proofs.watches.forebear.Given as goal
 
 abbrev pub invariant-loop-fork : goal.invariant-loop-fork

@@ -1,5 +1,4 @@
-use Rattle.std.proofs.Common.{◌≡◌, ◌<◌, ◌≤◌, ℕ}
-use Rattle.std.specs.Int.{bit_at}
+use Rattle.pua_steps.proofs.Common.{◌≡◌, ◌<◌, ◌≤◌, ℕ, bit_at}
 use Rattle.pua_steps.proofs.calls.calls_after.Given as goal
 
 abbrev pub invariant-loop-other : goal.invariant-loop-other

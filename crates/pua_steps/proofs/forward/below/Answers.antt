@@ -1,4 +1,4 @@
-use Rattle.std.proofs.Common.{rules}
+use Rattle.pua_steps.proofs.Common.{rules}
 use Rattle.pua_steps.proofs.forward.below.Goals as goal
 
 pub returns-clause-exact : goal.returns-clause-exact

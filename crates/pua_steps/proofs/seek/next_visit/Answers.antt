@@ -1,9 +1,5 @@
-use Rattle.std.proofs.Common.{◌≡◌, ◌+◌, true, sym, subst, ◌∙◌, arith}
-use Rattle.pua_steps.specs.Lists.{narrow_of, rest_of}
-use Rattle.pua_steps.specs.Live.{live_of}
-use Rattle.pua_steps.specs.Trail.{branches}
-use Rattle.pua_steps.specs.Ready.{IsCounted, is_idle}
-use Rattle.pua_steps.specs.declared.visit.Visit.{Visit}
+use Rattle.pua_steps.proofs.Common.{◌≡◌, ◌+◌, true, sym, subst, ◌∙◌, arith, narrow_of, rest_of, live_of, branches, IsCounted, Visit}
+use Rattle.pua_steps.specs.Ready.{is_idle}
 use Rattle.pua_steps.proofs.Seeks.{counted_none, counted_one, looks_zero, found, passed, none_found}
 use Rattle.pua_steps.proofs.seek.next_visit.Goals as goal
 
@@ -23,7 +19,8 @@ returns-then-not-is_idle-clause-next c =
         record {
           next = (
             omega arith,
-            found (narrow_of t v) (live_of v) c.args.left (branches (narrow_of t v) (live_of v) c.args.left (rest_of t ls c.args.frame.now)) far.0 (rest_of t ls c.loop-visit.frame) (rest_of t ls c.visit.new.frame) c.in-Some.visit x far.1.1 c.in-Some.ensures.rest
+            found (narrow_of t v) (live_of v) c.args.left (branches (narrow_of t v) (live_of v) c.args.left (rest_of t ls c.args.frame.now))
+                far.0 (rest_of t ls c.loop-visit.frame) (rest_of t ls c.visit.new.frame) c.in-Some.visit x far.1.1 c.in-Some.ensures.rest
                 (λ i. record { letter = c.in-Some.visit.letter; calls = c.in-Some.visit.calls; behind = c.entrance-behind.ensures i }),
           );
         },
@@ -44,7 +41,8 @@ loop-visit-preserved c =
         far.0 + 1,
         (
           counted_one c.args.seen.now far.0 c.loop-visit.seen c.visit.new.reads far.1.0 c.in-Some.ensures.reads,
-          passed (narrow_of t v) (live_of v) c.args.left (branches (narrow_of t v) (live_of v) c.args.left (rest_of t ls c.args.frame.now)) far.0 (rest_of t ls c.loop-visit.frame) (rest_of t ls c.visit.new.frame) c.in-Some.visit x far.1.1 c.in-Some.ensures.rest
+          passed (narrow_of t v) (live_of v) c.args.left (branches (narrow_of t v) (live_of v) c.args.left (rest_of t ls c.args.frame.now))
+              far.0 (rest_of t ls c.loop-visit.frame) (rest_of t ls c.visit.new.frame) c.in-Some.visit x far.1.1 c.in-Some.ensures.rest
               (λ i. record { letter = c.in-Some.visit.letter; calls = c.in-Some.visit.calls; behind = c.entrance-behind.ensures i }) idle,
         ),
       );
@@ -55,5 +53,15 @@ returns-clause-next c =
     let t = c.args.steps.now in
     let v = c.args.live.now in
     let ls = c.args.lists.now in
-    let far = c.loop-visit.invariant.so_far in
-    (far.0, (subst (λ k. IsCounted c.args.seen.now far.0 k) (sym c.in_default.ensures.reads) far.1.0, record { next = none_found (narrow_of t v) (live_of v) c.args.left (branches (narrow_of t v) (live_of v) c.args.left (rest_of t ls c.args.frame.now)) far.0 (rest_of t ls c.loop-visit.frame) far.1.1 c.in_default.ensures.rest }))
+    let far = c.loop-visit.invariant.so_far in (
+      far.0,
+      (
+        subst (λ k. IsCounted c.args.seen.now far.0 k) (sym c.in_default.ensures.reads) far.1.0,
+        record {
+          next = none_found (narrow_of t v) (live_of v) c.args.left
+              (branches (narrow_of t v) (live_of v) c.args.left (rest_of t ls c.args.frame.now)) far.0 (rest_of t ls c.loop-visit.frame)
+              far.1.1
+              c.in_default.ensures.rest;
+        },
+      ),
+    )

@@ -1,14 +1,12 @@
-use Rattle.std.proofs.Common.{◌≡◌, ℕ, length}
-use Rattle.pua_steps.specs.Lists.{IsOpen, narrow_of, rest_of}
-use Rattle.pua_steps.specs.Live.{live_of}
-use Rattle.pua_steps.specs.Trail.{branches}
-use Rattle.pua_steps.specs.Ready.{IsCounted, looks}
+use Rattle.pua_steps.proofs.Common.{◌≡◌, ℕ, length, IsOpen, narrow_of, rest_of, live_of, branches, IsCounted, looks}
 use Rattle.pua_steps.proofs.seek.next_visit.Given as goal
 
 abbrev pub invariant-loop-visit : goal.invariant-loop-visit
 invariant-loop-visit l = record {
   waits : IsOpen l.steps l.lists l.frame;
-  so_far : (n : ℕ) × (IsCounted l.fn.seen n l.seen × (branches (narrow_of l.steps l.live) (live_of l.live) l.left (rest_of l.steps l.lists l.fn.frame) ≡ looks n (branches (narrow_of l.steps l.live) (live_of l.live) l.left (rest_of l.steps l.lists l.frame))));
+  so_far : (n : ℕ) × (IsCounted l.fn.seen n l.seen ×
+      (branches (narrow_of l.steps l.live) (live_of l.live) l.left (rest_of l.steps l.lists l.fn.frame)
+      ≡ looks n (branches (narrow_of l.steps l.live) (live_of l.live) l.left (rest_of l.steps l.lists l.frame))));
 }
 
 abbrev pub decreases-loop-visit : goal.decreases-loop-visit

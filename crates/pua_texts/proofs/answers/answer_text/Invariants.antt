@@ -1,7 +1,7 @@
-use Rattle.std.proofs.Common.{◌≡◌, ◌++◌, suc, drop, string_bytes}
+use Rattle.pua_texts.proofs.Common.{◌≡◌, ◌++◌, suc, drop, string_bytes}
 use Rattle.pua_texts.specs.Lines.{answer_lines}
 use Rattle.pua_texts.proofs.answers.answer_text.Given as goal
 
 -- the lines so far stand in front of those that are still to come
 abbrev pub invariant-loop-place : goal.invariant-loop-place
-invariant-loop-place l = answer_lines 1 l.told ≡ string_bytes l.text ++ answer_lines (suc l.place) (drop l.place l.told)
+invariant-loop-place l = answer_lines 1 l.answers ≡ string_bytes l.text ++ answer_lines (suc l.place) (drop l.place l.answers)

@@ -1,10 +1,5 @@
-use Rattle.std.proofs.Common.{[], Ok, refl, sym, subst, ap, ◌∙◌, take}
-use Rattle.std.proofs.lemmas.Result.{err_from_is_err_and}
-use Rattle.pua_policy.specs.History.{History, StandsFor}
-use Rattle.pua_ever.specs.EverLines.{lines_of}
-use Rattle.pua_texts.specs.EverLines.{ever_lines}
-use Rattle.pua_audit.specs.Reach.{Word}
-use Rattle.pua_texts.specs.KeptPaths.{KeptPathState, IsKept}
+use Rattle.pua_texts.proofs.Common.{[], Ok, refl, sym, subst, ap, ◌∙◌, take, err_from_is_err_and, History, StandsFor, ever_lines_of}
+use Rattle.pua_texts.proofs.Common.{ever_lines, Word, KeptPathState, IsKept}
 use Rattle.pua_texts.proofs.KeptPaths.{nothing_kept}
 use Rattle.pua_texts.proofs.Passing.{passes_none, passing_none, passing_more, passing_fails, passing_last}
 use Rattle.pua_texts.proofs.EverLines.{text_given, line_next, no_line}
@@ -18,20 +13,24 @@ loop-line-init g c =
       process = refl;
       table = refl;
       kept = subst (λ (s : KeptPathState). IsKept c.args.list.now.word s) (sym c.clear.ensures) (nothing_kept c.args.list.now.word);
-      lines = λ h stands. passing_none (ever_lines t (lines_of t c.args.list.now.table h c.args.list.now.left)) c.args.block.now (g.S.Sink.written c.args.sink.now) (g.S.Sink.failed c.args.sink.now);
+      lines = λ h stands. passing_none (ever_lines t (ever_lines_of t c.args.list.now.table h c.args.list.now.left)) c.args.block.now
+          (g.S.Sink.written c.args.sink.now) (g.S.Sink.failed c.args.sink.now);
     }
 
 pub loop-line-preserved : goal.loop-line-preserved
 loop-line-preserved g c =
     let t = c.args.list.now.tree in
-    let all = λ (h : History). ever_lines t (lines_of t c.args.list.now.table h c.args.list.now.left) in
-    let left = λ (h : History). ever_lines t (lines_of t c.args.list.now.table h c.loop-line.list.left) in
-    let more = λ (h : History). ever_lines t (lines_of t c.args.list.now.table h c.next_line.new.self.left) in
+    let all = λ (h : History). ever_lines t (ever_lines_of t c.args.list.now.table h c.args.list.now.left) in
+    let left = λ (h : History). ever_lines t (ever_lines_of t c.args.list.now.table h c.loop-line.list.left) in
+    let more = λ (h : History). ever_lines t (ever_lines_of t c.args.list.now.table h c.next_line.new.self.left) in
     let given = text_given c.in-Some.line c.word-word.result.now in
     let next = λ (h : History) (stands : StandsFor c.args.list.now.process h).
-    line_next c.loop-line.list.tree t c.loop-line.list.table c.args.list.now.table c.loop-line.list.process c.args.list.now.process h c.loop-line.list.left c.next_line.new.self.left c.next_line.new.self.word c.in-Some.line c.word-word.result.now
-    c.loop-line.invariant.tree c.loop-line.invariant.table c.loop-line.invariant.process stands c.in-Some.ensures.line c.word-word.ensures in
-    let same = ap (λ n. take n c.loop-line.list.word) c.shared.ensures ∙ sym c.next_line.ensures.shared ∙ ap (λ n. take n c.next_line.new.self.word) (sym c.shared.ensures) ∙ ap (take c.shared.result) (sym c.word-word.ensures) in
+    line_next c.loop-line.list.tree t c.loop-line.list.table c.args.list.now.table c.loop-line.list.process c.args.list.now.process h
+    c.loop-line.list.left c.next_line.new.self.left c.next_line.new.self.word c.in-Some.line c.word-word.result.now
+    c.loop-line.invariant.tree c.loop-line.invariant.table c.loop-line.invariant.process stands c.in-Some.ensures.line c.word-word.ensures
+    in
+    let same = ap (λ n. take n c.loop-line.list.word) c.shared.ensures ∙ sym c.next_line.ensures.shared ∙
+    ap (λ n. take n c.next_line.new.self.word) (sym c.shared.ensures) ∙ ap (take c.shared.result) (sym c.word-word.ensures) in
     let kept = c.go_to.ensures c.loop-line.list.word c.loop-line.invariant.kept same in
     record {
       tree = c.next_line.ensures.of.0 ∙ c.loop-line.invariant.tree;
@@ -39,39 +38,47 @@ loop-line-preserved g c =
       table = c.next_line.ensures.of.2 ∙ c.loop-line.invariant.table;
       kept = subst (λ (w : Word). IsKept w c.go_to.new.self) c.word-word.ensures kept;
       lines = λ h stands. passing_more (all h) (left h) given (more h) c.args.block.now c.loop-line.block c.add_thing.new.block
-          (g.S.Sink.written c.args.sink.now) (g.S.Sink.written c.loop-line.sink) (g.S.Sink.written c.add_thing.new.sink) (g.S.Sink.failed c.args.sink.now) (g.S.Sink.failed c.loop-line.sink) (g.S.Sink.failed c.add_thing.new.sink)
+          (g.S.Sink.written c.args.sink.now) (g.S.Sink.written c.loop-line.sink) (g.S.Sink.written c.add_thing.new.sink)
+          (g.S.Sink.failed c.args.sink.now) (g.S.Sink.failed c.loop-line.sink) (g.S.Sink.failed c.add_thing.new.sink)
           (c.loop-line.invariant.lines h stands) (next h stands) c.in_ok-add_thing.ensures;
     }
 
 pub returns-in_err-add_thing : goal.returns-in_err-add_thing
 returns-in_err-add_thing g c =
     let t = c.args.list.now.tree in
-    let all = λ (h : History). ever_lines t (lines_of t c.args.list.now.table h c.args.list.now.left) in
-    let left = λ (h : History). ever_lines t (lines_of t c.args.list.now.table h c.loop-line.list.left) in
-    let more = λ (h : History). ever_lines t (lines_of t c.args.list.now.table h c.next_line.new.self.left) in
+    let all = λ (h : History). ever_lines t (ever_lines_of t c.args.list.now.table h c.args.list.now.left) in
+    let left = λ (h : History). ever_lines t (ever_lines_of t c.args.list.now.table h c.loop-line.list.left) in
+    let more = λ (h : History). ever_lines t (ever_lines_of t c.args.list.now.table h c.next_line.new.self.left) in
     let given = text_given c.in-Some.line c.word-word.result.now in
     let next = λ (h : History) (stands : StandsFor c.args.list.now.process h).
-    line_next c.loop-line.list.tree t c.loop-line.list.table c.args.list.now.table c.loop-line.list.process c.args.list.now.process h c.loop-line.list.left c.next_line.new.self.left c.next_line.new.self.word c.in-Some.line c.word-word.result.now
-    c.loop-line.invariant.tree c.loop-line.invariant.table c.loop-line.invariant.process stands c.in-Some.ensures.line c.word-word.ensures in
+    line_next c.loop-line.list.tree t c.loop-line.list.table c.args.list.now.table c.loop-line.list.process c.args.list.now.process h
+    c.loop-line.list.left c.next_line.new.self.left c.next_line.new.self.word c.in-Some.line c.word-word.result.now
+    c.loop-line.invariant.tree c.loop-line.invariant.table c.loop-line.invariant.process stands c.in-Some.ensures.line c.word-word.ensures
+    in
     let p = err_from_is_err_and c.from_residual.result c.from_residual.ensures.1 in
     rw p.1 (λ h stands. passing_fails (all h) (left h) given (more h) c.args.block.now c.loop-line.block [] [] p.0
-    (g.S.Sink.written c.args.sink.now) (g.S.Sink.written c.loop-line.sink) (g.S.Sink.written c.add_thing.new.sink) (g.S.Sink.failed c.args.sink.now) (g.S.Sink.failed c.loop-line.sink) (g.S.Sink.failed c.add_thing.new.sink)
+    (g.S.Sink.written c.args.sink.now) (g.S.Sink.written c.loop-line.sink) (g.S.Sink.written c.add_thing.new.sink)
+    (g.S.Sink.failed c.args.sink.now) (g.S.Sink.failed c.loop-line.sink) (g.S.Sink.failed c.add_thing.new.sink)
     (c.loop-line.invariant.lines h stands) (next h stands) c.in_err-add_thing.ensures)
 
 pub returns : goal.returns
 returns g c =
     let t = c.args.list.now.tree in
-    let all = λ (h : History). ever_lines t (lines_of t c.args.list.now.table h c.args.list.now.left) in
-    let left = λ (h : History). ever_lines t (lines_of t c.args.list.now.table h c.loop-line.list.left) in
+    let all = λ (h : History). ever_lines t (ever_lines_of t c.args.list.now.table h c.args.list.now.left) in
+    let left = λ (h : History). ever_lines t (ever_lines_of t c.args.list.now.table h c.loop-line.list.left) in
     λ h stands.
     passing_last (all h) (left h) [] c.args.block.now c.loop-line.block c.loop-line.block (Ok tt)
-    (g.S.Sink.written c.args.sink.now) (g.S.Sink.written c.loop-line.sink) (g.S.Sink.written c.loop-line.sink) (g.S.Sink.failed c.args.sink.now) (g.S.Sink.failed c.loop-line.sink) (g.S.Sink.failed c.loop-line.sink)
+    (g.S.Sink.written c.args.sink.now) (g.S.Sink.written c.loop-line.sink) (g.S.Sink.written c.loop-line.sink)
+    (g.S.Sink.failed c.args.sink.now) (g.S.Sink.failed c.loop-line.sink) (g.S.Sink.failed c.loop-line.sink)
     (c.loop-line.invariant.lines h stands)
-    (no_line c.loop-line.list.tree t c.loop-line.list.table c.args.list.now.table c.loop-line.list.process c.args.list.now.process h c.loop-line.list.left c.loop-line.invariant.tree c.loop-line.invariant.table c.loop-line.invariant.process stands c.in_default.ensures.line.0)
+    (no_line c.loop-line.list.tree t c.loop-line.list.table c.args.list.now.table c.loop-line.list.process c.args.list.now.process h
+    c.loop-line.list.left c.loop-line.invariant.tree c.loop-line.invariant.table c.loop-line.invariant.process stands
+    c.in_default.ensures.line.0)
     (passes_none c.loop-line.block (g.S.Sink.written c.loop-line.sink) (g.S.Sink.failed c.loop-line.sink))
 
 pub add_thing-requires : goal.add_thing-requires
 add_thing-requires g c =
-    let same = ap (λ n. take n c.loop-line.list.word) c.shared.ensures ∙ sym c.next_line.ensures.shared ∙ ap (λ n. take n c.next_line.new.self.word) (sym c.shared.ensures) ∙ ap (take c.shared.result) (sym c.word-word.ensures) in
+    let same = ap (λ n. take n c.loop-line.list.word) c.shared.ensures ∙ sym c.next_line.ensures.shared ∙
+    ap (λ n. take n c.next_line.new.self.word) (sym c.shared.ensures) ∙ ap (take c.shared.result) (sym c.word-word.ensures) in
     let kept = c.go_to.ensures c.loop-line.list.word c.loop-line.invariant.kept same in
     record { kept = kept }

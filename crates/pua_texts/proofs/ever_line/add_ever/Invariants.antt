@@ -1,8 +1,4 @@
-use Rattle.std.proofs.Common.{◌≡◌, length}
-use Rattle.pua_policy.specs.History.{History, StandsFor}
-use Rattle.pua_ever.specs.EverLines.{lines_of}
-use Rattle.pua_texts.specs.EverLines.{ever_lines}
-use Rattle.pua_texts.specs.KeptPaths.{IsKept}
+use Rattle.pua_texts.proofs.Common.{◌≡◌, length, History, StandsFor, ever_lines_of, ever_lines, IsKept}
 use Rattle.pua_texts.proofs.Passing.{Passing}
 use Rattle.pua_texts.proofs.ever_line.add_ever.Given as goal
 
@@ -13,7 +9,9 @@ invariant-loop-line g l = record {
   process : l.list.process ≡ l.fn.list.process;
   table : l.list.table ≡ l.fn.list.table;
   kept : IsKept l.list.word l.path;
-  lines : (h : History) → StandsFor l.fn.list.process h → Passing (ever_lines l.fn.list.tree (lines_of l.fn.list.tree l.fn.list.table h l.fn.list.left)) (ever_lines l.fn.list.tree (lines_of l.fn.list.tree l.fn.list.table h l.list.left))
+  lines : (h : History) → StandsFor l.fn.list.process h →
+      Passing (ever_lines l.fn.list.tree (ever_lines_of l.fn.list.tree l.fn.list.table h l.fn.list.left))
+      (ever_lines l.fn.list.tree (ever_lines_of l.fn.list.tree l.fn.list.table h l.list.left))
       l.fn.block l.block (g.S.Sink.written l.fn.sink) (g.S.Sink.written l.sink) (g.S.Sink.failed l.fn.sink) (g.S.Sink.failed l.sink);
 }
 

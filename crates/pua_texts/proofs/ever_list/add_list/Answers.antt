@@ -1,11 +1,7 @@
-use Rattle.std.proofs.Common.{List, ℕ, ◌++◌, [], Ok, Err, ap, subst, ◌∙◌}
-use Rattle.std.specs.Prelude.{codes}
-use Rattle.std.proofs.lemmas.Result.{err_from_is_err_and}
+use Rattle.pua_texts.proofs.Common.{List, ℕ, ◌++◌, [], Ok, Err, ap, subst, ◌∙◌, codes, err_from_is_err_and, ever_lines_of, Passes}
+use Rattle.pua_texts.proofs.Common.{ever_lines, head_lines}
 use Rattle.pua_ever.specs.Ever.{ever}
-use Rattle.pua_ever.specs.EverLines.{lines_of}
-use Rattle.pua_texts.specs.Blocks.{Passes}
-use Rattle.pua_texts.specs.EverLines.{ever_lines, ever_list}
-use Rattle.pua_texts.specs.States.{head_lines}
+use Rattle.pua_texts.specs.EverLines.{ever_list}
 use Rattle.pua_texts.proofs.Passing.{passes_then, passes_front}
 use Rattle.pua_texts.proofs.ever_list.add_list.Goals as goal
 
@@ -14,8 +10,10 @@ returns-in_err-add_text g c =
     let t = c.args.places.now.tree in
     let p = err_from_is_err_and c.from_residual.result c.from_residual.ensures.1 in
     rw p.1 (λ table process h headed is.
-    passes_front c.args.front.now (ever_list table t process h) c.args.block.now [] [] p.0 (g.S.Sink.written c.args.sink.now) (g.S.Sink.written c.add_text.new.sink) (g.S.Sink.failed c.args.sink.now) (g.S.Sink.failed c.add_text.new.sink)
-    (subst (λ (t : List ℕ). Passes t (Err p.0) c.args.block.now [] (g.S.Sink.written c.args.sink.now) (g.S.Sink.written c.add_text.new.sink) (g.S.Sink.failed c.args.sink.now) (g.S.Sink.failed c.add_text.new.sink)) c.as_bytes.ensures.value c.in_err-add_text.ensures))
+    passes_front c.args.front.now (ever_list table t process h) c.args.block.now [] [] p.0 (g.S.Sink.written c.args.sink.now)
+    (g.S.Sink.written c.add_text.new.sink) (g.S.Sink.failed c.args.sink.now) (g.S.Sink.failed c.add_text.new.sink)
+    (subst (λ (t : List ℕ). Passes t (Err p.0) c.args.block.now [] (g.S.Sink.written c.args.sink.now) (g.S.Sink.written c.add_text.new.sink)
+    (g.S.Sink.failed c.args.sink.now) (g.S.Sink.failed c.add_text.new.sink)) c.as_bytes.ensures.value c.in_err-add_text.ensures))
 
 pub returns-in_err-add_to : goal.returns-in_err-add_to
 returns-in_err-add_to g c =
@@ -23,20 +21,32 @@ returns-in_err-add_to g c =
     let p = err_from_is_err_and c.from_residual-in_err-add_to.result c.from_residual-in_err-add_to.ensures.1 in
     rw p.1 (λ table process h headed is.
     passes_then c.args.front.now (ever_list table t process h) c.args.block.now c.add_text.new.self [] (Err p.0)
-    (g.S.Sink.written c.args.sink.now) (g.S.Sink.written c.add_text.new.sink) (g.S.Sink.written c.add_to.new.sink) (g.S.Sink.failed c.args.sink.now) (g.S.Sink.failed c.add_text.new.sink) (g.S.Sink.failed c.add_to.new.sink)
-    (subst (λ (t : List ℕ). Passes t (Ok tt) c.args.block.now c.add_text.new.self (g.S.Sink.written c.args.sink.now) (g.S.Sink.written c.add_text.new.sink) (g.S.Sink.failed c.args.sink.now) (g.S.Sink.failed c.add_text.new.sink)) c.as_bytes.ensures.value c.in_ok-add_text.ensures)
-    (passes_front (head_lines t (codes "ever") process h) (ever_lines t (ever t table h)) c.add_text.new.self [] [] p.0 (g.S.Sink.written c.add_text.new.sink) (g.S.Sink.written c.add_to.new.sink) (g.S.Sink.failed c.add_text.new.sink) (g.S.Sink.failed c.add_to.new.sink)
+    (g.S.Sink.written c.args.sink.now) (g.S.Sink.written c.add_text.new.sink) (g.S.Sink.written c.add_to.new.sink)
+    (g.S.Sink.failed c.args.sink.now) (g.S.Sink.failed c.add_text.new.sink) (g.S.Sink.failed c.add_to.new.sink)
+    (subst (λ (t : List ℕ). Passes t (Ok tt) c.args.block.now c.add_text.new.self (g.S.Sink.written c.args.sink.now)
+    (g.S.Sink.written c.add_text.new.sink) (g.S.Sink.failed c.args.sink.now) (g.S.Sink.failed c.add_text.new.sink))
+    c.as_bytes.ensures.value c.in_ok-add_text.ensures)
+    (passes_front (head_lines t (codes "ever") process h) (ever_lines t (ever t table h)) c.add_text.new.self [] [] p.0
+    (g.S.Sink.written c.add_text.new.sink) (g.S.Sink.written c.add_to.new.sink) (g.S.Sink.failed c.add_text.new.sink)
+    (g.S.Sink.failed c.add_to.new.sink)
     (c.in_err-add_to.ensures.head (codes "ever") process h headed)))
 
 pub returns : goal.returns
 returns g c = λ table process h headed is.
     let t = c.args.places.now.tree in
     let list = c.args.ever.now in
-    let listed = (λ j. ever_lines (is.tree j) (lines_of (is.tree j) (is.rules j) h list.left)) ∙ ap (ever_lines t) is.left in
+    let listed = (λ j. ever_lines (is.tree j) (ever_lines_of (is.tree j) (is.rules j) h list.left)) ∙ ap (ever_lines t) is.left in
     passes_then c.args.front.now (ever_list table t process h) c.args.block.now c.add_text.new.self c.add_ever.new.block c.add_ever.result
-    (g.S.Sink.written c.args.sink.now) (g.S.Sink.written c.add_text.new.sink) (g.S.Sink.written c.add_ever.new.sink) (g.S.Sink.failed c.args.sink.now) (g.S.Sink.failed c.add_text.new.sink) (g.S.Sink.failed c.add_ever.new.sink)
-    (subst (λ (t : List ℕ). Passes t (Ok tt) c.args.block.now c.add_text.new.self (g.S.Sink.written c.args.sink.now) (g.S.Sink.written c.add_text.new.sink) (g.S.Sink.failed c.args.sink.now) (g.S.Sink.failed c.add_text.new.sink)) c.as_bytes.ensures.value c.in_ok-add_text.ensures)
-    (passes_then (head_lines t (codes "ever") process h) (ever_lines t (ever t table h)) c.add_text.new.self c.add_to.new.block c.add_ever.new.block c.add_ever.result
-    (g.S.Sink.written c.add_text.new.sink) (g.S.Sink.written c.add_to.new.sink) (g.S.Sink.written c.add_ever.new.sink) (g.S.Sink.failed c.add_text.new.sink) (g.S.Sink.failed c.add_to.new.sink) (g.S.Sink.failed c.add_ever.new.sink)
+    (g.S.Sink.written c.args.sink.now) (g.S.Sink.written c.add_text.new.sink) (g.S.Sink.written c.add_ever.new.sink)
+    (g.S.Sink.failed c.args.sink.now) (g.S.Sink.failed c.add_text.new.sink) (g.S.Sink.failed c.add_ever.new.sink)
+    (subst (λ (t : List ℕ). Passes t (Ok tt) c.args.block.now c.add_text.new.self (g.S.Sink.written c.args.sink.now)
+    (g.S.Sink.written c.add_text.new.sink) (g.S.Sink.failed c.args.sink.now) (g.S.Sink.failed c.add_text.new.sink))
+    c.as_bytes.ensures.value c.in_ok-add_text.ensures)
+    (passes_then (head_lines t (codes "ever") process h) (ever_lines t (ever t table h)) c.add_text.new.self c.add_to.new.block
+    c.add_ever.new.block c.add_ever.result
+    (g.S.Sink.written c.add_text.new.sink) (g.S.Sink.written c.add_to.new.sink) (g.S.Sink.written c.add_ever.new.sink)
+    (g.S.Sink.failed c.add_text.new.sink) (g.S.Sink.failed c.add_to.new.sink) (g.S.Sink.failed c.add_ever.new.sink)
     (c.in_ok-add_to.ensures.head (codes "ever") process h headed)
-    (subst (λ (text : List ℕ). Passes text c.add_ever.result c.add_to.new.block c.add_ever.new.block (g.S.Sink.written c.add_to.new.sink) (g.S.Sink.written c.add_ever.new.sink) (g.S.Sink.failed c.add_to.new.sink) (g.S.Sink.failed c.add_ever.new.sink)) listed (c.add_ever.ensures h is.stands)))
+    (subst (λ (text : List ℕ). Passes text c.add_ever.result c.add_to.new.block c.add_ever.new.block (g.S.Sink.written c.add_to.new.sink)
+    (g.S.Sink.written c.add_ever.new.sink) (g.S.Sink.failed c.add_to.new.sink) (g.S.Sink.failed c.add_ever.new.sink)) listed
+    (c.add_ever.ensures h is.stands)))

@@ -1,6 +1,4 @@
-use Rattle.std.proofs.Common.{List, ℕ, ◌++◌, subst}
-use Rattle.pua_tree.specs.Tree.{Tree}
-use Rattle.pua_texts.specs.Blocks.{Passes}
+use Rattle.pua_texts.proofs.Common.{List, ℕ, ◌++◌, subst, Tree, Passes}
 use Rattle.pua_texts.specs.EverLines.{ever_list}
 use Rattle.pua_texts.specs.EverLists.{IsEverOf}
 use Rattle.pua_texts.proofs.ever_list.write_ever.Goals as goal
@@ -11,6 +9,11 @@ returns g c = λ table h stands is.
     let text : List ℕ = c.args.front.now ++ ever_list table t c.args.number h in
     let headed = c.in_ok-head.ensures h stands in
     c.finish.ensures text (g.S.Sink.written c.args.sink.now) (g.S.Sink.failed c.args.sink.now)
-    (subst (λ (b : List ℕ). Passes text c.add_list-added.result b c.add_list-added.new.block (g.S.Sink.written c.args.sink.now) (g.S.Sink.written c.add_list-added.new.sink) (g.S.Sink.failed c.args.sink.now) (g.S.Sink.failed c.add_list-added.new.sink)) c.in_ok-block.ensures
-    (subst (λ (u : Tree). IsEverOf table u h c.args.ever.now → Passes (c.args.front.now ++ ever_list table u c.args.number h) c.add_list-added.result c.in_ok-block.block c.add_list-added.new.block (g.S.Sink.written c.args.sink.now) (g.S.Sink.written c.add_list-added.new.sink) (g.S.Sink.failed c.args.sink.now) (g.S.Sink.failed c.add_list-added.new.sink)) c.in_ok-places.ensures
+    (subst (λ (b : List ℕ). Passes text c.add_list-added.result b c.add_list-added.new.block (g.S.Sink.written c.args.sink.now)
+    (g.S.Sink.written c.add_list-added.new.sink) (g.S.Sink.failed c.args.sink.now) (g.S.Sink.failed c.add_list-added.new.sink))
+    c.in_ok-block.ensures
+    (subst (λ (u : Tree). IsEverOf table u h c.args.ever.now →
+    Passes (c.args.front.now ++ ever_list table u c.args.number h) c.add_list-added.result c.in_ok-block.block
+    c.add_list-added.new.block (g.S.Sink.written c.args.sink.now) (g.S.Sink.written c.add_list-added.new.sink)
+    (g.S.Sink.failed c.args.sink.now) (g.S.Sink.failed c.add_list-added.new.sink)) c.in_ok-places.ensures
     (c.add_list-added.ensures table c.args.number h headed) is))

@@ -1,5 +1,4 @@
-use Rattle.std.proofs.Common.{◌≡◌, length}
-use Rattle.pua_texts.specs.Lines.{pair_lines}
+use Rattle.pua_texts.proofs.Common.{◌≡◌, length, pair_lines}
 use Rattle.pua_texts.proofs.Passing.{Passing}
 use Rattle.pua_texts.proofs.line.add_pairs.Given as goal
 

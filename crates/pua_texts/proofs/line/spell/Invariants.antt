@@ -1,5 +1,5 @@
-use Rattle.std.proofs.Common.{◌≡◌, ◌+◌, ◌*◌, ◌≤◌, ◌++◌, take, length}
-use Rattle.pua_tree.specs.Spelling.{spelling}
+use Rattle.pua_texts.proofs.Common.{◌≡◌, ◌+◌, ◌≤◌, ◌++◌, take, length, spelling}
+use Rattle.std.proofs.Common.{◌*◌}
 use Rattle.pua_texts.proofs.line.spell.Given as goal
 
 abbrev pub invariant-loop-byte : goal.invariant-loop-byte

@@ -1,7 +1,5 @@
-use Rattle.std.proofs.Common.{◌≤◌, ◌+◌, ◌++◌, ◌∷◌, [], ℕ, List, get_or, sym, ap, ◌∙◌, append_assoc, append-nil, arith}
-use Rattle.std.specs.Prelude.{if◌then◌else◌}
-use Rattle.pua_calls.specs.Calls.{call_name, calls}
-use Rattle.pua_calls.specs.declared.call.Call.TheVariants.{Stat}
+use Rattle.pua_texts.proofs.Common.{◌≤◌, ◌+◌, ◌++◌, ◌∷◌, [], ℕ, List, get_or, sym, ap, ◌∙◌, append_assoc, append-nil, arith, if◌then◌else◌}
+use Rattle.pua_texts.proofs.Common.{call_name, calls, Stat}
 use Rattle.pua_texts.proofs.ObjectLines.{calls_left, calls_all, call_taken, call_left, calls_done}
 use Rattle.pua_texts.proofs.object_line.add_names.Goals.{then-contains, else-contains}
 use Rattle.pua_texts.proofs.object_line.add_names.Goals as goal
@@ -23,7 +21,8 @@ loop-call-preserved c =
       })
       | else-contains w ↦ rw (w.block-is, w.is_first-is) (record {
         short = omega (arith, c.loop-call.invariant.short);
-        names = ap (λ t. block ++ t) (sym (call_left set before i c.loop-call-test.true (sym c.contains.ensures ∙ w.if-contains.false))) ∙ c.loop-call.invariant.names;
+        names = ap (λ t. block ++ t) (sym (call_left set before i c.loop-call-test.true (sym c.contains.ensures ∙ w.if-contains.false))) ∙
+            c.loop-call.invariant.names;
       })
     ]
 

@@ -1,5 +1,5 @@
-use Rattle.std.proofs.Common.{◌≡◌, ◌≤◌, ◌+◌, ◌*◌, ◌++◌, ◌∷◌, [], length}
-use Rattle.std.specs.Prelude.{if◌then◌else◌}
+use Rattle.pua_texts.proofs.Common.{◌≡◌, ◌≤◌, ◌+◌, ◌++◌, ◌∷◌, [], length, if◌then◌else◌}
+use Rattle.std.proofs.Common.{◌*◌}
 use Rattle.pua_texts.proofs.ObjectLines.{calls_left}
 use Rattle.pua_texts.proofs.object_line.add_names.Given as goal
 

@@ -1,11 +1,7 @@
-use Rattle.std.proofs.Common.{List, ℕ, ◌++◌, [], Ok, Err, refl, sym, subst, ◌∙◌}
+use Rattle.pua_texts.proofs.Common.{List, ℕ, ◌++◌, [], Ok, Err, refl, sym, subst, ◌∙◌, err_from_is_err_and, Tree, history_of, Passes}
+use Rattle.pua_texts.proofs.Common.{IsListOf, ListState, lists_of}
 use Rattle.std.proofs.lemmas.List.{nil_from_length}
-use Rattle.std.proofs.lemmas.Result.{err_from_is_err_and}
-use Rattle.pua_tree.specs.Tree.{Tree}
-use Rattle.pua_script.specs.Replay.{history_of}
-use Rattle.pua_texts.specs.Blocks.{Passes}
-use Rattle.pua_texts.specs.Lists.{IsListOf, ListState}
-use Rattle.pua_texts.specs.ObjectLines.{lists_of, process_list}
+use Rattle.pua_texts.specs.ObjectLines.{process_list}
 use Rattle.pua_texts.proofs.Lists.{Left, all_left, left_more, left_fails, left_none}
 use Rattle.pua_texts.proofs.Passing.{passes_front}
 use Rattle.pua_texts.proofs.object_lists.add_lists.Goals as goal
@@ -14,16 +10,22 @@ pub returns-in_err-add_text : goal.returns-in_err-add_text
 returns-in_err-add_text g c =
     let p = err_from_is_err_and c.from_residual.result c.from_residual.ensures.1 in
     rw p.1 (λ table w numbers same are.
-    passes_front c.args.front.now (lists_of table w numbers) c.args.block.now [] [] p.0 (g.S.Sink.written c.args.sink.now) (g.S.Sink.written c.add_text.new.sink) (g.S.Sink.failed c.args.sink.now) (g.S.Sink.failed c.add_text.new.sink)
-    (subst (λ (t : List ℕ). Passes t (Err p.0) c.args.block.now [] (g.S.Sink.written c.args.sink.now) (g.S.Sink.written c.add_text.new.sink) (g.S.Sink.failed c.args.sink.now) (g.S.Sink.failed c.add_text.new.sink)) c.as_bytes.ensures.value c.in_err-add_text.ensures))
+    passes_front c.args.front.now (lists_of table w numbers) c.args.block.now [] [] p.0 (g.S.Sink.written c.args.sink.now)
+    (g.S.Sink.written c.add_text.new.sink) (g.S.Sink.failed c.args.sink.now) (g.S.Sink.failed c.add_text.new.sink)
+    (subst (λ (t : List ℕ). Passes t (Err p.0) c.args.block.now [] (g.S.Sink.written c.args.sink.now) (g.S.Sink.written c.add_text.new.sink)
+    (g.S.Sink.failed c.args.sink.now) (g.S.Sink.failed c.add_text.new.sink)) c.as_bytes.ensures.value c.in_err-add_text.ensures))
 
 pub loop-list-init : goal.loop-list-init
 loop-list-init g c = record {
   tree = refl;
   lists = λ table w numbers same are.
-      all_left (history_of w) (IsListOf table w.tree) (process_list table w.tree) c.args.front.now numbers c.args.lists.now.items c.args.block.now c.add_text.new.self
-      (g.S.Sink.written c.args.sink.now) (g.S.Sink.written c.add_text.new.sink) (g.S.Sink.failed c.args.sink.now) (g.S.Sink.failed c.add_text.new.sink) are
-      (subst (λ (t : List ℕ). Passes t (Ok tt) c.args.block.now c.add_text.new.self (g.S.Sink.written c.args.sink.now) (g.S.Sink.written c.add_text.new.sink) (g.S.Sink.failed c.args.sink.now) (g.S.Sink.failed c.add_text.new.sink)) c.as_bytes.ensures.value c.in_ok-add_text.ensures);
+      all_left (history_of w) (IsListOf table w.tree) (process_list table w.tree) c.args.front.now numbers c.args.lists.now.items
+      c.args.block.now c.add_text.new.self
+      (g.S.Sink.written c.args.sink.now) (g.S.Sink.written c.add_text.new.sink) (g.S.Sink.failed c.args.sink.now)
+      (g.S.Sink.failed c.add_text.new.sink) are
+      (subst (λ (t : List ℕ). Passes t (Ok tt) c.args.block.now c.add_text.new.self (g.S.Sink.written c.args.sink.now)
+      (g.S.Sink.written c.add_text.new.sink) (g.S.Sink.failed c.args.sink.now) (g.S.Sink.failed c.add_text.new.sink))
+      c.as_bytes.ensures.value c.in_ok-add_text.ensures);
 }
 
 pub loop-list-preserved : goal.loop-list-preserved
@@ -32,10 +34,17 @@ loop-list-preserved g c = record {
   lists = λ table w numbers same are.
       let rest = c.pop_front.new.self.items in
       let at = c.loop-list.invariant.tree ∙ same in
-      let left = subst (λ (ls : List ListState). Left (history_of w) (IsListOf table w.tree) (process_list table w.tree) (c.args.front.now ++ lists_of table w numbers) ls c.args.block.now c.loop-list.block (g.S.Sink.written c.args.sink.now) (g.S.Sink.written c.loop-list.sink) (g.S.Sink.failed c.args.sink.now) (g.S.Sink.failed c.loop-list.sink)) c.in-Some.ensures.items (c.loop-list.invariant.lists table w numbers same are) in
-      left_more (history_of w) (IsListOf table w.tree) (process_list table w.tree) (c.args.front.now ++ lists_of table w numbers) c.in-Some.list rest c.args.block.now c.loop-list.block
-      (g.S.Sink.written c.args.sink.now) (g.S.Sink.written c.loop-list.sink) (g.S.Sink.written c.add_to.new.sink) (g.S.Sink.failed c.args.sink.now) (g.S.Sink.failed c.loop-list.sink) (g.S.Sink.failed c.add_to.new.sink) left c.add_to.new.block
-      (λ process h is. subst (λ (t : Tree). Passes (process_list table t process h) (Ok tt) c.loop-list.block c.add_to.new.block (g.S.Sink.written c.loop-list.sink) (g.S.Sink.written c.add_to.new.sink) (g.S.Sink.failed c.loop-list.sink) (g.S.Sink.failed c.add_to.new.sink)) at
+      let left = subst (λ (ls : List ListState). Left (history_of w) (IsListOf table w.tree) (process_list table w.tree)
+      (c.args.front.now ++ lists_of table w numbers) ls c.args.block.now c.loop-list.block (g.S.Sink.written c.args.sink.now)
+      (g.S.Sink.written c.loop-list.sink) (g.S.Sink.failed c.args.sink.now) (g.S.Sink.failed c.loop-list.sink)) c.in-Some.ensures.items
+      (c.loop-list.invariant.lists table w numbers same are) in
+      left_more (history_of w) (IsListOf table w.tree) (process_list table w.tree) (c.args.front.now ++ lists_of table w numbers)
+      c.in-Some.list rest c.args.block.now c.loop-list.block
+      (g.S.Sink.written c.args.sink.now) (g.S.Sink.written c.loop-list.sink) (g.S.Sink.written c.add_to.new.sink)
+      (g.S.Sink.failed c.args.sink.now) (g.S.Sink.failed c.loop-list.sink) (g.S.Sink.failed c.add_to.new.sink) left c.add_to.new.block
+      (λ process h is. subst (λ (t : Tree). Passes (process_list table t process h) (Ok tt) c.loop-list.block c.add_to.new.block
+      (g.S.Sink.written c.loop-list.sink) (g.S.Sink.written c.add_to.new.sink) (g.S.Sink.failed c.loop-list.sink)
+      (g.S.Sink.failed c.add_to.new.sink)) at
       (c.in_ok-add_to.ensures.list table process h (subst (λ (t : Tree). IsListOf table t process h c.in-Some.list) (sym at) is)));
 }
 
@@ -45,13 +54,26 @@ returns-in_err-add_to g c =
     rw p.1 (λ table w numbers same are.
     let rest = c.pop_front.new.self.items in
     let at = c.loop-list.invariant.tree ∙ same in
-    let left = subst (λ (ls : List ListState). Left (history_of w) (IsListOf table w.tree) (process_list table w.tree) (c.args.front.now ++ lists_of table w numbers) ls c.args.block.now c.loop-list.block (g.S.Sink.written c.args.sink.now) (g.S.Sink.written c.loop-list.sink) (g.S.Sink.failed c.args.sink.now) (g.S.Sink.failed c.loop-list.sink)) c.in-Some.ensures.items (c.loop-list.invariant.lists table w numbers same are) in
-    left_fails (history_of w) (IsListOf table w.tree) (process_list table w.tree) (c.args.front.now ++ lists_of table w numbers) c.in-Some.list rest c.args.block.now c.loop-list.block
-    (g.S.Sink.written c.args.sink.now) (g.S.Sink.written c.loop-list.sink) (g.S.Sink.written c.add_to.new.sink) (g.S.Sink.failed c.args.sink.now) (g.S.Sink.failed c.loop-list.sink) (g.S.Sink.failed c.add_to.new.sink) left [] [] p.0
-    (λ process h is. subst (λ (t : Tree). Passes (process_list table t process h) (Err p.0) c.loop-list.block [] (g.S.Sink.written c.loop-list.sink) (g.S.Sink.written c.add_to.new.sink) (g.S.Sink.failed c.loop-list.sink) (g.S.Sink.failed c.add_to.new.sink)) at
+    let left = subst (λ (ls : List ListState). Left (history_of w) (IsListOf table w.tree) (process_list table w.tree)
+    (c.args.front.now ++ lists_of table w numbers) ls c.args.block.now c.loop-list.block (g.S.Sink.written c.args.sink.now)
+    (g.S.Sink.written c.loop-list.sink) (g.S.Sink.failed c.args.sink.now) (g.S.Sink.failed c.loop-list.sink)) c.in-Some.ensures.items
+    (c.loop-list.invariant.lists table w numbers same are) in
+    left_fails (history_of w) (IsListOf table w.tree) (process_list table w.tree) (c.args.front.now ++ lists_of table w numbers)
+    c.in-Some.list rest c.args.block.now c.loop-list.block
+    (g.S.Sink.written c.args.sink.now) (g.S.Sink.written c.loop-list.sink) (g.S.Sink.written c.add_to.new.sink)
+    (g.S.Sink.failed c.args.sink.now) (g.S.Sink.failed c.loop-list.sink) (g.S.Sink.failed c.add_to.new.sink) left [] [] p.0
+    (λ process h is. subst (λ (t : Tree). Passes (process_list table t process h) (Err p.0) c.loop-list.block []
+    (g.S.Sink.written c.loop-list.sink) (g.S.Sink.written c.add_to.new.sink) (g.S.Sink.failed c.loop-list.sink)
+    (g.S.Sink.failed c.add_to.new.sink)) at
     (c.in_err-add_to.ensures.list table process h (subst (λ (t : Tree). IsListOf table t process h c.in-Some.list) (sym at) is))))
 
 pub returns : goal.returns
 returns g c = λ table w numbers same are.
-    left_none (history_of w) (IsListOf table w.tree) (process_list table w.tree) (c.args.front.now ++ lists_of table w numbers) c.args.block.now c.loop-list.block (g.S.Sink.written c.args.sink.now) (g.S.Sink.written c.loop-list.sink) (g.S.Sink.failed c.args.sink.now) (g.S.Sink.failed c.loop-list.sink)
-    (subst (λ (ls : List ListState). Left (history_of w) (IsListOf table w.tree) (process_list table w.tree) (c.args.front.now ++ lists_of table w numbers) ls c.args.block.now c.loop-list.block (g.S.Sink.written c.args.sink.now) (g.S.Sink.written c.loop-list.sink) (g.S.Sink.failed c.args.sink.now) (g.S.Sink.failed c.loop-list.sink)) (nil_from_length c.loop-list.lists.items (sym c.loop-list.lists.ok.0 ∙ c.in_default.ensures.cases.0)) (c.loop-list.invariant.lists table w numbers same are))
+    left_none (history_of w) (IsListOf table w.tree) (process_list table w.tree) (c.args.front.now ++ lists_of table w numbers)
+    c.args.block.now c.loop-list.block (g.S.Sink.written c.args.sink.now) (g.S.Sink.written c.loop-list.sink)
+    (g.S.Sink.failed c.args.sink.now) (g.S.Sink.failed c.loop-list.sink)
+    (subst (λ (ls : List ListState). Left (history_of w) (IsListOf table w.tree) (process_list table w.tree)
+    (c.args.front.now ++ lists_of table w numbers) ls c.args.block.now c.loop-list.block (g.S.Sink.written c.args.sink.now)
+    (g.S.Sink.written c.loop-list.sink) (g.S.Sink.failed c.args.sink.now) (g.S.Sink.failed c.loop-list.sink))
+    (nil_from_length c.loop-list.lists.items (sym c.loop-list.lists.ok.0 ∙ c.in_default.ensures.cases.0))
+    (c.loop-list.invariant.lists table w numbers same are))

@@ -1,9 +1,9 @@
-use Rattle.std.proofs.Common.{take}
+use Rattle.pua_texts.proofs.Common.{take, AreProcessLists}
 use Rattle.pua_script.specs.Replay.{World}
 use Rattle.pua_script.specs.Worlds.{StandsForWorld}
-use Rattle.pua_texts.specs.Lists.{AreListsOf}
 use Rattle.pua_texts.proofs.object_lists.begin_lists.Given as goal
 
 -- the lists so far are those of the numbers so far
 abbrev pub invariant-loop-number : goal.invariant-loop-number
-invariant-loop-number g l = (w : World) → StandsForWorld l.fn.world w → AreListsOf l.fn.world.table w (take l.number-index l.numbers) l.lists.items
+invariant-loop-number g l = (w : World) → StandsForWorld l.fn.world w →
+    AreProcessLists l.fn.world.table w (take l.number-index l.numbers) l.lists.items

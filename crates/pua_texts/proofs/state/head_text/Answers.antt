@@ -1,4 +1,4 @@
-use Rattle.std.proofs.Common.{◌++◌, ap, ◌∙◌}
+use Rattle.pua_texts.proofs.Common.{◌++◌, ap, ◌∙◌}
 use Rattle.pua_texts.specs.States.{own_lines}
 use Rattle.pua_texts.proofs.state.head_text.Goals as goal
 

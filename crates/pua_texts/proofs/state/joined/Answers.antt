@@ -1,5 +1,4 @@
-use Rattle.std.proofs.Common.{◌++◌, ◌∷◌, ◌+◌, [], ap, sym, ◌∙◌, map, drop, string_bytes, arith}
-use Rattle.std.specs.Prelude.{if◌then◌else◌}
+use Rattle.pua_texts.proofs.Common.{◌++◌, ◌∷◌, ◌+◌, [], ap, sym, ◌∙◌, map, drop, string_bytes, arith, if◌then◌else◌}
 use Rattle.pua_texts.proofs.ObjectLines.{joined}
 use Rattle.pua_texts.proofs.States.{joined_next, joined_done}
 use Rattle.pua_texts.proofs.state.joined.Goals as goal
@@ -14,4 +13,5 @@ loop-name-preserved c =
 
 pub returns : goal.returns
 returns c =
-    sym (c.loop-name.invariant ∙ joined_done (string_bytes c.loop-name.text) (if c.loop-name.is_first then [] else 44 ∷ []) c.args.names.now c.loop-name.name-index (omega (arith, c.loop-name-test.false)))
+    sym (c.loop-name.invariant ∙ joined_done (string_bytes c.loop-name.text) (if c.loop-name.is_first then [] else 44 ∷ []) c.args.names.now
+    c.loop-name.name-index (omega (arith, c.loop-name-test.false)))

@@ -1,5 +1,4 @@
-use Rattle.std.proofs.Common.{ap, ◌∙◌}
-use Rattle.pua_tree.specs.Tree.{Tree}
+use Rattle.pua_texts.proofs.Common.{ap, ◌∙◌, Tree}
 use Rattle.pua_texts.proofs.Outcomes.{if_ok}
 use Rattle.pua_texts.proofs.why_columns.columns_in.Goals as goal
 

@@ -1,8 +1,5 @@
-use Rattle.std.proofs.Common.{◌+◌, ◌∷◌, [], ap, ◌∙◌, get_or, map, take_all, arith}
-use Rattle.std.specs.Prelude.{None}
-use Rattle.std.proofs.lemmas.List.{map-append}
-use Rattle.pua_texts.specs.WhyLists.{veil_state, veils_behind}
-use Rattle.pua_texts.specs.WhyLines.{world_left}
+use Rattle.pua_texts.proofs.Common.{◌+◌, ◌∷◌, [], ap, ◌∙◌, get_or, map, take_all, arith, None, map-append, veil_state, veils_behind}
+use Rattle.pua_texts.proofs.Common.{world_left}
 use Rattle.pua_texts.proofs.States.{shown}
 use Rattle.pua_texts.proofs.WhyColumns.{column_next}
 use Rattle.pua_texts.proofs.why_columns.columns_of.Goals as goal
@@ -18,7 +15,8 @@ loop-veil-preserved c =
       columns = λ p number same dated.
           ap (map veil_state) c.in-Ok.ensures.items
           ∙ map-append veil_state c.loop-veil.columns.items (c.in_ok-column.column ∷ [])
-          ∙ column_next p number veils c.veil-item.result i c.line_at-line.result c.args.lines.now (map veil_state c.loop-veil.columns.items) (veil_state c.in_ok-column.column) c.loop-veil-test.true c.veil-item.is dated
+          ∙ column_next p number veils c.veil-item.result i c.line_at-line.result c.args.lines.now
+          (map veil_state c.loop-veil.columns.items) (veil_state c.in_ok-column.column) c.loop-veil-test.true c.veil-item.is dated
           (c.line_at-line.ensures ∙ ap (λ n. get_or c.args.lines.now n None) (c.len.ensures ∙ now.count))
           (c.in_ok-column.ensures.column (world_left p).tree (now.rows ∙ same))
           (now.columns p number same dated);
@@ -26,4 +24,8 @@ loop-veil-preserved c =
 
 pub returns : goal.returns
 returns c = λ p number same dated.
-    c.loop-veil.invariant.columns p number same dated ∙ ap (λ vs. veils_behind p number (map shown vs)) (take_all c.loop-veil.veil-index c.args.veils.now (omega (arith, c.loop-veil-test.false)))
+    c.loop-veil.invariant.columns p number same dated ∙
+    ap (λ vs. veils_behind p number (map shown vs)) (take_all c.loop-veil.veil-index c.args.veils.now (omega (
+      arith,
+      c.loop-veil-test.false,
+    )))

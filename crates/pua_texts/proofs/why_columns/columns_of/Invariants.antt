@@ -1,8 +1,5 @@
-use Rattle.std.proofs.Common.{◌≡◌, ℕ, map, take}
+use Rattle.pua_texts.proofs.Common.{◌≡◌, ℕ, map, take, veil_dates, veil_state, veils_behind, Posed, world_left}
 use Rattle.std.specs.Prelude.{vec_len}
-use Rattle.pua_texts.specs.VeilDates.{veil_dates}
-use Rattle.pua_texts.specs.WhyLists.{veil_state, veils_behind}
-use Rattle.pua_texts.specs.WhyLines.{Posed, world_left}
 use Rattle.pua_texts.proofs.States.{shown}
 use Rattle.pua_texts.proofs.why_columns.columns_of.Given as goal
 
@@ -11,5 +8,6 @@ abbrev pub invariant-loop-veil : goal.invariant-loop-veil
 invariant-loop-veil l = record {
   rows : l.paths.rows ≡ l.fn.paths.rows;
   count : vec_len l.columns ≡ l.veil-index;
-  columns : (p : Posed) (number : ℕ) → l.fn.paths.rows ≡ (world_left p).tree.rows → l.lines ≡ veil_dates p number (map shown l.veils) → map veil_state l.columns.items ≡ veils_behind p number (map shown (take l.veil-index l.veils));
+  columns : (p : Posed) (number : ℕ) → l.fn.paths.rows ≡ (world_left p).tree.rows → l.lines ≡ veil_dates p number (map shown l.veils) →
+      map veil_state l.columns.items ≡ veils_behind p number (map shown (take l.veil-index l.veils));
 }

@@ -1,5 +1,4 @@
-use Rattle.std.proofs.Common.{◌≡◌, drop, map}
-use Rattle.pua_texts.specs.WhyLists.{text_at, veil_state}
+use Rattle.pua_texts.proofs.Common.{◌≡◌, drop, map, text_at, veil_state}
 use Rattle.pua_texts.proofs.why_columns.text_at.Given as goal
 
 -- the veil is none of those so far

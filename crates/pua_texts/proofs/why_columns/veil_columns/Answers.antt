@@ -1,6 +1,4 @@
-use Rattle.std.proofs.Common.{ap, sym, ◌∙◌, map}
-use Rattle.pua_texts.specs.VeilDates.{veil_dates}
-use Rattle.pua_texts.specs.WhyLists.{veils_behind}
+use Rattle.pua_texts.proofs.Common.{ap, sym, ◌∙◌, map, veil_dates, veils_behind}
 use Rattle.pua_texts.proofs.Outcomes.{if_ok}
 use Rattle.pua_texts.proofs.States.{shown}
 use Rattle.pua_texts.proofs.why_columns.veil_columns.Goals as goal

@@ -1,9 +1,6 @@
-use Rattle.std.proofs.Common.{◌≡◌, ◌≢◌, [], ◌++◌, List, ℕ, Ok, Err, sym, subst, map}
-use Rattle.std.proofs.lemmas.Result.{err_from_is_err_and}
-use Rattle.pua_calls.specs.CallSets.{calls_in}
-use Rattle.pua_objects.specs.Items.{subject_given}
-use Rattle.pua_why.specs.Texts.{promises_text}
-use Rattle.pua_texts.specs.Blocks.{Passes}
+use Rattle.pua_texts.proofs.Common.{◌≡◌, [], ◌++◌, List, ℕ, Ok, Err, sym, subst, map, err_from_is_err_and, calls_in, subject_given}
+use Rattle.pua_texts.proofs.Common.{promises_text, Passes}
+use Rattle.std.proofs.Common.{◌≢◌}
 use Rattle.pua_texts.proofs.Passing.{passes_none, passes_then, passes_front}
 use Rattle.pua_texts.proofs.WhyItems.{front_given, item_listed, item_unlisted}
 use Rattle.pua_texts.proofs.why_line.add_item.Goals as goal
@@ -15,8 +12,10 @@ returns-then-is_empty g c = λ fits p number h are stands on.
     let word = map (λ name. name.now) c.args.word.now in
     let line = c.line_of-line.result in
     let none : calls_in line.calls ≡ [] = c.is_empty.ensures.0 c.if-is_empty.true in
-    subst (λ (text : List ℕ). Passes text (Ok tt) c.args.block.now c.args.block.now (g.S.Sink.written c.args.sink.now) (g.S.Sink.written c.args.sink.now) (g.S.Sink.failed c.args.sink.now) (g.S.Sink.failed c.args.sink.now))
-    (sym (item_unlisted p number h c.args.columns.now.tree c.args.columns.now.table are.tree are.table word subject line (c.line_of-line.ensures h subject stands on) none))
+    subst (λ (text : List ℕ). Passes text (Ok tt) c.args.block.now c.args.block.now (g.S.Sink.written c.args.sink.now)
+    (g.S.Sink.written c.args.sink.now) (g.S.Sink.failed c.args.sink.now) (g.S.Sink.failed c.args.sink.now))
+    (sym (item_unlisted p number h c.args.columns.now.tree c.args.columns.now.table are.tree are.table word subject line
+    (c.line_of-line.ensures h subject stands on) none))
     (passes_none c.args.block.now (g.S.Sink.written c.args.sink.now) (g.S.Sink.failed c.args.sink.now))
 
 pub returns-in_err-add_object : goal.returns-in_err-add_object
@@ -29,10 +28,14 @@ returns-in_err-add_object g c =
     let some : calls_in line.calls ≢ [] = not_from_Decides c.is_empty.result c.is_empty.ensures c.if-is_empty.false in
     let resting = c.resting_on-resting.result in
     let veil = c.over-veil.result.now in
-    subst (λ (text : List ℕ). Passes text (Err cut.0) c.args.block.now [] (g.S.Sink.written c.args.sink.now) (g.S.Sink.written c.add_object.new.sink) (g.S.Sink.failed c.args.sink.now) (g.S.Sink.failed c.add_object.new.sink))
-    (item_listed p number h c.args.columns.now.tree c.args.columns.now.table are.tree are.table word subject line (c.line_of-line.ensures h subject stands on) resting veil some (c.resting_on-resting.ensures h stands) (c.over-veil.ensures fits p number h are stands))
+    subst (λ (text : List ℕ). Passes text (Err cut.0) c.args.block.now [] (g.S.Sink.written c.args.sink.now)
+    (g.S.Sink.written c.add_object.new.sink) (g.S.Sink.failed c.args.sink.now) (g.S.Sink.failed c.add_object.new.sink))
+    (item_listed p number h c.args.columns.now.tree c.args.columns.now.table are.tree are.table word subject line
+    (c.line_of-line.ensures h subject stands on) resting veil some (c.resting_on-resting.ensures h stands)
+    (c.over-veil.ensures fits p number h are stands))
     (passes_front (front_given line word) (promises_text resting ++ veil) c.args.block.now [] [] cut.0
-    (g.S.Sink.written c.args.sink.now) (g.S.Sink.written c.add_object.new.sink) (g.S.Sink.failed c.args.sink.now) (g.S.Sink.failed c.add_object.new.sink) c.in_err-add_object.ensures))
+    (g.S.Sink.written c.args.sink.now) (g.S.Sink.written c.add_object.new.sink) (g.S.Sink.failed c.args.sink.now)
+    (g.S.Sink.failed c.add_object.new.sink) c.in_err-add_object.ensures))
 
 pub returns : goal.returns
 returns g c = λ fits p number h are stands on.
@@ -40,9 +43,13 @@ returns g c = λ fits p number h are stands on.
     let word = map (λ name. name.now) c.args.word.now in
     let line = c.line_of-line.result in
     let some : calls_in line.calls ≢ [] = not_from_Decides c.is_empty.result c.is_empty.ensures c.if-is_empty.false in
-    subst (λ (text : List ℕ). Passes text c.add_columns.result c.args.block.now c.add_columns.new.block (g.S.Sink.written c.args.sink.now) (g.S.Sink.written c.add_columns.new.sink) (g.S.Sink.failed c.args.sink.now) (g.S.Sink.failed c.add_columns.new.sink))
-    (item_listed p number h c.args.columns.now.tree c.args.columns.now.table are.tree are.table word subject line (c.line_of-line.ensures h subject stands on) c.resting_on-resting.result c.over-veil.result.now some
+    subst (λ (text : List ℕ). Passes text c.add_columns.result c.args.block.now c.add_columns.new.block (g.S.Sink.written c.args.sink.now)
+    (g.S.Sink.written c.add_columns.new.sink) (g.S.Sink.failed c.args.sink.now) (g.S.Sink.failed c.add_columns.new.sink))
+    (item_listed p number h c.args.columns.now.tree c.args.columns.now.table are.tree are.table word subject line
+    (c.line_of-line.ensures h subject stands on) c.resting_on-resting.result c.over-veil.result.now some
     (c.resting_on-resting.ensures h stands) (c.over-veil.ensures fits p number h are stands))
-    (passes_then (front_given line word) (promises_text c.resting_on-resting.result ++ c.over-veil.result.now) c.args.block.now c.add_object.new.block c.add_columns.new.block c.add_columns.result
-    (g.S.Sink.written c.args.sink.now) (g.S.Sink.written c.add_object.new.sink) (g.S.Sink.written c.add_columns.new.sink) (g.S.Sink.failed c.args.sink.now) (g.S.Sink.failed c.add_object.new.sink) (g.S.Sink.failed c.add_columns.new.sink)
+    (passes_then (front_given line word) (promises_text c.resting_on-resting.result ++ c.over-veil.result.now) c.args.block.now
+    c.add_object.new.block c.add_columns.new.block c.add_columns.result
+    (g.S.Sink.written c.args.sink.now) (g.S.Sink.written c.add_object.new.sink) (g.S.Sink.written c.add_columns.new.sink)
+    (g.S.Sink.failed c.args.sink.now) (g.S.Sink.failed c.add_object.new.sink) (g.S.Sink.failed c.add_columns.new.sink)
     c.in_ok-add_object.ensures c.add_columns.ensures)

@@ -1,4 +1,4 @@
-use Rattle.pua_why.specs.Texts.{promises_text}
+use Rattle.pua_texts.proofs.Common.{promises_text}
 use Rattle.pua_texts.proofs.Keywords.{text_left}
 use Rattle.pua_texts.proofs.Passing.{Passing}
 use Rattle.pua_texts.proofs.why_line.add_promises.Given as goal

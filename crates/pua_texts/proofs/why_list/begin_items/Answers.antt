@@ -1,6 +1,4 @@
-use Rattle.std.proofs.Common.{ap, sym, subst, ◌∙◌}
-use Rattle.pua_policy.specs.History.{ProcessState, StandsFor}
-use Rattle.pua_objects.specs.Objects.{items}
+use Rattle.pua_texts.proofs.Common.{ap, sym, subst, ◌∙◌, ProcessState, StandsFor, items}
 use Rattle.pua_texts.proofs.why_list.begin_items.Goals as goal
 
 pub returns-clause-of : goal.returns-clause-of

@@ -1,12 +1,10 @@
-use Rattle.std.proofs.Common.{◌≡◌, drop, map, take}
-use Rattle.std.specs.Prelude.{flat_map}
+use Rattle.pua_texts.proofs.Common.{◌≡◌, drop, map, take, flat_map, veil_date, veils_at, AreWhyListsOf, Posed, world_left}
 use Rattle.pua_script.specs.Worlds.{StandsForWorld}
-use Rattle.pua_since.specs.Dates.{veil_date, veils_at}
-use Rattle.pua_texts.specs.WhyLists.{AreWhyListsOf}
-use Rattle.pua_texts.specs.WhyLines.{Posed, world_left}
 use Rattle.pua_texts.proofs.why_lists.begin_lists.Given as goal
 
 -- the lists so far are those of the numbers so far, and the lines that are left are those of the others
 abbrev pub invariant-loop-number : goal.invariant-loop-number
-invariant-loop-number g l = (p : Posed) → StandsForWorld l.fn.world (world_left p) → l.fn.world.table ≡ p.table → l.fn.lines ≡ map (veil_date p.table p.world p.asks) (flat_map (veils_at l.fn.world) l.numbers) →
-    (l.left ≡ map (veil_date p.table p.world p.asks) (flat_map (veils_at l.fn.world) (drop l.number-index l.numbers))) × AreWhyListsOf p (take l.number-index l.numbers) l.lists.items
+invariant-loop-number g l = (p : Posed) → StandsForWorld l.fn.world (world_left p) → l.fn.world.table ≡ p.table →
+    l.fn.lines ≡ map (veil_date p.table p.world p.asks) (flat_map (veils_at l.fn.world) l.numbers) →
+    (l.left ≡ map (veil_date p.table p.world p.asks) (flat_map (veils_at l.fn.world) (drop l.number-index l.numbers))) ×
+    AreWhyListsOf p (take l.number-index l.numbers) l.lists.items

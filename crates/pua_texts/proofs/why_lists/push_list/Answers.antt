@@ -1,4 +1,4 @@
-use Rattle.std.proofs.Common.{◌∙◌}
+use Rattle.pua_texts.proofs.Common.{◌∙◌}
 use Rattle.pua_texts.proofs.why_lists.push_list.Goals as goal
 
 pub returns : goal.returns

@@ -1,6 +1,5 @@
-use Rattle.std.proofs.Common.{◌≢◌, ◌∙◌, Err, ap, sym}
+use Rattle.pua_tool.proofs.Common.{◌≢◌, ◌∙◌, Err, ap, sym, as_audit}
 use Rattle.pua_audit.specs.declared.fault.AuditFault.TheVariants as audit_fault
-use Rattle.pua_tool.specs.Texts.{as_audit}
 use Rattle.pua_tool.proofs.audit.begin.Goals as goal
 
 pub returns-in-Ok-clause-begun : goal.returns-in-Ok-clause-begun

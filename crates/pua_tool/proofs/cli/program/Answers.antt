@@ -1,23 +1,24 @@
-use Rattle.std.proofs.Common.{◌∙◌, map, subst, sym}
-use Rattle.pua_words.specs.Usages.{line_for, line_text}
-use Rattle.pua_texts.specs.Lines.{ended}
-use Rattle.pua_tool.specs.Told.{IsTold, TellsStatus}
+use Rattle.pua_tool.proofs.Common.{◌∙◌, map, subst, sym, with_end}
+use Rattle.pua_words.specs.Usages.{line_for, usage_line_text}
+use Rattle.pua_tool.specs.Told.{IsLineTold, TellsStatus}
 use Rattle.pua_tool.proofs.Ends.{ended_by_status, told_by_status}
 use Rattle.pua_tool.proofs.Stops.{not_done}
 use Rattle.pua_tool.proofs.cli.program.Goals as goal
 
 pub returns-clause-usage : goal.returns-clause-usage
 returns-clause-usage g c same =
-    let line = ended (line_text (line_for (map (λ word. word.now) c.args.words.now))) in
-    let other = not_done c.flush-flushed.result c.command-status.result c.at_end.result c.at_end.ensures.kept c.at_end.ensures.device same in
-    subst (λ e. IsTold line (g.E.Sink.written c.args.err.now) (g.E.Sink.written e) (g.E.Sink.failed c.args.err.now) (g.E.Sink.failed e))
+    let line = with_end (usage_line_text (line_for (map (λ word. word.now) c.args.words.now))) in
+    let other = not_done c.flush-flushed.result c.command-status.result c.at_end.result c.at_end.ensures.kept c.at_end.ensures.device same
+    in
+    subst (λ e. IsLineTold line (g.E.Sink.written c.args.err.now) (g.E.Sink.written e) (g.E.Sink.failed c.args.err.now) (g.E.Sink.failed e))
     (sym (c.at_end.ensures.untold other))
     (c.command-status.ensures.usage (sym (c.at_end.ensures.stopped other) ∙ same))
 
 pub returns-clause-device : goal.returns-clause-device
 returns-clause-device g c same =
     ended_by_status (g.I.Inputs.holds c.args.inputs.now) c.flush-flushed.result c.command-status.result c.at_end.result _ _ _ _ _ _
-    c.at_end.ensures.kept c.at_end.ensures.stopped c.flush-flushed.ensures.unfailed c.flush-flushed.ensures.rises c.flush-flushed.ensures.bytes
+    c.at_end.ensures.kept c.at_end.ensures.stopped c.flush-flushed.ensures.unfailed c.flush-flushed.ensures.rises
+    c.flush-flushed.ensures.bytes
     c.command-status.ensures.done c.command-status.ensures.unfailed c.command-status.ensures.device same
 
 pub returns-clause-told : goal.returns-clause-told

@@ -1,6 +1,4 @@
-use Rattle.std.proofs.Common.{sym, rules}
-use Rattle.pua_tool.specs.declared.fault.ToolFault.TheVariants.{Write}
-use Rattle.pua_tool.specs.declared.outcome.CommandFault.TheVariants.{Tool}
+use Rattle.pua_tool.proofs.Common.{sym, rules, Write, Tool}
 use Rattle.pua_tool.proofs.cli.show.Goals as goal
 
 pub returns-in-Err-clause-told : goal.returns-in-Err-clause-told

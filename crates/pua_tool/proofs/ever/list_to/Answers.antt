@@ -1,15 +1,10 @@
-use Rattle.std.proofs.Common.{◌≡◌, ℕ, List, ◌++◌, ap, sym, subst, ◌∙◌}
-use Rattle.std.specs.Prelude.{None}
-use Rattle.pua_tree.specs.Tree.{Tree}
+use Rattle.pua_tool.proofs.Common.{◌≡◌, ℕ, List, ◌++◌, ap, sym, subst, ◌∙◌, None, Tree, history_of, answer_lines, Tells, unless_reason}
+use Rattle.pua_tool.proofs.Common.{is_made}
 use Rattle.pua_policy.specs.History.{ProcessState, StandsFor}
-use Rattle.pua_script.specs.Replay.{history_of}
 use Rattle.pua_ever.specs.Refusals.{refusal}
 use Rattle.pua_texts.specs.EverLists.{IsEverOf}
 use Rattle.pua_texts.specs.EverLines.{ever_list}
-use Rattle.pua_texts.specs.Lines.{answer_lines}
-use Rattle.pua_texts.specs.Tells.{Tells}
-use Rattle.pua_tool.specs.EverTexts.{ever_after, unless_refused}
-use Rattle.pua_texts.proofs.ForCallers.{is_made}
+use Rattle.pua_tool.specs.EverTexts.{ever_after}
 use Rattle.pua_tool.proofs.EverTexts.{after_made, unrefused, answers_refused, answers_told}
 use Rattle.pua_tool.proofs.ever.list_to.Goals as goal
 
@@ -19,10 +14,12 @@ returns-in-Err g c = λ done replay.
     let n : ℕ = c.args.number in
     let made = is_made c.in-Some.process.now (history_of done.world n) (c.in-Some.ensures.history done.world replay.stands) in
     let h = made.history in
-    let text = answer_lines 1 done.told ++ ever_list done.table done.world.tree n h in
-    answers_refused (ever_after done n) fault (g.S.Sink.written c.args.sink.now) (g.S.Sink.failed c.args.sink.now) c.fault_of.ensures.unwritten
+    let text = answer_lines 1 done.answers ++ ever_list done.table done.world.tree n h in
+    answers_refused (ever_after done n) fault (g.S.Sink.written c.args.sink.now) (g.S.Sink.failed c.args.sink.now)
+    c.fault_of.ensures.unwritten
     (λ other. after_made done n h made.is
-    ∙ ap (λ reason. unless_refused n reason text) ((λ i. refusal (sym (c.table.ensures ∙ replay.table) i) h) ∙ c.in-Err.ensures.refused h made.stands)
+    ∙ ap (λ reason. unless_reason n reason text) ((λ i. refusal (sym (c.table.ensures ∙ replay.table) i) h) ∙
+    c.in-Err.ensures.refused h made.stands)
     ∙ c.fault_of.ensures.told text other)
 
 pub returns : goal.returns
@@ -32,11 +29,14 @@ returns g c = λ done replay.
     let h = made.history in
     let ruled = c.table.ensures ∙ replay.table in
     let at = c.tree-2.ensures ∙ replay.stands.tree in
-    let front : c.as_str.result.now ≡ answer_lines 1 done.told = c.as_str.ensures.value ∙ c.in-Ok-answer_text.ensures ∙ ap (answer_lines 1) (c.as_slice.ensures.value ∙ replay.told) in
+    let front : c.as_str.result.now ≡ answer_lines 1 done.answers = c.as_str.ensures.value ∙ c.in-Ok-answer_text.ensures ∙
+    ap (answer_lines 1) (c.as_slice.ensures.value ∙ replay.answers) in
     let listed : refusal done.table h ≡ None = (λ i. refusal (sym ruled i) h) ∙ c.in-Ok.ensures.refused h made.stands in
-    let text = answer_lines 1 done.told ++ ever_list done.table done.world.tree n h in
-    let written : Tells text c.write_ever.result (g.S.Sink.written c.args.sink.now) (g.S.Sink.written c.write_ever.new.sink) (g.S.Sink.failed c.args.sink.now) (g.S.Sink.failed c.write_ever.new.sink) =
-    subst (λ (text : List ℕ). Tells text c.write_ever.result (g.S.Sink.written c.args.sink.now) (g.S.Sink.written c.write_ever.new.sink) (g.S.Sink.failed c.args.sink.now) (g.S.Sink.failed c.write_ever.new.sink))
+    let text = answer_lines 1 done.answers ++ ever_list done.table done.world.tree n h in
+    let written : Tells text c.write_ever.result (g.S.Sink.written c.args.sink.now) (g.S.Sink.written c.write_ever.new.sink)
+    (g.S.Sink.failed c.args.sink.now) (g.S.Sink.failed c.write_ever.new.sink) =
+    subst (λ (text : List ℕ). Tells text c.write_ever.result (g.S.Sink.written c.args.sink.now) (g.S.Sink.written c.write_ever.new.sink)
+    (g.S.Sink.failed c.args.sink.now) (g.S.Sink.failed c.write_ever.new.sink))
     (λ i. front i ++ ever_list (ruled i) (at i) n h)
     (c.write_ever.ensures c.table.result.now h made.stands
     (subst (λ (t : Tree). IsEverOf c.table.result.now t h c.in-Ok.ever) (c.tree.ensures ∙ sym c.tree-2.ensures) (record {
@@ -45,6 +45,8 @@ returns g c = λ done replay.
       stands = subst (λ (p : ProcessState). StandsFor p h) (sym c.in-Ok.ensures.of.1) made.stands;
       left = c.in-Ok.ensures.lines h made.stands;
     }))) in
-    answers_told (ever_after done n) text c.told.result (g.S.Sink.written c.args.sink.now) (g.S.Sink.written c.write_ever.new.sink) (g.S.Sink.failed c.args.sink.now) (g.S.Sink.failed c.write_ever.new.sink)
+    answers_told (ever_after done n) text c.told.result (g.S.Sink.written c.args.sink.now) (g.S.Sink.written c.write_ever.new.sink)
+    (g.S.Sink.failed c.args.sink.now) (g.S.Sink.failed c.write_ever.new.sink)
     (after_made done n h made.is ∙ unrefused n h done listed)
-    (c.told.ensures text (g.S.Sink.written c.args.sink.now) (g.S.Sink.written c.write_ever.new.sink) (g.S.Sink.failed c.args.sink.now) (g.S.Sink.failed c.write_ever.new.sink) written)
+    (c.told.ensures text (g.S.Sink.written c.args.sink.now) (g.S.Sink.written c.write_ever.new.sink) (g.S.Sink.failed c.args.sink.now)
+    (g.S.Sink.failed c.write_ever.new.sink) written)

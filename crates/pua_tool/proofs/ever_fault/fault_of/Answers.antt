@@ -1,8 +1,7 @@
-use Rattle.std.proofs.Common.{Err, ap, sym, ◌∙◌}
+use Rattle.pua_tool.proofs.Common.{Err, ap, sym, ◌∙◌, unless_reason}
 use Rattle.pua_ever.specs.Refusals.{refusal_in}
-use Rattle.pua_tool.specs.EverTexts.{unless_refused}
 use Rattle.pua_tool.proofs.ever_fault.fault_of.Goals as goal
 
 pub returns-in-Refused-clause-told : goal.returns-in-Refused-clause-told
 returns-in-Refused-clause-told c = λ text other.
-    ap (λ why. unless_refused c.args.number (refusal_in why) text) c.in-Refused.is ∙ ap (λ told. Err told) (sym c.reason_of.ensures.told)
+    ap (λ why. unless_reason c.args.number (refusal_in why) text) c.in-Refused.is ∙ ap (λ told. Err told) (sym c.reason_of.ensures.told)

@@ -1,4 +1,4 @@
-use Rattle.std.proofs.Common.{ap, sym}
+use Rattle.pua_tool.proofs.Common.{ap, sym}
 use Rattle.pua_tool.specs.EverTexts.{ever_fault}
 use Rattle.pua_tool.proofs.ever_fault.reason_of.Goals as goal
 

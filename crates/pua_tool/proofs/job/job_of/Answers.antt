@@ -1,4 +1,4 @@
-use Rattle.std.proofs.Common.{rules}
+use Rattle.pua_tool.proofs.Common.{rules}
 use Rattle.pua_tool.proofs.job.job_of.Goals as goal
 
 pub returns : goal.returns

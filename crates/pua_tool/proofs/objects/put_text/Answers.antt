@@ -1,16 +1,19 @@
-use Rattle.std.proofs.Common.{List, ℕ, subst}
-use Rattle.pua_io.specs.Sinks.{Adds, AddsFront}
+use Rattle.pua_tool.proofs.Common.{List, ℕ, subst, Adds, AddsFront}
 use Rattle.pua_tool.proofs.EverTexts.{all_told, front_told}
 use Rattle.pua_tool.proofs.objects.put_text.Goals as goal
 
 pub returns-in_default : goal.returns-in_default
 returns-in_default g c =
-    front_told c.args.text.now (g.S.Sink.written c.args.sink.now) (g.S.Sink.written c.put_all.new.sink) (g.S.Sink.failed c.args.sink.now) (g.S.Sink.failed c.put_all.new.sink)
-    (subst (λ (b : List ℕ). AddsFront b (g.S.Sink.written c.args.sink.now) (g.S.Sink.written c.put_all.new.sink)) c.as_bytes.ensures.value c.in_default.ensures.front)
+    front_told c.args.text.now (g.S.Sink.written c.args.sink.now) (g.S.Sink.written c.put_all.new.sink) (g.S.Sink.failed c.args.sink.now)
+    (g.S.Sink.failed c.put_all.new.sink)
+    (subst (λ (b : List ℕ). AddsFront b (g.S.Sink.written c.args.sink.now) (g.S.Sink.written c.put_all.new.sink)) c.as_bytes.ensures.value
+    c.in_default.ensures.front)
     c.in_default.ensures.failed
 
 pub returns : goal.returns
 returns g c =
-    all_told c.args.text.now (g.S.Sink.written c.args.sink.now) (g.S.Sink.written c.put_all.new.sink) (g.S.Sink.failed c.args.sink.now) (g.S.Sink.failed c.put_all.new.sink)
-    (subst (λ (b : List ℕ). Adds b (g.S.Sink.written c.args.sink.now) (g.S.Sink.written c.put_all.new.sink)) c.as_bytes.ensures.value c.in-Ok.ensures.whole)
+    all_told c.args.text.now (g.S.Sink.written c.args.sink.now) (g.S.Sink.written c.put_all.new.sink) (g.S.Sink.failed c.args.sink.now)
+    (g.S.Sink.failed c.put_all.new.sink)
+    (subst (λ (b : List ℕ). Adds b (g.S.Sink.written c.args.sink.now) (g.S.Sink.written c.put_all.new.sink)) c.as_bytes.ensures.value
+    c.in-Ok.ensures.whole)
     c.in-Ok.ensures.unfailed

@@ -1,4 +1,4 @@
-use Rattle.std.proofs.Common.{◌≡◌, subst}
+use Rattle.pua_tool.proofs.Common.{◌≡◌, subst}
 use Rattle.pua_texts.specs.Tells.{IsUntold}
 use Rattle.pua_texts.specs.declared.fault.TextFault.{TextFault}
 use Rattle.pua_texts.specs.declared.fault.TextFault.TheVariants.{OutOfMemory, Write}

@@ -1,33 +1,31 @@
-use Rattle.std.proofs.Common.{◌≡◌, ◌≢◌, Err, refl, subst, sym, ◌∙◌, rules}
-use Rattle.pua_tree.specs.Tree.{Tree}
-use Rattle.pua_script.specs.Scripts.{script}
-use Rattle.pua_script.specs.Replay.{new_world}
-use Rattle.pua_script.specs.Worlds.{StandsForWorld}
-use Rattle.pua_tool.specs.Texts.{chosen}
-use Rattle.pua_tool.specs.WhyTexts.{posed}
-use Rattle.pua_tool.specs.declared.fault.ToolFault.TheVariants.{OutOfMemory}
-use Rattle.pua_texts.proofs.ForCallers.{if_err, if_ok}
+use Rattle.pua_tool.proofs.Common.{◌≡◌, ◌≢◌, Err, refl, subst, sym, ◌∙◌, rules, Tree, script, new_world, StandsForWorld, choice_of}
+use Rattle.pua_tool.proofs.Common.{OutOfMemory, if_err, if_ok}
+use Rattle.pua_tool.specs.WhyTexts.{posed_script}
 use Rattle.pua_tool.proofs.WhyTexts.{posed_is, table_refuses, listing_refuses, script_refuses, script_is}
 use Rattle.pua_tool.proofs.posed.pose.Goals as goal
 
 pub returns-in_err-table-clause-refused : goal.returns-in_err-table-clause-refused
 returns-in_err-table-clause-refused c =
     let fault = c.in_err-table.field-0.0 in
-    let refuses : fault ≢ OutOfMemory → posed (chosen c.args.choice) c.args.tree_bytes.now c.args.script_bytes.now ≡ Err fault = λ other.
-    table_refuses (chosen c.args.choice) c.args.tree_bytes.now c.args.script_bytes.now fault (c.in_err-table.ensures.refused other) in
+    let refuses : fault ≢ OutOfMemory → posed_script (choice_of c.args.choice) c.args.tree_bytes.now c.args.script_bytes.now ≡ Err fault =
+    λ other.
+    table_refuses (choice_of c.args.choice) c.args.tree_bytes.now c.args.script_bytes.now fault (c.in_err-table.ensures.refused other) in
     search (rules, refuses)
 
 pub returns-in_err-before-clause-refused : goal.returns-in_err-before-clause-refused
 returns-in_err-before-clause-refused c =
     let fault = c.in_err-before.field-0.0 in
-    let refuses : fault ≢ OutOfMemory → posed (chosen c.args.choice) c.args.tree_bytes.now c.args.script_bytes.now ≡ Err fault = λ other.
-    listing_refuses (chosen c.args.choice) c.args.tree_bytes.now c.args.script_bytes.now c.in_ok-table.table fault c.in_ok-table.ensures.read (c.in_err-before.ensures.refused other) in
+    let refuses : fault ≢ OutOfMemory → posed_script (choice_of c.args.choice) c.args.tree_bytes.now c.args.script_bytes.now ≡ Err fault =
+    λ other.
+    listing_refuses (choice_of c.args.choice) c.args.tree_bytes.now c.args.script_bytes.now c.in_ok-table.table fault
+    c.in_ok-table.ensures.read (c.in_err-before.ensures.refused other) in
     search (rules, refuses)
 
 pub returns-in-Err-clause-refused : goal.returns-in-Err-clause-refused
 returns-in-Err-clause-refused c = λ other.
     let before = c.in_ok-before.ensures.new in
-    script_refuses (chosen c.args.choice) c.args.tree_bytes.now c.args.script_bytes.now c.in_ok-table.table before.0 c.in-Err.fault c.in_ok-table.ensures.read before.1 (c.in-Err.ensures.refused other before.0 before.1)
+    script_refuses (choice_of c.args.choice) c.args.tree_bytes.now c.args.script_bytes.now c.in_ok-table.table before.0 c.in-Err.fault
+    c.in_ok-table.ensures.read before.1 (c.in-Err.ensures.refused other before.0 before.1)
 
 pub returns-in-Ok-clause-done : goal.returns-in-Ok-clause-done
 returns-in-Ok-clause-done c =
@@ -37,10 +35,12 @@ returns-in-Ok-clause-done c =
     let after = c.in-Ok.ensures.world in
     let tree = before.0 in
     let same : after.0 ≡ tree = let read = sym after.1 ∙ before.1 in cc in
-    let stands : StandsForWorld c.in-Ok.after (new_world tree) = subst (λ (t : Tree). StandsForWorld c.in-Ok.after (new_world t)) same after.2 in
+    let stands : StandsForWorld c.in-Ok.after (new_world tree) =
+    subst (λ (t : Tree). StandsForWorld c.in-Ok.after (new_world t)) same after.2 in
     if_ok c.serve.result (λ done served. (
       record { table = rules; world = new_world tree; asks = asks },
-      posed_is (chosen c.args.choice) c.args.tree_bytes.now c.args.script_bytes.now rules tree asks c.in_ok-table.ensures.read before.1 c.in-Ok.ensures.script,
+      posed_is (choice_of c.args.choice) c.args.tree_bytes.now c.args.script_bytes.now rules tree asks c.in_ok-table.ensures.read before.1
+          c.in-Ok.ensures.script,
       script_is (script c.args.script_bytes.now) asks c.in-Ok.ensures.script,
       served (record { table = rules; world = new_world tree; asks = asks }) refl before.2 before.3 stands after.3,
     )) c.serve.ensures.done

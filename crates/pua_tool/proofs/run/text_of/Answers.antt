@@ -1,21 +1,18 @@
-use Rattle.std.proofs.Common.{◌≡◌, ◌≢◌, Ok, Err, ap, sym, ◌∙◌}
-use Rattle.std.proofs.lemmas.Result.{err_from_is_err_and}
-use Rattle.pua_tree.specs.Steps.{◌>>=◌}
-use Rattle.pua_texts.specs.Lines.{answer_lines}
-use Rattle.pua_tool.specs.Texts.{chosen, run_text}
-use Rattle.pua_tool.specs.declared.fault.ToolFault.TheVariants.{OutOfMemory}
+use Rattle.pua_tool.proofs.Common.{◌≡◌, ◌≢◌, Ok, Err, ap, sym, ◌∙◌, err_from_is_err_and, ◌>>=◌, answer_lines, choice_of, OutOfMemory}
+use Rattle.pua_tool.specs.Texts.{run_text}
 use Rattle.pua_tool.proofs.run.text_of.Goals as goal
 
 pub returns-in_err-replay-clause-refused : goal.returns-in_err-replay-clause-refused
 returns-in_err-replay-clause-refused c =
     let fault = c.in_err-replay.field-0.0 in
-    let refuses : fault ≢ OutOfMemory → run_text (chosen c.args.table) c.args.tree_bytes.now c.args.script_bytes.now ≡ Err fault = λ other.
-    λ i. c.in_err-replay.ensures.refused other i >>= λ done. Ok (answer_lines 1 done.told) in
+    let refuses : fault ≢ OutOfMemory → run_text (choice_of c.args.table) c.args.tree_bytes.now c.args.script_bytes.now ≡ Err fault =
+    λ other.
+    λ i. c.in_err-replay.ensures.refused other i >>= λ done. Ok (answer_lines 1 done.answers) in
     let p = err_from_is_err_and c.from_residual.result c.from_residual.ensures.1 in
     rw (p.1, p.2) refuses
 
 pub returns-in-Ok-clause-done : goal.returns-in-Ok-clause-done
 returns-in-Ok-clause-done c =
     let done = c.in_ok-replay.ensures.done in
-    (λ i. done.1 i >>= λ done. Ok (answer_lines 1 done.told))
-    ∙ ap Ok (sym (c.in-Ok.ensures ∙ ap (answer_lines 1) (c.as_slice.ensures.value ∙ done.2.told)))
+    (λ i. done.1 i >>= λ done. Ok (answer_lines 1 done.answers))
+    ∙ ap Ok (sym (c.in-Ok.ensures ∙ ap (answer_lines 1) (c.as_slice.ensures.value ∙ done.2.answers)))

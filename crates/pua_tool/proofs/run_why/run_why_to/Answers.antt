@@ -1,9 +1,5 @@
-use Rattle.std.proofs.Common.{◌≡◌, ◌≢◌, Ok, Err, List, ℕ, subst, ◌∙◌}
-use Rattle.std.proofs.lemmas.Result.{err_from_is_err_and}
-use Rattle.pua_tool.specs.EverTexts.{Answers}
-use Rattle.pua_tool.specs.Texts.{chosen}
+use Rattle.pua_tool.proofs.Common.{◌≡◌, ◌≢◌, Ok, Err, List, ℕ, subst, ◌∙◌, err_from_is_err_and, Answers, choice_of, OutOfMemory, Write}
 use Rattle.pua_tool.specs.WhyTexts.{run_why_text}
-use Rattle.pua_tool.specs.declared.fault.ToolFault.TheVariants.{OutOfMemory, Write}
 use Rattle.pua_tool.proofs.EverTexts.{answers_whole, answers_unfailed, answers_write, answers_fault, answers_unwritten}
 use Rattle.pua_tool.proofs.WhyTexts.{run_refuses, run_told}
 use Rattle.pua_tool.proofs.run_why.run_why_to.Goals as goal
@@ -11,8 +7,9 @@ use Rattle.pua_tool.proofs.run_why.run_why_to.Goals as goal
 pub returns-in_err-posed-clause-refused : goal.returns-in_err-posed-clause-refused
 returns-in_err-posed-clause-refused g c =
     let fault = c.in_err-posed.field-0.0 in
-    let refuses : fault ≢ Write → fault ≢ OutOfMemory → run_why_text (chosen c.args.table) c.args.tree_bytes.now c.args.script_bytes.now ≡ Err fault = λ unwritten other.
-    run_refuses (chosen c.args.table) c.args.tree_bytes.now c.args.script_bytes.now fault (c.in_err-posed.ensures.refused other) in
+    let refuses : fault ≢ Write → fault ≢ OutOfMemory → run_why_text (choice_of c.args.table) c.args.tree_bytes.now c.args.script_bytes.now
+    ≡ Err fault = λ unwritten other.
+    run_refuses (choice_of c.args.table) c.args.tree_bytes.now c.args.script_bytes.now fault (c.in_err-posed.ensures.refused other) in
     let p = err_from_is_err_and c.from_residual.result c.from_residual.ensures.1 in
     rw (p.1, p.2) refuses
 
@@ -23,9 +20,10 @@ returns-clause-whole g c =
     let b = g.S.Sink.written c.put_text.new.sink in
     let n = g.S.Sink.failed c.args.sink.now in
     let m = g.S.Sink.failed c.put_text.new.sink in
-    let told = subst (λ (text : List ℕ). Answers (Ok text) c.put_text.result a b n m) (c.as_str.ensures.value ∙ c.in-Ok.ensures posed.0 posed.2 posed.3) c.put_text.ensures in
-    answers_whole (run_why_text (chosen c.args.table) c.args.tree_bytes.now c.args.script_bytes.now) a b n m c.put_text.result
-    (run_told (chosen c.args.table) c.args.tree_bytes.now c.args.script_bytes.now posed.0 c.put_text.result a b n m posed.1 told)
+    let told = subst (λ (text : List ℕ). Answers (Ok text) c.put_text.result a b n m) (c.as_str.ensures.value ∙
+    c.in-Ok.ensures posed.0 posed.2 posed.3) c.put_text.ensures in
+    answers_whole (run_why_text (choice_of c.args.table) c.args.tree_bytes.now c.args.script_bytes.now) a b n m c.put_text.result
+    (run_told (choice_of c.args.table) c.args.tree_bytes.now c.args.script_bytes.now posed.0 c.put_text.result a b n m posed.1 told)
 
 pub returns-clause-unfailed : goal.returns-clause-unfailed
 returns-clause-unfailed g c =
@@ -34,9 +32,10 @@ returns-clause-unfailed g c =
     let b = g.S.Sink.written c.put_text.new.sink in
     let n = g.S.Sink.failed c.args.sink.now in
     let m = g.S.Sink.failed c.put_text.new.sink in
-    let told = subst (λ (text : List ℕ). Answers (Ok text) c.put_text.result a b n m) (c.as_str.ensures.value ∙ c.in-Ok.ensures posed.0 posed.2 posed.3) c.put_text.ensures in
-    answers_unfailed (run_why_text (chosen c.args.table) c.args.tree_bytes.now c.args.script_bytes.now) a b n m c.put_text.result
-    (run_told (chosen c.args.table) c.args.tree_bytes.now c.args.script_bytes.now posed.0 c.put_text.result a b n m posed.1 told)
+    let told = subst (λ (text : List ℕ). Answers (Ok text) c.put_text.result a b n m) (c.as_str.ensures.value ∙
+    c.in-Ok.ensures posed.0 posed.2 posed.3) c.put_text.ensures in
+    answers_unfailed (run_why_text (choice_of c.args.table) c.args.tree_bytes.now c.args.script_bytes.now) a b n m c.put_text.result
+    (run_told (choice_of c.args.table) c.args.tree_bytes.now c.args.script_bytes.now posed.0 c.put_text.result a b n m posed.1 told)
 
 pub returns-clause-write : goal.returns-clause-write
 returns-clause-write g c =
@@ -45,9 +44,10 @@ returns-clause-write g c =
     let b = g.S.Sink.written c.put_text.new.sink in
     let n = g.S.Sink.failed c.args.sink.now in
     let m = g.S.Sink.failed c.put_text.new.sink in
-    let told = subst (λ (text : List ℕ). Answers (Ok text) c.put_text.result a b n m) (c.as_str.ensures.value ∙ c.in-Ok.ensures posed.0 posed.2 posed.3) c.put_text.ensures in
-    answers_write (run_why_text (chosen c.args.table) c.args.tree_bytes.now c.args.script_bytes.now) a b n m c.put_text.result
-    (run_told (chosen c.args.table) c.args.tree_bytes.now c.args.script_bytes.now posed.0 c.put_text.result a b n m posed.1 told)
+    let told = subst (λ (text : List ℕ). Answers (Ok text) c.put_text.result a b n m) (c.as_str.ensures.value ∙
+    c.in-Ok.ensures posed.0 posed.2 posed.3) c.put_text.ensures in
+    answers_write (run_why_text (choice_of c.args.table) c.args.tree_bytes.now c.args.script_bytes.now) a b n m c.put_text.result
+    (run_told (choice_of c.args.table) c.args.tree_bytes.now c.args.script_bytes.now posed.0 c.put_text.result a b n m posed.1 told)
 
 pub returns-clause-refused : goal.returns-clause-refused
 returns-clause-refused g c =
@@ -56,9 +56,10 @@ returns-clause-refused g c =
     let b = g.S.Sink.written c.put_text.new.sink in
     let n = g.S.Sink.failed c.args.sink.now in
     let m = g.S.Sink.failed c.put_text.new.sink in
-    let told = subst (λ (text : List ℕ). Answers (Ok text) c.put_text.result a b n m) (c.as_str.ensures.value ∙ c.in-Ok.ensures posed.0 posed.2 posed.3) c.put_text.ensures in
-    answers_fault (run_why_text (chosen c.args.table) c.args.tree_bytes.now c.args.script_bytes.now) a b n m c.put_text.result
-    (run_told (chosen c.args.table) c.args.tree_bytes.now c.args.script_bytes.now posed.0 c.put_text.result a b n m posed.1 told)
+    let told = subst (λ (text : List ℕ). Answers (Ok text) c.put_text.result a b n m) (c.as_str.ensures.value ∙
+    c.in-Ok.ensures posed.0 posed.2 posed.3) c.put_text.ensures in
+    answers_fault (run_why_text (choice_of c.args.table) c.args.tree_bytes.now c.args.script_bytes.now) a b n m c.put_text.result
+    (run_told (choice_of c.args.table) c.args.tree_bytes.now c.args.script_bytes.now posed.0 c.put_text.result a b n m posed.1 told)
 
 pub returns-clause-unwritten : goal.returns-clause-unwritten
 returns-clause-unwritten g c =
@@ -67,6 +68,7 @@ returns-clause-unwritten g c =
     let b = g.S.Sink.written c.put_text.new.sink in
     let n = g.S.Sink.failed c.args.sink.now in
     let m = g.S.Sink.failed c.put_text.new.sink in
-    let told = subst (λ (text : List ℕ). Answers (Ok text) c.put_text.result a b n m) (c.as_str.ensures.value ∙ c.in-Ok.ensures posed.0 posed.2 posed.3) c.put_text.ensures in
-    answers_unwritten (run_why_text (chosen c.args.table) c.args.tree_bytes.now c.args.script_bytes.now) a b n m c.put_text.result
-    (run_told (chosen c.args.table) c.args.tree_bytes.now c.args.script_bytes.now posed.0 c.put_text.result a b n m posed.1 told)
+    let told = subst (λ (text : List ℕ). Answers (Ok text) c.put_text.result a b n m) (c.as_str.ensures.value ∙
+    c.in-Ok.ensures posed.0 posed.2 posed.3) c.put_text.ensures in
+    answers_unwritten (run_why_text (choice_of c.args.table) c.args.tree_bytes.now c.args.script_bytes.now) a b n m c.put_text.result
+    (run_told (choice_of c.args.table) c.args.tree_bytes.now c.args.script_bytes.now posed.0 c.put_text.result a b n m posed.1 told)

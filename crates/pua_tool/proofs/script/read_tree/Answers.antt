@@ -1,5 +1,4 @@
-use Rattle.std.proofs.Common.{rules}
-use Rattle.pua_tool.specs.Texts.{as_listing}
+use Rattle.pua_tool.proofs.Common.{rules, as_listing}
 use Rattle.pua_tool.proofs.script.read_tree.Goals as goal
 
 pub returns-in-Ok-clause-read : goal.returns-in-Ok-clause-read

@@ -1,6 +1,4 @@
-use Rattle.std.proofs.Common.{◌≡◌, ap, ◌∙◌}
-use Rattle.pua_calls.specs.Calls.{CallTable}
-use Rattle.pua_script.specs.Replay.{new_world, answers}
+use Rattle.pua_tool.proofs.Common.{◌≡◌, ap, ◌∙◌, CallTable, new_world, answers_to}
 use Rattle.pua_tool.proofs.Replays.{left_by_same}
 use Rattle.pua_tool.proofs.script.replay_requests.Goals as goal
 
@@ -11,7 +9,7 @@ returns-clause-done c =
     let table : c.in-Ok.world.table ≡ c.args.table = c.in-Ok.ensures.table in
     let served = c.in-Ok-run.ensures.served (new_world tree) c.in-Ok.ensures.replay in
     record {
-      told = served.0 ∙ ap (λ (t : CallTable). answers t (new_world tree) asks) table;
+      answers = served.0 ∙ ap (λ (t : CallTable). answers_to t (new_world tree) asks) table;
       table = served.2 ∙ table;
       stands = left_by_same c.in-Ok.world.table c.args.table (new_world tree) asks table served.1;
     }

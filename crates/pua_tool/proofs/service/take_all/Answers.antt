@@ -1,4 +1,4 @@
-use Rattle.std.proofs.Common.{rules}
+use Rattle.pua_tool.proofs.Common.{rules}
 use Rattle.pua_tool.proofs.service.take_all.Goals as goal
 
 pub returns-in_err-tree-clause-untaken : goal.returns-in_err-tree-clause-untaken

@@ -1,4 +1,5 @@
-use Rattle.std.proofs.Common.{◌+◌, ◌++◌, ap, sym, ◌∙◌, arith}
+use Rattle.pua_tool.proofs.Common.{◌++◌, ap, sym, ◌∙◌, arith}
+use Rattle.std.proofs.Common.{◌+◌}
 use Rattle.pua_tool.proofs.WhyTexts.{fields_done, fields_left, field_more}
 use Rattle.pua_tool.proofs.why.line_of.Goals as goal
 
@@ -12,4 +13,5 @@ loop-field-preserved c =
 
 pub returns : goal.returns
 returns c =
-    sym (fields_done c.loop-field.line.items c.args.fields.now c.loop-field.field-index (omega (arith, c.loop-field-test.false))) ∙ c.loop-field.invariant
+    sym (fields_done c.loop-field.line.items c.args.fields.now c.loop-field.field-index (omega (arith, c.loop-field-test.false))) ∙
+    c.loop-field.invariant

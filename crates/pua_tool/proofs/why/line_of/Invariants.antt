@@ -1,4 +1,4 @@
-use Rattle.std.proofs.Common.{◌≡◌, ◌++◌, map}
+use Rattle.pua_tool.proofs.Common.{◌≡◌, ◌++◌, map}
 use Rattle.pua_tool.specs.WhyTexts.{request_line}
 use Rattle.pua_tool.proofs.WhyTexts.{fields_left}
 use Rattle.pua_tool.proofs.why.line_of.Given as goal

@@ -1,9 +1,5 @@
-use Rattle.std.proofs.Common.{◌≡◌, ◌≢◌, Ok, Err, List, ℕ, map, subst, ◌∙◌}
-use Rattle.std.proofs.lemmas.Result.{err_from_is_err_and}
-use Rattle.pua_tool.specs.EverTexts.{Answers}
-use Rattle.pua_tool.specs.Texts.{chosen}
+use Rattle.pua_tool.proofs.Common.{◌≡◌, ◌≢◌, Ok, Err, List, ℕ, map, subst, ◌∙◌, err_from_is_err_and, Answers, choice_of, OutOfMemory, Write}
 use Rattle.pua_tool.specs.WhyTexts.{why_text}
-use Rattle.pua_tool.specs.declared.fault.ToolFault.TheVariants.{OutOfMemory, Write}
 use Rattle.pua_tool.proofs.EverTexts.{answers_whole, answers_unfailed, answers_write, answers_fault, answers_unwritten}
 use Rattle.pua_tool.proofs.WhyTexts.{why_refuses, request_refuses, why_told}
 use Rattle.pua_tool.proofs.why.why_to.Goals as goal
@@ -12,8 +8,11 @@ pub returns-in_err-posed-clause-refused : goal.returns-in_err-posed-clause-refus
 returns-in_err-posed-clause-refused g c =
     let fields = map (λ field. field.now) c.args.fields.now in
     let fault = c.in_err-posed.field-0.0 in
-    let refuses : fault ≢ Write → fault ≢ OutOfMemory → why_text (chosen c.args.table) c.args.tree_bytes.now c.args.script_bytes.now c.args.process fields ≡ Err fault = λ unwritten other.
-    why_refuses (chosen c.args.table) c.args.tree_bytes.now c.args.script_bytes.now c.args.process fields fault (c.in_err-posed.ensures.refused other) in
+    let refuses : fault ≢ Write → fault ≢ OutOfMemory →
+    why_text (choice_of c.args.table) c.args.tree_bytes.now c.args.script_bytes.now c.args.process fields ≡ Err fault =
+    λ unwritten other.
+    why_refuses (choice_of c.args.table) c.args.tree_bytes.now c.args.script_bytes.now c.args.process fields fault
+    (c.in_err-posed.ensures.refused other) in
     let p = err_from_is_err_and c.from_residual.result c.from_residual.ensures.1 in
     rw (p.1, p.2) refuses
 
@@ -22,8 +21,11 @@ returns-in_err-text-clause-refused g c =
     let fields = map (λ field. field.now) c.args.fields.now in
     let posed = c.in_ok-posed.ensures.done in
     let fault = c.in_err-text.field-0.0 in
-    let refuses : fault ≢ Write → fault ≢ OutOfMemory → why_text (chosen c.args.table) c.args.tree_bytes.now c.args.script_bytes.now c.args.process fields ≡ Err fault = λ unwritten other.
-    request_refuses (chosen c.args.table) c.args.tree_bytes.now c.args.script_bytes.now c.args.process fields posed.0 fault posed.1 (c.in_err-text.ensures.refused other) in
+    let refuses : fault ≢ Write → fault ≢ OutOfMemory →
+    why_text (choice_of c.args.table) c.args.tree_bytes.now c.args.script_bytes.now c.args.process fields ≡ Err fault =
+    λ unwritten other.
+    request_refuses (choice_of c.args.table) c.args.tree_bytes.now c.args.script_bytes.now c.args.process fields posed.0 fault posed.1
+    (c.in_err-text.ensures.refused other) in
     let p = err_from_is_err_and c.from_residual-in_err-text.result c.from_residual-in_err-text.ensures.1 in
     rw (p.1, p.2) refuses
 
@@ -37,8 +39,10 @@ returns-clause-whole g c =
     let n = g.S.Sink.failed c.args.sink.now in
     let m = g.S.Sink.failed c.put_text.new.sink in
     let told = subst (λ (text : List ℕ). Answers (Ok text) c.put_text.result a b n m) (c.as_str.ensures.value ∙ got.2) c.put_text.ensures in
-    answers_whole (why_text (chosen c.args.table) c.args.tree_bytes.now c.args.script_bytes.now c.args.process fields) a b n m c.put_text.result
-    (why_told (chosen c.args.table) c.args.tree_bytes.now c.args.script_bytes.now c.args.process fields posed.0 got.0 c.put_text.result a b n m posed.1 got.1 told)
+    answers_whole (why_text (choice_of c.args.table) c.args.tree_bytes.now c.args.script_bytes.now c.args.process fields) a b n m
+    c.put_text.result
+    (why_told (choice_of c.args.table) c.args.tree_bytes.now c.args.script_bytes.now c.args.process fields posed.0 got.0 c.put_text.result a
+    b n m posed.1 got.1 told)
 
 pub returns-clause-unfailed : goal.returns-clause-unfailed
 returns-clause-unfailed g c =
@@ -50,8 +54,10 @@ returns-clause-unfailed g c =
     let n = g.S.Sink.failed c.args.sink.now in
     let m = g.S.Sink.failed c.put_text.new.sink in
     let told = subst (λ (text : List ℕ). Answers (Ok text) c.put_text.result a b n m) (c.as_str.ensures.value ∙ got.2) c.put_text.ensures in
-    answers_unfailed (why_text (chosen c.args.table) c.args.tree_bytes.now c.args.script_bytes.now c.args.process fields) a b n m c.put_text.result
-    (why_told (chosen c.args.table) c.args.tree_bytes.now c.args.script_bytes.now c.args.process fields posed.0 got.0 c.put_text.result a b n m posed.1 got.1 told)
+    answers_unfailed (why_text (choice_of c.args.table) c.args.tree_bytes.now c.args.script_bytes.now c.args.process fields) a b n m
+    c.put_text.result
+    (why_told (choice_of c.args.table) c.args.tree_bytes.now c.args.script_bytes.now c.args.process fields posed.0 got.0 c.put_text.result a
+    b n m posed.1 got.1 told)
 
 pub returns-clause-write : goal.returns-clause-write
 returns-clause-write g c =
@@ -63,8 +69,10 @@ returns-clause-write g c =
     let n = g.S.Sink.failed c.args.sink.now in
     let m = g.S.Sink.failed c.put_text.new.sink in
     let told = subst (λ (text : List ℕ). Answers (Ok text) c.put_text.result a b n m) (c.as_str.ensures.value ∙ got.2) c.put_text.ensures in
-    answers_write (why_text (chosen c.args.table) c.args.tree_bytes.now c.args.script_bytes.now c.args.process fields) a b n m c.put_text.result
-    (why_told (chosen c.args.table) c.args.tree_bytes.now c.args.script_bytes.now c.args.process fields posed.0 got.0 c.put_text.result a b n m posed.1 got.1 told)
+    answers_write (why_text (choice_of c.args.table) c.args.tree_bytes.now c.args.script_bytes.now c.args.process fields) a b n m
+    c.put_text.result
+    (why_told (choice_of c.args.table) c.args.tree_bytes.now c.args.script_bytes.now c.args.process fields posed.0 got.0 c.put_text.result a
+    b n m posed.1 got.1 told)
 
 pub returns-clause-refused : goal.returns-clause-refused
 returns-clause-refused g c =
@@ -76,8 +84,10 @@ returns-clause-refused g c =
     let n = g.S.Sink.failed c.args.sink.now in
     let m = g.S.Sink.failed c.put_text.new.sink in
     let told = subst (λ (text : List ℕ). Answers (Ok text) c.put_text.result a b n m) (c.as_str.ensures.value ∙ got.2) c.put_text.ensures in
-    answers_fault (why_text (chosen c.args.table) c.args.tree_bytes.now c.args.script_bytes.now c.args.process fields) a b n m c.put_text.result
-    (why_told (chosen c.args.table) c.args.tree_bytes.now c.args.script_bytes.now c.args.process fields posed.0 got.0 c.put_text.result a b n m posed.1 got.1 told)
+    answers_fault (why_text (choice_of c.args.table) c.args.tree_bytes.now c.args.script_bytes.now c.args.process fields) a b n m
+    c.put_text.result
+    (why_told (choice_of c.args.table) c.args.tree_bytes.now c.args.script_bytes.now c.args.process fields posed.0 got.0 c.put_text.result a
+    b n m posed.1 got.1 told)
 
 pub returns-clause-unwritten : goal.returns-clause-unwritten
 returns-clause-unwritten g c =
@@ -89,5 +99,7 @@ returns-clause-unwritten g c =
     let n = g.S.Sink.failed c.args.sink.now in
     let m = g.S.Sink.failed c.put_text.new.sink in
     let told = subst (λ (text : List ℕ). Answers (Ok text) c.put_text.result a b n m) (c.as_str.ensures.value ∙ got.2) c.put_text.ensures in
-    answers_unwritten (why_text (chosen c.args.table) c.args.tree_bytes.now c.args.script_bytes.now c.args.process fields) a b n m c.put_text.result
-    (why_told (chosen c.args.table) c.args.tree_bytes.now c.args.script_bytes.now c.args.process fields posed.0 got.0 c.put_text.result a b n m posed.1 got.1 told)
+    answers_unwritten (why_text (choice_of c.args.table) c.args.tree_bytes.now c.args.script_bytes.now c.args.process fields) a b n m
+    c.put_text.result
+    (why_told (choice_of c.args.table) c.args.tree_bytes.now c.args.script_bytes.now c.args.process fields posed.0 got.0 c.put_text.result a
+    b n m posed.1 got.1 told)

@@ -1,4 +1,4 @@
-use Rattle.std.proofs.Common.{◌<◌, ◌+◌, ◌*◌, ◌-◌, get_or, arith}
+use Rattle.pua_tree.proofs.Common.{◌<◌, ◌+◌, ◌*◌, ◌-◌, get_or, arith}
 use Rattle.pua_tree.proofs.Decimals.{above_bound}
 use Rattle.pua_tree.proofs.field.value_up_to.Goals as goal
 

@@ -1,5 +1,4 @@
-use Rattle.std.proofs.Common.{◌≡◌, ◌≤◌, take}
-use Rattle.pua_tree.specs.Spelling.{decimal_value}
+use Rattle.pua_tree.proofs.Common.{◌≡◌, ◌≤◌, take, decimal_value}
 use Rattle.pua_tree.proofs.field.value_up_to.Given as goal
 
 -- the value of the digits so far, which is not above the bound yet

@@ -1,7 +1,5 @@
-use Rattle.std.proofs.Common.{◌≡◌, ◌≢◌, ◌+◌, ◌-◌, ◌==◌, ◌∙◌, ℕ, sym, ap, arith, suc, true, false, cond, Option, Some, None, unwrap_or, eqb-true}
-use Rattle.std.specs.List.{list_any}
-use Rattle.std.proofs.lemmas.Bool.{eqb-false}
-use Rattle.pua_tree.specs.Tree.{climb_within, above, is_dir}
+use Rattle.pua_tree.proofs.Common.{◌≡◌, ◌≢◌, ◌+◌, ◌-◌, ◌==◌, ◌∙◌, ℕ, sym, ap, arith, suc, true, false, cond, Option, Some, None, unwrap_or}
+use Rattle.pua_tree.proofs.Common.{eqb-true, list_any, eqb-false, climb_within, above, is_dir}
 use Rattle.pua_tree.proofs.Sound.{climb_here, climb_root, climb_more, climb_last, sound_from, above_dir}
 use Rattle.pua_tree.proofs.judgement.is_within.Goals as goal
 
@@ -11,7 +9,8 @@ zero_is n = omega arith
 pub loop-init : goal.loop-init
 loop-init g c = (
   c.requires,
-  λ n e. ap (λ steps. list_any (λ d. d == c.args.node) (climb_within steps (g.T.Judged.held c.args.tree.now) c.args.dir)) (zero_is n ∙ e ∙ c.node_count-end.ensures),
+  λ n e. ap (λ steps. list_any (λ d. d == c.args.node) (climb_within steps (g.T.Judged.held c.args.tree.now) c.args.dir)) (zero_is n ∙ e ∙
+      c.node_count-end.ensures),
 )
 
 pub returns-then-eq : goal.returns-then-eq
@@ -33,7 +32,8 @@ loop-preserved g c =
     let at = c.loop.at in
     let dir : is_dir held at ≡ true = c.loop.invariant.0 in
     let below : at ≢ 0 = λ z. eqb-false at 0 (sym c.eq-in-loop.ensures ∙ c.if-eq-2.false) z in
-    let up : c.unwrap_or-at.result ≡ above held at = c.unwrap_or-at.ensures ∙ ap (λ (o : Option ℕ). unwrap_or o 0) (c.dir_above.ensures ∙ ap (λ b. cond b (Some (above held at)) None) dir) in
+    let up : c.unwrap_or-at.result ≡ above held at = c.unwrap_or-at.ensures ∙ ap (λ (o : Option ℕ). unwrap_or o 0) (c.dir_above.ensures ∙
+    ap (λ b. cond b (Some (above held at)) None) dir) in
     let other : (at == c.args.node) ≡ false = sym c.eq.ensures ∙ c.if-eq.false in (
       ap (is_dir held) up ∙ above_dir held (sound_from held c.is_tree.ensures) at dir below,
       λ n e.

@@ -1,4 +1,4 @@
-use Rattle.std.proofs.Common.{rules}
+use Rattle.pua_tree.proofs.Common.{rules}
 use Rattle.pua_tree.proofs.judgement.may_tie.Goals as goal
 
 pub returns-in-Some-Dir-clause-exact : goal.returns-in-Some-Dir-clause-exact

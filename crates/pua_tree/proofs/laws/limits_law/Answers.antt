@@ -1,4 +1,4 @@
-use Rattle.std.proofs.Common.{refl}
+use Rattle.pua_tree.proofs.Common.{refl}
 use Rattle.pua_tree.proofs.laws.limits_law.Goals as goal
 
 pub returns : goal.returns

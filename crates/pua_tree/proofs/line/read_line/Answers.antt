@@ -1,26 +1,34 @@
-use Rattle.std.proofs.Common.{◌≡◌, ◌<◌, ◌≤◌, ◌⊎◌, ℕ, List, [], length, sym, ap, ◌∙◌, arith, inl, inr, option_map}
+use Rattle.pua_tree.proofs.Common.{◌≡◌, ◌<◌, ◌≤◌, ◌⊎◌, ℕ, List, [], length, sym, ap, ◌∙◌, arith, inl, inr, option_map, ltb-true, ltb-false}
+use Rattle.pua_tree.proofs.Common.{leb-true, line_of_fields}
 use Rattle.std.specs.Borrow.{Bor}
-use Rattle.std.proofs.lemmas.Bool.{ltb-true, ltb-false, leb-true, leb-false}
-use Rattle.pua_tree.specs.Listing.{line_of_fields}
-use Rattle.pua_tree.proofs.LineFields.{line_of-first_fields, line_of_fields-four, line_of_fields-five, line_of_fields-other, plain_line, long_line}
+use Rattle.std.proofs.lemmas.Bool.{leb-false}
+use Rattle.pua_tree.proofs.LineFields.{line_of-first_fields, line_of_fields-four, line_of_fields-five, line_of_fields-other, plain_line}
+use Rattle.pua_tree.proofs.LineFields.{long_line}
 use Rattle.pua_tree.proofs.Lifetimes.{in_four}
 use Rattle.pua_tree.proofs.line.read_line.Goals as goal
-use Rattle.pua_tree.proofs.line.read_line.Goals.{in_default-via-then-as_slice-lt4, in_default-via-else-as_slice-lt4+else-this-lt5+else-this-lt6}
+use Rattle.pua_tree.proofs.line.read_line.Goals.{in_default-via-then-as_slice-lt4}
+use Rattle.pua_tree.proofs.line.read_line.Goals.{in_default-via-else-as_slice-lt4+else-this-lt5+else-this-lt6}
 
 pub returns-in_ok-plain_kind-in-len4 : goal.returns-in_ok-plain_kind-in-len4
 returns-in_ok-plain_kind-in-len4 c =
     let none : Bor (List ℕ) = record { ref_ptr = (0, 0); now = [] } in
     let four : length c.as_slice.result.now ≡ 4 = omega arith in
     sym
-    (line_of-first_fields c.args.hard c.args.text.now c.in_ok-fields.fields c.in_ok-fields.ensures ∙ ap (line_of_fields c.args.hard) (sym c.as_slice.ensures)
-    ∙ line_of_fields-four c.args.hard c.as_slice.result.now none four ∙ ap (option_map (plain_line c.as_slice.result.now none)) (sym c.in_ok-plain_kind-in-len4.ensures))
+    (line_of-first_fields c.args.hard c.args.text.now c.in_ok-fields.fields c.in_ok-fields.ensures ∙
+    ap (line_of_fields c.args.hard) (sym c.as_slice.ensures)
+    ∙ line_of_fields-four c.args.hard c.as_slice.result.now none four ∙
+    ap (option_map (plain_line c.as_slice.result.now none)) (sym c.in_ok-plain_kind-in-len4.ensures))
 
 pub returns-in_default : goal.returns-in_default
 returns-in_default c =
     let count : (length c.as_slice.result.now < 4) ⊎ (6 ≤ length c.as_slice.result.now) =
-    elim c.in_default.branch [ in_default-via-then-as_slice-lt4 w ↦ inl (omega (arith, ltb-true, ltb-false, leb-true, leb-false)) | in_default-via-else-as_slice-lt4+else-this-lt5+else-this-lt6 w ↦ inr (omega (arith, ltb-true, ltb-false, leb-true, leb-false)) ] in
+    elim c.in_default.branch [
+      | in_default-via-then-as_slice-lt4 w ↦ inl (omega (arith, ltb-true, ltb-false, leb-true, leb-false))
+      | in_default-via-else-as_slice-lt4+else-this-lt5+else-this-lt6 w ↦ inr (omega (arith, ltb-true, ltb-false, leb-true, leb-false))
+    ] in
     sym
-    (line_of-first_fields c.args.hard c.args.text.now c.in_ok-fields.fields c.in_ok-fields.ensures ∙ ap (line_of_fields c.args.hard) (sym c.as_slice.ensures)
+    (line_of-first_fields c.args.hard c.args.text.now c.in_ok-fields.fields c.in_ok-fields.ensures ∙
+    ap (line_of_fields c.args.hard) (sym c.as_slice.ensures)
     ∙ line_of_fields-other c.args.hard c.as_slice.result.now count)
 
 pub returns-in_ok-long_kind-in-len5 : goal.returns-in_ok-long_kind-in-len5
@@ -28,8 +36,10 @@ returns-in_ok-long_kind-in-len5 c =
     let none : Bor (List ℕ) = record { ref_ptr = (0, 0); now = [] } in
     let five : length c.as_slice.result.now ≡ 5 = omega arith in
     sym
-    (line_of-first_fields c.args.hard c.args.text.now c.in_ok-fields.fields c.in_ok-fields.ensures ∙ ap (line_of_fields c.args.hard) (sym c.as_slice.ensures)
-    ∙ line_of_fields-five c.args.hard c.as_slice.result.now none five ∙ ap (option_map (long_line c.as_slice.result.now none)) (sym c.in_ok-long_kind-in-len5.ensures))
+    (line_of-first_fields c.args.hard c.args.text.now c.in_ok-fields.fields c.in_ok-fields.ensures ∙
+    ap (line_of_fields c.args.hard) (sym c.as_slice.ensures)
+    ∙ line_of_fields-five c.args.hard c.as_slice.result.now none five ∙
+    ap (option_map (long_line c.as_slice.result.now none)) (sym c.in_ok-long_kind-in-len5.ensures))
 
 pub from_residual-requires : goal.from_residual-requires
 from_residual-requires c = λ κs. in_four κs.0

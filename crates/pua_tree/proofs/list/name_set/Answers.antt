@@ -1,17 +1,18 @@
-use Rattle.std.proofs.Common.{◌∙◌, ap, map, reverse, List}
+use Rattle.pua_tree.proofs.Common.{◌∙◌, ap, map, reverse, List, distinct_names, ListRow}
 use Rattle.std.proofs.lemmas.List.{reverse-reverse}
 use Rattle.std.proofs.lemmas.Iterator.Adapters.{YieldsList-from_rev_slice}
 use Rattle.std.proofs.lemmas.Iterator.Consumers.{YieldsList-end}
-use Rattle.pua_tree.specs.Tree.{distinct_names}
-use Rattle.pua_tree.specs.declared.list.Row.{Row}
 use Rattle.pua_tree.proofs.Rows.{one_name_more}
 use Rattle.pua_tree.proofs.list.name_set.Goals as goal
 
 pub loop-row-preserved : goal.loop-row-preserved
 loop-row-preserved c =
-    one_name_more c.loop-row.yielded c.in-Some.row c.loop-row.names.keys c.insert.new.self.keys c.loop-row.invariant c.in_ok-insert.ensures.keys
+    one_name_more c.loop-row.yielded c.in-Some.row c.loop-row.names.keys c.insert.new.self.keys c.loop-row.invariant
+    c.in_ok-insert.ensures.keys
 
 pub returns : goal.returns
 returns c =
-    let ended = YieldsList-end (YieldsList-from_rev_slice c.args.rows.now cc) c.loop-row.yielded _ c.loop-row.yielded_by _ _ c.in-None.is c.next.ensures.steps in
-    c.loop-row.invariant ∙ ap (λ (rows : List Row). distinct_names (map (λ row. row.name) (reverse rows))) ended.0 ∙ ap (λ (rows : List Row). distinct_names (map (λ row. row.name) rows)) (reverse-reverse c.args.rows.now)
+    let ended = YieldsList-end (YieldsList-from_rev_slice c.args.rows.now cc) c.loop-row.yielded _ c.loop-row.yielded_by _ _ c.in-None.is
+    c.next.ensures.steps in
+    c.loop-row.invariant ∙ ap (λ (rows : List ListRow). distinct_names (map (λ row. row.name) (reverse rows))) ended.0 ∙
+    ap (λ (rows : List ListRow). distinct_names (map (λ row. row.name) rows)) (reverse-reverse c.args.rows.now)

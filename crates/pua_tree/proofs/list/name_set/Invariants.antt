@@ -1,5 +1,4 @@
-use Rattle.std.proofs.Common.{◌≡◌, map, reverse}
-use Rattle.pua_tree.specs.Tree.{distinct_names}
+use Rattle.pua_tree.proofs.Common.{◌≡◌, map, reverse, distinct_names}
 use Rattle.pua_tree.proofs.list.name_set.Given as goal
 
 abbrev pub invariant-loop-row : goal.invariant-loop-row

@@ -1,8 +1,5 @@
-use Rattle.std.proofs.Common.{refl}
-use Rattle.pua_tree.specs.Tree.{Spot}
-use Rattle.pua_tree.specs.ListTree.{row_entry}
+use Rattle.pua_tree.proofs.Common.{refl, Spot, row_entry, passes}
 use Rattle.pua_tree.proofs.Content.{spots_total}
-use Rattle.std.specs.Bool.{passes}
 use Rattle.pua_tree.proofs.Places.{replaced_at, inserted_at}
 use Rattle.pua_tree.proofs.list_edits.put_row.Goals as goal
 

@@ -1,7 +1,4 @@
-use Rattle.std.proofs.Common.{sym}
-use Rattle.std.specs.Cmp.{nat_cmp_total}
-use Rattle.pua_tree.specs.ListTree.{node_entry}
-use Rattle.std.specs.Bool.{passes}
+use Rattle.pua_tree.proofs.Common.{sym, nat_cmp_total, node_entry, passes}
 use Rattle.pua_tree.proofs.Places.{removed_at, absent_removed}
 use Rattle.pua_tree.proofs.list_edits.take_node.Goals as goal
 

@@ -1,7 +1,5 @@
-use Rattle.pua_tree.specs.Tree.{Spot}
-use Rattle.pua_tree.specs.ListTree.{row_entry}
+use Rattle.pua_tree.proofs.Common.{Spot, row_entry, passes}
 use Rattle.pua_tree.proofs.Content.{spots_total}
-use Rattle.std.specs.Bool.{passes}
 use Rattle.pua_tree.proofs.Places.{removed_at}
 use Rattle.pua_tree.proofs.list_edits.take_row.Goals as goal
 

@@ -1,5 +1,4 @@
-use Rattle.std.proofs.Common.{◌≡◌, ◌∷◌, ◌∙◌, refl, rules}
-use Rattle.std.proofs.lemmas.Result.{err_from_is_err_and}
+use Rattle.pua_tree.proofs.Common.{◌≡◌, ◌∷◌, ◌∙◌, refl, rules, err_from_is_err_and}
 use Rattle.pua_tree.proofs.SoFar.{one_more, one_stops, still_gathered}
 use Rattle.pua_tree.proofs.listing.read_entries.Goals as goal
 
@@ -13,7 +12,8 @@ loop-text-preserved g c =
     let same : c.loop-text.reading.hard ≡ c.args.hard = c.loop-text.invariant.0 in
     let exact = rw same at c.in_ok-read.ensures.exact in (
       c.in_ok-read.ensures.hard ∙ same,
-      one_more c.args.hard c.args.lines _ _ c.loop-text.n _ (held c.loop-text.reading.tree) (held c.read.new.self.tree) c.loop-text.reading.greatest c.read.new.self.greatest c.in-Some.text.now
+      one_more c.args.hard c.args.lines _ _ c.loop-text.n _ (held c.loop-text.reading.tree) (held c.read.new.self.tree)
+          c.loop-text.reading.greatest c.read.new.self.greatest c.in-Some.text.now
           c.loop-text.invariant.1 next refl c.in_ok-read.ensures.room exact,
     )
 
@@ -23,4 +23,5 @@ returns-in_err-read-clause-err g c =
     let failed = err_from_is_err_and c.from_residual-in_err-read.result c.from_residual-in_err-read.ensures.1 in
     let held = g.T.FileTree.content in
     let exact = rw c.loop-text.invariant.0 at c.in_err-read.ensures.exact in
-    rw (failed.1, failed.2) (λ other. one_stops c.args.hard c.args.lines _ _ c.loop-text.n _ (held c.loop-text.reading.tree) c.loop-text.reading.greatest c.in-Some.text.now _ c.loop-text.invariant.1 next refl (λ es h count. exact es h count other))
+    rw (failed.1, failed.2) (λ other. one_stops c.args.hard c.args.lines _ _ c.loop-text.n _ (held c.loop-text.reading.tree)
+    c.loop-text.reading.greatest c.in-Some.text.now _ c.loop-text.invariant.1 next refl (λ es h count. exact es h count other))

@@ -3,4 +3,5 @@ use Rattle.pua_tree.proofs.SoFar.{IsSoFar}
 use Rattle.pua_tree.proofs.listing.read_entries.Given as goal
 
 abbrev pub invariant-loop-text : goal.invariant-loop-text
-invariant-loop-text g l = (l.reading.hard ≡ l.fn.hard) × IsSoFar l.fn.hard l.fn.lines l.text-iterator l.n (g.T.FileTree.content l.reading.tree) l.reading.greatest
+invariant-loop-text g l =
+    (l.reading.hard ≡ l.fn.hard) × IsSoFar l.fn.hard l.fn.lines l.text-iterator l.n (g.T.FileTree.content l.reading.tree) l.reading.greatest

@@ -1,5 +1,4 @@
-use Rattle.std.proofs.Common.{◌∙◌, Ok, sym, ap}
-use Rattle.std.proofs.lemmas.Result.{err_from_is_err_and}
+use Rattle.pua_tree.proofs.Common.{◌∙◌, Ok, sym, ap, err_from_is_err_and}
 use Rattle.pua_tree.proofs.SoFar.{by_lines, no_root, entries_fault, entries_tree}
 use Rattle.pua_tree.proofs.listing.read_tree.Goals as goal
 
@@ -17,7 +16,8 @@ returns-in_err-tree-clause-err g c =
     let failed = err_from_is_err_and c.from_residual.result c.from_residual.ensures.1 in
     rw (failed.1, failed.2) (λ other.
     by_lines c.args.bytes.now c.lines-lines.result c.lines-lines.ensures.value ∙ c.in-Some.ensures
-    ∙ entries_fault c.in-Some.hard c.take_header.new.lines c.take_line.new.lines c.in_err-tree.field-0.0 c.if-not-take_line.ensures.this (c.in_err-tree.ensures.err other))
+    ∙ entries_fault c.in-Some.hard c.take_header.new.lines c.take_line.new.lines c.in_err-tree.field-0.0 c.if-not-take_line.ensures.this
+    (c.in_err-tree.ensures.err other))
 
 pub returns-clause-ok : goal.returns-clause-ok
 returns-clause-ok g c =

@@ -1,4 +1,4 @@
-use Rattle.std.proofs.Common.{rules}
+use Rattle.pua_tree.proofs.Common.{rules}
 use Rattle.pua_tree.proofs.name.is_name.Goals as goal
 
 pub returns-then-ne : goal.returns-then-ne

@@ -1,8 +1,6 @@
-use Rattle.std.proofs.Common.{◌≡◌, refl, subst, rules, tests, [], ◌∷◌}
+use Rattle.pua_tree.proofs.Common.{◌≡◌, refl, subst, rules, tests, [], ◌∷◌, list_all, is_plain}
 use Rattle.std.proofs.lemmas.Fn.{fold_over, slice_gives, fronts}
 use Rattle.std.proofs.lemmas.List.Folds.{list_all-append}
-use Rattle.std.specs.List.{list_all}
-use Rattle.pua_tree.specs.Spelling.{is_plain}
 use Rattle.pua_tree.proofs.spelling.are_plain.Goals as goal
 
 pub returns : goal.returns

@@ -1,4 +1,4 @@
-use Rattle.std.proofs.Common.{◌≡◌, ◌+◌, ◌≤◌, length}
+use Rattle.pua_tree.proofs.Common.{◌≡◌, ◌+◌, ◌≤◌, length}
 use Rattle.pua_tree.proofs.Decoding.{continued}
 use Rattle.pua_tree.proofs.spelling.unspell_into.Given as goal
 

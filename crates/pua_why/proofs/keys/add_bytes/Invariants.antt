@@ -1,4 +1,4 @@
-use Rattle.std.proofs.Common.{◌≡◌, ◌++◌, take}
+use Rattle.pua_why.proofs.Common.{◌≡◌, ◌++◌, take}
 use Rattle.pua_why.proofs.keys.add_bytes.Given as goal
 
 abbrev pub invariant-loop-byte : goal.invariant-loop-byte

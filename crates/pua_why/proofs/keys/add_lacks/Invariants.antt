@@ -1,5 +1,4 @@
-use Rattle.std.proofs.Common.{◌≡◌, ◌++◌, map, take}
-use Rattle.pua_calls.specs.Promises.{lacking}
+use Rattle.pua_why.proofs.Common.{◌≡◌, ◌++◌, map, take, lacking}
 use Rattle.pua_why.proofs.keys.add_lacks.Given as goal
 
 abbrev pub invariant-loop-set : goal.invariant-loop-set

@@ -1,9 +1,9 @@
-use Rattle.std.proofs.Common.{◌≡◌, ◌≢◌, ◌==◌, ◌∙◌, ℕ, Bool, cond, length, refl, sym, ap, arith, true, false, eqb-true}
+use Rattle.pua_why.proofs.Common.{◌≡◌, ◌∙◌, ℕ, Bool, length, refl, sym, ap, arith, true, false, ◌||◌, list_any, climb}
+use Rattle.std.proofs.Common.{◌≢◌, ◌==◌, cond, eqb-true}
 use Rattle.std.proofs.lemmas.Bool.{eqb-false}
 use Rattle.std.proofs.lemmas.Option.{same_Some}
-use Rattle.std.specs.Prelude.{Some, None, ◌||◌}
-use Rattle.std.specs.List.{list_any}
-use Rattle.pua_tree.specs.Tree.{above, climb, is_dir}
+use Rattle.std.specs.Prelude.{Some, None}
+use Rattle.pua_tree.specs.Tree.{above, is_dir}
 use Rattle.pua_tree.proofs.ForCallers.{climb_here, climb_root}
 use Rattle.pua_path.proofs.ForCallers.{above_lives}
 use Rattle.pua_policy.proofs.ForCallers.{climb_step, length-climb_step}
@@ -52,6 +52,7 @@ loop-node-preserved g c =
     record {
       living = λ began. rw ((goes_up g c).1) (above_lives t at c.known.ensures);
       same = λ began. ap (λ d. list_any (λ e. e == c.args.node) (climb t d)) (goes_up g c).1
-          ∙ sym (ap (list_any (λ e. e == c.args.node)) (climb_step t c.known.ensures at (is_higher g c) (goes_up g c).0) ∙ ap (λ b. b || list_any (λ e. e == c.args.node) (climb t (above t at))) other)
+          ∙ sym (ap (list_any (λ e. e == c.args.node)) (climb_step t c.known.ensures at (is_higher g c) (goes_up g c).0) ∙
+          ap (λ b. b || list_any (λ e. e == c.args.node) (climb t (above t at))) other)
           ∙ c.loop-node.invariant.same began;
     }

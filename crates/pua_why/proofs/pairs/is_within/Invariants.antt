@@ -1,6 +1,6 @@
-use Rattle.std.proofs.Common.{◌≡◌, ◌==◌, length, IsTrue}
-use Rattle.std.specs.List.{list_any}
-use Rattle.pua_tree.specs.Tree.{is_dir, climb}
+use Rattle.pua_why.proofs.Common.{◌≡◌, length, list_any, climb}
+use Rattle.std.proofs.Common.{◌==◌, IsTrue}
+use Rattle.pua_tree.specs.Tree.{is_dir}
 use Rattle.pua_why.proofs.pairs.is_within.Given as goal
 
 -- the rest of the climb decides, if it began at a directory
@@ -8,7 +8,8 @@ abbrev pub invariant-loop-node : goal.invariant-loop-node
 invariant-loop-node g l = record {
   living : IsTrue (is_dir (g.T.FileTree.content l.fn.tree) l.fn.dir) → IsTrue (is_dir (g.T.FileTree.content l.fn.tree) l.at);
   same : IsTrue (is_dir (g.T.FileTree.content l.fn.tree) l.fn.dir) →
-      list_any (λ d. d == l.fn.node) (climb (g.T.FileTree.content l.fn.tree) l.at) ≡ list_any (λ d. d == l.fn.node) (climb (g.T.FileTree.content l.fn.tree) l.fn.dir);
+      list_any (λ d. d == l.fn.node) (climb (g.T.FileTree.content l.fn.tree) l.at) ≡ list_any (λ d. d == l.fn.node)
+      (climb (g.T.FileTree.content l.fn.tree) l.fn.dir);
 }
 
 abbrev pub decreases-loop-node : goal.decreases-loop-node

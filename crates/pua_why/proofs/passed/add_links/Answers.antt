@@ -1,5 +1,4 @@
-use Rattle.std.proofs.Common.{append-nil, map, sym}
-use Rattle.pua_why.specs.Seen.{fact_seen}
+use Rattle.pua_why.proofs.Common.{append-nil, map, sym, fact_seen}
 use Rattle.pua_why.proofs.passed.add_links.Goals as goal
 
 pub loop-spot-init : goal.loop-spot-init

@@ -1,4 +1,4 @@
-use Rattle.std.proofs.Common.{rules, sym, ◌∙◌}
+use Rattle.pua_why.proofs.Common.{rules, sym, ◌∙◌}
 use Rattle.std.specs.Prelude.{IsFalse}
 use Rattle.pua_script.specs.Worlds.{is_fork}
 use Rattle.pua_why.proofs.Plain.{plain_checks}

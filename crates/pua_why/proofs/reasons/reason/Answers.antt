@@ -1,4 +1,4 @@
-use Rattle.std.proofs.Common.{ap, sym, ◌∙◌}
+use Rattle.pua_why.proofs.Common.{ap, sym, ◌∙◌}
 use Rattle.pua_why.specs.Checked.{told_by}
 use Rattle.pua_why.specs.Seen.{reason_seen}
 use Rattle.pua_why.proofs.Checking.{checks_tell}

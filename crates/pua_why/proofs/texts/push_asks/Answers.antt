@@ -1,4 +1,4 @@
-use Rattle.std.proofs.Common.{◌++◌, ap, ◌∙◌, string_bytes}
+use Rattle.pua_why.proofs.Common.{◌++◌, ap, ◌∙◌, string_bytes}
 use Rattle.pua_why.proofs.Adding.{pushed_so, then_more}
 use Rattle.pua_why.proofs.texts.push_asks.Goals as goal
 

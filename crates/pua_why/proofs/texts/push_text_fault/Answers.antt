@@ -1,4 +1,4 @@
-use Rattle.std.proofs.lemmas.Result.{on_ok_weaker}
+use Rattle.pua_why.proofs.Common.{on_ok_weaker}
 use Rattle.pua_why.proofs.Adding.{then_more}
 use Rattle.pua_why.proofs.texts.push_text_fault.Goals as goal
 

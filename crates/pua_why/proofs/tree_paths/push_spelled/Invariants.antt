@@ -1,4 +1,4 @@
-use Rattle.std.proofs.Common.{◌≡◌, ◌++◌, string_bytes, take}
+use Rattle.pua_why.proofs.Common.{◌≡◌, ◌++◌, string_bytes, take}
 use Rattle.pua_tree.specs.Spelling.{spelling}
 use Rattle.pua_why.proofs.tree_paths.push_spelled.Given as goal
 

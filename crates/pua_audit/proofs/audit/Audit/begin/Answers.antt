@@ -1,28 +1,20 @@
-use Rattle.std.proofs.Common.{◌≡◌, ◌≤◌, ◌+◌, ◌*◌, refl, rules, arith, subst, ℕ, suc, List, [], sym, ap, ◌∙◌, map, length}
-use Rattle.std.specs.Prelude.{Result, Ok, Err, IfSome, option_map}
-use Rattle.pua_tree.specs.LentRows.{lent_entry}
-use Rattle.pua_tree.specs.Tree.{Tree}
-use Rattle.pua_path.specs.Bounds.{part_cost}
+use Rattle.pua_audit.proofs.Common.{◌≡◌, ◌≤◌, ◌+◌, ◌*◌, refl, rules, arith, subst, ℕ, suc, List, [], sym, ap, ◌∙◌, map, length, Result, Ok}
+use Rattle.pua_audit.proofs.Common.{Err, IfSome, lent_entry, Tree, part_cost, Part, plain_history, Scope, rest_after, live_states, AreParts}
+use Rattle.pua_audit.proofs.Common.{part_bytes, letters_of, scope_in, AreLetters, AuditFault, Terms}
+use Rattle.std.specs.Prelude.{option_map}
 use Rattle.pua_path.specs.Counts.{one_more}
 use Rattle.pua_steps.specs.Limits.{search_cost}
-use Rattle.pua_path.specs.declared.found.Part.{Part}
 use Rattle.pua_policy.specs.History.{StandsFor}
-use Rattle.pua_audit.specs.Past.{history_of}
-use Rattle.pua_audit.specs.Reach.{Scope, rest_after}
 use Rattle.pua_audit.specs.Begin.{Beginning, beginning}
 use Rattle.pua_audit.specs.Bounds.{begin_cost, letter_count, pairs_cost}
-use Rattle.pua_audit.specs.Live.{live_states}
-use Rattle.pua_audit.specs.Alphabets.{AreParts}
-use Rattle.pua_audit.specs.Ready.{part_bytes, letters_of, scope_in}
-use Rattle.pua_audit.specs.Starting.{AreLetters, AreSound, pair_in, scope_with, beginning_with}
-use Rattle.pua_audit.specs.declared.fault.AuditFault.{AuditFault}
-use Rattle.pua_audit.specs.declared.terms.Terms.{Terms}
+use Rattle.pua_audit.specs.Starting.{AreSound, pair_in, scope_with, beginning_with}
 use Rattle.pua_audit.proofs.Pasts.{stands_for_past, rest_by_process, live_by_process}
 use Rattle.pua_audit.proofs.audit.Audit.begin.Goals as goal
 
 pub new-requires : goal.new-requires
 new-requires g c =
-    let past : StandsFor c.args.process.now (history_of c.args.process.now) = stands_for_past c.args.process.now c.known.ensures.history c.known.ensures.stands in
+    let past : StandsFor c.args.process.now (plain_history c.args.process.now) =
+    stands_for_past c.args.process.now c.known.ensures.history c.known.ensures.stands in
     let parts : AreParts c.in_ok-letters.field-0.letters.items = c.in_ok-letters.ensures.sound.sound.parts in
     let short = c.in_ok-letters.ensures.sound.sound.short in
     search rules
@@ -37,21 +29,26 @@ returns-clause-begun g c = λ h stands.
     let letters : List Part = c.in_ok-letters.field-0.letters.items in
     let b : Beginning = beginning_with t c.args.table.now h base limit c.in_ok-letters.field-0 in
     let past = stands_for_past p c.known.ensures.history c.known.ensures.stands in
-    let known : c.in-Ok-new.terms.letters.items ≡ letters = ap (λ v. v.items) c.in-Ok-new.ensures.letters.1 in (
+    let known : c.in_ok-terms.terms.letters.items ≡ letters = ap (λ v. v.items) c.in_ok-terms.ensures.letters.1 in (
       b,
       (
-        (subst (λ (u : Tree). beginning u c.args.table.now h c.args.base (map (λ s. s.now) c.args.candidates.now) c.args.limit (option_map (λ s. s.now) c.args.after) ≡ Ok (beginning_with u c.args.table.now h c.args.base c.args.limit c.in_ok-letters.field-0)) c.in-Ok.ensures.tree (c.in_ok-letters.ensures.begun c.args.table.now h)),
-        c.in-Ok-begin.ensures.left
-            ∙ ap (λ (ls : List Part). rest_after (scope_in c.in-Ok-new.terms) (option_map (pair_in (map part_bytes ls)) after)) known
-            ∙ ap (λ (s : Scope). rest_after s (option_map (pair_in (map part_bytes letters)) after)) c.in-Ok-new.ensures.scope
-            ∙ ap (λ (u : Tree). rest_after (scope_with u c.args.table.now (history_of p) base limit letters) (option_map (pair_in (map part_bytes letters)) after)) c.in-Ok.ensures.tree
-            ∙ rest_by_process t c.args.table.now base (map part_bytes letters) limit p (history_of p) h past stands (option_map (pair_in (map part_bytes letters)) after),
+        (subst (λ (u : Tree). beginning u c.args.table.now h c.args.base (map (λ s. s.now) c.args.candidates.now) c.args.limit
+            (option_map (λ s. s.now) c.args.after)
+            ≡ Ok (beginning_with u c.args.table.now h c.args.base c.args.limit c.in_ok-letters.field-0)) c.in_ok-rows.ensures.tree
+            (c.in_ok-letters.ensures.begun c.args.table.now h)),
+        c.in_ok-pairs.ensures.left
+            ∙ ap (λ (ls : List Part). rest_after (scope_in c.in_ok-terms.terms) (option_map (pair_in (map part_bytes ls)) after)) known
+            ∙ ap (λ (s : Scope). rest_after s (option_map (pair_in (map part_bytes letters)) after)) c.in_ok-terms.ensures.scope
+            ∙ ap (λ (u : Tree). rest_after (scope_with u c.args.table.now (plain_history p) base limit letters)
+            (option_map (pair_in (map part_bytes letters)) after)) c.in_ok-rows.ensures.tree
+            ∙ rest_by_process t c.args.table.now base (map part_bytes letters) limit p (plain_history p) h past stands
+            (option_map (pair_in (map part_bytes letters)) after),
         refl,
       ),
     )
 
 pub invariant_of-result : goal.invariant_of-result
-invariant_of-result g c = c.in-Ok-begin.ensures.ready
+invariant_of-result g c = c.in_ok-pairs.ensures.ready
 
 abbrev alphabet_in : Result Beginning AuditFault → List (List ℕ)
 alphabet_in (Ok b) = b.scope.alphabet
@@ -59,9 +56,12 @@ alphabet_in (Err fault) = []
 
 pub returns-clause-letters : goal.returns-clause-letters
 returns-clause-letters g c = λ h b is.
-    ap (λ (u : Terms). letters_of u) c.in-Ok-begin.ensures.terms
-    ∙ ap (λ (v : List Part). map part_bytes v) (ap (λ v. v.items) c.in-Ok-new.ensures.letters.1)
-    ∙ ap alphabet_in (sym ((subst (λ (u : Tree). beginning u c.args.table.now h c.args.base (map (λ s. s.now) c.args.candidates.now) c.args.limit (option_map (λ s. s.now) c.args.after) ≡ Ok (beginning_with u c.args.table.now h c.args.base c.args.limit c.in_ok-letters.field-0)) c.in-Ok.ensures.tree (c.in_ok-letters.ensures.begun c.args.table.now h))) ∙ is)
+    ap (λ (u : Terms). letters_of u) c.in_ok-pairs.ensures.terms
+    ∙ ap (λ (v : List Part). map part_bytes v) (ap (λ v. v.items) c.in_ok-terms.ensures.letters.1)
+    ∙ ap alphabet_in (sym
+    ((subst (λ (u : Tree). beginning u c.args.table.now h c.args.base (map (λ s. s.now) c.args.candidates.now) c.args.limit
+    (option_map (λ s. s.now) c.args.after) ≡ Ok (beginning_with u c.args.table.now h c.args.base c.args.limit c.in_ok-letters.field-0))
+    c.in_ok-rows.ensures.tree (c.in_ok-letters.ensures.begun c.args.table.now h))) ∙ is)
 
 abbrev live_in : Result Beginning AuditFault → ℕ
 live_in (Ok b) = length (live_states b.scope)
@@ -75,23 +75,26 @@ returns-clause-live g c = λ h stands b is.
     let limit = c.args.limit in
     let letters : List Part = c.in_ok-letters.field-0.letters.items in
     let past = stands_for_past p c.known.ensures.history c.known.ensures.stands in
-    c.in-Ok-begin.ensures.live
-    ∙ ap (λ (s : Scope). length (live_states s)) c.in-Ok-new.ensures.scope
-    ∙ ap (λ (u : Tree). length (live_states (scope_with u c.args.table.now (history_of p) base limit letters))) c.in-Ok.ensures.tree
-    ∙ ap length (live_by_process t c.args.table.now base (map part_bytes letters) limit p (history_of p) h past stands)
-    ∙ ap live_in (sym ((subst (λ (u : Tree). beginning u c.args.table.now h c.args.base (map (λ s. s.now) c.args.candidates.now) c.args.limit (option_map (λ s. s.now) c.args.after) ≡ Ok (beginning_with u c.args.table.now h c.args.base c.args.limit c.in_ok-letters.field-0)) c.in-Ok.ensures.tree (c.in_ok-letters.ensures.begun c.args.table.now h))) ∙ is)
+    c.in_ok-pairs.ensures.live
+    ∙ ap (λ (s : Scope). length (live_states s)) c.in_ok-terms.ensures.scope
+    ∙ ap (λ (u : Tree). length (live_states (scope_with u c.args.table.now (plain_history p) base limit letters))) c.in_ok-rows.ensures.tree
+    ∙ ap length (live_by_process t c.args.table.now base (map part_bytes letters) limit p (plain_history p) h past stands)
+    ∙ ap live_in (sym ((subst (λ (u : Tree). beginning u c.args.table.now h c.args.base (map (λ s. s.now) c.args.candidates.now)
+    c.args.limit (option_map (λ s. s.now) c.args.after)
+    ≡ Ok (beginning_with u c.args.table.now h c.args.base c.args.limit c.in_ok-letters.field-0)) c.in_ok-rows.ensures.tree
+    (c.in_ok-letters.ensures.begun c.args.table.now h))) ∙ is)
 
 pub begin-requires : goal.begin-requires
 begin-requires g c κs =
-    let terms : Terms = c.in-Ok-new.terms in
-    let kept = c.in-Ok-new.ensures.letters in
+    let terms : Terms = c.in_ok-terms.terms in
+    let kept = c.in_ok-terms.ensures.letters in
     let checked = c.in_ok-letters.ensures.sound in
     let after = c.in_ok-letters.field-0.after in
-    let same : terms.seen.tree ≡ g.P.Probe.tree c.rows.new.self = ap (λ (s : Scope). s.tree) c.in-Ok-new.ensures.scope in
+    let same : terms.seen.tree ≡ g.P.Probe.tree c.rows.new.self = ap (λ (s : Scope). s.tree) c.in_ok-terms.ensures.scope in
     let items : terms.letters.items ≡ c.in_ok-letters.field-0.letters.items = ap (λ v. v.items) kept.1 in
     let rows : map lent_entry c.deref-2.result.now ≡ terms.seen.tree.rows =
-    ap (map lent_entry) c.deref-2.ensures.value ∙ c.in-Ok.ensures.rows
-    ∙ ap (λ (t : Tree). t.rows) (sym (same ∙ c.in-Ok.ensures.tree)) in
+    ap (map lent_entry) c.deref-2.ensures.value ∙ c.in_ok-rows.ensures.rows
+    ∙ ap (λ (t : Tree). t.rows) (sym (same ∙ c.in_ok-rows.ensures.tree)) in
     let letters : AreSound terms.limit terms.letters.items =
     subst (λ (n : ℕ). AreSound n terms.letters.items) (sym kept.0)
     (subst (λ (ls : List Part). AreSound c.args.limit ls) (sym items) checked.sound) in
@@ -99,11 +102,11 @@ begin-requires g c κs =
     subst (λ (n : ℕ). IfSome after (λ r. AreLetters (letters_of terms) n r.word.items)) (sym kept.0)
     (subst (λ (ls : List Part). IfSome after (λ r. AreLetters (map part_bytes ls) c.args.limit r.word.items)) (sym items)
     checked.after) in
-    ((refl, tt), (sym same, (rows, (c.in-Ok-new.ensures.sound, (letters, word)))))
+    ((refl, tt), (sym same, (rows, (c.in_ok-terms.ensures.sound, (letters, word)))))
 
 pub returns-clause-reads : goal.returns-clause-reads
 returns-clause-reads g c =
-    subst (λ (n : ℕ). c.in-Ok-begin.pairs.walk.tables.reads ≤ search_cost * n) c.in-Ok-new.ensures.letters.0 c.in-Ok-begin.ensures.reads
+    subst (λ (n : ℕ). c.in_ok-pairs.pairs.walk.tables.reads ≤ search_cost * n) c.in_ok-terms.ensures.letters.0 c.in_ok-pairs.ensures.reads
 
 -- the looks at the tree
 
@@ -137,8 +140,8 @@ begun_within old asked new limit letters many t seen is same count more =
     (subst (λ (u : Tree). new ≤ asked + pairs_cost u many) same (subst (λ (n : ℕ). new ≤ asked + pairs_cost seen n) count more))
     (pairs_within t many limit)
 
-pub returns-in_default-clause-cost : goal.returns-in_default-clause-cost
-returns-in_default-clause-cost g c =
+pub returns-in_err-rows-clause-cost : goal.returns-in_err-rows-clause-cost
+returns-in_err-rows-clause-cost g c =
     let t : Tree = g.P.Probe.tree c.args.probe.now in
     asked_once _ _ c.args.limit (letter_count t (map (λ s. s.now) c.args.candidates.now)) t c.rows.ensures.count
 
@@ -147,31 +150,31 @@ returns-in_err-letters-clause-cost g c =
     let t : Tree = g.P.Probe.tree c.args.probe.now in
     asked_once _ _ c.args.limit (letter_count t (map (λ s. s.now) c.args.candidates.now)) t c.rows.ensures.count
 
-pub returns-in_default-new-clause-cost : goal.returns-in_default-new-clause-cost
-returns-in_default-new-clause-cost g c =
+pub returns-in_err-terms-clause-cost : goal.returns-in_err-terms-clause-cost
+returns-in_err-terms-clause-cost g c =
     let t : Tree = g.P.Probe.tree c.args.probe.now in
     asked_once _ _ c.args.limit (letter_count t (map (λ s. s.now) c.args.candidates.now)) t c.rows.ensures.count
 
-pub returns-in_default-begin-clause-cost : goal.returns-in_default-begin-clause-cost
-returns-in_default-begin-clause-cost g c =
+pub returns-in_err-pairs-clause-cost : goal.returns-in_err-pairs-clause-cost
+returns-in_err-pairs-clause-cost g c =
     let t : Tree = g.P.Probe.tree c.args.probe.now in
-    let terms : Terms = c.in-Ok-new.terms in
+    let terms : Terms = c.in_ok-terms.terms in
     let texts : List (List ℕ) = map (λ s. s.now) c.args.candidates.now in
-    let same : terms.seen.tree ≡ t = ap (λ (s : Scope). s.tree) c.in-Ok-new.ensures.scope ∙ c.in-Ok.ensures.tree in
+    let same : terms.seen.tree ≡ t = ap (λ (s : Scope). s.tree) c.in_ok-terms.ensures.scope ∙ c.in_ok-rows.ensures.tree in
     let count : length terms.letters.items ≡ letter_count t texts =
-    ap (λ v. length v.items) c.in-Ok-new.ensures.letters.1 ∙ c.in_ok-letters.ensures.many
-    ∙ ap (λ (u : Tree). letter_count u texts) c.in-Ok.ensures.tree in
-    begun_within _ _ _ c.args.limit (length terms.letters.items) (letter_count t texts) t terms.seen.tree c.in-Ok.ensures.count same count
-    c.begin.ensures.cost
+    ap (λ v. length v.items) c.in_ok-terms.ensures.letters.1 ∙ c.in_ok-letters.ensures.many
+    ∙ ap (λ (u : Tree). letter_count u texts) c.in_ok-rows.ensures.tree in
+    begun_within _ _ _ c.args.limit (length terms.letters.items) (letter_count t texts) t terms.seen.tree c.in_ok-rows.ensures.count
+    same count c.begin.ensures.cost
 
 pub returns-clause-cost : goal.returns-clause-cost
 returns-clause-cost g c =
     let t : Tree = g.P.Probe.tree c.args.probe.now in
-    let terms : Terms = c.in-Ok-new.terms in
+    let terms : Terms = c.in_ok-terms.terms in
     let texts : List (List ℕ) = map (λ s. s.now) c.args.candidates.now in
-    let same : terms.seen.tree ≡ t = ap (λ (s : Scope). s.tree) c.in-Ok-new.ensures.scope ∙ c.in-Ok.ensures.tree in
+    let same : terms.seen.tree ≡ t = ap (λ (s : Scope). s.tree) c.in_ok-terms.ensures.scope ∙ c.in_ok-rows.ensures.tree in
     let count : length terms.letters.items ≡ letter_count t texts =
-    ap (λ v. length v.items) c.in-Ok-new.ensures.letters.1 ∙ c.in_ok-letters.ensures.many
-    ∙ ap (λ (u : Tree). letter_count u texts) c.in-Ok.ensures.tree in
-    begun_within _ _ _ c.args.limit (length terms.letters.items) (letter_count t texts) t terms.seen.tree c.in-Ok.ensures.count same count
-    c.begin.ensures.cost
+    ap (λ v. length v.items) c.in_ok-terms.ensures.letters.1 ∙ c.in_ok-letters.ensures.many
+    ∙ ap (λ (u : Tree). letter_count u texts) c.in_ok-rows.ensures.tree in
+    begun_within _ _ _ c.args.limit (length terms.letters.items) (letter_count t texts) t terms.seen.tree c.in_ok-rows.ensures.count
+    same count c.begin.ensures.cost

@@ -1,4 +1,4 @@
-use Rattle.std.proofs.Common.{rules}
+use Rattle.pua_audit.proofs.Common.{rules}
 use Rattle.pua_audit.proofs.audit.Audit.reads.Goals as goal
 
 pub returns : goal.returns

@@ -1,5 +1,4 @@
-use Rattle.std.proofs.Common.{arith, rules}
-use Rattle.pua_audit.specs.Ready.{letters_of}
+use Rattle.pua_audit.proofs.Common.{arith, rules, letters_of}
 use Rattle.pua_audit.proofs.Coming.{along_none}
 use Rattle.pua_audit.proofs.pairs.Pairs.begin.Goals as goal
 
@@ -13,9 +12,9 @@ returns-clause-ready g c =
       limit = got.limit;
       letters = got.letters;
       pairs = got.within;
-      path = along_none (letters_of c.args.terms) w.word.items c.in-Ok.path c.in-Ok.ensures.path;
-      bytes = omega (arith, c.most_bytes.ensures, c.in-Ok.ensures.bytes);
-      starts = c.in-Ok.ensures.letters;
+      path = along_none (letters_of c.args.terms) w.word.items c.in_ok-path.path c.in_ok-path.ensures.path;
+      bytes = omega (arith, c.most_bytes.ensures, c.in_ok-path.ensures.bytes);
+      starts = c.in_ok-path.ensures.letters;
     }
 
 pub returns-clause-left : goal.returns-clause-left

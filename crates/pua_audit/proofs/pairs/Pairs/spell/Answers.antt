@@ -1,14 +1,21 @@
-use Rattle.std.proofs.Common.{◌≡◌, ◌≤◌, ◌<◌, ◌*◌, ℕ, List, [], suc, length, get_or, vec_capacity, refl, sym, ap, ◌∙◌, arith, subst}
-use Rattle.pua_audit.specs.Begin.{longest}
-use Rattle.pua_audit.specs.Ready.{part_bytes, letters_of}
-use Rattle.pua_audit.specs.declared.terms.Terms.{Terms}
+use Rattle.pua_audit.proofs.Common.{◌≡◌, ◌≤◌, ◌<◌, ◌*◌, ℕ, List, [], suc, length, get_or, vec_capacity, refl, sym, ap, ◌∙◌, arith, subst}
+use Rattle.pua_audit.proofs.Common.{longest, part_bytes, letters_of, Terms}
 use Rattle.pua_audit.proofs.Coming.{along_push, along_room, along_whole}
 use Rattle.pua_audit.proofs.Moves.{all_at_index}
 use Rattle.pua_audit.proofs.Spelled.{letter_at}
 use Rattle.pua_audit.proofs.pairs.Pairs.spell.Goals as goal
 
 pub loop-self-init : goal.loop-self-init
-loop-self-init c = record { terms = refl; walk = refl; live = refl; path = c.requires.path; known = c.requires.known; within = c.requires.within; bytes = c.requires.bytes; starts = c.requires.starts }
+loop-self-init c = record {
+  terms = refl;
+  walk = refl;
+  live = refl;
+  path = c.requires.path;
+  known = c.requires.known;
+  within = c.requires.within;
+  bytes = c.requires.bytes;
+  starts = c.requires.starts;
+}
 
 pub index-requires : goal.index-requires
 index-requires c =
@@ -16,7 +23,9 @@ index-requires c =
     let word : List ℕ = a.walk.word.items in
     let k : ℕ = c.len-in-loop-self.result in
     let low : k < length word = omega (arith, c.loop-self-test.true, c.len.ensures, c.len-in-loop-self.ensures, ap length c.word.ensures) in
-    let here : get_or c.word-in-loop-self.result.now k 0 < length a.terms.letters.items = subst (λ (v : List ℕ). get_or v k 0 < length a.terms.letters.items) (sym c.word-in-loop-self.ensures) (all_at_index (λ i. i < length a.terms.letters.items) word 0 c.loop-self.invariant.known k low) in
+    let here : get_or c.word-in-loop-self.result.now k 0 < length a.terms.letters.items =
+    subst (λ (v : List ℕ). get_or v k 0 < length a.terms.letters.items) (sym c.word-in-loop-self.ensures)
+    (all_at_index (λ i. i < length a.terms.letters.items) word 0 c.loop-self.invariant.known k low) in
     omega (arith, here)
 
 pub add-requires-clause-bytes : goal.add-requires-clause-bytes
@@ -27,16 +36,28 @@ add-requires-clause-bytes c =
     let i : ℕ = get_or c.word-in-loop-self.result.now c.len-in-loop-self.result 0 in
     let low : length a.path.starts.items < length word = omega (arith, c.loop-self-test.true, c.len.ensures, ap length c.word.ensures) in
     let lower : c.len-in-loop-self.result < length word = omega (arith, low, c.len-in-loop-self.ensures) in
-    let here : i < length a.terms.letters.items = subst (λ (v : List ℕ). get_or v c.len-in-loop-self.result 0 < length a.terms.letters.items) (sym c.word-in-loop-self.ensures) (all_at_index (λ i. i < length a.terms.letters.items) word 0 inv.known c.len-in-loop-self.result lower) in
-    let room : a.terms.limit * suc (longest (letters_of a.terms)) ≤ vec_capacity a.path.bytes = subst (λ (t : Terms). t.limit * suc (longest (letters_of t)) ≤ vec_capacity a.path.bytes) (sym inv.terms) inv.bytes in
-    let part : get_or (letters_of a.terms) i [] ≡ part_bytes c.index.result.now = letter_at a.terms i c.index.result.now here ∙ ap part_bytes (sym c.index.ensures) in
+    let here : i < length a.terms.letters.items =
+    subst (λ (v : List ℕ). get_or v c.len-in-loop-self.result 0 < length a.terms.letters.items) (sym c.word-in-loop-self.ensures)
+    (all_at_index (λ i. i < length a.terms.letters.items) word 0 inv.known c.len-in-loop-self.result lower) in
+    let room : a.terms.limit * suc (longest (letters_of a.terms)) ≤ vec_capacity a.path.bytes =
+    subst (λ (t : Terms). t.limit * suc (longest (letters_of t)) ≤ vec_capacity a.path.bytes) (sym inv.terms) inv.bytes in
+    let part : get_or (letters_of a.terms) i [] ≡ part_bytes c.index.result.now = letter_at a.terms i c.index.result.now here ∙
+    ap part_bytes (sym c.index.ensures) in
     omega (arith, along_room a.terms word a.path i inv.path inv.known low inv.within here room, ap length part)
 
 pub add-requires-clause-starts : goal.add-requires-clause-starts
 add-requires-clause-starts c =
     let a = c.loop-self.self in
     let inv = c.loop-self.invariant in
-    omega (arith, c.loop-self-test.true, c.len.ensures, ap length c.word.ensures, inv.within, inv.starts, ap (λ (t : Terms). t.limit) inv.terms)
+    omega (
+      arith,
+      c.loop-self-test.true,
+      c.len.ensures,
+      ap length c.word.ensures,
+      inv.within,
+      inv.starts,
+      ap (λ (t : Terms). t.limit) inv.terms,
+    )
 
 pub loop-self-smaller : goal.loop-self-smaller
 loop-self-smaller c = omega (arith, c.loop-self-test.true, c.len.ensures, ap length c.word.ensures, c.add.ensures.more)
@@ -51,15 +72,20 @@ loop-self-preserved c =
     let low : length a.path.starts.items < length word = omega (arith, c.loop-self-test.true, c.len.ensures, ap length c.word.ensures) in
     let lower : k < length word = omega (arith, low, c.len-in-loop-self.ensures) in
     let many : k ≡ length a.path.starts.items = omega (arith, c.len-in-loop-self.ensures) in
-    let same : i ≡ get_or word (length a.path.starts.items) 0 = ap (λ (v : List ℕ). get_or v k 0) c.word-in-loop-self.ensures ∙ ap (λ n. get_or word n 0) many in
-    let here : i < length a.terms.letters.items = subst (λ (v : List ℕ). get_or v k 0 < length a.terms.letters.items) (sym c.word-in-loop-self.ensures) (all_at_index (λ i. i < length a.terms.letters.items) word 0 inv.known k lower) in
+    let same : i ≡ get_or word (length a.path.starts.items) 0 = ap (λ (v : List ℕ). get_or v k 0) c.word-in-loop-self.ensures ∙
+    ap (λ n. get_or word n 0) many in
+    let here : i < length a.terms.letters.items =
+    subst (λ (v : List ℕ). get_or v k 0 < length a.terms.letters.items) (sym c.word-in-loop-self.ensures)
+    (all_at_index (λ i. i < length a.terms.letters.items) word 0 inv.known k lower) in
     let part : get_or (letters_of a.terms) (get_or word (length a.path.starts.items) 0) [] ≡ part_bytes c.index.result.now =
-    ap (λ n. get_or (letters_of a.terms) n []) (sym same) ∙ letter_at a.terms i c.index.result.now here ∙ ap part_bytes (sym c.index.ensures) in
+    ap (λ n. get_or (letters_of a.terms) n []) (sym same) ∙ letter_at a.terms i c.index.result.now here ∙
+    ap part_bytes (sym c.index.ensures) in
     record {
       terms = inv.terms;
       walk = inv.walk;
       live = inv.live;
-      path = along_push (letters_of a.terms) word a.path c.add.new.self (part_bytes c.index.result.now) inv.path low part c.add.ensures.path c.add.ensures.more;
+      path = along_push (letters_of a.terms) word a.path c.add.new.self (part_bytes c.index.result.now) inv.path low part c.add.ensures.path
+          c.add.ensures.more;
       known = inv.known;
       within = inv.within;
       bytes = omega (arith, inv.bytes, c.add.ensures.bytes);
@@ -72,7 +98,12 @@ returns-clause-kept c = let inv = c.loop-self.invariant in (inv.terms, inv.walk,
 pub returns-clause-path : goal.returns-clause-path
 returns-clause-path c =
     let a = c.loop-self.self in
-    along_whole (letters_of a.terms) a.walk.word.items a.path c.loop-self.invariant.path (omega (arith, c.loop-self-test.false, c.len.ensures, ap length c.word.ensures))
+    along_whole (letters_of a.terms) a.walk.word.items a.path c.loop-self.invariant.path (omega (
+      arith,
+      c.loop-self-test.false,
+      c.len.ensures,
+      ap length c.word.ensures,
+    ))
 
 pub returns-clause-whole : goal.returns-clause-whole
 returns-clause-whole c = omega (arith, c.loop-self-test.false, c.len.ensures, ap length c.word.ensures, c.loop-self.invariant.path.few)

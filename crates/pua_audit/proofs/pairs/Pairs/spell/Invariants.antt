@@ -1,7 +1,4 @@
-use Rattle.std.proofs.Common.{◌≡◌, ◌≤◌, ◌<◌, ◌-◌, ◌*◌, suc, length, vec_capacity}
-use Rattle.std.specs.List.{AllByRecursion}
-use Rattle.pua_audit.specs.Begin.{longest}
-use Rattle.pua_audit.specs.Ready.{letters_of}
+use Rattle.pua_audit.proofs.Common.{◌≡◌, ◌≤◌, ◌<◌, ◌-◌, ◌*◌, suc, length, vec_capacity, AllByRecursion, longest, letters_of}
 use Rattle.pua_audit.specs.WordPaths.{IsPathAlong}
 use Rattle.pua_audit.proofs.pairs.Pairs.spell.Given as goal
 

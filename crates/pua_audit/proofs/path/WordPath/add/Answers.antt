@@ -1,7 +1,4 @@
-use Rattle.std.proofs.Common.{◌≡◌, ◌+◌, ◌++◌, ◌∷◌, [], List, ℕ, length, sym, ap, ◌∙◌, arith}
-use Rattle.std.proofs.lemmas.Grind.{common_steps}
-use Rattle.pua_audit.specs.Reach.{from_root}
-use Rattle.pua_audit.specs.Ready.{part_bytes}
+use Rattle.pua_audit.proofs.Common.{◌≡◌, ◌+◌, ◌++◌, ◌∷◌, [], List, ℕ, length, sym, ap, ◌∙◌, arith, common_steps, from_root, part_bytes}
 use Rattle.pua_audit.specs.WordPaths.{starts_of}
 use Rattle.pua_audit.proofs.Spelled.{from_root-push}
 use Rattle.pua_audit.proofs.WordPaths.{starts-push}
@@ -14,6 +11,7 @@ returns-clause-path c = λ word is.
     let start : c.len.result ≡ 0 + length (from_root word) = omega (arith, c.len.ensures, ap length is.bytes) in
     record {
       bytes = c.add_letter.ensures.path ∙ ap (λ bs. bs ++ 47 ∷ a) is.bytes ∙ sym (from_root-push word a);
-      starts = pushed ∙ ap (λ ns. ns ++ c.len.result ∷ []) is.starts ∙ ap (λ n. starts_of 0 word ++ n ∷ []) start ∙ sym (starts-push 0 word a);
+      starts = pushed ∙ ap (λ ns. ns ++ c.len.result ∷ []) is.starts ∙ ap (λ n. starts_of 0 word ++ n ∷ []) start ∙
+          sym (starts-push 0 word a);
       plain = c.plain_with-self.ensures word is;
     }

@@ -1,10 +1,9 @@
-use Rattle.std.proofs.Common.{length, sym, ap, ◌∙◌, arith}
-use Rattle.std.specs.List.{list_all}
-use Rattle.pua_tree.specs.Spelling.{is_plain}
+use Rattle.pua_audit.proofs.Common.{length, sym, ap, ◌∙◌, arith, list_all, is_plain}
 use Rattle.pua_audit.proofs.PlainPaths.{front_whole}
 use Rattle.pua_audit.proofs.WordPaths.{length-starts}
 use Rattle.pua_audit.proofs.path.WordPath.is_plain.Goals as goal
 
 pub returns : goal.returns
 returns c = λ word is.
-    front_whole word c.args.self.now.plain c.len.result is.plain (omega (arith, c.len.ensures, ap length is.starts, length-starts 0 word)) ∙ ap (list_all is_plain) (sym is.bytes)
+    front_whole word c.args.self.now.plain c.len.result is.plain (omega (arith, c.len.ensures, ap length is.starts, length-starts 0 word)) ∙
+    ap (list_all is_plain) (sym is.bytes)

@@ -1,9 +1,7 @@
-use Rattle.std.proofs.Common.{◌≡◌, ◌<◌, ◌∙◌, ℕ, List, [], Some, IfSome, map, length, get_or, sym, ap, subst, arith}
-use Rattle.std.specs.Prelude.{bytes_eq}
-use Rattle.std.specs.HashMap.{get_by}
-use Rattle.std.proofs.lemmas.List.{length-map, get_or-map}
+use Rattle.pua_audit.proofs.Common.{◌≡◌, ◌<◌, ◌∙◌, ℕ, List, [], Some, map, length, get_or, sym, ap, subst, arith, bytes_eq, get_by}
+use Rattle.pua_audit.proofs.Common.{length-map, get_or-map, part_bytes}
+use Rattle.std.proofs.Common.{IfSome}
 use Rattle.std.proofs.lemmas.Map.Text.{hash_map_updates_str}
-use Rattle.pua_audit.specs.Ready.{part_bytes}
 use Rattle.pua_audit.proofs.Spotted.{placed_more, placed_within}
 use Rattle.pua_audit.proofs.table.placed.placed.Goals as goal
 
@@ -14,16 +12,24 @@ loop-place-preserved c =
     let place : ℕ = l.place in
     let bytes : List ℕ = c.bytes.result.now in
     let here : place < length letters = omega (arith, c.loop-place-test.true, length-map c.args.letters.now part_bytes) in
-    let is : bytes ≡ get_or letters place [] = c.bytes.ensures.bytes ∙ ap part_bytes c.index-letters-place.is ∙ sym (get_or-map part_bytes c.args.letters.now place c.index-letters-place.result [] c.loop-place-test.true) in
+    let is : bytes ≡ get_or letters place [] = c.bytes.ensures.bytes ∙ ap part_bytes c.index-letters-place.is ∙
+    sym (get_or-map part_bytes c.args.letters.now place c.index-letters-place.result [] c.loop-place-test.true) in
     let found = λ (other : List ℕ). get_by (λ k. bytes_eq other k.now) l.places in
-    let updated = hash_map_updates_str bytes l.places c.insert.new.self (Some place) c.in-Ok-insert.ensures.updates in
+    let updated = hash_map_updates_str bytes l.places c.insert.new.self (Some place) c.in_ok-insert.ensures.updates in
     record {
-      each = λ letter low. updated (get_or letters letter []) ∙ placed_more letters c.requires place letter here low bytes is (found (get_or letters letter [])) (l.invariant.each letter);
-      within = λ other. subst (λ o. IfSome o (λ n. n < length letters)) (sym (updated other)) (placed_within (length letters) place here bytes other (found other) (l.invariant.within other));
+      each = λ letter low. updated (get_or letters letter []) ∙
+          placed_more letters c.requires place letter here low bytes is (found (get_or letters letter [])) (l.invariant.each letter);
+      within = λ other. subst (λ o. IfSome o (λ n. n < length letters)) (sym (updated other))
+          (placed_within (length letters) place here bytes other (found other) (l.invariant.within other));
     }
 
 pub returns : goal.returns
 returns c = record {
-  each = λ letter low. c.loop-place.invariant.each letter (omega (arith, low, length-map c.args.letters.now part_bytes, c.loop-place-test.false));
+  each = λ letter low. c.loop-place.invariant.each letter (omega (
+    arith,
+    low,
+    length-map c.args.letters.now part_bytes,
+    c.loop-place-test.false,
+  ));
   within = c.loop-place.invariant.within;
 }

@@ -1,6 +1,4 @@
-use Rattle.std.proofs.Common.{◌≡◌, ◌<◌, ◌+◌, ◌∙◌, ℕ, List, [], ◌∷◌, ◌++◌, length, map, take, get_or, sym, ap}
-use Rattle.std.proofs.lemmas.List.{map-append}
-use Rattle.pua_audit.specs.declared.table.spots.LetterSpot.{LetterSpot}
+use Rattle.pua_audit.proofs.Common.{◌≡◌, ◌<◌, ◌+◌, ◌∙◌, ℕ, List, [], ◌∷◌, ◌++◌, length, map, take, get_or, sym, ap, map-append, LetterSpot}
 use Rattle.pua_audit.proofs.Spotted.{taken_more}
 use Rattle.pua_audit.proofs.table.spots.letters_at.Goals as goal
 
@@ -15,4 +13,4 @@ pub loop-spot-preserved : goal.loop-spot-preserved
 loop-spot-preserved c =
     let l = c.loop-spot in
     letter_more c.args.spots.now c.spot-item.result l.spot-index l.letters.items _ c.loop-spot-test.true c.spot-item.is l.invariant
-    c.in-Ok.ensures.items
+    c.in_ok-push.ensures.items

@@ -1,4 +1,4 @@
-use Rattle.std.proofs.Common.{◌≡◌, take, map}
+use Rattle.pua_audit.proofs.Common.{◌≡◌, take, map}
 use Rattle.pua_audit.proofs.table.spots.letters_at.Given as goal
 
 abbrev pub invariant-loop-spot : goal.invariant-loop-spot

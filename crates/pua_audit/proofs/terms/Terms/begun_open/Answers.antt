@@ -1,23 +1,12 @@
-use Rattle.std.proofs.Common.{◌≡◌, ◌<◌, ◌≤◌, ◌∙◌, ◌+◌, ◌*◌, ℕ, List, Option, None, Some, length, map, refl, sym, ap, subst, arith}
-use Rattle.std.specs.List.{AllByRecursion}
-use Rattle.pua_tree.specs.Tree.{Tree, is_dir}
-use Rattle.pua_path.specs.declared.found.Found.{Found}
-use Rattle.pua_calls.specs.CallSets.{has}
-use Rattle.pua_policy.specs.Descent.{cover_in}
-use Rattle.pua_policy.specs.History.{History}
-use Rattle.pua_policy.specs.Verdict.{cover, verdict, is_allowed}
+use Rattle.pua_audit.proofs.Common.{◌≡◌, ◌<◌, ◌≤◌, ◌∙◌, ◌+◌, ◌*◌, ℕ, List, Option, None, Some, length, map, refl, sym, ap, subst, arith}
+use Rattle.pua_audit.proofs.Common.{AllByRecursion, Tree, is_dir, Found, has, cover_in, History, cover, is_allowed, Call, pairs_at}
+use Rattle.pua_audit.proofs.Common.{pair_in_numbers, pair_in_letters, Judge, base_dir, plain_history, reach, judge_in, letters_of, scope_in}
+use Rattle.pua_audit.proofs.Common.{IfSome, IsTrue, AreLetters, IsTableOf, live_count, IsPair, Steps}
+use Rattle.pua_policy.specs.Verdict.{verdict}
 use Rattle.pua_policy.proofs.ForCallers.{covers_descend}
-use Rattle.pua_calls.specs.declared.call.Call.{Call}
 use Rattle.pua_audit.specs.Bounds.{pairs_cost, table_cost}
-use Rattle.pua_audit.specs.Coming.{pairs_after, pairs_at}
-use Rattle.pua_audit.specs.Graphs.{numbered, spelled}
-use Rattle.pua_audit.specs.Judge.{Judge, base_dir, base_way}
-use Rattle.pua_audit.specs.Past.{history_of}
-use Rattle.pua_audit.specs.Reach.{reach}
-use Rattle.pua_audit.specs.Ready.{judge_in, letters_of, scope_in}
-use Rattle.std.specs.Prelude.{IfSome, IsTrue}
-use Rattle.pua_audit.specs.Starting.{AreLetters}
-use Rattle.pua_audit.specs.Table.{IsTableOf}
+use Rattle.pua_audit.specs.Coming.{pairs_resumed}
+use Rattle.pua_audit.specs.Judge.{base_way}
 use Rattle.pua_audit.specs.declared.resume_text.Resumption.{Resumption}
 use Rattle.pua_audit.proofs.AfterPair.{scope_after, pairs_stay}
 use Rattle.pua_audit.proofs.Begun.{begun_reach, begun_live, table_fits}
@@ -25,25 +14,34 @@ use Rattle.pua_audit.proofs.Starts.{lives, all_along, audited}
 use Rattle.pua_steps.proofs.ForCallers.{reach_is_within}
 use Rattle.pua_steps.specs.Graph as graph
 use Rattle.pua_steps.specs.Limits.{search_cost}
-use Rattle.pua_steps.specs.Lists.{IsListed}
+use Rattle.pua_steps.specs.Lists.{AreListsOf}
 use Rattle.pua_steps.specs.Live.{IsSized}
-use Rattle.pua_steps.specs.Reached.{live_count}
 use Rattle.pua_steps.specs.Table.{IsState, IsTable, graph_of}
-use Rattle.pua_steps.specs.Within.{IsPair}
-use Rattle.pua_steps.specs.declared.steps.Steps.{Steps}
 use Rattle.pua_audit.proofs.terms.Terms.begun_open.Goals as goal
 
 pub table-requires : goal.table-requires
 table-requires g c κs =
     let a = c.args.self.now in
     let t : Tree = a.seen.tree in
-    let h : History = history_of a.process in
+    let h : History = plain_history a.process in
     let base : ℕ = base_dir a.base h in
     let there : IsTrue (is_dir t base) = lives a c.requires.sound c.requires.letters c.requires.open in
     let covered : c.cover-cover.result ≡ cover_in t h c.base_dir.result =
-    c.cover-cover.ensures.exact h c.requires.sound.stands ∙ ap (λ (u : Tree). cover u h c.base_found.result) c.requires.tree ∙ ap (cover t h) c.base_found.ensures
-    ∙ (covers_descend t h c.requires.sound.tree).directory base (base_way a.base) there ∙ ap (cover_in t h) (sym c.base_dir.ensures) in
-    ((refl, tt), (c.calls_on.ensures.tree ∙ c.cover-cover.ensures.tree ∙ c.requires.tree, (c.requires.rows, (c.requires.sound, (c.requires.letters.rises, (subst (λ (d : ℕ). IsTrue (is_dir t d)) (sym c.base_dir.ensures) there, covered))))))
+    c.cover-cover.ensures.exact h c.requires.sound.stands ∙ ap (λ (u : Tree). cover u h c.base_found.result) c.requires.tree ∙
+    ap (cover t h) c.base_found.ensures
+    ∙ (covers_descend t h c.requires.sound.tree).directory base (base_way a.base) there ∙ ap (cover_in t h) (sym c.base_dir.ensures) in (
+      (refl, tt),
+      (
+        c.calls_on.ensures.tree ∙ c.cover-cover.ensures.tree ∙ c.requires.tree,
+        (
+          c.requires.rows,
+          (
+            c.requires.sound,
+            (c.requires.letters.rises, (subst (λ (d : ℕ). IsTrue (is_dir t d)) (sym c.base_dir.ensures) there, covered)),
+          ),
+        ),
+      ),
+    )
 
 pub returns-clause-pairs : goal.returns-clause-pairs
 returns-clause-pairs g c =
@@ -51,13 +49,19 @@ returns-clause-pairs g c =
     let made = c.in_ok-steps.ensures.table in
     let t : Steps = c.in_ok-steps.steps in
     let set : ℕ = c.bits-calls.result in
-    let own = λ (call : Call). ap (λ (n : ℕ). has n call) c.bits-calls.ensures.number ∙ c.calls_on.ensures.exact call ∙ ap (λ (f : Found). is_allowed (verdict a.seen.tree a.table (history_of a.process) call f)) c.base_found-2.ensures in
+    let own = λ (call : Call). ap (λ (n : ℕ). has n call) c.bits-calls.ensures.number ∙ c.calls_on.ensures.exact call ∙
+    ap (λ (f : Found). is_allowed (verdict a.seen.tree a.table (plain_history a.process) call f)) c.base_found-2.ensures in
     let first = ap (λ (d : ℕ). Some (record { dir = d; used = 0 })) (sym (made.1.3 ∙ c.base_dir.ensures)) in
-    let ps : List graph.Pair = graph.reach (graph_of t) a.limit set (Some (record { dir = 0; used = 0 })) in
-    let same : map numbered (reach (scope_in a)) ≡ map (spelled (letters_of a)) ps =
-    ap (map numbered) (sym (all_along a c.requires.sound c.requires.letters c.requires.open)) ∙ begun_reach (judge_in a) (letters_of a) made.0 t made.1.0 made.1.2 set own first a.limit in
-    let within : AllByRecursion (λ p. IsPair (length (letters_of a)) p) ps = subst (λ n. AllByRecursion (λ p. IsPair n p) ps) made.1.0.many (reach_is_within t a.limit set (Some (record { dir = 0; used = 0 })) made.1.0.table (record { dir = omega (arith, made.1.2, made.1.0.dirs); used = omega arith })) in
-    let left = c.in-Ok-walk_after.ensures.left ∙ ap (λ (t : Steps). pairs_after c.args.after (graph.reach (graph_of t) a.limit set (Some (record { dir = 0; used = 0 })))) c.in-Ok.ensures.steps in
+    let ps : List graph.Pair = graph.graph_reach (graph_of t) a.limit set (Some (record { dir = 0; used = 0 })) in
+    let same : map pair_in_numbers (reach (scope_in a)) ≡ map (pair_in_letters (letters_of a)) ps =
+    ap (map pair_in_numbers) (sym (all_along a c.requires.sound c.requires.letters c.requires.open)) ∙
+    begun_reach (judge_in a) (letters_of a) made.0 t made.1.0 made.1.2 set own first a.limit in
+    let within : AllByRecursion (λ p. IsPair (length (letters_of a)) p) ps =
+    subst (λ n. AllByRecursion (λ p. IsPair n p) ps) made.1.0.many (reach_is_within t a.limit set (Some (record { dir = 0; used = 0 }))
+    made.1.0.table (record { dir = omega (arith, made.1.2, made.1.0.dirs); used = omega arith })) in
+    let left = c.in_ok-walk.ensures.left ∙
+    ap (λ (t : Steps). pairs_resumed c.args.after (graph.graph_reach (graph_of t) a.limit set (Some (record { dir = 0; used = 0 }))))
+    c.in_ok-tables.ensures.steps in
     scope_after (scope_in a) c.args.after ps c.requires.letters.rises c.requires.word within same ∙ ap (pairs_at (letters_of a)) (sym left)
 
 pub returns-clause-within : goal.returns-clause-within
@@ -65,28 +69,39 @@ returns-clause-within g c =
     let a = c.args.self.now in
     let made = c.in_ok-steps.ensures.table in
     let t : Steps = c.in_ok-steps.steps in
-    let ps : List graph.Pair = graph.reach (graph_of t) a.limit c.bits-calls.result (Some (record { dir = 0; used = 0 })) in
-    let within : AllByRecursion (λ p. IsPair (length (letters_of a)) p) ps = subst (λ n. AllByRecursion (λ p. IsPair n p) ps) made.1.0.many (reach_is_within t a.limit c.bits-calls.result (Some (record { dir = 0; used = 0 })) made.1.0.table (record { dir = omega (arith, made.1.2, made.1.0.dirs); used = omega arith })) in
-    let left = c.in-Ok-walk_after.ensures.left ∙ ap (λ (t : Steps). pairs_after c.args.after (graph.reach (graph_of t) a.limit c.bits-calls.result (Some (record { dir = 0; used = 0 })))) c.in-Ok.ensures.steps in
-    subst (λ (qs : List graph.Pair). AllByRecursion (λ p. IsPair (length (letters_of a)) p) qs) (sym left) (pairs_stay (length (letters_of a)) c.args.after ps within)
+    let ps : List graph.Pair = graph.graph_reach (graph_of t) a.limit c.bits-calls.result (Some (record { dir = 0; used = 0 })) in
+    let within : AllByRecursion (λ p. IsPair (length (letters_of a)) p) ps =
+    subst (λ n. AllByRecursion (λ p. IsPair n p) ps) made.1.0.many
+    (reach_is_within t a.limit c.bits-calls.result (Some (record { dir = 0; used = 0 })) made.1.0.table
+    (record { dir = omega (arith, made.1.2, made.1.0.dirs); used = omega arith })) in
+    let left = c.in_ok-walk.ensures.left ∙
+    ap (λ (t : Steps). pairs_resumed c.args.after (graph.graph_reach (graph_of t) a.limit c.bits-calls.result
+    (Some (record { dir = 0; used = 0 })))) c.in_ok-tables.ensures.steps in
+    subst (λ (qs : List graph.Pair). AllByRecursion (λ p. IsPair (length (letters_of a)) p) qs) (sym left)
+    (pairs_stay (length (letters_of a)) c.args.after ps within)
 
 pub returns-clause-live : goal.returns-clause-live
 returns-clause-live g c =
     let a = c.args.self.now in
     let made = c.in_ok-steps.ensures.table in
-    let own = λ (call : Call). ap (λ (n : ℕ). has n call) c.bits-calls.ensures.number ∙ c.calls_on.ensures.exact call ∙ ap (λ (f : Found). is_allowed (verdict a.seen.tree a.table (history_of a.process) call f)) c.base_found-2.ensures in
+    let own = λ (call : Call). ap (λ (n : ℕ). has n call) c.bits-calls.ensures.number ∙ c.calls_on.ensures.exact call ∙
+    ap (λ (f : Found). is_allowed (verdict a.seen.tree a.table (plain_history a.process) call f)) c.base_found-2.ensures in
     let first = ap (λ (d : ℕ). Some (record { dir = d; used = 0 })) (sym (made.1.3 ∙ c.base_dir.ensures)) in
-    c.in-Ok-count.ensures ∙ ap (λ (t : Steps). live_count (graph_of t) a.limit (Some (record { dir = 0; used = 0 })) a.limit) c.in-Ok.ensures.steps
-    ∙ sym (begun_live (scope_in a) made.0 c.in_ok-steps.steps made.1.0 made.1.2 c.bits-calls.result own first (audited a c.requires.sound c.requires.letters) (lives a c.requires.sound c.requires.letters c.requires.open) made.1.1)
+    c.in_ok-live.ensures ∙
+    ap (λ (t : Steps). live_count (graph_of t) a.limit (Some (record { dir = 0; used = 0 })) a.limit) c.in_ok-tables.ensures.steps
+    ∙ sym (begun_live (scope_in a) made.0 c.in_ok-steps.steps made.1.0 made.1.2 c.bits-calls.result own first
+    (audited a c.requires.sound c.requires.letters) (lives a c.requires.sound c.requires.letters c.requires.open) made.1.1)
 
-known_below : (letters : List (List ℕ)) (limit n : ℕ) (o : Option Resumption) → n ≡ length letters → IfSome o (λ r. AreLetters letters limit r.word.items) → IfSome o (λ r. AllByRecursion (λ letter. letter < n) r.word.items)
+known_below : (letters : List (List ℕ)) (limit n : ℕ) (o : Option Resumption) → n ≡ length letters →
+    IfSome o (λ r. AreLetters letters limit r.word.items) → IfSome o (λ r. AllByRecursion (λ letter. letter < n) r.word.items)
 known_below letters limit n None same h = tt
 known_below letters limit n (Some r) same h = subst (λ k. AllByRecursion (λ letter. letter < k) r.word.items) (sym same) h.there
 
 pub walk_after-requires-clause-word : goal.walk_after-requires-clause-word
 walk_after-requires-clause-word g c =
     let a = c.args.self.now in
-    known_below (letters_of a) a.limit c.in-Ok.tables.steps.letters c.args.after (ap (λ (t : Steps). t.letters) c.in-Ok.ensures.steps ∙ c.in_ok-steps.ensures.table.1.0.many) c.requires.word
+    known_below (letters_of a) a.limit c.in_ok-tables.tables.steps.letters c.args.after (ap (λ (t : Steps). t.letters)
+    c.in_ok-tables.ensures.steps ∙ c.in_ok-steps.ensures.table.1.0.many) c.requires.word
 
 -- the tables of the table of steps
 
@@ -99,7 +114,7 @@ fill-requires-clause-fits g c =
 
 pub count-requires-clause-sized : goal.count-requires-clause-sized
 count-requires-clause-sized g c =
-    subst (λ (t : Steps). IsSized t c.in-Ok.tables.live c.args.self.now.limit) (sym c.in-Ok.ensures.steps) c.in-Ok.ensures.sized
+    subst (λ t. IsSized t c.in_ok-tables.tables.live c.args.self.now.limit) (sym c.in_ok-tables.ensures.steps) c.in_ok-tables.ensures.sized
 
 first_state : (w : Judge) (letters : List (List ℕ)) (names : List ℕ) (t : Steps) → IsTableOf w letters names t → 0 < length names
     → IsState t (record { dir = 0; used = 0 })
@@ -108,7 +123,7 @@ first_state w letters names t is some = record { dir = omega (arith, some, is.di
 pub count-requires-clause-base : goal.count-requires-clause-base
 count-requires-clause-base g c =
     let made = c.in_ok-steps.ensures.table in
-    subst (λ (t : Steps). IsState t (record { dir = 0; used = 0 })) (sym c.in-Ok.ensures.steps)
+    subst (λ (t : Steps). IsState t (record { dir = 0; used = 0 })) (sym c.in_ok-tables.ensures.steps)
     (first_state (judge_in c.args.self.now) (letters_of c.args.self.now) made.0 c.in_ok-steps.steps made.1.0 made.1.2)
 
 pub count-requires-clause-limit : goal.count-requires-clause-limit
@@ -119,21 +134,21 @@ small dirs rows same few = omega arith
 
 pub count-requires-clause-small : goal.count-requires-clause-small
 count-requires-clause-small g c =
-    small c.in-Ok.tables.live.dirs (length c.in_ok-steps.steps.rows.items) c.in-Ok.ensures.sized.dirs c.in_ok-steps.ensures.few
+    small c.in_ok-tables.tables.live.dirs _ c.in_ok-tables.ensures.sized.dirs c.in_ok-steps.ensures.few
 
 -- the walk over them
 
 pub walk_after-requires-clause-table : goal.walk_after-requires-clause-table
-walk_after-requires-clause-table g c = subst IsTable (sym c.in-Ok.ensures.steps) c.in_ok-steps.ensures.table.1.0.table
+walk_after-requires-clause-table g c = subst IsTable (sym c.in_ok-tables.ensures.steps) c.in_ok-steps.ensures.table.1.0.table
 
 pub walk_after-requires-clause-sized : goal.walk_after-requires-clause-sized
 walk_after-requires-clause-sized g c =
-    subst (λ (t : Steps). IsSized t c.in-Ok.tables.live c.args.self.now.limit) (sym c.in-Ok.ensures.steps) c.in-Ok.ensures.sized
+    subst (λ t. IsSized t c.in_ok-tables.tables.live c.args.self.now.limit) (sym c.in_ok-tables.ensures.steps) c.in_ok-tables.ensures.sized
 
 pub walk_after-requires-clause-listed : goal.walk_after-requires-clause-listed
 walk_after-requires-clause-listed g c =
-    subst (λ (t : Steps). IsListed t c.in-Ok.tables.live c.args.self.now.limit c.in-Ok.tables.lists) (sym c.in-Ok.ensures.steps)
-    c.in-Ok.ensures.listed
+    subst (λ (t : Steps). AreListsOf t c.in_ok-tables.tables.live c.args.self.now.limit c.in_ok-tables.tables.lists)
+    (sym c.in_ok-tables.ensures.steps) c.in_ok-tables.ensures.listed
 
 pub walk_after-requires-clause-calls : goal.walk_after-requires-clause-calls
 walk_after-requires-clause-calls g c = c.bits-calls.ensures.calls
@@ -141,7 +156,7 @@ walk_after-requires-clause-calls g c = c.bits-calls.ensures.calls
 pub walk_after-requires-clause-base : goal.walk_after-requires-clause-base
 walk_after-requires-clause-base g c =
     let made = c.in_ok-steps.ensures.table in
-    subst (λ (t : Steps). IsState t (record { dir = 0; used = 0 })) (sym c.in-Ok.ensures.steps)
+    subst (λ (t : Steps). IsState t (record { dir = 0; used = 0 })) (sym c.in_ok-tables.ensures.steps)
     (first_state (judge_in c.args.self.now) (letters_of c.args.self.now) made.0 c.in_ok-steps.steps made.1.0 made.1.2)
 
 known_few : (letters : List (List ℕ)) (limit : ℕ) (o : Option Resumption) → IfSome o (λ r. AreLetters letters limit r.word.items)
@@ -153,25 +168,25 @@ pub walk_after-requires-clause-few : goal.walk_after-requires-clause-few
 walk_after-requires-clause-few g c = known_few (letters_of c.args.self.now) c.args.self.now.limit c.args.after c.requires.word
 
 pub returns-clause-ready : goal.returns-clause-ready
-returns-clause-ready g c = c.in-Ok-walk_after.ensures.ready
+returns-clause-ready g c = c.in_ok-walk.ensures.ready
 
 pub returns-clause-limit : goal.returns-clause-limit
-returns-clause-limit g c = c.in-Ok-walk_after.ensures.of.1
+returns-clause-limit g c = c.in_ok-walk.ensures.of.1
 
 pub returns-clause-letters : goal.returns-clause-letters
 returns-clause-letters g c =
-    ap (λ (t : Steps). t.letters) (c.in-Ok-walk_after.ensures.of.0 ∙ c.in-Ok.ensures.steps) ∙ c.in_ok-steps.ensures.table.1.0.many
+    ap (λ (t : Steps). t.letters) (c.in_ok-walk.ensures.of.0 ∙ c.in_ok-tables.ensures.steps) ∙ c.in_ok-steps.ensures.table.1.0.many
 
 reads_more : (now before limit : ℕ) → now ≤ before + search_cost * limit → before ≡ 0 → now ≤ search_cost * limit
 reads_more now before limit more none = omega arith
 
 pub returns-clause-reads : goal.returns-clause-reads
 returns-clause-reads g c =
-    reads_more c.in-Ok-walk_after.walk.tables.reads c.in-Ok.tables.reads c.args.self.now.limit c.in-Ok-walk_after.ensures.reads
-    c.in-Ok.ensures.reads
+    reads_more c.in_ok-walk.walk.tables.reads c.in_ok-tables.tables.reads c.args.self.now.limit c.in_ok-walk.ensures.reads
+    c.in_ok-tables.ensures.reads
 
 pub returns-clause-unread : goal.returns-clause-unread
-returns-clause-unread g c = λ none. c.in-Ok-walk_after.ensures.unread none ∙ c.in-Ok.ensures.reads
+returns-clause-unread g c = λ none. c.in_ok-walk.ensures.unread none ∙ c.in_ok-tables.ensures.reads
 
 -- the looks at the tree
 
@@ -191,20 +206,20 @@ returns-in_err-steps-clause-cost g c =
     looks _ _ _ _ (length a.letters.items) (g.P.Probe.tree c.args.probe.now) a.seen.tree c.requires.tree c.cover-cover.ensures.cost
     c.calls_on.ensures.cost c.table.ensures.cost
 
-pub returns-in_default-clause-cost : goal.returns-in_default-clause-cost
-returns-in_default-clause-cost g c =
+pub returns-in_err-tables-clause-cost : goal.returns-in_err-tables-clause-cost
+returns-in_err-tables-clause-cost g c =
     let a = c.args.self.now in
     looks _ _ _ _ (length a.letters.items) (g.P.Probe.tree c.args.probe.now) a.seen.tree c.requires.tree c.cover-cover.ensures.cost
     c.calls_on.ensures.cost c.table.ensures.cost
 
-pub returns-in_default-count-clause-cost : goal.returns-in_default-count-clause-cost
-returns-in_default-count-clause-cost g c =
+pub returns-in_err-live-clause-cost : goal.returns-in_err-live-clause-cost
+returns-in_err-live-clause-cost g c =
     let a = c.args.self.now in
     looks _ _ _ _ (length a.letters.items) (g.P.Probe.tree c.args.probe.now) a.seen.tree c.requires.tree c.cover-cover.ensures.cost
     c.calls_on.ensures.cost c.table.ensures.cost
 
-pub returns-in_default-walk_after-clause-cost : goal.returns-in_default-walk_after-clause-cost
-returns-in_default-walk_after-clause-cost g c =
+pub returns-in_err-walk-clause-cost : goal.returns-in_err-walk-clause-cost
+returns-in_err-walk-clause-cost g c =
     let a = c.args.self.now in
     looks _ _ _ _ (length a.letters.items) (g.P.Probe.tree c.args.probe.now) a.seen.tree c.requires.tree c.cover-cover.ensures.cost
     c.calls_on.ensures.cost c.table.ensures.cost

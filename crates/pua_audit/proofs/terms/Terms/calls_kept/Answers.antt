@@ -1,15 +1,6 @@
-use Rattle.std.proofs.Common.{◌≡◌, ◌≤◌, ◌+◌, ◌∙◌, ℕ, length, refl, sym, ap, subst, arith}
-use Rattle.std.specs.Prelude.{IfOk, Result, is_ok}
-use Rattle.pua_tree.specs.Tree.{Tree}
-use Rattle.pua_path.specs.declared.errno.Errno.{Errno}
-use Rattle.pua_path.specs.declared.found.Found.{Found}
-use Rattle.pua_path.specs.Bounds.{part_cost}
-use Rattle.pua_path.specs.Fits.{FoundsFit, StandsAsNamed}
-use Rattle.pua_path.specs.Resolution.{follow, last}
-use Rattle.pua_path.specs.declared.found.Last.TheVariants.{Kept}
-use Rattle.pua_policy.specs.Verdict.{verdict_of, is_allowed}
-use Rattle.pua_audit.specs.Bounds.{object_cost}
-use Rattle.pua_audit.specs.Past.{history_of}
+use Rattle.pua_audit.proofs.Common.{◌≡◌, ◌≤◌, ◌+◌, ◌∙◌, ℕ, length, refl, sym, ap, subst, arith, IfOk, Result, Tree, Errno, Found, part_cost}
+use Rattle.pua_audit.proofs.Common.{FoundsFit, StandsAsNamed, follow, last, Kept, verdict_of, is_allowed, object_cost, plain_history}
+use Rattle.std.specs.Prelude.{is_ok}
 use Rattle.pua_audit.proofs.Covers.{kept_above}
 use Rattle.pua_audit.proofs.Told.{kept_unlinked}
 use Rattle.pua_audit.proofs.terms.Terms.calls_kept.Goals as goal
@@ -19,8 +10,11 @@ pub returns-then-is_ok-clause-exact : goal.returns-then-is_ok-clause-exact
 returns-then-is_ok-clause-exact g c = λ call.
     let a = c.args.self.now in
     let t = a.seen.tree in
-    let alike = kept_unlinked t c.args.dir c.args.part.now (follow t c.args.dir c.args.part.now) refl (sym c.requires.links ∙ c.if-links-eq0.true) (ap is_ok (sym c.requires.followed) ∙ sym c.is_ok.ensures.value ∙ c.if-is_ok.true) in
-    c.requires.near call ∙ ap (λ (x : Result Found Errno). is_allowed (verdict_of t a.table (history_of a.process) call x)) (c.requires.followed ∙ sym alike)
+    let alike = kept_unlinked t c.args.dir c.args.part.now (follow t c.args.dir c.args.part.now) refl (sym c.requires.links ∙
+    c.if-links-eq0.true) (ap is_ok (sym c.requires.followed) ∙ sym c.is_ok.ensures.value ∙ c.if-is_ok.true) in
+    c.requires.near call ∙
+    ap (λ (x : Result Found Errno). is_allowed (verdict_of t a.table (plain_history a.process) call x)) (c.requires.followed ∙
+    sym alike)
 
 pub cover_of-cover-requires : goal.cover_of-cover-requires
 cover_of-cover-requires g c κs =
@@ -28,8 +22,14 @@ cover_of-cover-requires g c κs =
     let kept : Result Found Errno = c.last-kept.result in
     let fit : FoundsFit t kept = subst (λ (u : Tree). FoundsFit u kept) c.requires.tree c.last-kept.ensures.fits in
     let named : IfOk kept (StandsAsNamed t) = subst (λ (u : Tree). IfOk kept (StandsAsNamed u)) c.requires.tree c.last-kept.ensures.named in
-    let is : kept ≡ last t c.args.dir 0 c.args.part.now Kept = c.last-kept.ensures.exact ∙ ap (λ (u : Tree). last u c.args.dir 0 c.args.part.now Kept) c.requires.tree in
-    ((refl, tt), (c.last-kept.ensures.tree ∙ c.requires.tree, (c.requires.sound, (fit, (named, (c.requires.covered, (c.requires.living, kept_above t c.args.dir c.args.part.now kept is)))))))
+    let is : kept ≡ last t c.args.dir 0 c.args.part.now Kept = c.last-kept.ensures.exact ∙
+    ap (λ (u : Tree). last u c.args.dir 0 c.args.part.now Kept) c.requires.tree in (
+      (refl, tt),
+      (
+        c.last-kept.ensures.tree ∙ c.requires.tree,
+        (c.requires.sound, (fit, (named, (c.requires.covered, (c.requires.living, kept_above t c.args.dir c.args.part.now kept is))))),
+      ),
+    )
 
 pub calls_on-requires : goal.calls_on-requires
 calls_on-requires g c κs =
@@ -49,7 +49,7 @@ returns-clause-exact g c = λ call.
     let t : Tree = a.seen.tree in
     let is : c.last-kept.result ≡ last t c.args.dir 0 c.args.part.now Kept =
     c.last-kept.ensures.exact ∙ ap (λ (u : Tree). last u c.args.dir 0 c.args.part.now Kept) c.requires.tree in
-    c.calls_on.ensures.exact call ∙ ap (λ (x : Result Found Errno). is_allowed (verdict_of t a.table (history_of a.process) call x)) is
+    c.calls_on.ensures.exact call ∙ ap (λ (x : Result Found Errno). is_allowed (verdict_of t a.table (plain_history a.process) call x)) is
 
 -- the looks at the tree
 

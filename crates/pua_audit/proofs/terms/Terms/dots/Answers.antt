@@ -1,13 +1,8 @@
-use Rattle.std.proofs.Common.{◌≡◌, ◌≢◌, ◌<◌, ◌+◌, ℕ, Bool, true, false, not, List, [], ◌∷◌, ◌++◌, length, get_or, inl, inr, arith}
-use Rattle.std.proofs.Common.{refl, sym, subst}
-use Rattle.std.specs.List.{AllByRecursion}
-use Rattle.std.proofs.lemmas.Bool.{cases_eq, false≢true}
+use Rattle.pua_audit.proofs.Common.{◌≡◌, ◌≢◌, ◌<◌, ◌+◌, ℕ, Bool, true, false, not, List, [], ◌∷◌, ◌++◌, length, get_or, inl, inr, arith}
+use Rattle.pua_audit.proofs.Common.{refl, sym, subst, AllByRecursion, cases_eq, false≢true, Part, Dot, IsApart, is_dots, all_pushed}
 use Rattle.std.proofs.lemmas.List.{get_or_read}
-use Rattle.pua_path.specs.declared.found.Part.{Part}
-use Rattle.pua_path.specs.declared.found.Part.TheVariants.{Dot}
-use Rattle.pua_audit.specs.Spots.{IsApart, is_dots}
 use Rattle.pua_audit.proofs.terms.Terms.dots.Goals as goal
-use Rattle.pua_steps.proofs.ForCallers.{all_front, all_pushed}
+use Rattle.pua_steps.proofs.ForCallers.{all_front}
 
 not_true : (b : Bool) → not b ≡ true → b ≡ false
 not_true true e = absurd (false≢true e)
@@ -48,7 +43,7 @@ pub loop-place-preserved : goal.loop-place-preserved
 loop-place-preserved c =
     let letters : List Part = c.args.self.now.letters.items in
     let l = c.loop-place in
-    let items = c.in-Ok.ensures.items in
+    let items = c.in_ok-push.ensures.items in
     let inside : l.place < length letters = omega (arith, c.len-place-end.ensures, c.loop-place-test.true) in
     record {
       within = subst (AllByRecursion (λ letter. letter < length letters)) (sym items)

@@ -1,7 +1,4 @@
-use Rattle.std.proofs.Common.{◌≡◌, ◌<◌, ℕ, false, length, get_or}
-use Rattle.std.specs.List.{AllByRecursion}
-use Rattle.pua_path.specs.declared.found.Part.TheVariants.{Dot}
-use Rattle.pua_audit.specs.Spots.{IsApart, is_dots}
+use Rattle.pua_audit.proofs.Common.{◌≡◌, ◌<◌, ℕ, false, length, get_or, AllByRecursion, Dot, IsApart, is_dots}
 use Rattle.pua_audit.proofs.terms.Terms.dots.Given as goal
 
 abbrev pub invariant-loop-place : goal.invariant-loop-place

@@ -1,26 +1,9 @@
-use Rattle.std.proofs.Common.{◌≡◌, ◌∙◌, ℕ, List, [], Bool, not, ◌&&◌, ◌||◌, Option, get_or, refl, sym, ap, subst, arith}
-use Rattle.std.specs.Prelude.{IfOk, IfSome, Result}
-use Rattle.std.proofs.lemmas.Grind.{common_steps}
-use Rattle.pua_tree.specs.Tree.{Tree}
-use Rattle.pua_path.specs.Bounds.{part_cost}
-use Rattle.pua_path.specs.Fits.{FoundFits, FoundsFit, StandsAsNamed}
-use Rattle.pua_path.specs.Paths.{part_of}
-use Rattle.pua_path.specs.Resolution.{follow, last}
-use Rattle.pua_path.specs.declared.errno.Errno.{Errno}
-use Rattle.pua_path.specs.declared.found.Found.{Found}
-use Rattle.pua_path.specs.declared.found.Last.TheVariants.{Followed, Kept}
-use Rattle.pua_path.specs.declared.found.Part.{Part}
-use Rattle.pua_path.specs.declared.found.Part.TheVariants.{Dot}
-use Rattle.pua_calls.specs.Calls.{last_of}
-use Rattle.pua_calls.specs.CallSets.{has, keeps_link}
-use Rattle.pua_policy.specs.Descent.{cover_in}
-use Rattle.pua_policy.specs.History.{History}
-use Rattle.pua_policy.specs.Verdict.{verdict_of, is_allowed}
-use Rattle.pua_calls.specs.declared.call.Call.{Call}
-use Rattle.pua_audit.specs.Past.{history_of}
-use Rattle.pua_audit.specs.Ready.{judge_in, letters_of}
-use Rattle.pua_audit.specs.Entries.{links_of, found_of, leads_to, allowed_kept, allowed_near, allowed_far}
-use Rattle.pua_audit.specs.Table.{IsLetter}
+use Rattle.pua_audit.proofs.Common.{◌≡◌, ◌∙◌, ℕ, List, [], Bool, not, ◌&&◌, ◌||◌, Option, get_or, refl, sym, ap, subst, arith, IfOk, IfSome}
+use Rattle.pua_audit.proofs.Common.{Result, common_steps, Tree, part_cost, FoundsFit, StandsAsNamed, part_of, follow, last, Errno, Found}
+use Rattle.pua_audit.proofs.Common.{Followed, Kept, Part, Dot, last_of, has, keeps_link, cover_in, History, verdict_of, is_allowed, Call}
+use Rattle.pua_audit.proofs.Common.{plain_history, judge_in, letters_of, links_of, found_of, leads_to, allowed_kept, allowed_near}
+use Rattle.pua_audit.proofs.Common.{allowed_far, IsLetter}
+use Rattle.pua_path.specs.Fits.{FoundFits}
 use Rattle.pua_audit.proofs.Covers.{covered_lead, founds_are, founds_of, named_above}
 use Rattle.pua_audit.proofs.Letters.{letter_part}
 use Rattle.pua_audit.proofs.Told.{letter_told, by_both, by_kept}
@@ -32,51 +15,108 @@ cover_of-cover-requires g c κs =
     let r : Result (Found × ℕ) Errno = c.follow.result in
     let found : Result Found Errno = c.counted-followed.result.0 in
     let is : found ≡ found_of r = c.counted-followed.ensures.found in
-    let followed : r ≡ follow t c.args.dir c.part-part.result = c.follow.ensures.exact ∙ ap (λ (u : Tree). follow u c.args.dir c.part-part.result) c.requires.tree in
-    let fit : FoundsFit t found = subst (FoundsFit t) (sym is) (founds_of t r (subst (λ (u : Tree). IfOk r (λ object. FoundFits u object.0)) c.requires.tree c.follow.ensures.fits)) in
+    let followed : r ≡ follow t c.args.dir c.part-part.result = c.follow.ensures.exact ∙
+    ap (λ (u : Tree). follow u c.args.dir c.part-part.result) c.requires.tree in
+    let fit : FoundsFit t found =
+    subst (FoundsFit t) (sym is)
+    (founds_of t r (subst (λ (u : Tree). IfOk r (λ object. FoundFits u object.0)) c.requires.tree c.follow.ensures.fits)) in
     let named : IfOk found (StandsAsNamed t) =
-    subst (λ (f : Result Found Errno). IfOk f (StandsAsNamed t)) (sym is) (founds_are (StandsAsNamed t) r (subst (λ (u : Tree). IfOk r (λ object. StandsAsNamed u object.0)) c.requires.tree c.follow.ensures.named)) in
-    ((refl, tt), (c.follow.ensures.tree ∙ c.requires.tree, (c.requires.sound, (fit, (named, (c.requires.covered, (c.requires.living, named_above t c.args.dir c.part-part.result found (is ∙ ap found_of followed))))))))
+    subst (λ (f : Result Found Errno). IfOk f (StandsAsNamed t)) (sym is)
+    (founds_are (StandsAsNamed t) r (subst (λ (u : Tree). IfOk r (λ object. StandsAsNamed u object.0)) c.requires.tree
+    c.follow.ensures.named)) in (
+      (refl, tt),
+      (
+        c.follow.ensures.tree ∙ c.requires.tree,
+        (
+          c.requires.sound,
+          (
+            fit,
+            (
+              named,
+              (
+                c.requires.covered,
+                (c.requires.living, named_above t c.args.dir c.part-part.result found (is ∙ ap found_of followed)),
+              ),
+            ),
+          ),
+        ),
+      ),
+    )
 
 pub calls_kept-far-requires : goal.calls_kept-far-requires
 calls_kept-far-requires g c κs =
-    let followed = c.follow.ensures.exact ∙ ap (λ (u : Tree). follow u c.args.dir c.part-part.result) c.requires.tree in
-    ((refl, tt), (c.calls_on-near.ensures.tree ∙ c.cover_of-cover.ensures.tree ∙ c.follow.ensures.tree ∙ c.requires.tree, (c.requires.sound, (c.requires.living, (c.requires.covered, (c.counted-followed.ensures.found ∙ ap found_of followed, (c.counted-followed.ensures.links ∙ ap links_of followed, c.calls_on-near.ensures.exact)))))))
+    let followed = c.follow.ensures.exact ∙ ap (λ (u : Tree). follow u c.args.dir c.part-part.result) c.requires.tree in (
+      (refl, tt),
+      (
+        c.calls_on-near.ensures.tree ∙ c.cover_of-cover.ensures.tree ∙ c.follow.ensures.tree ∙ c.requires.tree,
+        (
+          c.requires.sound,
+          (
+            c.requires.living,
+            (
+              c.requires.covered,
+              (
+                c.counted-followed.ensures.found ∙ ap found_of followed,
+                (c.counted-followed.ensures.links ∙ ap links_of followed, c.calls_on-near.ensures.exact),
+              ),
+            ),
+          ),
+        ),
+      ),
+    )
 
 pub returns-clause-exact : goal.returns-clause-exact
 returns-clause-exact g c =
     let a = c.args.self.now in
     let t : Tree = a.seen.tree in
-    let h : History = history_of a.process in
+    let h : History = plain_history a.process in
     let dir : ℕ = c.args.dir in
     let letter : List ℕ = get_or (letters_of a) c.args.letter [] in
     let r : Result (Found × ℕ) Errno = follow t dir (part_of letter) in
     let at : c.part-part.result ≡ get_or a.letters.items c.args.letter Dot = grind (arith, common_steps) in
-    let part : c.part-part.result ≡ part_of letter = at ∙ sym (letter_part a.letters.items c.args.letter Dot c.requires.sound.parts c.requires.letter) in
-    let followed : c.follow.result ≡ r = c.follow.ensures.exact ∙ ap (λ (u : Tree). follow u dir c.part-part.result) c.requires.tree ∙ ap (follow t dir) part in
+    let part : c.part-part.result ≡ part_of letter = at ∙
+    sym (letter_part a.letters.items c.args.letter Dot c.requires.sound.parts c.requires.letter) in
+    let followed : c.follow.result ≡ r = c.follow.ensures.exact ∙ ap (λ (u : Tree). follow u dir c.part-part.result) c.requires.tree ∙
+    ap (follow t dir) part in
     let found : c.counted-followed.result.0 ≡ found_of r = c.counted-followed.ensures.found ∙ ap found_of followed in
     let links : c.counted-followed.result.1 ≡ links_of r = c.counted-followed.ensures.links ∙ ap links_of followed in
-    let on = λ (call : Call). c.calls_on-near.ensures.exact call ∙ ap (λ (x : Result Found Errno). is_allowed (verdict_of t a.table h call x)) found in
-    let on_kept = λ (call : Call). c.calls_kept-far.ensures.exact call ∙ ap (λ (p : Part). is_allowed (verdict_of t a.table h call (last t dir 0 p Kept))) part in
+    let on = λ (call : Call). c.calls_on-near.ensures.exact call ∙
+    ap (λ (x : Result Found Errno). is_allowed (verdict_of t a.table h call x)) found in
+    let on_kept = λ (call : Call). c.calls_kept-far.ensures.exact call ∙
+    ap (λ (p : Part). is_allowed (verdict_of t a.table h call (last t dir 0 p Kept))) part in
     let near : (call : Call) → has c.union-all.result call ≡ allowed_near t a.table h dir letter r call =
-    λ call. c.union-all.ensures call ∙ ap (λ b. b || has c.keeping.result call) (c.following.ensures call) ∙ ap (λ b. (has c.calls_on-near.result call && not (keeps_link call)) || b) (c.keeping.ensures call)
+    λ call. c.union-all.ensures call ∙ ap (λ b. b || has c.keeping.result call) (c.following.ensures call) ∙
+    ap (λ b. (has c.calls_on-near.result call && not (keeps_link call)) || b) (c.keeping.ensures call)
     ∙ by_both (last_of call) (has c.calls_on-near.result call) (has c.calls_kept-far.result call)
     ∙ ap (λ (b : Bool). elim (last_of call) [ Followed ↦ b | Kept ↦ has c.calls_kept-far.result call ]) (on call)
-    ∙ ap (λ (b : Bool). elim (last_of call) [ Followed ↦ is_allowed (verdict_of t a.table h call (found_of r)) | Kept ↦ b ]) (on_kept call) in
+    ∙ ap (λ (b : Bool). elim (last_of call) [ Followed ↦ is_allowed (verdict_of t a.table h call (found_of r)) | Kept ↦ b ]) (on_kept call)
+    in
     let far : (call : Call) → has c.keeping-2.result call ≡ allowed_far t a.table h dir letter call =
-    λ call. c.keeping-2.ensures call ∙ ap (λ b. b && keeps_link call) (near call) ∙ by_kept (last_of call) (is_allowed (verdict_of t a.table h call (found_of r))) (allowed_kept t a.table h dir letter call) in
+    λ call. c.keeping-2.ensures call ∙ ap (λ b. b && keeps_link call) (near call) ∙
+    by_kept (last_of call) (is_allowed (verdict_of t a.table h call (found_of r))) (allowed_kept t a.table h dir letter call) in
     let told = letter_told t a.table a.base h dir letter c.union-all.result c.keeping-2.result near far in
     subst (λ (n : ℕ). IsLetter (judge_in a) dir letter c.union-all.result c.keeping-2.result n c.directory_of.result) (sym links)
-    (subst (λ (o : Option ℕ). IsLetter (judge_in a) dir letter c.union-all.result c.keeping-2.result (links_of r) o) (sym (c.directory_of.ensures ∙ ap leads_to found)) told)
+    (subst (λ (o : Option ℕ). IsLetter (judge_in a) dir letter c.union-all.result c.keeping-2.result (links_of r) o)
+    (sym (c.directory_of.ensures ∙ ap leads_to found)) told)
 
 pub returns-clause-covered : goal.returns-clause-covered
 returns-clause-covered g c =
     let a = c.args.self.now in
-    let h : History = history_of a.process in
+    let h : History = plain_history a.process in
     let fit : FoundsFit a.seen.tree c.counted-followed.result.0 =
-    subst (FoundsFit a.seen.tree) (sym c.counted-followed.ensures.found) (founds_of a.seen.tree c.follow.result (subst (λ (u : Tree). IfOk c.follow.result (λ found. FoundFits u found.0)) c.requires.tree c.follow.ensures.fits)) in
+    subst (FoundsFit a.seen.tree) (sym c.counted-followed.ensures.found)
+    (founds_of a.seen.tree c.follow.result (subst (λ (u : Tree). IfOk c.follow.result (λ found. FoundFits u found.0)) c.requires.tree
+    c.follow.ensures.fits)) in
     subst (λ (o : Option ℕ). IfSome o (λ to. c.cover_of-cover.result ≡ cover_in a.seen.tree h to)) (sym c.directory_of.ensures)
-    (covered_lead a.seen.tree h c.requires.sound.tree c.counted-followed.result.0 c.cover_of-cover.result fit c.cover_of-cover.ensures.exact)
+    (covered_lead a.seen.tree h c.requires.sound.tree c.counted-followed.result.0 c.cover_of-cover.result fit
+    c.cover_of-cover.ensures.exact)
 
 pub returns-clause-cost : goal.returns-clause-cost
-returns-clause-cost g c = omega (arith, c.follow.ensures.cost, c.cover_of-cover.ensures.cost, c.calls_on-near.ensures.cost, c.calls_kept-far.ensures.cost, ap part_cost c.requires.tree)
+returns-clause-cost g c = omega (
+  arith,
+  c.follow.ensures.cost,
+  c.cover_of-cover.ensures.cost,
+  c.calls_on-near.ensures.cost,
+  c.calls_kept-far.ensures.cost,
+  ap part_cost c.requires.tree,
+)

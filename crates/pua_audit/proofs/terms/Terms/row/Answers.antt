@@ -1,16 +1,12 @@
-use Rattle.std.proofs.Common.{◌≡◌, ◌<◌, ◌^◌, ◌∙◌, ℕ, suc, List, length, arith, refl, sym, subst, add-one, suc-mul}
-use Rattle.std.proofs.lemmas.List.{length-map}
-use Rattle.pua_audit.specs.Bounds.{letter_cost}
-use Rattle.pua_audit.specs.Past.{history_of}
-use Rattle.pua_audit.specs.Ready.{part_bytes, judge_in, letters_of}
-use Rattle.pua_audit.specs.Rows.{IsRow}
+use Rattle.pua_audit.proofs.Common.{◌≡◌, ◌<◌, ◌^◌, ◌∙◌, ℕ, suc, List, length, arith, refl, sym, subst, add-one, length-map, letter_cost}
+use Rattle.pua_audit.proofs.Common.{plain_history, part_bytes, judge_in, letters_of, IsJudgedRow, call_count}
+use Rattle.std.proofs.Common.{suc-mul}
 use Rattle.pua_audit.specs.Spots.{AreLettersIn}
 use Rattle.pua_audit.proofs.Costs.{letters_within}
 use Rattle.pua_audit.proofs.Gaps.{letters_bare, row_started, row_further}
 use Rattle.pua_audit.proofs.Lists.{IsReached, places_few, reached_all}
 use Rattle.pua_audit.proofs.Moves.{all_at_index}
 use Rattle.pua_audit.proofs.Rowed.{grown_itself, grown_further}
-use Rattle.pua_steps.specs.Limits.{call_count}
 use Rattle.pua_audit.proofs.terms.Terms.row.Goals as goal
 
 pub loop-letter-init : goal.loop-letter-init
@@ -19,12 +15,15 @@ loop-letter-init g c =
     let s = c.args.spots.now in
     let missing : ℕ = c.within-within.result.missing in
     let ns : List ℕ = c.deref-letter-items.result.now in
-    let among : AreLettersIn c.args.dir s.dots.items s.names.items ns = subst (AreLettersIn c.args.dir s.dots.items s.names.items) (sym c.deref-letter-items.ensures.value) c.in_ok-letters.ensures in
-    let bare = letters_bare a c.args.dir missing s.dots.items s.names.items ns c.requires.sound c.requires.living (c.within-within.ensures c.args.dir c.requires.living c.requires.over).missing c.requires.spots among in
+    let among : AreLettersIn c.args.dir s.dots.items s.names.items ns =
+    subst (AreLettersIn c.args.dir s.dots.items s.names.items) (sym c.deref-letter-items.ensures.value) c.in_ok-letters.ensures in
+    let bare = letters_bare a c.args.dir missing s.dots.items s.names.items ns c.requires.sound c.requires.living
+    (c.within-within.ensures c.args.dir c.requires.living c.requires.over).missing c.requires.spots among in
     record {
       row = λ n low reached.
-          subst (IsRow (judge_in a) (letters_of a) c.args.dirs.now.numbers c.args.dir n missing) (sym c.new-entries.ensures.items)
-          (row_started (judge_in a) (letters_of a) c.args.dir missing ns bare c.args.dirs.now.numbers (subst (λ m. m < 2 ^ call_count) c.bits-missing.ensures.number c.bits-missing.ensures.calls) n low reached);
+          subst (IsJudgedRow (judge_in a) (letters_of a) c.args.dirs.now.numbers c.args.dir n missing) (sym c.new-entries.ensures.items)
+          (row_started (judge_in a) (letters_of a) c.args.dir missing ns bare c.args.dirs.now.numbers
+          (subst (λ m. m < 2 ^ call_count) c.bits-missing.ensures.number c.bits-missing.ensures.calls) n low reached);
       grown = grown_itself c.args.dirs.now.numbers;
       living = c.requires.dirs;
       covered = c.requires.covers;
@@ -37,10 +36,29 @@ letter-found-requires g c κs =
     let a = c.args.self.now in
     let s = c.args.spots.now in
     let ns : List ℕ = c.deref-letter-items.result.now in
-    let among : AreLettersIn c.args.dir s.dots.items s.names.items ns = subst (AreLettersIn c.args.dir s.dots.items s.names.items) (sym c.deref-letter-items.ensures.value) c.in_ok-letters.ensures in
+    let among : AreLettersIn c.args.dir s.dots.items s.names.items ns =
+    subst (AreLettersIn c.args.dir s.dots.items s.names.items) (sym c.deref-letter-items.ensures.value) c.in_ok-letters.ensures in
     let many : length (letters_of a) ≡ length a.letters.items = length-map a.letters.items part_bytes in
-    let at = all_at_index (λ n. n < length (letters_of a)) ns 0 (among.within (length (letters_of a)) c.requires.spots.dotted c.requires.spots.within) c.loop-letter.letter-index c.loop-letter-test.true in
-    ((refl, tt), (c.loop-letter.invariant.tree, (c.requires.sound, (c.requires.living, (omega (arith, at, many), (c.within-within.ensures c.args.dir c.requires.living c.requires.over, c.loop-letter.invariant.covered))))))
+    let at = all_at_index (λ n. n < length (letters_of a)) ns 0 (among.within (length (letters_of a)) c.requires.spots.dotted
+    c.requires.spots.within) c.loop-letter.letter-index c.loop-letter-test.true in (
+      (refl, tt),
+      (
+        c.loop-letter.invariant.tree,
+        (
+          c.requires.sound,
+          (
+            c.requires.living,
+            (
+              omega (arith, at, many),
+              (
+                c.within-within.ensures c.args.dir c.requires.living c.requires.over,
+                c.loop-letter.invariant.covered,
+              ),
+            ),
+          ),
+        ),
+      ),
+    )
 
 pub returns-in_err-put-clause-cost : goal.returns-in_err-put-clause-cost
 returns-in_err-put-clause-cost g c =
@@ -48,10 +66,18 @@ returns-in_err-put-clause-cost g c =
     let s = c.args.spots.now in
     let l = c.loop-letter in
     let ns : List ℕ = c.deref-letter-items.result.now in
-    let among : AreLettersIn c.args.dir s.dots.items s.names.items ns = subst (AreLettersIn c.args.dir s.dots.items s.names.items) (sym c.deref-letter-items.ensures.value) c.in_ok-letters.ensures in
+    let among : AreLettersIn c.args.dir s.dots.items s.names.items ns =
+    subst (AreLettersIn c.args.dir s.dots.items s.names.items) (sym c.deref-letter-items.ensures.value) c.in_ok-letters.ensures in
     let many : length (letters_of a) ≡ length a.letters.items = length-map a.letters.items part_bytes in
-    let few = places_few ns (length (letters_of a)) among.rise (among.within (length (letters_of a)) c.requires.spots.dotted c.requires.spots.within) (suc l.letter-index) (omega (arith, c.loop-letter-test.true)) in
-    omega (arith, l.invariant.cost, c.letter-found.ensures.cost, suc-mul l.letter-index (letter_cost a.seen.tree), letters_within a.seen.tree (length a.letters.items) (suc l.letter-index) (omega (arith, few, many)))
+    let few = places_few ns (length (letters_of a)) among.rise (among.within (length (letters_of a)) c.requires.spots.dotted
+    c.requires.spots.within) (suc l.letter-index) (omega (arith, c.loop-letter-test.true)) in
+    omega (
+      arith,
+      l.invariant.cost,
+      c.letter-found.ensures.cost,
+      suc-mul l.letter-index (letter_cost a.seen.tree),
+      letters_within a.seen.tree (length a.letters.items) (suc l.letter-index) (omega (arith, few, many)),
+    )
 
 pub loop-letter-preserved : goal.loop-letter-preserved
 loop-letter-preserved g c =
@@ -61,15 +87,19 @@ loop-letter-preserved g c =
     let k : ℕ = l.letter-index in
     let missing : ℕ = c.within-within.result.missing in
     let ns : List ℕ = c.deref-letter-items.result.now in
-    let among : AreLettersIn c.args.dir s.dots.items s.names.items ns = subst (AreLettersIn c.args.dir s.dots.items s.names.items) (sym c.deref-letter-items.ensures.value) c.in_ok-letters.ensures in
-    let bare = letters_bare a c.args.dir missing s.dots.items s.names.items ns c.requires.sound c.requires.living (c.within-within.ensures c.args.dir c.requires.living c.requires.over).missing c.requires.spots among in
+    let among : AreLettersIn c.args.dir s.dots.items s.names.items ns =
+    subst (AreLettersIn c.args.dir s.dots.items s.names.items) (sym c.deref-letter-items.ensures.value) c.in_ok-letters.ensures in
+    let bare = letters_bare a c.args.dir missing s.dots.items s.names.items ns c.requires.sound c.requires.living
+    (c.within-within.ensures c.args.dir c.requires.living c.requires.over).missing c.requires.spots among in
     record {
       row = λ n low reached.
-          row_further (judge_in a) (letters_of a) c.args.dir missing ns bare l.dirs.numbers c.put.new.dirs.numbers l.entries.items c.put.new.entries.items k c.loop-letter-test.true among.rise l.invariant.row
-          (c.in_ok-put.ensures.row (judge_in a) (letters_of a) c.args.dir c.letter-found.ensures.exact) n low (subst (λ j. IsReached ns j n) (add-one k) reached);
+          row_further (judge_in a) (letters_of a) c.args.dir missing ns bare l.dirs.numbers c.put.new.dirs.numbers l.entries.items
+          c.put.new.entries.items k c.loop-letter-test.true among.rise l.invariant.row
+          (c.in_ok-put.ensures.row (judge_in a) (letters_of a) c.args.dir c.letter-found.ensures.exact) n low
+          (subst (λ j. IsReached ns j n) (add-one k) reached);
       grown = grown_further c.args.dirs.now.numbers l.dirs.numbers c.put.new.dirs.numbers l.invariant.grown c.in_ok-put.ensures.grown;
       living = c.in_ok-put.ensures.living a.seen.tree c.letter-found.ensures.lives l.invariant.living;
-      covered = c.in_ok-put.ensures.covered a.seen.tree (history_of a.process) c.letter-found.ensures.covered l.invariant.covered;
+      covered = c.in_ok-put.ensures.covered a.seen.tree (plain_history a.process) c.letter-found.ensures.covered l.invariant.covered;
       tree = c.letter-found.ensures.tree ∙ l.invariant.tree;
       cost = omega (arith, l.invariant.cost, c.letter-found.ensures.cost, suc-mul k (letter_cost a.seen.tree));
     }
@@ -80,12 +110,16 @@ returns-clause-row g c =
     let s = c.args.spots.now in
     let l = c.loop-letter in
     let ns : List ℕ = c.deref-letter-items.result.now in
-    let among : AreLettersIn c.args.dir s.dots.items s.names.items ns = subst (AreLettersIn c.args.dir s.dots.items s.names.items) (sym c.deref-letter-items.ensures.value) c.in_ok-letters.ensures in
+    let among : AreLettersIn c.args.dir s.dots.items s.names.items ns =
+    subst (AreLettersIn c.args.dir s.dots.items s.names.items) (sym c.deref-letter-items.ensures.value) c.in_ok-letters.ensures in
     let many : length (letters_of a) ≡ length a.letters.items = length-map a.letters.items part_bytes in
     let whole : l.letter-index ≡ length ns = omega (arith, c.loop-letter-test.false, l.auto.letter-index-end) in
-    let reached = reached_all ns (length (letters_of a)) l.letter-index (among.within (length (letters_of a)) c.requires.spots.dotted c.requires.spots.within) whole in
-    subst (λ (m : ℕ). IsRow (judge_in a) (letters_of a) l.dirs.numbers c.args.dir (length a.letters.items) m l.entries.items) (sym c.bits-missing.ensures.number)
-    (subst (λ (n : ℕ). IsRow (judge_in a) (letters_of a) l.dirs.numbers c.args.dir n c.within-within.result.missing l.entries.items) many (l.invariant.row (length (letters_of a)) (omega arith) reached))
+    let reached = reached_all ns (length (letters_of a)) l.letter-index (among.within (length (letters_of a)) c.requires.spots.dotted
+    c.requires.spots.within) whole in
+    subst (λ (m : ℕ). IsJudgedRow (judge_in a) (letters_of a) l.dirs.numbers c.args.dir (length a.letters.items) m l.entries.items)
+    (sym c.bits-missing.ensures.number)
+    (subst (λ (n : ℕ). IsJudgedRow (judge_in a) (letters_of a) l.dirs.numbers c.args.dir n c.within-within.result.missing l.entries.items)
+    many (l.invariant.row (length (letters_of a)) (omega arith) reached))
 
 pub returns-clause-cost : goal.returns-clause-cost
 returns-clause-cost g c =
@@ -93,7 +127,9 @@ returns-clause-cost g c =
     let s = c.args.spots.now in
     let l = c.loop-letter in
     let ns : List ℕ = c.deref-letter-items.result.now in
-    let among : AreLettersIn c.args.dir s.dots.items s.names.items ns = subst (AreLettersIn c.args.dir s.dots.items s.names.items) (sym c.deref-letter-items.ensures.value) c.in_ok-letters.ensures in
+    let among : AreLettersIn c.args.dir s.dots.items s.names.items ns =
+    subst (AreLettersIn c.args.dir s.dots.items s.names.items) (sym c.deref-letter-items.ensures.value) c.in_ok-letters.ensures in
     let many : length (letters_of a) ≡ length a.letters.items = length-map a.letters.items part_bytes in
-    let few = places_few ns (length (letters_of a)) among.rise (among.within (length (letters_of a)) c.requires.spots.dotted c.requires.spots.within) l.letter-index (omega (arith, l.auto.letter-index-end)) in
+    let few = places_few ns (length (letters_of a)) among.rise (among.within (length (letters_of a)) c.requires.spots.dotted
+    c.requires.spots.within) l.letter-index (omega (arith, l.auto.letter-index-end)) in
     omega (arith, l.invariant.cost, letters_within a.seen.tree (length a.letters.items) l.letter-index (omega (arith, few, many)))

@@ -1,19 +1,17 @@
-use Rattle.std.proofs.Common.{◌≡◌, ◌≤◌, ◌+◌, ◌*◌, ℕ, length}
-use Rattle.pua_audit.specs.Bounds.{letter_cost, object_cost}
-use Rattle.pua_audit.specs.Covers.{AreCovered}
-use Rattle.pua_audit.specs.Past.{history_of}
-use Rattle.pua_audit.specs.Ready.{judge_in, letters_of}
-use Rattle.pua_audit.specs.Rows.{AreLiving, IsGrown, IsRow}
+use Rattle.pua_audit.proofs.Common.{◌≡◌, ◌≤◌, ◌+◌, ◌*◌, ℕ, length, letter_cost, object_cost, AreCovered, plain_history, judge_in}
+use Rattle.pua_audit.proofs.Common.{letters_of, AreLiving, IsGrown, IsJudgedRow}
 use Rattle.pua_audit.proofs.Lists.{IsReached}
 use Rattle.pua_audit.proofs.terms.Terms.row.Given as goal
 
 -- the row has all letters before the next one that is looked up
 abbrev pub invariant-loop-letter : goal.invariant-loop-letter
 invariant-loop-letter g l = record {
-  row : (n : ℕ) → n ≤ length (letters_of l.self) → IsReached l.letter-items l.letter-index n → IsRow (judge_in l.self) (letters_of l.self) l.dirs.numbers l.dir n l.within.missing l.entries.items;
+  row : (n : ℕ) → n ≤ length (letters_of l.self) → IsReached l.letter-items l.letter-index n →
+      IsJudgedRow (judge_in l.self) (letters_of l.self) l.dirs.numbers l.dir n l.within.missing l.entries.items;
   grown : IsGrown l.fn.dirs.numbers l.dirs.numbers;
   living : AreLiving l.self.seen.tree l.dirs.numbers;
-  covered : AreCovered l.self.seen.tree (history_of l.self.process) l.dirs;
+  covered : AreCovered l.self.seen.tree (plain_history l.self.process) l.dirs;
   tree : g.P.Probe.tree l.probe ≡ l.self.seen.tree;
-  cost : g.P.Probe.count l.probe ≤ g.P.Probe.count l.fn.probe + (object_cost l.self.seen.tree + l.letter-index * letter_cost l.self.seen.tree);
+  cost : g.P.Probe.count l.probe ≤ g.P.Probe.count l.fn.probe
+      + (object_cost l.self.seen.tree + l.letter-index * letter_cost l.self.seen.tree);
 }

@@ -1,23 +1,11 @@
-use Rattle.std.proofs.Common.{◌≡◌, ◌<◌, ◌≤◌, ◌∙◌, ◌+◌, ◌*◌, ◌-◌, ℕ, suc, nat_eq, List, [], ◌∷◌, ◌++◌, length, map, get_or, arith, refl}
-use Rattle.std.proofs.Common.{sym, ap, subst}
-use Rattle.std.specs.List.{AllByRecursion}
-use Rattle.std.specs.Prelude.{IsTrue}
-use Rattle.std.proofs.lemmas.List.{length-append, length-map}
-use Rattle.indexmap.specs.IndexSet.{insert_key}
-use Rattle.pua_tree.specs.Tree.{Tree, is_dir}
-use Rattle.pua_policy.specs.Descent.{cover_in}
-use Rattle.pua_policy.specs.History.{History}
-use Rattle.pua_audit.specs.Bounds.{row_cost}
-use Rattle.pua_audit.specs.Covers.{AreCovered, DirectoriesState}
-use Rattle.pua_audit.specs.Judge.{Judge}
-use Rattle.pua_audit.specs.Past.{history_of}
-use Rattle.pua_audit.specs.Ready.{part_bytes, judge_in, letters_of}
-use Rattle.pua_audit.specs.Rows.{AreNumbers, IsRow}
+use Rattle.pua_audit.proofs.Common.{◌≡◌, ◌<◌, ◌≤◌, ◌∙◌, ◌+◌, ◌*◌, ◌-◌, ℕ, suc, nat_eq, List, [], ◌∷◌, ◌++◌, length, map, get_or, arith}
+use Rattle.pua_audit.proofs.Common.{refl, sym, ap, subst, AllByRecursion, IsTrue, length-append, length-map, insert_key, Tree, is_dir}
+use Rattle.pua_audit.proofs.Common.{cover_in, History, row_cost, AreCovered, DirectoriesState, Judge, plain_history, part_bytes, judge_in}
+use Rattle.pua_audit.proofs.Common.{letters_of, AreNumbers, IsJudgedRow, Steps}
 use Rattle.pua_audit.proofs.Costs.{next_within, one_row_more, rows_few, rows_within}
 use Rattle.pua_audit.proofs.Moves.{all_at_index}
 use Rattle.pua_audit.proofs.Made.{AreRows, rows_pushed, table_made, numbers_apart}
 use Rattle.pua_steps.specs.declared.steps.Row.{Row}
-use Rattle.pua_steps.specs.declared.steps.Steps.{Steps}
 use Rattle.pua_audit.proofs.terms.Terms.table.Goals as goal
 
 pub loop-dir-preserved : goal.loop-dir-preserved
@@ -32,12 +20,15 @@ loop-dir-preserved g c =
     let inside : length rows < length l.dirs.numbers = omega (arith, at.0, c.len.ensures) in
     let count : c.len.result ≡ length rows = omega (arith, c.len.ensures) in
     let here : c.in-Some.dir ≡ get_or l.dirs.numbers (length rows) 0 = at.1 ∙ ap (λ (n : ℕ). get_or l.dirs.numbers n 0) count in
-    let last : IsRow (judge_in a) (letters_of a) new (get_or l.dirs.numbers (length rows) 0) (length (letters_of a)) row.missing row.entries.items =
-    subst (λ (n : ℕ). IsRow (judge_in a) (letters_of a) new n (length (letters_of a)) row.missing row.entries.items) here
-    (subst (λ (n : ℕ). IsRow (judge_in a) (letters_of a) new c.in-Some.dir n row.missing row.entries.items) (sym (length-map a.letters.items part_bytes)) c.in_ok-row.ensures.row) in
-    let items : c.push.new.self.items ≡ rows ++ row ∷ [] = c.in-Ok.ensures.items in
+    let last : IsJudgedRow (judge_in a) (letters_of a) new (get_or l.dirs.numbers (length rows) 0) (length (letters_of a)) row.missing
+    row.entries.items =
+    subst (λ (n : ℕ). IsJudgedRow (judge_in a) (letters_of a) new n (length (letters_of a)) row.missing row.entries.items) here
+    (subst (λ (n : ℕ). IsJudgedRow (judge_in a) (letters_of a) new c.in-Some.dir n row.missing row.entries.items)
+    (sym (length-map a.letters.items part_bytes)) c.in_ok-row.ensures.row) in
+    let items : c.push.new.self.items ≡ rows ++ row ∷ [] = c.in_ok-push.ensures.items in
     record {
-      rows = subst (AreRows (judge_in a) (letters_of a) new) (sym items) (rows_pushed (judge_in a) (letters_of a) l.dirs.numbers new rows row grown l.invariant.within l.invariant.rows last inside);
+      rows = subst (AreRows (judge_in a) (letters_of a) new) (sym items) (rows_pushed (judge_in a) (letters_of a) l.dirs.numbers new rows
+          row grown l.invariant.within l.invariant.rows last inside);
       within = omega (arith, ap length items, length-append rows (row ∷ []), inside, grown.more);
       some = omega (arith, l.invariant.some, grown.more);
       first = grown.same 0 l.invariant.some ∙ l.invariant.first;
@@ -47,7 +38,8 @@ loop-dir-preserved g c =
       cost =
           let n : ℕ = length a.letters.items in
           let longer : length c.push.new.self.items ≡ suc (length rows) = omega (arith, ap length items, length-append rows (row ∷ [])) in
-          subst (λ m. g.P.Probe.count c.row.new.probe ≤ g.P.Probe.count c.args.probe.now + suc (m * row_cost a.seen.tree n)) (sym longer) (omega (arith, c.row.ensures.cost, l.invariant.cost, one_row_more a.seen.tree n (length rows)));
+          subst (λ m. g.P.Probe.count c.row.new.probe ≤ g.P.Probe.count c.args.probe.now + suc (m * row_cost a.seen.tree n)) (sym longer)
+          (omega (arith, c.row.ensures.cost, l.invariant.cost, one_row_more a.seen.tree n (length rows)));
     }
 
 pub returns-clause-table : goal.returns-clause-table
@@ -58,32 +50,54 @@ returns-clause-table g c =
     let whole : length l.rows.items ≡ length l.dirs.numbers = omega (arith, c.in_default.ensures.none, c.len.ensures, l.invariant.within) in
     let many : c.len-2.result ≡ length (letters_of a) = omega (arith, c.len-2.ensures, length-map a.letters.items part_bytes) in
     let few : length (letters_of a) < 18446744073709551616 = omega (arith, many, c.len-2.type_inv) in
-    let numbers : AreNumbers l.dirs.numbers = subst (λ (d : DirectoriesState). AreNumbers d.numbers) c.dirs-in-loop-dir.view_is c.dirs-in-loop-dir.invariant in
-    (l.dirs.numbers, (table_made (judge_in a) (letters_of a) l.dirs.numbers t many few whole l.invariant.rows, numbers_apart l.dirs.numbers numbers, l.invariant.some, l.invariant.first))
+    let numbers : AreNumbers l.dirs.numbers =
+    subst (λ (d : DirectoriesState). AreNumbers d.numbers) c.dirs-in-loop-dir.view_is c.dirs-in-loop-dir.invariant in (
+      l.dirs.numbers,
+      (
+        table_made (judge_in a) (letters_of a) l.dirs.numbers t many few whole l.invariant.rows,
+        numbers_apart l.dirs.numbers numbers,
+        l.invariant.some,
+        l.invariant.first,
+      ),
+    )
 
 pub returns-clause-cost : goal.returns-clause-cost
 returns-clause-cost g c =
     let a = c.args.self.now in
     let l = c.loop-dir in
-    let numbers : AreNumbers l.dirs.numbers = subst (λ (d : DirectoriesState). AreNumbers d.numbers) c.dirs-in-loop-dir.view_is c.dirs-in-loop-dir.invariant in
-    let few : length l.rows.items ≤ length a.seen.tree.nodes = omega (arith, l.invariant.within, rows_few a.seen.tree l.dirs.numbers numbers l.invariant.living) in
+    let numbers : AreNumbers l.dirs.numbers =
+    subst (λ (d : DirectoriesState). AreNumbers d.numbers) c.dirs-in-loop-dir.view_is c.dirs-in-loop-dir.invariant in
+    let few : length l.rows.items ≤ length a.seen.tree.nodes =
+    omega (arith, l.invariant.within, rows_few a.seen.tree l.dirs.numbers numbers l.invariant.living) in
     omega (arith, l.invariant.cost, rows_within a.seen.tree (length a.letters.items) (length l.rows.items) few)
 
 pub returns-in_err-row-clause-cost : goal.returns-in_err-row-clause-cost
 returns-in_err-row-clause-cost g c =
     let a = c.args.self.now in
     let l = c.loop-dir in
-    let numbers : AreNumbers l.dirs.numbers = subst (λ (d : DirectoriesState). AreNumbers d.numbers) c.dirs-in-loop-dir.view_is c.dirs-in-loop-dir.invariant in
+    let numbers : AreNumbers l.dirs.numbers =
+    subst (λ (d : DirectoriesState). AreNumbers d.numbers) c.dirs-in-loop-dir.view_is c.dirs-in-loop-dir.invariant in
     let inside : length l.rows.items < length l.dirs.numbers = omega (arith, c.in-Some.ensures.dir.0, c.len.ensures) in
-    omega (arith, c.row.ensures.cost, l.invariant.cost, next_within a.seen.tree (length a.letters.items) (length l.rows.items) l.dirs.numbers numbers l.invariant.living inside)
+    omega (
+      arith,
+      c.row.ensures.cost,
+      l.invariant.cost,
+      next_within a.seen.tree (length a.letters.items) (length l.rows.items) l.dirs.numbers numbers l.invariant.living inside,
+    )
 
-pub returns-in_default-push-clause-cost : goal.returns-in_default-push-clause-cost
-returns-in_default-push-clause-cost g c =
+pub returns-in_err-push-clause-cost : goal.returns-in_err-push-clause-cost
+returns-in_err-push-clause-cost g c =
     let a = c.args.self.now in
     let l = c.loop-dir in
-    let numbers : AreNumbers l.dirs.numbers = subst (λ (d : DirectoriesState). AreNumbers d.numbers) c.dirs-in-loop-dir.view_is c.dirs-in-loop-dir.invariant in
+    let numbers : AreNumbers l.dirs.numbers =
+    subst (λ (d : DirectoriesState). AreNumbers d.numbers) c.dirs-in-loop-dir.view_is c.dirs-in-loop-dir.invariant in
     let inside : length l.rows.items < length l.dirs.numbers = omega (arith, c.in-Some.ensures.dir.0, c.len.ensures) in
-    omega (arith, c.row.ensures.cost, l.invariant.cost, next_within a.seen.tree (length a.letters.items) (length l.rows.items) l.dirs.numbers numbers l.invariant.living inside)
+    omega (
+      arith,
+      c.row.ensures.cost,
+      l.invariant.cost,
+      next_within a.seen.tree (length a.letters.items) (length l.rows.items) l.dirs.numbers numbers l.invariant.living inside,
+    )
 
 -- before the first row
 
@@ -103,7 +117,7 @@ pub loop-dir-init : goal.loop-dir-init
 loop-dir-init g c =
     let a = c.args.self.now in
     let t : Tree = a.seen.tree in
-    let h : History = history_of a.process in
+    let h : History = plain_history a.process in
     let new = c.place.new.self in
     let placed = c.in_ok-place.ensures in
     let alone : new.numbers ≡ c.args.base ∷ [] =
@@ -131,14 +145,14 @@ cover_below t h dirs place other covered same low =
 pub cover_at-over-requires : goal.cover_at-over-requires
 cover_at-over-requires g c =
     let a = c.args.self.now in
-    cover_below a.seen.tree (history_of a.process) c.loop-dir.dirs c.len-in-Some.result c.len.result c.loop-dir.invariant.covered
+    cover_below a.seen.tree (plain_history a.process) c.loop-dir.dirs c.len-in-Some.result c.len.result c.loop-dir.invariant.covered
     (c.len-in-Some.ensures ∙ sym c.len.ensures) c.in-Some.ensures.dir.0
 
 pub row-requires : goal.row-requires
 row-requires g c κs =
     let a = c.args.self.now in
     let t : Tree = a.seen.tree in
-    let h : History = history_of a.process in
+    let h : History = plain_history a.process in
     let l = c.loop-dir in
     let at = c.in-Some.ensures.dir in
     let living : IsTrue (is_dir t c.in-Some.dir) =
@@ -171,7 +185,7 @@ loop-dir-smaller g c =
     let known = c.in-Some.ensures in
     let count : c.len.result ≡ length l.rows.items = omega (arith, c.len.ensures) in
     fewer_left c.len.result (length l.rows.items) (length c.push.new.self.items) (length l.dirs.numbers) count known.dir.0 known.few
-    (one_longer l.rows.items c.push.new.self.items c.in_ok-row.row c.in-Ok.ensures.items)
+    (one_longer l.rows.items c.push.new.self.items c.in_ok-row.row c.in_ok-push.ensures.items)
 
 -- after the last row
 

@@ -1,9 +1,5 @@
-use Rattle.std.proofs.Common.{◌≡◌, ◌<◌, ◌≤◌, ◌+◌, ◌*◌, ◌-◌, suc, length, get_or}
-use Rattle.pua_audit.specs.Bounds.{row_cost}
-use Rattle.pua_audit.specs.Covers.{AreCovered}
-use Rattle.pua_audit.specs.Past.{history_of}
-use Rattle.pua_audit.specs.Ready.{judge_in, letters_of}
-use Rattle.pua_audit.specs.Rows.{AreLiving}
+use Rattle.pua_audit.proofs.Common.{◌≡◌, ◌<◌, ◌≤◌, ◌+◌, ◌*◌, ◌-◌, suc, length, get_or, row_cost, AreCovered, plain_history, judge_in}
+use Rattle.pua_audit.proofs.Common.{letters_of, AreLiving}
 use Rattle.pua_audit.proofs.Made.{AreRows}
 use Rattle.pua_audit.proofs.terms.Terms.table.Given as goal
 
@@ -15,9 +11,10 @@ invariant-loop-dir g l = record {
   some : 0 < length l.dirs.numbers;
   first : get_or l.dirs.numbers 0 0 ≡ l.fn.base;
   living : AreLiving l.self.seen.tree l.dirs.numbers;
-  covered : AreCovered l.self.seen.tree (history_of l.self.process) l.dirs;
+  covered : AreCovered l.self.seen.tree (plain_history l.self.process) l.dirs;
   tree : g.P.Probe.tree l.probe ≡ l.self.seen.tree;
-  cost : g.P.Probe.count l.probe ≤ g.P.Probe.count l.fn.probe + suc (length l.rows.items * row_cost l.self.seen.tree (length l.self.letters.items));
+  cost : g.P.Probe.count l.probe ≤ g.P.Probe.count l.fn.probe
+      + suc (length l.rows.items * row_cost l.self.seen.tree (length l.self.letters.items));
 }
 
 abbrev pub decreases-loop-dir : goal.decreases-loop-dir

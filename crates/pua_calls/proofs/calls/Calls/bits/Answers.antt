@@ -1,4 +1,4 @@
-use Rattle.std.proofs.Common.{rules}
+use Rattle.pua_calls.proofs.Common.{rules}
 use Rattle.pua_calls.proofs.calls.Calls.bits.Goals as goal
 
 pub returns-clause-number : goal.returns-clause-number

@@ -1,4 +1,4 @@
-use Rattle.std.proofs.Common.{rules}
+use Rattle.pua_calls.proofs.Common.{rules}
 use Rattle.pua_calls.proofs.CallBits.{followed_of}
 use Rattle.pua_calls.proofs.calls.Calls.following.Goals as goal
 

@@ -1,4 +1,4 @@
-use Rattle.std.proofs.Common.{rules}
+use Rattle.pua_calls.proofs.Common.{rules}
 use Rattle.pua_calls.proofs.CallBits.{kept_of}
 use Rattle.pua_calls.proofs.calls.Calls.keeping.Goals as goal
 

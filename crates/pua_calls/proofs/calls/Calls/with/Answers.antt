@@ -1,6 +1,5 @@
-use Rattle.std.proofs.Common.{◌≡◌, ◌<◌, ◌-◌, ap, sym, subst, arith, ◌*◌, ◌^◌, ◌%◌}
-use Rattle.std.specs.Prelude.{◌==◌}
-use Rattle.std.proofs.lemmas.Nat.{or_lt}
+use Rattle.pua_calls.proofs.Common.{◌≡◌, ◌<◌, ap, sym, subst, arith, ◌*◌, ◌^◌, ◌==◌, or_lt}
+use Rattle.std.proofs.Common.{◌-◌, ◌%◌}
 use Rattle.std.proofs.lemmas.Nat.Bits.{bit_at_set_same, bit_at_set_other}
 use mir.Syntax.{w16}
 use Rattle.pua_calls.specs.CallSets.{bit_of}
@@ -20,4 +19,5 @@ returns-clause-here c =
 pub returns-clause-others : goal.returns-clause-others
 returns-clause-others c = λ other apart.
     let bit : c.number.result - 1 ≡ bit_of c.args.call = ap (λ n. n - 1) c.number.ensures in
-    rw (bit, c.self.view_is) (ap (λ n. n == 1) (bit_at_set_other w16 c.args.self (bit_of c.args.call) (omega (arith, bit_below c.args.call)) (bit_of other) (λ e. apart (same_bit other c.args.call e))))
+    rw (bit, c.self.view_is) (ap (λ n. n == 1) (bit_at_set_other w16 c.args.self (bit_of c.args.call) (omega (arith, bit_below c.args.call))
+    (bit_of other) (λ e. apart (same_bit other c.args.call e))))

@@ -1,4 +1,4 @@
-use Rattle.std.proofs.Common.{◌≡◌}
+use Rattle.pua_calls.proofs.Common.{◌≡◌}
 use Rattle.pua_calls.specs.Promises.{letter_of, perms_of}
 use Rattle.pua_calls.proofs.Sets.{with_rest}
 use Rattle.pua_calls.proofs.perms.Perms.read.Given as goal

@@ -1,4 +1,4 @@
-use Rattle.std.proofs.Common.{ap, ◌∙◌}
+use Rattle.pua_calls.proofs.Common.{ap, ◌∙◌}
 use Rattle.std.specs.Int.Bits.{bit_xor, and_lt}
 use Rattle.std.proofs.lemmas.Nat.{xor_lt}
 use Rattle.pua_calls.specs.Promises.{lacking}

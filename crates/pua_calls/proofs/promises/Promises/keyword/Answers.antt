@@ -1,5 +1,6 @@
-use Rattle.std.proofs.Common.{◌≡◌, ◌≤◌, ◌∙◌, sym, ap, length, option_map, rules, tests}
-use Rattle.std.specs.Prelude.{Some, slice_get}
+use Rattle.pua_calls.proofs.Common.{◌≡◌, ◌≤◌, ◌∙◌, sym, ap, length, rules, tests, Some}
+use Rattle.std.proofs.Common.{option_map}
+use Rattle.std.specs.Prelude.{slice_get}
 use Rattle.std.proofs.lemmas.Option.{slice_get_read}
 use Rattle.pua_calls.proofs.Keywords.{keyword_past, keyword_there}
 use Rattle.pua_calls.proofs.promises.Promises.keyword.Goals as goal
@@ -15,12 +16,14 @@ returns-in_err-flag c =
 pub returns-then-contains : goal.returns-then-contains
 returns-then-contains c =
     let there : slice_get c.flags.result.now c.args.index ≡ Some c.in_ok-flag.flag.now = search (rules, tests, slice_get_read) in
-    let known : _ = keyword_there (λ flag. (flag.name.now, flag.value.0)) c.flags.result.now c.args.self c.args.index c.in_ok-flag.flag.now (c.flags.ensures tt) there in
+    let known : _ = keyword_there (λ flag. (flag.name.now, flag.value.0)) c.flags.result.now c.args.self c.args.index c.in_ok-flag.flag.now
+    (c.flags.ensures tt) there in
     search (rules, tests)
 
 -- src/promises.rt:335:5
 pub returns-else-contains : goal.returns-else-contains
 returns-else-contains c =
     let there : slice_get c.flags.result.now c.args.index ≡ Some c.in_ok-flag.flag.now = search (rules, tests, slice_get_read) in
-    let known : _ = keyword_there (λ flag. (flag.name.now, flag.value.0)) c.flags.result.now c.args.self c.args.index c.in_ok-flag.flag.now (c.flags.ensures tt) there in
+    let known : _ = keyword_there (λ flag. (flag.name.now, flag.value.0)) c.flags.result.now c.args.self c.args.index c.in_ok-flag.flag.now
+    (c.flags.ensures tt) there in
     search (rules, tests)

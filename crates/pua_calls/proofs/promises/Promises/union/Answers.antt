@@ -1,4 +1,4 @@
-use Rattle.std.proofs.lemmas.Nat.{or_lt}
+use Rattle.pua_calls.proofs.Common.{or_lt}
 use Rattle.pua_calls.proofs.promises.Promises.union.Goals as goal
 
 pub invariant_of-result : goal.invariant_of-result

@@ -1,4 +1,4 @@
-use Rattle.std.proofs.Common.{rules}
+use Rattle.pua_calls.proofs.Common.{rules}
 use Rattle.pua_calls.proofs.table.CallTable.of.Goals as goal
 
 pub returns-in-Openbsd : goal.returns-in-Openbsd

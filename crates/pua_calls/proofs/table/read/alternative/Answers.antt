@@ -1,4 +1,4 @@
-use Rattle.std.proofs.Common.{rules}
+use Rattle.pua_calls.proofs.Common.{rules}
 use Rattle.pua_calls.proofs.TableTexts.{no_error_in}
 use Rattle.pua_calls.proofs.table.read.alternative.Goals as goal
 

@@ -1,5 +1,4 @@
-use Rattle.std.proofs.Common.{◌≡◌, drop}
-use Rattle.toml.specs.View.{items_view}
+use Rattle.pua_calls.proofs.Common.{◌≡◌, drop, items_view}
 use Rattle.pua_calls.specs.TableTexts.{are_texts}
 use Rattle.pua_calls.proofs.table.read.are_texts.Given as goal
 

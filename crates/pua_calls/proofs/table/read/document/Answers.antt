@@ -1,4 +1,4 @@
-use Rattle.std.proofs.Common.{◌∙◌, rules}
+use Rattle.pua_calls.proofs.Common.{◌∙◌, rules}
 use Rattle.pua_calls.proofs.TableTexts.{no_document, text_of}
 use Rattle.pua_calls.proofs.table.read.document.Goals as goal
 

@@ -1,4 +1,4 @@
-use Rattle.std.proofs.Common.{rules}
+use Rattle.pua_calls.proofs.Common.{rules}
 use Rattle.pua_calls.proofs.TableTexts.{keys_in_order}
 use Rattle.pua_calls.proofs.table.read.with_rows.Goals as goal
 

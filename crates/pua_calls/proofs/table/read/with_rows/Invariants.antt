@@ -1,7 +1,6 @@
-use Rattle.std.proofs.Common.{◌≡◌}
+use Rattle.pua_calls.proofs.Common.{◌≡◌, rules_with}
 use Rattle.toml.specs.View.{members_view}
 use Rattle.pua_calls.specs.Tables.{HasPairsOf}
-use Rattle.pua_calls.specs.TableTexts.{rules_with}
 use Rattle.pua_calls.proofs.table.read.with_rows.Given as goal
 
 abbrev pub invariant-loop-key : goal.invariant-loop-key

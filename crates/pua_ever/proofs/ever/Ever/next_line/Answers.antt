@@ -1,8 +1,7 @@
-use Rattle.std.proofs.Common.{◌≡◌, ◌≢◌, [], ◌++◌, sym, ap, subst, ◌∙◌, arith, length, take}
-use Rattle.pua_tree.specs.Tree.{Tree}
+use Rattle.pua_ever.proofs.Common.{◌≡◌, ◌≢◌, [], ◌++◌, sym, ap, subst, ◌∙◌, arith, length, take, Tree, ever_lines_of}
 use Rattle.pua_calls.specs.CallSets.{calls_in}
 use Rattle.pua_objects.proofs.ForCallers.{stays_shared}
-use Rattle.pua_ever.specs.EverLines.{lines_of, IsThing}
+use Rattle.pua_ever.specs.EverLines.{IsThing}
 use Rattle.pua_ever.specs.EverState.{EverState}
 use Rattle.pua_ever.proofs.Lined.{left_out, kept_in, lines_moved}
 use Rattle.pua_ever.proofs.ever.Ever.next_line.Goals as goal
@@ -18,7 +17,7 @@ loop-line-init g c =
       table = ap (λ (s : EverState). s.table) is;
       fewer = omega (arith, ap (λ (s : EverState). length s.left) is);
       shared = ap (λ (s : EverState). take c.share_all.new.self.shared s.word) is;
-      so_far = λ h stands. ap (λ (s : EverState). lines_of old.tree old.table h s.left) (sym is);
+      so_far = λ h stands. ap (λ (s : EverState). ever_lines_of old.tree old.table h s.left) (sym is);
     }
 
 pub returns-then-not-is_empty-clause-of : goal.returns-then-not-is_empty-clause-of
@@ -39,8 +38,9 @@ returns-then-not-is_empty-clause-line g c =
       thing = subst (λ (t : Tree). IsThing t first.about c.in-Some.line.thing) now.tree first.thing;
       lines = λ h stands.
           now.so_far h stands
-          ∙ lines_moved old.tree at.tree old.table at.table old.process at.process now.tree now.table now.process at.left after.left _ first.lines h stands
-          ∙ ap (λ ls. ls ++ lines_of old.tree old.table h after.left) (kept_in after.word first.about c.in-Some.line some);
+          ∙ lines_moved old.tree at.tree old.table at.table old.process at.process now.tree now.table now.process at.left after.left _
+          first.lines h stands
+          ∙ ap (λ ls. ls ++ ever_lines_of old.tree old.table h after.left) (kept_in after.word first.about c.in-Some.line some);
     }
 
 pub returns-then-not-is_empty-clause-fewer : goal.returns-then-not-is_empty-clause-fewer
@@ -62,11 +62,13 @@ loop-line-preserved g c =
       process = c.in-Some.ensures.of.1 ∙ now.process;
       table = c.in-Some.ensures.of.2 ∙ now.table;
       fewer = omega (arith, ap length first.left, now.fewer);
-      shared = stays_shared after.shared c.loop-line.self.shared c.args.self.now.word c.loop-line.self.word after.word c.in-Some.ensures.less c.loop-line.invariant.shared c.in-Some.ensures.shared;
+      shared = stays_shared after.shared c.loop-line.self.shared c.args.self.now.word c.loop-line.self.word after.word
+          c.in-Some.ensures.less c.loop-line.invariant.shared c.in-Some.ensures.shared;
       so_far = λ h stands.
           now.so_far h stands
-          ∙ lines_moved old.tree at.tree old.table at.table old.process at.process now.tree now.table now.process at.left after.left _ first.lines h stands
-          ∙ ap (λ ls. ls ++ lines_of old.tree old.table h after.left) (left_out after.word first.about c.in-Some.line none);
+          ∙ lines_moved old.tree at.tree old.table at.table old.process at.process now.tree now.table now.process at.left after.left _
+          first.lines h stands
+          ∙ ap (λ ls. ls ++ ever_lines_of old.tree old.table h after.left) (left_out after.word first.about c.in-Some.line none);
     }
 
 pub returns-clause-of : goal.returns-clause-of
@@ -77,11 +79,16 @@ returns-clause-of g c =
 pub returns-clause-line : goal.returns-clause-line
 returns-clause-line g c =
     let old = c.args.self.now in
-    let none = c.in_default.ensures.line in
-    (λ h stands. c.loop-line.invariant.so_far h stands ∙ ap (lines_of old.tree old.table h) none.0, λ h stands. ap (lines_of old.tree old.table h) none.1)
+    let none = c.in_default.ensures.line in (
+      λ h stands. c.loop-line.invariant.so_far h stands ∙ ap (ever_lines_of old.tree old.table h) none.0,
+      λ h stands. ap (ever_lines_of old.tree old.table h) none.1,
+    )
 
 pub returns-then-not-is_empty-clause-shared : goal.returns-then-not-is_empty-clause-shared
-returns-then-not-is_empty-clause-shared g c = stays_shared c.next_given.new.self.shared c.loop-line.self.shared c.args.self.now.word c.loop-line.self.word c.next_given.new.self.word c.in-Some.ensures.less c.loop-line.invariant.shared c.in-Some.ensures.shared
+returns-then-not-is_empty-clause-shared g c =
+    stays_shared c.next_given.new.self.shared c.loop-line.self.shared c.args.self.now.word c.loop-line.self.word c.next_given.new.self.word
+    c.in-Some.ensures.less c.loop-line.invariant.shared c.in-Some.ensures.shared
 
 pub returns-clause-shared : goal.returns-clause-shared
-returns-clause-shared g c = stays_shared c.next_given.new.self.shared c.loop-line.self.shared c.args.self.now.word c.loop-line.self.word c.next_given.new.self.word c.in_default.ensures.less c.loop-line.invariant.shared c.in_default.ensures.shared
+returns-clause-shared g c = stays_shared c.next_given.new.self.shared c.loop-line.self.shared c.args.self.now.word c.loop-line.self.word
+    c.next_given.new.self.word c.in_default.ensures.less c.loop-line.invariant.shared c.in_default.ensures.shared

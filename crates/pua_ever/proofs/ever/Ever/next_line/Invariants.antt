@@ -1,6 +1,4 @@
-use Rattle.std.proofs.Common.{◌≡◌, ◌≤◌, length, take}
-use Rattle.pua_policy.specs.History.{History, StandsFor}
-use Rattle.pua_ever.specs.EverLines.{lines_of}
+use Rattle.pua_ever.proofs.Common.{◌≡◌, ◌≤◌, length, take, History, StandsFor, ever_lines_of}
 use Rattle.pua_ever.proofs.ever.Ever.next_line.Given as goal
 
 -- the lines that were left out had no calls
@@ -12,7 +10,7 @@ invariant-loop-line g l = record {
   fewer : length l.self.left ≤ length l.fn.self.left;
   shared : take l.self.shared l.self.word ≡ take l.self.shared l.fn.self.word;
   so_far : (h : History) → StandsFor l.fn.self.process h →
-      lines_of l.fn.self.tree l.fn.self.table h l.fn.self.left ≡ lines_of l.fn.self.tree l.fn.self.table h l.self.left;
+      ever_lines_of l.fn.self.tree l.fn.self.table h l.fn.self.left ≡ ever_lines_of l.fn.self.tree l.fn.self.table h l.self.left;
 }
 
 abbrev pub decreases-loop-line : goal.decreases-loop-line

@@ -1,4 +1,4 @@
-use Rattle.std.proofs.Common.{rules}
+use Rattle.pua_ever.proofs.Common.{rules}
 use Rattle.pua_ever.proofs.ever.Ever.word.Goals as goal
 
 pub returns-in_default : goal.returns-in_default

@@ -1,11 +1,6 @@
-use Rattle.std.proofs.Common.{◌≡◌, refl, sym, ap, subst, ◌∙◌}
-use Rattle.pua_tree.specs.Tree.{look}
-use Rattle.pua_path.specs.declared.found.Found.TheVariants.{Whole, Slot}
-use Rattle.pua_path.specs.declared.found.Way.TheVariants.{Named, Top}
-use Rattle.pua_objects.specs.Items.{SubjectFits, subject_given, object_on, cover_on}
-use Rattle.pua_objects.specs.Objects.{At}
-use Rattle.pua_objects.proofs.ForCallers.{covers_descend}
-use Rattle.pua_ever.specs.Ever.{is_ever_allowed}
+use Rattle.pua_ever.proofs.Common.{◌≡◌, refl, sym, ap, subst, ◌∙◌, look, Whole, Slot, Named, Top, SubjectFits, subject_given, At}
+use Rattle.pua_ever.proofs.Common.{covers_descend, is_ever_allowed}
+use Rattle.pua_objects.specs.Items.{object_on, cover_on}
 use Rattle.pua_ever.proofs.Named.{name_calls}
 use Rattle.pua_ever.proofs.prospects.Prospects.calls_on.Goals as goal
 
@@ -35,7 +30,8 @@ returns-in-Name c = λ t h about well needs stands found fits on call.
     let dir = c.in-Name.field-0 in
     let name = c.in-Name.field-1.now in
     let same : At (Slot dir name (look t dir name)) ≡ about = sym (ap (subject_given t) c.in-Name.is) ∙ on.subject in
-    name_calls t well c.args.table.now h dir name (look t dir name) (subst (SubjectFits t) (sym same) fits) c.args.item.now.object c.args.item.now.cover c.on_name.result
+    name_calls t well c.args.table.now h dir name (look t dir name) (subst (SubjectFits t) (sym same) fits) c.args.item.now.object
+    c.args.item.now.cover c.on_name.result
     (on.object ∙ ap (object_on t) (sym same))
     (on.cover ∙ ap (cover_on t h) (sym same))
     (λ kind seen call. c.on_name.ensures t h kind stands found seen call)

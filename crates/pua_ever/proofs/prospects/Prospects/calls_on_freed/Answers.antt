@@ -1,15 +1,11 @@
-use Rattle.std.proofs.Common.{refl, sym, ap, ◌∙◌}
-use Rattle.std.specs.Prelude.{◌&&◌, is_some}
-use Rattle.std.proofs.lemmas.Bool.{and_from}
-use Rattle.pua_tree.specs.Tree.{Spot, empty_tree}
-use Rattle.pua_policy.specs.Verdict.{IsMissing}
-use Rattle.pua_ever.specs.Ever.{may_edit, is_free, own_spot}
+use Rattle.pua_ever.proofs.Common.{refl, sym, ap, ◌∙◌, ◌&&◌, is_some, and_from, Spot, empty_tree, IsMissing, may_edit, is_free, own_spot}
 use Rattle.pua_ever.proofs.Named.{own_name_is, no_name, not_freed, freed}
 use Rattle.pua_ever.proofs.prospects.Prospects.calls_on_freed.Goals as goal
 
 pub returns-in_default : goal.returns-in_default
 returns-in_default c = λ t h about well stands found fits on.
-    no_name t well c.args.table.now h (own_spot about) (c.in_default.ensures ∙ own_name_is t well c.args.table.now h about c.args.item.now fits on)
+    no_name t well c.args.table.now h (own_spot about) (c.in_default.ensures ∙
+    own_name_is t well c.args.table.now h about c.args.item.now fits on)
 
 pub returns-in_default-kept : goal.returns-in_default-kept
 returns-in_default-kept c = λ t h about well stands found fits on.
@@ -22,7 +18,8 @@ pub returns : goal.returns
 returns c = λ t h about well stands found fits on.
     let table = c.args.table.now in
     let item = c.args.item.now in
-    freed t well table h about (c.in-Some.own.0, c.in-Some.own.1.now) fits (c.in-Some.ensures ∙ own_name_is t well table h about item fits on) item.cover c.in-Some-kept.perms c.allowed.result
+    freed t well table h about (c.in-Some.own.0, c.in-Some.own.1.now) fits (c.in-Some.ensures ∙
+    own_name_is t well table h about item fits on) item.cover c.in-Some-kept.perms c.allowed.result
     on.cover
     (sym (c.in-Some-kept.ensures.history h stands))
     (and_from (may_edit table h) _ (sym found.edits ∙ c.if-not-self.false) (sym c.has_c.ensures ∙ c.if-not-has_c.false))

@@ -1,4 +1,4 @@
-use Rattle.std.proofs.Common.{rules}
+use Rattle.pua_ever.proofs.Common.{rules}
 use Rattle.pua_ever.proofs.prospects.Prospects.moves_dir.Goals as goal
 
 pub returns-then-is_none : goal.returns-then-is_none

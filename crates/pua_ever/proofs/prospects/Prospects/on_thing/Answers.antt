@@ -1,4 +1,4 @@
-use Rattle.std.proofs.Common.{rules}
+use Rattle.pua_ever.proofs.Common.{rules}
 use Rattle.pua_ever.proofs.prospects.Prospects.on_thing.Goals as goal
 
 pub returns-then-has_c : goal.returns-then-has_c

@@ -1,4 +1,4 @@
-use Rattle.std.proofs.Common.{rules}
+use Rattle.pua_io.proofs.Common.{rules}
 use Rattle.pua_io.proofs.inputs.MemoryInputs.new.Goals as goal
 
 pub returns : goal.returns

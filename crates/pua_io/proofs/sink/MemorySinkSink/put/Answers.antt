@@ -1,4 +1,4 @@
-use Rattle.std.proofs.Common.{rules}
+use Rattle.pua_io.proofs.Common.{rules}
 use Rattle.pua_io.proofs.sink.MemorySinkSink.put.Goals as goal
 
 pub returns-then-not-is_empty-clause-rises : goal.returns-then-not-is_empty-clause-rises

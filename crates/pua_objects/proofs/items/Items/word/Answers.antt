@@ -1,4 +1,4 @@
-use Rattle.std.proofs.Common.{rules}
+use Rattle.pua_objects.proofs.Common.{rules}
 use Rattle.pua_objects.proofs.items.Items.word.Goals as goal
 
 pub returns : goal.returns

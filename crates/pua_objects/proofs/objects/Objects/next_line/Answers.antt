@@ -1,9 +1,7 @@
-use Rattle.std.proofs.Common.{◌≡◌, ◌≢◌, [], refl, sym, ap, subst, ◌∙◌, arith, length, take}
-use Rattle.std.proofs.lemmas.List.{length-map}
+use Rattle.pua_objects.proofs.Common.{◌≡◌, ◌≢◌, [], refl, sym, ap, subst, ◌∙◌, arith, length, take, length-map, ProcessState, StandsFor}
+use Rattle.pua_objects.proofs.Common.{lines_of}
 use Rattle.pua_calls.specs.CallSets.{calls_in}
-use Rattle.pua_policy.specs.History.{ProcessState, StandsFor}
 use Rattle.pua_objects.specs.ObjectsState.{ObjectsState}
-use Rattle.pua_objects.specs.Ready.{lines_of}
 use Rattle.pua_objects.proofs.Fronts.{shares_on}
 use Rattle.pua_objects.proofs.Listed.{left_out, kept_in, told_lined}
 use Rattle.pua_objects.proofs.objects.Objects.next_line.Goals as goal
@@ -36,14 +34,18 @@ returns-then-not-is_empty-clause-line g c =
     let line = c.line_of-line.result in
     let some : calls_in line.calls ≢ [] = not_from_Decides c.is_empty.result c.is_empty.ensures c.if-not-is_empty.true in
     let process = c.process-in-Some.ensures ∙ c.in-Some.ensures.of.1 in
-    let on = told_lined old.tree at.items.tree old.process at.items.process old.table at.table now.tree now.process now.table first.subject c.in-Some.item line first.tells
-    (λ h stands told. c.line_of-line.ensures at.items.tree h first.subject (subst (λ (p : ProcessState). StandsFor p h) (sym process) stands) told) in
+    let on = told_lined old.tree at.items.tree old.process at.items.process old.table at.table now.tree now.process now.table first.subject
+    c.in-Some.item line first.tells
+    (λ h stands told. c.line_of-line.ensures at.items.tree h first.subject (subst (λ (p : ProcessState). StandsFor p h) (sym process)
+    stands) told) in
     let history = c.known.ensures.history in
-    let known = subst (λ (p : ProcessState). StandsFor p history) (c.process.ensures ∙ ap (λ (s : ObjectsState). s.process) c.self.view_is) c.known.ensures.stands in
+    let known = subst (λ (p : ProcessState). StandsFor p history) (c.process.ensures ∙ ap (λ (s : ObjectsState). s.process) c.self.view_is)
+    c.known.ensures.stands in
     record {
       subject = first.subject;
       kind = (on history known).kind;
-      lines = λ h stands. now.so_far h stands ∙ ap (lines_of old.tree old.table h) first.left ∙ kept_in old.tree old.table h first.subject line (on h stands) after.word after.left some;
+      lines = λ h stands. now.so_far h stands ∙ ap (lines_of old.tree old.table h) first.left ∙
+          kept_in old.tree old.table h first.subject line (on h stands) after.word after.left some;
     }
 
 pub returns-then-not-is_empty-clause-fewer : goal.returns-then-not-is_empty-clause-fewer
@@ -62,18 +64,28 @@ loop-item-preserved g c =
     let line = c.line_of-line.result in
     let none : calls_in line.calls ≡ [] = c.is_empty.ensures.0 c.if-not-is_empty.false in
     let process = c.process-in-Some.ensures ∙ c.in-Some.ensures.of.1 in
-    let on = told_lined old.tree at.items.tree old.process at.items.process old.table at.table now.tree now.process now.table first.subject c.in-Some.item line first.tells
-    (λ h stands told. c.line_of-line.ensures at.items.tree h first.subject (subst (λ (p : ProcessState). StandsFor p h) (sym process) stands) told) in
+    let on = told_lined old.tree at.items.tree old.process at.items.process old.table at.table now.tree now.process now.table first.subject
+    c.in-Some.item line first.tells
+    (λ h stands told. c.line_of-line.ensures at.items.tree h first.subject (subst (λ (p : ProcessState). StandsFor p h) (sym process)
+    stands) told) in
     record {
       tree = c.in-Some.ensures.of.0 ∙ now.tree;
       process = c.in-Some.ensures.of.1 ∙ now.process;
       table = now.table;
       fewer = omega (arith, ap length first.left, now.fewer);
-      shared = shares_on c.min-self-inside.result c.loop-item.self-inside.shared c.args.self.now.word c.loop-item.self-inside.items.word c.next_item.new.self.word
+      shared = shares_on c.min-self-inside.result c.loop-item.self-inside.shared c.args.self.now.word c.loop-item.self-inside.items.word
+          c.next_item.new.self.word
           (omega (arith, c.min-self-inside.ensures))
-          (omega (arith, c.min-self-inside.ensures, c.saturating_sub.ensures, ap length c.word-in-Some.ensures, length-map c.word-in-Some.result.now (λ name. name.now)))
+          (omega (
+            arith,
+            c.min-self-inside.ensures,
+            c.saturating_sub.ensures,
+            ap length c.word-in-Some.ensures,
+            length-map c.word-in-Some.result.now (λ name. name.now),
+          ))
           c.loop-item.invariant.shared c.in-Some.ensures.near;
-      so_far = λ h stands. now.so_far h stands ∙ ap (lines_of old.tree old.table h) first.left ∙ left_out old.tree old.table h first.subject line (on h stands) after.word after.left none;
+      so_far = λ h stands. now.so_far h stands ∙ ap (lines_of old.tree old.table h) first.left ∙
+          left_out old.tree old.table h first.subject line (on h stands) after.word after.left none;
     }
 
 pub returns-clause-of : goal.returns-clause-of
@@ -84,14 +96,23 @@ returns-clause-of g c =
 pub returns-clause-line : goal.returns-clause-line
 returns-clause-line g c =
     let old = c.args.self.now in
-    let none = c.in_default.ensures.item in
-    (λ h stands. c.loop-item.invariant.so_far h stands ∙ ap (lines_of old.tree old.table h) none.0, λ h stands. ap (lines_of old.tree old.table h) none.1)
+    let none = c.in_default.ensures.item in (
+      λ h stands. c.loop-item.invariant.so_far h stands ∙ ap (lines_of old.tree old.table h) none.0,
+      λ h stands. ap (lines_of old.tree old.table h) none.1,
+    )
 
 pub returns-then-not-is_empty-clause-shared : goal.returns-then-not-is_empty-clause-shared
 returns-then-not-is_empty-clause-shared g c =
-    shares_on c.min-self-inside.result c.loop-item.self-inside.shared c.args.self.now.word c.loop-item.self-inside.items.word c.next_item.new.self.word
+    shares_on c.min-self-inside.result c.loop-item.self-inside.shared c.args.self.now.word c.loop-item.self-inside.items.word
+    c.next_item.new.self.word
     (omega (arith, c.min-self-inside.ensures))
-    (omega (arith, c.min-self-inside.ensures, c.saturating_sub.ensures, ap length c.word-in-Some.ensures, length-map c.word-in-Some.result.now (λ name. name.now)))
+    (omega (
+      arith,
+      c.min-self-inside.ensures,
+      c.saturating_sub.ensures,
+      ap length c.word-in-Some.ensures,
+      length-map c.word-in-Some.result.now (λ name. name.now),
+    ))
     c.loop-item.invariant.shared c.in-Some.ensures.near
 
 pub returns-clause-shared : goal.returns-clause-shared

@@ -1,6 +1,4 @@
-use Rattle.std.proofs.Common.{◌≡◌, ◌≤◌, length, take}
-use Rattle.pua_policy.specs.History.{History, StandsFor}
-use Rattle.pua_objects.specs.Ready.{lines_of}
+use Rattle.pua_objects.proofs.Common.{◌≡◌, ◌≤◌, length, take, History, StandsFor, lines_of}
 use Rattle.pua_objects.proofs.objects.Objects.next_line.Given as goal
 
 abbrev pub invariant-loop-item : goal.invariant-loop-item

@@ -1,4 +1,4 @@
-use Rattle.std.proofs.Common.{rules}
+use Rattle.pua_path.proofs.Common.{rules}
 use Rattle.pua_path.proofs.probe.Counted.new.Goals as goal
 
 pub returns-clause-count : goal.returns-clause-count

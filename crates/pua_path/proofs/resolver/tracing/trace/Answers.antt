@@ -1,8 +1,8 @@
-use Rattle.std.proofs.Common.{◌≡◌, rules, arith, ap, sym, ◌∙◌, List, [], ◌∷◌, length}
+use Rattle.pua_path.proofs.Common.{◌≡◌, rules, arith, ap, sym, ◌∙◌, List, [], ◌∷◌, length, Spot, way_of, PathTrace, as_path_trace}
+use Rattle.pua_path.proofs.Common.{after_links}
 use Rattle.std.specs.Prelude.{Ok}
-use Rattle.pua_tree.specs.Tree.{Spot}
-use Rattle.pua_path.specs.Walks.{way_of, walk_trace}
-use Rattle.pua_path.specs.Traces.{PathTrace, as_path_trace, behind, object_or_errno}
+use Rattle.pua_path.specs.Walks.{walk_trace}
+use Rattle.pua_path.specs.Traces.{object_or_errno}
 use Rattle.pua_path.proofs.Answering.{from_answers}
 use Rattle.pua_path.proofs.Fitting.{founds_fit, founds_named}
 use Rattle.pua_path.proofs.TraceStart.{trace_begins, trace_starts_nowhere}
@@ -13,7 +13,8 @@ pub returns-in_default-clause-exact : goal.returns-in_default-clause-exact
 returns-in_default-clause-exact g c =
     let text = c.args.text.now in
     let nowhere = rw c.bytes.ensures.bytes at c.in_default.ensures.start in
-    trace_starts_nowhere (g.P.Probe.tree c.args.probe.now) c.args.from text.ending text.bytes c.args.mode c.clear.new.self c.clear.ensures nowhere
+    trace_starts_nowhere (g.P.Probe.tree c.args.probe.now) c.args.from text.ending text.bytes c.args.mode c.clear.new.self c.clear.ensures
+    nowhere
 
 pub loop-piece-init : goal.loop-piece-init
 loop-piece-init g c =
@@ -26,15 +27,16 @@ loop-piece-init g c =
     record {
       tree = c.start_of.ensures.tree;
       ready = rw (c.new-walk.ensures) (c.in-Some.ensures.ready c.of_text.result c.of_text.ensures.depth);
-      so_far = sym (trace_begins t c.args.from text.ending text.bytes c.args.mode c.in-Some.start walk.left walk.here (way_of walk.way) walk.rest.parts
-          (behind spots.items (walk_trace t c.args.mode walk))
+      so_far = sym (trace_begins t c.args.from text.ending text.bytes c.args.mode c.in-Some.start walk.left walk.here (way_of walk.way)
+          walk.rest.parts
+          (after_links spots.items (walk_trace t c.args.mode walk))
           (record {
             all_links = ap (λ w. w.left) c.new-walk.ensures;
             at_start = ap (λ w. w.here) c.new-walk.ensures;
             no_way = ap (λ w. way_of w.way) c.new-walk.ensures;
             all_parts = ap (λ w. w.rest.parts) c.new-walk.ensures ∙ c.of_text.ensures.parts;
           })
-          start (ap (λ (links : List Spot). behind links (walk_trace t c.args.mode walk)) none));
+          start (ap (λ (links : List Spot). after_links links (walk_trace t c.args.mode walk)) none));
       room = rw (c.new-walk.ensures) (omega (arith, spots.ok.0 ∙ ap length none, c.links.invariant));
       all_room = c.links.invariant;
     }
@@ -47,14 +49,16 @@ returns-in-Ok-Some-clause-fits g c =
     let t = g.P.Probe.tree c.args.probe.now in
     let text = c.args.text.now in
     founds_fit t c.known.ensures c.args.from text.ending text.bytes c.args.mode (Ok c.found.result)
-    (ap (λ (trace : PathTrace). object_or_errno trace.outcome) (returns-in-Ok-Some-clause-exact g c) ∙ from_answers t c.args.from text.ending text.bytes c.args.mode)
+    (ap (λ (trace : PathTrace). object_or_errno trace.outcome) (returns-in-Ok-Some-clause-exact g c) ∙
+    from_answers t c.args.from text.ending text.bytes c.args.mode)
 
 pub returns-in-Ok-Some-clause-named : goal.returns-in-Ok-Some-clause-named
 returns-in-Ok-Some-clause-named g c =
     let t = g.P.Probe.tree c.args.probe.now in
     let text = c.args.text.now in
     founds_named t c.known.ensures c.args.from text.ending text.bytes c.args.mode (Ok c.found.result)
-    (ap (λ (trace : PathTrace). object_or_errno trace.outcome) (returns-in-Ok-Some-clause-exact g c) ∙ from_answers t c.args.from text.ending text.bytes c.args.mode)
+    (ap (λ (trace : PathTrace). object_or_errno trace.outcome) (returns-in-Ok-Some-clause-exact g c) ∙
+    from_answers t c.args.from text.ending text.bytes c.args.mode)
 
 pub loop-piece-preserved-then-walk-left : goal.loop-piece-preserved-then-walk-left
 loop-piece-preserved-then-walk-left g c = record {
@@ -64,8 +68,9 @@ loop-piece-preserved-then-walk-left g c = record {
       let t = g.P.Probe.tree c.args.probe.now in
       let spot : Spot = (c.loop-piece.walk.here, c.name_of.result) in
       let further = walk_trace t c.args.mode c.enter_piece.new.self in
-      let step : walk_trace t c.args.mode c.loop-piece.walk ≡ behind (spot ∷ []) further = search rules in
-      ap as_path_trace (link_followed c.loop-piece.links-inside.spots.items c.push_reserved.new.self.items spot (walk_trace t c.args.mode c.loop-piece.walk) further c.push_reserved.ensures.items step)
+      let step : walk_trace t c.args.mode c.loop-piece.walk ≡ after_links (spot ∷ []) further = search rules in
+      ap as_path_trace (link_followed c.loop-piece.links-inside.spots.items c.push_reserved.new.self.items spot
+      (walk_trace t c.args.mode c.loop-piece.walk) further c.push_reserved.ensures.items step)
       ∙ c.loop-piece.invariant.so_far;
   room = omega arith;
   all_room = search rules;

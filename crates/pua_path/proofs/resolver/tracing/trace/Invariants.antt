@@ -1,6 +1,6 @@
-use Rattle.std.proofs.Common.{◌≡◌, ◌≤◌, ◌+◌, vec_len, vec_capacity}
-use Rattle.pua_path.specs.Limits.{link_limit}
-use Rattle.pua_path.specs.Traces.{behind, as_path_trace, trace_from}
+use Rattle.pua_path.proofs.Common.{◌≡◌, ◌≤◌, ◌+◌, after_links, as_path_trace, trace_from}
+use Rattle.std.proofs.Common.{vec_len, vec_capacity}
+use Rattle.pua_path.specs.Limits.{most_links}
 use Rattle.pua_path.specs.Walks.{CanGoOn, potential_of, walk_trace}
 use Rattle.pua_path.proofs.resolver.tracing.trace.Given as goal
 
@@ -10,10 +10,10 @@ invariant-loop-piece g l =
     record {
       tree : g.P.Probe.tree l.probe ≡ t;
       ready : CanGoOn t l.walk.here l.walk.left l.walk.rest;
-      so_far : as_path_trace (behind l.links-inside.spots.items (walk_trace t l.fn.mode l.walk))
+      so_far : as_path_trace (after_links l.links-inside.spots.items (walk_trace t l.fn.mode l.walk))
           ≡ trace_from t l.fn.from l.fn.text.ending l.fn.text.bytes l.fn.mode;
       room : vec_len l.links-inside.spots + l.walk.left ≤ vec_capacity l.links-inside.spots;
-      all_room : link_limit ≤ vec_capacity l.links-inside.spots;
+      all_room : most_links ≤ vec_capacity l.links-inside.spots;
     }
 
 abbrev pub decreases-loop-piece : goal.decreases-loop-piece

@@ -1,5 +1,4 @@
-use Rattle.std.proofs.Common.{ap, ◌∙◌, take}
-use Rattle.pua_path.specs.Remaining.{Remaining, is_done}
+use Rattle.pua_path.proofs.Common.{ap, ◌∙◌, take, Remaining, has_no_part}
 use Rattle.pua_path.proofs.Stack.{done_where_empty}
 use Rattle.pua_path.proofs.rest.Rest.is_done.Goals as goal
 
@@ -7,4 +6,4 @@ pub returns : goal.returns
 returns c =
     c.is_empty.ensures
     ∙ done_where_empty c.self.inside.top.now (take c.self.inside.depth c.self.inside.below) c.self.invariant.1
-    ∙ ap (λ (rest : Remaining). is_done rest.parts) c.self.view_is
+    ∙ ap (λ (rest : Remaining). has_no_part rest.parts) c.self.view_is

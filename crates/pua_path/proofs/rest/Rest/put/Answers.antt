@@ -1,6 +1,4 @@
-use Rattle.std.proofs.Common.{◌≡◌, sym, ap, ◌∙◌, ◌++◌, ◌<◌, length, take, arith}
-use Rattle.pua_path.specs.Remaining.{Remaining}
-use Rattle.pua_path.specs.Paths.{parts_of}
+use Rattle.pua_path.proofs.Common.{◌≡◌, sym, ap, ◌∙◌, ◌++◌, ◌<◌, length, take, arith, Remaining, parts_of}
 use Rattle.pua_path.specs.declared.text.Ending.TheVariants as ending
 use Rattle.pua_path.proofs.Pieces.{no_parts, not_empty, text_readable}
 use Rattle.pua_path.proofs.Stack.{stack_on_empty, stack_pushed, parts_on_empty, parts_pushed}
@@ -9,7 +7,8 @@ use Rattle.pua_path.proofs.rest.Rest.put.Goals as goal
 
 pub returns-then-is_empty-clause-parts : goal.returns-then-is_empty-clause-parts
 returns-then-is_empty-clause-parts c =
-    sym (ap (λ parts. parts ++ c.args.self.now.parts) (no_parts c.args.target.now c.after_slashes-text.result.now c.after_slashes-text.ensures (sym c.is_empty.ensures ∙ c.if-is_empty.true)))
+    sym (ap (λ parts. parts ++ c.args.self.now.parts) (no_parts c.args.target.now c.after_slashes-text.result.now
+    c.after_slashes-text.ensures (sym c.is_empty.ensures ∙ c.if-is_empty.true)))
 
 pub invariant_of-self : goal.invariant_of-self
 invariant_of-self c =
@@ -19,9 +18,17 @@ invariant_of-self c =
       | then-not-is_empty w ↦
           let same : c.self.inside.depth ≡ c.args.self.now.depth = ap (λ (rest : Remaining). rest.depth) c.self.view_is in
           let lt : c.self.inside.depth < length c.self.inside.below = omega arith in
-          rw w.self-inside-is (omega arith, stack_pushed c.self.inside.top c.after_slashes-text.result.now c.self.inside.depth c.self.inside.below c.self.invariant.1 (not_empty c.self.inside.top.now (sym c.is_empty-2.ensures ∙ w.if-not-is_empty.true)) lt readable full)
+          rw w.self-inside-is (
+            omega arith,
+            stack_pushed c.self.inside.top c.after_slashes-text.result.now c.self.inside.depth c.self.inside.below c.self.invariant.1
+                (not_empty c.self.inside.top.now (sym c.is_empty-2.ensures ∙ w.if-not-is_empty.true)) lt readable full,
+          )
       | else-not-is_empty w ↦
-          rw w.self-inside-is (c.self.invariant.0, stack_on_empty c.self.inside.top.now c.after_slashes-text.result.now (take c.self.inside.depth c.self.inside.below) c.self.invariant.1 readable full)
+          rw w.self-inside-is (
+            c.self.invariant.0,
+            stack_on_empty c.self.inside.top.now c.after_slashes-text.result.now (take c.self.inside.depth c.self.inside.below)
+                c.self.invariant.1 readable full,
+          )
     ]
 
 pub returns-clause-parts : goal.returns-clause-parts
@@ -30,9 +37,12 @@ returns-clause-parts c =
       | then-not-is_empty w ↦
           let same : c.self.inside.depth ≡ c.args.self.now.depth = ap (λ (rest : Remaining). rest.depth) c.self.view_is in
           let lt : c.self.inside.depth < length c.self.inside.below = omega arith in
-          rw w.self-inside-is (parts_pushed c.args.target.now c.after_slashes-text.result.now c.self.inside.top c.self.inside.depth c.self.inside.below c.after_slashes-text.ensures lt
+          rw w.self-inside-is (parts_pushed c.args.target.now c.after_slashes-text.result.now c.self.inside.top c.self.inside.depth
+          c.self.inside.below c.after_slashes-text.ensures lt
           ∙ ap (λ (rest : Remaining). parts_of ending.Dot c.args.target.now ++ rest.parts) c.self.view_is)
       | else-not-is_empty w ↦
-          rw w.self-inside-is (parts_on_empty c.args.target.now c.after_slashes-text.result.now c.self.inside.top.now (take c.self.inside.depth c.self.inside.below) c.after_slashes-text.ensures (sym c.is_empty-2.ensures ∙ w.if-not-is_empty.false)
+          rw w.self-inside-is (parts_on_empty c.args.target.now c.after_slashes-text.result.now c.self.inside.top.now
+          (take c.self.inside.depth c.self.inside.below) c.after_slashes-text.ensures (sym c.is_empty-2.ensures ∙
+          w.if-not-is_empty.false)
           ∙ ap (λ (rest : Remaining). parts_of ending.Dot c.args.target.now ++ rest.parts) c.self.view_is)
     ]

@@ -1,4 +1,4 @@
-use Rattle.std.proofs.Common.{rules}
+use Rattle.pua_path.proofs.Common.{rules}
 use Rattle.pua_path.proofs.text.PathText.ending.Goals as goal
 
 pub returns : goal.returns

@@ -1,8 +1,4 @@
-use Rattle.std.proofs.Common.{sym, ap, ◌∙◌}
-use Rattle.pua_tree.specs.Tree.{climb}
-use Rattle.pua_policy.specs.declared.place.Place.TheVariants.{Dir}
-use Rattle.pua_policy.specs.History.{veil_at}
-use Rattle.pua_policy.specs.Reasons.{covering_at, cover_of}
+use Rattle.pua_policy.proofs.Common.{sym, ap, ◌∙◌, climb, Dir, veil_at, covering_at, cover_of}
 use Rattle.pua_policy.proofs.Veiled.{veiled_covers}
 use Rattle.pua_policy.proofs.process.Process.cover_from.Goals as goal
 

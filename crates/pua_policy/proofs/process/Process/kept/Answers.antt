@@ -1,6 +1,4 @@
-use Rattle.std.proofs.Common.{◌∙◌, ap, sym}
-use Rattle.pua_policy.specs.History.{veil_at}
-use Rattle.pua_policy.specs.contracts.place.PlacePartialEq.TheImpl.{ghosts}
+use Rattle.pua_policy.proofs.Common.{◌∙◌, ap, sym, veil_at, ghosts}
 use Rattle.pua_policy.proofs.Places.{same_place-eq}
 use Rattle.pua_policy.proofs.Standing.{kept_by}
 use Rattle.pua_policy.proofs.Veils.{veil_at-lookup}
@@ -12,7 +10,4 @@ returns-clause-state c =
     ∙ ap (λ process. veil_at process.veils c.args.place.now) c.self.view_is
 
 pub returns-clause-history : goal.returns-clause-history
-returns-clause-history c = λ h stands.
-    c.copied.ensures ∙ c.get.ensures.value ∙ veil_at-lookup ghosts.eq same_place-eq c.args.place.now _
-    ∙ ap (λ process. veil_at process.veils c.args.place.now) c.self.view_is
-    ∙ sym (kept_by c.args.self.now h stands c.args.place.now)
+returns-clause-history c = λ h stands. returns-clause-state c ∙ sym (kept_by c.args.self.now h stands c.args.place.now)

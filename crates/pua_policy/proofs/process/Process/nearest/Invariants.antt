@@ -1,8 +1,5 @@
-use Rattle.std.proofs.Common.{◌≡◌, ◌+◌, ◌≤◌, length, IsTrue}
-use Rattle.pua_tree.specs.Tree.{is_dir, climb}
-use Rattle.pua_policy.specs.declared.place.Place.TheVariants.{Dir}
-use Rattle.pua_policy.specs.History.{veil_at}
-use Rattle.pua_policy.specs.Reasons.{first_veiled}
+use Rattle.pua_policy.proofs.Common.{◌≡◌, ◌+◌, length, is_dir, climb, Dir, veil_at, first_veiled}
+use Rattle.std.proofs.Common.{◌≤◌, IsTrue}
 use Rattle.pua_policy.proofs.process.Process.nearest.Given as goal
 
 abbrev pub invariant-loop-perms : goal.invariant-loop-perms
@@ -11,7 +8,8 @@ invariant-loop-perms g l = record {
   living : IsTrue (is_dir (g.P.Probe.tree l.fn.probe) l.fn.from) → IsTrue (is_dir (g.P.Probe.tree l.fn.probe) l.dir);
   still_nearest : first_veiled (λ dir. veil_at l.self.veils (Dir dir)) (climb (g.P.Probe.tree l.fn.probe) l.dir)
       ≡ first_veiled (λ dir. veil_at l.self.veils (Dir dir)) (climb (g.P.Probe.tree l.fn.probe) l.fn.from);
-  cost : g.P.Probe.count l.probe + length (climb (g.P.Probe.tree l.fn.probe) l.dir) ≤ g.P.Probe.count l.fn.probe + length (climb (g.P.Probe.tree l.fn.probe) l.fn.from);
+  cost : g.P.Probe.count l.probe + length (climb (g.P.Probe.tree l.fn.probe) l.dir) ≤ g.P.Probe.count l.fn.probe
+      + length (climb (g.P.Probe.tree l.fn.probe) l.fn.from);
 }
 
 abbrev pub decreases-loop-perms : goal.decreases-loop-perms

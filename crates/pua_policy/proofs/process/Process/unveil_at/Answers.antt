@@ -1,15 +1,13 @@
-use Rattle.std.proofs.Common.{◌≡◌, ◌∙◌, ℕ, List, sym, ap, refl, true, false}
+use Rattle.pua_policy.proofs.Common.{◌≡◌, ◌∙◌, ℕ, List, sym, ap, subst, refl, true, false, Place, StandsFor, Unveiled, with_veil, veil_at}
+use Rattle.pua_policy.proofs.Common.{ghosts}
 use Rattle.std.specs.Prelude.{Result, Ok, Err, OnOk, OnErr}
 use Rattle.std.specs.Result.{is_err}
 use Rattle.indexmap.specs.IndexMap.{insert_entry}
-use Rattle.pua_policy.specs.declared.place.Place.{Place}
-use Rattle.pua_policy.specs.History.{with_veil, veil_at}
 use Rattle.pua_policy.specs.declared.answer.UnveilFault.TheVariants.{OutOfMemory}
 use Rattle.pua_policy.proofs.Standing.{unveil_fault_by}
-use Rattle.pua_policy.proofs.Histories.{led_by_veil}
+use Rattle.pua_policy.proofs.Histories.{stands_after, led_after}
 use Rattle.pua_policy.proofs.Places.{same_place-eq}
 use Rattle.pua_policy.proofs.Veils.{with_veil-insert_entry, veil_at-lookup}
-use Rattle.pua_policy.specs.contracts.place.PlacePartialEq.TheImpl.{ghosts}
 use Rattle.pua_policy.proofs.process.Process.unveil_at.Goals as goal
 
 if_no_err : {T E P : Type 0} (r : Result T E) → is_err r ≡ false → OnOk r P → P
@@ -22,28 +20,29 @@ if_err (Err x) e p = p
 
 pub returns-in-Some-clause-err : goal.returns-in-Some-clause-err
 returns-in-Some-clause-err c =
-    λ h s. (λ _. unveil_fault_by c.args.self.now h s c.args.place c.args.perms ∙ sym c.in-Some.ensures.fault, λ is. absurd (c.in-Some.ensures.other is))
+    λ h s. (
+      λ _. unveil_fault_by c.args.self.now h s c.args.place c.args.perms ∙ sym c.in-Some.ensures.fault,
+      λ is. absurd (c.in-Some.ensures.other is),
+    )
 
 pub returns-then-is_err-clause-err : goal.returns-then-is_err-clause-err
 returns-then-is_err-clause-err c =
-    λ h s. (λ no. absurd (no refl), λ _. unveil_fault_by c.args.self.now h s c.args.place c.args.perms ∙ sym c.unveil_fault.ensures.fault ∙ c.in_default.is)
+    λ h s. (
+      λ no. absurd (no refl),
+      λ _. unveil_fault_by c.args.self.now h s c.args.place c.args.perms ∙ sym c.unveil_fault.ensures.fault ∙
+          c.in_default.is,
+    )
 
 -- the veils after an insert that was not refused
-put : {T E : Type 0} (r : Result T E) → is_err r ≡ false → (place : Place) (perms : ℕ) (old new : List (Place × ℕ)) → OnOk r (new ≡ insert_entry ghosts.eq old place perms) → new ≡ with_veil place perms old
+put : {T E : Type 0} (r : Result T E) → is_err r ≡ false → (place : Place) (perms : ℕ) (old new : List (Place × ℕ)) →
+    OnOk r (new ≡ insert_entry ghosts.eq old place perms) → new ≡ with_veil place perms old
 put r well place perms old new is = if_no_err r well is ∙ with_veil-insert_entry ghosts.eq same_place-eq place perms old
 
 pub returns-clause-ok : goal.returns-clause-ok
 returns-clause-ok c = λ h s. (
   unveil_fault_by c.args.self.now h s c.args.place c.args.perms ∙ sym c.unveil_fault.ensures.fault ∙ c.in_default.is,
-  record {
-    promises = ap (λ p. p.promises) c.self.view_is ∙ s.promises;
-    execpromises = ap (λ p. p.execpromises) c.self.view_is ∙ s.execpromises;
-    veils = put c.insert.result (sym c.is_err.ensures.value ∙ c.if-is_err.false) c.args.place c.args.perms _ _ c.insert.ensures.entries
-        ∙ ap (with_veil c.args.place c.args.perms) (ap (λ p. p.veils) c.self.view_is ∙ s.veils);
-    locked = ap (λ p. p.locked) c.self.view_is ∙ s.locked;
-    dir = ap (λ p. p.dir) c.self.view_is ∙ s.dir;
-    ended = ap (λ p. p.ended) c.self.view_is ∙ s.ended;
-  },
+  rw (put c.insert.result (sym c.is_err.ensures.value ∙ c.if-is_err.false) c.args.place c.args.perms _ _ c.insert.ensures.entries)
+      (stands_after _ h (subst (λ p. StandsFor p h) (sym c.self.view_is) s) (Unveiled c.args.place c.args.perms)),
 )
 
 pub returns-in-Some-clause-memory : goal.returns-in-Some-clause-memory
@@ -58,4 +57,4 @@ returns-then-is_err-clause-memory c = λ _.
 pub invariant_of-self-2 : goal.invariant_of-self-2
 invariant_of-self-2 c =
     rw (put c.insert.result (sym c.is_err.ensures.value ∙ c.if-is_err.false) c.args.place c.args.perms _ _ c.insert.ensures.entries)
-    (led_by_veil _ c.self.invariant c.args.place c.args.perms)
+    (led_after _ c.self.invariant (Unveiled c.args.place c.args.perms))

@@ -1,6 +1,5 @@
-use Rattle.std.proofs.Common.{◌≡◌, false, sym, ◌∙◌}
+use Rattle.pua_refused.proofs.Common.{◌≡◌, false, sym, ◌∙◌, false≢true}
 use Rattle.std.proofs.Math.Bool.{and-false}
-use Rattle.std.proofs.lemmas.Bool.{false≢true}
 use Rattle.pua_calls.specs.declared.call.Call.TheVariants.{Unlink}
 use Rattle.pua_refused.proofs.policy.calls.calls_of_targets_turned.Goals as goal
 

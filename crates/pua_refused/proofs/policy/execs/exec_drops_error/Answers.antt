@@ -1,5 +1,6 @@
-use Rattle.std.proofs.Common.{◌≡◌, ◌∷◌, None, Some, rules}
-use Rattle.pua_policy.specs.History.{new_history, Pledged}
+use Rattle.pua_refused.proofs.Common.{◌≡◌, ◌∷◌, None, Some, new_history}
+use Rattle.std.proofs.Common.{rules}
+use Rattle.pua_policy.specs.History.{Pledged}
 use Rattle.pua_calls.specs.Promises.{error}
 use Rattle.pua_policy.specs.declared.answer.May.TheVariants.{Enosys}
 use Rattle.pua_refused.proofs.policy.execs.exec_drops_error.Goals as goal

@@ -1,5 +1,5 @@
-use Rattle.std.proofs.Common.{◌∷◌, ◌∙◌}
-use Rattle.pua_policy.specs.History.{new_history, Moved}
+use Rattle.pua_refused.proofs.Common.{◌∷◌, ◌∙◌, new_history}
+use Rattle.pua_policy.specs.History.{Moved}
 use Rattle.pua_refused.proofs.policy.execs.exec_loses_directory.Goals as goal
 
 pub unreachable-requires : goal.unreachable-requires

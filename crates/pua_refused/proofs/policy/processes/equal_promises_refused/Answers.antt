@@ -1,5 +1,4 @@
-use Rattle.std.proofs.Common.{◌≡◌, None, Some}
-use Rattle.pua_policy.specs.History.{new_history}
+use Rattle.pua_refused.proofs.Common.{◌≡◌, None, Some, new_history}
 use Rattle.pua_refused.proofs.policy.processes.equal_promises_refused.Goals as goal
 
 pub unreachable-requires-in_default-pledge-2 : goal.unreachable-requires-in_default-pledge-2

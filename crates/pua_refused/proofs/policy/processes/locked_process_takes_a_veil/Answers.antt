@@ -1,5 +1,4 @@
-use Rattle.std.proofs.Common.{◌≡◌, None, Some}
-use Rattle.pua_policy.specs.History.{new_history}
+use Rattle.pua_refused.proofs.Common.{◌≡◌, None, Some, new_history}
 use Rattle.pua_policy.specs.declared.answer.UnveilFault.TheVariants.{NotPermitted}
 use Rattle.pua_refused.proofs.policy.processes.locked_process_takes_a_veil.Goals as goal
 

@@ -1,4 +1,4 @@
-use Rattle.std.proofs.Common.{sym, ◌∙◌}
+use Rattle.pua_refused.proofs.Common.{sym, ◌∙◌}
 use Rattle.pua_refused.proofs.policy.tables.veil_before_promises.Goals as goal
 
 pub unreachable-requires : goal.unreachable-requires

@@ -1,8 +1,5 @@
-use Rattle.std.proofs.Common.{◌≡◌, false, refl, sym, ◌∙◌}
-use Rattle.std.proofs.lemmas.Bool.{false≢true}
-use Rattle.pua_tree.specs.Tree.{empty_tree}
+use Rattle.pua_refused.proofs.Common.{◌≡◌, false, refl, sym, ◌∙◌, false≢true, empty_tree, new_history}
 use Rattle.pua_path.specs.declared.found.Way.TheVariants.{Top}
-use Rattle.pua_policy.specs.History.{new_history}
 use Rattle.pua_policy.specs.Verdict.{IsDir, covered_verdict, is_allowed}
 use Rattle.pua_policy.specs.declared.answer.Cover.TheVariants.{All}
 use Rattle.pua_calls.specs.declared.call.Call.TheVariants.{Rmdir}
@@ -10,6 +7,8 @@ use Rattle.pua_refused.proofs.policy.verdicts.full_directory_removed.Goals as go
 
 pub unreachable-requires : goal.unreachable-requires
 unreachable-requires c =
-    let fault : is_allowed (covered_verdict empty_tree c.standard.result new_history Rmdir All (IsDir 0 Top)) ≡ false = rw c.standard.ensures refl in
-    let not_allowed = c.contains.ensures ∙ c.allowed-calls.ensures empty_tree new_history (IsDir 0 Top) c.in-Ok.ensures refl Rmdir ∙ fault in
+    let fault : is_allowed (covered_verdict empty_tree c.standard.result new_history Rmdir All (IsDir 0 Top)) ≡ false =
+    rw c.standard.ensures refl in
+    let not_allowed = c.contains.ensures ∙ c.allowed-calls.ensures empty_tree new_history (IsDir 0 Top) c.in-Ok.ensures refl Rmdir ∙
+    fault in
     false≢true (sym not_allowed ∙ c.if-contains.true)

@@ -1,4 +1,4 @@
-use Rattle.std.proofs.Common.{rules}
+use Rattle.pua_script.proofs.Common.{rules}
 use Rattle.pua_script.specs.Replay.{new_world}
 use Rattle.pua_script.proofs.world.World.new.Goals as goal
 

@@ -1,6 +1,7 @@
-use Rattle.std.proofs.Common.{subst}
+use Rattle.pua_script.proofs.Common.{subst}
 use Rattle.pua_script.specs.Worlds.{AreNumbersOf}
 use Rattle.pua_script.proofs.world.World.numbers.Goals as goal
 
-pub returns-in-Ok : goal.returns-in-Ok
-returns-in-Ok g c = subst (λ s. AreNumbersOf s c.in-Ok.numbers.items) c.self.view_is (c.in-Ok.ensures (g.T.FileTree.content c.self.inside.tree) c.self.inside.table)
+pub returns : goal.returns
+returns g c = subst (λ s. AreNumbersOf s c.in_ok-sorted_keys.field-0.items) c.self.view_is
+    (c.in_ok-sorted_keys.ensures (g.T.FileTree.content c.self.inside.tree) c.self.inside.table)

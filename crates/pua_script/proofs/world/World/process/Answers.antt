@@ -1,4 +1,4 @@
-use Rattle.std.proofs.Common.{rules}
+use Rattle.pua_script.proofs.Common.{rules}
 use Rattle.pua_script.proofs.world.World.process.Goals as goal
 
 pub returns : goal.returns

@@ -1,6 +1,5 @@
-use Rattle.std.proofs.Common.{◌∙◌, refl, ap, is_ok}
-use Rattle.pua_since.specs.declared.watches.Watches.{Watches}
-use Rattle.pua_since.specs.Watched.{forebear_by, made_by}
+use Rattle.pua_since.proofs.Common.{◌∙◌, refl, ap, Watches, forebear_by, made_by}
+use Rattle.std.proofs.Common.{is_ok}
 use Rattle.pua_since.proofs.Handing.{one_added}
 use Rattle.pua_since.proofs.Topics.{kept_by_try}
 use Rattle.pua_since.proofs.watches.Watches.add.Goals as goal

@@ -1,9 +1,6 @@
-use Rattle.std.proofs.Common.{◌≡◌, ◌<◌, ◌≤◌, refl, sym, ap, subst, get_or, set, length, arith}
+use Rattle.pua_since.proofs.Common.{◌≡◌, ◌<◌, ◌≤◌, refl, sym, ap, subst, get_or, set, length, arith, Watch, Watches, IsKeptThrough}
 use Rattle.std.specs.Vec.{with_items}
 use Rattle.std.proofs.lemmas.List.{length-set, with_items_is}
-use Rattle.pua_since.specs.declared.watch.Watch.{Watch}
-use Rattle.pua_since.specs.declared.watches.Watches.{Watches}
-use Rattle.pua_since.specs.Watched.{IsKeptThrough}
 use Rattle.pua_since.proofs.Rounds.{kept_more, one_asked, all_asked}
 use Rattle.pua_since.proofs.watches.Watches.ask_again.Goals as goal
 
@@ -45,5 +42,6 @@ returns-in_err-ask-clause-kept g c =
       old.ok.0,
     ) in
     subst (IsKeptThrough old.items) (sym (with_items_is old after same))
-    (kept_more c.args.world.now c.args.touched.now c.args.line place c.args.self.now items c.loop-watch.invariant within watch c.ask.new.self
+    (kept_more c.args.world.now c.args.touched.now c.args.line place c.args.self.now items c.loop-watch.invariant within watch
+    c.ask.new.self
     (ap (get_or items place) c.watch-item.is) c.ask.ensures.topic)

@@ -1,7 +1,5 @@
-use Rattle.std.proofs.Common.{◌≡◌, ◌<◌, true, false, Some, ap, length, arith, rules}
-use Rattle.std.specs.Prelude.{slice_get}
-use Rattle.std.proofs.lemmas.Option.{slice_get_read, slice_get_within}
-use Rattle.pua_since.specs.Watched.{IsSameTopic}
+use Rattle.pua_since.proofs.Common.{◌≡◌, ◌<◌, true, false, Some, ap, length, arith, rules, slice_get, slice_get_within, IsSameTopic}
+use Rattle.std.proofs.lemmas.Option.{slice_get_read}
 use Rattle.pua_since.proofs.Topics.{kept_by_set, topic_by_set}
 use Rattle.pua_since.proofs.Handing.{wanted_by_set}
 use Rattle.pua_since.proofs.watches.Watches.extend.Goals as goal
@@ -42,5 +40,6 @@ returns-in-Some-clause-kept c =
 -- where there is a question there is a place
 pub returns-in_default-clause-place : goal.returns-in_default-clause-place
 returns-in_default-clause-place c = λ process question before topic.
-    let within : c.args.place < length c.args.self.now.watches.items = slice_get_within c.args.self.now.watches.items c.args.place topic.watch topic.stands in
+    let within : c.args.place < length c.args.self.now.watches.items =
+    slice_get_within c.args.self.now.watches.items c.args.place topic.watch topic.stands in
     let no : false ≡ true = c.in_default.ensures.variant.1 (search (rules, within)) in cc

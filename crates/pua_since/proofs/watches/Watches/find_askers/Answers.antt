@@ -1,7 +1,5 @@
-use Rattle.std.proofs.Common.{◌≡◌, ◌<◌, ◌∙◌, ap, set, get_or, length, arith}
+use Rattle.pua_since.proofs.Common.{◌≡◌, ◌<◌, ◌∙◌, ap, set, get_or, length, arith, Watch, forebear_by, forks_left, handed_by, made_by}
 use Rattle.std.proofs.lemmas.List.Edits.{map_over_more}
-use Rattle.pua_since.specs.declared.watch.Watch.{Watch}
-use Rattle.pua_since.specs.Watched.{forebear_by, forks_left, handed_by, made_by}
 use Rattle.pua_since.proofs.watches.Watches.find_askers.Goals as goal
 
 pub loop-watch-preserved : goal.loop-watch-preserved

@@ -1,5 +1,4 @@
-use Rattle.std.proofs.Common.{◌≡◌, ◌++◌, map, take, drop}
-use Rattle.pua_since.specs.Watched.{forks_left, handed_by}
+use Rattle.pua_since.proofs.Common.{◌≡◌, ◌++◌, map, take, drop, forks_left, handed_by}
 use Rattle.pua_since.proofs.watches.Watches.find_askers.Given as goal
 
 abbrev pub invariant-loop-watch : goal.invariant-loop-watch

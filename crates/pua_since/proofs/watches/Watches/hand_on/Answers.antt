@@ -1,7 +1,5 @@
-use Rattle.std.proofs.Common.{◌≡◌, ◌∙◌, refl, sym, ap, subst, length, true, None, arith}
-use Rattle.pua_script.specs.Replay.{apply, world_after}
-use Rattle.pua_since.specs.Changes.{has_forked}
-use Rattle.pua_since.specs.Watched.{handed_by, made_by, IsKeptThrough}
+use Rattle.pua_since.proofs.Common.{◌≡◌, ◌∙◌, refl, sym, ap, subst, length, true, None, arith, apply, world_after, has_forked, handed_by}
+use Rattle.pua_since.proofs.Common.{made_by, IsKeptThrough}
 use Rattle.pua_since.proofs.Handing.{are_handed, emptied, stay_handed}
 use Rattle.pua_since.proofs.Topics.{kept_by_map}
 use Rattle.pua_since.proofs.watches.Watches.hand_on.Goals as goal

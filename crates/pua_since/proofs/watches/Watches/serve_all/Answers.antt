@@ -1,4 +1,4 @@
-use Rattle.std.proofs.Common.{◌≡◌, sym, subst, length}
+use Rattle.pua_since.proofs.Common.{◌≡◌, sym, subst, length}
 use Rattle.std.specs.Iterator.Adapters.{enumerate_source}
 use Rattle.std.proofs.lemmas.Iterator.{YieldsList-from_slice, YieldsList-from_zip}
 use Rattle.std.proofs.lemmas.Iterator.Consumers.{YieldsList-at, YieldsList-from_enumerate, YieldsList-turn, YieldsList-end}
@@ -10,7 +10,7 @@ pub loop-index-preserved : goal.loop-index-preserved
 loop-index-preserved g c =
     let start = c.args.self.now in
     let asks = c.args.requests.now in
-    let told = c.args.told.now in
+    let told = c.args.answers.now in
     let done = c.loop-index.yielded in
     let source : enumerate_source c.into_iter-index-iterator.result ≡ c.zip.result = cc in
     let road = YieldsList-from_enumerate {s = c.into_iter-index-iterator.result}
@@ -27,7 +27,7 @@ pub returns-clause-watched : goal.returns-clause-watched
 returns-clause-watched g c =
     let start = c.args.self.now in
     let asks = c.args.requests.now in
-    let told = c.args.told.now in
+    let told = c.args.answers.now in
     let done = c.loop-index.yielded in
     let source : enumerate_source c.into_iter-index-iterator.result ≡ c.zip.result = cc in
     let road = YieldsList-from_enumerate {s = c.into_iter-index-iterator.result}
@@ -41,7 +41,7 @@ pub returns-clause-world : goal.returns-clause-world
 returns-clause-world g c =
     let start = c.args.self.now in
     let asks = c.args.requests.now in
-    let told = c.args.told.now in
+    let told = c.args.answers.now in
     let done = c.loop-index.yielded in
     let source : enumerate_source c.into_iter-index-iterator.result ≡ c.zip.result = cc in
     let road = YieldsList-from_enumerate {s = c.into_iter-index-iterator.result}

@@ -1,9 +1,4 @@
-use Rattle.std.proofs.Common.{◌≡◌, ◌<◌, ◌+◌, ℕ, length, get_or}
-use Rattle.std.specs.List.{AllByRecursion}
-use Rattle.pua_steps.specs.Lists.{list_of, IsList, IsLonger}
-use Rattle.pua_steps.specs.Table.{IsEntry}
-use Rattle.pua_steps.specs.declared.steps.Entry.{Entry}
-use Rattle.pua_steps.specs.declared.lists.Span.{Span}
+use Rattle.pua_steps.proofs.Common.{◌≡◌, ◌<◌, ◌+◌, ℕ, length, get_or, AllByRecursion, list_of, IsListAt, IsLonger, IsEntry, Entry, Span}
 use Rattle.pua_steps.proofs.lists.Lists.add_lists.Given as goal
 
 abbrev pub invariant-loop-dir : goal.invariant-loop-dir
@@ -13,5 +8,7 @@ invariant-loop-dir l = record {
   entries : IsLonger Entry l.fn.self.entries.items l.self.entries.items;
   spans : IsLonger Span l.fn.self.spans.items l.self.spans.items;
   many : length l.self.spans.items ≡ length l.fn.self.spans.items + l.dir;
-  lists : (d : ℕ) → d < l.dir → IsList l.self.entries.items (get_or l.self.spans.items (length l.fn.self.spans.items + d) (record { place = 0; end = 0 })) (list_of l.steps l.live l.left d);
+  lists : (d : ℕ) → d < l.dir →
+      IsListAt l.self.entries.items (get_or l.self.spans.items (length l.fn.self.spans.items + d) (record { place = 0; end = 0 }))
+      (list_of l.steps l.live l.left d);
 }

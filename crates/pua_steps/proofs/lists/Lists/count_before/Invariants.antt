@@ -1,4 +1,4 @@
-use Rattle.std.proofs.Common.{ℕ, ◌≡◌, ◌<◌, ◌≤◌, ◌+◌, ◌-◌, ◌^◌, length, get_or, min}
+use Rattle.pua_steps.proofs.Common.{ℕ, ◌≡◌, ◌<◌, ◌≤◌, ◌+◌, ◌-◌, ◌^◌, length, get_or, min}
 use Rattle.pua_steps.proofs.Finding.{no_entry}
 use Rattle.pua_steps.proofs.lists.Lists.count_before.Given as goal
 

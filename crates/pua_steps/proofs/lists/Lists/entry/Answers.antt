@@ -1,4 +1,4 @@
-use Rattle.std.proofs.Common.{rules}
+use Rattle.pua_steps.proofs.Common.{rules}
 use Rattle.pua_steps.proofs.lists.Lists.entry.Goals as goal
 
 pub returns-then-place-end-clause-reads : goal.returns-then-place-end-clause-reads

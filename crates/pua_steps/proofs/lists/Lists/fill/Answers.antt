@@ -1,4 +1,4 @@
-use Rattle.std.proofs.Common.{◌≤◌, suc, arith, suc-mul, mul-le-mul_right}
+use Rattle.pua_steps.proofs.Common.{◌≤◌, suc, arith, suc-mul, mul-le-mul_right}
 use Rattle.pua_steps.proofs.lists.Lists.fill.Goals as goal
 
 pub add_layer-requires-clause-layer : goal.add_layer-requires-clause-layer

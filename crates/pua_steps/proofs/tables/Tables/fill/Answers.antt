@@ -1,4 +1,4 @@
-use Rattle.std.proofs.Common.{rules}
+use Rattle.pua_steps.proofs.Common.{rules}
 use Rattle.pua_steps.proofs.tables.Tables.fill.Goals as goal
 
 pub returns-clause-reads : goal.returns-clause-reads

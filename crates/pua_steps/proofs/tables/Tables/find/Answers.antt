@@ -1,30 +1,61 @@
-use Rattle.std.proofs.Common.{sym, ◌∙◌, length, arith}
+use Rattle.pua_steps.proofs.Common.{sym, ◌∙◌, length, arith}
 use Rattle.pua_steps.proofs.Finding.{part_rises, missed_open, missed_visit, missed_split, found_entry, found_open, found_visit, found_split}
 use Rattle.pua_steps.proofs.tables.Tables.find.Goals as goal
 
 pub count_before-requires-clause-rises : goal.count_before-requires-clause-rises
-count_before-requires-clause-rises c = part_rises c.args.self.now.steps c.args.self.now.live (length c.args.self.now.lists.layers.items) c.args.self.now.lists c.requires.table c.requires.listed c.args.left c.requires.left c.args.state c.requires.state c.args.letter c.requires.letter c.span-span.result c.span-span.ensures
+count_before-requires-clause-rises c =
+    part_rises c.args.self.now.steps c.args.self.now.live (length c.args.self.now.lists.layers.items) c.args.self.now.lists c.requires.table
+    c.requires.listed c.args.left c.requires.left c.args.state c.requires.state c.args.letter c.requires.letter c.span-span.result
+    c.span-span.ensures
 
 pub returns-in_default-clause-open : goal.returns-in_default-clause-open
-returns-in_default-clause-open c = missed_open c.args.self.now.steps c.args.self.now.live (length c.args.self.now.lists.layers.items) c.args.self.now.lists c.requires.table c.requires.listed c.args.left c.requires.left c.args.state c.requires.state c.args.letter c.requires.letter c.span-span.result c.span-span.ensures c.count_before.result c.count_before.ensures.low c.count_before.ensures.high (sym c.entry_of.ensures.entry ∙ c.in_default.is)
+returns-in_default-clause-open c =
+    missed_open c.args.self.now.steps c.args.self.now.live (length c.args.self.now.lists.layers.items) c.args.self.now.lists
+    c.requires.table c.requires.listed c.args.left c.requires.left c.args.state c.requires.state c.args.letter c.requires.letter
+    c.span-span.result c.span-span.ensures c.count_before.result c.count_before.ensures.low c.count_before.ensures.high
+    (sym c.entry_of.ensures.entry ∙ c.in_default.is)
 
 pub returns-in_default-clause-visit : goal.returns-in_default-clause-visit
-returns-in_default-clause-visit c = missed_visit c.args.self.now.steps c.args.self.now.live (length c.args.self.now.lists.layers.items) c.args.self.now.lists c.requires.table c.requires.listed c.args.left c.requires.left c.args.state c.requires.state c.args.letter c.requires.letter c.span-span.result c.span-span.ensures c.count_before.result c.count_before.ensures.low c.count_before.ensures.high (sym c.entry_of.ensures.entry ∙ c.in_default.is) c.index-row.result.now c.index-row.ensures
+returns-in_default-clause-visit c =
+    missed_visit c.args.self.now.steps c.args.self.now.live (length c.args.self.now.lists.layers.items) c.args.self.now.lists
+    c.requires.table c.requires.listed c.args.left c.requires.left c.args.state c.requires.state c.args.letter c.requires.letter
+    c.span-span.result c.span-span.ensures c.count_before.result c.count_before.ensures.low c.count_before.ensures.high
+    (sym c.entry_of.ensures.entry ∙ c.in_default.is) c.index-row.result.now c.index-row.ensures
 
 pub returns-in_default-clause-split : goal.returns-in_default-clause-split
-returns-in_default-clause-split c = missed_split c.args.self.now.steps c.args.self.now.live (length c.args.self.now.lists.layers.items) c.args.self.now.lists c.requires.table c.requires.listed c.args.left c.requires.left c.args.state c.requires.state c.args.letter c.requires.letter c.span-span.result c.span-span.ensures c.count_before.result c.count_before.ensures.low c.count_before.ensures.high (sym c.entry_of.ensures.entry ∙ c.in_default.is) c.index-row.result.now c.index-row.ensures
+returns-in_default-clause-split c =
+    missed_split c.args.self.now.steps c.args.self.now.live (length c.args.self.now.lists.layers.items) c.args.self.now.lists
+    c.requires.table c.requires.listed c.args.left c.requires.left c.args.state c.requires.state c.args.letter c.requires.letter
+    c.span-span.result c.span-span.ensures c.count_before.result c.count_before.ensures.low c.count_before.ensures.high
+    (sym c.entry_of.ensures.entry ∙ c.in_default.is) c.index-row.result.now c.index-row.ensures
 
 pub visit-requires-clause-links : goal.visit-requires-clause-links
-visit-requires-clause-links c = (found_entry c.args.self.now.steps c.args.self.now.live (length c.args.self.now.lists.layers.items) c.args.self.now.lists c.requires.table c.requires.listed c.args.left c.requires.left c.args.state c.requires.state c.args.letter c.requires.letter c.span-span.result c.span-span.ensures c.count_before.result c.count_before.ensures.low c.count_before.ensures.high c.in-Some.entry (sym c.entry_of.ensures.entry ∙ c.in-Some.is)).links
+visit-requires-clause-links c =
+    (found_entry c.args.self.now.steps c.args.self.now.live (length c.args.self.now.lists.layers.items) c.args.self.now.lists
+    c.requires.table c.requires.listed c.args.left c.requires.left c.args.state c.requires.state c.args.letter c.requires.letter
+    c.span-span.result c.span-span.ensures c.count_before.result c.count_before.ensures.low c.count_before.ensures.high c.in-Some.entry
+    (sym c.entry_of.ensures.entry ∙ c.in-Some.is)).links
 
 pub returns-clause-open : goal.returns-clause-open
-returns-clause-open c = found_open c.args.self.now.steps c.args.self.now.live (length c.args.self.now.lists.layers.items) c.args.self.now.lists c.requires.table c.requires.listed c.args.left c.requires.left c.args.state c.requires.state c.args.letter c.requires.letter c.span-span.result c.span-span.ensures c.count_before.result c.count_before.ensures.low c.count_before.ensures.high c.in-Some.entry (sym c.entry_of.ensures.entry ∙ c.in-Some.is)
+returns-clause-open c =
+    found_open c.args.self.now.steps c.args.self.now.live (length c.args.self.now.lists.layers.items) c.args.self.now.lists c.requires.table
+    c.requires.listed c.args.left c.requires.left c.args.state c.requires.state c.args.letter c.requires.letter c.span-span.result
+    c.span-span.ensures c.count_before.result c.count_before.ensures.low c.count_before.ensures.high c.in-Some.entry
+    (sym c.entry_of.ensures.entry ∙ c.in-Some.is)
 
 pub returns-clause-visit : goal.returns-clause-visit
-returns-clause-visit c = found_visit c.args.self.now.steps c.args.self.now.live (length c.args.self.now.lists.layers.items) c.args.self.now.lists c.requires.table c.requires.listed c.args.left c.requires.left c.args.state c.requires.state c.args.letter c.requires.letter c.span-span.result c.span-span.ensures c.count_before.result c.count_before.ensures.low c.count_before.ensures.high c.in-Some.entry (sym c.entry_of.ensures.entry ∙ c.in-Some.is) c.visit.result c.visit.ensures
+returns-clause-visit c =
+    found_visit c.args.self.now.steps c.args.self.now.live (length c.args.self.now.lists.layers.items) c.args.self.now.lists
+    c.requires.table c.requires.listed c.args.left c.requires.left c.args.state c.requires.state c.args.letter c.requires.letter
+    c.span-span.result c.span-span.ensures c.count_before.result c.count_before.ensures.low c.count_before.ensures.high c.in-Some.entry
+    (sym c.entry_of.ensures.entry ∙ c.in-Some.is) c.visit.result c.visit.ensures
 
 pub returns-clause-split : goal.returns-clause-split
-returns-clause-split c = found_split c.args.self.now.steps c.args.self.now.live (length c.args.self.now.lists.layers.items) c.args.self.now.lists c.requires.table c.requires.listed c.args.left c.requires.left c.args.state c.requires.state c.args.letter c.requires.letter c.span-span.result c.span-span.ensures c.count_before.result c.count_before.ensures.low c.count_before.ensures.high c.in-Some.entry (sym c.entry_of.ensures.entry ∙ c.in-Some.is) c.visit.result c.visit.ensures
+returns-clause-split c =
+    found_split c.args.self.now.steps c.args.self.now.live (length c.args.self.now.lists.layers.items) c.args.self.now.lists
+    c.requires.table c.requires.listed c.args.left c.requires.left c.args.state c.requires.state c.args.letter c.requires.letter
+    c.span-span.result c.span-span.ensures c.count_before.result c.count_before.ensures.low c.count_before.ensures.high c.in-Some.entry
+    (sym c.entry_of.ensures.entry ∙ c.in-Some.is) c.visit.result c.visit.ensures
 
 pub returns-in_default-clause-raised : goal.returns-in_default-clause-raised
 returns-in_default-clause-raised c = omega (arith, c.count_before.ensures.raised, c.entry_of.ensures.raised)

@@ -1,17 +1,7 @@
-use Rattle.std.proofs.Common.{◌≡◌, ◌+◌, ◌-◌, ◌<◌, ◌≤◌, ◌∷◌, ℕ, List, length, drop, get_or, None, true, refl, sym, ap, ◌∙◌, arith, subst}
-use Rattle.std.proofs.lemmas.List.{drop_more}
-use Rattle.std.proofs.Math.ListN.{drop_of_length-le}
-use Rattle.std.specs.Prelude.{IfSome}
-use Rattle.pua_steps.specs.Calls.{calls_of}
-use Rattle.pua_steps.specs.Order.{rest_after}
-use Rattle.pua_steps.specs.Table.{IsState}
-use Rattle.pua_steps.specs.Lists.{narrow_of}
-use Rattle.pua_steps.specs.Live.{live_of}
-use Rattle.pua_steps.specs.Trail.{pairs_of, ahead}
-use Rattle.pua_steps.specs.Ready.{rests_of}
-use Rattle.pua_steps.specs.Resuming.{to_give, to_give_after}
-use Rattle.pua_steps.specs.declared.steps.Steps.{Steps}
-use Rattle.pua_steps.specs.declared.walk.Walk.{Walk}
+use Rattle.pua_steps.proofs.Common.{◌≡◌, ◌+◌, ◌-◌, ◌<◌, ◌≤◌, ◌∷◌, ℕ, List, length, drop, get_or, None, true, refl, sym, ap, ◌∙◌, arith}
+use Rattle.pua_steps.proofs.Common.{subst, drop_more, drop_of_length-le, IfSome, calls_of, pairs_after, IsState, narrow_of, live_of}
+use Rattle.pua_steps.proofs.Common.{pairs_of, ahead, rests_of, to_give, Steps, Walk}
+use Rattle.pua_steps.specs.Resuming.{to_give_after}
 use Rattle.pua_steps.proofs.Narrowing.{prunes}
 use Rattle.pua_steps.proofs.Costing.{states_of}
 use Rattle.pua_steps.proofs.Resume.{all_index}
@@ -33,9 +23,15 @@ loop-letter-init c =
       same = record { steps = refl; live = refl; lists = refl; limit = refl };
       reads = omega arith;
       index = omega arith;
-      so_far = (λ i. to_give (narrow_of t a.tables.live) (live_of a.tables.live) a.limit (fresh.0 i) a.calls a.behind (rests_of t a.tables.lists (fresh.1 i)) way call)
-          ∙ give_start (narrow_of t a.tables.live) (live_of a.tables.live) a.limit (λ s. IsState t s) (prunes t a.tables.live a.limit ready.sound.table ready.sound.sized) a.calls a.behind way call stands
-          ∙ sym (λ i. rest_after (way, call) (pairs_of (ahead (narrow_of t a.tables.live) (live_of a.tables.live) a.limit (fresh.0 i) (calls_of a.calls) a.behind (rests_of t a.tables.lists (fresh.1 i)))));
+      so_far = (λ i. to_give (narrow_of t a.tables.live) (live_of a.tables.live) a.limit (fresh.0 i) a.calls a.behind
+          (rests_of t a.tables.lists (fresh.1 i)) way call)
+          ∙ give_start (narrow_of t a.tables.live) (live_of a.tables.live) a.limit (λ s. IsState t s)
+          (prunes t a.tables.live a.limit ready.sound.table ready.sound.sized) a.calls a.behind way call stands
+          ∙ sym (λ i. pairs_after (
+            way,
+            call,
+          ) (pairs_of (ahead (narrow_of t a.tables.live) (live_of a.tables.live) a.limit (fresh.0 i) (calls_of a.calls) a.behind
+          (rests_of t a.tables.lists (fresh.1 i)))));
     }
 
 pub returns-in_default-clause-left : goal.returns-in_default-clause-left
@@ -53,7 +49,8 @@ returns-in_default-clause-left c =
     let v = live_of a.tables.live in
     sym (ap (λ w. to_give_after a w call) split
     ∙ ap (λ o. to_give g v a.limit a.word.items a.calls o rests (get_or way d 0 ∷ drop (d + 1) way) call) none
-    ∙ give_dead g v a.limit (λ s. IsState t s) (prunes t a.tables.live a.limit inv.ready.sound.table inv.ready.sound.sized) a.word.items a.calls rests call (get_or way d 0) (drop (d + 1) way)
+    ∙ give_dead g v a.limit (λ s. IsState t s) (prunes t a.tables.live a.limit inv.ready.sound.table inv.ready.sound.sized) a.word.items
+    a.calls rests call (get_or way d 0) (drop (d + 1) way)
     ∙ ap (λ o. pairs_of (ahead g v a.limit a.word.items (calls_of 0) o rests)) (sym none))
     ∙ inv.so_far
 
@@ -61,13 +58,15 @@ pub descend-requires-clause-short : goal.descend-requires-clause-short
 descend-requires-clause-short c =
     let a : Walk = c.loop-letter.self in
     let ready = c.loop-letter.invariant.ready in
-    let stands = subst (λ o. IfSome o (λ s. IsState a.tables.steps s × (live_of a.tables.live (a.limit - length a.word.items) s ≡ true))) c.in-Some.is ready.behind in
+    let stands = subst (λ o. IfSome o (λ s. IsState a.tables.steps s × (live_of a.tables.live (a.limit - length a.word.items) s ≡ true)))
+    c.in-Some.is ready.behind in
     below_limit a.tables.steps a.tables.live a.limit (length a.word.items) c.in-Some.state ready.sound.sized stands.0 stands.1
 
 pub descend-requires-clause-letter : goal.descend-requires-clause-letter
 descend-requires-clause-letter c =
     let a : Walk = c.loop-letter.self in
-    let there = all_index (λ i. i < c.args.self.now.tables.steps.letters) c.args.word.now c.requires.word c.loop-letter.letter-index c.loop-letter-test.true in
+    let there = all_index (λ i. i < c.args.self.now.tables.steps.letters) c.args.word.now c.requires.word c.loop-letter.letter-index
+    c.loop-letter-test.true in
     subst (λ (t : Steps). get_or c.args.word.now c.loop-letter.letter-index 0 < t.letters) (sym c.loop-letter.invariant.same.steps) there
 
 pub loop-letter-preserved : goal.loop-letter-preserved
@@ -79,7 +78,12 @@ loop-letter-preserved c =
     let split = drop_more way d 0 c.loop-letter-test.true in
     record {
       ready = c.descend.ensures.ready;
-      same = record { steps = c.descend.ensures.same.steps ∙ inv.same.steps; live = c.descend.ensures.same.live ∙ inv.same.live; lists = c.descend.ensures.same.lists ∙ inv.same.lists; limit = c.descend.ensures.same.limit ∙ inv.same.limit };
+      same = record {
+        steps = c.descend.ensures.same.steps ∙ inv.same.steps;
+        live = c.descend.ensures.same.live ∙ inv.same.live;
+        lists = c.descend.ensures.same.lists ∙ inv.same.lists;
+        limit = c.descend.ensures.same.limit ∙ inv.same.limit;
+      };
       reads = omega (arith, c.descend.ensures.reads, inv.reads);
       index = omega (arith, c.loop-letter-test.true);
       so_far = sym (ap (λ w. to_give_after a w c.args.call) split ∙ c.descend.ensures.gives (drop (d + 1) way) c.args.call) ∙ inv.so_far;
@@ -93,9 +97,12 @@ returns-clause-left c =
     let d : ℕ = c.loop-letter.letter-index in
     let inv = c.loop-letter.invariant in
     let past : length way ≤ d = omega (arith, c.loop-letter-test.false) in
-    let stands = states_of (λ s. IsState t s) (λ s. live_of a.tables.live (a.limit - length a.word.items) s ≡ true) a.behind inv.ready.behind in
+    let stands = states_of (λ s. IsState t s) (λ s. live_of a.tables.live (a.limit - length a.word.items) s ≡ true) a.behind
+    inv.ready.behind in
     sym (ap (λ w. to_give_after a w c.args.call) (drop_of_length-le way past)
-    ∙ give_here (narrow_of t a.tables.live) (live_of a.tables.live) a.limit (λ s. IsState t s) (prunes t a.tables.live a.limit inv.ready.sound.table inv.ready.sound.sized) a.word.items a.calls (rests_of t a.tables.lists a.frames.items) c.args.call a.behind c.calls_after-self.result stands c.calls_after-self.ensures.after)
+    ∙ give_here (narrow_of t a.tables.live) (live_of a.tables.live) a.limit (λ s. IsState t s)
+    (prunes t a.tables.live a.limit inv.ready.sound.table inv.ready.sound.sized) a.word.items a.calls
+    (rests_of t a.tables.lists a.frames.items) c.args.call a.behind c.calls_after-self.result stands c.calls_after-self.ensures.after)
     ∙ inv.so_far
 
 pub returns-in_default-clause-reads : goal.returns-in_default-clause-reads

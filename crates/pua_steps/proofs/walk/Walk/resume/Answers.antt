@@ -1,7 +1,5 @@
-use Rattle.std.proofs.Common.{◌≤◌, ◌+◌, ◌*◌, length, ◌<◌, ◌∙◌, ap, sym, subst}
-use Rattle.std.specs.List.{AllByRecursion}
+use Rattle.pua_steps.proofs.Common.{◌≤◌, ◌+◌, ◌*◌, length, ◌<◌, ◌∙◌, ap, sym, subst, AllByRecursion, pairs_after}
 use Rattle.pua_steps.specs.Limits.{search_cost}
-use Rattle.pua_steps.specs.Order.{rest_after}
 use Rattle.pua_steps.specs.declared.tables.Tables.{Tables}
 use Rattle.pua_steps.proofs.walk.Walk.resume.Goals as goal
 
@@ -9,7 +7,7 @@ pub go_to-requires-clause-word : goal.go_to-requires-clause-word
 go_to-requires-clause-word c = subst (λ (t : Tables). AllByRecursion (λ letter. letter < t.steps.letters) c.args.word.now) (sym c.in_ok-walk.ensures.of.0) c.requires.word
 
 pub returns-clause-left : goal.returns-clause-left
-returns-clause-left c = c.go_to.ensures.left ∙ ap (rest_after (c.args.word.now, c.args.call)) c.in_ok-walk.ensures.left
+returns-clause-left c = c.go_to.ensures.left ∙ ap (pairs_after (c.args.word.now, c.args.call)) c.in_ok-walk.ensures.left
 
 pub returns-clause-of : goal.returns-clause-of
 returns-clause-of c = (c.go_to.ensures.same.steps ∙ ap (λ (t : Tables). t.steps) c.in_ok-walk.ensures.of.0, c.go_to.ensures.same.limit ∙ c.in_ok-walk.ensures.of.1)

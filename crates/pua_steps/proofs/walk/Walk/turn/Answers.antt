@@ -1,18 +1,8 @@
-use Rattle.std.proofs.Common.{◌<◌, ◌^◌, ℕ, List, true, ◌≡◌, ◌+◌, ◌-◌, ◌≤◌, length, take, set, vec_capacity, [], ◌∷◌, ◌++◌, refl, sym, arith, ◌∙◌, ap, subst}
-use Rattle.std.proofs.lemmas.List.{length_push}
-use Rattle.std.proofs.lemmas.Grind.{common_steps}
-use Rattle.std.specs.Prelude.{IfSome, option_to_list}
+use Rattle.pua_steps.proofs.Common.{◌<◌, ◌^◌, ℕ, List, true, ◌≡◌, ◌+◌, ◌-◌, ◌≤◌, length, take, set, vec_capacity, [], ◌∷◌, ◌++◌, refl, sym}
+use Rattle.pua_steps.proofs.Common.{arith, ◌∙◌, ap, subst, length_push, common_steps, IfSome, option_to_list, IsState, IsOpen, narrow_of}
+use Rattle.pua_steps.proofs.Common.{rest_of, live_of, calls_of, ahead, pending, IsCounted, looks, AreOpen, rests_of, Frame, Steps, Lists}
 use Rattle.pua_steps.proofs.Entering.{entered_ready}
-use Rattle.pua_steps.specs.Table.{IsState}
-use Rattle.pua_steps.specs.Lists.{IsOpen, narrow_of, rest_of}
-use Rattle.pua_steps.specs.Live.{live_of}
-use Rattle.pua_steps.specs.Calls.{calls_of}
-use Rattle.pua_steps.specs.Trail.{ahead, pending}
-use Rattle.pua_steps.specs.Ready.{IsCounted, looks, AreOpen, rests_of}
-use Rattle.pua_steps.specs.declared.frame.Frame.{Frame}
-use Rattle.pua_steps.specs.declared.steps.Steps.{Steps}
 use Rattle.pua_steps.specs.declared.live.Live as table
-use Rattle.pua_steps.specs.declared.lists.Lists.{Lists}
 use Rattle.pua_steps.proofs.Seeks.{counted_none, counted_more, looks_zero, looks-looks}
 use Rattle.pua_steps.proofs.Listing.{longer_none}
 use Rattle.pua_steps.proofs.Front.{longer_popped, front_by, front_gone}
@@ -42,7 +32,8 @@ next_visit-requires-clause-open c =
     let f : Frame = c.index_mut.result.now in
     let front : List Frame = take k a.frames.items in
     let split : a.frames.items ≡ front ++ f ∷ [] = last_split a.frames.items k f (grind (arith, common_steps)) c.index_mut.ensures.value in
-    (all_front (λ f. IsOpen a.tables.steps a.tables.lists f) front f (subst (AreOpen a.tables.steps a.tables.lists) split c.loop-self.invariant.states)).1
+    (all_front (λ f. IsOpen a.tables.steps a.tables.lists f) front f (subst (AreOpen a.tables.steps a.tables.lists) split
+    c.loop-self.invariant.states)).1
 
 pub returns-in-Some-clause-next : goal.returns-in-Some-clause-next
 returns-in-Some-clause-next c =
@@ -56,18 +47,36 @@ returns-in-Some-clause-next c =
     let split : a.frames.items ≡ front ++ f ∷ [] = last_split a.frames.items k f (grind (arith, common_steps)) c.index_mut.ensures.value in
     let low : k ≡ length front = omega (arith, ap length split, length_push front f, c.len-deepest.ensures) in
     let pushed : b.frames.items ≡ front ++ c.next_visit.new.frame ∷ [] =
-    ap (λ v. v.items) c.go_by.ensures.frames ∙ ap (λ (fs : List Frame). set fs k c.next_visit.new.frame) split ∙ last_set front f c.next_visit.new.frame k low in
+    ap (λ v. v.items) c.go_by.ensures.frames ∙ ap (λ (fs : List Frame). set fs k c.next_visit.new.frame) split ∙
+    last_set front f c.next_visit.new.frame k low in
     let even : length front ≡ length a.word.items = omega (arith, ap length split, length_push front f, c.loop-self.invariant.framed) in
     let e =
     far.1.1
-    ∙ ap (looks far.0) (taken_by (narrow_of a.tables.steps a.tables.live) (live_of a.tables.live) a.limit (rest_of a.tables.steps a.tables.lists) a.word.items a.frames.items front f got.0 split even (a.limit - k - 1) (omega (arith, c.len-deepest.ensures, c.loop-self.invariant.framed)) c.in-Some.visit c.next_visit.new.frame b.word.items b.frames.items b.calls b.behind
+    ∙ ap (looks far.0) (taken_by (narrow_of a.tables.steps a.tables.live) (live_of a.tables.live) a.limit
+    (rest_of a.tables.steps a.tables.lists) a.word.items a.frames.items front f got.0 split even (a.limit - k - 1) (omega (
+      arith,
+      c.len-deepest.ensures,
+      c.loop-self.invariant.framed,
+    )) c.in-Some.visit c.next_visit.new.frame b.word.items b.frames.items b.calls
+    b.behind
     got.1.1.next.1 pushed c.go_by.ensures.word c.go_by.ensures.there.0 c.go_by.ensures.there.1)
     ∙ looks-looks far.0 got.0 _
-    ∙ ap (λ (t : Steps). looks (far.0 + got.0) (ahead (narrow_of t a.tables.live) (live_of a.tables.live) a.limit b.word.items (calls_of b.calls) b.behind (rests_of t a.tables.lists b.frames.items))) (sym (c.go_by.ensures.steps ∙ c.next_visit.ensures.steps))
-    ∙ ap (λ (v : table.Live). looks (far.0 + got.0) (ahead (narrow_of b.tables.steps v) (live_of v) a.limit b.word.items (calls_of b.calls) b.behind (rests_of b.tables.steps a.tables.lists b.frames.items))) (sym (c.go_by.ensures.live ∙ c.next_visit.ensures.live))
-    ∙ ap (λ n. looks (far.0 + got.0) (ahead (narrow_of b.tables.steps b.tables.live) (live_of b.tables.live) n b.word.items (calls_of b.calls) b.behind (rests_of b.tables.steps a.tables.lists b.frames.items))) (sym c.go_by.ensures.limit)
-    ∙ ap (λ (ls : Lists). looks (far.0 + got.0) (ahead (narrow_of b.tables.steps b.tables.live) (live_of b.tables.live) b.limit b.word.items (calls_of b.calls) b.behind (rests_of b.tables.steps ls b.frames.items))) (sym (c.go_by.ensures.lists ∙ c.next_visit.ensures.lists)) in
-    (far.0 + got.0, (subst (λ k. IsCounted c.args.self.now.tables.reads (far.0 + got.0) k) (sym c.go_by.ensures.reads) (counted_more c.args.self.now.tables.reads far.0 got.0 a.tables.reads c.next_visit.new.self.reads far.1.0 got.1.0), record { next = (omega (arith, got.1.1.next.0), e); over = λ h. absurd cc }))
+    ∙ ap (λ (t : Steps). looks (far.0 + got.0) (ahead (narrow_of t a.tables.live) (live_of a.tables.live) a.limit b.word.items
+    (calls_of b.calls) b.behind (rests_of t a.tables.lists b.frames.items))) (sym (c.go_by.ensures.steps ∙ c.next_visit.ensures.steps))
+    ∙ ap (λ (v : table.Live). looks (far.0 + got.0) (ahead (narrow_of b.tables.steps v) (live_of v) a.limit b.word.items (calls_of b.calls)
+    b.behind (rests_of b.tables.steps a.tables.lists b.frames.items))) (sym (c.go_by.ensures.live ∙ c.next_visit.ensures.live))
+    ∙ ap (λ n. looks (far.0 + got.0) (ahead (narrow_of b.tables.steps b.tables.live) (live_of b.tables.live) n b.word.items
+    (calls_of b.calls) b.behind (rests_of b.tables.steps a.tables.lists b.frames.items))) (sym c.go_by.ensures.limit)
+    ∙ ap (λ (ls : Lists). looks (far.0 + got.0) (ahead (narrow_of b.tables.steps b.tables.live) (live_of b.tables.live) b.limit b.word.items
+    (calls_of b.calls) b.behind (rests_of b.tables.steps ls b.frames.items))) (sym (c.go_by.ensures.lists ∙ c.next_visit.ensures.lists))
+    in (
+      far.0 + got.0,
+      (
+        subst (λ k. IsCounted c.args.self.now.tables.reads (far.0 + got.0) k) (sym c.go_by.ensures.reads)
+            (counted_more c.args.self.now.tables.reads far.0 got.0 a.tables.reads c.next_visit.new.self.reads far.1.0 got.1.0),
+        record { next = (omega (arith, got.1.1.next.0), e); over = λ h. absurd cc },
+      ),
+    )
 
 pub loop-self-preserved : goal.loop-self-preserved
 loop-self-preserved c =
@@ -91,26 +100,54 @@ loop-self-preserved c =
     let whole : set a.frames.items k g ≡ front ++ g ∷ [] = ap (λ (fs : List Frame). set fs k g) split ∙ last_set front f g k low in
     let size : length (set a.frames.items k g) ≡ length front + 1 = ap length whole ∙ length_push front g in
     let many : k ≡ length rest = grind (arith, common_steps, size, low) in
-    let popped : rest ≡ front = sym (front_taken rest (option_to_list c.pop.result) k many) ∙ ap (take k) (sym c.pop.ensures.items ∙ whole) ∙ front_taken front (g ∷ []) k low in
+    let popped : rest ≡ front = sym (front_taken rest (option_to_list c.pop.result) k many) ∙
+    ap (take k) (sym c.pop.ensures.items ∙ whole) ∙ front_taken front (g ∷ []) k low in
     let last : a.frames.items ≡ rest ++ f ∷ [] = split ∙ ap (λ fs. fs ++ f ∷ []) (sym popped) in
     let even : length rest ≡ length a.word.items = omega (arith, ap length last, length_push rest f, inv.framed) in
     let e =
     far.1.1
-    ∙ ap (looks far.0) (left_by (narrow_of a.tables.steps a.tables.live) (live_of a.tables.live) a.limit (rest_of a.tables.steps a.tables.lists) a.word.items a.frames.items rest f got.0 last even (a.limit - k - 1) (omega (arith, c.len-deepest.ensures, c.loop-self.invariant.framed)) c.pop-in-loop-self.new.self.items c.pop-in-loop-self.result
+    ∙ ap (looks far.0) (left_by (narrow_of a.tables.steps a.tables.live) (live_of a.tables.live) a.limit
+    (rest_of a.tables.steps a.tables.lists) a.word.items a.frames.items rest f got.0 last even (a.limit - k - 1) (omega (
+      arith,
+      c.len-deepest.ensures,
+      c.loop-self.invariant.framed,
+    )) c.pop-in-loop-self.new.self.items c.pop-in-loop-self.result
     got.1.1.next c.pop-in-loop-self.ensures.items)
     ∙ looks-looks far.0 got.0 (pending (narrow_of t v) (live_of v) a.limit 0 c.pop-in-loop-self.new.self.items (rests_of t ls rest))
-    ∙ sym (λ i. looks (far.0 + got.0) (pending (narrow_of (c.next_visit.ensures.steps i) (c.next_visit.ensures.live i)) (live_of (c.next_visit.ensures.live i)) a.limit 0 c.pop-in-loop-self.new.self.items (rests_of (c.next_visit.ensures.steps i) (c.next_visit.ensures.lists i) rest))) in
+    ∙ sym (λ i. looks (far.0 + got.0) (pending (narrow_of (c.next_visit.ensures.steps i) (c.next_visit.ensures.live i))
+    (live_of (c.next_visit.ensures.live i)) a.limit 0 c.pop-in-loop-self.new.self.items
+    (rests_of (c.next_visit.ensures.steps i) (c.next_visit.ensures.lists i) rest))) in
     record {
-      same = record { steps = c.next_visit.ensures.steps ∙ inv.same.steps; live = c.next_visit.ensures.live ∙ inv.same.live; lists = c.next_visit.ensures.lists ∙ inv.same.lists; limit = inv.same.limit };
-      sound = record { table = moved_table t u v w ls ms c.next_visit.ensures.steps c.next_visit.ensures.live c.next_visit.ensures.lists inv.sound.table; sized = moved_sized t u v w ls ms c.next_visit.ensures.steps c.next_visit.ensures.live c.next_visit.ensures.lists a.limit inv.sound.sized; listed = moved_listed t u v w ls ms c.next_visit.ensures.steps c.next_visit.ensures.live c.next_visit.ensures.lists a.limit inv.sound.listed; room = record { words = grind (arith, common_steps); frames = grind (arith, common_steps) } };
-      states = moved_open t u v w ls ms c.next_visit.ensures.steps c.next_visit.ensures.live c.next_visit.ensures.lists rest (all_front (λ f. IsOpen a.tables.steps a.tables.lists f) rest f (subst (AreOpen a.tables.steps a.tables.lists) last inv.states)).0;
+      same = record {
+        steps = c.next_visit.ensures.steps ∙ inv.same.steps;
+        live = c.next_visit.ensures.live ∙ inv.same.live;
+        lists = c.next_visit.ensures.lists ∙ inv.same.lists;
+        limit = inv.same.limit;
+      };
+      sound = record {
+        table = moved_table t u v w ls ms c.next_visit.ensures.steps c.next_visit.ensures.live c.next_visit.ensures.lists
+            inv.sound.table;
+        sized = moved_sized t u v w ls ms c.next_visit.ensures.steps c.next_visit.ensures.live c.next_visit.ensures.lists
+            a.limit inv.sound.sized;
+        listed =
+            moved_listed t u v w ls ms c.next_visit.ensures.steps c.next_visit.ensures.live c.next_visit.ensures.lists a.limit
+            inv.sound.listed;
+        room = record { words = grind (arith, common_steps); frames = grind (arith, common_steps) };
+      };
+      states = moved_open t u v w ls ms c.next_visit.ensures.steps c.next_visit.ensures.live c.next_visit.ensures.lists rest
+          (all_front (λ f. IsOpen a.tables.steps a.tables.lists f) rest f (subst (AreOpen a.tables.steps a.tables.lists) last
+          inv.states)).0;
       calls = inv.calls;
       behind = inv.behind;
       framed = grind (arith, common_steps);
       most = omega (arith, ap length last, length_push rest f, inv.most);
       unchanged = inv.unchanged;
-      front = longer_popped c.pop-in-loop-self.new.self.items a.word.items c.args.self.now.word.items c.pop-in-loop-self.result c.pop-in-loop-self.ensures.items inv.front;
-      so_far = (far.0 + got.0, (counted_more c.args.self.now.tables.reads far.0 got.0 a.tables.reads c.next_visit.new.self.reads far.1.0 got.1.0, e));
+      front = longer_popped c.pop-in-loop-self.new.self.items a.word.items c.args.self.now.word.items c.pop-in-loop-self.result
+          c.pop-in-loop-self.ensures.items inv.front;
+      so_far = (
+        far.0 + got.0,
+        (counted_more c.args.self.now.tables.reads far.0 got.0 a.tables.reads c.next_visit.new.self.reads far.1.0 got.1.0, e),
+      );
     }
 
 pub returns-clause-next : goal.returns-clause-next
@@ -123,8 +160,10 @@ returns-clause-next c =
       (
         far.1.0,
         record {
-          next = far.1.1 ∙ ap (looks far.0) (none_left (narrow_of a.tables.steps a.tables.live) (live_of a.tables.live) a.limit (rest_of a.tables.steps a.tables.lists) a.word.items a.frames.items none);
-          over = λ _. all_over (narrow_of a.tables.steps a.tables.live) (live_of a.tables.live) a.limit (rest_of a.tables.steps a.tables.lists) a.word.items a.calls a.behind a.frames.items inv.calls inv.behind none;
+          next = far.1.1 ∙ ap (looks far.0) (none_left (narrow_of a.tables.steps a.tables.live) (live_of a.tables.live) a.limit
+              (rest_of a.tables.steps a.tables.lists) a.word.items a.frames.items none);
+          over = λ _. all_over (narrow_of a.tables.steps a.tables.live) (live_of a.tables.live) a.limit
+              (rest_of a.tables.steps a.tables.lists) a.word.items a.calls a.behind a.frames.items inv.calls inv.behind none;
         },
       ),
     )
@@ -141,23 +180,31 @@ returns-in-Some-clause-ready c =
     let split : a.frames.items ≡ front ++ f ∷ [] = last_split a.frames.items k f (grind (arith, common_steps)) c.index_mut.ensures.value in
     let low : k ≡ length front = omega (arith, ap length split, length_push front f, c.len-deepest.ensures) in
     let pushed : b.frames.items ≡ front ++ c.next_visit.new.frame ∷ [] =
-    ap (λ v. v.items) c.go_by.ensures.frames ∙ ap (λ (fs : List Frame). set fs k c.next_visit.new.frame) split ∙ last_set front f c.next_visit.new.frame k low in
+    ap (λ v. v.items) c.go_by.ensures.frames ∙ ap (λ (fs : List Frame). set fs k c.next_visit.new.frame) split ∙
+    last_set front f c.next_visit.new.frame k low in
     let even : length front ≡ length a.word.items = omega (arith, ap length split, length_push front f, inv.framed) in
     let short : length a.word.items < a.limit = omega (arith, ap length split, length_push front f, even, inv.most) in
     let left : a.limit - k - 1 ≡ a.limit - length a.word.items - 1 = omega (arith, c.len-deepest.ensures, inv.framed) in
-    let stands = subst (λ o. IfSome o (λ s. IsState a.tables.steps s × (live_of a.tables.live (a.limit - length a.word.items - 1) s ≡ true))) (sym c.go_by.ensures.there.1)
+    let stands = subst (λ o. IfSome o (λ s. IsState a.tables.steps s ×
+    (live_of a.tables.live (a.limit - length a.word.items - 1) s ≡ true))) (sym c.go_by.ensures.there.1)
     (subst (λ n. IfSome c.in-Some.visit.behind (λ s. IsState a.tables.steps s × (live_of a.tables.live n s ≡ true))) left given.behind) in
-    entered_ready a.tables.steps a.tables.live a.tables.lists a.limit a.word.items front c.next_visit.new.frame c.in-Some.visit.letter b inv.sound.table inv.sound.sized inv.sound.listed
-    (all_front (λ f. IsOpen a.tables.steps a.tables.lists f) front f (subst (AreOpen a.tables.steps a.tables.lists) split inv.states)).0 c.next_visit.ensures.open
-    (subst (λ n. n < 2 ^ 14) (sym c.go_by.ensures.there.0) given.calls) stands even short (c.go_by.ensures.steps ∙ c.next_visit.ensures.steps) (c.go_by.ensures.live ∙ c.next_visit.ensures.live) (c.go_by.ensures.lists ∙ c.next_visit.ensures.lists) c.go_by.ensures.limit
-    (omega (arith, inv.sound.room.words, c.go_by.ensures.room)) (subst (λ v. a.limit ≤ vec_capacity v) (sym c.go_by.ensures.frames) inv.sound.room.frames) c.go_by.ensures.word pushed (omega (arith, c.go_by.ensures.unchanged, c.min-self.ensures, c.len.ensures))
+    entered_ready a.tables.steps a.tables.live a.tables.lists a.limit a.word.items front c.next_visit.new.frame c.in-Some.visit.letter b
+    inv.sound.table inv.sound.sized inv.sound.listed
+    (all_front (λ f. IsOpen a.tables.steps a.tables.lists f) front f (subst (AreOpen a.tables.steps a.tables.lists) split inv.states)).0
+    c.next_visit.ensures.open
+    (subst (λ n. n < 2 ^ 14) (sym c.go_by.ensures.there.0) given.calls) stands even short (c.go_by.ensures.steps ∙
+    c.next_visit.ensures.steps) (c.go_by.ensures.live ∙ c.next_visit.ensures.live) (c.go_by.ensures.lists ∙
+    c.next_visit.ensures.lists) c.go_by.ensures.limit
+    (omega (arith, inv.sound.room.words, c.go_by.ensures.room)) (subst (λ v. a.limit ≤ vec_capacity v) (sym c.go_by.ensures.frames)
+    inv.sound.room.frames) c.go_by.ensures.word pushed (omega (arith, c.go_by.ensures.unchanged, c.min-self.ensures, c.len.ensures))
 
 pub returns-in-Some-clause-unchanged : goal.returns-in-Some-clause-unchanged
 returns-in-Some-clause-unchanged c =
     let a = c.loop-self.self in
     let old = c.args.self.now in
     let b = c.go_by.new.self in
-    front_by old.unchanged b.unchanged old.word.items a.word.items (c.in-Some.visit.letter ∷ []) b.word.items c.loop-self.invariant.front c.go_by.ensures.word (omega (arith, c.go_by.ensures.unchanged, c.min-self.ensures, c.len.ensures))
+    front_by old.unchanged b.unchanged old.word.items a.word.items (c.in-Some.visit.letter ∷ []) b.word.items c.loop-self.invariant.front
+    c.go_by.ensures.word (omega (arith, c.go_by.ensures.unchanged, c.min-self.ensures, c.len.ensures))
     (omega (arith, c.go_by.ensures.unchanged, c.min-self.ensures, c.loop-self.invariant.unchanged))
 
 pub returns-clause-unchanged : goal.returns-clause-unchanged

@@ -1,12 +1,11 @@
-use Rattle.std.proofs.Common.{◌≡◌, ◌≤◌, ◌-◌, ℕ, None, length}
-use Rattle.pua_steps.specs.Ready.{IsCounted, looks, left_over, AreOpen, IsSound, IsOf}
-use Rattle.pua_steps.specs.Lists.{IsLonger}
+use Rattle.pua_steps.proofs.Common.{◌≡◌, ◌≤◌, ◌-◌, ℕ, None, length, IsCounted, looks, AreOpen, IsSameWalk, IsLonger}
+use Rattle.pua_steps.specs.Ready.{left_over, HasSoundTables}
 use Rattle.pua_steps.proofs.walk.Walk.turn.Given as goal
 
 abbrev pub invariant-loop-self : goal.invariant-loop-self
 invariant-loop-self l = record {
-  same : IsOf l.fn.self l.self;
-  sound : IsSound l.self;
+  same : IsSameWalk l.fn.self l.self;
+  sound : HasSoundTables l.self;
   states : AreOpen l.self.tables.steps l.self.tables.lists l.self.frames.items;
   calls : l.self.calls ≡ 0;
   behind : l.self.behind ≡ None;
@@ -14,7 +13,8 @@ invariant-loop-self l = record {
   most : length l.self.frames.items ≤ l.self.limit;
   unchanged : l.self.unchanged ≡ l.fn.self.unchanged;
   front : IsLonger ℕ l.self.word.items l.fn.self.word.items;
-  so_far : (n : ℕ) × (IsCounted l.fn.self.tables.reads n l.self.tables.reads × (left_over l.fn.self l.fn.self.frames.items ≡ looks n (left_over l.self l.self.frames.items)));
+  so_far : (n : ℕ) × (IsCounted l.fn.self.tables.reads n l.self.tables.reads ×
+      (left_over l.fn.self l.fn.self.frames.items ≡ looks n (left_over l.self l.self.frames.items)));
 }
 
 abbrev pub decreases-loop-self : goal.decreases-loop-self

@@ -1,5 +1,4 @@
-use Rattle.std.proofs.Common.{[]}
-use Rattle.std.proofs.lemmas.Result.{err_from_is_err_and}
+use Rattle.pua_texts.proofs.Common.{[], err_from_is_err_and}
 use Rattle.pua_texts.proofs.Passing.{passes_room, passes_unput}
 use Rattle.pua_texts.proofs.block.Block.add.Goals as goal
 
@@ -10,5 +9,6 @@ returns-in_err-make_room g c =
 
 pub returns : goal.returns
 returns g c =
-    passes_room c.args.bytes.now c.args.self.now c.make_room.new.self c.push.new.self (g.S.Sink.written c.args.sink.now) (g.S.Sink.written c.make_room.new.sink) (g.S.Sink.failed c.args.sink.now) (g.S.Sink.failed c.make_room.new.sink)
+    passes_room c.args.bytes.now c.args.self.now c.make_room.new.self c.push.new.self (g.S.Sink.written c.args.sink.now)
+    (g.S.Sink.written c.make_room.new.sink) (g.S.Sink.failed c.args.sink.now) (g.S.Sink.failed c.make_room.new.sink)
     c.in_ok-make_room.ensures.handed c.in_ok-make_room.ensures.unfailed c.push.ensures

@@ -1,4 +1,4 @@
-use Rattle.std.proofs.Common.{ap, length, arith}
+use Rattle.pua_texts.proofs.Common.{ap, length, arith}
 use Rattle.pua_texts.proofs.block.Block.add_all.Goals as goal
 
 pub push-requires : goal.push-requires

@@ -1,6 +1,5 @@
-use Rattle.std.proofs.Common.{◌≡◌, ◌<◌, sym, subst, ap, ◌∙◌, length, take, get_or, arith}
+use Rattle.pua_texts.proofs.Common.{◌≡◌, ◌<◌, sym, subst, ap, ◌∙◌, length, take, get_or, arith, KeptPathState, IsKept}
 use Rattle.std.proofs.lemmas.List.{get_or_default}
-use Rattle.pua_texts.specs.KeptPaths.{KeptPathState, IsKept}
 use Rattle.pua_texts.proofs.KeptPaths.{all_kept, cut_kept}
 use Rattle.pua_texts.proofs.kept_path.KeptPath.cut.Goals as goal
 
@@ -17,4 +16,9 @@ returns-then-count-len c = λ old new kept short same.
 
 pub returns-else-count-len : goal.returns-else-count-len
 returns-else-count-len c = λ old new kept short same.
-    all_kept old new c.args.count c.args.self.now kept (omega (arith, c.len.ensures, ap (λ (s : KeptPathState). length s.starts) c.self.view_is, c.if-count-len.false)) short same
+    all_kept old new c.args.count c.args.self.now kept (omega (
+      arith,
+      c.len.ensures,
+      ap (λ (s : KeptPathState). length s.starts) c.self.view_is,
+      c.if-count-len.false,
+    )) short same

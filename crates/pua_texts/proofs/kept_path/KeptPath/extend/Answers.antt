@@ -1,6 +1,5 @@
-use Rattle.std.proofs.Common.{◌<◌, [], map, length, get_or, subst, sym, ap, ◌∙◌, arith}
-use Rattle.std.proofs.lemmas.List.{get_or-map, length-map}
-use Rattle.pua_texts.specs.KeptPaths.{KeptPathState, IsKept}
+use Rattle.pua_texts.proofs.Common.{◌<◌, [], map, length, get_or, subst, sym, ap, ◌∙◌, arith, length-map, KeptPathState, IsKept}
+use Rattle.std.proofs.lemmas.List.{get_or-map}
 use Rattle.pua_texts.proofs.KeptPaths.{push_kept}
 use Rattle.pua_texts.proofs.kept_path.KeptPath.extend.Goals as goal
 

@@ -1,5 +1,4 @@
-use Rattle.std.proofs.Common.{map, ◌-◌, length}
-use Rattle.pua_texts.specs.KeptPaths.{IsKept}
+use Rattle.pua_texts.proofs.Common.{map, ◌-◌, length, IsKept}
 use Rattle.pua_texts.proofs.kept_path.KeptPath.extend.Given as goal
 
 abbrev pub invariant-loop-self : goal.invariant-loop-self

@@ -1,5 +1,4 @@
-use Rattle.std.proofs.Common.{sym, subst}
-use Rattle.pua_policy.specs.History.{ProcessState, StandsFor}
+use Rattle.pua_texts.proofs.Common.{sym, subst, ProcessState, StandsFor}
 use Rattle.pua_texts.proofs.process_list.ProcessList.begin.Goals as goal
 
 pub returns : goal.returns

@@ -1,12 +1,8 @@
-use Rattle.std.proofs.Common.{◌+◌, ◌≤◌, ap, sym, ◌∙◌, drop, get_or, arith}
-use Rattle.std.specs.Prelude.{bit_or, filter}
-use Rattle.pua_calls.specs.Calls.{calls, rule_of}
-use Rattle.pua_calls.specs.CallSets.{has}
-use Rattle.pua_policy.specs.History.{History}
+use Rattle.pua_texts.proofs.Common.{◌+◌, ◌≤◌, ap, sym, ◌∙◌, drop, get_or, arith, bit_or, filter, calls, has, History, Call, Stat}
+use Rattle.pua_texts.proofs.Common.{resting_on}
+use Rattle.pua_calls.specs.Calls.{rule_of}
 use Rattle.pua_policy.specs.Reasons.{promising}
-use Rattle.pua_calls.specs.declared.call.Call.{Call}
-use Rattle.pua_calls.specs.declared.call.Call.TheVariants.{Stat}
-use Rattle.pua_why.specs.Columns.{let_by, resting_on}
+use Rattle.pua_why.specs.Columns.{let_by}
 use Rattle.pua_texts.specs.WhyLists.{ColumnsState}
 use Rattle.pua_texts.proofs.WhyColumns.{rest_done, rest_passed, rest_taken}
 use Rattle.pua_texts.proofs.why_columns.Columns.resting_on.Goals.{then-contains, else-contains}
@@ -17,13 +13,17 @@ loop-call-preserved g c =
     let i = c.loop-call.call-index in
     let set = c.args.calls in
     let table = c.args.self.now.table in
-    let own = λ (h : History) (call : Call). ap (λ (s : ColumnsState). let_by (promising h (rule_of s.table call).alternatives)) c.self.view_is in
+    let own = λ (h : History) (call : Call). ap (λ (s : ColumnsState). let_by (promising h (rule_of s.table call).alternatives))
+    c.self.view_is in
     elim c.if-contains.branch [
       | then-contains w ↦ rw w.resting-is (λ h stands.
           ap (λ r. bit_or r (resting_on table h (filter (has set) (drop (i + 1) calls)))) w.union-resting.ensures
-          ∙ sym (rest_taken table h set c.loop-call.resting w.let_by.result i c.loop-call-test.true (sym c.contains.ensures ∙ w.if-contains.true) (w.let_by.ensures h stands ∙ own h (get_or calls i Stat)))
+          ∙ sym (rest_taken table h set c.loop-call.resting w.let_by.result i c.loop-call-test.true (sym c.contains.ensures ∙
+          w.if-contains.true) (w.let_by.ensures h stands ∙ own h (get_or calls i Stat)))
           ∙ c.loop-call.invariant h stands)
-      | else-contains w ↦ rw w.resting-is (λ h stands. sym (rest_passed table h set c.loop-call.resting i c.loop-call-test.true (sym c.contains.ensures ∙ w.if-contains.false)) ∙ c.loop-call.invariant h stands)
+      | else-contains w ↦ rw w.resting-is
+          (λ h stands. sym (rest_passed table h set c.loop-call.resting i c.loop-call-test.true (sym c.contains.ensures ∙
+          w.if-contains.false)) ∙ c.loop-call.invariant h stands)
     ]
 
 pub returns : goal.returns

@@ -1,7 +1,4 @@
-use Rattle.std.proofs.Common.{ap, ◌∙◌}
-use Rattle.pua_tree.specs.Tree.{Tree}
-use Rattle.pua_policy.specs.History.{veils}
-use Rattle.pua_objects.specs.Objects.{items}
+use Rattle.pua_texts.proofs.Common.{ap, ◌∙◌, Tree, veils, items}
 use Rattle.pua_texts.proofs.why_list.WhyList.begin.Goals as goal
 
 pub returns : goal.returns

@@ -1,4 +1,4 @@
-use Rattle.std.proofs.Common.{rules}
+use Rattle.pua_tool.proofs.Common.{rules}
 use Rattle.pua_tool.proofs.fault.ToolFault.status.Goals as goal
 
 pub returns-in-Write : goal.returns-in-Write

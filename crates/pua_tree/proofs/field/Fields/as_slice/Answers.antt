@@ -1,4 +1,4 @@
-use Rattle.std.proofs.Common.{rules}
+use Rattle.pua_tree.proofs.Common.{rules}
 use Rattle.pua_tree.proofs.field.Fields.as_slice.Goals as goal
 
 pub returns : goal.returns

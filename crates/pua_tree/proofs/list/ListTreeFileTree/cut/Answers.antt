@@ -1,8 +1,5 @@
-use Rattle.std.proofs.Common.{◌≡◌, ◌∙◌, Ok, sym, ap, subst}
+use Rattle.pua_tree.proofs.Common.{◌≡◌, ◌∙◌, Ok, sym, ap, subst, WellFormed, without_row, without_unnamed, held_tree}
 use Rattle.pua_tree.specs.Tree as tree
-use Rattle.pua_tree.specs.Tree.{WellFormed}
-use Rattle.pua_tree.specs.Edits.{without_row, without_unnamed}
-use Rattle.pua_tree.specs.ListTree.{held_tree}
 use Rattle.pua_tree.proofs.EditsKeep.{edits_keep_trees}
 use Rattle.pua_tree.proofs.ListEdits.{row_gone}
 use Rattle.pua_tree.proofs.list.ListTreeFileTree.cut.Goals as goal
@@ -12,11 +9,14 @@ returns-clause-exact c =
     let next = c.self.inside.next in
     let nodes = c.self.inside.nodes.items in
     let gone : held_tree c.take_row.new.rows.items nodes next ≡ without_row c.args.self.now c.args.dir c.args.name.now =
-    row_gone c.self.inside.rows.items c.take_row.new.rows.items nodes next c.args.dir c.args.name.now c.take_row.ensures.rows ∙ ap (λ (t : tree.Tree). without_row t c.args.dir c.args.name.now) c.self.view_is in
-    let left : held_tree c.take_row.new.rows.items c.take_unnamed.new.nodes.items next ≡ without_unnamed (without_row c.args.self.now c.args.dir c.args.name.now) c.in_ok-node.node =
+    row_gone c.self.inside.rows.items c.take_row.new.rows.items nodes next c.args.dir c.args.name.now c.take_row.ensures.rows ∙
+    ap (λ (t : tree.Tree). without_row t c.args.dir c.args.name.now) c.self.view_is in
+    let left : held_tree c.take_row.new.rows.items c.take_unnamed.new.nodes.items next
+    ≡ without_unnamed (without_row c.args.self.now c.args.dir c.args.name.now) c.in_ok-node.node =
     (rw c.deref.ensures.value at (c.take_unnamed.ensures next)) ∙ ap (λ (t : tree.Tree). without_unnamed t c.in_ok-node.node) gone in
     c.in_ok-node.ensures.exact ∙ ap (λ (t : tree.Tree). Ok (c.in_ok-node.node, t)) (sym left)
 
 pub invariant_of-self : goal.invariant_of-self
 invariant_of-self c =
-    (edits_keep_trees.cutting c.args.self.now _ c.args.dir c.in_ok-node.node c.args.name.now (subst WellFormed c.self.view_is c.self.invariant) (returns-clause-exact c)).0
+    (edits_keep_trees.cutting c.args.self.now _ c.args.dir c.in_ok-node.node c.args.name.now
+    (subst WellFormed c.self.view_is c.self.invariant) (returns-clause-exact c)).0

@@ -1,4 +1,4 @@
-use Rattle.std.proofs.Common.{arith}
+use Rattle.pua_tree.proofs.Common.{arith}
 use Rattle.pua_tree.proofs.Rows.{entry_names}
 use Rattle.pua_tree.proofs.list.ListTreeFileTree.names.Goals as goal
 

@@ -1,4 +1,4 @@
-use Rattle.std.proofs.Common.{rules}
+use Rattle.pua_tree.proofs.Common.{rules}
 use Rattle.pua_tree.proofs.list.ListTreeJudged.kind_of.Goals as goal
 
 pub returns-in-Ok : goal.returns-in-Ok

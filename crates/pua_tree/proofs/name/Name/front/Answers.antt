@@ -1,4 +1,4 @@
-use Rattle.std.proofs.Common.{ap, sym, ◌∙◌, take, arith, ◌≤◌, length}
+use Rattle.pua_tree.proofs.Common.{ap, sym, ◌∙◌, take, arith, ◌≤◌, length}
 use Rattle.pua_tree.specs.Names.{front}
 use Rattle.pua_tree.proofs.Fronts.{front-eight, front-padded}
 use Rattle.pua_tree.proofs.name.Name.front.Goals as goal

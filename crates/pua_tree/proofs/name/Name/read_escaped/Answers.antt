@@ -1,6 +1,4 @@
-use Rattle.std.proofs.Common.{◌≡◌, false, ◌<◌, ◌≤◌, length, Some, sym, ap, ◌∙◌, arith}
-use Rattle.pua_tree.specs.Names.{has_byte}
-use Rattle.pua_tree.specs.Spelling.{name_of_bytes}
+use Rattle.pua_tree.proofs.Common.{◌≡◌, false, ◌<◌, ◌≤◌, length, Some, sym, ap, ◌∙◌, arith, has_byte, name_of_bytes}
 use Rattle.pua_tree.proofs.NameFields.{name_of-slash, name_of-long, front_written}
 use Rattle.pua_tree.proofs.name.Name.read_escaped.Goals as goal
 
@@ -20,4 +18,5 @@ pub returns : goal.returns
 returns c =
     let read = c.in-Some.ensures in
     let short : length read.0 ≤ 255 = omega (arith, read.2) in
-    c.judged.ensures ∙ ap (λ bytes. name_of_bytes (Some bytes)) (front_written read.0 c.unspell_into.new.room c.in-Some.len read.2 short read.3) ∙ ap name_of_bytes (sym read.1)
+    c.judged.ensures ∙ ap (λ bytes. name_of_bytes (Some bytes)) (front_written read.0 c.unspell_into.new.room c.in-Some.len read.2 short
+    read.3) ∙ ap name_of_bytes (sym read.1)

@@ -1,20 +1,20 @@
-use Rattle.std.proofs.Common.{◌≡◌, ◌≢◌, ◌∙◌, ℕ, Option, Some, None, Ok, sym, ap, subst, is_some}
-use Rattle.std.specs.Ordering.{nat_cmp}
-use Rattle.std.specs.FinMap.{find}
+use Rattle.pua_tree.proofs.Common.{rules, ◌≡◌, ◌≢◌, ◌∙◌, ℕ, Option, Some, None, Ok, sym, ap, subst, is_some, nat_cmp, find, WellFormed}
+use Rattle.pua_tree.proofs.Common.{look, with_row, without_row, without_unnamed, with_row_moved, held_in_slots, held_rows, row_at}
 use Rattle.pua_tree.specs.Tree as tree
-use Rattle.pua_tree.specs.Tree.{WellFormed, look}
-use Rattle.pua_tree.specs.Edits.{with_row, without_row, without_unnamed, moved}
-use Rattle.pua_tree.specs.Slots.{held_in_slots, held_rows, row_at}
 use Rattle.pua_tree.proofs.EditsKeep.{edits_keep_trees}
 use Rattle.pua_tree.proofs.SlotsHold.{rows_found, rows_sorted}
-use Rattle.pua_tree.proofs.SlabEdits.{found_row, living_in, row_living, free_there, others_left, named_once, named_once_still, row_not_root, spots_apart, put_over}
+use Rattle.pua_tree.proofs.SlabEdits.{found_row, living_in, row_living, free_there, others_left, named_once, named_once_still, row_not_root}
+use Rattle.pua_tree.proofs.SlabEdits.{spots_apart, put_over}
 use Rattle.pua_tree.proofs.slab_tree.SlabTreeFileTree.shift.Goals as goal
 
 pub invariant_of-self : goal.invariant_of-self
-invariant_of-self c = (subst WellFormed (sym (c.reserve_row.ensures.same c.self.inside.next)) c.self.invariant.0, c.reserve_row.ensures.kept)
+invariant_of-self c = (
+  subst WellFormed (sym (c.reserve_row.ensures.same c.self.inside.next)) c.self.invariant.0,
+  c.reserve_row.ensures.kept,
+)
 
-pub returns-then-is_err-clause-unchanged : goal.returns-then-is_err-clause-unchanged
-returns-then-is_err-clause-unchanged c = c.reserve_row.ensures.same c.self.inside.next ∙ c.self.view_is
+pub returns-in_err-reserve_row-clause-unchanged : goal.returns-in_err-reserve_row-clause-unchanged
+returns-in_err-reserve_row-clause-unchanged c = grind (rules, c.reserve_row.ensures.same c.self.inside.next, c.self.view_is)
 
 pub take_row-requires-clause-there : goal.take_row-requires-clause-there
 take_row-requires-clause-there c = sym c.row.ensures ∙ c.in-Some-row.is
@@ -38,7 +38,8 @@ move_row-requires-clause-not_root c =
     let next = c.self.inside.next in
     let same : held_in_slots s next ≡ c.args.self.now = c.reserve_row.ensures.same next ∙ c.self.view_is in
     let found = rw c.in-Some.is at c.in_ok-node.ensures.found in
-    row_not_root s next c.args.from c.in-Some.node c.args.name.now (subst WellFormed (sym (c.reserve_row.ensures.same next)) c.self.invariant.0) (found_row s next c.args.self.now c.args.from c.args.name.now (Some c.in-Some.node) same found.0)
+    row_not_root s next c.args.from c.in-Some.node c.args.name.now (subst WellFormed (sym (c.reserve_row.ensures.same next))
+    c.self.invariant.0) (found_row s next c.args.self.now c.args.from c.args.name.now (Some c.in-Some.node) same found.0)
 
 pub move_row-requires-clause-dir_once : goal.move_row-requires-clause-dir_once
 move_row-requires-clause-dir_once c =
@@ -47,9 +48,11 @@ move_row-requires-clause-dir_once c =
     let there : row_at s (c.args.to, c.args.new_name) ≡ Some c.in-Some-row.displaced = sym c.row.ensures ∙ c.in-Some-row.is in
     let same : held_in_slots s next ≡ c.args.self.now = c.reserve_row.ensures.same next ∙ c.self.view_is in
     let found = rw c.in-Some.is at c.in_ok-node.ensures.found in
-    let look_is : look c.args.self.now c.args.to c.args.new_name ≡ Some c.in-Some-row.displaced = sym (ap (λ (t : tree.Tree). look t c.args.to c.args.new_name) same) ∙ rows_found s (c.args.to, c.args.new_name) ∙ there in
+    let look_is : look c.args.self.now c.args.to c.args.new_name ≡ Some c.in-Some-row.displaced =
+    sym (ap (λ (t : tree.Tree). look t c.args.to c.args.new_name) same) ∙ rows_found s (c.args.to, c.args.new_name) ∙ there in
     let other : c.in-Some-row.displaced ≢ c.in-Some.node = λ e. found.1 (look_is ∙ ap Some e) in
-    named_once_still s c.take_row.new.self next (c.args.to, c.args.new_name) c.in-Some-row.displaced c.in-Some.node (subst WellFormed (sym (c.reserve_row.ensures.same next)) c.self.invariant.0)
+    named_once_still s c.take_row.new.self next (c.args.to, c.args.new_name) c.in-Some-row.displaced c.in-Some.node
+    (subst WellFormed (sym (c.reserve_row.ensures.same next)) c.self.invariant.0)
     c.take_row.ensures.rows c.take_row.ensures.nodes there other (move_row-requires-clause-not_root c)
 
 pub drop_unnamed-requires-clause-living : goal.drop_unnamed-requires-clause-living
@@ -59,7 +62,8 @@ drop_unnamed-requires-clause-living c =
     let there : row_at s (c.args.to, c.args.new_name) ≡ Some c.in-Some-row.displaced = sym c.row.ensures ∙ c.in-Some-row.is in
     living_in c.move_row.new.self c.in-Some-row.displaced
     (ap (λ ns. is_some (find nat_cmp c.in-Some-row.displaced ns)) (c.move_row.ensures.nodes ∙ c.take_row.ensures.nodes)
-    ∙ row_living s next c.args.to c.in-Some-row.displaced c.args.new_name (subst WellFormed (sym (c.reserve_row.ensures.same next)) c.self.invariant.0) there)
+    ∙ row_living s next c.args.to c.in-Some-row.displaced c.args.new_name (subst WellFormed (sym (c.reserve_row.ensures.same next))
+    c.self.invariant.0) there)
 
 pub returns-in-Some-row-clause-exact : goal.returns-in-Some-row-clause-exact
 returns-in-Some-row-clause-exact c =
@@ -67,21 +71,28 @@ returns-in-Some-row-clause-exact c =
     let next = c.self.inside.next in
     let there : row_at s (c.args.to, c.args.new_name) ≡ Some c.in-Some-row.displaced = sym c.row.ensures ∙ c.in-Some-row.is in
     let same : held_in_slots s next ≡ c.args.self.now = c.reserve_row.ensures.same next ∙ c.self.view_is in
-    let look_is : look c.args.self.now c.args.to c.args.new_name ≡ Some c.in-Some-row.displaced = sym (ap (λ (t : tree.Tree). look t c.args.to c.args.new_name) same) ∙ rows_found s (c.args.to, c.args.new_name) ∙ there in
+    let look_is : look c.args.self.now c.args.to c.args.new_name ≡ Some c.in-Some-row.displaced =
+    sym (ap (λ (t : tree.Tree). look t c.args.to c.args.new_name) same) ∙ rows_found s (c.args.to, c.args.new_name) ∙ there in
     let change = λ (t : tree.Tree). with_row (without_row t c.args.from c.args.name.now) c.args.to c.args.new_name c.in-Some.node in
-    let after = λ (o : Option ℕ). moved c.args.self.now c.args.from c.args.name.now c.args.to c.args.new_name c.in-Some.node o in
-    let first : held_in_slots c.take_row.new.self next ≡ without_row (held_in_slots s next) c.args.to c.args.new_name = λ i. record { rows = c.take_row.ensures.rows i; nodes = c.take_row.ensures.nodes i; next = next } in
-    let second : held_in_slots c.move_row.new.self next ≡ change (held_in_slots c.take_row.new.self next) = λ i. record { rows = c.move_row.ensures.rows i; nodes = c.move_row.ensures.nodes i; next = next } in
+    let after = λ (o : Option ℕ). with_row_moved c.args.self.now c.args.from c.args.name.now c.args.to c.args.new_name c.in-Some.node o in
+    let first : held_in_slots c.take_row.new.self next ≡ without_row (held_in_slots s next) c.args.to c.args.new_name =
+    λ i. record { rows = c.take_row.ensures.rows i; nodes = c.take_row.ensures.nodes i; next = next } in
+    let second : held_in_slots c.move_row.new.self next ≡ change (held_in_slots c.take_row.new.self next) =
+    λ i. record { rows = c.move_row.ensures.rows i; nodes = c.move_row.ensures.nodes i; next = next } in
     let over : change (without_row (held_in_slots s next) c.args.to c.args.new_name) ≡ change (held_in_slots s next) =
-    λ i. record (held_in_slots s next) { rows = put_over (c.args.to, c.args.new_name) (c.args.from, c.args.name.now) c.in-Some.node (held_rows s) (rows_sorted s) i } in
+    λ i. record (held_in_slots s next)
+    { rows = put_over (c.args.to, c.args.new_name) (c.args.from, c.args.name.now) c.in-Some.node (held_rows s) (rows_sorted s) i } in
     let came : held_in_slots c.move_row.new.self next ≡ change c.args.self.now = second ∙ ap change first ∙ over ∙ ap change same in
     let left : held_in_slots c.drop_unnamed.new.self next ≡ after (Some c.in-Some-row.displaced) =
     c.drop_unnamed.ensures.unnamed next ∙ ap (λ (t : tree.Tree). without_unnamed t c.in-Some-row.displaced) came in
     (rw c.in-Some.is at c.in_ok-node.ensures.exact) ∙ ap (λ (o : Option ℕ). Ok (after o)) look_is ∙ ap (λ (t : tree.Tree). Ok t) (sym left)
 
 pub invariant_of-self-in-Some-row : goal.invariant_of-self-in-Some-row
-invariant_of-self-in-Some-row c =
-    ((edits_keep_trees.shifting c.args.self.now _ c.args.from c.args.to c.args.name.now c.args.new_name (subst WellFormed c.self.view_is c.self.invariant.0) c.may_shift.ensures.name (returns-in-Some-row-clause-exact c)).0, c.drop_unnamed.ensures.kept)
+invariant_of-self-in-Some-row c = (
+  (edits_keep_trees.shifting c.args.self.now _ c.args.from c.args.to c.args.name.now c.args.new_name
+      (subst WellFormed c.self.view_is c.self.invariant.0) c.may_shift.ensures.name (returns-in-Some-row-clause-exact c)).0,
+  c.drop_unnamed.ensures.kept,
+)
 
 pub move_row-requires-in-None-clause-there : goal.move_row-requires-in-None-clause-there
 move_row-requires-in-None-clause-there c =
@@ -98,13 +109,15 @@ pub move_row-requires-in-None-clause-not_root : goal.move_row-requires-in-None-c
 move_row-requires-in-None-clause-not_root c =
     let s = c.reserve_row.new.self in
     let next = c.self.inside.next in
-    row_not_root s next c.args.from c.in-Some.node c.args.name.now (subst WellFormed (sym (c.reserve_row.ensures.same next)) c.self.invariant.0) (move_row-requires-in-None-clause-there c)
+    row_not_root s next c.args.from c.in-Some.node c.args.name.now (subst WellFormed (sym (c.reserve_row.ensures.same next))
+    c.self.invariant.0) (move_row-requires-in-None-clause-there c)
 
 pub move_row-requires-in-None-clause-dir_once : goal.move_row-requires-in-None-clause-dir_once
 move_row-requires-in-None-clause-dir_once c =
     let s = c.reserve_row.new.self in
     let next = c.self.inside.next in
-    named_once s next c.in-Some.node (subst WellFormed (sym (c.reserve_row.ensures.same next)) c.self.invariant.0) (move_row-requires-in-None-clause-not_root c)
+    named_once s next c.in-Some.node (subst WellFormed (sym (c.reserve_row.ensures.same next)) c.self.invariant.0)
+    (move_row-requires-in-None-clause-not_root c)
 
 pub returns-in-None-clause-exact : goal.returns-in-None-clause-exact
 returns-in-None-clause-exact c =
@@ -112,13 +125,18 @@ returns-in-None-clause-exact c =
     let next = c.self.inside.next in
     let there : row_at s (c.args.to, c.args.new_name) ≡ None = sym c.row.ensures ∙ c.in-None.is in
     let same : held_in_slots s next ≡ c.args.self.now = c.reserve_row.ensures.same next ∙ c.self.view_is in
-    let look_is : look c.args.self.now c.args.to c.args.new_name ≡ None = sym (ap (λ (t : tree.Tree). look t c.args.to c.args.new_name) same) ∙ rows_found s (c.args.to, c.args.new_name) ∙ there in
+    let look_is : look c.args.self.now c.args.to c.args.new_name ≡ None =
+    sym (ap (λ (t : tree.Tree). look t c.args.to c.args.new_name) same) ∙ rows_found s (c.args.to, c.args.new_name) ∙ there in
     let change = λ (t : tree.Tree). with_row (without_row t c.args.from c.args.name.now) c.args.to c.args.new_name c.in-Some.node in
-    let after = λ (o : Option ℕ). moved c.args.self.now c.args.from c.args.name.now c.args.to c.args.new_name c.in-Some.node o in
-    let second : held_in_slots c.move_row-in-None.new.self next ≡ change (held_in_slots s next) = λ i. record { rows = c.move_row-in-None.ensures.rows i; nodes = c.move_row-in-None.ensures.nodes i; next = next } in
+    let after = λ (o : Option ℕ). with_row_moved c.args.self.now c.args.from c.args.name.now c.args.to c.args.new_name c.in-Some.node o in
+    let second : held_in_slots c.move_row-in-None.new.self next ≡ change (held_in_slots s next) =
+    λ i. record { rows = c.move_row-in-None.ensures.rows i; nodes = c.move_row-in-None.ensures.nodes i; next = next } in
     let came : held_in_slots c.move_row-in-None.new.self next ≡ after None = second ∙ ap change same in
     (rw c.in-Some.is at c.in_ok-node.ensures.exact) ∙ ap (λ (o : Option ℕ). Ok (after o)) look_is ∙ ap (λ (t : tree.Tree). Ok t) (sym came)
 
 pub invariant_of-self-in-None : goal.invariant_of-self-in-None
-invariant_of-self-in-None c =
-    ((edits_keep_trees.shifting c.args.self.now _ c.args.from c.args.to c.args.name.now c.args.new_name (subst WellFormed c.self.view_is c.self.invariant.0) c.may_shift.ensures.name (returns-in-None-clause-exact c)).0, c.move_row-in-None.ensures.kept)
+invariant_of-self-in-None c = (
+  (edits_keep_trees.shifting c.args.self.now _ c.args.from c.args.to c.args.name.now c.args.new_name
+      (subst WellFormed c.self.view_is c.self.invariant.0) c.may_shift.ensures.name (returns-in-None-clause-exact c)).0,
+  c.move_row-in-None.ensures.kept,
+)

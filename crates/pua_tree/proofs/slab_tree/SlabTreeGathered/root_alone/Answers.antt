@@ -1,7 +1,6 @@
-use Rattle.std.proofs.Common.{sym, subst}
-use Rattle.pua_tree.specs.Tree.{WellFormed}
+use Rattle.pua_tree.proofs.Common.{sym, subst, WellFormed}
 use Rattle.pua_tree.proofs.SlabEdits.{empty_is_tree}
 use Rattle.pua_tree.proofs.slab_tree.SlabTreeGathered.root_alone.Goals as goal
 
 pub invariant_of-result : goal.invariant_of-result
-invariant_of-result c = (subst WellFormed (sym c.in-Ok.ensures.root) empty_is_tree, c.in-Ok.ensures.kept)
+invariant_of-result c = (subst WellFormed (sym c.in_ok-slots.ensures.root) empty_is_tree, c.in_ok-slots.ensures.kept)

@@ -1,4 +1,4 @@
-use Rattle.std.proofs.Common.{◌∙◌, sym}
+use Rattle.pua_tree.proofs.Common.{◌∙◌, sym}
 use Rattle.pua_tree.proofs.SlotsCount.{node_count_is}
 use Rattle.pua_tree.proofs.slots.Slots.node_count.Goals as goal
 

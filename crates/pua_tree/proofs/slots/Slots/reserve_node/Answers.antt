@@ -1,8 +1,5 @@
-use Rattle.std.proofs.Common.{ℕ, length, ap}
-use Rattle.std.specs.Map.{lookup}
-use Rattle.slab.specs.Slab.{Slab, get as slot_get, slab_len}
-use Rattle.pua_tree.specs.declared.slots.Slots.{Slots}
-use Rattle.pua_tree.specs.declared.slots.Node.{Node}
+use Rattle.pua_tree.proofs.Common.{ℕ, length, ap, lookup, Slab, Slots, SlotNode}
+use Rattle.slab.specs.Slab.{get as slot_get, slab_len}
 use Rattle.pua_tree.specs.contracts.node.NodeIdPartialEq.TheImpl.{ghosts as number_ghosts}
 use Rattle.pua_tree.proofs.SlotsHold.{rows_by_entries}
 use Rattle.pua_tree.proofs.SlotsNodes.{kept_alike, filed_alike, found_alike}
@@ -13,6 +10,7 @@ returns-clause-kept c =
     let old = c.args.self.now in
     let new : Slots = record { rows = c.reserve.new.self; numbers = c.reserve-2.new.self; nodes = c.reserve-3.new.self } in
     let slots = λ (x : ℕ). ap (lookup (number_ghosts.eq x)) c.reserve-2.ensures.entries in
-    let got = λ (slot : ℕ). ap (λ (s : Slab Node). slot_get s slot) c.reserve-3.ensures.rest_kept in
-    let filed = filed_alike old new slots got (ap (λ (s : Slab Node). slab_len s) c.reserve-3.ensures.rest_kept) (ap length c.reserve-2.ensures.entries) c.requires.filed in
+    let got = λ (slot : ℕ). ap (λ (s : Slab SlotNode). slot_get s slot) c.reserve-3.ensures.rest_kept in
+    let filed = filed_alike old new slots got (ap (λ (s : Slab SlotNode). slab_len s) c.reserve-3.ensures.rest_kept)
+    (ap length c.reserve-2.ensures.entries) c.requires.filed in
     kept_alike old new (rows_by_entries new old c.reserve.ensures.entries) (found_alike old new slots got) filed c.requires

@@ -1,4 +1,4 @@
-use Rattle.std.proofs.Common.{rules}
+use Rattle.pua_tree.proofs.Common.{rules}
 use Rattle.pua_tree.proofs.spelling.SpelledByte.as_bytes.Goals as goal
 
 pub returns : goal.returns

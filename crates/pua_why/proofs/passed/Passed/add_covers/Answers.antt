@@ -1,9 +1,5 @@
-use Rattle.std.proofs.Common.{◌++◌, ap, sym, subst, ◌∙◌, []}
-use Rattle.std.proofs.lemmas.Result.{on_ok_weaker}
-use Rattle.pua_tree.specs.Tree.{Tree}
+use Rattle.pua_why.proofs.Common.{◌++◌, ap, sym, subst, ◌∙◌, [], on_ok_weaker, Tree, Old, New, facts_under}
 use Rattle.pua_path.specs.Fits.{FoundFits}
-use Rattle.pua_script.specs.Decide.{Old, New}
-use Rattle.pua_why.specs.Facts.{facts_under}
 use Rattle.pua_why.proofs.Passing.{covers_told}
 use Rattle.pua_why.proofs.passed.Passed.add_covers.Goals as goal
 
@@ -18,6 +14,8 @@ returns-then-branch g c =
     covers_told c.args.self.now c.add_cover.new.self _
     (facts_under New t h c.args.new.now need.new.needs.perms []) c.in_ok-add_cover.field-0
     (λ more. facts_under Old t h c.args.old.now need.old.needs.perms more) c.if-branch.true
-    (λ more. c.in_ok-add_cover.ensures.exact fits h stands more ∙ ap (λ perms. c.args.self.now ++ facts_under Old t h c.args.old.now perms more) letters)
+    (λ more. c.in_ok-add_cover.ensures.exact fits h stands more ∙
+    ap (λ perms. c.args.self.now ++ facts_under Old t h c.args.old.now perms more) letters)
     (so (subst (λ (u : Tree). FoundFits u c.args.new.now) same fits_new) h stands
-    ∙ (λ i. c.add_cover.new.self ++ facts_under New (c.in_ok-add_cover.ensures.tree i) h c.args.new.now (letters_new i) []))) c.add_last_cover.ensures
+    ∙ (λ i. c.add_cover.new.self ++ facts_under New (c.in_ok-add_cover.ensures.tree i) h c.args.new.now (letters_new i) [])))
+    c.add_last_cover.ensures

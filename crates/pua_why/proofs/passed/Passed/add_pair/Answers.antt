@@ -1,8 +1,4 @@
-use Rattle.std.proofs.Common.{[], ◌∷◌, ◌++◌, ap, ◌∙◌}
-use Rattle.std.proofs.lemmas.Result.{on_ok_weaker}
-use Rattle.pua_policy.specs.Reasons.{promising}
-use Rattle.pua_script.specs.Decide.{Old, New}
-use Rattle.pua_why.specs.Facts.{Needs, facts_named, facts_under, name_trace}
+use Rattle.pua_why.proofs.Common.{[], ◌∷◌, ◌++◌, ap, ◌∙◌, on_ok_weaker, promising, Old, New, Needs, facts_named, facts_under, name_trace}
 use Rattle.pua_why.proofs.Needing.{both_named}
 use Rattle.pua_why.proofs.passed.Passed.add_pair.Goals as goal
 
@@ -13,9 +9,11 @@ returns g c =
     let held = c.alternatives.ensures ∙ ap (λ name. name.needs.alternatives) c.old_name.ensures in
     let held_new = c.alternatives-2.ensures ∙ ap (λ name. name.needs.alternatives) c.new_name.ensures in
     on_ok_weaker c.add_names.result (λ so h stands.
-    both_named c.args.self.now c.add-2.new.self _ c.in-Holds.set c.in-Holds-promising.other Old (name_trace need.old t h c.args.ending c.args.old.now)
+    both_named c.args.self.now c.add-2.new.self _ c.in-Holds.set c.in-Holds-promising.other Old
+    (name_trace need.old t h c.args.ending c.args.old.now)
     (λ old. facts_named New (name_trace need.new t h c.args.ending c.args.new.now) λ new.
     facts_under Old t h old need.old.needs.perms (facts_under New t h new need.new.needs.perms []))
     (promising h need.old.needs.alternatives) (promising h need.new.needs.alternatives)
-    (c.in-Holds.ensures h stands ∙ ap (promising h) held) (c.in-Holds-promising.ensures h stands ∙ ap (promising h) held_new)
+    (c.in-Holds.ensures.history h stands ∙ ap (promising h) held)
+    (c.in-Holds-promising.ensures.history h stands ∙ ap (promising h) held_new)
     (c.in_ok-add.ensures ∙ ap (λ set. c.args.self.now ++ Needs set ∷ []) c.union.ensures) (so h stands)) c.add_names.ensures

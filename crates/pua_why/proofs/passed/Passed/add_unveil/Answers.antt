@@ -1,12 +1,5 @@
-use Rattle.std.proofs.Common.{[], ◌∷◌, ◌++◌, ◌∙◌}
-use Rattle.pua_path.specs.declared.found.Last.TheVariants.{Followed}
+use Rattle.pua_why.proofs.Common.{[], ◌∷◌, ◌++◌, ◌∙◌, Followed, trace_of_text, is_locked, working_dir, unveil, promising, Sole, facts_named}
 use Rattle.pua_path.specs.declared.text.Ending.TheVariants.{Dot}
-use Rattle.pua_path.specs.Traces.{trace_of_text}
-use Rattle.pua_policy.specs.History.{is_locked, working_dir}
-use Rattle.pua_calls.specs.Promises.{unveil}
-use Rattle.pua_policy.specs.Reasons.{promising}
-use Rattle.pua_script.specs.Decide.{Sole}
-use Rattle.pua_why.specs.Facts.{facts_named}
 use Rattle.pua_why.proofs.Passing.{unveil_named}
 use Rattle.pua_why.proofs.passed.Passed.add_unveil.Goals as goal
 
@@ -14,7 +7,10 @@ pub returns : goal.returns
 returns g c = λ h stands.
     let t = g.T.FileTree.content c.args.tree.now in
     let path = c.args.path.now in
-    unveil_named c.args.self.now c.add.new.self c.add_name.new.self c.in-Holds.set c.in_ok-add_name.field-0 (trace_of_text t (working_dir h) Dot path Followed)
-    (promising h (unveil ∷ [])) (is_locked h) (c.in-Holds.ensures h stands) (c.if-locked.ensures.history h stands) c.in_ok-add.ensures
+    unveil_named c.args.self.now c.add.new.self c.add_name.new.self c.in-Holds.set c.in_ok-add_name.field-0
+    (trace_of_text t (working_dir h) Dot path Followed)
+    (promising h (unveil ∷ [])) (is_locked h) (c.in-Holds.ensures.history h stands) (c.if-locked.ensures.history h stands)
+    c.in_ok-add.ensures
     (c.in_ok-add_name.ensures.exact (λ object. [])
-    ∙ (λ i. c.add.new.self ++ facts_named Sole (trace_of_text (c.new-probe.ensures.tree i) (c.dir-dir.ensures.history h stands i) Dot path Followed) (λ object. [])))
+    ∙ (λ i. c.add.new.self ++ facts_named Sole (trace_of_text (c.new-probe.ensures.tree i) (c.dir-dir.ensures.history h stands i) Dot path
+    Followed) (λ object. [])))

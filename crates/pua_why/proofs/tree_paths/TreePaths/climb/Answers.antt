@@ -1,6 +1,5 @@
-use Rattle.std.proofs.Common.{rules, ◌≡◌, ◌+◌, ◌-◌, ◌++◌, ℕ, append-nil, length, map, reverse, sym, ap, ◌∙◌, arith}
-use Rattle.pua_tree.specs.LentRows.{lent_entry}
-use Rattle.pua_why.specs.Texts.{names_to}
+use Rattle.pua_why.proofs.Common.{rules, ◌≡◌, ◌+◌, ◌++◌, ℕ, append-nil, length, map, sym, ap, ◌∙◌, arith, lent_entry, names_to}
+use Rattle.std.proofs.Common.{◌-◌, reverse}
 use Rattle.pua_why.specs.TreePaths.{PathsState}
 use Rattle.pua_why.proofs.Paths.{all_names, path_pushed, path_root, path_none, path_done}
 use Rattle.pua_why.proofs.tree_paths.TreePaths.climb.Goals as goal

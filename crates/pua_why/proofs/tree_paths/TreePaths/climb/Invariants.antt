@@ -1,7 +1,5 @@
-use Rattle.std.proofs.Common.{◌≡◌, ◌≤◌, ◌-◌, ◌++◌, length, map, vec_capacity, vec_len, reverse}
-use Rattle.pua_tree.specs.LentRows.{lent_entry}
-use Rattle.pua_tree.specs.Tree.{Tree}
-use Rattle.pua_why.specs.Texts.{dir_names, names_to}
+use Rattle.pua_why.proofs.Common.{◌≡◌, ◌++◌, length, map, lent_entry, Tree, dir_names, names_to}
+use Rattle.std.proofs.Common.{◌≤◌, ◌-◌, vec_capacity, vec_len, reverse}
 use Rattle.pua_why.proofs.tree_paths.TreePaths.climb.Given as goal
 
 -- the names above are still to come, and stand before those so far

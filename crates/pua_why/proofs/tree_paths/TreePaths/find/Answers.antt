@@ -1,5 +1,4 @@
-use Rattle.std.proofs.Common.{ap, ◌∙◌}
-use Rattle.pua_why.specs.Texts.{dir_names}
+use Rattle.pua_why.proofs.Common.{ap, ◌∙◌, dir_names}
 use Rattle.pua_why.specs.TreePaths.{PathsState}
 use Rattle.std.specs.Prelude.{reverse}
 use Rattle.pua_why.proofs.Paths.{found_names}

@@ -1,6 +1,4 @@
-use Rattle.std.proofs.Common.{◌++◌, map, ap, sym, ◌∙◌, string_bytes}
-use Rattle.std.proofs.lemmas.Result.{on_ok_weaker}
-use Rattle.pua_why.specs.Texts.{slashed}
+use Rattle.pua_why.proofs.Common.{◌++◌, map, ap, sym, ◌∙◌, string_bytes, on_ok_weaker, slashed_names}
 use Rattle.pua_why.proofs.Adding.{then_more}
 use Rattle.pua_why.proofs.Paths.{spot_is}
 use Rattle.pua_why.proofs.tree_paths.TreePaths.push_spot.Goals as goal
@@ -10,6 +8,7 @@ returns-clause-text c =
     on_ok_weaker c.push_name.result (λ more t is.
     then_more _ _ _ _ _
     (c.in_ok-push_names.ensures
-    ∙ ap (λ names. string_bytes c.args.text.now ++ slashed names) (ap (map (λ name. name.now)) c.as_slice.ensures.value ∙ ap (λ s. s.names) c.self.view_is ∙ c.find.ensures.names t is)) more
+    ∙ ap (λ names. string_bytes c.args.text.now ++ slashed_names names) (ap (map (λ name. name.now)) c.as_slice.ensures.value ∙
+    ap (λ s. s.names) c.self.view_is ∙ c.find.ensures.names t is)) more
     ∙ ap (λ path. string_bytes c.args.text.now ++ path) (sym (spot_is t c.args.dir c.args.name.now)))
     c.push_name.ensures

@@ -1,7 +1,9 @@
-use Rattle.std.proofs.Common.{◌∙◌, sym}
+use Rattle.pua_audit.proofs.Common.{◌∙◌, sym}
 use Rattle.pua_audit.proofs.Covers.{some_leads, handed_above}
 use Rattle.pua_audit.proofs.table.directories.Directories.handed_up.Goals as goal
 
 pub returns-in-None : goal.returns-in-None
 returns-in-None c =
-    some_leads (λ left is. λ t h fits stands covered living. is t h covered ∙ handed_above t h fits c.args.from living (sym (c.kept.ensures.history h stands) ∙ c.in-None.is)) c.cover_in.result c.cover_in.ensures
+    some_leads (λ left is. λ t h fits stands covered living. is t h covered ∙
+    handed_above t h fits c.args.from living (sym (c.kept.ensures.history h stands) ∙ c.in-None.is)) c.cover_in.result
+    c.cover_in.ensures

@@ -1,8 +1,5 @@
-use Rattle.std.proofs.Common.{◌≡◌, ◌<◌, ◌≤◌, ◌∙◌, ℕ, List, nat_eq, length, arith, sym, ap, subst}
-use Rattle.std.specs.List.{AllByRecursion, IsDistinct}
-use Rattle.indexmap.specs.IndexSet.{insert_key}
-use Rattle.pua_audit.specs.Covers.{DirectoriesState}
-use Rattle.pua_audit.specs.Rows.{AreNumbers}
+use Rattle.pua_audit.proofs.Common.{◌≡◌, ◌<◌, ◌≤◌, ◌∙◌, ℕ, List, nat_eq, length, arith, sym, ap, subst, AllByRecursion, IsDistinct}
+use Rattle.pua_audit.proofs.Common.{insert_key, DirectoriesState, AreNumbers}
 use Rattle.pua_audit.proofs.Places.{few_numbers, all_inserted, placed}
 use Rattle.pua_audit.proofs.table.directories.Directories.place.Goals as goal
 
@@ -17,40 +14,40 @@ numbers_inserted old new n known apart is low =
 pub overflow_cast-place : goal.overflow_cast-place
 overflow_cast-place c =
     let known : AreNumbers c.insert_full.new.self.keys =
-    numbers_inserted c.self.inside.numbers.keys _ c.number.result c.self.invariant c.insert_full.ensures.unique c.in-Ok.ensures.keys
+    numbers_inserted c.self.inside.numbers.keys _ c.number.result c.self.invariant c.insert_full.ensures.unique c.in_ok-place.ensures.keys
     c.number.type_inv in
     let few : length c.insert_full.new.self.keys ≤ 4294967296 = few_numbers c.insert_full.new.self.keys known in
-    record { fits = omega (arith, few, c.in-Ok.ensures.within) }
+    record { fits = omega (arith, few, c.in_ok-place.ensures.within) }
 
 pub invariant_of-self-then-not-added : goal.invariant_of-self-then-not-added
 invariant_of-self-then-not-added c =
-    numbers_inserted c.self.inside.numbers.keys _ c.number.result c.self.invariant c.insert_full.ensures.unique c.in-Ok.ensures.keys
+    numbers_inserted c.self.inside.numbers.keys _ c.number.result c.self.invariant c.insert_full.ensures.unique c.in_ok-place.ensures.keys
     c.number.type_inv
 
-pub invariant_of-self-in_default-push : goal.invariant_of-self-in_default-push
-invariant_of-self-in_default-push c =
-    numbers_inserted c.self.inside.numbers.keys _ c.number.result c.self.invariant c.insert_full.ensures.unique c.in-Ok.ensures.keys
+pub invariant_of-self-in_err-push : goal.invariant_of-self-in_err-push
+invariant_of-self-in_err-push c =
+    numbers_inserted c.self.inside.numbers.keys _ c.number.result c.self.invariant c.insert_full.ensures.unique c.in_ok-place.ensures.keys
     c.number.type_inv
 
 pub invariant_of-self-2 : goal.invariant_of-self-2
 invariant_of-self-2 c =
-    numbers_inserted c.self.inside.numbers.keys _ c.number.result c.self.invariant c.insert_full.ensures.unique c.in-Ok.ensures.keys
+    numbers_inserted c.self.inside.numbers.keys _ c.number.result c.self.invariant c.insert_full.ensures.unique c.in_ok-place.ensures.keys
     c.number.type_inv
 
 pub returns-then-not-added-clause-place : goal.returns-then-not-added-clause-place
 returns-then-not-added-clause-place c =
-    (c.in-Ok.ensures.within, placed c.insert_full.new.self.keys c.in-Ok.place c.number.result c.in-Ok.ensures.stored ∙ c.number.ensures)
+    (c.in_ok-place.ensures.within, placed _ c.in_ok-place.place c.number.result c.in_ok-place.ensures.stored ∙ c.number.ensures)
 
 pub returns-clause-place : goal.returns-clause-place
 returns-clause-place c =
-    (c.in-Ok.ensures.within, placed c.insert_full.new.self.keys c.in-Ok.place c.number.result c.in-Ok.ensures.stored ∙ c.number.ensures)
+    (c.in_ok-place.ensures.within, placed _ c.in_ok-place.place c.number.result c.in_ok-place.ensures.stored ∙ c.number.ensures)
 
 pub returns-then-not-added-clause-all : goal.returns-then-not-added-clause-all
 returns-then-not-added-clause-all c =
-    c.in-Ok.ensures.keys ∙ ap (insert_key nat_eq c.self.inside.numbers.keys) c.number.ensures
+    c.in_ok-place.ensures.keys ∙ ap (insert_key nat_eq c.self.inside.numbers.keys) c.number.ensures
     ∙ ap (λ (d : DirectoriesState). insert_key nat_eq d.numbers c.args.dir) c.self.view_is
 
 pub returns-clause-all : goal.returns-clause-all
 returns-clause-all c =
-    c.in-Ok.ensures.keys ∙ ap (insert_key nat_eq c.self.inside.numbers.keys) c.number.ensures
+    c.in_ok-place.ensures.keys ∙ ap (insert_key nat_eq c.self.inside.numbers.keys) c.number.ensures
     ∙ ap (λ (d : DirectoriesState). insert_key nat_eq d.numbers c.args.dir) c.self.view_is

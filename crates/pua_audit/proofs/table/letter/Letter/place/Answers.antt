@@ -1,4 +1,4 @@
-use Rattle.std.proofs.Common.{rules}
+use Rattle.pua_audit.proofs.Common.{rules}
 use Rattle.pua_audit.proofs.table.letter.Letter.place.Goals as goal
 
 pub returns-clause-to : goal.returns-clause-to

@@ -1,4 +1,4 @@
-use Rattle.std.proofs.Common.{rules}
+use Rattle.pua_calls.proofs.Common.{rules}
 use Rattle.pua_calls.proofs.table.pair.PairNeed.new_name.Goals as goal
 
 pub returns : goal.returns

@@ -1,5 +1,0 @@
-use Rattle.std.proofs.Common.{rules}
-use Rattle.pua_calls.proofs.table.Row.alternatives.Goals as goal
-
-pub returns : goal.returns
-returns c = search rules

@@ -1,0 +1,5 @@
+use Rattle.pua_calls.proofs.Common.{rules}
+use Rattle.pua_calls.proofs.table.RuleRow.alternatives.Goals as goal
+
+pub returns : goal.returns
+returns c = search rules

@@ -1,5 +1,0 @@
-use Rattle.std.proofs.Common.{rules}
-use Rattle.pua_script.proofs.request.PathBytes.bytes.Goals as goal
-
-pub returns : goal.returns
-returns c = search rules
