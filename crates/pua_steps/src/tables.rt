@@ -60,7 +60,7 @@ impl Tables {
     }
 
     /// How many letters were read so far. It stays at its greatest value once there.
-    pub fn reads(&self) -> u64
+    pub(crate) fn reads(&self) -> u64
         ensures { result ≡ self.now.reads }
     {
         self.reads
