@@ -99,8 +99,9 @@ impl Pairs {
         requires bytes { self.old.terms.limit * suc (longest (letters_of self.old.terms))
             ≤ vec_capacity self.old.path.bytes }
         requires starts { self.old.terms.limit ≤ vec_capacity self.old.path.starts }
-        ensures kept { (self.new.terms ≡ self.old.terms) × (self.new.walk ≡ self.old.walk) ×
-            (self.new.live ≡ self.old.live) }
+        ensures terms { self.new.terms ≡ self.old.terms }
+        ensures walk { self.new.walk ≡ self.old.walk }
+        ensures live { self.new.live ≡ self.old.live }
         ensures path { IsPathOf (walk_word self.new) self.new.path }
         ensures whole { length self.new.path.starts.items ≡ length self.new.walk.word.items }
         ensures bytes { self.old.terms.limit * suc (longest (letters_of self.old.terms))

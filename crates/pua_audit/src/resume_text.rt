@@ -47,7 +47,8 @@ pub(crate) fn read_pair(
         (λ fault. fault ≢ AuditFault.OutOfMemory →
         (fault ≡ AuditFault.BadResume) ×
         (pair_named base (map part_bytes letters.now) limit text.now ≡ None)) }
-    ensures letters { IfOk result (λ r. AreLetters (map part_bytes letters.now) limit r.word.items) }
+    ensures letters { IfOk result (λ r.
+        AreLetters (map part_bytes letters.now) limit r.word.items) }
 {
     let (name, path) = split_at_colon(text);
     let Some(call) = Call::read(name) else {

@@ -51,7 +51,8 @@ impl Terms {
         ensures sound { IfOk result (λ terms. IsSound terms) }
         ensures scope { IfOk result (λ terms. scope_in terms ≡ scope_with (P.tree probe.now)
             table.now (plain_history process.now) base limit letters.items) }
-        ensures letters { IfOk result (λ terms. (terms.limit ≡ limit) × (terms.letters ≡ letters)) }
+        ensures limit { IfOk result (λ terms. terms.limit ≡ limit) }
+        ensures letters { IfOk result (λ terms. terms.letters ≡ letters) }
     {
         probe.known();
         let process = process.fork(alloc)?;

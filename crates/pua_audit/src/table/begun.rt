@@ -65,7 +65,8 @@ impl Terms {
         ensures within { IfOk result
             (λ begun. AllByRecursion (λ p. IsPair (length (letters_of self.now)) p)
             (pairs_of (trail begun.walk))) }
-        ensures live { IfOk result (λ begun. begun.live ≡ length (live_states (scope_in self.now))) }
+        ensures live { IfOk result (λ begun.
+            begun.live ≡ length (live_states (scope_in self.now))) }
         ensures reads { IfOk result (λ begun. begun.walk.tables.reads
             ≤ search_cost * self.now.limit) }
         ensures unread { after ≡ None → IfOk result (λ begun. begun.walk.tables.reads ≡ 0) }
@@ -107,7 +108,8 @@ impl Terms {
         ensures within { IfOk result
             (λ begun. AllByRecursion (λ p. IsPair (length (letters_of self.now)) p)
             (pairs_of (trail begun.walk))) }
-        ensures live { IfOk result (λ begun. begun.live ≡ length (live_states (scope_in self.now))) }
+        ensures live { IfOk result (λ begun.
+            begun.live ≡ length (live_states (scope_in self.now))) }
         ensures reads { IfOk result (λ begun. begun.walk.tables.reads
             ≤ search_cost * self.now.limit) }
         ensures unread { after ≡ None → IfOk result (λ begun. begun.walk.tables.reads ≡ 0) }
@@ -140,7 +142,8 @@ impl Terms {
         ensures within { IfOk result
             (λ begun. AllByRecursion (λ p. IsPair (length (letters_of self.now)) p)
             (pairs_of (trail begun.walk))) }
-        ensures live { IfOk result (λ begun. begun.live ≡ length (live_states (scope_in self.now))) }
+        ensures live { IfOk result (λ begun.
+            begun.live ≡ length (live_states (scope_in self.now))) }
         ensures reads { IfOk result (λ begun. begun.walk.tables.reads
             ≤ search_cost * self.now.limit) }
         ensures unread { IfOk result (λ begun. begun.walk.tables.reads ≡ 0) }
@@ -186,7 +189,8 @@ fn walk_after(
         r.word.items) }
     requires few { IfSome after (λ r. length r.word.items ≤ limit) }
     ensures ready { IfOk result (λ walk. IsReady walk) }
-    ensures of { IfOk result (λ walk. (walk.tables.steps ≡ tables.steps) × (walk.limit ≡ limit)) }
+    ensures steps { IfOk result (λ walk. walk.tables.steps ≡ tables.steps) }
+    ensures limit { IfOk result (λ walk. walk.limit ≡ limit) }
     ensures reads { IfOk result (λ walk. walk.tables.reads ≤ tables.reads + search_cost * limit) }
     ensures unread { after ≡ None → IfOk result (λ walk. walk.tables.reads ≡ tables.reads) }
     ensures left { IfOk result (λ walk. pairs_of (trail walk)

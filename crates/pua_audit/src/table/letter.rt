@@ -226,7 +226,8 @@ impl Terms {
         requires sound { IsSound self.now }
         requires fits { FoundsFit self.now.seen.tree found.now }
         requires left { IfOk found.now
-            (λ object. left.now ≡ cover self.now.seen.tree (plain_history self.now.process) object) }
+            (λ object. left.now
+            ≡ cover self.now.seen.tree (plain_history self.now.process) object) }
         ensures exact { (call : Call) →
             has result call ≡ is_allowed
             (verdict_of self.now.seen.tree self.now.table (plain_history self.now.process) call

@@ -29,7 +29,7 @@ returns-clause-begun g c = λ h stands.
     let letters : List Part = c.in_ok-letters.field-0.letters.items in
     let b : Beginning = beginning_with t c.args.table.now h base limit c.in_ok-letters.field-0 in
     let past = stands_for_past p c.known.ensures.history c.known.ensures.stands in
-    let known : c.in_ok-terms.terms.letters.items ≡ letters = ap (λ v. v.items) c.in_ok-terms.ensures.letters.1 in (
+    let known : c.in_ok-terms.terms.letters.items ≡ letters = ap (λ v. v.items) c.in_ok-terms.ensures.letters in (
       b,
       (
         (subst (λ (u : Tree). beginning u c.args.table.now h c.args.base (map (λ s. s.now) c.args.candidates.now) c.args.limit
@@ -57,7 +57,7 @@ alphabet_in (Err fault) = []
 pub returns-clause-letters : goal.returns-clause-letters
 returns-clause-letters g c = λ h b is.
     ap (λ (u : Terms). letters_of u) c.in_ok-pairs.ensures.terms
-    ∙ ap (λ (v : List Part). map part_bytes v) (ap (λ v. v.items) c.in_ok-terms.ensures.letters.1)
+    ∙ ap (λ (v : List Part). map part_bytes v) (ap (λ v. v.items) c.in_ok-terms.ensures.letters)
     ∙ ap alphabet_in (sym
     ((subst (λ (u : Tree). beginning u c.args.table.now h c.args.base (map (λ s. s.now) c.args.candidates.now) c.args.limit
     (option_map (λ s. s.now) c.args.after) ≡ Ok (beginning_with u c.args.table.now h c.args.base c.args.limit c.in_ok-letters.field-0))
@@ -87,26 +87,25 @@ returns-clause-live g c = λ h stands b is.
 pub begin-requires : goal.begin-requires
 begin-requires g c κs =
     let terms : Terms = c.in_ok-terms.terms in
-    let kept = c.in_ok-terms.ensures.letters in
     let checked = c.in_ok-letters.ensures.sound in
     let after = c.in_ok-letters.field-0.after in
     let same : terms.seen.tree ≡ g.P.Probe.tree c.rows.new.self = ap (λ (s : Scope). s.tree) c.in_ok-terms.ensures.scope in
-    let items : terms.letters.items ≡ c.in_ok-letters.field-0.letters.items = ap (λ v. v.items) kept.1 in
+    let items : terms.letters.items ≡ c.in_ok-letters.field-0.letters.items = ap (λ v. v.items) c.in_ok-terms.ensures.letters in
     let rows : map lent_entry c.deref-2.result.now ≡ terms.seen.tree.rows =
     ap (map lent_entry) c.deref-2.ensures.value ∙ c.in_ok-rows.ensures.rows
     ∙ ap (λ (t : Tree). t.rows) (sym (same ∙ c.in_ok-rows.ensures.tree)) in
     let letters : AreSound terms.limit terms.letters.items =
-    subst (λ (n : ℕ). AreSound n terms.letters.items) (sym kept.0)
+    subst (λ (n : ℕ). AreSound n terms.letters.items) (sym c.in_ok-terms.ensures.limit)
     (subst (λ (ls : List Part). AreSound c.args.limit ls) (sym items) checked.sound) in
     let word : IfSome after (λ r. AreLetters (letters_of terms) terms.limit r.word.items) =
-    subst (λ (n : ℕ). IfSome after (λ r. AreLetters (letters_of terms) n r.word.items)) (sym kept.0)
+    subst (λ (n : ℕ). IfSome after (λ r. AreLetters (letters_of terms) n r.word.items)) (sym c.in_ok-terms.ensures.limit)
     (subst (λ (ls : List Part). IfSome after (λ r. AreLetters (map part_bytes ls) c.args.limit r.word.items)) (sym items)
     checked.after) in
     ((refl, tt), (sym same, (rows, (c.in_ok-terms.ensures.sound, (letters, word)))))
 
 pub returns-clause-reads : goal.returns-clause-reads
 returns-clause-reads g c =
-    subst (λ (n : ℕ). c.in_ok-pairs.pairs.walk.tables.reads ≤ search_cost * n) c.in_ok-terms.ensures.letters.0 c.in_ok-pairs.ensures.reads
+    subst (λ (n : ℕ). c.in_ok-pairs.pairs.walk.tables.reads ≤ search_cost * n) c.in_ok-terms.ensures.limit c.in_ok-pairs.ensures.reads
 
 -- the looks at the tree
 
@@ -162,7 +161,7 @@ returns-in_err-pairs-clause-cost g c =
     let texts : List (List ℕ) = map (λ s. s.now) c.args.candidates.now in
     let same : terms.seen.tree ≡ t = ap (λ (s : Scope). s.tree) c.in_ok-terms.ensures.scope ∙ c.in_ok-rows.ensures.tree in
     let count : length terms.letters.items ≡ letter_count t texts =
-    ap (λ v. length v.items) c.in_ok-terms.ensures.letters.1 ∙ c.in_ok-letters.ensures.many
+    ap (λ v. length v.items) c.in_ok-terms.ensures.letters ∙ c.in_ok-letters.ensures.many
     ∙ ap (λ (u : Tree). letter_count u texts) c.in_ok-rows.ensures.tree in
     begun_within _ _ _ c.args.limit (length terms.letters.items) (letter_count t texts) t terms.seen.tree c.in_ok-rows.ensures.count
     same count c.begin.ensures.cost
@@ -174,7 +173,7 @@ returns-clause-cost g c =
     let texts : List (List ℕ) = map (λ s. s.now) c.args.candidates.now in
     let same : terms.seen.tree ≡ t = ap (λ (s : Scope). s.tree) c.in_ok-terms.ensures.scope ∙ c.in_ok-rows.ensures.tree in
     let count : length terms.letters.items ≡ letter_count t texts =
-    ap (λ v. length v.items) c.in_ok-terms.ensures.letters.1 ∙ c.in_ok-letters.ensures.many
+    ap (λ v. length v.items) c.in_ok-terms.ensures.letters ∙ c.in_ok-letters.ensures.many
     ∙ ap (λ (u : Tree). letter_count u texts) c.in_ok-rows.ensures.tree in
     begun_within _ _ _ c.args.limit (length terms.letters.items) (letter_count t texts) t terms.seen.tree c.in_ok-rows.ensures.count
     same count c.begin.ensures.cost

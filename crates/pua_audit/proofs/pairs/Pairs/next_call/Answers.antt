@@ -30,13 +30,13 @@ pub returns-clause-ready : goal.returns-clause-ready
 returns-clause-ready c =
     let got = c.next_call-next.ensures in
     spelled_ready c.args.self.now c.requires.ready c.next_call-next.new.self got.same got.ready got.unchanged c.in_ok-call.call
-    c.in_ok-call.ensures.line c.spell.new.self c.spell.ensures.kept.0 c.spell.ensures.kept.1 c.spell.ensures.path c.spell.ensures.whole
+    c.in_ok-call.ensures.line c.spell.new.self c.spell.ensures.terms c.spell.ensures.walk c.spell.ensures.path c.spell.ensures.whole
     c.spell.ensures.bytes c.spell.ensures.starts
 
 pub returns-clause-next : goal.returns-clause-next
 returns-clause-next c =
     let got = c.next_call-next.ensures in
     is_line c.args.self.now c.requires.ready c.next_call-next.new.self got.same got.ready got.unchanged c.in_ok-call.call
-    c.in_ok-call.ensures.line c.spell.new.self c.spell.ensures.kept.0 c.spell.ensures.kept.1 c.spell.ensures.path c.spell.ensures.whole
+    c.in_ok-call.ensures.line c.spell.new.self c.spell.ensures.terms c.spell.ensures.walk c.spell.ensures.path c.spell.ensures.whole
     c.spell.ensures.bytes c.spell.ensures.starts
     c.call_at.result c.call_at.ensures

@@ -92,8 +92,14 @@ loop-self-preserved c =
       starts = omega (arith, inv.starts, c.add.ensures.starts);
     }
 
-pub returns-clause-kept : goal.returns-clause-kept
-returns-clause-kept c = let inv = c.loop-self.invariant in (inv.terms, inv.walk, inv.live)
+pub returns-clause-terms : goal.returns-clause-terms
+returns-clause-terms c = c.loop-self.invariant.terms
+
+pub returns-clause-walk : goal.returns-clause-walk
+returns-clause-walk c = c.loop-self.invariant.walk
+
+pub returns-clause-live : goal.returns-clause-live
+returns-clause-live c = c.loop-self.invariant.live
 
 pub returns-clause-path : goal.returns-clause-path
 returns-clause-path c =

@@ -171,11 +171,11 @@ pub returns-clause-ready : goal.returns-clause-ready
 returns-clause-ready g c = c.in_ok-walk.ensures.ready
 
 pub returns-clause-limit : goal.returns-clause-limit
-returns-clause-limit g c = c.in_ok-walk.ensures.of.1
+returns-clause-limit g c = c.in_ok-walk.ensures.limit
 
 pub returns-clause-letters : goal.returns-clause-letters
 returns-clause-letters g c =
-    ap (λ (t : Steps). t.letters) (c.in_ok-walk.ensures.of.0 ∙ c.in_ok-tables.ensures.steps) ∙ c.in_ok-steps.ensures.table.1.0.many
+    ap (λ (t : Steps). t.letters) (c.in_ok-walk.ensures.steps ∙ c.in_ok-tables.ensures.steps) ∙ c.in_ok-steps.ensures.table.1.0.many
 
 reads_more : (now before limit : ℕ) → now ≤ before + search_cost * limit → before ≡ 0 → now ≤ search_cost * limit
 reads_more now before limit more none = omega arith

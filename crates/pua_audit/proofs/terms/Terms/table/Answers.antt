@@ -15,11 +15,11 @@ loop-dir-preserved g c =
     let new : List ℕ = c.row.new.dirs.numbers in
     let rows : List Row = l.rows.items in
     let row : Row = c.in_ok-row.row in
-    let at = c.in-Some.ensures.dir in
+    let at = c.in-Some.ensures in
     let grown = c.in_ok-row.ensures.grown in
-    let inside : length rows < length l.dirs.numbers = omega (arith, at.0, c.len.ensures) in
+    let inside : length rows < length l.dirs.numbers = omega (arith, at.within, c.len.ensures) in
     let count : c.len.result ≡ length rows = omega (arith, c.len.ensures) in
-    let here : c.in-Some.dir ≡ get_or l.dirs.numbers (length rows) 0 = at.1 ∙ ap (λ (n : ℕ). get_or l.dirs.numbers n 0) count in
+    let here : c.in-Some.dir ≡ get_or l.dirs.numbers (length rows) 0 = at.dir ∙ ap (λ (n : ℕ). get_or l.dirs.numbers n 0) count in
     let last : IsJudgedRow (judge_in a) (letters_of a) new (get_or l.dirs.numbers (length rows) 0) (length (letters_of a)) row.missing
     row.entries.items =
     subst (λ (n : ℕ). IsJudgedRow (judge_in a) (letters_of a) new n (length (letters_of a)) row.missing row.entries.items) here
@@ -77,7 +77,7 @@ returns-in_err-row-clause-cost g c =
     let l = c.loop-dir in
     let numbers : AreNumbers l.dirs.numbers =
     subst (λ (d : DirectoriesState). AreNumbers d.numbers) c.dirs-in-loop-dir.view_is c.dirs-in-loop-dir.invariant in
-    let inside : length l.rows.items < length l.dirs.numbers = omega (arith, c.in-Some.ensures.dir.0, c.len.ensures) in
+    let inside : length l.rows.items < length l.dirs.numbers = omega (arith, c.in-Some.ensures.within, c.len.ensures) in
     omega (
       arith,
       c.row.ensures.cost,
@@ -91,7 +91,7 @@ returns-in_err-push-clause-cost g c =
     let l = c.loop-dir in
     let numbers : AreNumbers l.dirs.numbers =
     subst (λ (d : DirectoriesState). AreNumbers d.numbers) c.dirs-in-loop-dir.view_is c.dirs-in-loop-dir.invariant in
-    let inside : length l.rows.items < length l.dirs.numbers = omega (arith, c.in-Some.ensures.dir.0, c.len.ensures) in
+    let inside : length l.rows.items < length l.dirs.numbers = omega (arith, c.in-Some.ensures.within, c.len.ensures) in
     omega (
       arith,
       c.row.ensures.cost,
@@ -146,7 +146,7 @@ pub cover_at-over-requires : goal.cover_at-over-requires
 cover_at-over-requires g c =
     let a = c.args.self.now in
     cover_below a.seen.tree (plain_history a.process) c.loop-dir.dirs c.len-in-Some.result c.len.result c.loop-dir.invariant.covered
-    (c.len-in-Some.ensures ∙ sym c.len.ensures) c.in-Some.ensures.dir.0
+    (c.len-in-Some.ensures ∙ sym c.len.ensures) c.in-Some.ensures.within
 
 pub row-requires : goal.row-requires
 row-requires g c κs =
@@ -154,14 +154,14 @@ row-requires g c κs =
     let t : Tree = a.seen.tree in
     let h : History = plain_history a.process in
     let l = c.loop-dir in
-    let at = c.in-Some.ensures.dir in
+    let at = c.in-Some.ensures in
     let living : IsTrue (is_dir t c.in-Some.dir) =
-    subst (λ (d : ℕ). IsTrue (is_dir t d)) (sym at.1)
-    (all_at_index (λ (d : ℕ). IsTrue (is_dir t d)) l.dirs.numbers 0 l.invariant.living c.len.result at.0) in
+    subst (λ (d : ℕ). IsTrue (is_dir t d)) (sym at.dir)
+    (all_at_index (λ (d : ℕ). IsTrue (is_dir t d)) l.dirs.numbers 0 l.invariant.living c.len.result at.within) in
     let over : c.cover_at-over.result ≡ cover_in t h c.in-Some.dir =
     c.cover_at-over.ensures t h l.invariant.covered
     ∙ ap (λ (n : ℕ). cover_in t h (get_or l.dirs.numbers n 0)) (c.len-in-Some.ensures ∙ sym c.len.ensures)
-    ∙ ap (cover_in t h) (sym at.1) in (
+    ∙ ap (cover_in t h) (sym at.dir) in (
       (refl, tt),
       (
         l.invariant.tree,
@@ -184,7 +184,7 @@ loop-dir-smaller g c =
     let l = c.loop-dir in
     let known = c.in-Some.ensures in
     let count : c.len.result ≡ length l.rows.items = omega (arith, c.len.ensures) in
-    fewer_left c.len.result (length l.rows.items) (length c.push.new.self.items) (length l.dirs.numbers) count known.dir.0 known.few
+    fewer_left c.len.result (length l.rows.items) (length c.push.new.self.items) (length l.dirs.numbers) count known.within known.few
     (one_longer l.rows.items c.push.new.self.items c.in_ok-row.row c.in_ok-push.ensures.items)
 
 -- after the last row
