@@ -5,7 +5,7 @@ mod tracing;
 ghost use Rattle.std.specs.Prelude.{◌≡◌, ◌≤◌, ◌<◌, ◌+◌, ◌-◌, ◌*◌};
 ghost use Rattle.std.specs.Prelude.{[], ◌∷◌, ◌++◌, Some, None, Ok, Err, is_some};
 ghost use Rattle.std.specs.Prelude.{IsTrue, IfSome, IfOk, IfErr, OnOk};
-ghost use Rattle.std.specs.Prelude.{not, true, false, ◌&&◌, ◌==◌, if◌then◌else◌, length};
+ghost use Rattle.std.specs.Prelude.{not, true, ◌&&◌, ◌==◌, if◌then◌else◌, length};
 ghost use Rattle.pua_tree.specs.Names.{is_name};
 ghost use Rattle.pua_tree.specs.Tree.{above, is_dir};
 ghost use Rattle.pua_path.specs.Resolution.{resolution, resolve_parts, step, last, follow};
