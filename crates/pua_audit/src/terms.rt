@@ -1,14 +1,13 @@
 //! What an audit is of.
 
-ghost use Rattle.std.specs.Prelude.{◌≡◌, ◌≤◌, ◌+◌, ◌*◌, suc, map, IfOk};
+ghost use Rattle.std.specs.Prelude.{◌≡◌, ◌≤◌, ◌+◌, ◌*◌, suc, IfOk};
 ghost use Rattle.pua_policy.specs.History.{StandsFor};
-ghost use Rattle.pua_audit.specs.Alphabets.{AreParts};
 ghost use Rattle.pua_audit.specs.Limits.{most_path};
 ghost use Rattle.pua_audit.specs.Begin.{longest};
 ghost use Rattle.pua_audit.specs.Past.{plain_history};
 ghost use Rattle.pua_audit.specs.Starting.{scope_with};
 ghost use Rattle.pua_audit.specs.Judge.{base_dir, base_way, is_open};
-ghost use Rattle.pua_audit.specs.Ready.{part_bytes, scope_in, IsSound, letters_of};
+ghost use Rattle.pua_audit.specs.Ready.{scope_in, IsSound};
 
 use crate::alphabet::longest;
 use crate::base::Base;
@@ -46,8 +45,7 @@ impl Terms {
         letters: Vec<Component>,
     ) -> Result<Terms, OutOfMemory>
         requires stands { StandsFor process.now (plain_history process.now) }
-        requires parts { AreParts letters.items }
-        requires short { limit * suc (longest (map part_bytes letters.items)) ≤ most_path }
+        requires short { limit * suc (longest letters.items) ≤ most_path }
         ensures sound { IfOk result (λ terms. IsSound terms) }
         ensures scope { IfOk result (λ terms. scope_in terms ≡ scope_with (P.tree probe.now)
             table.now (plain_history process.now) base limit letters.items) }
@@ -83,8 +81,8 @@ impl Terms {
 
     /// How many bytes the letters of a word and their slashes have at most.
     pub(crate) fn most_bytes(&self) -> usize
-        requires { self.now.limit * suc (longest (letters_of self.now)) ≤ most_path }
-        ensures { result ≡ self.now.limit * suc (longest (letters_of self.now)) }
+        requires { self.now.limit * suc (longest self.now.letters.items) ≤ most_path }
+        ensures { result ≡ self.now.limit * suc (longest self.now.letters.items) }
     {
         self.limit * (longest(self.letters.as_slice()) + 1)
     }
