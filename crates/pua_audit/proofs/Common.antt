@@ -77,7 +77,7 @@ pub use Rattle.pua_audit.specs.Laws.{IsAudited, Rises}
 pub use Rattle.pua_audit.specs.Live.{distinct_stages, live_states, shorter, Stage, stage_after}
 unfoldable pub use Rattle.pua_audit.specs.Past.{plain_history}
 pub use Rattle.pua_audit.specs.Reach.{from_root, is_reached, Pair, pair_cmp, pairs, path_of, reach, rest_after, Scope, Word, words}
-pub use Rattle.pua_audit.specs.Ready.{IsSound, judge_in, lent_path, letters_of, scope_in}
+pub use Rattle.pua_audit.specs.Ready.{IsSound, judge_in, lent_path, scope_in}
 unfoldable pub use Rattle.pua_audit.specs.Ready.{word_of}
 pub use Rattle.pua_audit.specs.Rows.{AreLiving, AreNumbers, IsEntryFor, IsGrown, IsJudgedRow}
 pub use Rattle.pua_audit.specs.Spots.{AreApartFrom, AreAtLetters, IsApart, IsNamed, IsNowhere, IsUnmarked}

@@ -12,9 +12,6 @@ use Rattle.pua_audit.specs.declared.base.Base.TheVariants.{Root, Cwd}
 use Rattle.pua_audit.specs.Judge.{Judge, judge_of}
 use Rattle.pua_audit.specs.declared.terms.Terms.{Terms}
 
-abbrev pub letters_of : Terms → List (List ℕ)
-letters_of a = a.letters.items
-
 abbrev pub judge_in : Terms → Judge
 judge_in a = judge_of a.seen.tree a.table a.base (plain_history a.process)
 

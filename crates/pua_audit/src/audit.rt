@@ -39,12 +39,11 @@ impl Model for Audit {
     ghost Value = { AuditState };
 
     ghost use Rattle.pua_audit.specs.Coming.{AreReady, to_come};
-    ghost use Rattle.pua_audit.specs.Ready.{letters_of};
 
     ghost view = { λ a. record {
       tree = a.pairs.terms.seen.tree;
       base = a.pairs.terms.base;
-      alphabet = letters_of a.pairs.terms;
+      alphabet = a.pairs.terms.letters.items;
       limit = a.pairs.terms.limit;
       live = a.pairs.live;
       reads = a.pairs.walk.tables.reads;
