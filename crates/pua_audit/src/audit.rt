@@ -26,7 +26,7 @@ use pua_policy::Process;
 use std::alloc::Global;
 use std::marker::Model;
 
-/// What a process is allowed in a tree, line by line in order. Contracts see what it is of, and the
+/// What a process is allowed in a tree, line by line in order. Contracts see what was asked, and the
 /// pairs that are still to come.
 #[derive(Drop)]
 pub struct Audit {
@@ -111,7 +111,8 @@ impl Audit {
         Ok(Audit { pairs })
     }
 
-    /// How many states are live: where words lead from which words with an allowed call go on.
+    /// How many states are live: those to which words lead, and from which words with an allowed call
+    /// go on.
     pub fn table_len(&self) -> usize
         ensures { result ≡ self.now.live }
     {

@@ -1,4 +1,4 @@
-//! What an audit is of.
+//! What was asked of an audit.
 
 ghost use Rattle.std.specs.Prelude.{◌≡◌, ◌≤◌, ◌+◌, ◌*◌, suc, IfOk};
 ghost use Rattle.pua_policy.specs.History.{StandsFor};
@@ -19,8 +19,8 @@ use pua_policy::Process;
 use pua_tree::{Kind, NodeId, OutOfMemory};
 use std::alloc::Global;
 
-/// What an audit is of: a process, the table of what calls need, where paths begin, the most letters
-/// of a word, and the letters in the order of their bytes.
+/// What was asked of an audit: a process, the table of what calls need, where paths begin, the most
+/// letters of a word, and the letters in the order of their bytes.
 #[derive(Drop)]
 pub(crate) struct Terms {
     pub(crate) seen: Content,
@@ -32,9 +32,9 @@ pub(crate) struct Terms {
 }
 
 impl Terms {
-    /// What an audit of a copy of a process is of, by a copy of a table, over the tree of a probe, by
-    /// words of at most so many of these letters. `OutOfMemory` where the growth for the process was
-    /// refused.
+    /// What was asked of an audit of a copy of a process, by a copy of a table, over the tree of a
+    /// probe, by words of at most so many of these letters. `OutOfMemory` where the growth for the
+    /// process was refused.
     pub(crate) fn new<'t, P: Probe<'t>>(
         alloc: Global,
         probe: &P,

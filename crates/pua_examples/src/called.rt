@@ -34,7 +34,7 @@ fn is_replay_asked(alloc: Global) -> Result<bool> {
         return Ok(false);
     };
     Ok(
-        served.told.as_slice() == [Answer::Okay; 5].as_slice()
+        served.answers.as_slice() == [Answer::Okay; 5].as_slice()
             && is_server_told(alloc, &served, server)?
             && !can_touch(alloc, served.world.tree(), child, served.world.table())?,
     )

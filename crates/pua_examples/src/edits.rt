@@ -62,7 +62,7 @@ fn are_given_once<T: FileTree + Drop>(alloc: Global, tree: T) -> Result<bool> {
     let are_named = node_of(tree, b"b")? == Some(NodeId::new(2))
         && node_of(tree, b"a")? == Some(NodeId::new(3))
         && node_of(tree, b"c")? == Some(NodeId::new(4));
-    let are_okay = ran.told.as_slice() == [Answer::Okay; 5].as_slice();
+    let are_okay = ran.answers.as_slice() == [Answer::Okay; 5].as_slice();
     Ok(are_okay && are_named && tree.kind(NodeId::new(1)).is_none())
 }
 

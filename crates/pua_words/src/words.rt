@@ -351,6 +351,8 @@ fn read_why<'a>(alloc: Global, found: &ArgMatches<'a>) -> Result<Option<WhyWords
     Ok(Some(WhyWords { process, fields }))
 }
 
+/// The number of the process. clap has judged it by the same range, but no contract says what clap
+/// takes.
 fn read_process(found: &ArgMatches<'_>) -> Option<u32>
     ensures { IfSome result IsProcessNumber }
 {

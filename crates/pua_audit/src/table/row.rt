@@ -98,7 +98,7 @@ impl Letter {
             IfSome self.now.leads (λ d. self.now.cover ≡ cover_in t h d) → AreCovered t h dirs.old →
             AreCovered t h dirs.new) }
     {
-        if self.is_told_by(missing) {
+        if self.is_like_missing(missing) {
             return Ok(());
         }
         let to = self.place(dirs)?;
@@ -114,7 +114,7 @@ impl Letter {
     }
 
     /// Whether it leads nowhere, and just these calls are allowed on it.
-    fn is_told_by(&self, missing: Calls) -> bool
+    fn is_like_missing(&self, missing: Calls) -> bool
         ensures { IsTrue result → (self.now.all ≡ missing) × (self.now.kept ≡ missing) ×
             (self.now.leads ≡ None) }
     {
