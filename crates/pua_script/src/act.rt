@@ -17,13 +17,14 @@ use crate::answer::Answer;
 use crate::fault::WorldFault;
 use crate::granted::{Granted, make};
 use crate::judged::{
-    grant_call, grant_symlink, grant_unveil, judge_call, judge_symlink, judge_unveil,
+    grant_call, grant_symlink, grant_unveil, judge_object, judge_target, judge_unveil,
 };
 use crate::link::{grant_link, judge_link};
 use crate::process::{decide_lock, decide_pledge, refuse};
 use crate::rename::{grant_rename, judge_rename};
 use crate::request::Action;
 use pua_calls::{Call, CallTable, Perms};
+use pua_policy::judge::promised_for;
 use pua_policy::{Process, Refusal};
 use pua_tree::FileTree;
 
@@ -74,8 +75,13 @@ fn call_on<T: FileTree>(
     ensures unchanged { OnErr result
         ((T.content tree.new ≡ T.content tree.old) × (process.new ≡ process.old)) }
 {
-    let object = judge_call(tree, table, process, call, path);
-    answer(tree, process, &grant_call(table, call, &object))
+    match promised_for(process, table, call) {
+        Ok(()) => {
+            let object = judge_object(tree, table, process, call, path);
+            answer(tree, process, &grant_call(table, call, &object))
+        }
+        Err(refusal) => answer(tree, process, &Err(refusal)),
+    }
 }
 
 /// Makes a link with this target.
@@ -91,8 +97,12 @@ fn symlink<T: FileTree>(
     ensures unchanged { OnErr result
         ((T.content tree.new ≡ T.content tree.old) × (process.new ≡ process.old)) }
 {
-    let judged = judge_symlink(tree, table, process, target, path);
-    answer(tree, process, &grant_symlink(&judged))
+    let target = match judge_target(table, process, target) {
+        Ok(target) => target,
+        Err(refusal) => return answer(tree, process, &Err(refusal)),
+    };
+    let object = judge_object(tree, table, process, Call::Symlink, path);
+    answer(tree, process, &grant_symlink(&target, &object))
 }
 
 /// Renames what the old path names.

@@ -1,12 +1,16 @@
 //! What paths name to a process, and what requests on one path are to change.
 
 ghost use Rattle.std.specs.Prelude.{◌≡◌, Ok, IfOk};
+ghost use Rattle.pua_path.specs.Paths.{path_fault};
 ghost use Rattle.pua_path.specs.Resolution.{resolution_of_text};
 ghost use Rattle.pua_path.specs.declared.found.Found as founds;
+ghost use Rattle.pua_calls.specs.Calls.{rule_of};
+ghost use Rattle.pua_calls.specs.declared.call.Call.TheVariants.{Symlink};
+ghost use Rattle.pua_policy.specs.History.{may_any_on};
 ghost use Rattle.pua_policy.specs.Verdict.{place_of};
 ghost use Rattle.pua_script.specs.Decide.{Asking, Decision, adding, asker_on, change_by};
-ghost use Rattle.pua_script.specs.Decide.{decide_call, decide_object, decide_symlink};
-ghost use Rattle.pua_script.specs.Decide.{decide_unveil, going, link_node, removing, veiling};
+ghost use Rattle.pua_script.specs.Decide.{decide_object, decide_unveil, going, if_may, if_named};
+ghost use Rattle.pua_script.specs.Decide.{link_node, removing, unless_fault, veiling};
 ghost use Rattle.pua_script.specs.Judged.{NameFits, decision_for, decision_by};
 ghost use Rattle.pua_script.specs.Judged.{node_made, on_judged};
 
@@ -38,58 +42,40 @@ pub(crate) fn named<'t, P: Probe<'t>>(
 }
 
 /// What the path of a call names, whose promises are held: where the veils leave enough of it, and
-/// it is of a kind that the call is for.
-fn judge_object<T: FileTree>(
+/// it is of a kind that the call is for. What was found is some 280 bytes, so it stays where it is
+/// once it is found, and what is wrong with it is told as an errno beside it.
+pub(crate) fn judge_object<T: FileTree>(
     tree: &T,
     table: &CallTable,
     process: &Process,
     call: Call,
     path: &[u8],
-) -> Result<Found, Refusal>
+) -> Result<Found, Errno>
     ensures { (further : founds.Found → Decision) →
         decide_object table.now (T.content tree.now) (asker_on process.now) call path.now further
-        ≡ on_judged result further }
+        ≡ if_named result further }
 {
     let mut probe = Counted::new(tree);
-    let last = call.last();
-    let found = match named(&mut probe, process.dir(), path, ending(call), last) {
-        Ok(found) => found,
-        Err(errno) => return Err(Refusal::Failed(errno)),
-    };
-    match object_verdict(&mut probe, process, table, call, &found) {
-        Ok(()) => Ok(found),
-        Err(errno) => Err(Refusal::Failed(errno)),
+    let found = named(&mut probe, process.dir(), path, ending(call), call.last());
+    if let Ok(object) = &found {
+        object_verdict(&mut probe, process, table, call, object)?;
     }
-}
-
-/// What the path of a call names: its promises are judged before its path is read.
-pub(crate) fn judge_call<T: FileTree>(
-    tree: &T,
-    table: &CallTable,
-    process: &Process,
-    call: Call,
-    path: &[u8],
-) -> Result<Found, Refusal>
-    ensures { on_judged result (λ object. Ok (change_by table.now call object))
-        ≡ decide_call table.now (T.content tree.now) (asker_on process.now) call path.now }
-{
-    promised_for(process, table, call)?;
-    judge_object(tree, table, process, call, path)
+    found
 }
 
 /// What a call is to change, by what its path named.
 pub(crate) fn grant_call<'a>(
     table: &CallTable,
     call: Call,
-    judged: &'a Result<Found, Refusal>,
+    judged: &'a Result<Found, Errno>,
 ) -> Result<Granted<'a>, Refusal>
     ensures { (asker : Asking) →
         decision_for asker result
-        ≡ on_judged judged.now (λ object. Ok (change_by table.now call object)) }
+        ≡ if_named judged.now (λ object. Ok (change_by table.now call object)) }
 {
     match judged {
         Ok(found) => Ok(change_by(table, call, found)),
-        Err(refusal) => Err(*refusal),
+        Err(errno) => Err(Refusal::Failed(*errno)),
     }
 }
 
@@ -139,39 +125,37 @@ fn entering<'a>(found: &'a Found) -> Granted<'a>
     }
 }
 
-/// The target of a symlink, and what its path names: the promise, then the target's text, then the
-/// path.
-pub(crate) fn judge_symlink<'a, T: FileTree>(
-    tree: &T,
+/// The target of a symlink: its promise is judged before its text is read.
+pub(crate) fn judge_target<'a>(
     table: &CallTable,
     process: &Process,
     target: &'a [u8],
-    path: &[u8],
-) -> Result<(PathText<'a>, Found), Refusal>
-    ensures { on_judged result (λ link. Ok (adding (link_node link.0.bytes) link.1))
-        ≡ decide_symlink table.now (T.content tree.now) (asker_on process.now) target.now
-        path.now }
+) -> Result<PathText<'a>, Refusal>
+    ensures exact { (further : Decision) →
+        on_judged result (λ text. further)
+        ≡ if_may (may_any_on process.now (rule_of table.now Symlink).alternatives)
+        (unless_fault (path_fault target.now) further) }
+    ensures text { IfOk result (λ text. text.bytes ≡ target.now) }
 {
     promised_for(process, table, Call::Symlink)?;
-    let target = match PathText::read(target, Ending::Dot) {
-        Ok(target) => target,
-        Err(errno) => return Err(Refusal::Failed(errno)),
-    };
-    let found = judge_object(tree, table, process, Call::Symlink, path)?;
-    Ok((target, found))
+    match PathText::read(target, Ending::Dot) {
+        Ok(target) => Ok(target),
+        Err(errno) => Err(Refusal::Failed(errno)),
+    }
 }
 
-/// A link with its target, where nothing stands.
+/// A link with this target, where nothing stands.
 pub(crate) fn grant_symlink<'a>(
-    judged: &'a Result<(PathText<'a>, Found), Refusal>,
+    target: &'a PathText<'a>,
+    judged: &'a Result<Found, Errno>,
 ) -> Result<Granted<'a>, Refusal>
     ensures { (asker : Asking) →
         decision_for asker result
-        ≡ on_judged judged.now (λ link. Ok (adding (link_node link.0.bytes) link.1)) }
+        ≡ if_named judged.now (λ object. Ok (adding (link_node target.now.bytes) object)) }
 {
     match judged {
-        Ok((target, found)) => Ok(adding(NewNode::Link(target), found)),
-        Err(refusal) => Err(*refusal),
+        Ok(found) => Ok(adding(NewNode::Link(target), found)),
+        Err(errno) => Err(Refusal::Failed(*errno)),
     }
 }
 
