@@ -19,11 +19,13 @@ use crate::granted::{Granted, make};
 use crate::judged::{
     grant_call, grant_symlink, grant_unveil, judge_object, judge_target, judge_unveil,
 };
-use crate::link::{grant_link, judge_link};
+use crate::link::grant_link;
+use crate::pair::{covered, promised_pair, side_named};
 use crate::process::{decide_lock, decide_pledge, refuse};
-use crate::rename::{grant_rename, judge_rename};
+use crate::rename::grant_rename;
 use crate::request::Action;
 use pua_calls::{Call, CallTable, Perms};
+use pua_path::Ending;
 use pua_policy::judge::promised_for;
 use pua_policy::{Process, Refusal};
 use pua_tree::FileTree;
@@ -118,12 +120,22 @@ fn rename<T: FileTree>(
     ensures unchanged { OnErr result
         ((T.content tree.new ≡ T.content tree.old) × (process.new ≡ process.old)) }
 {
-    let pair = judge_rename(tree, table, process, old, new);
-    let granted = grant_rename(tree, &pair);
-    answer(tree, process, &granted)
+    let need = table.rename();
+    match promised_pair(process, need) {
+        Ok(()) => {
+            let ending = Ending::Dropped;
+            let from = side_named(tree, process, need.old_name(), ending, old);
+            let to = side_named(tree, process, need.new_name(), ending, new);
+            let pair = covered(tree, process, need, &from, &to);
+            let granted = grant_rename(tree, &pair);
+            answer(tree, process, &granted)
+        }
+        Err(refusal) => answer(tree, process, &Err(refusal)),
+    }
 }
 
-/// Gives what the old path names a further name.
+/// Gives what the old path names a further name. By the standard table a symbolic link at the old
+/// path's end gets the name itself (this profile).
 fn link<T: FileTree>(
     tree: &mut T,
     table: &CallTable,
@@ -136,8 +148,17 @@ fn link<T: FileTree>(
     ensures unchanged { OnErr result
         ((T.content tree.new ≡ T.content tree.old) × (process.new ≡ process.old)) }
 {
-    let pair = judge_link(tree, table, process, old, new);
-    answer(tree, process, &grant_link(&pair))
+    let need = table.link();
+    match promised_pair(process, need) {
+        Ok(()) => {
+            let ending = Ending::Dot;
+            let from = side_named(tree, process, need.old_name(), ending, old);
+            let to = side_named(tree, process, need.new_name(), ending, new);
+            let pair = covered(tree, process, need, &from, &to);
+            answer(tree, process, &grant_link(&pair))
+        }
+        Err(refusal) => answer(tree, process, &Err(refusal)),
+    }
 }
 
 /// Puts a veil on what a path names.
