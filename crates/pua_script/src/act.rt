@@ -17,7 +17,7 @@ use crate::answer::Answer;
 use crate::fault::WorldFault;
 use crate::granted::{Granted, make};
 use crate::judged::{
-    grant_call, grant_symlink, grant_unveil, judge_object, judge_target, judge_unveil,
+    grant_call, grant_symlink, grant_unveil, judge_letters, judge_object, judge_target, veil_named,
 };
 use crate::link::grant_link;
 use crate::pair::{covered, promised_pair, side_named};
@@ -174,8 +174,13 @@ fn unveil<T: FileTree>(
     ensures unchanged { OnErr result
         ((T.content tree.new ≡ T.content tree.old) × (process.new ≡ process.old)) }
 {
-    let veil = judge_unveil(tree, process, path, perms);
-    answer(tree, process, &grant_unveil(&veil))
+    match judge_letters(process, perms) {
+        Ok(perms) => {
+            let object = veil_named(tree, process, path);
+            answer(tree, process, &grant_unveil(&object, perms))
+        }
+        Err(refusal) => answer(tree, process, &Err(refusal)),
+    }
 }
 
 /// Does what was granted, or what a refusal leaves to do.

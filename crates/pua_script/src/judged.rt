@@ -1,16 +1,19 @@
 //! What paths name to a process, and what requests on one path are to change.
 
-ghost use Rattle.std.specs.Prelude.{◌≡◌, Ok, IfOk};
+ghost use Rattle.std.specs.Prelude.{◌≡◌, ℕ, List, Some, Ok, IfOk};
+ghost use Rattle.pua_tree.specs.Tree.{Tree};
 ghost use Rattle.pua_path.specs.Paths.{path_fault};
 ghost use Rattle.pua_path.specs.Resolution.{resolution_of_text};
 ghost use Rattle.pua_path.specs.declared.found.Found as founds;
+ghost use Rattle.pua_path.specs.declared.found.Last.TheVariants.{Followed};
+ghost use Rattle.pua_path.specs.declared.text.Ending.TheVariants.{Dot};
 ghost use Rattle.pua_calls.specs.Calls.{rule_of};
 ghost use Rattle.pua_calls.specs.declared.call.Call.TheVariants.{Symlink};
 ghost use Rattle.pua_policy.specs.History.{may_any_on};
 ghost use Rattle.pua_policy.specs.Verdict.{place_of};
 ghost use Rattle.pua_script.specs.Decide.{Asking, Decision, adding, asker_on, change_by};
-ghost use Rattle.pua_script.specs.Decide.{decide_object, decide_unveil, going, if_may, if_named};
-ghost use Rattle.pua_script.specs.Decide.{link_node, removing, unless_fault, veiling};
+ghost use Rattle.pua_script.specs.Decide.{decide_object, decide_unveil, decide_veil, going, if_may};
+ghost use Rattle.pua_script.specs.Decide.{if_named, link_node, removing, unless_fault, veiling};
 ghost use Rattle.pua_script.specs.Judged.{NameFits, decision_for, decision_by};
 ghost use Rattle.pua_script.specs.Judged.{node_made, on_judged};
 
@@ -159,41 +162,47 @@ pub(crate) fn grant_symlink<'a>(
     }
 }
 
-/// What the path of an unveil names, and its permissions: the promise, the lock, the letters, and
-/// the path. A link at the path's end is followed.
-pub(crate) fn judge_unveil<T: FileTree>(
-    tree: &T,
-    process: &Process,
-    path: &[u8],
-    perms: Option<Perms>,
-) -> Result<(Found, Perms), Refusal>
-    ensures { on_judged result (λ veil. veiling (asker_on process.now) (place_of veil.0) veil.1)
-        ≡ decide_unveil (T.content tree.now) (asker_on process.now) path.now perms }
+/// The permissions that an unveil is for: the promise, the lock, and the letters are judged before its
+/// path is read.
+pub(crate) fn judge_letters(process: &Process, perms: Option<Perms>) -> Result<Perms, Refusal>
+    ensures { (t : Tree) (path : List ℕ) →
+        on_judged result (λ letters. decide_veil t (asker_on process.now) path (Some letters))
+        ≡ decide_unveil t (asker_on process.now) path perms }
 {
     promised(process, Promises::UNVEIL)?;
     if process.locked() {
         return Err(Refusal::Failed(Errno::EPERM));
     }
-    let Some(perms) = perms else {
-        return Err(Refusal::Failed(Errno::EINVAL));
-    };
-    let mut probe = Counted::new(tree);
-    match named(&mut probe, process.dir(), path, Ending::Dot, Last::Followed) {
-        Ok(found) => Ok((found, perms)),
-        Err(errno) => Err(Refusal::Failed(errno)),
+    match perms {
+        Some(perms) => Ok(perms),
+        None => Err(Refusal::Failed(Errno::EINVAL)),
     }
 }
 
+/// What the path of an unveil names. A link at the path's end is followed.
+pub(crate) fn veil_named<T: FileTree>(
+    tree: &T,
+    process: &Process,
+    path: &[u8],
+) -> Result<Found, Errno>
+    ensures { result ≡ resolution_of_text (T.content tree.now) process.now.dir Dot path.now
+        Followed }
+{
+    let mut probe = Counted::new(tree);
+    named(&mut probe, process.dir(), path, Ending::Dot, Last::Followed)
+}
+
 /// A veil on the place of what was found.
-pub(crate) fn grant_unveil<'a>(
-    judged: &'a Result<(Found, Perms), Refusal>,
-) -> Result<Granted<'a>, Refusal>
+pub(crate) fn grant_unveil(
+    judged: &Result<Found, Errno>,
+    perms: Perms,
+) -> Result<Granted<'_>, Refusal>
     ensures { (asker : Asking) →
         decision_for asker result
-        ≡ on_judged judged.now (λ veil. veiling asker (place_of veil.0) veil.1) }
+        ≡ if_named judged.now (λ object. veiling asker (place_of object) perms) }
 {
     match judged {
-        Ok((found, perms)) => Ok(Granted::Unveil(found, *perms)),
-        Err(refusal) => Err(*refusal),
+        Ok(found) => Ok(Granted::Unveil(found, perms)),
+        Err(errno) => Err(Refusal::Failed(*errno)),
     }
 }
