@@ -8,7 +8,6 @@ use Rattle.std.proofs.Common.{Ok}
 use Rattle.pua_tree.specs.Tree.{found_at, look}
 use Rattle.pua_tree.specs.declared.node.Kind.{Kind}
 use Rattle.pua_path.specs.Kinds.{is_file}
-use Rattle.pua_path.specs.declared.found.Part.TheVariants as part
 use Rattle.pua_path.proofs.ForCallers.{missing_follows, file_follows, found_kind, unlinked_alike}
 use Rattle.pua_policy.proofs.ForCallers.{unveiled_within}
 use Rattle.pua_policy.specs.History.{has_veil}

@@ -16,7 +16,6 @@ use Rattle.pua_tree.specs.Tree.{spot_cmp}
 use Rattle.pua_tree.proofs.ForCallers.{exact_spots}
 use Rattle.pua_policy.specs.History.{same_place}
 use Rattle.pua_policy.proofs.ForCallers.{same_place_is}
-use Rattle.pua_path.specs.declared.found.Part.TheVariants as part
 use Rattle.pua_audit.proofs.Lists.{all_before, all_after}
 use Rattle.pua_audit.proofs.AfterPair.{letters_alike}
 use Rattle.pua_steps.proofs.ForCallers.{all_weaker}

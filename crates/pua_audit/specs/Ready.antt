@@ -1,7 +1,6 @@
 -- What an audit is of, and the path of a word of it.
 use Rattle.std.specs.Prelude.{◌≤◌, ℕ, suc, List, [], ◌∷◌, map, get_or, ◌*◌, codes}
 use Rattle.pua_tree.specs.Tree.{WellFormed}
-use Rattle.pua_path.specs.declared.found.Part.TheVariants as part
 use Rattle.pua_policy.specs.History.{StandsFor}
 use Rattle.pua_audit.specs.Past.{plain_history}
 use Rattle.pua_audit.specs.Limits.{most_path}

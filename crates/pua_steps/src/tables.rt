@@ -79,8 +79,8 @@ impl Tables {
         requires base { IfSome base (λ s. IsState self.now.steps s) }
         requires limit { limit ≤ most_letters }
         requires small { self.now.live.dirs * 1088 < 2 ^ 64 }
-        ensures { IfOk result (λ count. count ≡ live_count (graph_of self.now.steps) limit base
-            limit) }
+        ensures { IfOk result (λ count. count ≡ live_count (graph_of self.now.steps)
+            (length self.now.steps.rows.items) limit base limit) }
     {
         self.live.count(alloc, &self.steps, base, limit)
     }

@@ -88,7 +88,9 @@ returns-clause-live g c =
     ap (λ (f : Found). is_allowed (verdict a.seen.tree a.table (plain_history a.process) call f)) c.base_found-2.ensures in
     let first = ap (λ (d : ℕ). Some (record { dir = d; used = 0 })) (sym (made.1.3 ∙ c.base_dir.ensures)) in
     c.in_ok-live.ensures ∙
-    ap (λ (t : Steps). live_count (graph_of t) a.limit (Some (record { dir = 0; used = 0 })) a.limit) c.in_ok-tables.ensures.steps
+    ap (λ (t : Steps). live_count (graph_of t) (length t.rows.items) a.limit (Some (record { dir = 0; used = 0 })) a.limit)
+    c.in_ok-tables.ensures.steps
+    ∙ ap (λ n. live_count (graph_of c.in_ok-steps.steps) n a.limit (Some (record { dir = 0; used = 0 })) a.limit) made.1.0.dirs
     ∙ sym (begun_live (scope_in a) made.0 c.in_ok-steps.steps made.1.0 made.1.2 c.bits-calls.result own first
     (audited a c.requires.sound c.requires.letters) (lives a c.requires.sound c.requires.letters c.requires.open) made.1.1)
 
