@@ -43,8 +43,8 @@ module _ (s : Scope) (names : List ℕ) (t : Steps) (is : IsTableOf (judge_for s
   begun_live =
       live_states_count.counted s names (graph_of t 0) set (Some (record { dir = 0; used = 0 })) audited alive apart
       (begun_stands (judge_for s) s.alphabet names t is some set own first)
-      ∙ ap (λ g. live_count g (length names) s.limit (Some (record { dir = 0; used = 0 })) s.limit) (one_graph (judge_for s) s.alphabet names t is some set
-      own first)
+      ∙ ap (λ g. live_count g (length names) s.limit (Some (record { dir = 0; used = 0 })) s.limit)
+      (one_graph (judge_for s) s.alphabet names t is some set own first)
 
 pub table_fits : (limit n : ℕ) → limit ≤ 16 → n ≤ 4294967296 → suc limit * n < 18446744073709551616
 table_fits limit n low few = let most = mul-le (suc limit) n 17 4294967296 (omega (arith, low)) few in omega (arith, most)

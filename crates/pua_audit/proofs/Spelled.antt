@@ -23,8 +23,10 @@ all_short : (a : Terms) (word : List ℕ) → AllByRecursion (λ i. i < length a
     AllByRecursion (λ b. length b ≤ longest a.letters.items) (word_of a.letters.items word)
 unfolding word_of
 all_short a [] all = tt
-all_short a (i ∷ word) all =
-    (all_at_index (λ b. length b ≤ longest a.letters.items) a.letters.items [] (no_longer 0 a.letters.items) i all.0, all_short a word all.1)
+all_short a (i ∷ word) all = (
+  all_at_index (λ b. length b ≤ longest a.letters.items) a.letters.items [] (no_longer 0 a.letters.items) i all.0,
+  all_short a word all.1,
+)
 
 -- the places of a word are of the alphabet, and its path has each letter after a slash
 pub record IsSpelled (a : Terms) (word bytes : List ℕ) : Type 0 where

@@ -50,7 +50,8 @@ impl Pairs {
         requires rows { map lent_entry rows.now ≡ terms.seen.tree.rows }
         requires sound { IsSound terms }
         requires letters { AreSound terms.limit terms.letters.items }
-        requires word { IfSome after (λ r. AreLetters terms.letters.items terms.limit r.word.items) }
+        requires word { IfSome after
+            (λ r. AreLetters terms.letters.items terms.limit r.word.items) }
         ensures ready { IfOk result (λ pairs. AreReady pairs) }
         ensures terms { IfOk result (λ pairs. pairs.terms ≡ terms) }
         ensures left { IfOk result (λ pairs. to_come pairs ≡ rest_after (scope_in terms)

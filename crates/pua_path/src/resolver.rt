@@ -51,7 +51,8 @@ pub fn resolve<'t, P: Probe<'t>>(
     text: &PathText<'_>,
     mode: Last,
 ) -> Result<Found, Errno>
-    ensures exact { result ≡ resolution (P.tree probe.old) from text.now.ending text.now.bytes mode }
+    ensures exact { result
+        ≡ resolution (P.tree probe.old) from text.now.ending text.now.bytes mode }
     ensures fits { FoundsFit (P.tree probe.old) result }
     ensures named { IfOk result (StandsAsNamed (P.tree probe.old)) }
     ensures tree { P.tree probe.new ≡ P.tree probe.old }
@@ -236,7 +237,8 @@ fn resolve_part<'t, P: Probe<'t>>(
 ) -> Result<(Found, u8), Errno>
     requires dir { IsTrue (is_dir (P.tree probe.old) dir) }
     requires left { left ≤ most_links }
-    ensures exact { result ≡ resolve_parts left (P.tree probe.old) mode dir ways.Top (part.now ∷ []) }
+    ensures exact { result
+        ≡ resolve_parts left (P.tree probe.old) mode dir ways.Top (part.now ∷ []) }
     ensures fits { IfOk result (λ found. FoundFits (P.tree probe.old) found.0) }
     ensures named { IfOk result (λ found. StandsAsNamed (P.tree probe.old) found.0) }
     ensures left { IfOk result (λ found. found.1 ≤ left) }
@@ -533,7 +535,8 @@ struct Resolving<'a> {
 impl<'a> Resolving<'a> {
     #[inline(always)]
     fn new(dir: NodeId, left: u8, rest: Rest<'a>) -> Resolving<'a>
-        ensures { result ≡ record { here = dir; way = nameless.Top; left = left; rest = rest.entry } }
+        ensures { result
+            ≡ record { here = dir; way = nameless.Top; left = left; rest = rest.entry } }
     {
         Resolving {
             here: dir,

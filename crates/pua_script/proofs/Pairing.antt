@@ -1,6 +1,6 @@
 -- What is decided of what both paths of a request name, by the promises that were asked and by what was found.
-use Rattle.pua_script.proofs.Common.{◌≡◌, ℕ, List, sym, ap, ◌∙◌, Result, Ok, Err, Tree, PairRule, ProcessState, Found, Errno, Ending, Refusal}
-use Rattle.pua_script.proofs.Common.{Decision, asker_on, resolution_of_text, if_may}
+use Rattle.pua_script.proofs.Common.{◌≡◌, ℕ, List, sym, ap, ◌∙◌, Result, Ok, Err, Tree, PairRule, ProcessState, Found, Errno, Ending}
+use Rattle.pua_script.proofs.Common.{Refusal, Decision, asker_on, resolution_of_text, if_may}
 use Rattle.pua_calls.specs.Calls.{NameRule}
 use Rattle.pua_policy.specs.History.{may_any_on}
 use Rattle.pua_script.specs.Decide.{covers_by, decide_pair, if_named, unless_fault}
@@ -20,7 +20,8 @@ module _ (rules need : PairRule) (same : need ≡ rules) (t : Tree) (p : Process
         on_judged r (λ _. on_both (path_by need.old old) (path_by need.new new)) ≡ decide_pair rules t (asker_on p) end old new further
     asked r is =
         ap (λ r. on_judged r (λ _. on_both (path_by need.old old) (path_by need.new new))) (sym is)
-        ∙ judged (on_both (path_by need.old old) (path_by need.new new)) ∙ ap (λ rule. decide_pair rule t (asker_on p) end old new further) same
+        ∙ judged (on_both (path_by need.old old) (path_by need.new new))
+        ∙ ap (λ rule. decide_pair rule t (asker_on p) end old new further) same
 
     -- where the promises are refused
     pub pair_refused : (refusal : Refusal) → held ≡ Err refusal → Err refusal ≡ decide_pair rules t (asker_on p) end old new further

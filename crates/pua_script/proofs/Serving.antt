@@ -3,8 +3,8 @@ use Rattle.pua_script.proofs.Common.{◌≡◌, ℕ, ◌+◌, [], ◌∷◌, ◌
 use Rattle.pua_script.proofs.Common.{◌∙◌, eqb-true, nat_le, Tree, CallTable, proc, History, ProcessState, StandsFor, Ended}
 use Rattle.pua_script.proofs.Common.{may_any, EAGAIN, Asked, Answer, WorldFault, Okay, Gone, Action, Fork, CopyAs, if_may, World, arith}
 use Rattle.pua_script.proofs.Common.{Effect, come_of, Fails, Kills, Leaves, Copies, history_of, effect, answer_to, left_by, option_map}
-use Rattle.pua_script.proofs.Common.{answer_and_world, apply, world_after, most_processes, WorldState, StandsForWorld, process_at, put, nat_cmp}
-use Rattle.pua_script.proofs.Common.{keeps, state_of}
+use Rattle.pua_script.proofs.Common.{answer_and_world, apply, world_after, most_processes, WorldState, StandsForWorld, process_at, put}
+use Rattle.pua_script.proofs.Common.{keeps, nat_cmp, state_of}
 use Rattle.std.proofs.Common.{Result, Ok, Err, IfOk, OnErr}
 use Rattle.std.proofs.Common.{Option, Some, None, is_some, true≢false}
 use Rattle.std.specs.Map.{lookup, set_value}

@@ -10,7 +10,8 @@ returns-in-Ok-clause-exact g c = λ table.
     let path = c.args.path.now in
     let asker = asker_on c.args.process.now in
     acts table t c.args.process.now (Unveil path c.args.perms) c.grant_unveil.result
-    (c.grant_unveil.ensures asker ∙ ap (λ r. if_named r (λ object. veiling asker (place_of object) c.in-Ok.perms)) c.veil_named-object.ensures
+    (c.grant_unveil.ensures asker ∙ ap (λ r. if_named r (λ object. veiling asker (place_of object) c.in-Ok.perms))
+    c.veil_named-object.ensures
     ∙ ap (λ r. on_judged r (λ letters. decide_veil t asker path (Some letters))) (sym c.in-Ok.is) ∙ c.judge_letters.ensures t path)
     _ _ c.answer.result c.answer.ensures.exact
 

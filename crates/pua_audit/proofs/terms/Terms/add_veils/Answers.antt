@@ -11,8 +11,8 @@ loop-place-preserved c =
     record {
       within = added.within;
       places = λ dir letter low unmarked.
-          all_taken (λ (other : Place). other ≢ Slot dir (get_or c.args.self.now.letters.items letter [])) (λ (place : Bor Place). place.now)
-          c.args.places.now c.place-item.result l.place-index c.loop-place-test.true c.place-item.is
+          all_taken (λ (other : Place). other ≢ Slot dir (get_or c.args.self.now.letters.items letter []))
+          (λ (place : Bor Place). place.now) c.args.places.now c.place-item.result l.place-index c.loop-place-test.true c.place-item.is
           (l.invariant.places dir letter low (added.others dir letter unmarked)) (added.here dir letter low unmarked);
       others = λ dir letter unmarked. l.invariant.others dir letter (added.others dir letter unmarked);
     }

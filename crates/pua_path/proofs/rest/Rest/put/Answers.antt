@@ -12,7 +12,8 @@ returns-then-is_empty-clause-parts c =
 
 pub invariant_of-self : goal.invariant_of-self
 invariant_of-self c =
-    let readable = text_readable c.args.target.bytes.now c.after_slashes-text.result.now c.args.target.readable c.after_slashes-text.ensures in
+    let readable = text_readable c.args.target.bytes.now c.after_slashes-text.result.now c.args.target.readable
+    c.after_slashes-text.ensures in
     let full = not_empty c.after_slashes-text.result.now (sym c.is_empty.ensures ∙ c.if-is_empty.false) in
     elim c.if-not-is_empty.branch [
       | then-not-is_empty w ↦
