@@ -10,7 +10,7 @@
 use strict;
 use warnings;
 use FindBin qw($Bin);
-use lib $Bin;
+use lib "$Bin/lib";
 use Model;
 use Tables qw(content table_in);
 use Test::More;

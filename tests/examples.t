@@ -8,7 +8,7 @@
 use strict;
 use warnings;
 use FindBin qw($Bin);
-use lib $Bin;
+use lib "$Bin/lib";
 use Tables qw(content);
 use Test::More;
 use Worlds qw(answer_in program_in);

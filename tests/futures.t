@@ -7,7 +7,7 @@
 use strict;
 use warnings;
 use FindBin qw($Bin);
-use lib $Bin;
+use lib "$Bin/lib";
 use List::Util qw(first);
 use Storable qw(dclone);
 use Test::More;

@@ -9,7 +9,7 @@
 use strict;
 use warnings;
 use FindBin qw($Bin);
-use lib $Bin;
+use lib "$Bin/lib";
 use Test::More;
 use Worlds qw(answer_of program_in);
 

@@ -12,7 +12,7 @@ use strict;
 use warnings;
 use FindBin qw($Bin);
 use Test::More;
-use lib $Bin;
+use lib "$Bin/lib";
 use Why::Columns qw(columns_fault);
 use Why::Facts qw(facts_fault);
 use Why::Otherwise qw(words_fault);

@@ -8,7 +8,7 @@
 use strict;
 use warnings;
 use FindBin qw($Bin);
-use lib $Bin;
+use lib "$Bin/lib";
 use Tables qw(ended table_in);
 use Test::More;
 use Worlds qw(answer_of program_in);

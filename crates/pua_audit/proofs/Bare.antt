@@ -3,12 +3,11 @@ use Rattle.pua_audit.proofs.Common.{ℕ, ◌+◌, ◌≤◌, ◌≡◌, List, []
 use Rattle.pua_audit.proofs.Common.{sym, subst, ◌∙◌, IsTrue, le-leb, Tree, WellFormed, is_dir, most_links, part_of, follow, Found, Slot}
 use Rattle.pua_audit.proofs.Common.{Last, Followed, Kept, Top, CallTable, last_of, has, History, veil_at, Place, IsMissing, cover}
 use Rattle.pua_audit.proofs.Common.{verdict_of, is_allowed, Call, allowed_within, allowed_kept, allowed_near, allowed_far, judge_of}
-use Rattle.pua_audit.proofs.Common.{IsLetter, Base}
+use Rattle.pua_audit.proofs.Common.{IsLetter, IsNamed, Base}
 use Rattle.std.proofs.Common.{Ok}
 use Rattle.pua_tree.specs.Tree.{found_at, look}
 use Rattle.pua_tree.specs.declared.node.Kind.{Kind}
 use Rattle.pua_path.specs.Kinds.{is_file}
-use Rattle.pua_path.specs.declared.found.Part.TheVariants as part
 use Rattle.pua_path.proofs.ForCallers.{missing_follows, file_follows, found_kind, unlinked_alike}
 use Rattle.pua_policy.proofs.ForCallers.{unveiled_within}
 use Rattle.pua_policy.specs.History.{has_veil}
@@ -24,7 +23,7 @@ alike Kept followed kept both e f = f
 
 -- a name where nothing stands in a directory, and at which no veil is kept
 pub record IsBare (t : Tree) (h : History) (dir : ℕ) (letter : List ℕ) : Type 0 where
-  pub name : part_of letter ≡ part.Name letter
+  pub name : IsNamed letter
   pub none : look t dir letter ≡ None
   pub unveiled : policy.perms_kept h (place.Slot dir letter) ≡ None
 
@@ -68,7 +67,7 @@ module _ (t : Tree) (table : CallTable) (base : Base) (h : History) (dir : ℕ) 
   -- one tells all files of a kind
   pub file_told : (x calls kept : ℕ) (kind : Kind) → is_file kind ≡ true →
       ((call : Call) → has calls call ≡ allowed_within t table h dir (object_of_kind (Some kind)) call)
-      → part_of letter ≡ part.Name letter → found_at t dir letter ≡ Some (x, kind) → policy.perms_kept h (place.Slot dir letter) ≡ None →
+      → IsNamed letter → found_at t dir letter ≡ Some (x, kind) → policy.perms_kept h (place.Slot dir letter) ≡ None →
       IsLetter (judge_of t table base h) dir letter calls kept 0 None
   file_told x calls kept kind file told name found unveiled =
       slot_told t table base h dir letter (Some x) calls kept (ap (follow t dir) name ∙ file_follows t dir letter x kind file found)

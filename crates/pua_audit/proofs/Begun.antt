@@ -39,12 +39,12 @@ module _ (s : Scope) (names : List ℕ) (t : Steps) (is : IsTableOf (judge_for s
     (own : (call : Call) → has_call set (bit_of call) ≡ (judge_for s).own Start call)
     (first : (judge_for s).step Start ≡ Some (record { dir = get_or names 0 0; used = 0 })) (audited : IsAudited s)
     (alive : IsTrue (is_dir s.tree (base_dir s.base s.history))) (apart : AreApart names) where
-  pub begun_live : length (live_states s) ≡ live_count (graph_of t) s.limit (Some (record { dir = 0; used = 0 })) s.limit
+  pub begun_live : length (live_states s) ≡ live_count (graph_of t) (length names) s.limit (Some (record { dir = 0; used = 0 })) s.limit
   begun_live =
       live_states_count.counted s names (graph_of t 0) set (Some (record { dir = 0; used = 0 })) audited alive apart
       (begun_stands (judge_for s) s.alphabet names t is some set own first)
-      ∙ ap (λ g. live_count g s.limit (Some (record { dir = 0; used = 0 })) s.limit) (one_graph (judge_for s) s.alphabet names t is some set
-      own first)
+      ∙ ap (λ g. live_count g (length names) s.limit (Some (record { dir = 0; used = 0 })) s.limit)
+      (one_graph (judge_for s) s.alphabet names t is some set own first)
 
 pub table_fits : (limit n : ℕ) → limit ≤ 16 → n ≤ 4294967296 → suc limit * n < 18446744073709551616
 table_fits limit n low few = let most = mul-le (suc limit) n 17 4294967296 (omega (arith, low)) few in omega (arith, most)

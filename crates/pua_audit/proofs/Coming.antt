@@ -1,7 +1,7 @@
 -- What a call of the walk leaves of the pairs that are still to come, and of the path of its word.
 use Rattle.pua_audit.proofs.Common.{ℕ, suc, ◌+◌, ◌*◌, ◌<◌, ◌≤◌, ◌≡◌, List, [], ◌∷◌, ◌++◌, refl, ap, arith, sym, ◌∙◌, subst, length, get_or}
-use Rattle.pua_audit.proofs.Common.{take, min, zero, vec_capacity, length-map, mul-le, AllByRecursion, Word, longest, part_bytes}
-use Rattle.pua_audit.proofs.Common.{letters_of, word_of, IsSound, Terms, Call, pairs_at, IsPair, Steps}
+use Rattle.pua_audit.proofs.Common.{take, min, zero, vec_capacity, mul-le, AllByRecursion, Word, longest, word_of, IsSound, Terms, Call}
+use Rattle.pua_audit.proofs.Common.{pairs_at, IsPair, Steps}
 use Rattle.std.proofs.lemmas.List.{take_more, length-take}
 use Rattle.pua_audit.specs.WordPaths.{IsPathAlong, IsPathOf}
 use Rattle.pua_audit.specs.declared.path.WordPath.{WordPath}
@@ -61,10 +61,10 @@ along_push letters word p q a is low letter add more =
     }
 
 -- there is room for it
-pub along_room : (a : Terms) (word : List ℕ) (p : WordPath) (i : ℕ) → IsPathAlong (letters_of a) word p →
+pub along_room : (a : Terms) (word : List ℕ) (p : WordPath) (i : ℕ) → IsPathAlong a.letters.items word p →
     AllByRecursion (λ i. i < length a.letters.items) word → length p.starts.items < length word → length word ≤ a.limit
-    → i < length a.letters.items → a.limit * suc (longest (letters_of a)) ≤ vec_capacity p.bytes →
-    length p.bytes.items + suc (length (get_or (letters_of a) i [])) ≤ vec_capacity p.bytes
+    → i < length a.letters.items → a.limit * suc (longest a.letters.items) ≤ vec_capacity p.bytes →
+    length p.bytes.items + suc (length (get_or a.letters.items i [])) ≤ vec_capacity p.bytes
 along_room a word p i is known low within here room =
     let k : ℕ = length p.starts.items in
     let front : IsSpelled a (take k word) p.bytes.items =
@@ -94,7 +94,7 @@ module _ (a : Pairs) (ready : AreReady a) (w : Walk) (of : IsSameWalk a.walk w) 
     (stays : IsUnchanged a.walk.word.items w.unchanged w.word.items) where
   -- the walk goes on, and the path keeps what is unchanged
   pub kept_ready : (q : WordPath) (n : ℕ) → n ≡ w.unchanged →
-      AllByRecursion (λ p. IsPair (length (letters_of a.terms)) p) (pairs_of (steps.trail w)) →
+      AllByRecursion (λ p. IsPair (length a.terms.letters.items) p) (pairs_of (steps.trail w)) →
       ((v : Word) → IsPathOf v a.path → IsPathOf (take n v) q) → length q.starts.items ≡ min n (length a.path.starts.items)
       → vec_capacity q.bytes ≡ vec_capacity a.path.bytes → vec_capacity q.starts ≡ vec_capacity a.path.starts →
       AreReady (record { terms = a.terms; walk = w; live = a.live; path = q })
@@ -104,27 +104,24 @@ module _ (a : Pairs) (ready : AreReady a) (w : Walk) (of : IsSameWalk a.walk w) 
     limit = of.limit ∙ ready.limit;
     letters = ap (λ (t : Steps). t.letters) of.steps ∙ ready.letters;
     pairs = pairs;
-    path = along_kept (letters_of a.terms) a.walk.word.items w.word.items n a.path q ready.path
+    path = along_kept a.terms.letters.items a.walk.word.items w.word.items n a.path q ready.path
         (subst (λ m. IsUnchanged a.walk.word.items m w.word.items) (sym at) stays) keep few;
     bytes = omega (arith, ready.bytes, bytes);
     starts = omega (arith, ready.starts, starts);
   }
 
-  pub pairs_none : pairs_of (steps.trail w) ≡ [] → AllByRecursion (λ p. IsPair (length (letters_of a.terms)) p) (pairs_of (steps.trail w))
-  pairs_none none = subst (λ (ps : List graph.Pair). AllByRecursion (λ p. IsPair (length (letters_of a.terms)) p) ps) (sym none) tt
+  pub pairs_none : pairs_of (steps.trail w) ≡ [] → AllByRecursion (λ p. IsPair (length a.terms.letters.items) p) (pairs_of (steps.trail w))
+  pairs_none none = subst (λ (ps : List graph.Pair). AllByRecursion (λ p. IsPair (length a.terms.letters.items) p) ps) (sym none) tt
 
   module _ (call : ℕ) (line : pairs_of (steps.trail a.walk) ≡ (w.word.items, call) ∷ pairs_of (steps.trail w)) where
-    pub pairs_more : IsPair (length (letters_of a.terms)) (w.word.items, call) ×
-        AllByRecursion (λ p. IsPair (length (letters_of a.terms)) p) (pairs_of (steps.trail w))
-    pairs_more = subst (λ (ps : List graph.Pair). AllByRecursion (λ p. IsPair (length (letters_of a.terms)) p) ps) line ready.pairs
-
-    pub word_known : AllByRecursion (λ i. i < length a.terms.letters.items) w.word.items
-    word_known = subst (λ n. AllByRecursion (λ i. i < n) w.word.items) (length-map a.terms.letters.items part_bytes) pairs_more.0.word
+    pub pairs_more : IsPair (length a.terms.letters.items) (w.word.items, call) ×
+        AllByRecursion (λ p. IsPair (length a.terms.letters.items) p) (pairs_of (steps.trail w))
+    pairs_more = subst (λ (ps : List graph.Pair). AllByRecursion (λ p. IsPair (length a.terms.letters.items) p) ps) line ready.pairs
 
     -- then the path has the whole word
     module _ (b : Pairs) (terms : b.terms ≡ a.terms) (same : b.walk ≡ w) (path : IsPathOf (walk_word b) b.path)
         (whole : length b.path.starts.items ≡ length b.walk.word.items)
-        (bytes : a.terms.limit * suc (longest (letters_of a.terms)) ≤ vec_capacity b.path.bytes)
+        (bytes : a.terms.limit * suc (longest a.terms.letters.items) ≤ vec_capacity b.path.bytes)
         (starts : a.terms.limit ≤ vec_capacity b.path.starts) where
       pub spelled_ready : AreReady b
       spelled_ready = record {
@@ -132,26 +129,26 @@ module _ (a : Pairs) (ready : AreReady a) (w : Walk) (of : IsSameWalk a.walk w) 
         walk = subst steps.IsReady (sym same) walk;
         limit = ap (λ (v : Walk). v.limit) same ∙ of.limit ∙ ready.limit ∙ sym (ap (λ (t : Terms). t.limit) terms);
         letters = ap (λ (v : Walk). v.tables.steps.letters) same ∙ ap (λ (t : Steps). t.letters) of.steps ∙ ready.letters ∙
-            sym (ap (λ (t : Terms). length (letters_of t)) terms);
-        pairs = subst (λ (t : Terms). AllByRecursion (λ p. IsPair (length (letters_of t)) p) (pairs_of (steps.trail b.walk))) (sym terms)
-            (subst (λ (v : Walk). AllByRecursion (λ p. IsPair (length (letters_of a.terms)) p) (pairs_of (steps.trail v))) (sym same)
+            sym (ap (λ (t : Terms). length t.letters.items) terms);
+        pairs = subst (λ (t : Terms). AllByRecursion (λ p. IsPair (length t.letters.items) p) (pairs_of (steps.trail b.walk))) (sym terms)
+            (subst (λ (v : Walk). AllByRecursion (λ p. IsPair (length a.terms.letters.items) p) (pairs_of (steps.trail v))) (sym same)
             pairs_more.1);
         path = record {
           few = omega (arith, whole);
-          path = subst (λ (v : List ℕ). IsPathOf (word_of (letters_of b.terms) v) b.path)
+          path = subst (λ (v : List ℕ). IsPathOf (word_of b.terms.letters.items v) b.path)
               (sym (take_whole (length b.path.starts.items) b.walk.word.items (omega (arith, whole)))) path;
         };
-        bytes = subst (λ (t : Terms). t.limit * suc (longest (letters_of t)) ≤ vec_capacity b.path.bytes) (sym terms) bytes;
+        bytes = subst (λ (t : Terms). t.limit * suc (longest t.letters.items) ≤ vec_capacity b.path.bytes) (sym terms) bytes;
         starts = subst (λ (t : Terms). t.limit ≤ vec_capacity b.path.starts) (sym terms) starts;
       }
 
       pub is_line : (named : Call) → named ≡ call_at call → IsLine a named b
       is_line named is = record {
-        next = ap (pairs_at (letters_of a.terms)) line
+        next = ap (pairs_at a.terms.letters.items) line
             ∙ sym (λ i. (
-              word_of (letters_of (terms i)) (same i).word.items,
+              word_of (terms i).letters.items (same i).word.items,
               is i,
-            ) ∷ pairs_at (letters_of (terms i)) (pairs_of (steps.trail (same i))));
+            ) ∷ pairs_at (terms i).letters.items (pairs_of (steps.trail (same i))));
         path = path;
         within = omega (
           arith,
@@ -162,7 +159,7 @@ module _ (a : Pairs) (ready : AreReady a) (w : Walk) (of : IsSameWalk a.walk w) 
           ap (λ (t : Terms). t.limit) terms,
         );
         known = subst (λ (t : Terms). AllByRecursion (λ i. i < length t.letters.items) b.walk.word.items) (sym terms)
-            (subst (λ (v : Walk). AllByRecursion (λ i. i < length a.terms.letters.items) v.word.items) (sym same) word_known);
+            (subst (λ (v : Walk). AllByRecursion (λ i. i < length a.terms.letters.items) v.word.items) (sym same) pairs_more.0.word);
       }
 
 -- letters that are read for a call, as contracts see them

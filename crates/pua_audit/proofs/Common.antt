@@ -7,7 +7,7 @@ pub use Rattle.std.proofs.Math.Bool.{and-false}
 pub use Rattle.std.proofs.lemmas.Bool.{and_parts, cases_eq, cases_lt, eq-eqb, eqb-true, false≢true, le-leb, lt-leb, ne_eqb, or_left}
 pub use Rattle.std.proofs.lemmas.Bool.{or_right}
 pub use Rattle.std.proofs.lemmas.Grind.{common_steps, flat_map-append}
-pub use Rattle.std.proofs.lemmas.List.{get_or-map, length-append, length-map, map-append, take_all}
+pub use Rattle.std.proofs.lemmas.List.{get_or_read, length-append, length-map, map-append, take_all}
 pub use Rattle.std.proofs.lemmas.Nat.{mul-le}
 pub use Rattle.std.proofs.lemmas.Slice.Eq.{bytes_eq-Decides}
 pub use Rattle.std.specs.Cmp.{tied_itself}
@@ -40,7 +40,6 @@ pub use Rattle.pua_path.specs.declared.found.Found.TheVariants.{Slot, Whole}
 pub use Rattle.pua_path.specs.declared.found.Last.{Last}
 pub use Rattle.pua_path.specs.declared.found.Last.TheVariants.{Followed, Kept}
 pub use Rattle.pua_path.specs.declared.found.Part.{Part}
-pub use Rattle.pua_path.specs.declared.found.Part.TheVariants.{Dot}
 pub use Rattle.pua_path.specs.declared.found.Way.TheVariants.{Top}
 pub use Rattle.pua_path.specs.declared.text.Ending.{Ending}
 pub use Rattle.pua_policy.specs.Descent.{cover_in}
@@ -63,7 +62,7 @@ pub use Rattle.pua_tree.specs.Names.{is_name, same_bytes}
 pub use Rattle.pua_tree.specs.Spelling.{is_plain, name_of, spelling}
 pub use Rattle.pua_tree.specs.Steps.{◌>>=◌}
 pub use Rattle.pua_tree.specs.Tree.{above, distinct_names, is_dir, name_cmp, Spot, Tree, WellFormed, with_name}
-pub use Rattle.pua_audit.specs.Alphabets.{AreParts, with_names}
+pub use Rattle.pua_audit.specs.Alphabets.{with_names}
 pub use Rattle.pua_audit.specs.Begin.{candidates_from, longest, word_of_path, word_of_pieces, word_within}
 pub use Rattle.pua_audit.specs.Bounds.{letter_cost, object_cost, row_cost}
 pub use Rattle.pua_audit.specs.Coming.{pairs_at}
@@ -78,10 +77,10 @@ pub use Rattle.pua_audit.specs.Laws.{IsAudited, Rises}
 pub use Rattle.pua_audit.specs.Live.{distinct_stages, live_states, shorter, Stage, stage_after}
 unfoldable pub use Rattle.pua_audit.specs.Past.{plain_history}
 pub use Rattle.pua_audit.specs.Reach.{from_root, is_reached, Pair, pair_cmp, pairs, path_of, reach, rest_after, Scope, Word, words}
-pub use Rattle.pua_audit.specs.Ready.{IsSound, judge_in, lent_path, letters_of, part_bytes, scope_in}
+pub use Rattle.pua_audit.specs.Ready.{IsSound, judge_in, lent_path, scope_in}
 unfoldable pub use Rattle.pua_audit.specs.Ready.{word_of}
 pub use Rattle.pua_audit.specs.Rows.{AreLiving, AreNumbers, IsEntryFor, IsGrown, IsJudgedRow}
-pub use Rattle.pua_audit.specs.Spots.{AreApartFrom, AreAtLetters, is_dots, IsApart, IsNowhere, IsUnmarked}
+pub use Rattle.pua_audit.specs.Spots.{AreApartFrom, AreAtLetters, IsApart, IsNamed, IsNowhere, IsUnmarked}
 pub use Rattle.pua_audit.specs.Starting.{AreLetters}
 pub use Rattle.pua_audit.specs.Table.{IsLetter, IsTableOf}
 pub use Rattle.pua_audit.specs.declared.base.Base.{Base}

@@ -63,7 +63,8 @@ with_stage_sorted : (a : Stage) (bs : List Stage) → IsStrictlySortedBy stage_c
 unfolding IsStrictlySortedBy
 with_stage_sorted a [] sorted = (tt, tt)
 with_stage_sorted a (b ∷ bs) sorted =
-    elim (stage_cmp a b) as (λ o. stage_cmp a b ≡ o → IsStrictlySortedBy stage_cmp (by_order o (a ∷ b ∷ bs) (b ∷ bs) (b ∷ with_stage a bs))) [
+    elim (stage_cmp a b) as (λ o. stage_cmp a b ≡ o →
+    IsStrictlySortedBy stage_cmp (by_order o (a ∷ b ∷ bs) (b ∷ bs) (b ∷ with_stage a bs))) [
       | Less ↦ λ e. ((e, all_after e bs sorted.0), sorted)
       | Equal ↦ λ e. sorted
       | Greater ↦ λ e. (

@@ -1,19 +1,19 @@
 -- How many states are live, by the reach and by a graph of steps.
-use Rattle.pua_audit.proofs.Common.{ℕ, ◌-◌, ◌≡◌, nat_lt, nat_le, ◌&&◌, List, [], ◌∷◌, Option, None, refl, ap, arith, sym, ◌∙◌, map, length}
-use Rattle.pua_audit.proofs.Common.{option_map, flat_map, filter_map, IsTrue, result_ok, Tree, is_dir, ◌>>=◌, part_of, steps, Errno, Word}
-use Rattle.pua_audit.proofs.Common.{Pair, Scope, reach, Start, Below, base_dir, judge_for, reach_along, state_of, IsAudited, Stage, shorter}
-use Rattle.pua_audit.proofs.Common.{stage_after, distinct_stages, live_states, IsKnown, StandsForJudge, AreApart, live_count, State, Visit}
+use Rattle.pua_audit.proofs.Common.{ℕ, ◌-◌, ◌≡◌, List, [], ◌∷◌, Option, None, refl, ap, sym, ◌∙◌, map, length, option_map, flat_map}
+use Rattle.pua_audit.proofs.Common.{filter_map, IsTrue, result_ok, Tree, is_dir, ◌>>=◌, part_of, steps, Errno, Word, Pair, Scope, reach}
+use Rattle.pua_audit.proofs.Common.{Start, Below, base_dir, judge_for, reach_along, state_of, IsAudited, Stage, shorter, stage_after}
+use Rattle.pua_audit.proofs.Common.{distinct_stages, live_states, IsKnown, StandsForJudge, AreApart, live_count, State, Visit}
 use Rattle.std.proofs.Common.{Result, Ok, Err}
-use Rattle.std.specs.Set.{is_member}
-use Rattle.std.proofs.lemmas.Map.Made.{length-from_same_keys}
 use Rattle.pua_path.specs.Resolution.{step}
+use Rattle.pua_steps.specs.Reached.{is_live}
 use Rattle.pua_audit.specs.Graphs.{LiveStatesCount}
 use Rattle.pua_audit.specs.Judge as named
 use Rattle.pua_audit.proofs.Audited.{reaches_along, closed_reaches}
-use Rattle.pua_audit.proofs.DistinctStages.{same_stage, same_stage_laws, staged_is, stages_distinct, distinct_has}
-use Rattle.pua_audit.proofs.LiveLayers.{layers, layers_counted, layers_have, layers_distinct}
-use Rattle.pua_audit.proofs.Lines as lines
+use Rattle.pua_audit.proofs.Cells.{all_staged, by_cells, cell, counted, IsCell}
+use Rattle.pua_audit.proofs.DistinctStages.{distinct_has, stages_distinct}
+use Rattle.pua_audit.proofs.LiveCells.{told, told_at, told_by_cells}
 use Rattle.pua_audit.proofs.Stages as along
+use Rattle.pua_audit.proofs.Stages.{is_staged}
 use Rattle.pua_audit.proofs.Staged.{stages_live}
 
 then_ok : {A : Type 0} (r : Result A Errno) → (r >>= λ at. Ok at) ≡ r
@@ -69,26 +69,19 @@ module _ (s : Scope) where
   module _ (names : List ℕ) (g : State → List Visit) (set : ℕ) (base : Option State) (is : IsAudited s)
       (lives : IsTrue (is_dir s.tree (base_dir s.base s.history)))
       (stands : StandsForJudge (judge_for s) s.alphabet names g set base (IsKnown names)) where
-    same_members : (y : Stage) →
-        is_member same_stage (distinct_stages found) y ≡ is_member same_stage (layers (judge_for s) s.alphabet names g set base stands
-        s.limit s.limit) y
-    same_members y =
-        let none : 0 ≡ s.limit - s.limit = omega arith in
-        staged_is y (distinct_stages found) ∙ distinct_has y found ∙ ap (along.is_staged y) (found_along is lives) ∙
-        stages_live (judge_for s) s.alphabet s.limit y
-        ∙ ap (λ n. (nat_lt n y.left && nat_le y.left s.limit)
-        && (along.some_pair (lines.rows (judge_for s) s.alphabet (y.left - 1) (along.state_of y) s.alphabet)
-        && along.is_among (along.state_of y) (along.reached_from (judge_for s) s.alphabet (s.limit - y.left) Start))) none
-        ∙ sym (layers_have (judge_for s) s.alphabet names g set base stands s.limit s.limit y (omega arith))
-        ∙ sym (staged_is y (layers (judge_for s) s.alphabet names g set base stands s.limit s.limit))
+    told_live : (y : Stage) → is_staged y (distinct_stages found) ≡ told (judge_for s) s.alphabet names g set base stands s.limit y
+    told_live y = distinct_has y found ∙ ap (is_staged y) (found_along is lives) ∙ stages_live (judge_for s) s.alphabet s.limit y
 
-    all_counted : AreApart names → length (live_states s) ≡ live_count (λ _. g) s.limit base s.limit
+    all_counted : AreApart names → length (live_states s) ≡ live_count (λ _. g) (length names) s.limit base s.limit
     unfolding found
     all_counted apart =
-        length-from_same_keys same_stage_laws (live_states s) (layers (judge_for s) s.alphabet names g set base stands s.limit s.limit)
-        (stages_distinct found)
-        (layers_distinct (judge_for s) s.alphabet names g set base stands s.limit apart s.limit (omega arith)) same_members
-        ∙ layers_counted (judge_for s) s.alphabet names g set base stands s.limit s.limit
+        counted names s.limit 33 apart (live_states s) (stages_distinct found)
+        (all_staged (IsCell names s.limit 33) (live_states s)
+        (λ y there. told_at (judge_for s) s.alphabet names g set base stands s.limit y (sym (told_live y) ∙ there)))
+        ∙ by_cells names s.limit 33 (λ y. is_staged y (live_states s))
+        (λ n d u. is_live (λ _. g) s.limit base n (record { dir = d; used = u }))
+        (λ n d u low there few. told_live (cell names s.limit 33 n d u) ∙
+        told_by_cells (judge_for s) s.alphabet names g set base stands apart s.limit n d u low there few)
 
 pub live_states_count : LiveStatesCount
 live_states_count = record {

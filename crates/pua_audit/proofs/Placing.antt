@@ -1,14 +1,14 @@
 -- Where a letter stands among letters that rise, as a binary search finds it.
 use Rattle.pua_audit.proofs.Common.{◌≡◌, ◌≢◌, ℕ, zero, suc, ◌<◌, ◌≤◌, List, [], ◌∷◌, ◌++◌, Bool, false, cond, Some, None, length, map}
-use Rattle.pua_audit.proofs.Common.{get_or, take, drop, reverse, refl, sym, ap, ◌∙◌, inl, inr, arith, find, cases_lt, get_or-map}
-use Rattle.pua_audit.proofs.Common.{length-map, map-append, Less, Equal, Greater, ordering_reverse, tied_itself, nat_list_cmp_total}
-use Rattle.pua_audit.proofs.Common.{nat_cmp-IsAntisymmetric, by_order, same_bytes, name_cmp, with_name, distinct_names, Part, Dot, Rises}
-use Rattle.pua_audit.proofs.Common.{part_bytes, with_names, other_word}
+use Rattle.pua_audit.proofs.Common.{get_or, reverse, refl, sym, ap, ◌∙◌, inl, inr, arith, find, cases_lt, map-append, Less, Equal, Greater}
+use Rattle.pua_audit.proofs.Common.{ordering_reverse, tied_itself, nat_list_cmp_total, nat_cmp-IsAntisymmetric, by_order, same_bytes}
+use Rattle.pua_audit.proofs.Common.{name_cmp, with_name, distinct_names, Rises, with_names, other_word}
 use Rattle.std.proofs.Common.{Result, Ok, Err}
 use Rattle.std.proofs.Common.{Bor}
 use Rattle.std.specs.List.{insert}
 use Rattle.std.specs.List.Sorted.{IsNonDecreasingBy, IsBinarySearchResult, IsSearchInRange}
-use Rattle.std.proofs.lemmas.List.{reverse-append, take-map, drop-map}
+use Rattle.std.proofs.lemmas.List.{reverse-append}
+use Rattle.std.proofs.lemmas.List.Sorted.{IsNonDecreasingBy-from_default}
 use Rattle.std.specs.declared.cmp.Ordering.{Ordering}
 use Rattle.std.specs.Ordering.{ordering_index}
 use Rattle.std.specs.Cmp.{alike_right}
@@ -81,42 +81,28 @@ Less≢Equal e = cc
 Greater≢Equal : ◌≢◌ {A = Ordering} Greater Equal
 Greater≢Equal e = cc
 
-module _ (letters : List Part) (q : List ℕ) (rises : Rises name_cmp (map part_bytes letters)) where
-  abbrev bytes : List (List ℕ)
-  bytes = map part_bytes letters
-
-  bytes_at : (i : ℕ) (d : Part) → i < length letters → get_or bytes i [] ≡ part_bytes (get_or letters i d)
-  bytes_at i d h = get_or-map part_bytes letters i d [] h
-
-  searchable : IsNonDecreasingBy (λ p. ordering_index (name_cmp (part_bytes p) q)) letters
-  searchable i j d le short =
-      elim (cases_lt i j) [
-        | inl less ↦
-            let first = bytes_at i d (omega (arith, less, short)) in
-            let second = bytes_at j d short in
-            index_rises _ _ q ((λ k. name_cmp (sym first k) (sym second k)) ∙
-            later bytes rises i j less (omega (arith, short, length-map letters part_bytes)))
-        | inr more ↦ let same : j ≡ i = omega arith in rw same (omega arith)
-      ]
+module _ (letters : List (List ℕ)) (q : List ℕ) (rises : Rises name_cmp letters) where
+  searchable : IsNonDecreasingBy (λ l. ordering_index (name_cmp l q)) letters
+  searchable = IsNonDecreasingBy-from_default (λ l. ordering_index (name_cmp l q)) letters [] (λ i j le short. elim (cases_lt i j) [
+    | inl less ↦ index_rises _ _ q (later letters rises i j less short)
+    | inr more ↦ let same : j ≡ i = omega arith in rw same (omega arith)
+  ])
 
   -- what a binary search answers
-  pub placed : (r : Result ℕ ℕ) → IsSearchInRange r (length letters) → IsBinarySearchResult (λ p. name_cmp (part_bytes p) q) letters r →
-      IsPlaced bytes q r
-  placed (Ok i) within equal = (omega (arith, within, length-map letters part_bytes), bytes_at i Dot within ∙ same_name _ q (equal Dot))
+  pub placed : (r : Result ℕ ℕ) → IsSearchInRange r (length letters) → IsBinarySearchResult (λ l. name_cmp l q) letters r →
+      IsPlaced letters q r
+  placed (Ok i) within equal = (within, same_name _ q (equal []))
   placed (Err i) within parted =
-      let long = length-map letters part_bytes in
       let parts = parted searchable in
-      let less : (k : ℕ) → k < i → name_cmp (get_or bytes k []) q ≡ Less =
-      λ k h. ap (λ b. name_cmp b q) (bytes_at k Dot (omega (arith, h, within))) ∙ parts.0 k Dot (omega arith) h in
-      let greater : (k : ℕ) → i ≤ k → k < length bytes → name_cmp (get_or bytes k []) q ≡ Greater =
-      λ k h l. ap (λ b. name_cmp b q) (bytes_at k Dot (omega (arith, l, long))) ∙ parts.1 k Dot h (omega (arith, l, long)) in (
-        omega (arith, within, long),
-        put_between q bytes i (omega (arith, within, long)) less greater,
-        none_is (same_bytes q) bytes (λ k l. other_word q (get_or bytes k []) (other k less greater l)),
+      let less : (k : ℕ) → k < i → name_cmp (get_or letters k []) q ≡ Less = λ k h. parts.0 k [] (omega (arith, h, within)) h in
+      let greater : (k : ℕ) → i ≤ k → k < length letters → name_cmp (get_or letters k []) q ≡ Greater = λ k h l. parts.1 k [] h l in (
+        within,
+        put_between q letters i within less greater,
+        none_is (same_bytes q) letters (λ k l. other_word q (get_or letters k []) (other k less greater l)),
       )
     where
-      other : (k : ℕ) → ((k : ℕ) → k < i → name_cmp (get_or bytes k []) q ≡ Less) →
-          ((k : ℕ) → i ≤ k → k < length bytes → name_cmp (get_or bytes k []) q ≡ Greater) → k < length bytes → q ≢ get_or bytes k []
+      other : (k : ℕ) → ((k : ℕ) → k < i → name_cmp (get_or letters k []) q ≡ Less) →
+          ((k : ℕ) → i ≤ k → k < length letters → name_cmp (get_or letters k []) q ≡ Greater) → k < length letters → q ≢ get_or letters k []
       other k less greater l e =
           elim (cases_lt k i) [
             | inl h ↦ not_itself q Less (ap (λ b. name_cmp b q) e ∙ less k h) Less≢Equal
@@ -140,10 +126,3 @@ one_more names name old now more so_far new =
     new ∙ ap (with_name name.now) so_far
     ∙ sym (ap (λ ns. with_names (reverse ns) old) (map-append (λ n. n.now) names (name ∷ [])) ∙
     ap (λ ns. with_names ns old) (reverse-append (map (λ n. n.now) names) (name.now ∷ [])))
-
--- the bytes of parts with one put between them
-pub bytes-insert : (parts : List Part) (i : ℕ) (p : Part) →
-    map part_bytes (insert parts i p) ≡ insert (map part_bytes parts) i (part_bytes p)
-bytes-insert parts i p =
-    map-append part_bytes (take i parts) (p ∷ drop i parts)
-    ∙ (λ k. sym (take-map part_bytes i parts) k ++ part_bytes p ∷ sym (drop-map part_bytes i parts) k)

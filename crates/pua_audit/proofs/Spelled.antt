@@ -1,7 +1,7 @@
 -- The path of a walk's word, letter by letter.
 use Rattle.pua_audit.proofs.Common.{ℕ, suc, ◌+◌, ◌*◌, ◌<◌, ◌≤◌, ◌≡◌, List, [], ◌∷◌, ◌++◌, refl, ap, arith, sym, ◌∙◌, length, get_or}
-use Rattle.pua_audit.proofs.Common.{append_assoc, append-nil, get_or-map, length-map, AllByRecursion, Part, Word, from_root, path_of}
-use Rattle.pua_audit.proofs.Common.{longest, part_bytes, letters_of, word_of, lent_path, Base, Root, Cwd, Terms}
+use Rattle.pua_audit.proofs.Common.{append_assoc, append-nil, AllByRecursion, Word, from_root, path_of, longest, word_of, lent_path, Base}
+use Rattle.pua_audit.proofs.Common.{Root, Cwd, Terms}
 use Rattle.std.proofs.Common.{mul-le-mul_right}
 use Rattle.pua_audit.proofs.Along.{no_longer}
 use Rattle.pua_audit.proofs.Moves.{all_at_index, length-word_of}
@@ -19,33 +19,30 @@ lent_is Root (a ∷ word) = refl
 lent_is Cwd [] = refl
 lent_is Cwd (a ∷ word) = refl
 
-pub letter_at : (a : Terms) (i : ℕ) (d : Part) → i < length a.letters.items →
-    get_or (letters_of a) i [] ≡ part_bytes (get_or a.letters.items i d)
-letter_at a i d h = get_or-map part_bytes a.letters.items i d [] h
-
 all_short : (a : Terms) (word : List ℕ) → AllByRecursion (λ i. i < length a.letters.items) word →
-    AllByRecursion (λ b. length b ≤ longest (letters_of a)) (word_of (letters_of a) word)
+    AllByRecursion (λ b. length b ≤ longest a.letters.items) (word_of a.letters.items word)
 unfolding word_of
 all_short a [] all = tt
-all_short a (i ∷ word) all =
-    let within : i < length (letters_of a) = omega (arith, length-map a.letters.items part_bytes, all.0) in
-    (all_at_index (λ b. length b ≤ longest (letters_of a)) (letters_of a) [] (no_longer 0 (letters_of a)) i within, all_short a word all.1)
+all_short a (i ∷ word) all = (
+  all_at_index (λ b. length b ≤ longest a.letters.items) a.letters.items [] (no_longer 0 a.letters.items) i all.0,
+  all_short a word all.1,
+)
 
 -- the places of a word are of the alphabet, and its path has each letter after a slash
 pub record IsSpelled (a : Terms) (word bytes : List ℕ) : Type 0 where
   pub known : AllByRecursion (λ i. i < length a.letters.items) word
-  pub path : bytes ≡ from_root (word_of (letters_of a) word)
+  pub path : bytes ≡ from_root (word_of a.letters.items word)
 
 -- what is lent has no more bytes than any path may
 pub lent_short : (base : Base) (a : Terms) (word path : List ℕ) → IsSpelled a word path → length word ≤ a.limit →
-    a.limit * suc (longest (letters_of a)) ≤ 1023 → length (lent_path base path) ≤ 1023
+    a.limit * suc (longest a.letters.items) ≤ 1023 → length (lent_path base path) ≤ 1023
 lent_short base a word path is within room =
-    let most : ℕ = longest (letters_of a) in
-    let before : length (from_root (word_of (letters_of a) word)) ≤ length (word_of (letters_of a) word) * suc most =
-    length_from_root most (word_of (letters_of a) word) (all_short a word is.known) in
+    let most : ℕ = longest a.letters.items in
+    let before : length (from_root (word_of a.letters.items word)) ≤ length (word_of a.letters.items word) * suc most =
+    length_from_root most (word_of a.letters.items word) (all_short a word is.known) in
     let few : length word * suc most ≤ a.limit * suc most = mul-le-mul_right (suc most) within in
-    let same : length (word_of (letters_of a) word) * suc most ≡ length word * suc most =
-    ap (λ n. n * suc most) (length-word_of (letters_of a) word) in
+    let same : length (word_of a.letters.items word) * suc most ≡ length word * suc most =
+    ap (λ n. n * suc most) (length-word_of a.letters.items word) in
     no_longer_lent base path (omega (arith, ap length is.path, before, few, same, room))
   where
     no_longer_lent : (base : Base) (path : List ℕ) → length path ≤ 1023 → length (lent_path base path) ≤ 1023
@@ -57,18 +54,17 @@ lent_short base a word path is within room =
 -- one letter more fits the longest path
 pub room_for : (a : Terms) (word path : List ℕ) (i capacity : ℕ) → IsSpelled a word path → i < length a.letters.items →
     length word < a.limit
-    → a.limit * suc (longest (letters_of a)) ≤ capacity → length path + suc (length (get_or (letters_of a) i [])) ≤ capacity
+    → a.limit * suc (longest a.letters.items) ≤ capacity → length path + suc (length (get_or a.letters.items i [])) ≤ capacity
 room_for a word path i capacity is here more room =
-    let most : ℕ = longest (letters_of a) in
-    let within : i < length (letters_of a) = omega (arith, length-map a.letters.items part_bytes) in
-    let letter : length (get_or (letters_of a) i []) ≤ most =
-    all_at_index (λ b. length b ≤ longest (letters_of a)) (letters_of a) [] (no_longer 0 (letters_of a)) i within in
-    let before : length (from_root (word_of (letters_of a) word)) ≤ length (word_of (letters_of a) word) * suc most =
-    length_from_root most (word_of (letters_of a) word) (all_short a word is.known) in
-    fits (length path) (length (word_of (letters_of a) word)) (length (get_or (letters_of a) i [])) most a.limit capacity (omega (
+    let most : ℕ = longest a.letters.items in
+    let letter : length (get_or a.letters.items i []) ≤ most =
+    all_at_index (λ b. length b ≤ longest a.letters.items) a.letters.items [] (no_longer 0 a.letters.items) i here in
+    let before : length (from_root (word_of a.letters.items word)) ≤ length (word_of a.letters.items word) * suc most =
+    length_from_root most (word_of a.letters.items word) (all_short a word is.known) in
+    fits (length path) (length (word_of a.letters.items word)) (length (get_or a.letters.items i [])) most a.limit capacity (omega (
       arith,
       ap length is.path,
-    )) letter (omega (arith, length-word_of (letters_of a) word)) room
+    )) letter (omega (arith, length-word_of a.letters.items word)) room
   where
     fits : (path word letter most limit capacity : ℕ) → path ≤ word * suc most → letter ≤ most → suc word ≤ limit →
         limit * suc most ≤ capacity → path + suc letter ≤ capacity

@@ -2,8 +2,8 @@
 use Rattle.pua_audit.proofs.Common.{◌≡◌, ◌≢◌, ◌<◌, ◌+◌, ℕ, List, [], ◌∷◌, ◌++◌, Some, None, true, false, cond, map, take, drop, length, ltb}
 use Rattle.pua_audit.proofs.Common.{arith, get_or, add-one, inl, inr, Option, refl, sym, ap, subst, ◌∙◌, if◌then◌else◌, bytes_eq, IfSome}
 use Rattle.pua_audit.proofs.Common.{AllByRecursion, eq_by_cmp, tied_itself, nat_list_cmp_total, nat_cmp-IsAntisymmetric, cases_lt}
-use Rattle.pua_audit.proofs.Common.{map-append, get_or-map, Spot, name_cmp, veil_at, Place, Rises, part_bytes, AreApartFrom, IsNowhere}
-use Rattle.pua_audit.proofs.Common.{IsUnmarked, is_dots, LetterSpot, part_of, Part, all_joined, all_pushed}
+use Rattle.pua_audit.proofs.Common.{map-append, Spot, name_cmp, veil_at, Place, Rises, AreApartFrom, IsNowhere, IsUnmarked, LetterSpot}
+use Rattle.pua_audit.proofs.Common.{all_joined, all_pushed}
 use Rattle.std.proofs.Common.{leb}
 use Rattle.std.proofs.Common.{ltb-true, leb-false, slice_index_or}
 use lib.Pointwise.{bytes_decides}
@@ -16,8 +16,6 @@ use Rattle.pua_tree.specs.Tree.{spot_cmp}
 use Rattle.pua_tree.proofs.ForCallers.{exact_spots}
 use Rattle.pua_policy.specs.History.{same_place}
 use Rattle.pua_policy.proofs.ForCallers.{same_place_is}
-use Rattle.pua_path.specs.declared.found.Part.TheVariants as part
-use Rattle.pua_audit.proofs.Letters.{letter_part}
 use Rattle.pua_audit.proofs.Lists.{all_before, all_after}
 use Rattle.pua_audit.proofs.AfterPair.{letters_alike}
 use Rattle.pua_steps.proofs.ForCallers.{all_weaker}
@@ -108,17 +106,3 @@ unmarked_between dir letter first past spots rest is before after between =
     let behind : AllByRecursion unmarked (drop first spots) = subst (AllByRecursion unmarked) (take-append-drop past rest ∙
     sym is) (all_joined unmarked (take past rest) (drop past rest) here back) in
     subst (AllByRecursion unmarked) (take-append-drop first spots) (all_joined unmarked (take first spots) (drop first spots) front behind)
-
--- a letter that is a name
-
-name_is : (p : Part) → is_dots p ≡ false → p ≡ part.Name (part_bytes p)
-name_is part.Dot named = absurd cc
-name_is part.DotDot named = absurd cc
-name_is (part.Name name) named = refl
-
-pub named_part : (parts : List Part) (i : ℕ) → AllByRecursion (λ p. part_of (part_bytes p) ≡ p) parts → i < length parts →
-    is_dots (get_or parts i part.Dot) ≡ false →
-    part_of (get_or (map part_bytes parts) i []) ≡ part.Name (get_or (map part_bytes parts) i [])
-named_part parts i faithful low named =
-    letter_part parts i part.Dot faithful low ∙ name_is (get_or parts i part.Dot) named ∙
-    ap part.Name (sym (get_or-map part_bytes parts i part.Dot [] low))

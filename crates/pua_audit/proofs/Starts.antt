@@ -1,7 +1,6 @@
 -- What is ahead of a walk that begins.
 use Rattle.pua_audit.proofs.Common.{◌≡◌, [], true, false, not, sym, ap, IsTrue, is_lt, is_dir, is_ended, and_parts, plain_history, Pair}
-use Rattle.pua_audit.proofs.Common.{pair_cmp, reach, rest_after, base_dir, reach_along, IsAudited, scope_in, letters_of, judge_in, IsSound}
-use Rattle.pua_audit.proofs.Common.{Terms}
+use Rattle.pua_audit.proofs.Common.{pair_cmp, reach, rest_after, base_dir, reach_along, IsAudited, scope_in, judge_in, IsSound, Terms}
 use Rattle.std.proofs.Common.{filter}
 use Rattle.std.specs.Prelude.{Option, Some, None}
 use Rattle.pua_audit.specs.Judge.{is_open}
@@ -21,5 +20,5 @@ module _ (a : Terms) (sound : IsSound a) (letters : AreSound a.limit a.letters.i
   lives opened = (and_parts (not (is_ended (plain_history a.process))) (is_dir a.seen.tree (base_dir a.base (plain_history a.process)))
       opened).1
 
-  pub all_along : is_open (scope_in a) ≡ true → reach_along (judge_in a) (letters_of a) a.limit ≡ reach (scope_in a)
+  pub all_along : is_open (scope_in a) ≡ true → reach_along (judge_in a) a.letters.items a.limit ≡ reach (scope_in a)
   all_along opened = sym (reaches_along (scope_in a) audited (lives opened))

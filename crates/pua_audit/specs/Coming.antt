@@ -7,7 +7,7 @@ use Rattle.pua_calls.specs.declared.call.Call.{Call}
 use Rattle.pua_calls.specs.declared.call.Call.TheVariants.{Stat}
 use Rattle.pua_audit.specs.Reach.{Word, Pair}
 use Rattle.pua_audit.specs.Begin.{longest}
-use Rattle.pua_audit.specs.Ready.{letters_of, word_of, IsSound}
+use Rattle.pua_audit.specs.Ready.{word_of, IsSound}
 use Rattle.pua_audit.specs.WordPaths.{IsPathAlong, IsPathOf}
 use Rattle.pua_audit.specs.declared.pairs.Pairs.{Pairs}
 use Rattle.pua_audit.specs.declared.resume_text.Resumption.{Resumption}
@@ -34,20 +34,20 @@ pairs_resumed None ps = ps
 pairs_resumed (Some r) ps = order.pairs_after (r.word.items, bit_of r.call) ps
 
 abbrev pub walk_word : Pairs → Word
-walk_word a = word_of (letters_of a.terms) a.walk.word.items
+walk_word a = word_of a.terms.letters.items a.walk.word.items
 
 abbrev pub to_come : Pairs → List Pair
-to_come a = pairs_at (letters_of a.terms) (pairs_of (steps.trail a.walk))
+to_come a = pairs_at a.terms.letters.items (pairs_of (steps.trail a.walk))
 
 -- the walk is one over a table of these letters, with room for the path of each word
 pub record AreReady (a : Pairs) : Type 0 where
   pub sound : IsSound a.terms
   pub walk : steps.IsReady a.walk
   pub limit : a.walk.limit ≡ a.terms.limit
-  pub letters : a.walk.tables.steps.letters ≡ length (letters_of a.terms)
-  pub pairs : AllByRecursion (λ p. IsPair (length (letters_of a.terms)) p) (pairs_of (steps.trail a.walk))
-  pub path : IsPathAlong (letters_of a.terms) a.walk.word.items a.path
-  pub bytes : a.terms.limit * suc (longest (letters_of a.terms)) ≤ vec_capacity a.path.bytes
+  pub letters : a.walk.tables.steps.letters ≡ length a.terms.letters.items
+  pub pairs : AllByRecursion (λ p. IsPair (length a.terms.letters.items) p) (pairs_of (steps.trail a.walk))
+  pub path : IsPathAlong a.terms.letters.items a.walk.word.items a.path
+  pub bytes : a.terms.limit * suc (longest a.terms.letters.items) ≤ vec_capacity a.path.bytes
   pub starts : a.terms.limit ≤ vec_capacity a.path.starts
 
 -- a line is the first pair that is still to come, by the path of its word

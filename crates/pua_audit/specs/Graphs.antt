@@ -89,5 +89,5 @@ pub record LiveStatesCount : Type 0 where
   pub counted : (s : Scope) (names : List ℕ) (g : State → List Visit) (set : ℕ) (base : Option State) → IsAudited s →
       IsTrue (is_dir s.tree (base_dir s.base s.history)) → AreApart names
       → StandsForJudge (judge_for s) s.alphabet names g set base (IsKnown names) →
-      length (live_states s) ≡ live_count (λ _. g) s.limit base s.limit
+      length (live_states s) ≡ live_count (λ _. g) (length names) s.limit base s.limit
   pub none : (s : Scope) → IsAudited s → is_open s ≡ false → length (live_states s) ≡ 0

@@ -1,10 +1,6 @@
 -- What an audit is of, and the path of a word of it.
-use Rattle.std.specs.Prelude.{◌≡◌, ◌≤◌, ℕ, suc, List, [], ◌∷◌, map, get_or, ◌*◌, codes}
-use Rattle.std.specs.List.{AllByRecursion}
+use Rattle.std.specs.Prelude.{◌≤◌, ℕ, suc, List, [], ◌∷◌, map, get_or, ◌*◌, codes}
 use Rattle.pua_tree.specs.Tree.{WellFormed}
-use Rattle.pua_path.specs.Paths.{part_of}
-use Rattle.pua_path.specs.declared.found.Part.{Part}
-use Rattle.pua_path.specs.declared.found.Part.TheVariants as part
 use Rattle.pua_policy.specs.History.{StandsFor}
 use Rattle.pua_audit.specs.Past.{plain_history}
 use Rattle.pua_audit.specs.Limits.{most_path}
@@ -14,15 +10,6 @@ use Rattle.pua_audit.specs.declared.base.Base.{Base}
 use Rattle.pua_audit.specs.declared.base.Base.TheVariants.{Root, Cwd}
 use Rattle.pua_audit.specs.Judge.{Judge, judge_of}
 use Rattle.pua_audit.specs.declared.terms.Terms.{Terms}
-
--- the bytes of a part
-abbrev pub part_bytes : Part → List ℕ
-part_bytes part.Dot = codes "."
-part_bytes part.DotDot = codes ".."
-part_bytes (part.Name name) = name
-
-abbrev pub letters_of : Terms → List (List ℕ)
-letters_of a = map part_bytes a.letters.items
 
 abbrev pub judge_in : Terms → Judge
 judge_in a = judge_of a.seen.tree a.table a.base (plain_history a.process)
@@ -34,7 +21,7 @@ scope_in a = record {
   table = a.table;
   history = plain_history a.process;
   base = a.base;
-  alphabet = letters_of a;
+  alphabet = a.letters.items;
   limit = a.limit;
 }
 
@@ -42,12 +29,11 @@ scope_in a = record {
 unfoldable pub word_of : List (List ℕ) → List ℕ → Word
 word_of letters places = map (λ i. get_or letters i []) places
 
--- the tree is one, the process stands for its history, the letters are parts, and no path of a word is too long
+-- the tree is one, the process stands for its history, and no path of a word is too long
 pub record IsSound (a : Terms) : Type 0 where
   pub tree : WellFormed a.seen.tree
   pub stands : StandsFor a.process (plain_history a.process)
-  pub parts : AllByRecursion (λ p. part_of (part_bytes p) ≡ p) a.letters.items
-  pub short : a.limit * suc (longest (letters_of a)) ≤ most_path
+  pub short : a.limit * suc (longest a.letters.items) ≤ most_path
 
 -- the path that is lent: the base itself, or the letters, and before the first a slash only from the root
 abbrev pub lent_path : Base → List ℕ → List ℕ

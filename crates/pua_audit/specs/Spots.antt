@@ -1,10 +1,9 @@
 -- The letters that directories tell apart from names that they lack.
-use Rattle.std.specs.Prelude.{◌≡◌, ◌≢◌, ◌<◌, ℕ, Bool, true, false, List, [], length, get_or, None}
+use Rattle.std.specs.Prelude.{◌≡◌, ◌≢◌, ◌<◌, ℕ, List, [], length, get_or, None}
 use Rattle.std.specs.List.{AllByRecursion}
 use Rattle.std.specs.List.Sorted.{IsNonDecreasingBy, IsStrictlyIncreasing}
 use Rattle.pua_tree.specs.Tree.{Tree, Spot, look}
 use Rattle.pua_path.specs.Paths.{part_of}
-use Rattle.pua_path.specs.declared.found.Part.{Part}
 use Rattle.pua_path.specs.declared.found.Part.TheVariants as part
 use Rattle.pua_policy.specs.History.{History, perms_kept}
 use Rattle.pua_policy.specs.declared.place.Place.{Place}
@@ -31,13 +30,16 @@ AreApartFrom place places = AllByRecursion (λ other. other ≢ place) places
 abbrev pub IsApart : ℕ → List ℕ → Type 0
 IsApart n others = AllByRecursion (λ other. other ≢ n) others
 
+-- a letter is a name
+abbrev pub IsNamed : List ℕ → Type 0
+IsNamed letter = part_of letter ≡ part.Name letter
+
 -- letters that are no names, and spots of letters in the order of their directories: where a letter has none, nothing
 -- stands at its name, and no veil is kept at it
 pub record AreLetterSpots (t : Tree) (h : History) (letters : List (List ℕ)) (dots : List ℕ) (spots : List LetterSpot) : Type 0 where
   pub dotted : AllByRecursion (λ letter. letter < length letters) dots
   pub within : AreAtLetters letters spots
-  pub named : (letter : ℕ) → letter < length letters → IsApart letter dots →
-      part_of (get_or letters letter []) ≡ part.Name (get_or letters letter [])
+  pub named : (letter : ℕ) → letter < length letters → IsApart letter dots → IsNamed (get_or letters letter [])
   pub none : (dir letter : ℕ) → letter < length letters → IsUnmarked dir letter spots → look t dir (get_or letters letter []) ≡ None
   pub unveiled : (dir letter : ℕ) → letter < length letters → IsUnmarked dir letter spots →
       perms_kept h (Slot dir (get_or letters letter [])) ≡ None
@@ -50,8 +52,3 @@ pub record AreLettersIn (dir : ℕ) (dots : List ℕ) (spots : List LetterSpot) 
       AllByRecursion (λ letter. letter < count) letters
   pub dotted : (letter : ℕ) → IsApart letter letters → IsApart letter dots
   pub spotted : (letter : ℕ) → IsApart letter letters → IsUnmarked dir letter spots
-
--- a letter that is no name
-abbrev pub is_dots : Part → Bool
-is_dots (part.Name name) = false
-is_dots _ = true

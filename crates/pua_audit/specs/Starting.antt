@@ -1,10 +1,9 @@
 -- What the code reads of an audit's beginning.
-use Rattle.std.specs.Prelude.{◌≡◌, ◌<◌, ◌≤◌, ◌*◌, suc, ℕ, Bool, List, length, map, Option, Some, None, Result, Ok, option_map, IfSome}
+use Rattle.std.specs.Prelude.{◌≡◌, ◌<◌, ◌≤◌, ◌*◌, suc, ℕ, Bool, List, length, Option, Some, None, Result, Ok, option_map, IfSome}
 use Rattle.std.specs.Prelude.{IsTrue, MatchBool}
 use Rattle.std.specs.List.{AllByRecursion, list_all}
 use Rattle.pua_tree.specs.Tree.{Tree, WellFormed, name_cmp}
 use Rattle.pua_tree.specs.Steps.{◌>>=◌}
-use Rattle.pua_path.specs.declared.found.Part.{Part}
 use Rattle.pua_calls.specs.Calls.{CallTable}
 use Rattle.pua_policy.specs.History.{History}
 use Rattle.pua_audit.specs.Reach.{Word, Pair, Scope}
@@ -12,8 +11,7 @@ use Rattle.pua_audit.specs.Limits.{most_letters, most_path}
 use Rattle.pua_audit.specs.Begin.{Beginning, longest, resume_in, word_within}
 use Rattle.pua_audit.specs.Judge.{is_letter}
 use Rattle.pua_audit.specs.Laws.{Rises}
-use Rattle.pua_audit.specs.Ready.{part_bytes, word_of}
-use Rattle.pua_audit.specs.Alphabets.{AreParts}
+use Rattle.pua_audit.specs.Ready.{word_of}
 use Rattle.pua_audit.specs.declared.base.Base.{Base}
 use Rattle.pua_audit.specs.declared.fault.AuditFault.{AuditFault}
 use Rattle.pua_audit.specs.declared.beginning.Checked.{Checked}
@@ -34,18 +32,17 @@ IsRead letters limit word result places =
 abbrev pub pair_in : List (List ℕ) → Resumption → Pair
 pair_in letters r = (word_of letters r.word.items, r.call)
 
--- letters in the order of their bytes, each of them a part of a path, and no path of a word is too long
-pub record AreSound (limit : ℕ) (letters : List Part) : Type 0 where
+-- letters in the order of their bytes, and no path of a word is too long
+pub record AreSound (limit : ℕ) (letters : List (List ℕ)) : Type 0 where
   pub few : limit ≤ most_letters
-  pub parts : AreParts letters
-  pub known : IsTrue (list_all is_letter (map part_bytes letters))
-  pub rises : Rises name_cmp (map part_bytes letters)
-  pub short : limit * suc (longest (map part_bytes letters)) ≤ most_path
+  pub known : IsTrue (list_all is_letter letters)
+  pub rises : Rises name_cmp letters
+  pub short : limit * suc (longest letters) ≤ most_path
 
 -- what is audited by words of these letters
-abbrev pub scope_with : Tree → CallTable → History → Base → ℕ → List Part → Scope
+abbrev pub scope_with : Tree → CallTable → History → Base → ℕ → List (List ℕ) → Scope
 scope_with t table h base limit letters =
-    record { tree = t; table = table; history = h; base = base; alphabet = map part_bytes letters; limit = limit }
+    record { tree = t; table = table; history = h; base = base; alphabet = letters; limit = limit }
 
 -- the beginning of an audit, by its resume text
 abbrev pub begun_in : Scope → Option (List ℕ) → Result Beginning AuditFault
@@ -56,11 +53,11 @@ abbrev pub beginning_with : Tree → CallTable → History → Base → ℕ → 
 beginning_with t table h base limit b =
     record {
       scope = scope_with t table h base limit b.letters.items;
-      after = option_map (pair_in (map part_bytes b.letters.items)) b.after;
+      after = option_map (pair_in b.letters.items) b.after;
     }
 
 -- its letters are sound, and its word is one of them
 pub record IsChecked (t : Tree) (limit : ℕ) (b : Checked) : Type 0 where
   pub tree : WellFormed t
   pub sound : AreSound limit b.letters.items
-  pub after : IfSome b.after (λ r. AreLetters (map part_bytes b.letters.items) limit r.word.items)
+  pub after : IfSome b.after (λ r. AreLetters b.letters.items limit r.word.items)

@@ -7,8 +7,7 @@ ghost use Rattle.pua_tree.specs.Tree.{Tree, name_cmp, with_name, distinct_names}
 ghost use Rattle.pua_audit.specs.Reach.{alphabet_of};
 ghost use Rattle.pua_audit.specs.Begin.{longest};
 ghost use Rattle.pua_audit.specs.Laws.{Rises};
-ghost use Rattle.pua_audit.specs.Ready.{part_bytes};
-ghost use Rattle.pua_audit.specs.Alphabets.{with_names, IsPlaced, AreParts};
+ghost use Rattle.pua_audit.specs.Alphabets.{with_names, IsPlaced};
 
 use crate::component::Component;
 use pua_tree::{LentRow, Name, OutOfMemory};
@@ -23,7 +22,7 @@ pub(crate) fn alphabet(
     candidates: &[Name],
 ) -> Result<Vec<Component>, OutOfMemory>
     ensures { IfOk result (λ letters. (t : Tree) → map lent_entry rows.now ≡ t.rows →
-        map part_bytes letters.items ≡ alphabet_of t candidates.now) }
+        letters.items ≡ alphabet_of t candidates.now) }
 {
     let names = row_names(alloc, rows)?;
     let mut letters = named(alloc, names.as_slice())?;
@@ -54,8 +53,7 @@ fn name_set<'t>(alloc: Global, rows: &[LentRow<'t>]) -> Result<BTreeSet<&'t Name
 
 /// Names as letters.
 fn named(alloc: Global, names: &[&Name]) -> Result<Vec<Component>, OutOfMemory>
-    ensures { IfOk result (λ letters. map part_bytes letters.items
-        ≡ map (λ name. name.now) names.now) }
+    ensures { IfOk result (λ letters. letters.items ≡ map (λ name. name.now) names.now) }
 {
     let mut letters = Vec::with_capacity(alloc, names.len())?;
     for name in names {
@@ -66,9 +64,8 @@ fn named(alloc: Global, names: &[&Name]) -> Result<Vec<Component>, OutOfMemory>
 
 /// Puts each name at its place among letters, the last one first.
 fn add_names(alloc: Global, letters: &mut Vec<Component>, names: &[Name]) -> Result<(), OutOfMemory>
-    requires { Rises name_cmp (map part_bytes letters.old.items) }
-    ensures { IfOk result (λ _. map part_bytes letters.new.items
-        ≡ with_names names.now (map part_bytes letters.old.items)) }
+    requires { Rises name_cmp letters.old.items }
+    ensures { IfOk result (λ _. letters.new.items ≡ with_names names.now letters.old.items) }
 {
     for name in names.iter().rev() {
         add_letter(letters, Component::named(alloc, name)?)?;
@@ -78,9 +75,8 @@ fn add_names(alloc: Global, letters: &mut Vec<Component>, names: &[Name]) -> Res
 
 /// Puts a letter at its place among letters, unless it is there.
 fn add_letter(letters: &mut Vec<Component>, letter: Component) -> Result<(), OutOfMemory>
-    requires { Rises name_cmp (map part_bytes letters.old.items) }
-    ensures { IfOk result (λ _. map part_bytes letters.new.items ≡ with_name (part_bytes letter)
-        (map part_bytes letters.old.items)) }
+    requires { Rises name_cmp letters.old.items }
+    ensures { IfOk result (λ _. letters.new.items ≡ with_name letter letters.old.items) }
 {
     let Err(place) = place_of(letters.as_slice(), letter.bytes()) else {
         return Ok(());
@@ -91,16 +87,15 @@ fn add_letter(letters: &mut Vec<Component>, letter: Component) -> Result<(), Out
 
 /// Where a letter of these bytes stands among letters, or else where it would stand.
 pub(crate) fn place_of(letters: &[Component], bytes: &[u8]) -> Result<usize, usize>
-    requires { Rises name_cmp (map part_bytes letters.now) }
-    ensures { IsPlaced (map part_bytes letters.now) bytes.now result }
+    requires { Rises name_cmp letters.now }
+    ensures { IsPlaced letters.now bytes.now result }
 {
     letters.binary_search_by(|letter| letter.bytes().cmp(bytes))
 }
 
 /// The bytes of the longest letter.
 pub(crate) fn longest(letters: &[Component]) -> usize
-    ensures longest { result ≡ longest (map part_bytes letters.now) }
-    ensures parts { AreParts letters.now }
+    ensures longest { result ≡ longest letters.now }
     ensures short { result ≤ most_name }
 {
     let mut most = 0;

@@ -26,7 +26,7 @@ use pua_policy::Process;
 use std::alloc::Global;
 use std::marker::Model;
 
-/// What a process is allowed in a tree, line by line in order. Contracts see what it is of, and the
+/// What a process is allowed in a tree, line by line in order. Contracts see what was asked, and the
 /// pairs that are still to come.
 #[derive(Drop)]
 pub struct Audit {
@@ -39,12 +39,11 @@ impl Model for Audit {
     ghost Value = { AuditState };
 
     ghost use Rattle.pua_audit.specs.Coming.{AreReady, to_come};
-    ghost use Rattle.pua_audit.specs.Ready.{letters_of};
 
     ghost view = { λ a. record {
       tree = a.pairs.terms.seen.tree;
       base = a.pairs.terms.base;
-      alphabet = letters_of a.pairs.terms;
+      alphabet = a.pairs.terms.letters.items;
       limit = a.pairs.terms.limit;
       live = a.pairs.live;
       reads = a.pairs.walk.tables.reads;
@@ -112,7 +111,8 @@ impl Audit {
         Ok(Audit { pairs })
     }
 
-    /// How many states are live: where words lead from which words with an allowed call go on.
+    /// How many states are live: those to which words lead, and from which words with an allowed call
+    /// go on.
     pub fn table_len(&self) -> usize
         ensures { result ≡ self.now.live }
     {

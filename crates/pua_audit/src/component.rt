@@ -6,7 +6,7 @@ use std::alloc::Global;
 use std::marker::Model;
 
 /// A letter: a name, or `..`. It takes no more memory than its bytes, so that many of them lie close
-/// to each other. Contracts see it as a part of a path.
+/// to each other. Contracts see its bytes.
 #[derive(Drop)]
 pub(crate) struct Component {
     bytes: Vec<u8>,
@@ -15,50 +15,46 @@ pub(crate) struct Component {
 }
 
 impl Model for Component {
-    ghost use Rattle.std.specs.Prelude.{◌≡◌, IsTrue};
+    ghost use Rattle.std.specs.Prelude.{◌≡◌, ℕ, List, IsTrue};
     ghost use Rattle.std.specs.List.{list_all};
     ghost use Rattle.pua_tree.specs.Spelling.{is_plain};
-    ghost use Rattle.pua_path.specs.Paths.{part_of};
-    ghost use Rattle.pua_path.specs.declared.found.Part.{Part};
     ghost use Rattle.pua_audit.specs.Judge.{is_letter};
 
-    ghost Value = { Part };
+    ghost Value = { List ℕ };
 
-    ghost view = { λ a. part_of a.bytes.items };
+    ghost view = { λ a. a.bytes.items };
 
     ghost invariant = { λ a. IsTrue (is_letter a.bytes.items) ×
         (a.plain ≡ list_all is_plain a.bytes.items) };
 }
 
-ghost use Rattle.std.specs.Prelude.{◌≡◌, ◌≤◌, IfOk, IsTrue, length, not};
+ghost use Rattle.std.specs.Prelude.{◌≡◌, ◌≤◌, ℕ, List, false, true, IfOk, IsTrue, codes, length};
 ghost use Rattle.std.specs.List.{list_all};
 ghost use Rattle.pua_tree.specs.Limits.{most_name};
 ghost use Rattle.pua_tree.specs.Spelling.{is_plain};
 ghost use Rattle.pua_path.specs.Paths.{part_of};
-ghost use Rattle.pua_path.specs.declared.found.Part.TheVariants.{DotDot};
 ghost use Rattle.pua_path.specs.declared.found.Part.TheVariants as part;
 ghost use Rattle.pua_audit.specs.Judge.{is_letter};
-ghost use Rattle.pua_audit.specs.Ready.{part_bytes};
-ghost use Rattle.pua_audit.specs.Spots.{is_dots};
+ghost use Rattle.pua_audit.specs.Spots.{IsNamed};
 
 impl Component {
     /// The letter that a name is. The error is that its memory was refused.
     pub(crate) fn named(alloc: Global, name: &Name) -> Result<Component, OutOfMemory>
-        ensures { IfOk result (λ letter. letter ≡ part.Name name.now) }
+        ensures { IfOk result (λ letter. letter ≡ name.now) }
     {
         Component::new(alloc, name.bytes())
     }
 
     /// The letter `..`. The error is that its memory was refused.
     pub(crate) fn dots(alloc: Global) -> Result<Component, OutOfMemory>
-        ensures { IfOk result (λ letter. letter ≡ DotDot) }
+        ensures { IfOk result (λ letter. letter ≡ codes "..") }
     {
         Component::new(alloc, b"..")
     }
 
     fn new(alloc: Global, bytes: &[u8]) -> Result<Component, OutOfMemory>
         requires { IsTrue (is_letter bytes.now) }
-        ensures { IfOk result (λ letter. letter ≡ part_of bytes.now) }
+        ensures { IfOk result (λ letter. letter ≡ bytes.now) }
     {
         Ok(Component {
             bytes: Vec::from_slice(alloc, bytes)?,
@@ -68,23 +64,23 @@ impl Component {
 
     /// Its bytes: no more than a name has.
     pub(crate) fn bytes(&self) -> &[u8]
-        ensures bytes { result.now ≡ part_bytes self.now }
-        ensures part { part_of (part_bytes self.now) ≡ self.now }
-        ensures short { length (part_bytes self.now) ≤ most_name }
+        ensures bytes { result.now ≡ self.now }
+        ensures short { length self.now ≤ most_name }
     {
         &self.bytes
     }
 
     /// Whether each of its bytes stands for itself.
     pub(crate) fn is_plain(&self) -> bool
-        ensures { result ≡ list_all is_plain (part_bytes self.now) }
+        ensures { result ≡ list_all is_plain self.now }
     {
         self.plain
     }
 
     /// The part of a path that it is.
     pub(crate) fn part(&self) -> Part
-        ensures { result ≡ self.now }
+        ensures part { result ≡ part_of self.now }
+        ensures name { (name : List ℕ) → result ≡ part.Name name → name ≡ self.now }
     {
         match Name::from_bytes(&self.bytes) {
             Some(name) => Part::Name(name),
@@ -94,7 +90,8 @@ impl Component {
 
     /// Whether it is a name.
     pub(crate) fn is_name(&self) -> bool
-        ensures { result ≡ not (is_dots self.now) }
+        ensures name { result ≡ true → IsNamed self.now }
+        ensures dots { result ≡ false → part_of self.now ≡ part.DotDot }
     {
         self.bytes.as_slice() != b"..".as_slice()
     }

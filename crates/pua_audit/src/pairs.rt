@@ -9,7 +9,7 @@ ghost use Rattle.pua_audit.specs.Begin.{longest};
 ghost use Rattle.pua_audit.specs.Coming.{AreReady, IsNextCall, call_at, to_come, walk_word};
 ghost use Rattle.pua_audit.specs.Live.{live_states};
 ghost use Rattle.pua_audit.specs.Reach.{rest_after};
-ghost use Rattle.pua_audit.specs.Ready.{IsSound, letters_of, scope_in};
+ghost use Rattle.pua_audit.specs.Ready.{IsSound, scope_in};
 ghost use Rattle.pua_audit.specs.Starting.{AreLetters, AreSound, pair_in};
 ghost use Rattle.pua_audit.specs.WordPaths.{IsPathAlong, IsPathOf};
 ghost use Rattle.pua_steps.specs.Limits.{call_count, search_cost};
@@ -50,11 +50,12 @@ impl Pairs {
         requires rows { map lent_entry rows.now ≡ terms.seen.tree.rows }
         requires sound { IsSound terms }
         requires letters { AreSound terms.limit terms.letters.items }
-        requires word { IfSome after (λ r. AreLetters (letters_of terms) terms.limit r.word.items) }
+        requires word { IfSome after
+            (λ r. AreLetters terms.letters.items terms.limit r.word.items) }
         ensures ready { IfOk result (λ pairs. AreReady pairs) }
         ensures terms { IfOk result (λ pairs. pairs.terms ≡ terms) }
         ensures left { IfOk result (λ pairs. to_come pairs ≡ rest_after (scope_in terms)
-            (option_map (pair_in (letters_of terms)) after)) }
+            (option_map (pair_in terms.letters.items) after)) }
         ensures live { IfOk result (λ pairs. pairs.live ≡ length (live_states (scope_in terms))) }
         ensures reads { IfOk result (λ pairs. pairs.walk.tables.reads ≤ search_cost * terms.limit) }
         ensures unread { after ≡ None → IfOk result (λ pairs. pairs.walk.tables.reads ≡ 0) }
@@ -80,7 +81,7 @@ impl Pairs {
         ensures live { self.new.live ≡ self.old.live }
         ensures next { IsNextCall self.old result self.new }
         ensures reads { self.new.walk.tables.reads ≤ self.old.walk.tables.reads
-            + 2 * (self.old.terms.limit * length (letters_of self.old.terms)) }
+            + 2 * (self.old.terms.limit * length self.old.terms.letters.items) }
     {
         let next = self.walk.next_call();
         self.path.keep(self.walk.unchanged());
@@ -91,19 +92,20 @@ impl Pairs {
 
     /// Puts those letters of the walk's word at the end of the path that it doesn't have yet.
     fn spell(&mut self)
-        requires path { IsPathAlong (letters_of self.old.terms) self.old.walk.word.items
+        requires path { IsPathAlong self.old.terms.letters.items self.old.walk.word.items
             self.old.path }
         requires known { AllByRecursion (λ i. i < length self.old.terms.letters.items)
             self.old.walk.word.items }
         requires within { length self.old.walk.word.items ≤ self.old.terms.limit }
-        requires bytes { self.old.terms.limit * suc (longest (letters_of self.old.terms))
+        requires bytes { self.old.terms.limit * suc (longest self.old.terms.letters.items)
             ≤ vec_capacity self.old.path.bytes }
         requires starts { self.old.terms.limit ≤ vec_capacity self.old.path.starts }
-        ensures kept { (self.new.terms ≡ self.old.terms) × (self.new.walk ≡ self.old.walk) ×
-            (self.new.live ≡ self.old.live) }
+        ensures terms { self.new.terms ≡ self.old.terms }
+        ensures walk { self.new.walk ≡ self.old.walk }
+        ensures live { self.new.live ≡ self.old.live }
         ensures path { IsPathOf (walk_word self.new) self.new.path }
         ensures whole { length self.new.path.starts.items ≡ length self.new.walk.word.items }
-        ensures bytes { self.old.terms.limit * suc (longest (letters_of self.old.terms))
+        ensures bytes { self.old.terms.limit * suc (longest self.old.terms.letters.items)
             ≤ vec_capacity self.new.path.bytes }
         ensures starts { self.old.terms.limit ≤ vec_capacity self.new.path.starts }
     {

@@ -1,11 +1,11 @@
 //! The path of a word in a buffer: each letter after a slash.
 
-ghost use Rattle.std.specs.Prelude.{◌≡◌, ◌≤◌, ◌<◌, ◌+◌, ◌++◌, ◌∷◌, [], List, ℕ, suc, length, min};
+ghost use Rattle.std.specs.Prelude.{◌≡◌, ◌≤◌, ◌<◌, ◌+◌, ◌++◌, ◌∷◌, [], suc, length, min};
 ghost use Rattle.std.specs.Prelude.{take, IfOk, vec_capacity};
 ghost use Rattle.std.specs.List.{list_all};
 ghost use Rattle.pua_tree.specs.Spelling.{is_plain};
 ghost use Rattle.pua_audit.specs.Reach.{Word};
-ghost use Rattle.pua_audit.specs.Ready.{part_bytes, lent_path};
+ghost use Rattle.pua_audit.specs.Ready.{lent_path};
 ghost use Rattle.pua_audit.specs.WordPaths.{IsPathOf, plain_front};
 
 use crate::base::Base;
@@ -59,11 +59,11 @@ impl WordPath {
 
     /// Puts a letter at the end.
     pub(crate) fn add(&mut self, letter: &Component)
-        requires bytes { length self.old.bytes.items + suc (length (part_bytes letter.now))
+        requires bytes { length self.old.bytes.items + suc (length letter.now)
             ≤ vec_capacity self.old.bytes }
         requires starts { length self.old.starts.items < vec_capacity self.old.starts }
         ensures path { (word : Word) → IsPathOf word self.old →
-            IsPathOf (word ++ part_bytes letter.now ∷ []) self.new }
+            IsPathOf (word ++ letter.now ∷ []) self.new }
         ensures more { length self.new.starts.items ≡ length self.old.starts.items + 1 }
         ensures bytes { vec_capacity self.old.bytes ≤ vec_capacity self.new.bytes }
         ensures starts { vec_capacity self.old.starts ≤ vec_capacity self.new.starts }
@@ -77,7 +77,7 @@ impl WordPath {
     /// the end.
     fn plain_with(&self, letter: &Component) -> usize
         ensures { (word : Word) → IsPathOf word self.now →
-            result ≡ plain_front (word ++ part_bytes letter.now ∷ []) }
+            result ≡ plain_front (word ++ letter.now ∷ []) }
     {
         if self.plain < self.starts.len() || !letter.is_plain() {
             return self.plain;
@@ -96,9 +96,8 @@ impl WordPath {
 
 /// Puts a slash and a letter at the end of a path.
 pub(crate) fn add_letter(path: &mut Vec<u8>, letter: &Component)
-    requires { length path.old.items + suc (length (part_bytes letter.now))
-        ≤ vec_capacity path.old }
-    ensures path { path.new.items ≡ path.old.items ++ 47 ∷ part_bytes letter.now }
+    requires { length path.old.items + suc (length letter.now) ≤ vec_capacity path.old }
+    ensures path { path.new.items ≡ path.old.items ++ 47 ∷ letter.now }
     ensures room { vec_capacity path.old ≤ vec_capacity path.new }
 {
     path.push(b'/').unwrap();

@@ -1,7 +1,7 @@
 //! The text of the pair that an audit resumes after: `CALL:PATH`.
 
 ghost use Rattle.std.specs.Prelude.{◌≡◌, ◌≢◌, ◌≤◌, ◌<◌, ◌==◌, [], Ok, Err, Some, None, IsTrue};
-ghost use Rattle.std.specs.Prelude.{IfOk, IfSome, MatchResult, map, length, get_or, find, position};
+ghost use Rattle.std.specs.Prelude.{IfOk, IfSome, MatchResult, length, get_or, find, position};
 ghost use Rattle.std.specs.Prelude.{option_map, vec_capacity};
 ghost use Rattle.std.specs.List.{list_all, before_first, after_first};
 ghost use Rattle.pua_tree.specs.Names.{same_bytes};
@@ -10,7 +10,6 @@ ghost use Rattle.pua_tree.specs.Tree.{name_cmp};
 ghost use Rattle.pua_audit.specs.Begin.{pair_named, word_of_path, word_of_pieces_between};
 ghost use Rattle.pua_audit.specs.Judge.{is_letter};
 ghost use Rattle.pua_audit.specs.Laws.{Rises};
-ghost use Rattle.pua_audit.specs.Ready.{part_bytes};
 ghost use Rattle.pua_audit.specs.Starting.{AreLetters, IsRead, pair_in};
 ghost use Rattle.pua_audit.specs.declared.base.Base.TheVariants.{Root};
 
@@ -40,14 +39,13 @@ pub(crate) fn read_pair(
     limit: usize,
     text: &[u8],
 ) -> Result<Resumption, AuditFault>
-    requires rises { Rises name_cmp (map part_bytes letters.now) }
-    requires letters { IsTrue (list_all is_letter (map part_bytes letters.now)) }
-    ensures pair { MatchResult result (λ r. pair_named base (map part_bytes letters.now) limit
-        text.now ≡ Some (pair_in (map part_bytes letters.now) r))
-        (λ fault. fault ≢ AuditFault.OutOfMemory →
-        (fault ≡ AuditFault.BadResume) ×
-        (pair_named base (map part_bytes letters.now) limit text.now ≡ None)) }
-    ensures letters { IfOk result (λ r. AreLetters (map part_bytes letters.now) limit r.word.items) }
+    requires rises { Rises name_cmp letters.now }
+    requires letters { IsTrue (list_all is_letter letters.now) }
+    ensures pair { MatchResult result
+        (λ r. pair_named base letters.now limit text.now ≡ Some (pair_in letters.now r))
+        (λ fault. fault ≢ AuditFault.OutOfMemory → (fault ≡ AuditFault.BadResume) ×
+        (pair_named base letters.now limit text.now ≡ None)) }
+    ensures letters { IfOk result (λ r. AreLetters letters.now limit r.word.items) }
 {
     let (name, path) = split_at_colon(text);
     let Some(call) = Call::read(name) else {
@@ -88,12 +86,12 @@ fn read_path(
     path: &[u8],
     word: &mut Vec<usize>,
 ) -> bool
-    requires rises { Rises name_cmp (map part_bytes letters.now) }
-    requires letters { IsTrue (list_all is_letter (map part_bytes letters.now)) }
+    requires rises { Rises name_cmp letters.now }
+    requires letters { IsTrue (list_all is_letter letters.now) }
     requires empty { word.old.items ≡ [] }
     requires room { limit ≤ vec_capacity word.old }
-    ensures { IsRead (map part_bytes letters.now) limit
-        (word_of_path base (map part_bytes letters.now) path.now) result word.new.items }
+    ensures { IsRead letters.now limit
+        (word_of_path base letters.now path.now) result word.new.items }
 {
     match base {
         Base::Root => read_absolute(letters, limit, path, word),
@@ -108,12 +106,12 @@ fn read_path(
 
 /// As `read_path` at the root: a slash alone, or one before each letter.
 fn read_absolute(letters: &[Component], limit: usize, path: &[u8], word: &mut Vec<usize>) -> bool
-    requires rises { Rises name_cmp (map part_bytes letters.now) }
-    requires letters { IsTrue (list_all is_letter (map part_bytes letters.now)) }
+    requires rises { Rises name_cmp letters.now }
+    requires letters { IsTrue (list_all is_letter letters.now) }
     requires empty { word.old.items ≡ [] }
     requires room { limit ≤ vec_capacity word.old }
-    ensures { IsRead (map part_bytes letters.now) limit
-        (word_of_path Root (map part_bytes letters.now) path.now) result word.new.items }
+    ensures { IsRead letters.now limit
+        (word_of_path Root letters.now path.now) result word.new.items }
 {
     let [b'/', pieces @ ..] = path else {
         return false;
@@ -127,12 +125,12 @@ fn read_absolute(letters: &[Component], limit: usize, path: &[u8], word: &mut Ve
 /// Puts the letters that pieces between slashes spell into an empty word, and answers whether each
 /// spells one and they are within the limit.
 fn read_pieces(letters: &[Component], limit: usize, text: &[u8], word: &mut Vec<usize>) -> bool
-    requires rises { Rises name_cmp (map part_bytes letters.now) }
-    requires letters { IsTrue (list_all is_letter (map part_bytes letters.now)) }
+    requires rises { Rises name_cmp letters.now }
+    requires letters { IsTrue (list_all is_letter letters.now) }
     requires empty { word.old.items ≡ [] }
     requires room { limit ≤ vec_capacity word.old }
-    ensures { IsRead (map part_bytes letters.now) limit
-        (word_of_pieces_between (map part_bytes letters.now) text.now) result word.new.items }
+    ensures { IsRead letters.now limit
+        (word_of_pieces_between letters.now text.now) result word.new.items }
 {
     for piece in text.split(|byte| *byte == b'/') {
         if word.len() >= limit {
@@ -148,11 +146,11 @@ fn read_pieces(letters: &[Component], limit: usize, text: &[u8], word: &mut Vec<
 
 /// The place of the letter that a piece spells, if it spells one.
 fn spelled_letter(letters: &[Component], piece: &[u8]) -> Option<usize>
-    requires rises { Rises name_cmp (map part_bytes letters.now) }
-    requires letters { IsTrue (list_all is_letter (map part_bytes letters.now)) }
-    ensures letter { option_map (λ i. get_or (map part_bytes letters.now) i []) result
-        ≡ find (λ letter. same_bytes (spelling letter) piece.now) (map part_bytes letters.now) }
-    ensures within { IfSome result (λ i. i < length (map part_bytes letters.now)) }
+    requires rises { Rises name_cmp letters.now }
+    requires letters { IsTrue (list_all is_letter letters.now) }
+    ensures letter { option_map (λ i. get_or letters.now i []) result
+        ≡ find (λ letter. same_bytes (spelling letter) piece.now) letters.now }
+    ensures within { IfSome result (λ i. i < length letters.now) }
 {
     if piece == b"..".as_slice() {
         return place_of(letters, piece).ok();

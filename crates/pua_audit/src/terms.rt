@@ -1,14 +1,13 @@
-//! What an audit is of.
+//! What was asked of an audit.
 
-ghost use Rattle.std.specs.Prelude.{◌≡◌, ◌≤◌, ◌+◌, ◌*◌, suc, map, IfOk};
+ghost use Rattle.std.specs.Prelude.{◌≡◌, ◌≤◌, ◌+◌, ◌*◌, suc, IfOk};
 ghost use Rattle.pua_policy.specs.History.{StandsFor};
-ghost use Rattle.pua_audit.specs.Alphabets.{AreParts};
 ghost use Rattle.pua_audit.specs.Limits.{most_path};
 ghost use Rattle.pua_audit.specs.Begin.{longest};
 ghost use Rattle.pua_audit.specs.Past.{plain_history};
 ghost use Rattle.pua_audit.specs.Starting.{scope_with};
 ghost use Rattle.pua_audit.specs.Judge.{base_dir, base_way, is_open};
-ghost use Rattle.pua_audit.specs.Ready.{part_bytes, scope_in, IsSound, letters_of};
+ghost use Rattle.pua_audit.specs.Ready.{scope_in, IsSound};
 
 use crate::alphabet::longest;
 use crate::base::Base;
@@ -20,8 +19,8 @@ use pua_policy::Process;
 use pua_tree::{Kind, NodeId, OutOfMemory};
 use std::alloc::Global;
 
-/// What an audit is of: a process, the table of what calls need, where paths begin, the most letters
-/// of a word, and the letters in the order of their bytes.
+/// What was asked of an audit: a process, the table of what calls need, where paths begin, the most
+/// letters of a word, and the letters in the order of their bytes.
 #[derive(Drop)]
 pub(crate) struct Terms {
     pub(crate) seen: Content,
@@ -33,9 +32,9 @@ pub(crate) struct Terms {
 }
 
 impl Terms {
-    /// What an audit of a copy of a process is of, by a copy of a table, over the tree of a probe, by
-    /// words of at most so many of these letters. `OutOfMemory` where the growth for the process was
-    /// refused.
+    /// What was asked of an audit of a copy of a process, by a copy of a table, over the tree of a
+    /// probe, by words of at most so many of these letters. `OutOfMemory` where the growth for the
+    /// process was refused.
     pub(crate) fn new<'t, P: Probe<'t>>(
         alloc: Global,
         probe: &P,
@@ -46,12 +45,12 @@ impl Terms {
         letters: Vec<Component>,
     ) -> Result<Terms, OutOfMemory>
         requires stands { StandsFor process.now (plain_history process.now) }
-        requires parts { AreParts letters.items }
-        requires short { limit * suc (longest (map part_bytes letters.items)) ≤ most_path }
+        requires short { limit * suc (longest letters.items) ≤ most_path }
         ensures sound { IfOk result (λ terms. IsSound terms) }
         ensures scope { IfOk result (λ terms. scope_in terms ≡ scope_with (P.tree probe.now)
             table.now (plain_history process.now) base limit letters.items) }
-        ensures letters { IfOk result (λ terms. (terms.limit ≡ limit) × (terms.letters ≡ letters)) }
+        ensures limit { IfOk result (λ terms. terms.limit ≡ limit) }
+        ensures letters { IfOk result (λ terms. terms.letters ≡ letters) }
     {
         probe.known();
         let process = process.fork(alloc)?;
@@ -82,8 +81,8 @@ impl Terms {
 
     /// How many bytes the letters of a word and their slashes have at most.
     pub(crate) fn most_bytes(&self) -> usize
-        requires { self.now.limit * suc (longest (letters_of self.now)) ≤ most_path }
-        ensures { result ≡ self.now.limit * suc (longest (letters_of self.now)) }
+        requires { self.now.limit * suc (longest self.now.letters.items) ≤ most_path }
+        ensures { result ≡ self.now.limit * suc (longest self.now.letters.items) }
     {
         self.limit * (longest(self.letters.as_slice()) + 1)
     }

@@ -41,7 +41,8 @@ pub fn promise_bounds() -> (Promises, Promises)
 
 /// The constants of `Perms`: none, and what each letter names.
 pub fn permission_constants() -> [Perms; 5]
-    ensures { map Ok result ≡ map perms_of ([] ∷ codes "r" ∷ codes "w" ∷ codes "x" ∷ codes "c" ∷ []) }
+    ensures { map Ok result
+        ≡ map perms_of ([] ∷ codes "r" ∷ codes "w" ∷ codes "x" ∷ codes "c" ∷ []) }
 {
     [
         Perms::NONE,

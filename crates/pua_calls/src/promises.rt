@@ -26,10 +26,11 @@ impl Model for Promises {
     ghost inverse = { λ n. record { keywords = record { 0 = n } } };
 }
 
-ghost use Rattle.std.specs.Prelude.{⊤, ◌≡◌, ◌==◌, IfOk, bit_and, bit_or, map, option_map};
+ghost use Rattle.std.specs.Prelude.{⊤, ◌≡◌, ◌≤◌, ◌==◌, IfOk, bit_and, bit_or, map, option_map};
 ghost use Rattle.pua_calls.specs.Promises.{holds, lacking, keyword_at, keywords_of};
 ghost use Rattle.pua_calls.specs.Promises.{promises_of, promise_of, union_of, keyword_rows};
-ghost use Rattle.std.specs.List.{slice_split};
+ghost use Rattle.std.specs.List.{find, slice_split};
+ghost use Rattle.pua_tree.specs.Names.{same_bytes};
 
 use pua_path::Errno;
 use pua_tree::OutOfMemory;
@@ -383,12 +384,46 @@ fn promise(word: &[u8]) -> Option<Promises>
     Some(Promises { keywords })
 }
 
-/// The bit of one keyword.
+/// The bit of one keyword. Those from the first with its letter on are looked through before the others.
 fn keyword(word: &[u8]) -> Option<Keywords>
     ensures { option_map (λ a. a.0) result ≡ promise_of word.now }
 {
-    let flag = Keywords::flags()
-        .iter()
-        .find(|flag| flag.name.as_bytes() == word)?;
+    let (before, from) = Keywords::flags().split_at(first_of_letter(word));
+    match keyword_among(from, word) {
+        Some(keyword) => Some(keyword),
+        None => keyword_among(before, word),
+    }
+}
+
+/// The index of the first keyword that begins with the letter that a word begins with, if there is one.
+fn first_of_letter(word: &[u8]) -> usize
+    ensures { result ≤ 36 }
+{
+    match word.first() {
+        Some(b'b') => 1,
+        Some(b'c') => 2,
+        Some(b'd') => 4,
+        Some(b'e') => 8,
+        Some(b'f') => 10,
+        Some(b'g') => 12,
+        Some(b'i') => 13,
+        Some(b'm') => 15,
+        Some(b'p') => 16,
+        Some(b'r') => 20,
+        Some(b's') => 23,
+        Some(b't') => 26,
+        Some(b'u') => 29,
+        Some(b'v') => 31,
+        Some(b'w') => 34,
+        _ => 0,
+    }
+}
+
+/// The bit of a keyword among some of the flags.
+fn keyword_among(flags: &[Flag<Keywords>], word: &[u8]) -> Option<Keywords>
+    ensures { option_map (λ a. a.0) result ≡ option_map (λ flag. flag.value.0)
+        (find (λ flag. same_bytes flag.name.now word.now) flags.now) }
+{
+    let flag = flags.iter().find(|flag| flag.name.as_bytes() == word)?;
     Some(flag.value)
 }

@@ -36,7 +36,11 @@ impl Model for RuleRow {
     ghost invariant = { λ a. (padded_sets (take a.count a.sets) ≡ a.sets)
         × (length (take a.count a.sets) ≡ a.count) × (a.count ≤ most_alternatives) };
 
-    ghost inverse = { λ r. record { sets = padded_sets r.alternatives; count = length r.alternatives; perms = r.perms } };
+    ghost inverse = { λ r. record {
+      sets = padded_sets r.alternatives;
+      count = length r.alternatives;
+      perms = r.perms;
+    } };
 
     ghost inverse_ok = { λ a h i. record { sets = h.0 i; count = h.1 i; perms = a.perms } };
 }

@@ -26,3 +26,4 @@ pub mod Lined
 pub mod Prospected
 pub mod Named
 pub mod Giving
+pub mod ForCallers

@@ -3,11 +3,12 @@
 use crate::calling::{Served, ask, can_touch, is_reached, list, read, replay};
 use crate::told::tell;
 use anyhow::Result;
-use pua_calls::Call;
+use pua_calls::{Call, CallTable};
 use pua_path::Errno;
 use pua_policy::{Process, Verdict};
 use pua_script::Answer;
 use pua_tool::{Processes, ToolFault};
+use pua_tree::SlabTree;
 use std::alloc::Global;
 
 /// A site, and a key beside it.
@@ -30,14 +31,18 @@ pub(crate) fn run(rt: &HostRuntime) -> Result<()> {
 fn is_replay_asked(alloc: Global) -> Result<bool> {
     let (tree, script) = read(alloc, SITE, SERVER)?;
     let served = replay(alloc, tree, &script)?;
+    are_told(alloc, &served)
+}
+
+/// Whether both are there, and are told so.
+fn are_told(alloc: Global, served: &Served) -> Result<bool> {
     let (Some(server), Some(child)) = (served.world.process(1), served.world.process(2)) else {
         return Ok(false);
     };
-    Ok(
-        served.told.as_slice() == [Answer::Okay; 5].as_slice()
-            && is_server_told(alloc, &served, server)?
-            && !can_touch(alloc, served.world.tree(), child, served.world.table())?,
-    )
+    let is_server_told = is_server_told(alloc, served, server)?;
+    let touches = can_touch(alloc, served.world.tree(), child, served.world.table())?;
+    let are_okay = served.answers.as_slice() == [Answer::Okay; 5].as_slice();
+    Ok(are_okay && is_server_told && !touches)
 }
 
 /// Whether the server may read the site, and neither read the key nor write.
@@ -45,18 +50,29 @@ fn is_server_told(alloc: Global, served: &Served, server: &Process) -> Result<bo
     let (tree, table) = (served.world.tree(), served.world.table());
     let index = ask(tree, server, table, Call::OpenRead, b"/www/site/index");
     let key = ask(tree, server, table, Call::OpenRead, b"/www/key");
-    Ok(
-        index == Verdict::Allowed
-            && key == Verdict::Failed(Errno::ENOENT)
-            && is_reached(alloc, tree, server, table, 3, Call::OpenRead)?
-            && !is_reached(alloc, tree, server, table, 3, Call::OpenWrite)?
-            && can_touch(alloc, tree, server, table)?,
-    )
+    let are_asked = index == Verdict::Allowed && key == Verdict::Failed(Errno::ENOENT);
+    Ok(may_only_read(alloc, tree, server, table)? && are_asked)
+}
+
+/// Whether a process can touch something, and may read and not write.
+fn may_only_read(
+    alloc: Global,
+    tree: &SlabTree,
+    process: &Process,
+    table: &CallTable,
+) -> Result<bool> {
+    let may_read = is_reached(alloc, tree, process, table, 3, Call::OpenRead)?;
+    let may_write = is_reached(alloc, tree, process, table, 3, Call::OpenWrite)?;
+    Ok(can_touch(alloc, tree, process, table)? && may_read && !may_write)
 }
 
 /// Whether the child's list is written, and none of a process that was never made.
 fn is_list_written(alloc: Global) -> Result<bool> {
     let sink = list(alloc, SITE, SERVER, Processes::One(2), 1000)?;
-    let none = list(alloc, SITE, SERVER, Processes::One(3), 1000).err();
-    Ok(sink.bytes().starts_with(FRONT) && none == Some(ToolFault::NoProcess))
+    Ok(sink.bytes().starts_with(FRONT) && is_none_written(alloc))
+}
+
+fn is_none_written(alloc: Global) -> bool {
+    let none = list(alloc, SITE, SERVER, Processes::One(3), 1000);
+    none.err() == Some(ToolFault::NoProcess)
 }

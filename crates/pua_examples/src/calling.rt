@@ -60,7 +60,7 @@ pub(crate) fn read(
 #[derive(Drop)]
 pub(crate) struct Served {
     /// An answer for each line.
-    pub(crate) told: Vec<Answer>,
+    pub(crate) answers: Vec<Answer>,
     /// The tree and the processes where the script ends.
     pub(crate) world: World<SlabTree>,
 }
@@ -68,15 +68,15 @@ pub(crate) struct Served {
 /// Runs a script over a tree, by the standard table of calls. The only error is that a growth was
 /// refused.
 pub(crate) fn replay(alloc: Global, tree: SlabTree, script: &Script) -> Result<Served, OutOfMemory>
-    ensures told { IfOk result (λ served.
-        served.told.items ≡ answers_to standard_table (new_world tree) script.now) }
+    ensures answers { IfOk result (λ served.
+        served.answers.items ≡ answers_to standard_table (new_world tree) script.now) }
     ensures world { IfOk result (λ served.
         StandsForWorld served.world (world_after standard_table (new_world tree) script.now)) }
     ensures table { IfOk result (λ served. served.world.table ≡ standard_table) }
 {
     let mut world = World::new(alloc, tree, CallTable::standard())?;
     match world.run(alloc, script) {
-        Ok(told) => Ok(Served { told, world }),
+        Ok(answers) => Ok(Served { answers, world }),
         Err(_) => Err(OutOfMemory),
     }
 }

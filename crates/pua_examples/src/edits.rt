@@ -7,7 +7,9 @@ use crate::worlds::{run_over, script_of};
 use anyhow::Result;
 use pua_calls::CallTable;
 use pua_script::Answer;
-use pua_tree::{FileTree, Kind, Name, NodeId, TreeFault, read_listing, read_listing_slab};
+use pua_tree::{
+    FileTree, Kind, ListTree, Name, NodeId, SlabTree, TreeFault, read_listing, read_listing_slab,
+};
 use std::alloc::Global;
 
 /// How many edits are made at random.
@@ -25,27 +27,47 @@ const SCRIPT: &[u8] = b"1 mkdir /a\n1 rmdir /a\n1 create /b\n1 mkdir /a\n1 creat
 /// Prints whether numbers are given once where slots are used again, and a line for each edit after
 /// which the two trees differ; then how many edits there were.
 pub(crate) fn run(rt: &HostRuntime) -> Result<()> {
-    let alloc = rt.alloc();
-    let mut listed = read_listing(alloc, ROOT)?;
-    let mut slotted = read_listing_slab(alloc, ROOT)?;
+    edit_new(rt)?;
+    tell(rt, "slots used again", are_new(rt.alloc())?)?;
+    Ok(println!(rt; "{EDITS} edits of two trees")?)
+}
+
+/// Edits two trees of a root alone.
+fn edit_new(rt: &HostRuntime) -> Result<()> {
+    let mut listed = read_listing(rt.alloc(), ROOT)?;
+    let mut slotted = read_listing_slab(rt.alloc(), ROOT)?;
+    edit_both(rt, &mut listed, &mut slotted)
+}
+
+/// Makes all edits of two trees.
+fn edit_both(rt: &HostRuntime, listed: &mut ListTree, slotted: &mut SlabTree) -> Result<()> {
     let mut random = Random::new();
     for number in 1..=EDITS {
-        let edit = Edit::new(&mut random, &listed)?;
-        let is_alike = edit.answer(&mut listed) == edit.answer(&mut slotted);
-        let are_same = are_same(alloc, &listed, &slotted, number)?;
-        run_edit(rt, number, is_alike && are_same)?;
+        let edit = Edit::new(&mut random, listed)?;
+        edit_once(rt, listed, slotted, &edit, number)?;
     }
-    tell(rt, "slots used again", are_new(alloc)?)?;
-    println!(rt; "{EDITS} edits of two trees")?;
     Ok(())
 }
 
+/// Makes an edit of two trees.
+fn edit_once(
+    rt: &HostRuntime,
+    listed: &mut ListTree,
+    slotted: &mut SlabTree,
+    edit: &Edit,
+    number: u32,
+) -> Result<()> {
+    let is_alike = edit.answer(listed) == edit.answer(slotted);
+    let are_same = are_same(rt.alloc(), listed, slotted, number)?;
+    tell_edit(rt, number, is_alike && are_same)
+}
+
 /// Prints that two trees differ after an edit, if they do.
-fn run_edit(rt: &HostRuntime, number: u32, are_alike: bool) -> Result<()> {
-    if !are_alike {
-        println!(rt; "the trees differ after edit {number}")?;
+fn tell_edit(rt: &HostRuntime, number: u32, are_alike: bool) -> Result<()> {
+    if are_alike {
+        return Ok(());
     }
-    Ok(())
+    Ok(println!(rt; "the trees differ after edit {number}")?)
 }
 
 /// Whether numbers are given once, over each kind of tree.
@@ -58,17 +80,22 @@ fn are_new(alloc: Global) -> Result<bool> {
 fn are_given_once<T: FileTree + Drop>(alloc: Global, tree: T) -> Result<bool> {
     let script = script_of(alloc, SCRIPT)?;
     let ran = run_over(alloc, tree, &script, CallTable::standard())?;
-    let tree = ran.world.tree();
-    let are_named = node_of(tree, b"b")? == Some(NodeId::new(2))
-        && node_of(tree, b"a")? == Some(NodeId::new(3))
-        && node_of(tree, b"c")? == Some(NodeId::new(4));
-    let are_okay = ran.told.as_slice() == [Answer::Okay; 5].as_slice();
-    Ok(are_okay && are_named && tree.kind(NodeId::new(1)).is_none())
+    let are_okay = ran.answers.as_slice() == [Answer::Okay; 5].as_slice();
+    Ok(are_named(ran.world.tree())? && are_okay)
 }
 
-/// The node with a name in the root.
-fn node_of<T: FileTree>(tree: &T, name: &[u8]) -> Result<Option<NodeId>> {
-    Ok(tree.look(NodeId::ROOT, &named(name)?))
+/// Whether the nodes that the script makes have new numbers.
+fn are_named<T: FileTree>(tree: &T) -> Result<bool> {
+    let is_b = is_named(tree, b"b", 2)?;
+    let is_a = is_named(tree, b"a", 3)?;
+    let is_c = is_named(tree, b"c", 4)?;
+    Ok(is_b && is_a && is_c && tree.kind(NodeId::new(1)).is_none())
+}
+
+/// Whether the node with a name in the root has this number.
+fn is_named<T: FileTree>(tree: &T, name: &[u8], number: u32) -> Result<bool> {
+    let name = named(name)?;
+    Ok(tree.look(NodeId::ROOT, &name) == Some(NodeId::new(number)))
 }
 
 fn named(bytes: &[u8]) -> Result<Name> {

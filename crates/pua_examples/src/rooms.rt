@@ -51,8 +51,8 @@ fn is_full<T: FileTree + Drop>(alloc: Global, tree: T) -> Result<bool> {
     let mut tree = tree;
     let is_filled = is_filled(alloc, &mut tree)?;
     let script = script_of(alloc, SCRIPT)?;
-    let told = run_over(alloc, tree, &script, CallTable::standard())?.told;
-    Ok(is_filled && told.as_slice() == ANSWERS.as_slice())
+    let answers = run_over(alloc, tree, &script, CallTable::standard())?.answers;
+    Ok(is_filled && answers.as_slice() == ANSWERS.as_slice())
 }
 
 /// Adds the files; whether each gets the next number, and the tree takes neither a node nor a further name then,

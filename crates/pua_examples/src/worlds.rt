@@ -10,7 +10,7 @@ use std::alloc::Global;
 /// What the lines of a script were answered, and the world that they left.
 #[derive(Drop)]
 pub(crate) struct Ran<T: FileTree + Drop> {
-    pub(crate) told: Vec<Answer>,
+    pub(crate) answers: Vec<Answer>,
     pub(crate) world: World<T>,
 }
 
@@ -22,8 +22,8 @@ pub(crate) fn run_over<T: FileTree + Drop>(
     table: CallTable,
 ) -> Result<Ran<T>> {
     let mut world = World::new(alloc, tree, table)?;
-    let told = world.run(alloc, script)?;
-    Ok(Ran { told, world })
+    let answers = world.run(alloc, script)?;
+    Ok(Ran { answers, world })
 }
 
 /// The script that lines are.

@@ -73,9 +73,7 @@ impl MemorySink {
     pub fn new(alloc: Global, room: usize) -> Result<MemorySink, OutOfMemory>
         ensures { IfOk result (λ sink. sink ≡ record { bytes = []; room = room; failed = 0 }) }
     {
-        let Ok(bytes) = Vec::with_capacity(alloc, room) else {
-            return Err(OutOfMemory);
-        };
+        let bytes = Vec::with_capacity(alloc, room)?;
         Ok(MemorySink {
             bytes,
             room,

@@ -101,7 +101,8 @@ impl<'t> ItemWalk<'t> {
     fn next_name(&mut self) -> Option<(NodeId, &'t Name)>
         ensures ready { (t : Tree) (process : ProcessState) → IsItemReady t process self.old →
             self.old.coming ≡ Coming.Names → IsItemReady t process self.new }
-        ensures kept { (self.new.coming ≡ self.old.coming) × (self.new.spots ≡ self.old.spots) }
+        ensures coming { self.new.coming ≡ self.old.coming }
+        ensures spots { self.new.spots ≡ self.old.spots }
         ensures front { self.new.word.items
             ≡ take (length self.new.word.items) self.old.word.items }
         ensures next { (t : Tree) (process : ProcessState) → IsItemReady t process self.old →
@@ -145,8 +146,9 @@ impl<'t> ItemWalk<'t> {
         requires inside { 0 < length self.old.dirs.items }
         ensures word { self.new.word.items ≡ self.old.word.items ++ name.entry ∷ [] }
         ensures room { vec_capacity self.new.word ≡ vec_capacity self.old.word }
-        ensures kept { (self.new.spots ≡ self.old.spots) × (self.new.dirs ≡ self.old.dirs) ×
-            (self.new.coming ≡ self.old.coming) }
+        ensures spots { self.new.spots ≡ self.old.spots }
+        ensures dirs { self.new.dirs ≡ self.old.dirs }
+        ensures coming { self.new.coming ≡ self.old.coming }
         ensures item { (t : Tree) (h : History) (inner : OpenDir) (around : List OpenDir)
             (node : Option ℕ) → WellFormed t → StandsFor process.now h →
             dirs_in self.old ≡ inner ∷ around → inner.cover ≡ cover_in t h dir →
@@ -177,9 +179,9 @@ impl<'t> ItemWalk<'t> {
         requires dirs_room { length self.old.dirs.items < vec_capacity self.old.dirs }
         requires inside { 0 < length self.old.dirs.items }
         ensures word { self.new.word.items ≡ self.old.word.items ++ name.entry ∷ [] }
-        ensures room { (vec_capacity self.new.word ≡ vec_capacity self.old.word) ×
-            (vec_capacity self.new.dirs ≡ vec_capacity self.old.dirs) }
-        ensures kept { self.new.spots ≡ self.old.spots }
+        ensures word_room { vec_capacity self.new.word ≡ vec_capacity self.old.word }
+        ensures dirs_room { vec_capacity self.new.dirs ≡ vec_capacity self.old.dirs }
+        ensures spots { self.new.spots ≡ self.old.spots }
         ensures coming { self.new.coming ≡ Coming.Others }
         ensures entered { IsEntered process.now self.old self.new id }
         ensures item { (h : History) (inner : OpenDir) (around : List OpenDir) →

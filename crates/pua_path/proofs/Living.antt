@@ -114,16 +114,6 @@ start_lives t dir target w h = by (is_absolute target)
     by true = w.root
     by false = h
 
--- a link costs no more than was kept for it
-pub potential_linked : (t : Tree) (left : ℕ) (rest further : Remaining) (target : List ℕ) →
-    further.parts ≡ parts_of ending.Dot target ++ rest.parts → length (parts_of ending.Dot target) ≤ most_parts t → 0 < left →
-    potential t (left - 1) further ≤ potential t left rest
-potential_linked t zero rest further target e m l = absurd (omega (arith, l))
-potential_linked t (suc left) rest further target e m l =
-    let sizes : length further.parts ≡ length (parts_of ending.Dot target) + length rest.parts = ap length e ∙
-    length-append (parts_of ending.Dot target) rest.parts in
-    rw sub-one (omega (arith, sizes, m))
-
 -- the directory above, as the probe answers it
 pub parent_lives : (t : Tree) (dir : ℕ) → WellFormed t → is_dir t dir ≡ true → is_dir t (unwrap_or (parent t dir) 0) ≡ true
 parent_lives t dir w h = ap (λ v. is_dir t (unwrap_or (if v then Some (above t dir) else None) 0)) h ∙ above_lives t dir w

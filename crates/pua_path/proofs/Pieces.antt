@@ -20,7 +20,7 @@ use Rattle.std.proofs.Math.Bool.{or-false}
 use Rattle.pua_tree.specs.Names.{is_name_byte, components, has_short_components}
 use Rattle.pua_path.specs.Paths.{ends_in_slash, ending_parts, path_fault, text_errno}
 use Rattle.pua_path.specs.Limits.{most_path}
-use Rattle.pua_path.specs.Pieces.{begins_slash, IsCutAtSlash}
+use Rattle.pua_path.specs.Pieces.{begins_slash, are_bytes, IsCutAtSlash}
 use Rattle.pua_path.specs.Remaining.{slash_part, is_piece}
 use Rattle.pua_path.specs.declared.traced.TextFault.TheVariants.{LongText, LongComponent, NulInText}
 use Rattle.pua_path.specs.declared.text.Ending.TheVariants as ending
@@ -216,29 +216,25 @@ above_zero (suc n) h = omega arith
 abbrev small : ℕ → Bool
 small b = nat_lt b 256
 
-all_small : (bs : List ℕ) → ((i : ℕ) → Fits w8 (get_or bs i 0)) → list_all small bs ≡ true
+pub all_small : (bs : List ℕ) → ((i : ℕ) → Fits w8 (get_or bs i 0)) → are_bytes bs ≡ true
 all_small [] f = refl
 all_small (b ∷ bs) f = let low : small b ≡ true = lt-ltb b 256 (omega (arith, f 0)) in rw (low, all_small bs (λ i. f (suc i))) refl
 
-small-after_slashes : (xs : List ℕ) → list_all small xs ≡ true → list_all small (after_slashes xs) ≡ true
-small-after_slashes [] h = refl
-small-after_slashes (b ∷ bs) h = by (small-after_slashes bs (and_parts (small b) (list_all small bs) h).1) (b == 47)
-  where
-    by : list_all small (after_slashes bs) ≡ true → (v : Bool) → list_all small (if v then after_slashes bs else (b ∷ bs)) ≡ true
-    by more true = more
-    by more false = h
+pub front_bytes : (text front back : List ℕ) → IsCutAtSlash text front back → are_bytes text ≡ true → are_bytes front ≡ true
+front_bytes text front back cut h =
+    (and_parts (are_bytes front) (are_bytes back) (sym (list_all-append small front back) ∙ sym (ap are_bytes cut.whole) ∙ h)).0
 
-name_bytes : (bs : List ℕ) → has_byte 0 bs ≡ false → has_byte 47 bs ≡ false → list_all small bs ≡ true → list_all is_name_byte bs ≡ true
+name_bytes : (bs : List ℕ) → has_byte 0 bs ≡ false → has_byte 47 bs ≡ false → are_bytes bs ≡ true → list_all is_name_byte bs ≡ true
 name_bytes [] z s f = refl
 name_bytes (b ∷ bs) z s f =
     let zs = or_parts (b == 0) (has_byte 0 bs) z in
     let ss = or_parts (b == 47) (has_byte 47 bs) s in
-    let fs = and_parts (small b) (list_all small bs) f in
+    let fs = and_parts (small b) (are_bytes bs) f in
     let low : nat_lt 0 b ≡ true = lt-ltb 0 b (above_zero b zs.0) in
     rw (low, fs.0, ss.0, name_bytes bs zs.1 ss.1 fs.1) refl
 
 -- a piece of a text that can be read is a part, and what is left can be read
-pub readable-cut : (text s piece rest : List ℕ) → list_all small text ≡ true → is_readable text ≡ true → after_slashes text ≡ s →
+pub readable-cut : (text s piece rest : List ℕ) → are_bytes piece ≡ true → is_readable text ≡ true → after_slashes text ≡ s →
     nat_lt 0 (length s) ≡ true → IsCutAtSlash s piece rest → (is_piece piece ≡ true) × (is_readable rest ≡ true)
 readable-cut text [] piece rest f r e n h = cc
 readable-cut text (y ∷ ys) piece rest f r e n h =
@@ -249,9 +245,7 @@ readable-cut text (y ∷ ys) piece rest f r e n h =
     ∙ ap (λ pieces. not (has_byte 0 piece || has_byte 0 rest) && list_all (λ piece. nat_le (length piece) 255) pieces)
     (components-cut piece rest full h.no_slash h.at_slash)) ∙ whole in
     let four = all_four (has_byte 0 piece) (has_byte 0 rest) (nat_le (length piece) 255) (has_short_components rest) apart in
-    let smalls : list_all small (piece ++ rest) ≡ true = sym (ap (list_all small) (e ∙ h.whole)) ∙ small-after_slashes text f in
-    let piece_small = and_parts (list_all small piece) (list_all small rest) (sym (list_all-append small piece rest) ∙ smalls) in
-    let names : list_all is_name_byte piece ≡ true = name_bytes piece four.0 h.no_slash piece_small.0 in
+    let names : list_all is_name_byte piece ≡ true = name_bytes piece four.0 h.no_slash f in
     (rw (full, four.2, names) refl, rw (four.1, four.3) refl)
 
 split_some : (xs : List ℕ) → nat_lt 0 (length (slice_split slash xs)) ≡ true
@@ -342,9 +336,9 @@ pub first_part : (text s piece rest : List ℕ) → s ≡ after_slashes text →
     rest_parts text ≡ part_of piece ∷ rest_parts rest
 first_part text s piece rest e n h = rest_parts-cut text s piece rest (sym e) (not_empty s n) h
 
-pub first_readable : (text s piece rest : List ℕ) → ((i : ℕ) → Fits w8 (get_or text i 0)) → is_readable text ≡ true →
+pub first_readable : (text s piece rest : List ℕ) → are_bytes piece ≡ true → is_readable text ≡ true →
     s ≡ after_slashes text → (length s == 0) ≡ false → IsCutAtSlash s piece rest → (is_piece piece ≡ true) × (is_readable rest ≡ true)
-first_readable text s piece rest f r e n h = readable-cut text s piece rest (all_small text f) r (sym e) (not_empty s n) h
+first_readable text s piece rest f r e n h = readable-cut text s piece rest f r (sym e) (not_empty s n) h
 
 -- slashes alone
 pub only_dot : (text s : List ℕ) → 0 < length text → s ≡ after_slashes text → (length s == 0) ≡ true → rest_parts text ≡ Dot ∷ rest_parts s

@@ -1,14 +1,12 @@
 -- What one part leads to.
-use Rattle.std.specs.Prelude.{ℕ, zero, suc, ◌≤◌, Bool, true, not, ◌++◌, if◌then◌else◌, List, length, Some, None, Result, Ok, Err}
+use Rattle.std.specs.Prelude.{ℕ, zero, suc, Bool, true, not, ◌++◌, if◌then◌else◌, List, Some, None, Result, Ok, Err}
 use Rattle.std.specs.Prelude.{IsTrue}
 use Rattle.pua_tree.specs.Names.{is_name}
 use Rattle.pua_tree.specs.Tree.{Tree, is_dir, above}
 use Rattle.pua_tree.specs.Steps.{◌>>=◌}
 use Rattle.pua_path.specs.Paths.{parts_of}
-use Rattle.pua_path.specs.Remaining.{is_readable}
 use Rattle.pua_path.specs.Resolution.{Resolved, Standing, Directory, Linked, Plain, Nothing, standing_at, start_of, resolve_parts}
-use Rattle.pua_path.specs.Bounds.{most_parts}
-use Rattle.pua_path.specs.Walks.{IsNamed, found_seen, way_of}
+use Rattle.pua_path.specs.Walks.{HasFewParts, found_seen, way_of}
 use Rattle.pua_path.specs.declared.errno.Errno.{Errno}
 use Rattle.pua_path.specs.declared.errno.Errno.TheVariants.{ENOENT, ENOTDIR, ELOOP}
 use Rattle.pua_path.specs.declared.text.Ending.TheVariants.{Dot}
@@ -65,19 +63,15 @@ found_alone resolved = resolved >>= λ found. Ok found.0
 -- the same of a part, its names and targets lent
 abbrev pub onward_seen : declared.Onward → Onward
 onward_seen (onward.Directory dir way) = Goes dir (way_of way)
-onward_seen (onward.Link target) = Follows target.now
+onward_seen (onward.Link target) = Follows target.bytes.now
 onward_seen (onward.Found found) = Ends (found_seen found)
 onward_seen (onward.Nowhere errno) = Fails errno
 
--- a target whose parts can be read and are few
-abbrev pub IsTargetIn : Tree → List ℕ → Type 0
-IsTargetIn t target = IsTrue (is_readable target) × (length (parts_of Dot target) ≤ most_parts t)
-
--- a directory that lives, such a target, or what a name names
+-- a directory that lives, or a link's target there
 abbrev pub IsOnwardIn : Tree → declared.Onward → Type 0
 IsOnwardIn t (onward.Directory dir way) = IsTrue (is_dir t dir)
-IsOnwardIn t (onward.Link target) = IsTargetIn t target.now
-IsOnwardIn t (onward.Found found) = IsNamed found
+IsOnwardIn t (onward.Link target) = HasFewParts t target.bytes.now
+IsOnwardIn t (onward.Found found) = Unit {0}
 IsOnwardIn t (onward.Nowhere errno) = Unit {0}
 
 -- bytes that lead to no directory, or by a link, are a name

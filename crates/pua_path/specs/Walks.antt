@@ -1,11 +1,10 @@
 -- A resolution on its way: what stands at a name, and how one part leads on to the next.
 use Rattle.std.specs.Prelude.{◌≡◌, nat_lt, ℕ, ◌+◌, ◌*◌, ◌≤◌, Bool, if◌then◌else◌, List, [], ◌∷◌, length, Option, Some, None, Result, Ok}
 use Rattle.std.specs.Prelude.{Err, IsTrue}
-use Rattle.pua_tree.specs.Names.{is_name}
 use Rattle.pua_tree.specs.Tree.{Tree, Spot, WellFormed, is_dir}
 use Rattle.pua_path.specs.Limits.{most_links}
 use Rattle.pua_path.specs.Paths.{parts_of}
-use Rattle.pua_path.specs.Remaining.{Remaining, is_readable}
+use Rattle.pua_path.specs.Remaining.{Remaining}
 use Rattle.pua_path.specs.Resolution.{Resolved, Standing, Directory, Linked, Plain, Nothing, resolve_parts}
 use Rattle.pua_path.specs.Bounds.{most_parts}
 use Rattle.pua_path.specs.Traces.{Trace, at_once, after_links, trace_parts}
@@ -31,14 +30,18 @@ use Rattle.pua_path.specs.declared.traced.Stop.TheVariants.{NoEntry, NoDirectory
 -- what was seen at a name
 abbrev pub standing_seen : seen.Standing → Standing
 standing_seen (see.Directory x) = Directory x
-standing_seen (see.Linked x target) = Linked x target.now
+standing_seen (see.Linked x target) = Linked x target.bytes.now
 standing_seen (see.Plain x) = Plain x
 standing_seen see.Nothing = Nothing
 
--- what was seen in a tree: a directory that lives, or a target whose parts can be read and are few
+-- a link's target in a tree: its parts are few
+abbrev pub HasFewParts : Tree → List ℕ → Type 0
+HasFewParts t target = length (parts_of Dot target) ≤ most_parts t
+
+-- what was seen in a tree: a directory that lives, or a link's target there
 abbrev pub IsSeenIn : Tree → seen.Standing → Type 0
 IsSeenIn t (see.Directory x) = IsTrue (is_dir t x)
-IsSeenIn t (see.Linked x target) = IsTrue (is_readable target.now) × (length (parts_of Dot target.now) ≤ most_parts t)
+IsSeenIn t (see.Linked x target) = HasFewParts t target.bytes.now
 IsSeenIn t (see.Plain x) = Unit {0}
 IsSeenIn t see.Nothing = Unit {0}
 
@@ -50,25 +53,17 @@ way_of nameless.Top = ways.Top
 
 -- what a name names, the name being lent
 abbrev pub lent_name : LentFound → List ℕ
-lent_name (lent.Whole _ _ name) = name.now
-lent_name (lent.Slot _ name _) = name.now
+lent_name (lent.Whole _ _ name) = name.bytes.now
+lent_name (lent.Slot _ name _) = name.bytes.now
 
 abbrev pub found_seen : LentFound → Found
-found_seen (lent.Whole dir parent name) = Whole dir (ways.Named parent name.now)
-found_seen (lent.Slot dir name x) = Slot dir name.now x
+found_seen (lent.Whole dir parent name) = Whole dir (ways.Named parent name.bytes.now)
+found_seen (lent.Slot dir name x) = Slot dir name.bytes.now x
 
 abbrev pub all_found : Result (Option LentFound) Errno → Result (Option Found) Errno
 all_found (Ok None) = Ok None
 all_found (Ok (Some found)) = Ok (Some (found_seen found))
 all_found (Err errno) = Err errno
-
--- the bytes that are lent as a name are one
-abbrev pub IsNamed : LentFound → Type 0
-IsNamed found = IsTrue (is_name (lent_name found))
-
-abbrev pub AreNamed : Option LentFound → Type 0
-AreNamed None = Unit {0}
-AreNamed (Some found) = IsNamed found
 
 -- a part ends the resolution, or leaves it to the further parts
 abbrev pub goes_on : Result (Option Found) Errno → ℕ → Resolved → Resolved

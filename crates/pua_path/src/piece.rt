@@ -1,10 +1,31 @@
-//! Pieces of texts between slashes.
+//! Texts that can be read, and their pieces between slashes.
 
 ghost use Rattle.std.specs.Prelude.{◌≡◌, ◌==◌, ◌<◌, ◌∷◌, false, IsTrue, length, position};
-ghost use Rattle.pua_tree.specs.Names.{components, has_byte};
+ghost use Rattle.pua_tree.specs.Names.{components, has_byte, is_name};
 ghost use Rattle.pua_path.specs.Paths.{ends_in_slash, part_of};
 ghost use Rattle.pua_path.specs.Remaining.{after_slashes, is_piece, is_readable, rest_parts};
-ghost use Rattle.pua_path.specs.Pieces.{IsCutAtSlash};
+ghost use Rattle.pua_path.specs.Pieces.{IsCutAtSlash, are_bytes};
+
+/// What is left of a path, or a link's target: no NUL, and no component of more than 255 bytes.
+#[derive(Clone, Copy)]
+pub(crate) struct Readable<'a> {
+    pub(crate) bytes: &'a [u8],
+    pub(crate) ghost readable: { IsTrue (is_readable bytes.now) },
+}
+
+/// A piece between slashes that is a part: 1 to 255 bytes that may stand in a name.
+#[derive(Clone, Copy)]
+pub(crate) struct Piece<'a> {
+    pub(crate) bytes: &'a [u8],
+    pub(crate) ghost piece: { IsTrue (is_piece bytes.now) },
+}
+
+/// The bytes of a name, lent.
+#[derive(Clone, Copy)]
+pub(crate) struct LentName<'a> {
+    pub(crate) bytes: &'a [u8],
+    pub(crate) ghost name: { IsTrue (is_name bytes.now) },
+}
 
 /// The text from its first byte other than a slash on.
 pub(crate) fn after_slashes(text: &[u8]) -> &[u8]
@@ -42,7 +63,8 @@ fn first_slash(text: &[u8]) -> Option<usize>
 
 /// The bytes before the first slash, and the text from that slash on.
 fn cut_at_slash(text: &[u8]) -> (&[u8], &[u8])
-    ensures { IsCutAtSlash text.now result.0.now result.1.now }
+    ensures cut { IsCutAtSlash text.now result.0.now result.1.now }
+    ensures bytes { IsTrue (are_bytes result.0.now) }
 {
     match first_slash(text) {
         Some(end) => text.split_at(end),
@@ -51,16 +73,16 @@ fn cut_at_slash(text: &[u8]) -> (&[u8], &[u8])
 }
 
 /// The piece that is the first part of what is left of a text, and what is left after it.
-pub(crate) fn next_piece(text: &[u8]) -> (&[u8], &[u8])
-    requires some { 0 < length text.now }
-    requires readable { IsTrue (is_readable text.now) }
-    ensures parts { rest_parts text.now ≡ part_of result.0.now ∷ rest_parts result.1.now }
-    ensures piece { IsTrue (is_piece result.0.now) }
-    ensures readable { IsTrue (is_readable result.1.now) }
+pub(crate) fn next_piece<'a>(text: Readable<'a>) -> (Piece<'a>, Readable<'a>)
+    requires some { 0 < length text.bytes.now }
+    ensures { rest_parts text.entry.bytes.now
+        ≡ part_of result.0.bytes.now ∷ rest_parts result.1.bytes.now }
 {
-    let text = after_slashes(text);
-    if text.is_empty() {
-        return (b".".as_slice(), text);
+    let left = after_slashes(text.bytes);
+    if left.is_empty() {
+        let dot = b".".as_slice();
+        return (Piece { bytes: dot }, Readable { bytes: left });
     }
-    cut_at_slash(text)
+    let (piece, rest) = cut_at_slash(left);
+    (Piece { bytes: piece }, Readable { bytes: rest })
 }

@@ -5,7 +5,7 @@ mod tracing;
 ghost use Rattle.std.specs.Prelude.{◌≡◌, ◌≤◌, ◌<◌, ◌+◌, ◌-◌, ◌*◌};
 ghost use Rattle.std.specs.Prelude.{[], ◌∷◌, ◌++◌, Some, None, Ok, Err, is_some};
 ghost use Rattle.std.specs.Prelude.{IsTrue, IfSome, IfOk, IfErr, OnOk};
-ghost use Rattle.std.specs.Prelude.{not, true, false, ◌&&◌, ◌==◌, if◌then◌else◌, length};
+ghost use Rattle.std.specs.Prelude.{not, true, ◌&&◌, ◌==◌, if◌then◌else◌, length};
 ghost use Rattle.pua_tree.specs.Names.{is_name};
 ghost use Rattle.pua_tree.specs.Tree.{above, is_dir};
 ghost use Rattle.pua_path.specs.Resolution.{resolution, resolve_parts, step, last, follow};
@@ -13,13 +13,13 @@ ghost use Rattle.pua_path.specs.Resolution.{standing_at, start_of};
 ghost use Rattle.pua_path.specs.Limits.{most_links};
 ghost use Rattle.pua_path.specs.Paths.{is_absolute, part_of, parts_of};
 ghost use Rattle.pua_path.specs.Walks.{way_of, lent_name, found_seen, standing_seen};
-ghost use Rattle.pua_path.specs.Walks.{IsNamed, AreNamed, IsSeenIn, CanGoOn, LeadsOn, TracesOn};
+ghost use Rattle.pua_path.specs.Walks.{HasFewParts, IsSeenIn, CanGoOn, LeadsOn, TracesOn};
 ghost use Rattle.pua_path.specs.Onward.{followed, is_followed_at, onward_by, onward_seen};
-ghost use Rattle.pua_path.specs.Onward.{found_alone, IsOnwardIn, IsByName, IsTargetIn};
+ghost use Rattle.pua_path.specs.Onward.{found_alone, IsOnwardIn, IsByName};
 ghost use Rattle.pua_path.specs.Walks.{walk_end, potential_of};
 ghost use Rattle.pua_path.specs.Bounds.{part_cost, most_parts};
 ghost use Rattle.pua_path.specs.Fits.{FoundFits, FoundsFit, StandsAsNamed};
-ghost use Rattle.pua_path.specs.Remaining.{Remaining, is_piece, is_readable, rest_parts};
+ghost use Rattle.pua_path.specs.Remaining.{Remaining, rest_parts};
 ghost use Rattle.pua_path.specs.declared.errno.Errno.TheVariants.{ELOOP, ENOENT, ENOTDIR};
 ghost use Rattle.pua_path.specs.declared.found.Way.TheVariants as ways;
 ghost use Rattle.pua_path.specs.declared.resolver.Nameless.TheVariants as nameless;
@@ -31,7 +31,7 @@ ghost use Rattle.pua_path.specs.declared.text.Ending.TheVariants as ending;
 use crate::errno::Errno;
 use crate::found::{Found, Last, Part, Way};
 use crate::limits::MOST_LINKS;
-use crate::piece::next_piece;
+use crate::piece::{LentName, Piece, Readable, next_piece};
 use crate::probe::Probe;
 use crate::rest::{Rest, unread};
 use crate::text::PathText;
@@ -51,7 +51,8 @@ pub fn resolve<'t, P: Probe<'t>>(
     text: &PathText<'_>,
     mode: Last,
 ) -> Result<Found, Errno>
-    ensures exact { result ≡ resolution (P.tree probe.old) from text.now.ending text.now.bytes mode }
+    ensures exact { result
+        ≡ resolution (P.tree probe.old) from text.now.ending text.now.bytes mode }
     ensures fits { FoundsFit (P.tree probe.old) result }
     ensures named { IfOk result (StandsAsNamed (P.tree probe.old)) }
     ensures tree { P.tree probe.new ≡ P.tree probe.old }
@@ -69,23 +70,22 @@ fn resolve_text<'t, P: Probe<'t>>(
     probe: &mut P,
     start: NodeId,
     left: u8,
-    text: &[u8],
+    text: Readable<'_>,
     mode: Last,
 ) -> Result<Found, Errno>
     requires dir { IsTrue (is_dir (P.tree probe.old) start) }
     requires left { left ≤ most_links }
-    requires readable { IsTrue (is_readable text.now) }
-    ensures exact { let t = P.tree probe.old in let parts = rest_parts text.now in
+    ensures exact { let t = P.tree probe.old in let parts = rest_parts text.entry.bytes.now in
         result ≡ found_alone (resolve_parts left t mode start ways.Top parts) }
     ensures tree { P.tree probe.new ≡ P.tree probe.old }
 {
     let mut here = start;
     let mut way = Nameless::Top;
     let mut rest = text;
-    while !rest.is_empty() {
+    while !rest.bytes.is_empty() {
         let (piece, behind) = next_piece(rest);
         rest = behind;
-        match lead_by_piece(probe, here, piece, rest.is_empty(), mode) {
+        match lead_by_piece(probe, here, piece, rest.bytes.is_empty(), mode) {
             Onward::Directory(dir, named) => {
                 here = dir;
                 way = named;
@@ -106,16 +106,14 @@ fn follow_on<'a, 't: 'a, P: Probe<'t>>(
     probe: &mut P,
     dir: NodeId,
     left: u8,
-    target: &'a [u8],
-    text: &'a [u8],
+    target: Readable<'a>,
+    text: Readable<'a>,
     mode: Last,
 ) -> Result<Found, Errno>
     requires dir { IsTrue (is_dir (P.tree probe.old) dir) }
     requires left { left ≤ most_links }
-    requires target { IsTargetIn (P.tree probe.old) target.now }
-    requires readable { IsTrue (is_readable text.now) }
-    ensures exact { let t = P.tree probe.old in let parts = rest_parts text.now in
-        result ≡ found_alone (followed left t mode dir target.now parts) }
+    ensures exact { let t = P.tree probe.old in let parts = rest_parts text.entry.bytes.now in
+        result ≡ found_alone (followed left t mode dir target.entry.bytes.now parts) }
     ensures tree { P.tree probe.new ≡ P.tree probe.old }
 {
     let (found, _) = follow_counted(probe, dir, left, target, text, mode)?;
@@ -127,20 +125,18 @@ fn follow_counted<'a, 't: 'a, P: Probe<'t>>(
     probe: &mut P,
     dir: NodeId,
     left: u8,
-    target: &'a [u8],
-    text: &'a [u8],
+    target: Readable<'a>,
+    text: Readable<'a>,
     mode: Last,
 ) -> Result<(Found, u8), Errno>
     requires dir { IsTrue (is_dir (P.tree probe.old) dir) }
     requires left { left ≤ most_links }
-    requires target { IsTargetIn (P.tree probe.old) target.now }
-    requires readable { IsTrue (is_readable text.now) }
-    ensures exact { let parts = rest_parts text.now in
-        result ≡ followed left (P.tree probe.old) mode dir target.now parts }
+    ensures exact { let parts = rest_parts text.entry.bytes.now in
+        result ≡ followed left (P.tree probe.old) mode dir target.entry.bytes.now parts }
     ensures left { IfOk result (λ found. found.1 ≤ left) }
     ensures tree { P.tree probe.new ≡ P.tree probe.old }
-    ensures count { let left_parts = length (rest_parts text.now) in
-        P.count probe.new
+    ensures count { let left_parts = length (rest_parts text.entry.bytes.now) in
+        HasFewParts (P.tree probe.old) target.entry.bytes.now → P.count probe.new
         ≤ P.count probe.old + 3 * (left_parts + most_parts (P.tree probe.old) * left) }
 {
     probe.known();
@@ -241,7 +237,8 @@ fn resolve_part<'t, P: Probe<'t>>(
 ) -> Result<(Found, u8), Errno>
     requires dir { IsTrue (is_dir (P.tree probe.old) dir) }
     requires left { left ≤ most_links }
-    ensures exact { result ≡ resolve_parts left (P.tree probe.old) mode dir ways.Top (part.now ∷ []) }
+    ensures exact { result
+        ≡ resolve_parts left (P.tree probe.old) mode dir ways.Top (part.now ∷ []) }
     ensures fits { IfOk result (λ found. FoundFits (P.tree probe.old) found.0) }
     ensures named { IfOk result (λ found. StandsAsNamed (P.tree probe.old) found.0) }
     ensures left { IfOk result (λ found. found.1 ≤ left) }
@@ -254,7 +251,10 @@ fn resolve_part<'t, P: Probe<'t>>(
             let way = way.way();
             Ok((Found::Whole { dir, way }, left))
         }
-        Onward::Link(target) => follow_counted(probe, dir, left, target, &[], mode),
+        Onward::Link(target) => {
+            let nothing = Readable { bytes: &[] };
+            follow_counted(probe, dir, left, target, nothing, mode)
+        }
         Onward::Found(lent) => Ok((lent.found(), left)),
         Onward::Nowhere(errno) => Err(errno),
     }
@@ -285,19 +285,18 @@ fn is_absolute(text: &[u8]) -> bool
     text.first() == Some(&b'/')
 }
 
-/// The name that some bytes are.
+/// A name that was lent, copied.
 #[inline(always)]
-fn name_of(bytes: &[u8]) -> Name
-    requires { IsTrue (is_name bytes.now) }
-    ensures { result ≡ bytes.now }
+fn name_of(lent: LentName<'_>) -> Name
+    ensures { result ≡ lent.entry.bytes.now }
 {
-    Name::from_bytes(bytes).unwrap()
+    Name::from_bytes(lent.bytes).unwrap()
 }
 
 /// What stands at a name in a directory.
 enum Standing<'t> {
     Directory(NodeId),
-    Linked(NodeId, &'t [u8]),
+    Linked(NodeId, Readable<'t>),
     Plain(NodeId),
     Nothing,
 }
@@ -315,7 +314,10 @@ fn standing_at<'t, P: Probe<'t>>(probe: &mut P, dir: NodeId, name: &[u8]) -> Sta
     };
     match kind {
         Kind::Dir => Standing::Directory(node),
-        Kind::Link => Standing::Linked(node, probe.target(node).unwrap_or(&[])),
+        Kind::Link => {
+            let bytes = probe.target(node).unwrap_or(&[]);
+            Standing::Linked(node, Readable { bytes })
+        }
         Kind::File | Kind::Prog => Standing::Plain(node),
     }
 }
@@ -327,11 +329,11 @@ enum LentFound<'a> {
     Whole {
         dir: NodeId,
         parent: NodeId,
-        name: &'a [u8],
+        name: LentName<'a>,
     },
     Slot {
         dir: NodeId,
-        name: &'a [u8],
+        name: LentName<'a>,
         node: Option<NodeId>,
     },
 }
@@ -339,7 +341,6 @@ enum LentFound<'a> {
 impl LentFound<'_> {
     #[inline(always)]
     fn found(&self) -> Found
-        requires { IsNamed self.now }
         ensures { result ≡ found_seen self.now }
     {
         let name = name_of(self.name());
@@ -353,11 +354,11 @@ impl LentFound<'_> {
     }
 
     #[inline(always)]
-    fn name(&self) -> &[u8]
-        ensures { result.now ≡ lent_name self.now }
+    fn name(&self) -> LentName<'_>
+        ensures { result.bytes.now ≡ lent_name self.now }
     {
         match self {
-            LentFound::Whole { name, .. } | LentFound::Slot { name, .. } => name,
+            LentFound::Whole { name, .. } | LentFound::Slot { name, .. } => *name,
         }
     }
 }
@@ -389,7 +390,7 @@ enum Onward<'n> {
     /// and otherwise nobody asks how it was named: so `Top` stands there.
     Directory(NodeId, Nameless),
     /// A link that is followed.
-    Link(&'n [u8]),
+    Link(Readable<'n>),
     /// What the path names.
     Found(LentFound<'n>),
     /// No further, and why.
@@ -402,23 +403,22 @@ enum Onward<'n> {
 fn lead_by_piece<'n, 't: 'n, P: Probe<'t>>(
     probe: &mut P,
     dir: NodeId,
-    piece: &'n [u8],
+    piece: Piece<'n>,
     is_last: bool,
     mode: Last,
 ) -> Onward<'n>
-    requires piece { IsTrue (is_piece piece.now) }
-    requires dir { IsTrue (is_dir (P.tree probe.old) dir) }
-    ensures exact { let part = part_of piece.now in
+    requires { IsTrue (is_dir (P.tree probe.old) dir) }
+    ensures exact { let part = part_of piece.entry.bytes.now in
         onward_seen result ≡ onward_by (P.tree probe.old) mode dir part is_last }
     ensures stands { IsOnwardIn (P.tree probe.old) result }
-    ensures named { IsByName piece.now result }
+    ensures named { IsByName piece.entry.bytes.now result }
     ensures tree { P.tree probe.new ≡ P.tree probe.old }
     ensures count { P.count probe.new ≤ P.count probe.old + 3 }
 {
-    match piece {
+    match piece.bytes {
         [b'.'] => Onward::Directory(dir, Nameless::Dot),
         [b'.', b'.'] => Onward::Directory(above(probe, dir), Nameless::DotDot),
-        _ => lead_by_name(probe, dir, piece, is_last, mode),
+        bytes => lead_by_name(probe, dir, LentName { bytes }, is_last, mode),
     }
 }
 
@@ -438,7 +438,10 @@ fn lead_by_part<'n, 't: 'n, P: Probe<'t>>(
     match part {
         Part::Dot => Onward::Directory(dir, Nameless::Dot),
         Part::DotDot => Onward::Directory(above(probe, dir), Nameless::DotDot),
-        Part::Name(name) => lead_by_name(probe, dir, name.bytes(), true, mode),
+        Part::Name(name) => {
+            let bytes = name.bytes();
+            lead_by_name(probe, dir, LentName { bytes }, true, mode)
+        }
     }
 }
 
@@ -447,18 +450,17 @@ fn lead_by_part<'n, 't: 'n, P: Probe<'t>>(
 fn lead_by_name<'n, 't: 'n, P: Probe<'t>>(
     probe: &mut P,
     dir: NodeId,
-    name: &'n [u8],
+    name: LentName<'n>,
     is_last: bool,
     mode: Last,
 ) -> Onward<'n>
-    requires name { IsTrue (is_name name.now) }
-    ensures exact { let part = parts.Name name.now in
+    ensures exact { let part = parts.Name name.entry.bytes.now in
         onward_seen result ≡ onward_by (P.tree probe.old) mode dir part is_last }
     ensures stands { IsOnwardIn (P.tree probe.old) result }
     ensures tree { P.tree probe.new ≡ P.tree probe.old }
     ensures count { P.count probe.new ≤ P.count probe.old + 3 }
 {
-    match standing_at(probe, dir, name) {
+    match standing_at(probe, dir, name.bytes) {
         Standing::Directory(node) => {
             if !is_last {
                 return Onward::Directory(node, Nameless::Top);
@@ -494,7 +496,7 @@ fn is_followed(mode: Last, is_last: bool) -> bool
 #[inline(always)]
 fn end_at<'n>(
     dir: NodeId,
-    name: &'n [u8],
+    name: LentName<'n>,
     node: Option<NodeId>,
     is_last: bool,
     errno: Errno,
@@ -533,7 +535,8 @@ struct Resolving<'a> {
 impl<'a> Resolving<'a> {
     #[inline(always)]
     fn new(dir: NodeId, left: u8, rest: Rest<'a>) -> Resolving<'a>
-        ensures { result ≡ record { here = dir; way = nameless.Top; left = left; rest = rest.entry } }
+        ensures { result
+            ≡ record { here = dir; way = nameless.Top; left = left; rest = rest.entry } }
     {
         Resolving {
             here: dir,
@@ -572,24 +575,23 @@ impl<'a> Resolving<'a> {
     fn enter_piece<'t: 'a, P: Probe<'t>>(
         &mut self,
         probe: &mut P,
-        piece: &'a [u8],
+        piece: Piece<'a>,
         mode: Last,
     ) -> Result<Option<LentFound<'a>>, Errno>
-        requires piece { IsTrue (is_piece piece.now) }
-        requires ready { CanGoOn (P.tree probe.old) self.old.here self.old.left self.old.rest }
-        ensures exact { let part = part_of piece.now in
+        requires { CanGoOn (P.tree probe.old) self.old.here self.old.left self.old.rest }
+        ensures exact { let part = part_of piece.entry.bytes.now in
             LeadsOn (P.tree probe.old) mode part self.old result self.new }
-        ensures traced { let part = part_of piece.now in
-            TracesOn (P.tree probe.old) mode part piece.now self.old result self.new }
-        ensures stopped { IfErr result (λ _. IsTrue (is_name piece.now)) }
-        ensures linked { self.new.left < self.old.left → IsTrue (is_name piece.now) }
+        ensures traced { let bytes = piece.entry.bytes.now in
+            TracesOn (P.tree probe.old) mode (part_of bytes) bytes self.old result self.new }
+        ensures stopped { IfErr result (λ _. IsTrue (is_name piece.entry.bytes.now)) }
+        ensures linked { self.new.left < self.old.left →
+            IsTrue (is_name piece.entry.bytes.now) }
         ensures ready { CanGoOn (P.tree probe.old) self.new.here self.new.left self.new.rest }
         ensures left { self.new.left ≤ self.old.left }
         ensures potential { let t = P.tree probe.old in
             potential_of t self.new ≤ potential_of t self.old }
         ensures tree { P.tree probe.new ≡ P.tree probe.old }
         ensures count { P.count probe.new ≤ P.count probe.old + 3 }
-        ensures named { IfOk result AreNamed }
     {
         match lead_by_piece(probe, self.here, piece, self.rest.is_done(), mode) {
             Onward::Directory(dir, way) => {
@@ -607,24 +609,25 @@ impl<'a> Resolving<'a> {
     }
 
     /// Follows a link: its target comes before the parts that are left.
-    fn follow(&mut self, target: &'a [u8]) -> Result<(), Errno>
-        requires readable { IsTrue (is_readable target.now) }
+    fn follow(&mut self, target: Readable<'a>) -> Result<(), Errno>
         requires room { self.old.rest.depth + self.old.left ≤ most_links }
         ensures ok { OnOk result (0 < self.old.left) }
         ensures err { IfErr result (λ errno. (errno ≡ ELOOP) × (self.old.left ≡ 0)) }
         ensures left { self.new.left ≡ self.old.left - 1 }
         ensures unchanged { self.old.left ≡ 0 → self.new ≡ self.old }
-        ensures here { 0 < self.old.left → self.new.here ≡ start_of target.now self.old.here }
+        ensures here { 0 < self.old.left →
+            self.new.here ≡ start_of target.entry.bytes.now self.old.here }
         ensures way { 0 < self.old.left → self.new.way ≡ nameless.Top }
         ensures parts { 0 < self.old.left →
-            self.new.rest.parts ≡ parts_of ending.Dot target.now ++ self.old.rest.parts }
+            self.new.rest.parts
+            ≡ parts_of ending.Dot target.entry.bytes.now ++ self.old.rest.parts }
         ensures room { self.new.rest.depth + self.new.left ≤ most_links }
     {
         if self.left == 0 {
             return Err(Errno::ELOOP);
         }
         self.left -= 1;
-        if is_absolute(target) {
+        if is_absolute(target.bytes) {
             self.here = NodeId::ROOT;
         }
         self.way = Nameless::Top;

@@ -1,7 +1,7 @@
 //! What is left of a path while it is resolved.
 
 use crate::limits::MOST_LINKS;
-use crate::piece::{after_slashes, before_slashes, next_piece};
+use crate::piece::{Piece, Readable, after_slashes, before_slashes, next_piece};
 use crate::text::{Ending, PathText};
 use std::marker::Model;
 
@@ -33,22 +33,23 @@ impl<'a> Model for Rest<'a> {
 }
 
 ghost use Rattle.std.specs.Prelude.{◌≡◌, ◌≤◌, ◌<◌, ◌+◌, [], ◌∷◌, ◌++◌};
-ghost use Rattle.std.specs.Prelude.{IsTrue, IfSome, MatchOption};
+ghost use Rattle.std.specs.Prelude.{MatchOption};
 ghost use Rattle.pua_path.specs.Limits.{most_links};
 ghost use Rattle.pua_path.specs.Paths.{part_of, parts_of};
-ghost use Rattle.pua_path.specs.Remaining.{has_no_part, is_piece, is_readable, rest_parts};
+ghost use Rattle.pua_path.specs.Remaining.{has_no_part, rest_parts};
 ghost use Rattle.pua_path.specs.declared.text.Ending.TheVariants as ending;
 
 /// What is left of a path where nothing of it is read yet.
-pub(crate) fn unread<'a>(text: &PathText<'a>) -> &'a [u8]
-    ensures parts { rest_parts result.now ≡ parts_of text.now.ending text.now.bytes }
-    ensures readable { IsTrue (is_readable result.now) }
+pub(crate) fn unread<'a>(text: &PathText<'a>) -> Readable<'a>
+    ensures { rest_parts result.bytes.now ≡ parts_of text.now.ending text.now.bytes }
 {
     let bytes = text.bytes();
-    match text.ending() {
-        Ending::Dot => after_slashes(bytes),
-        Ending::Dropped => after_slashes(before_slashes(bytes)),
+    if let Ending::Dropped = text.ending() {
+        let bytes = after_slashes(before_slashes(bytes));
+        return Readable { bytes };
     }
+    let bytes = after_slashes(bytes);
+    Readable { bytes }
 }
 
 impl<'a> Rest<'a> {
@@ -63,11 +64,11 @@ impl<'a> Rest<'a> {
 
     /// The parts of what is left of a text.
     #[inline(always)]
-    pub(crate) fn of_top(top: &'a [u8]) -> Rest<'a>
-        requires { IsTrue (is_readable top.now) }
-        ensures parts { result.parts ≡ rest_parts top.now }
+    pub(crate) fn of_top(top: Readable<'a>) -> Rest<'a>
+        ensures parts { result.parts ≡ rest_parts top.entry.bytes.now }
         ensures depth { result.depth ≡ 0 }
     {
+        let top = top.bytes;
         Rest {
             top,
             below: [top; WAITING],
@@ -83,34 +84,33 @@ impl<'a> Rest<'a> {
     }
 
     /// Takes the first part off, and answers the piece that it is; None where no part is left.
-    pub(crate) fn next(&mut self) -> Option<&'a [u8]>
+    pub(crate) fn next(&mut self) -> Option<Piece<'a>>
         ensures parts { MatchOption result
             ((self.old.parts ≡ []) × (self.new.parts ≡ []))
-            (λ piece. self.old.parts ≡ part_of piece.now ∷ self.new.parts) }
-        ensures piece { IfSome result (λ piece. IsTrue (is_piece piece.now)) }
+            (λ piece. self.old.parts ≡ part_of piece.bytes.now ∷ self.new.parts) }
         ensures depth { self.new.depth ≤ self.old.depth }
     {
         if self.top.is_empty() {
             return None;
         }
-        let (piece, rest) = next_piece(self.top);
-        if rest.is_empty() && self.depth > 0 {
+        let (piece, rest) = next_piece(Readable { bytes: self.top });
+        if rest.bytes.is_empty() && self.depth > 0 {
             self.depth -= 1;
             self.top = self.below[self.depth];
         } else {
-            self.top = rest;
+            self.top = rest.bytes;
         }
         Some(piece)
     }
 
     /// Puts the parts of a link's target in front of the others.
-    pub(crate) fn put(&mut self, target: &'a [u8])
-        requires readable { IsTrue (is_readable target.now) }
+    pub(crate) fn put(&mut self, target: Readable<'a>)
         requires room { self.old.depth < most_links }
-        ensures parts { self.new.parts ≡ parts_of ending.Dot target.now ++ self.old.parts }
+        ensures parts { self.new.parts
+            ≡ parts_of ending.Dot target.entry.bytes.now ++ self.old.parts }
         ensures depth { self.new.depth ≤ self.old.depth + 1 }
     {
-        let text = after_slashes(target);
+        let text = after_slashes(target.bytes);
         if text.is_empty() {
             return;
         }

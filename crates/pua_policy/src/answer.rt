@@ -51,7 +51,7 @@ pub enum Refusal {
 
 impl Refusal {
     /// The verdict on a call that is refused so.
-    pub fn verdict(self) -> Verdict
+    pub(crate) fn verdict(self) -> Verdict
         ensures { result ≡ refusal_verdict self }
     {
         match self {

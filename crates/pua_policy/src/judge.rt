@@ -176,7 +176,8 @@ fn allows(process: &Process, table: &CallTable, call: Call, cover: &Cover, objec
 
 /// What a call is on, of what its path named. One look at the tree at most.
 pub fn object<'t, P: Probe<'t>>(probe: &mut P, found: &Found) -> Object
-    ensures exact { result ≡ object_seen (P.tree probe.old) (object_of (P.tree probe.old) found.now) }
+    ensures exact { result
+        ≡ object_seen (P.tree probe.old) (object_of (P.tree probe.old) found.now) }
     ensures tree { P.tree probe.new ≡ P.tree probe.old }
     ensures cost { P.count probe.new ≤ P.count probe.old + 1 }
 {
@@ -223,7 +224,8 @@ fn object_fault<'t, P: Probe<'t>>(probe: &mut P, call: Call, found: &Found) -> O
 /// errno `object_verdict` answers (which kind a call is on: this profile). What was found is of the
 /// probe's tree as it stands. One look at the tree at most.
 pub fn misfit<'t, P: Probe<'t>>(probe: &mut P, call: Call, found: &Found) -> Option<Misfit>
-    ensures exact { result ≡ misfit (P.tree probe.old) call (object_of (P.tree probe.old) found.now) }
+    ensures exact { result
+        ≡ misfit (P.tree probe.old) call (object_of (P.tree probe.old) found.now) }
     ensures tree { P.tree probe.new ≡ P.tree probe.old }
     ensures cost { P.count probe.new ≤ P.count probe.old + 1 }
 {

@@ -1,239 +1,140 @@
--- Two worlds of the replay for which one world stands answer alike.
-use Rattle.pua_script.proofs.Common.{◌≡◌, ℕ, suc, ◌+◌, List, [], ◌∷◌, map, length, Bool, true, false, cond, eqb, nat_eq, refl, sym, ap}
-use Rattle.pua_script.proofs.Common.{subst, ◌∙◌, IsTrue, nat_le, nat_cmp_total, nat_cmp, put, is_sorted, lookup, Tree, TreeFault, Errno}
-use Rattle.pua_script.proofs.Common.{EAGAIN, CallTable, History, Ended, ProcessState, is_ended, Asked, Answer, Gone, Action, Change}
-use Rattle.pua_script.proofs.Common.{NoChange, AddNode, CutRow, ShiftRow, TieRow, BeginProgram, AddEvent, CopyAs, Decision, decide, World}
-use Rattle.pua_script.proofs.Common.{Effect, Fails, Kills, Leaves, Copies, history_of, effect, edit_effect, edited_tree, answer_to, left_by}
-use Rattle.pua_script.proofs.Common.{answer_and_world, apply, world_after, change_effect, come_of, add, cut, shift, tie, Failed, Killed}
-use Rattle.pua_script.proofs.Common.{most_processes, WorldState, StandsAt, StandsForWorld, process_at, nat_tie, passes}
-use Rattle.std.proofs.Common.{Option, Some, None}
-use Rattle.std.proofs.Common.{Result, Ok, Err, option_map, is_some}
-use Rattle.std.specs.Prelude.{◌||◌}
-use Rattle.std.specs.FinMap.{find as find_key}
-use Rattle.std.specs.FinMap.Entries.{find-put, is_sorted-put, length-put}
-use Rattle.pua_policy.specs.History.{state_of, after_exec}
-use Rattle.pua_policy.proofs.ForCallers.{stands}
-use Rattle.pua_script.specs.Decide.{refusals, decide_by}
-use Rattle.pua_script.specs.Replay.{answers_to}
-use Rattle.pua_script.specs.Worlds.{WorldsAnswerAlike}
+-- Each request is served for all worlds of the replay for which a world stands, so that these answer alike.
+use Rattle.pua_script.proofs.Common.{◌≡◌, ℕ, ◌+◌, ◌||◌, List, [], ◌∷◌, length, Bool, true, false, cond, nat_eq, nat_le, refl, sym, ap}
+use Rattle.pua_script.proofs.Common.{subst, ◌∙◌, Tree, EAGAIN, History, Ended, Event, ProcessState, StandsFor, Asked, Answer, Gone, Okay}
+use Rattle.pua_script.proofs.Common.{Change, NoChange, AddNode, CutRow, ShiftRow, TieRow, BeginProgram, AddEvent, CopyAs, Decision}
+use Rattle.pua_script.proofs.Common.{World, Effect, Fails, Kills, Leaves, Copies, effect, edit_effect, edited_tree, apply, world_after}
+use Rattle.pua_script.proofs.Common.{change_effect, come_of, add, cut, shift, tie, Failed, Killed, most_processes, WorldState}
+use Rattle.pua_script.proofs.Common.{StandsForWorld, process_at, TreeFault, Errno, None≢Some, same_Some, keeps, stands as stands_for}
+use Rattle.std.proofs.Common.{Option, Some, None, Result, Ok, Err, is_some, add-one}
+use Rattle.std.specs.Map.{set_value}
+use Rattle.std.proofs.lemmas.Cmp.{nat_eq_equiv}
+use Rattle.std.proofs.lemmas.Map.{lookup-set_value, length-set_value}
+use Rattle.pua_calls.specs.declared.rules.ExecPromises.{ExecPromises}
+use Rattle.pua_policy.specs.History.{after_exec}
+use Rattle.pua_policy.proofs.ForCallers.{state_after, state_more, state_by_exec, state_exec}
+use Rattle.pua_script.specs.declared.answer.Answer.TheVariants as answer
+use Rattle.pua_script.specs.Decide.{refusals, decide_by, decide_on}
+use Rattle.pua_script.specs.Replay.{answers_to, fork_effect}
+use Rattle.pua_script.specs.Worlds.{WorldsAnswerAlike, IsServed, AreServed, Does}
 use Rattle.pua_script.proofs.StoodFor.{nat_turned}
-use Rattle.pua_script.proofs.Histories.{Same, same_from_standing, same_more, same_after_exec, same_asker}
-use Rattle.pua_tree.proofs.ForCallers.{holds}
+use Rattle.pua_script.proofs.Histories.{asker_stands}
+use Rattle.pua_script.proofs.Serving.{serves, copies, fork_alike, gone}
 
--- effects that differ in the history they leave, for which one process stands
-data SameEffect : Effect → Effect → Type 0 where
-  fails : {errno : Errno} → SameEffect (Fails errno) (Fails errno)
-  kills : SameEffect Kills Kills
-  leaves : {t : Tree} {h k : History} → Same h k → SameEffect (Leaves t h) (Leaves t k)
-  copies : {new : ℕ} → SameEffect (Copies new) (Copies new)
+record Served (s : WorldState) (ask : Asked) : Type 0 where
+  answer : Answer
+  after : WorldState
+  is : IsServed s ask answer after
 
-module _ (h k : History) (a : Same h k) where
-  -- a decision rests on what a process keeps of its history
-  decide_alike : (table : CallTable) (t : Tree) (action : Action) → decide table t h action ≡ decide table t k action
-  decide_alike table t action = ap (λ asker. decide_by refusals table t asker action) (same_asker h k a)
+-- a request of a living process
+module _ (s : WorldState) (ask : Asked) (p : ProcessState) (there : process_at s ask.process ≡ Some p) (living : p.ended ≡ false) where
+  -- what it does, by each history for which the process stands
+  abbrev Gives : (World → History → Effect) → Type 0
+  Gives e = (w : World) (h : History) → StandsForWorld s w → StandsFor p h → effect s.table w h ask.action ≡ e w h
 
-  same_edited : (r s : Result (ℕ × Tree) TreeFault) → r ≡ s → SameEffect (edit_effect h r) (edit_effect k s)
-  same_edited r s e = subst (λ o. SameEffect (edit_effect h r) (edit_effect k o)) e (by r)
+  does : (told : Answer) (t : Tree) (q : ProcessState) (e : History → Effect) → Gives (λ w h. e h) →
+      ((h : History) → StandsFor p h → Does s.tree h (e h) told t q) → Served s ask
+  does told t q e gives done = record {
+    answer = told;
+    after = record { tree = t; table = s.table; processes = set_value (nat_eq ask.process) s.processes q };
+    is = serves s ask told t p q _ there living
+        (λ n. lookup-set_value nat_eq_equiv (nat_eq ask.process) (nat_eq_equiv.congr ask.process) n q s.processes (ap is_some there))
+        (length-set_value (nat_eq ask.process) s.processes q)
+        (λ w h stands own. subst (λ d. Does s.tree h d told t q) (sym (gives w h stands own)) (done h own));
+  }
+
+  fails : (errno : Errno) → Gives (λ w h. Fails errno) → Served s ask
+  fails errno gives = does (answer.Failed errno) s.tree p (λ h. Fails errno) gives
+      (λ h own. record { told = refl; left = refl; stands = own; alone = refl })
+
+  leaves : (t : Tree) (q : ProcessState) (g : History → History) → ((h : History) → StandsFor p h → StandsFor q (g h)) →
+      Gives (λ w h. Leaves t (g h)) → Served s ask
+  leaves t q g own gives = does Okay t q (λ h. Leaves t (g h)) gives
+      (λ h is. record { told = refl; left = refl; stands = own h is; alone = refl })
+
+  edited : (r : Result (ℕ × Tree) TreeFault) → Gives (λ w h. edit_effect h r) → Served s ask
+  edited (Ok made) gives = leaves made.1 p (λ h. h) (λ h own. own) gives
+  edited (Err fault) gives = fails _ gives
+
+  edited_to : (r : Result Tree TreeFault) → Gives (λ w h. edited_tree h r) → Served s ask
+  edited_to (Ok t) gives = leaves t p (λ h. h) (λ h own. own) gives
+  edited_to (Err fault) gives = fails _ gives
+
+  copied : (new : ℕ) (known many : Bool) → is_some (process_at s new) ≡ known → nat_le most_processes (length s.processes) ≡ many →
+      Gives (λ w h. fork_effect w h new) → Served s ask
+  copied new known many is full gives = by known many is (λ w h stands own. gives w h stands own
+      ∙ fork_alike s w stands h new (known || many) (λ i. sym is i || sym full i))
     where
-      by : (r : Result (ℕ × Tree) TreeFault) → SameEffect (edit_effect h r) (edit_effect k r)
-      by (Ok x) = leaves a
-      by (Err fault) = fails
-
-  same_edited_tree : (r s : Result Tree TreeFault) → r ≡ s → SameEffect (edited_tree h r) (edited_tree k s)
-  same_edited_tree r s e = subst (λ o. SameEffect (edited_tree h r) (edited_tree k o)) e (by r)
-    where
-      by : (r : Result Tree TreeFault) → SameEffect (edited_tree h r) (edited_tree k r)
-      by (Ok x) = leaves a
-      by (Err fault) = fails
-
-  same_left_as : (t u : Tree) (g l : History) → t ≡ u → Same g l → SameEffect (Leaves t g) (Leaves u l)
-  same_left_as t u g l e same = subst (λ o. SameEffect (Leaves t g) (Leaves o l)) e (leaves same)
-
--- what two worlds have at a number
-abbrev SameAt : Option History → Option History → Type 0
-SameAt None None = Unit {0}
-SameAt None (Some k) = ⊥
-SameAt (Some h) None = ⊥
-SameAt (Some h) (Some k) = Same h k
-
-record SameWorlds (v w : World) : Type 0 where
-  tree : v.tree ≡ w.tree
-  at : (n : ℕ) → SameAt (history_of v n) (history_of w n)
-  count : length v.histories ≡ length w.histories
-  first_order : IsTrue (is_sorted nat_cmp v.histories)
-  second_order : IsTrue (is_sorted nat_cmp w.histories)
-
-same_known : (o g : Option History) → SameAt o g → is_some o ≡ is_some g
-same_known None None at = refl
-same_known None (Some k) at = absurd at
-same_known (Some h) None at = absurd at
-same_known (Some h) (Some k) at = refl
-
-same_chosen : (b : Bool) (h k : History) (o g : Option History) → Same h k → SameAt o g → SameAt (cond b (Some h) o) (cond b (Some k) g)
-same_chosen true h k o g new old = new
-same_chosen false h k o g new old = old
-
-module _ (v w : World) (same : SameWorlds v w) where
-  same_put : (n : ℕ) (t u : Tree) (h k : History) → t ≡ u → Same h k
-      → SameWorlds (record { tree = t; histories = put nat_cmp n h v.histories })
-      (record { tree = u; histories = put nat_cmp n k w.histories })
-  same_put n t u h k trees histories =
-      let sorted_v = passes _ same.first_order in
-      let sorted_w = passes _ same.second_order in
-      let length_of : (x : World) → (g : History) → Type 0 =
-      λ x g. length (put nat_cmp n g x.histories) ≡ cond (is_some (history_of x n)) (length x.histories) (length x.histories + 1) in
-      let length_v : length_of v h = length-put nat_cmp nat_cmp_total n h v.histories sorted_v in
-      let length_w : length_of w k = length-put nat_cmp nat_cmp_total n k w.histories sorted_w in
-      record {
-        tree = trees;
-        at = λ q. subst (λ o. SameAt o (find_key nat_cmp q (put nat_cmp n k w.histories)))
-            (sym (find-put nat_cmp nat_cmp_total q n h v.histories))
-            (subst (SameAt (cond _ (Some h) (history_of v q))) (sym (find-put nat_cmp nat_cmp_total q n k w.histories))
-            (same_chosen _ h k _ _ histories (same.at q)));
-        count = length_v ∙ (λ i. cond (same_known _ _ (same.at n) i) (same.count i) (same.count i + 1)) ∙ sym length_w;
-        first_order = holds _ (is_sorted-put nat_cmp nat_cmp_total n h v.histories sorted_v);
-        second_order = holds _ (is_sorted-put nat_cmp nat_cmp_total n k w.histories sorted_w);
+      by : (known many : Bool) → is_some (process_at s new) ≡ known →
+          Gives (λ w h. cond (known || many) (Fails EAGAIN) (Copies new)) → Served s ask
+      by true many is gives = fails EAGAIN gives
+      by false true is gives = fails EAGAIN gives
+      by false false is gives = record {
+        answer = Okay;
+        after = record { tree = s.tree; table = s.table; processes = (new, p) ∷ s.processes };
+        is = copies s ask new p _ there living gives (λ n. ap (λ b. cond b (Some p) (process_at s n)) (nat_turned n new))
+            (sym (ap (λ b. cond b (length s.processes) (length s.processes + 1)) is ∙ add-one (length s.processes)));
       }
 
-  same_made : (h k : History) → Same h k → (c : Change) → SameEffect (change_effect v h c) (change_effect w k c)
-  same_made h k a NoChange = same_left_as h k a v.tree w.tree h k same.tree a
-  same_made h k a (AddNode spot node) = same_edited h k a _ _ (ap (λ t. add t spot.0 spot.1 node) same.tree)
-  same_made h k a (CutRow spot) = same_edited h k a _ _ (ap (λ t. cut t spot.0 spot.1) same.tree)
-  same_made h k a (ShiftRow old new) = same_edited_tree h k a _ _ (ap (λ t. shift t old.0 old.1 new.0 new.1) same.tree)
-  same_made h k a (TieRow spot x) = same_edited_tree h k a _ _ (ap (λ t. tie t spot.0 spot.1 x) same.tree)
-  same_made h k a (BeginProgram left) =
-      same_left_as h k a v.tree w.tree (after_exec left h) (after_exec left k) same.tree (same_after_exec left h k a)
-  same_made h k a (AddEvent event) = same_left_as h k a v.tree w.tree (event ∷ h) (event ∷ k) same.tree (same_more event h k a)
-  same_made h k a (CopyAs new) = subst (λ b. SameEffect (change_effect v h (CopyAs new)) (cond b (Fails EAGAIN) (Copies new)))
-      (λ i. same_known _ _ (same.at new) i || nat_le most_processes (same.count i))
-      (by (is_some (history_of v new) || nat_le most_processes (length v.histories)))
-    where
-      by : (full : Bool) → SameEffect (cond full (Fails EAGAIN) (Copies new)) (cond full (Fails EAGAIN) (Copies new))
-      by true = fails
-      by false = copies
+  after_event : (event : Event) (h : History) → StandsFor p h → StandsFor (state_after event p) (event ∷ h)
+  after_event event h own = stands_for _ _ (ap (state_after event) (keeps p h own) ∙ sym (state_more event h))
 
-  same_come : (h k : History) → Same h k → (d : Decision) → SameEffect (come_of v h d) (come_of w k d)
-  same_come h k a (Ok c) = same_made h k a c
-  same_come h k a (Err (Failed errno)) = fails
-  same_come h k a (Err Killed) = kills
+  exec_left : (left : ExecPromises) (h : History) → StandsFor p h → StandsFor (state_by_exec left p.execpromises p) (after_exec left h)
+  exec_left left h own = stands_for _ _ (ap (λ q. state_by_exec left q.execpromises q) (keeps p h own) ∙ sym (state_exec left h))
 
-  same_effect : (table : CallTable) (h k : History) → Same h k → (action : Action) →
-      SameEffect (effect table v h action) (effect table w k action)
-  same_effect table h k a action =
-      let d = decide table v.tree h action in
-      let alike : d ≡ decide table w.tree k action = ap (λ t. decide table t h action) same.tree ∙ decide_alike h k a table w.tree action in
-      subst (SameEffect (come_of v h d)) (ap (come_of w k) alike) (same_come h k a d)
+  made : (c : Change) → Gives (λ w h. change_effect (record { tree = s.tree; histories = w.histories }) h c) → Served s ask
+  made NoChange gives = leaves s.tree p (λ h. h) (λ h own. own) gives
+  made (AddNode spot node) gives = edited (add s.tree spot.0 spot.1 node) gives
+  made (CutRow spot) gives = edited (cut s.tree spot.0 spot.1) gives
+  made (ShiftRow old new) gives = edited_to (shift s.tree old.0 old.1 new.0 new.1) gives
+  made (TieRow spot x) gives = edited_to (tie s.tree spot.0 spot.1 x) gives
+  made (BeginProgram left) gives = leaves s.tree _ (after_exec left) (exec_left left) gives
+  made (AddEvent event) gives = leaves s.tree _ (λ h. event ∷ h) (after_event event) gives
+  made (CopyAs new) gives = copied new _ _ refl refl gives
 
-  abbrev SameDone : (Answer × World) → (Answer × World) → Type 0
-  SameDone c d = (c.0 ≡ d.0) × SameWorlds c.1 d.1
+  come : (d : Decision) → Gives (λ w h. come_of (record { tree = s.tree; histories = w.histories }) h d) → Served s ask
+  come (Ok c) gives = made c gives
+  come (Err (Failed errno)) gives = fails errno gives
+  come (Err Killed) gives = does answer.Killed s.tree (state_after Ended p) (λ h. Kills) gives
+      (λ h own. record { told = refl; left = refl; stands = after_event Ended h own; alone = refl })
 
-  same_left : (n : ℕ) (h k : History) → Same h k → (d e : Effect) → SameEffect d e → SameDone (answer_to d, left_by v n h d) (
-    answer_to e,
-    left_by w n k e,
-  )
-  same_left n h k a _ _ fails = (refl, same)
-  same_left n h k a _ _ kills = (refl, same_put n v.tree w.tree (Ended ∷ h) (Ended ∷ k) same.tree (same_more Ended h k a))
-  same_left n h k a _ _ (leaves {t = t} {h = g} {k = l} after) = (refl, same_put n t t g l refl after)
-  same_left n h k a _ _ (copies {new = new}) = (refl, same_put new v.tree w.tree h k same.tree a)
+  lives : Served s ask
+  lives = come (decide_on s.table s.tree p ask.action)
+      (λ w h stands own i. come_of (record { tree = sym stands.tree i; histories = w.histories }) h
+      (decide_by refusals s.table (sym stands.tree i) (sym (asker_stands p h own) i) ask.action))
 
-  same_gone_if : (b : Bool) (c d : Answer × World) → SameDone c d → SameDone (cond b (Gone, v) c) (cond b (Gone, w) d)
-  same_gone_if true c d done = (refl, same)
-  same_gone_if false c d done = done
-
-  same_served : (table : CallTable) (ask : Asked) (o g : Option History) → SameAt o g →
-      SameDone (answer_and_world table v ask o) (answer_and_world table w ask g)
-  same_served table ask None None at = (refl, same)
-  same_served table ask None (Some k) at = absurd at
-  same_served table ask (Some h) None at = absurd at
-  same_served table ask (Some h) (Some k) at =
-      let d = effect table v h ask.action in
-      let e = effect table w k ask.action in
-      subst (λ b. SameDone (cond b (Gone, v) (answer_to d, left_by v ask.process h d)) (answer_and_world table w ask (Some k)))
-      (ap (λ p. p.ended) (sym at))
-      (same_gone_if (is_ended k) _ _ (same_left ask.process h k at d e (same_effect table h k at ask.action)))
-
-  same_step : (table : CallTable) (ask : Asked) → SameDone (apply table v ask) (apply table w ask)
-  same_step table ask = same_served table ask _ _ (same.at ask.process)
-
-record SameEnd (table : CallTable) (v w : World) (asks : List Asked) : Type 0 where
-  told : answers_to table v asks ≡ answers_to table w asks
-  left : SameWorlds (world_after table v asks) (world_after table w asks)
-
-same_run : (table : CallTable) (asks : List Asked) (v w : World) → SameWorlds v w → SameEnd table v w asks
-same_run table [] v w same = record { told = refl; left = same }
-same_run table (ask ∷ asks) v w same =
-    let step = same_step v w same table ask in
-    let rest = same_run table asks (apply table v ask).1 (apply table w ask).1 step.1 in
-    record { told = λ i. step.0 i ∷ rest.told i; left = rest.left }
-
--- a world of processes that stand for the histories
-abbrev own_processes : List (ℕ × History) → List (ℕ × ProcessState)
-own_processes hs = map {B = ℕ × ProcessState} (λ e. (e.0, state_of e.1)) hs
-
-own_at : (q : ℕ) (hs : List (ℕ × History)) → lookup (nat_eq q) (own_processes hs) ≡ option_map state_of (find_key nat_cmp q hs)
-own_at q [] = refl
-own_at q (e ∷ hs) =
-    ap (cond (eqb q e.0) (Some (state_of e.1))) (own_at q hs)
-    ∙ chosen (eqb q e.0) (find_key nat_cmp q hs)
-    ∙ ap (λ b. option_map state_of (cond b (Some e.1) (find_key nat_cmp q hs))) (nat_turned q e.0 ∙ sym (nat_tie q e.0))
+serve : (s : WorldState) (ask : Asked) → Served s ask
+serve s ask = by (process_at s ask.process) refl
   where
-    chosen : (b : Bool) (o : Option History) →
-        cond b (Some (state_of e.1)) (option_map state_of o) ≡ option_map state_of (cond b (Some e.1) o)
-    chosen true o = refl
-    chosen false o = refl
+    known : (p : ProcessState) (b : Bool) → process_at s ask.process ≡ Some p → p.ended ≡ b → Served s ask
+    known p true there ended = record {
+      answer = Gone;
+      after = s;
+      is = gone s ask (λ q is. ap (λ (x : ProcessState). x.ended) (same_Some q p (sym is ∙ there)) ∙ ended);
+    }
+    known p false there living = lives s ask p there living
 
-own_count : (hs : List (ℕ × History)) → length (own_processes hs) ≡ length hs
-own_count [] = refl
-own_count (e ∷ hs) = ap (λ n. suc n) (own_count hs)
+    by : (o : Option ProcessState) → process_at s ask.process ≡ o → Served s ask
+    by None there = record { answer = Gone; after = s; is = gone s ask (λ p is. absurd (None≢Some p (sym there ∙ is))) }
+    by (Some p) there = known p p.ended there refl
 
-own_stands : (o g : Option History) → SameAt o g → StandsAt (option_map state_of o) g
-own_stands None None at = tt
-own_stands None (Some k) at = absurd at
-own_stands (Some h) None at = absurd at
-own_stands (Some h) (Some k) at = stands (state_of h) k at
-
-same_at_self : (o : Option History) → SameAt o o
-same_at_self None = tt
-same_at_self (Some h) = refl
-
-own_world : CallTable → World → WorldState
-own_world table v = record { tree = v.tree; table = table; processes = own_processes v.histories }
-
-own_stands_for : (table : CallTable) (v w : World) → v.tree ≡ w.tree → ((n : ℕ) → SameAt (history_of v n) (history_of w n)) →
-    length v.histories ≡ length w.histories → IsTrue (is_sorted nat_cmp w.histories) → StandsForWorld (own_world table v) w
-unfolding own_world
-own_stands_for table v w trees at counts sorted = record {
-  tree = trees;
-  processes = λ n. subst (λ o. StandsAt o (history_of w n)) (sym (own_at n v.histories)) (own_stands _ _ (at n));
-  count = own_count v.histories ∙ counts;
-  in_order = sorted;
-}
-
-stood_same : (o : Option ProcessState) (g l : Option History) → StandsAt o g → StandsAt o l → SameAt g l
-stood_same None None None a b = tt
-stood_same None None (Some k) a b = absurd b
-stood_same None (Some h) l a b = absurd a
-stood_same (Some p) None l a b = absurd a
-stood_same (Some p) (Some h) None a b = absurd b
-stood_same (Some p) (Some h) (Some k) a b = same_from_standing p h k a b
+serve_all : (asks : List Asked) (s : WorldState) → (told : List Answer) × (after : WorldState) × AreServed s asks told after
+serve_all [] s = ([], s, λ w stands. (refl, stands, refl))
+serve_all (ask ∷ asks) s =
+    let one = serve s ask in
+    let rest = serve_all asks one.after in (
+      one.answer ∷ rest.0,
+      rest.1,
+      λ w stands.
+          let first = one.is w stands in
+          let v = (apply s.table w ask).1 in
+          let more = subst (λ table. (rest.0 ≡ answers_to table v asks) × StandsForWorld rest.1 (world_after table v asks) ×
+          (rest.1.table ≡ table)) first.2 (rest.2 v first.1) in
+          (λ i. first.0 i ∷ more.0 i, more.1, more.2),
+    )
 
 pub worlds_answer_alike : WorldsAnswerAlike
 worlds_answer_alike s v w asks first second =
-    let same : SameWorlds v w = record {
-      tree = sym first.tree ∙ second.tree;
-      at = λ n. stood_same (process_at s n) _ _ (first.processes n) (second.processes n);
-      count = sym first.count ∙ second.count;
-      first_order = first.in_order;
-      second_order = second.in_order;
-    } in
-    let end = same_run s.table asks v w same in
-    let x = world_after s.table v asks in
-    let y = world_after s.table w asks in
-    record {
-      told = end.told;
-      left = (
-        own_world s.table x,
-        own_stands_for s.table x x refl (λ n. same_at_self _) refl end.left.first_order,
-        own_stands_for s.table x y end.left.tree end.left.at end.left.count end.left.second_order,
-      );
-    }
+    let all = serve_all asks s in
+    let one = all.2 v first in
+    let other = all.2 w second in
+    record { told = sym one.0 ∙ other.0; left = (all.1, one.1, other.1) }

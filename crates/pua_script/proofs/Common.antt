@@ -3,11 +3,9 @@ pub use Rattle.std.proofs.Common.{◌&&◌, ◌++◌, ◌+◌, ◌<◌, ◌||◌
 pub use Rattle.std.proofs.Common.{length, List, lit<, map, nat_eq, not, refl, rules, subst, suc, sym, take, true, zero, ℕ}
 pub use Rattle.std.proofs.lemmas.Bool.{and_from, and_parts, eq-eqb, eqb-true, false≢true, le-leb, lt-ltb, not-true, true≢false}
 pub use Rattle.std.proofs.lemmas.Option.{same_Some}
-pub use Rattle.std.specs.Bool.{passes}
 pub use Rattle.std.specs.Cmp.{nat_cmp_total}
-pub use Rattle.std.specs.FinMap.{is_sorted, nat_cmp-IsAntisymmetric, put}
+pub use Rattle.std.specs.FinMap.{nat_cmp-IsAntisymmetric, put}
 pub use Rattle.std.specs.List.{AllByRecursion, list_all, list_any}
-pub use Rattle.std.specs.Map.{lookup}
 pub use Rattle.std.specs.Ordering.{nat_cmp}
 pub use Rattle.std.specs.Prelude.{◌==◌, Err, filter, is_some, IsOk, IsTrue, nat_le, nat_lt, None, Ok, Option, option_map, Result, Some}
 pub use Rattle.std.specs.Str.Lines.{lines}
@@ -25,8 +23,9 @@ pub use Rattle.pua_path.specs.declared.found.Last.{Last}
 pub use Rattle.pua_path.specs.declared.text.Ending.{Ending}
 pub use Rattle.pua_path.specs.declared.text.Ending.TheVariants.{Dot, Dropped}
 pub use Rattle.pua_path.specs.declared.traced.TextFault.TheVariants.{LongComponent, LongText, NulInText}
+pub use Rattle.pua_policy.proofs.ForCallers.{keeps, stands}
 pub use Rattle.pua_policy.specs.History.{Ended, Event, has_error, held_set, History, is_ended, is_locked, Locked, may_any, Moved, Pledged}
-pub use Rattle.pua_policy.specs.History.{ProcessState, StandsFor, Unveiled, working_dir}
+pub use Rattle.pua_policy.specs.History.{ProcessState, StandsFor, state_of, Unveiled, working_dir}
 pub use Rattle.pua_policy.specs.Verdict.{cover, cover_fault, is_unveil, object_fault, object_named, object_of, or_fault, place_of}
 pub use Rattle.pua_policy.specs.declared.answer.Cover.{Cover}
 pub use Rattle.pua_policy.specs.declared.answer.Cover.TheVariants.{All}
@@ -34,7 +33,7 @@ pub use Rattle.pua_policy.specs.declared.answer.May.{May}
 pub use Rattle.pua_policy.specs.declared.answer.May.TheVariants.{Yes}
 pub use Rattle.pua_policy.specs.declared.answer.Refusal.{Refusal}
 pub use Rattle.pua_policy.specs.declared.answer.Refusal.TheVariants.{Failed, Killed}
-pub use Rattle.pua_tree.proofs.ForCallers.{nat_tie, None≢Some, put_elsewhere, put_here, sound_from}
+pub use Rattle.pua_tree.proofs.ForCallers.{None≢Some, put_elsewhere, put_here, sound_from}
 pub use Rattle.pua_tree.specs.Edits.{add, cut, cut_found, has_name_room, has_room, is_full_dir, is_full_dir_there, is_inside, is_same_node}
 pub use Rattle.pua_tree.specs.Edits.{shift, shift_found, tie, with_new, with_row, with_row_moved, without_row, without_unnamed}
 pub use Rattle.pua_tree.specs.Names.{has_byte, is_target}
@@ -57,7 +56,7 @@ pub use Rattle.pua_script.specs.Replay.{answer_and_world, answer_to, apply, chan
 pub use Rattle.pua_script.specs.Replay.{Effect, effect, Fails, history_of, Kills, Leaves, left_by, World, world_after}
 pub use Rattle.pua_script.specs.Requests.{Asked}
 pub use Rattle.pua_script.specs.Scripts.{request_of, request_of_fields}
-pub use Rattle.pua_script.specs.Worlds.{process_at, StandsAt, StandsForWorld, tree_left, WorldState}
+pub use Rattle.pua_script.specs.Worlds.{process_at, StandsForWorld, tree_left, WorldState}
 pub use Rattle.pua_script.specs.declared.answer.Answer.{Answer}
 pub use Rattle.pua_script.specs.declared.answer.Answer.TheVariants.{Gone, Okay}
 pub use Rattle.pua_script.specs.declared.fault.WorldFault.{WorldFault}

@@ -1,7 +1,7 @@
 -- What a process does, by the effect of what it asks for.
 use Rattle.pua_script.proofs.Common.{◌≡◌, sym, ap, subst, Tree, ProcessState, History, StandsFor, May, Refusal, Answer, WorldFault}
 use Rattle.pua_script.proofs.Common.{Decision, if_may, Effect}
-use Rattle.std.proofs.Common.{Some, Result, Ok, Err}
+use Rattle.std.proofs.Common.{Some, None, Result, Ok, Err}
 use Rattle.pua_policy.specs.Verdict.{refusal_of}
 use Rattle.pua_script.specs.Decide.{unless_refused}
 use Rattle.pua_script.specs.Worlds.{Does, Edits, Attempts, AttemptsEdit}
@@ -9,6 +9,10 @@ use Rattle.pua_script.specs.Worlds.{Does, Edits, Attempts, AttemptsEdit}
 -- where promises refuse, the decision is the refusal
 pub promises_refuse : (m : May) (refusal : Refusal) (d : Decision) → refusal_of m ≡ Some refusal → if_may m d ≡ Err refusal
 promises_refuse m refusal d is = ap (λ o. unless_refused o d) is
+
+-- where they do not, it is what stands behind them
+pub promises_allow : (m : May) (d : Decision) → refusal_of m ≡ None → if_may m d ≡ d
+promises_allow m d is = ap (λ o. unless_refused o d) is
 
 module _ (t u : Tree) (h : History) (a : Answer) (q : ProcessState) where
   -- by an equal effect

@@ -1,5 +1,7 @@
 -- What crates above cite of the proofs of this one, beside the definitions and the laws.
 
+-- what a process of a world stands for
+pub use Rattle.pua_script.proofs.StoodFor.{IsMade, is_made, none_made}
 -- what becomes of a family, and what it leaves of the tree
 pub use Rattle.pua_script.proofs.Families.{families_narrow}
 pub use Rattle.pua_script.proofs.Confined.{families_confine}

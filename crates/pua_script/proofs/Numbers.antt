@@ -1,7 +1,8 @@
 -- The keys of a world's processes, sorted, are the numbers of its histories.
 use Rattle.pua_script.proofs.Common.{◌≡◌, ℕ, Bool, true, false, ◌&&◌, ◌||◌, List, [], ◌∷◌, map, refl, sym, ap, subst, ◌∙◌, nat_eq, eqb}
-use Rattle.pua_script.proofs.Common.{list_any, AllByRecursion, nat_cmp, nat_cmp_total, is_sorted, nat_cmp-IsAntisymmetric, WorldState}
-use Rattle.pua_script.proofs.Common.{passes, nat_tie}
+use Rattle.pua_script.proofs.Common.{list_any, AllByRecursion, nat_cmp, nat_cmp_total, nat_cmp-IsAntisymmetric, WorldState}
+use Rattle.pua_tree.proofs.ForCallers.{nat_tie}
+use Rattle.std.specs.Bool.{passes}
 use Rattle.std.proofs.Common.{T, Option, Some, None, is_some}
 use Rattle.std.proofs.Common.{IsPermutation, true≢false}
 use Rattle.std.specs.Map.{keys_of}
@@ -9,7 +10,7 @@ use Rattle.std.specs.List.{IsDistinct}
 use Rattle.std.specs.List.Sorted.{IsSorted, IsStrictlySortedBy}
 use Rattle.std.specs.declared.cmp.Ordering.TheVariants.{Less}
 use Rattle.std.specs.Ordering.{is_lt, eq_by_cmp}
-use Rattle.std.specs.FinMap.{find}
+use Rattle.std.specs.FinMap.{is_sorted, find}
 use Rattle.std.specs.FinMap.Entries.{below_all, same_entries, is_some-find}
 use Rattle.std.proofs.lemmas.List.Sorted.{IsNonDecreasingBy-from_sort, list_any-IsPermutation}
 use Rattle.std.proofs.lemmas.Map.Keys.{IsDistinct-IsPermutation, IsStrictlyIncreasing-from_distinct, sorted_from_strictly_increasing}
@@ -90,7 +91,7 @@ numbers_are s sorted are w stands =
         ∙ tests_alike n sorted
         ∙ sym (list_any-IsPermutation (nat_eq n) (keys_of s.processes) sorted are.moved)
         ∙ sym (is_some-lookup (nat_eq n) s.processes)
-        ∙ same_numbers _ _ (stands.processes n)
+        ∙ same_numbers s w stands n
         ∙ is_some-find nat_cmp n w.histories
         ∙ ap (list_any (eq_by_cmp nat_cmp n)) (sym (marked_again w.histories))
         ∙ sym (is_some-find nat_cmp n (map (λ e. marked e.0) w.histories)))

@@ -1,8 +1,8 @@
 -- What a world's requests leave, by the worlds of the replay for which it stands.
-use Rattle.pua_script.proofs.Common.{◌≡◌, ℕ, ◌+◌, ◌<◌, List, [], ◌∷◌, ◌++◌, length, take, refl, sym, ap, subst, ◌∙◌, lit<, Option, Some}
-use Rattle.pua_script.proofs.Common.{None, Result, Ok, Err, WellFormed, PairRule, CallTable, rule_of, Call, History, ProcessState, Asked}
-use Rattle.pua_script.proofs.Common.{World, apply, world_after, WorldState, StandsAt, StandsForWorld, process_at, HasHistoryOf}
-use Rattle.pua_script.proofs.Common.{UncoveredStay, AreDone, Answer}
+use Rattle.pua_script.proofs.Common.{◌≡◌, ℕ, ◌+◌, ◌<◌, List, [], ◌∷◌, ◌++◌, length, take, refl, sym, ap, subst, ◌∙◌, lit<, option_map}
+use Rattle.pua_script.proofs.Common.{Result, Ok, Err, WellFormed, PairRule, CallTable, rule_of, Call, History, Asked}
+use Rattle.pua_script.proofs.Common.{World, apply, world_after, WorldState, StandsForWorld, HasHistoryOf}
+use Rattle.pua_script.proofs.Common.{UncoveredStay, AreDone, Answer, state_of, stands as stands_for}
 use Rattle.std.proofs.Common.{get_or, add-one}
 use Rattle.std.proofs.Math.Seq.{take-suc}
 use Rattle.std.specs.Prelude.{IfOk, OnErr, MatchResult}
@@ -118,11 +118,13 @@ read_tables_narrow = record {
 -- what has a history has a process that stands for it
 has_process : (s : WorldState) (w : World) (n : ℕ) (IsSo : History → Type 0) → StandsForWorld s w → HasHistoryOf w n IsSo →
     HasProcessOf s n IsSo
-has_process s w n IsSo stands has = by (process_at s n) refl (subst (StandsAt (process_at s n)) has.1 (stands.processes n))
-  where
-    by : (o : Option ProcessState) → process_at s n ≡ o → StandsAt o (Some has.0) → HasProcessOf s n IsSo
-    by None is at = absurd at
-    by (Some p) is at = record { kept = p; here = is; history = has.0; stands = at; so = has.2 }
+has_process s w n IsSo stands has = record {
+  kept = state_of has.0;
+  here = stands.processes n ∙ ap (option_map state_of) has.1;
+  history = has.0;
+  stands = stands_for (state_of has.0) has.0 refl;
+  so = has.2;
+}
 
 pub is_narrowing : (before : WorldState) (ask : Asked) (answer : Answer) (after : WorldState) → IsServed before ask answer after →
     IsNarrowing before ask after

@@ -1,17 +1,44 @@
 -- One request of the replay, from what the process that asks did.
 use Rattle.pua_script.proofs.Common.{◌≡◌, ℕ, ◌+◌, [], ◌∷◌, ◌++◌, ◌||◌, nat_eq, List, length, Bool, true, false, cond, refl, sym, ap, subst}
-use Rattle.pua_script.proofs.Common.{◌∙◌, eqb-true, nat_le, lookup, Tree, CallTable, proc, History, ProcessState, StandsFor, Ended}
-use Rattle.pua_script.proofs.Common.{is_ended, may_any, EAGAIN, Asked, Answer, WorldFault, Okay, Gone, Action, Fork, CopyAs, if_may, World}
-use Rattle.pua_script.proofs.Common.{Effect, come_of, Fails, Kills, Leaves, Copies, history_of, effect, answer_to, left_by}
-use Rattle.pua_script.proofs.Common.{answer_and_world, apply, world_after, most_processes, WorldState, StandsAt, StandsForWorld, process_at}
+use Rattle.pua_script.proofs.Common.{◌∙◌, eqb-true, nat_le, Tree, CallTable, proc, History, ProcessState, StandsFor, Ended}
+use Rattle.pua_script.proofs.Common.{may_any, EAGAIN, Asked, Answer, WorldFault, Okay, Gone, Action, Fork, CopyAs, if_may, World, arith}
+use Rattle.pua_script.proofs.Common.{Effect, come_of, Fails, Kills, Leaves, Copies, history_of, effect, answer_to, left_by, option_map}
+use Rattle.pua_script.proofs.Common.{answer_and_world, apply, world_after, most_processes, WorldState, StandsForWorld, process_at, put}
+use Rattle.pua_script.proofs.Common.{keeps, nat_cmp, state_of}
 use Rattle.std.proofs.Common.{Result, Ok, Err, IfOk, OnErr}
 use Rattle.std.proofs.Common.{Option, Some, None, is_some, true≢false}
-use Rattle.std.specs.Map.{set_value}
+use Rattle.std.specs.Map.{lookup, set_value}
 use Rattle.std.proofs.lemmas.Map.Steps.{set_value_same}
 use Rattle.pua_policy.specs.declared.answer.May.TheVariants as may
-use Rattle.pua_script.specs.Worlds.{HasReplay, IsOkay, IsServed, AreServed, Does, Acts}
+use Rattle.pua_script.specs.Replay.{fork_effect}
+use Rattle.pua_script.specs.Worlds.{HasReplay, IsOkay, IsServed, AreServed, Does, Acts, state_at}
 use Rattle.pua_script.proofs.Composition.{replay_composes}
-use Rattle.pua_script.proofs.StoodFor.{same_numbers, stands_changed, stands_made}
+use Rattle.pua_script.proofs.StoodFor.{same_numbers, stands_put, is_made}
+
+-- a living process of a world that stands for one of the replay has a history there, by which its request is answered
+pub lives : (s : WorldState) (w : World) (ask : Asked) (p : ProcessState) → StandsForWorld s w → process_at s ask.process ≡ Some p →
+    p.ended ≡ false
+    → (h : History) × (history_of w ask.process ≡ Some h) × StandsFor p h ×
+    (apply s.table w ask ≡ (answer_to (effect s.table w h ask.action), left_by w ask.process h (effect s.table w h ask.action)))
+lives s w ask p stands there living =
+    let made = is_made p (history_of w ask.process) (sym there ∙ stands.processes ask.process) in
+    let e = effect s.table w made.history ask.action in (
+      made.history,
+      made.is,
+      made.stands,
+      ap (answer_and_world s.table w ask) made.is
+          ∙ ap (λ b. cond b (Gone, w) (answer_to e, left_by w ask.process made.history e)) (sym made.stands.ended ∙ living),
+    )
+
+-- what is answered by no living process
+pub gone : (s : WorldState) (ask : Asked) → ((p : ProcessState) → process_at s ask.process ≡ Some p → p.ended ≡ true) →
+    IsServed s ask Gone s
+gone s ask ended w stands = by (history_of w ask.process) (stands.processes ask.process)
+  where
+    by : (g : Option History) → process_at s ask.process ≡ option_map state_of g
+        → (Gone ≡ (answer_and_world s.table w ask g).0) × StandsForWorld s (answer_and_world s.table w ask g).1 × (s.table ≡ s.table)
+    by None at = (refl, stands, refl)
+    by (Some h) at = rw (ended (state_of h) at) (refl, stands, refl)
 
 -- what a process did is its request of the replay
 module _ (s : WorldState) (ask : Asked) (answer : Answer) (t : Tree) (p q : ProcessState) (more : List (ℕ × ProcessState))
@@ -23,127 +50,85 @@ module _ (s : WorldState) (ask : Asked) (answer : Answer) (t : Tree) (p q : Proc
   left_world = record { tree = t; table = s.table; processes = more }
 
   module _ (w : World) (stands : StandsForWorld s w) (h : History) (known : history_of w ask.process ≡ Some h) where
+    with_own : (u : Tree) (g : History) → t ≡ u → StandsFor q g →
+        StandsForWorld left_world (record { tree = u; histories = put nat_cmp ask.process g w.histories })
+    with_own u g trees own = stands_put s w stands ask.process t u trees q g own more changed
+        (counted ∙ sym (ap (λ o. cond (is_some o) (length s.processes) (length s.processes + 1)) there))
+
     -- the caller's history stays as it was
-    stays : (tree : Tree) → t ≡ tree → StandsFor q h → StandsForWorld left_world (record { tree = tree; histories = w.histories })
-    stays tree is new = record {
-      tree = is;
-      processes = λ n. subst (λ o. StandsAt o (history_of w n)) (sym (changed n)) (at n (nat_eq ask.process n) refl);
-      count = counted ∙ stands.count;
-      in_order = stands.in_order;
-    }
-      where
-        at : (n : ℕ) (b : Bool) → nat_eq ask.process n ≡ b → StandsAt (cond b (Some q) (process_at s n)) (history_of w n)
-        at n true e = subst (λ k. StandsAt (Some q) (history_of w k)) (eqb-true ask.process n e) (subst (StandsAt (Some q)) (sym known) new)
-        at n false e = stands.processes n
+    same_own : StandsFor q h → (n : ℕ) (b : Bool) → nat_eq ask.process n ≡ b →
+        cond b (Some q) (process_at s n) ≡ state_at w n
+    same_own own n true e =
+        ap Some (keeps q h own) ∙ ap (option_map state_of) (sym known) ∙ ap (state_at w) (eqb-true ask.process n e)
+    same_own own n false e = stands.processes n
 
     left : (e : Effect) → Does s.tree h e answer t q → (answer ≡ answer_to e) × StandsForWorld left_world (left_by w ask.process h e)
-    left (Fails errno) does = (does.told, stays w.tree (does.left ∙ stands.tree) does.stands)
-    left Kills does = (
+    left (Fails errno) does = (
       does.told,
-      subst (λ x. StandsForWorld (record { tree = x; table = s.table; processes = more }) (left_by w ask.process h Kills)) (sym (does.left ∙
-          stands.tree))
-          (stands_changed s w stands ask.process w.tree q (Ended ∷ h) more does.stands changed (ap is_some known) counted),
+      record {
+        tree = does.left ∙ stands.tree;
+        processes = λ n. changed n ∙ same_own does.stands n (nat_eq ask.process n) refl;
+        count = counted ∙ stands.count;
+        in_order = stands.in_order;
+      },
     )
-    left (Leaves tree g) does = (
-      does.told,
-      subst (λ x. StandsForWorld (record { tree = x; table = s.table; processes = more }) (left_by w ask.process h (Leaves tree g)))
-          (sym does.left)
-          (stands_changed s w stands ask.process tree q g more does.stands changed (ap is_some known) counted),
-    )
+    left Kills does = (does.told, with_own w.tree (Ended ∷ h) (does.left ∙ stands.tree) does.stands)
+    left (Leaves tree g) does = (does.told, with_own tree g does.left does.stands)
     left (Copies new) does = absurd (true≢false does.alone)
 
   pub serves : IsServed s ask answer left_world
-  serves w stands = by (history_of w ask.process) refl (stands.processes ask.process)
-    where
-      lives : (h : History) (b : Bool) (d : Answer × World) → b ≡ false → (answer ≡ d.0) × StandsForWorld left_world d.1 →
-          (answer ≡ (cond b (Gone, w) d).0) × StandsForWorld left_world (cond b (Gone, w) d).1 × (s.table ≡ s.table)
-      lives h true d e done = absurd (true≢false e)
-      lives h false d e done = (done.0, done.1, refl)
-
-      by : (g : Option History) → history_of w ask.process ≡ g → StandsAt (process_at s ask.process) g →
-          (answer ≡ (answer_and_world s.table w ask g).0) × StandsForWorld left_world (answer_and_world s.table w ask g).1 ×
-          (s.table ≡ s.table)
-      by None known at = absurd (subst (λ o. StandsAt o None) there at)
-      by (Some h) known at =
-          let own : StandsFor p h = subst (λ o. StandsAt o (Some h)) there at in
-          lives h (is_ended h) _ (sym own.ended ∙ living) (left w stands h known (effect s.table w h ask.action) (acts w h stands own))
+  serves w stands =
+      let own = lives s w ask p stands there living in
+      let done = left w stands own.0 own.1 _ (acts w own.0 stands own.2) in
+      subst (λ d. (answer ≡ d.0) × StandsForWorld left_world d.1 × (s.table ≡ s.table)) (sym own.3) (done.0, done.1, refl)
 
 -- a living process that would be told `ok` is answered so
-module _ (s : WorldState) (ask : Asked) (p : ProcessState) (there : process_at s ask.process ≡ Some p) (living : p.ended ≡ false)
-    (okay : (w : World) (h : History) → StandsForWorld s w → StandsFor p h → answer_to (effect s.table w h ask.action) ≡ Okay) where
-  pub is_okay : IsOkay s ask
-  is_okay w stands = by (history_of w ask.process) (stands.processes ask.process)
-    where
-      lives : (b : Bool) (d : Answer × World) → b ≡ false → d.0 ≡ Okay → (cond b (Gone, w) d).0 ≡ Okay
-      lives true d e done = absurd (true≢false e)
-      lives false d e done = done
-
-      by : (g : Option History) → StandsAt (process_at s ask.process) g → (answer_and_world s.table w ask g).0 ≡ Okay
-      by None at = absurd (subst (λ o. StandsAt o None) there at)
-      by (Some h) at =
-          let own : StandsFor p h = subst (λ o. StandsAt o (Some h)) there at in
-          lives (is_ended h) _ (sym own.ended ∙ living) (okay w h stands own)
+pub is_okay : (s : WorldState) (ask : Asked) (p : ProcessState) → process_at s ask.process ≡ Some p → p.ended ≡ false
+    → ((w : World) (h : History) → StandsForWorld s w → StandsFor p h → answer_to (effect s.table w h ask.action) ≡ Okay) →
+    IsOkay s ask
+is_okay s ask p there living okay w stands =
+    let own = lives s w ask p stands there living in ap (λ d. d.0) own.3 ∙ okay w own.0 stands own.2
 
 -- a fork whose promise is held fails where the world has the number, or the most processes
-pub fork_alike : (s : WorldState) (w : World) → StandsForWorld s w → (h : History) (new : ℕ) (b : Bool) → may_any h (proc ∷ []) ≡ may.Yes →
+pub fork_alike : (s : WorldState) (w : World) → StandsForWorld s w → (h : History) (new : ℕ) (b : Bool) →
     b ≡ (is_some (process_at s new) || nat_le most_processes (length s.processes))
-    → effect s.table w h (Fork new) ≡ cond b (Fails EAGAIN) (Copies new)
-fork_alike s w stands h new b may is =
-    ap (λ m. come_of w h (if_may m (Ok (CopyAs new)))) may
-    ∙ (λ i. cond (sym (is ∙ (λ j. same_numbers _ _ (stands.processes new) j || nat_le most_processes (stands.count j))) i) (Fails EAGAIN)
-    (Copies new))
+    → fork_effect w h new ≡ cond b (Fails EAGAIN) (Copies new)
+fork_alike s w stands h new b is =
+    λ i. cond (sym (is ∙ (λ j. same_numbers s w stands new j || nat_le most_processes (stands.count j))) i) (Fails EAGAIN) (Copies new)
 
-unset : (b c : Bool) → (b || c) ≡ false → b ≡ false
-unset true c is = is
-unset false c is = refl
+-- a process is copied, and there is no more than its copy
+pub copies : (s : WorldState) (ask : Asked) (new : ℕ) (p : ProcessState) (more : List (ℕ × ProcessState)) →
+    process_at s ask.process ≡ Some p → p.ended ≡ false
+    → ((w : World) (h : History) → StandsForWorld s w → StandsFor p h → effect s.table w h ask.action ≡ Copies new)
+    → ((n : ℕ) → lookup (nat_eq n) more ≡ cond (nat_eq new n) (Some p) (process_at s n))
+    → length more ≡ cond (is_some (process_at s new)) (length s.processes) (length s.processes + 1) →
+    IsServed s ask Okay (record { tree = s.tree; table = s.table; processes = more })
+copies s ask new p more there living forked changed counted w stands =
+    let own = lives s w ask p stands there living in
+    let after : WorldState = record { tree = s.tree; table = s.table; processes = more } in
+    subst (λ d. (Okay ≡ d.0) × StandsForWorld after d.1 × (s.table ≡ s.table))
+    (sym (own.3 ∙ ap (λ e. (answer_to e, left_by w ask.process own.0 e)) (forked w own.0 stands own.2)))
+    (refl, stands_put s w stands new s.tree w.tree stands.tree p own.0 own.2 more changed counted, refl)
+
+counts : (b : Bool) (n : ℕ) → n + cond b 0 1 ≡ cond b n (n + 1)
+counts true n = omega arith
+counts false n = refl
 
 -- a process that may fork, and the processes with its copy
-module _ (s : WorldState) (number new : ℕ) (p copy : ProcessState) (mid more : List (ℕ × ProcessState)) (old : Option ProcessState)
-    (there : process_at s number ≡ Some p) (living : p.ended ≡ false)
-    (may_fork : (h : History) → StandsFor p h → may_any h (proc ∷ []) ≡ may.Yes)
-    (free : (is_some (process_at s new) || nat_le most_processes (length s.processes)) ≡ false)
-    (copied : copy ≡ p) (same : mid ≡ s.processes) (puts : (n : ℕ) →
-    lookup (nat_eq n) more ≡ cond (nat_eq new n) (Some copy) (lookup (nat_eq n) mid))
-    (was : old ≡ lookup (nat_eq new) mid) (counted : length more ≡ length mid + cond (is_some old) 0 1) where
-  copied_at : (n : ℕ) → lookup (nat_eq n) more ≡ cond (nat_eq new n) (Some p) (process_at s n)
-  copied_at n = puts n ∙ (λ i. cond (nat_eq new n) (Some (copied i)) (lookup (nat_eq n) (same i)))
-
-  is_new : is_some (process_at s new) ≡ false
-  is_new = unset _ _ free
-
-  one_more : length more ≡ length s.processes + 1
-  one_more = counted ∙ (λ i. length (same i) + cond ((ap is_some (was ∙ ap (lookup (nat_eq new)) same) ∙ is_new) i) 0 1)
-
-  pub forks : IsServed s (record { process = number; action = Fork new }) Okay (record { tree = s.tree; table = s.table; processes = more })
-  forks w stands = by (history_of w number) (stands.processes number)
-    where
-      copies : (h : History) (b : Bool) (e : Effect) → b ≡ false → e ≡ Copies new → StandsFor p h
-          → (Okay ≡ (cond {A = Answer × World} b (Gone, w) (answer_to e, left_by w number h e)).0) ×
-          StandsForWorld (record { tree = s.tree; table = s.table; processes = more }) (cond {A = Answer × World} b (
-            Gone,
-            w,
-          ) (answer_to e, left_by w number h e)).1 × (s.table ≡ s.table)
-      copies h true e ended is own = absurd (true≢false ended)
-      copies h false e living is own =
-          subst (λ e. (Okay ≡ answer_to e) × StandsForWorld (record { tree = s.tree; table = s.table; processes = more })
-          (left_by w number h e) × (s.table ≡ s.table)) (sym is) (
-            refl,
-            subst (λ t. StandsForWorld (record { tree = t; table = s.table; processes = more }) (left_by w number h (Copies new)))
-                (sym stands.tree)
-                (stands_made s w stands new w.tree p h more own copied_at (sym (same_numbers _ _ (stands.processes new)) ∙
-                is_new) one_more),
-            refl,
-          )
-
-      by : (g : Option History) → StandsAt (process_at s number) g
-          → (Okay ≡ (answer_and_world s.table w (record { process = number; action = Fork new }) g).0) ×
-          StandsForWorld (record { tree = s.tree; table = s.table; processes = more })
-          (answer_and_world s.table w (record { process = number; action = Fork new }) g).1 × (s.table ≡ s.table)
-      by None at = absurd (subst (λ o. StandsAt o None) there at)
-      by (Some h) at =
-          let own : StandsFor p h = subst (λ o. StandsAt o (Some h)) there at in
-          copies h (is_ended h) (effect s.table w h (Fork new)) (sym own.ended ∙ living)
-          (fork_alike s w stands h new false (may_fork h own) (sym free)) own
+pub forks : (s : WorldState) (number new : ℕ) (p copy : ProcessState) (mid more : List (ℕ × ProcessState)) (old : Option ProcessState) →
+    process_at s number ≡ Some p → p.ended ≡ false
+    → ((h : History) → StandsFor p h → may_any h (proc ∷ []) ≡ may.Yes)
+    → (is_some (process_at s new) || nat_le most_processes (length s.processes)) ≡ false
+    → copy ≡ p → mid ≡ s.processes
+    → ((n : ℕ) → lookup (nat_eq n) more ≡ cond (nat_eq new n) (Some copy) (lookup (nat_eq n) mid))
+    → old ≡ lookup (nat_eq new) mid → length more ≡ length mid + cond (is_some old) 0 1
+    → IsServed s (record { process = number; action = Fork new }) Okay (record { tree = s.tree; table = s.table; processes = more })
+forks s number new p copy mid more old there living may_fork free copied same puts was counted =
+    copies s (record { process = number; action = Fork new }) new p more there living
+    (λ w h stands own. ap (λ m. come_of w h (if_may m (Ok (CopyAs new)))) (may_fork h own) ∙ fork_alike s w stands h new false (sym free))
+    (λ n. puts n ∙ (λ i. cond (nat_eq new n) (Some (copied i)) (lookup (nat_eq n) (same i))))
+    (counted ∙ (λ i. length (same i) + cond (is_some ((was ∙ ap (lookup (nat_eq new)) same) i)) 0 1)
+    ∙ counts (is_some (process_at s new)) (length s.processes))
 
 -- one request more
 pub served_more : (before mid after : WorldState) (asks : List Asked) (told : List Answer) (ask : Asked) (answer : Answer) →

@@ -1,11 +1,11 @@
 -- What a world keeps, and for which worlds of the replay it stands.
-use Rattle.std.specs.Prelude.{◌≡◌, ℕ, Bool, true, false, List, ◌∷◌, length, map, nat_eq, Option, Some, None, Result, Ok, Err, IsTrue}
+use Rattle.std.specs.Prelude.{◌≡◌, ℕ, Bool, true, false, List, ◌∷◌, length, map, nat_eq, Option, option_map, Result, Ok, Err, IsTrue}
 use Rattle.std.specs.Ordering.{nat_cmp}
 use Rattle.std.specs.FinMap.{is_sorted}
 use Rattle.std.specs.Map.{lookup}
 use Rattle.pua_tree.specs.Tree.{Tree}
 use Rattle.pua_calls.specs.Calls.{CallTable}
-use Rattle.pua_policy.specs.History.{History, ProcessState, StandsFor}
+use Rattle.pua_policy.specs.History.{History, ProcessState, StandsFor, state_of}
 use Rattle.pua_script.specs.Requests.{Asked}
 use Rattle.pua_script.specs.Replay.{World, Effect, Kills, Leaves, Copies, history_of, apply, effect, answers_to, world_after, answer_to}
 use Rattle.pua_policy.specs.History.{Ended}
@@ -24,17 +24,14 @@ pub record WorldState : Type 0 where
 abbrev pub process_at : WorldState → ℕ → Option ProcessState
 process_at s process = lookup (nat_eq process) s.processes
 
--- the number was never made, or its process stands for its history
-abbrev pub StandsAt : Option ProcessState → Option History → Type 0
-StandsAt None None = Unit {0}
-StandsAt None (Some h) = ⊥
-StandsAt (Some process) None = ⊥
-StandsAt (Some process) (Some h) = StandsFor process h
+-- what is left of the history at a number, if it was made
+abbrev pub state_at : World → ℕ → Option ProcessState
+state_at w process = option_map state_of (history_of w process)
 
--- the same tree and the same numbers, and each process stands for its history
+-- the same tree and the same numbers, and at each what is left of its history
 pub record StandsForWorld (s : WorldState) (w : World) : Type 0 where
   pub tree : s.tree ≡ w.tree
-  pub processes : (process : ℕ) → StandsAt (process_at s process) (history_of w process)
+  pub processes : (process : ℕ) → process_at s process ≡ state_at w process
   pub count : length s.processes ≡ length w.histories
   pub in_order : IsTrue (is_sorted nat_cmp w.histories)
 
@@ -60,9 +57,9 @@ AreServed before asks answers after =
     (w : World) → StandsForWorld before w →
     (answers ≡ answers_to before.table w asks) × StandsForWorld after (world_after before.table w asks) × (after.table ≡ before.table)
 
--- what the world keeps at a number stands for the history at that number, in each world for which it stands
+-- what is left of the history at a number, in each world for which it stands
 abbrev pub IsProcessOf : WorldState → ℕ → Option ProcessState → Type 0
-IsProcessOf s process kept = (w : World) → StandsForWorld s w → StandsAt kept (history_of w process)
+IsProcessOf s process kept = (w : World) → StandsForWorld s w → kept ≡ state_at w process
 
 -- the numbers of all processes ever made, each above the one before it, in each world for which it stands
 abbrev pub AreNumbersOf : WorldState → List ℕ → Type 0

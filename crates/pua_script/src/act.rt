@@ -17,13 +17,16 @@ use crate::answer::Answer;
 use crate::fault::WorldFault;
 use crate::granted::{Granted, make};
 use crate::judged::{
-    grant_call, grant_symlink, grant_unveil, judge_call, judge_symlink, judge_unveil,
+    grant_call, grant_symlink, grant_unveil, judge_letters, judge_object, judge_target, veil_named,
 };
-use crate::link::{grant_link, judge_link};
+use crate::link::grant_link;
+use crate::pair::{covered, promised_pair, side_named};
 use crate::process::{decide_lock, decide_pledge, refuse};
-use crate::rename::{grant_rename, judge_rename};
+use crate::rename::grant_rename;
 use crate::request::Action;
 use pua_calls::{Call, CallTable, Perms};
+use pua_path::Ending;
+use pua_policy::judge::promised_for;
 use pua_policy::{Process, Refusal};
 use pua_tree::FileTree;
 
@@ -74,8 +77,13 @@ fn call_on<T: FileTree>(
     ensures unchanged { OnErr result
         ((T.content tree.new ≡ T.content tree.old) × (process.new ≡ process.old)) }
 {
-    let object = judge_call(tree, table, process, call, path);
-    answer(tree, process, &grant_call(table, call, &object))
+    match promised_for(process, table, call) {
+        Ok(()) => {
+            let object = judge_object(tree, table, process, call, path);
+            answer(tree, process, &grant_call(table, call, &object))
+        }
+        Err(refusal) => answer(tree, process, &Err(refusal)),
+    }
 }
 
 /// Makes a link with this target.
@@ -91,8 +99,12 @@ fn symlink<T: FileTree>(
     ensures unchanged { OnErr result
         ((T.content tree.new ≡ T.content tree.old) × (process.new ≡ process.old)) }
 {
-    let judged = judge_symlink(tree, table, process, target, path);
-    answer(tree, process, &grant_symlink(&judged))
+    let target = match judge_target(table, process, target) {
+        Ok(target) => target,
+        Err(refusal) => return answer(tree, process, &Err(refusal)),
+    };
+    let object = judge_object(tree, table, process, Call::Symlink, path);
+    answer(tree, process, &grant_symlink(&target, &object))
 }
 
 /// Renames what the old path names.
@@ -108,12 +120,22 @@ fn rename<T: FileTree>(
     ensures unchanged { OnErr result
         ((T.content tree.new ≡ T.content tree.old) × (process.new ≡ process.old)) }
 {
-    let pair = judge_rename(tree, table, process, old, new);
-    let granted = grant_rename(tree, &pair);
-    answer(tree, process, &granted)
+    let need = table.rename();
+    match promised_pair(process, need) {
+        Ok(()) => {
+            let ending = Ending::Dropped;
+            let from = side_named(tree, process, need.old_name(), ending, old);
+            let to = side_named(tree, process, need.new_name(), ending, new);
+            let pair = covered(tree, process, need, &from, &to);
+            let granted = grant_rename(tree, &pair);
+            answer(tree, process, &granted)
+        }
+        Err(refusal) => answer(tree, process, &Err(refusal)),
+    }
 }
 
-/// Gives what the old path names a further name.
+/// Gives what the old path names a further name. By the standard table a symbolic link at the old
+/// path's end gets the name itself (this profile).
 fn link<T: FileTree>(
     tree: &mut T,
     table: &CallTable,
@@ -126,8 +148,17 @@ fn link<T: FileTree>(
     ensures unchanged { OnErr result
         ((T.content tree.new ≡ T.content tree.old) × (process.new ≡ process.old)) }
 {
-    let pair = judge_link(tree, table, process, old, new);
-    answer(tree, process, &grant_link(&pair))
+    let need = table.link();
+    match promised_pair(process, need) {
+        Ok(()) => {
+            let ending = Ending::Dot;
+            let from = side_named(tree, process, need.old_name(), ending, old);
+            let to = side_named(tree, process, need.new_name(), ending, new);
+            let pair = covered(tree, process, need, &from, &to);
+            answer(tree, process, &grant_link(&pair))
+        }
+        Err(refusal) => answer(tree, process, &Err(refusal)),
+    }
 }
 
 /// Puts a veil on what a path names.
@@ -143,8 +174,13 @@ fn unveil<T: FileTree>(
     ensures unchanged { OnErr result
         ((T.content tree.new ≡ T.content tree.old) × (process.new ≡ process.old)) }
 {
-    let veil = judge_unveil(tree, process, path, perms);
-    answer(tree, process, &grant_unveil(&veil))
+    match judge_letters(process, perms) {
+        Ok(perms) => {
+            let object = veil_named(tree, process, path);
+            answer(tree, process, &grant_unveil(&object, perms))
+        }
+        Err(refusal) => answer(tree, process, &Err(refusal)),
+    }
 }
 
 /// Does what was granted, or what a refusal leaves to do.

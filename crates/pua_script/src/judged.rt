@@ -1,12 +1,19 @@
 //! What paths name to a process, and what requests on one path are to change.
 
-ghost use Rattle.std.specs.Prelude.{◌≡◌, Ok, IfOk};
+ghost use Rattle.std.specs.Prelude.{◌≡◌, ℕ, List, Some, Ok, IfOk};
+ghost use Rattle.pua_tree.specs.Tree.{Tree};
+ghost use Rattle.pua_path.specs.Paths.{path_fault};
 ghost use Rattle.pua_path.specs.Resolution.{resolution_of_text};
 ghost use Rattle.pua_path.specs.declared.found.Found as founds;
+ghost use Rattle.pua_path.specs.declared.found.Last.TheVariants.{Followed};
+ghost use Rattle.pua_path.specs.declared.text.Ending.TheVariants.{Dot};
+ghost use Rattle.pua_calls.specs.Calls.{rule_of};
+ghost use Rattle.pua_calls.specs.declared.call.Call.TheVariants.{Symlink};
+ghost use Rattle.pua_policy.specs.History.{may_any_on};
 ghost use Rattle.pua_policy.specs.Verdict.{place_of};
 ghost use Rattle.pua_script.specs.Decide.{Asking, Decision, adding, asker_on, change_by};
-ghost use Rattle.pua_script.specs.Decide.{decide_call, decide_object, decide_symlink};
-ghost use Rattle.pua_script.specs.Decide.{decide_unveil, going, link_node, removing, veiling};
+ghost use Rattle.pua_script.specs.Decide.{decide_object, decide_unveil, decide_veil, going, if_may};
+ghost use Rattle.pua_script.specs.Decide.{if_named, link_node, removing, unless_fault, veiling};
 ghost use Rattle.pua_script.specs.Judged.{NameFits, decision_for, decision_by};
 ghost use Rattle.pua_script.specs.Judged.{node_made, on_judged};
 
@@ -38,58 +45,40 @@ pub(crate) fn named<'t, P: Probe<'t>>(
 }
 
 /// What the path of a call names, whose promises are held: where the veils leave enough of it, and
-/// it is of a kind that the call is for.
-fn judge_object<T: FileTree>(
+/// it is of a kind that the call is for. What was found is some 280 bytes, so it stays where it is
+/// once it is found, and what is wrong with it is told as an errno beside it.
+pub(crate) fn judge_object<T: FileTree>(
     tree: &T,
     table: &CallTable,
     process: &Process,
     call: Call,
     path: &[u8],
-) -> Result<Found, Refusal>
+) -> Result<Found, Errno>
     ensures { (further : founds.Found → Decision) →
         decide_object table.now (T.content tree.now) (asker_on process.now) call path.now further
-        ≡ on_judged result further }
+        ≡ if_named result further }
 {
     let mut probe = Counted::new(tree);
-    let last = call.last();
-    let found = match named(&mut probe, process.dir(), path, ending(call), last) {
-        Ok(found) => found,
-        Err(errno) => return Err(Refusal::Failed(errno)),
-    };
-    match object_verdict(&mut probe, process, table, call, &found) {
-        Ok(()) => Ok(found),
-        Err(errno) => Err(Refusal::Failed(errno)),
+    let found = named(&mut probe, process.dir(), path, ending(call), call.last());
+    if let Ok(object) = &found {
+        object_verdict(&mut probe, process, table, call, object)?;
     }
-}
-
-/// What the path of a call names: its promises are judged before its path is read.
-pub(crate) fn judge_call<T: FileTree>(
-    tree: &T,
-    table: &CallTable,
-    process: &Process,
-    call: Call,
-    path: &[u8],
-) -> Result<Found, Refusal>
-    ensures { on_judged result (λ object. Ok (change_by table.now call object))
-        ≡ decide_call table.now (T.content tree.now) (asker_on process.now) call path.now }
-{
-    promised_for(process, table, call)?;
-    judge_object(tree, table, process, call, path)
+    found
 }
 
 /// What a call is to change, by what its path named.
 pub(crate) fn grant_call<'a>(
     table: &CallTable,
     call: Call,
-    judged: &'a Result<Found, Refusal>,
+    judged: &'a Result<Found, Errno>,
 ) -> Result<Granted<'a>, Refusal>
     ensures { (asker : Asking) →
         decision_for asker result
-        ≡ on_judged judged.now (λ object. Ok (change_by table.now call object)) }
+        ≡ if_named judged.now (λ object. Ok (change_by table.now call object)) }
 {
     match judged {
         Ok(found) => Ok(change_by(table, call, found)),
-        Err(refusal) => Err(*refusal),
+        Err(errno) => Err(Refusal::Failed(*errno)),
     }
 }
 
@@ -139,77 +128,81 @@ fn entering<'a>(found: &'a Found) -> Granted<'a>
     }
 }
 
-/// The target of a symlink, and what its path names: the promise, then the target's text, then the
-/// path.
-pub(crate) fn judge_symlink<'a, T: FileTree>(
-    tree: &T,
+/// The target of a symlink: its promise is judged before its text is read.
+pub(crate) fn judge_target<'a>(
     table: &CallTable,
     process: &Process,
     target: &'a [u8],
-    path: &[u8],
-) -> Result<(PathText<'a>, Found), Refusal>
-    ensures { on_judged result (λ link. Ok (adding (link_node link.0.bytes) link.1))
-        ≡ decide_symlink table.now (T.content tree.now) (asker_on process.now) target.now
-        path.now }
+) -> Result<PathText<'a>, Refusal>
+    ensures exact { (further : Decision) →
+        on_judged result (λ text. further)
+        ≡ if_may (may_any_on process.now (rule_of table.now Symlink).alternatives)
+        (unless_fault (path_fault target.now) further) }
+    ensures text { IfOk result (λ text. text.bytes ≡ target.now) }
 {
     promised_for(process, table, Call::Symlink)?;
-    let target = match PathText::read(target, Ending::Dot) {
-        Ok(target) => target,
-        Err(errno) => return Err(Refusal::Failed(errno)),
-    };
-    let found = judge_object(tree, table, process, Call::Symlink, path)?;
-    Ok((target, found))
-}
-
-/// A link with its target, where nothing stands.
-pub(crate) fn grant_symlink<'a>(
-    judged: &'a Result<(PathText<'a>, Found), Refusal>,
-) -> Result<Granted<'a>, Refusal>
-    ensures { (asker : Asking) →
-        decision_for asker result
-        ≡ on_judged judged.now (λ link. Ok (adding (link_node link.0.bytes) link.1)) }
-{
-    match judged {
-        Ok((target, found)) => Ok(adding(NewNode::Link(target), found)),
-        Err(refusal) => Err(*refusal),
+    match PathText::read(target, Ending::Dot) {
+        Ok(target) => Ok(target),
+        Err(errno) => Err(Refusal::Failed(errno)),
     }
 }
 
-/// What the path of an unveil names, and its permissions: the promise, the lock, the letters, and
-/// the path. A link at the path's end is followed.
-pub(crate) fn judge_unveil<T: FileTree>(
-    tree: &T,
-    process: &Process,
-    path: &[u8],
-    perms: Option<Perms>,
-) -> Result<(Found, Perms), Refusal>
-    ensures { on_judged result (λ veil. veiling (asker_on process.now) (place_of veil.0) veil.1)
-        ≡ decide_unveil (T.content tree.now) (asker_on process.now) path.now perms }
+/// A link with this target, where nothing stands.
+pub(crate) fn grant_symlink<'a>(
+    target: &'a PathText<'a>,
+    judged: &'a Result<Found, Errno>,
+) -> Result<Granted<'a>, Refusal>
+    ensures { (asker : Asking) →
+        decision_for asker result
+        ≡ if_named judged.now (λ object. Ok (adding (link_node target.now.bytes) object)) }
+{
+    match judged {
+        Ok(found) => Ok(adding(NewNode::Link(target), found)),
+        Err(errno) => Err(Refusal::Failed(*errno)),
+    }
+}
+
+/// The permissions that an unveil is for: the promise, the lock, and the letters are judged before its
+/// path is read.
+pub(crate) fn judge_letters(process: &Process, perms: Option<Perms>) -> Result<Perms, Refusal>
+    ensures { (t : Tree) (path : List ℕ) →
+        on_judged result (λ letters. decide_veil t (asker_on process.now) path (Some letters))
+        ≡ decide_unveil t (asker_on process.now) path perms }
 {
     promised(process, Promises::UNVEIL)?;
     if process.locked() {
         return Err(Refusal::Failed(Errno::EPERM));
     }
-    let Some(perms) = perms else {
-        return Err(Refusal::Failed(Errno::EINVAL));
-    };
-    let mut probe = Counted::new(tree);
-    match named(&mut probe, process.dir(), path, Ending::Dot, Last::Followed) {
-        Ok(found) => Ok((found, perms)),
-        Err(errno) => Err(Refusal::Failed(errno)),
+    match perms {
+        Some(perms) => Ok(perms),
+        None => Err(Refusal::Failed(Errno::EINVAL)),
     }
 }
 
+/// What the path of an unveil names. A link at the path's end is followed.
+pub(crate) fn veil_named<T: FileTree>(
+    tree: &T,
+    process: &Process,
+    path: &[u8],
+) -> Result<Found, Errno>
+    ensures { result ≡ resolution_of_text (T.content tree.now) process.now.dir Dot path.now
+        Followed }
+{
+    let mut probe = Counted::new(tree);
+    named(&mut probe, process.dir(), path, Ending::Dot, Last::Followed)
+}
+
 /// A veil on the place of what was found.
-pub(crate) fn grant_unveil<'a>(
-    judged: &'a Result<(Found, Perms), Refusal>,
-) -> Result<Granted<'a>, Refusal>
+pub(crate) fn grant_unveil(
+    judged: &Result<Found, Errno>,
+    perms: Perms,
+) -> Result<Granted<'_>, Refusal>
     ensures { (asker : Asking) →
         decision_for asker result
-        ≡ on_judged judged.now (λ veil. veiling asker (place_of veil.0) veil.1) }
+        ≡ if_named judged.now (λ object. veiling asker (place_of object) perms) }
 {
     match judged {
-        Ok((found, perms)) => Ok(Granted::Unveil(found, *perms)),
-        Err(refusal) => Err(*refusal),
+        Ok(found) => Ok(Granted::Unveil(found, perms)),
+        Err(errno) => Err(Refusal::Failed(*errno)),
     }
 }

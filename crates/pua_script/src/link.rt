@@ -2,47 +2,26 @@
 
 ghost use Rattle.std.specs.Prelude.{◌≡◌, Ok};
 ghost use Rattle.pua_path.specs.Fits.{node_named, spot_named};
-ghost use Rattle.pua_path.specs.declared.found.Found as found;
-ghost use Rattle.pua_path.specs.declared.text.Ending.TheVariants as ending;
-ghost use Rattle.pua_script.specs.Decide.{Asking, Decision, asker_on, decide_link, decide_pair};
-ghost use Rattle.pua_script.specs.Decide.{tying};
-ghost use Rattle.pua_script.specs.Judged.{decision_for, decision_by, on_judged};
+ghost use Rattle.pua_script.specs.Decide.{Asking, decide_link, if_named, tying};
+ghost use Rattle.pua_script.specs.Judged.{decision_for, decision_by};
 
 use crate::granted::Granted;
-use crate::pair::{Pair, is_whole, judge_pair, node_named, spot_named};
-use pua_calls::CallTable;
-use pua_path::{Ending, Errno, Found};
-use pua_policy::{Process, Refusal};
-use pua_tree::{FileTree, NodeId};
-
-/// What both paths of a link name: the promises of both names, what is wrong with the old path and
-/// then with the new one, and the covers in the same order. By the standard table a symbolic link at
-/// the old path's end gets the name itself (this profile).
-pub(crate) fn judge_link<T: FileTree>(
-    tree: &T,
-    table: &CallTable,
-    process: &Process,
-    old: &[u8],
-    new: &[u8],
-) -> Result<Pair, Refusal>
-    ensures { (further : found.Found → found.Found → Decision) →
-        decide_pair table.now.link (T.content tree.now) (asker_on process.now) ending.Dot old.now
-        new.now further
-        ≡ on_judged result (λ pair. further pair.from pair.to) }
-{
-    judge_pair(tree, table.link(), process, Ending::Dot, old, new)
-}
+use crate::pair::{Pair, is_whole, node_named, spot_named};
+use pua_path::{Errno, Found};
+use pua_policy::Refusal;
+use pua_tree::NodeId;
 
 /// What a link is to change: what its old path named gets a further name, unless something is wrong
 /// with what both paths named.
-pub(crate) fn grant_link<'a>(judged: &'a Result<Pair, Refusal>) -> Result<Granted<'a>, Refusal>
+pub(crate) fn grant_link<'a>(judged: &Result<Pair<'a>, Errno>) -> Result<Granted<'a>, Refusal>
     ensures { (asker : Asking) →
         decision_for asker result
-        ≡ on_judged judged.now (λ pair. decide_link pair.from pair.to (node_named pair.from)) }
+        ≡ if_named judged.now (λ pair. decide_link pair.from.now pair.to.now
+        (node_named pair.from.now)) }
 {
     match judged {
-        Ok(pair) => decide_tie(&pair.from, &pair.to),
-        Err(refusal) => Err(*refusal),
+        Ok(pair) => decide_tie(pair.from, pair.to),
+        Err(errno) => Err(Refusal::Failed(*errno)),
     }
 }
 

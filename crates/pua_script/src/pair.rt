@@ -1,97 +1,92 @@
 //! What the two paths of a request name, where a node of the one gets the name of the other.
 
-ghost use Rattle.std.specs.Prelude.{◌≡◌, IfOk, option_map};
+ghost use Rattle.std.specs.Prelude.{◌≡◌, Ok, IfOk, option_map};
 ghost use Rattle.pua_path.specs.Fits.{spot_named, node_named};
+ghost use Rattle.pua_path.specs.Resolution.{resolution_of_text};
 ghost use Rattle.pua_path.specs.declared.found.Found as found;
-ghost use Rattle.pua_policy.specs.Verdict.{FoundFits};
-ghost use Rattle.pua_script.specs.Decide.{Decision, asker_on, covers_by, decide_objects};
-ghost use Rattle.pua_script.specs.Decide.{decide_pair, is_whole, if_named};
+ghost use Rattle.pua_policy.specs.History.{may_any_on};
+ghost use Rattle.pua_policy.specs.Verdict.{FoundsFit};
+ghost use Rattle.pua_script.specs.Decide.{Decision, asker_on, covers_by, if_may, if_named};
+ghost use Rattle.pua_script.specs.Decide.{is_whole, unless_fault};
 ghost use Rattle.pua_script.specs.Judged.{NameFits, on_judged, spot_now};
 
 use crate::judged::named;
-use pua_calls::PairNeed;
-use pua_path::{Counted, Ending, Errno, Found, Probe, Way};
+use pua_calls::{NameNeed, PairNeed};
+use pua_path::{Counted, Ending, Errno, Found, Way};
 use pua_policy::judge::{cover_fault, promised_any};
 use pua_policy::{Process, Refusal};
 use pua_tree::{FileTree, Name, NodeId};
 
-/// What an old path and a new one name.
+/// What an old path and a new one name, lent.
 #[derive(Clone, Copy)]
-pub(crate) struct Pair {
-    pub(crate) from: Found,
-    pub(crate) to: Found,
+pub(crate) struct Pair<'a> {
+    pub(crate) from: &'a Found,
+    pub(crate) to: &'a Found,
 }
 
-/// What the two paths of a request name that gives a node of one the name of another: the promises of
-/// both names, then the paths, and the covers of what they name, the old name first each time.
-pub(crate) fn judge_pair<T: FileTree>(
-    tree: &T,
-    need: &PairNeed,
-    process: &Process,
-    ending: Ending,
-    old: &[u8],
-    new: &[u8],
-) -> Result<Pair, Refusal>
-    ensures exact { (further : found.Found → found.Found → Decision) →
-        decide_pair need.now (T.content tree.now) (asker_on process.now) ending old.now new.now
-        further
-        ≡ on_judged result (λ pair. further pair.from pair.to) }
-    ensures fit { IfOk result (λ pair. NameFits (T.content tree.now) pair.from ×
-        NameFits (T.content tree.now) pair.to) }
+/// Whether a process holds what both names of a request need, the old name first. It is asked before
+/// any path is read.
+pub(crate) fn promised_pair(process: &Process, need: &PairNeed) -> Result<(), Refusal>
+    ensures { (further : Decision) → on_judged result (λ _. further)
+        ≡ if_may (may_any_on process.now need.now.old.needs.alternatives)
+        (if_may (may_any_on process.now need.now.new.needs.alternatives) further) }
 {
     promised_any(process, need.old_name().alternatives())?;
-    promised_any(process, need.new_name().alternatives())?;
-    match pair_named(tree, need, process, ending, old, new) {
-        Ok(pair) => Ok(pair),
-        Err(errno) => Err(Refusal::Failed(errno)),
-    }
+    promised_any(process, need.new_name().alternatives())
 }
 
-/// What both paths name, where both are covered with the permissions that they need.
-fn pair_named<T: FileTree>(
+/// What one of the two paths names, by what its name needs.
+pub(crate) fn side_named<T: FileTree>(
     tree: &T,
-    need: &PairNeed,
     process: &Process,
+    need: &NameNeed,
     ending: Ending,
-    old: &[u8],
-    new: &[u8],
-) -> Result<Pair, Errno>
-    ensures exact { (further : found.Found → found.Found → Decision) →
-        decide_objects need.now (T.content tree.now) (asker_on process.now) ending old.now new.now
-        further
-        ≡ if_named result (λ pair. further pair.from pair.to) }
-    ensures fit { IfOk result (λ pair. NameFits (T.content tree.now) pair.from ×
-        NameFits (T.content tree.now) pair.to) }
+    path: &[u8],
+) -> Result<Found, Errno>
+    ensures exact { result ≡ resolution_of_text (T.content tree.now) process.now.dir ending path.now
+        need.now.last }
+    ensures fits { IfOk result (NameFits (T.content tree.now)) }
 {
     let mut probe = Counted::new(tree);
-    let dir = process.dir();
-    let from = named(&mut probe, dir, old, ending, need.old_name().last())?;
-    let to = named(&mut probe, dir, new, ending, need.new_name().last())?;
-    if let Some(errno) = covers_fault(&mut probe, need, process, &from, &to) {
-        return Err(errno);
-    }
-    Ok(Pair { from, to })
+    named(&mut probe, process.dir(), path, ending, need.last())
 }
 
-/// What is wrong with the two covers, the first one first.
-fn covers_fault<'t, P: Probe<'t>>(
-    probe: &mut P,
-    need: &PairNeed,
+/// Lends what both paths named, where both are covered with the permissions that their names need: what
+/// is wrong with the paths, and then with the covers, the old name first each time.
+pub(crate) fn covered<'a, T: FileTree>(
+    tree: &T,
     process: &Process,
-    from: &Found,
-    to: &Found,
-) -> Option<Errno>
-    requires from { FoundFits (P.tree probe.old) from.now }
-    requires to { FoundFits (P.tree probe.old) to.now }
-    ensures { result ≡ covers_by need.now (P.tree probe.old) (asker_on process.now) from.now
-        to.now }
+    need: &PairNeed,
+    from: &'a Result<Found, Errno>,
+    to: &'a Result<Found, Errno>,
+) -> Result<Pair<'a>, Errno>
+    requires from { FoundsFit (T.content tree.now) from.now }
+    requires to { FoundsFit (T.content tree.now) to.now }
+    ensures exact { (further : found.Found → found.Found → Decision) →
+        if_named from.now (λ old. if_named to.now (λ new. unless_fault
+        (covers_by need.now (T.content tree.now) (asker_on process.now) old new)
+        (further old new)))
+        ≡ if_named result (λ pair. further pair.from.now pair.to.now) }
+    ensures lent { IfOk result (λ pair. to.now ≡ Ok pair.to.now) }
 {
-    let cover = process.cover(probe, from);
+    let from = match from {
+        Ok(from) => from,
+        Err(errno) => return Err(*errno),
+    };
+    let to = match to {
+        Ok(to) => to,
+        Err(errno) => return Err(*errno),
+    };
+    let mut probe = Counted::new(tree);
+    let cover = process.cover(&mut probe, from);
     if let Some(errno) = cover_fault(cover, need.old_name().perms()) {
-        return Some(errno);
+        return Err(errno);
     }
-    let cover = process.cover(probe, to);
-    cover_fault(cover, need.new_name().perms())
+    let cover = process.cover(&mut probe, to);
+    match cover_fault(cover, need.new_name().perms()) {
+        Some(errno) => Err(errno),
+        None => Ok(Pair { from, to }),
+    }
 }
 
 /// The node that was found.

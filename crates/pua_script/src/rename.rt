@@ -5,54 +5,33 @@ ghost use Rattle.std.specs.List.{list_any};
 ghost use Rattle.pua_tree.specs.Tree.{is_dir, climb};
 ghost use Rattle.pua_tree.specs.Edits.{is_same_node};
 ghost use Rattle.pua_path.specs.Fits.{spot_named, node_named};
-ghost use Rattle.pua_path.specs.declared.found.Found as found;
-ghost use Rattle.pua_path.specs.declared.text.Ending.TheVariants as ending;
 ghost use Rattle.pua_policy.specs.Verdict.{or_fault};
-ghost use Rattle.pua_script.specs.Decide.{Asking, Decision, asker_on, decide_pair, decide_rename};
-ghost use Rattle.pua_script.specs.Decide.{dots_fault, inside_fault, is_whole, kinds_fault};
-ghost use Rattle.pua_script.specs.Decide.{shifting, top_fault, ways_fault};
-ghost use Rattle.pua_script.specs.Judged.{NameFits, decision_for, decision_by, on_judged};
+ghost use Rattle.pua_script.specs.Decide.{Asking, decide_rename, dots_fault, if_named};
+ghost use Rattle.pua_script.specs.Decide.{inside_fault, is_whole, kinds_fault, shifting};
+ghost use Rattle.pua_script.specs.Decide.{top_fault, ways_fault};
+ghost use Rattle.pua_script.specs.Judged.{NameFits, decision_for, decision_by};
 
 use crate::granted::Granted;
-use crate::pair::{Pair, is_whole, judge_pair, node_named, spot_named};
-use pua_calls::CallTable;
-use pua_path::{Ending, Errno, Found, Way};
-use pua_policy::{Process, Refusal};
+use crate::pair::{Pair, is_whole, node_named, spot_named};
+use pua_path::{Errno, Found, Way};
+use pua_policy::Refusal;
 use pua_tree::{FileTree, Kind, NodeId};
-
-/// What both paths of a rename name: the promises of both names, what is wrong with the old path and
-/// then with the new one, and the covers in the same order.
-pub(crate) fn judge_rename<T: FileTree>(
-    tree: &T,
-    table: &CallTable,
-    process: &Process,
-    old: &[u8],
-    new: &[u8],
-) -> Result<Pair, Refusal>
-    ensures exact { (further : found.Found → found.Found → Decision) →
-        decide_pair table.now.rename (T.content tree.now) (asker_on process.now) ending.Dropped
-        old.now new.now further
-        ≡ on_judged result (λ pair. further pair.from pair.to) }
-    ensures fit { IfOk result (λ pair. NameFits (T.content tree.now) pair.to) }
-{
-    judge_pair(tree, table.rename(), process, Ending::Dropped, old, new)
-}
 
 /// What a rename is to change: the row of what its old path named moves, unless something is wrong
 /// with what both paths named.
 pub(crate) fn grant_rename<'a, T: FileTree>(
     tree: &T,
-    judged: &'a Result<Pair, Refusal>,
+    judged: &Result<Pair<'a>, Errno>,
 ) -> Result<Granted<'a>, Refusal>
-    requires { IfOk judged.now (λ pair. NameFits (T.content tree.now) pair.to) }
+    requires { IfOk judged.now (λ pair. NameFits (T.content tree.now) pair.to.now) }
     ensures { (asker : Asking) →
         decision_for asker result
-        ≡ on_judged judged.now (λ pair. decide_rename (T.content tree.now) pair.from pair.to
-        (node_named pair.from)) }
+        ≡ if_named judged.now (λ pair. decide_rename (T.content tree.now) pair.from.now pair.to.now
+        (node_named pair.from.now)) }
 {
     match judged {
-        Ok(pair) => decide_shift(tree, &pair.from, &pair.to),
-        Err(refusal) => Err(*refusal),
+        Ok(pair) => decide_shift(tree, pair.from, pair.to),
+        Err(errno) => Err(Refusal::Failed(*errno)),
     }
 }
 

@@ -72,7 +72,8 @@ impl Model for Request {
 
     ghost view = { λ a. record { process = a.process; action = a.action } };
 
-    ghost invariant = { λ a. IsTrue (is_asked (record { process = a.process; action = a.action })) };
+    ghost invariant = { λ a.
+        IsTrue (is_asked (record { process = a.process; action = a.action })) };
 }
 
 ghost use Rattle.std.specs.Prelude.{◌≡◌, IfOk, IsTrue, List, ℕ};

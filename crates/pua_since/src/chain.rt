@@ -48,10 +48,7 @@ pub fn chain_text<T: FileTree>(
     let Ok(answer) = after.apply(request) else {
         return Err(OutOfMemory);
     };
-    match lines_of(alloc, before, request, passed, answer, &dates) {
-        Ok(text) => Ok(text),
-        Err(_) => Err(OutOfMemory),
-    }
+    Ok(lines_of(alloc, before, request, passed, answer, &dates)?)
 }
 
 /// Since which lines what is told of a request is so; None where it was from the start.
@@ -115,9 +112,7 @@ fn watch_facts<'a, T: FileTree>(
     let mut veils = Vec::new(alloc);
     for fact in passed {
         let place = watch_fact(alloc, world, process, fact, last, watches)?;
-        let Ok(()) = veils.push(place) else {
-            return Err(OutOfMemory);
-        };
+        veils.push(place)?;
     }
     Ok(veils)
 }
@@ -158,9 +153,7 @@ fn fact_lines(
 {
     let mut lines = Vec::new(alloc);
     for place in places {
-        let Ok(()) = lines.push(fact_line(watches, *place)) else {
-            return Err(OutOfMemory);
-        };
+        lines.push(fact_line(watches, *place))?;
     }
     Ok(lines)
 }

@@ -55,9 +55,7 @@ pub(crate) fn watch_lines<'a, T: FileTree>(
             continue;
         }
         let place = place_of(alloc, world, request, done, line, &mut known, watches)?;
-        let Ok(()) = places.push(place) else {
-            return Err(OutOfMemory);
-        };
+        places.push(place)?;
     }
     Ok(places)
 }
@@ -93,10 +91,8 @@ fn place_of<'a, 'l, T: FileTree>(
     }
     let question = Question::Request(request.action());
     let place = watches.add(alloc, world, request.process(), question, done)?;
-    match known.insert(line, place) {
-        Ok(_) => Ok(place),
-        Err(_) => Err(OutOfMemory),
-    }
+    known.insert(line, place)?;
+    Ok(place)
 }
 
 /// A line for each request, with its number, what it is answered, and if that is not `ok`, why, and
@@ -131,9 +127,7 @@ pub(crate) fn lines_text<T: FileTree>(
     for (done, (request, answer)) in requests.iter().zip(answers).enumerate() {
         let line = next_line(watches, *answer, &mut left);
         let number = done + 1;
-        let Ok(()) = push_line(alloc, &mut text, number, world, request, *answer, line) else {
-            return Err(OutOfMemory);
-        };
+        push_line(alloc, &mut text, number, world, request, *answer, line)?;
         watches.serve(alloc, world, request, *answer, number)?;
     }
     Ok(text)

@@ -50,9 +50,7 @@ fn add_veils<'w>(
         ++ map (with_number number) places.now) }
 {
     for place in places {
-        let Ok(()) = all.push((number, *place)) else {
-            return Err(OutOfMemory);
-        };
+        all.push((number, *place))?;
     }
     Ok(())
 }
@@ -110,9 +108,7 @@ fn watch_veils<'a, T: FileTree>(
     for (number, place) in veils {
         let question = Question::Veil(place);
         let place = watches.add(alloc, world, *number, question, last)?;
-        let Ok(()) = own.push(place) else {
-            return Err(OutOfMemory);
-        };
+        own.push(place)?;
     }
     Ok(own)
 }
@@ -128,9 +124,7 @@ pub(crate) fn lines_at(
 {
     let mut lines = Vec::new(alloc);
     for place in places {
-        let Ok(()) = lines.push(watches.line(*place)) else {
-            return Err(OutOfMemory);
-        };
+        lines.push(watches.line(*place))?;
     }
     Ok(lines)
 }

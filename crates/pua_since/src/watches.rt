@@ -71,9 +71,7 @@ impl<'a> Watches<'a> {
         let asker = forebear(&self.forks, process);
         let watch = Watch::begin(alloc, world, process, asker, question, last)?;
         let place = self.watches.len();
-        let Ok(()) = self.watches.push(watch) else {
-            return Err(OutOfMemory);
-        };
+        self.watches.push(watch)?;
         Ok(place)
     }
 
@@ -236,10 +234,8 @@ fn add_fork(forks: &mut Vec<Fork>, request: &Request, answer: Answer) -> Result<
         parent: request.process(),
         child: *child,
     };
-    match forks.push(fork) {
-        Ok(()) => Ok(()),
-        Err(_) => Err(OutOfMemory),
-    }
+    forks.push(fork)?;
+    Ok(())
 }
 
 /// Which process this one was before these forks, of which the last one is the first here.

@@ -22,7 +22,7 @@ unfoldable pub use Rattle.pua_steps.specs.Lists.{list_of, narrow_of, rest_of}
 pub use Rattle.pua_steps.specs.Live.{bound_of, entrance, IsBound, IsSized}
 unfoldable pub use Rattle.pua_steps.specs.Live.{live_of}
 pub use Rattle.pua_steps.specs.Order.{IsSplit, pairs_after}
-pub use Rattle.pua_steps.specs.Reached.{AreSets, distinct, has_state, lands_from, lands_some, total}
+pub use Rattle.pua_steps.specs.Reached.{AreSets, has_state, lands_from, lands_some, total}
 unfoldable pub use Rattle.pua_steps.specs.Reached.{states_after}
 pub use Rattle.pua_steps.specs.Ready.{AreOpen, IsCounted, IsReady, IsSameWalk, rests_of, trail}
 unfoldable pub use Rattle.pua_steps.specs.Ready.{looks}

@@ -34,7 +34,8 @@ some_call (c ∷ cs) = true
 kept_in : (f : ℕ → Bool) (t k n : ℕ) → k ≤ t → t < k + n → f t ≡ true → some_call (filter f (range_with_len k n)) ≡ true
 kept_in f t k zero low high here = absurd (omega (arith, low, high))
 kept_in f t k (suc n) low high here =
-    elim (f k) as (λ b. f k ≡ b → some_call (cond b (k ∷ filter f (range_with_len (k + 1) n)) (filter f (range_with_len (k + 1) n))) ≡ true) [
+    let more = filter f (range_with_len (k + 1) n) in
+    elim (f k) as (λ b. f k ≡ b → some_call (cond b (k ∷ more) more) ≡ true) [
       | true ↦ λ _. refl
       | false ↦ λ e. kept_in f t (k + 1) n (elim (cases_eq k t) [
         | inl same ↦ (let bad : true ≡ false = sym here ∙ ap f (sym same) ∙ e in

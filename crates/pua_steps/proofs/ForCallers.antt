@@ -2,5 +2,7 @@
 
 -- the pairs of a table are of its letters, and of calls that there are
 pub use Rattle.pua_steps.proofs.Within.{reach_is_within}
+-- sums of the same
+pub use Rattle.pua_steps.proofs.Counting.{total_same}
 -- lemmas of lists
 pub use Rattle.pua_steps.proofs.Base.{all_weaker, all_filtered, all_joined, all_front, all_pushed, filter-none}

@@ -4,20 +4,20 @@ use Rattle.pua_steps.proofs.Common.{false, cond, ◌||◌, ◌&&◌, ◌==◌, n
 use Rattle.pua_steps.proofs.Common.{option_map, count_ones, bit_and, inl, inr, subst, IfSome, option_to_list, flat_map, bit_at}
 use Rattle.pua_steps.proofs.Common.{range_with_len, AllByRecursion, bit_at_above, cases_eq, cases_lt, and_parts, eqb-true, eq-eqb, ne_eqb}
 use Rattle.pua_steps.proofs.Common.{le-leb, lt-leb, below, some_pair, visit_of, missing_visit, gap, visits_from, graph_of, missing_at}
-use Rattle.pua_steps.proofs.Common.{entries_at, IsState, IsTable, IsSized, states_after, distinct, has_state, AreSets, lands_some}
-use Rattle.pua_steps.proofs.Common.{lands_from, total, State, Visit, Entry, Steps, or-false}
+use Rattle.pua_steps.proofs.Common.{entries_at, IsState, IsTable, IsSized, states_after, has_state, AreSets, lands_some, lands_from, total}
+use Rattle.pua_steps.proofs.Common.{State, Visit, Entry, Steps, or-false}
 use Rattle.std.specs.Prelude.{◌⊎◌}
 use Rattle.std.specs.List.{cons_option}
 use Rattle.std.proofs.lemmas.List.Elements.{filter_map-append}
 use Rattle.std.proofs.lemmas.List.{get_or-set_same, get_or-set_other, length-set}
 use Rattle.std.proofs.lemmas.Nat.Bits.{bit_at-zero}
 use Rattle.std.proofs.lemmas.Bool.{cases_order, or_cases, leb-true}
-use Rattle.pua_steps.specs.Reached.{states_behind, is_same, is_among, live_among, lands}
+use Rattle.pua_steps.specs.Reached.{states_behind, is_same, is_among, count, is_live, lands}
 use Rattle.pua_steps.specs.declared.live.Live as table
-use Rattle.pua_steps.proofs.Counting.{same_is, among_filter, distinct_by_rows, Within, layer_ones, total_same, count, count_same}
+use Rattle.pua_steps.proofs.Counting.{same_is, Within, layer_ones, total_same, count_same}
 use Rattle.pua_steps.proofs.Closing.{states_stay, bound_at}
-use Rattle.pua_steps.proofs.Base.{all_filtered, all_joined}
-use Rattle.std.proofs.Math.Bool.{or_assoc}
+use Rattle.pua_steps.proofs.Base.{all_joined}
+use Rattle.std.proofs.Math.Bool.{and_comm, or_assoc}
 use Rattle.std.specs.Cmp.{both_ways}
 
 -- lists with a member that passes
@@ -272,32 +272,27 @@ reached_within t known zero None is = tt
 reached_within t known zero (Some s) is = ((is.dir, is.used), tt)
 reached_within t known (suc n) o is = steps_within t known (states_after (graph_of t 0) n o) (reached_within t known n o is)
 
--- the members of the sets below the bounds are the live states, each once
-pub layer_counts : (t : Steps) (v : table.Live) (limit l : ℕ) (ss : List State) (sets : List ℕ) → IsSized t v limit → l ≤ limit →
-    AreSets v.dirs ss sets → AllByRecursion (Within (length t.rows.items)) ss
-    → total (λ d. count_ones (bit_and (get_or sets d 0) (2 ^ get_or v.bounds.items (l * v.dirs + d) 0 - 1))) v.dirs
-    ≡ length (distinct (live_among (graph_of t) l ss))
-layer_counts t v limit l ss sets sized short are all =
-    total_same (λ d. count_ones (bit_and (get_or sets d 0) (2 ^ get_or v.bounds.items (l * v.dirs + d) 0 - 1)))
-    (λ d. count (λ u. is_among (record { dir = d; used = u }) (live_among (graph_of t) l ss)) 0 33) v.dirs each
-    ∙ ap (total (λ d. count (λ u. is_among (record { dir = d; used = u }) (live_among (graph_of t) l ss)) 0 33)) sized.dirs
-    ∙ sym (distinct_by_rows (length t.rows.items) (live_among (graph_of t) l ss)
-    (all_filtered (Within (length t.rows.items)) (λ s. some_pair (below (graph_of t) l (Some s))) ss all))
+-- the members of the sets below the bounds are the live states
+pub layer_counts : (t : Steps) (v : table.Live) (limit n : ℕ) (o : Option State) (sets : List ℕ) → IsSized t v limit →
+    AreSets v.dirs (states_after (graph_of t 0) n o) sets
+    → total (λ d. count_ones (bit_and (get_or sets d 0) (2 ^ get_or v.bounds.items ((limit - n) * v.dirs + d) 0 - 1))) v.dirs
+    ≡ total (λ d. count (λ u. is_live (graph_of t) limit o n (record { dir = d; used = u })) 33) (length t.rows.items)
+layer_counts t v limit n o sets sized are =
+    total_same (λ d. count_ones (bit_and (get_or sets d 0) (2 ^ get_or v.bounds.items ((limit - n) * v.dirs + d) 0 - 1)))
+    (λ d. count (λ u. is_live (graph_of t) limit o n (record { dir = d; used = u })) 33) v.dirs each
+    ∙ ap (total (λ d. count (λ u. is_live (graph_of t) limit o n (record { dir = d; used = u })) 33)) sized.dirs
   where
-    live_by : (d u : ℕ) → d < v.dirs → u ≤ 32 →
-        nat_lt u (get_or v.bounds.items (l * v.dirs + d) 0) ≡ some_pair (below (graph_of t) l (Some (record { dir = d; used = u })))
-    live_by d u h low = bound_at t v limit sized l d u short (omega (arith, h, sized.dirs)) low
-
-    each : (d : ℕ) → d < v.dirs → count_ones (bit_and (get_or sets d 0) (2 ^ get_or v.bounds.items (l * v.dirs + d) 0 - 1))
-        ≡ count (λ u. is_among (record { dir = d; used = u }) (live_among (graph_of t) l ss)) 0 33
+    each : (d : ℕ) → d < v.dirs → count_ones (bit_and (get_or sets d 0) (2 ^ get_or v.bounds.items ((limit - n) * v.dirs + d) 0 - 1))
+        ≡ count (λ u. is_live (graph_of t) limit o n (record { dir = d; used = u })) 33
     each d h =
-        layer_ones (get_or sets d 0) (get_or v.bounds.items (l * v.dirs + d) 0) (are.small d h)
-        ∙ count_same (λ u. nat_lt u (get_or v.bounds.items (l * v.dirs + d) 0) && (bit_at (get_or sets d 0) u == 1))
-        (λ u. is_among (record { dir = d; used = u }) (live_among (graph_of t) l ss)) 0 33
-        (λ u from to. let low : u ≤ 32 = omega (arith, to) in
-        ap (λ b. b && (bit_at (get_or sets d 0) u == 1)) (live_by d u h low) ∙
-        ap (λ b. some_pair (below (graph_of t) l (Some (record { dir = d; used = u }))) && b) (are.tells d u h low)
-        ∙ sym (among_filter (λ s. some_pair (below (graph_of t) l (Some s))) (record { dir = d; used = u }) ss))
+        let bound : ℕ = get_or v.bounds.items ((limit - n) * v.dirs + d) 0 in
+        layer_ones (get_or sets d 0) bound (are.small d h)
+        ∙ count_same (λ u. nat_lt u bound && (bit_at (get_or sets d 0) u == 1))
+        (λ u. is_live (graph_of t) limit o n (record { dir = d; used = u })) 33
+        (λ u to. let low : u ≤ 32 = omega (arith, to) in
+        (λ i. bound_at t v limit sized (limit - n) d u (omega arith) (omega (arith, h, sized.dirs)) low i && are.tells d u h low i)
+        ∙ and_comm (some_pair (below (graph_of t) (limit - n) (Some (record { dir = d; used = u }))))
+        (is_among (record { dir = d; used = u }) (states_after (graph_of t 0) n o)))
 
 -- before the first letter
 pub first_bits : (used u : ℕ) → (nat_le used u && (bit_at 1 (u - used) == 1)) ≡ (u == used)

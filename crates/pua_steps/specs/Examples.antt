@@ -61,16 +61,16 @@ chains = graph_by 36 (0 ∷ 0 ∷ [])
     ∷ (way 0 0 0 ∷ leaf 22 11 ∷ map (λ (n : ℕ). link (22 + n) 9 n) (range_with_len 1 13)) ∷ [])
 
 pub record LiveRows : Type 0 where
-  pub root_alone_0 : live_count root_graph 0 first 0 ≡ 0
-  pub root_alone_1 : live_count root_graph 1 first 1 ≡ 1
-  pub nowhere : live_count root_graph 3 None 3 ≡ 0
-  pub missing_name_2 : live_count missing_name 2 first 2 ≡ 2
-  pub one_file_2 : live_count one_file 2 first 2 ≡ 2
-  pub one_file_3 : live_count one_file 3 first 3 ≡ 8
-  pub dead_3 : live_count dead_alphabet 3 first 3 ≡ 0
-  pub links_32 : live_count link_by_link 2 first 2 ≡ 2
-  pub links_33 : live_count link_too_far 2 first 2 ≡ 0
-  pub chains_2 : live_count chains 2 first 2 ≡ 22
+  pub root_alone_0 : live_count root_graph 1 0 first 0 ≡ 0
+  pub root_alone_1 : live_count root_graph 1 1 first 1 ≡ 1
+  pub nowhere : live_count root_graph 1 3 None 3 ≡ 0
+  pub missing_name_2 : live_count missing_name 1 2 first 2 ≡ 2
+  pub one_file_2 : live_count one_file 3 2 first 2 ≡ 2
+  pub one_file_3 : live_count one_file 3 3 first 3 ≡ 8
+  pub dead_3 : live_count dead_alphabet 3 3 first 3 ≡ 0
+  pub links_32 : live_count link_by_link 2 2 first 2 ≡ 2
+  pub links_33 : live_count link_too_far 2 2 first 2 ≡ 0
+  pub chains_2 : live_count chains 2 2 first 2 ≡ 22
 
 pub live_rows : LiveRows
 unfolding visits_from gap visit_of calls_of below cons alone states_after

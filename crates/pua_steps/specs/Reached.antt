@@ -1,6 +1,6 @@
 -- The live states: those to which words lead, and from which words with allowed calls go on.
 use Rattle.std.specs.Prelude.{◌≡◌, ◌<◌, ◌≤◌, ◌^◌, ◌+◌, ◌-◌, ℕ, zero, suc, Bool, false, cond, ◌&&◌, ◌||◌, ◌==◌, nat_le, List, [], ◌∷◌}
-use Rattle.std.specs.Prelude.{length, get_or, Option, Some, None, option_to_list, flat_map, filter, filter_map}
+use Rattle.std.specs.Prelude.{length, get_or, Option, Some, None, option_to_list, flat_map, filter_map}
 use Rattle.std.specs.Int.{bit_at}
 use Rattle.pua_steps.specs.Limits.{most_links, most_bound}
 use Rattle.pua_steps.specs.Graph.{Graph, below, some_pair}
@@ -25,24 +25,23 @@ abbrev pub is_among : State → List State → Bool
 is_among s [] = false
 is_among s (x ∷ xs) = is_same s x || is_among s xs
 
--- each state once
-abbrev pub distinct : List State → List State
-distinct [] = []
-distinct (x ∷ xs) = cond (is_among x xs) (distinct xs) (x ∷ distinct xs)
-
--- those from which a word with an allowed call goes on, by at most so many letters
-abbrev pub live_among : Graph → ℕ → List State → List State
-live_among g l ss = filter (λ s. some_pair (below g l (Some s))) ss
-
--- how many states, by the letters that may still come, are live: with the last n letters of the limit
-abbrev pub live_count : Graph → ℕ → Option State → ℕ → ℕ
-live_count g limit o zero = 0
-live_count g limit o (suc n) = live_count g limit o n + length (distinct (live_among g (limit - n) (states_after (g 0) n o)))
+-- words of n letters lead to it, and a word with an allowed call goes on from it, within the limit
+abbrev pub is_live : Graph → ℕ → Option State → ℕ → State → Bool
+is_live g limit o n s = is_among s (states_after (g 0) n o) && some_pair (below g (limit - n) (Some s))
 
 -- the sum of the first n
 abbrev pub total : (ℕ → ℕ) → ℕ → ℕ
 total f zero = 0
 total f (suc n) = total f n + f n
+
+-- how many of n numbers pass
+abbrev pub count : (ℕ → Bool) → ℕ → ℕ
+count test n = total (λ i. cond (test i) 1 0) n
+
+-- how many are live in so many directories, where fewer than m letters lead to them; each counts for each number of letters
+abbrev pub live_count : Graph → ℕ → ℕ → Option State → ℕ → ℕ
+live_count g dirs limit o m =
+    total (λ n. total (λ d. count (λ u. is_live g limit o n (record { dir = d; used = u })) most_bound) dirs) m
 
 -- sets of numbers of links as bits, one for each directory
 abbrev pub has_state : List ℕ → ℕ → ℕ → Bool

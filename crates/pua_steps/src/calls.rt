@@ -6,7 +6,7 @@ ghost use Rattle.pua_steps.specs.Limits.{call_count};
 ghost use Rattle.pua_steps.specs.Calls.{calls_of};
 
 /// Takes the first call out of a set: the call of its lowest bit. None where the set has no call.
-pub fn take_first(calls: &mut u16) -> Option<u8>
+pub(crate) fn take_first(calls: &mut u16) -> Option<u8>
     requires { calls.old < 2 ^ call_count }
     ensures { MatchOption result ((calls.new ≡ calls.old) × (calls.old ≡ 0))
         (λ call. (calls.new < 2 ^ call_count) × (call < call_count) ×
@@ -43,7 +43,7 @@ fn without(set: u16, call: u8) -> u16
 }
 
 /// The calls of a set that come after a call.
-pub fn calls_after(set: u16, call: u8) -> u16
+pub(crate) fn calls_after(set: u16, call: u8) -> u16
     requires fits { set < 2 ^ call_count }
     requires call { call < call_count }
     ensures fits { result < 2 ^ call_count }

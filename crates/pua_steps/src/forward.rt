@@ -2,7 +2,7 @@
 //! numbers of links with which each directory is reached, a bit for each number.
 
 ghost use Rattle.std.specs.Prelude.{◌≡◌, ◌≤◌, ◌<◌, ◌+◌, ◌*◌, ◌-◌, ◌^◌, ◌||◌, ◌&&◌, ◌==◌, nat_le, ℕ};
-ghost use Rattle.std.specs.Prelude.{suc, length, get_or, IfOk, IfSome, bit_and, count_ones};
+ghost use Rattle.std.specs.Prelude.{length, get_or, IfOk, IfSome, bit_and, count_ones};
 ghost use Rattle.std.specs.Prelude.{option_to_list};
 ghost use Rattle.std.specs.Int.{bit_at};
 ghost use Rattle.std.specs.List.{AllByRecursion};
@@ -10,7 +10,7 @@ ghost use Rattle.pua_steps.specs.Limits.{most_letters, most_links, most_bound};
 ghost use Rattle.pua_steps.specs.Live.{IsSized};
 ghost use Rattle.pua_steps.specs.Reached.{has_state, lands, lands_some, lands_from, total, AreSets};
 ghost use Rattle.pua_steps.specs.Reached.{live_count};
-ghost use Rattle.pua_steps.specs.Table.{IsTable, IsState, IsEntry, graph_of};
+ghost use Rattle.pua_steps.specs.Table.{IsTable, IsState, graph_of};
 
 use crate::live::Live;
 use crate::state::State;
@@ -162,7 +162,8 @@ impl Live {
         requires base { IfSome base (λ s. IsState steps.now s) }
         requires limit { limit ≤ most_letters }
         requires small { self.now.dirs * 1088 < 2 ^ 64 }
-        ensures { IfOk result (λ count. count ≡ live_count (graph_of steps.now) limit base limit) }
+        ensures { IfOk result (λ count. count ≡ live_count (graph_of steps.now)
+            (length steps.now.rows.items) limit base limit) }
     {
         let mut sets = first_sets(alloc, self.dirs, base)?;
         let mut count = 0;

@@ -21,7 +21,6 @@ mod visit;
 mod walk;
 
 pub use laws::{steps_examples, steps_laws};
-pub use limits::{CALL_COUNT, MOST_LETTERS, MOST_LINKS};
 pub use state::State;
 pub use steps::{Entry, Row, Steps};
 pub use tables::Tables;

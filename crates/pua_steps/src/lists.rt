@@ -110,7 +110,8 @@ impl Lists {
             (λ _. IsLonger Entry self.old.entries.items self.new.entries.items) }
         ensures spans { IfOk result (λ _. IsLonger Span self.old.spans.items self.new.spans.items) }
         ensures many { IfOk result (λ _.
-            length self.new.spans.items ≡ length self.old.spans.items + length steps.now.rows.items) }
+            length self.new.spans.items
+            ≡ length self.old.spans.items + length steps.now.rows.items) }
         ensures lists { IfOk result (λ _. (d : ℕ) → d < length steps.now.rows.items →
             IsListAt self.new.entries.items
             (get_or self.new.spans.items (length self.old.spans.items + d)
@@ -137,7 +138,8 @@ impl Lists {
         requires dir { dir < length steps.now.rows.items }
         ensures layers { IfOk result (λ _. self.new.layers ≡ self.old.layers) }
         ensures entries { IfOk result (λ _.
-            self.new.entries.items ≡ self.old.entries.items ++ list_of steps.now live.now left dir) }
+            self.new.entries.items
+            ≡ self.old.entries.items ++ list_of steps.now live.now left dir) }
         ensures spans { IfOk result (λ _. self.new.spans.items ≡ self.old.spans.items
             ++ record { place = length self.old.entries.items; end = length self.new.entries.items }
             ∷ []) }
@@ -189,7 +191,8 @@ impl Lists {
     /// after each.
     pub(crate) fn open(&self, left: usize, state: State) -> Frame
         requires layer { left < length self.now.layers.items }
-        requires dir { get_or self.now.layers.items left 0 + state.dir < length self.now.spans.items }
+        requires dir { get_or self.now.layers.items left 0 + state.dir
+            < length self.now.spans.items }
         ensures { result ≡ record {
           state = state;
           next = 0;

@@ -44,7 +44,8 @@ impl Walk {
         requires word { AllByRecursion (λ letter. letter < tables.steps.letters) word.now }
         requires call { call < call_count }
         ensures ready { IfOk result (λ walk. IsReady walk) }
-        ensures of { IfOk result (λ walk. (walk.tables.steps ≡ tables.steps) × (walk.limit ≡ limit)) }
+        ensures of { IfOk result (λ walk.
+            (walk.tables.steps ≡ tables.steps) × (walk.limit ≡ limit)) }
         ensures reads { IfOk result (λ walk.
             walk.tables.reads ≤ tables.reads + search_cost * length word.now) }
         ensures left { IfOk result (λ walk.

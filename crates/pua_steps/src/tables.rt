@@ -60,7 +60,7 @@ impl Tables {
     }
 
     /// How many letters were read so far. It stays at its greatest value once there.
-    pub fn reads(&self) -> u64
+    pub(crate) fn reads(&self) -> u64
         ensures { result ≡ self.now.reads }
     {
         self.reads
@@ -79,8 +79,8 @@ impl Tables {
         requires base { IfSome base (λ s. IsState self.now.steps s) }
         requires limit { limit ≤ most_letters }
         requires small { self.now.live.dirs * 1088 < 2 ^ 64 }
-        ensures { IfOk result (λ count. count ≡ live_count (graph_of self.now.steps) limit base
-            limit) }
+        ensures { IfOk result (λ count. count ≡ live_count (graph_of self.now.steps)
+            (length self.now.steps.rows.items) limit base limit) }
     {
         self.live.count(alloc, &self.steps, base, limit)
     }

@@ -208,7 +208,8 @@ impl Walk {
             × (vec_capacity self.old.frames ≤ vec_capacity self.new.frames) }
         ensures frames { self.new.frames.items ≡ self.old.frames.items ++ frame ∷ [] }
         ensures word { self.new.word.items ≡ self.old.word.items ++ visit.letter ∷ [] }
-        ensures there { (self.new.calls ≡ visit.calls) × (self.new.behind ≡ visit.behind) }
+        ensures calls { self.new.calls ≡ visit.calls }
+        ensures behind { self.new.behind ≡ visit.behind }
     {
         self.frames.push(frame).unwrap();
         self.go_by(visit);
@@ -226,7 +227,8 @@ impl Walk {
         ensures frames { self.new.frames ≡ self.old.frames }
         ensures room { vec_capacity self.old.word ≤ vec_capacity self.new.word }
         ensures word { self.new.word.items ≡ self.old.word.items ++ visit.letter ∷ [] }
-        ensures there { (self.new.calls ≡ visit.calls) × (self.new.behind ≡ visit.behind) }
+        ensures calls { self.new.calls ≡ visit.calls }
+        ensures behind { self.new.behind ≡ visit.behind }
     {
         self.word.push(visit.letter).unwrap();
         self.calls = visit.calls;

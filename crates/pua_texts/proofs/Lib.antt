@@ -1,5 +1,4 @@
 pub mod Common
-pub mod Made
 pub mod AnswerLines
 pub mod Outcomes
 pub mod Pairs

@@ -1,8 +1,11 @@
 -- What is served and audited over two trees of the same content is the same.
 use Rattle.pua_tool.proofs.Common.{◌≡◌, List, [], sym, ap, ◌∙◌, subst, Some, Result, Tree, CallTable, History, Asked, World, new_world}
 use Rattle.pua_tool.proofs.Common.{answers_to, history_of, world_after, StandsForWorld, is_made}
-use Rattle.std.specs.Prelude.{Ok, Err}
-use Rattle.pua_script.specs.Worlds.{StandsAt}
+use Rattle.std.specs.Prelude.{Ok, Err, option_map}
+use Rattle.pua_tree.proofs.ForCallers.{same_Some}
+use Rattle.pua_policy.specs.History.{state_of}
+use Rattle.pua_policy.proofs.ForCallers.{stands}
+use Rattle.pua_script.specs.Worlds.{state_at}
 use Rattle.pua_audit.specs.AuditState.{AuditState}
 use Rattle.pua_audit.specs.Reach.{Pair}
 use Rattle.pua_audit.specs.Begin.{Beginning, beginning, still_to_come}
@@ -35,16 +38,14 @@ module _ (rules : CallTable) (t : Tree) (asks : List Asked) (wanted : Wanted) wh
   stands_in : (audit : AuditState) (a : IsAuditedOver rules t asks wanted audit) → StandsForWorld a.after left_by
   stands_in audit a = left_by_same a.run.before.table rules (new_world t) asks a.run.table (a.run.served (new_world t) a.run.new).1
 
-  process_in : (audit : AuditState) (a : IsAuditedOver rules t asks wanted audit) →
-      StandsAt (Some a.process) (history_of left_by wanted.process)
-  process_in audit a =
-      subst (λ kept. StandsAt kept (history_of left_by wanted.process)) a.there ((stands_in audit a).processes wanted.process)
+  process_in : (audit : AuditState) (a : IsAuditedOver rules t asks wanted audit) → Some a.process ≡ state_at left_by wanted.process
+  process_in audit a = sym a.there ∙ (stands_in audit a).processes wanted.process
 
   pairs_are : (audit : AuditState) (a : IsAuditedOver rules t asks wanted audit) (h : History) → history_of left_by wanted.process ≡ Some h
       → audit.left ≡ pairs_of left_by.tree h
   unfolding left_of
   pairs_are audit a h is =
-      let begun = a.begun h (subst (λ made. StandsAt (Some a.process) made) is (process_in audit a)) in
+      let begun = a.begun h (stands a.process h (same_Some _ _ (process_in audit a ∙ ap (option_map state_of) is))) in
       begun.2 ∙ ap left_of (sym begun.1) ∙ ap (λ left. pairs_of left h) (stands_in audit a).tree
 
   lines_over : (audit other : AuditState) → IsAuditedOver rules t asks wanted audit → IsAuditedOver rules t asks wanted other

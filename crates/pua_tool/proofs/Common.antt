@@ -5,11 +5,12 @@ pub use Rattle.std.specs.Prelude.{flat_map, None, Option, Result, Some}
 pub use Rattle.pua_calls.specs.Calls.{CallTable}
 pub use Rattle.pua_io.specs.Sinks.{Adds, AddsFront}
 pub use Rattle.pua_policy.specs.History.{History}
+pub use Rattle.pua_script.proofs.ForCallers.{is_made}
 pub use Rattle.pua_script.specs.Replay.{answers_to, history_of, new_world, World, world_after}
 pub use Rattle.pua_script.specs.Requests.{Asked}
 pub use Rattle.pua_script.specs.Scripts.{script}
 pub use Rattle.pua_script.specs.Worlds.{StandsForWorld}
-pub use Rattle.pua_texts.proofs.ForCallers.{if_err, if_ok, is_made}
+pub use Rattle.pua_texts.proofs.ForCallers.{if_err, if_ok}
 pub use Rattle.pua_texts.specs.Lines.{answer_lines, with_end}
 pub use Rattle.pua_texts.specs.Tells.{Tells}
 pub use Rattle.pua_tree.specs.Listing.{listing}

@@ -89,7 +89,8 @@ struct Report<'e, E: Sink> {
 }
 
 impl<E: Sink> Write for Report<'_, E> {
-    ghost write_str_gives = { λ old text new. Adds text (E.written old.sink.now) (E.written new.sink.now) };
+    ghost write_str_gives = { λ old text new.
+        Adds text (E.written old.sink.now) (E.written new.sink.now) };
 
     fn write_str(&mut self, text: &str) -> fmt::Result {
         put_all(self.sink, text.as_bytes()).map_err(|_| fmt::Error)

@@ -126,7 +126,8 @@ module _ (K : Option Node → Bool) (no_node : K None ≡ false) where
         | None ↦ made_found p e.number es r.1 ∙ sym (ap (λ b. (eqb e.number p && b) || more) no_node ∙
             ap (λ b. b || more) (and-false (eqb e.number p)))
         | Some m ↦ ap (λ b. K (cond b (Some m) (find nat_cmp p nodes))) (nat_tie p e.number)
-            ∙ elim (eqb e.number p) as (λ b. eqb e.number p ≡ b → K (cond b (Some m) (find nat_cmp p nodes)) ≡ ((b && K (Some m)) || more)) [
+            ∙ elim (eqb e.number p) as (λ b. eqb e.number p ≡ b →
+            K (cond b (Some m) (find nat_cmp p nodes)) ≡ ((b && K (Some m)) || more)) [
               | true ↦ λ t. sym (ap (λ b. K (Some m) || b) (above_all p e.number es (omega (arith, eqb-true _ _ t)) r.1) ∙
                   or_false (K (Some m)))
               | false ↦ λ t. made_found p e.number es r.1

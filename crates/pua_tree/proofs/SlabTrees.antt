@@ -1,11 +1,16 @@
 -- A tree in slots, looked up by what each node knows of how it stands.
 use Rattle.pua_tree.proofs.Common.{◌≡◌, ℕ, Bool, true, false, not, ◌&&◌, ◌||◌, ◌==◌, cond, List, [], ◌∷◌, Option, Some, None, option_map}
 use Rattle.pua_tree.proofs.Common.{refl, sym, ap, subst, ◌∙◌, eqb, eqb-true, IfSome, option_and_then, list_any, list_all, eqb-false}
-use Rattle.pua_tree.proofs.Common.{false≢true, sum_by-zero, Tree, WellFormed, spot_cmp, kind_at, is_dir, is_dir_kind, above, node_in}
+use Rattle.pua_tree.proofs.Common.{false≢true, sum_by-zero, Tree, WellFormed, kind_at, is_dir, is_dir_kind, above, node_in}
 use Rattle.pua_tree.proofs.Common.{made_of, held_rows, held_in_slots, AreConsistent, Dir, Slots, SlotNode}
 use Rattle.pua_tree.specs.Tree as tree
 use Rattle.pua_tree.specs.Tree.{target_at, parent, is_empty, has_no_row}
-use Rattle.pua_tree.proofs.SlotsHold.{nodes_found}
+use Rattle.pua_tree.specs.Tree.{found_at}
+use Rattle.pua_tree.specs.Slots.{row_in}
+use Rattle.pua_tree.specs.declared.slots.RowNode.{RowNode}
+use Rattle.pua_tree.proofs.Common.{IsSome}
+use Rattle.pua_tree.proofs.SlabEdits.{living_in, row_living}
+use Rattle.pua_tree.proofs.SlotsHold.{node_of_row, nodes_found, rows_found}
 use Rattle.pua_tree.proofs.Sound.{sound_from, row_of, dir_kind}
 
 dir_node : (o : Option SlotNode) → is_dir_kind (option_map (λ n. n.kind) (option_map made_of o)) ≡ true →
@@ -53,6 +58,29 @@ kind_known s next x = fused (node_in s x) ∙ ap (λ (o : Option tree.Node). opt
     fused : (o : Option SlotNode) → option_map (λ (n : SlotNode). n.kind) o ≡ option_map (λ n. n.kind) (option_map made_of o)
     fused None = refl
     fused (Some n) = refl
+
+-- a row's node is as the row says
+pub found_known : (s : Slots) (next : ℕ) (at : tree.Spot) → WellFormed (held_in_slots s next) → AreConsistent s →
+    option_map (λ (row : RowNode). (row.node, row.kind)) (row_in s at) ≡ found_at (held_in_slots s next) at.0 at.1
+found_known s next at w kept = by (row_in s at) refl
+  where
+    t : Tree
+    t = held_in_slots s next
+
+    kind_of : (o : Option SlotNode) (row : RowNode) → row_in s at ≡ Some row → node_in s row.node ≡ o → IsSome o →
+        option_map (λ (n : SlotNode). n.kind) o ≡ Some row.kind
+    kind_of None row e f some = absurd (false≢true some)
+    kind_of (Some n) row e f some = ap Some (kept.kinds at row n e f)
+
+    by : (o : Option RowNode) → row_in s at ≡ o →
+        option_map (λ (row : RowNode). (row.node, row.kind)) o ≡ found_at t at.0 at.1
+    by None e = sym (ap (option_and_then (λ x. option_map (λ kind. (x, kind)) (kind_at t x))) (rows_found s at ∙ ap node_of_row e))
+    by (Some row) e =
+        let there = ap node_of_row e in
+        let lives = living_in s row.node (row_living s next at.0 row.node at.1 w there) in
+        let kind = sym (kind_known s next row.node) ∙ kind_of (node_in s row.node) row e refl lives in
+        sym (ap (option_and_then (λ x. option_map (λ kind. (x, kind)) (kind_at t x))) (rows_found s at ∙ there) ∙
+        ap (option_map (λ k. (row.node, k))) kind)
 
 pub target_known : (s : Slots) (next x : ℕ) → option_and_then (λ (n : SlotNode). option_map (λ target. target.items) n.target) (node_in s x)
     ≡ target_at (held_in_slots s next) x

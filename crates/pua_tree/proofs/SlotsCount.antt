@@ -10,10 +10,11 @@ use Rattle.indexmap.specs.IndexMap.{IsUnique}
 use Rattle.pua_tree.specs.Tree as tree
 use Rattle.pua_tree.specs.Slots.{IsFiled}
 use Rattle.pua_tree.specs.declared.spot.Spot.{Spot}
+use Rattle.pua_tree.specs.declared.slots.RowNode.{RowNode}
 use Rattle.pua_tree.specs.contracts.spot.SpotPartialEq.TheImpl.{ghosts as spot_ghosts}
 use Rattle.pua_tree.specs.contracts.node.NodeIdPartialEq.TheImpl.{ghosts as number_ghosts}
 use Rattle.pua_tree.proofs.Base.{Some≢None}
-use Rattle.pua_tree.proofs.SlotsHold.{rows_found_in, nodes_found_in}
+use Rattle.pua_tree.proofs.SlotsHold.{node_of_row, rows_found_in, nodes_found_in}
 
 length-put : {K X : Type 0} (R : K → K → Ordering) (k : K) (v : X) (es : List (K × X)) → find R k es ≡ None →
     length (put R k v es) ≡ suc (length es)
@@ -32,15 +33,16 @@ first_only : {K X : Type 0} (eq : K → K → Bool) (k : K) (es : List (K × X))
 first_only eq k [] h = refl
 first_only eq k (e ∷ es) h = ap (λ b. cond b (Some e.1) (lookup (eq k) es)) h.0 ∙ first_only eq k es h.1
 
-rows_as_many : (es : List (Spot × ℕ)) → IsDistinct spot_ghosts.eq (keys_of es) →
-    length (in_order spot_cmp (map {B = tree.Spot × Option ℕ} (λ e. ((e.0.dir, e.0.name), Some e.1)) es)) ≡ length es
+rows_as_many : (es : List (Spot × RowNode)) → IsDistinct spot_ghosts.eq (keys_of es) →
+    length (in_order spot_cmp (map {B = tree.Spot × Option ℕ} (λ e. ((e.0.dir, e.0.name), Some e.1.node)) es)) ≡ length es
 rows_as_many [] d = refl
 rows_as_many (e ∷ es) d =
     length-put spot_cmp (
       e.0.dir,
       e.0.name,
-    ) e.1 (in_order spot_cmp (map {B = tree.Spot × Option ℕ} (λ e. ((e.0.dir, e.0.name), Some e.1)) es))
-    (rows_found_in es (e.0.dir, e.0.name) ∙ first_only spot_ghosts.eq e.0 es (IsDistinct-head spot_ghosts.eq e.0 (keys_of es) d))
+    ) e.1.node (in_order spot_cmp (map {B = tree.Spot × Option ℕ} (λ e. ((e.0.dir, e.0.name), Some e.1.node)) es))
+    (rows_found_in es (e.0.dir, e.0.name) ∙
+    ap node_of_row (first_only spot_ghosts.eq e.0 es (IsDistinct-head spot_ghosts.eq e.0 (keys_of es) d)))
     ∙ ap suc (rows_as_many es (IsDistinct-tail spot_ghosts.eq e.0 (keys_of es) d))
 
 pub row_count_is : (s : Slots) → IsUnique spot_ghosts.eq s.rows → length (held_rows s) ≡ index_map_len s.rows

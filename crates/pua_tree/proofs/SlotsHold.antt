@@ -7,7 +7,9 @@ use Rattle.pua_tree.proofs.Common.{row_at, node_in, made_of, in_order, with_entr
 use Rattle.indexmap.specs.IndexMap.{UpdatesBy}
 use Rattle.slab.specs.Slab.{get as slot_get}
 use Rattle.pua_tree.specs.Tree as tree
+use Rattle.pua_tree.specs.Slots.{row_in}
 use Rattle.pua_tree.specs.declared.spot.Spot.{Spot}
+use Rattle.pua_tree.specs.declared.slots.RowNode.{RowNode}
 use Rattle.pua_tree.specs.contracts.spot.SpotPartialEq.TheImpl.{ghosts as spot_ghosts}
 use Rattle.pua_tree.specs.contracts.node.NodeIdPartialEq.TheImpl.{ghosts as number_ghosts}
 use Rattle.pua_tree.proofs.Content.{spots_total, exact_spots}
@@ -34,32 +36,46 @@ turned_key a b = same_from_decides {P = a ≡ b} _ _
     (λ e. exact_spots a b ((Equal-is _).0 e), λ s. subst (λ c. is_eq (spot_cmp a c) ≡ true) s (ap is_eq (tied_itself spots_total a)))
     (λ e. sym (exact_spots b a ((Equal-is _).0 e)), λ s. subst (λ c. is_eq (spot_cmp c a) ≡ true) s (ap is_eq (tied_itself spots_total a)))
 
-pub rows_found_in : (es : List (Spot × ℕ)) (at : tree.Spot)
-    → find spot_cmp at (in_order spot_cmp (map {B = tree.Spot × Option ℕ} (λ e. ((e.0.dir, e.0.name), Some e.1)) es))
-    ≡ lookup (spot_ghosts.eq (key_at at)) es
+-- the node of a row that may be there
+abbrev pub node_of_row : Option RowNode → Option ℕ
+node_of_row row = option_map (λ (r : RowNode). r.node) row
+
+pub node_of_one : (b : Bool) (row : Option RowNode) (v : Option RowNode) →
+    node_of_row (cond b row v) ≡ cond b (node_of_row row) (node_of_row v)
+node_of_one true row v = refl
+node_of_one false row v = refl
+
+pub rows_found_in : (es : List (Spot × RowNode)) (at : tree.Spot)
+    → find spot_cmp at (in_order spot_cmp (map {B = tree.Spot × Option ℕ} (λ e. ((e.0.dir, e.0.name), Some e.1.node)) es))
+    ≡ node_of_row (lookup (spot_ghosts.eq (key_at at)) es)
 rows_found_in [] at = refl
 rows_found_in (e ∷ es) at =
-    find-put spot_cmp spots_total at (e.0.dir, e.0.name) e.1 _
-    ∙ (λ i. cond (same_tie at (e.0.dir, e.0.name) i) (Some e.1) (rows_found_in es at i))
+    find-put spot_cmp spots_total at (e.0.dir, e.0.name) e.1.node _
+    ∙ (λ i. cond (same_tie at (e.0.dir, e.0.name) i) (Some e.1.node) (rows_found_in es at i))
+    ∙ sym (node_of_one (spot_ghosts.eq (key_at at) e.0) (Some e.1) (lookup (spot_ghosts.eq (key_at at)) es))
 
 -- rows are found where they are held
 pub rows_found : (s : Slots) (at : tree.Spot) → find spot_cmp at (held_rows s) ≡ row_at s at
 rows_found s at = rows_found_in s.rows.entries at
 
 pub rows_sorted : (s : Slots) → T (is_sorted spot_cmp (held_rows s))
-rows_sorted s = sorted_in_order spot_cmp spots_total (map {B = tree.Spot × Option ℕ} (λ e. ((e.0.dir, e.0.name), Some e.1)) s.rows.entries)
+rows_sorted s = sorted_in_order spot_cmp spots_total
+    (map {B = tree.Spot × Option ℕ} (λ e. ((e.0.dir, e.0.name), Some e.1.node)) s.rows.entries)
 
 pub nodes_sorted : (s : Slots) → T (is_sorted nat_cmp (held_nodes s))
 nodes_sorted s = sorted_in_order nat_cmp nat_cmp_total
     (map {B = ℕ × Option tree.Node} (λ e. (e.0, option_map made_of (slot_get s.nodes e.1))) s.numbers.entries)
 
 -- a row put
-pub rows_put : (old new : Slots) (at : tree.Spot) (x : ℕ) → UpdatesBy spot_ghosts.eq (spot_ghosts.eq (key_at at)) old.rows new.rows (Some x)
-    → held_rows new ≡ put spot_cmp at x (held_rows old)
-rows_put old new at x u =
+pub rows_put : (old new : Slots) (at : tree.Spot) (row : RowNode) →
+    UpdatesBy spot_ghosts.eq (spot_ghosts.eq (key_at at)) old.rows new.rows (Some row)
+    → held_rows new ≡ put spot_cmp at row.node (held_rows old)
+rows_put old new at row u =
+    let x = row.node in
     same_entries spot_cmp spots_total exact_spots (held_rows new) (put spot_cmp at x (held_rows old)) (rows_sorted new)
     (is_sorted-put spot_cmp spots_total at x (held_rows old) (rows_sorted old))
-    (λ q. rows_found new q ∙ u.0 (key_at q)
+    (λ q. rows_found new q ∙ ap node_of_row (u.0 (key_at q))
+    ∙ node_of_one (spot_ghosts.eq (key_at at) (key_at q)) (Some row) (row_in old q)
     ∙ ap (λ b. cond b (Some x) (row_at old q)) (same_key at q ∙ turned_key at q)
     ∙ ap (λ v. cond (is_eq (spot_cmp q at)) (Some x) v) (sym (rows_found old q))
     ∙ sym (find-put spot_cmp spots_total q at x (held_rows old)))
@@ -70,7 +86,8 @@ pub rows_taken : (old new : Slots) (at : tree.Spot) → UpdatesBy spot_ghosts.eq
 rows_taken old new at u =
     same_entries spot_cmp spots_total exact_spots (held_rows new) (where_key spot_cmp (λ spot. not (is_eq (spot_cmp at spot)))
     (held_rows old)) (rows_sorted new) (is_sorted-where_key spot_cmp _ (held_rows old) (rows_sorted old))
-    (λ q. rows_found new q ∙ u.0 (key_at q)
+    (λ q. rows_found new q ∙ ap node_of_row (u.0 (key_at q))
+    ∙ node_of_one (spot_ghosts.eq (key_at at) (key_at q)) None (row_in old q)
     ∙ ap (λ b. cond b None (row_at old q)) (same_key at q)
     ∙ ap (λ v. cond (is_eq (spot_cmp at q)) None v) (sym (rows_found old q))
     ∙ turned (is_eq (spot_cmp at q)) (find spot_cmp q (held_rows old))
@@ -169,5 +186,5 @@ nodes_taken old new x found =
 
 -- rows are held by the entries of their map alone
 pub rows_by_entries : (s t : Slots) → s.rows.entries ≡ t.rows.entries → held_rows s ≡ held_rows t
-rows_by_entries s t e = ap (λ es. in_order spot_cmp (map {B = tree.Spot × Option ℕ} (λ (e : Spot × ℕ). ((e.0.dir, e.0.name), Some e.1)) es))
-    e
+rows_by_entries s t e =
+    ap (λ es. in_order spot_cmp (map {B = tree.Spot × Option ℕ} (λ (e : Spot × RowNode). ((e.0.dir, e.0.name), Some e.1.node)) es)) e

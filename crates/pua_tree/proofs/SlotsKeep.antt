@@ -3,13 +3,17 @@ use Rattle.pua_tree.proofs.Common.{◌≡◌, ◌≢◌, ℕ, ◌+◌, ◌-◌, 
 use Rattle.pua_tree.proofs.Common.{option_map, refl, sym, ap, ◌∙◌, arith, inl, inr, eqb-true, eq-eqb, IfSome, is_eq, find, put, where_key}
 use Rattle.pua_tree.proofs.Common.{spot_cmp, row_at, node_in, made_of, held_rows, held_nodes, rows_in, names_of, AreConsistent, Dir, Slots}
 use Rattle.pua_tree.proofs.Common.{SlotNode}
-use Rattle.std.proofs.Common.{ne_eqb}
+use Rattle.std.proofs.Common.{ne_eqb, BuildHasherDefault, FoldHasher}
 use Rattle.std.proofs.lemmas.List.Sums.{count_by-le-length}
-use Rattle.indexmap.specs.IndexMap.{UpdatesBy}
+use Rattle.indexmap.specs.IndexMap.{IndexMap, UpdatesBy}
 use Rattle.pua_tree.specs.Tree as tree
 use Rattle.pua_tree.specs.Slots.{with_stance, one_at, row_gained}
 use Rattle.pua_tree.specs.Slots.{row_lost, name_gained, name_lost, Restands, MayStand}
 use Rattle.pua_tree.specs.declared.slots.Stance.{Stance}
+use Rattle.pua_tree.specs.declared.slots.RowNode.{RowNode}
+use Rattle.pua_tree.specs.declared.spot.Spot.{Spot}
+use Rattle.pua_tree.specs.Slots.{row_in}
+use Rattle.std.specs.Prelude.{Bool}
 use Rattle.pua_tree.specs.contracts.spot.SpotPartialEq.TheImpl.{ghosts as spot_ghosts}
 use Rattle.pua_tree.proofs.Base.{mapped, same_Some, Some≢None}
 use Rattle.pua_tree.proofs.Content.{spots_total, exact_spots}
@@ -23,6 +27,9 @@ each (Some x) f = f x refl
 
 pub rows_by : (s t : Slots) → s.rows ≡ t.rows → held_rows s ≡ held_rows t
 rows_by s t e = λ i. held_rows (record s { rows = e i })
+
+pub row_by : (s t : Slots) → s.rows ≡ t.rows → (at : tree.Spot) → row_in s at ≡ row_in t at
+row_by s t e at = λ i. row_in (record s { rows = e i }) at
 
 -- two changes of standings in turn
 module _ (old mid new : Slots) (f g : ℕ → Stance → Stance) (a : Restands old mid f) (b : Restands mid new g) where
@@ -56,83 +63,99 @@ named rows at x f none =
 one_here : (d : ℕ) → one_at d d ≡ 1
 one_here d = ap (λ b. cond b 1 0) (eq-eqb d d refl)
 
--- a row put
-module _ (old between more new : Slots) (at : tree.Spot) (x : ℕ) (kept : AreConsistent old)
-    (updates : UpdatesBy spot_ghosts.eq (spot_ghosts.eq (key_at at)) old.rows between.rows (Some x)) (same : (y : ℕ) →
-    node_in between y ≡ node_in old y)
-    (free : row_at old at ≡ None) (may : MayStand old x) where
-  none_there : find spot_cmp at (held_rows old) ≡ None
-  none_there = rows_found old at ∙ free
-
-  pub few_rows : length (held_rows old) < 2 ^ 63 → IfSome (node_in between at.0) (λ node. node.standing.rows < 2 ^ 63)
-  few_rows small = each (node_in between at.0) (λ n e.
-      let counted = kept.standing.rows_counted at.0 n (sym (same at.0) ∙ e) in
+-- what a row that is put asks of standings
+module _ (old more : Slots) (at : tree.Spot) (x : ℕ) (kept : AreConsistent old) (small : length (held_rows old) < 2 ^ 63) where
+  pub few_rows : IfSome (node_in old at.0) (λ node. node.standing.rows < 2 ^ 63)
+  few_rows = each (node_in old at.0) (λ n e.
+      let counted = kept.standing.rows_counted at.0 n e in
       let within = count_by-le-length (λ (row : tree.Spot × ℕ). row.0.0 == at.0) (held_rows old) in
       omega (arith, counted, within, small))
 
-  module _ (a : Restands between more (row_gained at.0)) where
-    pub few_names : length (held_rows old) < 2 ^ 63 → IfSome (node_in more x) (λ node. node.standing.names < 2 ^ 63)
-    few_names small = each (node_in more x) (λ m e.
-        let w = mapped (λ n. with_stance (row_gained at.0 x n.standing) n) (node_in between x) m (sym (a.nodes x) ∙ e) in
-        let counted = kept.standing.names_counted x w.0 (sym (same x) ∙ w.1) in
-        let within = count_by-le-length (λ (row : tree.Spot × ℕ). row.1 == x) (held_rows old) in
-        let names : w.0.standing.names ≡ m.standing.names = ap (λ (n : SlotNode). n.standing.names) w.2 in
-        omega (arith, counted, within, small, names))
+  pub few_names : Restands old more (row_gained at.0) → IfSome (node_in more x) (λ node. node.standing.names < 2 ^ 63)
+  few_names a = each (node_in more x) (λ m e.
+      let w = mapped (λ n. with_stance (row_gained at.0 x n.standing) n) (node_in old x) m (sym (a.nodes x) ∙ e) in
+      let counted = kept.standing.names_counted x w.0 w.1 in
+      let within = count_by-le-length (λ (row : tree.Spot × ℕ). row.1 == x) (held_rows old) in
+      let names : w.0.standing.names ≡ m.standing.names = ap (λ (n : SlotNode). n.standing.names) w.2 in
+      omega (arith, counted, within, small, names))
 
-    module _ (b : Restands more new (name_gained at.0 x)) where
-      pub rows_after_put : held_rows new ≡ put spot_cmp at x (held_rows old)
-      rows_after_put = rows_by new between (b.rows ∙ a.rows) ∙ rows_put old between at x updates
+-- a row put
+module _ (old more mid : Slots) (rows : IndexMap Spot RowNode (BuildHasherDefault FoldHasher)) (at : tree.Spot) (placed : RowNode)
+    (kept : AreConsistent old)
+    (a : Restands old more (row_gained at.0)) (b : Restands more mid (name_gained at.0 placed.node))
+    (updates : UpdatesBy spot_ghosts.eq (spot_ghosts.eq (key_at at)) mid.rows rows (Some placed)) (free : row_at old at ≡ None)
+    (may : MayStand old placed.node) where
+  abbrev new : Slots
+  new = record mid { rows = rows }
 
-      pub nodes_after_put : held_nodes new ≡ held_nodes old
-      nodes_after_put = nodes_same old new (λ y. made_alike between more new (row_gained at.0) (name_gained at.0 x) a b y ∙
-          ap (λ (o : Option SlotNode). option_map made_of o) (same y))
+  abbrev x : ℕ
+  x = placed.node
 
-      stood : (y : ℕ) (m : SlotNode) → node_in new y ≡ Some m →
-          (n : SlotNode) × (node_in old y ≡ Some n) × (changed between more new (row_gained at.0) (name_gained at.0 x) a b y n ≡ m)
-      stood y m e = let w = was between more new (row_gained at.0) (name_gained at.0 x) a b y m e in (w.0, sym (same y) ∙ w.1, w.2)
+  none_there : find spot_cmp at (held_rows old) ≡ None
+  none_there = rows_found old at ∙ free
 
-      pub kept_after_put : AreConsistent new
-      kept_after_put = record {
-        filed = b.filed;
-        standing = record {
-          rows_counted = λ y m e. (let w = stood y m e in
-              sym (ap (λ (n : SlotNode). n.standing.rows) w.2)
-              ∙ ap (λ r. r + one_at at.0 y) (kept.standing.rows_counted y w.0 w.1)
-              ∙ sym (counted-put spot_cmp spots_total exact_spots (λ row. row.0.0 == y) at x (held_rows old) none_there)
-              ∙ sym (ap (λ rows. rows_in rows y) rows_after_put));
-          names_counted = λ y m e. (let w = stood y m e in
-              sym (ap (λ (n : SlotNode). n.standing.names) w.2)
-              ∙ ap (λ r. r + one_at x y) (kept.standing.names_counted y w.0 w.1)
-              ∙ sym (counted-put spot_cmp spots_total exact_spots (λ row. row.1 == y) at x (held_rows old) none_there)
-              ∙ sym (ap (λ rows. names_of rows y) rows_after_put));
-          dir_above = λ spot y m f e d. (let w = stood y m e in
-              let found : find spot_cmp spot (put spot_cmp at x (held_rows old)) ≡ Some y = ap (find spot_cmp spot) (sym rows_after_put) ∙
-              f in
-              let above : m.standing.above ≡ cond (x == y) at.0 w.0.standing.above = sym (ap (λ (n : SlotNode). n.standing.above) w.2) in
-              let kind : w.0.kind ≡ Dir = ap (λ (n : SlotNode). n.kind) w.2 ∙ d in
-              elim (same_or_other spot_cmp spots_total exact_spots spot at) [
-                | inl s ↦ (let here : x ≡ y = same_Some x y (sym (put_here spot_cmp spots_total exact_spots at x (held_rows old)) ∙
-                    ap (λ q. find spot_cmp q (put spot_cmp at x (held_rows old))) (sym s.0) ∙ found) in
-                    above ∙ ap (λ t. cond t at.0 w.0.standing.above) (eq-eqb x y here) ∙ ap (λ (q : tree.Spot). q.0) (sym s.0))
-                | inr s ↦ (let row : find spot_cmp spot (held_rows old) ≡ Some y =
-                    sym (put_elsewhere spot_cmp spots_total exact_spots spot at x (held_rows old) s.0) ∙ found in
-                    above ∙ elsewhere spot y w.0 kind w.1 row)
-              ]);
-          above_root = λ m e. (let w = stood 0 m e in
-              sym (ap (λ (n : SlotNode). n.standing.above) w.2) ∙ ap (λ t. cond t at.0 w.0.standing.above) (ne_eqb x 0 may.not_root) ∙
-              kept.standing.above_root w.0 w.1);
-        };
-      }
-        where
-          elsewhere : (spot : tree.Spot) (y : ℕ) (n : SlotNode) → n.kind ≡ Dir → node_in old y ≡ Some n →
-              find spot_cmp spot (held_rows old) ≡ Some y → cond (x == y) at.0 n.standing.above ≡ spot.0
-          elsewhere spot y n kind e row =
-              elim (x == y) as (λ b. (x == y) ≡ b → cond b at.0 n.standing.above ≡ spot.0) [
-                | true ↦ λ t. (let here : x ≡ y = eqb-true x y t in
-                    absurd (named (held_rows old) spot y row (ap (names_of (held_rows old)) (sym here) ∙
-                    may.dir_once n (ap (node_in old) here ∙ e) kind)))
-                | false ↦ λ _. kept.standing.dir_above spot y n row e kind
-              ] refl
+  pub rows_after_put : held_rows new ≡ put spot_cmp at x (held_rows old)
+  rows_after_put = rows_put mid new at placed updates ∙ ap (put spot_cmp at x) (rows_by mid old (b.rows ∙ a.rows))
+
+  pub nodes_after_put : held_nodes new ≡ held_nodes old
+  nodes_after_put = nodes_same old new (made_alike old more mid (row_gained at.0) (name_gained at.0 x) a b)
+
+  stood : (y : ℕ) (m : SlotNode) → node_in new y ≡ Some m →
+      (n : SlotNode) × (node_in old y ≡ Some n) × (changed old more mid (row_gained at.0) (name_gained at.0 x) a b y n ≡ m)
+  stood = was old more mid (row_gained at.0) (name_gained at.0 x) a b
+
+  pub kept_after_put : ((n : SlotNode) → node_in old x ≡ Some n → n.kind ≡ placed.kind) → AreConsistent new
+  kept_after_put kind_is = record {
+    filed = record { filled = b.filed.filled; apart = b.filed.apart; no_other = b.filed.no_other };
+    standing = record {
+      rows_counted = λ y m e. (let w = stood y m e in
+          sym (ap (λ (n : SlotNode). n.standing.rows) w.2)
+          ∙ ap (λ r. r + one_at at.0 y) (kept.standing.rows_counted y w.0 w.1)
+          ∙ sym (counted-put spot_cmp spots_total exact_spots (λ row. row.0.0 == y) at x (held_rows old) none_there)
+          ∙ sym (ap (λ rows. rows_in rows y) rows_after_put));
+      names_counted = λ y m e. (let w = stood y m e in
+          sym (ap (λ (n : SlotNode). n.standing.names) w.2)
+          ∙ ap (λ r. r + one_at x y) (kept.standing.names_counted y w.0 w.1)
+          ∙ sym (counted-put spot_cmp spots_total exact_spots (λ row. row.1 == y) at x (held_rows old) none_there)
+          ∙ sym (ap (λ rows. names_of rows y) rows_after_put));
+      dir_above = λ spot y m f e d. (let w = stood y m e in
+          let found : find spot_cmp spot (put spot_cmp at x (held_rows old)) ≡ Some y = ap (find spot_cmp spot) (sym rows_after_put) ∙
+          f in
+          let above : m.standing.above ≡ cond (x == y) at.0 w.0.standing.above = sym (ap (λ (n : SlotNode). n.standing.above) w.2) in
+          let kind : w.0.kind ≡ Dir = ap (λ (n : SlotNode). n.kind) w.2 ∙ d in
+          elim (same_or_other spot_cmp spots_total exact_spots spot at) [
+            | inl s ↦ (let here : x ≡ y = same_Some x y (sym (put_here spot_cmp spots_total exact_spots at x (held_rows old)) ∙
+                ap (λ q. find spot_cmp q (put spot_cmp at x (held_rows old))) (sym s.0) ∙ found) in
+                above ∙ ap (λ t. cond t at.0 w.0.standing.above) (eq-eqb x y here) ∙ ap (λ (q : tree.Spot). q.0) (sym s.0))
+            | inr s ↦ (let row : find spot_cmp spot (held_rows old) ≡ Some y =
+                sym (put_elsewhere spot_cmp spots_total exact_spots spot at x (held_rows old) s.0) ∙ found in
+                above ∙ elsewhere spot y w.0 kind w.1 row)
+          ]);
+      above_root = λ m e. (let w = stood 0 m e in
+          sym (ap (λ (n : SlotNode). n.standing.above) w.2) ∙ ap (λ t. cond t at.0 w.0.standing.above) (ne_eqb x 0 may.not_root) ∙
+          kept.standing.above_root w.0 w.1);
+    };
+    kinds = λ q row m r e. (let w = stood row.node m e in
+        sym (ap (λ (n : SlotNode). n.kind) w.2) ∙
+        said q row w.0 w.1 (spot_ghosts.eq (key_at at) (key_at q)) (sym (updates.0 (key_at q)) ∙ r));
+  }
+    where
+      elsewhere : (spot : tree.Spot) (y : ℕ) (n : SlotNode) → n.kind ≡ Dir → node_in old y ≡ Some n →
+          find spot_cmp spot (held_rows old) ≡ Some y → cond (x == y) at.0 n.standing.above ≡ spot.0
+      elsewhere spot y n kind e row =
+          elim (x == y) as (λ b. (x == y) ≡ b → cond b at.0 n.standing.above ≡ spot.0) [
+            | true ↦ λ t. (let here : x ≡ y = eqb-true x y t in
+                absurd (named (held_rows old) spot y row (ap (names_of (held_rows old)) (sym here) ∙
+                may.dir_once n (ap (node_in old) here ∙ e) kind)))
+            | false ↦ λ _. kept.standing.dir_above spot y n row e kind
+          ] refl
+
+      said : (q : tree.Spot) (row : RowNode) (n : SlotNode) → node_in old row.node ≡ Some n → (here : Bool) →
+          cond here (Some placed) (row_in mid q) ≡ Some row → n.kind ≡ row.kind
+      said q row n e true r =
+          let same = same_Some placed row r in
+          kind_is n (ap (λ (p : RowNode). node_in old p.node) same ∙ e) ∙ ap (λ (p : RowNode). p.kind) same
+      said q row n e false r = kept.kinds q row n (sym (row_by mid old (b.rows ∙ a.rows) q) ∙ r) e
 
 -- a row taken away
 module _ (old between more new : Slots) (at : tree.Spot) (x : ℕ) (kept : AreConsistent old)
@@ -210,4 +233,12 @@ module _ (old between more new : Slots) (at : tree.Spot) (x : ℕ) (kept : AreCo
           above_root = λ m e. (let w = left 0 m e in
               sym (ap (λ (n : SlotNode). n.standing.above) w.2) ∙ kept.standing.above_root w.0 w.1);
         };
+        kinds = λ q row m r e. (let w = left row.node m e in
+            sym (ap (λ (n : SlotNode). n.kind) w.2) ∙
+            kept.kinds q row w.0 (stayed (row_in old q) (spot_ghosts.eq (key_at at) (key_at q)) row (sym (updates.0 (key_at q)) ∙
+            sym (row_by new between (b.rows ∙ a.rows) q) ∙ r)) w.1);
       }
+        where
+          stayed : (was : Option RowNode) (here : Bool) (row : RowNode) → cond here None was ≡ Some row → was ≡ Some row
+          stayed was true row r = absurd (Some≢None row (sym r))
+          stayed was false row r = r

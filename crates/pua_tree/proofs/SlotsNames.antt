@@ -11,6 +11,7 @@ use Rattle.std.specs.FinMap.{slice_cmp-IsAntisymmetric}
 use Rattle.pua_tree.specs.Tree as tree
 use Rattle.pua_tree.specs.Tree.{with_name}
 use Rattle.pua_tree.specs.declared.spot.Spot.{Spot}
+use Rattle.pua_tree.specs.declared.slots.RowNode.{RowNode}
 use Rattle.pua_tree.proofs.Content.{exact_spots}
 use Rattle.pua_tree.proofs.Rows.{with_name_is}
 
@@ -92,12 +93,13 @@ any-put p k v (e ∷ es) =
     swapped true false c = refl
     swapped false b c = refl
 
-any_held : (p : List ℕ → Bool) (es : List (Spot × ℕ)) →
-    list_any p (map row_name (in_order spot_cmp (map {B = tree.Spot × Option ℕ} (λ e. ((e.0.dir, e.0.name), Some e.1)) es)))
+any_held : (p : List ℕ → Bool) (es : List (Spot × RowNode)) →
+    list_any p (map row_name (in_order spot_cmp (map {B = tree.Spot × Option ℕ} (λ e. ((e.0.dir, e.0.name), Some e.1.node)) es)))
     ≡ list_any (λ (k : Spot). p k.name) (keys_of es)
 any_held p [] = refl
 any_held p (e ∷ es) =
-    any-put p (e.0.dir, e.0.name) e.1 (in_order spot_cmp (map {B = tree.Spot × Option ℕ} (λ e. ((e.0.dir, e.0.name), Some e.1)) es))
+    any-put p (e.0.dir, e.0.name) e.1.node
+    (in_order spot_cmp (map {B = tree.Spot × Option ℕ} (λ e. ((e.0.dir, e.0.name), Some e.1.node)) es))
     ∙ ap (λ b. p e.0.name || b) (any_held p es)
 
 any_mapped : (p : List ℕ → Bool) (ks : List Spot) → list_any p (map (λ (k : Spot). k.name) ks) ≡ list_any (λ (k : Spot). p k.name) ks

@@ -6,12 +6,15 @@ use Rattle.std.proofs.Common.{ne_eqb}
 use Rattle.slab.specs.Slab.{get as slot_get, slab_len, Updates}
 use Rattle.pua_tree.specs.Slots.{IsFiled}
 use Rattle.pua_tree.proofs.Base.{same_Some, None≢Some}
-use Rattle.pua_tree.proofs.SlotsKeep.{named}
+use Rattle.pua_tree.specs.contracts.spot.SpotPartialEq.TheImpl.{ghosts as spot_ghosts}
+use Rattle.pua_tree.proofs.Common.{lookup}
+use Rattle.pua_tree.proofs.SlotsHold.{key_at, node_of_row, rows_found, rows_by_entries}
+use Rattle.pua_tree.proofs.SlotsKeep.{named, rows_by, row_by}
 
 -- what is found alike is kept alike
-pub kept_alike : (old new : Slots) → held_rows new ≡ held_rows old → ((x : ℕ) → node_in new x ≡ node_in old x) → IsFiled new →
+pub kept_alike : (old new : Slots) → old.rows.entries ≡ new.rows.entries → ((x : ℕ) → node_in new x ≡ node_in old x) → IsFiled new →
     AreConsistent old → AreConsistent new
-kept_alike old new rows found filed kept = record {
+kept_alike old new entries found filed kept = let rows = rows_by_entries new old (sym entries) in record {
   filed = filed;
   standing = record {
     rows_counted = λ x n e. kept.standing.rows_counted x n (sym (found x) ∙ e) ∙ ap (λ r. rows_in r x) (sym rows);
@@ -19,6 +22,7 @@ kept_alike old new rows found filed kept = record {
     dir_above = λ at x n f e d. kept.standing.dir_above at x n (ap (find spot_cmp at) (sym rows) ∙ f) (sym (found x) ∙ e) d;
     above_root = λ n e. kept.standing.above_root n (sym (found 0) ∙ e);
   };
+  kinds = λ at row n r e. kept.kinds at row n (ap (lookup (spot_ghosts.eq (key_at at))) entries ∙ r) (sym (found row.node) ∙ e);
 }
 
 pub filed_alike : (old new : Slots) → ((x : ℕ) → slot_of new x ≡ slot_of old x) →
@@ -89,9 +93,9 @@ module _ (old new : Slots) (x slot : ℕ) (node : SlotNode) (f : IsFiled old) (f
     no_other = more_nodes ∙ ap (λ n. n + 1) f.no_other ∙ sym more_numbers;
   }
 
-  pub kept_added : AreConsistent old → held_rows new ≡ held_rows old → rows_in (held_rows old) x ≡ 0 → names_of (held_rows old) x ≡ 0
+  pub kept_added : AreConsistent old → new.rows ≡ old.rows → rows_in (held_rows old) x ≡ 0 → names_of (held_rows old) x ≡ 0
       → node.standing.rows ≡ 0 → node.standing.names ≡ 0 → node.standing.above ≡ 0 → AreConsistent new
-  kept_added kept rows no_rows no_names zero_rows zero_names zero_above = record {
+  kept_added kept same no_rows no_names zero_rows zero_names zero_above = let rows = rows_by new old same in record {
     filed = filed_added;
     standing = record {
       rows_counted = λ q n e. by q n e (λ m. m.standing.rows ≡ rows_in (held_rows new) q) (λ t. zero_rows ∙
@@ -105,6 +109,9 @@ module _ (old new : Slots) (x slot : ℕ) (node : SlotNode) (f : IsFiled old) (f
           no_names))) (λ w. kept.standing.dir_above at q n row w d));
       above_root = λ n e. by 0 n e (λ m. m.standing.above ≡ 0) (λ t. zero_above) (λ w. kept.standing.above_root n w);
     };
+    kinds = λ at row n r e. (let row_was = sym (row_by new old same at) ∙ r in
+        by row.node n e (λ m. m.kind ≡ row.kind) (λ t. absurd (named (held_rows old) at row.node (rows_found old at ∙
+        ap node_of_row row_was) (ap (names_of (held_rows old)) t ∙ no_names))) (λ w. kept.kinds at row n row_was w));
   }
     where
       by : (q : ℕ) (n : SlotNode) → node_in new q ≡ Some n → (P : SlotNode → Type 0) → (q ≡ x → P node) → (node_in old q ≡ Some n → P n) →
@@ -154,9 +161,9 @@ module _ (old new : Slots) (x slot : ℕ) (f : IsFiled old) (had : slot_of old x
   }
 
 -- what is left is kept
-pub kept_dropped : (old new : Slots) (x : ℕ) → AreConsistent old → held_rows new ≡ held_rows old →
+pub kept_dropped : (old new : Slots) (x : ℕ) → AreConsistent old → new.rows ≡ old.rows →
     ((q : ℕ) → node_in new q ≡ cond (q == x) None (node_in old q)) → IsFiled new → AreConsistent new
-kept_dropped old new x kept rows found filed = record {
+kept_dropped old new x kept same found filed = let rows = rows_by new old same in record {
   filed = filed;
   standing = record {
     rows_counted = λ q n e. kept.standing.rows_counted q n (was q n e) ∙ ap (λ r. rows_in r q) (sym rows);
@@ -164,6 +171,7 @@ kept_dropped old new x kept rows found filed = record {
     dir_above = λ at q n g e d. kept.standing.dir_above at q n (ap (find spot_cmp at) (sym rows) ∙ g) (was q n e) d;
     above_root = λ n e. kept.standing.above_root n (was 0 n e);
   };
+  kinds = λ at row n r e. kept.kinds at row n (sym (row_by new old same at) ∙ r) (was row.node n e);
 }
   where
     was : (q : ℕ) (n : SlotNode) → node_in new q ≡ Some n → node_in old q ≡ Some n

@@ -17,12 +17,13 @@ use lib.ListN.{get_or}
 use Rattle.indexmap.specs.IndexMap.{IsUnique}
 use Rattle.pua_tree.specs.Tree as tree
 use Rattle.pua_tree.specs.declared.spot.Spot.{Spot}
+use Rattle.pua_tree.specs.declared.slots.RowNode.{RowNode}
 use Rattle.pua_tree.specs.declared.tree.LentRow.{LentRow}
 use Rattle.pua_tree.specs.contracts.spot.SpotPartialEq.TheImpl.{ghosts as spot_ghosts}
 use Rattle.pua_tree.specs.contracts.tree.LentRowOrd.TheImpl.{ghosts as lent_ghosts}
 use Rattle.pua_tree.proofs.Base.{Some≢None}
 use Rattle.pua_tree.proofs.Content.{spots_total, exact_spots}
-use Rattle.pua_tree.proofs.SlotsHold.{key_at, same_tie, turned_key, rows_found_in, rows_sorted}
+use Rattle.pua_tree.proofs.SlotsHold.{key_at, node_of_row, node_of_one, same_tie, turned_key, rows_found_in, rows_sorted}
 
 module _ {K X : Type 0} (R : K → K → Ordering) (o : IsTotalOrder R) (exact : (x y : K) → R x y ≡ Equal → x ≡ y) where
   find_is : (q : K) (es : List (K × X)) → find R q es ≡ lookup (eq_by_cmp R q) es
@@ -62,26 +63,28 @@ module _ {K X : Type 0} (R : K → K → Ordering) (o : IsTotalOrder R) (exact :
       both false b p q = p
 
 -- the row of an entry
-abbrev pub entry_of : Spot × ℕ → tree.Spot × ℕ
-entry_of e = ((e.0.dir, e.0.name), e.1)
+abbrev pub entry_of : Spot × RowNode → tree.Spot × ℕ
+entry_of e = ((e.0.dir, e.0.name), e.1.node)
 
 abbrev same_spot : tree.Spot → tree.Spot → Bool
 same_spot = eq_by_cmp spot_cmp
 
-all_differ : (k : Spot) (es : List (Spot × ℕ)) → AllByRecursion (λ y. spot_ghosts.eq k y ≡ false) (keys_of es) →
+all_differ : (k : Spot) (es : List (Spot × RowNode)) → AllByRecursion (λ y. spot_ghosts.eq k y ≡ false) (keys_of es) →
     AllByRecursion (λ y. same_spot (k.dir, k.name) y ≡ false) (keys_of (map entry_of es))
 all_differ k [] h = tt
 all_differ k (e ∷ es) h = (same_tie (k.dir, k.name) (e.0.dir, e.0.name) ∙ h.0, all_differ k es h.1)
 
 -- distinct keys are distinct spots
-spots_differ : (es : List (Spot × ℕ)) → IsDistinct spot_ghosts.eq (keys_of es) → IsDistinct same_spot (keys_of (map entry_of es))
+spots_differ : (es : List (Spot × RowNode)) → IsDistinct spot_ghosts.eq (keys_of es) → IsDistinct same_spot (keys_of (map entry_of es))
 unfolding IsDistinct
 spots_differ [] d = tt
 spots_differ (e ∷ es) d = (all_differ e.0 es d.0, spots_differ es d.1)
 
-looked_up : (q : tree.Spot) (es : List (Spot × ℕ)) → lookup (same_spot q) (map entry_of es) ≡ lookup (spot_ghosts.eq (key_at q)) es
+looked_up : (q : tree.Spot) (es : List (Spot × RowNode)) →
+    lookup (same_spot q) (map entry_of es) ≡ node_of_row (lookup (spot_ghosts.eq (key_at q)) es)
 looked_up q [] = refl
-looked_up q (e ∷ es) = λ i. cond (same_tie q (e.0.dir, e.0.name) i) (Some e.1) (looked_up q es i)
+looked_up q (e ∷ es) = (λ i. cond (same_tie q (e.0.dir, e.0.name) i) (Some e.1.node) (looked_up q es i))
+    ∙ sym (node_of_one (spot_ghosts.eq (key_at q) e.0) (Some e.1) (lookup (spot_ghosts.eq (key_at q)) es))
 
 after : (dirs names nodes : Ordering) → is_lt (ordering_then dirs (ordering_then names nodes)) ≡ false →
     is_eq (ordering_then dirs names) ≡ false → ordering_then dirs names ≡ Greater

@@ -12,6 +12,7 @@ use Rattle.pua_tree.specs.Tree.{spot_cmp}
 use Rattle.pua_tree.specs.declared.node.Kind.TheVariants.{Dir}
 use Rattle.pua_tree.specs.declared.slots.Slots.{Slots}
 use Rattle.pua_tree.specs.declared.slots.SlotNode.{SlotNode}
+use Rattle.pua_tree.specs.declared.slots.RowNode.{RowNode}
 use Rattle.pua_tree.specs.declared.slots.Stance.{Stance}
 use Rattle.pua_tree.specs.contracts.spot.SpotPartialEq.TheImpl.{ghosts as spot_ghosts}
 use Rattle.pua_tree.specs.contracts.node.NodeIdPartialEq.TheImpl.{ghosts as number_ghosts}
@@ -19,9 +20,12 @@ use Rattle.pua_tree.specs.contracts.node.NodeIdPartialEq.TheImpl.{ghosts as numb
 abbrev pub made_of : SlotNode → tree.Node
 made_of node = record { kind = node.kind; target = option_map (λ target. target.items) node.target }
 
--- the node in the row at a spot
+-- what stands in the row at a spot, and the node there
+abbrev pub row_in : Slots → tree.Spot → Option RowNode
+row_in s at = get spot_ghosts.eq s.rows (record { dir = at.0; name = at.1 })
+
 abbrev pub row_at : Slots → tree.Spot → Option ℕ
-row_at s at = get spot_ghosts.eq s.rows (record { dir = at.0; name = at.1 })
+row_at s at = option_map (λ row. row.node) (row_in s at)
 
 -- the slot of a number
 abbrev pub slot_of : Slots → ℕ → Option ℕ
@@ -42,7 +46,7 @@ in_order cmp (e ∷ es) = with_entry cmp e.0 e.1 (in_order cmp es)
 
 -- the rows and the nodes that are held, as the tree has them
 abbrev pub held_rows : Slots → List (tree.Spot × ℕ)
-held_rows s = in_order spot_cmp (map {B = tree.Spot × Option ℕ} (λ e. ((e.0.dir, e.0.name), Some e.1)) s.rows.entries)
+held_rows s = in_order spot_cmp (map {B = tree.Spot × Option ℕ} (λ e. ((e.0.dir, e.0.name), Some e.1.node)) s.rows.entries)
 
 abbrev pub held_nodes : Slots → List (ℕ × tree.Node)
 held_nodes s = in_order nat_cmp (map {B = ℕ × Option tree.Node} (λ e. (e.0, option_map made_of (slot_get s.nodes e.1))) s.numbers.entries)
@@ -72,10 +76,16 @@ pub record StandsIn (rows : List (tree.Spot × ℕ)) (s : Slots) : Type 0 where
       node.kind ≡ Dir → node.standing.above ≡ at.0
   pub above_root : (node : SlotNode) → node_in s 0 ≡ Some node → node.standing.above ≡ 0
 
+-- each row says what its node is
+abbrev pub RowsSayKinds : Slots → Type 0
+RowsSayKinds s = (at : tree.Spot) (row : RowNode) (node : SlotNode) → row_in s at ≡ Some row → node_in s row.node ≡ Some node →
+    node.kind ≡ row.kind
+
 -- what is true of rows and nodes in slots after each of their changes
 pub record AreConsistent (s : Slots) : Type 0 where
   pub filed : IsFiled s
   pub standing : StandsIn (held_rows s) s
+  pub kinds : RowsSayKinds s
 
 -- a node that stands otherwise
 abbrev pub with_stance : Stance → SlotNode → SlotNode

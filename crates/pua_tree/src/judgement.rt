@@ -11,7 +11,8 @@ use crate::tree::{MOST_NAMES, NUMBER_END};
 /// part of `FileTree`.
 pub(crate) trait Judged {
     ghost use Rattle.std.specs.Prelude.{◌≡◌, ◌<◌, ◌^◌, length};
-    ghost use Rattle.pua_tree.specs.Tree.{Tree, WellFormed, kind_at, look, parent, is_empty};
+    ghost use Rattle.pua_tree.specs.Tree.{Tree, WellFormed, kind_at, look, found_at, parent};
+    ghost use Rattle.pua_tree.specs.Tree.{is_empty};
 
     /// What the tree holds.
     ghost held: { Self → Tree };
@@ -27,6 +28,10 @@ pub(crate) trait Judged {
     /// The node in the row at this spot.
     fn node_at(&self, spot: &Spot) -> Option<NodeId>
         ensures { result ≡ look (held self.now) spot.now.dir spot.now.name };
+
+    /// The node in the row at this spot, and its kind.
+    fn found(&self, spot: &Spot) -> Option<(NodeId, Kind)>
+        ensures { result ≡ found_at (held self.now) spot.now.dir spot.now.name };
 
     /// The directory above a living directory.
     fn dir_above(&self, dir: NodeId) -> Option<NodeId>
@@ -68,9 +73,7 @@ pub(crate) fn find<T: Judged>(tree: &T, dir: NodeId, bytes: &[u8]) -> Option<(No
     let Some(name) = Name::from_bytes(bytes) else {
         return None;
     };
-    let node = tree.node_at(&Spot { dir, name })?;
-    let kind = tree.kind_of(node)?;
-    Some((node, kind))
+    tree.found(&Spot { dir, name })
 }
 
 /// Whether a node may be added under this name, or else the first fault.

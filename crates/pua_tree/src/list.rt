@@ -225,6 +225,12 @@ impl Judged for ListTree {
         }
     }
 
+    fn found(&self, spot: &Spot) -> Option<(NodeId, Kind)> {
+        let node = self.node_at(spot)?;
+        let kind = self.kind_of(node)?;
+        Some((node, kind))
+    }
+
     /// Goes over the rows once, since they are not in the order of their nodes.
     fn dir_above(&self, dir: NodeId) -> Option<NodeId> {
         if self.is_dir(dir) {

@@ -1,6 +1,6 @@
 //! Changes of a list of rows and of a list of nodes, each in the order of its keys.
 
-ghost use Rattle.std.specs.Prelude.{ℕ, ◌≡◌, ◌<◌, ◌++◌, ◌∷◌, [], IsTrue, IsSome, IfOk, OnOk, not};
+ghost use Rattle.std.specs.Prelude.{ℕ, ◌≡◌, ◌<◌, ◌++◌, [], IsTrue, IsSome, IfOk, OnOk, not};
 ghost use Rattle.std.specs.Prelude.{◌==◌, map, option_map, option_copied, vec_len, vec_capacity};
 ghost use Rattle.std.specs.List.{list_any, cons_option};
 ghost use Rattle.std.specs.Ordering.{nat_cmp, is_eq};

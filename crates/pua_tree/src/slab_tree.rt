@@ -178,6 +178,13 @@ impl Judged for SlabTree {
         self.slots.row(spot)
     }
 
+    fn found(&self, spot: &Spot) -> Option<(NodeId, Kind)> {
+        match self.slots.found(spot) {
+            Some(row) => Some((row.node, row.kind)),
+            None => None,
+        }
+    }
+
     fn dir_above(&self, dir: NodeId) -> Option<NodeId> {
         if self.is_dir(dir) {
             self.slots.above(dir)

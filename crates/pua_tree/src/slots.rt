@@ -27,10 +27,17 @@ pub(crate) struct Stance {
     pub(crate) names: usize,
 }
 
+/// What stands in a row: a node, and what it is.
+#[derive(Clone, Copy)]
+pub(crate) struct RowNode {
+    pub(crate) node: NodeId,
+    pub(crate) kind: Kind,
+}
+
 /// Rows and nodes. A node's number is never given again; its slot is.
 #[derive(Drop)]
 pub(crate) struct Slots {
-    pub(crate) rows: IndexMap<Spot, NodeId>,
+    pub(crate) rows: IndexMap<Spot, RowNode>,
     pub(crate) numbers: IndexMap<NodeId, usize>,
     pub(crate) nodes: Slab<SlotNode>,
 }
@@ -49,17 +56,27 @@ ghost use Rattle.pua_tree.specs.Edits.{without_unnamed};
 ghost use Rattle.pua_tree.specs.Reading.{said_node};
 ghost use Rattle.pua_tree.specs.LentRows.{lent_entry};
 ghost use Rattle.pua_tree.specs.Slots.{held_rows, held_nodes, held_in_slots, names_of, IsNew};
-ghost use Rattle.pua_tree.specs.Slots.{MayStand, with_made, row_at, slot_of, node_in, IsFiled};
+ghost use Rattle.pua_tree.specs.Slots.{MayStand, with_made, row_in, row_at, slot_of, node_in};
 ghost use Rattle.pua_tree.specs.Slots.{AreConsistent, Restands, row_gained, row_lost, name_gained};
-ghost use Rattle.pua_tree.specs.Slots.{name_lost};
+ghost use Rattle.pua_tree.specs.Slots.{name_lost, IsFiled};
 
 impl Slots {
-    /// The node in the row at this spot.
+    /// What stands in the row at this spot.
     #[inline(always)]
+    pub(crate) fn found(&self, spot: &Spot) -> Option<RowNode>
+        ensures { result ≡ row_in self.now (spot.now.dir, spot.now.name) }
+    {
+        self.rows.get(spot).copied()
+    }
+
+    /// The node in the row at this spot.
     pub(crate) fn row(&self, spot: &Spot) -> Option<NodeId>
         ensures { result ≡ row_at self.now (spot.now.dir, spot.now.name) }
     {
-        self.rows.get(spot).copied()
+        match self.found(spot) {
+            Some(row) => Some(row.node),
+            None => None,
+        }
     }
 
     /// The node of this number.
@@ -150,19 +167,18 @@ impl Slots {
         }
     }
 
-    /// Counts a further name of a node, which is in this directory.
-    fn gain_name(&mut self, node: NodeId, dir: NodeId)
+    /// Counts a further name of a node, which is in this directory, and answers what the node is.
+    fn gain_name(&mut self, node: NodeId, dir: NodeId) -> Option<Kind>
         requires filed { IsFiled self.old }
         requires few { IfSome (node_in self.old node) (λ node. node.standing.names < 2 ^ 63) }
-        ensures { Restands self.old self.new (name_gained dir node) }
+        ensures restands { Restands self.old self.new (name_gained dir node) }
+        ensures kind { result ≡ option_map (λ node. node.kind) (node_in self.old node) }
     {
-        let Some(slot) = self.slot(node) else {
-            return;
-        };
-        if let Some(node) = self.nodes.get_mut(slot) {
-            node.standing.names += 1;
-            node.standing.above = dir;
-        }
+        let slot = self.slot(node)?;
+        let node = self.nodes.get_mut(slot)?;
+        node.standing.names += 1;
+        node.standing.above = dir;
+        Some(node.kind)
     }
 
     /// Counts a name of a node no more.
@@ -214,9 +230,11 @@ impl Slots {
     {
         let count = self.row_count();
         prove!(count < usize::MAX);
-        self.rows.insert(Spot { dir, name }, node).unwrap();
         self.gain_row(dir);
-        self.gain_name(node, dir);
+        // A row of a node that is none may say anything.
+        let kind = self.gain_name(node, dir).unwrap_or(Kind::File);
+        let row = RowNode { node, kind };
+        self.rows.insert(Spot { dir, name }, row).unwrap();
     }
 
     /// Takes away the row of this directory and name, in which this node stands.
@@ -409,10 +427,10 @@ impl Slots {
         let mut rows: Vec<LentRow<'_>> = self
             .rows
             .iter()
-            .map(|(spot, node)| LentRow {
+            .map(|(spot, row)| LentRow {
                 dir: spot.dir,
                 name: &spot.name,
-                node: *node,
+                node: row.node,
             })
             .collect(alloc)?;
         rows.sort_unstable();

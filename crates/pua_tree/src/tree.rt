@@ -111,7 +111,8 @@ pub trait FileTree {
     /// it was. It takes no memory.
     fn cut(&mut self, dir: NodeId, name: &Name) -> Result<NodeId, TreeFault>
         ensures exact { let rule = cut (content self.old) dir name.now in
-            MatchResult result (λ id. rule ≡ Ok (id, content self.new)) (λ fault. rule ≡ Err fault) }
+            MatchResult result (λ id. rule ≡ Ok (id, content self.new))
+            (λ fault. rule ≡ Err fault) }
         ensures unchanged { OnErr result (content self.new ≡ content self.old) };
 
     /// Moves a row to another directory and name, as rename(2) does. What stood there is taken away

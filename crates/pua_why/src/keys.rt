@@ -170,10 +170,8 @@ fn add_bytes(numbers: &mut Vec<u64>, bytes: &[u8]) -> Result<(), OutOfMemory>
 fn add(numbers: &mut Vec<u64>, more: &[u64]) -> Result<(), OutOfMemory>
     ensures { OnOk result (numbers.new.items ≡ numbers.old.items ++ more.now) }
 {
-    match numbers.extend_from_slice(more) {
-        Ok(()) => Ok(()),
-        Err(_) => Err(OutOfMemory),
-    }
+    numbers.extend_from_slice(more)?;
+    Ok(())
 }
 
 fn side_number(side: Side) -> u64

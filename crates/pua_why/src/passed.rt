@@ -367,8 +367,6 @@ fn add(told: &mut Vec<Fact>, fact: Fact) -> Result<(), OutOfMemory>
     let _node: Option<NodeId> = None;
     let _over: Option<Covering> = None;
     let _place: Option<Place> = None;
-    if told.push(fact).is_err() {
-        return Err(OutOfMemory);
-    }
+    told.push(fact)?;
     Ok(())
 }

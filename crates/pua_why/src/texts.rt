@@ -319,7 +319,8 @@ fn push_text_fault(text: &mut String, fault: TextFault) -> Result<(), AllocError
 /// Adds where a path leads no further.
 fn push_stop(text: &mut String, paths: &mut TreePaths<'_>, stop: &Stop) -> Result<(), AllocError>
     ensures text { OnOk result ((t : Tree) → paths.old.rows ≡ t.rows →
-        string_bytes text.new ≡ string_bytes text.old ++ path_fault_text t (faults.Stops stop.now)) }
+        string_bytes text.new
+        ≡ string_bytes text.old ++ path_fault_text t (faults.Stops stop.now)) }
     ensures rows { paths.new.rows ≡ paths.old.rows }
 {
     match stop {

@@ -40,10 +40,8 @@ impl<'t> TreePaths<'t> {
         ensures { IfOk result (λ paths. paths.rows ≡ (T.content tree.now).rows) }
     {
         let rows = tree.rows(alloc)?;
-        match Vec::with_capacity(alloc, rows.len()) {
-            Ok(names) => Ok(TreePaths { rows, names }),
-            Err(_) => Err(OutOfMemory),
-        }
+        let names = Vec::with_capacity(alloc, rows.len())?;
+        Ok(TreePaths { rows, names })
     }
 
     /// Adds the path of a directory to a text: a slash for the root, and for a directory that was

@@ -87,208 +87,153 @@ fn read_text<'a>(
     })
 }
 
-fn pua_command<'a>(alloc: Global) -> Result<clap::Command<'a>, AllocError> {
-    let pua = clap::Command::new(alloc, "pua")
+/// A command with what was added to it, unless a growth was refused.
+type Built<'a> = Result<clap::Command<'a>, AllocError>;
+
+fn pua_command<'a>(alloc: Global) -> Built<'a> {
+    let pua = with_command(program(alloc), run_command(alloc));
+    let pua = with_command(pua, objects_command(alloc));
+    let pua = with_command(pua, why_command(alloc));
+    with_command(pua, audit_command(alloc))
+}
+
+/// The program, without its commands.
+fn program<'a>(alloc: Global) -> Built<'a> {
+    clap::Command::new(alloc, "pua")
         .no_binary_name(true)
-        .bin_name("pua")?
         .version(VERSION)
         .about(help::PUA)
         .after_help(help::INPUTS)
-        .subcommand_required(true);
-    let pua = with_run_and_objects(alloc, pua)?;
-    with_why_and_audit(alloc, pua)
+        .subcommand_required(true)
+        .bin_name("pua")
 }
 
-/// Adds the first two commands, in the order of help.
-fn with_run_and_objects<'a>(
-    alloc: Global,
-    pua: clap::Command<'a>,
-) -> Result<clap::Command<'a>, AllocError> {
-    let pua = pua.subcommand(run_command(alloc)?)?;
-    pua.subcommand(objects_command(alloc)?)
-}
-
-/// Adds the other two.
-fn with_why_and_audit<'a>(
-    alloc: Global,
-    pua: clap::Command<'a>,
-) -> Result<clap::Command<'a>, AllocError> {
-    let pua = pua.subcommand(why_command(alloc)?)?;
-    pua.subcommand(audit_command(alloc)?)
-}
-
-fn run_command<'a>(alloc: Global) -> Result<clap::Command<'a>, AllocError> {
-    let run = clap::Command::new(alloc, "run")
-        .about(help::RUN)
-        .after_help(help::RUN_OUTPUT)
-        .arg(why(alloc, help::RUN_WHY))?;
+fn run_command<'a>(alloc: Global) -> Built<'a> {
+    let run = command(alloc, "run", help::RUN, help::RUN_OUTPUT);
+    let run = with(run, flag(alloc, "why", help::RUN_WHY));
     with_inputs(alloc, run)
 }
 
-fn objects_command<'a>(alloc: Global) -> Result<clap::Command<'a>, AllocError> {
-    let objects = clap::Command::new(alloc, "objects")
-        .about(help::OBJECTS)
-        .after_help(help::OBJECTS_OUTPUT)
-        .arg(ever(alloc))?
-        .arg(why(alloc, help::OBJECTS_WHY))?
-        .arg(processes(alloc))?;
+fn objects_command<'a>(alloc: Global) -> Built<'a> {
+    let objects = command(alloc, "objects", help::OBJECTS, help::OBJECTS_OUTPUT);
+    let objects = with(objects, flag(alloc, "ever", help::EVER));
+    let objects = with(objects, flag(alloc, "why", help::OBJECTS_WHY));
+    let objects = with(objects, processes(alloc));
     with_inputs(alloc, objects)
 }
 
-fn why_command<'a>(alloc: Global) -> Result<clap::Command<'a>, AllocError> {
-    let why = clap::Command::new(alloc, "why")
-        .about(help::WHY)
-        .after_help(help::WHY_OUTPUT)
-        .arg(process(alloc))?;
-    let why = with_inputs(alloc, why)?;
-    why.arg(call(alloc))?.arg(arguments(alloc))
+fn why_command<'a>(alloc: Global) -> Built<'a> {
+    let why = command(alloc, "why", help::WHY, help::WHY_OUTPUT);
+    let why = with_inputs(alloc, with(why, process(alloc)));
+    let why = with(
+        why,
+        operand(alloc, "call", "CALL", help::CALL).required(true),
+    );
+    with(why, operands(alloc, "arguments", "ARG", help::ARGUMENTS))
 }
 
-fn audit_command<'a>(alloc: Global) -> Result<clap::Command<'a>, AllocError> {
-    let audit = clap::Command::new(alloc, "audit")
-        .about(help::AUDIT)
-        .after_help(help::AUDIT_OUTPUT);
-    let audit = with_walk(alloc, audit)?;
-    with_inputs(alloc, audit)?.arg(names(alloc))
+fn audit_command<'a>(alloc: Global) -> Built<'a> {
+    let audit = command(alloc, "audit", help::AUDIT, help::AUDIT_OUTPUT);
+    let audit = with_inputs(alloc, with_walk(alloc, audit));
+    with(audit, operands(alloc, "names", "NAME", help::NAMES))
 }
 
 /// Adds what an audit asks for beside its inputs.
-fn with_walk<'a>(alloc: Global, audit: clap::Command<'a>) -> Result<clap::Command<'a>, AllocError> {
-    audit
-        .arg(limit(alloc))?
-        .arg(process(alloc))?
-        .arg(base(alloc))?
-        .arg(after(alloc))
+fn with_walk<'a>(alloc: Global, audit: Built<'a>) -> Built<'a> {
+    let audit = with(audit, limit(alloc));
+    let audit = with(audit, process(alloc));
+    let audit = with(audit, base(alloc));
+    with(audit, option(alloc, "after", "CALL:PATH", help::AFTER))
 }
 
 /// Adds the words for the inputs that all commands have, in the order of help.
-fn with_inputs<'a>(
-    alloc: Global,
-    command: clap::Command<'a>,
-) -> Result<clap::Command<'a>, AllocError> {
-    command
-        .arg(rules(alloc))?
-        .arg(table(alloc))?
-        .arg(tree(alloc))?
-        .arg(script(alloc))
+fn with_inputs<'a>(alloc: Global, command: Built<'a>) -> Built<'a> {
+    let command = with(command, rules(alloc));
+    let command = with(command, option(alloc, "table", "FILE", help::TABLE));
+    let command = with(
+        command,
+        operand(alloc, "tree", "TREE", help::TREE).required(true),
+    );
+    with(
+        command,
+        operand(alloc, "script", "SCRIPT", help::SCRIPT).required(true),
+    )
+}
+
+/// A command of this name, with a line about it and what stands behind its help.
+fn command<'a>(alloc: Global, name: &'a str, about: &'a str, output: &'a str) -> Built<'a> {
+    Ok(
+        clap::Command::new(alloc, name)
+            .about(about)
+            .after_help(output),
+    )
+}
+
+/// Adds a command to the program, unless a growth was refused before.
+fn with_command<'a>(pua: Built<'a>, command: Built<'a>) -> Built<'a> {
+    pua?.subcommand(command?)
+}
+
+/// Adds words to a command, unless a growth was refused before.
+fn with<'a>(command: Built<'a>, arg: Arg<'a>) -> Built<'a> {
+    command?.arg(arg)
+}
+
+/// An option without a value.
+fn flag<'a>(alloc: Global, name: &'a str, help: &'a str) -> Arg<'a> {
+    Arg::new(alloc, name)
+        .long(name)
+        .action(ArgAction::SetTrue)
+        .help(help)
+}
+
+/// An option with one value.
+fn option<'a>(alloc: Global, name: &'a str, value: &'a str, help: &'a str) -> Arg<'a> {
+    operand(alloc, name, value, help)
+        .long(name)
+        .action(ArgAction::Set)
+}
+
+/// A word that has its meaning by its place.
+fn operand<'a>(alloc: Global, name: &'a str, value: &'a str, help: &'a str) -> Arg<'a> {
+    Arg::new(alloc, name).value_name(value).help(help)
+}
+
+/// All words that are left.
+fn operands<'a>(alloc: Global, name: &'a str, value: &'a str, help: &'a str) -> Arg<'a> {
+    operand(alloc, name, value, help)
+        .action(ArgAction::Append)
+        .num_args(0..)
 }
 
 fn limit<'a>(alloc: Global) -> Arg<'a> {
-    Arg::new(alloc, "limit")
+    option(alloc, "limit", "N", help::LIMIT)
         .required(true)
-        .long("limit")
-        .action(ArgAction::Set)
-        .value_name("N")
-        .help(help::LIMIT)
         .value_parser(value_parser!(u8))
 }
 
 fn process<'a>(alloc: Global) -> Arg<'a> {
-    Arg::new(alloc, "process")
-        .long("process")
-        .action(ArgAction::Set)
-        .value_name("P")
-        .help(help::PROCESS)
+    option(alloc, "process", "P", help::PROCESS)
         .default_value("1")
         .value_parser(value_parser!(u32).range(1..=i64::from(MOST_NUMBER)))
 }
 
-fn ever<'a>(alloc: Global) -> Arg<'a> {
-    Arg::new(alloc, "ever")
-        .long("ever")
-        .action(ArgAction::SetTrue)
-        .help(help::EVER)
-}
-
-fn why<'a>(alloc: Global, text: &'a str) -> Arg<'a> {
-    Arg::new(alloc, "why")
-        .long("why")
-        .action(ArgAction::SetTrue)
-        .help(text)
-}
-
 fn processes<'a>(alloc: Global) -> Arg<'a> {
-    Arg::new(alloc, "process")
-        .long("process")
-        .action(ArgAction::Set)
-        .value_name("P|all")
-        .help(help::PROCESSES)
-        .default_value("1")
+    option(alloc, "process", "P|all", help::PROCESSES).default_value("1")
 }
 
 fn base<'a>(alloc: Global) -> Arg<'a> {
-    Arg::new(alloc, "base")
-        .long("base")
-        .action(ArgAction::Set)
-        .value_name("root|cwd")
+    option(alloc, "base", "root|cwd", help::BASE)
         .hide_possible_values(true)
-        .help(help::BASE)
         .default_value("root")
         .value_parser(["root", "cwd"].as_slice())
 }
 
-fn after<'a>(alloc: Global) -> Arg<'a> {
-    Arg::new(alloc, "after")
-        .long("after")
-        .action(ArgAction::Set)
-        .value_name("CALL:PATH")
-        .help(help::AFTER)
-}
-
 fn rules<'a>(alloc: Global) -> Arg<'a> {
-    Arg::new(alloc, "rules")
-        .long("rules")
-        .action(ArgAction::Set)
-        .value_name("RULES")
+    option(alloc, "rules", "RULES", help::RULES)
         .hide_possible_values(true)
-        .help(help::RULES)
         .default_value("profile")
         .value_parser(["profile", "openbsd"].as_slice())
-}
-
-fn table<'a>(alloc: Global) -> Arg<'a> {
-    Arg::new(alloc, "table")
-        .long("table")
-        .action(ArgAction::Set)
-        .value_name("FILE")
-        .help(help::TABLE)
-}
-
-fn tree<'a>(alloc: Global) -> Arg<'a> {
-    Arg::new(alloc, "tree")
-        .required(true)
-        .value_name("TREE")
-        .help(help::TREE)
-}
-
-fn script<'a>(alloc: Global) -> Arg<'a> {
-    Arg::new(alloc, "script")
-        .required(true)
-        .value_name("SCRIPT")
-        .help(help::SCRIPT)
-}
-
-fn call<'a>(alloc: Global) -> Arg<'a> {
-    Arg::new(alloc, "call")
-        .required(true)
-        .value_name("CALL")
-        .help(help::CALL)
-}
-
-fn arguments<'a>(alloc: Global) -> Arg<'a> {
-    Arg::new(alloc, "arguments")
-        .value_name("ARG")
-        .help(help::ARGUMENTS)
-        .action(ArgAction::Append)
-        .num_args(0..)
-}
-
-fn names<'a>(alloc: Global) -> Arg<'a> {
-    Arg::new(alloc, "names")
-        .value_name("NAME")
-        .help(help::NAMES)
-        .action(ArgAction::Append)
-        .num_args(0..)
 }
 
 /// What an error of `clap` asks for: a text about the program, or nothing.
@@ -406,6 +351,8 @@ fn read_why<'a>(alloc: Global, found: &ArgMatches<'a>) -> Result<Option<WhyWords
     Ok(Some(WhyWords { process, fields }))
 }
 
+/// The number of the process. clap has judged it by the same range, but no contract says what clap
+/// takes.
 fn read_process(found: &ArgMatches<'_>) -> Option<u32>
     ensures { IfSome result IsProcessNumber }
 {

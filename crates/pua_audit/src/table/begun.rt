@@ -11,7 +11,7 @@ ghost use Rattle.pua_audit.specs.Coming.{pairs_resumed, pairs_at};
 ghost use Rattle.pua_audit.specs.Reach.{Pair, rest_after};
 ghost use Rattle.pua_audit.specs.Judge.{base_dir, base_way, is_open};
 ghost use Rattle.pua_audit.specs.Live.{live_states};
-ghost use Rattle.pua_audit.specs.Ready.{IsSound, letters_of, scope_in};
+ghost use Rattle.pua_audit.specs.Ready.{IsSound, scope_in};
 ghost use Rattle.pua_audit.specs.Starting.{AreLetters, AreSound, pair_in};
 ghost use Rattle.pua_steps.specs.Graph.{graph_reach};
 ghost use Rattle.pua_steps.specs.Limits.{call_count, search_cost};
@@ -52,20 +52,21 @@ impl Terms {
         requires rows { map lent_entry rows.now ≡ self.now.seen.tree.rows }
         requires sound { IsSound self.now }
         requires letters { AreSound self.now.limit self.now.letters.items }
-        requires word { IfSome after (λ r. AreLetters (letters_of self.now) self.now.limit
+        requires word { IfSome after (λ r. AreLetters self.now.letters.items self.now.limit
             r.word.items) }
         ensures ready { IfOk result (λ begun. IsReady begun.walk) }
         ensures limit { IfOk result (λ begun. begun.walk.limit ≡ self.now.limit) }
         ensures letters { IfOk result (λ begun. begun.walk.tables.steps.letters
-            ≡ length (letters_of self.now)) }
+            ≡ length self.now.letters.items) }
         ensures pairs { IfOk result
             (λ begun. rest_after (scope_in self.now)
-            (option_map (pair_in (letters_of self.now)) after) ≡ pairs_at (letters_of self.now)
+            (option_map (pair_in self.now.letters.items) after) ≡ pairs_at self.now.letters.items
             (pairs_of (trail begun.walk))) }
         ensures within { IfOk result
-            (λ begun. AllByRecursion (λ p. IsPair (length (letters_of self.now)) p)
+            (λ begun. AllByRecursion (λ p. IsPair (length self.now.letters.items) p)
             (pairs_of (trail begun.walk))) }
-        ensures live { IfOk result (λ begun. begun.live ≡ length (live_states (scope_in self.now))) }
+        ensures live { IfOk result (λ begun.
+            begun.live ≡ length (live_states (scope_in self.now))) }
         ensures reads { IfOk result (λ begun. begun.walk.tables.reads
             ≤ search_cost * self.now.limit) }
         ensures unread { after ≡ None → IfOk result (λ begun. begun.walk.tables.reads ≡ 0) }
@@ -93,21 +94,22 @@ impl Terms {
         requires rows { map lent_entry rows.now ≡ self.now.seen.tree.rows }
         requires sound { IsSound self.now }
         requires letters { AreSound self.now.limit self.now.letters.items }
-        requires word { IfSome after (λ r. AreLetters (letters_of self.now) self.now.limit
+        requires word { IfSome after (λ r. AreLetters self.now.letters.items self.now.limit
             r.word.items) }
         requires open { is_open (scope_in self.now) ≡ true }
         ensures ready { IfOk result (λ begun. IsReady begun.walk) }
         ensures limit { IfOk result (λ begun. begun.walk.limit ≡ self.now.limit) }
         ensures letters { IfOk result (λ begun. begun.walk.tables.steps.letters
-            ≡ length (letters_of self.now)) }
+            ≡ length self.now.letters.items) }
         ensures pairs { IfOk result
             (λ begun. rest_after (scope_in self.now)
-            (option_map (pair_in (letters_of self.now)) after) ≡ pairs_at (letters_of self.now)
+            (option_map (pair_in self.now.letters.items) after) ≡ pairs_at self.now.letters.items
             (pairs_of (trail begun.walk))) }
         ensures within { IfOk result
-            (λ begun. AllByRecursion (λ p. IsPair (length (letters_of self.now)) p)
+            (λ begun. AllByRecursion (λ p. IsPair (length self.now.letters.items) p)
             (pairs_of (trail begun.walk))) }
-        ensures live { IfOk result (λ begun. begun.live ≡ length (live_states (scope_in self.now))) }
+        ensures live { IfOk result (λ begun.
+            begun.live ≡ length (live_states (scope_in self.now))) }
         ensures reads { IfOk result (λ begun. begun.walk.tables.reads
             ≤ search_cost * self.now.limit) }
         ensures unread { after ≡ None → IfOk result (λ begun. begun.walk.tables.reads ≡ 0) }
@@ -133,14 +135,15 @@ impl Terms {
         ensures ready { IfOk result (λ begun. IsReady begun.walk) }
         ensures limit { IfOk result (λ begun. begun.walk.limit ≡ self.now.limit) }
         ensures letters { IfOk result (λ begun. begun.walk.tables.steps.letters
-            ≡ length (letters_of self.now)) }
+            ≡ length self.now.letters.items) }
         ensures pairs { IfOk result (λ begun. (after : Option Pair) →
-            rest_after (scope_in self.now) after ≡ pairs_at (letters_of self.now)
+            rest_after (scope_in self.now) after ≡ pairs_at self.now.letters.items
             (pairs_of (trail begun.walk))) }
         ensures within { IfOk result
-            (λ begun. AllByRecursion (λ p. IsPair (length (letters_of self.now)) p)
+            (λ begun. AllByRecursion (λ p. IsPair (length self.now.letters.items) p)
             (pairs_of (trail begun.walk))) }
-        ensures live { IfOk result (λ begun. begun.live ≡ length (live_states (scope_in self.now))) }
+        ensures live { IfOk result (λ begun.
+            begun.live ≡ length (live_states (scope_in self.now))) }
         ensures reads { IfOk result (λ begun. begun.walk.tables.reads
             ≤ search_cost * self.now.limit) }
         ensures unread { IfOk result (λ begun. begun.walk.tables.reads ≡ 0) }
@@ -186,7 +189,8 @@ fn walk_after(
         r.word.items) }
     requires few { IfSome after (λ r. length r.word.items ≤ limit) }
     ensures ready { IfOk result (λ walk. IsReady walk) }
-    ensures of { IfOk result (λ walk. (walk.tables.steps ≡ tables.steps) × (walk.limit ≡ limit)) }
+    ensures steps { IfOk result (λ walk. walk.tables.steps ≡ tables.steps) }
+    ensures limit { IfOk result (λ walk. walk.limit ≡ limit) }
     ensures reads { IfOk result (λ walk. walk.tables.reads ≤ tables.reads + search_cost * limit) }
     ensures unread { after ≡ None → IfOk result (λ walk. walk.tables.reads ≡ tables.reads) }
     ensures left { IfOk result (λ walk. pairs_of (trail walk)

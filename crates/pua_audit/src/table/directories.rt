@@ -65,8 +65,8 @@ impl Directories {
 
     /// The directory at a place; None after the last one. There are at most 2^32.
     pub(crate) fn at(&self, place: usize) -> Option<NodeId>
-        ensures dir { IfSome result (λ dir. (place < length self.now.numbers) ×
-            (dir ≡ get_or self.now.numbers place 0)) }
+        ensures within { IfSome result (λ dir. place < length self.now.numbers) }
+        ensures dir { IfSome result (λ dir. dir ≡ get_or self.now.numbers place 0) }
         ensures none { IfNone result (length self.now.numbers ≤ place) }
         ensures few { length self.now.numbers ≤ 2 ^ 32 }
     {

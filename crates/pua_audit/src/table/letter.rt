@@ -8,7 +8,6 @@ ghost use Rattle.pua_path.specs.Kinds.{is_file};
 ghost use Rattle.pua_path.specs.Bounds.{part_cost};
 ghost use Rattle.pua_path.specs.Resolution.{follow, last};
 ghost use Rattle.pua_path.specs.declared.found.Last.TheVariants.{Kept};
-ghost use Rattle.pua_path.specs.declared.found.Part.TheVariants.{Name};
 ghost use Rattle.pua_policy.specs.declared.place.Place.TheVariants.{Slot};
 ghost use Rattle.pua_policy.specs.History.{perms_kept};
 ghost use Rattle.pua_calls.specs.CallSets.{has, keeps_link};
@@ -18,8 +17,9 @@ ghost use Rattle.pua_policy.specs.Verdict.{FoundsFit, cover, verdict_of, is_allo
 ghost use Rattle.pua_audit.specs.Bounds.{letter_cost, object_cost};
 ghost use Rattle.pua_audit.specs.Covers.{AreCovered};
 ghost use Rattle.pua_audit.specs.Past.{plain_history};
-ghost use Rattle.pua_audit.specs.Ready.{IsSound, judge_in, letters_of, part_bytes};
+ghost use Rattle.pua_audit.specs.Ready.{IsSound, judge_in};
 ghost use Rattle.pua_audit.specs.Entries.{AreWithin, links_of, found_of, leads_to};
+ghost use Rattle.pua_audit.specs.Spots.{IsNamed};
 ghost use Rattle.pua_audit.specs.Table.{IsLetter};
 ghost use Rattle.pua_steps.specs.Limits.{most_links};
 
@@ -65,7 +65,7 @@ impl Terms {
         requires within { AreWithin self.now.seen.tree self.now.table
             (plain_history self.now.process) dir within.now }
         requires covered { AreCovered self.now.seen.tree (plain_history self.now.process) dirs.now }
-        ensures exact { IsLetter (judge_in self.now) dir (get_or (letters_of self.now) letter [])
+        ensures exact { IsLetter (judge_in self.now) dir (get_or self.now.letters.items letter [])
             result.all result.kept result.links result.leads }
         ensures kept { (call : Call) →
             has result.kept call ≡ (has result.all call && keeps_link call) }
@@ -102,11 +102,11 @@ impl Terms {
         requires within { AreWithin self.now.seen.tree self.now.table
             (plain_history self.now.process) dir within.now }
         ensures exact { IfSome result (λ calls. (kept : ℕ) →
-            IsLetter (judge_in self.now) dir (part_bytes letter.now) calls kept 0 None) }
-        ensures none { IfNone result (letter.now ≡ Name (part_bytes letter.now) →
-            perms_kept (plain_history self.now.process) (Slot dir (part_bytes letter.now)) ≡ None →
+            IsLetter (judge_in self.now) dir letter.now calls kept 0 None) }
+        ensures none { IfNone result (IsNamed letter.now →
+            perms_kept (plain_history self.now.process) (Slot dir letter.now) ≡ None →
             (node : ℕ) (kind : Kind) →
-            found_at self.now.seen.tree dir (part_bytes letter.now) ≡ Some (node, kind) →
+            found_at self.now.seen.tree dir letter.now ≡ Some (node, kind) →
             is_file kind ≡ false) }
         ensures tree { P.tree probe.new ≡ P.tree probe.old }
         ensures cost { P.count probe.new ≤ P.count probe.old + 2 }
@@ -122,11 +122,11 @@ impl Terms {
     /// Whether a letter is no name, or a name in a directory at which a veil is kept.
     fn may_have_veil(&self, dir: NodeId, letter: &Component) -> bool
         requires { IsSound self.now }
-        ensures name { result ≡ false → letter.now ≡ Name (part_bytes letter.now) }
+        ensures name { result ≡ false → IsNamed letter.now }
         ensures veil { result ≡ false →
-            perms_kept (plain_history self.now.process) (Slot dir (part_bytes letter.now)) ≡ None }
-        ensures apart { result ≡ true → letter.now ≡ Name (part_bytes letter.now) →
-            perms_kept (plain_history self.now.process) (Slot dir (part_bytes letter.now)) ≢ None }
+            perms_kept (plain_history self.now.process) (Slot dir letter.now) ≡ None }
+        ensures apart { result ≡ true → IsNamed letter.now →
+            perms_kept (plain_history self.now.process) (Slot dir letter.now) ≢ None }
     {
         if !self.process.is_veiled() {
             return !letter.is_name();
@@ -150,7 +150,7 @@ impl Terms {
         requires living { IsTrue (is_dir self.now.seen.tree dir) }
         requires letter { letter < length self.now.letters.items }
         requires covered { AreCovered self.now.seen.tree (plain_history self.now.process) dirs.now }
-        ensures exact { IsLetter (judge_in self.now) dir (get_or (letters_of self.now) letter [])
+        ensures exact { IsLetter (judge_in self.now) dir (get_or self.now.letters.items letter [])
             result.all result.kept result.links result.leads }
         ensures kept { (call : Call) →
             has result.kept call ≡ (has result.all call && keeps_link call) }
@@ -226,7 +226,8 @@ impl Terms {
         requires sound { IsSound self.now }
         requires fits { FoundsFit self.now.seen.tree found.now }
         requires left { IfOk found.now
-            (λ object. left.now ≡ cover self.now.seen.tree (plain_history self.now.process) object) }
+            (λ object. left.now
+            ≡ cover self.now.seen.tree (plain_history self.now.process) object) }
         ensures exact { (call : Call) →
             has result call ≡ is_allowed
             (verdict_of self.now.seen.tree self.now.table (plain_history self.now.process) call

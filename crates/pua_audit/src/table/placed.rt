@@ -1,10 +1,9 @@
 //! Where letters stand, found by their bytes.
 
-ghost use Rattle.std.specs.Prelude.{◌≡◌, IfOk, map};
+ghost use Rattle.std.specs.Prelude.{IfOk};
 ghost use Rattle.pua_tree.specs.Tree.{name_cmp};
 ghost use Rattle.pua_audit.specs.Laws.{Rises};
 ghost use Rattle.pua_audit.specs.Placed.{ArePlaced};
-ghost use Rattle.pua_audit.specs.Ready.{part_bytes};
 
 use crate::component::Component;
 use pua_tree::OutOfMemory;
@@ -16,8 +15,8 @@ pub(crate) fn placed<'l>(
     alloc: Global,
     letters: &'l [Component],
 ) -> Result<HashMap<&'l [u8], usize>, OutOfMemory>
-    requires { Rises name_cmp (map part_bytes letters.now) }
-    ensures { IfOk result (λ places. ArePlaced (map part_bytes letters.now) places) }
+    requires { Rises name_cmp letters.now }
+    ensures { IfOk result (λ places. ArePlaced letters.now places) }
 {
     let mut places = HashMap::with_capacity(alloc, letters.len())?;
     for place in 0..letters.len() {

@@ -11,7 +11,7 @@ ghost use Rattle.pua_audit.specs.Bounds.{row_cost};
 ghost use Rattle.pua_audit.specs.Covers.{AreCovered};
 ghost use Rattle.pua_audit.specs.Judge.{Judge};
 ghost use Rattle.pua_audit.specs.Past.{plain_history};
-ghost use Rattle.pua_audit.specs.Ready.{IsSound, judge_in, letters_of};
+ghost use Rattle.pua_audit.specs.Ready.{IsSound, judge_in};
 ghost use Rattle.pua_audit.specs.Rows.{AreLiving, IsGrown, IsJudgedRow};
 ghost use Rattle.pua_audit.specs.Spots.{AreLetterSpots};
 ghost use Rattle.pua_audit.specs.Table.{IsLetter};
@@ -44,12 +44,12 @@ impl Terms {
         requires tree { P.tree probe.old ≡ self.now.seen.tree }
         requires sound { IsSound self.now }
         requires spots { AreLetterSpots self.now.seen.tree (plain_history self.now.process)
-            (letters_of self.now) spots.now.dots.items spots.now.names.items }
+            self.now.letters.items spots.now.dots.items spots.now.names.items }
         requires living { IsTrue (is_dir self.now.seen.tree dir) }
         requires dirs { AreLiving self.now.seen.tree dirs.old.numbers }
         requires covers { AreCovered self.now.seen.tree (plain_history self.now.process) dirs.old }
         requires over { over ≡ cover_in self.now.seen.tree (plain_history self.now.process) dir }
-        ensures row { IfOk result (λ row. IsJudgedRow (judge_in self.now) (letters_of self.now)
+        ensures row { IfOk result (λ row. IsJudgedRow (judge_in self.now) self.now.letters.items
             dirs.new.numbers dir (length self.now.letters.items) row.missing row.entries.items) }
         ensures grown { IfOk result (λ _. IsGrown dirs.old.numbers dirs.new.numbers) }
         ensures living { IfOk result (λ _. AreLiving self.now.seen.tree dirs.new.numbers) }
@@ -98,7 +98,7 @@ impl Letter {
             IfSome self.now.leads (λ d. self.now.cover ≡ cover_in t h d) → AreCovered t h dirs.old →
             AreCovered t h dirs.new) }
     {
-        if self.is_told_by(missing) {
+        if self.is_like_missing(missing) {
             return Ok(());
         }
         let to = self.place(dirs)?;
@@ -114,7 +114,7 @@ impl Letter {
     }
 
     /// Whether it leads nowhere, and just these calls are allowed on it.
-    fn is_told_by(&self, missing: Calls) -> bool
+    fn is_like_missing(&self, missing: Calls) -> bool
         ensures { IsTrue result → (self.now.all ≡ missing) × (self.now.kept ≡ missing) ×
             (self.now.leads ≡ None) }
     {

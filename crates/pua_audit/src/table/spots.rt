@@ -1,18 +1,17 @@
 //! The letters that directories tell apart from names that they lack.
 
-ghost use Rattle.std.specs.Prelude.{◌≡◌, ◌≢◌, ◌<◌, ℕ, [], false, length, get_or, map, IfOk};
+ghost use Rattle.std.specs.Prelude.{◌≡◌, ◌≢◌, ◌<◌, ℕ, [], length, get_or, map, IfOk};
 ghost use Rattle.std.specs.List.{AllByRecursion};
 ghost use Rattle.std.specs.List.Sorted.{IsNonDecreasingBy};
 ghost use Rattle.pua_tree.specs.LentRows.{lent_entry};
 ghost use Rattle.pua_tree.specs.Tree.{name_cmp};
-ghost use Rattle.pua_path.specs.declared.found.Part.TheVariants.{Dot};
 ghost use Rattle.pua_policy.specs.declared.place.Place.TheVariants.{Slot};
 ghost use Rattle.pua_audit.specs.Laws.{Rises};
 ghost use Rattle.pua_audit.specs.Past.{plain_history};
 ghost use Rattle.pua_audit.specs.Placed.{ArePlaced};
-ghost use Rattle.pua_audit.specs.Ready.{IsSound, letters_of};
+ghost use Rattle.pua_audit.specs.Ready.{IsSound};
 ghost use Rattle.pua_audit.specs.Spots.{AreApartFrom, AreAtLetters, AreLettersIn, AreLetterSpots};
-ghost use Rattle.pua_audit.specs.Spots.{IsApart, IsNowhere, IsUnmarked, is_dots};
+ghost use Rattle.pua_audit.specs.Spots.{IsApart, IsNamed, IsNowhere, IsUnmarked};
 
 use crate::table::placed::placed;
 use crate::terms::Terms;
@@ -43,10 +42,10 @@ impl Terms {
     pub(crate) fn spots(&self, alloc: Global, rows: &[LentRow<'_>]) -> Result<Spots, OutOfMemory>
         requires rows { map lent_entry rows.now ≡ self.now.seen.tree.rows }
         requires sound { IsSound self.now }
-        requires rises { Rises name_cmp (letters_of self.now) }
+        requires rises { Rises name_cmp self.now.letters.items }
         ensures { IfOk result
             (λ spots. AreLetterSpots self.now.seen.tree (plain_history self.now.process)
-            (letters_of self.now) spots.dots.items spots.names.items) }
+            self.now.letters.items spots.dots.items spots.names.items) }
     {
         let letters = placed(alloc, self.letters.as_slice())?;
         let places = self.process.places(alloc)?;
@@ -65,12 +64,12 @@ impl Terms {
         letters: &HashMap<&[u8], usize>,
         rows: &[LentRow<'_>],
     ) -> Result<(), OutOfMemory>
-        requires placed { ArePlaced (letters_of self.now) letters.now }
-        requires within { AreAtLetters (letters_of self.now) spots.old.items }
-        ensures within { IfOk result (λ _. AreAtLetters (letters_of self.now) spots.new.items) }
-        ensures rows { IfOk result (λ _. (dir letter : ℕ) → letter < length (letters_of self.now) →
+        requires placed { ArePlaced self.now.letters.items letters.now }
+        requires within { AreAtLetters self.now.letters.items spots.old.items }
+        ensures within { IfOk result (λ _. AreAtLetters self.now.letters.items spots.new.items) }
+        ensures rows { IfOk result (λ _. (dir letter : ℕ) → letter < length self.now.letters.items →
             IsUnmarked dir letter spots.new.items →
-            IsNowhere dir (get_or (letters_of self.now) letter []) (map lent_entry rows.now)) }
+            IsNowhere dir (get_or self.now.letters.items letter []) (map lent_entry rows.now)) }
         ensures others { IfOk result (λ _. (dir letter : ℕ) →
             IsUnmarked dir letter spots.new.items → IsUnmarked dir letter spots.old.items) }
     {
@@ -87,12 +86,12 @@ impl Terms {
         letters: &HashMap<&[u8], usize>,
         places: &[&Place],
     ) -> Result<(), OutOfMemory>
-        requires placed { ArePlaced (letters_of self.now) letters.now }
-        requires within { AreAtLetters (letters_of self.now) spots.old.items }
-        ensures within { IfOk result (λ _. AreAtLetters (letters_of self.now) spots.new.items) }
+        requires placed { ArePlaced self.now.letters.items letters.now }
+        requires within { AreAtLetters self.now.letters.items spots.old.items }
+        ensures within { IfOk result (λ _. AreAtLetters self.now.letters.items spots.new.items) }
         ensures places { IfOk result (λ _. (dir letter : ℕ) →
-            letter < length (letters_of self.now) → IsUnmarked dir letter spots.new.items →
-            AreApartFrom (Slot dir (get_or (letters_of self.now) letter []))
+            letter < length self.now.letters.items → IsUnmarked dir letter spots.new.items →
+            AreApartFrom (Slot dir (get_or self.now.letters.items letter []))
             (map (λ place. place.now) places.now)) }
         ensures others { IfOk result (λ _. (dir letter : ℕ) →
             IsUnmarked dir letter spots.new.items → IsUnmarked dir letter spots.old.items) }
@@ -110,12 +109,12 @@ impl Terms {
         letters: &HashMap<&[u8], usize>,
         place: &Place,
     ) -> Result<(), OutOfMemory>
-        requires placed { ArePlaced (letters_of self.now) letters.now }
-        requires within { AreAtLetters (letters_of self.now) spots.old.items }
-        ensures within { IfOk result (λ _. AreAtLetters (letters_of self.now) spots.new.items) }
-        ensures here { IfOk result (λ _. (dir letter : ℕ) → letter < length (letters_of self.now) →
+        requires placed { ArePlaced self.now.letters.items letters.now }
+        requires within { AreAtLetters self.now.letters.items spots.old.items }
+        ensures within { IfOk result (λ _. AreAtLetters self.now.letters.items spots.new.items) }
+        ensures here { IfOk result (λ _. (dir letter : ℕ) → letter < length self.now.letters.items →
             IsUnmarked dir letter spots.new.items →
-            place.now ≢ Slot dir (get_or (letters_of self.now) letter [])) }
+            place.now ≢ Slot dir (get_or self.now.letters.items letter [])) }
         ensures others { IfOk result (λ _. (other letter : ℕ) →
             IsUnmarked other letter spots.new.items → IsUnmarked other letter spots.old.items) }
     {
@@ -133,12 +132,12 @@ impl Terms {
         dir: NodeId,
         name: &Name,
     ) -> Result<(), OutOfMemory>
-        requires placed { ArePlaced (letters_of self.now) letters.now }
-        requires within { AreAtLetters (letters_of self.now) spots.old.items }
-        ensures within { IfOk result (λ _. AreAtLetters (letters_of self.now) spots.new.items) }
-        ensures here { IfOk result (λ _. (letter : ℕ) → letter < length (letters_of self.now) →
+        requires placed { ArePlaced self.now.letters.items letters.now }
+        requires within { AreAtLetters self.now.letters.items spots.old.items }
+        ensures within { IfOk result (λ _. AreAtLetters self.now.letters.items spots.new.items) }
+        ensures here { IfOk result (λ _. (letter : ℕ) → letter < length self.now.letters.items →
             IsUnmarked dir letter spots.new.items →
-            get_or (letters_of self.now) letter [] ≢ name.now) }
+            get_or self.now.letters.items letter [] ≢ name.now) }
         ensures others { IfOk result (λ _. (other letter : ℕ) →
             IsUnmarked other letter spots.new.items → IsUnmarked other letter spots.old.items) }
     {
@@ -156,7 +155,7 @@ impl Terms {
             (λ dots. AllByRecursion (λ place. place < length self.now.letters.items) dots.items) }
         ensures others { IfOk result (λ dots. (letter : ℕ) →
             letter < length self.now.letters.items → IsApart letter dots.items →
-            is_dots (get_or self.now.letters.items letter Dot) ≡ false) }
+            IsNamed (get_or self.now.letters.items letter [])) }
     {
         let mut dots = Vec::new(alloc);
         for place in 0..self.letters.len() {

@@ -133,7 +133,8 @@ fn row(call: Call, value: &Value) -> Result<RuleRow, TableFault>
 
 /// The texts of the promises and the text of the veil, where the value is a row.
 fn parts(value: &Value) -> Option<(&[Value], &str)>
-    ensures exact { option_map (λ p. (items_view p.0.now, p.1.now)) result ≡ row_of (view value.now) }
+    ensures exact { option_map (λ p. (items_view p.0.now, p.1.now)) result
+        ≡ row_of (view value.now) }
     ensures few { IfSome result (λ p. length p.0.now ≤ most_alternatives) }
 {
     let (promises, veil) = values(value.as_table()?)?;

@@ -9,6 +9,7 @@ use super::{Resolving, name_of, start_of};
 use crate::errno::Errno;
 use crate::found::{Found, Last};
 use crate::limits::MOST_LINKS;
+use crate::piece::LentName;
 use crate::probe::Probe;
 use crate::rest::Rest;
 use crate::text::PathText;
@@ -41,10 +42,16 @@ pub fn trace<'t, P: Probe<'t>>(
         let dir = walk.here;
         let left = walk.left;
         match walk.enter_piece(probe, piece, mode) {
-            Ok(None) if walk.left < left => links.spots.push_reserved((dir, name_of(piece))),
+            Ok(None) if walk.left < left => {
+                let name = LentName { bytes: piece.bytes };
+                links.spots.push_reserved((dir, name_of(name)));
+            }
             Ok(None) => {}
             Ok(Some(lent)) => return Ok(lent.found()),
-            Err(errno) => return Err(PathFault::Stops(stop_at((dir, name_of(piece)), errno))),
+            Err(errno) => {
+                let name = LentName { bytes: piece.bytes };
+                return Err(PathFault::Stops(stop_at((dir, name_of(name)), errno)));
+            }
         }
     }
     Ok(Found::Whole {

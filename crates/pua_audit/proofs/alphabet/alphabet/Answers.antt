@@ -1,5 +1,5 @@
 use Rattle.pua_audit.proofs.Common.{◌≡◌, ◌∙◌, map, codes, sym, ap, subst, lent_entry, Spot, name_cmp, with_name, distinct_names, Rises}
-use Rattle.pua_audit.proofs.Common.{part_bytes, with_names}
+use Rattle.pua_audit.proofs.Common.{with_names}
 use Rattle.std.proofs.lemmas.Simd.{map-map}
 use Rattle.pua_audit.proofs.Placing.{distinct_names-append, with_names_rise}
 use Rattle.pua_audit.proofs.Rising.{distinct_names_rise}
@@ -8,25 +8,25 @@ use Rattle.pua_audit.proofs.alphabet.alphabet.Goals as goal
 pub add_names-requires : goal.add_names-requires
 add_names-requires c =
     let names = map (λ row. (lent_entry row).0.1) c.args.rows.now in
-    let read : map part_bytes c.in_ok-letters.letters.items ≡ distinct_names names = c.in_ok-letters.ensures ∙
+    let read : c.in_ok-letters.letters.items ≡ distinct_names names = c.in_ok-letters.ensures ∙
     ap (map (λ name. name.now)) c.as_slice.ensures.value ∙ c.in_ok-names.ensures in
     subst (Rises name_cmp) (sym read) (distinct_names_rise names)
 
 pub add_letter-requires : goal.add_letter-requires
 add_letter-requires c =
     let names = map (λ row. (lent_entry row).0.1) c.args.rows.now in
-    let read : map part_bytes c.in_ok-letters.letters.items ≡ distinct_names names = c.in_ok-letters.ensures ∙
+    let read : c.in_ok-letters.letters.items ≡ distinct_names names = c.in_ok-letters.ensures ∙
     ap (map (λ name. name.now)) c.as_slice.ensures.value ∙ c.in_ok-names.ensures in
-    let rises : Rises name_cmp (map part_bytes c.in_ok-letters.letters.items) =
+    let rises : Rises name_cmp c.in_ok-letters.letters.items =
     subst (Rises name_cmp) (sym read) (distinct_names_rise names) in
     subst (Rises name_cmp) (sym c.in_ok-add_names.ensures)
-    (with_names_rise c.args.candidates.now (map part_bytes c.in_ok-letters.letters.items) rises)
+    (with_names_rise c.args.candidates.now c.in_ok-letters.letters.items rises)
 
 pub returns : goal.returns
 returns c = λ t whole.
-    let read : map part_bytes c.in_ok-letters.letters.items ≡ distinct_names (map (λ row. (lent_entry row).0.1) c.args.rows.now) =
+    let read : c.in_ok-letters.letters.items ≡ distinct_names (map (λ row. (lent_entry row).0.1) c.args.rows.now) =
     c.in_ok-letters.ensures ∙ ap (map (λ name. name.now)) c.as_slice.ensures.value ∙ c.in_ok-names.ensures in
     let same = sym (map-map (λ (row : Spot × _). row.0.1) lent_entry c.args.rows.now) ∙ ap (map (λ row. row.0.1)) whole in
-    c.in_ok-add_letter.ensures ∙ ap (λ p. with_name (part_bytes p) (map part_bytes c.add_names.new.letters.items)) c.in_ok-dots.ensures
+    c.in_ok-add_letter.ensures ∙ ap (λ letter. with_name letter c.add_names.new.letters.items) c.in_ok-dots.ensures
     ∙ ap (with_name (codes "..")) (c.in_ok-add_names.ensures ∙ ap (with_names c.args.candidates.now) (read ∙ ap distinct_names same) ∙
     sym (distinct_names-append c.args.candidates.now (map (λ row. row.0.1) t.rows)))

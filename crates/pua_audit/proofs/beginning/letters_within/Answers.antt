@@ -1,5 +1,5 @@
 use Rattle.pua_audit.proofs.Common.{◌≡◌, ◌≤◌, ◌∙◌, length, map, sym, ap, subst, arith, IsTrue, list_all, length-map, name_cmp, longest}
-use Rattle.pua_audit.proofs.Common.{is_letter, Rises, part_bytes, AreParts}
+use Rattle.pua_audit.proofs.Common.{is_letter, Rises}
 use Rattle.pua_audit.specs.Reach.{alphabet_of}
 use Rattle.pua_audit.specs.Bounds.{names_or_none}
 use Rattle.pua_audit.proofs.Rising.{alphabet_rises}
@@ -11,11 +11,10 @@ returns-clause-begun g c = λ table h base after.
     let t = g.P.Probe.tree c.args.probe.now in
     let texts = map (λ s. s.now) c.args.candidates.now in
     let names = c.in_ok-names.names.items in
-    let letters = map part_bytes c.in_ok-letters.letters.items in
+    let letters = c.in_ok-letters.letters.items in
     let few : length texts ≤ 1024 = omega (arith, length-map c.args.candidates.now (λ s. s.now)) in
     let same : letters ≡ alphabet_of t names = c.in_ok-letters.ensures t c.requires.rows ∙ ap (alphabet_of t) c.as_slice.ensures.value in
-    let most : c.longest.result ≡ longest letters = c.longest.ensures.longest ∙
-    ap (λ l. longest (map part_bytes l)) c.as_slice-2.ensures.value in
+    let most : c.longest.result ≡ longest letters = c.longest.ensures.longest ∙ ap longest c.as_slice-2.ensures.value in
     let product = same_product c.from.result c.args.limit c.longest.result (longest letters) c.from.ensures most in
     begun t table h base texts c.args.limit after c.if-limit-gt-MOST_LETTERS.false few names c.in_ok-names.ensures letters same
     (subst (λ n. n ≤ 1023) product c.if-from-longest-gt-MOST_PATH.false)
@@ -25,14 +24,12 @@ returns-clause-sound g c =
     let t = g.P.Probe.tree c.args.probe.now in
     let texts = map (λ s. s.now) c.args.candidates.now in
     let names = c.in_ok-names.names.items in
-    let letters = map part_bytes c.in_ok-letters.letters.items in
+    let letters = c.in_ok-letters.letters.items in
     let same : letters ≡ alphabet_of t names = c.in_ok-letters.ensures t c.requires.rows ∙ ap (alphabet_of t) c.as_slice.ensures.value in
-    let most : c.longest.result ≡ longest letters = c.longest.ensures.longest ∙
-    ap (λ l. longest (map part_bytes l)) c.as_slice-2.ensures.value in
+    let most : c.longest.result ≡ longest letters = c.longest.ensures.longest ∙ ap longest c.as_slice-2.ensures.value in
     let product = same_product c.from.result c.args.limit c.longest.result (longest letters) c.from.ensures most in
     record {
       few = c.if-limit-gt-MOST_LETTERS.false;
-      parts = subst AreParts c.as_slice-2.ensures.value c.longest.ensures.parts;
       known = subst (λ l. IsTrue (list_all is_letter l)) (sym same) (alphabet_letters t c.known.ensures texts names c.in_ok-names.ensures);
       rises = subst (Rises name_cmp) (sym same) (alphabet_rises t names);
       short = subst (λ n. n ≤ 1023) product c.if-from-longest-gt-MOST_PATH.false;
@@ -42,7 +39,6 @@ pub returns-clause-many : goal.returns-clause-many
 returns-clause-many g c =
     let t = g.P.Probe.tree c.args.probe.now in
     let names = c.in_ok-names.names.items in
-    let same : map part_bytes c.in_ok-letters.letters.items ≡ alphabet_of t names = c.in_ok-letters.ensures t c.requires.rows ∙
+    let same : c.in_ok-letters.letters.items ≡ alphabet_of t names = c.in_ok-letters.ensures t c.requires.rows ∙
     ap (alphabet_of t) c.as_slice.ensures.value in
-    sym (length-map c.in_ok-letters.letters.items part_bytes) ∙ ap length same ∙
-    ap (λ r. length (alphabet_of t (names_or_none r))) (sym c.in_ok-names.ensures)
+    ap length same ∙ ap (λ r. length (alphabet_of t (names_or_none r))) (sym c.in_ok-names.ensures)

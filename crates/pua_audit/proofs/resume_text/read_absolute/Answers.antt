@@ -1,10 +1,10 @@
-use Rattle.pua_audit.proofs.Common.{◌≡◌, ◌∙◌, length, map, get_or, ap, arith, common_steps, word_within, part_bytes}
+use Rattle.pua_audit.proofs.Common.{◌≡◌, ◌∙◌, length, get_or, ap, arith, common_steps, word_within}
 use Rattle.pua_audit.proofs.ResumeTexts.{empty_read, slash_alone}
 use Rattle.pua_audit.proofs.resume_text.read_absolute.Goals as goal
 
 pub returns-then-is_empty : goal.returns-then-is_empty
 returns-then-is_empty c =
-    let letters = map part_bytes c.args.letters.now in
+    let letters = c.args.letters.now in
     let one : length c.args.path.now ≡ 1 = grind (arith, common_steps) in
     let first : get_or c.args.path.now 0 0 ≡ 47 = grind (arith, common_steps) in
     let empty = empty_read letters c.args.limit c.args.word.now.items c.requires.empty in

@@ -1,6 +1,5 @@
-use Rattle.pua_audit.proofs.Common.{◌≡◌, ◌<◌, ◌≤◌, ◌++◌, ◌∷◌, [], ◌∙◌, Some, length, map, get_or, drop, sym, ap, subst, rules, arith, find}
-use Rattle.pua_audit.proofs.Common.{slice_split, common_steps, same_bytes, spelling, word_of_pieces, word_within, part_bytes, word_of}
-use Rattle.pua_audit.proofs.Common.{AreLetters}
+use Rattle.pua_audit.proofs.Common.{◌≡◌, ◌<◌, ◌≤◌, ◌++◌, ◌∷◌, [], ◌∙◌, Some, length, get_or, drop, sym, ap, subst, rules, arith, find}
+use Rattle.pua_audit.proofs.Common.{slice_split, common_steps, same_bytes, spelling, word_of_pieces, word_within, word_of, AreLetters}
 use Rattle.std.proofs.Common.{tests}
 use Rattle.std.specs.Prelude.{◌==◌}
 use Rattle.std.proofs.lemmas.List.{length_push}
@@ -13,7 +12,7 @@ use Rattle.pua_audit.proofs.resume_text.read_pieces.Goals as goal
 
 pub loop-piece-init : goal.loop-piece-init
 loop-piece-init c =
-    let letters = map part_bytes c.args.letters.now in
+    let letters = c.args.letters.now in
     let pieces = slice_split (λ b. b == 47) c.args.text.now in
     record {
       room = c.requires.room;
@@ -23,7 +22,7 @@ loop-piece-init c =
 
 pub returns-then-len-limit : goal.returns-then-len-limit
 returns-then-len-limit c =
-    let letters = map part_bytes c.args.letters.now in
+    let letters = c.args.letters.now in
     let pieces = slice_split (λ b. b == 47) c.args.text.now in
     let word = c.loop-piece.word.items in
     let at = YieldsList-turn (YieldsList-from_slice_split _ (λ b. b == 47) c.args.text.now (cc) (cc) (cc) (λ x b q k. search (
@@ -36,7 +35,7 @@ returns-then-len-limit c =
 
 pub returns-in_default : goal.returns-in_default
 returns-in_default c =
-    let letters = map part_bytes c.args.letters.now in
+    let letters = c.args.letters.now in
     let pieces = slice_split (λ b. b == 47) c.args.text.now in
     let at = YieldsList-turn (YieldsList-from_slice_split _ (λ b. b == 47) c.args.text.now (cc) (cc) (cc) (λ x b q k. search (
       rules,
@@ -48,7 +47,7 @@ returns-in_default c =
 
 pub loop-piece-preserved : goal.loop-piece-preserved
 loop-piece-preserved c =
-    let letters = map part_bytes c.args.letters.now in
+    let letters = c.args.letters.now in
     let pieces = slice_split (λ b. b == 47) c.args.text.now in
     let word = c.loop-piece.word.items in
     let place = c.in-Some-spelled_letter.place in
@@ -74,7 +73,7 @@ loop-piece-preserved c =
 
 pub returns : goal.returns
 returns c =
-    let letters = map part_bytes c.args.letters.now in
+    let letters = c.args.letters.now in
     let pieces = slice_split (λ b. b == 47) c.args.text.now in
     let word = c.loop-piece.word.items in
     let all = YieldsList-end (YieldsList-from_slice_split _ (λ b. b == 47) c.args.text.now (cc) (cc) (cc) (λ x b q k. search (

@@ -1,4 +1,4 @@
-use Rattle.pua_audit.proofs.Common.{◌≡◌, ◌≤◌, length, map, drop, vec_capacity, slice_split, word_of_pieces, part_bytes, word_of, AreLetters}
+use Rattle.pua_audit.proofs.Common.{◌≡◌, ◌≤◌, length, drop, vec_capacity, slice_split, word_of_pieces, word_of, AreLetters}
 use Rattle.std.specs.Prelude.{◌==◌}
 use Rattle.pua_audit.proofs.ResumeTexts.{behind_word}
 use Rattle.pua_audit.proofs.resume_text.read_pieces.Given as goal
@@ -6,7 +6,7 @@ use Rattle.pua_audit.proofs.resume_text.read_pieces.Given as goal
 -- the letters so far stand before those of the pieces that are left
 abbrev pub invariant-loop-piece : goal.invariant-loop-piece
 invariant-loop-piece l =
-    let letters = map part_bytes l.letters in
+    let letters = l.letters in
     let pieces = slice_split (λ b. b == 47) l.text in
     record {
       room : l.limit ≤ vec_capacity l.word;

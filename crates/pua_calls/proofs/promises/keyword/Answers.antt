@@ -1,22 +1,12 @@
-use Rattle.pua_calls.proofs.Common.{◌∙◌, sym, ap, rules, tests, YieldsList-from_slice, same_bytes}
-use Rattle.std.proofs.lemmas.Iterator.Search.{find_from_yields_List}
-use Rattle.std.specs.Prelude.{option_map}
-use Rattle.pua_calls.proofs.Keywords.{promise_of-find}
+use Rattle.pua_calls.proofs.Keywords.{promise_of-first, promise_of-then}
 use Rattle.pua_calls.proofs.promises.keyword.Goals as goal
 
-pub returns-in_err-flag : goal.returns-in_err-flag
-returns-in_err-flag c =
-    let found = find_from_yields_List (λ flag. same_bytes flag.name.now c.args.word.now) _ _ c.find.result c.find.ensures.ran
-    (YieldsList-from_slice c.flags.result.now cc) (λ x b q k. search (rules, tests)) in
-    let named = promise_of-find (λ flag. (flag.name.now, flag.value.0)) c.flags.result.now c.args.word.now (c.flags.ensures tt) in
-    let was = c.in_err-flag.was in
-    ap (option_map (λ a. a.0)) c.from_residual.ensures
-    ∙ sym (named ∙ ap (option_map (λ flag. flag.value.0)) (sym found ∙ ap (option_map (λ flag. flag.now)) was))
+pub returns-in-Some : goal.returns-in-Some
+returns-in-Some c =
+    promise_of-first (λ flag. (flag.name.now, flag.value.0)) c.flags.result.now c.split_at.result.0.now c.split_at.result.1.now
+    c.args.word.now c.in-Some.keyword.0 c.split_at.ensures.by_index.0 (c.flags.ensures tt) c.in-Some.ensures
 
-pub returns : goal.returns
-returns c =
-    let found = find_from_yields_List (λ flag. same_bytes flag.name.now c.args.word.now) _ _ c.find.result c.find.ensures.ran
-    (YieldsList-from_slice c.flags.result.now cc) (λ x b q k. search (rules, tests)) in
-    let named = promise_of-find (λ flag. (flag.name.now, flag.value.0)) c.flags.result.now c.args.word.now (c.flags.ensures tt) in
-    let was = c.in_ok-flag.was in
-    sym (named ∙ ap (option_map (λ flag. flag.value.0)) (sym found ∙ ap (option_map (λ flag. flag.now)) was))
+pub returns-in-None : goal.returns-in-None
+returns-in-None c =
+    promise_of-then (λ flag. (flag.name.now, flag.value.0)) c.flags.result.now c.split_at.result.0.now c.split_at.result.1.now
+    c.args.word.now _ c.split_at.ensures.by_index.0 (c.flags.ensures tt) c.in-None.ensures c.keyword_among-in-None.ensures

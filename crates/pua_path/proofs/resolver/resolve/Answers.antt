@@ -6,7 +6,7 @@ pub returns-clause-exact : goal.returns-clause-exact
 returns-clause-exact g c =
     let text = c.args.text.now in
     let start = rw c.bytes.ensures.bytes at c.in-Some.ensures.start in
-    let found = rw (c.start_of.ensures.tree, c.unread.ensures.parts) at c.resolve_text.ensures.exact in
+    let found = rw (c.start_of.ensures.tree, c.unread.ensures) at c.resolve_text.ensures.exact in
     resolution_starts (g.P.Probe.tree c.args.probe.now) c.args.from text.ending text.bytes c.args.mode c.in-Some.start c.resolve_text.result
     start found
 

@@ -8,12 +8,11 @@ loop-way-preserved g c =
     let t = g.P.Probe.tree c.args.probe.now in
     let met = rw c.loop-way.invariant.tree at c.in-Directory.ensures.exact in
     let step =
-    text_onward t c.args.mode c.args.left c.loop-way.here (way_of c.loop-way.way) c.loop-way.rest.now c.next_piece.result.0.now
-    c.next_piece.result.1.now c.is_empty-in-loop-way.result _ c.next_piece.ensures.parts c.is_empty-in-loop-way.ensures met in
+    text_onward t c.args.mode c.args.left c.loop-way.here (way_of c.loop-way.way) c.loop-way.rest.bytes.now c.next_piece.result.0.bytes.now
+    c.next_piece.result.1.bytes.now c.is_empty-in-loop-way.result _ c.next_piece.ensures c.is_empty-in-loop-way.ensures met in
     record {
       tree = search rules;
       lives = search rules;
-      readable = search rules;
       so_far = sym step ∙ c.loop-way.invariant.so_far;
     }
 
@@ -22,8 +21,8 @@ returns-in-Link-clause-exact g c =
     let t = g.P.Probe.tree c.args.probe.now in
     let met = rw c.loop-way.invariant.tree at c.in-Link.ensures.exact in
     let step =
-    text_onward t c.args.mode c.args.left c.loop-way.here (way_of c.loop-way.way) c.loop-way.rest.now c.next_piece.result.0.now
-    c.next_piece.result.1.now c.is_empty-in-loop-way.result _ c.next_piece.ensures.parts c.is_empty-in-loop-way.ensures met in
+    text_onward t c.args.mode c.args.left c.loop-way.here (way_of c.loop-way.way) c.loop-way.rest.bytes.now c.next_piece.result.0.bytes.now
+    c.next_piece.result.1.bytes.now c.is_empty-in-loop-way.result _ c.next_piece.ensures c.is_empty-in-loop-way.ensures met in
     (rw (c.lead_by_piece.ensures.tree, c.loop-way.invariant.tree) at c.follow_on.ensures.exact)
     ∙ ap found_alone (sym step ∙ c.loop-way.invariant.so_far)
 
@@ -32,8 +31,8 @@ returns-in-Found-clause-exact g c =
     let t = g.P.Probe.tree c.args.probe.now in
     let met = rw c.loop-way.invariant.tree at c.in-Found.ensures.exact in
     let step =
-    text_onward t c.args.mode c.args.left c.loop-way.here (way_of c.loop-way.way) c.loop-way.rest.now c.next_piece.result.0.now
-    c.next_piece.result.1.now c.is_empty-in-loop-way.result _ c.next_piece.ensures.parts c.is_empty-in-loop-way.ensures met in
+    text_onward t c.args.mode c.args.left c.loop-way.here (way_of c.loop-way.way) c.loop-way.rest.bytes.now c.next_piece.result.0.bytes.now
+    c.next_piece.result.1.bytes.now c.is_empty-in-loop-way.result _ c.next_piece.ensures c.is_empty-in-loop-way.ensures met in
     ap (λ found. Ok found) c.found.ensures ∙ ap found_alone (sym step ∙ c.loop-way.invariant.so_far)
 
 pub returns-in-Nowhere-clause-exact : goal.returns-in-Nowhere-clause-exact
@@ -41,6 +40,6 @@ returns-in-Nowhere-clause-exact g c =
     let t = g.P.Probe.tree c.args.probe.now in
     let met = rw c.loop-way.invariant.tree at c.in-Nowhere.ensures.exact in
     let step =
-    text_onward t c.args.mode c.args.left c.loop-way.here (way_of c.loop-way.way) c.loop-way.rest.now c.next_piece.result.0.now
-    c.next_piece.result.1.now c.is_empty-in-loop-way.result _ c.next_piece.ensures.parts c.is_empty-in-loop-way.ensures met in
+    text_onward t c.args.mode c.args.left c.loop-way.here (way_of c.loop-way.way) c.loop-way.rest.bytes.now c.next_piece.result.0.bytes.now
+    c.next_piece.result.1.bytes.now c.is_empty-in-loop-way.result _ c.next_piece.ensures c.is_empty-in-loop-way.ensures met in
     ap found_alone (sym step ∙ c.loop-way.invariant.so_far)

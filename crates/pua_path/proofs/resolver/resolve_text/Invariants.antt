@@ -1,4 +1,4 @@
-use Rattle.pua_path.proofs.Common.{◌≡◌, length, is_dir, is_readable, rest_parts, resolve_parts, way_of, Top}
+use Rattle.pua_path.proofs.Common.{◌≡◌, length, is_dir, rest_parts, resolve_parts, way_of, Top}
 use Rattle.std.proofs.Common.{IsTrue}
 use Rattle.pua_path.proofs.resolver.resolve_text.Given as goal
 
@@ -8,10 +8,9 @@ invariant-loop-way g l =
     record {
       tree : g.P.Probe.tree l.probe ≡ t;
       lives : IsTrue (is_dir t l.here);
-      readable : IsTrue (is_readable l.rest);
-      so_far : resolve_parts l.fn.left t l.fn.mode l.here (way_of l.way) (rest_parts l.rest) ≡ resolve_parts l.fn.left t l.fn.mode
-          l.fn.start Top (rest_parts l.fn.text);
+      so_far : resolve_parts l.fn.left t l.fn.mode l.here (way_of l.way) (rest_parts l.rest.bytes.now) ≡ resolve_parts l.fn.left t l.fn.mode
+          l.fn.start Top (rest_parts l.fn.text.bytes.now);
     }
 
 abbrev pub decreases-loop-way : goal.decreases-loop-way
-decreases-loop-way g l = length (rest_parts l.rest)
+decreases-loop-way g l = length (rest_parts l.rest.bytes.now)

@@ -5,8 +5,8 @@ use Rattle.pua_why.specs.Texts.{chain}
 use Rattle.pua_since.specs.Dates.{AreDatesOf}
 use Rattle.pua_since.proofs.chain.chain_text.Goals as goal
 
-pub returns-in-Ok-lines_of : goal.returns-in-Ok-lines_of
-returns-in-Ok-lines_of g c w stands told after_stands same =
+pub returns : goal.returns
+returns g c w stands told after_stands same =
     let asks = c.args.requests.now in
     let ask = c.args.request.now in
     let table : CallTable = c.args.before.now.table in
@@ -20,7 +20,7 @@ returns-in-Ok-lines_of g c w stands told after_stands same =
     c.in_ok-dates.ensures.dates w stands told facts in
     let world = c.in_ok-dates.ensures.world w stands told in
     let now = world.1 in
-    c.in-Ok-lines_of.ensures w asks
+    c.in_ok-lines_of.ensures w asks
     (subst (λ t. StandsForWorld c.dates_of.new.world (world_after t w asks)) (sym now) world.0)
     ((c.in-Ok.ensures.served left after_stands).0 ∙ (λ i. (apply (same i) left ask).0) ∙
     sym (λ i. (apply (now i) (world_after (now i) w asks) ask).0))

@@ -7,7 +7,7 @@ loop-fact-preserved g c = record {
   places = λ later kept.
       zipped_more (λ fact place. IsFactAt later c.args.process c.args.last (veil_told fact) place) fact_seen c.args.passed.now
       c.loop-fact.veils.items c.push.new.self.items c.loop-fact.fact-index
-      c.fact-item.result c.in_ok-place.place c.loop-fact-test.true c.fact-item.is c.in-Ok.ensures.items
+      c.fact-item.result c.in_ok-place.place c.loop-fact-test.true c.fact-item.is c.in_ok-push.ensures.items
       (c.loop-fact.invariant.places later (kept_twice _ _ later c.in_ok-place.ensures.kept kept))
       (fact_kept _ later c.args.process c.args.last (veil_told (fact_seen c.fact-item.result)) _ kept c.in_ok-place.ensures.place);
   watched = λ w left stands before. c.in_ok-place.ensures.watched w left stands (c.loop-fact.invariant.watched w left stands before);

@@ -21,7 +21,7 @@ loop-done-preserved g c =
       kept = c.serve.ensures.kept;
       world = c.in_ok-serve.ensures.world;
       watched = c.in_ok-serve.ensures.watched;
-      told = c.in-Ok.ensures;
+      told = c.in_ok-push_line.ensures;
     } in
     turned c.args.world.now c.args.watches.now c.args.requests.now c.args.answers.now c.args.places.now c.loop-done.world
     c.loop-done.watches

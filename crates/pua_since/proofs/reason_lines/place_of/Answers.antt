@@ -15,13 +15,13 @@ pub returns-in-Some-clause-known : goal.returns-in-Some-clause-known
 returns-in-Some-clause-known g c n known read =
     known_kept c.args.watches.now.watches.items c.extend.new.self.watches.items c.extend.ensures.kept c.args.known.now.entries known
 
-pub returns-in-Ok-clause-known : goal.returns-in-Ok-clause-known
-returns-in-Ok-clause-known g c n known read =
+pub returns-clause-known : goal.returns-clause-known
+returns-clause-known g c n known read =
     let at : IsRequestAt c.add.new.self.watches.items c.in_ok-place.place c.args.request.now c.args.done =
     asked_at c.add.new.self.watches.items c.in_ok-place.place c.process.result c.action.result c.args.request.now c.args.done
     c.process.ensures.process c.action.ensures.action c.in_ok-place.ensures.place in
     known_more c.add.new.self.watches.items c.args.known.now.entries c.insert.new.self.entries c.args.line c.in_ok-place.place n
     c.args.request.now
-    (c.in-Ok.ensures.entries ∙ insert_entry-new _ c.args.known.now c.args.line c.in_ok-place.place (sym c.in_default.ensures.value))
+    (c.in_ok-insert.ensures.entries ∙ insert_entry-new _ c.args.known.now c.args.line c.in_ok-place.place (sym c.in_default.ensures.value))
     (known_kept c.args.watches.now.watches.items c.add.new.self.watches.items c.add.ensures.kept c.args.known.now.entries known) read
     (request_wanted _ _ _ c.args.done at)

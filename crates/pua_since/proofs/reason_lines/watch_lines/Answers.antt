@@ -67,7 +67,7 @@ loop-done-preserved g c =
           let own = request_kept c.place_of.new.watches.watches.items later c.in_ok-place.place c.in-Some.request.now c.in-Some.done kept
           (c.in_ok-place.ensures.place (so.lines read).0 (so.known read) first.0) in
           subst (λ places. ArePlacesOf later 0 c.args.requests.now c.args.answers.now places)
-          (sym (ap (λ places. places ++ rest) c.in-Ok.ensures.items ∙
+          (sym (ap (λ places. places ++ rest) c.in_ok-push.ensures.items ∙
           append_assoc c.loop-done.places.items (c.in_ok-place.place ∷ []) rest))
           (so.places read later (c.in_ok-place.place ∷ rest)
           (kept_twice c.loop-done.watches.watches.items c.place_of.new.watches.watches.items later kept_now kept)

@@ -8,7 +8,7 @@ loop-number-preserved g c = record {
   places = λ later kept.
       zipped_more (λ veil place. IsVeilAt later place veil.0 veil.1 c.args.last) veil_seen c.args.veils.now c.loop-number.own.items
       c.push.new.self.items c.loop-number.number-index
-      c.loop-number-item.result c.in_ok-place.place c.loop-number-test.true c.loop-number-item.is c.in-Ok.ensures.items
+      c.loop-number-item.result c.in_ok-place.place c.loop-number-test.true c.loop-number-item.is c.in_ok-push.ensures.items
       (c.loop-number.invariant.places later (kept_twice _ _ later c.add.ensures.kept kept))
       (record { question = asks.Veil c.loop-number-item.result.1; stands = kept _ _ _ _ c.in_ok-place.ensures.place; asks = refl });
   watched = λ w left stands before. c.in_ok-place.ensures.watched w left stands (c.loop-number.invariant.watched w left stands before);

@@ -1,6 +1,6 @@
 use Rattle.pua_texts.proofs.Common.{List, ℕ, ◌+◌, ◌++◌, ◌∷◌, [], take, sym, subst, ◌∙◌, arith, take_all, take_more, history_of}
 use Rattle.pua_texts.proofs.Common.{AreProcessLists, IsListOf, ListState}
-use Rattle.pua_texts.proofs.Made.{is_made, none_made}
+use Rattle.pua_script.proofs.ForCallers.{is_made, none_made}
 use Rattle.pua_texts.proofs.Lists.{one_more, none_more, same_list}
 use Rattle.pua_texts.proofs.object_lists.begin_lists.Goals as goal
 

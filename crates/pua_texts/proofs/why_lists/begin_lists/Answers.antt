@@ -2,7 +2,7 @@ use Rattle.pua_texts.proofs.Common.{◌≡◌, List, ℕ, ◌+◌, ◌++◌, ◌
 use Rattle.pua_texts.proofs.Common.{take_more, history_of, veil_date, veils_at, veil_dates, AreWhyListsOf, IsWhyListOf, world_left}
 use Rattle.std.proofs.Common.{Option}
 use Rattle.pua_texts.specs.WhyLists.{WhyListState}
-use Rattle.pua_texts.proofs.Made.{is_made, none_made}
+use Rattle.pua_script.proofs.ForCallers.{is_made, none_made}
 use Rattle.pua_texts.proofs.Lists.{one_more, none_more}
 use Rattle.pua_texts.proofs.VeilDates.{length_dates, none_dated, some_dated}
 use Rattle.pua_texts.proofs.why_lists.begin_lists.Goals as goal

@@ -1,6 +1,6 @@
 use Rattle.pua_audit.proofs.Common.{◌≡◌, ◌≤◌, ◌+◌, ◌*◌, refl, rules, arith, subst, ℕ, suc, List, [], sym, ap, ◌∙◌, map, length, Result, Ok}
-use Rattle.pua_audit.proofs.Common.{Err, IfSome, lent_entry, Tree, part_cost, Part, plain_history, Scope, rest_after, live_states, AreParts}
-use Rattle.pua_audit.proofs.Common.{part_bytes, letters_of, scope_in, AreLetters, AuditFault, Terms}
+use Rattle.pua_audit.proofs.Common.{Err, IfSome, lent_entry, Tree, part_cost, plain_history, Scope, rest_after, live_states, scope_in}
+use Rattle.pua_audit.proofs.Common.{AreLetters, AuditFault, Terms}
 use Rattle.std.specs.Prelude.{option_map}
 use Rattle.pua_path.specs.Counts.{one_more}
 use Rattle.pua_steps.specs.Limits.{search_cost}
@@ -15,7 +15,6 @@ pub new-requires : goal.new-requires
 new-requires g c =
     let past : StandsFor c.args.process.now (plain_history c.args.process.now) =
     stands_for_past c.args.process.now c.known.ensures.history c.known.ensures.stands in
-    let parts : AreParts c.in_ok-letters.field-0.letters.items = c.in_ok-letters.ensures.sound.sound.parts in
     let short = c.in_ok-letters.ensures.sound.sound.short in
     search rules
 
@@ -26,10 +25,10 @@ returns-clause-begun g c = λ h stands.
     let base = c.args.base in
     let limit = c.args.limit in
     let after = c.in_ok-letters.field-0.after in
-    let letters : List Part = c.in_ok-letters.field-0.letters.items in
+    let letters : List (List ℕ) = c.in_ok-letters.field-0.letters.items in
     let b : Beginning = beginning_with t c.args.table.now h base limit c.in_ok-letters.field-0 in
     let past = stands_for_past p c.known.ensures.history c.known.ensures.stands in
-    let known : c.in_ok-terms.terms.letters.items ≡ letters = ap (λ v. v.items) c.in_ok-terms.ensures.letters.1 in (
+    let known : c.in_ok-terms.terms.letters.items ≡ letters = ap (λ v. v.items) c.in_ok-terms.ensures.letters in (
       b,
       (
         (subst (λ (u : Tree). beginning u c.args.table.now h c.args.base (map (λ s. s.now) c.args.candidates.now) c.args.limit
@@ -37,12 +36,12 @@ returns-clause-begun g c = λ h stands.
             ≡ Ok (beginning_with u c.args.table.now h c.args.base c.args.limit c.in_ok-letters.field-0)) c.in_ok-rows.ensures.tree
             (c.in_ok-letters.ensures.begun c.args.table.now h)),
         c.in_ok-pairs.ensures.left
-            ∙ ap (λ (ls : List Part). rest_after (scope_in c.in_ok-terms.terms) (option_map (pair_in (map part_bytes ls)) after)) known
-            ∙ ap (λ (s : Scope). rest_after s (option_map (pair_in (map part_bytes letters)) after)) c.in_ok-terms.ensures.scope
+            ∙ ap (λ (ls : List (List ℕ)). rest_after (scope_in c.in_ok-terms.terms) (option_map (pair_in ls) after)) known
+            ∙ ap (λ (s : Scope). rest_after s (option_map (pair_in letters) after)) c.in_ok-terms.ensures.scope
             ∙ ap (λ (u : Tree). rest_after (scope_with u c.args.table.now (plain_history p) base limit letters)
-            (option_map (pair_in (map part_bytes letters)) after)) c.in_ok-rows.ensures.tree
-            ∙ rest_by_process t c.args.table.now base (map part_bytes letters) limit p (plain_history p) h past stands
-            (option_map (pair_in (map part_bytes letters)) after),
+            (option_map (pair_in letters) after)) c.in_ok-rows.ensures.tree
+            ∙ rest_by_process t c.args.table.now base letters limit p (plain_history p) h past stands
+            (option_map (pair_in letters) after),
         refl,
       ),
     )
@@ -56,8 +55,8 @@ alphabet_in (Err fault) = []
 
 pub returns-clause-letters : goal.returns-clause-letters
 returns-clause-letters g c = λ h b is.
-    ap (λ (u : Terms). letters_of u) c.in_ok-pairs.ensures.terms
-    ∙ ap (λ (v : List Part). map part_bytes v) (ap (λ v. v.items) c.in_ok-terms.ensures.letters.1)
+    ap (λ (u : Terms). u.letters.items) c.in_ok-pairs.ensures.terms
+    ∙ ap (λ v. v.items) c.in_ok-terms.ensures.letters
     ∙ ap alphabet_in (sym
     ((subst (λ (u : Tree). beginning u c.args.table.now h c.args.base (map (λ s. s.now) c.args.candidates.now) c.args.limit
     (option_map (λ s. s.now) c.args.after) ≡ Ok (beginning_with u c.args.table.now h c.args.base c.args.limit c.in_ok-letters.field-0))
@@ -73,12 +72,12 @@ returns-clause-live g c = λ h stands b is.
     let t : Tree = g.P.Probe.tree c.args.probe.now in
     let base = c.args.base in
     let limit = c.args.limit in
-    let letters : List Part = c.in_ok-letters.field-0.letters.items in
+    let letters : List (List ℕ) = c.in_ok-letters.field-0.letters.items in
     let past = stands_for_past p c.known.ensures.history c.known.ensures.stands in
     c.in_ok-pairs.ensures.live
     ∙ ap (λ (s : Scope). length (live_states s)) c.in_ok-terms.ensures.scope
     ∙ ap (λ (u : Tree). length (live_states (scope_with u c.args.table.now (plain_history p) base limit letters))) c.in_ok-rows.ensures.tree
-    ∙ ap length (live_by_process t c.args.table.now base (map part_bytes letters) limit p (plain_history p) h past stands)
+    ∙ ap length (live_by_process t c.args.table.now base letters limit p (plain_history p) h past stands)
     ∙ ap live_in (sym ((subst (λ (u : Tree). beginning u c.args.table.now h c.args.base (map (λ s. s.now) c.args.candidates.now)
     c.args.limit (option_map (λ s. s.now) c.args.after)
     ≡ Ok (beginning_with u c.args.table.now h c.args.base c.args.limit c.in_ok-letters.field-0)) c.in_ok-rows.ensures.tree
@@ -87,26 +86,25 @@ returns-clause-live g c = λ h stands b is.
 pub begin-requires : goal.begin-requires
 begin-requires g c κs =
     let terms : Terms = c.in_ok-terms.terms in
-    let kept = c.in_ok-terms.ensures.letters in
     let checked = c.in_ok-letters.ensures.sound in
     let after = c.in_ok-letters.field-0.after in
     let same : terms.seen.tree ≡ g.P.Probe.tree c.rows.new.self = ap (λ (s : Scope). s.tree) c.in_ok-terms.ensures.scope in
-    let items : terms.letters.items ≡ c.in_ok-letters.field-0.letters.items = ap (λ v. v.items) kept.1 in
+    let items : terms.letters.items ≡ c.in_ok-letters.field-0.letters.items = ap (λ v. v.items) c.in_ok-terms.ensures.letters in
     let rows : map lent_entry c.deref-2.result.now ≡ terms.seen.tree.rows =
     ap (map lent_entry) c.deref-2.ensures.value ∙ c.in_ok-rows.ensures.rows
     ∙ ap (λ (t : Tree). t.rows) (sym (same ∙ c.in_ok-rows.ensures.tree)) in
     let letters : AreSound terms.limit terms.letters.items =
-    subst (λ (n : ℕ). AreSound n terms.letters.items) (sym kept.0)
-    (subst (λ (ls : List Part). AreSound c.args.limit ls) (sym items) checked.sound) in
-    let word : IfSome after (λ r. AreLetters (letters_of terms) terms.limit r.word.items) =
-    subst (λ (n : ℕ). IfSome after (λ r. AreLetters (letters_of terms) n r.word.items)) (sym kept.0)
-    (subst (λ (ls : List Part). IfSome after (λ r. AreLetters (map part_bytes ls) c.args.limit r.word.items)) (sym items)
+    subst (λ (n : ℕ). AreSound n terms.letters.items) (sym c.in_ok-terms.ensures.limit)
+    (subst (λ (ls : List (List ℕ)). AreSound c.args.limit ls) (sym items) checked.sound) in
+    let word : IfSome after (λ r. AreLetters terms.letters.items terms.limit r.word.items) =
+    subst (λ (n : ℕ). IfSome after (λ r. AreLetters terms.letters.items n r.word.items)) (sym c.in_ok-terms.ensures.limit)
+    (subst (λ (ls : List (List ℕ)). IfSome after (λ r. AreLetters ls c.args.limit r.word.items)) (sym items)
     checked.after) in
     ((refl, tt), (sym same, (rows, (c.in_ok-terms.ensures.sound, (letters, word)))))
 
 pub returns-clause-reads : goal.returns-clause-reads
 returns-clause-reads g c =
-    subst (λ (n : ℕ). c.in_ok-pairs.pairs.walk.tables.reads ≤ search_cost * n) c.in_ok-terms.ensures.letters.0 c.in_ok-pairs.ensures.reads
+    subst (λ (n : ℕ). c.in_ok-pairs.pairs.walk.tables.reads ≤ search_cost * n) c.in_ok-terms.ensures.limit c.in_ok-pairs.ensures.reads
 
 -- the looks at the tree
 
@@ -162,7 +160,7 @@ returns-in_err-pairs-clause-cost g c =
     let texts : List (List ℕ) = map (λ s. s.now) c.args.candidates.now in
     let same : terms.seen.tree ≡ t = ap (λ (s : Scope). s.tree) c.in_ok-terms.ensures.scope ∙ c.in_ok-rows.ensures.tree in
     let count : length terms.letters.items ≡ letter_count t texts =
-    ap (λ v. length v.items) c.in_ok-terms.ensures.letters.1 ∙ c.in_ok-letters.ensures.many
+    ap (λ v. length v.items) c.in_ok-terms.ensures.letters ∙ c.in_ok-letters.ensures.many
     ∙ ap (λ (u : Tree). letter_count u texts) c.in_ok-rows.ensures.tree in
     begun_within _ _ _ c.args.limit (length terms.letters.items) (letter_count t texts) t terms.seen.tree c.in_ok-rows.ensures.count
     same count c.begin.ensures.cost
@@ -174,7 +172,7 @@ returns-clause-cost g c =
     let texts : List (List ℕ) = map (λ s. s.now) c.args.candidates.now in
     let same : terms.seen.tree ≡ t = ap (λ (s : Scope). s.tree) c.in_ok-terms.ensures.scope ∙ c.in_ok-rows.ensures.tree in
     let count : length terms.letters.items ≡ letter_count t texts =
-    ap (λ v. length v.items) c.in_ok-terms.ensures.letters.1 ∙ c.in_ok-letters.ensures.many
+    ap (λ v. length v.items) c.in_ok-terms.ensures.letters ∙ c.in_ok-letters.ensures.many
     ∙ ap (λ (u : Tree). letter_count u texts) c.in_ok-rows.ensures.tree in
     begun_within _ _ _ c.args.limit (length terms.letters.items) (letter_count t texts) t terms.seen.tree c.in_ok-rows.ensures.count
     same count c.begin.ensures.cost

@@ -1,4 +1,4 @@
-use Rattle.pua_audit.proofs.Common.{arith, rules, letters_of}
+use Rattle.pua_audit.proofs.Common.{arith, rules}
 use Rattle.pua_audit.proofs.Coming.{along_none}
 use Rattle.pua_audit.proofs.pairs.Pairs.begin.Goals as goal
 
@@ -12,7 +12,7 @@ returns-clause-ready g c =
       limit = got.limit;
       letters = got.letters;
       pairs = got.within;
-      path = along_none (letters_of c.args.terms) w.word.items c.in_ok-path.path c.in_ok-path.ensures.path;
+      path = along_none c.args.terms.letters.items w.word.items c.in_ok-path.path c.in_ok-path.ensures.path;
       bytes = omega (arith, c.most_bytes.ensures, c.in_ok-path.ensures.bytes);
       starts = c.in_ok-path.ensures.letters;
     }

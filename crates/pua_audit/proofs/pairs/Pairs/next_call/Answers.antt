@@ -1,5 +1,5 @@
-use Rattle.pua_audit.proofs.Common.{sym, subst, letters_of}
-use Rattle.pua_audit.proofs.Coming.{along_kept, kept_ready, pairs_none, word_known, spelled_ready, is_line}
+use Rattle.pua_audit.proofs.Common.{sym, subst}
+use Rattle.pua_audit.proofs.Coming.{along_kept, kept_ready, pairs_none, pairs_more, spelled_ready, is_line}
 use Rattle.pua_steps.specs.Ready.{IsUnchanged}
 use Rattle.pua_audit.proofs.pairs.Pairs.next_call.Goals as goal
 
@@ -16,27 +16,27 @@ pub spell-requires-clause-path : goal.spell-requires-clause-path
 spell-requires-clause-path c =
     let a = c.args.self.now in
     let w = c.next_call-next.new.self in
-    along_kept (letters_of a.terms) a.walk.word.items w.word.items c.unchanged.result a.path c.keep.new.self c.requires.ready.path
+    along_kept a.terms.letters.items a.walk.word.items w.word.items c.unchanged.result a.path c.keep.new.self c.requires.ready.path
     (subst (λ n. IsUnchanged a.walk.word.items n w.word.items) (sym c.unchanged.ensures) c.next_call-next.ensures.unchanged)
     c.keep.ensures.path c.keep.ensures.few
 
 pub spell-requires-clause-known : goal.spell-requires-clause-known
 spell-requires-clause-known c =
     let got = c.next_call-next.ensures in
-    word_known c.args.self.now c.requires.ready c.next_call-next.new.self got.same got.ready got.unchanged c.in_ok-call.call
-    c.in_ok-call.ensures.line
+    (pairs_more c.args.self.now c.requires.ready c.next_call-next.new.self got.same got.ready got.unchanged c.in_ok-call.call
+    c.in_ok-call.ensures.line).0.word
 
 pub returns-clause-ready : goal.returns-clause-ready
 returns-clause-ready c =
     let got = c.next_call-next.ensures in
     spelled_ready c.args.self.now c.requires.ready c.next_call-next.new.self got.same got.ready got.unchanged c.in_ok-call.call
-    c.in_ok-call.ensures.line c.spell.new.self c.spell.ensures.kept.0 c.spell.ensures.kept.1 c.spell.ensures.path c.spell.ensures.whole
+    c.in_ok-call.ensures.line c.spell.new.self c.spell.ensures.terms c.spell.ensures.walk c.spell.ensures.path c.spell.ensures.whole
     c.spell.ensures.bytes c.spell.ensures.starts
 
 pub returns-clause-next : goal.returns-clause-next
 returns-clause-next c =
     let got = c.next_call-next.ensures in
     is_line c.args.self.now c.requires.ready c.next_call-next.new.self got.same got.ready got.unchanged c.in_ok-call.call
-    c.in_ok-call.ensures.line c.spell.new.self c.spell.ensures.kept.0 c.spell.ensures.kept.1 c.spell.ensures.path c.spell.ensures.whole
+    c.in_ok-call.ensures.line c.spell.new.self c.spell.ensures.terms c.spell.ensures.walk c.spell.ensures.path c.spell.ensures.whole
     c.spell.ensures.bytes c.spell.ensures.starts
     c.call_at.result c.call_at.ensures

@@ -1,8 +1,7 @@
 use Rattle.pua_audit.proofs.Common.{◌≡◌, ◌≤◌, ◌<◌, ◌*◌, ℕ, List, [], suc, length, get_or, vec_capacity, refl, sym, ap, ◌∙◌, arith, subst}
-use Rattle.pua_audit.proofs.Common.{longest, part_bytes, letters_of, Terms}
+use Rattle.pua_audit.proofs.Common.{longest, Terms, get_or_read}
 use Rattle.pua_audit.proofs.Coming.{along_push, along_room, along_whole}
 use Rattle.pua_audit.proofs.Moves.{all_at_index}
-use Rattle.pua_audit.proofs.Spelled.{letter_at}
 use Rattle.pua_audit.proofs.pairs.Pairs.spell.Goals as goal
 
 pub loop-self-init : goal.loop-self-init
@@ -39,10 +38,10 @@ add-requires-clause-bytes c =
     let here : i < length a.terms.letters.items =
     subst (λ (v : List ℕ). get_or v c.len-in-loop-self.result 0 < length a.terms.letters.items) (sym c.word-in-loop-self.ensures)
     (all_at_index (λ i. i < length a.terms.letters.items) word 0 inv.known c.len-in-loop-self.result lower) in
-    let room : a.terms.limit * suc (longest (letters_of a.terms)) ≤ vec_capacity a.path.bytes =
-    subst (λ (t : Terms). t.limit * suc (longest (letters_of t)) ≤ vec_capacity a.path.bytes) (sym inv.terms) inv.bytes in
-    let part : get_or (letters_of a.terms) i [] ≡ part_bytes c.index.result.now = letter_at a.terms i c.index.result.now here ∙
-    ap part_bytes (sym c.index.ensures) in
+    let room : a.terms.limit * suc (longest a.terms.letters.items) ≤ vec_capacity a.path.bytes =
+    subst (λ (t : Terms). t.limit * suc (longest t.letters.items) ≤ vec_capacity a.path.bytes) (sym inv.terms) inv.bytes in
+    let part : get_or a.terms.letters.items i [] ≡ c.index.result.now =
+    sym (get_or_read a.terms.letters.items i c.index.result.now here c.index.ensures []) in
     omega (arith, along_room a.terms word a.path i inv.path inv.known low inv.within here room, ap length part)
 
 pub add-requires-clause-starts : goal.add-requires-clause-starts
@@ -77,14 +76,14 @@ loop-self-preserved c =
     let here : i < length a.terms.letters.items =
     subst (λ (v : List ℕ). get_or v k 0 < length a.terms.letters.items) (sym c.word-in-loop-self.ensures)
     (all_at_index (λ i. i < length a.terms.letters.items) word 0 inv.known k lower) in
-    let part : get_or (letters_of a.terms) (get_or word (length a.path.starts.items) 0) [] ≡ part_bytes c.index.result.now =
-    ap (λ n. get_or (letters_of a.terms) n []) (sym same) ∙ letter_at a.terms i c.index.result.now here ∙
-    ap part_bytes (sym c.index.ensures) in
+    let part : get_or a.terms.letters.items (get_or word (length a.path.starts.items) 0) [] ≡ c.index.result.now =
+    ap (λ n. get_or a.terms.letters.items n []) (sym same) ∙
+    sym (get_or_read a.terms.letters.items i c.index.result.now here c.index.ensures []) in
     record {
       terms = inv.terms;
       walk = inv.walk;
       live = inv.live;
-      path = along_push (letters_of a.terms) word a.path c.add.new.self (part_bytes c.index.result.now) inv.path low part c.add.ensures.path
+      path = along_push a.terms.letters.items word a.path c.add.new.self c.index.result.now inv.path low part c.add.ensures.path
           c.add.ensures.more;
       known = inv.known;
       within = inv.within;
@@ -92,13 +91,19 @@ loop-self-preserved c =
       starts = omega (arith, inv.starts, c.add.ensures.starts);
     }
 
-pub returns-clause-kept : goal.returns-clause-kept
-returns-clause-kept c = let inv = c.loop-self.invariant in (inv.terms, inv.walk, inv.live)
+pub returns-clause-terms : goal.returns-clause-terms
+returns-clause-terms c = c.loop-self.invariant.terms
+
+pub returns-clause-walk : goal.returns-clause-walk
+returns-clause-walk c = c.loop-self.invariant.walk
+
+pub returns-clause-live : goal.returns-clause-live
+returns-clause-live c = c.loop-self.invariant.live
 
 pub returns-clause-path : goal.returns-clause-path
 returns-clause-path c =
     let a = c.loop-self.self in
-    along_whole (letters_of a.terms) a.walk.word.items a.path c.loop-self.invariant.path (omega (
+    along_whole a.terms.letters.items a.walk.word.items a.path c.loop-self.invariant.path (omega (
       arith,
       c.loop-self-test.false,
       c.len.ensures,

@@ -1,4 +1,4 @@
-use Rattle.pua_audit.proofs.Common.{◌≡◌, ◌≤◌, ◌<◌, ◌-◌, ◌*◌, suc, length, vec_capacity, AllByRecursion, longest, letters_of}
+use Rattle.pua_audit.proofs.Common.{◌≡◌, ◌≤◌, ◌<◌, ◌-◌, ◌*◌, suc, length, vec_capacity, AllByRecursion, longest}
 use Rattle.pua_audit.specs.WordPaths.{IsPathAlong}
 use Rattle.pua_audit.proofs.pairs.Pairs.spell.Given as goal
 
@@ -7,10 +7,10 @@ invariant-loop-self l = record {
   terms : l.self.terms ≡ l.fn.self.terms;
   walk : l.self.walk ≡ l.fn.self.walk;
   live : l.self.live ≡ l.fn.self.live;
-  path : IsPathAlong (letters_of l.self.terms) l.self.walk.word.items l.self.path;
+  path : IsPathAlong l.self.terms.letters.items l.self.walk.word.items l.self.path;
   known : AllByRecursion (λ i. i < length l.self.terms.letters.items) l.self.walk.word.items;
   within : length l.self.walk.word.items ≤ l.self.terms.limit;
-  bytes : l.fn.self.terms.limit * suc (longest (letters_of l.fn.self.terms)) ≤ vec_capacity l.self.path.bytes;
+  bytes : l.fn.self.terms.limit * suc (longest l.fn.self.terms.letters.items) ≤ vec_capacity l.self.path.bytes;
   starts : l.fn.self.terms.limit ≤ vec_capacity l.self.path.starts;
 }
 

@@ -1,4 +1,4 @@
-use Rattle.pua_audit.proofs.Common.{◌≡◌, ◌+◌, ◌++◌, ◌∷◌, [], List, ℕ, length, sym, ap, ◌∙◌, arith, common_steps, from_root, part_bytes}
+use Rattle.pua_audit.proofs.Common.{◌≡◌, ◌+◌, ◌++◌, ◌∷◌, [], List, ℕ, length, sym, ap, ◌∙◌, arith, common_steps, from_root}
 use Rattle.pua_audit.specs.WordPaths.{starts_of}
 use Rattle.pua_audit.proofs.Spelled.{from_root-push}
 use Rattle.pua_audit.proofs.WordPaths.{starts-push}
@@ -6,7 +6,7 @@ use Rattle.pua_audit.proofs.path.WordPath.add.Goals as goal
 
 pub returns-clause-path : goal.returns-clause-path
 returns-clause-path c = λ word is.
-    let a : List ℕ = part_bytes c.args.letter.now in
+    let a : List ℕ = c.args.letter.now in
     let pushed : c.push.new.self.items ≡ c.args.self.now.starts.items ++ c.len.result ∷ [] = grind (arith, common_steps) in
     let start : c.len.result ≡ 0 + length (from_root word) = omega (arith, c.len.ensures, ap length is.bytes) in
     record {

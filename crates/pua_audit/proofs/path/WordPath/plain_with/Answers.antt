@@ -1,4 +1,4 @@
-use Rattle.pua_audit.proofs.Common.{◌≤◌, List, ℕ, length, sym, ap, ◌∙◌, arith, part_bytes}
+use Rattle.pua_audit.proofs.Common.{◌≤◌, List, ℕ, length, sym, ap, ◌∙◌, arith}
 use Rattle.pua_audit.specs.WordPaths.{plain_front}
 use Rattle.pua_audit.proofs.PlainPaths.{push_after, push_escaped, push_plain}
 use Rattle.pua_audit.proofs.WordPaths.{length-starts}
@@ -8,7 +8,7 @@ use Rattle.pua_audit.proofs.path.WordPath.plain_with.Goals as goal
 
 pub returns-then-self-len : goal.returns-then-self-len
 returns-then-self-len c = λ word is.
-    let a : List ℕ = part_bytes c.args.letter.now in
+    let a : List ℕ = c.args.letter.now in
     is.plain
     ∙ sym (elim c.then-self-len.branch [
       | then-self-len-via-then-self-len w ↦
@@ -18,7 +18,7 @@ returns-then-self-len c = λ word is.
 
 pub returns : goal.returns
 returns c = λ word is.
-    let a : List ℕ = part_bytes c.args.letter.now in
+    let a : List ℕ = c.args.letter.now in
     let many : length word ≤ plain_front word = omega (
       arith,
       c.if-self-len.false,

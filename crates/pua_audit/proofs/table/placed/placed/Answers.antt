@@ -1,5 +1,4 @@
-use Rattle.pua_audit.proofs.Common.{◌≡◌, ◌<◌, ◌∙◌, ℕ, List, [], Some, map, length, get_or, sym, ap, subst, arith, bytes_eq, get_by}
-use Rattle.pua_audit.proofs.Common.{length-map, get_or-map, part_bytes}
+use Rattle.pua_audit.proofs.Common.{◌≡◌, ◌<◌, ◌∙◌, ℕ, List, [], Some, length, get_or, sym, subst, arith, bytes_eq, get_by, get_or_read}
 use Rattle.std.proofs.Common.{IfSome}
 use Rattle.std.proofs.lemmas.Map.Text.{hash_map_updates_str}
 use Rattle.pua_audit.proofs.Spotted.{placed_more, placed_within}
@@ -8,12 +7,12 @@ use Rattle.pua_audit.proofs.table.placed.placed.Goals as goal
 pub loop-place-preserved : goal.loop-place-preserved
 loop-place-preserved c =
     let l = c.loop-place in
-    let letters : List (List ℕ) = map part_bytes c.args.letters.now in
+    let letters : List (List ℕ) = c.args.letters.now in
     let place : ℕ = l.place in
     let bytes : List ℕ = c.bytes.result.now in
-    let here : place < length letters = omega (arith, c.loop-place-test.true, length-map c.args.letters.now part_bytes) in
-    let is : bytes ≡ get_or letters place [] = c.bytes.ensures.bytes ∙ ap part_bytes c.index-letters-place.is ∙
-    sym (get_or-map part_bytes c.args.letters.now place c.index-letters-place.result [] c.loop-place-test.true) in
+    let here : place < length letters = c.loop-place-test.true in
+    let is : bytes ≡ get_or letters place [] = c.bytes.ensures.bytes ∙
+    get_or_read letters place c.index-letters-place.result here c.index-letters-place.is [] in
     let found = λ (other : List ℕ). get_by (λ k. bytes_eq other k.now) l.places in
     let updated = hash_map_updates_str bytes l.places c.insert.new.self (Some place) c.in_ok-insert.ensures.updates in
     record {
@@ -25,11 +24,6 @@ loop-place-preserved c =
 
 pub returns : goal.returns
 returns c = record {
-  each = λ letter low. c.loop-place.invariant.each letter (omega (
-    arith,
-    low,
-    length-map c.args.letters.now part_bytes,
-    c.loop-place-test.false,
-  ));
+  each = λ letter low. c.loop-place.invariant.each letter (omega (arith, low, c.loop-place-test.false));
   within = c.loop-place.invariant.within;
 }

@@ -1,10 +1,10 @@
-use Rattle.pua_audit.proofs.Common.{◌<◌, ℕ, [], map, take, length, get_or, lent_entry, letters_of, AreAtLetters, IsNowhere, IsUnmarked}
+use Rattle.pua_audit.proofs.Common.{◌<◌, ℕ, [], map, take, length, get_or, lent_entry, AreAtLetters, IsNowhere, IsUnmarked}
 use Rattle.pua_audit.proofs.terms.Terms.add_rows.Given as goal
 
 abbrev pub invariant-loop-row : goal.invariant-loop-row
 invariant-loop-row l = record {
-  within : AreAtLetters (letters_of l.self) l.spots.items;
-  rows : (dir letter : ℕ) → letter < length (letters_of l.self) → IsUnmarked dir letter l.spots.items →
-      IsNowhere dir (get_or (letters_of l.self) letter []) (map lent_entry (take l.row-index l.rows));
+  within : AreAtLetters l.self.letters.items l.spots.items;
+  rows : (dir letter : ℕ) → letter < length l.self.letters.items → IsUnmarked dir letter l.spots.items →
+      IsNowhere dir (get_or l.self.letters.items letter []) (map lent_entry (take l.row-index l.rows));
   others : (dir letter : ℕ) → IsUnmarked dir letter l.spots.items → IsUnmarked dir letter l.fn.spots.items;
 }

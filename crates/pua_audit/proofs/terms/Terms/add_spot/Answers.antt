@@ -1,5 +1,5 @@
 use Rattle.pua_audit.proofs.Common.{◌≡◌, ◌≢◌, ◌<◌, ◌∙◌, ℕ, List, Option, length, refl, sym, ap, subst, bytes_eq, get_by, same_Some}
-use Rattle.pua_audit.proofs.Common.{letters_of, AreAtLetters, IsUnmarked, LetterSpot, all_pushed}
+use Rattle.pua_audit.proofs.Common.{AreAtLetters, IsUnmarked, LetterSpot, all_pushed}
 use Rattle.std.proofs.Common.{IfSome}
 use Rattle.pua_tree.proofs.ForCallers.{None≢Some}
 use Rattle.pua_audit.proofs.terms.Terms.add_spot.Goals as goal
@@ -13,7 +13,7 @@ returns-in_default-clause-here c = λ letter low unmarked same.
 
 pub returns-clause-within : goal.returns-clause-within
 returns-clause-within c =
-    let letters : List (List ℕ) = letters_of c.args.self.now in
+    let letters : List (List ℕ) = c.args.self.now.letters.items in
     let spot : LetterSpot = record { dir = c.args.dir; letter = c.in-Some.letter.now } in
     let low = subst (λ (o : Option ℕ). IfSome o (λ n. n < length letters)) (sym c.in-Some.ensures.value)
     (c.requires.placed.within c.bytes.result.now) in

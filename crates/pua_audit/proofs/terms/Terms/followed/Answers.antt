@@ -1,11 +1,9 @@
 use Rattle.pua_audit.proofs.Common.{◌≡◌, ◌∙◌, ℕ, List, [], Bool, not, ◌&&◌, ◌||◌, Option, get_or, refl, sym, ap, subst, arith, IfOk, IfSome}
-use Rattle.pua_audit.proofs.Common.{Result, common_steps, Tree, part_cost, FoundsFit, StandsAsNamed, part_of, follow, last, Errno, Found}
-use Rattle.pua_audit.proofs.Common.{Followed, Kept, Part, Dot, last_of, has, keeps_link, cover_in, History, verdict_of, is_allowed, Call}
-use Rattle.pua_audit.proofs.Common.{plain_history, judge_in, letters_of, links_of, found_of, leads_to, allowed_kept, allowed_near}
-use Rattle.pua_audit.proofs.Common.{allowed_far, IsLetter}
+use Rattle.pua_audit.proofs.Common.{Result, Tree, part_cost, FoundsFit, StandsAsNamed, part_of, follow, last, Errno, Found, Followed, Kept}
+use Rattle.pua_audit.proofs.Common.{Part, last_of, has, keeps_link, cover_in, History, verdict_of, is_allowed, Call, plain_history}
+use Rattle.pua_audit.proofs.Common.{judge_in, links_of, found_of, leads_to, allowed_kept, allowed_near, allowed_far, IsLetter, get_or_read}
 use Rattle.pua_path.specs.Fits.{FoundFits}
 use Rattle.pua_audit.proofs.Covers.{covered_lead, founds_are, founds_of, named_above}
-use Rattle.pua_audit.proofs.Letters.{letter_part}
 use Rattle.pua_audit.proofs.Told.{letter_told, by_both, by_kept}
 use Rattle.pua_audit.proofs.terms.Terms.followed.Goals as goal
 
@@ -71,11 +69,10 @@ returns-clause-exact g c =
     let t : Tree = a.seen.tree in
     let h : History = plain_history a.process in
     let dir : ℕ = c.args.dir in
-    let letter : List ℕ = get_or (letters_of a) c.args.letter [] in
+    let letter : List ℕ = get_or a.letters.items c.args.letter [] in
     let r : Result (Found × ℕ) Errno = follow t dir (part_of letter) in
-    let at : c.part-part.result ≡ get_or a.letters.items c.args.letter Dot = grind (arith, common_steps) in
-    let part : c.part-part.result ≡ part_of letter = at ∙
-    sym (letter_part a.letters.items c.args.letter Dot c.requires.sound.parts c.requires.letter) in
+    let part : c.part-part.result ≡ part_of letter = c.part-part.ensures.part ∙
+    ap part_of (get_or_read a.letters.items c.args.letter c.index.result.now c.requires.letter c.index.ensures []) in
     let followed : c.follow.result ≡ r = c.follow.ensures.exact ∙ ap (λ (u : Tree). follow u dir c.part-part.result) c.requires.tree ∙
     ap (follow t dir) part in
     let found : c.counted-followed.result.0 ≡ found_of r = c.counted-followed.ensures.found ∙ ap found_of followed in

@@ -1,13 +1,13 @@
-use Rattle.pua_audit.proofs.Common.{◌≡◌, ◌≤◌, ◌+◌, ◌*◌, ℕ, length, letter_cost, object_cost, AreCovered, plain_history, judge_in}
-use Rattle.pua_audit.proofs.Common.{letters_of, AreLiving, IsGrown, IsJudgedRow}
+use Rattle.pua_audit.proofs.Common.{◌≡◌, ◌≤◌, ◌+◌, ◌*◌, ℕ, length, letter_cost, object_cost, AreCovered, plain_history, judge_in, AreLiving}
+use Rattle.pua_audit.proofs.Common.{IsGrown, IsJudgedRow}
 use Rattle.pua_audit.proofs.Lists.{IsReached}
 use Rattle.pua_audit.proofs.terms.Terms.row.Given as goal
 
 -- the row has all letters before the next one that is looked up
 abbrev pub invariant-loop-letter : goal.invariant-loop-letter
 invariant-loop-letter g l = record {
-  row : (n : ℕ) → n ≤ length (letters_of l.self) → IsReached l.letter-items l.letter-index n →
-      IsJudgedRow (judge_in l.self) (letters_of l.self) l.dirs.numbers l.dir n l.within.missing l.entries.items;
+  row : (n : ℕ) → n ≤ length l.self.letters.items → IsReached l.letter-items l.letter-index n →
+      IsJudgedRow (judge_in l.self) l.self.letters.items l.dirs.numbers l.dir n l.within.missing l.entries.items;
   grown : IsGrown l.fn.dirs.numbers l.dirs.numbers;
   living : AreLiving l.self.seen.tree l.dirs.numbers;
   covered : AreCovered l.self.seen.tree (plain_history l.self.process) l.dirs;

@@ -1,17 +1,16 @@
-use Rattle.pua_audit.proofs.Common.{◌≡◌, ◌≢◌, ◌<◌, ◌∙◌, ℕ, List, [], length, map, get_or, sym, ap, subst, rules, arith, AllByRecursion}
-use Rattle.pua_audit.proofs.Common.{length-map, lent_entry, Spot, veil_at, Place, plain_history, part_bytes, letters_of, AreApartFrom}
-use Rattle.pua_audit.proofs.Common.{IsNowhere, IsUnmarked, LetterSpot}
+use Rattle.pua_audit.proofs.Common.{◌≡◌, ◌≢◌, ◌<◌, ◌∙◌, ℕ, List, [], length, map, get_or, sym, ap, subst, rules, lent_entry, Spot, veil_at}
+use Rattle.pua_audit.proofs.Common.{Place, plain_history, AreApartFrom, IsNowhere, IsUnmarked, LetterSpot}
 use Rattle.std.proofs.lemmas.List.Sorted.{Contains-permutation, IsPermutation-sym, IsNonDecreasingBy-from_sort_by_key}
 use Rattle.pua_policy.proofs.ForCallers.{veils_are_kept}
 use Rattle.pua_policy.specs.declared.place.Place.TheVariants.{Slot}
 use Rattle.pua_audit.proofs.Lists.{all_among}
-use Rattle.pua_audit.proofs.Spotted.{nowhere_found, apart_kept, named_part}
+use Rattle.pua_audit.proofs.Spotted.{nowhere_found, apart_kept}
 use Rattle.pua_audit.proofs.terms.Terms.spots.Goals as goal
 
 pub returns : goal.returns
 returns c =
     let a = c.args.self.now in
-    let name = λ (letter : ℕ). get_or (letters_of a) letter [] in
+    let name = λ (letter : ℕ). get_or a.letters.items letter [] in
     let rows : map lent_entry c.args.rows.now ≡ a.seen.tree.rows = c.requires.rows in
     let places : map (λ place. place.now) c.as_slice-2.result.now ≡ map (λ veil. veil.0) a.process.veils =
     ap (map (λ place. place.now)) c.as_slice-2.ensures.value ∙ c.in_ok-places.ensures in
@@ -19,16 +18,14 @@ returns c =
     let names : List LetterSpot = c.add_veils.new.spots.items in
     let sorted : List LetterSpot = c.sort_unstable_by_key.new.self.items in
     let moved = c.sort_unstable_by_key.ensures.permutation in
-    let many : length (letters_of a) ≡ length a.letters.items = length-map a.letters.items part_bytes in
     let still : (dir letter : ℕ) → IsUnmarked dir letter sorted → IsUnmarked dir letter names =
     λ dir letter unmarked. all_among (λ (s : LetterSpot). s.dir ≡ dir →
     s.letter ≢ letter) sorted names (λ x h. Contains-permutation names sorted x moved h) unmarked in
     record {
-      dotted = subst (λ n. AllByRecursion (λ letter. letter < n) c.in_ok-dots.dots.items) (sym many) c.in_ok-dots.ensures.within;
-      within = all_among (λ (s : LetterSpot). s.letter < length (letters_of a)) names sorted
+      dotted = c.in_ok-dots.ensures.within;
+      within = all_among (λ (s : LetterSpot). s.letter < length a.letters.items) names sorted
           (λ x h. Contains-permutation sorted names x (IsPermutation-sym names sorted moved) h) c.in_ok-add_veils.ensures.within;
-      named = λ letter low apart. let inside : letter < length a.letters.items = omega (arith, low, many) in
-          named_part a.letters.items letter c.requires.sound.parts inside (c.in_ok-dots.ensures.others letter inside apart);
+      named = c.in_ok-dots.ensures.others;
       none = λ dir letter low unsorted.
           let unmarked = still dir letter unsorted in
           nowhere_found dir (name letter) a.seen.tree.rows (subst (λ (rs : List (Spot × ℕ)). IsNowhere dir (name letter) rs) rows

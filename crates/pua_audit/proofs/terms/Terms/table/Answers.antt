@@ -1,7 +1,7 @@
 use Rattle.pua_audit.proofs.Common.{◌≡◌, ◌<◌, ◌≤◌, ◌∙◌, ◌+◌, ◌*◌, ◌-◌, ℕ, suc, nat_eq, List, [], ◌∷◌, ◌++◌, length, map, get_or, arith}
 use Rattle.pua_audit.proofs.Common.{refl, sym, ap, subst, AllByRecursion, IsTrue, length-append, length-map, insert_key, Tree, is_dir}
-use Rattle.pua_audit.proofs.Common.{cover_in, History, row_cost, AreCovered, DirectoriesState, Judge, plain_history, part_bytes, judge_in}
-use Rattle.pua_audit.proofs.Common.{letters_of, AreNumbers, IsJudgedRow, Steps}
+use Rattle.pua_audit.proofs.Common.{cover_in, History, row_cost, AreCovered, DirectoriesState, Judge, plain_history, judge_in, AreNumbers}
+use Rattle.pua_audit.proofs.Common.{IsJudgedRow, Steps}
 use Rattle.pua_audit.proofs.Costs.{next_within, one_row_more, rows_few, rows_within}
 use Rattle.pua_audit.proofs.Moves.{all_at_index}
 use Rattle.pua_audit.proofs.Made.{AreRows, rows_pushed, table_made, numbers_apart}
@@ -15,19 +15,18 @@ loop-dir-preserved g c =
     let new : List ℕ = c.row.new.dirs.numbers in
     let rows : List Row = l.rows.items in
     let row : Row = c.in_ok-row.row in
-    let at = c.in-Some.ensures.dir in
+    let at = c.in-Some.ensures in
     let grown = c.in_ok-row.ensures.grown in
-    let inside : length rows < length l.dirs.numbers = omega (arith, at.0, c.len.ensures) in
+    let inside : length rows < length l.dirs.numbers = omega (arith, at.within, c.len.ensures) in
     let count : c.len.result ≡ length rows = omega (arith, c.len.ensures) in
-    let here : c.in-Some.dir ≡ get_or l.dirs.numbers (length rows) 0 = at.1 ∙ ap (λ (n : ℕ). get_or l.dirs.numbers n 0) count in
-    let last : IsJudgedRow (judge_in a) (letters_of a) new (get_or l.dirs.numbers (length rows) 0) (length (letters_of a)) row.missing
+    let here : c.in-Some.dir ≡ get_or l.dirs.numbers (length rows) 0 = at.dir ∙ ap (λ (n : ℕ). get_or l.dirs.numbers n 0) count in
+    let last : IsJudgedRow (judge_in a) a.letters.items new (get_or l.dirs.numbers (length rows) 0) (length a.letters.items) row.missing
     row.entries.items =
-    subst (λ (n : ℕ). IsJudgedRow (judge_in a) (letters_of a) new n (length (letters_of a)) row.missing row.entries.items) here
-    (subst (λ (n : ℕ). IsJudgedRow (judge_in a) (letters_of a) new c.in-Some.dir n row.missing row.entries.items)
-    (sym (length-map a.letters.items part_bytes)) c.in_ok-row.ensures.row) in
+    subst (λ (n : ℕ). IsJudgedRow (judge_in a) a.letters.items new n (length a.letters.items) row.missing row.entries.items) here
+    c.in_ok-row.ensures.row in
     let items : c.push.new.self.items ≡ rows ++ row ∷ [] = c.in_ok-push.ensures.items in
     record {
-      rows = subst (AreRows (judge_in a) (letters_of a) new) (sym items) (rows_pushed (judge_in a) (letters_of a) l.dirs.numbers new rows
+      rows = subst (AreRows (judge_in a) a.letters.items new) (sym items) (rows_pushed (judge_in a) a.letters.items l.dirs.numbers new rows
           row grown l.invariant.within l.invariant.rows last inside);
       within = omega (arith, ap length items, length-append rows (row ∷ []), inside, grown.more);
       some = omega (arith, l.invariant.some, grown.more);
@@ -48,13 +47,13 @@ returns-clause-table g c =
     let l = c.loop-dir in
     let t : Steps = record { letters = c.len-2.result; rows = l.rows } in
     let whole : length l.rows.items ≡ length l.dirs.numbers = omega (arith, c.in_default.ensures.none, c.len.ensures, l.invariant.within) in
-    let many : c.len-2.result ≡ length (letters_of a) = omega (arith, c.len-2.ensures, length-map a.letters.items part_bytes) in
-    let few : length (letters_of a) < 18446744073709551616 = omega (arith, many, c.len-2.type_inv) in
+    let many : c.len-2.result ≡ length a.letters.items = omega (arith, c.len-2.ensures) in
+    let few : length a.letters.items < 18446744073709551616 = omega (arith, many, c.len-2.type_inv) in
     let numbers : AreNumbers l.dirs.numbers =
     subst (λ (d : DirectoriesState). AreNumbers d.numbers) c.dirs-in-loop-dir.view_is c.dirs-in-loop-dir.invariant in (
       l.dirs.numbers,
       (
-        table_made (judge_in a) (letters_of a) l.dirs.numbers t many few whole l.invariant.rows,
+        table_made (judge_in a) a.letters.items l.dirs.numbers t many few whole l.invariant.rows,
         numbers_apart l.dirs.numbers numbers,
         l.invariant.some,
         l.invariant.first,
@@ -77,7 +76,7 @@ returns-in_err-row-clause-cost g c =
     let l = c.loop-dir in
     let numbers : AreNumbers l.dirs.numbers =
     subst (λ (d : DirectoriesState). AreNumbers d.numbers) c.dirs-in-loop-dir.view_is c.dirs-in-loop-dir.invariant in
-    let inside : length l.rows.items < length l.dirs.numbers = omega (arith, c.in-Some.ensures.dir.0, c.len.ensures) in
+    let inside : length l.rows.items < length l.dirs.numbers = omega (arith, c.in-Some.ensures.within, c.len.ensures) in
     omega (
       arith,
       c.row.ensures.cost,
@@ -91,7 +90,7 @@ returns-in_err-push-clause-cost g c =
     let l = c.loop-dir in
     let numbers : AreNumbers l.dirs.numbers =
     subst (λ (d : DirectoriesState). AreNumbers d.numbers) c.dirs-in-loop-dir.view_is c.dirs-in-loop-dir.invariant in
-    let inside : length l.rows.items < length l.dirs.numbers = omega (arith, c.in-Some.ensures.dir.0, c.len.ensures) in
+    let inside : length l.rows.items < length l.dirs.numbers = omega (arith, c.in-Some.ensures.within, c.len.ensures) in
     omega (
       arith,
       c.row.ensures.cost,
@@ -123,7 +122,7 @@ loop-dir-init g c =
     let alone : new.numbers ≡ c.args.base ∷ [] =
     placed.all ∙ ap (λ (ns : List ℕ). insert_key nat_eq ns c.args.base) c.new-dirs.ensures.numbers in
     record {
-      rows = no_rows (judge_in a) (letters_of a) new.numbers c.new-rows.result.items c.new-rows.ensures.items;
+      rows = no_rows (judge_in a) a.letters.items new.numbers c.new-rows.result.items c.new-rows.ensures.items;
       within = none_within c.new-rows.result.items new.numbers c.new-rows.ensures.items;
       some = some_within c.in_ok-place.field-0 (length new.numbers) placed.place.0;
       first = ap (λ (ns : List ℕ). get_or ns 0 0) alone;
@@ -146,7 +145,7 @@ pub cover_at-over-requires : goal.cover_at-over-requires
 cover_at-over-requires g c =
     let a = c.args.self.now in
     cover_below a.seen.tree (plain_history a.process) c.loop-dir.dirs c.len-in-Some.result c.len.result c.loop-dir.invariant.covered
-    (c.len-in-Some.ensures ∙ sym c.len.ensures) c.in-Some.ensures.dir.0
+    (c.len-in-Some.ensures ∙ sym c.len.ensures) c.in-Some.ensures.within
 
 pub row-requires : goal.row-requires
 row-requires g c κs =
@@ -154,14 +153,14 @@ row-requires g c κs =
     let t : Tree = a.seen.tree in
     let h : History = plain_history a.process in
     let l = c.loop-dir in
-    let at = c.in-Some.ensures.dir in
+    let at = c.in-Some.ensures in
     let living : IsTrue (is_dir t c.in-Some.dir) =
-    subst (λ (d : ℕ). IsTrue (is_dir t d)) (sym at.1)
-    (all_at_index (λ (d : ℕ). IsTrue (is_dir t d)) l.dirs.numbers 0 l.invariant.living c.len.result at.0) in
+    subst (λ (d : ℕ). IsTrue (is_dir t d)) (sym at.dir)
+    (all_at_index (λ (d : ℕ). IsTrue (is_dir t d)) l.dirs.numbers 0 l.invariant.living c.len.result at.within) in
     let over : c.cover_at-over.result ≡ cover_in t h c.in-Some.dir =
     c.cover_at-over.ensures t h l.invariant.covered
     ∙ ap (λ (n : ℕ). cover_in t h (get_or l.dirs.numbers n 0)) (c.len-in-Some.ensures ∙ sym c.len.ensures)
-    ∙ ap (cover_in t h) (sym at.1) in (
+    ∙ ap (cover_in t h) (sym at.dir) in (
       (refl, tt),
       (
         l.invariant.tree,
@@ -184,7 +183,7 @@ loop-dir-smaller g c =
     let l = c.loop-dir in
     let known = c.in-Some.ensures in
     let count : c.len.result ≡ length l.rows.items = omega (arith, c.len.ensures) in
-    fewer_left c.len.result (length l.rows.items) (length c.push.new.self.items) (length l.dirs.numbers) count known.dir.0 known.few
+    fewer_left c.len.result (length l.rows.items) (length c.push.new.self.items) (length l.dirs.numbers) count known.within known.few
     (one_longer l.rows.items c.push.new.self.items c.in_ok-row.row c.in_ok-push.ensures.items)
 
 -- after the last row

@@ -1,12 +1,12 @@
 use Rattle.pua_audit.proofs.Common.{◌≡◌, ◌<◌, ◌≤◌, ◌+◌, ◌*◌, ◌-◌, suc, length, get_or, row_cost, AreCovered, plain_history, judge_in}
-use Rattle.pua_audit.proofs.Common.{letters_of, AreLiving}
+use Rattle.pua_audit.proofs.Common.{AreLiving}
 use Rattle.pua_audit.proofs.Made.{AreRows}
 use Rattle.pua_audit.proofs.terms.Terms.table.Given as goal
 
 -- the first directories have their rows
 abbrev pub invariant-loop-dir : goal.invariant-loop-dir
 invariant-loop-dir g l = record {
-  rows : AreRows (judge_in l.self) (letters_of l.self) l.dirs.numbers l.rows.items;
+  rows : AreRows (judge_in l.self) l.self.letters.items l.dirs.numbers l.rows.items;
   within : length l.rows.items ≤ length l.dirs.numbers;
   some : 0 < length l.dirs.numbers;
   first : get_or l.dirs.numbers 0 0 ≡ l.fn.base;

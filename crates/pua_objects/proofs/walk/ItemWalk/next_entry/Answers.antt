@@ -13,7 +13,7 @@ stand_at-requires-clause-room g c =
     let t = g.T.FileTree.content c.args.tree.now in
     let p = c.args.process.now in
     word_room t p c.args.self.now c.next_name.new.self _ _ c.requires.names
-    (c.next_name.ensures.ready t p c.requires.ready c.requires.names) (c.next_name.ensures.kept.0 ∙
+    (c.next_name.ensures.ready t p c.requires.ready c.requires.names) (c.next_name.ensures.coming ∙
     c.requires.names) (c.in-Some.ensures.next t p c.requires.ready c.requires.names)
 
 pub returns-in_default-look-clause-item : goal.returns-in_default-look-clause-item
@@ -22,12 +22,12 @@ returns-in_default-look-clause-item g c =
     let p = c.args.process.now in
     let b = c.next_name.new.self in
     let ready = c.next_name.ensures.ready t p c.requires.ready c.requires.names in
-    let names = c.next_name.ensures.kept.0 ∙ c.requires.names in
+    let names = c.next_name.ensures.coming ∙ c.requires.names in
     let taken = c.in-Some.ensures.next t p c.requires.ready c.requires.names in
     let done = c.stand_at.ensures in
     stood t p c.args.self.now b _ _ c.requires.names ready names taken c.stand_at.new.self
-    (ap (λ v. map spot_now v.items) done.kept.0) (ap (map (λ name. name.now)) done.word ∙
-    map-append (λ name. name.now) b.word.items (c.in-Some.next.1 ∷ [])) done.room done.kept.1 done.kept.2
+    (ap (λ v. map spot_now v.items) done.spots) (ap (map (λ name. name.now)) done.word ∙
+    map-append (λ name. name.now) b.word.items (c.in-Some.next.1 ∷ [])) done.room done.dirs done.coming
     None _ (sym c.in_default-look.ensures) (λ x e. absurd (None≢Some x e))
     (λ h stands. done.item t h (dir_with_next _ (taken.next + 1) taken.cover) taken.around None ready.tree stands taken.dirs
     (covered t p c.args.self.now b _ _ c.requires.names ready names taken h stands) refl (sym c.in_default-look.ensures))
@@ -37,7 +37,7 @@ enter-requires-clause-word_room g c =
     let t = g.T.FileTree.content c.args.tree.now in
     let p = c.args.process.now in
     word_room t p c.args.self.now c.next_name.new.self _ _ c.requires.names
-    (c.next_name.ensures.ready t p c.requires.ready c.requires.names) (c.next_name.ensures.kept.0 ∙
+    (c.next_name.ensures.ready t p c.requires.ready c.requires.names) (c.next_name.ensures.coming ∙
     c.requires.names) (c.in-Some.ensures.next t p c.requires.ready c.requires.names)
 
 pub enter-requires-clause-dirs_room : goal.enter-requires-clause-dirs_room
@@ -47,7 +47,7 @@ enter-requires-clause-dirs_room g c =
     let living : is_dir t c.in-Some-look.id ≡ true = ap is_dir_kind (sym c.kind-kind.ensures) ∙ sym c.is_directory.ensures ∙
     c.if-is_directory.true in
     dirs_room t p c.args.self.now c.next_name.new.self _ _ c.requires.names
-    (c.next_name.ensures.ready t p c.requires.ready c.requires.names) (c.next_name.ensures.kept.0 ∙
+    (c.next_name.ensures.ready t p c.requires.ready c.requires.names) (c.next_name.ensures.coming ∙
     c.requires.names) (c.in-Some.ensures.next t p c.requires.ready c.requires.names)
     c.in-Some-look.id (sym c.in-Some-look.ensures) living
 
@@ -56,7 +56,7 @@ stand_at-requires-2-clause-room g c =
     let t = g.T.FileTree.content c.args.tree.now in
     let p = c.args.process.now in
     word_room t p c.args.self.now c.next_name.new.self _ _ c.requires.names
-    (c.next_name.ensures.ready t p c.requires.ready c.requires.names) (c.next_name.ensures.kept.0 ∙
+    (c.next_name.ensures.ready t p c.requires.ready c.requires.names) (c.next_name.ensures.coming ∙
     c.requires.names) (c.in-Some.ensures.next t p c.requires.ready c.requires.names)
 
 pub returns-then-is_directory-clause-ready : goal.returns-then-is_directory-clause-ready
@@ -68,10 +68,10 @@ returns-then-is_directory-clause-ready g c =
     c.if-is_directory.true in
     let done = c.enter.ensures in
     entered_ready t p c.args.self.now b _ _ c.requires.names (c.next_name.ensures.ready t p c.requires.ready c.requires.names)
-    (c.next_name.ensures.kept.0 ∙ c.requires.names) (c.in-Some.ensures.next t p c.requires.ready c.requires.names)
+    (c.next_name.ensures.coming ∙ c.requires.names) (c.in-Some.ensures.next t p c.requires.ready c.requires.names)
     c.in-Some-look.id (sym c.in-Some-look.ensures) living c.enter.new.self
-    (ap (λ v. map spot_now v.items) done.kept) (ap (map (λ name. name.now)) done.word ∙
-    map-append (λ name. name.now) b.word.items (c.in-Some.next.1 ∷ [])) done.room.0 done.room.1 done.coming done.entered
+    (ap (λ v. map spot_now v.items) done.spots) (ap (map (λ name. name.now)) done.word ∙
+    map-append (λ name. name.now) b.word.items (c.in-Some.next.1 ∷ [])) done.word_room done.dirs_room done.coming done.entered
 
 pub returns-then-is_directory-clause-item : goal.returns-then-is_directory-clause-item
 returns-then-is_directory-clause-item g c =
@@ -79,15 +79,15 @@ returns-then-is_directory-clause-item g c =
     let p = c.args.process.now in
     let b = c.next_name.new.self in
     let ready = c.next_name.ensures.ready t p c.requires.ready c.requires.names in
-    let names = c.next_name.ensures.kept.0 ∙ c.requires.names in
+    let names = c.next_name.ensures.coming ∙ c.requires.names in
     let taken = c.in-Some.ensures.next t p c.requires.ready c.requires.names in
     let row = sym c.in-Some-look.ensures in
     let living : is_dir t c.in-Some-look.id ≡ true = ap is_dir_kind (sym c.kind-kind.ensures) ∙ sym c.is_directory.ensures ∙
     c.if-is_directory.true in
     let done = c.enter.ensures in
     gave t p c.args.self.now b _ _ c.requires.names ready names taken c.in-Some-look.id row living c.enter.new.self
-    (ap (λ v. map spot_now v.items) done.kept) (ap (map (λ name. name.now)) done.word ∙
-    map-append (λ name. name.now) b.word.items (c.in-Some.next.1 ∷ [])) done.room.0 done.room.1 done.coming done.entered _
+    (ap (λ v. map spot_now v.items) done.spots) (ap (map (λ name. name.now)) done.word ∙
+    map-append (λ name. name.now) b.word.items (c.in-Some.next.1 ∷ [])) done.word_room done.dirs_room done.coming done.entered _
     (λ h stands. done.item h (dir_with_next _ (taken.next + 1) taken.cover) taken.around ready.tree stands taken.dirs
     (covered t p c.args.self.now b _ _ c.requires.names ready names taken h stands) row living)
 
@@ -98,15 +98,15 @@ returns-clause-item g c =
     let b = c.next_name.new.self in
     let id = c.in-Some-look.id in
     let ready = c.next_name.ensures.ready t p c.requires.ready c.requires.names in
-    let names = c.next_name.ensures.kept.0 ∙ c.requires.names in
+    let names = c.next_name.ensures.coming ∙ c.requires.names in
     let taken = c.in-Some.ensures.next t p c.requires.ready c.requires.names in
     let done = c.stand_at-2.ensures in
     let seen : c.object_at.result ≡ object_seen t (object_of_kind (kind_at t id)) = c.object_at.ensures t ∙
     ap (λ k. object_seen t (object_of_kind k)) c.kind-kind.ensures in
     let plain : is_dir t id ≡ false = ap is_dir_kind (sym c.kind-kind.ensures) ∙ sym c.is_directory.ensures ∙ c.if-is_directory.false in
     stood t p c.args.self.now b _ _ c.requires.names ready names taken c.stand_at-2.new.self
-    (ap (λ v. map spot_now v.items) done.kept.0) (ap (map (λ name. name.now)) done.word ∙
-    map-append (λ name. name.now) b.word.items (c.in-Some.next.1 ∷ [])) done.room done.kept.1 done.kept.2
+    (ap (λ v. map spot_now v.items) done.spots) (ap (map (λ name. name.now)) done.word ∙
+    map-append (λ name. name.now) b.word.items (c.in-Some.next.1 ∷ [])) done.room done.dirs done.coming
     (Some id) _ (sym c.in-Some-look.ensures) (λ x e. ap (is_dir t) (sym (same_Some id x e)) ∙ plain)
     (λ h stands. done.item t h (dir_with_next _ (taken.next + 1) taken.cover) taken.around (Some id) ready.tree stands taken.dirs
     (covered t p c.args.self.now b _ _ c.requires.names ready names taken h stands) seen (sym c.in-Some-look.ensures))

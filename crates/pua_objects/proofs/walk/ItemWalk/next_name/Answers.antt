@@ -18,8 +18,11 @@ returns-in-Some-name_of-clause-ready c = λ t p ready names.
     (c.truncate.ensures.items ∙
     ap (λ n. take n a.word.items) long) (at_most (lent_within a.spots.items _ c.in-Some-name_of.ensures.there))
 
-pub returns-in-Some-name_of-clause-kept : goal.returns-in-Some-name_of-clause-kept
-returns-in-Some-name_of-clause-kept c = (c.loop-dir.invariant.coming, c.loop-dir.invariant.spots)
+pub returns-in-Some-name_of-clause-coming : goal.returns-in-Some-name_of-clause-coming
+returns-in-Some-name_of-clause-coming c = c.loop-dir.invariant.coming
+
+pub returns-in-Some-name_of-clause-spots : goal.returns-in-Some-name_of-clause-spots
+returns-in-Some-name_of-clause-spots c = c.loop-dir.invariant.spots
 
 pub returns-in-Some-name_of-clause-front : goal.returns-in-Some-name_of-clause-front
 returns-in-Some-name_of-clause-front c =
@@ -69,8 +72,11 @@ returns-clause-ready c = λ t p ready names.
     none_ready t p c.loop-dir.self _ (omega (arith, c.in_default.ensures.cases)) c.in_default.ensures.items
     (c.loop-dir.invariant.ready t p ready names) (c.loop-dir.invariant.coming ∙ names) refl refl refl c.pop.ensures.capacity
 
-pub returns-clause-kept : goal.returns-clause-kept
-returns-clause-kept c = (c.loop-dir.invariant.coming, c.loop-dir.invariant.spots)
+pub returns-clause-coming : goal.returns-clause-coming
+returns-clause-coming c = c.loop-dir.invariant.coming
+
+pub returns-clause-spots : goal.returns-clause-spots
+returns-clause-spots c = c.loop-dir.invariant.spots
 
 pub returns-clause-front : goal.returns-clause-front
 returns-clause-front c =

@@ -12,9 +12,9 @@ returns-in-Directory-clause-exact g c =
 pub returns-in-Directory-clause-traced : goal.returns-in-Directory-clause-traced
 returns-in-Directory-clause-traced g c =
     let walk = c.args.self.now in
-    trace_onward _ _ walk.left walk.here (way_of walk.way) c.args.piece.now walk.rest.parts c.is_done.result _ c.is_done.ensures
+    trace_onward _ _ walk.left walk.here (way_of walk.way) c.args.piece.bytes.now walk.rest.parts c.is_done.result _ c.is_done.ensures
     c.in-Directory.ensures.exact
-    ∙ unlinked walk.left (walk.here, c.args.piece.now) _
+    ∙ unlinked walk.left (walk.here, c.args.piece.bytes.now) _
 
 pub returns-in_ok-follow-in-Link-clause-exact : goal.returns-in_ok-follow-in-Link-clause-exact
 returns-in_ok-follow-in-Link-clause-exact g c =
@@ -29,9 +29,9 @@ pub returns-in_ok-follow-in-Link-clause-traced : goal.returns-in_ok-follow-in-Li
 returns-in_ok-follow-in-Link-clause-traced g c =
     let walk = c.args.self.now in
     let can = c.in_ok-follow-in-Link.ensures.ok in
-    trace_onward _ _ walk.left walk.here (way_of walk.way) c.args.piece.now walk.rest.parts c.is_done.result _ c.is_done.ensures
+    trace_onward _ _ walk.left walk.here (way_of walk.way) c.args.piece.bytes.now walk.rest.parts c.is_done.result _ c.is_done.ensures
     c.in-Link.ensures.exact
-    ∙ followed_traced_on _ _ walk.left (walk.here, c.args.piece.now) _ walk.rest.parts _ _ _ _ can c.follow.ensures.left
+    ∙ followed_traced_on _ _ walk.left (walk.here, c.args.piece.bytes.now) _ walk.rest.parts _ _ _ _ can c.follow.ensures.left
     (c.follow.ensures.here can) (rw (c.follow.ensures.way can) refl) (c.follow.ensures.parts can)
 
 pub returns-in-Found-clause-exact : goal.returns-in-Found-clause-exact
@@ -43,7 +43,7 @@ returns-in-Found-clause-exact g c =
 pub returns-in-Found-clause-traced : goal.returns-in-Found-clause-traced
 returns-in-Found-clause-traced g c =
     let walk = c.args.self.now in
-    trace_onward _ _ walk.left walk.here (way_of walk.way) c.args.piece.now walk.rest.parts c.is_done.result _ c.is_done.ensures
+    trace_onward _ _ walk.left walk.here (way_of walk.way) c.args.piece.bytes.now walk.rest.parts c.is_done.result _ c.is_done.ensures
     c.in-Found.ensures.exact
 
 pub returns-in-Nowhere-clause-exact : goal.returns-in-Nowhere-clause-exact
@@ -55,5 +55,5 @@ returns-in-Nowhere-clause-exact g c =
 pub returns-in-Nowhere-clause-traced : goal.returns-in-Nowhere-clause-traced
 returns-in-Nowhere-clause-traced g c =
     let walk = c.args.self.now in
-    trace_onward _ _ walk.left walk.here (way_of walk.way) c.args.piece.now walk.rest.parts c.is_done.result _ c.is_done.ensures
+    trace_onward _ _ walk.left walk.here (way_of walk.way) c.args.piece.bytes.now walk.rest.parts c.is_done.result _ c.is_done.ensures
     c.in-Nowhere.ensures.exact

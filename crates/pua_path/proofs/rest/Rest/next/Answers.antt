@@ -9,15 +9,15 @@ returns-clause-parts c =
       | then-is_empty-2+then-self-gt0 w ↦
           let nothing : Bor (List ℕ) = record { ref_ptr = (0, 0); now = [] } in
           sym (ap (λ (rest : Remaining). rest.parts) c.self.view_is)
-          ∙ taken_off_last c.self.inside.top.now c.next_piece.result.1.now (part_of c.next_piece.result.0.now) c.self.inside.depth
-          c.self.inside.below nothing
-          c.next_piece.ensures.parts (sym c.is_empty-2.ensures ∙ w.if-is_empty-2.true) w.if-self-gt0.true (omega arith)
-          ∙ sym (ap (λ (rest : Remaining). part_of c.next_piece.result.0.now ∷ rest.parts) w.self-is)
+          ∙ taken_off_last c.self.inside.top.now c.next_piece.result.1.bytes.now (part_of c.next_piece.result.0.bytes.now)
+          c.self.inside.depth c.self.inside.below nothing
+          c.next_piece.ensures (sym c.is_empty-2.ensures ∙ w.if-is_empty-2.true) w.if-self-gt0.true (omega arith)
+          ∙ sym (ap (λ (rest : Remaining). part_of c.next_piece.result.0.bytes.now ∷ rest.parts) w.self-is)
       | else-is_empty-2 w ↦
           sym (ap (λ (rest : Remaining). rest.parts) c.self.view_is)
-          ∙ taken_off c.self.inside.top.now c.next_piece.result.1.now (part_of c.next_piece.result.0.now)
-          (take c.self.inside.depth c.self.inside.below) c.next_piece.ensures.parts
-          ∙ sym (ap (λ (rest : Remaining). part_of c.next_piece.result.0.now ∷ rest.parts) w.self-is)
+          ∙ taken_off c.self.inside.top.now c.next_piece.result.1.bytes.now (part_of c.next_piece.result.0.bytes.now)
+          (take c.self.inside.depth c.self.inside.below) c.next_piece.ensures
+          ∙ sym (ap (λ (rest : Remaining). part_of c.next_piece.result.0.bytes.now ∷ rest.parts) w.self-is)
     ]
 
 pub returns-then-is_empty-clause-parts : goal.returns-then-is_empty-clause-parts

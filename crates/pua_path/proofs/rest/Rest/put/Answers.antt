@@ -7,12 +7,13 @@ use Rattle.pua_path.proofs.rest.Rest.put.Goals as goal
 
 pub returns-then-is_empty-clause-parts : goal.returns-then-is_empty-clause-parts
 returns-then-is_empty-clause-parts c =
-    sym (ap (λ parts. parts ++ c.args.self.now.parts) (no_parts c.args.target.now c.after_slashes-text.result.now
+    sym (ap (λ parts. parts ++ c.args.self.now.parts) (no_parts c.args.target.bytes.now c.after_slashes-text.result.now
     c.after_slashes-text.ensures (sym c.is_empty.ensures ∙ c.if-is_empty.true)))
 
 pub invariant_of-self : goal.invariant_of-self
 invariant_of-self c =
-    let readable = text_readable c.args.target.now c.after_slashes-text.result.now c.requires.readable c.after_slashes-text.ensures in
+    let readable = text_readable c.args.target.bytes.now c.after_slashes-text.result.now c.args.target.readable
+    c.after_slashes-text.ensures in
     let full = not_empty c.after_slashes-text.result.now (sym c.is_empty.ensures ∙ c.if-is_empty.false) in
     elim c.if-not-is_empty.branch [
       | then-not-is_empty w ↦
@@ -37,12 +38,12 @@ returns-clause-parts c =
       | then-not-is_empty w ↦
           let same : c.self.inside.depth ≡ c.args.self.now.depth = ap (λ (rest : Remaining). rest.depth) c.self.view_is in
           let lt : c.self.inside.depth < length c.self.inside.below = omega arith in
-          rw w.self-inside-is (parts_pushed c.args.target.now c.after_slashes-text.result.now c.self.inside.top c.self.inside.depth
+          rw w.self-inside-is (parts_pushed c.args.target.bytes.now c.after_slashes-text.result.now c.self.inside.top c.self.inside.depth
           c.self.inside.below c.after_slashes-text.ensures lt
-          ∙ ap (λ (rest : Remaining). parts_of ending.Dot c.args.target.now ++ rest.parts) c.self.view_is)
+          ∙ ap (λ (rest : Remaining). parts_of ending.Dot c.args.target.bytes.now ++ rest.parts) c.self.view_is)
       | else-not-is_empty w ↦
-          rw w.self-inside-is (parts_on_empty c.args.target.now c.after_slashes-text.result.now c.self.inside.top.now
+          rw w.self-inside-is (parts_on_empty c.args.target.bytes.now c.after_slashes-text.result.now c.self.inside.top.now
           (take c.self.inside.depth c.self.inside.below) c.after_slashes-text.ensures (sym c.is_empty-2.ensures ∙
           w.if-not-is_empty.false)
-          ∙ ap (λ (rest : Remaining). parts_of ending.Dot c.args.target.now ++ rest.parts) c.self.view_is)
+          ∙ ap (λ (rest : Remaining). parts_of ending.Dot c.args.target.bytes.now ++ rest.parts) c.self.view_is)
     ]

@@ -10,7 +10,7 @@ returns-clause-watched g c = λ w left stands watched.
     one_added c.args.world.now.table w left c.args.self.now after c.args.process c.forebear-asker.result c.args.question c.args.last
     c.in_ok-watch.watch watched
     (c.forebear-asker.ensures ∙ ap (λ forks. forebear_by (made_by forks) c.args.process) c.deref.ensures.value)
-    c.in_ok-watch.ensures.about (c.in_ok-watch.ensures.begun w stands) refl c.in-Ok.ensures.items
+    c.in_ok-watch.ensures.about (c.in_ok-watch.ensures.begun w stands) refl c.in_ok-push.ensures.items
 
 pub returns-clause-kept : goal.returns-clause-kept
 returns-clause-kept g c = kept_by_try (is_ok c.push.result) c.args.self.now.watches.items c.in_ok-watch.watch c.push.new.self.items

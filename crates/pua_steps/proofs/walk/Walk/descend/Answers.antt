@@ -39,4 +39,4 @@ returns-clause-gives c = λ way call.
     ∙ ap (λ rs. to_give (narrow_of t v) (live_of v) a.limit (a.word.items ++ c.args.letter ∷ []) x.calls c.entrance-behind.result rs way
     call) (sym (map-append (rest_of t ls) a.frames.items (f ∷ [])))
     ∙ sym (λ i. to_give (narrow_of (steps i) (live i)) (live_of (live i)) (c.enter.ensures.limit i) (c.enter.ensures.word i)
-    (c.enter.ensures.there.0 i) (c.enter.ensures.there.1 i) (rests_of (steps i) (lists i) (c.enter.ensures.frames i)) way call)
+    (c.enter.ensures.calls i) (c.enter.ensures.behind i) (rests_of (steps i) (lists i) (c.enter.ensures.frames i)) way call)

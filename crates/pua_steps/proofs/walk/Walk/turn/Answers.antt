@@ -59,7 +59,7 @@ returns-in-Some-clause-next c =
       c.loop-self.invariant.framed,
     )) c.in-Some.visit c.next_visit.new.frame b.word.items b.frames.items b.calls
     b.behind
-    got.1.1.next.1 pushed c.go_by.ensures.word c.go_by.ensures.there.0 c.go_by.ensures.there.1)
+    got.1.1.next.1 pushed c.go_by.ensures.word c.go_by.ensures.calls c.go_by.ensures.behind)
     ∙ looks-looks far.0 got.0 _
     ∙ ap (λ (t : Steps). looks (far.0 + got.0) (ahead (narrow_of t a.tables.live) (live_of a.tables.live) a.limit b.word.items
     (calls_of b.calls) b.behind (rests_of t a.tables.lists b.frames.items))) (sym (c.go_by.ensures.steps ∙ c.next_visit.ensures.steps))
@@ -186,13 +186,13 @@ returns-in-Some-clause-ready c =
     let short : length a.word.items < a.limit = omega (arith, ap length split, length_push front f, even, inv.most) in
     let left : a.limit - k - 1 ≡ a.limit - length a.word.items - 1 = omega (arith, c.len-deepest.ensures, inv.framed) in
     let stands = subst (λ o. IfSome o (λ s. IsState a.tables.steps s ×
-    (live_of a.tables.live (a.limit - length a.word.items - 1) s ≡ true))) (sym c.go_by.ensures.there.1)
+    (live_of a.tables.live (a.limit - length a.word.items - 1) s ≡ true))) (sym c.go_by.ensures.behind)
     (subst (λ n. IfSome c.in-Some.visit.behind (λ s. IsState a.tables.steps s × (live_of a.tables.live n s ≡ true))) left given.behind) in
     entered_ready a.tables.steps a.tables.live a.tables.lists a.limit a.word.items front c.next_visit.new.frame c.in-Some.visit.letter b
     inv.sound.table inv.sound.sized inv.sound.listed
     (all_front (λ f. IsOpen a.tables.steps a.tables.lists f) front f (subst (AreOpen a.tables.steps a.tables.lists) split inv.states)).0
     c.next_visit.ensures.open
-    (subst (λ n. n < 2 ^ 14) (sym c.go_by.ensures.there.0) given.calls) stands even short (c.go_by.ensures.steps ∙
+    (subst (λ n. n < 2 ^ 14) (sym c.go_by.ensures.calls) given.calls) stands even short (c.go_by.ensures.steps ∙
     c.next_visit.ensures.steps) (c.go_by.ensures.live ∙ c.next_visit.ensures.live) (c.go_by.ensures.lists ∙
     c.next_visit.ensures.lists) c.go_by.ensures.limit
     (omega (arith, inv.sound.room.words, c.go_by.ensures.room)) (subst (λ v. a.limit ≤ vec_capacity v) (sym c.go_by.ensures.frames)

@@ -1,7 +1,6 @@
-use Rattle.pua_tree.proofs.Common.{ℕ, length, ap, lookup, Slab, Slots, SlotNode}
+use Rattle.pua_tree.proofs.Common.{ℕ, length, ap, sym, lookup, Slab, Slots, SlotNode}
 use Rattle.slab.specs.Slab.{get as slot_get, slab_len}
 use Rattle.pua_tree.specs.contracts.node.NodeIdPartialEq.TheImpl.{ghosts as number_ghosts}
-use Rattle.pua_tree.proofs.SlotsHold.{rows_by_entries}
 use Rattle.pua_tree.proofs.SlotsNodes.{kept_alike, filed_alike, found_alike}
 use Rattle.pua_tree.proofs.slots.Slots.reserve_node.Goals as goal
 
@@ -13,4 +12,4 @@ returns-clause-kept c =
     let got = λ (slot : ℕ). ap (λ (s : Slab SlotNode). slot_get s slot) c.reserve-3.ensures.rest_kept in
     let filed = filed_alike old new slots got (ap (λ (s : Slab SlotNode). slab_len s) c.reserve-3.ensures.rest_kept)
     (ap length c.reserve-2.ensures.entries) c.requires.filed in
-    kept_alike old new (rows_by_entries new old c.reserve.ensures.entries) (found_alike old new slots got) filed c.requires
+    kept_alike old new (sym c.reserve.ensures.entries) (found_alike old new slots got) filed c.requires

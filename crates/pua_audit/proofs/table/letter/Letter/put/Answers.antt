@@ -4,10 +4,10 @@ use Rattle.pua_audit.proofs.Rowed.{row_grown, row_skipped, row_added}
 use Rattle.pua_audit.proofs.Told.{kept_none}
 use Rattle.pua_audit.proofs.table.letter.Letter.put.Goals as goal
 
-pub returns-then-is_told_by-clause-row : goal.returns-then-is_told_by-clause-row
-returns-then-is_told_by-clause-row c = λ w letters dir letter row.
+pub returns-then-is_like_missing-clause-row : goal.returns-then-is_like_missing-clause-row
+returns-then-is_like_missing-clause-row c = λ w letters dir letter row.
     let a = c.args.self.now in
-    let same = c.is_told_by.ensures c.if-is_told_by.true in
+    let same = c.is_like_missing.ensures c.if-is_like_missing.true in
     row_skipped w letters dir c.args.missing c.args.dirs.now.numbers c.args.letter a.all a.kept a.links a.leads c.args.entries.now.items row
     letter same.0 same.1 same.2
 

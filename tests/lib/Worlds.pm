@@ -323,7 +323,7 @@ my $room;
 sub program_in {
     my ($named) = @_;
     my $here = File::Basename::dirname(File::Spec->rel2abs(__FILE__));
-    my $program = File::Spec->rel2abs(defined $named ? $named : "$here/../crates/pua/out/pua");
+    my $program = File::Spec->rel2abs(defined $named ? $named : "$here/../../crates/pua/out/pua");
     -x $program or die "$program: no such program; name one\n";
     return $program;
 }

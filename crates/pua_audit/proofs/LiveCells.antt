@@ -1,0 +1,146 @@
+-- The live states of a graph are those of the judge for which it stands, cell by cell.
+use Rattle.pua_audit.proofs.Common.{ℕ, zero, suc, ◌-◌, ◌<◌, ◌≤◌, ◌≡◌, List, [], ◌∷◌, Option, Some, None, Bool, true, false, ◌||◌, ◌&&◌}
+use Rattle.pua_audit.proofs.Common.{◌==◌, nat_lt, nat_le, refl, ap, arith, sym, ◌∙◌, map, length, get_or, inl, inr, IfSome, option_to_list}
+use Rattle.pua_audit.proofs.Common.{AllByRecursion, cons_option, cases_eq, and_parts, eqb-true, eq-eqb, ne_eqb, le-leb, Pair, Judge, Start}
+use Rattle.pua_audit.proofs.Common.{Stage, named_in, AreApart, IsKnown, StandsForJudge, pair_in_numbers, pair_in_letters, State, Visit}
+use Rattle.std.proofs.Common.{ltb-true}
+use Rattle.std.proofs.lemmas.Bool.{leb-true, lt-ltb}
+use Rattle.pua_audit.specs.Judge as named
+use Rattle.pua_audit.proofs.Lines as lines
+use Rattle.pua_audit.proofs.Stages.{is_state, is_among, some_pair, state_of, reached_from}
+use Rattle.pua_audit.proofs.Cells.{cell, IsCell}
+use Rattle.pua_audit.proofs.Leading.{graphs_lead}
+use Rattle.pua_audit.proofs.Refined.{rows_alike}
+use Rattle.pua_audit.proofs.Rising.{all_flat}
+use Rattle.pua_steps.specs.Graph as graph
+use Rattle.pua_steps.specs.Reached as steps
+use Rattle.std.proofs.Math.Bool.{and_comm}
+
+-- tests
+
+one_named : (a b : named.JudgeState) → is_state a b ≡ true → a ≡ b
+one_named a b e = let both = and_parts (a.dir == b.dir) (a.used == b.used) e in
+    λ i. record { dir = eqb-true a.dir b.dir both.0 i; used = eqb-true a.used b.used both.1 i }
+
+-- whether a list has a member
+abbrev some : {A : Type 0} → List A → Bool
+some [] = false
+some (x ∷ xs) = true
+
+some-map : {A B : Type 0} (f : A → B) (xs : List A) → some (map f xs) ≡ some xs
+some-map f [] = refl
+some-map f (x ∷ xs) = refl
+
+some_is : (ps : List Pair) → some_pair ps ≡ some ps
+some_is [] = refl
+some_is (p ∷ ps) = refl
+
+graph_some_is : (ps : List graph.Pair) → graph.some_pair ps ≡ some ps
+graph_some_is [] = refl
+graph_some_is (p ∷ ps) = refl
+
+module _ (names : List ℕ) where
+  abbrev name : State → named.JudgeState
+  name s = named_in names s
+
+  -- what is among names is the name of a state
+  named_one : (y : named.JudgeState) (ss : List State) → AllByRecursion (IsKnown names) ss → is_among y (map name ss) ≡ true →
+      (s : State) × (IsKnown names s × (y ≡ name s))
+  named_one y [] all there = absurd cc
+  named_one y (x ∷ xs) all there =
+      elim (is_state y (name x)) as (λ b. is_state y (name x) ≡ b → (b || is_among y (map name xs)) ≡ true →
+      (s : State) × (IsKnown names s × (y ≡ name s))) [
+        | true ↦ λ same _. (x, (all.0, one_named y (name x) same))
+        | false ↦ λ _ more. named_one y xs all.1 more
+      ] refl there
+
+  module _ (apart : AreApart names) where
+    one_dir : (d e : ℕ) → d < length names → e < length names → (get_or names d 0 == get_or names e 0) ≡ (d == e)
+    one_dir d e low high = elim (cases_eq d e) [
+      | inl same ↦ eq-eqb (get_or names d 0) (get_or names e 0) (ap (λ n. get_or names n 0) same) ∙ sym (eq-eqb d e same)
+      | inr away ↦ ne_eqb (get_or names d 0) (get_or names e 0) (λ same. away (apart d e low high same)) ∙ sym (ne_eqb d e away)
+    ]
+
+    -- no two states have one name
+    among_named : (s : State) (ss : List State) → s.dir < length names → AllByRecursion (IsKnown names) ss →
+        is_among (name s) (map name ss) ≡ steps.is_among s ss
+    among_named s [] low all = refl
+    among_named s (x ∷ xs) low all = (λ i. (one_dir s.dir x.dir low all.0.dir i && (s.used == x.used)) || among_named s xs low all.1 i)
+
+module _ (w : Judge) (letters : List (List ℕ)) (names : List ℕ) (g : State →
+    List Visit) (set : ℕ) (base : Option State) (stands : StandsForJudge w letters names g set base (IsKnown names)) where
+  -- all states to which words lead are of the graph
+
+  with_first : (o : Option State) (ss : List State) → IfSome o (IsKnown names) → AllByRecursion (IsKnown names) ss →
+      AllByRecursion (IsKnown names) (cons_option o ss)
+  with_first None ss is all = all
+  with_first (Some s) ss is all = (is, all)
+
+  all_behind : (vs : List Visit) → AllByRecursion (λ v. IfSome v.behind (IsKnown names)) vs →
+      AllByRecursion (IsKnown names) (steps.states_behind vs)
+  all_behind [] all = tt
+  all_behind (v ∷ vs) all = with_first v.behind (steps.states_behind vs) all.0 (all_behind vs all.1)
+
+  all_reached : (n : ℕ) → AllByRecursion (IsKnown names) (steps.states_after g n base)
+  unfolding steps.states_after
+  all_reached zero = by base stands.begins
+    where
+      by : (o : Option State) → IfSome o (IsKnown names) → AllByRecursion (IsKnown names) (option_to_list o)
+      by None is = tt
+      by (Some s) is = (is, tt)
+  all_reached (suc n) =
+      all_flat (IsKnown names) (IsKnown names) (λ s. steps.states_behind (g s)) (λ s is. all_behind (g s) (stands.states s is).closed)
+      (steps.states_after g n base) (all_reached n)
+
+  abbrev goes_on : ℕ → named.JudgeState → Bool
+  goes_on left s = some_pair (lines.rows w letters (left - 1) s letters)
+
+  goes_on_alike : (left : ℕ) (s : State) → 0 < left → IsKnown names s →
+      graph.some_pair (graph.below (λ _. g) left (Some s)) ≡ goes_on left (named_in names s)
+  goes_on_alike left s some_left is =
+      let more : left ≡ suc (left - 1) = omega (arith, some_left) in
+      let ps : List Pair = lines.rows w letters (left - 1) (named_in names s) letters in
+      let qs : List graph.Pair = graph.below (λ _. g) (suc (left - 1)) (Some s) in
+      ap (λ n. graph.some_pair (graph.below (λ _. g) n (Some s))) more
+      ∙ graph_some_is qs ∙ sym (some-map (pair_in_letters letters) qs) ∙
+      sym (ap some (rows_alike w letters names g (IsKnown names) stands.states (left - 1) s is)) ∙ some-map pair_in_numbers ps ∙
+      sym (some_is ps)
+
+  -- what `StagesLive` says of a stage
+  abbrev pub told : ℕ → Stage → Bool
+  told limit y = (nat_lt 0 y.left && nat_le y.left limit)
+      && (goes_on y.left (state_of y) && is_among (state_of y) (reached_from w letters (limit - y.left) Start))
+
+  -- such a stage is at a cell
+  pub told_at : (limit : ℕ) (y : Stage) → told limit y ≡ true → IsCell names limit 33 y
+  told_at limit y e =
+      let among = is_among (state_of y) (reached_from w letters (limit - y.left) Start) in
+      let both = and_parts (nat_lt 0 y.left && nat_le y.left limit) (goes_on y.left (state_of y) && among) e in
+      let range = and_parts (nat_lt 0 y.left) (nat_le y.left limit) both.0 in
+      let more : 0 < y.left = ltb-true 0 y.left range.0 in
+      let low : y.left ≤ limit = leb-true y.left limit range.1 in
+      let s = named_one names (state_of y) (steps.states_after g (limit - y.left) base) (all_reached (limit - y.left))
+      (ap (is_among (state_of y)) (graphs_lead w letters names g set base (limit - y.left) stands) ∙
+      (and_parts (goes_on y.left (state_of y)) among both.1).1) in
+      record {
+        before = limit - y.left;
+        place = s.0.dir;
+        low = omega (arith, more, low);
+        there = s.1.0.dir;
+        few = omega (arith, s.1.0.used, ap (λ (z : named.JudgeState). z.used) s.1.1);
+        dir = ap (λ (z : named.JudgeState). z.dir) s.1.1;
+        left = omega (arith, low);
+      }
+
+  -- at a cell it is whether the state of the graph is live
+  pub told_by_cells : AreApart names → (limit n d u : ℕ) → n < limit → d < length names → u < 33 →
+      told limit (cell names limit 33 n d u) ≡ steps.is_live (λ _. g) limit base n (record { dir = d; used = u })
+  told_by_cells apart limit n d u low there few =
+      let s : State = record { dir = d; used = u } in
+      let back : limit - (limit - n) ≡ n = omega (arith, low) in
+      (λ i. (lt-ltb 0 (limit - n) (omega (arith, low)) i && le-leb (limit - n) limit (omega arith) i)
+      && (goes_on (limit - n) (named_in names s) && is_among (named_in names s) (reached_from w letters (back i) Start)))
+      ∙ and_comm (goes_on (limit - n) (named_in names s)) (is_among (named_in names s) (reached_from w letters n Start))
+      ∙ (λ i. (ap (is_among (named_in names s)) (sym (graphs_lead w letters names g set base n stands)) ∙
+      among_named names apart s (steps.states_after g n base) there (all_reached n)) i
+      && sym (goes_on_alike (limit - n) s (omega (arith, low)) (record { dir = there; used = omega (arith, few) })) i)
