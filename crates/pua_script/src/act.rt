@@ -17,7 +17,8 @@ use crate::answer::Answer;
 use crate::fault::WorldFault;
 use crate::granted::{Granted, make};
 use crate::judged::{
-    grant_call, grant_symlink, grant_unveil, judge_letters, judge_object, judge_target, veil_named,
+    grant_edit, grant_look, grant_symlink, grant_unveil, is_edit, judge_letters, judge_object,
+    judge_target, veil_named,
 };
 use crate::link::grant_link;
 use crate::pair::{covered, promised_pair, side_named};
@@ -78,9 +79,13 @@ fn call_on<T: FileTree>(
         ((T.content tree.new ≡ T.content tree.old) × (process.new ≡ process.old)) }
 {
     match promised_for(process, table, call) {
-        Ok(()) => {
+        Ok(()) if is_edit(call) => {
             let object = judge_object(tree, table, process, call, path);
-            answer(tree, process, &grant_call(table, call, &object))
+            answer(tree, process, &grant_edit(call, &object))
+        }
+        Ok(()) => {
+            let granted = grant_look(tree, table, process, call, path);
+            answer(tree, process, &granted)
         }
         Err(refusal) => answer(tree, process, &Err(refusal)),
     }
