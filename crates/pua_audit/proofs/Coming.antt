@@ -73,14 +73,14 @@ unfailed (Ok x) full none = refl
 unfailed (Err y) full none = absurd (none full)
 
 -- there is room for one letter more
-pub along_room : (a : Pairs) → AreReady a → (i : ℕ) → AllByRecursion (λ i. i < length a.terms.letters.items) a.walk.word.items
-    → length a.path.starts.items < length a.walk.word.items → i < length a.terms.letters.items
-    → length a.path.bytes.items + suc (length (get_or a.terms.letters.items i [])) ≤ vec_capacity a.path.bytes
+pub along_room : (a : Pairs) → AreReady a → (i : ℕ) → AllByRecursion (λ i. i < length a.terms.letters) a.walk.word.items
+    → length a.path.starts.items < length a.walk.word.items → i < length a.terms.letters
+    → length a.path.bytes.items + suc (length (get_or a.terms.letters i [])) ≤ vec_capacity a.path.bytes
 along_room a ready i known low here =
     let k : ℕ = length a.path.starts.items in
     let word : List ℕ = a.walk.word.items in
     let front : IsSpelled a.terms (take k word) a.path.bytes.items =
-    record { known = all_taken (λ i. i < length a.terms.letters.items) k word known; path = ready.path.path.bytes } in
+    record { known = all_taken (λ i. i < length a.terms.letters) k word known; path = ready.path.path.bytes } in
     room_for a.terms (take k word) a.path.bytes.items i (vec_capacity a.path.bytes) front here
     (omega (arith, length-take k word, low, ready.walk.within, ready.limit)) ready.bytes
 
@@ -107,7 +107,7 @@ module _ (a : Pairs) (ready : AreReady a) (w : Walk) (of : IsSameWalk a.walk w) 
     (stays : IsUnchanged a.walk.word.items w.unchanged w.word.items) where
   -- the walk goes on, and the path keeps what is unchanged
   pub kept_ready : (q : WordPath) (n : ℕ) → n ≡ w.unchanged →
-      AllByRecursion (λ p. IsPair (length a.terms.letters.items) p) (pairs_of (steps.trail w)) →
+      AllByRecursion (λ p. IsPair (length a.terms.letters) p) (pairs_of (steps.trail w)) →
       ((v : Word) → IsPathOf v a.path → IsPathOf (take n v) q) → length q.starts.items ≡ min n (length a.path.starts.items)
       → vec_capacity q.bytes ≡ vec_capacity a.path.bytes → vec_capacity q.starts ≡ vec_capacity a.path.starts →
       AreReady (record { terms = a.terms; walk = w; live = a.live; path = q })
@@ -117,31 +117,31 @@ module _ (a : Pairs) (ready : AreReady a) (w : Walk) (of : IsSameWalk a.walk w) 
     limit = of.limit ∙ ready.limit;
     letters = ap (λ (t : Steps). t.letters) of.steps ∙ ready.letters;
     pairs = pairs;
-    path = along_kept a.terms.letters.items a.walk.word.items w.word.items n a.path q ready.path
+    path = along_kept a.terms.letters a.walk.word.items w.word.items n a.path q ready.path
         (subst (λ m. IsUnchanged a.walk.word.items m w.word.items) (sym at) stays) keep few;
     bytes = omega (arith, ready.bytes, bytes);
     starts = omega (arith, ready.starts, starts);
   }
 
-  pub pairs_none : pairs_of (steps.trail w) ≡ [] → AllByRecursion (λ p. IsPair (length a.terms.letters.items) p) (pairs_of (steps.trail w))
-  pairs_none none = subst (λ (ps : List graph.Pair). AllByRecursion (λ p. IsPair (length a.terms.letters.items) p) ps) (sym none) tt
+  pub pairs_none : pairs_of (steps.trail w) ≡ [] → AllByRecursion (λ p. IsPair (length a.terms.letters) p) (pairs_of (steps.trail w))
+  pairs_none none = subst (λ (ps : List graph.Pair). AllByRecursion (λ p. IsPair (length a.terms.letters) p) ps) (sym none) tt
 
   module _ (call : ℕ) (line : pairs_of (steps.trail a.walk) ≡ (w.word.items, call) ∷ pairs_of (steps.trail w)) where
-    pub pairs_more : IsPair (length a.terms.letters.items) (w.word.items, call) ×
-        AllByRecursion (λ p. IsPair (length a.terms.letters.items) p) (pairs_of (steps.trail w))
-    pairs_more = subst (λ (ps : List graph.Pair). AllByRecursion (λ p. IsPair (length a.terms.letters.items) p) ps) line ready.pairs
+    pub pairs_more : IsPair (length a.terms.letters) (w.word.items, call) ×
+        AllByRecursion (λ p. IsPair (length a.terms.letters) p) (pairs_of (steps.trail w))
+    pairs_more = subst (λ (ps : List graph.Pair). AllByRecursion (λ p. IsPair (length a.terms.letters) p) ps) line ready.pairs
 
     -- once the path has the whole word
     pub is_line : (b : Pairs) → b.terms ≡ a.terms → b.walk ≡ w → AreReady b →
-        AllByRecursion (λ i. i < length b.terms.letters.items) b.walk.word.items
+        AllByRecursion (λ i. i < length b.terms.letters) b.walk.word.items
         → length b.walk.word.items ≤ length b.path.starts.items → (named : Call) → named ≡ call_at call → IsLine a named b
     is_line b terms same now known all named is = record {
-      next = ap (pairs_at a.terms.letters.items) line
+      next = ap (pairs_at a.terms.letters) line
           ∙ sym (λ i. (
-            word_of (terms i).letters.items (same i).word.items,
+            word_of (terms i).letters (same i).word.items,
             is i,
-          ) ∷ pairs_at (terms i).letters.items (pairs_of (steps.trail (same i))));
-      path = along_whole b.terms.letters.items b.walk.word.items b.path now.path all;
+          ) ∷ pairs_at (terms i).letters (pairs_of (steps.trail (same i))));
+      path = along_whole b.terms.letters b.walk.word.items b.path now.path all;
       within = omega (arith, now.walk.within, now.limit);
       known = known;
     }

@@ -46,19 +46,19 @@ impl Pairs {
         requires tree { P.tree probe.old ≡ terms.seen.tree }
         requires rows { map lent_entry rows.now ≡ terms.seen.tree.rows }
         requires sound { IsSound terms }
-        requires letters { AreSound terms.limit terms.letters.items }
+        requires letters { AreSound terms.limit terms.letters }
         requires word { IfSome after
-            (λ r. AreLetters terms.letters.items terms.limit r.word.items) }
+            (λ r. AreLetters terms.letters terms.limit r.word.items) }
         ensures ready { IfOk result (λ pairs. AreReady pairs) }
         ensures terms { IfOk result (λ pairs. pairs.terms ≡ terms) }
         ensures left { IfOk result (λ pairs. to_come pairs ≡ rest_after (scope_in terms)
-            (option_map (pair_in terms.letters.items) after)) }
+            (option_map (pair_in terms.letters) after)) }
         ensures live { IfOk result (λ pairs. pairs.live ≡ length (live_states (scope_in terms))) }
         ensures reads { IfOk result (λ pairs. pairs.walk.tables.reads ≤ search_cost * terms.limit) }
         ensures unread { after ≡ None → IfOk result (λ pairs. pairs.walk.tables.reads ≡ 0) }
         ensures tree { P.tree probe.new ≡ P.tree probe.old }
         ensures cost { P.count probe.new ≤ P.count probe.old + pairs_cost terms.seen.tree
-            (length terms.letters.items) }
+            (length terms.letters) }
     {
         let BegunWalk { walk, live } = terms.begun(alloc, probe, rows, after)?;
         let path = WordPath::new(alloc, terms.limit, terms.most_bytes())?;
@@ -78,7 +78,7 @@ impl Pairs {
         ensures live { self.new.live ≡ self.old.live }
         ensures next { IsNextCall self.old result self.new }
         ensures reads { self.new.walk.tables.reads ≤ self.old.walk.tables.reads
-            + 2 * (self.old.terms.limit * length self.old.terms.letters.items) }
+            + 2 * (self.old.terms.limit * length self.old.terms.letters) }
     {
         let next = self.walk.next_call();
         self.path.keep(self.walk.unchanged());
@@ -86,7 +86,8 @@ impl Pairs {
         // The path has room for each letter of the word, so none is refused.
         while self.path.starts.len() < self.walk.word().len() {
             let letter = self.walk.word()[self.path.starts.len()];
-            self.path.add(&self.terms.letters[letter]).unwrap();
+            let letters = self.terms.letters.as_slice();
+            self.path.add(&letters[letter]).unwrap();
         }
         Some(call_at(call))
     }

@@ -57,8 +57,8 @@ impl WordPath {
         self.plain = self.plain.min(letters);
     }
 
-    /// Puts a letter at the end. The error is that a growth was refused, which no growth is where there
-    /// is room for the letter.
+    /// Puts a letter at the end. The error is that a growth was refused; none is where there is room for
+    /// the letter.
     pub(crate) fn add(&mut self, letter: &Component) -> Result<(), AllocError>
         ensures path { IfOk result (λ _. (word : Word) → IsPathOf word self.old →
             IsPathOf (word ++ letter.now ∷ []) self.new) }

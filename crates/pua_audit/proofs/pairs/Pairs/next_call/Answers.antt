@@ -1,4 +1,5 @@
-use Rattle.pua_audit.proofs.Common.{◌≡◌, ◌<◌, ◌≤◌, ◌+◌, ◌*◌, List, ℕ, [], length, get_or, refl, sym, ap, ◌∙◌, arith, subst, get_or_read}
+use Rattle.pua_audit.proofs.Common.{◌≡◌, ◌<◌, ◌≤◌, ◌+◌, ◌*◌, List, ℕ, [], length, get_or, refl, sym, ap, ◌∙◌, arith, subst}
+use Rattle.pua_audit.proofs.Moves.{letter_read}
 use Rattle.std.proofs.lemmas.Result.{IfOk-at_ok}
 use Rattle.pua_audit.proofs.Coming.{along_push, along_room, at_place, is_line, kept_ready, pairs_none, pairs_more, unfailed}
 use Rattle.pua_steps.specs.declared.walk.Walk.{Walk}
@@ -28,22 +29,6 @@ loop-self-init c =
       known = more.0.word;
     }
 
-pub index-requires : goal.index-requires
-index-requires c =
-    let a = c.loop-self.self in
-    let low : c.len-in-loop-self.result < length a.walk.word.items = omega (
-      arith,
-      c.loop-self-test.true,
-      c.len.ensures,
-      c.len-in-loop-self.ensures,
-      ap length c.word.ensures,
-    ) in
-    omega (
-      arith,
-      at_place a.terms.letters.items a.walk.word.items c.word-in-loop-self.result.now c.len-in-loop-self.result
-          c.loop-self.invariant.known c.word-in-loop-self.ensures low,
-    )
-
 pub unwrap-requires : goal.unwrap-requires
 unwrap-requires c =
     let a = c.loop-self.self in
@@ -52,11 +37,12 @@ unwrap-requires c =
     let k : ℕ = c.len-in-loop-self.result in
     let i : ℕ = get_or c.word-in-loop-self.result.now k 0 in
     let low : length a.path.starts.items < length word = omega (arith, c.loop-self-test.true, c.len.ensures, ap length c.word.ensures) in
-    let here : i < length a.terms.letters.items =
-    at_place a.terms.letters.items word c.word-in-loop-self.result.now k inv.known c.word-in-loop-self.ensures
+    let here : i < length a.terms.letters =
+    at_place a.terms.letters word c.word-in-loop-self.result.now k inv.known c.word-in-loop-self.ensures
     (omega (arith, low, c.len-in-loop-self.ensures)) in
-    let part : get_or a.terms.letters.items i [] ≡ c.index.result.now =
-    sym (get_or_read a.terms.letters.items i c.index.result.now here c.index.ensures []) in
+    let part : get_or a.terms.letters i [] ≡ c.index-letters-letter.result =
+    sym (letter_read a.terms.letters c.as_slice-letters.result.now i c.index-letters-letter.result c.as_slice-letters.ensures.letters here
+    c.index-letters-letter.is) in
     let room = along_room a inv.ready i inv.known low here in
     unfailed c.add.result c.add.ensures.full (λ full. omega (
       arith,
@@ -81,12 +67,13 @@ loop-self-preserved c =
     let many : k ≡ length a.path.starts.items = omega (arith, c.len-in-loop-self.ensures) in
     let same : i ≡ get_or word (length a.path.starts.items) 0 = ap (λ (v : List ℕ). get_or v k 0) c.word-in-loop-self.ensures ∙
     ap (λ n. get_or word n 0) many in
-    let here : i < length a.terms.letters.items =
-    at_place a.terms.letters.items word c.word-in-loop-self.result.now k inv.known c.word-in-loop-self.ensures
+    let here : i < length a.terms.letters =
+    at_place a.terms.letters word c.word-in-loop-self.result.now k inv.known c.word-in-loop-self.ensures
     (omega (arith, low, c.len-in-loop-self.ensures)) in
-    let part : get_or a.terms.letters.items (get_or word (length a.path.starts.items) 0) [] ≡ c.index.result.now =
-    ap (λ n. get_or a.terms.letters.items n []) (sym same) ∙
-    sym (get_or_read a.terms.letters.items i c.index.result.now here c.index.ensures []) in
+    let part : get_or a.terms.letters (get_or word (length a.path.starts.items) 0) [] ≡ c.index-letters-letter.result =
+    ap (λ n. get_or a.terms.letters n []) (sym same) ∙
+    sym (letter_read a.terms.letters c.as_slice-letters.result.now i c.index-letters-letter.result c.as_slice-letters.ensures.letters here
+    c.index-letters-letter.is) in
     let more = IfOk-at_ok _ c.unwrap.ensures c.add.ensures.more in
     record {
       terms = inv.terms;
@@ -98,7 +85,7 @@ loop-self-preserved c =
         limit = inv.ready.limit;
         letters = inv.ready.letters;
         pairs = inv.ready.pairs;
-        path = along_push a.terms.letters.items word a.path c.add.new.self c.index.result.now inv.ready.path low part
+        path = along_push a.terms.letters word a.path c.add.new.self c.index-letters-letter.result inv.ready.path low part
             (IfOk-at_ok _ c.unwrap.ensures c.add.ensures.path) more;
         bytes = omega (arith, inv.ready.bytes, c.add.ensures.bytes);
         starts = omega (arith, inv.ready.starts, c.add.ensures.starts);
@@ -129,8 +116,8 @@ pub returns-clause-reads : goal.returns-clause-reads
 returns-clause-reads c =
     let a = c.args.self.now in
     let few = c.next_call-next.ensures.cost in
-    subst (λ (w : Walk). w.tables.reads ≤ a.walk.tables.reads + 2 * (a.terms.limit * length a.terms.letters.items))
+    subst (λ (w : Walk). w.tables.reads ≤ a.walk.tables.reads + 2 * (a.terms.limit * length a.terms.letters))
     (sym c.loop-self.invariant.walk)
-    (subst (λ n. c.next_call-next.new.self.tables.reads ≤ a.walk.tables.reads + 2 * (n * length a.terms.letters.items))
+    (subst (λ n. c.next_call-next.new.self.tables.reads ≤ a.walk.tables.reads + 2 * (n * length a.terms.letters))
     c.requires.ready.limit
     (subst (λ n. c.next_call-next.new.self.tables.reads ≤ a.walk.tables.reads + 2 * (a.walk.limit * n)) c.requires.ready.letters few))

@@ -8,7 +8,7 @@ invariant-loop-self l = record {
   walk : l.self.walk ≡ l.initial.self.walk;
   live : l.self.live ≡ l.initial.self.live;
   ready : AreReady l.self;
-  known : AllByRecursion (λ i. i < length l.self.terms.letters.items) l.self.walk.word.items;
+  known : AllByRecursion (λ i. i < length l.self.terms.letters) l.self.walk.word.items;
 }
 
 abbrev pub decreases-loop-self : goal.decreases-loop-self
