@@ -66,32 +66,9 @@ fn named_lent<'a, 't: 'a, P: Probe<'t>>(
     }
 }
 
-/// What a call is to change that makes no name and takes none away. Of what was found it keeps no
+/// What an allowed call changes that makes no name and takes none away. Of what was found it keeps no
 /// more than a directory's number, so no name is copied.
-pub(crate) fn grant_look<'g, T: FileTree>(
-    tree: &T,
-    table: &CallTable,
-    process: &Process,
-    call: Call,
-    path: &[u8],
-) -> Result<Granted<'g>, Refusal>
-    ensures { is_edit call ≡ false → (asker : Asking) →
-        decision_for asker result
-        ≡ decide_object table.now (T.content tree.now) (asker_on process.now) call path.now
-        (λ object. Ok (change_by table.now call object)) }
-{
-    let mut probe = Counted::new(tree);
-    match named_lent(&mut probe, process.dir(), path, ending(call), call.last()) {
-        Ok(found) => match object_verdict_lent(&mut probe, process, table, call, &found) {
-            Ok(()) => Ok(looking(table, call, &found)),
-            Err(errno) => Err(Refusal::Failed(errno)),
-        },
-        Err(errno) => Err(Refusal::Failed(errno)),
-    }
-}
-
-/// What such a call changes where it is allowed.
-fn looking<'g>(table: &CallTable, call: Call, found: &LentFound<'_>) -> Granted<'g>
+pub(crate) fn looking<'g>(table: &CallTable, call: Call, found: &LentFound<'_>) -> Granted<'g>
     ensures { is_edit call ≡ false → (asker : Asking) →
         decision_by asker result ≡ Ok (change_by table.now call (found_seen found.now)) }
 {
@@ -116,46 +93,31 @@ pub(crate) fn is_edit(call: Call) -> bool
 }
 
 /// What the path of a call names, whose promises are held: where the veils leave enough of it, and
-/// it is of a kind that the call is for. What was found is some 280 bytes, so a copy of it is made
-/// only once it is judged.
-pub(crate) fn judge_object<T: FileTree>(
-    tree: &T,
+/// it is of a kind that the call is for. Its name is lent by the path, or by the target of a link.
+pub(crate) fn judge_object<'t, T: FileTree>(
+    tree: &'t T,
     table: &CallTable,
     process: &Process,
     call: Call,
-    path: &[u8],
-) -> Result<Found, Errno>
+    path: &'t [u8],
+) -> Result<LentFound<'t>, Errno>
     ensures { (further : founds.Found → Decision) →
         decide_object table.now (T.content tree.now) (asker_on process.now) call path.now further
-        ≡ if_named result further }
+        ≡ if_named (founds_seen result) further }
 {
     let mut probe = Counted::new(tree);
-    match named_lent(&mut probe, process.dir(), path, ending(call), call.last()) {
-        Ok(lent) => match object_verdict_lent(&mut probe, process, table, call, &lent) {
-            Ok(()) => Ok(lent.found()),
-            Err(errno) => Err(errno),
-        },
+    let lent = match named_lent(&mut probe, process.dir(), path, ending(call), call.last()) {
+        Ok(lent) => lent,
+        Err(errno) => return Err(errno),
+    };
+    match object_verdict_lent(&mut probe, process, table, call, &lent) {
+        Ok(()) => Ok(lent),
         Err(errno) => Err(errno),
     }
 }
 
-/// What a call is to change that makes a name or takes one away, by what its path named.
-pub(crate) fn grant_edit<'a>(
-    call: Call,
-    judged: &'a Result<Found, Errno>,
-) -> Result<Granted<'a>, Refusal>
-    ensures { is_edit call ≡ true → (table : Rules) (asker : Asking) →
-        decision_for asker result
-        ≡ if_named judged.now (λ object. Ok (change_by table call object)) }
-{
-    match judged {
-        Ok(found) => Ok(editing(call, found)),
-        Err(errno) => Err(Refusal::Failed(*errno)),
-    }
-}
-
-/// What such a call changes where it is allowed.
-fn editing<'a>(call: Call, found: &'a Found) -> Granted<'a>
+/// What an allowed call changes that makes a name or takes one away.
+pub(crate) fn editing<'a>(call: Call, found: &'a Found) -> Granted<'a>
     ensures { is_edit call ≡ true → (table : Rules) (asker : Asking) →
         decision_by asker result ≡ Ok (change_by table call found.now) }
 {
@@ -208,18 +170,11 @@ pub(crate) fn judge_target<'a>(
 }
 
 /// A link with this target, where nothing stands.
-pub(crate) fn grant_symlink<'a>(
-    target: &'a PathText<'a>,
-    judged: &'a Result<Found, Errno>,
-) -> Result<Granted<'a>, Refusal>
+pub(crate) fn linking<'a>(target: &'a PathText<'a>, found: &'a Found) -> Granted<'a>
     ensures { (asker : Asking) →
-        decision_for asker result
-        ≡ if_named judged.now (λ object. Ok (adding (link_node target.now.bytes) object)) }
+        decision_by asker result ≡ Ok (adding (link_node target.now.bytes) found.now) }
 {
-    match judged {
-        Ok(found) => Ok(adding(NewNode::Link(target), found)),
-        Err(errno) => Err(Refusal::Failed(*errno)),
-    }
+    adding(NewNode::Link(target), found)
 }
 
 /// The permissions that an unveil is for: the promise, the lock, and the letters are judged before its
