@@ -82,7 +82,7 @@ distinct_named : (names : List (List ℕ)) → AreLetterNames names → AreLette
 distinct_named [] all = tt
 distinct_named (name ∷ names) all = all_with_name (λ a. IsTrue (is_letter a)) name (distinct_names names) all.0 (distinct_named names all.1)
 
-letters_all : (names : List (List ℕ)) → AreLetterNames names → IsTrue (list_all is_letter names)
+pub letters_all : (names : List (List ℕ)) → AreLetterNames names → IsTrue (list_all is_letter names)
 letters_all [] all = refl
 letters_all (name ∷ names) all = and_from (is_letter name) (list_all is_letter names) all.0 (letters_all names all.1)
 

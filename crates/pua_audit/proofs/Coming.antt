@@ -1,14 +1,15 @@
 -- What a call of the walk leaves of the pairs that are still to come, and of the path of its word.
 use Rattle.pua_audit.proofs.Common.{ℕ, suc, ◌+◌, ◌*◌, ◌<◌, ◌≤◌, ◌≡◌, List, [], ◌∷◌, ◌++◌, refl, ap, arith, sym, ◌∙◌, subst, length, get_or}
-use Rattle.pua_audit.proofs.Common.{take, min, zero, vec_capacity, mul-le, AllByRecursion, Word, longest, word_of, IsSound, Terms, Call}
-use Rattle.pua_audit.proofs.Common.{pairs_at, IsPair, Steps}
+use Rattle.pua_audit.proofs.Common.{take, min, zero, vec_capacity, mul-le, AllByRecursion, Word, word_of, Call}
+use Rattle.pua_audit.proofs.Common.{pairs_at, IsPair, Steps, Result, Ok, Err}
+use Rattle.std.specs.Result.{IsOk, OnErr}
 use Rattle.std.proofs.lemmas.List.{take_more, length-take}
 use Rattle.pua_audit.specs.WordPaths.{IsPathAlong, IsPathOf}
 use Rattle.pua_audit.specs.declared.path.WordPath.{WordPath}
-use Rattle.pua_audit.proofs.Moves.{word_of-push}
+use Rattle.pua_audit.proofs.Moves.{all_at_index, word_of-push}
 use Rattle.pua_audit.proofs.Spelled.{IsSpelled, room_for}
 use Rattle.pua_audit.proofs.WordPaths.{front_stays, take_whole}
-use Rattle.pua_audit.specs.Coming.{AreReady, IsLine, call_at, walk_word}
+use Rattle.pua_audit.specs.Coming.{AreReady, IsLine, call_at}
 use Rattle.pua_audit.specs.declared.pairs.Pairs.{Pairs}
 use Rattle.pua_steps.specs.Graph as graph
 use Rattle.pua_steps.specs.Ready as steps
@@ -60,16 +61,28 @@ along_push letters word p q a is low letter add more =
       path = subst (λ (w : Word). IsPathOf w q) (sym same) (add (word_of letters (take k word)) is.path);
     }
 
--- there is room for it
-pub along_room : (a : Terms) (word : List ℕ) (p : WordPath) (i : ℕ) → IsPathAlong a.letters.items word p →
-    AllByRecursion (λ i. i < length a.letters.items) word → length p.starts.items < length word → length word ≤ a.limit
-    → i < length a.letters.items → a.limit * suc (longest a.letters.items) ≤ vec_capacity p.bytes →
-    length p.bytes.items + suc (length (get_or a.letters.items i [])) ≤ vec_capacity p.bytes
-along_room a word p i is known low within here room =
-    let k : ℕ = length p.starts.items in
-    let front : IsSpelled a (take k word) p.bytes.items =
-    record { known = all_taken (λ i. i < length a.letters.items) k word known; path = is.path.bytes } in
-    room_for a (take k word) p.bytes.items i (vec_capacity p.bytes) front here (omega (arith, length-take k word, low, within)) room
+-- the places of a word are of the alphabet
+pub at_place : (letters : List (List ℕ)) (word seen : List ℕ) (k : ℕ) → AllByRecursion (λ i. i < length letters) word → seen ≡ word
+    → k < length word → get_or seen k 0 < length letters
+at_place letters word seen k known is low =
+    subst (λ (v : List ℕ). get_or v k 0 < length letters) (sym is) (all_at_index (λ i. i < length letters) word 0 known k low)
+
+-- what has no reason to fail is done
+pub unfailed : {T E P : Type 0} (r : Result T E) → OnErr r P → (P → ⊥) → IsOk r
+unfailed (Ok x) full none = refl
+unfailed (Err y) full none = absurd (none full)
+
+-- there is room for one letter more
+pub along_room : (a : Pairs) → AreReady a → (i : ℕ) → AllByRecursion (λ i. i < length a.terms.letters) a.walk.word.items
+    → length a.path.starts.items < length a.walk.word.items → i < length a.terms.letters
+    → length a.path.bytes.items + suc (length (get_or a.terms.letters i [])) ≤ vec_capacity a.path.bytes
+along_room a ready i known low here =
+    let k : ℕ = length a.path.starts.items in
+    let word : List ℕ = a.walk.word.items in
+    let front : IsSpelled a.terms (take k word) a.path.bytes.items =
+    record { known = all_taken (λ i. i < length a.terms.letters) k word known; path = ready.path.path.bytes } in
+    room_for a.terms (take k word) a.path.bytes.items i (vec_capacity a.path.bytes) front here
+    (omega (arith, length-take k word, low, ready.walk.within, ready.limit)) ready.bytes
 
 -- the path has the whole word
 pub along_whole : (letters : List (List ℕ)) (word : List ℕ) (p : WordPath) → IsPathAlong letters word p →
@@ -94,7 +107,7 @@ module _ (a : Pairs) (ready : AreReady a) (w : Walk) (of : IsSameWalk a.walk w) 
     (stays : IsUnchanged a.walk.word.items w.unchanged w.word.items) where
   -- the walk goes on, and the path keeps what is unchanged
   pub kept_ready : (q : WordPath) (n : ℕ) → n ≡ w.unchanged →
-      AllByRecursion (λ p. IsPair (length a.terms.letters.items) p) (pairs_of (steps.trail w)) →
+      AllByRecursion (λ p. IsPair (length a.terms.letters) p) (pairs_of (steps.trail w)) →
       ((v : Word) → IsPathOf v a.path → IsPathOf (take n v) q) → length q.starts.items ≡ min n (length a.path.starts.items)
       → vec_capacity q.bytes ≡ vec_capacity a.path.bytes → vec_capacity q.starts ≡ vec_capacity a.path.starts →
       AreReady (record { terms = a.terms; walk = w; live = a.live; path = q })
@@ -104,63 +117,34 @@ module _ (a : Pairs) (ready : AreReady a) (w : Walk) (of : IsSameWalk a.walk w) 
     limit = of.limit ∙ ready.limit;
     letters = ap (λ (t : Steps). t.letters) of.steps ∙ ready.letters;
     pairs = pairs;
-    path = along_kept a.terms.letters.items a.walk.word.items w.word.items n a.path q ready.path
+    path = along_kept a.terms.letters a.walk.word.items w.word.items n a.path q ready.path
         (subst (λ m. IsUnchanged a.walk.word.items m w.word.items) (sym at) stays) keep few;
     bytes = omega (arith, ready.bytes, bytes);
     starts = omega (arith, ready.starts, starts);
   }
 
-  pub pairs_none : pairs_of (steps.trail w) ≡ [] → AllByRecursion (λ p. IsPair (length a.terms.letters.items) p) (pairs_of (steps.trail w))
-  pairs_none none = subst (λ (ps : List graph.Pair). AllByRecursion (λ p. IsPair (length a.terms.letters.items) p) ps) (sym none) tt
+  pub pairs_none : pairs_of (steps.trail w) ≡ [] → AllByRecursion (λ p. IsPair (length a.terms.letters) p) (pairs_of (steps.trail w))
+  pairs_none none = subst (λ (ps : List graph.Pair). AllByRecursion (λ p. IsPair (length a.terms.letters) p) ps) (sym none) tt
 
   module _ (call : ℕ) (line : pairs_of (steps.trail a.walk) ≡ (w.word.items, call) ∷ pairs_of (steps.trail w)) where
-    pub pairs_more : IsPair (length a.terms.letters.items) (w.word.items, call) ×
-        AllByRecursion (λ p. IsPair (length a.terms.letters.items) p) (pairs_of (steps.trail w))
-    pairs_more = subst (λ (ps : List graph.Pair). AllByRecursion (λ p. IsPair (length a.terms.letters.items) p) ps) line ready.pairs
+    pub pairs_more : IsPair (length a.terms.letters) (w.word.items, call) ×
+        AllByRecursion (λ p. IsPair (length a.terms.letters) p) (pairs_of (steps.trail w))
+    pairs_more = subst (λ (ps : List graph.Pair). AllByRecursion (λ p. IsPair (length a.terms.letters) p) ps) line ready.pairs
 
-    -- then the path has the whole word
-    module _ (b : Pairs) (terms : b.terms ≡ a.terms) (same : b.walk ≡ w) (path : IsPathOf (walk_word b) b.path)
-        (whole : length b.path.starts.items ≡ length b.walk.word.items)
-        (bytes : a.terms.limit * suc (longest a.terms.letters.items) ≤ vec_capacity b.path.bytes)
-        (starts : a.terms.limit ≤ vec_capacity b.path.starts) where
-      pub spelled_ready : AreReady b
-      spelled_ready = record {
-        sound = subst IsSound (sym terms) ready.sound;
-        walk = subst steps.IsReady (sym same) walk;
-        limit = ap (λ (v : Walk). v.limit) same ∙ of.limit ∙ ready.limit ∙ sym (ap (λ (t : Terms). t.limit) terms);
-        letters = ap (λ (v : Walk). v.tables.steps.letters) same ∙ ap (λ (t : Steps). t.letters) of.steps ∙ ready.letters ∙
-            sym (ap (λ (t : Terms). length t.letters.items) terms);
-        pairs = subst (λ (t : Terms). AllByRecursion (λ p. IsPair (length t.letters.items) p) (pairs_of (steps.trail b.walk))) (sym terms)
-            (subst (λ (v : Walk). AllByRecursion (λ p. IsPair (length a.terms.letters.items) p) (pairs_of (steps.trail v))) (sym same)
-            pairs_more.1);
-        path = record {
-          few = omega (arith, whole);
-          path = subst (λ (v : List ℕ). IsPathOf (word_of b.terms.letters.items v) b.path)
-              (sym (take_whole (length b.path.starts.items) b.walk.word.items (omega (arith, whole)))) path;
-        };
-        bytes = subst (λ (t : Terms). t.limit * suc (longest t.letters.items) ≤ vec_capacity b.path.bytes) (sym terms) bytes;
-        starts = subst (λ (t : Terms). t.limit ≤ vec_capacity b.path.starts) (sym terms) starts;
-      }
-
-      pub is_line : (named : Call) → named ≡ call_at call → IsLine a named b
-      is_line named is = record {
-        next = ap (pairs_at a.terms.letters.items) line
-            ∙ sym (λ i. (
-              word_of (terms i).letters.items (same i).word.items,
-              is i,
-            ) ∷ pairs_at (terms i).letters.items (pairs_of (steps.trail (same i))));
-        path = path;
-        within = omega (
-          arith,
-          ap (λ (v : Walk). length v.word.items) same,
-          walk.within,
-          of.limit,
-          ready.limit,
-          ap (λ (t : Terms). t.limit) terms,
-        );
-        known = subst (λ (t : Terms). AllByRecursion (λ i. i < length t.letters.items) b.walk.word.items) (sym terms)
-            (subst (λ (v : Walk). AllByRecursion (λ i. i < length a.terms.letters.items) v.word.items) (sym same) pairs_more.0.word);
-      }
+    -- once the path has the whole word
+    pub is_line : (b : Pairs) → b.terms ≡ a.terms → b.walk ≡ w → AreReady b →
+        AllByRecursion (λ i. i < length b.terms.letters) b.walk.word.items
+        → length b.walk.word.items ≤ length b.path.starts.items → (named : Call) → named ≡ call_at call → IsLine a named b
+    is_line b terms same now known all named is = record {
+      next = ap (pairs_at a.terms.letters) line
+          ∙ sym (λ i. (
+            word_of (terms i).letters (same i).word.items,
+            is i,
+          ) ∷ pairs_at (terms i).letters (pairs_of (steps.trail (same i))));
+      path = along_whole b.terms.letters b.walk.word.items b.path now.path all;
+      within = omega (arith, now.walk.within, now.limit);
+      known = known;
+    }
 
 -- letters that are read for a call, as contracts see them
 pub read_within : (new old limit letters : ℕ) → new ≤ old + 2 * (limit * letters) → new ≤ old + 2 * (suc limit * suc letters)

@@ -55,10 +55,10 @@ module _ (w : Judge) (letters : List (List ℕ)) (dir missing : ℕ) where
 pub letters_bare : (a : Terms) (dir missing : ℕ) (dots : List ℕ) (spots : List LetterSpot) (ns : List ℕ) → IsSound a →
     IsTrue (is_dir a.seen.tree dir) →
     ((call : Call) → has missing call ≡ allowed_within a.seen.tree a.table (plain_history a.process) dir IsMissing call)
-    → AreLetterSpots a.seen.tree (plain_history a.process) a.letters.items dots spots → AreLettersIn dir dots spots ns
-    → (i : ℕ) → i < length a.letters.items → IsApart i ns → IsLetter (judge_in a) dir (get_or a.letters.items i []) missing missing 0 None
+    → AreLetterSpots a.seen.tree (plain_history a.process) a.letters dots spots → AreLettersIn dir dots spots ns
+    → (i : ℕ) → i < length a.letters → IsApart i ns → IsLetter (judge_in a) dir (get_or a.letters i []) missing missing 0 None
 letters_bare a dir missing dots spots ns sound living told are among i low apart =
-    bare_told a.seen.tree a.table a.base (plain_history a.process) dir (get_or a.letters.items i []) sound.tree living missing told
+    bare_told a.seen.tree a.table a.base (plain_history a.process) dir (get_or a.letters i []) sound.tree living missing told
     (record {
       name = are.named i low (among.dotted i apart);
       none = are.none dir i low (among.spotted i apart);

@@ -7,7 +7,7 @@ use Rattle.pua_audit.specs.Judge.{is_open}
 use Rattle.pua_audit.specs.Starting.{AreSound}
 use Rattle.pua_audit.proofs.Audited.{reaches_along, closed_reaches}
 
-module _ (a : Terms) (sound : IsSound a) (letters : AreSound a.limit a.letters.items) where
+module _ (a : Terms) (sound : IsSound a) (letters : AreSound a.limit a.letters) where
   pub audited : IsAudited (scope_in a)
   audited = record { tree = sound.tree; letters = letters.known; short = letters.short }
 
@@ -20,5 +20,5 @@ module _ (a : Terms) (sound : IsSound a) (letters : AreSound a.limit a.letters.i
   lives opened = (and_parts (not (is_ended (plain_history a.process))) (is_dir a.seen.tree (base_dir a.base (plain_history a.process)))
       opened).1
 
-  pub all_along : is_open (scope_in a) ≡ true → reach_along (judge_in a) a.letters.items a.limit ≡ reach (scope_in a)
+  pub all_along : is_open (scope_in a) ≡ true → reach_along (judge_in a) a.letters a.limit ≡ reach (scope_in a)
   all_along opened = sym (reaches_along (scope_in a) audited (lives opened))

@@ -34,20 +34,20 @@ pairs_resumed None ps = ps
 pairs_resumed (Some r) ps = order.pairs_after (r.word.items, bit_of r.call) ps
 
 abbrev pub walk_word : Pairs → Word
-walk_word a = word_of a.terms.letters.items a.walk.word.items
+walk_word a = word_of a.terms.letters a.walk.word.items
 
 abbrev pub to_come : Pairs → List Pair
-to_come a = pairs_at a.terms.letters.items (pairs_of (steps.trail a.walk))
+to_come a = pairs_at a.terms.letters (pairs_of (steps.trail a.walk))
 
 -- the walk is one over a table of these letters, with room for the path of each word
 pub record AreReady (a : Pairs) : Type 0 where
   pub sound : IsSound a.terms
   pub walk : steps.IsReady a.walk
   pub limit : a.walk.limit ≡ a.terms.limit
-  pub letters : a.walk.tables.steps.letters ≡ length a.terms.letters.items
-  pub pairs : AllByRecursion (λ p. IsPair (length a.terms.letters.items) p) (pairs_of (steps.trail a.walk))
-  pub path : IsPathAlong a.terms.letters.items a.walk.word.items a.path
-  pub bytes : a.terms.limit * suc (longest a.terms.letters.items) ≤ vec_capacity a.path.bytes
+  pub letters : a.walk.tables.steps.letters ≡ length a.terms.letters
+  pub pairs : AllByRecursion (λ p. IsPair (length a.terms.letters) p) (pairs_of (steps.trail a.walk))
+  pub path : IsPathAlong a.terms.letters a.walk.word.items a.path
+  pub bytes : a.terms.limit * suc (longest a.terms.letters) ≤ vec_capacity a.path.bytes
   pub starts : a.terms.limit ≤ vec_capacity a.path.starts
 
 -- a line is the first pair that is still to come, by the path of its word
@@ -55,7 +55,7 @@ pub record IsLine (old : Pairs) (call : Call) (new : Pairs) : Type 0 where
   pub next : to_come old ≡ (walk_word new, call) ∷ to_come new
   pub path : IsPathOf (walk_word new) new.path
   pub within : length new.walk.word.items ≤ new.terms.limit
-  pub known : AllByRecursion (λ i. i < length new.terms.letters.items) new.walk.word.items
+  pub known : AllByRecursion (λ i. i < length new.terms.letters) new.walk.word.items
 
 abbrev pub IsNextCall : Pairs → Option Call → Pairs → Type 0
 IsNextCall old result new = MatchOption result ((to_come old ≡ []) × (to_come new ≡ [])) (λ call. IsLine old call new)

@@ -21,7 +21,7 @@ scope_in a = record {
   table = a.table;
   history = plain_history a.process;
   base = a.base;
-  alphabet = a.letters.items;
+  alphabet = a.letters;
   limit = a.limit;
 }
 
@@ -33,7 +33,7 @@ word_of letters places = map (λ i. get_or letters i []) places
 pub record IsSound (a : Terms) : Type 0 where
   pub tree : WellFormed a.seen.tree
   pub stands : StandsFor a.process (plain_history a.process)
-  pub short : a.limit * suc (longest a.letters.items) ≤ most_path
+  pub short : a.limit * suc (longest a.letters) ≤ most_path
 
 -- the path that is lent: the base itself, or the letters, and before the first a slash only from the root
 abbrev pub lent_path : Base → List ℕ → List ℕ

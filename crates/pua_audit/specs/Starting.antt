@@ -52,12 +52,12 @@ begun_in s after = resume_in s after >>= λ pair. Ok (record { scope = s; after 
 abbrev pub beginning_with : Tree → CallTable → History → Base → ℕ → Checked → Beginning
 beginning_with t table h base limit b =
     record {
-      scope = scope_with t table h base limit b.letters.items;
-      after = option_map (pair_in b.letters.items) b.after;
+      scope = scope_with t table h base limit b.letters;
+      after = option_map (pair_in b.letters) b.after;
     }
 
 -- its letters are sound, and its word is one of them
 pub record IsChecked (t : Tree) (limit : ℕ) (b : Checked) : Type 0 where
   pub tree : WellFormed t
-  pub sound : AreSound limit b.letters.items
-  pub after : IfSome b.after (λ r. AreLetters b.letters.items limit r.word.items)
+  pub sound : AreSound limit b.letters
+  pub after : IfSome b.after (λ r. AreLetters b.letters limit r.word.items)

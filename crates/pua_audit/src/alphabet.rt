@@ -1,35 +1,43 @@
 //! The alphabet of an audit: its letters in the order of their bytes.
 
-ghost use Rattle.std.specs.Prelude.{◌≡◌, ◌≤◌, IfOk, map};
+use crate::component::Component;
+use pua_tree::{LentRow, Name, OutOfMemory};
+use std::alloc::{AllocError, Global};
+use std::collections::BTreeSet;
+use std::marker::Model;
+
+/// The letters of an audit, each a name or `..`, in the order of their bytes. Contracts see the bytes
+/// of each.
+#[derive(Drop)]
+pub(crate) struct Alphabet {
+    letters: Vec<Component>,
+}
+
+impl Model for Alphabet {
+    ghost use Rattle.std.specs.Prelude.{ℕ, List, IsTrue};
+    ghost use Rattle.std.specs.List.{AllByRecursion};
+    ghost use Rattle.pua_tree.specs.Tree.{name_cmp};
+    ghost use Rattle.pua_audit.specs.Judge.{is_letter};
+    ghost use Rattle.pua_audit.specs.Laws.{Rises};
+
+    ghost Value = { List (List ℕ) };
+
+    ghost view = { λ a. a.letters.items };
+
+    ghost invariant = { λ a. Rises name_cmp a.letters.items ×
+        AllByRecursion (λ letter. IsTrue (is_letter letter)) a.letters.items };
+}
+
+ghost use Rattle.std.specs.Prelude.{◌≡◌, ◌≤◌, IfOk, IsTrue, length, map};
+ghost use Rattle.std.specs.List.{AllByRecursion, list_all};
 ghost use Rattle.pua_tree.specs.LentRows.{lent_entry};
 ghost use Rattle.pua_tree.specs.Limits.{most_name};
 ghost use Rattle.pua_tree.specs.Tree.{Tree, name_cmp, with_name, distinct_names};
 ghost use Rattle.pua_audit.specs.Reach.{alphabet_of};
 ghost use Rattle.pua_audit.specs.Begin.{longest};
+ghost use Rattle.pua_audit.specs.Judge.{is_letter};
 ghost use Rattle.pua_audit.specs.Laws.{Rises};
 ghost use Rattle.pua_audit.specs.Alphabets.{with_names, IsPlaced};
-
-use crate::component::Component;
-use pua_tree::{LentRow, Name, OutOfMemory};
-use std::alloc::{AllocError, Global};
-use std::collections::BTreeSet;
-
-/// The names in a tree's rows, `..` and the candidates: distinct, in the order of their bytes. The
-/// only error is that a growth was refused.
-pub(crate) fn alphabet(
-    alloc: Global,
-    rows: &[LentRow<'_>],
-    candidates: &[Name],
-) -> Result<Vec<Component>, OutOfMemory>
-    ensures { IfOk result (λ letters. (t : Tree) → map lent_entry rows.now ≡ t.rows →
-        letters.items ≡ alphabet_of t candidates.now) }
-{
-    let names = row_names(alloc, rows)?;
-    let mut letters = named(alloc, names.as_slice())?;
-    add_names(alloc, &mut letters, candidates)?;
-    add_letter(&mut letters, Component::dots(alloc)?)?;
-    Ok(letters)
-}
 
 /// The names of rows: each once, in the order of their bytes.
 fn row_names<'t>(alloc: Global, rows: &[LentRow<'t>]) -> Result<Vec<&'t Name>, AllocError>
@@ -53,7 +61,9 @@ fn name_set<'t>(alloc: Global, rows: &[LentRow<'t>]) -> Result<BTreeSet<&'t Name
 
 /// Names as letters.
 fn named(alloc: Global, names: &[&Name]) -> Result<Vec<Component>, OutOfMemory>
-    ensures { IfOk result (λ letters. letters.items ≡ map (λ name. name.now) names.now) }
+    ensures names { IfOk result (λ letters. letters.items ≡ map (λ name. name.now) names.now) }
+    ensures known { IfOk result (λ letters.
+        AllByRecursion (λ letter. IsTrue (is_letter letter)) letters.items) }
 {
     let mut letters = Vec::with_capacity(alloc, names.len())?;
     for name in names {
@@ -62,35 +72,76 @@ fn named(alloc: Global, names: &[&Name]) -> Result<Vec<Component>, OutOfMemory>
     Ok(letters)
 }
 
-/// Puts each name at its place among letters, the last one first.
-fn add_names(alloc: Global, letters: &mut Vec<Component>, names: &[Name]) -> Result<(), OutOfMemory>
-    requires { Rises name_cmp letters.old.items }
-    ensures { IfOk result (λ _. letters.new.items ≡ with_names names.now letters.old.items) }
-{
-    for name in names.iter().rev() {
-        add_letter(letters, Component::named(alloc, name)?)?;
+impl Alphabet {
+    /// The names in a tree's rows, `..` and the candidates: distinct, in the order of their bytes. The
+    /// only error is that a growth was refused.
+    pub(crate) fn of(
+        alloc: Global,
+        rows: &[LentRow<'_>],
+        candidates: &[Name],
+    ) -> Result<Alphabet, OutOfMemory>
+        ensures { IfOk result (λ letters. (t : Tree) → map lent_entry rows.now ≡ t.rows →
+            letters ≡ alphabet_of t candidates.now) }
+    {
+        let names = row_names(alloc, rows)?;
+        let letters = named(alloc, names.as_slice())?;
+        let mut alphabet = Alphabet { letters };
+        alphabet.add_names(alloc, candidates)?;
+        alphabet.add(Component::dots(alloc)?)?;
+        Ok(alphabet)
     }
-    Ok(())
-}
 
-/// Puts a letter at its place among letters, unless it is there.
-fn add_letter(letters: &mut Vec<Component>, letter: Component) -> Result<(), OutOfMemory>
-    requires { Rises name_cmp letters.old.items }
-    ensures { IfOk result (λ _. letters.new.items ≡ with_name letter letters.old.items) }
-{
-    let Err(place) = place_of(letters.as_slice(), letter.bytes()) else {
-        return Ok(());
-    };
-    letters.insert(place, letter)?;
-    Ok(())
-}
+    /// Puts each name at its place, the last one first.
+    fn add_names(&mut self, alloc: Global, names: &[Name]) -> Result<(), OutOfMemory>
+        ensures { IfOk result (λ _. self.new ≡ with_names names.now self.old) }
+    {
+        for name in names.iter().rev() {
+            self.add(Component::named(alloc, name)?)?;
+        }
+        Ok(())
+    }
 
-/// Where a letter of these bytes stands among letters, or else where it would stand.
-pub(crate) fn place_of(letters: &[Component], bytes: &[u8]) -> Result<usize, usize>
-    requires { Rises name_cmp letters.now }
-    ensures { IsPlaced letters.now bytes.now result }
-{
-    letters.binary_search_by(|letter| letter.bytes().cmp(bytes))
+    /// Puts a letter at its place, unless it is there.
+    fn add(&mut self, letter: Component) -> Result<(), OutOfMemory>
+        ensures { IfOk result (λ _. self.new ≡ with_name letter self.old) }
+    {
+        let Err(place) = self.place_of(letter.bytes()) else {
+            return Ok(());
+        };
+        self.letters.insert(place, letter)?;
+        Ok(())
+    }
+
+    /// Where a letter of these bytes stands, or else where it would stand.
+    pub(crate) fn place_of(&self, bytes: &[u8]) -> Result<usize, usize>
+        ensures { IsPlaced self.now bytes.now result }
+    {
+        let letters = self.as_slice();
+        letters.binary_search_by(|letter| letter.bytes().cmp(bytes))
+    }
+
+    /// The letters, which rise by their bytes.
+    pub(crate) fn as_slice(&self) -> &[Component]
+        ensures letters { result.now ≡ self.now }
+        ensures rises { Rises name_cmp self.now }
+    {
+        self.letters.as_slice()
+    }
+
+    /// Does nothing: its contract says that each letter is a name or `..`.
+    pub(crate) fn known(&self)
+        ensures { IsTrue (list_all is_letter self.now) }
+    {
+        // The prover knows the invariant of a value that is read.
+        let _ = &self.letters;
+    }
+
+    /// How many letters there are.
+    pub(crate) fn len(&self) -> usize
+        ensures { result ≡ length self.now }
+    {
+        self.letters.len()
+    }
 }
 
 /// The bytes of the longest letter.

@@ -43,7 +43,7 @@ impl Model for Audit {
     ghost view = { λ a. record {
       tree = a.pairs.terms.seen.tree;
       base = a.pairs.terms.base;
-      alphabet = a.pairs.terms.letters.items;
+      alphabet = a.pairs.terms.letters;
       limit = a.pairs.terms.limit;
       live = a.pairs.live;
       reads = a.pairs.walk.tables.reads;

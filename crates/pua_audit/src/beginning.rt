@@ -12,10 +12,9 @@ ghost use Rattle.pua_audit.specs.declared.base.Base as bases;
 ghost use Rattle.pua_audit.specs.Starting.{AreSound, IsChecked, scope_with, begun_in};
 ghost use Rattle.pua_audit.specs.Starting.{beginning_with};
 
-use crate::alphabet::{alphabet, longest};
+use crate::alphabet::{Alphabet, longest};
 use crate::base::Base;
 use crate::candidates::read_candidates;
-use crate::component::Component;
 use crate::fault::AuditFault;
 use crate::limits::{MOST_CANDIDATES, MOST_LETTERS};
 use crate::resume_text::{Resumption, read_pair};
@@ -27,7 +26,7 @@ use std::alloc::Global;
 /// after, if there is one.
 #[derive(Drop)]
 pub(crate) struct Checked {
-    pub(crate) letters: Vec<Component>,
+    pub(crate) letters: Alphabet,
     pub(crate) after: Option<Resumption>,
 }
 
@@ -51,7 +50,7 @@ pub(crate) fn check<'t, P: Probe<'t>>(
         (table : CallTable) (h : History) →
         beginning (P.tree probe.now) table h base (map (λ s. s.now) candidates.now) limit
         (option_map (λ s. s.now) after.entry) ≡ Err fault) }
-    ensures many { IfOk result (λ b. length b.letters.items ≡ letter_count (P.tree probe.now)
+    ensures many { IfOk result (λ b. length b.letters ≡ letter_count (P.tree probe.now)
         (map (λ s. s.now) candidates.now)) }
     ensures sound { IfOk result (λ b. IsChecked (P.tree probe.now) limit b) }
     ensures none { after.entry ≡ None → IfOk result (λ b. b.after ≡ None) }
@@ -59,7 +58,7 @@ pub(crate) fn check<'t, P: Probe<'t>>(
     let letters = letters_within(alloc, probe, rows, candidates, limit)?;
     let after = match after {
         None => None,
-        Some(text) => Some(read_pair(alloc, base, letters.as_slice(), usize::from(limit), text)?),
+        Some(text) => Some(read_pair(alloc, base, &letters, usize::from(limit), text)?),
     };
     Ok(Checked { letters, after })
 }
@@ -71,20 +70,20 @@ fn letters_within<'t, P: Probe<'t>>(
     rows: &[LentRow<'_>],
     candidates: &[&[u8]],
     limit: u8,
-) -> Result<Vec<Component>, AuditFault>
+) -> Result<Alphabet, AuditFault>
     requires rows { map lent_entry rows.now ≡ (P.tree probe.now).rows }
     ensures begun { IfOk result (λ letters. (table : CallTable) (h : History) (base : bases.Base)
         (after : Option (List ℕ)) →
         beginning (P.tree probe.now) table h base (map (λ s. s.now) candidates.now) limit after
-        ≡ begun_in (scope_with (P.tree probe.now) table h base limit letters.items) after) }
+        ≡ begun_in (scope_with (P.tree probe.now) table h base limit letters) after) }
     ensures refused { IfErr result (λ fault. fault ≢ AuditFault.OutOfMemory →
         (table : CallTable) (h : History) (base : bases.Base) (after : Option (List ℕ)) →
         beginning (P.tree probe.now) table h base (map (λ s. s.now) candidates.now) limit after
         ≡ Err fault) }
     ensures known { IfOk result (λ letters. WellFormed (P.tree probe.now)) }
-    ensures many { IfOk result (λ letters. length letters.items ≡ letter_count (P.tree probe.now)
+    ensures many { IfOk result (λ letters. length letters ≡ letter_count (P.tree probe.now)
         (map (λ s. s.now) candidates.now)) }
-    ensures sound { IfOk result (λ letters. AreSound limit letters.items) }
+    ensures sound { IfOk result (λ letters. AreSound limit letters) }
 {
     if limit > MOST_LETTERS {
         return Err(AuditFault::LimitTooLarge);
@@ -94,7 +93,7 @@ fn letters_within<'t, P: Probe<'t>>(
     }
     let names = read_candidates(alloc, candidates)?;
     probe.known();
-    let letters = alphabet(alloc, rows, names.as_slice())?;
+    let letters = Alphabet::of(alloc, rows, names.as_slice())?;
     if usize::from(limit) * (longest(letters.as_slice()) + 1) > MOST_PATH {
         return Err(AuditFault::TooLong);
     }

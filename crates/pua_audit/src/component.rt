@@ -40,7 +40,8 @@ ghost use Rattle.pua_audit.specs.Spots.{IsNamed};
 impl Component {
     /// The letter that a name is. The error is that its memory was refused.
     pub(crate) fn named(alloc: Global, name: &Name) -> Result<Component, OutOfMemory>
-        ensures { IfOk result (λ letter. letter ≡ name.now) }
+        ensures letter { IfOk result (λ letter. letter ≡ name.now) }
+        ensures known { IfOk result (λ letter. IsTrue (is_letter letter)) }
     {
         Component::new(alloc, name.bytes())
     }
@@ -54,7 +55,8 @@ impl Component {
 
     fn new(alloc: Global, bytes: &[u8]) -> Result<Component, OutOfMemory>
         requires { IsTrue (is_letter bytes.now) }
-        ensures { IfOk result (λ letter. letter ≡ bytes.now) }
+        ensures letter { IfOk result (λ letter. letter ≡ bytes.now) }
+        ensures known { IfOk result (λ letter. IsTrue (is_letter letter)) }
     {
         Ok(Component {
             bytes: Vec::from_slice(alloc, bytes)?,
@@ -66,6 +68,7 @@ impl Component {
     pub(crate) fn bytes(&self) -> &[u8]
         ensures bytes { result.now ≡ self.now }
         ensures short { length self.now ≤ most_name }
+        ensures known { IsTrue (is_letter self.now) }
     {
         &self.bytes
     }

@@ -1,17 +1,14 @@
 //! The pairs of an audit, by a walk over its table of steps.
 
-ghost use Rattle.std.specs.Prelude.{◌≡◌, ◌≤◌, ◌<◌, ◌+◌, ◌*◌, length, suc, option_map, None, IfOk};
-ghost use Rattle.std.specs.Prelude.{IfSome, vec_capacity, map};
+ghost use Rattle.std.specs.Prelude.{◌≡◌, ◌≤◌, ◌<◌, ◌+◌, ◌*◌, length, option_map, None, IfOk};
+ghost use Rattle.std.specs.Prelude.{IfSome, map};
 ghost use Rattle.pua_tree.specs.LentRows.{lent_entry};
-ghost use Rattle.std.specs.List.{AllByRecursion};
 ghost use Rattle.pua_audit.specs.Bounds.{pairs_cost};
-ghost use Rattle.pua_audit.specs.Begin.{longest};
-ghost use Rattle.pua_audit.specs.Coming.{AreReady, IsNextCall, call_at, to_come, walk_word};
+ghost use Rattle.pua_audit.specs.Coming.{AreReady, IsNextCall, call_at, to_come};
 ghost use Rattle.pua_audit.specs.Live.{live_states};
 ghost use Rattle.pua_audit.specs.Reach.{rest_after};
 ghost use Rattle.pua_audit.specs.Ready.{IsSound, scope_in};
 ghost use Rattle.pua_audit.specs.Starting.{AreLetters, AreSound, pair_in};
-ghost use Rattle.pua_audit.specs.WordPaths.{IsPathAlong, IsPathOf};
 ghost use Rattle.pua_steps.specs.Limits.{call_count, search_cost};
 
 use crate::path::WordPath;
@@ -49,19 +46,19 @@ impl Pairs {
         requires tree { P.tree probe.old ≡ terms.seen.tree }
         requires rows { map lent_entry rows.now ≡ terms.seen.tree.rows }
         requires sound { IsSound terms }
-        requires letters { AreSound terms.limit terms.letters.items }
+        requires letters { AreSound terms.limit terms.letters }
         requires word { IfSome after
-            (λ r. AreLetters terms.letters.items terms.limit r.word.items) }
+            (λ r. AreLetters terms.letters terms.limit r.word.items) }
         ensures ready { IfOk result (λ pairs. AreReady pairs) }
         ensures terms { IfOk result (λ pairs. pairs.terms ≡ terms) }
         ensures left { IfOk result (λ pairs. to_come pairs ≡ rest_after (scope_in terms)
-            (option_map (pair_in terms.letters.items) after)) }
+            (option_map (pair_in terms.letters) after)) }
         ensures live { IfOk result (λ pairs. pairs.live ≡ length (live_states (scope_in terms))) }
         ensures reads { IfOk result (λ pairs. pairs.walk.tables.reads ≤ search_cost * terms.limit) }
         ensures unread { after ≡ None → IfOk result (λ pairs. pairs.walk.tables.reads ≡ 0) }
         ensures tree { P.tree probe.new ≡ P.tree probe.old }
         ensures cost { P.count probe.new ≤ P.count probe.old + pairs_cost terms.seen.tree
-            (length terms.letters.items) }
+            (length terms.letters) }
     {
         let BegunWalk { walk, live } = terms.begun(alloc, probe, rows, after)?;
         let path = WordPath::new(alloc, terms.limit, terms.most_bytes())?;
@@ -81,38 +78,18 @@ impl Pairs {
         ensures live { self.new.live ≡ self.old.live }
         ensures next { IsNextCall self.old result self.new }
         ensures reads { self.new.walk.tables.reads ≤ self.old.walk.tables.reads
-            + 2 * (self.old.terms.limit * length self.old.terms.letters.items) }
+            + 2 * (self.old.terms.limit * length self.old.terms.letters) }
     {
         let next = self.walk.next_call();
         self.path.keep(self.walk.unchanged());
         let call = next?;
-        self.spell();
-        Some(call_at(call))
-    }
-
-    /// Puts those letters of the walk's word at the end of the path that it doesn't have yet.
-    fn spell(&mut self)
-        requires path { IsPathAlong self.old.terms.letters.items self.old.walk.word.items
-            self.old.path }
-        requires known { AllByRecursion (λ i. i < length self.old.terms.letters.items)
-            self.old.walk.word.items }
-        requires within { length self.old.walk.word.items ≤ self.old.terms.limit }
-        requires bytes { self.old.terms.limit * suc (longest self.old.terms.letters.items)
-            ≤ vec_capacity self.old.path.bytes }
-        requires starts { self.old.terms.limit ≤ vec_capacity self.old.path.starts }
-        ensures terms { self.new.terms ≡ self.old.terms }
-        ensures walk { self.new.walk ≡ self.old.walk }
-        ensures live { self.new.live ≡ self.old.live }
-        ensures path { IsPathOf (walk_word self.new) self.new.path }
-        ensures whole { length self.new.path.starts.items ≡ length self.new.walk.word.items }
-        ensures bytes { self.old.terms.limit * suc (longest self.old.terms.letters.items)
-            ≤ vec_capacity self.new.path.bytes }
-        ensures starts { self.old.terms.limit ≤ vec_capacity self.new.path.starts }
-    {
+        // The path has room for each letter of the word, so none is refused.
         while self.path.starts.len() < self.walk.word().len() {
             let letter = self.walk.word()[self.path.starts.len()];
-            self.path.add(&self.terms.letters[letter]);
+            let letters = self.terms.letters.as_slice();
+            self.path.add(&letters[letter]).unwrap();
         }
+        Some(call_at(call))
     }
 }
 

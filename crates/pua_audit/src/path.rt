@@ -1,7 +1,7 @@
 //! The path of a word in a buffer: each letter after a slash.
 
 ghost use Rattle.std.specs.Prelude.{◌≡◌, ◌≤◌, ◌<◌, ◌+◌, ◌++◌, ◌∷◌, [], suc, length, min};
-ghost use Rattle.std.specs.Prelude.{take, IfOk, vec_capacity};
+ghost use Rattle.std.specs.Prelude.{take, IfOk, OnErr, vec_capacity};
 ghost use Rattle.std.specs.List.{list_all};
 ghost use Rattle.pua_tree.specs.Spelling.{is_plain};
 ghost use Rattle.pua_audit.specs.Reach.{Word};
@@ -12,8 +12,8 @@ use crate::base::Base;
 use crate::component::Component;
 use std::alloc::{AllocError, Global};
 
-/// The path of a word: each letter after a slash. It takes no memory beyond what was reserved at its
-/// beginning.
+/// The path of a word: each letter after a slash. Within what was reserved at its beginning it takes
+/// no memory.
 #[derive(Drop)]
 pub(crate) struct WordPath {
     pub(crate) bytes: Vec<u8>,
@@ -57,20 +57,23 @@ impl WordPath {
         self.plain = self.plain.min(letters);
     }
 
-    /// Puts a letter at the end.
-    pub(crate) fn add(&mut self, letter: &Component)
-        requires bytes { length self.old.bytes.items + suc (length letter.now)
-            ≤ vec_capacity self.old.bytes }
-        requires starts { length self.old.starts.items < vec_capacity self.old.starts }
-        ensures path { (word : Word) → IsPathOf word self.old →
-            IsPathOf (word ++ letter.now ∷ []) self.new }
-        ensures more { length self.new.starts.items ≡ length self.old.starts.items + 1 }
+    /// Puts a letter at the end. The error is that a growth was refused; none is where there is room for
+    /// the letter.
+    pub(crate) fn add(&mut self, letter: &Component) -> Result<(), AllocError>
+        ensures path { IfOk result (λ _. (word : Word) → IsPathOf word self.old →
+            IsPathOf (word ++ letter.now ∷ []) self.new) }
+        ensures more { IfOk result (λ _.
+            length self.new.starts.items ≡ length self.old.starts.items + 1) }
+        ensures full { OnErr result (length self.old.starts.items < vec_capacity self.old.starts →
+            vec_capacity self.old.bytes < length self.old.bytes.items + suc (length letter.now)) }
         ensures bytes { vec_capacity self.old.bytes ≤ vec_capacity self.new.bytes }
         ensures starts { vec_capacity self.old.starts ≤ vec_capacity self.new.starts }
     {
         self.plain = self.plain_with(letter);
-        self.starts.push(self.bytes.len()).unwrap();
-        add_letter(&mut self.bytes, letter);
+        self.starts.push(self.bytes.len())?;
+        self.bytes.push(b'/')?;
+        self.bytes.extend_from_slice(letter.bytes())?;
+        Ok(())
     }
 
     /// How many letters at the front have only bytes that stand for themselves, with one letter more at
@@ -92,16 +95,6 @@ impl WordPath {
     {
         self.plain == self.starts.len()
     }
-}
-
-/// Puts a slash and a letter at the end of a path.
-pub(crate) fn add_letter(path: &mut Vec<u8>, letter: &Component)
-    requires { length path.old.items + suc (length letter.now) ≤ vec_capacity path.old }
-    ensures path { path.new.items ≡ path.old.items ++ 47 ∷ letter.now }
-    ensures room { vec_capacity path.old ≤ vec_capacity path.new }
-{
-    path.push(b'/').unwrap();
-    path.extend_from_slice(letter.bytes()).unwrap();
 }
 
 /// The path as it is lent: the base itself for no letter, and from the working directory no slash

@@ -1,21 +1,17 @@
 //! The text of the pair that an audit resumes after: `CALL:PATH`.
 
-ghost use Rattle.std.specs.Prelude.{◌≡◌, ◌≢◌, ◌≤◌, ◌<◌, ◌==◌, [], Ok, Err, Some, None, IsTrue};
+ghost use Rattle.std.specs.Prelude.{◌≡◌, ◌≢◌, ◌≤◌, ◌<◌, ◌==◌, [], Ok, Err, Some, None};
 ghost use Rattle.std.specs.Prelude.{IfOk, IfSome, MatchResult, length, get_or, find, position};
 ghost use Rattle.std.specs.Prelude.{option_map, vec_capacity};
-ghost use Rattle.std.specs.List.{list_all, before_first, after_first};
+ghost use Rattle.std.specs.List.{before_first, after_first};
 ghost use Rattle.pua_tree.specs.Names.{same_bytes};
 ghost use Rattle.pua_tree.specs.Spelling.{spelling};
-ghost use Rattle.pua_tree.specs.Tree.{name_cmp};
 ghost use Rattle.pua_audit.specs.Begin.{pair_named, word_of_path, word_of_pieces_between};
-ghost use Rattle.pua_audit.specs.Judge.{is_letter};
-ghost use Rattle.pua_audit.specs.Laws.{Rises};
 ghost use Rattle.pua_audit.specs.Starting.{AreLetters, IsRead, pair_in};
 ghost use Rattle.pua_audit.specs.declared.base.Base.TheVariants.{Root};
 
-use crate::alphabet::place_of;
+use crate::alphabet::Alphabet;
 use crate::base::Base;
-use crate::component::Component;
 use crate::fault::AuditFault;
 use pua_calls::Call;
 use pua_tree::Name;
@@ -35,12 +31,10 @@ pub(crate) struct Resumption {
 pub(crate) fn read_pair(
     alloc: Global,
     base: Base,
-    letters: &[Component],
+    letters: &Alphabet,
     limit: usize,
     text: &[u8],
 ) -> Result<Resumption, AuditFault>
-    requires rises { Rises name_cmp letters.now }
-    requires letters { IsTrue (list_all is_letter letters.now) }
     ensures pair { MatchResult result
         (λ r. pair_named base letters.now limit text.now ≡ Some (pair_in letters.now r))
         (λ fault. fault ≢ AuditFault.OutOfMemory → (fault ≡ AuditFault.BadResume) ×
@@ -81,13 +75,11 @@ fn first_colon(text: &[u8]) -> Option<usize>
 /// word within the limit.
 fn read_path(
     base: Base,
-    letters: &[Component],
+    letters: &Alphabet,
     limit: usize,
     path: &[u8],
     word: &mut Vec<usize>,
 ) -> bool
-    requires rises { Rises name_cmp letters.now }
-    requires letters { IsTrue (list_all is_letter letters.now) }
     requires empty { word.old.items ≡ [] }
     requires room { limit ≤ vec_capacity word.old }
     ensures { IsRead letters.now limit
@@ -105,9 +97,7 @@ fn read_path(
 }
 
 /// As `read_path` at the root: a slash alone, or one before each letter.
-fn read_absolute(letters: &[Component], limit: usize, path: &[u8], word: &mut Vec<usize>) -> bool
-    requires rises { Rises name_cmp letters.now }
-    requires letters { IsTrue (list_all is_letter letters.now) }
+fn read_absolute(letters: &Alphabet, limit: usize, path: &[u8], word: &mut Vec<usize>) -> bool
     requires empty { word.old.items ≡ [] }
     requires room { limit ≤ vec_capacity word.old }
     ensures { IsRead letters.now limit
@@ -124,9 +114,7 @@ fn read_absolute(letters: &[Component], limit: usize, path: &[u8], word: &mut Ve
 
 /// Puts the letters that pieces between slashes spell into an empty word, and answers whether each
 /// spells one and they are within the limit.
-fn read_pieces(letters: &[Component], limit: usize, text: &[u8], word: &mut Vec<usize>) -> bool
-    requires rises { Rises name_cmp letters.now }
-    requires letters { IsTrue (list_all is_letter letters.now) }
+fn read_pieces(letters: &Alphabet, limit: usize, text: &[u8], word: &mut Vec<usize>) -> bool
     requires empty { word.old.items ≡ [] }
     requires room { limit ≤ vec_capacity word.old }
     ensures { IsRead letters.now limit
@@ -145,18 +133,17 @@ fn read_pieces(letters: &[Component], limit: usize, text: &[u8], word: &mut Vec<
 }
 
 /// The place of the letter that a piece spells, if it spells one.
-fn spelled_letter(letters: &[Component], piece: &[u8]) -> Option<usize>
-    requires rises { Rises name_cmp letters.now }
-    requires letters { IsTrue (list_all is_letter letters.now) }
+fn spelled_letter(letters: &Alphabet, piece: &[u8]) -> Option<usize>
     ensures letter { option_map (λ i. get_or letters.now i []) result
         ≡ find (λ letter. same_bytes (spelling letter) piece.now) letters.now }
     ensures within { IfSome result (λ i. i < length letters.now) }
 {
+    letters.known();
     if piece == b"..".as_slice() {
-        return place_of(letters, piece).ok();
+        return letters.place_of(piece).ok();
     }
     let Ok(name) = Name::read(piece) else {
         return None;
     };
-    place_of(letters, name.bytes()).ok()
+    letters.place_of(name.bytes()).ok()
 }

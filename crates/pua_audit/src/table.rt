@@ -3,11 +3,10 @@
 ghost use Rattle.std.specs.Prelude.{◌≡◌, ◌<◌, ◌≤◌, ◌+◌, ◌^◌, ℕ, List, length, get_or, IfOk, IsTrue};
 ghost use Rattle.std.specs.Prelude.{map};
 ghost use Rattle.pua_tree.specs.LentRows.{lent_entry};
-ghost use Rattle.pua_tree.specs.Tree.{is_dir, name_cmp};
+ghost use Rattle.pua_tree.specs.Tree.{is_dir};
 ghost use Rattle.pua_policy.specs.Descent.{cover_in};
 ghost use Rattle.pua_audit.specs.Bounds.{table_cost};
 ghost use Rattle.pua_audit.specs.Graphs.{AreApart};
-ghost use Rattle.pua_audit.specs.Laws.{Rises};
 ghost use Rattle.pua_audit.specs.Past.{plain_history};
 ghost use Rattle.pua_audit.specs.Ready.{IsSound, judge_in};
 ghost use Rattle.pua_audit.specs.Table.{IsTableOf};
@@ -44,17 +43,16 @@ impl Terms {
         requires tree { P.tree probe.old ≡ self.now.seen.tree }
         requires rows { map lent_entry rows.now ≡ self.now.seen.tree.rows }
         requires sound { IsSound self.now }
-        requires rises { Rises name_cmp self.now.letters.items }
         requires living { IsTrue (is_dir self.now.seen.tree base) }
         requires covered { cover
             ≡ cover_in self.now.seen.tree (plain_history self.now.process) base }
         ensures table { IfOk result (λ steps. (names : List ℕ) ×
-            (IsTableOf (judge_in self.now) self.now.letters.items names steps × AreApart names ×
+            (IsTableOf (judge_in self.now) self.now.letters names steps × AreApart names ×
             (0 < length names) × (get_or names 0 0 ≡ base))) }
         ensures few { IfOk result (λ steps. length steps.rows.items ≤ 2 ^ 32) }
         ensures tree { P.tree probe.new ≡ P.tree probe.old }
         ensures cost { P.count probe.new ≤ P.count probe.old + table_cost self.now.seen.tree
-            (length self.now.letters.items) }
+            (length self.now.letters) }
     {
         let spots = self.spots(alloc, rows)?;
         let mut dirs = Directories::new(alloc);

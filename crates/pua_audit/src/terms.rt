@@ -9,9 +9,8 @@ ghost use Rattle.pua_audit.specs.Starting.{scope_with};
 ghost use Rattle.pua_audit.specs.Judge.{base_dir, base_way, is_open};
 ghost use Rattle.pua_audit.specs.Ready.{scope_in, IsSound};
 
-use crate::alphabet::longest;
+use crate::alphabet::{Alphabet, longest};
 use crate::base::Base;
-use crate::component::Component;
 use crate::content::Content;
 use pua_calls::CallTable;
 use pua_path::{Probe, Way};
@@ -28,7 +27,7 @@ pub(crate) struct Terms {
     pub(crate) table: CallTable,
     pub(crate) base: Base,
     pub(crate) limit: usize,
-    pub(crate) letters: Vec<Component>,
+    pub(crate) letters: Alphabet,
 }
 
 impl Terms {
@@ -42,13 +41,13 @@ impl Terms {
         table: &CallTable,
         base: Base,
         limit: u8,
-        letters: Vec<Component>,
+        letters: Alphabet,
     ) -> Result<Terms, OutOfMemory>
         requires stands { StandsFor process.now (plain_history process.now) }
-        requires short { limit * suc (longest letters.items) ≤ most_path }
+        requires short { limit * suc (longest letters) ≤ most_path }
         ensures sound { IfOk result (λ terms. IsSound terms) }
         ensures scope { IfOk result (λ terms. scope_in terms ≡ scope_with (P.tree probe.now)
-            table.now (plain_history process.now) base limit letters.items) }
+            table.now (plain_history process.now) base limit letters) }
         ensures limit { IfOk result (λ terms. terms.limit ≡ limit) }
         ensures letters { IfOk result (λ terms. terms.letters ≡ letters) }
     {
@@ -81,8 +80,8 @@ impl Terms {
 
     /// How many bytes the letters of a word and their slashes have at most.
     pub(crate) fn most_bytes(&self) -> usize
-        requires { self.now.limit * suc (longest self.now.letters.items) ≤ most_path }
-        ensures { result ≡ self.now.limit * suc (longest self.now.letters.items) }
+        requires { self.now.limit * suc (longest self.now.letters) ≤ most_path }
+        ensures { result ≡ self.now.limit * suc (longest self.now.letters) }
     {
         self.limit * (longest(self.letters.as_slice()) + 1)
     }

@@ -17,8 +17,10 @@ use Rattle.pua_path.specs.declared.found.Found.{Found}
 use Rattle.pua_path.specs.declared.found.Found.TheVariants.{Whole, Slot}
 use Rattle.pua_path.specs.declared.found.Way.{Way}
 use Rattle.pua_path.specs.declared.found.Way.TheVariants as ways
-use Rattle.pua_path.specs.declared.resolver.LentFound.{LentFound}
-use Rattle.pua_path.specs.declared.resolver.LentFound.TheVariants as lent
+use Rattle.pua_path.specs.declared.lent.LentFound.{LentFound}
+use Rattle.pua_path.specs.declared.lent.LentFound.TheVariants as lent
+use Rattle.pua_path.specs.declared.lent.LentWay.{LentWay}
+use Rattle.pua_path.specs.declared.lent.LentWay.TheVariants as lent_ways
 use Rattle.pua_path.specs.declared.resolver.Nameless.{Nameless}
 use Rattle.pua_path.specs.declared.resolver.Nameless.TheVariants as nameless
 use Rattle.pua_path.specs.declared.resolver.Resolving.{Resolving}
@@ -51,14 +53,25 @@ way_of nameless.Dot = ways.Dot
 way_of nameless.DotDot = ways.DotDot
 way_of nameless.Top = ways.Top
 
--- what a name names, the name being lent
-abbrev pub lent_name : LentFound → List ℕ
-lent_name (lent.Whole _ _ name) = name.bytes.now
-lent_name (lent.Slot _ name _) = name.bytes.now
+-- how a directory was named, and what a path names, the name being lent
+abbrev pub way_seen : LentWay → Way
+way_seen (lent_ways.Named parent name) = ways.Named parent name.bytes.now
+way_seen lent_ways.Dot = ways.Dot
+way_seen lent_ways.DotDot = ways.DotDot
+way_seen lent_ways.Top = ways.Top
 
 abbrev pub found_seen : LentFound → Found
-found_seen (lent.Whole dir parent name) = Whole dir (ways.Named parent name.bytes.now)
+found_seen (lent.Whole dir way) = Whole dir (way_seen way)
 found_seen (lent.Slot dir name x) = Slot dir name.bytes.now x
+
+abbrev pub founds_seen : Result LentFound Errno → Result Found Errno
+founds_seen (Ok found) = Ok (found_seen found)
+founds_seen (Err errno) = Err errno
+
+-- the same with the links that are left
+abbrev pub resolved_seen : Result (LentFound × ℕ) Errno → Resolved
+resolved_seen (Ok (found, left)) = Ok (found_seen found, left)
+resolved_seen (Err errno) = Err errno
 
 abbrev pub all_found : Result (Option LentFound) Errno → Result (Option Found) Errno
 all_found (Ok None) = Ok None

@@ -4,6 +4,7 @@
 mod errno;
 mod found;
 mod laws;
+mod lent;
 mod limits;
 mod piece;
 mod probe;
@@ -18,8 +19,9 @@ pub use laws::{
     fitting_law, going_law, limits_law, links_law, resolution_examples, resolution_law, steps_law,
     stop_law, trace_law,
 };
+pub use lent::{LentFound, LentWay};
 pub use limits::{MOST_LINKS, MOST_PATH};
 pub use probe::{Counted, Probe};
-pub use resolver::{follow, last, resolve, step, trace};
+pub use resolver::{follow, last, resolve, resolve_lent, step, trace};
 pub use text::{Ending, PathText, text_fault};
 pub use traced::{Links, PathFault, Spot, Stop, TextFault};

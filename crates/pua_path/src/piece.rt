@@ -1,7 +1,7 @@
 //! Texts that can be read, and their pieces between slashes.
 
 ghost use Rattle.std.specs.Prelude.{◌≡◌, ◌==◌, ◌<◌, ◌∷◌, false, IsTrue, length, position};
-ghost use Rattle.pua_tree.specs.Names.{components, has_byte, is_name};
+ghost use Rattle.pua_tree.specs.Names.{components, has_byte};
 ghost use Rattle.pua_path.specs.Paths.{ends_in_slash, part_of};
 ghost use Rattle.pua_path.specs.Remaining.{after_slashes, is_piece, is_readable, rest_parts};
 ghost use Rattle.pua_path.specs.Pieces.{IsCutAtSlash, are_bytes};
@@ -18,13 +18,6 @@ pub(crate) struct Readable<'a> {
 pub(crate) struct Piece<'a> {
     pub(crate) bytes: &'a [u8],
     pub(crate) ghost piece: { IsTrue (is_piece bytes.now) },
-}
-
-/// The bytes of a name, lent.
-#[derive(Clone, Copy)]
-pub(crate) struct LentName<'a> {
-    pub(crate) bytes: &'a [u8],
-    pub(crate) ghost name: { IsTrue (is_name bytes.now) },
 }
 
 /// The text from its first byte other than a slash on.

@@ -12,8 +12,8 @@ ghost use Rattle.pua_path.specs.Resolution.{resolution, resolve_parts, step, las
 ghost use Rattle.pua_path.specs.Resolution.{standing_at, start_of};
 ghost use Rattle.pua_path.specs.Limits.{most_links};
 ghost use Rattle.pua_path.specs.Paths.{is_absolute, part_of, parts_of};
-ghost use Rattle.pua_path.specs.Walks.{way_of, lent_name, found_seen, standing_seen};
-ghost use Rattle.pua_path.specs.Walks.{HasFewParts, IsSeenIn, CanGoOn, LeadsOn, TracesOn};
+ghost use Rattle.pua_path.specs.Walks.{way_of, way_seen, founds_seen, resolved_seen};
+ghost use Rattle.pua_path.specs.Walks.{standing_seen, HasFewParts, IsSeenIn, CanGoOn, LeadsOn, TracesOn};
 ghost use Rattle.pua_path.specs.Onward.{followed, is_followed_at, onward_by, onward_seen};
 ghost use Rattle.pua_path.specs.Onward.{found_alone, IsOnwardIn, IsByName};
 ghost use Rattle.pua_path.specs.Walks.{walk_end, potential_of};
@@ -24,18 +24,19 @@ ghost use Rattle.pua_path.specs.declared.errno.Errno.TheVariants.{ELOOP, ENOENT,
 ghost use Rattle.pua_path.specs.declared.found.Way.TheVariants as ways;
 ghost use Rattle.pua_path.specs.declared.resolver.Nameless.TheVariants as nameless;
 ghost use Rattle.pua_path.specs.declared.found.Part.TheVariants as parts;
-ghost use Rattle.pua_path.specs.declared.resolver.LentFound.TheVariants as lent;
+ghost use Rattle.pua_path.specs.declared.lent.LentFound.TheVariants as lent;
 ghost use Rattle.pua_path.specs.declared.resolver.Onward.TheVariants as onward;
 ghost use Rattle.pua_path.specs.declared.text.Ending.TheVariants as ending;
 
 use crate::errno::Errno;
 use crate::found::{Found, Last, Part, Way};
+use crate::lent::{LentFound, LentWay};
 use crate::limits::MOST_LINKS;
-use crate::piece::{LentName, Piece, Readable, next_piece};
+use crate::piece::{Piece, Readable, next_piece};
 use crate::probe::Probe;
 use crate::rest::{Rest, unread};
 use crate::text::PathText;
-use pua_tree::{Kind, Name, NodeId};
+use pua_tree::{Kind, LentName, NodeId};
 pub use tracing::trace;
 
 /// What a path names from a directory, by the rules of path resolution (intro(2), symlink(7)): 32
@@ -57,6 +58,26 @@ pub fn resolve<'t, P: Probe<'t>>(
     ensures named { IfOk result (StandsAsNamed (P.tree probe.old)) }
     ensures tree { P.tree probe.new ≡ P.tree probe.old }
 {
+    match resolve_lent(probe, from, text, mode) {
+        Ok(lent) => Ok(lent.found()),
+        Err(errno) => Err(errno),
+    }
+}
+
+/// The same, the name of what was found lent by the path, or by the target of a link in the tree.
+#[inline(always)]
+pub fn resolve_lent<'a, 't: 'a, P: Probe<'t>>(
+    probe: &mut P,
+    from: NodeId,
+    text: &PathText<'a>,
+    mode: Last,
+) -> Result<LentFound<'a>, Errno>
+    ensures exact { founds_seen result
+        ≡ resolution (P.tree probe.old) from text.now.ending text.now.bytes mode }
+    ensures fits { FoundsFit (P.tree probe.old) (founds_seen result) }
+    ensures named { IfOk (founds_seen result) (StandsAsNamed (P.tree probe.old)) }
+    ensures tree { P.tree probe.new ≡ P.tree probe.old }
+{
     probe.known();
     let Some(start) = start_of(probe, from, text.bytes()) else {
         return Err(Errno::ENOENT);
@@ -66,17 +87,17 @@ pub fn resolve<'t, P: Probe<'t>>(
 
 /// What the parts of a text name from a directory. It has no room for the targets of links: from
 /// the first link on `follow_on` goes on, which has it, so that a path without links pays for none.
-fn resolve_text<'t, P: Probe<'t>>(
+fn resolve_text<'a, 't: 'a, P: Probe<'t>>(
     probe: &mut P,
     start: NodeId,
     left: u8,
-    text: Readable<'_>,
+    text: Readable<'a>,
     mode: Last,
-) -> Result<Found, Errno>
+) -> Result<LentFound<'a>, Errno>
     requires dir { IsTrue (is_dir (P.tree probe.old) start) }
     requires left { left ≤ most_links }
     ensures exact { let t = P.tree probe.old in let parts = rest_parts text.entry.bytes.now in
-        result ≡ found_alone (resolve_parts left t mode start ways.Top parts) }
+        founds_seen result ≡ found_alone (resolve_parts left t mode start ways.Top parts) }
     ensures tree { P.tree probe.new ≡ P.tree probe.old }
 {
     let mut here = start;
@@ -91,13 +112,13 @@ fn resolve_text<'t, P: Probe<'t>>(
                 way = named;
             }
             Onward::Link(target) => return follow_on(probe, here, left, target, rest, mode),
-            Onward::Found(lent) => return Ok(lent.found()),
+            Onward::Found(lent) => return Ok(lent),
             Onward::Nowhere(errno) => return Err(errno),
         }
     }
-    Ok(Found::Whole {
+    Ok(LentFound::Whole {
         dir: here,
-        way: way.way(),
+        way: way.lent(),
     })
 }
 
@@ -109,15 +130,17 @@ fn follow_on<'a, 't: 'a, P: Probe<'t>>(
     target: Readable<'a>,
     text: Readable<'a>,
     mode: Last,
-) -> Result<Found, Errno>
+) -> Result<LentFound<'a>, Errno>
     requires dir { IsTrue (is_dir (P.tree probe.old) dir) }
     requires left { left ≤ most_links }
     ensures exact { let t = P.tree probe.old in let parts = rest_parts text.entry.bytes.now in
-        result ≡ found_alone (followed left t mode dir target.entry.bytes.now parts) }
+        founds_seen result ≡ found_alone (followed left t mode dir target.entry.bytes.now parts) }
     ensures tree { P.tree probe.new ≡ P.tree probe.old }
 {
-    let (found, _) = follow_counted(probe, dir, left, target, text, mode)?;
-    Ok(found)
+    match follow_counted(probe, dir, left, target, text, mode) {
+        Ok((lent, _left)) => Ok(lent),
+        Err(errno) => Err(errno),
+    }
 }
 
 /// The same, and how many links are left then.
@@ -128,11 +151,11 @@ fn follow_counted<'a, 't: 'a, P: Probe<'t>>(
     target: Readable<'a>,
     text: Readable<'a>,
     mode: Last,
-) -> Result<(Found, u8), Errno>
+) -> Result<(LentFound<'a>, u8), Errno>
     requires dir { IsTrue (is_dir (P.tree probe.old) dir) }
     requires left { left ≤ most_links }
-    ensures exact { let parts = rest_parts text.entry.bytes.now in
-        result ≡ followed left (P.tree probe.old) mode dir target.entry.bytes.now parts }
+    ensures exact { let parts = rest_parts text.entry.bytes.now in resolved_seen result
+        ≡ followed left (P.tree probe.old) mode dir target.entry.bytes.now parts }
     ensures left { IfOk result (λ found. found.1 ≤ left) }
     ensures tree { P.tree probe.new ≡ P.tree probe.old }
     ensures count { let left_parts = length (rest_parts text.entry.bytes.now) in
@@ -253,7 +276,10 @@ fn resolve_part<'t, P: Probe<'t>>(
         }
         Onward::Link(target) => {
             let nothing = Readable { bytes: &[] };
-            follow_counted(probe, dir, left, target, nothing, mode)
+            match follow_counted(probe, dir, left, target, nothing, mode) {
+                Ok((lent, left)) => Ok((lent.found(), left)),
+                Err(errno) => Err(errno),
+            }
         }
         Onward::Found(lent) => Ok((lent.found(), left)),
         Onward::Nowhere(errno) => Err(errno),
@@ -285,14 +311,6 @@ fn is_absolute(text: &[u8]) -> bool
     text.first() == Some(&b'/')
 }
 
-/// A name that was lent, copied.
-#[inline(always)]
-fn name_of(lent: LentName<'_>) -> Name
-    ensures { result ≡ lent.entry.bytes.now }
-{
-    Name::from_bytes(lent.bytes).unwrap()
-}
-
 /// What stands at a name in a directory.
 enum Standing<'t> {
     Directory(NodeId),
@@ -322,47 +340,6 @@ fn standing_at<'t, P: Probe<'t>>(probe: &mut P, dir: NodeId, name: &[u8]) -> Sta
     }
 }
 
-/// What a path names by a name: a directory and its parent, or what stands in a directory and is
-/// none, or nothing. The name is lent, and copied once.
-#[derive(Clone, Copy)]
-enum LentFound<'a> {
-    Whole {
-        dir: NodeId,
-        parent: NodeId,
-        name: LentName<'a>,
-    },
-    Slot {
-        dir: NodeId,
-        name: LentName<'a>,
-        node: Option<NodeId>,
-    },
-}
-
-impl LentFound<'_> {
-    #[inline(always)]
-    fn found(&self) -> Found
-        ensures { result ≡ found_seen self.now }
-    {
-        let name = name_of(self.name());
-        match *self {
-            LentFound::Whole { dir, parent, .. } => Found::Whole {
-                dir,
-                way: Way::Named { parent, name },
-            },
-            LentFound::Slot { dir, node, .. } => Found::Slot { dir, name, node },
-        }
-    }
-
-    #[inline(always)]
-    fn name(&self) -> LentName<'_>
-        ensures { result.bytes.now ≡ lent_name self.now }
-    {
-        match self {
-            LentFound::Whole { name, .. } | LentFound::Slot { name, .. } => *name,
-        }
-    }
-}
-
 /// How a directory was named where that was by no name: a way that ends by a name is found at once.
 #[derive(Clone, Copy)]
 enum Nameless {
@@ -379,6 +356,17 @@ impl Nameless {
             Nameless::Dot => Way::Dot,
             Nameless::DotDot => Way::DotDot,
             Nameless::Top => Way::Top,
+        }
+    }
+
+    /// The same, as a way whose name is lent.
+    fn lent<'n>(self) -> LentWay<'n>
+        ensures { way_seen result ≡ way_of self }
+    {
+        match self {
+            Nameless::Dot => LentWay::Dot,
+            Nameless::DotDot => LentWay::DotDot,
+            Nameless::Top => LentWay::Top,
         }
     }
 }
@@ -465,11 +453,8 @@ fn lead_by_name<'n, 't: 'n, P: Probe<'t>>(
             if !is_last {
                 return Onward::Directory(node, Nameless::Top);
             }
-            Onward::Found(LentFound::Whole {
-                dir: node,
-                parent: dir,
-                name,
-            })
+            let way = LentWay::Named { parent: dir, name };
+            Onward::Found(LentFound::Whole { dir: node, way })
         }
         Standing::Linked(node, target) => {
             if is_followed(mode, is_last) {
@@ -551,9 +536,9 @@ impl<'a> Resolving<'a> {
         &mut self,
         probe: &mut P,
         mode: Last,
-    ) -> Result<(Found, u8), Errno>
+    ) -> Result<(LentFound<'a>, u8), Errno>
         requires ready { CanGoOn (P.tree probe.old) self.old.here self.old.left self.old.rest }
-        ensures exact { result ≡ walk_end (P.tree probe.old) mode self.old }
+        ensures exact { resolved_seen result ≡ walk_end (P.tree probe.old) mode self.old }
         ensures left { IfOk result (λ found. found.1 ≤ self.old.left) }
         ensures tree { P.tree probe.new ≡ P.tree probe.old }
         ensures count { P.count probe.new
@@ -562,13 +547,13 @@ impl<'a> Resolving<'a> {
         while let Some(piece) = self.rest.next() {
             match self.enter_piece(probe, piece, mode) {
                 Ok(None) => {}
-                Ok(Some(lent)) => return Ok((lent.found(), self.left)),
+                Ok(Some(lent)) => return Ok((lent, self.left)),
                 Err(errno) => return Err(errno),
             }
         }
-        let way = self.way.way();
+        let way = self.way.lent();
         let dir = self.here;
-        Ok((Found::Whole { dir, way }, self.left))
+        Ok((LentFound::Whole { dir, way }, self.left))
     }
 
     /// Resolves the part that a piece is, and answers what was found, where it ends the resolution.

@@ -2,6 +2,7 @@
 
 ghost use Rattle.std.specs.Prelude.{◌≡◌, ◌+◌, ◌≤◌, length, map, IsTrue};
 ghost use Rattle.pua_tree.specs.Tree.{is_dir, climb};
+ghost use Rattle.pua_path.specs.Walks.{found_seen};
 ghost use Rattle.pua_policy.specs.Descent.{own_or};
 ghost use Rattle.pua_policy.specs.History.{History, StandsFor, perms_kept, veil_at};
 ghost use Rattle.pua_policy.specs.Reasons.{covering, covering_at, covering_on, first_veiled};
@@ -12,7 +13,7 @@ use crate::place::Place;
 use crate::process::Process;
 use crate::reason::Covering;
 use pua_calls::Perms;
-use pua_path::{Found, Probe};
+use pua_path::{Found, LentFound, Probe};
 use pua_tree::NodeId;
 
 impl Process {
@@ -28,16 +29,30 @@ impl Process {
         ensures tree { P.tree probe.new ≡ P.tree probe.old }
         ensures cost { P.count probe.new ≤ P.count probe.old + length (P.tree probe.old).nodes }
     {
+        self.cover_lent(probe, &found.lent())
+    }
+
+    /// The same, of what was found with its name lent.
+    pub fn cover_lent<'t, P: Probe<'t>>(&self, probe: &mut P, found: &LentFound<'_>) -> Cover
+        requires { FoundFits (P.tree probe.old) (found_seen found.now) }
+        ensures state { result ≡ cover_on (P.tree probe.old) self.now (found_seen found.now) }
+        ensures exact { (h : History) → StandsFor self.now h →
+            result ≡ cover (P.tree probe.old) h (found_seen found.now) }
+        ensures tree { P.tree probe.new ≡ P.tree probe.old }
+        ensures cost { P.count probe.new ≤ P.count probe.old + length (P.tree probe.old).nodes }
+    {
         if !self.is_veiled() {
             return Cover::All;
         }
         probe.known();
-        match *found {
-            Found::Whole { dir, .. } => self.cover_from(probe, dir),
-            Found::Slot { dir, name, .. } => match self.kept(&Place::Slot(dir, name)) {
-                Some(perms) => Cover::Only(perms),
-                None => self.cover_from(probe, dir),
-            },
+        match found {
+            LentFound::Whole { dir, .. } => self.cover_from(probe, *dir),
+            LentFound::Slot { dir, name, .. } => {
+                match self.kept(&Place::Slot(*dir, name.name())) {
+                    Some(perms) => Cover::Only(perms),
+                    None => self.cover_from(probe, *dir),
+                }
+            }
         }
     }
 

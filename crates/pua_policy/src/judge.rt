@@ -14,6 +14,7 @@ ghost use Rattle.pua_policy.specs.Verdict.{found_fault_on};
 ghost use Rattle.pua_policy.specs.Verdict.{cover_fault, object_fault, object_of, object_of_kind};
 ghost use Rattle.pua_policy.specs.Verdict.{Object as Judged, IsDir};
 ghost use Rattle.pua_policy.specs.Misfits.{misfit, rmdir_misfit};
+ghost use Rattle.pua_path.specs.Walks.{found_seen, way_seen};
 ghost use Rattle.pua_path.specs.declared.found.Way as way;
 
 use crate::answer::{Cover, May, Refusal, Verdict};
@@ -21,7 +22,7 @@ use crate::object::Object;
 use crate::process::Process;
 use crate::reason::Misfit;
 use pua_calls::{Call, CallTable, Calls, Perms, Promises};
-use pua_path::{Errno, Found, Probe, Way};
+use pua_path::{Errno, Found, LentFound, LentWay, Probe};
 use pua_tree::{Kind, NodeId};
 
 /// Whether a process may do what needs all of these promises. Without them the call fails with
@@ -136,7 +137,28 @@ pub fn object_verdict<'t, P: Probe<'t>>(
     ensures tree { P.tree probe.new ≡ P.tree probe.old }
     ensures cost { P.count probe.new ≤ P.count probe.old + length (P.tree probe.old).nodes + 4 }
 {
-    let cover = process.cover(probe, found);
+    object_verdict_lent(probe, process, table, call, &found.lent())
+}
+
+/// The same, of what its path names with the name lent.
+pub fn object_verdict_lent<'t, P: Probe<'t>>(
+    probe: &mut P,
+    process: &Process,
+    table: &CallTable,
+    call: Call,
+    found: &LentFound<'_>,
+) -> Result<(), Errno>
+    requires { FoundFits (P.tree probe.old) (found_seen found.now) }
+    ensures state { result_err result ≡
+        found_fault_on (P.tree probe.old) table.now process.now call (found_seen found.now) }
+    ensures exact { (h : History) → StandsFor process.now h → MatchResult result
+        (λ _. found_fault (P.tree probe.old) table.now h call (found_seen found.now) ≡ None)
+        (λ errno.
+        found_fault (P.tree probe.old) table.now h call (found_seen found.now) ≡ Some errno) }
+    ensures tree { P.tree probe.new ≡ P.tree probe.old }
+    ensures cost { P.count probe.new ≤ P.count probe.old + length (P.tree probe.old).nodes + 4 }
+{
+    let cover = process.cover_lent(probe, found);
     if let Some(errno) = cover_fault(cover, table.perms(call)) {
         return Err(errno);
     }
@@ -181,12 +203,12 @@ pub fn object<'t, P: Probe<'t>>(probe: &mut P, found: &Found) -> Object
     ensures tree { P.tree probe.new ≡ P.tree probe.old }
     ensures cost { P.count probe.new ≤ P.count probe.old + 1 }
 {
-    match *found {
-        Found::Whole { dir, way } => match rmdir_misfit(probe, dir, way) {
+    match found {
+        Found::Whole { dir, way } => match rmdir_misfit(probe, *dir, &way.lent()) {
             Some(_) => Object::Directory,
             None => Object::Removable,
         },
-        Found::Slot { node: Some(id), .. } => match probe.kind(id) {
+        Found::Slot { node: Some(id), .. } => match probe.kind(*id) {
             Some(Kind::Prog) => Object::Program,
             Some(Kind::Link) => Object::Link,
             Some(Kind::File | Kind::Dir) => Object::File,
@@ -210,13 +232,13 @@ pub fn cover_fault(cover: Cover, perms: Perms) -> Option<Errno>
 }
 
 /// The error of what is wrong with what was found.
-fn object_fault<'t, P: Probe<'t>>(probe: &mut P, call: Call, found: &Found) -> Option<Errno>
+fn object_fault<'t, P: Probe<'t>>(probe: &mut P, call: Call, found: &LentFound<'_>) -> Option<Errno>
     ensures exact { result ≡ object_fault (P.tree probe.old) call
-        (object_of (P.tree probe.old) found.now) }
+        (object_of (P.tree probe.old) (found_seen found.now)) }
     ensures tree { P.tree probe.new ≡ P.tree probe.old }
     ensures cost { P.count probe.new ≤ P.count probe.old + 1 }
 {
-    let misfit = misfit(probe, call, found)?;
+    let misfit = misfit_lent(probe, call, found)?;
     Some(misfit.errno())
 }
 
@@ -229,11 +251,21 @@ pub fn misfit<'t, P: Probe<'t>>(probe: &mut P, call: Call, found: &Found) -> Opt
     ensures tree { P.tree probe.new ≡ P.tree probe.old }
     ensures cost { P.count probe.new ≤ P.count probe.old + 1 }
 {
-    match *found {
-        Found::Whole { dir, way } if call == Call::Rmdir => rmdir_misfit(probe, dir, way),
-        Found::Whole { .. } => directory_misfit(call),
-        Found::Slot { node: Some(id), .. } => slot_misfit(call, probe.kind(id)),
-        Found::Slot { node: None, .. } => slot_misfit(call, None),
+    misfit_lent(probe, call, &found.lent())
+}
+
+/// The same, of what its path named with the name lent.
+fn misfit_lent<'t, P: Probe<'t>>(probe: &mut P, call: Call, found: &LentFound<'_>) -> Option<Misfit>
+    ensures exact { result
+        ≡ misfit (P.tree probe.old) call (object_of (P.tree probe.old) (found_seen found.now)) }
+    ensures tree { P.tree probe.new ≡ P.tree probe.old }
+    ensures cost { P.count probe.new ≤ P.count probe.old + 1 }
+{
+    match found {
+        LentFound::Whole { dir, way } if call == Call::Rmdir => rmdir_misfit(probe, *dir, way),
+        LentFound::Whole { .. } => directory_misfit(call),
+        LentFound::Slot { node: Some(id), .. } => slot_misfit(call, probe.kind(*id)),
+        LentFound::Slot { node: None, .. } => slot_misfit(call, None),
     }
 }
 
@@ -270,17 +302,17 @@ fn directory_misfit(call: Call) -> Option<Misfit>
 }
 
 /// What is wrong with removing a directory.
-fn rmdir_misfit<'t, P: Probe<'t>>(probe: &mut P, dir: NodeId, way: Way) -> Option<Misfit>
-    ensures exact { result ≡ rmdir_misfit (P.tree probe.old) dir way }
+fn rmdir_misfit<'t, P: Probe<'t>>(probe: &mut P, dir: NodeId, way: &LentWay<'_>) -> Option<Misfit>
+    ensures exact { result ≡ rmdir_misfit (P.tree probe.old) dir (way_seen way.now) }
     ensures tree { P.tree probe.new ≡ P.tree probe.old }
     ensures cost { P.count probe.new ≤ P.count probe.old + 1 }
 {
     match way {
-        Way::Dot => Some(Misfit::ByDot),
-        Way::DotDot => Some(Misfit::ByDotDot),
-        Way::Top => Some(Misfit::ByNothing),
-        Way::Named { .. } if probe.is_empty(dir) => None,
-        Way::Named { .. } => Some(Misfit::IsNotEmpty),
+        LentWay::Dot => Some(Misfit::ByDot),
+        LentWay::DotDot => Some(Misfit::ByDotDot),
+        LentWay::Top => Some(Misfit::ByNothing),
+        LentWay::Named { .. } if probe.is_empty(dir) => None,
+        LentWay::Named { .. } => Some(Misfit::IsNotEmpty),
     }
 }
 

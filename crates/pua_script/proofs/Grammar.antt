@@ -1,13 +1,13 @@
 -- A script is read exactly as the requests that its lines spell.
 use Rattle.pua_script.proofs.Common.{◌≡◌, ℕ, suc, ◌≤◌, ◌<◌, Bool, true, false, cond, List, [], ◌∷◌, length, take, refl, sym, ap, subst, ◌∙◌}
-use Rattle.pua_script.proofs.Common.{arith, lit<, IsTrue, option_map, nat_lt, list_all, lines, not-true, and_from, le-leb, is_bytes}
+use Rattle.pua_script.proofs.Common.{arith, lit<, IsTrue, option_map, nat_lt, list_all, lines, not-true, and_from, is_bytes}
 use Rattle.pua_script.proofs.Common.{is_in_bytes, ◌>>=◌, None≢Some, Errno, Call, Asked, Action, OnPath, Symlink, Rename, Link, Unveil, Fork}
 use Rattle.pua_script.proofs.Common.{request_of_fields, request_of}
 use Rattle.std.proofs.Common.{Option, Some, None, Result, Ok}
 use Rattle.std.proofs.Common.{Err, true≢false}
 use Rattle.std.specs.Prelude.{◌≢◌, codes, ok_or, not}
 use Rattle.std.specs.Result.{result_ok}
-use Rattle.std.proofs.lemmas.Bool.{not_from_false, le-ltb, ltb-false, cond-true}
+use Rattle.std.proofs.lemmas.Bool.{le-ltb, ltb-false, cond-true}
 use Rattle.std.proofs.lemmas.List.{take_all}
 use lib.Pointwise.{bytes_decides}
 use Rattle.pua_tree.specs.Names.{same_bytes}
@@ -19,7 +19,7 @@ use Rattle.pua_tree.proofs.ForCallers.{same_word, ok_or_read, step_read}
 use Rattle.pua_calls.specs.Promises.{promises_of, perms_of}
 use Rattle.pua_calls.specs.Calls.{calls, call_name, call_named}
 use Rattle.pua_calls.specs.declared.call.Call.TheVariants as call
-use Rattle.pua_script.specs.Requests.{is_symlink, has_no_nul, is_askable}
+use Rattle.pua_script.specs.Requests.{is_symlink, has_no_nul}
 use Rattle.pua_script.specs.declared.request.Given.{Given}
 use Rattle.pua_script.specs.declared.request.Given.TheVariants.{Null, Good}
 use Rattle.pua_script.specs.declared.request.Action.TheVariants.{Pledge, Lock, Exit}
@@ -392,19 +392,3 @@ action_bytes _ _ (unveil {a = a} {path = path} named no_a no_b first second) = p
 action_bytes _ _ (lock named first second) = refl
 action_bytes _ _ (fork named first low high) = refl
 action_bytes _ _ (exit named) = refl
-
--- what spells an action can be asked
-path_clean : (field text : List ℕ) → SpellsPath field text → IsTrue (has_no_nul text)
-path_clean field _ (empty e) = refl
-path_clean field text (spelled ne small clean e) = clean
-
-pub askable : (more : List (List ℕ)) (action : Action) → SpellsAction more action → IsTrue (is_askable action)
-askable _ _ (on_path {path = path} other named spells) = and_from _ _ (not_from_false _ other) (path_clean _ path spells)
-askable _ _ (symlink {target = x} {path = y} named first second) = and_from _ _ (path_clean _ x first) (path_clean _ y second)
-askable _ _ (rename {old = x} {new = y} named first second) = and_from _ _ (path_clean _ x first) (path_clean _ y second)
-askable _ _ (link {old = x} {new = y} named first second) = and_from _ _ (path_clean _ x first) (path_clean _ y second)
-askable _ _ (pledge named first second) = refl
-askable _ _ (unveil {path = path} named no_a no_b first second) = path_clean _ path first
-askable _ _ (lock named first second) = refl
-askable _ _ (fork {new = new} named first low high) = and_from _ _ (le-leb 1 new low) (le-leb new 999999 high)
-askable _ _ (exit named) = refl

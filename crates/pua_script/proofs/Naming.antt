@@ -1,7 +1,7 @@
 -- What a path of bytes names has a name.
 use Rattle.pua_script.proofs.Common.{◌≡◌, ℕ, zero, suc, List, [], ◌∷◌, ◌++◌, map, Bool, true, false, not, ◌&&◌, cond, refl, sym, ap, subst}
-use Rattle.pua_script.proofs.Common.{◌∙◌, arith, Option, Some, None, option_map, Result, Ok, Err, IsTrue, nat_lt, nat_le, ◌==◌, list_all}
-use Rattle.pua_script.proofs.Common.{list_any, false≢true, true≢false, and_parts, and_from, lt-ltb, not-true, is_target, has_byte, ◌>>=◌}
+use Rattle.pua_script.proofs.Common.{◌∙◌, arith, Option, Some, None, option_map, Result, Ok, Err, nat_lt, nat_le, ◌==◌, list_all}
+use Rattle.pua_script.proofs.Common.{false≢true, true≢false, and_parts, and_from, lt-ltb, not-true, is_target, has_byte, ◌>>=◌}
 use Rattle.pua_script.proofs.Common.{Tree, Node, is_dir, look, node_at, above, target_fits, Kind, sound_from, parts_of, is_absolute}
 use Rattle.pua_script.proofs.Common.{path_fault, text_errno, resolve_parts, resolution_of_text, most_links, Errno, ENOENT, LongText}
 use Rattle.pua_script.proofs.Common.{LongComponent, NulInText, Ending, Last, Found, Whole, Slot, is_bytes}

@@ -14,7 +14,6 @@ use Rattle.pua_path.specs.declared.errno.Errno.TheVariants.{ENOTEMPTY}
 use Rattle.pua_path.proofs.ForCallers.{resolutions_fit}
 use Rattle.pua_calls.specs.declared.call.Call.TheVariants as call
 use Rattle.pua_script.specs.Guards.{IsPossible}
-use Rattle.pua_script.specs.declared.granted.Granted.TheVariants as granted
 use Rattle.pua_script.specs.Laws.{DecisionsArePossible}
 use Rattle.pua_script.proofs.Edits.{IsFor, IsRemovable, empty_alone, rmdir_removes, unlink_removes}
 use Rattle.pua_script.proofs.Linking.{named_lives}

@@ -1,19 +1,19 @@
 -- The parts of a line as its reader finds them.
-use Rattle.pua_script.proofs.Common.{◌≡◌, ℕ, ◌≤◌, not, ◌&&◌, ◌||◌, eqb, cond, List, [], ◌∷◌, map, length, take, refl, ap, ◌∙◌, arith, lit<}
-use Rattle.pua_script.proofs.Common.{IsTrue, list_all, and_parts, and_from, le-leb, not-true, has_byte, Action, request_of_fields}
-use Rattle.pua_script.proofs.Common.{request_of}
+use Rattle.pua_script.proofs.Common.{◌≡◌, ℕ, ◌≤◌, not, ◌&&◌, ◌||◌, eqb, cond, List, [], ◌∷◌, map, length, take, refl, ap, ◌∙◌, arith}
+use Rattle.pua_script.proofs.Common.{IsTrue, list_all, and_parts, not-true, has_byte, request_of_fields}
+use Rattle.pua_script.proofs.Common.{request_of, Asked, Result, ◌>>=◌}
 use Rattle.std.proofs.Common.{leb, Some, None, Ok, Err}
 use Rattle.std.specs.Borrow.{Bor}
-use Rattle.std.specs.Prelude.{ok_or}
+use Rattle.std.specs.Prelude.{ok_or, ⊤}
 use Rattle.std.proofs.lemmas.Bool.{leb-true, ne_eqb}
 use Rattle.pua_tree.specs.Spelling.{is_plain, escaped_byte, with_front, unspelled_from, bytes_spelled, fields, is_field, number_within}
 use Rattle.pua_tree.specs.Listing.{only_if}
 use Rattle.pua_tree.specs.Fields.{first_fields}
-use Rattle.pua_tree.proofs.ForCallers.{guarded, number_read, only_if_read, ok_or_read, step_read}
-use Rattle.pua_script.specs.Requests.{has_no_nul, is_asked}
+use Rattle.pua_tree.proofs.ForCallers.{guarded, only_if_read}
+use Rattle.pua_script.specs.Requests.{has_no_nul}
+use Rattle.pua_script.specs.declared.fault.ScriptFault.{ScriptFault}
 use Rattle.pua_script.specs.declared.fault.ScriptFault.TheVariants.{BadLine, BadCall}
-use Rattle.pua_script.specs.Scripts.{action_in, form_in, action_of}
-use Rattle.pua_script.proofs.Grammar.{action_read, askable}
+use Rattle.pua_script.specs.Scripts.{action_in, IsActionAdded, IsRequestAdded}
 
 -- a field of plain bytes is the text that it spells, and none of them is NUL
 pub plain_path : (field : List ℕ) → IsTrue (list_all is_plain field) → only_if has_no_nul (bytes_spelled field) ≡ Some field
@@ -54,11 +54,20 @@ by_fields n line fs e =
     ap (λ s. cond s (request_of_fields n (fields line)) (Err (BadLine n))) read.0 ∙ six_decide n (fields line) ∙
     ap (request_of_fields n) read.1
 
--- what is read can be asked
-pub asked : (n number : ℕ) (process : List ℕ) (more : List (List ℕ)) (action : Action) → number_within 1 999999 process ≡ Some number →
-    action_in n more ≡ Ok action → IsTrue (is_asked (record { process = number; action = action }))
-asked n number process more action numbered acts =
-    let read = number_read 1 999999 process number (lit< tt) numbered in
-    let form = step_read (ok_or (form_in more) (BadCall n)) (action_of n) action acts in
-    and_from _ _ (and_from _ _ (le-leb 1 number read.1) (le-leb number 999999 read.2))
-    (askable more action (action_read n more form.0 action (ok_or_read (form_in more) (BadCall n) form.0 form.1) form.2))
+-- a process's number and the action behind it are a request
+pub line_added : (n number : ℕ) (process : List ℕ) (more : List (List ℕ)) (before after : List Asked) (read : Result ⊤ ScriptFault) →
+    number_within 1 999999 process ≡ Some number → IsActionAdded (action_in n more) number before after read →
+    IsRequestAdded (request_of_fields n (process ∷ more)) before after read
+line_added n number process more before after read e = by read
+  where
+    numbered : request_of_fields n (process ∷ more) ≡ (action_in n more >>= λ action. Ok (record { process = number; action = action }))
+    numbered = ap (λ o. ok_or o (BadLine n) >>= λ m. action_in n more >>= λ action. Ok (record { process = m; action = action })) e
+
+    by : (r : Result ⊤ ScriptFault) → IsActionAdded (action_in n more) number before after r →
+        IsRequestAdded (request_of_fields n (process ∷ more)) before after r
+    by (Ok _) added = (
+      record { process = number; action = added.0 },
+      numbered ∙ ap (λ r. r >>= λ action. Ok (record { process = number; action = action })) added.1,
+      added.2,
+    )
+    by (Err fault) fails = λ other. numbered ∙ ap (λ r. r >>= λ action. Ok (record { process = number; action = action })) (fails other)

@@ -1,10 +1,12 @@
 -- What the code decides, by the definitions.
-use Rattle.std.specs.Prelude.{ℕ, List, Result, Ok, Err}
+use Rattle.std.specs.Prelude.{ℕ, Bool, true, false, List, Result, Ok, Err}
 use Rattle.std.specs.Borrow.{Bor}
 use Rattle.pua_tree.specs.Tree.{Node, Tree, Spot}
 use Rattle.pua_tree.specs.declared.node.Kind.TheVariants as kind
 use Rattle.pua_path.specs.Fits.{FoundFits, StandsAsNamed}
 use Rattle.pua_path.specs.declared.found.Found.{Found}
+use Rattle.pua_calls.specs.declared.call.Call.{Call}
+use Rattle.pua_calls.specs.declared.call.Call.TheVariants as call
 use Rattle.pua_policy.specs.History.{Locked, Moved, Ended}
 use Rattle.pua_policy.specs.Verdict.{place_of}
 use Rattle.pua_policy.specs.declared.answer.Refusal.{Refusal}
@@ -44,6 +46,14 @@ decision_by asker (granted.Unveil object perms) = veiling asker (place_of object
 decision_by asker granted.Lock = Ok (AddEvent Locked)
 decision_by asker (granted.Enter dir) = Ok (AddEvent (Moved dir))
 decision_by asker granted.Exit = Ok (AddEvent Ended)
+
+-- a call that makes a name or takes one away
+abbrev pub is_edit : Call → Bool
+is_edit call.Create = true
+is_edit call.Mkdir = true
+is_edit call.Rmdir = true
+is_edit call.Unlink = true
+is_edit _ = false
 
 -- further checks of what was judged
 abbrev pub on_judged : {X : Type 0} → Result X Refusal → (X → Decision) → Decision

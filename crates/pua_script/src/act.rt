@@ -3,12 +3,14 @@
 //! Each request with paths has a function of its own: a compiled function clears all its variables when
 //! it begins, and what a path names takes some 280 bytes.
 
-ghost use Rattle.std.specs.Prelude.{◌≡◌, ℕ, List, OnErr, IsFalse};
+ghost use Rattle.std.specs.Prelude.{◌≡◌, ℕ, List, None, OnErr, IsFalse};
 ghost use Rattle.pua_policy.specs.History.{History, StandsFor};
 ghost use Rattle.pua_script.specs.Decide.{asker_of};
 ghost use Rattle.pua_script.specs.Judged.{decision_for};
 ghost use Rattle.pua_script.specs.Replay.{come_of};
-ghost use Rattle.pua_calls.specs.Calls.{CallTable as Rules};
+ghost use Rattle.pua_calls.specs.Calls.{CallTable as Rules, rule_of};
+ghost use Rattle.pua_policy.specs.History.{may_any_on};
+ghost use Rattle.pua_policy.specs.Verdict.{refusal_of};
 ghost use Rattle.pua_script.specs.Worlds.{Acts, Attempts, is_fork};
 ghost use Rattle.pua_script.specs.declared.request.Action.TheVariants.{Link, OnPath, Rename};
 ghost use Rattle.pua_script.specs.declared.request.Action.TheVariants.{Symlink, Unveil};
@@ -17,7 +19,8 @@ use crate::answer::Answer;
 use crate::fault::WorldFault;
 use crate::granted::{Granted, make};
 use crate::judged::{
-    grant_call, grant_symlink, grant_unveil, judge_letters, judge_object, judge_target, veil_named,
+    editing, grant_unveil, is_edit, judge_letters, judge_object, judge_target, linking, looking,
+    veil_named,
 };
 use crate::link::grant_link;
 use crate::pair::{covered, promised_pair, side_named};
@@ -78,12 +81,36 @@ fn call_on<T: FileTree>(
         ((T.content tree.new ≡ T.content tree.old) × (process.new ≡ process.old)) }
 {
     match promised_for(process, table, call) {
-        Ok(()) => {
-            let object = judge_object(tree, table, process, call, path);
-            answer(tree, process, &grant_call(table, call, &object))
-        }
+        Ok(()) => call_judged(tree, table, process, call, path),
         Err(refusal) => answer(tree, process, &Err(refusal)),
     }
+}
+
+/// Makes one of the calls on a path, whose promises are held. A name is copied only where one is made
+/// or taken away: what is lent may lie in the tree that is to change.
+fn call_judged<T: FileTree>(
+    tree: &mut T,
+    table: &CallTable,
+    process: &mut Process,
+    call: Call,
+    path: &[u8],
+) -> Result<Answer, WorldFault>
+    ensures exact { refusal_of (may_any_on process.old (rule_of table.now call).alternatives) ≡ None →
+        Acts table.now (T.content tree.old) process.old (OnPath call path.now)
+        result (T.content tree.new) process.new }
+    ensures unchanged { OnErr result
+        ((T.content tree.new ≡ T.content tree.old) × (process.new ≡ process.old)) }
+{
+    let lent = match judge_object(tree, table, process, call, path) {
+        Ok(lent) => lent,
+        Err(errno) => return answer(tree, process, &Err(Refusal::Failed(errno))),
+    };
+    if !is_edit(call) {
+        let granted = looking(table, call, &lent);
+        return answer(tree, process, &Ok(granted));
+    }
+    let object = lent.found();
+    answer(tree, process, &Ok(editing(call, &object)))
 }
 
 /// Makes a link with this target.
@@ -103,8 +130,11 @@ fn symlink<T: FileTree>(
         Ok(target) => target,
         Err(refusal) => return answer(tree, process, &Err(refusal)),
     };
-    let object = judge_object(tree, table, process, Call::Symlink, path);
-    answer(tree, process, &grant_symlink(&target, &object))
+    let object = match judge_object(tree, table, process, Call::Symlink, path) {
+        Ok(lent) => lent.found(),
+        Err(errno) => return answer(tree, process, &Err(Refusal::Failed(errno))),
+    };
+    answer(tree, process, &Ok(linking(&target, &object)))
 }
 
 /// Renames what the old path names.

@@ -1,33 +1,33 @@
 //! What paths name to a process, and what requests on one path are to change.
 
-ghost use Rattle.std.specs.Prelude.{◌≡◌, ℕ, List, Some, Ok, IfOk};
+ghost use Rattle.std.specs.Prelude.{◌≡◌, ℕ, List, Some, Ok, IfOk, true, false};
 ghost use Rattle.pua_tree.specs.Tree.{Tree};
 ghost use Rattle.pua_path.specs.Paths.{path_fault};
 ghost use Rattle.pua_path.specs.Resolution.{resolution_of_text};
+ghost use Rattle.pua_path.specs.Walks.{found_seen, founds_seen};
 ghost use Rattle.pua_path.specs.declared.found.Found as founds;
 ghost use Rattle.pua_path.specs.declared.found.Last.TheVariants.{Followed};
 ghost use Rattle.pua_path.specs.declared.text.Ending.TheVariants.{Dot};
-ghost use Rattle.pua_calls.specs.Calls.{rule_of};
+ghost use Rattle.pua_calls.specs.Calls.{CallTable as Rules, rule_of};
 ghost use Rattle.pua_calls.specs.declared.call.Call.TheVariants.{Symlink};
 ghost use Rattle.pua_policy.specs.History.{may_any_on};
 ghost use Rattle.pua_policy.specs.Verdict.{place_of};
 ghost use Rattle.pua_script.specs.Decide.{Asking, Decision, adding, asker_on, change_by};
-ghost use Rattle.pua_script.specs.Decide.{decide_object, decide_unveil, decide_veil, going, if_may};
+ghost use Rattle.pua_script.specs.Decide.{decide_object, decide_unveil, decide_veil, if_may};
 ghost use Rattle.pua_script.specs.Decide.{if_named, link_node, removing, unless_fault, veiling};
-ghost use Rattle.pua_script.specs.Judged.{NameFits, decision_for, decision_by};
+ghost use Rattle.pua_script.specs.Judged.{NameFits, decision_for, decision_by, is_edit};
 ghost use Rattle.pua_script.specs.Judged.{node_made, on_judged};
 
 use crate::granted::{Granted, NewNode};
 use crate::pair::{node_named, spot_named};
 use pua_calls::needs::ending;
 use pua_calls::{Call, CallTable, Perms, Promises};
-use pua_path::{Counted, Ending, Errno, Found, Last, PathText, Probe, resolve};
-use pua_policy::judge::{object_verdict, promised, promised_for};
+use pua_path::{Counted, Ending, Errno, Found, Last, LentFound, PathText, Probe, resolve_lent};
+use pua_policy::judge::{object_verdict_lent, promised, promised_for};
 use pua_policy::{Process, Refusal};
 use pua_tree::{FileTree, NodeId};
 
 /// What a path names from a directory.
-#[inline(always)]
 pub(crate) fn named<'t, P: Probe<'t>>(
     probe: &mut P,
     from: NodeId,
@@ -39,60 +39,92 @@ pub(crate) fn named<'t, P: Probe<'t>>(
     ensures fits { IfOk result (NameFits (P.tree probe.old)) }
     ensures tree { P.tree probe.new ≡ P.tree probe.old }
 {
+    match named_lent(probe, from, path, ending, last) {
+        Ok(lent) => Ok(lent.found()),
+        Err(errno) => Err(errno),
+    }
+}
+
+/// The same, its name lent by the path, or by the target of a link.
+#[inline(always)]
+fn named_lent<'a, 't: 'a, P: Probe<'t>>(
+    probe: &mut P,
+    from: NodeId,
+    path: &'a [u8],
+    ending: Ending,
+    last: Last,
+) -> Result<LentFound<'a>, Errno>
+    ensures exact { founds_seen result
+        ≡ resolution_of_text (P.tree probe.old) from ending path.now last }
+    ensures fits { IfOk (founds_seen result) (NameFits (P.tree probe.old)) }
+    ensures tree { P.tree probe.new ≡ P.tree probe.old }
+{
     probe.known();
-    let text = PathText::read(path, ending)?;
-    resolve(probe, from, &text, last)
+    match PathText::read(path, ending) {
+        Ok(text) => resolve_lent(probe, from, &text, last),
+        Err(errno) => Err(errno),
+    }
+}
+
+/// What an allowed call changes that makes no name and takes none away. Of what was found it keeps no
+/// more than a directory's number, so no name is copied.
+pub(crate) fn looking<'g>(table: &CallTable, call: Call, found: &LentFound<'_>) -> Granted<'g>
+    ensures { is_edit call ≡ false → (asker : Asking) →
+        decision_by asker result ≡ Ok (change_by table.now call (found_seen found.now)) }
+{
+    match call {
+        Call::Chdir => match found {
+            LentFound::Whole { dir, .. } => Granted::Enter(*dir),
+            LentFound::Slot { .. } => Granted::NoChange,
+        },
+        Call::Exec => Granted::BeginProgram(table.execpromises()),
+        _ => Granted::NoChange,
+    }
+}
+
+/// Whether a call makes a name or takes one away.
+pub(crate) fn is_edit(call: Call) -> bool
+    ensures { result ≡ is_edit call }
+{
+    matches!(
+        call,
+        Call::Create | Call::Mkdir | Call::Rmdir | Call::Unlink
+    )
 }
 
 /// What the path of a call names, whose promises are held: where the veils leave enough of it, and
-/// it is of a kind that the call is for. What was found is some 280 bytes, so it stays where it is
-/// once it is found, and what is wrong with it is told as an errno beside it.
-pub(crate) fn judge_object<T: FileTree>(
-    tree: &T,
+/// it is of a kind that the call is for. Its name is lent by the path, or by the target of a link.
+pub(crate) fn judge_object<'t, T: FileTree>(
+    tree: &'t T,
     table: &CallTable,
     process: &Process,
     call: Call,
-    path: &[u8],
-) -> Result<Found, Errno>
+    path: &'t [u8],
+) -> Result<LentFound<'t>, Errno>
     ensures { (further : founds.Found → Decision) →
         decide_object table.now (T.content tree.now) (asker_on process.now) call path.now further
-        ≡ if_named result further }
+        ≡ if_named (founds_seen result) further }
 {
     let mut probe = Counted::new(tree);
-    let found = named(&mut probe, process.dir(), path, ending(call), call.last());
-    if let Ok(object) = &found {
-        object_verdict(&mut probe, process, table, call, object)?;
-    }
-    found
-}
-
-/// What a call is to change, by what its path named.
-pub(crate) fn grant_call<'a>(
-    table: &CallTable,
-    call: Call,
-    judged: &'a Result<Found, Errno>,
-) -> Result<Granted<'a>, Refusal>
-    ensures { (asker : Asking) →
-        decision_for asker result
-        ≡ if_named judged.now (λ object. Ok (change_by table.now call object)) }
-{
-    match judged {
-        Ok(found) => Ok(change_by(table, call, found)),
-        Err(errno) => Err(Refusal::Failed(*errno)),
+    let lent = match named_lent(&mut probe, process.dir(), path, ending(call), call.last()) {
+        Ok(lent) => lent,
+        Err(errno) => return Err(errno),
+    };
+    match object_verdict_lent(&mut probe, process, table, call, &lent) {
+        Ok(()) => Ok(lent),
+        Err(errno) => Err(errno),
     }
 }
 
-/// What an allowed call changes, by what its path named.
-fn change_by<'a>(table: &CallTable, call: Call, found: &'a Found) -> Granted<'a>
-    ensures { (asker : Asking) →
-        decision_by asker result ≡ Ok (change_by table.now call found.now) }
+/// What an allowed call changes that makes a name or takes one away.
+pub(crate) fn editing<'a>(call: Call, found: &'a Found) -> Granted<'a>
+    ensures { is_edit call ≡ true → (table : Rules) (asker : Asking) →
+        decision_by asker result ≡ Ok (change_by table call found.now) }
 {
     match call {
         Call::Create => adding(NewNode::File, found),
         Call::Mkdir => adding(NewNode::Directory, found),
         Call::Rmdir | Call::Unlink => removing(found),
-        Call::Chdir => entering(found),
-        Call::Exec => Granted::BeginProgram(table.execpromises()),
         _ => Granted::NoChange,
     }
 }
@@ -118,16 +150,6 @@ fn removing<'a>(found: &'a Found) -> Granted<'a>
     }
 }
 
-/// A directory as the working directory.
-fn entering<'a>(found: &'a Found) -> Granted<'a>
-    ensures { (asker : Asking) → decision_by asker result ≡ Ok (going found.now) }
-{
-    match found {
-        Found::Whole { dir, .. } => Granted::Enter(*dir),
-        Found::Slot { .. } => Granted::NoChange,
-    }
-}
-
 /// The target of a symlink: its promise is judged before its text is read.
 pub(crate) fn judge_target<'a>(
     table: &CallTable,
@@ -148,18 +170,11 @@ pub(crate) fn judge_target<'a>(
 }
 
 /// A link with this target, where nothing stands.
-pub(crate) fn grant_symlink<'a>(
-    target: &'a PathText<'a>,
-    judged: &'a Result<Found, Errno>,
-) -> Result<Granted<'a>, Refusal>
+pub(crate) fn linking<'a>(target: &'a PathText<'a>, found: &'a Found) -> Granted<'a>
     ensures { (asker : Asking) →
-        decision_for asker result
-        ≡ if_named judged.now (λ object. Ok (adding (link_node target.now.bytes) object)) }
+        decision_by asker result ≡ Ok (adding (link_node target.now.bytes) found.now) }
 {
-    match judged {
-        Ok(found) => Ok(adding(NewNode::Link(target), found)),
-        Err(errno) => Err(Refusal::Failed(*errno)),
-    }
+    adding(NewNode::Link(target), found)
 }
 
 /// The permissions that an unveil is for: the promise, the lock, and the letters are judged before its

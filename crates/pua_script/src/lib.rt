@@ -12,6 +12,7 @@ mod laws;
 mod limits;
 mod line;
 mod link;
+mod origin;
 mod pair;
 mod process;
 mod rename;

@@ -1,7 +1,9 @@
 //! One line of a script.
 
-ghost use Rattle.std.specs.Prelude.{◌≡◌, ◌∷◌, [], map, ok_or};
-ghost use Rattle.pua_script.specs.Scripts.{IsReadAs, is_dash, is_equals, has_empty_word, path_in};
+ghost use Rattle.std.specs.Prelude.{◌≡◌, ◌∷◌, [], codes, map, ok_or};
+ghost use Rattle.pua_tree.specs.Names.{same_bytes};
+ghost use Rattle.pua_script.specs.Scripts.{IsActionAdded, IsReadAs, IsRequestAdded};
+ghost use Rattle.pua_script.specs.Scripts.{is_dash, is_equals, has_empty_word, path_in};
 ghost use Rattle.pua_script.specs.Scripts.{given_in, perms_in, unveil_of, with_paths, action_in};
 ghost use Rattle.pua_script.specs.Scripts.{action_of, request_of, request_of_fields};
 ghost use Rattle.pua_script.specs.Scripts.Form.{PledgeForm};
@@ -11,6 +13,7 @@ ghost use Rattle.pua_script.specs.declared.fault.ScriptFault.TheVariants.{BadPat
 
 use crate::fault::ScriptFault;
 use crate::limits::MOST_NUMBER;
+use crate::origin::Origin;
 use crate::request::{Action, Given, PathBytes, Request};
 use pua_calls::{Call, Perms, Promises};
 use pua_tree::{Fields, are_plain, number_within, unspelled};
@@ -21,15 +24,36 @@ use std::alloc::Global;
 pub fn read_request(alloc: Global, number: u32, line: &[u8]) -> Result<Request, ScriptFault>
     ensures { IsReadAs (request_of number line.now) result }
 {
+    let mut requests = Vec::new(alloc);
+    add_request(alloc, &mut requests, number, line)?;
+    Ok(requests.pop().unwrap())
+}
+
+/// Adds what the line of this number asks for.
+pub(crate) fn add_request(
+    alloc: Global,
+    requests: &mut Vec<Request>,
+    number: u32,
+    line: &[u8],
+) -> Result<(), ScriptFault>
+    ensures { IsRequestAdded (request_of number line.now)
+        requests.old.items requests.new.items result }
+{
     let Some(fields) = Fields::read(line) else {
         return Err(ScriptFault::BadLine(number));
     };
-    read_fields(alloc, number, fields.as_slice())
+    read_fields(alloc, requests, number, fields.as_slice())
 }
 
-/// The request of a line's fields.
-fn read_fields(alloc: Global, number: u32, fields: &[&[u8]]) -> Result<Request, ScriptFault>
-    ensures { IsReadAs (request_of_fields number (map (λ field. field.now) fields.now)) result }
+/// Adds the request of a line's fields.
+fn read_fields(
+    alloc: Global,
+    requests: &mut Vec<Request>,
+    number: u32,
+    fields: &[&[u8]],
+) -> Result<(), ScriptFault>
+    ensures { IsRequestAdded (request_of_fields number (map (λ field. field.now) fields.now))
+        requests.old.items requests.new.items result }
 {
     let Some((process, more)) = fields.split_first() else {
         return Err(ScriptFault::BadLine(number));
@@ -37,128 +61,179 @@ fn read_fields(alloc: Global, number: u32, fields: &[&[u8]]) -> Result<Request, 
     let Some(process) = number_within(1, MOST_NUMBER, process) else {
         return Err(ScriptFault::BadLine(number));
     };
-    let action = read_action(alloc, number, more)?;
-    Ok(Request::new(process, action))
+    let line = number;
+    read_action(alloc, requests, Origin { line, process }, more)
 }
 
-/// What the fields after the process's number ask for.
-fn read_action(alloc: Global, number: u32, fields: &[&[u8]]) -> Result<Action, ScriptFault>
-    ensures { IsReadAs (action_in number (map (λ field. field.now) fields.now)) result }
+/// Adds what the fields after the process's number ask for.
+fn read_action(
+    alloc: Global,
+    requests: &mut Vec<Request>,
+    origin: Origin,
+    fields: &[&[u8]],
+) -> Result<(), ScriptFault>
+    ensures { IsActionAdded (action_in origin.line (map (λ field. field.now) fields.now))
+        origin.process requests.old.items requests.new.items result }
 {
     match fields {
-        [] => Err(ScriptFault::BadCall(number)),
-        [word] => read_alone(number, word),
-        [word, a] => read_one(alloc, number, word, a),
-        [word, a, b] => read_two(alloc, number, word, a, b),
-        _ => Err(ScriptFault::BadCall(number)),
+        [] => Err(ScriptFault::BadCall(origin.line)),
+        [word] => read_alone(requests, origin, word),
+        [word, a] => read_one(alloc, requests, origin, word, a),
+        [word, a, b] => read_two(alloc, requests, origin, word, a, b),
+        _ => Err(ScriptFault::BadCall(origin.line)),
     }
 }
 
 /// A call without arguments.
-fn read_alone(number: u32, word: &[u8]) -> Result<Action, ScriptFault>
-    ensures { result ≡ action_in number (word.now ∷ []) }
+fn read_alone(requests: &mut Vec<Request>, origin: Origin, word: &[u8]) -> Result<(), ScriptFault>
+    ensures { IsActionAdded (action_in origin.line (word.now ∷ [])) origin.process
+        requests.old.items requests.new.items result }
 {
-    if word == b"exit".as_slice() {
-        Ok(Action::Exit)
-    } else {
-        Err(ScriptFault::BadCall(number))
+    match word {
+        b"exit" => Request::add(requests, origin, Action::Exit),
+        _ => Err(ScriptFault::BadCall(origin.line)),
     }
 }
 
 /// A call with one argument.
-fn read_one(alloc: Global, number: u32, word: &[u8], a: &[u8]) -> Result<Action, ScriptFault>
-    ensures { IsReadAs (action_in number (word.now ∷ a.now ∷ [])) result }
+fn read_one(
+    alloc: Global,
+    requests: &mut Vec<Request>,
+    origin: Origin,
+    word: &[u8],
+    a: &[u8],
+) -> Result<(), ScriptFault>
+    ensures { IsActionAdded (action_in origin.line (word.now ∷ a.now ∷ [])) origin.process
+        requests.old.items requests.new.items result }
 {
-    if word == b"fork".as_slice() {
+    if is_fork(word) {
         return match number_within(1, MOST_NUMBER, a) {
-            Some(new) => Ok(Action::Fork(new)),
-            None => Err(ScriptFault::BadCall(number)),
+            Some(new) => Request::add(requests, origin, Action::Fork(new)),
+            None => Err(ScriptFault::BadCall(origin.line)),
         };
     }
     match Call::read(word) {
-        None | Some(Call::Symlink) => Err(ScriptFault::BadCall(number)),
-        Some(call) => Ok(Action::OnPath(call, read_path(alloc, number, a)?)),
+        None | Some(Call::Symlink) => Err(ScriptFault::BadCall(origin.line)),
+        Some(call) => {
+            let path = read_path(alloc, origin.line, a)?;
+            Request::add(requests, origin, Action::OnPath(call, path))
+        }
     }
 }
 
 /// A call with two arguments.
 fn read_two(
     alloc: Global,
-    number: u32,
+    requests: &mut Vec<Request>,
+    origin: Origin,
     word: &[u8],
     a: &[u8],
     b: &[u8],
-) -> Result<Action, ScriptFault>
-    ensures { IsReadAs (action_in number (word.now ∷ a.now ∷ b.now ∷ [])) result }
+) -> Result<(), ScriptFault>
+    ensures { IsActionAdded (action_in origin.line (word.now ∷ a.now ∷ b.now ∷ [])) origin.process
+        requests.old.items requests.new.items result }
 {
     if word == b"symlink".as_slice() {
-        read_symlink(alloc, number, a, b)
+        read_symlink(alloc, requests, origin, a, b)
     } else if word == b"rename".as_slice() {
-        read_rename(alloc, number, a, b)
+        read_rename(alloc, requests, origin, a, b)
     } else if word == b"link".as_slice() {
-        read_link(alloc, number, a, b)
+        read_link(alloc, requests, origin, a, b)
     } else if word == b"pledge".as_slice() {
-        read_pledge(number, a, b)
+        read_pledge(requests, origin, a, b)
     } else if word == b"unveil".as_slice() {
-        read_unveil(alloc, number, a, b)
+        read_unveil(alloc, requests, origin, a, b)
     } else {
-        Err(ScriptFault::BadCall(number))
+        Err(ScriptFault::BadCall(origin.line))
     }
 }
 
 /// A symlink: its target, and then its path.
 fn read_symlink(
     alloc: Global,
-    number: u32,
+    requests: &mut Vec<Request>,
+    origin: Origin,
     target: &[u8],
     path: &[u8],
-) -> Result<Action, ScriptFault>
-    ensures { IsReadAs (with_paths number Symlink target.now path.now) result }
+) -> Result<(), ScriptFault>
+    ensures { IsActionAdded (with_paths origin.line Symlink target.now path.now) origin.process
+        requests.old.items requests.new.items result }
 {
-    let target = read_path(alloc, number, target)?;
-    Ok(Action::Symlink(target, read_path(alloc, number, path)?))
+    let target = read_path(alloc, origin.line, target)?;
+    let path = read_path(alloc, origin.line, path)?;
+    Request::add(requests, origin, Action::Symlink(target, path))
 }
 
 /// A rename: the old path, and then the new one.
-fn read_rename(alloc: Global, number: u32, old: &[u8], new: &[u8]) -> Result<Action, ScriptFault>
-    ensures { IsReadAs (with_paths number Rename old.now new.now) result }
+fn read_rename(
+    alloc: Global,
+    requests: &mut Vec<Request>,
+    origin: Origin,
+    old: &[u8],
+    new: &[u8],
+) -> Result<(), ScriptFault>
+    ensures { IsActionAdded (with_paths origin.line Rename old.now new.now) origin.process
+        requests.old.items requests.new.items result }
 {
-    let old = read_path(alloc, number, old)?;
-    Ok(Action::Rename(old, read_path(alloc, number, new)?))
+    let old = read_path(alloc, origin.line, old)?;
+    let new = read_path(alloc, origin.line, new)?;
+    Request::add(requests, origin, Action::Rename(old, new))
 }
 
 /// A link: the path of a node, and then that of its further name.
-fn read_link(alloc: Global, number: u32, old: &[u8], new: &[u8]) -> Result<Action, ScriptFault>
-    ensures { IsReadAs (with_paths number Link old.now new.now) result }
+fn read_link(
+    alloc: Global,
+    requests: &mut Vec<Request>,
+    origin: Origin,
+    old: &[u8],
+    new: &[u8],
+) -> Result<(), ScriptFault>
+    ensures { IsActionAdded (with_paths origin.line Link old.now new.now) origin.process
+        requests.old.items requests.new.items result }
 {
-    let old = read_path(alloc, number, old)?;
-    Ok(Action::Link(old, read_path(alloc, number, new)?))
+    let old = read_path(alloc, origin.line, old)?;
+    let new = read_path(alloc, origin.line, new)?;
+    Request::add(requests, origin, Action::Link(old, new))
 }
 
 /// A pledge: its promises, and then its execpromises.
-fn read_pledge(number: u32, promises: &[u8], execpromises: &[u8]) -> Result<Action, ScriptFault>
-    ensures { result ≡ action_of number (PledgeForm promises.now execpromises.now) }
+fn read_pledge(
+    requests: &mut Vec<Request>,
+    origin: Origin,
+    promises: &[u8],
+    execpromises: &[u8],
+) -> Result<(), ScriptFault>
+    ensures { IsActionAdded (action_of origin.line (PledgeForm promises.now execpromises.now))
+        origin.process requests.old.items requests.new.items result }
 {
-    let promises = read_given(number, promises)?;
-    Ok(Action::Pledge(promises, read_given(number, execpromises)?))
+    let promises = read_given(origin.line, promises)?;
+    let execpromises = read_given(origin.line, execpromises)?;
+    Request::add(requests, origin, Action::Pledge(promises, execpromises))
 }
 
 /// An unveil, which has two NULLs or none.
-fn read_unveil(alloc: Global, number: u32, path: &[u8], perms: &[u8]) -> Result<Action, ScriptFault>
-    ensures { IsReadAs (unveil_of number path.now perms.now) result }
+fn read_unveil(
+    alloc: Global,
+    requests: &mut Vec<Request>,
+    origin: Origin,
+    path: &[u8],
+    perms: &[u8],
+) -> Result<(), ScriptFault>
+    ensures { IsActionAdded (unveil_of origin.line path.now perms.now) origin.process
+        requests.old.items requests.new.items result }
 {
     if is_null(path) {
         return if is_null(perms) {
-            Ok(Action::Lock)
+            Request::add(requests, origin, Action::Lock)
         } else {
-            Err(ScriptFault::BadList(number))
+            Err(ScriptFault::BadList(origin.line))
         };
     }
-    let path = read_path(alloc, number, path)?;
+    let path = read_path(alloc, origin.line, path)?;
     if is_null(perms) {
-        return Err(ScriptFault::BadList(number));
+        return Err(ScriptFault::BadList(origin.line));
     }
-    Ok(Action::Unveil(path, read_perms(perms)))
+    Request::add(requests, origin, Action::Unveil(path, read_perms(perms)))
 }
 
 /// The bytes of a path or a target; `=` is the empty text. Plain bytes, as most fields have, spell
@@ -218,14 +293,20 @@ fn has_empty_word(field: &[u8]) -> bool
         .any(|word| word.is_empty())
 }
 
+fn is_fork(word: &[u8]) -> bool
+    ensures { result ≡ same_bytes word.now (codes "fork") }
+{
+    matches!(word, b"fork")
+}
+
 fn is_null(field: &[u8]) -> bool
     ensures { result ≡ is_dash field.now }
 {
-    field == b"-".as_slice()
+    matches!(field, [b'-'])
 }
 
 fn is_empty_text(field: &[u8]) -> bool
     ensures { result ≡ is_equals field.now }
 {
-    field == b"=".as_slice()
+    matches!(field, [b'='])
 }

@@ -1,5 +1,7 @@
 //! What lines of scripts ask for.
 
+use crate::fault::ScriptFault;
+use crate::origin::Origin;
 use pua_calls::{Call, Perms, Promises};
 use smallvec::SmallVec;
 use std::alloc::{AllocError, Global};
@@ -76,7 +78,7 @@ impl Model for Request {
         IsTrue (is_asked (record { process = a.process; action = a.action })) };
 }
 
-ghost use Rattle.std.specs.Prelude.{◌≡◌, IfOk, IsTrue, List, ℕ};
+ghost use Rattle.std.specs.Prelude.{◌≡◌, IfOk, IsTrue, List, ℕ, Ok};
 
 impl PathBytes {
     /// The bytes as they are, without their spelling.
@@ -104,7 +106,8 @@ impl PathBytes {
 }
 
 impl Request {
-    ghost use Rattle.pua_script.specs.Requests.{Asked, is_asked};
+    ghost use Rattle.pua_script.specs.Requests.{Asked, is_asked, is_askable};
+    ghost use Rattle.pua_script.specs.Scripts.{IsActionAdded};
 
     /// The number of the process that asks.
     pub fn process(&self) -> u32
@@ -122,10 +125,23 @@ impl Request {
         &self.action
     }
 
-    pub(crate) fn new(process: u32, action: Action) -> Request
-        requires { IsTrue (is_asked (record { process = process; action = action })) }
-        ensures { result ≡ record { process = process; action = action } }
+    /// Adds what this process asks for to some requests. `OutOfMemory` is its only error.
+    pub(crate) fn add(
+        requests: &mut Vec<Request>,
+        origin: Origin,
+        action: Action,
+    ) -> Result<(), ScriptFault>
+        requires { IsTrue (is_askable action) }
+        ensures { IsActionAdded (Ok action) origin.process
+            requests.old.items requests.new.items result }
     {
-        Request { process, action }
+        let request = Request {
+            process: origin.process,
+            action,
+        };
+        let Ok(()) = requests.push(request) else {
+            return Err(ScriptFault::OutOfMemory);
+        };
+        Ok(())
     }
 }

@@ -2,7 +2,7 @@
 
 use crate::fault::ScriptFault;
 use crate::limits::MOST_SCRIPT_LINES;
-use crate::line::read_request;
+use crate::line::add_request;
 use crate::request::Request;
 use bstr::ByteSlice;
 use std::alloc::Global;
@@ -23,9 +23,8 @@ impl Model for Script {
     ghost view = { λ a. a.requests.items };
 }
 
-ghost use Rattle.std.specs.Prelude.{◌≡◌, ◌≢◌, ◌∷◌, ◌++◌, [], MatchResult, Ok, Err};
-ghost use Rattle.pua_script.specs.Requests.{Asked};
-ghost use Rattle.pua_script.specs.Scripts.{script, request_of};
+ghost use Rattle.std.specs.Prelude.{◌≡◌, ◌≢◌, MatchResult, Ok, Err};
+ghost use Rattle.pua_script.specs.Scripts.{script};
 
 impl Script {
     /// The requests, the first line's first.
@@ -56,23 +55,4 @@ pub fn read_script(alloc: Global, bytes: &[u8]) -> Result<Script, ScriptFault>
         add_request(alloc, &mut requests, number, line)?;
     }
     Ok(Script { requests })
-}
-
-/// Adds what the line of this number asks for.
-fn add_request(
-    alloc: Global,
-    requests: &mut Vec<Request>,
-    number: u32,
-    line: &[u8],
-) -> Result<(), ScriptFault>
-    ensures { MatchResult result (λ _. (request : Asked)
-        × (request_of number line.now ≡ Ok request)
-        × (requests.new.items ≡ requests.old.items ++ request ∷ []))
-        (λ fault. fault ≢ ScriptFault.OutOfMemory → request_of number line.now ≡ Err fault) }
-{
-    let request = read_request(alloc, number, line)?;
-    let Ok(()) = requests.push(request) else {
-        return Err(ScriptFault::OutOfMemory);
-    };
-    Ok(())
 }

@@ -28,7 +28,7 @@ pub use laws::{
 pub use link_target::{MOST_TARGET, has_short_components, is_target};
 pub use list::ListTree;
 pub use listing::{HIGHEST_LISTED, MOST_LISTED, read_listing, read_listing_slab};
-pub use name::Name;
+pub use name::{LentName, Name};
 pub use node::{Kind, NodeId};
 pub use slab_tree::SlabTree;
 pub use spelling::{SpelledByte, are_plain, byte_spelling, unspelled};

@@ -102,10 +102,16 @@ impl Name {
         if !is_name(bytes) {
             return None;
         }
-        Some(Name {
-            bytes: padded(bytes),
-            len: bytes.len() as u8,
-        })
+        Some(LentName { bytes }.name())
+    }
+
+    /// Its bytes, lent as a name's.
+    #[inline(always)]
+    pub fn lent(&self) -> LentName<'_>
+        ensures { result.bytes.now ≡ self.now }
+    {
+        let bytes = self.bytes();
+        LentName { bytes }
     }
 
     /// Does nothing. A caller learns from it what is true of the bytes of every name.
@@ -136,6 +142,27 @@ impl Name {
         ensures name { IsTrue (is_name self.now) }
     {
         &self.bytes[..self.len as usize]
+    }
+}
+
+/// The bytes of a name, lent: where they lie is not copied before a `Name` is wanted.
+#[derive(Clone, Copy)]
+pub struct LentName<'a> {
+    pub bytes: &'a [u8],
+    pub ghost name: { IsTrue (is_name bytes.now) },
+}
+
+impl LentName<'_> {
+    /// The name, copied.
+    #[inline(always)]
+    pub fn name(&self) -> Name
+        ensures { result ≡ self.now.bytes.now }
+    {
+        let bytes = self.bytes;
+        Name {
+            bytes: padded(bytes),
+            len: bytes.len() as u8,
+        }
     }
 }
 
@@ -198,10 +225,10 @@ impl Hash for Name {
 fn is_name(bytes: &[u8]) -> bool
     ensures { result ≡ is_name bytes.now }
 {
-    if bytes.is_empty() || bytes.len() > Name::MOST || !are_name_bytes(bytes) {
-        return false;
+    match bytes {
+        [] | [b'.'] | [b'.', b'.'] => false,
+        _ => bytes.len() <= Name::MOST && are_name_bytes(bytes),
     }
-    bytes != b".".as_slice() && bytes != b"..".as_slice()
 }
 
 /// Whether each byte may stand in a name.

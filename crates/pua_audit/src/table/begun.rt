@@ -51,19 +51,19 @@ impl Terms {
         requires tree { P.tree probe.old ≡ self.now.seen.tree }
         requires rows { map lent_entry rows.now ≡ self.now.seen.tree.rows }
         requires sound { IsSound self.now }
-        requires letters { AreSound self.now.limit self.now.letters.items }
-        requires word { IfSome after (λ r. AreLetters self.now.letters.items self.now.limit
+        requires letters { AreSound self.now.limit self.now.letters }
+        requires word { IfSome after (λ r. AreLetters self.now.letters self.now.limit
             r.word.items) }
         ensures ready { IfOk result (λ begun. IsReady begun.walk) }
         ensures limit { IfOk result (λ begun. begun.walk.limit ≡ self.now.limit) }
         ensures letters { IfOk result (λ begun. begun.walk.tables.steps.letters
-            ≡ length self.now.letters.items) }
+            ≡ length self.now.letters) }
         ensures pairs { IfOk result
             (λ begun. rest_after (scope_in self.now)
-            (option_map (pair_in self.now.letters.items) after) ≡ pairs_at self.now.letters.items
+            (option_map (pair_in self.now.letters) after) ≡ pairs_at self.now.letters
             (pairs_of (trail begun.walk))) }
         ensures within { IfOk result
-            (λ begun. AllByRecursion (λ p. IsPair (length self.now.letters.items) p)
+            (λ begun. AllByRecursion (λ p. IsPair (length self.now.letters) p)
             (pairs_of (trail begun.walk))) }
         ensures live { IfOk result (λ begun.
             begun.live ≡ length (live_states (scope_in self.now))) }
@@ -72,7 +72,7 @@ impl Terms {
         ensures unread { after ≡ None → IfOk result (λ begun. begun.walk.tables.reads ≡ 0) }
         ensures tree { P.tree probe.new ≡ P.tree probe.old }
         ensures cost { P.count probe.new ≤ P.count probe.old + pairs_cost self.now.seen.tree
-            (length self.now.letters.items) }
+            (length self.now.letters) }
     {
         // Each half is a function, so that its proof begins with what is true there.
         if !self.is_open(probe) {
@@ -93,20 +93,20 @@ impl Terms {
         requires tree { P.tree probe.old ≡ self.now.seen.tree }
         requires rows { map lent_entry rows.now ≡ self.now.seen.tree.rows }
         requires sound { IsSound self.now }
-        requires letters { AreSound self.now.limit self.now.letters.items }
-        requires word { IfSome after (λ r. AreLetters self.now.letters.items self.now.limit
+        requires letters { AreSound self.now.limit self.now.letters }
+        requires word { IfSome after (λ r. AreLetters self.now.letters self.now.limit
             r.word.items) }
         requires open { is_open (scope_in self.now) ≡ true }
         ensures ready { IfOk result (λ begun. IsReady begun.walk) }
         ensures limit { IfOk result (λ begun. begun.walk.limit ≡ self.now.limit) }
         ensures letters { IfOk result (λ begun. begun.walk.tables.steps.letters
-            ≡ length self.now.letters.items) }
+            ≡ length self.now.letters) }
         ensures pairs { IfOk result
             (λ begun. rest_after (scope_in self.now)
-            (option_map (pair_in self.now.letters.items) after) ≡ pairs_at self.now.letters.items
+            (option_map (pair_in self.now.letters) after) ≡ pairs_at self.now.letters
             (pairs_of (trail begun.walk))) }
         ensures within { IfOk result
-            (λ begun. AllByRecursion (λ p. IsPair (length self.now.letters.items) p)
+            (λ begun. AllByRecursion (λ p. IsPair (length self.now.letters) p)
             (pairs_of (trail begun.walk))) }
         ensures live { IfOk result (λ begun.
             begun.live ≡ length (live_states (scope_in self.now))) }
@@ -115,7 +115,7 @@ impl Terms {
         ensures unread { after ≡ None → IfOk result (λ begun. begun.walk.tables.reads ≡ 0) }
         ensures tree { P.tree probe.new ≡ P.tree probe.old }
         ensures cost { P.count probe.new + 1 ≤ P.count probe.old + pairs_cost self.now.seen.tree
-            (length self.now.letters.items) }
+            (length self.now.letters) }
     {
         let cover = self.process.cover(probe, &self.base_found());
         let calls = self.calls_on(probe, &Ok(self.base_found()), &cover).bits();
@@ -130,17 +130,17 @@ impl Terms {
     /// The same where nothing is allowed: no pair is ahead, and no state is live.
     fn begun_closed(&self, alloc: Global) -> Result<BegunWalk, OutOfMemory>
         requires sound { IsSound self.now }
-        requires letters { AreSound self.now.limit self.now.letters.items }
+        requires letters { AreSound self.now.limit self.now.letters }
         requires closed { is_open (scope_in self.now) ≡ false }
         ensures ready { IfOk result (λ begun. IsReady begun.walk) }
         ensures limit { IfOk result (λ begun. begun.walk.limit ≡ self.now.limit) }
         ensures letters { IfOk result (λ begun. begun.walk.tables.steps.letters
-            ≡ length self.now.letters.items) }
+            ≡ length self.now.letters) }
         ensures pairs { IfOk result (λ begun. (after : Option Pair) →
-            rest_after (scope_in self.now) after ≡ pairs_at self.now.letters.items
+            rest_after (scope_in self.now) after ≡ pairs_at self.now.letters
             (pairs_of (trail begun.walk))) }
         ensures within { IfOk result
-            (λ begun. AllByRecursion (λ p. IsPair (length self.now.letters.items) p)
+            (λ begun. AllByRecursion (λ p. IsPair (length self.now.letters) p)
             (pairs_of (trail begun.walk))) }
         ensures live { IfOk result (λ begun.
             begun.live ≡ length (live_states (scope_in self.now))) }

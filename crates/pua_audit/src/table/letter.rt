@@ -61,11 +61,11 @@ impl Terms {
         requires tree { P.tree probe.old ≡ self.now.seen.tree }
         requires sound { IsSound self.now }
         requires living { IsTrue (is_dir self.now.seen.tree dir) }
-        requires letter { letter < length self.now.letters.items }
+        requires letter { letter < length self.now.letters }
         requires within { AreWithin self.now.seen.tree self.now.table
             (plain_history self.now.process) dir within.now }
         requires covered { AreCovered self.now.seen.tree (plain_history self.now.process) dirs.now }
-        ensures exact { IsLetter (judge_in self.now) dir (get_or self.now.letters.items letter [])
+        ensures exact { IsLetter (judge_in self.now) dir (get_or self.now.letters letter [])
             result.all result.kept result.links result.leads }
         ensures kept { (call : Call) →
             has result.kept call ≡ (has result.all call && keeps_link call) }
@@ -76,7 +76,8 @@ impl Terms {
         ensures tree { P.tree probe.new ≡ P.tree probe.old }
         ensures cost { P.count probe.new ≤ P.count probe.old + letter_cost self.now.seen.tree }
     {
-        let Some(calls) = self.calls_on_file(probe, dir, &self.letters[letter], within) else {
+        let letters = self.letters.as_slice();
+        let Some(calls) = self.calls_on_file(probe, dir, &letters[letter], within) else {
             return self.followed(probe, dirs, dir, letter);
         };
         Letter {
@@ -148,9 +149,9 @@ impl Terms {
         requires tree { P.tree probe.old ≡ self.now.seen.tree }
         requires sound { IsSound self.now }
         requires living { IsTrue (is_dir self.now.seen.tree dir) }
-        requires letter { letter < length self.now.letters.items }
+        requires letter { letter < length self.now.letters }
         requires covered { AreCovered self.now.seen.tree (plain_history self.now.process) dirs.now }
-        ensures exact { IsLetter (judge_in self.now) dir (get_or self.now.letters.items letter [])
+        ensures exact { IsLetter (judge_in self.now) dir (get_or self.now.letters letter [])
             result.all result.kept result.links result.leads }
         ensures kept { (call : Call) →
             has result.kept call ≡ (has result.all call && keeps_link call) }
@@ -162,7 +163,8 @@ impl Terms {
         ensures cost { P.count probe.new ≤ P.count probe.old
             + 2 * (part_cost self.now.seen.tree + object_cost self.now.seen.tree) }
     {
-        let part = self.letters[letter].part();
+        let letters = self.letters.as_slice();
+        let part = letters[letter].part();
         let (followed, links) = counted(pua_path::follow(probe, dir, &part));
         let cover = self.cover_of(probe, dirs, dir, &part, &followed);
         let near = self.calls_on(probe, &followed, &cover);

@@ -1,23 +1,21 @@
 //! Where letters stand, found by their bytes.
 
 ghost use Rattle.std.specs.Prelude.{IfOk};
-ghost use Rattle.pua_tree.specs.Tree.{name_cmp};
-ghost use Rattle.pua_audit.specs.Laws.{Rises};
 ghost use Rattle.pua_audit.specs.Placed.{ArePlaced};
 
-use crate::component::Component;
+use crate::alphabet::Alphabet;
 use pua_tree::OutOfMemory;
 use std::alloc::Global;
 use std::collections::HashMap;
 
-/// Where each letter stands among others, by its bytes. The error is that a growth was refused.
+/// Where each letter of an alphabet stands, by its bytes. The error is that a growth was refused.
 pub(crate) fn placed<'l>(
     alloc: Global,
-    letters: &'l [Component],
+    alphabet: &'l Alphabet,
 ) -> Result<HashMap<&'l [u8], usize>, OutOfMemory>
-    requires { Rises name_cmp letters.now }
-    ensures { IfOk result (λ places. ArePlaced letters.now places) }
+    ensures { IfOk result (λ places. ArePlaced alphabet.now places) }
 {
+    let letters = alphabet.as_slice();
     let mut places = HashMap::with_capacity(alloc, letters.len())?;
     for place in 0..letters.len() {
         places.insert(letters[place].bytes(), place)?;

@@ -44,20 +44,20 @@ impl Terms {
         requires tree { P.tree probe.old ≡ self.now.seen.tree }
         requires sound { IsSound self.now }
         requires spots { AreLetterSpots self.now.seen.tree (plain_history self.now.process)
-            self.now.letters.items spots.now.dots.items spots.now.names.items }
+            self.now.letters spots.now.dots.items spots.now.names.items }
         requires living { IsTrue (is_dir self.now.seen.tree dir) }
         requires dirs { AreLiving self.now.seen.tree dirs.old.numbers }
         requires covers { AreCovered self.now.seen.tree (plain_history self.now.process) dirs.old }
         requires over { over ≡ cover_in self.now.seen.tree (plain_history self.now.process) dir }
-        ensures row { IfOk result (λ row. IsJudgedRow (judge_in self.now) self.now.letters.items
-            dirs.new.numbers dir (length self.now.letters.items) row.missing row.entries.items) }
+        ensures row { IfOk result (λ row. IsJudgedRow (judge_in self.now) self.now.letters
+            dirs.new.numbers dir (length self.now.letters) row.missing row.entries.items) }
         ensures grown { IfOk result (λ _. IsGrown dirs.old.numbers dirs.new.numbers) }
         ensures living { IfOk result (λ _. AreLiving self.now.seen.tree dirs.new.numbers) }
         ensures covered { IfOk result
             (λ _. AreCovered self.now.seen.tree (plain_history self.now.process) dirs.new) }
         ensures tree { P.tree probe.new ≡ P.tree probe.old }
         ensures cost { P.count probe.new ≤ P.count probe.old + row_cost self.now.seen.tree
-            (length self.now.letters.items) }
+            (length self.now.letters) }
     {
         let within = self.within(over);
         let missing = within.missing.bits();

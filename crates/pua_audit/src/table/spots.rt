@@ -4,9 +4,7 @@ ghost use Rattle.std.specs.Prelude.{◌≡◌, ◌≢◌, ◌<◌, ℕ, [], leng
 ghost use Rattle.std.specs.List.{AllByRecursion};
 ghost use Rattle.std.specs.List.Sorted.{IsNonDecreasingBy};
 ghost use Rattle.pua_tree.specs.LentRows.{lent_entry};
-ghost use Rattle.pua_tree.specs.Tree.{name_cmp};
 ghost use Rattle.pua_policy.specs.declared.place.Place.TheVariants.{Slot};
-ghost use Rattle.pua_audit.specs.Laws.{Rises};
 ghost use Rattle.pua_audit.specs.Past.{plain_history};
 ghost use Rattle.pua_audit.specs.Placed.{ArePlaced};
 ghost use Rattle.pua_audit.specs.Ready.{IsSound};
@@ -42,12 +40,11 @@ impl Terms {
     pub(crate) fn spots(&self, alloc: Global, rows: &[LentRow<'_>]) -> Result<Spots, OutOfMemory>
         requires rows { map lent_entry rows.now ≡ self.now.seen.tree.rows }
         requires sound { IsSound self.now }
-        requires rises { Rises name_cmp self.now.letters.items }
         ensures { IfOk result
             (λ spots. AreLetterSpots self.now.seen.tree (plain_history self.now.process)
-            self.now.letters.items spots.dots.items spots.names.items) }
+            self.now.letters spots.dots.items spots.names.items) }
     {
-        let letters = placed(alloc, self.letters.as_slice())?;
+        let letters = placed(alloc, &self.letters)?;
         let places = self.process.places(alloc)?;
         let mut names = Vec::new(alloc);
         self.add_rows(&mut names, &letters, rows)?;
@@ -64,12 +61,12 @@ impl Terms {
         letters: &HashMap<&[u8], usize>,
         rows: &[LentRow<'_>],
     ) -> Result<(), OutOfMemory>
-        requires placed { ArePlaced self.now.letters.items letters.now }
-        requires within { AreAtLetters self.now.letters.items spots.old.items }
-        ensures within { IfOk result (λ _. AreAtLetters self.now.letters.items spots.new.items) }
-        ensures rows { IfOk result (λ _. (dir letter : ℕ) → letter < length self.now.letters.items →
+        requires placed { ArePlaced self.now.letters letters.now }
+        requires within { AreAtLetters self.now.letters spots.old.items }
+        ensures within { IfOk result (λ _. AreAtLetters self.now.letters spots.new.items) }
+        ensures rows { IfOk result (λ _. (dir letter : ℕ) → letter < length self.now.letters →
             IsUnmarked dir letter spots.new.items →
-            IsNowhere dir (get_or self.now.letters.items letter []) (map lent_entry rows.now)) }
+            IsNowhere dir (get_or self.now.letters letter []) (map lent_entry rows.now)) }
         ensures others { IfOk result (λ _. (dir letter : ℕ) →
             IsUnmarked dir letter spots.new.items → IsUnmarked dir letter spots.old.items) }
     {
@@ -86,12 +83,12 @@ impl Terms {
         letters: &HashMap<&[u8], usize>,
         places: &[&Place],
     ) -> Result<(), OutOfMemory>
-        requires placed { ArePlaced self.now.letters.items letters.now }
-        requires within { AreAtLetters self.now.letters.items spots.old.items }
-        ensures within { IfOk result (λ _. AreAtLetters self.now.letters.items spots.new.items) }
+        requires placed { ArePlaced self.now.letters letters.now }
+        requires within { AreAtLetters self.now.letters spots.old.items }
+        ensures within { IfOk result (λ _. AreAtLetters self.now.letters spots.new.items) }
         ensures places { IfOk result (λ _. (dir letter : ℕ) →
-            letter < length self.now.letters.items → IsUnmarked dir letter spots.new.items →
-            AreApartFrom (Slot dir (get_or self.now.letters.items letter []))
+            letter < length self.now.letters → IsUnmarked dir letter spots.new.items →
+            AreApartFrom (Slot dir (get_or self.now.letters letter []))
             (map (λ place. place.now) places.now)) }
         ensures others { IfOk result (λ _. (dir letter : ℕ) →
             IsUnmarked dir letter spots.new.items → IsUnmarked dir letter spots.old.items) }
@@ -109,12 +106,12 @@ impl Terms {
         letters: &HashMap<&[u8], usize>,
         place: &Place,
     ) -> Result<(), OutOfMemory>
-        requires placed { ArePlaced self.now.letters.items letters.now }
-        requires within { AreAtLetters self.now.letters.items spots.old.items }
-        ensures within { IfOk result (λ _. AreAtLetters self.now.letters.items spots.new.items) }
-        ensures here { IfOk result (λ _. (dir letter : ℕ) → letter < length self.now.letters.items →
+        requires placed { ArePlaced self.now.letters letters.now }
+        requires within { AreAtLetters self.now.letters spots.old.items }
+        ensures within { IfOk result (λ _. AreAtLetters self.now.letters spots.new.items) }
+        ensures here { IfOk result (λ _. (dir letter : ℕ) → letter < length self.now.letters →
             IsUnmarked dir letter spots.new.items →
-            place.now ≢ Slot dir (get_or self.now.letters.items letter [])) }
+            place.now ≢ Slot dir (get_or self.now.letters letter [])) }
         ensures others { IfOk result (λ _. (other letter : ℕ) →
             IsUnmarked other letter spots.new.items → IsUnmarked other letter spots.old.items) }
     {
@@ -132,12 +129,12 @@ impl Terms {
         dir: NodeId,
         name: &Name,
     ) -> Result<(), OutOfMemory>
-        requires placed { ArePlaced self.now.letters.items letters.now }
-        requires within { AreAtLetters self.now.letters.items spots.old.items }
-        ensures within { IfOk result (λ _. AreAtLetters self.now.letters.items spots.new.items) }
-        ensures here { IfOk result (λ _. (letter : ℕ) → letter < length self.now.letters.items →
+        requires placed { ArePlaced self.now.letters letters.now }
+        requires within { AreAtLetters self.now.letters spots.old.items }
+        ensures within { IfOk result (λ _. AreAtLetters self.now.letters spots.new.items) }
+        ensures here { IfOk result (λ _. (letter : ℕ) → letter < length self.now.letters →
             IsUnmarked dir letter spots.new.items →
-            get_or self.now.letters.items letter [] ≢ name.now) }
+            get_or self.now.letters letter [] ≢ name.now) }
         ensures others { IfOk result (λ _. (other letter : ℕ) →
             IsUnmarked other letter spots.new.items → IsUnmarked other letter spots.old.items) }
     {
@@ -152,14 +149,15 @@ impl Terms {
     /// The letters that are no names. The error is that a growth was refused.
     fn dots(&self, alloc: Global) -> Result<Vec<usize>, OutOfMemory>
         ensures within { IfOk result
-            (λ dots. AllByRecursion (λ place. place < length self.now.letters.items) dots.items) }
+            (λ dots. AllByRecursion (λ place. place < length self.now.letters) dots.items) }
         ensures others { IfOk result (λ dots. (letter : ℕ) →
-            letter < length self.now.letters.items → IsApart letter dots.items →
-            IsNamed (get_or self.now.letters.items letter [])) }
+            letter < length self.now.letters → IsApart letter dots.items →
+            IsNamed (get_or self.now.letters letter [])) }
     {
+        let letters = self.letters.as_slice();
         let mut dots = Vec::new(alloc);
-        for place in 0..self.letters.len() {
-            if self.letters[place].is_name() {
+        for place in 0..letters.len() {
+            if letters[place].is_name() {
                 continue;
             }
             dots.push(place)?;

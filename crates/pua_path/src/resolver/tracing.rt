@@ -5,16 +5,15 @@ ghost use Rattle.pua_path.specs.Fits.{FoundFits, StandsAsNamed};
 ghost use Rattle.pua_path.specs.Traces.{trace_from};
 ghost use Rattle.pua_path.specs.Walks.{stop_at};
 
-use super::{Resolving, name_of, start_of};
+use super::{Resolving, start_of};
 use crate::errno::Errno;
 use crate::found::{Found, Last};
 use crate::limits::MOST_LINKS;
-use crate::piece::LentName;
 use crate::probe::Probe;
 use crate::rest::Rest;
 use crate::text::PathText;
 use crate::traced::{Links, PathFault, Spot, Stop};
-use pua_tree::NodeId;
+use pua_tree::{LentName, NodeId};
 
 /// What a path names from a directory, as `resolve` has it, or why it names nothing: `NoStart`
 /// where `resolve` answers `ENOENT` for `from`, and else where the path leads no further. The links
@@ -44,13 +43,13 @@ pub fn trace<'t, P: Probe<'t>>(
         match walk.enter_piece(probe, piece, mode) {
             Ok(None) if walk.left < left => {
                 let name = LentName { bytes: piece.bytes };
-                links.spots.push_reserved((dir, name_of(name)));
+                links.spots.push_reserved((dir, name.name()));
             }
             Ok(None) => {}
             Ok(Some(lent)) => return Ok(lent.found()),
             Err(errno) => {
                 let name = LentName { bytes: piece.bytes };
-                return Err(PathFault::Stops(stop_at((dir, name_of(name)), errno)));
+                return Err(PathFault::Stops(stop_at((dir, name.name()), errno)));
             }
         }
     }

@@ -36,6 +36,13 @@ fn names_equal_by_length() {
     }
 }
 
+/// A name is the same again where it was lent and copied.
+fn lent_name_cut(name: &Name) {
+    if name.lent().name() != *name {
+        unreachable!()
+    }
+}
+
 /// A name comes before another where its bytes do.
 fn names_in_falling_order() {
     let Some(first) = Name::from_bytes(b"a") else {

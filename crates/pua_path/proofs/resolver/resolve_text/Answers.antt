@@ -33,7 +33,7 @@ returns-in-Found-clause-exact g c =
     let step =
     text_onward t c.args.mode c.args.left c.loop-way.here (way_of c.loop-way.way) c.loop-way.rest.bytes.now c.next_piece.result.0.bytes.now
     c.next_piece.result.1.bytes.now c.is_empty-in-loop-way.result _ c.next_piece.ensures c.is_empty-in-loop-way.ensures met in
-    ap (λ found. Ok found) c.found.ensures ∙ ap found_alone (sym step ∙ c.loop-way.invariant.so_far)
+    ap found_alone (sym step ∙ c.loop-way.invariant.so_far)
 
 pub returns-in-Nowhere-clause-exact : goal.returns-in-Nowhere-clause-exact
 returns-in-Nowhere-clause-exact g c =

@@ -1,8 +1,11 @@
 use Rattle.pua_script.proofs.Common.{◌≡◌, sym, ap, subst, ◌∙◌, asker_on, Symlink}
 use Rattle.std.specs.Prelude.{Ok, Err, IfOk}
 use Rattle.pua_calls.specs.declared.call.Call.TheVariants as call
-use Rattle.pua_script.specs.Decide.{adding, decide_object, if_named, link_node}
+use Rattle.pua_script.specs.Decide.{Decision, adding, decide_object, if_named, link_node}
 use Rattle.pua_script.specs.Judged.{on_judged}
+use Rattle.pua_path.specs.Walks.{founds_seen}
+use Rattle.pua_path.specs.declared.found.Found.{Found}
+use Rattle.pua_policy.specs.declared.answer.Refusal.TheVariants.{Failed}
 use Rattle.pua_script.proofs.Acting.{acts}
 use Rattle.pua_script.proofs.act.symlink.Goals as goal
 
@@ -10,15 +13,28 @@ pub returns-clause-exact : goal.returns-clause-exact
 returns-clause-exact g c =
     let t = g.T.FileTree.content c.args.tree.now in
     let target = c.args.target.now in
-    let further = decide_object c.args.table.now t (asker_on c.args.process.now) call.Symlink c.args.path.now
-    (λ object. Ok (adding (link_node target) object)) in
-    acts c.args.table.now t c.args.process.now (Symlink target c.args.path.now) c.grant_symlink.result
-    (c.grant_symlink.ensures (asker_on c.args.process.now)
-    ∙ ap (λ b. if_named c.judge_object-object.result (λ object. Ok (adding (link_node b) object)))
+    let linked : Found → Decision = λ object. Ok (adding (link_node target) object) in
+    let further = decide_object c.args.table.now t (asker_on c.args.process.now) call.Symlink c.args.path.now linked in
+    acts c.args.table.now t c.args.process.now (Symlink target c.args.path.now) (Ok c.linking.result)
+    (c.linking.ensures (asker_on c.args.process.now)
+    ∙ ap (λ b. Ok (adding (link_node b) c.found-object.result))
     (subst (λ r. IfOk r (λ text. text.bytes ≡ target)) c.in-Ok.is c.judge_target.ensures.text)
-    ∙ sym (c.judge_object-object.ensures (λ object. Ok (adding (link_node target) object)))
+    ∙ ap linked c.found-object.ensures
+    ∙ ap (λ r. if_named (founds_seen r) linked) (sym c.in-Ok-judge_object.is)
+    ∙ sym (c.judge_object.ensures linked)
     ∙ ap (λ r. on_judged r (λ _. further)) (sym c.in-Ok.is) ∙ c.judge_target.ensures.exact further)
     _ _ c.answer-2.result c.answer-2.ensures.exact
+
+pub returns-in-Err-judge_object-clause-exact : goal.returns-in-Err-judge_object-clause-exact
+returns-in-Err-judge_object-clause-exact g c =
+    let t = g.T.FileTree.content c.args.tree.now in
+    let linked : Found → Decision = λ object. Ok (adding (link_node c.args.target.now) object) in
+    let further = decide_object c.args.table.now t (asker_on c.args.process.now) call.Symlink c.args.path.now linked in
+    acts c.args.table.now t c.args.process.now (Symlink c.args.target.now c.args.path.now) (Err (Failed c.in-Err-judge_object.errno))
+    (ap (λ r. if_named (founds_seen r) linked) (sym c.in-Err-judge_object.is)
+    ∙ sym (c.judge_object.ensures linked)
+    ∙ ap (λ r. on_judged r (λ _. further)) (sym c.in-Ok.is) ∙ c.judge_target.ensures.exact further)
+    _ _ c.answer-in-Err-judge_object.result c.answer-in-Err-judge_object.ensures.exact
 
 pub returns-in-Err-clause-exact : goal.returns-in-Err-clause-exact
 returns-in-Err-clause-exact g c =

@@ -1,6 +1,9 @@
-use Rattle.pua_script.proofs.Common.{arith}
+use Rattle.pua_script.proofs.Common.{◌∙◌, ap, sym, arith, Err}
+use Rattle.pua_script.specs.Scripts.{LineOf}
+use Rattle.pua_script.specs.declared.fault.ScriptFault.TheVariants.{BadCall}
 use Rattle.pua_script.proofs.Reading.{many_arguments}
 use Rattle.pua_script.proofs.line.read_action.Goals as goal
 
 pub returns-in_default : goal.returns-in_default
-returns-in_default c = λ other. many_arguments c.args.number c.args.fields.now (omega arith)
+returns-in_default c = λ other. many_arguments c.args.origin.line c.args.fields.now (omega arith) ∙
+    ap (λ (origin : LineOf). Err (BadCall origin.line)) (sym c.origin.view_is)

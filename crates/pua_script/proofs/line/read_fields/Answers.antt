@@ -1,7 +1,12 @@
-use Rattle.pua_script.proofs.Common.{sym, map}
-use Rattle.pua_script.proofs.Reading.{asked}
+use Rattle.pua_script.proofs.Common.{map, subst, sym}
+use Rattle.pua_script.specs.Scripts.{IsRequestAdded, request_of_fields}
+use Rattle.pua_script.proofs.Reading.{line_added}
 use Rattle.pua_script.proofs.line.read_fields.Goals as goal
 
-pub new-requires : goal.new-requires
-new-requires c = asked c.args.number c.in-Some-number_within.process c.in-Some.process.now.now (map (λ f. f.now) c.in-Some.more.now)
-    c.in_ok-action.action (sym c.in-Some-number_within.ensures) c.in_ok-action.ensures
+pub returns : goal.returns
+returns c =
+    let added = line_added c.args.number c.in-Some-number_within.process c.in-Some.process.now.now (map (λ f. f.now) c.in-Some.more.now)
+    c.args.requests.now.items c.read_action.new.requests.items c.read_action.result (sym c.in-Some-number_within.ensures)
+    c.read_action.ensures in
+    subst (λ fields. IsRequestAdded (request_of_fields c.args.number (map (λ f. f.now) fields)) c.args.requests.now.items
+    c.read_action.new.requests.items c.read_action.result) (sym c.in-Some.ensures.cases.0) added

@@ -25,10 +25,10 @@ returns-clause-begun g c = λ h stands.
     let base = c.args.base in
     let limit = c.args.limit in
     let after = c.in_ok-letters.field-0.after in
-    let letters : List (List ℕ) = c.in_ok-letters.field-0.letters.items in
+    let letters : List (List ℕ) = c.in_ok-letters.field-0.letters in
     let b : Beginning = beginning_with t c.args.table.now h base limit c.in_ok-letters.field-0 in
     let past = stands_for_past p c.known.ensures.history c.known.ensures.stands in
-    let known : c.in_ok-terms.terms.letters.items ≡ letters = ap (λ v. v.items) c.in_ok-terms.ensures.letters in (
+    let known : c.in_ok-terms.terms.letters ≡ letters = c.in_ok-terms.ensures.letters in (
       b,
       (
         (subst (λ (u : Tree). beginning u c.args.table.now h c.args.base (map (λ s. s.now) c.args.candidates.now) c.args.limit
@@ -55,8 +55,8 @@ alphabet_in (Err fault) = []
 
 pub returns-clause-letters : goal.returns-clause-letters
 returns-clause-letters g c = λ h b is.
-    ap (λ (u : Terms). u.letters.items) c.in_ok-pairs.ensures.terms
-    ∙ ap (λ v. v.items) c.in_ok-terms.ensures.letters
+    ap (λ (u : Terms). u.letters) c.in_ok-pairs.ensures.terms
+    ∙ c.in_ok-terms.ensures.letters
     ∙ ap alphabet_in (sym
     ((subst (λ (u : Tree). beginning u c.args.table.now h c.args.base (map (λ s. s.now) c.args.candidates.now) c.args.limit
     (option_map (λ s. s.now) c.args.after) ≡ Ok (beginning_with u c.args.table.now h c.args.base c.args.limit c.in_ok-letters.field-0))
@@ -72,7 +72,7 @@ returns-clause-live g c = λ h stands b is.
     let t : Tree = g.P.Probe.tree c.args.probe.now in
     let base = c.args.base in
     let limit = c.args.limit in
-    let letters : List (List ℕ) = c.in_ok-letters.field-0.letters.items in
+    let letters : List (List ℕ) = c.in_ok-letters.field-0.letters in
     let past = stands_for_past p c.known.ensures.history c.known.ensures.stands in
     c.in_ok-pairs.ensures.live
     ∙ ap (λ (s : Scope). length (live_states s)) c.in_ok-terms.ensures.scope
@@ -89,15 +89,15 @@ begin-requires g c κs =
     let checked = c.in_ok-letters.ensures.sound in
     let after = c.in_ok-letters.field-0.after in
     let same : terms.seen.tree ≡ g.P.Probe.tree c.rows.new.self = ap (λ (s : Scope). s.tree) c.in_ok-terms.ensures.scope in
-    let items : terms.letters.items ≡ c.in_ok-letters.field-0.letters.items = ap (λ v. v.items) c.in_ok-terms.ensures.letters in
+    let items : terms.letters ≡ c.in_ok-letters.field-0.letters = c.in_ok-terms.ensures.letters in
     let rows : map lent_entry c.deref-2.result.now ≡ terms.seen.tree.rows =
     ap (map lent_entry) c.deref-2.ensures.value ∙ c.in_ok-rows.ensures.rows
     ∙ ap (λ (t : Tree). t.rows) (sym (same ∙ c.in_ok-rows.ensures.tree)) in
-    let letters : AreSound terms.limit terms.letters.items =
-    subst (λ (n : ℕ). AreSound n terms.letters.items) (sym c.in_ok-terms.ensures.limit)
+    let letters : AreSound terms.limit terms.letters =
+    subst (λ (n : ℕ). AreSound n terms.letters) (sym c.in_ok-terms.ensures.limit)
     (subst (λ (ls : List (List ℕ)). AreSound c.args.limit ls) (sym items) checked.sound) in
-    let word : IfSome after (λ r. AreLetters terms.letters.items terms.limit r.word.items) =
-    subst (λ (n : ℕ). IfSome after (λ r. AreLetters terms.letters.items n r.word.items)) (sym c.in_ok-terms.ensures.limit)
+    let word : IfSome after (λ r. AreLetters terms.letters terms.limit r.word.items) =
+    subst (λ (n : ℕ). IfSome after (λ r. AreLetters terms.letters n r.word.items)) (sym c.in_ok-terms.ensures.limit)
     (subst (λ (ls : List (List ℕ)). IfSome after (λ r. AreLetters ls c.args.limit r.word.items)) (sym items)
     checked.after) in
     ((refl, tt), (sym same, (rows, (c.in_ok-terms.ensures.sound, (letters, word)))))
@@ -159,10 +159,10 @@ returns-in_err-pairs-clause-cost g c =
     let terms : Terms = c.in_ok-terms.terms in
     let texts : List (List ℕ) = map (λ s. s.now) c.args.candidates.now in
     let same : terms.seen.tree ≡ t = ap (λ (s : Scope). s.tree) c.in_ok-terms.ensures.scope ∙ c.in_ok-rows.ensures.tree in
-    let count : length terms.letters.items ≡ letter_count t texts =
-    ap (λ v. length v.items) c.in_ok-terms.ensures.letters ∙ c.in_ok-letters.ensures.many
+    let count : length terms.letters ≡ letter_count t texts =
+    ap length c.in_ok-terms.ensures.letters ∙ c.in_ok-letters.ensures.many
     ∙ ap (λ (u : Tree). letter_count u texts) c.in_ok-rows.ensures.tree in
-    begun_within _ _ _ c.args.limit (length terms.letters.items) (letter_count t texts) t terms.seen.tree c.in_ok-rows.ensures.count
+    begun_within _ _ _ c.args.limit (length terms.letters) (letter_count t texts) t terms.seen.tree c.in_ok-rows.ensures.count
     same count c.begin.ensures.cost
 
 pub returns-clause-cost : goal.returns-clause-cost
@@ -171,8 +171,8 @@ returns-clause-cost g c =
     let terms : Terms = c.in_ok-terms.terms in
     let texts : List (List ℕ) = map (λ s. s.now) c.args.candidates.now in
     let same : terms.seen.tree ≡ t = ap (λ (s : Scope). s.tree) c.in_ok-terms.ensures.scope ∙ c.in_ok-rows.ensures.tree in
-    let count : length terms.letters.items ≡ letter_count t texts =
-    ap (λ v. length v.items) c.in_ok-terms.ensures.letters ∙ c.in_ok-letters.ensures.many
+    let count : length terms.letters ≡ letter_count t texts =
+    ap length c.in_ok-terms.ensures.letters ∙ c.in_ok-letters.ensures.many
     ∙ ap (λ (u : Tree). letter_count u texts) c.in_ok-rows.ensures.tree in
-    begun_within _ _ _ c.args.limit (length terms.letters.items) (letter_count t texts) t terms.seen.tree c.in_ok-rows.ensures.count
+    begun_within _ _ _ c.args.limit (length terms.letters) (letter_count t texts) t terms.seen.tree c.in_ok-rows.ensures.count
     same count c.begin.ensures.cost

@@ -26,12 +26,12 @@ returns g c =
     subst (λ (bs : List ℕ). length bs ≤ 1023) (sym (c.lent_path-path.ensures ∙ ap (lent_path b.terms.base) c.as_slice.ensures.value))
     (lent_short b.terms.base b.terms b.walk.word.items b.path.bytes.items (record { known = line.known; path = line.path.bytes })
     line.within ready.sound.short) in
-    let alphabet = ap (λ (t : Terms). t.letters.items) c.next_call.ensures.terms ∙ ap (λ (s : AuditState). s.alphabet) c.self.view_is in
+    let alphabet = ap (λ (t : Terms). t.letters) c.next_call.ensures.terms ∙ ap (λ (s : AuditState). s.alphabet) c.self.view_is in
     let limit = ap (λ (t : Terms). t.limit) c.next_call.ensures.terms ∙ ap (λ (s : AuditState). s.limit) c.self.view_is in
     let live = c.next_call.ensures.live ∙ ap (λ (s : AuditState). s.live) c.self.view_is in
     let reads = subst (λ (s : AuditState). b.walk.tables.reads ≤ s.reads + 2 * (suc s.limit * suc (length s.alphabet))) c.self.view_is
     (read_within b.walk.tables.reads c.self.inside.pairs.walk.tables.reads c.self.inside.pairs.terms.limit
-    (length c.self.inside.pairs.terms.letters.items) c.next_call.ensures.reads) in (
+    (length c.self.inside.pairs.terms.letters) c.next_call.ensures.reads) in (
       (refl, λ _. tt, (tree, base, (word, (path ∙ ap (λ (y : Base). path_of y word) base, left)), (alphabet, limit, live), reads)),
       record { rest = tt; short = short; plain = plain; tree = refl; asked = refl },
     )

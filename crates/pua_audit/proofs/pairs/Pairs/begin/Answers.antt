@@ -12,7 +12,7 @@ returns-clause-ready g c =
       limit = got.limit;
       letters = got.letters;
       pairs = got.within;
-      path = along_none c.args.terms.letters.items w.word.items c.in_ok-path.path c.in_ok-path.ensures.path;
+      path = along_none c.args.terms.letters w.word.items c.in_ok-path.path c.in_ok-path.ensures.path;
       bytes = omega (arith, c.most_bytes.ensures, c.in_ok-path.ensures.bytes);
       starts = c.in_ok-path.ensures.letters;
     }

@@ -12,7 +12,7 @@ loop-row-preserved c =
     record {
       within = added.within;
       rows = λ dir letter low unmarked.
-          all_taken (λ (entry : Spot × ℕ). entry.0.0 ≡ dir → entry.0.1 ≢ get_or c.args.self.now.letters.items letter []) lent_entry
+          all_taken (λ (entry : Spot × ℕ). entry.0.0 ≡ dir → entry.0.1 ≢ get_or c.args.self.now.letters letter []) lent_entry
           c.args.rows.now c.row-item.result l.row-index c.loop-row-test.true c.row-item.is
           (l.invariant.rows dir letter low (added.others dir letter unmarked))
           (λ at same. added.here letter low (subst (λ (d : ℕ). IsUnmarked d letter new) (sym at) unmarked) (sym same));
@@ -23,5 +23,5 @@ pub returns-clause-rows : goal.returns-clause-rows
 returns-clause-rows c = λ dir letter low unmarked.
     let l = c.loop-row in
     let past : length c.args.rows.now ≤ l.row-index = omega (arith, c.loop-row-test.false) in
-    subst (λ (rows : List LentRow). IsNowhere dir (get_or c.args.self.now.letters.items letter []) (map lent_entry rows))
+    subst (λ (rows : List LentRow). IsNowhere dir (get_or c.args.self.now.letters letter []) (map lent_entry rows))
     (take_all l.row-index c.args.rows.now past) (l.invariant.rows dir letter low unmarked)

@@ -3,8 +3,8 @@ use Rattle.pua_audit.proofs.terms.Terms.add_rows.Given as goal
 
 abbrev pub invariant-loop-row : goal.invariant-loop-row
 invariant-loop-row l = record {
-  within : AreAtLetters l.self.letters.items l.spots.items;
-  rows : (dir letter : ℕ) → letter < length l.self.letters.items → IsUnmarked dir letter l.spots.items →
-      IsNowhere dir (get_or l.self.letters.items letter []) (map lent_entry (take l.row-index l.rows));
+  within : AreAtLetters l.self.letters l.spots.items;
+  rows : (dir letter : ℕ) → letter < length l.self.letters → IsUnmarked dir letter l.spots.items →
+      IsNowhere dir (get_or l.self.letters letter []) (map lent_entry (take l.row-index l.rows));
   others : (dir letter : ℕ) → IsUnmarked dir letter l.spots.items → IsUnmarked dir letter l.fn.spots.items;
 }

@@ -13,7 +13,7 @@ returns-in_default-clause-here c = λ letter low unmarked same.
 
 pub returns-clause-within : goal.returns-clause-within
 returns-clause-within c =
-    let letters : List (List ℕ) = c.args.self.now.letters.items in
+    let letters : List (List ℕ) = c.args.self.now.letters in
     let spot : LetterSpot = record { dir = c.args.dir; letter = c.in-Some.letter.now } in
     let low = subst (λ (o : Option ℕ). IfSome o (λ n. n < length letters)) (sym c.in-Some.ensures.value)
     (c.requires.placed.within c.bytes.result.now) in

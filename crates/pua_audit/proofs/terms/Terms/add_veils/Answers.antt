@@ -11,7 +11,7 @@ loop-place-preserved c =
     record {
       within = added.within;
       places = λ dir letter low unmarked.
-          all_taken (λ (other : Place). other ≢ Slot dir (get_or c.args.self.now.letters.items letter []))
+          all_taken (λ (other : Place). other ≢ Slot dir (get_or c.args.self.now.letters letter []))
           (λ (place : Bor Place). place.now) c.args.places.now c.place-item.result l.place-index c.loop-place-test.true c.place-item.is
           (l.invariant.places dir letter low (added.others dir letter unmarked)) (added.here dir letter low unmarked);
       others = λ dir letter unmarked. l.invariant.others dir letter (added.others dir letter unmarked);
@@ -21,5 +21,5 @@ pub returns-clause-places : goal.returns-clause-places
 returns-clause-places c = λ dir letter low unmarked.
     let l = c.loop-place in
     let past : length c.args.places.now ≤ l.place-index = omega (arith, c.loop-place-test.false) in
-    subst (λ (places : List (Bor Place)). AreApartFrom (Slot dir (get_or c.args.self.now.letters.items letter []))
+    subst (λ (places : List (Bor Place)). AreApartFrom (Slot dir (get_or c.args.self.now.letters letter []))
     (map (λ place. place.now) places)) (take_all l.place-index c.args.places.now past) (l.invariant.places dir letter low unmarked)

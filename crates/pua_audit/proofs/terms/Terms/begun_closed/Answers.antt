@@ -11,13 +11,13 @@ pub returns-clause-pairs : goal.returns-clause-pairs
 returns-clause-pairs c = λ after.
     let a = c.args.self.now in
     let none : pairs_of (trail c.in_ok-walk.walk) ≡ [] = c.in_ok-walk.ensures.left ∙ none_reach _ a.limit in
-    nothing_after a c.requires.sound c.requires.letters c.requires.closed after ∙ ap (pairs_at a.letters.items) (sym none)
+    nothing_after a c.requires.sound c.requires.letters c.requires.closed after ∙ ap (pairs_at a.letters) (sym none)
 
 pub returns-clause-within : goal.returns-clause-within
 returns-clause-within c =
     let a = c.args.self.now in
     let none : pairs_of (trail c.in_ok-walk.walk) ≡ [] = c.in_ok-walk.ensures.left ∙ none_reach _ a.limit in
-    subst (λ (ps : List graph.Pair). AllByRecursion (λ p. IsPair (length a.letters.items) p) ps) (sym none) tt
+    subst (λ (ps : List graph.Pair). AllByRecursion (λ p. IsPair (length a.letters) p) ps) (sym none) tt
 
 pub returns-clause-live : goal.returns-clause-live
 returns-clause-live c = let a = c.args.self.now in

@@ -37,7 +37,7 @@ table-requires g c κs =
           c.requires.rows,
           (
             c.requires.sound,
-            (c.requires.letters.rises, (subst (λ (d : ℕ). IsTrue (is_dir t d)) (sym c.base_dir.ensures) there, covered)),
+            (subst (λ (d : ℕ). IsTrue (is_dir t d)) (sym c.base_dir.ensures) there, covered),
           ),
         ),
       ),
@@ -53,16 +53,16 @@ returns-clause-pairs g c =
     ap (λ (f : Found). is_allowed (verdict a.seen.tree a.table (plain_history a.process) call f)) c.base_found-2.ensures in
     let first = ap (λ (d : ℕ). Some (record { dir = d; used = 0 })) (sym (made.1.3 ∙ c.base_dir.ensures)) in
     let ps : List graph.Pair = graph.graph_reach (graph_of t) a.limit set (Some (record { dir = 0; used = 0 })) in
-    let same : map pair_in_numbers (reach (scope_in a)) ≡ map (pair_in_letters a.letters.items) ps =
+    let same : map pair_in_numbers (reach (scope_in a)) ≡ map (pair_in_letters a.letters) ps =
     ap (map pair_in_numbers) (sym (all_along a c.requires.sound c.requires.letters c.requires.open)) ∙
-    begun_reach (judge_in a) a.letters.items made.0 t made.1.0 made.1.2 set own first a.limit in
-    let within : AllByRecursion (λ p. IsPair (length a.letters.items) p) ps =
+    begun_reach (judge_in a) a.letters made.0 t made.1.0 made.1.2 set own first a.limit in
+    let within : AllByRecursion (λ p. IsPair (length a.letters) p) ps =
     subst (λ n. AllByRecursion (λ p. IsPair n p) ps) made.1.0.many (reach_is_within t a.limit set (Some (record { dir = 0; used = 0 }))
     made.1.0.table (record { dir = omega (arith, made.1.2, made.1.0.dirs); used = omega arith })) in
     let left = c.in_ok-walk.ensures.left ∙
     ap (λ (t : Steps). pairs_resumed c.args.after (graph.graph_reach (graph_of t) a.limit set (Some (record { dir = 0; used = 0 }))))
     c.in_ok-tables.ensures.steps in
-    scope_after (scope_in a) c.args.after ps c.requires.letters.rises c.requires.word within same ∙ ap (pairs_at a.letters.items) (sym left)
+    scope_after (scope_in a) c.args.after ps c.requires.letters.rises c.requires.word within same ∙ ap (pairs_at a.letters) (sym left)
 
 pub returns-clause-within : goal.returns-clause-within
 returns-clause-within g c =
@@ -70,15 +70,15 @@ returns-clause-within g c =
     let made = c.in_ok-steps.ensures.table in
     let t : Steps = c.in_ok-steps.steps in
     let ps : List graph.Pair = graph.graph_reach (graph_of t) a.limit c.bits-calls.result (Some (record { dir = 0; used = 0 })) in
-    let within : AllByRecursion (λ p. IsPair (length a.letters.items) p) ps =
+    let within : AllByRecursion (λ p. IsPair (length a.letters) p) ps =
     subst (λ n. AllByRecursion (λ p. IsPair n p) ps) made.1.0.many
     (reach_is_within t a.limit c.bits-calls.result (Some (record { dir = 0; used = 0 })) made.1.0.table
     (record { dir = omega (arith, made.1.2, made.1.0.dirs); used = omega arith })) in
     let left = c.in_ok-walk.ensures.left ∙
     ap (λ (t : Steps). pairs_resumed c.args.after (graph.graph_reach (graph_of t) a.limit c.bits-calls.result
     (Some (record { dir = 0; used = 0 })))) c.in_ok-tables.ensures.steps in
-    subst (λ (qs : List graph.Pair). AllByRecursion (λ p. IsPair (length a.letters.items) p) qs) (sym left)
-    (pairs_stay (length a.letters.items) c.args.after ps within)
+    subst (λ (qs : List graph.Pair). AllByRecursion (λ p. IsPair (length a.letters) p) qs) (sym left)
+    (pairs_stay (length a.letters) c.args.after ps within)
 
 pub returns-clause-live : goal.returns-clause-live
 returns-clause-live g c =
@@ -102,7 +102,7 @@ known_below letters limit n (Some r) same h = subst (λ k. AllByRecursion (λ le
 pub walk_after-requires-clause-word : goal.walk_after-requires-clause-word
 walk_after-requires-clause-word g c =
     let a = c.args.self.now in
-    known_below a.letters.items a.limit c.in_ok-tables.tables.steps.letters c.args.after (ap (λ (t : Steps). t.letters)
+    known_below a.letters a.limit c.in_ok-tables.tables.steps.letters c.args.after (ap (λ (t : Steps). t.letters)
     c.in_ok-tables.ensures.steps ∙ c.in_ok-steps.ensures.table.1.0.many) c.requires.word
 
 -- the tables of the table of steps
@@ -126,7 +126,7 @@ pub count-requires-clause-base : goal.count-requires-clause-base
 count-requires-clause-base g c =
     let made = c.in_ok-steps.ensures.table in
     subst (λ (t : Steps). IsState t (record { dir = 0; used = 0 })) (sym c.in_ok-tables.ensures.steps)
-    (first_state (judge_in c.args.self.now) c.args.self.now.letters.items made.0 c.in_ok-steps.steps made.1.0 made.1.2)
+    (first_state (judge_in c.args.self.now) c.args.self.now.letters made.0 c.in_ok-steps.steps made.1.0 made.1.2)
 
 pub count-requires-clause-limit : goal.count-requires-clause-limit
 count-requires-clause-limit g c = c.requires.letters.few
@@ -159,7 +159,7 @@ pub walk_after-requires-clause-base : goal.walk_after-requires-clause-base
 walk_after-requires-clause-base g c =
     let made = c.in_ok-steps.ensures.table in
     subst (λ (t : Steps). IsState t (record { dir = 0; used = 0 })) (sym c.in_ok-tables.ensures.steps)
-    (first_state (judge_in c.args.self.now) c.args.self.now.letters.items made.0 c.in_ok-steps.steps made.1.0 made.1.2)
+    (first_state (judge_in c.args.self.now) c.args.self.now.letters made.0 c.in_ok-steps.steps made.1.0 made.1.2)
 
 known_few : (letters : List (List ℕ)) (limit : ℕ) (o : Option Resumption) → IfSome o (λ r. AreLetters letters limit r.word.items)
     → IfSome o (λ r. length r.word.items ≤ limit)
@@ -167,7 +167,7 @@ known_few letters limit None h = tt
 known_few letters limit (Some r) h = h.within
 
 pub walk_after-requires-clause-few : goal.walk_after-requires-clause-few
-walk_after-requires-clause-few g c = known_few c.args.self.now.letters.items c.args.self.now.limit c.args.after c.requires.word
+walk_after-requires-clause-few g c = known_few c.args.self.now.letters c.args.self.now.limit c.args.after c.requires.word
 
 pub returns-clause-ready : goal.returns-clause-ready
 returns-clause-ready g c = c.in_ok-walk.ensures.ready
@@ -205,29 +205,29 @@ looks old found looked made letters t seen same at_cover at_calls at_table =
 pub returns-in_err-steps-clause-cost : goal.returns-in_err-steps-clause-cost
 returns-in_err-steps-clause-cost g c =
     let a = c.args.self.now in
-    looks _ _ _ _ (length a.letters.items) (g.P.Probe.tree c.args.probe.now) a.seen.tree c.requires.tree c.cover-cover.ensures.cost
+    looks _ _ _ _ (length a.letters) (g.P.Probe.tree c.args.probe.now) a.seen.tree c.requires.tree c.cover-cover.ensures.cost
     c.calls_on.ensures.cost c.table.ensures.cost
 
 pub returns-in_err-tables-clause-cost : goal.returns-in_err-tables-clause-cost
 returns-in_err-tables-clause-cost g c =
     let a = c.args.self.now in
-    looks _ _ _ _ (length a.letters.items) (g.P.Probe.tree c.args.probe.now) a.seen.tree c.requires.tree c.cover-cover.ensures.cost
+    looks _ _ _ _ (length a.letters) (g.P.Probe.tree c.args.probe.now) a.seen.tree c.requires.tree c.cover-cover.ensures.cost
     c.calls_on.ensures.cost c.table.ensures.cost
 
 pub returns-in_err-live-clause-cost : goal.returns-in_err-live-clause-cost
 returns-in_err-live-clause-cost g c =
     let a = c.args.self.now in
-    looks _ _ _ _ (length a.letters.items) (g.P.Probe.tree c.args.probe.now) a.seen.tree c.requires.tree c.cover-cover.ensures.cost
+    looks _ _ _ _ (length a.letters) (g.P.Probe.tree c.args.probe.now) a.seen.tree c.requires.tree c.cover-cover.ensures.cost
     c.calls_on.ensures.cost c.table.ensures.cost
 
 pub returns-in_err-walk-clause-cost : goal.returns-in_err-walk-clause-cost
 returns-in_err-walk-clause-cost g c =
     let a = c.args.self.now in
-    looks _ _ _ _ (length a.letters.items) (g.P.Probe.tree c.args.probe.now) a.seen.tree c.requires.tree c.cover-cover.ensures.cost
+    looks _ _ _ _ (length a.letters) (g.P.Probe.tree c.args.probe.now) a.seen.tree c.requires.tree c.cover-cover.ensures.cost
     c.calls_on.ensures.cost c.table.ensures.cost
 
 pub returns-clause-cost : goal.returns-clause-cost
 returns-clause-cost g c =
     let a = c.args.self.now in
-    looks _ _ _ _ (length a.letters.items) (g.P.Probe.tree c.args.probe.now) a.seen.tree c.requires.tree c.cover-cover.ensures.cost
+    looks _ _ _ _ (length a.letters) (g.P.Probe.tree c.args.probe.now) a.seen.tree c.requires.tree c.cover-cover.ensures.cost
     c.calls_on.ensures.cost c.table.ensures.cost

@@ -1,18 +1,20 @@
 use Rattle.pua_audit.proofs.Common.{◌≢◌, ◌<◌, ℕ, List, [], length, get_or, inl, inr, arith, sym, subst, AllByRecursion, cases_eq, IsApart}
-use Rattle.pua_audit.proofs.Common.{IsNamed, all_pushed, get_or_read}
+use Rattle.pua_audit.proofs.Common.{IsNamed, all_pushed, ap}
+use Rattle.pua_audit.proofs.Moves.{letter_read}
 use Rattle.pua_audit.proofs.terms.Terms.dots.Goals as goal
 use Rattle.pua_steps.proofs.ForCallers.{all_front}
 
 pub loop-place-preserved-then-is_name : goal.loop-place-preserved-then-is_name
 loop-place-preserved-then-is_name c =
-    let letters : List (List ℕ) = c.args.self.now.letters.items in
+    let letters : List (List ℕ) = c.args.self.now.letters in
     let l = c.loop-place in
-    let inside : l.place < length letters = omega (arith, c.len-place-end.ensures, c.loop-place-test.true) in
+    let inside : l.place < length letters = omega (arith, ap length c.as_slice-letters.ensures.letters, c.loop-place-test.true) in
     record {
       within = l.invariant.within;
       others = λ letter low apart. elim (cases_eq letter l.place) [
         | inl e ↦ subst (λ (n : ℕ). IsNamed (get_or letters n [])) (sym e)
-            (subst IsNamed (get_or_read letters l.place c.index.result.now inside c.index.ensures []) (c.is_name.ensures.name
+            (subst IsNamed (letter_read letters c.as_slice-letters.result.now l.place c.index-letters-place.result
+            c.as_slice-letters.ensures.letters inside c.index-letters-place.is) (c.is_name.ensures.name
             c.if-is_name.true))
         | inr away ↦ l.invariant.others letter (omega (arith, low, away)) apart
       ];
@@ -20,10 +22,10 @@ loop-place-preserved-then-is_name c =
 
 pub loop-place-preserved : goal.loop-place-preserved
 loop-place-preserved c =
-    let letters : List (List ℕ) = c.args.self.now.letters.items in
+    let letters : List (List ℕ) = c.args.self.now.letters in
     let l = c.loop-place in
     let items = c.in_ok-push.ensures.items in
-    let inside : l.place < length letters = omega (arith, c.len-place-end.ensures, c.loop-place-test.true) in
+    let inside : l.place < length letters = omega (arith, ap length c.as_slice-letters.ensures.letters, c.loop-place-test.true) in
     record {
       within = subst (AllByRecursion (λ letter. letter < length letters)) (sym items)
           (all_pushed (λ letter. letter < length letters) l.dots.items l.place l.invariant.within inside);

@@ -3,6 +3,6 @@ use Rattle.pua_audit.proofs.terms.Terms.dots.Given as goal
 
 abbrev pub invariant-loop-place : goal.invariant-loop-place
 invariant-loop-place l = record {
-  within : AllByRecursion (λ letter. letter < length l.self.letters.items) l.dots.items;
-  others : (letter : ℕ) → letter < l.place → IsApart letter l.dots.items → IsNamed (get_or l.self.letters.items letter []);
+  within : AllByRecursion (λ letter. letter < length l.self.letters) l.dots.items;
+  others : (letter : ℕ) → letter < l.place → IsApart letter l.dots.items → IsNamed (get_or l.self.letters letter []);
 }

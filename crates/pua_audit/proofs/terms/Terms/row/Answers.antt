@@ -21,8 +21,8 @@ loop-letter-init g c =
     (c.within-within.ensures c.args.dir c.requires.living c.requires.over).missing c.requires.spots among in
     record {
       row = λ n low reached.
-          subst (IsJudgedRow (judge_in a) a.letters.items c.args.dirs.now.numbers c.args.dir n missing) (sym c.new-entries.ensures.items)
-          (row_started (judge_in a) a.letters.items c.args.dir missing ns bare c.args.dirs.now.numbers
+          subst (IsJudgedRow (judge_in a) a.letters c.args.dirs.now.numbers c.args.dir n missing) (sym c.new-entries.ensures.items)
+          (row_started (judge_in a) a.letters c.args.dir missing ns bare c.args.dirs.now.numbers
           (subst (λ m. m < 2 ^ call_count) c.bits-missing.ensures.number c.bits-missing.ensures.calls) n low reached);
       grown = grown_itself c.args.dirs.now.numbers;
       living = c.requires.dirs;
@@ -38,7 +38,7 @@ letter-found-requires g c κs =
     let ns : List ℕ = c.deref-letter-items.result.now in
     let among : AreLettersIn c.args.dir s.dots.items s.names.items ns =
     subst (AreLettersIn c.args.dir s.dots.items s.names.items) (sym c.deref-letter-items.ensures.value) c.in_ok-letters.ensures in
-    let at = all_at_index (λ n. n < length a.letters.items) ns 0 (among.within (length a.letters.items) c.requires.spots.dotted
+    let at = all_at_index (λ n. n < length a.letters) ns 0 (among.within (length a.letters) c.requires.spots.dotted
     c.requires.spots.within) c.loop-letter.letter-index c.loop-letter-test.true in (
       (refl, tt),
       (
@@ -67,14 +67,14 @@ returns-in_err-put-clause-cost g c =
     let ns : List ℕ = c.deref-letter-items.result.now in
     let among : AreLettersIn c.args.dir s.dots.items s.names.items ns =
     subst (AreLettersIn c.args.dir s.dots.items s.names.items) (sym c.deref-letter-items.ensures.value) c.in_ok-letters.ensures in
-    let few = places_few ns (length a.letters.items) among.rise (among.within (length a.letters.items) c.requires.spots.dotted
+    let few = places_few ns (length a.letters) among.rise (among.within (length a.letters) c.requires.spots.dotted
     c.requires.spots.within) (suc l.letter-index) (omega (arith, c.loop-letter-test.true)) in
     omega (
       arith,
       l.invariant.cost,
       c.letter-found.ensures.cost,
       suc-mul l.letter-index (letter_cost a.seen.tree),
-      letters_within a.seen.tree (length a.letters.items) (suc l.letter-index) few,
+      letters_within a.seen.tree (length a.letters) (suc l.letter-index) few,
     )
 
 pub loop-letter-preserved : goal.loop-letter-preserved
@@ -91,9 +91,9 @@ loop-letter-preserved g c =
     (c.within-within.ensures c.args.dir c.requires.living c.requires.over).missing c.requires.spots among in
     record {
       row = λ n low reached.
-          row_further (judge_in a) a.letters.items c.args.dir missing ns bare l.dirs.numbers c.put.new.dirs.numbers l.entries.items
+          row_further (judge_in a) a.letters c.args.dir missing ns bare l.dirs.numbers c.put.new.dirs.numbers l.entries.items
           c.put.new.entries.items k c.loop-letter-test.true among.rise l.invariant.row
-          (c.in_ok-put.ensures.row (judge_in a) a.letters.items c.args.dir c.letter-found.ensures.exact) n low
+          (c.in_ok-put.ensures.row (judge_in a) a.letters c.args.dir c.letter-found.ensures.exact) n low
           (subst (λ j. IsReached ns j n) (add-one k) reached);
       grown = grown_further c.args.dirs.now.numbers l.dirs.numbers c.put.new.dirs.numbers l.invariant.grown c.in_ok-put.ensures.grown;
       living = c.in_ok-put.ensures.living a.seen.tree c.letter-found.ensures.lives l.invariant.living;
@@ -111,10 +111,10 @@ returns-clause-row g c =
     let among : AreLettersIn c.args.dir s.dots.items s.names.items ns =
     subst (AreLettersIn c.args.dir s.dots.items s.names.items) (sym c.deref-letter-items.ensures.value) c.in_ok-letters.ensures in
     let whole : l.letter-index ≡ length ns = omega (arith, c.loop-letter-test.false, l.auto.letter-index-end) in
-    let reached = reached_all ns (length a.letters.items) l.letter-index (among.within (length a.letters.items) c.requires.spots.dotted
+    let reached = reached_all ns (length a.letters) l.letter-index (among.within (length a.letters) c.requires.spots.dotted
     c.requires.spots.within) whole in
-    subst (λ (m : ℕ). IsJudgedRow (judge_in a) a.letters.items l.dirs.numbers c.args.dir (length a.letters.items) m l.entries.items)
-    (sym c.bits-missing.ensures.number) (l.invariant.row (length a.letters.items) (omega arith) reached)
+    subst (λ (m : ℕ). IsJudgedRow (judge_in a) a.letters l.dirs.numbers c.args.dir (length a.letters) m l.entries.items)
+    (sym c.bits-missing.ensures.number) (l.invariant.row (length a.letters) (omega arith) reached)
 
 pub returns-clause-cost : goal.returns-clause-cost
 returns-clause-cost g c =
@@ -124,6 +124,6 @@ returns-clause-cost g c =
     let ns : List ℕ = c.deref-letter-items.result.now in
     let among : AreLettersIn c.args.dir s.dots.items s.names.items ns =
     subst (AreLettersIn c.args.dir s.dots.items s.names.items) (sym c.deref-letter-items.ensures.value) c.in_ok-letters.ensures in
-    let few = places_few ns (length a.letters.items) among.rise (among.within (length a.letters.items) c.requires.spots.dotted
+    let few = places_few ns (length a.letters) among.rise (among.within (length a.letters) c.requires.spots.dotted
     c.requires.spots.within) l.letter-index (omega (arith, l.auto.letter-index-end)) in
-    omega (arith, l.invariant.cost, letters_within a.seen.tree (length a.letters.items) l.letter-index few)
+    omega (arith, l.invariant.cost, letters_within a.seen.tree (length a.letters) l.letter-index few)

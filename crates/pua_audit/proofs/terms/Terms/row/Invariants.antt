@@ -6,8 +6,8 @@ use Rattle.pua_audit.proofs.terms.Terms.row.Given as goal
 -- the row has all letters before the next one that is looked up
 abbrev pub invariant-loop-letter : goal.invariant-loop-letter
 invariant-loop-letter g l = record {
-  row : (n : ℕ) → n ≤ length l.self.letters.items → IsReached l.letter-items l.letter-index n →
-      IsJudgedRow (judge_in l.self) l.self.letters.items l.dirs.numbers l.dir n l.within.missing l.entries.items;
+  row : (n : ℕ) → n ≤ length l.self.letters → IsReached l.letter-items l.letter-index n →
+      IsJudgedRow (judge_in l.self) l.self.letters l.dirs.numbers l.dir n l.within.missing l.entries.items;
   grown : IsGrown l.fn.dirs.numbers l.dirs.numbers;
   living : AreLiving l.self.seen.tree l.dirs.numbers;
   covered : AreCovered l.self.seen.tree (plain_history l.self.process) l.dirs;

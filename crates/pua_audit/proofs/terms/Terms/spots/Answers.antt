@@ -10,10 +10,10 @@ use Rattle.pua_audit.proofs.terms.Terms.spots.Goals as goal
 pub returns : goal.returns
 returns c =
     let a = c.args.self.now in
-    let name = λ (letter : ℕ). get_or a.letters.items letter [] in
+    let name = λ (letter : ℕ). get_or a.letters letter [] in
     let rows : map lent_entry c.args.rows.now ≡ a.seen.tree.rows = c.requires.rows in
-    let places : map (λ place. place.now) c.as_slice-2.result.now ≡ map (λ veil. veil.0) a.process.veils =
-    ap (map (λ place. place.now)) c.as_slice-2.ensures.value ∙ c.in_ok-places.ensures in
+    let places : map (λ place. place.now) c.as_slice.result.now ≡ map (λ veil. veil.0) a.process.veils =
+    ap (map (λ place. place.now)) c.as_slice.ensures.value ∙ c.in_ok-places.ensures in
     let h = plain_history a.process in
     let names : List LetterSpot = c.add_veils.new.spots.items in
     let sorted : List LetterSpot = c.sort_unstable_by_key.new.self.items in
@@ -23,7 +23,7 @@ returns c =
     s.letter ≢ letter) sorted names (λ x h. Contains-permutation names sorted x moved h) unmarked in
     record {
       dotted = c.in_ok-dots.ensures.within;
-      within = all_among (λ (s : LetterSpot). s.letter < length a.letters.items) names sorted
+      within = all_among (λ (s : LetterSpot). s.letter < length a.letters) names sorted
           (λ x h. Contains-permutation sorted names x (IsPermutation-sym names sorted moved) h) c.in_ok-add_veils.ensures.within;
       named = c.in_ok-dots.ensures.others;
       none = λ dir letter low unsorted.

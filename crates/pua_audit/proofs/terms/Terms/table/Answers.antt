@@ -20,13 +20,13 @@ loop-dir-preserved g c =
     let inside : length rows < length l.dirs.numbers = omega (arith, at.within, c.len.ensures) in
     let count : c.len.result ≡ length rows = omega (arith, c.len.ensures) in
     let here : c.in-Some.dir ≡ get_or l.dirs.numbers (length rows) 0 = at.dir ∙ ap (λ (n : ℕ). get_or l.dirs.numbers n 0) count in
-    let last : IsJudgedRow (judge_in a) a.letters.items new (get_or l.dirs.numbers (length rows) 0) (length a.letters.items) row.missing
+    let last : IsJudgedRow (judge_in a) a.letters new (get_or l.dirs.numbers (length rows) 0) (length a.letters) row.missing
     row.entries.items =
-    subst (λ (n : ℕ). IsJudgedRow (judge_in a) a.letters.items new n (length a.letters.items) row.missing row.entries.items) here
+    subst (λ (n : ℕ). IsJudgedRow (judge_in a) a.letters new n (length a.letters) row.missing row.entries.items) here
     c.in_ok-row.ensures.row in
     let items : c.push.new.self.items ≡ rows ++ row ∷ [] = c.in_ok-push.ensures.items in
     record {
-      rows = subst (AreRows (judge_in a) a.letters.items new) (sym items) (rows_pushed (judge_in a) a.letters.items l.dirs.numbers new rows
+      rows = subst (AreRows (judge_in a) a.letters new) (sym items) (rows_pushed (judge_in a) a.letters l.dirs.numbers new rows
           row grown l.invariant.within l.invariant.rows last inside);
       within = omega (arith, ap length items, length-append rows (row ∷ []), inside, grown.more);
       some = omega (arith, l.invariant.some, grown.more);
@@ -35,7 +35,7 @@ loop-dir-preserved g c =
       covered = c.in_ok-row.ensures.covered;
       tree = c.row.ensures.tree ∙ l.invariant.tree;
       cost =
-          let n : ℕ = length a.letters.items in
+          let n : ℕ = length a.letters in
           let longer : length c.push.new.self.items ≡ suc (length rows) = omega (arith, ap length items, length-append rows (row ∷ [])) in
           subst (λ m. g.P.Probe.count c.row.new.probe ≤ g.P.Probe.count c.args.probe.now + suc (m * row_cost a.seen.tree n)) (sym longer)
           (omega (arith, c.row.ensures.cost, l.invariant.cost, one_row_more a.seen.tree n (length rows)));
@@ -47,13 +47,13 @@ returns-clause-table g c =
     let l = c.loop-dir in
     let t : Steps = record { letters = c.len-2.result; rows = l.rows } in
     let whole : length l.rows.items ≡ length l.dirs.numbers = omega (arith, c.in_default.ensures.none, c.len.ensures, l.invariant.within) in
-    let many : c.len-2.result ≡ length a.letters.items = omega (arith, c.len-2.ensures) in
-    let few : length a.letters.items < 18446744073709551616 = omega (arith, many, c.len-2.type_inv) in
+    let many : c.len-2.result ≡ length a.letters = omega (arith, c.len-2.ensures) in
+    let few : length a.letters < 18446744073709551616 = omega (arith, many, c.len-2.type_inv) in
     let numbers : AreNumbers l.dirs.numbers =
     subst (λ (d : DirectoriesState). AreNumbers d.numbers) c.dirs-in-loop-dir.view_is c.dirs-in-loop-dir.invariant in (
       l.dirs.numbers,
       (
-        table_made (judge_in a) a.letters.items l.dirs.numbers t many few whole l.invariant.rows,
+        table_made (judge_in a) a.letters l.dirs.numbers t many few whole l.invariant.rows,
         numbers_apart l.dirs.numbers numbers,
         l.invariant.some,
         l.invariant.first,
@@ -68,7 +68,7 @@ returns-clause-cost g c =
     subst (λ (d : DirectoriesState). AreNumbers d.numbers) c.dirs-in-loop-dir.view_is c.dirs-in-loop-dir.invariant in
     let few : length l.rows.items ≤ length a.seen.tree.nodes =
     omega (arith, l.invariant.within, rows_few a.seen.tree l.dirs.numbers numbers l.invariant.living) in
-    omega (arith, l.invariant.cost, rows_within a.seen.tree (length a.letters.items) (length l.rows.items) few)
+    omega (arith, l.invariant.cost, rows_within a.seen.tree (length a.letters) (length l.rows.items) few)
 
 pub returns-in_err-row-clause-cost : goal.returns-in_err-row-clause-cost
 returns-in_err-row-clause-cost g c =
@@ -81,7 +81,7 @@ returns-in_err-row-clause-cost g c =
       arith,
       c.row.ensures.cost,
       l.invariant.cost,
-      next_within a.seen.tree (length a.letters.items) (length l.rows.items) l.dirs.numbers numbers l.invariant.living inside,
+      next_within a.seen.tree (length a.letters) (length l.rows.items) l.dirs.numbers numbers l.invariant.living inside,
     )
 
 pub returns-in_err-push-clause-cost : goal.returns-in_err-push-clause-cost
@@ -95,7 +95,7 @@ returns-in_err-push-clause-cost g c =
       arith,
       c.row.ensures.cost,
       l.invariant.cost,
-      next_within a.seen.tree (length a.letters.items) (length l.rows.items) l.dirs.numbers numbers l.invariant.living inside,
+      next_within a.seen.tree (length a.letters) (length l.rows.items) l.dirs.numbers numbers l.invariant.living inside,
     )
 
 -- before the first row
@@ -122,7 +122,7 @@ loop-dir-init g c =
     let alone : new.numbers ≡ c.args.base ∷ [] =
     placed.all ∙ ap (λ (ns : List ℕ). insert_key nat_eq ns c.args.base) c.new-dirs.ensures.numbers in
     record {
-      rows = no_rows (judge_in a) a.letters.items new.numbers c.new-rows.result.items c.new-rows.ensures.items;
+      rows = no_rows (judge_in a) a.letters new.numbers c.new-rows.result.items c.new-rows.ensures.items;
       within = none_within c.new-rows.result.items new.numbers c.new-rows.ensures.items;
       some = some_within c.in_ok-place.field-0 (length new.numbers) placed.place.0;
       first = ap (λ (ns : List ℕ). get_or ns 0 0) alone;
@@ -130,7 +130,7 @@ loop-dir-init g c =
       covered = placed.covered t h c.requires.covered
           (c.new-dirs.ensures.covers ∙ ap (map (cover_in t h)) (sym c.new-dirs.ensures.numbers));
       tree = c.requires.tree;
-      cost = not_more (g.P.Probe.count c.args.probe.now) (length c.new-rows.result.items * row_cost t (length a.letters.items));
+      cost = not_more (g.P.Probe.count c.args.probe.now) (length c.new-rows.result.items * row_cost t (length a.letters));
     }
 
 -- one row more

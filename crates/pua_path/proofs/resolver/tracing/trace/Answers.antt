@@ -66,7 +66,7 @@ loop-piece-preserved-then-walk-left g c = record {
   ready = search rules;
   so_far =
       let t = g.P.Probe.tree c.args.probe.now in
-      let spot : Spot = (c.loop-piece.walk.here, c.name_of.result) in
+      let spot : Spot = (c.loop-piece.walk.here, c.name.result) in
       let further = walk_trace t c.args.mode c.enter_piece.new.self in
       let step : walk_trace t c.args.mode c.loop-piece.walk ≡ after_links (spot ∷ []) further = search rules in
       ap as_path_trace (link_followed c.loop-piece.links-inside.spots.items c.push_reserved.new.self.items spot

@@ -1,5 +1,5 @@
 use Rattle.pua_policy.proofs.Common.{rules}
-use Rattle.pua_policy.proofs.judge.object_verdict.Goals as goal
+use Rattle.pua_policy.proofs.judge.object_verdict_lent.Goals as goal
 
 pub returns-in-Some-clause-exact : goal.returns-in-Some-clause-exact
 returns-in-Some-clause-exact g c = search rules
