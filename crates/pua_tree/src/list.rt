@@ -1,7 +1,7 @@
 //! A tree kept as a list of rows and a list of nodes, each in the order of its keys.
 
 use crate::fault::{OutOfMemory, TreeFault};
-use crate::gathered::{Gathered, LineEntry, MadeNode};
+use crate::gathered::{Gathered, MadeNode, Standing};
 use crate::judgement::{self, Judged, may_add, may_cut, may_shift, may_tie};
 use crate::list_edits::{copied_target, push_made, put_row, reserve_one, take_row, take_unnamed};
 use crate::name::Name;
@@ -117,14 +117,9 @@ impl FileTree for ListTree {
         let target = copied_target(alloc, target)?;
         let number = self.next;
         let node = NodeId::new(number);
-        let entry = LineEntry {
-            number,
-            parent: dir,
-            name,
-            node,
-            made: Some(MadeNode { kind, target }),
-        };
-        self.put(entry)?;
+        let made = Some(MadeNode { kind, target });
+        let stands = Standing { number, node, made };
+        self.put(&Spot { dir, name }, stands)?;
         Ok(node)
     }
 
@@ -187,16 +182,19 @@ impl Gathered for ListTree {
         })
     }
 
-    fn put(&mut self, entry: LineEntry) -> Result<(), OutOfMemory> {
+    fn row_at(&self, spot: &Spot) -> Option<NodeId> {
+        self.node_at(spot)
+    }
+
+    fn put(&mut self, spot: &Spot, stands: Standing) -> Result<(), OutOfMemory> {
         reserve_one(&mut self.rows, &mut self.nodes)?;
-        let LineEntry {
-            number,
-            parent: dir,
-            name,
+        let Standing { number, node, made } = stands;
+        let row = ListRow {
+            dir: spot.dir,
+            name: spot.name,
             node,
-            made,
-        } = entry;
-        put_row(&mut self.rows, ListRow { dir, name, node });
+        };
+        put_row(&mut self.rows, row);
         push_made(&mut self.nodes, node, made);
         self.next = number + 1;
         Ok(())

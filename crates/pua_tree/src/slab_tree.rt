@@ -1,7 +1,7 @@
 //! A tree that uses slots again: rows by their spots, and nodes in slots that are found by number.
 
 use crate::fault::{OutOfMemory, TreeFault};
-use crate::gathered::{Gathered, LineEntry, MadeNode};
+use crate::gathered::{Gathered, MadeNode, Standing};
 use crate::judgement::{self, Judged, may_add, may_cut, may_shift, may_tie};
 use crate::list_edits::copied_target;
 use crate::name::Name;
@@ -88,14 +88,9 @@ impl FileTree for SlabTree {
         let target = copied_target(alloc, target)?;
         let number = self.next;
         let node = NodeId::new(number);
-        let entry = LineEntry {
-            number,
-            parent: dir,
-            name,
-            node,
-            made: Some(MadeNode { kind, target }),
-        };
-        self.put(entry)?;
+        let made = Some(MadeNode { kind, target });
+        let stands = Standing { number, node, made };
+        self.put(&Spot { dir, name }, stands)?;
         Ok(node)
     }
 
@@ -146,17 +141,15 @@ impl Gathered for SlabTree {
         Ok(SlabTree { slots, next: 1 })
     }
 
-    fn put(&mut self, entry: LineEntry) -> Result<(), OutOfMemory> {
+    fn row_at(&self, spot: &Spot) -> Option<NodeId> {
+        self.node_at(spot)
+    }
+
+    fn put(&mut self, spot: &Spot, stands: Standing) -> Result<(), OutOfMemory> {
         self.slots.reserve_node()?;
-        let LineEntry {
-            number,
-            parent: dir,
-            name,
-            node,
-            made,
-        } = entry;
+        let Standing { number, node, made } = stands;
         self.slots.add_made(node, made);
-        self.slots.put_row(dir, name, node);
+        self.slots.put_at(spot, node);
         self.next = number + 1;
         Ok(())
     }

@@ -218,7 +218,7 @@ impl Slots {
         self.numbers.len()
     }
 
-    /// Puts a row at a spot that has none.
+    /// Puts a row of this directory and name, at a spot that has none.
     pub(crate) fn put_row(&mut self, dir: NodeId, name: Name, node: NodeId)
         requires kept { AreConsistent self.old }
         requires room { 0 < spare self.old.rows }
@@ -228,13 +228,27 @@ impl Slots {
         ensures rows { held_rows self.new ≡ put spot_cmp (dir, name) node (held_rows self.old) }
         ensures nodes { held_nodes self.new ≡ held_nodes self.old }
     {
+        self.put_at(&Spot { dir, name }, node);
+    }
+
+    /// Puts a row at a spot that has none.
+    pub(crate) fn put_at(&mut self, spot: &Spot, node: NodeId)
+        requires kept { AreConsistent self.old }
+        requires room { 0 < spare self.old.rows }
+        requires free { row_at self.old (spot.now.dir, spot.now.name) ≡ None }
+        requires dir_once { MayStand self.old node }
+        ensures kept { AreConsistent self.new }
+        ensures rows { held_rows self.new
+            ≡ put spot_cmp (spot.now.dir, spot.now.name) node (held_rows self.old) }
+        ensures nodes { held_nodes self.new ≡ held_nodes self.old }
+    {
         let count = self.row_count();
         prove!(count < usize::MAX);
-        self.gain_row(dir);
+        self.gain_row(spot.dir);
         // A row of a node that is none may say anything.
-        let kind = self.gain_name(node, dir).unwrap_or(Kind::File);
+        let kind = self.gain_name(node, spot.dir).unwrap_or(Kind::File);
         let row = RowNode { node, kind };
-        self.rows.insert(Spot { dir, name }, row).unwrap();
+        self.rows.insert(*spot, row).unwrap();
     }
 
     /// Takes away the row of this directory and name, in which this node stands.
