@@ -2,7 +2,7 @@
 
 use crate::fault::{OutOfMemory, TreeFault};
 use crate::gathered::{Gathered, MadeNode, Standing};
-use crate::judgement::{self, Judged, may_add, may_cut, may_shift, may_tie};
+use crate::judgement::{self, Judged, Moving, may_add, may_cut, may_shift, may_tie};
 use crate::list_edits::{copied_target, push_made, put_row, reserve_one, take_row, take_unnamed};
 use crate::name::Name;
 use crate::node::{Kind, NodeId};
@@ -145,10 +145,10 @@ impl FileTree for ListTree {
         to: NodeId,
         new_name: Name,
     ) -> Result<(), TreeFault> {
-        let Some(node) = may_shift(self, from, name, to, &new_name)? else {
+        let Some(moving) = may_shift(self, from, name, to, &new_name)? else {
             return Ok(());
         };
-        let displaced = self.look(to, &new_name);
+        let Moving { node, displaced } = moving;
         take_row(&mut self.rows, from, name);
         put_row(
             &mut self.rows,

@@ -2,7 +2,7 @@
 
 use crate::fault::{OutOfMemory, TreeFault};
 use crate::gathered::{Gathered, MadeNode, Standing};
-use crate::judgement::{self, Judged, may_add, may_cut, may_shift, may_tie};
+use crate::judgement::{self, Judged, Moving, may_add, may_cut, may_shift, may_tie};
 use crate::list_edits::copied_target;
 use crate::name::Name;
 use crate::node::{Kind, NodeId};
@@ -32,9 +32,6 @@ impl Model for SlabTree {
 
     ghost invariant = { λ a. WellFormed (held_in_slots a.slots a.next) × AreConsistent a.slots };
 }
-
-ghost use Rattle.std.specs.Prelude.{◌≡◌};
-ghost use Rattle.pua_tree.specs.Tree.{is_dir};
 
 impl FileTree for SlabTree {
     ghost content = { λ t. t };
@@ -103,8 +100,8 @@ impl FileTree for SlabTree {
 
     fn cut(&mut self, dir: NodeId, name: &Name) -> Result<NodeId, TreeFault> {
         let node = may_cut(self, dir, name)?;
-        self.slots.take_row(dir, name, node);
-        self.slots.drop_unnamed(node);
+        let names = self.slots.take_row(dir, name, node);
+        self.slots.drop_where_none_left(node, names);
         Ok(node)
     }
 
@@ -115,15 +112,12 @@ impl FileTree for SlabTree {
         to: NodeId,
         new_name: Name,
     ) -> Result<(), TreeFault> {
-        let Some(node) = may_shift(self, from, name, to, &new_name)? else {
+        let Some(moving) = may_shift(self, from, name, to, &new_name)? else {
             return Ok(());
         };
+        let Moving { node, displaced } = moving;
         self.slots.reserve_row()?;
-        let spot = Spot {
-            dir: to,
-            name: new_name,
-        };
-        match self.slots.row(&spot) {
+        match displaced {
             Some(displaced) => {
                 self.slots.take_row(to, &new_name, displaced);
                 self.slots.move_row(from, name, to, new_name, node);
@@ -179,15 +173,17 @@ impl Judged for SlabTree {
     }
 
     fn dir_above(&self, dir: NodeId) -> Option<NodeId> {
-        if self.is_dir(dir) {
-            self.slots.above(dir)
-        } else {
-            None
+        match self.slots.directory(dir) {
+            Some(standing) => Some(standing.above),
+            None => None,
         }
     }
 
     fn is_bare(&self, dir: NodeId) -> bool {
-        self.is_dir(dir) && self.slots.has_no_row(dir)
+        match self.slots.directory(dir) {
+            Some(standing) => standing.rows == 0,
+            None => false,
+        }
     }
 
     fn row_count(&self) -> usize {
@@ -200,13 +196,5 @@ impl Judged for SlabTree {
 
     fn next_number(&self) -> u32 {
         self.next
-    }
-}
-
-impl SlabTree {
-    fn is_dir(&self, id: NodeId) -> bool
-        ensures { result ≡ is_dir self.now id }
-    {
-        self.kind_of(id) == Some(Kind::Dir)
     }
 }
