@@ -2,7 +2,7 @@
 //! what is found by bytes.
 
 use crate::fault::TreeFault;
-use crate::name::Name;
+use crate::name::{LentName, Name};
 use crate::node::{Kind, NodeId};
 use crate::spot::Spot;
 use crate::tree::{MOST_NAMES, NUMBER_END};
@@ -75,6 +75,23 @@ pub(crate) fn find<T: Judged>(tree: &T, dir: NodeId, bytes: &[u8]) -> Option<(No
         return None;
     };
     tree.found(&Spot { dir, name })
+}
+
+/// The node with this name in a directory, and its kind.
+pub(crate) fn find_named<T: Judged>(
+    tree: &T,
+    dir: NodeId,
+    name: LentName<'_>,
+) -> Option<(NodeId, Kind)>
+    ensures { result ≡ found_at (T.held tree.now) dir name.entry.bytes.now }
+{
+    // A name that is written where it is wanted is copied once less than one that is moved there.
+    let mut spot = Spot {
+        dir,
+        name: Name::any(),
+    };
+    spot.name.overwrite(name);
+    tree.found(&spot)
 }
 
 /// Whether a node may be added under this name, or else the first fault.

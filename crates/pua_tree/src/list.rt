@@ -4,7 +4,7 @@ use crate::fault::{OutOfMemory, TreeFault};
 use crate::gathered::{Gathered, MadeNode, Standing};
 use crate::judgement::{self, Judged, Moving, may_add, may_cut, may_shift, may_tie};
 use crate::list_edits::{copied_target, push_made, put_row, reserve_one, take_row, take_unnamed};
-use crate::name::Name;
+use crate::name::{LentName, Name};
 use crate::node::{Kind, NodeId};
 use crate::spot::Spot;
 use crate::tree::{FileTree, LentRow};
@@ -76,6 +76,10 @@ impl FileTree for ListTree {
 
     fn find(&self, dir: NodeId, bytes: &[u8]) -> Option<(NodeId, Kind)> {
         judgement::find(self, dir, bytes)
+    }
+
+    fn find_named(&self, dir: NodeId, name: LentName<'_>) -> Option<(NodeId, Kind)> {
+        judgement::find_named(self, dir, name)
     }
 
     fn parent(&self, dir: NodeId) -> Option<NodeId> {

@@ -77,6 +77,24 @@ impl Name {
         LentName { bytes }
     }
 
+    /// A name, to be written over.
+    #[inline(always)]
+    pub(crate) fn any() -> Name {
+        let bytes = b"-".as_slice();
+        LentName { bytes }.name()
+    }
+
+    /// Writes a lent name over this one. A name made in the place where it is wanted is copied once
+    /// less than one that is moved there.
+    #[inline(always)]
+    pub(crate) fn overwrite(&mut self, name: LentName<'_>)
+        ensures { self.new ≡ name.entry.bytes.now }
+    {
+        let bytes = name.bytes;
+        pad(&mut self.bytes, bytes);
+        self.len = bytes.len() as u8;
+    }
+
     /// Does nothing. A caller learns from it what is true of the bytes of every name.
     pub(crate) fn known(&self)
         ensures { IsTrue (is_name self.now) }
@@ -314,6 +332,16 @@ fn padded(bytes: &[u8]) -> [u8; Name::MOST]
     ensures { result ≡ padded_name bytes.now }
 {
     let mut padded = [0; Name::MOST];
-    padded[..bytes.len()].copy_from_slice(bytes);
+    pad(&mut padded, bytes);
     padded
+}
+
+/// Writes the bytes and zeros after them.
+#[inline(always)]
+fn pad(into: &mut [u8; Name::MOST], bytes: &[u8])
+    requires { length bytes.now ≤ most_name }
+    ensures { into.new ≡ padded_name bytes.now }
+{
+    *into = [0; Name::MOST];
+    into[..bytes.len()].copy_from_slice(bytes);
 }

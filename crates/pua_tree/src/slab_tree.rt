@@ -4,7 +4,7 @@ use crate::fault::{OutOfMemory, TreeFault};
 use crate::gathered::{Gathered, MadeNode, Standing};
 use crate::judgement::{self, Judged, Moving, may_add, may_cut, may_shift, may_tie};
 use crate::list_edits::copied_target;
-use crate::name::Name;
+use crate::name::{LentName, Name};
 use crate::node::{Kind, NodeId};
 use crate::slots::Slots;
 use crate::spot::Spot;
@@ -51,6 +51,10 @@ impl FileTree for SlabTree {
 
     fn find(&self, dir: NodeId, bytes: &[u8]) -> Option<(NodeId, Kind)> {
         judgement::find(self, dir, bytes)
+    }
+
+    fn find_named(&self, dir: NodeId, name: LentName<'_>) -> Option<(NodeId, Kind)> {
+        judgement::find_named(self, dir, name)
     }
 
     fn parent(&self, dir: NodeId) -> Option<NodeId> {

@@ -1,6 +1,6 @@
 use Rattle.pua_tree.proofs.Common.{ℕ, ◌++◌, List, length, drop, replicate, ap, ◌∙◌}
 use Rattle.std.proofs.lemmas.List.{drop-replicate}
-use Rattle.pua_tree.proofs.name.padded.Goals as goal
+use Rattle.pua_tree.proofs.name.pad.Goals as goal
 
 pub returns : goal.returns
 returns c =
