@@ -255,9 +255,8 @@ fn node_of(row: &Option<(NodeId, Kind)>) -> Option<NodeId>
 
 /// Whether the node in a row that may be there is a directory in which something stands.
 fn is_full_there<T: Judged>(tree: &T, row: &Option<(NodeId, Kind)>) -> bool
-    requires { IfSome row.now (λ found. kind_at (T.held tree.now) found.0 ≡ Some found.1) }
-    ensures { result
-        ≡ is_full_dir_there (T.held tree.now) (option_map (λ found. found.0) row.now) }
+    ensures { IfSome row.now (λ found. kind_at (T.held tree.now) found.0 ≡ Some found.1) →
+        result ≡ is_full_dir_there (T.held tree.now) (option_map (λ found. found.0) row.now) }
 {
     match row {
         Some((node, kind)) => is_full(tree, *node, *kind),
@@ -273,8 +272,8 @@ fn is_dir<T: Judged>(tree: &T, id: NodeId) -> bool
 
 /// Whether a node of this kind is a directory in which something stands.
 fn is_full<T: Judged>(tree: &T, id: NodeId, kind: Kind) -> bool
-    requires { kind_at (T.held tree.now) id ≡ Some kind }
-    ensures { result ≡ is_full_dir (T.held tree.now) id }
+    ensures { kind_at (T.held tree.now) id ≡ Some kind →
+        result ≡ is_full_dir (T.held tree.now) id }
 {
     kind == Kind::Dir && !tree.is_bare(id)
 }

@@ -91,7 +91,7 @@ impl Name {
         ensures { self.new ≡ name.entry.bytes.now }
     {
         let bytes = name.bytes;
-        pad(&mut self.bytes, bytes);
+        pad(&mut self.bytes, name);
         self.len = bytes.len() as u8;
     }
 
@@ -143,29 +143,19 @@ impl<'a> LentName<'a> {
         ensures { MatchResult result (λ name. name_of spelling.now ≡ Ok name.bytes.now)
             (λ fault. name_of spelling.now ≡ Err fault) }
     {
-        if are_plain_in_name(spelling) {
-            LentName::plain(spelling)
-        } else {
-            LentName::read_escaped(spelling, room)
+        if !are_plain_in_name(spelling) {
+            return LentName::read_escaped(spelling, room);
         }
-    }
-
-    /// The name that is these bytes, of which each may be one of a name and stands for itself.
-    fn plain(bytes: &'a [u8]) -> Result<LentName<'a>, NameFault>
-        requires { IsTrue (list_all is_plain_in_name bytes.now) }
-        ensures { MatchResult result (λ name. name_of bytes.now ≡ Ok name.bytes.now)
-            (λ fault. name_of bytes.now ≡ Err fault) }
-    {
-        if bytes.is_empty() {
+        if spelling.is_empty() {
             return Err(NameFault::Empty);
         }
-        if bytes.len() > Name::MOST {
+        if spelling.len() > Name::MOST {
             return Err(NameFault::TooLong);
         }
-        if are_dots(bytes) {
+        if are_dots(spelling) {
             return Err(NameFault::NotAName);
         }
-        Ok(LentName { bytes })
+        Ok(LentName { bytes: spelling })
     }
 
     /// The name that any text spells, read byte by byte into a room.
@@ -218,7 +208,7 @@ impl LentName<'_> {
     {
         let bytes = self.bytes;
         Name {
-            bytes: padded(bytes),
+            bytes: padded(*self),
             len: bytes.len() as u8,
         }
     }
@@ -325,23 +315,22 @@ fn is_name_byte(byte: u8) -> bool
     byte != 0 && byte != b'/'
 }
 
-/// The bytes and zeros after them.
+/// The bytes of a name, and zeros after them.
 #[inline(always)]
-fn padded(bytes: &[u8]) -> [u8; Name::MOST]
-    requires { length bytes.now ≤ most_name }
-    ensures { result ≡ padded_name bytes.now }
+fn padded(name: LentName<'_>) -> [u8; Name::MOST]
+    ensures { result ≡ padded_name name.entry.bytes.now }
 {
     let mut padded = [0; Name::MOST];
-    pad(&mut padded, bytes);
+    pad(&mut padded, name);
     padded
 }
 
-/// Writes the bytes and zeros after them.
+/// Writes the bytes of a name, and zeros after them.
 #[inline(always)]
-fn pad(into: &mut [u8; Name::MOST], bytes: &[u8])
-    requires { length bytes.now ≤ most_name }
-    ensures { into.new ≡ padded_name bytes.now }
+fn pad(into: &mut [u8; Name::MOST], name: LentName<'_>)
+    ensures { into.new ≡ padded_name name.entry.bytes.now }
 {
+    let bytes = name.bytes;
     *into = [0; Name::MOST];
     into[..bytes.len()].copy_from_slice(bytes);
 }

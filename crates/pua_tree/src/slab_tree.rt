@@ -98,7 +98,7 @@ impl FileTree for SlabTree {
     fn tie(&mut self, dir: NodeId, name: Name, node: NodeId) -> Result<(), TreeFault> {
         may_tie(self, dir, &name, node)?;
         self.slots.reserve_row()?;
-        self.slots.put_row(dir, name, node);
+        self.slots.put_row(&Spot { dir, name }, node);
         Ok(())
     }
 
@@ -147,7 +147,7 @@ impl Gathered for SlabTree {
         self.slots.reserve_node()?;
         let Standing { number, node, made } = stands;
         self.slots.add_made(node, made);
-        self.slots.put_at(spot, node);
+        self.slots.put_row(spot, node);
         self.next = number + 1;
         Ok(())
     }

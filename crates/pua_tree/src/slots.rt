@@ -214,21 +214,8 @@ impl Slots {
         self.numbers.len()
     }
 
-    /// Puts a row of this directory and name, at a spot that has none.
-    pub(crate) fn put_row(&mut self, dir: NodeId, name: Name, node: NodeId)
-        requires kept { AreConsistent self.old }
-        requires room { 0 < spare self.old.rows }
-        requires free { row_at self.old (dir, name) ≡ None }
-        requires dir_once { MayStand self.old node }
-        ensures kept { AreConsistent self.new }
-        ensures rows { held_rows self.new ≡ put spot_cmp (dir, name) node (held_rows self.old) }
-        ensures nodes { held_nodes self.new ≡ held_nodes self.old }
-    {
-        self.put_at(&Spot { dir, name }, node);
-    }
-
     /// Puts a row at a spot that has none.
-    pub(crate) fn put_at(&mut self, spot: &Spot, node: NodeId)
+    pub(crate) fn put_row(&mut self, spot: &Spot, node: NodeId)
         requires kept { AreConsistent self.old }
         requires room { 0 < spare self.old.rows }
         requires free { row_at self.old (spot.now.dir, spot.now.name) ≡ None }
@@ -292,7 +279,13 @@ impl Slots {
         ensures nodes { held_nodes self.new ≡ held_nodes self.old }
     {
         self.take_row(from, name, node);
-        self.put_row(to, new_name, node);
+        self.put_row(
+            &Spot {
+                dir: to,
+                name: new_name,
+            },
+            node,
+        );
     }
 
     /// Puts a node under a number that no node has and no row names.
@@ -371,11 +364,10 @@ impl Slots {
     pub(crate) fn drop_where_none_left(&mut self, id: NodeId, names: usize)
         requires kept { AreConsistent self.old }
         requires living { IsSome (node_in self.old id) }
-        requires names { IfSome (node_in self.old id)
-            (λ _. names ≡ names_of (held_rows self.old) id) }
         ensures kept { AreConsistent self.new }
         ensures rows { self.new.rows ≡ self.old.rows }
-        ensures unnamed { (next : ℕ) →
+        ensures unnamed { IfSome (node_in self.old id)
+            (λ _. names ≡ names_of (held_rows self.old) id) → (next : ℕ) →
             held_in_slots self.new next ≡ without_unnamed (held_in_slots self.old next) id }
     {
         if names == 0 {

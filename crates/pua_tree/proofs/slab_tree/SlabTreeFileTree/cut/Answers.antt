@@ -25,7 +25,7 @@ returns-clause-exact c =
     (λ i. record { rows = c.take_row-names.ensures.rows i; nodes = c.take_row-names.ensures.nodes i; next = next }) ∙
     ap (λ (t : tree.Tree). without_row t c.args.dir c.args.name.now) c.self.view_is in
     c.in_ok-node.ensures.exact ∙
-    ap (λ (t : tree.Tree). Ok (c.in_ok-node.node, t)) (sym (c.drop_where_none_left.ensures.unnamed next ∙
+    ap (λ (t : tree.Tree). Ok (c.in_ok-node.node, t)) (sym (c.drop_where_none_left.ensures.unnamed c.take_row-names.ensures.left next ∙
     ap (λ (t : tree.Tree). without_unnamed t c.in_ok-node.node) taken))
 
 pub invariant_of-self : goal.invariant_of-self

@@ -26,8 +26,8 @@ add_made-requires-clause-new c =
     subst (λ (t : tree.Tree). Follows t e) (sym (c.reserve_node.ensures.same next ∙ c.self.view_is)) c.requires in
     new_where_made s next formed c.reserve_node.ensures.kept e follows.number c.args.stands.made follows.enters
 
-pub put_at-requires-clause-free : goal.put_at-requires-clause-free
-put_at-requires-clause-free c =
+pub put_row-requires-clause-free : goal.put_row-requires-clause-free
+put_row-requires-clause-free c =
     let s = c.reserve_node.new.self in
     let e = entry_at c.args.spot.now.dir c.args.spot.now.name c.args.stands in
     let next = c.self.inside.next in
@@ -39,8 +39,8 @@ put_at-requires-clause-free c =
     rows_found s (e.parent, e.name)
     ∙ free_spot s next formed c.reserve_node.ensures.kept e follows.number e.made follows.enters
 
-pub put_at-requires-clause-dir_once : goal.put_at-requires-clause-dir_once
-put_at-requires-clause-dir_once c =
+pub put_row-requires-clause-dir_once : goal.put_row-requires-clause-dir_once
+put_row-requires-clause-dir_once c =
     let s = c.reserve_node.new.self in
     let e = entry_at c.args.spot.now.dir c.args.spot.now.name c.args.stands in
     let next = c.self.inside.next in
@@ -58,10 +58,10 @@ returns-clause-grown c =
     let same : held_in_slots s next ≡ c.args.self.now = c.reserve_node.ensures.same next ∙ c.self.view_is in
     let formed : WellFormed (held_in_slots s next) = subst WellFormed (sym (c.reserve_node.ensures.same next)) c.self.invariant.0 in
     let follows : Follows (held_in_slots s next) e = subst (λ (t : tree.Tree). Follows t e) (sym same) c.requires in
-    let rows : held_rows c.put_at.new.self ≡ put spot_cmp (e.parent, e.name) e.node (held_rows s) =
-    c.put_at.ensures.rows ∙ ap (put spot_cmp (e.parent, e.name) e.node) (rows_by c.add_made.new.self s c.add_made.ensures.rows) in
-    grown_held s next formed c.reserve_node.ensures.kept e follows.number c.put_at.new.self e.made follows.enters rows
-    (c.put_at.ensures.nodes ∙ c.add_made.ensures.nodes)
+    let rows : held_rows c.put_row.new.self ≡ put spot_cmp (e.parent, e.name) e.node (held_rows s) =
+    c.put_row.ensures.rows ∙ ap (put spot_cmp (e.parent, e.name) e.node) (rows_by c.add_made.new.self s c.add_made.ensures.rows) in
+    grown_held s next formed c.reserve_node.ensures.kept e follows.number c.put_row.new.self e.made follows.enters rows
+    (c.put_row.ensures.nodes ∙ c.add_made.ensures.nodes)
     ∙ ap (λ (t : tree.Tree). tree_with t e) same
 
 pub invariant_of-self-2 : goal.invariant_of-self-2
@@ -69,5 +69,5 @@ invariant_of-self-2 c =
     let t = c.args.self.now in
     let e = entry_at c.args.spot.now.dir c.args.spot.now.name c.args.stands in (
       subst WellFormed (sym (returns-clause-grown c)) (grown_keeps t e (subst WellFormed c.self.view_is c.self.invariant.0) c.requires),
-      c.put_at.ensures.kept,
+      c.put_row.ensures.kept,
     )

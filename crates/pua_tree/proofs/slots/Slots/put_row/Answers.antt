@@ -4,7 +4,7 @@ use Rattle.pua_tree.specs.Slots.{with_stance, row_gained}
 use Rattle.pua_tree.specs.declared.node.Kind.{Kind}
 use Rattle.pua_tree.specs.declared.node.Kind.TheVariants.{File}
 use Rattle.pua_tree.proofs.SlotsKeep.{few_rows, few_names, rows_after_put, nodes_after_put, kept_after_put}
-use Rattle.pua_tree.proofs.slots.Slots.put_at.Goals as goal
+use Rattle.pua_tree.proofs.slots.Slots.put_row.Goals as goal
 
 pub gain_row-requires-clause-few : goal.gain_row-requires-clause-few
 gain_row-requires-clause-few c =
