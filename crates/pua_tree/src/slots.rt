@@ -399,15 +399,17 @@ impl Slots {
         self.nodes.reserve(1)
     }
 
-    /// The root alone, with room for so many rows. The only error is that memory is refused.
+    /// The root alone, with room for so many rows, and for as many nodes. The only error is that
+    /// memory is refused.
     pub(crate) fn root_alone(alloc: Global, rows: usize) -> Result<Slots, AllocError>
         ensures kept { IfOk result AreConsistent }
         ensures root { IfOk result (λ slots. held_in_slots slots 1 ≡ empty_tree) }
     {
+        let nodes = rows.max(1);
         let mut slots = Slots {
             rows: IndexMap::with_capacity(alloc, rows)?,
-            numbers: IndexMap::with_capacity(alloc, 1)?,
-            nodes: Slab::with_capacity(alloc, 1)?,
+            numbers: IndexMap::with_capacity(alloc, nodes)?,
+            nodes: Slab::with_capacity(alloc, nodes)?,
         };
         slots.add_node(NodeId::ROOT, Kind::Dir, None);
         Ok(slots)
