@@ -112,11 +112,13 @@ fn take_line(lines: &mut Lines<'_>, text: &[u8]) -> bool
 }
 
 /// The tree of the lines so far, the greatest number among them, and whether hard links are known.
+/// The spot of each line is written over the one before.
 #[derive(Drop)]
 struct Reading<T> {
     hard: bool,
     tree: T,
     greatest: u32,
+    spot: Spot,
 }
 
 /// Reads the lines after the first two, with room for so many rows.
@@ -150,10 +152,16 @@ impl<T: Gathered> Reading<T> {
         ensures hard { IfOk result (λ reading. reading.hard ≡ hard) }
         ensures err { OnErr result (result ≡ Err ListingFault.OutOfMemory) }
     {
+        let tree = T::root_alone(alloc, rows)?;
+        let spot = Spot {
+            dir: NodeId::ROOT,
+            name: Name::any(),
+        };
         Ok(Reading {
             hard,
-            tree: T::root_alone(alloc, rows)?,
+            tree,
             greatest: 0,
+            spot,
         })
     }
 
@@ -179,18 +187,16 @@ impl<T: Gathered> Reading<T> {
             → entry_of self.old.hard es n text.now ≡ Err fault) }
     {
         let entry = self.entry(alloc, n, text, room)?;
-        let spot = Spot {
-            dir: entry.parent,
-            name: entry.name.name(),
-        };
-        if self.tree.row_at(&spot).is_some() {
+        self.spot.dir = entry.parent;
+        self.spot.name.overwrite(entry.name);
+        if self.tree.row_at(&self.spot).is_some() {
             return Err(ListingFault::Taken(n));
         }
         if n > MOST_LINES {
             return Err(ListingFault::TooMany(n));
         }
         self.greatest = entry.stands.number;
-        self.tree.put(&spot, entry.stands)?;
+        self.tree.put(&self.spot, entry.stands)?;
         Ok(())
     }
 

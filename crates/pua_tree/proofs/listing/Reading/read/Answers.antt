@@ -35,7 +35,7 @@ put-requires g c =
     fit_follows c.args.self.now.hard t c.args.self.now.greatest es e h
     (entry_read c.args.self.now.hard es c.args.n c.args.text.now e count read).1 in
     let said = c.in_ok-entry.entry in
-    subst (λ (name : List ℕ). Follows t (entry_at said.parent name said.stands)) (sym c.name.ensures) follows
+    subst (λ (name : List ℕ). Follows t (entry_at said.parent name said.stands)) (sym c.overwrite.ensures) follows
 
 pub returns-clause-exact : goal.returns-clause-exact
 returns-clause-exact g c = λ es h count.
@@ -46,7 +46,7 @@ returns-clause-exact g c = λ es h count.
     admitted_entry c.args.self.now.hard t c.args.self.now.greatest es c.args.n e h free c.if-n-gt-MOST_LINES.false in
     let said = c.in_ok-entry.entry in
     let grown =
-    c.in_ok-put.ensures.grown ∙ ap (λ (name : List ℕ). tree_with t (entry_at said.parent name said.stands)) c.name.ensures in
+    c.in_ok-put.ensures.grown ∙ ap (λ (name : List ℕ). tree_with t (entry_at said.parent name said.stands)) c.overwrite.ensures in
     let fits : Fits c.args.self.now.hard es e = (entry_read c.args.self.now.hard es c.args.n c.args.text.now e count read).1 in (
       e,
       read,
