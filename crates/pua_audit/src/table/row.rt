@@ -64,7 +64,8 @@ impl Terms {
         let letters = spots.letters_in(alloc, dir)?;
         let mut entries = Vec::new(alloc);
         for letter in &letters {
-            let found = self.letter(probe, dirs, dir, *letter, &within);
+            let components = self.letters.as_slice();
+            let found = self.letter(probe, dirs, dir, &components[*letter], &within);
             found.put(*letter, within.missing, dirs, &mut entries)?;
         }
         Ok(Row { entries, missing })
