@@ -19,7 +19,7 @@ ghost use Rattle.pua_audit.specs.Covers.{AreCovered};
 ghost use Rattle.pua_audit.specs.Past.{plain_history};
 ghost use Rattle.pua_audit.specs.Ready.{IsSound, judge_in};
 ghost use Rattle.pua_audit.specs.Entries.{AreWithin, links_of, found_of, leads_to};
-ghost use Rattle.pua_audit.specs.Spots.{IsNamed};
+ghost use Rattle.pua_audit.specs.Spots.{AreUnveiled, IsNamed};
 ghost use Rattle.pua_audit.specs.Table.{IsLetter};
 ghost use Rattle.pua_steps.specs.Limits.{most_links};
 
@@ -112,22 +112,24 @@ impl Terms {
     {
         let (_, kind) = probe.find(dir, letter.bytes())?;
         let calls = within.on(kind)?;
-        if self.may_have_veil(dir, letter) {
+        if self.may_have_veil(dir, letter, within.veiled) {
             return None;
         }
         Some(calls)
     }
 
-    /// Whether a letter is no name, or a name in a directory at which a veil is kept.
-    fn may_have_veil(&self, dir: NodeId, letter: &Component) -> bool
+    /// Whether a letter is no name, or a name in a directory at which a veil is kept. It is given
+    /// whether any name there may have one.
+    fn may_have_veil(&self, dir: NodeId, letter: &Component, veiled: bool) -> bool
         requires { IsSound self.now }
         ensures name { result ≡ false → IsNamed letter.now }
         ensures veil { result ≡ false →
+            (veiled ≡ false → AreUnveiled (plain_history self.now.process) dir) →
             perms_kept (plain_history self.now.process) (Slot dir letter.now) ≡ None }
         ensures apart { result ≡ true → IsNamed letter.now →
             perms_kept (plain_history self.now.process) (Slot dir letter.now) ≢ None }
     {
-        if !self.process.is_veiled() {
+        if !veiled {
             return !letter.is_name();
         }
         match letter.part() {

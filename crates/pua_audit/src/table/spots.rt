@@ -1,13 +1,13 @@
 //! The letters that directories tell apart from names that they lack.
 
-ghost use Rattle.std.specs.Prelude.{◌≡◌, ◌≢◌, ◌<◌, ℕ, [], length, get_or, map, IfOk};
-ghost use Rattle.std.specs.List.{AllByRecursion};
+ghost use Rattle.std.specs.Prelude.{◌≡◌, ◌≢◌, ◌<◌, ◌==◌, ℕ, List, [], length, get_or, map, IfOk};
+ghost use Rattle.std.specs.List.{AllByRecursion, list_any};
 ghost use Rattle.std.specs.List.Sorted.{IsNonDecreasingBy};
 ghost use Rattle.pua_tree.specs.LentRows.{lent_entry};
 ghost use Rattle.pua_policy.specs.declared.place.Place.TheVariants.{Slot};
 ghost use Rattle.pua_audit.specs.Past.{plain_history};
 ghost use Rattle.pua_audit.specs.Ready.{IsSound};
-ghost use Rattle.pua_audit.specs.Spots.{AreApartFrom, AreAtLetters, AreLettersIn, AreLetterSpots};
+ghost use Rattle.pua_audit.specs.Spots.{AreApartFrom, AreAtLetters, AreLettersIn, AreSpotsOf};
 ghost use Rattle.pua_audit.specs.Spots.{IsApart, IsNamed, IsNowhere, IsUnmarked};
 
 use crate::table::placed::Places;
@@ -30,6 +30,8 @@ pub(crate) struct Spots {
     pub(crate) dots: Vec<usize>,
     /// Those that are names, in the order of the directories that tell them apart.
     pub(crate) names: Vec<LetterSpot>,
+    /// The directories in which a veil is kept at a name.
+    pub(crate) veiled: Vec<NodeId>,
 }
 
 impl Terms {
@@ -39,17 +41,23 @@ impl Terms {
         requires rows { map lent_entry rows.now ≡ self.now.seen.tree.rows }
         requires sound { IsSound self.now }
         ensures { IfOk result
-            (λ spots. AreLetterSpots self.now.seen.tree (plain_history self.now.process)
-            self.now.letters spots.dots.items spots.names.items) }
+            (λ spots. AreSpotsOf self.now.seen.tree (plain_history self.now.process)
+            self.now.letters spots) }
     {
         let letters = Places::of(alloc, &self.letters)?;
         let places = self.process.places(alloc)?;
+        let places = places.as_slice();
         let mut names = Vec::new(alloc);
         letters.add_rows(&mut names, rows)?;
-        letters.add_veils(&mut names, places.as_slice())?;
+        letters.add_veils(&mut names, places)?;
         names.sort_unstable_by_key(|spot| spot.dir);
         let dots = self.dots(alloc)?;
-        Ok(Spots { dots, names })
+        let veiled = veiled_dirs(alloc, places)?;
+        Ok(Spots {
+            dots,
+            names,
+            veiled,
+        })
     }
 
     /// The letters that are no names. The error is that a growth was refused.
@@ -151,6 +159,13 @@ impl Places<'_> {
 }
 
 impl Spots {
+    /// Whether a veil is kept at a name in a directory.
+    pub(crate) fn has_veil_in(&self, dir: NodeId) -> bool
+        ensures { result ≡ list_any (λ other. other == dir) self.now.veiled.items }
+    {
+        self.veiled.contains(&dir)
+    }
+
     /// The letters that a directory tells apart from names that it lacks, in their order, each once.
     /// The error is that a growth was refused.
     pub(crate) fn letters_in(&self, alloc: Global, dir: NodeId) -> Result<Vec<usize>, OutOfMemory>
@@ -189,4 +204,30 @@ fn letters_at(alloc: Global, spots: &[LetterSpot]) -> Result<Vec<usize>, OutOfMe
         letters.push(spot.letter)?;
     }
     Ok(letters)
+}
+
+/// The directories in whose names places are. The error is that a growth was refused.
+fn veiled_dirs(alloc: Global, places: &[&Place]) -> Result<Vec<NodeId>, OutOfMemory>
+    ensures { IfOk result (λ dirs. (dir : ℕ) (name : List ℕ) → IsApart dir dirs.items →
+        AreApartFrom (Slot dir name) (map (λ place. place.now) places.now)) }
+{
+    let mut dirs = Vec::new(alloc);
+    for place in places {
+        add_veiled(&mut dirs, *place)?;
+    }
+    Ok(dirs)
+}
+
+/// Puts the directory of a place after others, if the place is a name there.
+fn add_veiled(dirs: &mut Vec<NodeId>, place: &Place) -> Result<(), OutOfMemory>
+    ensures here { IfOk result (λ _. (dir : ℕ) (name : List ℕ) → IsApart dir dirs.new.items →
+        place.now ≢ Slot dir name) }
+    ensures others { IfOk result (λ _. (dir : ℕ) → IsApart dir dirs.new.items →
+        IsApart dir dirs.old.items) }
+{
+    let Place::Slot(dir, _) = place else {
+        return Ok(());
+    };
+    dirs.push(*dir)?;
+    Ok(())
 }

@@ -15,4 +15,4 @@ returns-clause-exact g c = λ kept.
     c.in_ok-calls.calls kept c.in_ok-kind.kind
     c.in_ok-calls.ensures.file (c.in_ok-calls.ensures.calls t a.table (plain_history a.process) c.args.dir c.requires.within)
     (c.may_have_veil.ensures.name c.if-may_have_veil.false) found
-    (c.may_have_veil.ensures.veil c.if-may_have_veil.false)
+    (c.may_have_veil.ensures.veil c.if-may_have_veil.false c.requires.within.bare)

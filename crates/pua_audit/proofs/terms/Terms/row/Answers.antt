@@ -6,6 +6,7 @@ use Rattle.pua_audit.proofs.Costs.{letters_within}
 use Rattle.pua_audit.proofs.Gaps.{letters_bare, row_started, row_further}
 use Rattle.pua_audit.proofs.Lists.{IsReached, places_few, reached_all}
 use Rattle.pua_audit.proofs.Moves.{all_at_index, letter_read}
+use Rattle.pua_audit.proofs.Spotted.{apart_none}
 use Rattle.pua_audit.proofs.Rowed.{grown_itself, grown_further}
 use Rattle.pua_audit.proofs.terms.Terms.row.Goals as goal
 
@@ -18,7 +19,8 @@ loop-letter-init g c =
     let among : AreLettersIn c.args.dir s.dots.items s.names.items ns =
     subst (AreLettersIn c.args.dir s.dots.items s.names.items) (sym c.deref-letter-items.ensures.value) c.in_ok-letters.ensures in
     let bare = letters_bare a c.args.dir missing s.dots.items s.names.items ns c.requires.sound c.requires.living
-    (c.within-within.ensures c.args.dir c.requires.living c.requires.over).missing c.requires.spots among in
+    (c.within-within.ensures c.args.dir c.requires.living c.requires.over
+    (λ no. c.requires.spots.unveiled c.args.dir (apart_none c.args.dir c.args.spots.now.veiled.items (sym c.has_veil_in-veiled.ensures ∙ no)))).missing c.requires.spots.told among in
     record {
       row = λ n low reached.
           subst (IsJudgedRow (judge_in a) a.letters c.args.dirs.now.numbers c.args.dir n missing) (sym c.new-entries.ensures.items)
@@ -38,8 +40,8 @@ bounds-components-letter g c =
     let ns : List ℕ = c.deref-letter-items.result.now in
     let among : AreLettersIn c.args.dir s.dots.items s.names.items ns =
     subst (AreLettersIn c.args.dir s.dots.items s.names.items) (sym c.deref-letter-items.ensures.value) c.in_ok-letters.ensures in
-    let at = all_at_index (λ n. n < length a.letters) ns 0 (among.within (length a.letters) c.requires.spots.dotted
-    c.requires.spots.within) c.loop-letter.letter-index c.loop-letter-test.true in
+    let at = all_at_index (λ n. n < length a.letters) ns 0 (among.within (length a.letters) c.requires.spots.told.dotted
+    c.requires.spots.told.within) c.loop-letter.letter-index c.loop-letter-test.true in
     subst (λ (ls : List (List ℕ)). get_or ns c.loop-letter.letter-index 0 < length ls) (sym c.as_slice-components.ensures.letters) at
 
 pub letter-found-requires : goal.letter-found-requires
@@ -51,7 +53,11 @@ letter-found-requires g c κs = (
       c.requires.sound,
       (
         c.requires.living,
-        (c.within-within.ensures c.args.dir c.requires.living c.requires.over, c.loop-letter.invariant.covered),
+        (
+          c.within-within.ensures c.args.dir c.requires.living c.requires.over
+              (λ no. c.requires.spots.unveiled c.args.dir (apart_none c.args.dir c.args.spots.now.veiled.items (sym c.has_veil_in-veiled.ensures ∙ no))),
+          c.loop-letter.invariant.covered,
+        ),
       ),
     ),
   ),
@@ -65,8 +71,8 @@ returns-in_err-put-clause-cost g c =
     let ns : List ℕ = c.deref-letter-items.result.now in
     let among : AreLettersIn c.args.dir s.dots.items s.names.items ns =
     subst (AreLettersIn c.args.dir s.dots.items s.names.items) (sym c.deref-letter-items.ensures.value) c.in_ok-letters.ensures in
-    let few = places_few ns (length a.letters) among.rise (among.within (length a.letters) c.requires.spots.dotted
-    c.requires.spots.within) (suc l.letter-index) (omega (arith, c.loop-letter-test.true)) in
+    let few = places_few ns (length a.letters) among.rise (among.within (length a.letters) c.requires.spots.told.dotted
+    c.requires.spots.told.within) (suc l.letter-index) (omega (arith, c.loop-letter-test.true)) in
     omega (
       arith,
       l.invariant.cost,
@@ -86,9 +92,10 @@ loop-letter-preserved g c =
     let among : AreLettersIn c.args.dir s.dots.items s.names.items ns =
     subst (AreLettersIn c.args.dir s.dots.items s.names.items) (sym c.deref-letter-items.ensures.value) c.in_ok-letters.ensures in
     let bare = letters_bare a c.args.dir missing s.dots.items s.names.items ns c.requires.sound c.requires.living
-    (c.within-within.ensures c.args.dir c.requires.living c.requires.over).missing c.requires.spots among in
-    let at = all_at_index (λ n. n < length a.letters) ns 0 (among.within (length a.letters) c.requires.spots.dotted
-    c.requires.spots.within) k c.loop-letter-test.true in
+    (c.within-within.ensures c.args.dir c.requires.living c.requires.over
+    (λ no. c.requires.spots.unveiled c.args.dir (apart_none c.args.dir c.args.spots.now.veiled.items (sym c.has_veil_in-veiled.ensures ∙ no)))).missing c.requires.spots.told among in
+    let at = all_at_index (λ n. n < length a.letters) ns 0 (among.within (length a.letters) c.requires.spots.told.dotted
+    c.requires.spots.told.within) k c.loop-letter-test.true in
     let letter : List ℕ = c.index-components-letter.result in
     let is : letter ≡ get_or a.letters (get_or ns k 0) [] =
     letter_read a.letters c.as_slice-components.result.now (get_or ns k 0) letter c.as_slice-components.ensures.letters at
@@ -119,8 +126,8 @@ returns-clause-row g c =
     let among : AreLettersIn c.args.dir s.dots.items s.names.items ns =
     subst (AreLettersIn c.args.dir s.dots.items s.names.items) (sym c.deref-letter-items.ensures.value) c.in_ok-letters.ensures in
     let whole : l.letter-index ≡ length ns = omega (arith, c.loop-letter-test.false, l.auto.letter-index-end) in
-    let reached = reached_all ns (length a.letters) l.letter-index (among.within (length a.letters) c.requires.spots.dotted
-    c.requires.spots.within) whole in
+    let reached = reached_all ns (length a.letters) l.letter-index (among.within (length a.letters) c.requires.spots.told.dotted
+    c.requires.spots.told.within) whole in
     subst (λ (m : ℕ). IsJudgedRow (judge_in a) a.letters l.dirs.numbers c.args.dir (length a.letters) m l.entries.items)
     (sym c.bits-missing.ensures.number) (l.invariant.row (length a.letters) (omega arith) reached)
 
@@ -132,8 +139,8 @@ returns-clause-cost g c =
     let ns : List ℕ = c.deref-letter-items.result.now in
     let among : AreLettersIn c.args.dir s.dots.items s.names.items ns =
     subst (AreLettersIn c.args.dir s.dots.items s.names.items) (sym c.deref-letter-items.ensures.value) c.in_ok-letters.ensures in
-    let few = places_few ns (length a.letters) among.rise (among.within (length a.letters) c.requires.spots.dotted
-    c.requires.spots.within) l.letter-index (omega (arith, l.auto.letter-index-end)) in
+    let few = places_few ns (length a.letters) among.rise (among.within (length a.letters) c.requires.spots.told.dotted
+    c.requires.spots.told.within) l.letter-index (omega (arith, l.auto.letter-index-end)) in
     omega (arith, l.invariant.cost, letters_within a.seen.tree (length a.letters) l.letter-index few)
 
 pub offset_bounds-components-letter : goal.offset_bounds-components-letter
@@ -143,8 +150,8 @@ offset_bounds-components-letter g c =
     let ns : List ℕ = c.deref-letter-items.result.now in
     let among : AreLettersIn c.args.dir s.dots.items s.names.items ns =
     subst (AreLettersIn c.args.dir s.dots.items s.names.items) (sym c.deref-letter-items.ensures.value) c.in_ok-letters.ensures in
-    let at = all_at_index (λ n. n < length a.letters) ns 0 (among.within (length a.letters) c.requires.spots.dotted
-    c.requires.spots.within) c.loop-letter.letter-index c.loop-letter-test.true in
+    let at = all_at_index (λ n. n < length a.letters) ns 0 (among.within (length a.letters) c.requires.spots.told.dotted
+    c.requires.spots.told.within) c.loop-letter.letter-index c.loop-letter-test.true in
     let h : get_or ns c.loop-letter.letter-index 0 < length c.as_slice-components.result.now =
     subst (λ (ls : List (List ℕ)). get_or ns c.loop-letter.letter-index 0 < length ls) (sym c.as_slice-components.ensures.letters) at in
     search rules
