@@ -19,7 +19,7 @@ ghost use Rattle.pua_audit.specs.Covers.{AreCovered};
 ghost use Rattle.pua_audit.specs.Past.{plain_history};
 ghost use Rattle.pua_audit.specs.Ready.{IsSound, judge_in};
 ghost use Rattle.pua_audit.specs.Entries.{AreWithin, links_of, found_of, leads_to};
-ghost use Rattle.pua_audit.specs.Spots.{AreUnveiled, IsNamed};
+ghost use Rattle.pua_audit.specs.Spots.{IsNamed};
 ghost use Rattle.pua_audit.specs.Table.{IsLetter};
 ghost use Rattle.pua_steps.specs.Limits.{most_links};
 
@@ -30,7 +30,7 @@ use crate::terms::Terms;
 use pua_calls::Calls;
 use pua_path::{Errno, Found, Last, Part, Probe};
 use pua_policy::{Cover, Place, judge};
-use pua_tree::NodeId;
+use pua_tree::{LentName, NodeId};
 
 /// A letter in a directory, for any number of links that were followed before it.
 #[derive(Clone, Copy)]
@@ -110,32 +110,25 @@ impl Terms {
         ensures tree { P.tree probe.new ≡ P.tree probe.old }
         ensures cost { P.count probe.new ≤ P.count probe.old + 2 }
     {
-        let (_, kind) = probe.find(dir, letter.bytes())?;
+        let name = letter.as_name()?;
+        let (_, kind) = probe.find_named(dir, name)?;
         let calls = within.on(kind)?;
-        if self.may_have_veil(dir, letter, within.veiled) {
+        if within.veiled && self.has_veil(dir, name) {
             return None;
         }
         Some(calls)
     }
 
-    /// Whether a letter is no name, or a name in a directory at which a veil is kept. It is given
-    /// whether any name there may have one.
-    fn may_have_veil(&self, dir: NodeId, letter: &Component, veiled: bool) -> bool
+    /// Whether a veil is kept at a name in a directory.
+    fn has_veil(&self, dir: NodeId, name: LentName<'_>) -> bool
         requires { IsSound self.now }
-        ensures name { result ≡ false → IsNamed letter.now }
-        ensures veil { result ≡ false →
-            (veiled ≡ false → AreUnveiled (plain_history self.now.process) dir) →
-            perms_kept (plain_history self.now.process) (Slot dir letter.now) ≡ None }
-        ensures apart { result ≡ true → IsNamed letter.now →
-            perms_kept (plain_history self.now.process) (Slot dir letter.now) ≢ None }
+        ensures none { result ≡ false → perms_kept (plain_history self.now.process)
+            (Slot dir name.entry.bytes.now) ≡ None }
+        ensures kept { result ≡ true → perms_kept (plain_history self.now.process)
+            (Slot dir name.entry.bytes.now) ≢ None }
     {
-        if !veiled {
-            return !letter.is_name();
-        }
-        match letter.part() {
-            Part::Name(name) => self.process.kept(&Place::Slot(dir, name)).is_some(),
-            Part::Dot | Part::DotDot => true,
-        }
+        let place = Place::Slot(dir, name.name());
+        self.process.kept(&place).is_some()
     }
 
     /// What a letter is in a living directory, followed once, with no link used before it.

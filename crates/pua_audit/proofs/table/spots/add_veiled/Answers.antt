@@ -1,4 +1,4 @@
-use Rattle.pua_audit.proofs.Common.{◌≡◌, ◌≢◌, ◌∙◌, ℕ, List, sym, ap, subst, Place, IsApart}
+use Rattle.pua_audit.proofs.Common.{◌≢◌, ◌∙◌, ℕ, sym, ap, subst, Place, IsApart}
 use Rattle.pua_policy.specs.declared.place.Place.TheVariants.{Slot, Dir}
 use Rattle.pua_audit.proofs.table.spots.add_veiled.Goals as goal
 use Rattle.pua_steps.proofs.ForCallers.{all_front}
