@@ -27,7 +27,7 @@ my %HELP = (
     objects => ['objects --help'],
     why     => ['why --help'],
 );
-my $VERSION = "pua 0.1.0\nrattle-kit-13b logic dac8208d650f15bf\n";
+my $VERSION = "pua 0.1.0\nrattle-kit-13f logic dac8208d650f15bf\n";
 
 # Tests what a command writes, and its status.
 sub is_told {

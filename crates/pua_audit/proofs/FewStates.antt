@@ -1,5 +1,5 @@
 -- There are few live states: each is a living directory, a number of links followed, and a number of letters that may still come.
-use Rattle.pua_audit.proofs.Common.{ℕ, zero, suc, ◌+◌, ◌*◌, ◌-◌, ◌<◌, ◌≤◌, ◌≡◌, List, [], ◌∷◌, ◌++◌, Option, Some, None, Bool, true, false}
+use Rattle.pua_audit.proofs.Common.{ℕ, zero, suc, ◌*◌, ◌-◌, ◌<◌, ◌≤◌, ◌≡◌, List, [], ◌∷◌, ◌++◌, Option, Some, None, Bool, true, false}
 use Rattle.pua_audit.proofs.Common.{◌||◌, ◌&&◌, not, cond, refl, ap, arith, sym, subst, ◌∙◌, map, length, option_map, inl, inr, cases_eq}
 use Rattle.pua_audit.proofs.Common.{or_left, or_right, length-append, nat_cmp-IsAntisymmetric, nat_cmp, IsTrue, flat_map, filter_map}
 use Rattle.pua_audit.proofs.Common.{result_ok, Tree, is_dir, ◌>>=◌, same_Some, steps, part_of, Errno, Part, is_ended, Pair, Scope, reach}
@@ -19,7 +19,7 @@ use Rattle.pua_path.specs.Resolution.{step}
 use Rattle.pua_path.proofs.ForCallers.{resolutions_fit}
 use Rattle.pua_audit.specs.Laws.{LiveStatesFew}
 use Rattle.pua_audit.specs.Live.{IsLive}
-use Rattle.pua_audit.proofs.DistinctStages.{one_stage, same_is, same_stage, same_stage_laws, staged_is, stages_distinct}
+use Rattle.pua_audit.proofs.DistinctStages.{one_stage, same_is, same_stage_laws, staged_is, stages_distinct}
 use Rattle.pua_audit.proofs.LiveStagesListed.{live_states_live, staged_itself}
 use Rattle.pua_audit.proofs.LiveStates.{live_states_count}
 use Rattle.pua_audit.proofs.Stages.{is_stage, is_staged}

@@ -3,7 +3,7 @@ use Rattle.pua_audit.proofs.Common.{◌≡◌, ◌≢◌, ◌<◌, ◌+◌, ℕ,
 use Rattle.pua_audit.proofs.Common.{arith, get_or, add-one, inl, inr, Option, refl, sym, ap, subst, ◌∙◌, if◌then◌else◌, bytes_eq, IfSome}
 use Rattle.pua_audit.proofs.Common.{AllByRecursion, eq_by_cmp, tied_itself, nat_list_cmp_total, nat_cmp-IsAntisymmetric, cases_lt}
 use Rattle.pua_audit.proofs.Common.{map-append, Spot, name_cmp, veil_at, Place, Rises, AreApartFrom, IsNowhere, IsUnmarked, LetterSpot}
-use Rattle.pua_audit.proofs.Common.{all_joined, all_pushed}
+use Rattle.pua_audit.proofs.Common.{all_joined, all_pushed, list_any, ◌==◌, ◌||◌, false≢true, eq-eqb, IsApart}
 use Rattle.std.proofs.Common.{leb}
 use Rattle.std.proofs.Common.{ltb-true, leb-false, slice_index_or}
 use lib.Pointwise.{bytes_decides}
@@ -31,6 +31,16 @@ pub all_taken : {A B : Type 0} (P : B → Type 0) (f : A → B) (xs : List A) (x
 all_taken P f xs x i within is all here =
     subst (λ ys. AllByRecursion P (map f ys)) (sym (taken_more xs x i within is))
     (subst (AllByRecursion P) (sym (map-append f (take i xs) (x ∷ []))) (all_pushed P (map f (take i xs)) (f x) all here))
+
+-- a number that is not found among others is none of them
+
+pub apart_none : (n : ℕ) (others : List ℕ) → list_any (λ other. other == n) others ≡ false → IsApart n others
+apart_none n [] none = tt
+apart_none n (x ∷ xs) none =
+    elim (x == n) as (λ b. (x == n) ≡ b → (b || list_any (λ other. other == n) xs) ≡ false → IsApart n (x ∷ xs)) [
+      | true ↦ λ _ some. absurd (false≢true (sym some))
+      | false ↦ λ away rest. (λ same. false≢true (sym away ∙ eq-eqb x n same), apart_none n xs rest)
+    ] refl none
 
 -- what has no row is not found
 

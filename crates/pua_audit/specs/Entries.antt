@@ -15,6 +15,7 @@ use Rattle.pua_policy.specs.History.{History}
 use Rattle.pua_policy.specs.Verdict.{Object, IsMissing, IsFile, IsProg, cover, covered_verdict, verdict_of, is_allowed}
 use Rattle.pua_calls.specs.declared.call.Call.{Call}
 use Rattle.pua_audit.specs.Judge.{Below, judge_of}
+use Rattle.pua_audit.specs.Spots.{AreUnveiled}
 use Rattle.pua_audit.specs.declared.base.Base.{Base}
 use Rattle.pua_audit.specs.declared.table.within.Within.{Within}
 
@@ -54,6 +55,7 @@ pub record AreWithin (t : Tree) (table : CallTable) (h : History) (dir : ℕ) (w
   pub missing : (call : Call) → has w.missing call ≡ allowed_within t table h dir IsMissing call
   pub file : (call : Call) → has w.file call ≡ allowed_within t table h dir IsFile call
   pub program : (call : Call) → has w.program call ≡ allowed_within t table h dir IsProg call
+  pub bare : w.veiled ≡ false → AreUnveiled h dir
 
 -- what the letter is, for each number of links used before
 pub record IsEntryAt (t : Tree) (table : CallTable) (base : Base) (h : History) (dir : ℕ) (letter : List ℕ) (r : Result (Found × ℕ) Errno)

@@ -28,7 +28,7 @@ impl Model for Alphabet {
         AllByRecursion (λ letter. IsTrue (is_letter letter)) a.letters.items };
 }
 
-ghost use Rattle.std.specs.Prelude.{◌≡◌, ◌≤◌, IfOk, IsTrue, length, map};
+ghost use Rattle.std.specs.Prelude.{◌≡◌, ◌<◌, ◌≤◌, [], IfOk, IsTrue, true, get_or, length, map};
 ghost use Rattle.std.specs.List.{AllByRecursion, list_all};
 ghost use Rattle.pua_tree.specs.LentRows.{lent_entry};
 ghost use Rattle.pua_tree.specs.Limits.{most_name};
@@ -118,6 +118,16 @@ impl Alphabet {
     {
         let letters = self.as_slice();
         letters.binary_search_by(|letter| letter.bytes().cmp(bytes))
+    }
+
+    /// Whether a letter of these bytes stands at a place.
+    pub(crate) fn is_at(&self, place: usize, bytes: &[u8]) -> bool
+        ensures within { result ≡ true → place < length self.now }
+        ensures here { result ≡ true → get_or self.now place [] ≡ bytes.now }
+        ensures rises { Rises name_cmp self.now }
+    {
+        let letters = self.as_slice();
+        place < letters.len() && letters[place].bytes() == bytes
     }
 
     /// The letters, which rise by their bytes.

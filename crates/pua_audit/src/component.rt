@@ -1,7 +1,7 @@
 //! Letters: components of paths, each in as many bytes as it has.
 
 use pua_path::Part;
-use pua_tree::{Name, OutOfMemory, are_plain};
+use pua_tree::{LentName, Name, OutOfMemory, are_plain};
 use std::alloc::Global;
 use std::marker::Model;
 
@@ -28,7 +28,8 @@ impl Model for Component {
         (a.plain ≡ list_all is_plain a.bytes.items) };
 }
 
-ghost use Rattle.std.specs.Prelude.{◌≡◌, ◌≤◌, ℕ, List, false, true, IfOk, IsTrue, codes, length};
+ghost use Rattle.std.specs.Prelude.{◌≡◌, ◌≤◌, ℕ, List, false, true, IfNone, IfOk, IfSome, IsTrue};
+ghost use Rattle.std.specs.Prelude.{codes, length};
 ghost use Rattle.std.specs.List.{list_all};
 ghost use Rattle.pua_tree.specs.Limits.{most_name};
 ghost use Rattle.pua_tree.specs.Spelling.{is_plain};
@@ -85,9 +86,21 @@ impl Component {
         ensures part { result ≡ part_of self.now }
         ensures name { (name : List ℕ) → result ≡ part.Name name → name ≡ self.now }
     {
-        match Name::from_bytes(&self.bytes) {
-            Some(name) => Part::Name(name),
+        match self.as_name() {
+            Some(name) => Part::Name(name.name()),
             None => Part::DotDot,
+        }
+    }
+
+    /// Its bytes, lent as a name's, if it is a name.
+    pub(crate) fn as_name(&self) -> Option<LentName<'_>>
+        ensures bytes { IfSome result (λ name. name.bytes.now ≡ self.now) }
+        ensures name { IfSome result (λ _. IsNamed self.now) }
+        ensures dots { IfNone result (part_of self.now ≡ part.DotDot) }
+    {
+        match self.bytes.as_slice() {
+            [b'.', b'.'] => None,
+            bytes => Some(LentName { bytes }),
         }
     }
 
@@ -96,6 +109,6 @@ impl Component {
         ensures name { result ≡ true → IsNamed self.now }
         ensures dots { result ≡ false → part_of self.now ≡ part.DotDot }
     {
-        self.bytes.as_slice() != b"..".as_slice()
+        self.as_name().is_some()
     }
 }

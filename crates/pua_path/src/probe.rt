@@ -1,6 +1,6 @@
 //! Counted looks at a tree.
 
-use pua_tree::{FileTree, Kind, LentRow, Name, NodeId, OutOfMemory, TreeFault};
+use pua_tree::{FileTree, Kind, LentName, LentRow, Name, NodeId, OutOfMemory, TreeFault};
 use std::alloc::Global;
 use std::marker::Model;
 
@@ -44,6 +44,12 @@ pub trait Probe<'t> {
     /// Bytes that are no name's are found nowhere.
     fn find(&mut self, dir: NodeId, bytes: &[u8]) -> Option<(NodeId, Kind)>
         ensures found { result ≡ found_at (tree self.old) dir bytes.now }
+        ensures tree { tree self.new ≡ tree self.old }
+        ensures count { count self.new ≡ one_more (one_more (count self.old)) };
+
+    /// The same for bytes that are known to be a name's, which are not judged again.
+    fn find_named(&mut self, dir: NodeId, name: LentName<'_>) -> Option<(NodeId, Kind)>
+        ensures found { result ≡ found_at (tree self.old) dir name.entry.bytes.now }
         ensures tree { tree self.new ≡ tree self.old }
         ensures count { count self.new ≡ one_more (one_more (count self.old)) };
 
@@ -146,6 +152,12 @@ impl<'t, T: FileTree> Probe<'t> for Counted<'t, T> {
         self.ask();
         self.ask();
         self.tree.find(dir, bytes)
+    }
+
+    fn find_named(&mut self, dir: NodeId, name: LentName<'_>) -> Option<(NodeId, Kind)> {
+        self.ask();
+        self.ask();
+        self.tree.find_named(dir, name)
     }
 
     fn parent(&mut self, dir: NodeId) -> Option<NodeId> {

@@ -320,14 +320,15 @@ enum Standing<'t> {
 }
 
 #[inline(always)]
-fn standing_at<'t, P: Probe<'t>>(probe: &mut P, dir: NodeId, name: &[u8]) -> Standing<'t>
-    ensures standing { standing_seen result ≡ standing_at (P.tree probe.old) dir name.now }
+fn standing_at<'t, P: Probe<'t>>(probe: &mut P, dir: NodeId, name: LentName<'_>) -> Standing<'t>
+    ensures standing { standing_seen result
+        ≡ standing_at (P.tree probe.old) dir name.entry.bytes.now }
     ensures stands { IsSeenIn (P.tree probe.old) result }
     ensures tree { P.tree probe.new ≡ P.tree probe.old }
     ensures count { P.count probe.new ≤ P.count probe.old + 3 }
 {
     probe.known();
-    let Some((node, kind)) = probe.find(dir, name) else {
+    let Some((node, kind)) = probe.find_named(dir, name) else {
         return Standing::Nothing;
     };
     match kind {
@@ -448,7 +449,7 @@ fn lead_by_name<'n, 't: 'n, P: Probe<'t>>(
     ensures tree { P.tree probe.new ≡ P.tree probe.old }
     ensures count { P.count probe.new ≤ P.count probe.old + 3 }
 {
-    match standing_at(probe, dir, name.bytes) {
+    match standing_at(probe, dir, name) {
         Standing::Directory(node) => {
             if !is_last {
                 return Onward::Directory(node, Nameless::Top);

@@ -4,7 +4,6 @@ use Rattle.pua_policy.proofs.Common.{list_any, Tree, WellFormed, is_dir, above, 
 use Rattle.pua_policy.proofs.Common.{ProcessState, StandsFor, perms_kept, veil_at, has_veil, cover, nearest, is_unveil, places_over}
 use Rattle.pua_policy.proofs.Common.{first_veiled, covering_at, cover_of}
 use Rattle.pua_policy.specs.declared.place.Place.TheVariants as place
-use Rattle.pua_policy.specs.declared.reason.Covering.{Covering}
 use Rattle.pua_policy.specs.declared.reason.Covering.TheVariants.{InView}
 use Rattle.pua_policy.specs.Verdict.{place_of, directories_over}
 use Rattle.pua_policy.specs.Reasons.{kept_or, or_farther, first_kept, covering, covering_on, covering_with}

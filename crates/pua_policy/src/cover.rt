@@ -4,7 +4,7 @@ ghost use Rattle.std.specs.Prelude.{◌≡◌, ◌+◌, ◌≤◌, length, map, 
 ghost use Rattle.pua_tree.specs.Tree.{is_dir, climb};
 ghost use Rattle.pua_path.specs.Walks.{found_seen};
 ghost use Rattle.pua_policy.specs.Descent.{own_or};
-ghost use Rattle.pua_policy.specs.History.{History, StandsFor, perms_kept, veil_at};
+ghost use Rattle.pua_policy.specs.History.{History, StandsFor, has_veil, perms_kept, veil_at};
 ghost use Rattle.pua_policy.specs.Reasons.{covering, covering_at, covering_on, first_veiled};
 ghost use Rattle.pua_policy.specs.Verdict.{FoundFits, cover, cover_on, nearest};
 
@@ -14,7 +14,7 @@ use crate::process::Process;
 use crate::reason::Covering;
 use pua_calls::Perms;
 use pua_path::{Found, LentFound, Probe};
-use pua_tree::NodeId;
+use pua_tree::{LentName, NodeId};
 
 impl Process {
     /// What the veils leave of an object: everything where no veil is kept; else the permissions at
@@ -44,16 +44,7 @@ impl Process {
         if !self.is_veiled() {
             return Cover::All;
         }
-        probe.known();
-        match found {
-            LentFound::Whole { dir, .. } => self.cover_from(probe, *dir),
-            LentFound::Slot { dir, name, .. } => {
-                match self.kept(&Place::Slot(*dir, name.name())) {
-                    Some(perms) => Cover::Only(perms),
-                    None => self.cover_from(probe, *dir),
-                }
-            }
-        }
+        self.veiled_cover(probe, found)
     }
 
     /// Which veil covers an object, by the rules of `cover`: where it is kept, and its permissions.
@@ -94,6 +85,32 @@ impl Process {
             Some(own) => Cover::Only(own),
             None => over,
         }
+    }
+
+    /// The same where a veil is kept, in a function of its own: a compiled function clears all its
+    /// variables when it begins, and a place takes some 260 bytes.
+    fn veiled_cover<'t, P: Probe<'t>>(&self, probe: &mut P, found: &LentFound<'_>) -> Cover
+        requires { FoundFits (P.tree probe.old) (found_seen found.now) }
+        ensures state { IsTrue (has_veil self.now.veils) →
+            result ≡ cover_on (P.tree probe.old) self.now (found_seen found.now) }
+        ensures tree { P.tree probe.new ≡ P.tree probe.old }
+        ensures cost { P.count probe.new ≤ P.count probe.old + length (P.tree probe.old).nodes }
+    {
+        probe.known();
+        match found {
+            LentFound::Whole { dir, .. } => self.cover_from(probe, *dir),
+            LentFound::Slot { dir, name, .. } => match self.kept_at_name(*dir, name) {
+                Some(perms) => Cover::Only(perms),
+                None => self.cover_from(probe, *dir),
+            },
+        }
+    }
+
+    /// The permissions kept at this very name in a directory.
+    fn kept_at_name(&self, dir: NodeId, name: &LentName<'_>) -> Option<Perms>
+        ensures { result ≡ veil_at self.now.veils (Place.Slot dir name.now.bytes.now) }
+    {
+        self.kept(&Place::Slot(dir, name.name()))
     }
 
     /// The permissions of the first directory that has a veil, from this one up to the root.

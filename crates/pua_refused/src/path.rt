@@ -50,6 +50,23 @@ fn find_in_root(tree: &ListTree, dir: NodeId, bytes: &[u8]) {
     }
 }
 
+/// A lent name is found in the directory that is asked for.
+fn find_named_in_root(tree: &ListTree, dir: NodeId, name: &Name) {
+    let mut probe = Counted::new(tree);
+    if probe.find_named(dir, name.lent()) != tree.find(dir, name.bytes()) {
+        unreachable!()
+    }
+}
+
+/// A look-up of a lent name counts as two.
+fn find_named_counted_once(tree: &ListTree, name: &Name) {
+    let mut probe = Counted::new(tree);
+    let _ = probe.find_named(NodeId::ROOT, name.lent());
+    if probe.probes() != 2 {
+        unreachable!()
+    }
+}
+
 /// A directory is not taken for the one above it.
 fn probe_parent_is_itself(tree: &ListTree, dir: NodeId) {
     let mut probe = Counted::new(tree);

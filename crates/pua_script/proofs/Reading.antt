@@ -13,7 +13,8 @@ use Rattle.pua_tree.proofs.ForCallers.{guarded, only_if_read}
 use Rattle.pua_script.specs.Requests.{has_no_nul}
 use Rattle.pua_script.specs.declared.fault.ScriptFault.{ScriptFault}
 use Rattle.pua_script.specs.declared.fault.ScriptFault.TheVariants.{BadLine, BadCall}
-use Rattle.pua_script.specs.Scripts.{action_in, IsActionAdded, IsRequestAdded}
+use Rattle.pua_script.specs.Added.{IsActionAdded, IsRequestAdded}
+use Rattle.pua_script.specs.Scripts.{action_in}
 
 -- a field of plain bytes is the text that it spells, and none of them is NUL
 pub plain_path : (field : List ℕ) → IsTrue (list_all is_plain field) → only_if has_no_nul (bytes_spelled field) ≡ Some field

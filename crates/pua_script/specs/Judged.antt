@@ -1,26 +1,31 @@
 -- What the code decides, by the definitions.
-use Rattle.std.specs.Prelude.{ℕ, Bool, true, false, List, Result, Ok, Err}
-use Rattle.std.specs.Borrow.{Bor}
+use Rattle.std.specs.Prelude.{ℕ, List, Bool, true, false, Option, Some, None, Result, Ok, Err}
 use Rattle.pua_tree.specs.Tree.{Node, Tree, Spot}
 use Rattle.pua_tree.specs.declared.node.Kind.TheVariants as kind
 use Rattle.pua_path.specs.Fits.{FoundFits, StandsAsNamed}
+use Rattle.pua_path.specs.Resolution.{resolution_of_text}
+use Rattle.pua_path.specs.declared.text.Ending.{Ending}
 use Rattle.pua_path.specs.declared.found.Found.{Found}
+use Rattle.pua_calls.specs.Calls.{PairRule}
 use Rattle.pua_calls.specs.declared.call.Call.{Call}
 use Rattle.pua_calls.specs.declared.call.Call.TheVariants as call
-use Rattle.pua_policy.specs.History.{Locked, Moved, Ended}
+use Rattle.pua_policy.specs.History.{Locked, Moved, Ended, ProcessState}
 use Rattle.pua_policy.specs.Verdict.{place_of}
 use Rattle.pua_policy.specs.declared.answer.Refusal.{Refusal}
-use Rattle.pua_script.specs.Decide.{NoChange, AddNode, CutRow, ShiftRow, TieRow, BeginProgram, AddEvent, Asking, Decision, pledging}
+use Rattle.pua_script.specs.Decide.{NoChange, AddNode, CutRow, ShiftRow, TieRow, BeginProgram, AddEvent, Asking, Change, Decision, pledging}
 use Rattle.pua_script.specs.Decide.{veiling}
-use Rattle.pua_script.specs.Decide.{plain_node, link_node}
+use Rattle.pua_script.specs.Decide.{plain_node, link_node, placing, cutting, if_named, unless_fault, covers_by, asker_on}
 use Rattle.pua_script.specs.declared.granted.Granted.{Granted}
 use Rattle.pua_script.specs.declared.granted.Granted.TheVariants as granted
 use Rattle.pua_script.specs.declared.granted.NewNode.{NewNode}
 use Rattle.pua_script.specs.declared.granted.NewNode.TheVariants as new_nodes
+use Rattle.pua_script.specs.declared.link.Tie.{Tie}
+use Rattle.pua_script.specs.declared.pair.LentSpot.{LentSpot}
+use Rattle.pua_script.specs.declared.rename.Shift.{Shift}
 
 -- a spot whose name is lent
-abbrev pub spot_now : ℕ × Bor (List ℕ) → Spot
-spot_now spot = (spot.0, spot.1.now)
+abbrev pub spot_now : LentSpot → Spot
+spot_now spot = (spot.dir, spot.name.bytes.now)
 
 -- what was found is of the tree, and stands at the name by which it was found
 pub record NameFits (t : Tree) (object : Found) : Type 0 where
@@ -54,6 +59,32 @@ is_edit call.Mkdir = true
 is_edit call.Rmdir = true
 is_edit call.Unlink = true
 is_edit _ = false
+
+-- what such a call changes, by the spot that its path named and by what stands there
+abbrev pub edit_by : Call → Option Spot → Option ℕ → Change
+edit_by call.Create spot there = placing (plain_node kind.File) spot there
+edit_by call.Mkdir spot there = placing (plain_node kind.Dir) spot there
+edit_by call.Rmdir spot there = cutting spot there
+edit_by call.Unlink spot there = cutting spot there
+edit_by _ spot there = NoChange
+
+-- what a rename and a link change, as a decision
+abbrev pub shifted : Result (Option Shift) Refusal → Decision
+shifted (Ok None) = Ok NoChange
+shifted (Ok (Some shift)) = Ok (ShiftRow (shift.from, shift.name.bytes.now) (shift.to, shift.new_name.bytes.now))
+shifted (Err refusal) = Err refusal
+
+abbrev pub tied : Result (Option Tie) Refusal → Decision
+tied (Ok None) = Ok NoChange
+tied (Ok (Some tie)) = Ok (TieRow (tie.dir, tie.name.bytes.now) tie.node)
+tied (Err refusal) = Err refusal
+
+-- further checks of what both paths of a request name, where both are covered with what their names need
+abbrev pub if_covered : PairRule → Tree → ProcessState → Ending → List ℕ → List ℕ → (Found → Found → Decision) → Decision
+if_covered need t p ending old new further =
+    if_named (resolution_of_text t p.dir ending old need.old.last) λ from.
+    if_named (resolution_of_text t p.dir ending new need.new.last) λ to.
+    unless_fault (covers_by need t (asker_on p) from to) (further from to)
 
 -- further checks of what was judged
 abbrev pub on_judged : {X : Type 0} → Result X Refusal → (X → Decision) → Decision

@@ -17,6 +17,7 @@ pub mod ErrorTables
 pub mod Futures
 -- Worked rows, which hold by computation.
 pub mod Examples
--- Notes: for which worlds of the replay a world of the code stands, and what it decides.
+-- Notes: what a reader of lines adds, for which worlds of the replay a world of the code stands, and what it decides.
+pub mod Added
 pub mod Worlds
 pub mod Judged

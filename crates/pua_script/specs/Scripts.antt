@@ -1,6 +1,6 @@
 -- Which bytes are a script of which requests, and else which fault comes first.
 use Rattle.std.specs.Prelude.{◌≡◌, ◌≢◌, MatchResult, ℕ, suc, Bool, not, if◌then◌else◌, List, [], ◌∷◌, length, take, nat_lt, ◌==◌, Option}
-use Rattle.std.specs.Prelude.{Some, None, Result, Ok, Err, codes, ok_or, option_map, ⊤, ◌++◌}
+use Rattle.std.specs.Prelude.{Some, None, Result, Ok, Err, codes, ok_or, option_map}
 use Rattle.std.specs.List.{list_all, list_any, slice_split}
 use Rattle.std.specs.Result.{result_ok}
 use Rattle.std.specs.Str.Lines.{lines}
@@ -134,20 +134,3 @@ script bytes = requests_of 1 (take most_script_lines (lines bytes)) >>= λ reque
 -- a reader answers as the definition does, unless a growth was refused
 abbrev pub IsReadAs : {A : Type 0} → Result A ScriptFault → Result A ScriptFault → Type 0
 IsReadAs rule read = MatchResult read (λ x. rule ≡ Ok x) (λ fault. fault ≢ OutOfMemory → rule ≡ Err fault)
-
--- where a request comes from: its line's number, and the process that asks
-pub record LineOf : Type 0 where
-  pub line : ℕ
-  pub process : ℕ
-
--- a reader adds a request for the action of the definition, unless a growth was refused
-abbrev pub IsActionAdded : Result Action ScriptFault → ℕ → List Asked → List Asked → Result ⊤ ScriptFault → Type 0
-IsActionAdded rule process before after read = MatchResult read
-    (λ _. (action : Action) × (rule ≡ Ok action) × (after ≡ before ++ record { process = process; action = action } ∷ []))
-    (λ fault. fault ≢ OutOfMemory → rule ≡ Err fault)
-
--- the same with the whole request
-abbrev pub IsRequestAdded : Result Asked ScriptFault → List Asked → List Asked → Result ⊤ ScriptFault → Type 0
-IsRequestAdded rule before after read = MatchResult read
-    (λ _. (request : Asked) × (rule ≡ Ok request) × (after ≡ before ++ request ∷ []))
-    (λ fault. fault ≢ OutOfMemory → rule ≡ Err fault)

@@ -1,12 +1,12 @@
 //! What a process's request does, where it makes no process: it is judged, and then it is done.
 //!
 //! Each request with paths has a function of its own: a compiled function clears all its variables when
-//! it begins, and what a path names takes some 280 bytes.
+//! it begins, and a name takes 256 bytes. What a path names stays lent until a name is to be kept.
 
-ghost use Rattle.std.specs.Prelude.{◌≡◌, ℕ, List, None, OnErr, IsFalse};
+ghost use Rattle.std.specs.Prelude.{◌≡◌, ℕ, List, None, OnErr, IsFalse, true, false};
 ghost use Rattle.pua_policy.specs.History.{History, StandsFor};
 ghost use Rattle.pua_script.specs.Decide.{asker_of};
-ghost use Rattle.pua_script.specs.Judged.{decision_for};
+ghost use Rattle.pua_script.specs.Judged.{decision_for, is_edit};
 ghost use Rattle.pua_script.specs.Replay.{come_of};
 ghost use Rattle.pua_calls.specs.Calls.{CallTable as Rules, rule_of};
 ghost use Rattle.pua_policy.specs.History.{may_any_on};
@@ -17,18 +17,17 @@ ghost use Rattle.pua_script.specs.declared.request.Action.TheVariants.{Symlink, 
 
 use crate::answer::Answer;
 use crate::fault::WorldFault;
-use crate::granted::{Granted, make};
+use crate::granted::{Granted, NewNode, make};
 use crate::judged::{
-    editing, grant_unveil, is_edit, judge_letters, judge_object, judge_target, linking, looking,
+    adding, editing, grant_unveil, is_edit, judge_letters, judge_object, judge_target, looking,
     veil_named,
 };
-use crate::link::grant_link;
-use crate::pair::{covered, promised_pair, side_named};
+use crate::link::{judge_link, naming};
+use crate::pair::{node_named, promised_pair, spot_named};
 use crate::process::{decide_lock, decide_pledge, refuse};
-use crate::rename::grant_rename;
+use crate::rename::{judge_rename, moving};
 use crate::request::Action;
 use pua_calls::{Call, CallTable, Perms};
-use pua_path::Ending;
 use pua_policy::judge::promised_for;
 use pua_policy::{Process, Refusal};
 use pua_tree::FileTree;
@@ -80,15 +79,18 @@ fn call_on<T: FileTree>(
     ensures unchanged { OnErr result
         ((T.content tree.new ≡ T.content tree.old) × (process.new ≡ process.old)) }
 {
-    match promised_for(process, table, call) {
-        Ok(()) => call_judged(tree, table, process, call, path),
-        Err(refusal) => answer(tree, process, &Err(refusal)),
+    if let Err(refusal) = promised_for(process, table, call) {
+        return answer(tree, process, &Err(refusal));
+    }
+    if is_edit(call) {
+        edit(tree, table, process, call, path)
+    } else {
+        look(tree, table, process, call, path)
     }
 }
 
-/// Makes one of the calls on a path, whose promises are held. A name is copied only where one is made
-/// or taken away: what is lent may lie in the tree that is to change.
-fn call_judged<T: FileTree>(
+/// Makes a call whose promises are held, and that makes no name and takes none away. No name is copied.
+fn look<T: FileTree>(
     tree: &mut T,
     table: &CallTable,
     process: &mut Process,
@@ -96,7 +98,31 @@ fn call_judged<T: FileTree>(
     path: &[u8],
 ) -> Result<Answer, WorldFault>
     ensures exact { refusal_of (may_any_on process.old (rule_of table.now call).alternatives) ≡ None →
-        Acts table.now (T.content tree.old) process.old (OnPath call path.now)
+        is_edit call ≡ false → Acts table.now (T.content tree.old) process.old (OnPath call path.now)
+        result (T.content tree.new) process.new }
+    ensures unchanged { OnErr result
+        ((T.content tree.new ≡ T.content tree.old) × (process.new ≡ process.old)) }
+{
+    match judge_object(tree, table, process, call, path) {
+        Ok(lent) => {
+            let granted = looking(table, call, &lent);
+            answer(tree, process, &Ok(granted))
+        }
+        Err(errno) => answer(tree, process, &Err(Refusal::Failed(errno))),
+    }
+}
+
+/// Makes a call whose promises are held, and that makes a name or takes one away. The name is copied,
+/// since what is lent may lie in the tree that is to change.
+fn edit<T: FileTree>(
+    tree: &mut T,
+    table: &CallTable,
+    process: &mut Process,
+    call: Call,
+    path: &[u8],
+) -> Result<Answer, WorldFault>
+    ensures exact { refusal_of (may_any_on process.old (rule_of table.now call).alternatives) ≡ None →
+        is_edit call ≡ true → Acts table.now (T.content tree.old) process.old (OnPath call path.now)
         result (T.content tree.new) process.new }
     ensures unchanged { OnErr result
         ((T.content tree.new ≡ T.content tree.old) × (process.new ≡ process.old)) }
@@ -105,12 +131,14 @@ fn call_judged<T: FileTree>(
         Ok(lent) => lent,
         Err(errno) => return answer(tree, process, &Err(Refusal::Failed(errno))),
     };
-    if !is_edit(call) {
-        let granted = looking(table, call, &lent);
-        return answer(tree, process, &Ok(granted));
-    }
-    let object = lent.found();
-    answer(tree, process, &Ok(editing(call, &object)))
+    let there = node_named(&lent);
+    let spot = match spot_named(&lent) {
+        Some(spot) => spot,
+        None => return answer(tree, process, &Ok(Granted::NoChange)),
+    };
+    let dir = spot.dir;
+    let name = spot.name.name();
+    answer(tree, process, &Ok(editing(call, dir, &name, there)))
 }
 
 /// Makes a link with this target.
@@ -130,20 +158,31 @@ fn symlink<T: FileTree>(
         Ok(target) => target,
         Err(refusal) => return answer(tree, process, &Err(refusal)),
     };
-    let object = match judge_object(tree, table, process, Call::Symlink, path) {
-        Ok(lent) => lent.found(),
+    let lent = match judge_object(tree, table, process, Call::Symlink, path) {
+        Ok(lent) => lent,
         Err(errno) => return answer(tree, process, &Err(Refusal::Failed(errno))),
     };
-    answer(tree, process, &Ok(linking(&target, &object)))
+    let there = node_named(&lent);
+    let spot = match spot_named(&lent) {
+        Some(spot) => spot,
+        None => return answer(tree, process, &Ok(Granted::NoChange)),
+    };
+    let dir = spot.dir;
+    let name = spot.name.name();
+    answer(
+        tree,
+        process,
+        &Ok(adding(NewNode::Link(&target), dir, &name, there)),
+    )
 }
 
 /// Renames what the old path names.
-fn rename<T: FileTree>(
+fn rename<'p, T: FileTree>(
     tree: &mut T,
     table: &CallTable,
     process: &mut Process,
-    old: &[u8],
-    new: &[u8],
+    old: &'p [u8],
+    new: &'p [u8],
 ) -> Result<Answer, WorldFault>
     ensures exact { Acts table.now (T.content tree.old) process.old (Rename old.now new.now)
         result (T.content tree.new) process.new }
@@ -152,26 +191,29 @@ fn rename<T: FileTree>(
 {
     let need = table.rename();
     match promised_pair(process, need) {
-        Ok(()) => {
-            let ending = Ending::Dropped;
-            let from = side_named(tree, process, need.old_name(), ending, old);
-            let to = side_named(tree, process, need.new_name(), ending, new);
-            let pair = covered(tree, process, need, &from, &to);
-            let granted = grant_rename(tree, &pair);
-            answer(tree, process, &granted)
-        }
-        Err(refusal) => answer(tree, process, &Err(refusal)),
+        Ok(()) => (),
+        Err(refusal) => return answer(tree, process, &Err(refusal)),
     }
+    let shift = match judge_rename(tree, process, need, old, new) {
+        Ok(Some(shift)) => shift,
+        Ok(None) => return answer(tree, process, &Ok(Granted::NoChange)),
+        Err(refusal) => return answer(tree, process, &Err(refusal)),
+    };
+    let (from, to) = (shift.from, shift.to);
+    let name = shift.name.name();
+    let new_name = shift.new_name.name();
+    let granted = moving(from, &name, to, &new_name);
+    answer(tree, process, &Ok(granted))
 }
 
 /// Gives what the old path names a further name. By the standard table a symbolic link at the old
 /// path's end gets the name itself (this profile).
-fn link<T: FileTree>(
+fn link<'p, T: FileTree>(
     tree: &mut T,
     table: &CallTable,
     process: &mut Process,
-    old: &[u8],
-    new: &[u8],
+    old: &'p [u8],
+    new: &'p [u8],
 ) -> Result<Answer, WorldFault>
     ensures exact { Acts table.now (T.content tree.old) process.old (Link old.now new.now)
         result (T.content tree.new) process.new }
@@ -180,15 +222,18 @@ fn link<T: FileTree>(
 {
     let need = table.link();
     match promised_pair(process, need) {
-        Ok(()) => {
-            let ending = Ending::Dot;
-            let from = side_named(tree, process, need.old_name(), ending, old);
-            let to = side_named(tree, process, need.new_name(), ending, new);
-            let pair = covered(tree, process, need, &from, &to);
-            answer(tree, process, &grant_link(&pair))
-        }
-        Err(refusal) => answer(tree, process, &Err(refusal)),
+        Ok(()) => (),
+        Err(refusal) => return answer(tree, process, &Err(refusal)),
     }
+    let tie = match judge_link(tree, process, need, old, new) {
+        Ok(Some(tie)) => tie,
+        Ok(None) => return answer(tree, process, &Ok(Granted::NoChange)),
+        Err(refusal) => return answer(tree, process, &Err(refusal)),
+    };
+    let (dir, node) = (tie.dir, tie.node);
+    let name = tie.name.name();
+    let granted = naming(dir, &name, node);
+    answer(tree, process, &Ok(granted))
 }
 
 /// Puts a veil on what a path names.

@@ -1,6 +1,6 @@
 //! What paths name to a process, and what requests on one path are to change.
 
-ghost use Rattle.std.specs.Prelude.{◌≡◌, ℕ, List, Some, Ok, IfOk, true, false};
+ghost use Rattle.std.specs.Prelude.{◌≡◌, ℕ, List, Some, Ok, IfOk, false};
 ghost use Rattle.pua_tree.specs.Tree.{Tree};
 ghost use Rattle.pua_path.specs.Paths.{path_fault};
 ghost use Rattle.pua_path.specs.Resolution.{resolution_of_text};
@@ -12,20 +12,19 @@ ghost use Rattle.pua_calls.specs.Calls.{CallTable as Rules, rule_of};
 ghost use Rattle.pua_calls.specs.declared.call.Call.TheVariants.{Symlink};
 ghost use Rattle.pua_policy.specs.History.{may_any_on};
 ghost use Rattle.pua_policy.specs.Verdict.{place_of};
-ghost use Rattle.pua_script.specs.Decide.{Asking, Decision, adding, asker_on, change_by};
+ghost use Rattle.pua_script.specs.Decide.{Asking, Decision, asker_on, change_by, cutting};
 ghost use Rattle.pua_script.specs.Decide.{decide_object, decide_unveil, decide_veil, if_may};
-ghost use Rattle.pua_script.specs.Decide.{if_named, link_node, removing, unless_fault, veiling};
-ghost use Rattle.pua_script.specs.Judged.{NameFits, decision_for, decision_by, is_edit};
+ghost use Rattle.pua_script.specs.Decide.{if_named, placing, unless_fault, veiling};
+ghost use Rattle.pua_script.specs.Judged.{NameFits, decision_for, decision_by, edit_by, is_edit};
 ghost use Rattle.pua_script.specs.Judged.{node_made, on_judged};
 
 use crate::granted::{Granted, NewNode};
-use crate::pair::{node_named, spot_named};
 use pua_calls::needs::ending;
 use pua_calls::{Call, CallTable, Perms, Promises};
 use pua_path::{Counted, Ending, Errno, Found, Last, LentFound, PathText, Probe, resolve_lent};
 use pua_policy::judge::{object_verdict_lent, promised, promised_for};
 use pua_policy::{Process, Refusal};
-use pua_tree::{FileTree, NodeId};
+use pua_tree::{FileTree, Name, NodeId};
 
 /// What a path names from a directory.
 pub(crate) fn named<'t, P: Probe<'t>>(
@@ -47,7 +46,7 @@ pub(crate) fn named<'t, P: Probe<'t>>(
 
 /// The same, its name lent by the path, or by the target of a link.
 #[inline(always)]
-fn named_lent<'a, 't: 'a, P: Probe<'t>>(
+pub(crate) fn named_lent<'a, 't: 'a, P: Probe<'t>>(
     probe: &mut P,
     from: NodeId,
     path: &'a [u8],
@@ -116,37 +115,48 @@ pub(crate) fn judge_object<'t, T: FileTree>(
     }
 }
 
-/// What an allowed call changes that makes a name or takes one away.
-pub(crate) fn editing<'a>(call: Call, found: &'a Found) -> Granted<'a>
-    ensures { is_edit call ≡ true → (table : Rules) (asker : Asking) →
-        decision_by asker result ≡ Ok (change_by table call found.now) }
+/// What an allowed call changes that makes a name or takes one away, where this node has the name.
+pub(crate) fn editing<'a>(
+    call: Call,
+    dir: NodeId,
+    name: &'a Name,
+    there: Option<NodeId>,
+) -> Granted<'a>
+    ensures { (asker : Asking) →
+        decision_by asker result ≡ Ok (edit_by call (Some (dir, name.now)) there) }
 {
     match call {
-        Call::Create => adding(NewNode::File, found),
-        Call::Mkdir => adding(NewNode::Directory, found),
-        Call::Rmdir | Call::Unlink => removing(found),
+        Call::Create => adding(NewNode::File, dir, name, there),
+        Call::Mkdir => adding(NewNode::Directory, dir, name, there),
+        Call::Rmdir | Call::Unlink => removing(dir, name, there),
         _ => Granted::NoChange,
     }
 }
 
 /// A node where nothing stands.
-fn adding<'a>(node: NewNode<'a>, found: &'a Found) -> Granted<'a>
-    ensures { (asker : Asking) →
-        decision_by asker result ≡ Ok (adding (node_made node.entry) found.now) }
+pub(crate) fn adding<'a>(
+    node: NewNode<'a>,
+    dir: NodeId,
+    name: &'a Name,
+    there: Option<NodeId>,
+) -> Granted<'a>
+    ensures { (asker : Asking) → decision_by asker result
+        ≡ Ok (placing (node_made node.entry) (Some (dir, name.now)) there) }
 {
-    match (spot_named(found), node_named(found)) {
-        (Some((dir, name)), None) => Granted::AddNode(dir, name, node),
-        _ => Granted::NoChange,
+    match there {
+        Some(_) => Granted::NoChange,
+        None => Granted::AddNode(dir, name, node),
     }
 }
 
 /// The row of what has a name.
-fn removing<'a>(found: &'a Found) -> Granted<'a>
-    ensures { (asker : Asking) → decision_by asker result ≡ Ok (removing found.now) }
+fn removing<'a>(dir: NodeId, name: &'a Name, there: Option<NodeId>) -> Granted<'a>
+    ensures { (asker : Asking) →
+        decision_by asker result ≡ Ok (cutting (Some (dir, name.now)) there) }
 {
-    match (spot_named(found), node_named(found)) {
-        (Some((dir, name)), Some(_)) => Granted::CutRow(dir, name),
-        _ => Granted::NoChange,
+    match there {
+        Some(_) => Granted::CutRow(dir, name),
+        None => Granted::NoChange,
     }
 }
 
@@ -167,14 +177,6 @@ pub(crate) fn judge_target<'a>(
         Ok(target) => Ok(target),
         Err(errno) => Err(Refusal::Failed(errno)),
     }
-}
-
-/// A link with this target, where nothing stands.
-pub(crate) fn linking<'a>(target: &'a PathText<'a>, found: &'a Found) -> Granted<'a>
-    ensures { (asker : Asking) →
-        decision_by asker result ≡ Ok (adding (link_node target.now.bytes) found.now) }
-{
-    adding(NewNode::Link(target), found)
 }
 
 /// The permissions that an unveil is for: the promise, the lock, and the letters are judged before its

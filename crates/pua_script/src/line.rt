@@ -2,7 +2,8 @@
 
 ghost use Rattle.std.specs.Prelude.{◌≡◌, ◌∷◌, [], codes, map, ok_or};
 ghost use Rattle.pua_tree.specs.Names.{same_bytes};
-ghost use Rattle.pua_script.specs.Scripts.{IsActionAdded, IsReadAs, IsRequestAdded};
+ghost use Rattle.pua_script.specs.Added.{IsActionAdded, IsRequestAdded};
+ghost use Rattle.pua_script.specs.Scripts.{IsReadAs};
 ghost use Rattle.pua_script.specs.Scripts.{is_dash, is_equals, has_empty_word, path_in};
 ghost use Rattle.pua_script.specs.Scripts.{given_in, perms_in, unveil_of, with_paths, action_in};
 ghost use Rattle.pua_script.specs.Scripts.{action_of, request_of, request_of_fields};

@@ -2,34 +2,50 @@
 
 ghost use Rattle.std.specs.Prelude.{◌≡◌, Ok};
 ghost use Rattle.pua_path.specs.Fits.{node_named, spot_named};
-ghost use Rattle.pua_script.specs.Decide.{Asking, decide_link, if_named, tying};
-ghost use Rattle.pua_script.specs.Judged.{decision_for, decision_by};
+ghost use Rattle.pua_path.specs.Walks.{found_seen};
+ghost use Rattle.pua_path.specs.declared.text.Ending.TheVariants.{Dot};
+ghost use Rattle.pua_script.specs.Decide.{Asking, TieRow, decide_link, tying};
+ghost use Rattle.pua_script.specs.Judged.{decision_by, if_covered, tied};
 
 use crate::granted::Granted;
-use crate::pair::{Pair, is_whole, node_named, spot_named};
-use pua_path::{Errno, Found};
-use pua_policy::Refusal;
-use pua_tree::NodeId;
+use crate::pair::{is_whole, judge_pair, node_named, spot_named};
+use pua_calls::PairNeed;
+use pua_path::{Ending, Errno, LentFound};
+use pua_policy::{Process, Refusal};
+use pua_tree::{FileTree, LentName, Name, NodeId};
 
-/// What a link is to change: what its old path named gets a further name, unless something is wrong
-/// with what both paths named.
-pub(crate) fn grant_link<'a>(judged: &Result<Pair<'a>, Errno>) -> Result<Granted<'a>, Refusal>
-    ensures { (asker : Asking) →
-        decision_for asker result
-        ≡ if_named judged.now (λ pair. decide_link pair.from.now pair.to.now
-        (node_named pair.from.now)) }
+/// The node that gets a further name, and that name.
+#[derive(Clone, Copy)]
+pub(crate) struct Tie<'a> {
+    pub(crate) dir: NodeId,
+    pub(crate) name: LentName<'a>,
+    pub(crate) node: NodeId,
+}
+
+/// What a link is to change whose promises are held: what its old path named gets a further name,
+/// unless something is wrong with what both paths named; None where nothing is to get one.
+pub(crate) fn judge_link<'t, T: FileTree>(
+    tree: &'t T,
+    process: &Process,
+    need: &PairNeed,
+    old: &'t [u8],
+    new: &'t [u8],
+) -> Result<Option<Tie<'t>>, Refusal>
+    ensures { tied result ≡ if_covered need.now (T.content tree.now) process.now Dot old.now new.now
+        (λ from to. decide_link from to (node_named from)) }
 {
-    match judged {
-        Ok(pair) => decide_tie(pair.from, pair.to),
-        Err(errno) => Err(Refusal::Failed(*errno)),
+    let ending = Ending::Dot;
+    match judge_pair(tree, process, need, ending, old, new) {
+        Ok(pair) => decide_tie(&pair.from, &pair.to),
+        Err(errno) => Err(Refusal::Failed(errno)),
     }
 }
 
 /// A further name for what was found. `ENOENT` where nothing has the old name, `EPERM` where a
 /// directory has it, and `EEXIST` where something has the new one: the first of these.
-fn decide_tie<'a>(from: &Found, to: &'a Found) -> Result<Granted<'a>, Refusal>
-    ensures { (asker : Asking) →
-        decision_for asker result ≡ decide_link from.now to.now (node_named from.now) }
+fn decide_tie<'a>(from: &LentFound<'a>, to: &LentFound<'a>) -> Result<Option<Tie<'a>>, Refusal>
+    ensures { tied result ≡ decide_link (found_seen from.now) (found_seen to.now)
+        (node_named (found_seen from.now)) }
 {
     let Some(node) = node_named(from) else {
         return Err(Refusal::Failed(Errno::ENOENT));
@@ -44,11 +60,22 @@ fn decide_tie<'a>(from: &Found, to: &'a Found) -> Result<Granted<'a>, Refusal>
 }
 
 /// A further name for a node, where the name was found.
-fn tying<'a>(node: NodeId, to: &'a Found) -> Granted<'a>
-    ensures { (asker : Asking) → decision_by asker result ≡ Ok (tying node (spot_named to.now)) }
+fn tying<'a>(node: NodeId, to: &LentFound<'a>) -> Option<Tie<'a>>
+    ensures { tied (Ok result) ≡ Ok (tying node (spot_named (found_seen to.now))) }
 {
     match spot_named(to) {
-        Some((dir, name)) => Granted::TieRow(dir, name, node),
-        None => Granted::NoChange,
+        Some(spot) => Some(Tie {
+            dir: spot.dir,
+            name: spot.name,
+            node,
+        }),
+        None => None,
     }
+}
+
+/// A node is to get a further name.
+pub(crate) fn naming<'a>(dir: NodeId, name: &'a Name, node: NodeId) -> Granted<'a>
+    ensures { (asker : Asking) → decision_by asker result ≡ Ok (TieRow (dir, name.now) node) }
+{
+    Granted::TieRow(dir, name, node)
 }

@@ -13,7 +13,7 @@ pub(crate) struct Origin {
 impl Model for Origin {
     ghost use Rattle.std.specs.Prelude.{IsTrue};
     ghost use Rattle.pua_script.specs.Requests.{is_process_number};
-    ghost use Rattle.pua_script.specs.Scripts.{LineOf};
+    ghost use Rattle.pua_script.specs.Added.{LineOf};
 
     ghost Value = { LineOf };
 

@@ -1,27 +1,35 @@
 //! What the two paths of a request name, where a node of the one gets the name of the other.
 
-ghost use Rattle.std.specs.Prelude.{◌≡◌, Ok, IfOk, option_map};
+ghost use Rattle.std.specs.Prelude.{◌≡◌, IfOk, option_map};
 ghost use Rattle.pua_path.specs.Fits.{spot_named, node_named};
 ghost use Rattle.pua_path.specs.Resolution.{resolution_of_text};
+ghost use Rattle.pua_path.specs.Walks.{found_seen, founds_seen};
 ghost use Rattle.pua_path.specs.declared.found.Found as found;
 ghost use Rattle.pua_policy.specs.History.{may_any_on};
-ghost use Rattle.pua_policy.specs.Verdict.{FoundsFit};
+ghost use Rattle.pua_policy.specs.Verdict.{FoundFits};
 ghost use Rattle.pua_script.specs.Decide.{Decision, asker_on, covers_by, if_may, if_named};
-ghost use Rattle.pua_script.specs.Decide.{is_whole, unless_fault};
-ghost use Rattle.pua_script.specs.Judged.{NameFits, on_judged, spot_now};
+ghost use Rattle.pua_script.specs.Decide.{is_whole};
+ghost use Rattle.pua_script.specs.Judged.{NameFits, if_covered, on_judged, spot_now};
 
-use crate::judged::named;
+use crate::judged::named_lent;
 use pua_calls::{NameNeed, PairNeed};
-use pua_path::{Counted, Ending, Errno, Found, Way};
+use pua_path::{Counted, Ending, Errno, LentFound, LentWay};
 use pua_policy::judge::{cover_fault, promised_any};
 use pua_policy::{Process, Refusal};
-use pua_tree::{FileTree, Name, NodeId};
+use pua_tree::{FileTree, LentName, NodeId};
 
 /// What an old path and a new one name, lent.
 #[derive(Clone, Copy)]
 pub(crate) struct Pair<'a> {
-    pub(crate) from: &'a Found,
-    pub(crate) to: &'a Found,
+    pub(crate) from: LentFound<'a>,
+    pub(crate) to: LentFound<'a>,
+}
+
+/// Where a name is, the name lent.
+#[derive(Clone, Copy)]
+pub(crate) struct LentSpot<'a> {
+    pub(crate) dir: NodeId,
+    pub(crate) name: LentName<'a>,
 }
 
 /// Whether a process holds what both names of a request need, the old name first. It is asked before
@@ -35,86 +43,105 @@ pub(crate) fn promised_pair(process: &Process, need: &PairNeed) -> Result<(), Re
     promised_any(process, need.new_name().alternatives())
 }
 
-/// What one of the two paths names, by what its name needs.
-pub(crate) fn side_named<T: FileTree>(
-    tree: &T,
-    process: &Process,
-    need: &NameNeed,
-    ending: Ending,
-    path: &[u8],
-) -> Result<Found, Errno>
-    ensures exact { result ≡ resolution_of_text (T.content tree.now) process.now.dir ending path.now
-        need.now.last }
-    ensures fits { IfOk result (NameFits (T.content tree.now)) }
-{
-    let mut probe = Counted::new(tree);
-    named(&mut probe, process.dir(), path, ending, need.last())
-}
-
-/// Lends what both paths named, where both are covered with the permissions that their names need: what
-/// is wrong with the paths, and then with the covers, the old name first each time.
-pub(crate) fn covered<'a, T: FileTree>(
-    tree: &T,
+/// What both paths of a request name, whose promises are held: what is wrong with the paths, and then
+/// with the covers, the old name first each time. Names are lent by the paths, or by targets of links.
+pub(crate) fn judge_pair<'t, T: FileTree>(
+    tree: &'t T,
     process: &Process,
     need: &PairNeed,
-    from: &'a Result<Found, Errno>,
-    to: &'a Result<Found, Errno>,
-) -> Result<Pair<'a>, Errno>
-    requires from { FoundsFit (T.content tree.now) from.now }
-    requires to { FoundsFit (T.content tree.now) to.now }
+    ending: Ending,
+    old: &'t [u8],
+    new: &'t [u8],
+) -> Result<Pair<'t>, Errno>
     ensures exact { (further : found.Found → found.Found → Decision) →
-        if_named from.now (λ old. if_named to.now (λ new. unless_fault
-        (covers_by need.now (T.content tree.now) (asker_on process.now) old new)
-        (further old new)))
-        ≡ if_named result (λ pair. further pair.from.now pair.to.now) }
-    ensures lent { IfOk result (λ pair. to.now ≡ Ok pair.to.now) }
+        if_covered need.now (T.content tree.now) process.now ending old.now new.now further
+        ≡ if_named result (λ pair. further (found_seen pair.from) (found_seen pair.to)) }
+    ensures fits { IfOk result (λ pair. NameFits (T.content tree.now) (found_seen pair.to)) }
 {
-    let from = match from {
+    let from = match side_named(tree, process, need.old_name(), ending, old) {
         Ok(from) => from,
-        Err(errno) => return Err(*errno),
+        Err(errno) => return Err(errno),
     };
-    let to = match to {
+    let to = match side_named(tree, process, need.new_name(), ending, new) {
         Ok(to) => to,
-        Err(errno) => return Err(*errno),
+        Err(errno) => return Err(errno),
     };
-    let mut probe = Counted::new(tree);
-    let cover = process.cover(&mut probe, from);
-    if let Some(errno) = cover_fault(cover, need.old_name().perms()) {
-        return Err(errno);
-    }
-    let cover = process.cover(&mut probe, to);
-    match cover_fault(cover, need.new_name().perms()) {
+    match covers_fault(tree, process, need, &from, &to) {
         Some(errno) => Err(errno),
         None => Ok(Pair { from, to }),
     }
 }
 
+/// What one of the two paths names, by what its name needs.
+fn side_named<'t, T: FileTree>(
+    tree: &'t T,
+    process: &Process,
+    need: &NameNeed,
+    ending: Ending,
+    path: &'t [u8],
+) -> Result<LentFound<'t>, Errno>
+    ensures exact { founds_seen result
+        ≡ resolution_of_text (T.content tree.now) process.now.dir ending path.now need.now.last }
+    ensures fits { IfOk (founds_seen result) (NameFits (T.content tree.now)) }
+{
+    let mut probe = Counted::new(tree);
+    named_lent(&mut probe, process.dir(), path, ending, need.last())
+}
+
+/// What is wrong with the covers of both names, the old one first.
+fn covers_fault<T: FileTree>(
+    tree: &T,
+    process: &Process,
+    need: &PairNeed,
+    from: &LentFound<'_>,
+    to: &LentFound<'_>,
+) -> Option<Errno>
+    requires from { FoundFits (T.content tree.now) (found_seen from.now) }
+    requires to { FoundFits (T.content tree.now) (found_seen to.now) }
+    ensures { result ≡ covers_by need.now (T.content tree.now) (asker_on process.now)
+        (found_seen from.now) (found_seen to.now) }
+{
+    let mut probe = Counted::new(tree);
+    let cover = process.cover_lent(&mut probe, from);
+    if let Some(errno) = cover_fault(cover, need.old_name().perms()) {
+        return Some(errno);
+    }
+    let cover = process.cover_lent(&mut probe, to);
+    cover_fault(cover, need.new_name().perms())
+}
+
 /// The node that was found.
-pub(crate) fn node_named(found: &Found) -> Option<NodeId>
-    ensures { result ≡ node_named found.now }
+pub(crate) fn node_named(found: &LentFound<'_>) -> Option<NodeId>
+    ensures { result ≡ node_named (found_seen found.now) }
 {
     match *found {
-        Found::Whole { dir, .. } => Some(dir),
-        Found::Slot { node, .. } => node,
+        LentFound::Whole { dir, .. } => Some(dir),
+        LentFound::Slot { node, .. } => node,
     }
 }
 
 /// Where the name is that was found, if it was found by one.
-pub(crate) fn spot_named(found: &Found) -> Option<(NodeId, &Name)>
-    ensures { option_map spot_now result ≡ spot_named found.now }
+pub(crate) fn spot_named<'a>(found: &LentFound<'a>) -> Option<LentSpot<'a>>
+    ensures { option_map spot_now result ≡ spot_named (found_seen found.now) }
 {
     match found {
-        Found::Whole { way, .. } => match way {
-            Way::Named { parent, name } => Some((*parent, name)),
-            Way::Dot | Way::DotDot | Way::Top => None,
+        LentFound::Whole { way, .. } => match way {
+            LentWay::Named { parent, name } => Some(LentSpot {
+                dir: *parent,
+                name: LentName { bytes: name.bytes },
+            }),
+            LentWay::Dot | LentWay::DotDot | LentWay::Top => None,
         },
-        Found::Slot { dir, name, .. } => Some((*dir, name)),
+        LentFound::Slot { dir, name, .. } => Some(LentSpot {
+            dir: *dir,
+            name: LentName { bytes: name.bytes },
+        }),
     }
 }
 
 /// Whether a directory was found.
-pub(crate) fn is_whole(found: &Found) -> bool
-    ensures { result ≡ is_whole found.now }
+pub(crate) fn is_whole(found: &LentFound<'_>) -> bool
+    ensures { result ≡ is_whole (found_seen found.now) }
 {
-    matches!(found, Found::Whole { .. })
+    matches!(found, LentFound::Whole { .. })
 }

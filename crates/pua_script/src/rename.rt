@@ -5,47 +5,56 @@ ghost use Rattle.std.specs.List.{list_any};
 ghost use Rattle.pua_tree.specs.Tree.{is_dir, climb};
 ghost use Rattle.pua_tree.specs.Edits.{is_same_node};
 ghost use Rattle.pua_path.specs.Fits.{spot_named, node_named};
+ghost use Rattle.pua_path.specs.Walks.{found_seen};
+ghost use Rattle.pua_path.specs.declared.text.Ending.TheVariants.{Dropped};
 ghost use Rattle.pua_policy.specs.Verdict.{or_fault};
-ghost use Rattle.pua_script.specs.Decide.{Asking, decide_rename, dots_fault, if_named};
+ghost use Rattle.pua_script.specs.Decide.{Asking, ShiftRow, decide_rename, dots_fault};
 ghost use Rattle.pua_script.specs.Decide.{inside_fault, is_whole, kinds_fault, shifting};
 ghost use Rattle.pua_script.specs.Decide.{top_fault, ways_fault};
-ghost use Rattle.pua_script.specs.Judged.{NameFits, decision_for, decision_by};
+ghost use Rattle.pua_script.specs.Judged.{NameFits, decision_by, if_covered, shifted};
 
 use crate::granted::Granted;
-use crate::pair::{Pair, is_whole, node_named, spot_named};
-use pua_path::{Errno, Found, Way};
-use pua_policy::Refusal;
-use pua_tree::{FileTree, Kind, NodeId};
+use crate::pair::{Pair, is_whole, judge_pair, node_named, spot_named};
+use pua_calls::PairNeed;
+use pua_path::{Ending, Errno, LentFound, LentWay};
+use pua_policy::{Process, Refusal};
+use pua_tree::{FileTree, Kind, LentName, Name, NodeId};
 
-/// What a rename is to change: the row of what its old path named moves, unless something is wrong
-/// with what both paths named.
-pub(crate) fn grant_rename<'a, T: FileTree>(
-    tree: &T,
-    judged: &Result<Pair<'a>, Errno>,
-) -> Result<Granted<'a>, Refusal>
-    requires { IfOk judged.now (λ pair. NameFits (T.content tree.now) pair.to.now) }
-    ensures { (asker : Asking) →
-        decision_for asker result
-        ≡ if_named judged.now (λ pair. decide_rename (T.content tree.now) pair.from.now pair.to.now
-        (node_named pair.from.now)) }
+/// The row that a rename moves: where its name is, and which name it gets.
+#[derive(Clone, Copy)]
+pub(crate) struct Shift<'a> {
+    pub(crate) from: NodeId,
+    pub(crate) name: LentName<'a>,
+    pub(crate) to: NodeId,
+    pub(crate) new_name: LentName<'a>,
+}
+
+/// What a rename is to change whose promises are held: the row of what its old path named moves,
+/// unless something is wrong with what both paths named; None where nothing is to move.
+pub(crate) fn judge_rename<'t, T: FileTree>(
+    tree: &'t T,
+    process: &Process,
+    need: &PairNeed,
+    old: &'t [u8],
+    new: &'t [u8],
+) -> Result<Option<Shift<'t>>, Refusal>
+    ensures { shifted result ≡ if_covered need.now (T.content tree.now) process.now Dropped
+        old.now new.now
+        (λ from to. decide_rename (T.content tree.now) from to (node_named from)) }
 {
-    match judged {
-        Ok(pair) => decide_shift(tree, pair.from, pair.to),
-        Err(errno) => Err(Refusal::Failed(*errno)),
+    match judge_pair(tree, process, need, Ending::Dropped, old, new) {
+        Ok(pair) => decide_shift(tree, &pair),
+        Err(errno) => Err(Refusal::Failed(errno)),
     }
 }
 
 /// The row of what was found, unless something is wrong with it or with the place that it would get.
-fn decide_shift<'a, T: FileTree>(
-    tree: &T,
-    from: &'a Found,
-    to: &'a Found,
-) -> Result<Granted<'a>, Refusal>
-    requires { NameFits (T.content tree.now) to.now }
-    ensures { (asker : Asking) →
-        decision_for asker result ≡ decide_rename (T.content tree.now) from.now to.now
-        (node_named from.now) }
+fn decide_shift<'a, T: FileTree>(tree: &T, pair: &Pair<'a>) -> Result<Option<Shift<'a>>, Refusal>
+    requires { NameFits (T.content tree.now) (found_seen pair.now.to) }
+    ensures { shifted result ≡ decide_rename (T.content tree.now) (found_seen pair.now.from)
+        (found_seen pair.now.to) (node_named (found_seen pair.now.from)) }
 {
+    let (from, to) = (&pair.from, &pair.to);
     let Some(node) = node_named(from) else {
         return Err(Refusal::Failed(Errno::ENOENT));
     };
@@ -53,7 +62,7 @@ fn decide_shift<'a, T: FileTree>(
         return Err(Refusal::Failed(errno));
     }
     if is_node(node, to) {
-        return Ok(Granted::NoChange);
+        return Ok(None);
     }
     if let Some(errno) = move_fault(tree, node, from, to) {
         return Err(Refusal::Failed(errno));
@@ -62,19 +71,37 @@ fn decide_shift<'a, T: FileTree>(
 }
 
 /// The row at one name moves to another.
-fn shifting<'a>(from: &'a Found, to: &'a Found) -> Granted<'a>
-    ensures { (asker : Asking) →
-        decision_by asker result ≡ Ok (shifting (spot_named from.now) (spot_named to.now)) }
+fn shifting<'a>(from: &LentFound<'a>, to: &LentFound<'a>) -> Option<Shift<'a>>
+    ensures { shifted (Ok result)
+        ≡ Ok (shifting (spot_named (found_seen from.now)) (spot_named (found_seen to.now))) }
 {
     match (spot_named(from), spot_named(to)) {
-        (Some((from, name)), Some((to, new_name))) => Granted::ShiftRow(from, name, to, new_name),
-        _ => Granted::NoChange,
+        (Some(from), Some(to)) => Some(Shift {
+            from: from.dir,
+            name: from.name,
+            to: to.dir,
+            new_name: to.name,
+        }),
+        _ => None,
     }
 }
 
+/// A row is to move, and to get another name.
+pub(crate) fn moving<'a>(
+    from: NodeId,
+    name: &'a Name,
+    to: NodeId,
+    new_name: &'a Name,
+) -> Granted<'a>
+    ensures { (asker : Asking) →
+        decision_by asker result ≡ Ok (ShiftRow (from, name.now) (to, new_name.now)) }
+{
+    Granted::ShiftRow(from, name, to, new_name)
+}
+
 /// Whether this node was found.
-fn is_node(node: NodeId, found: &Found) -> bool
-    ensures { result ≡ is_same_node node (node_named found.now) }
+fn is_node(node: NodeId, found: &LentFound<'_>) -> bool
+    ensures { result ≡ is_same_node node (node_named (found_seen found.now)) }
 {
     match node_named(found) {
         Some(there) => node == there,
@@ -85,57 +112,62 @@ fn is_node(node: NodeId, found: &Found) -> bool
 /// What is wrong with the way in which they were named: `.` or `..` on either side, then the root on
 /// either side.
 #[tactic(auto, using(crate::proofs::Renaming::first_fault))]
-fn ways_fault(from: &Found, to: &Found) -> Option<Errno>
-    ensures { result ≡ ways_fault from.now to.now }
+fn ways_fault(from: &LentFound<'_>, to: &LentFound<'_>) -> Option<Errno>
+    ensures { result ≡ ways_fault (found_seen from.now) (found_seen to.now) }
 {
     dots_fault(from).or(dots_fault(to).or(top_fault(from).or(top_fault(to))))
 }
 
 /// `EINVAL` for what was named by `.` or `..`.
-fn dots_fault(found: &Found) -> Option<Errno>
-    ensures { result ≡ dots_fault found.now }
+fn dots_fault(found: &LentFound<'_>) -> Option<Errno>
+    ensures { result ≡ dots_fault (found_seen found.now) }
 {
     match found {
-        Found::Whole { way, .. } => match way {
-            Way::Dot | Way::DotDot => Some(Errno::EINVAL),
-            Way::Named { .. } | Way::Top => None,
+        LentFound::Whole { way, .. } => match way {
+            LentWay::Dot | LentWay::DotDot => Some(Errno::EINVAL),
+            LentWay::Named { .. } | LentWay::Top => None,
         },
-        Found::Slot { .. } => None,
+        LentFound::Slot { .. } => None,
     }
 }
 
 /// `EBUSY` for what was named by no part.
-fn top_fault(found: &Found) -> Option<Errno>
-    ensures { result ≡ top_fault found.now }
+fn top_fault(found: &LentFound<'_>) -> Option<Errno>
+    ensures { result ≡ top_fault (found_seen found.now) }
 {
     match found {
-        Found::Whole { way, .. } => match way {
-            Way::Top => Some(Errno::EBUSY),
-            Way::Named { .. } | Way::Dot | Way::DotDot => None,
+        LentFound::Whole { way, .. } => match way {
+            LentWay::Top => Some(Errno::EBUSY),
+            LentWay::Named { .. } | LentWay::Dot | LentWay::DotDot => None,
         },
-        Found::Slot { .. } => None,
+        LentFound::Slot { .. } => None,
     }
 }
 
 /// What is wrong with this node at the new place: a directory would stand beneath itself, and then
 /// what the kinds of both make impossible.
-fn move_fault<T: FileTree>(tree: &T, node: NodeId, from: &Found, to: &Found) -> Option<Errno>
-    requires { NameFits (T.content tree.now) to.now }
-    ensures { result ≡ or_fault (inside_fault (T.content tree.now) node (spot_named to.now))
-        (kinds_fault (T.content tree.now) node from.now to.now) }
+fn move_fault<T: FileTree>(
+    tree: &T,
+    node: NodeId,
+    from: &LentFound<'_>,
+    to: &LentFound<'_>,
+) -> Option<Errno>
+    requires { NameFits (T.content tree.now) (found_seen to.now) }
+    ensures { result ≡ or_fault (inside_fault (T.content tree.now) node (spot_named (found_seen to.now)))
+        (kinds_fault (T.content tree.now) node (found_seen from.now) (found_seen to.now)) }
 {
     inside_fault(tree, node, to).or(kinds_fault(tree, from, to))
 }
 
 /// `EINVAL` where a directory would come to stand in itself or beneath itself.
-fn inside_fault<T: FileTree>(tree: &T, node: NodeId, to: &Found) -> Option<Errno>
-    requires { NameFits (T.content tree.now) to.now }
-    ensures { result ≡ inside_fault (T.content tree.now) node (spot_named to.now) }
+fn inside_fault<T: FileTree>(tree: &T, node: NodeId, to: &LentFound<'_>) -> Option<Errno>
+    requires { NameFits (T.content tree.now) (found_seen to.now) }
+    ensures { result ≡ inside_fault (T.content tree.now) node (spot_named (found_seen to.now)) }
 {
-    let Some((dir, _name)) = spot_named(to) else {
+    let Some(spot) = spot_named(to) else {
         return None;
     };
-    if tree.kind(node) == Some(Kind::Dir) && is_within(tree, dir, node) {
+    if tree.kind(node) == Some(Kind::Dir) && is_within(tree, spot.dir, node) {
         return Some(Errno::EINVAL);
     }
     None
@@ -164,11 +196,12 @@ fn is_within<T: FileTree>(tree: &T, dir: NodeId, node: NodeId) -> bool
 
 /// A directory is not put in the place of anything else, nothing else in the place of a directory,
 /// and nothing in the place of a directory in which something stands.
-fn kinds_fault<T: FileTree>(tree: &T, from: &Found, to: &Found) -> Option<Errno>
-    ensures { (x : ℕ) → result ≡ kinds_fault (T.content tree.now) x from.now to.now }
+fn kinds_fault<T: FileTree>(tree: &T, from: &LentFound<'_>, to: &LentFound<'_>) -> Option<Errno>
+    ensures { (x : ℕ) → result
+        ≡ kinds_fault (T.content tree.now) x (found_seen from.now) (found_seen to.now) }
 {
     match *to {
-        Found::Whole { dir, .. } => {
+        LentFound::Whole { dir, .. } => {
             if !is_whole(from) {
                 Some(Errno::EISDIR)
             } else if tree.is_empty(dir) {
@@ -177,7 +210,7 @@ fn kinds_fault<T: FileTree>(tree: &T, from: &Found, to: &Found) -> Option<Errno>
                 Some(Errno::ENOTEMPTY)
             }
         }
-        Found::Slot { node, .. } => {
+        LentFound::Slot { node, .. } => {
             if node.is_some() && is_whole(from) {
                 Some(Errno::ENOTDIR)
             } else {

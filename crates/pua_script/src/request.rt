@@ -107,7 +107,7 @@ impl PathBytes {
 
 impl Request {
     ghost use Rattle.pua_script.specs.Requests.{Asked, is_asked, is_askable};
-    ghost use Rattle.pua_script.specs.Scripts.{IsActionAdded};
+    ghost use Rattle.pua_script.specs.Added.{IsActionAdded};
 
     /// The number of the process that asks.
     pub fn process(&self) -> u32

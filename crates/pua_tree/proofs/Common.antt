@@ -31,7 +31,7 @@ pub use Rattle.pua_tree.specs.ListTree.{held_tree, node_entry, row_entry}
 pub use Rattle.pua_tree.specs.Listing.{Entry, entry_of, hard_node_in, is_earlier_dir, is_earlier_other, is_taken, last_number}
 pub use Rattle.pua_tree.specs.Listing.{line_of_fields, listing_line, ListingLine, node_of, number_in, only_if, parent_in, tree_of}
 pub use Rattle.pua_tree.specs.Names.{has_byte, is_name, is_target, padded_name, same_bytes}
-pub use Rattle.pua_tree.specs.Reading.{Enters, entry_said, Follows, Gathers, grown_by, tree_with}
+pub use Rattle.pua_tree.specs.Reading.{Enters, entry_at, entry_said, Follows, Gathers, grown_by, tree_with}
 pub use Rattle.pua_tree.specs.Slots.{AreConsistent, held_in_slots, held_nodes, held_rows, in_order, made_of, names_of, node_in, row_at}
 pub use Rattle.pua_tree.specs.Slots.{rows_in, slot_of, with_entry}
 pub use Rattle.pua_tree.specs.Spelling.{bytes_spelled, decimal_value, fields, is_field, is_plain, name_of, name_of_bytes, number_within}

@@ -1,6 +1,6 @@
 -- What a reader has gathered of a listing, looked up and added to.
 use Rattle.pua_tree.proofs.Common.{◌≡◌, ◌<◌, ◌≤◌, ℕ, Bool, List, [], ◌∷◌, ◌++◌, Ok, Err, true, false, is_some, ltb, refl, sym, ap, subst}
-use Rattle.pua_tree.proofs.Common.{◌∙◌, le-ltb, lt-ltb, Tree, look, is_taken, tree_of, Gathers, Follows, tree_with}
+use Rattle.pua_tree.proofs.Common.{◌∙◌, le-ltb, lt-ltb, Tree, look, is_taken, Gathers, Follows, tree_with}
 use Rattle.pua_tree.specs.Listing as listing
 use Rattle.pua_tree.specs.Listing.{entry_or_fault}
 use Rattle.pua_tree.specs.declared.fault.ListingFault.TheVariants.{Taken, TooMany}

@@ -1,7 +1,7 @@
 -- How a line is judged by what the lines before it have gathered.
 use Rattle.pua_tree.proofs.Common.{◌≡◌, ℕ, Bool, not, ◌&&◌, List, [], Option, Some, None, Ok, Err, ltb, refl, ap, ◌∙◌, is_target, name_of}
 use Rattle.pua_tree.proofs.Common.{number_within, bytes_spelled, Node, Tree, is_dir, is_living, ListingLine, only_if, number_in, parent_in}
-use Rattle.pua_tree.proofs.Common.{hard_node_in, node_of, listing_line, entry_of, last_number, is_earlier_dir, is_earlier_other, Gathers}
+use Rattle.pua_tree.proofs.Common.{hard_node_in, node_of, listing_line, entry_of, is_earlier_dir, is_earlier_other, Gathers}
 use Rattle.pua_tree.proofs.Common.{Kind, Link, ListingFault}
 use Rattle.std.proofs.Common.{IsTrue}
 use Rattle.pua_tree.specs.Listing as listing

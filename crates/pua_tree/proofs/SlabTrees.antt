@@ -1,12 +1,14 @@
 -- A tree in slots, looked up by what each node knows of how it stands.
-use Rattle.pua_tree.proofs.Common.{◌≡◌, ℕ, Bool, true, false, not, ◌&&◌, ◌||◌, ◌==◌, cond, List, [], ◌∷◌, Option, Some, None, option_map}
-use Rattle.pua_tree.proofs.Common.{refl, sym, ap, subst, ◌∙◌, eqb, eqb-true, IfSome, option_and_then, list_any, list_all, eqb-false}
+use Rattle.pua_tree.proofs.Common.{◌≡◌, ℕ, true, false, not, ◌&&◌, ◌||◌, ◌==◌, cond, List, [], ◌∷◌, Option, Some, None, option_map}
+use Rattle.pua_tree.proofs.Common.{refl, sym, ap, ◌∙◌, eqb, eqb-true, option_and_then, list_any, list_all, eqb-false}
 use Rattle.pua_tree.proofs.Common.{false≢true, sum_by-zero, Tree, WellFormed, kind_at, is_dir, is_dir_kind, above, node_in}
 use Rattle.pua_tree.proofs.Common.{made_of, held_rows, held_in_slots, AreConsistent, Dir, Slots, SlotNode}
 use Rattle.pua_tree.specs.Tree as tree
 use Rattle.pua_tree.specs.Tree.{target_at, parent, is_empty, has_no_row}
 use Rattle.pua_tree.specs.Tree.{found_at}
-use Rattle.pua_tree.specs.Slots.{row_in}
+use Rattle.pua_tree.specs.Slots.{row_in, standing_of_dir}
+use Rattle.pua_tree.specs.declared.slots.Stance.{Stance}
+use Rattle.pua_tree.proofs.Common.{unwrap_or}
 use Rattle.pua_tree.specs.declared.slots.RowNode.{RowNode}
 use Rattle.pua_tree.proofs.Common.{IsSome}
 use Rattle.pua_tree.proofs.SlabEdits.{living_in, row_living}
@@ -99,10 +101,38 @@ parent_known s next d w kept dir =
     ∙ ap Some (sym (above_known s next d n.0 w kept dir n.1 n.2))
     ∙ sym (ap (λ b. cond b (Some (above (held_in_slots s next) d)) None) dir)
 
-pub emptiness_known : (s : Slots) (next d : ℕ) (answer : Bool) → AreConsistent s → is_dir (held_in_slots s next) d ≡ true →
-    IfSome (node_in s d) (λ n. answer ≡ (n.standing.rows == 0)) → answer ≡ is_empty (held_in_slots s next) d
-emptiness_known s next d answer kept dir says =
-    let n = dir_in s next d dir in
-    let known : answer ≡ (n.0.standing.rows == 0) =
-    subst (λ (o : Option SlotNode). IfSome o (λ n. answer ≡ (n.standing.rows == 0))) n.1 says in
-    known ∙ empty_known s next d n.0 kept n.1 ∙ sym (ap (λ b. b && has_no_row (held_in_slots s next) d) dir)
+-- a directory's own slot answers the same
+module _ (s : Slots) (next d : ℕ) (w : WellFormed (held_in_slots s next)) (kept : AreConsistent s) where
+  abbrev held : Tree
+  held = held_in_slots s next
+
+  dir_by : (o : Option SlotNode) → node_in s d ≡ o → is_dir held d ≡ is_dir_kind (option_map (λ (n : SlotNode). n.kind) o)
+  dir_by o e = ap is_dir_kind (sym (kind_known s next d) ∙ ap (λ (o : Option SlotNode). option_map (λ n. n.kind) o) e)
+
+  pub above_of_dir : option_map (λ (st : Stance). st.above) (option_and_then standing_of_dir (node_in s d)) ≡ parent held d
+  above_of_dir = by (node_in s d) refl
+    where
+      by : (o : Option SlotNode) → node_in s d ≡ o →
+          option_map (λ (st : Stance). st.above) (option_and_then standing_of_dir o) ≡ parent held d
+      by None e = sym (ap (λ b. cond b (Some (above held d)) None) (dir_by None e))
+      by (Some n) e =
+          elim (is_dir_kind (Some n.kind)) as (λ b. is_dir_kind (Some n.kind) ≡ b →
+          option_map (λ (st : Stance). st.above) (cond b (Some n.standing) None) ≡ parent held d) [
+            | true ↦ λ k. sym (ap (λ (o : Option SlotNode). option_map (λ m. m.standing.above) o) e) ∙
+                parent_known s next d w kept (dir_by (Some n) e ∙ k)
+            | false ↦ λ k. sym (ap (λ b. cond b (Some (above held d)) None) (dir_by (Some n) e ∙ k))
+          ] refl
+
+  pub bare_of_dir : unwrap_or (option_map (λ (st : Stance). st.rows == 0) (option_and_then standing_of_dir (node_in s d))) false
+      ≡ is_empty held d
+  bare_of_dir = by (node_in s d) refl
+    where
+      by : (o : Option SlotNode) → node_in s d ≡ o →
+          unwrap_or (option_map (λ (st : Stance). st.rows == 0) (option_and_then standing_of_dir o)) false ≡ is_empty held d
+      by None e = sym (ap (λ b. b && has_no_row held d) (dir_by None e))
+      by (Some n) e =
+          elim (is_dir_kind (Some n.kind)) as (λ b. is_dir_kind (Some n.kind) ≡ b →
+          unwrap_or (option_map (λ (st : Stance). st.rows == 0) (cond b (Some n.standing) None)) false ≡ is_empty held d) [
+            | true ↦ λ k. empty_known s next d n kept e ∙ sym (ap (λ b. b && has_no_row held d) (dir_by (Some n) e ∙ k))
+            | false ↦ λ k. sym (ap (λ b. b && has_no_row held d) (dir_by (Some n) e ∙ k))
+          ] refl

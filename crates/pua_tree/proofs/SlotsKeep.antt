@@ -2,7 +2,7 @@
 use Rattle.pua_tree.proofs.Common.{◌≡◌, ◌≢◌, ℕ, ◌+◌, ◌-◌, ◌<◌, ◌^◌, true, false, not, ◌==◌, cond, List, length, Option, Some, None}
 use Rattle.pua_tree.proofs.Common.{option_map, refl, sym, ap, ◌∙◌, arith, inl, inr, eqb-true, eq-eqb, IfSome, is_eq, find, put, where_key}
 use Rattle.pua_tree.proofs.Common.{spot_cmp, row_at, node_in, made_of, held_rows, held_nodes, rows_in, names_of, AreConsistent, Dir, Slots}
-use Rattle.pua_tree.proofs.Common.{SlotNode}
+use Rattle.pua_tree.proofs.Common.{SlotNode, subst}
 use Rattle.std.proofs.Common.{ne_eqb, BuildHasherDefault, FoldHasher}
 use Rattle.std.proofs.lemmas.List.Sums.{count_by-le-length}
 use Rattle.indexmap.specs.IndexMap.{IndexMap, UpdatesBy}
@@ -30,6 +30,12 @@ rows_by s t e = λ i. held_rows (record s { rows = e i })
 
 pub row_by : (s t : Slots) → s.rows ≡ t.rows → (at : tree.Spot) → row_in s at ≡ row_in t at
 row_by s t e at = λ i. row_in (record s { rows = e i }) at
+
+-- how many names a node has, by what it knows
+pub names_known : (s : Slots) (x names : ℕ) → AreConsistent s → IfSome (node_in s x) (λ node. names ≡ node.standing.names) →
+    IfSome (node_in s x) (λ _. names ≡ names_of (held_rows s) x)
+names_known s x names kept says = each (node_in s x) (λ node e.
+    subst (λ (o : Option SlotNode). IfSome o (λ n. names ≡ n.standing.names)) e says ∙ kept.standing.names_counted x node e)
 
 -- two changes of standings in turn
 module _ (old mid new : Slots) (f g : ℕ → Stance → Stance) (a : Restands old mid f) (b : Restands mid new g) where

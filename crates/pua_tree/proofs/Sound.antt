@@ -12,7 +12,7 @@ use Rattle.std.specs.FinMap.Entries.{length_without}
 use Rattle.std.proofs.lemmas.Bool.{or_from, or_left, or_right}
 use Rattle.pua_tree.specs.Tree.{node_at, found_at}
 use Rattle.pua_tree.specs.Tree.{rows_of, node_fits, rows_fit_kind}
-use Rattle.pua_tree.proofs.Base.{holds}
+use Rattle.pua_tree.proofs.Base.{holds, mapped, None≢Some}
 use Rattle.pua_tree.proofs.Content.{spots_total, exact_spots}
 use Rattle.pua_tree.proofs.Tallies.{tally, tally_counts, without, without_elsewhere, all_found, all_from_found, found_from_tally, only_key}
 
@@ -246,3 +246,35 @@ only_names_found t dir bytes w other = by (look t dir bytes) refl
 -- nodes that are the same are directories both or neither
 pub same_dir : (t u : Tree) (x : ℕ) → node_at u x ≡ node_at t x → is_dir u x ≡ is_dir t x
 same_dir t u x e = ap (λ o. is_dir_kind (option_map (λ n. n.kind) o)) e
+
+-- what is found lives in a living directory
+pub found_says : (t : Tree) (dir : ℕ) (name : List ℕ) (found : ℕ × Kind) → WellFormed t → found_at t dir name ≡ Some found →
+    (is_dir t dir ≡ true) × (look t dir name ≡ Some found.0) × (kind_at t found.0 ≡ Some found.1)
+found_says t dir name found w e = by (look t dir name) refl e
+  where
+    by : (o : Option ℕ) → look t dir name ≡ o
+        → option_and_then {U = ℕ × Kind} (λ x. option_map (λ kind. (x, kind)) (kind_at t x)) o ≡ Some found
+        → (is_dir t dir ≡ true) × (look t dir name ≡ Some found.0) × (kind_at t found.0 ≡ Some found.1)
+    by None here e = absurd (None≢Some found e)
+    by (Some x) here e =
+        let kind = mapped (λ (k : Kind). (x, k)) (kind_at t x) found e in
+        let node : x ≡ found.0 = ap (λ (f : ℕ × Kind). f.0) kind.2 in (
+          (row_says t (sound_from t w) (dir, name) x here).0,
+          here ∙ ap Some node,
+          ap (kind_at t) (sym node) ∙ kind.1 ∙ ap (λ (f : ℕ × Kind). Some f.1) kind.2,
+        )
+
+-- where nothing is found, no row stands
+pub nothing_found : (t : Tree) (dir : ℕ) (name : List ℕ) → WellFormed t → found_at t dir name ≡ None → look t dir name ≡ None
+nothing_found t dir name w e = by (look t dir name) refl e
+  where
+    lives : (x : ℕ) (o : Option Node) → is_some o ≡ true
+        → ◌≡◌ {A = Option (ℕ × Kind)} (option_map (λ kind. (x, kind)) (option_map (λ n. n.kind) o)) None → false ≡ true
+    lives x None h e = h
+    lives x (Some n) h e = absurd (None≢Some (x, n.kind) (sym e))
+
+    by : (o : Option ℕ) → look t dir name ≡ o
+        → option_and_then {U = ℕ × Kind} (λ x. option_map (λ kind. (x, kind)) (kind_at t x)) o ≡ None → o ≡ None
+    by None here e = refl
+    by (Some x) here e =
+        absurd (false≢true (lives x (node_at t x) (row_says t (sound_from t w) (dir, name) x here).2 e))

@@ -9,14 +9,26 @@ use Rattle.pua_tree.specs.Listing as listing
 use Rattle.pua_tree.specs.Listing.{last_number, tree_of}
 use Rattle.pua_tree.specs.Grammar.{entries_fit}
 use Rattle.pua_tree.specs.declared.gathered.LineEntry.{LineEntry}
+use Rattle.pua_tree.specs.declared.gathered.Standing.{Standing}
 use Rattle.pua_tree.specs.declared.gathered.MadeNode.{MadeNode}
 
--- what an entry says
+-- a node that a line makes
 abbrev pub said_node : MadeNode → tree.Node
 said_node made = record { kind = made.kind; target = option_map (λ target. target.items) made.target }
 
+-- the entry of a line whose row stands in this directory under this name
+abbrev pub entry_at : ℕ → List ℕ → Standing → listing.Entry
+entry_at dir name stands = record {
+  number = stands.number;
+  parent = dir;
+  name = name;
+  node = stands.node;
+  made = option_map said_node stands.made;
+}
+
+-- what a line says
 abbrev pub entry_said : LineEntry → listing.Entry
-entry_said e = record { number = e.number; parent = e.parent; name = e.name; node = e.node; made = option_map said_node e.made }
+entry_said e = entry_at e.parent e.name.bytes.now e.stands
 
 -- the tree with an entry more: the node that it makes, under its number, in a new row; or, where it makes none, a new row
 -- of its node, and a next number above its own

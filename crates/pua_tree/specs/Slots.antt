@@ -91,6 +91,10 @@ pub record AreConsistent (s : Slots) : Type 0 where
 abbrev pub with_stance : Stance → SlotNode → SlotNode
 with_stance standing node = record node { standing = standing }
 
+-- how a directory stands, and None for a node of another kind
+abbrev pub standing_of_dir : SlotNode → Option Stance
+standing_of_dir node = if tree.is_dir_kind (Some node.kind) then Some node.standing else None
+
 -- standings have changed so, and nothing else
 pub record Restands (old new : Slots) (change : ℕ → Stance → Stance) : Type 0 where
   pub rows : new.rows ≡ old.rows

@@ -11,6 +11,10 @@ use Rattle.pua_tree.specs.declared.fault.NameFault.TheVariants.{BadSpelling, Emp
 abbrev pub is_plain : ℕ → Bool
 is_plain b = nat_le 33 b && (nat_le b 126 && not (b == 92))
 
+-- and is no slash, so that it may stand for itself in a name
+abbrev pub is_plain_in_name : ℕ → Bool
+is_plain_in_name b = is_plain b && not (b == 47)
+
 -- the byte itself, or a backslash and three octal digits
 abbrev pub byte_spelling : ℕ → List ℕ
 byte_spelling b = if is_plain b then b ∷ [] else 92 ∷ (48 + b / 64) ∷ (48 + b / 8 % 8) ∷ (48 + b % 8) ∷ []

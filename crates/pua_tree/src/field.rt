@@ -93,27 +93,12 @@ fn first_hidden(line: &[u8]) -> Option<usize>
 pub fn number_within(low: u32, high: u32, text: &[u8]) -> Option<u32>
     ensures { result ≡ number_within low high text.now }
 {
-    if !is_decimal(text) {
+    let (first, rest) = text.split_first()?;
+    if *first == b'0' && !rest.is_empty() {
         return None;
     }
     let number = value_up_to(high, text)?;
     (number >= low).then_some(number)
-}
-
-/// Whether these bytes are digits without a leading zero.
-fn is_decimal(text: &[u8]) -> bool
-    ensures { result ≡ is_decimal text.now }
-{
-    let Some((first, rest)) = text.split_first() else {
-        return false;
-    };
-    are_digits(text) && (*first != b'0' || rest.is_empty())
-}
-
-fn are_digits(text: &[u8]) -> bool
-    ensures { result ≡ list_all is_digit text.now }
-{
-    text.iter().all(|byte| is_digit(*byte))
 }
 
 fn is_digit(byte: u8) -> bool
@@ -122,13 +107,16 @@ fn is_digit(byte: u8) -> bool
     byte.is_ascii_digit()
 }
 
-/// The number that digits write, if it is not above this bound.
+/// The number that these bytes write, if they are digits and it is not above this bound.
 fn value_up_to(high: u32, digits: &[u8]) -> Option<u32>
-    ensures { result ≡ (if nat_le (decimal_value digits.now) high then Some
-        (decimal_value digits.now) else None) }
+    ensures { result ≡ (if list_all is_digit digits.now && nat_le (decimal_value digits.now) high
+        then Some (decimal_value digits.now) else None) }
 {
     let mut value = 0u64;
     for digit in digits {
+        if !is_digit(*digit) {
+            return None;
+        }
         value = 10 * value + u64::from(digit.saturating_sub(b'0'));
         if value > u64::from(high) {
             return None;

@@ -1,18 +1,26 @@
 //! What a reader of listings fills: a tree that takes one entry after another.
 
 use crate::fault::OutOfMemory;
-use crate::name::Name;
+use crate::name::LentName;
 use crate::node::{Kind, NodeId};
+use crate::spot::Spot;
 use crate::tree::FileTree;
 use std::alloc::Global;
 
-/// What one line of a listing says: a row, and the node that the line makes under its number. A hard
-/// link makes none: the node of its row is of an earlier line.
+/// What one line of a listing says: where its row stands, and what stands there. The name is lent
+/// by the line.
 #[derive(Drop)]
-pub(crate) struct LineEntry {
-    pub(crate) number: u32,
+pub(crate) struct LineEntry<'a> {
     pub(crate) parent: NodeId,
-    pub(crate) name: Name,
+    pub(crate) name: LentName<'a>,
+    pub(crate) stands: Standing,
+}
+
+/// What a line puts into its row: a node, and the node that it makes under its number. A hard link
+/// makes none: the node of its row is of an earlier line.
+#[derive(Drop)]
+pub(crate) struct Standing {
+    pub(crate) number: u32,
     pub(crate) node: NodeId,
     pub(crate) made: Option<MadeNode>,
 }
@@ -28,20 +36,24 @@ pub(crate) struct MadeNode {
 /// out. What it holds so far is its content.
 pub(crate) trait Gathered: FileTree + Drop {
     ghost use Rattle.std.specs.Prelude.{◌≡◌, OnOk, OnErr, IfOk};
-    ghost use Rattle.pua_tree.specs.Tree.{empty_tree};
-    ghost use Rattle.pua_tree.specs.Reading.{Follows, tree_with, entry_said};
+    ghost use Rattle.pua_tree.specs.Tree.{empty_tree, look};
+    ghost use Rattle.pua_tree.specs.Reading.{Follows, tree_with, entry_at};
 
     /// The root alone, with room for so many rows. The only error is that the memory for it is
     /// refused.
     fn root_alone(alloc: Global, rows: usize) -> Result<Self, OutOfMemory>
         ensures { IfOk result (λ tree. Self.content tree ≡ empty_tree) };
 
-    /// Puts the node of an entry into a new row, and the node itself into the tree where the entry
-    /// makes it. The next number is then above the entry's. The only error is that memory for it is
+    /// The node in the row at this spot.
+    fn row_at(&self, spot: &Spot) -> Option<NodeId>
+        ensures { result ≡ look (Self.content self.now) spot.now.dir spot.now.name };
+
+    /// Puts a node into a new row at this spot, and the node itself into the tree where the line
+    /// makes it. The next number is then above the line's. The only error is that memory for it is
     /// refused; the tree is then as it was.
-    fn put(&mut self, entry: LineEntry) -> Result<(), OutOfMemory>
-        requires { Follows (Self.content self.old) (entry_said entry) }
+    fn put(&mut self, spot: &Spot, stands: Standing) -> Result<(), OutOfMemory>
+        requires { Follows (Self.content self.old) (entry_at spot.now.dir spot.now.name stands) }
         ensures grown { OnOk result (Self.content self.new ≡ tree_with (Self.content self.old)
-            (entry_said entry)) }
+            (entry_at spot.now.dir spot.now.name stands)) }
         ensures unchanged { OnErr result (Self.content self.new ≡ Self.content self.old) };
 }

@@ -2,7 +2,7 @@
 //! what is found by bytes.
 
 use crate::fault::TreeFault;
-use crate::name::Name;
+use crate::name::{LentName, Name};
 use crate::node::{Kind, NodeId};
 use crate::spot::Spot;
 use crate::tree::{MOST_NAMES, NUMBER_END};
@@ -56,12 +56,13 @@ pub(crate) trait Judged {
 }
 
 ghost use Rattle.std.specs.Prelude.{◌≡◌, ◌≢◌, ◌<◌, Some, None, Ok, Err, IsTrue, IfOk, IfSome, OnOk};
-ghost use Rattle.std.specs.Prelude.{MatchResult, MatchOption, ◌==◌, false};
+ghost use Rattle.std.specs.Prelude.{MatchResult, MatchOption, ◌==◌, false, IfErr, is_ok, option_map};
 ghost use Rattle.std.specs.List.{list_any};
 ghost use Rattle.pua_tree.specs.Limits.{number_end};
 ghost use Rattle.pua_tree.specs.Names.{is_name};
-ghost use Rattle.pua_tree.specs.Tree.{Node, is_dir, look, found_at, climb};
-ghost use Rattle.pua_tree.specs.Edits.{add, tie, cut, shift, is_full_dir, has_name_room, has_room};
+ghost use Rattle.pua_tree.specs.Tree.{Node, is_dir, kind_at, look, found_at, climb};
+ghost use Rattle.pua_tree.specs.Edits.{add, tie, cut, shift, is_full_dir, is_full_dir_there};
+ghost use Rattle.pua_tree.specs.Edits.{has_name_room, has_room};
 ghost use Rattle.pua_tree.specs.Edits.{with_row, with_new, without_row, without_unnamed};
 ghost use Rattle.pua_tree.specs.Edits.{with_row_moved};
 
@@ -74,6 +75,23 @@ pub(crate) fn find<T: Judged>(tree: &T, dir: NodeId, bytes: &[u8]) -> Option<(No
         return None;
     };
     tree.found(&Spot { dir, name })
+}
+
+/// The node with this name in a directory, and its kind.
+pub(crate) fn find_named<T: Judged>(
+    tree: &T,
+    dir: NodeId,
+    name: LentName<'_>,
+) -> Option<(NodeId, Kind)>
+    ensures { result ≡ found_at (T.held tree.now) dir name.entry.bytes.now }
+{
+    // A name that is written where it is wanted is copied once less than one that is moved there.
+    let mut spot = Spot {
+        dir,
+        name: Name::any(),
+    };
+    spot.name.overwrite(name);
+    tree.found(&spot)
 }
 
 /// Whether a node may be added under this name, or else the first fault.
@@ -141,61 +159,109 @@ pub(crate) fn may_cut<T: Judged>(tree: &T, dir: NodeId, name: &Name) -> Result<N
         (λ fault. cut held dir name.now ≡ Err fault) }
     ensures found { IfOk result (λ node. look (T.held tree.now) dir name.now ≡ Some node) }
 {
-    if !is_dir(tree, dir) {
-        return Err(TreeFault::NotDir);
-    }
-    let spot = Spot { dir, name: *name };
-    let node = tree.node_at(&spot).ok_or(TreeFault::Missing)?;
-    if is_full_dir(tree, node) {
+    let row = row_in(tree, &Spot { dir, name: *name })?;
+    let (node, kind) = row.ok_or(TreeFault::Missing)?;
+    if is_full(tree, node, kind) {
         return Err(TreeFault::NotEmpty);
     }
     Ok(node)
 }
 
-/// The node of a row that may be moved, and None where it stands at the new place already, or else
-/// the first fault.
+/// The node of a row that may be moved, and the other node that stands at the new place, if one does.
+pub(crate) struct Moving {
+    pub(crate) node: NodeId,
+    pub(crate) displaced: Option<NodeId>,
+}
+
+/// What a row that may be moved moves, and None where its node stands at the new place already, or
+/// else the first fault.
 pub(crate) fn may_shift<T: Judged>(
     tree: &T,
     from: NodeId,
     name: &Name,
     to: NodeId,
     new_name: &Name,
-) -> Result<Option<NodeId>, TreeFault>
+) -> Result<Option<Moving>, TreeFault>
     ensures exact { let held = T.held tree.now in MatchResult result
         (λ moves. MatchOption moves (shift held from name.now to new_name.now ≡ Ok held)
-        (λ node. shift held from name.now to new_name.now
-        ≡ Ok (with_row_moved held from name.now to new_name.now node (look held to new_name.now))))
+        (λ moving. shift held from name.now to new_name.now
+        ≡ Ok (with_row_moved held from name.now to new_name.now moving.node moving.displaced)))
         (λ fault. (fault ≢ TreeFault.OutOfMemory) ×
         (shift held from name.now to new_name.now ≡ Err fault)) }
     ensures found { let held = T.held tree.now in
-        IfOk result (λ moves. IfSome moves (λ node. (look held from name.now ≡ Some node) ×
-        (look held to new_name.now ≢ Some node))) }
+        IfOk result (λ moves. IfSome moves (λ moving. look held from name.now ≡ Some moving.node)) }
+    ensures displaced { let held = T.held tree.now in
+        IfOk result (λ moves. IfSome moves (λ moving.
+        (moving.displaced ≡ look held to new_name.now) × (moving.displaced ≢ Some moving.node))) }
     ensures name { IsTrue (is_name new_name.now) }
 {
     new_name.known();
-    if !(is_dir(tree, from) && is_dir(tree, to)) {
-        return Err(TreeFault::NotDir);
-    }
-    let spot = Spot {
-        dir: from,
-        name: *name,
-    };
-    let new_spot = Spot {
-        dir: to,
-        name: *new_name,
-    };
-    let node = tree.node_at(&spot).ok_or(TreeFault::Missing)?;
-    let there = tree.node_at(&new_spot);
-    if there == Some(node) {
+    let row = row_in(
+        tree,
+        &Spot {
+            dir: from,
+            name: *name,
+        },
+    )?;
+    let there = row_in(
+        tree,
+        &Spot {
+            dir: to,
+            name: *new_name,
+        },
+    )?;
+    let (node, kind) = row.ok_or(TreeFault::Missing)?;
+    let displaced = node_of(&there);
+    if displaced == Some(node) {
         return Ok(None);
     }
-    if is_dir(tree, node) && is_within(tree, to, node) {
+    if kind == Kind::Dir && is_within(tree, to, node) {
         return Err(TreeFault::Inside);
     }
-    if there.is_some_and(|displaced| is_full_dir(tree, displaced)) {
+    if is_full_there(tree, &there) {
         return Err(TreeFault::NotEmpty);
     }
-    Ok(Some(node))
+    Ok(Some(Moving { node, displaced }))
+}
+
+/// The node in the row at this spot, if there is one, and its kind. The only fault is that the spot
+/// is in no living directory.
+fn row_in<T: Judged>(tree: &T, spot: &Spot) -> Result<Option<(NodeId, Kind)>, TreeFault>
+    ensures fault { IfErr result (λ fault. fault ≡ TreeFault.NotDir) }
+    ensures dir { is_ok result ≡ is_dir (T.held tree.now) spot.now.dir }
+    ensures node { IfOk result (λ row.
+        option_map (λ found. found.0) row ≡ look (T.held tree.now) spot.now.dir spot.now.name) }
+    ensures kind { IfOk result (λ row.
+        IfSome row (λ found. kind_at (T.held tree.now) found.0 ≡ Some found.1)) }
+{
+    tree.is_tree();
+    // A row stands in a living directory, and its node lives.
+    match tree.found(spot) {
+        Some(row) => Ok(Some(row)),
+        None if is_dir(tree, spot.dir) => Ok(None),
+        None => Err(TreeFault::NotDir),
+    }
+}
+
+/// The node in a row that may be there.
+fn node_of(row: &Option<(NodeId, Kind)>) -> Option<NodeId>
+    ensures { result ≡ option_map (λ found. found.0) row.now }
+{
+    match row {
+        Some((node, _)) => Some(*node),
+        None => None,
+    }
+}
+
+/// Whether the node in a row that may be there is a directory in which something stands.
+fn is_full_there<T: Judged>(tree: &T, row: &Option<(NodeId, Kind)>) -> bool
+    ensures { IfSome row.now (λ found. kind_at (T.held tree.now) found.0 ≡ Some found.1) →
+        result ≡ is_full_dir_there (T.held tree.now) (option_map (λ found. found.0) row.now) }
+{
+    match row {
+        Some((node, kind)) => is_full(tree, *node, *kind),
+        None => false,
+    }
 }
 
 fn is_dir<T: Judged>(tree: &T, id: NodeId) -> bool
@@ -204,11 +270,12 @@ fn is_dir<T: Judged>(tree: &T, id: NodeId) -> bool
     tree.kind_of(id) == Some(Kind::Dir)
 }
 
-/// Whether this is a directory in which something stands.
-fn is_full_dir<T: Judged>(tree: &T, id: NodeId) -> bool
-    ensures { result ≡ is_full_dir (T.held tree.now) id }
+/// Whether a node of this kind is a directory in which something stands.
+fn is_full<T: Judged>(tree: &T, id: NodeId, kind: Kind) -> bool
+    ensures { kind_at (T.held tree.now) id ≡ Some kind →
+        result ≡ is_full_dir (T.held tree.now) id }
 {
-    is_dir(tree, id) && !tree.is_bare(id)
+    kind == Kind::Dir && !tree.is_bare(id)
 }
 
 /// Whether there is room for a further name.

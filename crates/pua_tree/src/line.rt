@@ -50,14 +50,11 @@ pub(crate) fn read_line(hard: bool, text: &[u8]) -> Option<ListingLine<'_>>
 fn plain_kind(word: &[u8]) -> Option<Kind>
     ensures { result ≡ plain_kind word.now }
 {
-    if word == b"dir".as_slice() {
-        Some(Kind::Dir)
-    } else if word == b"file".as_slice() {
-        Some(Kind::File)
-    } else if word == b"prog".as_slice() {
-        Some(Kind::Prog)
-    } else {
-        None
+    match word {
+        [b'd', b'i', b'r'] => Some(Kind::Dir),
+        [b'f', b'i', b'l', b'e'] => Some(Kind::File),
+        [b'p', b'r', b'o', b'g'] => Some(Kind::Prog),
+        _ => None,
     }
 }
 
@@ -66,11 +63,9 @@ fn plain_kind(word: &[u8]) -> Option<Kind>
 fn long_kind(hard: bool, word: &[u8]) -> Option<Option<Kind>>
     ensures { result ≡ long_kind hard word.now }
 {
-    if word == b"link".as_slice() {
-        Some(Some(Kind::Link))
-    } else if hard && word == b"hard".as_slice() {
-        Some(None)
-    } else {
-        None
+    match word {
+        [b'l', b'i', b'n', b'k'] => Some(Some(Kind::Link)),
+        [b'h', b'a', b'r', b'd'] if hard => Some(None),
+        _ => None,
     }
 }

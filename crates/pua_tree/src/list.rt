@@ -1,10 +1,10 @@
 //! A tree kept as a list of rows and a list of nodes, each in the order of its keys.
 
 use crate::fault::{OutOfMemory, TreeFault};
-use crate::gathered::{Gathered, LineEntry, MadeNode};
-use crate::judgement::{self, Judged, may_add, may_cut, may_shift, may_tie};
+use crate::gathered::{Gathered, MadeNode, Standing};
+use crate::judgement::{self, Judged, Moving, may_add, may_cut, may_shift, may_tie};
 use crate::list_edits::{copied_target, push_made, put_row, reserve_one, take_row, take_unnamed};
-use crate::name::Name;
+use crate::name::{LentName, Name};
 use crate::node::{Kind, NodeId};
 use crate::spot::Spot;
 use crate::tree::{FileTree, LentRow};
@@ -78,6 +78,10 @@ impl FileTree for ListTree {
         judgement::find(self, dir, bytes)
     }
 
+    fn find_named(&self, dir: NodeId, name: LentName<'_>) -> Option<(NodeId, Kind)> {
+        judgement::find_named(self, dir, name)
+    }
+
     fn parent(&self, dir: NodeId) -> Option<NodeId> {
         self.dir_above(dir)
     }
@@ -117,14 +121,9 @@ impl FileTree for ListTree {
         let target = copied_target(alloc, target)?;
         let number = self.next;
         let node = NodeId::new(number);
-        let entry = LineEntry {
-            number,
-            parent: dir,
-            name,
-            node,
-            made: Some(MadeNode { kind, target }),
-        };
-        self.put(entry)?;
+        let made = Some(MadeNode { kind, target });
+        let stands = Standing { number, node, made };
+        self.put(&Spot { dir, name }, stands)?;
         Ok(node)
     }
 
@@ -150,10 +149,10 @@ impl FileTree for ListTree {
         to: NodeId,
         new_name: Name,
     ) -> Result<(), TreeFault> {
-        let Some(node) = may_shift(self, from, name, to, &new_name)? else {
+        let Some(moving) = may_shift(self, from, name, to, &new_name)? else {
             return Ok(());
         };
-        let displaced = self.look(to, &new_name);
+        let Moving { node, displaced } = moving;
         take_row(&mut self.rows, from, name);
         put_row(
             &mut self.rows,
@@ -187,16 +186,19 @@ impl Gathered for ListTree {
         })
     }
 
-    fn put(&mut self, entry: LineEntry) -> Result<(), OutOfMemory> {
+    fn row_at(&self, spot: &Spot) -> Option<NodeId> {
+        self.node_at(spot)
+    }
+
+    fn put(&mut self, spot: &Spot, stands: Standing) -> Result<(), OutOfMemory> {
         reserve_one(&mut self.rows, &mut self.nodes)?;
-        let LineEntry {
-            number,
-            parent: dir,
-            name,
+        let Standing { number, node, made } = stands;
+        let row = ListRow {
+            dir: spot.dir,
+            name: spot.name,
             node,
-            made,
-        } = entry;
-        put_row(&mut self.rows, ListRow { dir, name, node });
+        };
+        put_row(&mut self.rows, row);
         push_made(&mut self.nodes, node, made);
         self.next = number + 1;
         Ok(())

@@ -3,7 +3,7 @@
 
 ghost use Rattle.std.specs.Prelude.{ℕ, List, ◌≡◌, ◌≢◌, ◌≤◌, ◌+◌, ◌++◌, ◌∷◌, [], Some, Ok, Err};
 ghost use Rattle.std.specs.Prelude.{MatchResult, MatchOption, OnOk, OnErr, IfOk, IfErr, nat_lt};
-ghost use Rattle.std.specs.Prelude.{length, option_map, not, ◌&&◌, ◌==◌, min, count_by};
+ghost use Rattle.std.specs.Prelude.{length, option_map, not, ◌&&◌, min, ◌/◌};
 ghost use Rattle.std.specs.Bool.{OnTrue, OnFalse};
 ghost use Rattle.pua_tree.specs.Limits.{highest_listed};
 ghost use Rattle.pua_tree.specs.Spelling.{number_within};
@@ -16,14 +16,15 @@ ghost use Rattle.pua_tree.specs.Reading.{Gathers, IsGathered, entry_said, said_n
 
 use crate::fault::ListingFault;
 use crate::field::number_within;
-use crate::gathered::{Gathered, LineEntry, MadeNode};
+use crate::gathered::{Gathered, LineEntry, MadeNode, Standing};
 use crate::line::{ListingLine, read_line};
 use crate::link_target::is_target;
 use crate::list::ListTree;
-use crate::name::Name;
+use crate::name::{LentName, Name};
 use crate::node::{Kind, NodeId};
 use crate::slab_tree::SlabTree;
 use crate::spelling::unspelled;
+use crate::spot::Spot;
 use crate::tree::FileTree;
 use bstr::{ByteSlice, Lines};
 use std::alloc::Global;
@@ -71,17 +72,16 @@ fn read_tree<T: Gathered>(alloc: Global, bytes: &[u8]) -> Result<T, ListingFault
     if !take_line(&mut lines, b"0 dir") {
         return Err(ListingFault::BadLine(2));
     }
-    let Reading { tree, .. } = read_entries(alloc, hard, line_ends(bytes), lines)?;
+    let Reading { tree, .. } = read_entries(alloc, hard, most_rows(bytes), lines)?;
     Ok(tree)
 }
 
-/// How many lines of these bytes have an end, up to as many as a listing has: for so many rows room is
-/// made at once.
-fn line_ends(bytes: &[u8]) -> usize
-    ensures { result ≡ min (count_by (λ b. b == 10) bytes.now) MOST_LISTED }
+/// As many rows as a listing of so many bytes may have, for which room is made at once: a line of a
+/// row has ten bytes or more with its end.
+fn most_rows(bytes: &[u8]) -> usize
+    ensures { result ≡ min (length bytes.now / 10) MOST_LISTED }
 {
-    let ends = bytes.iter().filter(|byte| **byte == b'\n').count();
-    ends.min(MOST_LISTED as usize)
+    (bytes.len() / 10).min(MOST_LISTED as usize)
 }
 
 /// Takes the first line. Answers whether hard links are known in the lines after it, and None where
@@ -112,11 +112,13 @@ fn take_line(lines: &mut Lines<'_>, text: &[u8]) -> bool
 }
 
 /// The tree of the lines so far, the greatest number among them, and whether hard links are known.
+/// The spot of each line is written over the one before.
 #[derive(Drop)]
 struct Reading<T> {
     hard: bool,
     tree: T,
     greatest: u32,
+    spot: Spot,
 }
 
 /// Reads the lines after the first two, with room for so many rows.
@@ -133,10 +135,11 @@ fn read_entries<T: Gathered>(
         → entries_of hard [] 3 lines.entry ≡ Err fault) }
 {
     let mut reading = Reading::new(alloc, hard, rows)?;
+    let mut room = [0; Name::MOST];
     let mut n = 2;
     for text in lines {
         n += 1;
-        reading.read(alloc, n, text)?;
+        reading.read(alloc, n, text, &mut room)?;
     }
     Ok(reading)
 }
@@ -149,15 +152,27 @@ impl<T: Gathered> Reading<T> {
         ensures hard { IfOk result (λ reading. reading.hard ≡ hard) }
         ensures err { OnErr result (result ≡ Err ListingFault.OutOfMemory) }
     {
+        let tree = T::root_alone(alloc, rows)?;
+        let spot = Spot {
+            dir: NodeId::ROOT,
+            name: Name::any(),
+        };
         Ok(Reading {
             hard,
-            tree: T::root_alone(alloc, rows)?,
+            tree,
             greatest: 0,
+            spot,
         })
     }
 
-    /// Reads line `n`, which comes after those read so far.
-    fn read(&mut self, alloc: Global, n: u32, text: &[u8]) -> Result<(), ListingFault>
+    /// Reads line `n`, which comes after those read so far. There is room for a name with escapes.
+    fn read(
+        &mut self,
+        alloc: Global,
+        n: u32,
+        text: &[u8],
+        room: &mut [u8; Name::MOST],
+    ) -> Result<(), ListingFault>
         requires { (before : ℕ)
             × IsGathered self.old.hard (T.content self.old.tree) self.old.greatest before
             × (n ≡ before + 1) }
@@ -171,20 +186,28 @@ impl<T: Gathered> Reading<T> {
             (λ fault. fault ≢ ListingFault.OutOfMemory
             → entry_of self.old.hard es n text.now ≡ Err fault) }
     {
-        let entry = self.entry(alloc, n, text)?;
-        if self.tree.look(entry.parent, &entry.name).is_some() {
+        let entry = self.entry(alloc, n, text, room)?;
+        self.spot.dir = entry.parent;
+        self.spot.name.overwrite(entry.name);
+        if self.tree.row_at(&self.spot).is_some() {
             return Err(ListingFault::Taken(n));
         }
         if n > MOST_LINES {
             return Err(ListingFault::TooMany(n));
         }
-        self.greatest = entry.number;
-        self.tree.put(entry)?;
+        self.greatest = entry.stands.number;
+        self.tree.put(&self.spot, entry.stands)?;
         Ok(())
     }
 
     /// What line `n` says, whether or not its name is free and there is room for it.
-    fn entry(&self, alloc: Global, n: u32, text: &[u8]) -> Result<LineEntry, ListingFault>
+    fn entry<'a>(
+        &self,
+        alloc: Global,
+        n: u32,
+        text: &'a [u8],
+        room: &'a mut [u8; Name::MOST],
+    ) -> Result<LineEntry<'a>, ListingFault>
         ensures { (es : List Said)
             → Gathers self.now.hard (T.content self.now.tree) self.now.greatest es
             → MatchResult result
@@ -201,16 +224,15 @@ impl<T: Gathered> Reading<T> {
         let Some(parent) = dir_in(&self.tree, line.parent) else {
             return Err(ListingFault::BadParent(n));
         };
-        let Ok(name) = Name::read(line.name) else {
+        let Ok(name) = LentName::read(line.name, room) else {
             return Err(ListingFault::BadName(n));
         };
         let (node, made) = self.node_of(alloc, n, number, &line)?;
+        let stands = Standing { number, node, made };
         Ok(LineEntry {
-            number,
             parent,
             name,
-            node,
-            made,
+            stands,
         })
     }
 

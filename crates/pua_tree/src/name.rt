@@ -1,7 +1,7 @@
 //! Names in directories.
 
 use crate::fault::NameFault;
-use crate::spelling::{are_plain, unspell_into};
+use crate::spelling::{is_plain, unspell_into};
 use std::cmp::Ordering;
 use std::hash::{Hash, Hasher};
 use std::marker::Model;
@@ -31,7 +31,7 @@ impl Model for Name {
 }
 
 ghost use Rattle.std.specs.Prelude.{◌≡◌, ◌==◌, ◌≤◌, [], ◌∷◌, length, IsTrue, Some, None};
-ghost use Rattle.std.specs.Prelude.{if◌then◌else◌};
+ghost use Rattle.std.specs.Prelude.{if◌then◌else◌, ◌||◌, MatchResult, Ok, Err};
 ghost use Rattle.std.proofs.Common.{rules};
 ghost use Rattle.std.specs.Cmp.{partial_order_from_own_ties};
 ghost use Rattle.std.specs.Cmp.Rules.{comparing, hashing};
@@ -39,59 +39,22 @@ ghost use Rattle.std.specs.Ordering.{nat_cmp, as_partial_cmp};
 ghost use Rattle.std.specs.Cmp.Lexicographic.{slice_cmp, pointwise};
 ghost use Rattle.std.specs.List.{list_all};
 ghost use Rattle.pua_tree.specs.Limits.{most_name};
-ghost use Rattle.pua_tree.specs.Names.{is_name, is_name_byte, front, padded_name};
-ghost use Rattle.pua_tree.specs.Spelling.{name_of, name_of_bytes};
+ghost use Rattle.pua_tree.specs.Names.{is_name, is_name_byte, front, padded_name, same_bytes};
+ghost use Rattle.pua_tree.specs.Spelling.{name_of, name_of_bytes, is_plain_in_name};
 
 impl Name {
     /// The most bytes that a name has: `NAME_MAX` of `<limits.h>` (`ENAMETOOLONG` is intro(2)'s).
     pub const MOST: usize = 255;
 
     /// The name that a text spells, or the first of its faults.
-    #[tactic(auto, using(crate::proofs::Spellings::unspelled_as_it_stands))]
     pub fn read(spelling: &[u8]) -> Result<Name, NameFault>
         ensures { result ≡ name_of spelling.now }
     {
-        if are_plain(spelling) {
-            Name::judged(spelling)
-        } else {
-            Name::read_escaped(spelling)
+        let mut room = [0; Name::MOST];
+        match LentName::read(spelling, &mut room) {
+            Ok(name) => Ok(name.name()),
+            Err(fault) => Err(fault),
         }
-    }
-
-    /// The same for any text, byte by byte.
-    fn read_escaped(spelling: &[u8]) -> Result<Name, NameFault>
-        ensures { result ≡ name_of spelling.now }
-    {
-        let mut bytes = [0; Name::MOST];
-        let Some(len) = unspell_into(spelling, &mut bytes) else {
-            return Err(NameFault::BadSpelling);
-        };
-        if spelling.contains(&b'/') {
-            return Err(NameFault::BadSpelling);
-        }
-        if len > Name::MOST {
-            return Err(NameFault::TooLong);
-        }
-        Name::judged(&bytes[..len])
-    }
-
-    /// The name of bytes that were spelled, or the first of their faults.
-    fn judged(bytes: &[u8]) -> Result<Name, NameFault>
-        ensures { result ≡ name_of_bytes (Some bytes.now) }
-    {
-        if bytes.contains(&b'/') {
-            return Err(NameFault::BadSpelling);
-        }
-        if bytes.is_empty() {
-            return Err(NameFault::Empty);
-        }
-        if bytes.len() > Name::MOST {
-            return Err(NameFault::TooLong);
-        }
-        let Some(name) = Name::from_bytes(bytes) else {
-            return Err(NameFault::NotAName);
-        };
-        Ok(name)
     }
 
     /// The name of these bytes, if they are a name's.
@@ -112,6 +75,24 @@ impl Name {
     {
         let bytes = self.bytes();
         LentName { bytes }
+    }
+
+    /// A name, to be written over.
+    #[inline(always)]
+    pub(crate) fn any() -> Name {
+        let bytes = b"-".as_slice();
+        LentName { bytes }.name()
+    }
+
+    /// Writes a lent name over this one. A name made in the place where it is wanted is copied once
+    /// less than one that is moved there.
+    #[inline(always)]
+    pub(crate) fn overwrite(&mut self, name: LentName<'_>)
+        ensures { self.new ≡ name.entry.bytes.now }
+    {
+        let bytes = name.bytes;
+        pad(&mut self.bytes, name);
+        self.len = bytes.len() as u8;
     }
 
     /// Does nothing. A caller learns from it what is true of the bytes of every name.
@@ -152,6 +133,73 @@ pub struct LentName<'a> {
     pub ghost name: { IsTrue (is_name bytes.now) },
 }
 
+impl<'a> LentName<'a> {
+    /// The name that a text spells, or the first of its faults: what `Name::read` answers. It lies in
+    /// the text, or in the room where the text has escapes.
+    pub(crate) fn read(
+        spelling: &'a [u8],
+        room: &'a mut [u8; Name::MOST],
+    ) -> Result<LentName<'a>, NameFault>
+        ensures { MatchResult result (λ name. name_of spelling.now ≡ Ok name.bytes.now)
+            (λ fault. name_of spelling.now ≡ Err fault) }
+    {
+        if !are_plain_in_name(spelling) {
+            return LentName::read_escaped(spelling, room);
+        }
+        if spelling.is_empty() {
+            return Err(NameFault::Empty);
+        }
+        if spelling.len() > Name::MOST {
+            return Err(NameFault::TooLong);
+        }
+        if are_dots(spelling) {
+            return Err(NameFault::NotAName);
+        }
+        Ok(LentName { bytes: spelling })
+    }
+
+    /// The name that any text spells, read byte by byte into a room.
+    fn read_escaped(
+        spelling: &[u8],
+        room: &'a mut [u8; Name::MOST],
+    ) -> Result<LentName<'a>, NameFault>
+        ensures { MatchResult result (λ name. name_of spelling.now ≡ Ok name.bytes.now)
+            (λ fault. name_of spelling.now ≡ Err fault) }
+    {
+        *room = [0; Name::MOST];
+        let Some(len) = unspell_into(spelling, room) else {
+            return Err(NameFault::BadSpelling);
+        };
+        if spelling.contains(&b'/') {
+            return Err(NameFault::BadSpelling);
+        }
+        if len > Name::MOST {
+            return Err(NameFault::TooLong);
+        }
+        LentName::judged(&room[..len])
+    }
+
+    /// The name of bytes that were spelled, or the first of their faults.
+    fn judged(bytes: &'a [u8]) -> Result<LentName<'a>, NameFault>
+        ensures { MatchResult result (λ name. name_of_bytes (Some bytes.now) ≡ Ok name.bytes.now)
+            (λ fault. name_of_bytes (Some bytes.now) ≡ Err fault) }
+    {
+        if bytes.contains(&b'/') {
+            return Err(NameFault::BadSpelling);
+        }
+        if bytes.is_empty() {
+            return Err(NameFault::Empty);
+        }
+        if bytes.len() > Name::MOST {
+            return Err(NameFault::TooLong);
+        }
+        if !is_name(bytes) {
+            return Err(NameFault::NotAName);
+        }
+        Ok(LentName { bytes })
+    }
+}
+
 impl LentName<'_> {
     /// The name, copied.
     #[inline(always)]
@@ -160,7 +208,7 @@ impl LentName<'_> {
     {
         let bytes = self.bytes;
         Name {
-            bytes: padded(bytes),
+            bytes: padded(*self),
             len: bytes.len() as u8,
         }
     }
@@ -231,6 +279,28 @@ fn is_name(bytes: &[u8]) -> bool
     }
 }
 
+/// Whether these bytes are one dot or two.
+fn are_dots(bytes: &[u8]) -> bool
+    ensures { result ≡ (same_bytes bytes.now (46 ∷ []) || same_bytes bytes.now (46 ∷ 46 ∷ [])) }
+{
+    matches!(bytes, [b'.'] | [b'.', b'.'])
+}
+
+/// Whether each byte stands for itself in the spelling of a name.
+fn are_plain_in_name(bytes: &[u8]) -> bool
+    ensures { result ≡ list_all is_plain_in_name bytes.now }
+{
+    bytes
+        .iter()
+        .fold(true, |plain, byte| plain & is_plain_in_name(*byte))
+}
+
+fn is_plain_in_name(byte: u8) -> bool
+    ensures { result ≡ is_plain_in_name byte }
+{
+    is_plain(byte) && byte != b'/'
+}
+
 /// Whether each byte may stand in a name.
 fn are_name_bytes(bytes: &[u8]) -> bool
     ensures { result ≡ list_all is_name_byte bytes.now }
@@ -245,13 +315,22 @@ fn is_name_byte(byte: u8) -> bool
     byte != 0 && byte != b'/'
 }
 
-/// The bytes and zeros after them.
+/// The bytes of a name, and zeros after them.
 #[inline(always)]
-fn padded(bytes: &[u8]) -> [u8; Name::MOST]
-    requires { length bytes.now ≤ most_name }
-    ensures { result ≡ padded_name bytes.now }
+fn padded(name: LentName<'_>) -> [u8; Name::MOST]
+    ensures { result ≡ padded_name name.entry.bytes.now }
 {
     let mut padded = [0; Name::MOST];
-    padded[..bytes.len()].copy_from_slice(bytes);
+    pad(&mut padded, name);
     padded
+}
+
+/// Writes the bytes of a name, and zeros after them.
+#[inline(always)]
+fn pad(into: &mut [u8; Name::MOST], name: LentName<'_>)
+    ensures { into.new ≡ padded_name name.entry.bytes.now }
+{
+    let bytes = name.bytes;
+    *into = [0; Name::MOST];
+    into[..bytes.len()].copy_from_slice(bytes);
 }

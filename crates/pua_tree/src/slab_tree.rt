@@ -1,10 +1,10 @@
 //! A tree that uses slots again: rows by their spots, and nodes in slots that are found by number.
 
 use crate::fault::{OutOfMemory, TreeFault};
-use crate::gathered::{Gathered, LineEntry, MadeNode};
-use crate::judgement::{self, Judged, may_add, may_cut, may_shift, may_tie};
+use crate::gathered::{Gathered, MadeNode, Standing};
+use crate::judgement::{self, Judged, Moving, may_add, may_cut, may_shift, may_tie};
 use crate::list_edits::copied_target;
-use crate::name::Name;
+use crate::name::{LentName, Name};
 use crate::node::{Kind, NodeId};
 use crate::slots::Slots;
 use crate::spot::Spot;
@@ -33,9 +33,6 @@ impl Model for SlabTree {
     ghost invariant = { λ a. WellFormed (held_in_slots a.slots a.next) × AreConsistent a.slots };
 }
 
-ghost use Rattle.std.specs.Prelude.{◌≡◌};
-ghost use Rattle.pua_tree.specs.Tree.{is_dir};
-
 impl FileTree for SlabTree {
     ghost content = { λ t. t };
 
@@ -54,6 +51,10 @@ impl FileTree for SlabTree {
 
     fn find(&self, dir: NodeId, bytes: &[u8]) -> Option<(NodeId, Kind)> {
         judgement::find(self, dir, bytes)
+    }
+
+    fn find_named(&self, dir: NodeId, name: LentName<'_>) -> Option<(NodeId, Kind)> {
+        judgement::find_named(self, dir, name)
     }
 
     fn parent(&self, dir: NodeId) -> Option<NodeId> {
@@ -88,28 +89,23 @@ impl FileTree for SlabTree {
         let target = copied_target(alloc, target)?;
         let number = self.next;
         let node = NodeId::new(number);
-        let entry = LineEntry {
-            number,
-            parent: dir,
-            name,
-            node,
-            made: Some(MadeNode { kind, target }),
-        };
-        self.put(entry)?;
+        let made = Some(MadeNode { kind, target });
+        let stands = Standing { number, node, made };
+        self.put(&Spot { dir, name }, stands)?;
         Ok(node)
     }
 
     fn tie(&mut self, dir: NodeId, name: Name, node: NodeId) -> Result<(), TreeFault> {
         may_tie(self, dir, &name, node)?;
         self.slots.reserve_row()?;
-        self.slots.put_row(dir, name, node);
+        self.slots.put_row(&Spot { dir, name }, node);
         Ok(())
     }
 
     fn cut(&mut self, dir: NodeId, name: &Name) -> Result<NodeId, TreeFault> {
         let node = may_cut(self, dir, name)?;
-        self.slots.take_row(dir, name, node);
-        self.slots.drop_unnamed(node);
+        let names = self.slots.take_row(dir, name, node);
+        self.slots.drop_where_none_left(node, names);
         Ok(node)
     }
 
@@ -120,15 +116,12 @@ impl FileTree for SlabTree {
         to: NodeId,
         new_name: Name,
     ) -> Result<(), TreeFault> {
-        let Some(node) = may_shift(self, from, name, to, &new_name)? else {
+        let Some(moving) = may_shift(self, from, name, to, &new_name)? else {
             return Ok(());
         };
+        let Moving { node, displaced } = moving;
         self.slots.reserve_row()?;
-        let spot = Spot {
-            dir: to,
-            name: new_name,
-        };
-        match self.slots.row(&spot) {
+        match displaced {
             Some(displaced) => {
                 self.slots.take_row(to, &new_name, displaced);
                 self.slots.move_row(from, name, to, new_name, node);
@@ -146,17 +139,15 @@ impl Gathered for SlabTree {
         Ok(SlabTree { slots, next: 1 })
     }
 
-    fn put(&mut self, entry: LineEntry) -> Result<(), OutOfMemory> {
+    fn row_at(&self, spot: &Spot) -> Option<NodeId> {
+        self.node_at(spot)
+    }
+
+    fn put(&mut self, spot: &Spot, stands: Standing) -> Result<(), OutOfMemory> {
         self.slots.reserve_node()?;
-        let LineEntry {
-            number,
-            parent: dir,
-            name,
-            node,
-            made,
-        } = entry;
+        let Standing { number, node, made } = stands;
         self.slots.add_made(node, made);
-        self.slots.put_row(dir, name, node);
+        self.slots.put_row(spot, node);
         self.next = number + 1;
         Ok(())
     }
@@ -186,15 +177,17 @@ impl Judged for SlabTree {
     }
 
     fn dir_above(&self, dir: NodeId) -> Option<NodeId> {
-        if self.is_dir(dir) {
-            self.slots.above(dir)
-        } else {
-            None
+        match self.slots.directory(dir) {
+            Some(standing) => Some(standing.above),
+            None => None,
         }
     }
 
     fn is_bare(&self, dir: NodeId) -> bool {
-        self.is_dir(dir) && self.slots.has_no_row(dir)
+        match self.slots.directory(dir) {
+            Some(standing) => standing.rows == 0,
+            None => false,
+        }
     }
 
     fn row_count(&self) -> usize {
@@ -207,13 +200,5 @@ impl Judged for SlabTree {
 
     fn next_number(&self) -> u32 {
         self.next
-    }
-}
-
-impl SlabTree {
-    fn is_dir(&self, id: NodeId) -> bool
-        ensures { result ≡ is_dir self.now id }
-    {
-        self.kind_of(id) == Some(Kind::Dir)
     }
 }

@@ -58,7 +58,7 @@ ghost use Rattle.pua_tree.specs.LentRows.{lent_entry};
 ghost use Rattle.pua_tree.specs.Slots.{held_rows, held_nodes, held_in_slots, names_of, IsNew};
 ghost use Rattle.pua_tree.specs.Slots.{MayStand, with_made, row_in, row_at, slot_of, node_in};
 ghost use Rattle.pua_tree.specs.Slots.{AreConsistent, Restands, row_gained, row_lost, name_gained};
-ghost use Rattle.pua_tree.specs.Slots.{name_lost, IsFiled};
+ghost use Rattle.pua_tree.specs.Slots.{name_lost, IsFiled, standing_of_dir};
 
 impl Slots {
     /// What stands in the row at this spot.
@@ -109,23 +109,16 @@ impl Slots {
         }
     }
 
-    /// The directory above a directory.
-    pub(crate) fn above(&self, dir: NodeId) -> Option<NodeId>
-        ensures { result ≡ option_map (λ node. node.standing.above) (node_in self.now dir) }
+    /// How the directory of this number stands, and None for what is no living directory.
+    pub(crate) fn directory(&self, id: NodeId) -> Option<Stance>
+        ensures { result ≡ option_and_then standing_of_dir (node_in self.now id) }
     {
-        match self.standing(dir) {
-            Some(standing) => Some(standing.above),
+        match self.node(id) {
+            Some(node) => match node.kind {
+                Kind::Dir => Some(node.standing),
+                _ => None,
+            },
             None => None,
-        }
-    }
-
-    /// Whether no row stands in this directory.
-    pub(crate) fn has_no_row(&self, dir: NodeId) -> bool
-        ensures { IfSome (node_in self.now dir) (λ node. result ≡ (node.standing.rows == 0)) }
-    {
-        match self.standing(dir) {
-            Some(standing) => standing.rows == 0,
-            None => true,
         }
     }
 
@@ -181,18 +174,21 @@ impl Slots {
         Some(node.kind)
     }
 
-    /// Counts a name of a node no more.
-    fn lose_name(&mut self, node: NodeId)
+    /// Counts a name of a node no more, and answers how many are left.
+    fn lose_name(&mut self, node: NodeId) -> usize
         requires filed { IsFiled self.old }
         requires some { IfSome (node_in self.old node) (λ node. 0 < node.standing.names) }
-        ensures { Restands self.old self.new (name_lost node) }
+        ensures restands { Restands self.old self.new (name_lost node) }
+        ensures left { IfSome (node_in self.new node) (λ node. result ≡ node.standing.names) }
     {
         let Some(slot) = self.slot(node) else {
-            return;
+            return 0;
         };
-        if let Some(node) = self.nodes.get_mut(slot) {
-            node.standing.names -= 1;
-        }
+        let Some(node) = self.nodes.get_mut(slot) else {
+            return 0;
+        };
+        node.standing.names -= 1;
+        node.standing.names
     }
 
     /// The slot of the node of this number.
@@ -219,26 +215,28 @@ impl Slots {
     }
 
     /// Puts a row at a spot that has none.
-    pub(crate) fn put_row(&mut self, dir: NodeId, name: Name, node: NodeId)
+    pub(crate) fn put_row(&mut self, spot: &Spot, node: NodeId)
         requires kept { AreConsistent self.old }
         requires room { 0 < spare self.old.rows }
-        requires free { row_at self.old (dir, name) ≡ None }
+        requires free { row_at self.old (spot.now.dir, spot.now.name) ≡ None }
         requires dir_once { MayStand self.old node }
         ensures kept { AreConsistent self.new }
-        ensures rows { held_rows self.new ≡ put spot_cmp (dir, name) node (held_rows self.old) }
+        ensures rows { held_rows self.new
+            ≡ put spot_cmp (spot.now.dir, spot.now.name) node (held_rows self.old) }
         ensures nodes { held_nodes self.new ≡ held_nodes self.old }
     {
         let count = self.row_count();
         prove!(count < usize::MAX);
-        self.gain_row(dir);
+        self.gain_row(spot.dir);
         // A row of a node that is none may say anything.
-        let kind = self.gain_name(node, dir).unwrap_or(Kind::File);
+        let kind = self.gain_name(node, spot.dir).unwrap_or(Kind::File);
         let row = RowNode { node, kind };
-        self.rows.insert(Spot { dir, name }, row).unwrap();
+        self.rows.insert(*spot, row).unwrap();
     }
 
-    /// Takes away the row of this directory and name, in which this node stands.
-    pub(crate) fn take_row(&mut self, dir: NodeId, name: &Name, node: NodeId)
+    /// Takes away the row of this directory and name, in which this node stands, and answers how
+    /// many names are left to the node.
+    pub(crate) fn take_row(&mut self, dir: NodeId, name: &Name, node: NodeId) -> usize
         requires kept { AreConsistent self.old }
         requires there { row_at self.old (dir, name.now) ≡ Some node }
         ensures kept { AreConsistent self.new }
@@ -247,11 +245,13 @@ impl Slots {
             (held_rows self.old) }
         ensures nodes { held_nodes self.new ≡ held_nodes self.old }
         ensures room { spare self.old.rows ≤ spare self.new.rows }
+        ensures left { IfSome (node_in self.new node)
+            (λ _. result ≡ names_of (held_rows self.new) node) }
     {
         let spot = Spot { dir, name: *name };
         self.rows.swap_remove(&spot);
         self.lose_row(dir);
-        self.lose_name(node);
+        self.lose_name(node)
     }
 
     /// Moves the row of this directory and name, in which this node stands, to a spot that has none.
@@ -279,7 +279,13 @@ impl Slots {
         ensures nodes { held_nodes self.new ≡ held_nodes self.old }
     {
         self.take_row(from, name, node);
-        self.put_row(to, new_name, node);
+        self.put_row(
+            &Spot {
+                dir: to,
+                name: new_name,
+            },
+            node,
+        );
     }
 
     /// Puts a node under a number that no node has and no row names.
@@ -354,6 +360,21 @@ impl Slots {
         }
     }
 
+    /// Takes the node of this number away, if this number of its names, all that it has, is none.
+    pub(crate) fn drop_where_none_left(&mut self, id: NodeId, names: usize)
+        requires kept { AreConsistent self.old }
+        requires living { IsSome (node_in self.old id) }
+        ensures kept { AreConsistent self.new }
+        ensures rows { self.new.rows ≡ self.old.rows }
+        ensures unnamed { IfSome (node_in self.old id)
+            (λ _. names ≡ names_of (held_rows self.old) id) → (next : ℕ) →
+            held_in_slots self.new next ≡ without_unnamed (held_in_slots self.old next) id }
+    {
+        if names == 0 {
+            self.drop_node(id);
+        }
+    }
+
     /// Makes room for a further row. The only error is that memory is refused.
     pub(crate) fn reserve_row(&mut self) -> Result<(), AllocError>
         requires { AreConsistent self.old }
@@ -378,15 +399,17 @@ impl Slots {
         self.nodes.reserve(1)
     }
 
-    /// The root alone, with room for so many rows. The only error is that memory is refused.
+    /// The root alone, with room for so many rows, and for as many nodes. The only error is that
+    /// memory is refused.
     pub(crate) fn root_alone(alloc: Global, rows: usize) -> Result<Slots, AllocError>
         ensures kept { IfOk result AreConsistent }
         ensures root { IfOk result (λ slots. held_in_slots slots 1 ≡ empty_tree) }
     {
+        let nodes = rows.max(1);
         let mut slots = Slots {
             rows: IndexMap::with_capacity(alloc, rows)?,
-            numbers: IndexMap::with_capacity(alloc, 1)?,
-            nodes: Slab::with_capacity(alloc, 1)?,
+            numbers: IndexMap::with_capacity(alloc, nodes)?,
+            nodes: Slab::with_capacity(alloc, nodes)?,
         };
         slots.add_node(NodeId::ROOT, Kind::Dir, None);
         Ok(slots)

@@ -148,7 +148,7 @@ fn is_octal(byte: u8) -> bool
 }
 
 /// Whether a byte stands for itself: it is visible, and no backslash.
-fn is_plain(byte: u8) -> bool
+pub(crate) fn is_plain(byte: u8) -> bool
     ensures { result ≡ is_plain byte }
 {
     is_visible(byte) && byte != b'\\'

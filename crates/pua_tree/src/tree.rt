@@ -1,7 +1,7 @@
 //! What a tree of files answers, however it is kept.
 
 use crate::fault::{OutOfMemory, TreeFault};
-use crate::name::Name;
+use crate::name::{LentName, Name};
 use crate::node::{Kind, NodeId};
 use std::alloc::Global;
 
@@ -49,6 +49,10 @@ pub trait FileTree {
     /// `look` and `kind` answer for the name. Bytes that are no name's are found nowhere.
     fn find(&self, dir: NodeId, bytes: &[u8]) -> Option<(NodeId, Kind)>
         ensures { result ≡ found_at (content self.now) dir bytes.now };
+
+    /// The same for bytes that are known to be a name's, which are not judged again.
+    fn find_named(&self, dir: NodeId, name: LentName<'_>) -> Option<(NodeId, Kind)>
+        ensures { result ≡ found_at (content self.now) dir name.entry.bytes.now };
 
     /// The directory above a directory, which is the root itself for the root, and None for what is
     /// no living directory.

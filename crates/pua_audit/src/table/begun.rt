@@ -1,7 +1,7 @@
 //! The walk over the table of steps, before its first pair.
 
 ghost use Rattle.std.specs.Prelude.{◌≡◌, ◌<◌, ◌≤◌, ◌+◌, ◌^◌, ◌*◌, true, false, length, Option};
-ghost use Rattle.std.specs.Prelude.{option_map, None, IfOk, IfSome, map};
+ghost use Rattle.std.specs.Prelude.{option_map, None, IfOk, IfSome, map, []};
 ghost use Rattle.pua_tree.specs.LentRows.{lent_entry};
 ghost use Rattle.std.specs.List.{AllByRecursion};
 ghost use Rattle.pua_path.specs.declared.found.Found.TheVariants.{Whole};
@@ -74,9 +74,12 @@ impl Terms {
         ensures cost { P.count probe.new ≤ P.count probe.old + pairs_cost self.now.seen.tree
             (length self.now.letters) }
     {
-        // Each half is a function, so that its proof begins with what is true there.
+        // Each part is a function, so that its proof begins with what is true there.
         if !self.is_open(probe) {
             return self.begun_closed(alloc);
+        }
+        if self.limit == 0 {
+            return self.begun_at_base(alloc, probe, after);
         }
         self.begun_open(alloc, probe, rows, after)
     }
@@ -127,6 +130,48 @@ impl Terms {
         Ok(BegunWalk { walk, live })
     }
 
+    /// The same where the empty word is the only one: its pairs need no row of the table, and
+    /// no state is live.
+    fn begun_at_base<'t, P: Probe<'t>>(
+        &self,
+        alloc: Global,
+        probe: &mut P,
+        after: Option<Resumption>,
+    ) -> Result<BegunWalk, OutOfMemory>
+        requires tree { P.tree probe.old ≡ self.now.seen.tree }
+        requires sound { IsSound self.now }
+        requires letters { AreSound self.now.limit self.now.letters }
+        requires word { IfSome after (λ r. AreLetters self.now.letters self.now.limit
+            r.word.items) }
+        requires open { is_open (scope_in self.now) ≡ true }
+        requires none { self.now.limit ≡ 0 }
+        ensures ready { IfOk result (λ begun. IsReady begun.walk) }
+        ensures limit { IfOk result (λ begun. begun.walk.limit ≡ self.now.limit) }
+        ensures letters { IfOk result (λ begun. begun.walk.tables.steps.letters
+            ≡ length self.now.letters) }
+        ensures pairs { IfOk result
+            (λ begun. rest_after (scope_in self.now)
+            (option_map (pair_in self.now.letters) after) ≡ pairs_at self.now.letters
+            (pairs_of (trail begun.walk))) }
+        ensures within { IfOk result
+            (λ begun. AllByRecursion (λ p. IsPair (length self.now.letters) p)
+            (pairs_of (trail begun.walk))) }
+        ensures live { IfOk result (λ begun.
+            begun.live ≡ length (live_states (scope_in self.now))) }
+        ensures reads { IfOk result (λ begun. begun.walk.tables.reads
+            ≤ search_cost * self.now.limit) }
+        ensures unread { after ≡ None → IfOk result (λ begun. begun.walk.tables.reads ≡ 0) }
+        ensures tree { P.tree probe.new ≡ P.tree probe.old }
+        ensures cost { P.count probe.new ≤ P.count probe.old
+            + (length self.now.seen.tree.nodes + 1) }
+    {
+        let cover = self.process.cover(probe, &self.base_found());
+        let calls = self.calls_on(probe, &Ok(self.base_found()), &cover).bits();
+        let tables = Tables::fill(alloc, self.no_rows(alloc), self.limit)?;
+        let walk = walk_after(alloc, tables, calls, None, self.limit, after)?;
+        Ok(BegunWalk { walk, live: 0 })
+    }
+
     /// The same where nothing is allowed: no pair is ahead, and no state is live.
     fn begun_closed(&self, alloc: Global) -> Result<BegunWalk, OutOfMemory>
         requires sound { IsSound self.now }
@@ -148,13 +193,20 @@ impl Terms {
             ≤ search_cost * self.now.limit) }
         ensures unread { IfOk result (λ begun. begun.walk.tables.reads ≡ 0) }
     {
-        let steps = Steps {
-            letters: self.letters.len(),
-            rows: Vec::new(alloc),
-        };
-        let tables = Tables::fill(alloc, steps, self.limit)?;
+        let tables = Tables::fill(alloc, self.no_rows(alloc), self.limit)?;
         let walk = Walk::begin(alloc, tables, 0, None, self.limit)?;
         Ok(BegunWalk { walk, live: 0 })
+    }
+
+    /// A table of steps for these letters that has no directory.
+    fn no_rows(&self, alloc: Global) -> Steps
+        ensures letters { result.letters ≡ length self.now.letters }
+        ensures rows { result.rows.items ≡ [] }
+    {
+        Steps {
+            letters: self.letters.len(),
+            rows: Vec::new(alloc),
+        }
     }
 
     /// The base itself, as it is found.

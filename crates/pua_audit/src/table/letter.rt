@@ -1,7 +1,7 @@
 //! What a letter is in a directory.
 
-ghost use Rattle.std.specs.Prelude.{◌≡◌, ◌≢◌, ◌<◌, ◌≤◌, ◌+◌, ◌*◌, ◌&&◌, ℕ, false, true, [], length};
-ghost use Rattle.std.specs.Prelude.{get_or, None, Some, Ok, Err, IfOk, IfSome, IfNone, IsTrue};
+ghost use Rattle.std.specs.Prelude.{◌≡◌, ◌≢◌, ◌≤◌, ◌+◌, ◌*◌, ◌&&◌, ℕ, false, true, None, Some, Ok};
+ghost use Rattle.std.specs.Prelude.{Err, IfOk, IfSome, IfNone, IsTrue};
 ghost use Rattle.pua_tree.specs.Tree.{is_dir, found_at};
 ghost use Rattle.pua_tree.specs.declared.node.Kind.{Kind};
 ghost use Rattle.pua_path.specs.Kinds.{is_file};
@@ -30,7 +30,7 @@ use crate::terms::Terms;
 use pua_calls::Calls;
 use pua_path::{Errno, Found, Last, Part, Probe};
 use pua_policy::{Cover, Place, judge};
-use pua_tree::NodeId;
+use pua_tree::{LentName, NodeId};
 
 /// A letter in a directory, for any number of links that were followed before it.
 #[derive(Clone, Copy)]
@@ -55,17 +55,16 @@ impl Terms {
         probe: &mut P,
         dirs: &Directories,
         dir: NodeId,
-        letter: usize,
+        letter: &Component,
         within: &Within,
     ) -> Letter
         requires tree { P.tree probe.old ≡ self.now.seen.tree }
         requires sound { IsSound self.now }
         requires living { IsTrue (is_dir self.now.seen.tree dir) }
-        requires letter { letter < length self.now.letters }
         requires within { AreWithin self.now.seen.tree self.now.table
             (plain_history self.now.process) dir within.now }
         requires covered { AreCovered self.now.seen.tree (plain_history self.now.process) dirs.now }
-        ensures exact { IsLetter (judge_in self.now) dir (get_or self.now.letters letter [])
+        ensures exact { IsLetter (judge_in self.now) dir letter.now
             result.all result.kept result.links result.leads }
         ensures kept { (call : Call) →
             has result.kept call ≡ (has result.all call && keeps_link call) }
@@ -76,8 +75,7 @@ impl Terms {
         ensures tree { P.tree probe.new ≡ P.tree probe.old }
         ensures cost { P.count probe.new ≤ P.count probe.old + letter_cost self.now.seen.tree }
     {
-        let letters = self.letters.as_slice();
-        let Some(calls) = self.calls_on_file(probe, dir, &letters[letter], within) else {
+        let Some(calls) = self.calls_on_file(probe, dir, letter, within) else {
             return self.followed(probe, dirs, dir, letter);
         };
         Letter {
@@ -112,30 +110,25 @@ impl Terms {
         ensures tree { P.tree probe.new ≡ P.tree probe.old }
         ensures cost { P.count probe.new ≤ P.count probe.old + 2 }
     {
-        let (_, kind) = probe.find(dir, letter.bytes())?;
+        let name = letter.as_name()?;
+        let (_, kind) = probe.find_named(dir, name)?;
         let calls = within.on(kind)?;
-        if self.may_have_veil(dir, letter) {
+        if within.veiled && self.has_veil(dir, name) {
             return None;
         }
         Some(calls)
     }
 
-    /// Whether a letter is no name, or a name in a directory at which a veil is kept.
-    fn may_have_veil(&self, dir: NodeId, letter: &Component) -> bool
+    /// Whether a veil is kept at a name in a directory.
+    fn has_veil(&self, dir: NodeId, name: LentName<'_>) -> bool
         requires { IsSound self.now }
-        ensures name { result ≡ false → IsNamed letter.now }
-        ensures veil { result ≡ false →
-            perms_kept (plain_history self.now.process) (Slot dir letter.now) ≡ None }
-        ensures apart { result ≡ true → IsNamed letter.now →
-            perms_kept (plain_history self.now.process) (Slot dir letter.now) ≢ None }
+        ensures none { result ≡ false → perms_kept (plain_history self.now.process)
+            (Slot dir name.entry.bytes.now) ≡ None }
+        ensures kept { result ≡ true → perms_kept (plain_history self.now.process)
+            (Slot dir name.entry.bytes.now) ≢ None }
     {
-        if !self.process.is_veiled() {
-            return !letter.is_name();
-        }
-        match letter.part() {
-            Part::Name(name) => self.process.kept(&Place::Slot(dir, name)).is_some(),
-            Part::Dot | Part::DotDot => true,
-        }
+        let place = Place::Slot(dir, name.name());
+        self.process.kept(&place).is_some()
     }
 
     /// What a letter is in a living directory, followed once, with no link used before it.
@@ -144,14 +137,13 @@ impl Terms {
         probe: &mut P,
         dirs: &Directories,
         dir: NodeId,
-        letter: usize,
+        letter: &Component,
     ) -> Letter
         requires tree { P.tree probe.old ≡ self.now.seen.tree }
         requires sound { IsSound self.now }
         requires living { IsTrue (is_dir self.now.seen.tree dir) }
-        requires letter { letter < length self.now.letters }
         requires covered { AreCovered self.now.seen.tree (plain_history self.now.process) dirs.now }
-        ensures exact { IsLetter (judge_in self.now) dir (get_or self.now.letters letter [])
+        ensures exact { IsLetter (judge_in self.now) dir letter.now
             result.all result.kept result.links result.leads }
         ensures kept { (call : Call) →
             has result.kept call ≡ (has result.all call && keeps_link call) }
@@ -163,8 +155,7 @@ impl Terms {
         ensures cost { P.count probe.new ≤ P.count probe.old
             + 2 * (part_cost self.now.seen.tree + object_cost self.now.seen.tree) }
     {
-        let letters = self.letters.as_slice();
-        let part = letters[letter].part();
+        let part = letter.part();
         let (followed, links) = counted(pua_path::follow(probe, dir, &part));
         let cover = self.cover_of(probe, dirs, dir, &part, &followed);
         let near = self.calls_on(probe, &followed, &cover);

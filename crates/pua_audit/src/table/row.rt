@@ -13,7 +13,7 @@ ghost use Rattle.pua_audit.specs.Judge.{Judge};
 ghost use Rattle.pua_audit.specs.Past.{plain_history};
 ghost use Rattle.pua_audit.specs.Ready.{IsSound, judge_in};
 ghost use Rattle.pua_audit.specs.Rows.{AreLiving, IsGrown, IsJudgedRow};
-ghost use Rattle.pua_audit.specs.Spots.{AreLetterSpots};
+ghost use Rattle.pua_audit.specs.Spots.{AreSpotsOf};
 ghost use Rattle.pua_audit.specs.Table.{IsLetter};
 ghost use Rattle.pua_steps.specs.Limits.{most_links};
 
@@ -43,8 +43,8 @@ impl Terms {
     ) -> Result<Row, OutOfMemory>
         requires tree { P.tree probe.old ≡ self.now.seen.tree }
         requires sound { IsSound self.now }
-        requires spots { AreLetterSpots self.now.seen.tree (plain_history self.now.process)
-            self.now.letters spots.now.dots.items spots.now.names.items }
+        requires spots { AreSpotsOf self.now.seen.tree (plain_history self.now.process)
+            self.now.letters spots.now }
         requires living { IsTrue (is_dir self.now.seen.tree dir) }
         requires dirs { AreLiving self.now.seen.tree dirs.old.numbers }
         requires covers { AreCovered self.now.seen.tree (plain_history self.now.process) dirs.old }
@@ -59,12 +59,14 @@ impl Terms {
         ensures cost { P.count probe.new ≤ P.count probe.old + row_cost self.now.seen.tree
             (length self.now.letters) }
     {
-        let within = self.within(over);
+        let veiled = spots.has_veil_in(dir);
+        let within = self.within(over, veiled);
         let missing = within.missing.bits();
         let letters = spots.letters_in(alloc, dir)?;
         let mut entries = Vec::new(alloc);
         for letter in &letters {
-            let found = self.letter(probe, dirs, dir, *letter, &within);
+            let components = self.letters.as_slice();
+            let found = self.letter(probe, dirs, dir, &components[*letter], &within);
             found.put(*letter, within.missing, dirs, &mut entries)?;
         }
         Ok(Row { entries, missing })

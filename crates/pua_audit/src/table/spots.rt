@@ -1,22 +1,20 @@
 //! The letters that directories tell apart from names that they lack.
 
-ghost use Rattle.std.specs.Prelude.{◌≡◌, ◌≢◌, ◌<◌, ℕ, [], length, get_or, map, IfOk};
-ghost use Rattle.std.specs.List.{AllByRecursion};
+ghost use Rattle.std.specs.Prelude.{◌≡◌, ◌≢◌, ◌<◌, ◌==◌, ℕ, List, [], length, get_or, map, IfOk};
+ghost use Rattle.std.specs.List.{AllByRecursion, list_any};
 ghost use Rattle.std.specs.List.Sorted.{IsNonDecreasingBy};
 ghost use Rattle.pua_tree.specs.LentRows.{lent_entry};
 ghost use Rattle.pua_policy.specs.declared.place.Place.TheVariants.{Slot};
 ghost use Rattle.pua_audit.specs.Past.{plain_history};
-ghost use Rattle.pua_audit.specs.Placed.{ArePlaced};
 ghost use Rattle.pua_audit.specs.Ready.{IsSound};
-ghost use Rattle.pua_audit.specs.Spots.{AreApartFrom, AreAtLetters, AreLettersIn, AreLetterSpots};
+ghost use Rattle.pua_audit.specs.Spots.{AreApartFrom, AreAtLetters, AreLettersIn, AreSpotsOf};
 ghost use Rattle.pua_audit.specs.Spots.{IsApart, IsNamed, IsNowhere, IsUnmarked};
 
-use crate::table::placed::placed;
+use crate::table::placed::Places;
 use crate::terms::Terms;
 use pua_policy::Place;
 use pua_tree::{LentRow, Name, NodeId, OutOfMemory};
 use std::alloc::Global;
-use std::collections::HashMap;
 
 /// A letter in a directory: something stands at this name, or a veil is kept at it.
 #[derive(Clone, Copy)]
@@ -32,6 +30,8 @@ pub(crate) struct Spots {
     pub(crate) dots: Vec<usize>,
     /// Those that are names, in the order of the directories that tell them apart.
     pub(crate) names: Vec<LetterSpot>,
+    /// The directories in which a veil is kept at a name.
+    pub(crate) veiled: Vec<NodeId>,
 }
 
 impl Terms {
@@ -41,109 +41,23 @@ impl Terms {
         requires rows { map lent_entry rows.now ≡ self.now.seen.tree.rows }
         requires sound { IsSound self.now }
         ensures { IfOk result
-            (λ spots. AreLetterSpots self.now.seen.tree (plain_history self.now.process)
-            self.now.letters spots.dots.items spots.names.items) }
+            (λ spots. AreSpotsOf self.now.seen.tree (plain_history self.now.process)
+            self.now.letters spots) }
     {
-        let letters = placed(alloc, &self.letters)?;
+        let letters = Places::of(alloc, &self.letters)?;
         let places = self.process.places(alloc)?;
+        let places = places.as_slice();
         let mut names = Vec::new(alloc);
-        self.add_rows(&mut names, &letters, rows)?;
-        self.add_veils(&mut names, &letters, places.as_slice())?;
+        letters.add_rows(&mut names, rows)?;
+        letters.add_veils(&mut names, places)?;
         names.sort_unstable_by_key(|spot| spot.dir);
         let dots = self.dots(alloc)?;
-        Ok(Spots { dots, names })
-    }
-
-    /// Puts the spots of rows after others.
-    fn add_rows(
-        &self,
-        spots: &mut Vec<LetterSpot>,
-        letters: &HashMap<&[u8], usize>,
-        rows: &[LentRow<'_>],
-    ) -> Result<(), OutOfMemory>
-        requires placed { ArePlaced self.now.letters letters.now }
-        requires within { AreAtLetters self.now.letters spots.old.items }
-        ensures within { IfOk result (λ _. AreAtLetters self.now.letters spots.new.items) }
-        ensures rows { IfOk result (λ _. (dir letter : ℕ) → letter < length self.now.letters →
-            IsUnmarked dir letter spots.new.items →
-            IsNowhere dir (get_or self.now.letters letter []) (map lent_entry rows.now)) }
-        ensures others { IfOk result (λ _. (dir letter : ℕ) →
-            IsUnmarked dir letter spots.new.items → IsUnmarked dir letter spots.old.items) }
-    {
-        for row in rows {
-            self.add_spot(spots, letters, row.dir, row.name)?;
-        }
-        Ok(())
-    }
-
-    /// Puts the spots of veils at names after others.
-    fn add_veils(
-        &self,
-        spots: &mut Vec<LetterSpot>,
-        letters: &HashMap<&[u8], usize>,
-        places: &[&Place],
-    ) -> Result<(), OutOfMemory>
-        requires placed { ArePlaced self.now.letters letters.now }
-        requires within { AreAtLetters self.now.letters spots.old.items }
-        ensures within { IfOk result (λ _. AreAtLetters self.now.letters spots.new.items) }
-        ensures places { IfOk result (λ _. (dir letter : ℕ) →
-            letter < length self.now.letters → IsUnmarked dir letter spots.new.items →
-            AreApartFrom (Slot dir (get_or self.now.letters letter []))
-            (map (λ place. place.now) places.now)) }
-        ensures others { IfOk result (λ _. (dir letter : ℕ) →
-            IsUnmarked dir letter spots.new.items → IsUnmarked dir letter spots.old.items) }
-    {
-        for place in places {
-            self.add_veil(spots, letters, *place)?;
-        }
-        Ok(())
-    }
-
-    /// Puts the spot of a veil after others, if it is at a name that is a letter.
-    fn add_veil(
-        &self,
-        spots: &mut Vec<LetterSpot>,
-        letters: &HashMap<&[u8], usize>,
-        place: &Place,
-    ) -> Result<(), OutOfMemory>
-        requires placed { ArePlaced self.now.letters letters.now }
-        requires within { AreAtLetters self.now.letters spots.old.items }
-        ensures within { IfOk result (λ _. AreAtLetters self.now.letters spots.new.items) }
-        ensures here { IfOk result (λ _. (dir letter : ℕ) → letter < length self.now.letters →
-            IsUnmarked dir letter spots.new.items →
-            place.now ≢ Slot dir (get_or self.now.letters letter [])) }
-        ensures others { IfOk result (λ _. (other letter : ℕ) →
-            IsUnmarked other letter spots.new.items → IsUnmarked other letter spots.old.items) }
-    {
-        let Place::Slot(dir, name) = place else {
-            return Ok(());
-        };
-        self.add_spot(spots, letters, *dir, name)
-    }
-
-    /// Puts the spot of a name in a directory after others, if it is a letter.
-    fn add_spot(
-        &self,
-        spots: &mut Vec<LetterSpot>,
-        letters: &HashMap<&[u8], usize>,
-        dir: NodeId,
-        name: &Name,
-    ) -> Result<(), OutOfMemory>
-        requires placed { ArePlaced self.now.letters letters.now }
-        requires within { AreAtLetters self.now.letters spots.old.items }
-        ensures within { IfOk result (λ _. AreAtLetters self.now.letters spots.new.items) }
-        ensures here { IfOk result (λ _. (letter : ℕ) → letter < length self.now.letters →
-            IsUnmarked dir letter spots.new.items →
-            get_or self.now.letters letter [] ≢ name.now) }
-        ensures others { IfOk result (λ _. (other letter : ℕ) →
-            IsUnmarked other letter spots.new.items → IsUnmarked other letter spots.old.items) }
-    {
-        let Some(letter) = letters.get(name.bytes()) else {
-            return Ok(());
-        };
-        let letter = *letter;
-        spots.push(LetterSpot { dir, letter })?;
-        Ok(())
+        let veiled = veiled_dirs(alloc, places)?;
+        Ok(Spots {
+            dots,
+            names,
+            veiled,
+        })
     }
 
     /// The letters that are no names. The error is that a growth was refused.
@@ -166,7 +80,92 @@ impl Terms {
     }
 }
 
+impl Places<'_> {
+    /// Puts the spots of rows after others.
+    fn add_rows(&self, spots: &mut Vec<LetterSpot>, rows: &[LentRow<'_>]) -> Result<(), OutOfMemory>
+        ensures within { IfOk result (λ _. AreAtLetters self.now spots.old.items →
+            AreAtLetters self.now spots.new.items) }
+        ensures rows { IfOk result (λ _. (dir letter : ℕ) → letter < length self.now →
+            IsUnmarked dir letter spots.new.items →
+            IsNowhere dir (get_or self.now letter []) (map lent_entry rows.now)) }
+        ensures others { IfOk result (λ _. (dir letter : ℕ) →
+            IsUnmarked dir letter spots.new.items → IsUnmarked dir letter spots.old.items) }
+    {
+        for row in rows {
+            self.add_spot(spots, row.dir, row.name)?;
+        }
+        Ok(())
+    }
+
+    /// Puts the spots of veils at names after others.
+    fn add_veils(&self, spots: &mut Vec<LetterSpot>, places: &[&Place]) -> Result<(), OutOfMemory>
+        ensures within { IfOk result (λ _. AreAtLetters self.now spots.old.items →
+            AreAtLetters self.now spots.new.items) }
+        ensures places { IfOk result (λ _. (dir letter : ℕ) →
+            letter < length self.now → IsUnmarked dir letter spots.new.items →
+            AreApartFrom (Slot dir (get_or self.now letter []))
+            (map (λ place. place.now) places.now)) }
+        ensures others { IfOk result (λ _. (dir letter : ℕ) →
+            IsUnmarked dir letter spots.new.items → IsUnmarked dir letter spots.old.items) }
+    {
+        for place in places {
+            self.add_veil(spots, *place)?;
+        }
+        Ok(())
+    }
+
+    /// Puts the spot of a veil after others, if it is at a name that is a letter.
+    fn add_veil(&self, spots: &mut Vec<LetterSpot>, place: &Place) -> Result<(), OutOfMemory>
+        ensures within { IfOk result (λ _. AreAtLetters self.now spots.old.items →
+            AreAtLetters self.now spots.new.items) }
+        ensures here { IfOk result (λ _. (dir letter : ℕ) → letter < length self.now →
+            IsUnmarked dir letter spots.new.items →
+            place.now ≢ Slot dir (get_or self.now letter [])) }
+        ensures others { IfOk result (λ _. (other letter : ℕ) →
+            IsUnmarked other letter spots.new.items → IsUnmarked other letter spots.old.items) }
+    {
+        let Place::Slot(dir, name) = place else {
+            return Ok(());
+        };
+        self.add_spot(spots, *dir, name)
+    }
+
+    /// Puts the spot of a name in a directory after others, if it is a letter. The letter after that
+    /// of the last spot is tried first: it is that of the next row, where a directory has them all.
+    fn add_spot(
+        &self,
+        spots: &mut Vec<LetterSpot>,
+        dir: NodeId,
+        name: &Name,
+    ) -> Result<(), OutOfMemory>
+        ensures within { IfOk result (λ _. AreAtLetters self.now spots.old.items →
+            AreAtLetters self.now spots.new.items) }
+        ensures here { IfOk result (λ _. (letter : ℕ) → letter < length self.now →
+            IsUnmarked dir letter spots.new.items →
+            get_or self.now letter [] ≢ name.now) }
+        ensures others { IfOk result (λ _. (other letter : ℕ) →
+            IsUnmarked other letter spots.new.items → IsUnmarked other letter spots.old.items) }
+    {
+        let next = match spots.last() {
+            Some(spot) => spot.letter.saturating_add(1),
+            None => 0,
+        };
+        let Some(letter) = self.place_of(next, name.bytes()) else {
+            return Ok(());
+        };
+        spots.push(LetterSpot { dir, letter })?;
+        Ok(())
+    }
+}
+
 impl Spots {
+    /// Whether a veil is kept at a name in a directory.
+    pub(crate) fn has_veil_in(&self, dir: NodeId) -> bool
+        ensures { result ≡ list_any (λ other. other == dir) self.now.veiled.items }
+    {
+        self.veiled.contains(&dir)
+    }
+
     /// The letters that a directory tells apart from names that it lacks, in their order, each once.
     /// The error is that a growth was refused.
     pub(crate) fn letters_in(&self, alloc: Global, dir: NodeId) -> Result<Vec<usize>, OutOfMemory>
@@ -205,4 +204,30 @@ fn letters_at(alloc: Global, spots: &[LetterSpot]) -> Result<Vec<usize>, OutOfMe
         letters.push(spot.letter)?;
     }
     Ok(letters)
+}
+
+/// The directories in whose names places are. The error is that a growth was refused.
+fn veiled_dirs(alloc: Global, places: &[&Place]) -> Result<Vec<NodeId>, OutOfMemory>
+    ensures { IfOk result (λ dirs. (dir : ℕ) (name : List ℕ) → IsApart dir dirs.items →
+        AreApartFrom (Slot dir name) (map (λ place. place.now) places.now)) }
+{
+    let mut dirs = Vec::new(alloc);
+    for place in places {
+        add_veiled(&mut dirs, *place)?;
+    }
+    Ok(dirs)
+}
+
+/// Puts the directory of a place after others, if the place is a name there.
+fn add_veiled(dirs: &mut Vec<NodeId>, place: &Place) -> Result<(), OutOfMemory>
+    ensures here { IfOk result (λ _. (dir : ℕ) (name : List ℕ) → IsApart dir dirs.new.items →
+        place.now ≢ Slot dir name) }
+    ensures others { IfOk result (λ _. (dir : ℕ) → IsApart dir dirs.new.items →
+        IsApart dir dirs.old.items) }
+{
+    let Place::Slot(dir, _) = place else {
+        return Ok(());
+    };
+    dirs.push(*dir)?;
+    Ok(())
 }

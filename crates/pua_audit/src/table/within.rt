@@ -14,6 +14,7 @@ ghost use Rattle.pua_calls.specs.declared.call.Call.{Call};
 ghost use Rattle.pua_audit.specs.Entries.{AreWithin, allowed_within};
 ghost use Rattle.pua_audit.specs.Past.{plain_history};
 ghost use Rattle.pua_audit.specs.Ready.{IsSound};
+ghost use Rattle.pua_audit.specs.Spots.{AreUnveiled};
 
 use crate::terms::Terms;
 use pua_calls::Calls;
@@ -27,14 +28,18 @@ pub(crate) struct Within {
     pub(crate) missing: Calls,
     pub(crate) file: Calls,
     pub(crate) program: Calls,
+    /// Whether a veil may be kept at a name there.
+    pub(crate) veiled: bool,
 }
 
 impl Terms {
-    /// The calls on names that have no veil of their own, in any living directory that has this cover.
-    pub(crate) fn within(&self, cover: Cover) -> Within
+    /// The calls on names that have no veil of their own, in any living directory that has this cover,
+    /// and in which a name has a veil of its own only if that is said here.
+    pub(crate) fn within(&self, cover: Cover, veiled: bool) -> Within
         requires { IsSound self.now }
         ensures { (dir : ℕ) → IsTrue (is_dir self.now.seen.tree dir) →
-            cover ≡ cover_in self.now.seen.tree (plain_history self.now.process) dir
+            cover ≡ cover_in self.now.seen.tree (plain_history self.now.process) dir →
+            (veiled ≡ false → AreUnveiled (plain_history self.now.process) dir)
             → AreWithin self.now.seen.tree self.now.table
             (plain_history self.now.process) dir result }
     {
@@ -42,6 +47,7 @@ impl Terms {
             missing: self.calls_over(&cover, Object::Missing),
             file: self.calls_over(&cover, Object::File),
             program: self.calls_over(&cover, Object::Program),
+            veiled,
         }
     }
 

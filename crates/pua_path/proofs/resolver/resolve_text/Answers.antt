@@ -1,4 +1,4 @@
-use Rattle.pua_path.proofs.Common.{Ok, sym, ap, ◌∙◌, rules, way_of}
+use Rattle.pua_path.proofs.Common.{sym, ap, ◌∙◌, rules, way_of}
 use Rattle.pua_path.specs.Onward.{found_alone}
 use Rattle.pua_path.proofs.Steps.{text_onward}
 use Rattle.pua_path.proofs.resolver.resolve_text.Goals as goal

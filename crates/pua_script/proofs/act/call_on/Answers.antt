@@ -1,12 +1,9 @@
-use Rattle.pua_script.proofs.Common.{sym, ap, ◌∙◌, asker_on, OnPath}
+use Rattle.pua_script.proofs.Common.{sym, ap, ◌∙◌, OnPath}
 use Rattle.std.specs.Prelude.{Err}
 use Rattle.std.specs.Result.{result_err}
 use Rattle.pua_script.proofs.Acting.{acts}
 use Rattle.pua_script.proofs.Doing.{promises_refuse}
 use Rattle.pua_script.proofs.act.call_on.Goals as goal
-
-pub returns-in-Ok-clause-exact : goal.returns-in-Ok-clause-exact
-returns-in-Ok-clause-exact g c = c.call_judged.ensures.exact (sym c.promised_for.ensures.state ∙ ap result_err c.in-Ok.is)
 
 pub returns-in-Err-clause-exact : goal.returns-in-Err-clause-exact
 returns-in-Err-clause-exact g c =

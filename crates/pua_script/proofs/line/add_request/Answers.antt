@@ -1,5 +1,5 @@
 use Rattle.pua_script.proofs.Common.{◌≡◌, sym, subst, ap, ◌∙◌, request_of, request_of_fields}
-use Rattle.pua_script.specs.Scripts.{IsRequestAdded}
+use Rattle.pua_script.specs.Added.{IsRequestAdded}
 use Rattle.pua_script.proofs.Reading.{by_fields}
 use Rattle.pua_script.proofs.line.add_request.Goals as goal
 

@@ -1,5 +1,5 @@
 use Rattle.pua_script.proofs.Common.{◌∙◌, ap, sym, arith, Err}
-use Rattle.pua_script.specs.Scripts.{LineOf}
+use Rattle.pua_script.specs.Added.{LineOf}
 use Rattle.pua_script.specs.declared.fault.ScriptFault.TheVariants.{BadCall}
 use Rattle.pua_script.proofs.Reading.{many_arguments}
 use Rattle.pua_script.proofs.line.read_action.Goals as goal

@@ -1,5 +1,6 @@
 use Rattle.pua_script.proofs.Common.{map, subst, sym}
-use Rattle.pua_script.specs.Scripts.{IsRequestAdded, request_of_fields}
+use Rattle.pua_script.specs.Added.{IsRequestAdded}
+use Rattle.pua_script.specs.Scripts.{request_of_fields}
 use Rattle.pua_script.proofs.Reading.{line_added}
 use Rattle.pua_script.proofs.line.read_fields.Goals as goal
 

@@ -1,8 +1,7 @@
-use Rattle.pua_audit.proofs.Common.{◌≡◌, ◌∙◌, ℕ, List, [], Bool, not, ◌&&◌, ◌||◌, Option, get_or, refl, sym, ap, subst, arith, IfOk, IfSome}
+use Rattle.pua_audit.proofs.Common.{◌≡◌, ◌∙◌, ℕ, List, Bool, not, ◌&&◌, ◌||◌, Option, refl, sym, ap, subst, arith, IfOk, IfSome}
 use Rattle.pua_audit.proofs.Common.{Result, Tree, part_cost, FoundsFit, StandsAsNamed, part_of, follow, last, Errno, Found, Followed, Kept}
 use Rattle.pua_audit.proofs.Common.{Part, last_of, has, keeps_link, cover_in, History, verdict_of, is_allowed, Call, plain_history}
 use Rattle.pua_audit.proofs.Common.{judge_in, links_of, found_of, leads_to, allowed_kept, allowed_near, allowed_far, IsLetter}
-use Rattle.pua_audit.proofs.Moves.{letter_read}
 use Rattle.pua_path.specs.Fits.{FoundFits}
 use Rattle.pua_audit.proofs.Covers.{covered_lead, founds_are, founds_of, named_above}
 use Rattle.pua_audit.proofs.Told.{letter_told, by_both, by_kept}
@@ -70,11 +69,9 @@ returns-clause-exact g c =
     let t : Tree = a.seen.tree in
     let h : History = plain_history a.process in
     let dir : ℕ = c.args.dir in
-    let letter : List ℕ = get_or a.letters c.args.letter [] in
+    let letter : List ℕ = c.args.letter.now in
     let r : Result (Found × ℕ) Errno = follow t dir (part_of letter) in
-    let part : c.part-part.result ≡ part_of letter = c.part-part.ensures.part ∙
-    ap part_of (letter_read a.letters c.as_slice-letters.result.now c.args.letter c.index-letters-letter.result
-    c.as_slice-letters.ensures.letters c.requires.letter c.index-letters-letter.is) in
+    let part : c.part-part.result ≡ part_of letter = c.part-part.ensures.part in
     let followed : c.follow.result ≡ r = c.follow.ensures.exact ∙ ap (λ (u : Tree). follow u dir c.part-part.result) c.requires.tree ∙
     ap (follow t dir) part in
     let found : c.counted-followed.result.0 ≡ found_of r = c.counted-followed.ensures.found ∙ ap found_of followed in

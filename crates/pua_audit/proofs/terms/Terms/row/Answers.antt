@@ -1,11 +1,12 @@
 use Rattle.pua_audit.proofs.Common.{◌≡◌, ◌<◌, ◌^◌, ◌∙◌, ℕ, suc, List, length, arith, refl, sym, subst, add-one, letter_cost, plain_history}
-use Rattle.pua_audit.proofs.Common.{judge_in, IsJudgedRow, call_count}
+use Rattle.pua_audit.proofs.Common.{judge_in, IsJudgedRow, IsLetter, call_count, get_or, rules, []}
 use Rattle.std.proofs.Common.{suc-mul}
 use Rattle.pua_audit.specs.Spots.{AreLettersIn}
 use Rattle.pua_audit.proofs.Costs.{letters_within}
 use Rattle.pua_audit.proofs.Gaps.{letters_bare, row_started, row_further}
 use Rattle.pua_audit.proofs.Lists.{IsReached, places_few, reached_all}
-use Rattle.pua_audit.proofs.Moves.{all_at_index}
+use Rattle.pua_audit.proofs.Moves.{all_at_index, letter_read}
+use Rattle.pua_audit.proofs.Spotted.{apart_none}
 use Rattle.pua_audit.proofs.Rowed.{grown_itself, grown_further}
 use Rattle.pua_audit.proofs.terms.Terms.row.Goals as goal
 
@@ -18,7 +19,8 @@ loop-letter-init g c =
     let among : AreLettersIn c.args.dir s.dots.items s.names.items ns =
     subst (AreLettersIn c.args.dir s.dots.items s.names.items) (sym c.deref-letter-items.ensures.value) c.in_ok-letters.ensures in
     let bare = letters_bare a c.args.dir missing s.dots.items s.names.items ns c.requires.sound c.requires.living
-    (c.within-within.ensures c.args.dir c.requires.living c.requires.over).missing c.requires.spots among in
+    (c.within-within.ensures c.args.dir c.requires.living c.requires.over
+    (λ no. c.requires.spots.unveiled c.args.dir (apart_none c.args.dir c.args.spots.now.veiled.items (sym c.has_veil_in-veiled.ensures ∙ no)))).missing c.requires.spots.told among in
     record {
       row = λ n low reached.
           subst (IsJudgedRow (judge_in a) a.letters c.args.dirs.now.numbers c.args.dir n missing) (sym c.new-entries.ensures.items)
@@ -31,33 +33,35 @@ loop-letter-init g c =
       cost = omega arith;
     }
 
-pub letter-found-requires : goal.letter-found-requires
-letter-found-requires g c κs =
+pub bounds-components-letter : goal.bounds-components-letter
+bounds-components-letter g c =
     let a = c.args.self.now in
     let s = c.args.spots.now in
     let ns : List ℕ = c.deref-letter-items.result.now in
     let among : AreLettersIn c.args.dir s.dots.items s.names.items ns =
     subst (AreLettersIn c.args.dir s.dots.items s.names.items) (sym c.deref-letter-items.ensures.value) c.in_ok-letters.ensures in
-    let at = all_at_index (λ n. n < length a.letters) ns 0 (among.within (length a.letters) c.requires.spots.dotted
-    c.requires.spots.within) c.loop-letter.letter-index c.loop-letter-test.true in (
-      (refl, tt),
+    let at = all_at_index (λ n. n < length a.letters) ns 0 (among.within (length a.letters) c.requires.spots.told.dotted
+    c.requires.spots.told.within) c.loop-letter.letter-index c.loop-letter-test.true in
+    subst (λ (ls : List (List ℕ)). get_or ns c.loop-letter.letter-index 0 < length ls) (sym c.as_slice-components.ensures.letters) at
+
+pub letter-found-requires : goal.letter-found-requires
+letter-found-requires g c κs = (
+  (refl, tt),
+  (
+    c.loop-letter.invariant.tree,
+    (
+      c.requires.sound,
       (
-        c.loop-letter.invariant.tree,
+        c.requires.living,
         (
-          c.requires.sound,
-          (
-            c.requires.living,
-            (
-              at,
-              (
-                c.within-within.ensures c.args.dir c.requires.living c.requires.over,
-                c.loop-letter.invariant.covered,
-              ),
-            ),
-          ),
+          c.within-within.ensures c.args.dir c.requires.living c.requires.over
+              (λ no. c.requires.spots.unveiled c.args.dir (apart_none c.args.dir c.args.spots.now.veiled.items (sym c.has_veil_in-veiled.ensures ∙ no))),
+          c.loop-letter.invariant.covered,
         ),
       ),
-    )
+    ),
+  ),
+)
 
 pub returns-in_err-put-clause-cost : goal.returns-in_err-put-clause-cost
 returns-in_err-put-clause-cost g c =
@@ -67,8 +71,8 @@ returns-in_err-put-clause-cost g c =
     let ns : List ℕ = c.deref-letter-items.result.now in
     let among : AreLettersIn c.args.dir s.dots.items s.names.items ns =
     subst (AreLettersIn c.args.dir s.dots.items s.names.items) (sym c.deref-letter-items.ensures.value) c.in_ok-letters.ensures in
-    let few = places_few ns (length a.letters) among.rise (among.within (length a.letters) c.requires.spots.dotted
-    c.requires.spots.within) (suc l.letter-index) (omega (arith, c.loop-letter-test.true)) in
+    let few = places_few ns (length a.letters) among.rise (among.within (length a.letters) c.requires.spots.told.dotted
+    c.requires.spots.told.within) (suc l.letter-index) (omega (arith, c.loop-letter-test.true)) in
     omega (
       arith,
       l.invariant.cost,
@@ -88,12 +92,23 @@ loop-letter-preserved g c =
     let among : AreLettersIn c.args.dir s.dots.items s.names.items ns =
     subst (AreLettersIn c.args.dir s.dots.items s.names.items) (sym c.deref-letter-items.ensures.value) c.in_ok-letters.ensures in
     let bare = letters_bare a c.args.dir missing s.dots.items s.names.items ns c.requires.sound c.requires.living
-    (c.within-within.ensures c.args.dir c.requires.living c.requires.over).missing c.requires.spots among in
+    (c.within-within.ensures c.args.dir c.requires.living c.requires.over
+    (λ no. c.requires.spots.unveiled c.args.dir (apart_none c.args.dir c.args.spots.now.veiled.items (sym c.has_veil_in-veiled.ensures ∙ no)))).missing c.requires.spots.told among in
+    let at = all_at_index (λ n. n < length a.letters) ns 0 (among.within (length a.letters) c.requires.spots.told.dotted
+    c.requires.spots.told.within) k c.loop-letter-test.true in
+    let letter : List ℕ = c.index-components-letter.result in
+    let is : letter ≡ get_or a.letters (get_or ns k 0) [] =
+    letter_read a.letters c.as_slice-components.result.now (get_or ns k 0) letter c.as_slice-components.ensures.letters at
+    c.index-components-letter.is in
+    let found = c.letter-found.result in
+    let exact : IsLetter (judge_in a) c.args.dir (get_or a.letters (get_or ns k 0) []) found.all found.kept found.links found.leads =
+    subst (λ (l : List ℕ). IsLetter (judge_in a) c.args.dir l found.all found.kept found.links found.leads) is
+    c.letter-found.ensures.exact in
     record {
       row = λ n low reached.
           row_further (judge_in a) a.letters c.args.dir missing ns bare l.dirs.numbers c.put.new.dirs.numbers l.entries.items
           c.put.new.entries.items k c.loop-letter-test.true among.rise l.invariant.row
-          (c.in_ok-put.ensures.row (judge_in a) a.letters c.args.dir c.letter-found.ensures.exact) n low
+          (c.in_ok-put.ensures.row (judge_in a) a.letters c.args.dir exact) n low
           (subst (λ j. IsReached ns j n) (add-one k) reached);
       grown = grown_further c.args.dirs.now.numbers l.dirs.numbers c.put.new.dirs.numbers l.invariant.grown c.in_ok-put.ensures.grown;
       living = c.in_ok-put.ensures.living a.seen.tree c.letter-found.ensures.lives l.invariant.living;
@@ -111,8 +126,8 @@ returns-clause-row g c =
     let among : AreLettersIn c.args.dir s.dots.items s.names.items ns =
     subst (AreLettersIn c.args.dir s.dots.items s.names.items) (sym c.deref-letter-items.ensures.value) c.in_ok-letters.ensures in
     let whole : l.letter-index ≡ length ns = omega (arith, c.loop-letter-test.false, l.auto.letter-index-end) in
-    let reached = reached_all ns (length a.letters) l.letter-index (among.within (length a.letters) c.requires.spots.dotted
-    c.requires.spots.within) whole in
+    let reached = reached_all ns (length a.letters) l.letter-index (among.within (length a.letters) c.requires.spots.told.dotted
+    c.requires.spots.told.within) whole in
     subst (λ (m : ℕ). IsJudgedRow (judge_in a) a.letters l.dirs.numbers c.args.dir (length a.letters) m l.entries.items)
     (sym c.bits-missing.ensures.number) (l.invariant.row (length a.letters) (omega arith) reached)
 
@@ -124,6 +139,19 @@ returns-clause-cost g c =
     let ns : List ℕ = c.deref-letter-items.result.now in
     let among : AreLettersIn c.args.dir s.dots.items s.names.items ns =
     subst (AreLettersIn c.args.dir s.dots.items s.names.items) (sym c.deref-letter-items.ensures.value) c.in_ok-letters.ensures in
-    let few = places_few ns (length a.letters) among.rise (among.within (length a.letters) c.requires.spots.dotted
-    c.requires.spots.within) l.letter-index (omega (arith, l.auto.letter-index-end)) in
+    let few = places_few ns (length a.letters) among.rise (among.within (length a.letters) c.requires.spots.told.dotted
+    c.requires.spots.told.within) l.letter-index (omega (arith, l.auto.letter-index-end)) in
     omega (arith, l.invariant.cost, letters_within a.seen.tree (length a.letters) l.letter-index few)
+
+pub offset_bounds-components-letter : goal.offset_bounds-components-letter
+offset_bounds-components-letter g c =
+    let a = c.args.self.now in
+    let s = c.args.spots.now in
+    let ns : List ℕ = c.deref-letter-items.result.now in
+    let among : AreLettersIn c.args.dir s.dots.items s.names.items ns =
+    subst (AreLettersIn c.args.dir s.dots.items s.names.items) (sym c.deref-letter-items.ensures.value) c.in_ok-letters.ensures in
+    let at = all_at_index (λ n. n < length a.letters) ns 0 (among.within (length a.letters) c.requires.spots.told.dotted
+    c.requires.spots.told.within) c.loop-letter.letter-index c.loop-letter-test.true in
+    let h : get_or ns c.loop-letter.letter-index 0 < length c.as_slice-components.result.now =
+    subst (λ (ls : List (List ℕ)). get_or ns c.loop-letter.letter-index 0 < length ls) (sym c.as_slice-components.ensures.letters) at in
+    search rules

@@ -4,7 +4,7 @@ use Rattle.pua_audit.proofs.Covers.{within_is}
 use Rattle.pua_audit.proofs.terms.Terms.within.Goals as goal
 
 pub returns : goal.returns
-returns c = λ dir living over.
+returns c = λ dir living over bare.
     let a = c.args.self.now in
     let t = a.seen.tree in
     let is = within_is t a.table (plain_history a.process) c.requires.tree dir living c.args.cover over in
@@ -12,4 +12,5 @@ returns c = λ dir living over.
       missing = λ call. c.calls_over.ensures t IsMissing refl call ∙ is IsMissing call;
       file = λ call. c.calls_over-2.ensures t IsFile refl call ∙ is IsFile call;
       program = λ call. c.calls_over-3.ensures t IsProg refl call ∙ is IsProg call;
+      bare = bare;
     }

@@ -1,5 +1,5 @@
 use Rattle.pua_tree.proofs.Common.{◌≡◌, ◌∙◌, ◌++◌, [], option_map, sym, ap, subst, map, cons_option, put, WellFormed, spot_cmp, row_entry}
-use Rattle.pua_tree.proofs.Common.{node_entry, Follows, tree_with, entry_said}
+use Rattle.pua_tree.proofs.Common.{node_entry, Follows, tree_with, entry_at}
 use Rattle.pua_tree.specs.Tree as tree
 use Rattle.pua_tree.proofs.ListEdits.{entry_came}
 use Rattle.pua_tree.proofs.Raised.{grown_keeps}
@@ -8,7 +8,7 @@ use Rattle.pua_tree.proofs.list.ListTreeGathered.put.Goals as goal
 pub returns-clause-grown : goal.returns-clause-grown
 returns-clause-grown c =
     let inside = c.self.inside in
-    let e = entry_said c.args.entry in
+    let e = entry_at c.args.spot.now.dir c.args.spot.now.name c.args.stands in
     let follows : Follows _ e = subst (λ (t : tree.Tree). Follows t e) (sym c.self.view_is) c.requires in
     let row : map row_entry c.put_row.new.rows.items ≡ put spot_cmp (e.parent, e.name) e.node (map row_entry inside.rows.items) =
     rw c.reserve_one.ensures.rows at c.put_row.ensures in
@@ -21,5 +21,5 @@ returns-clause-grown c =
 pub invariant_of-self-2 : goal.invariant_of-self-2
 invariant_of-self-2 c =
     let t = c.args.self.now in
-    let e = entry_said c.args.entry in
+    let e = entry_at c.args.spot.now.dir c.args.spot.now.name c.args.stands in
     subst WellFormed (sym (returns-clause-grown c)) (grown_keeps t e (subst WellFormed c.self.view_is c.self.invariant) c.requires)

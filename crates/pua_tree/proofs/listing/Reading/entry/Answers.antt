@@ -25,7 +25,7 @@ returns-in_default-read g c = λ es h _.
     let parent : parent_in es line ≡ Some c.in-Some-dir_in.parent =
     sym (parent_here c.args.self.now.hard (g.T.FileTree.content c.args.self.now.tree) c.args.self.now.greatest es line h) ∙
     sym (c.in-Some-dir_in.ensures) in
-    let name : name_of line.name ≡ Err c.in_default-read.field-0 = sym c.in_default-read.ensures in
+    let name : name_of line.name ≡ Err c.in_default-read.field-0 = c.in_default-read.ensures in
     bad_name c.args.self.now.hard es c.args.n c.args.text.now line c.in-Some-number_after.number c.in-Some-dir_in.parent
     c.in_default-read.field-0 read number parent name
 
@@ -39,10 +39,10 @@ returns-in_err-node g c = λ es h.
     let parent : parent_in es line ≡ Some c.in-Some-dir_in.parent =
     sym (parent_here c.args.self.now.hard (g.T.FileTree.content c.args.self.now.tree) c.args.self.now.greatest es line h) ∙
     sym (c.in-Some-dir_in.ensures) in
-    let name : name_of line.name ≡ Ok c.in-Ok.name = sym c.in-Ok.ensures in
+    let name : name_of line.name ≡ Ok c.in-Ok.name.bytes.now = c.in-Ok.ensures in
     let failed = err_from_is_err_and c.from_residual.result c.from_residual.ensures.1 in
     rw (failed.1, failed.2) (λ other. bad_node c.args.self.now.hard es c.args.n c.args.text.now line c.in-Some-number_after.number
-    c.in-Some-dir_in.parent c.in-Ok.name _ read number parent name (c.in_err-node.ensures es h other))
+    c.in-Some-dir_in.parent c.in-Ok.name.bytes.now _ read number parent name (c.in_err-node.ensures es h other))
 
 pub returns : goal.returns
 returns g c = λ es h.
@@ -54,6 +54,6 @@ returns g c = λ es h.
     let parent : parent_in es line ≡ Some c.in-Some-dir_in.parent =
     sym (parent_here c.args.self.now.hard (g.T.FileTree.content c.args.self.now.tree) c.args.self.now.greatest es line h) ∙
     sym (c.in-Some-dir_in.ensures) in
-    let name : name_of line.name ≡ Ok c.in-Ok.name = sym c.in-Ok.ensures in
-    whole_entry c.args.self.now.hard es c.args.n c.args.text.now line c.in-Some-number_after.number c.in-Some-dir_in.parent c.in-Ok.name
+    let name : name_of line.name ≡ Ok c.in-Ok.name.bytes.now = c.in-Ok.ensures in
+    whole_entry c.args.self.now.hard es c.args.n c.args.text.now line c.in-Some-number_after.number c.in-Some-dir_in.parent c.in-Ok.name.bytes.now
     c.in_ok-node.node _ read number parent name (c.in_ok-node.ensures es h)

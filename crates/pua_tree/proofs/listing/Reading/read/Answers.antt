@@ -1,5 +1,5 @@
 use Rattle.pua_tree.proofs.Common.{◌≡◌, ◌∙◌, ◌+◌, ◌++◌, ◌∷◌, [], length, Ok, true, false, is_some, sym, subst, rules, arith, look, entry_of}
-use Rattle.pua_tree.proofs.Common.{Gathers, entry_said}
+use Rattle.pua_tree.proofs.Common.{Gathers, Follows, entry_at, entry_said, tree_with, ap, List, ℕ}
 use Rattle.pua_tree.specs.Tree as tree
 use Rattle.pua_tree.proofs.Entries.{Fits}
 use Rattle.pua_tree.proofs.ListingGrammar.{entry_read}
@@ -31,8 +31,11 @@ put-requires g c =
     let free : is_some (look t e.parent e.name) ≡ false = search rules in
     let read : entry_of c.args.self.now.hard es c.args.n c.args.text.now ≡ Ok e = c.in_ok-entry.ensures es h ∙
     admitted_entry c.args.self.now.hard t c.args.self.now.greatest es c.args.n e h free c.if-n-gt-MOST_LINES.false in
-    fit_follows c.args.self.now.hard t c.args.self.now.greatest es e h (entry_read c.args.self.now.hard es c.args.n c.args.text.now e count
-    read).1
+    let follows : Follows t e =
+    fit_follows c.args.self.now.hard t c.args.self.now.greatest es e h
+    (entry_read c.args.self.now.hard es c.args.n c.args.text.now e count read).1 in
+    let said = c.in_ok-entry.entry in
+    subst (λ (name : List ℕ). Follows t (entry_at said.parent name said.stands)) (sym c.overwrite.ensures) follows
 
 pub returns-clause-exact : goal.returns-clause-exact
 returns-clause-exact g c = λ es h count.
@@ -41,10 +44,13 @@ returns-clause-exact g c = λ es h count.
     let free : is_some (look t e.parent e.name) ≡ false = search rules in
     let read : entry_of c.args.self.now.hard es c.args.n c.args.text.now ≡ Ok e = c.in_ok-entry.ensures es h ∙
     admitted_entry c.args.self.now.hard t c.args.self.now.greatest es c.args.n e h free c.if-n-gt-MOST_LINES.false in
+    let said = c.in_ok-entry.entry in
+    let grown =
+    c.in_ok-put.ensures.grown ∙ ap (λ (name : List ℕ). tree_with t (entry_at said.parent name said.stands)) c.overwrite.ensures in
     let fits : Fits c.args.self.now.hard es e = (entry_read c.args.self.now.hard es c.args.n c.args.text.now e count read).1 in (
       e,
       read,
-      subst (λ (u : tree.Tree). Gathers c.args.self.now.hard u e.number (es ++ e ∷ [])) (sym c.in_ok-put.ensures.grown)
+      subst (λ (u : tree.Tree). Gathers c.args.self.now.hard u e.number (es ++ e ∷ [])) (sym grown)
           (gathered_more c.args.self.now.hard t c.args.self.now.greatest es e h fits),
     )
 

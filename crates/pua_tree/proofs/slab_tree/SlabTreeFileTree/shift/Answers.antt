@@ -1,8 +1,8 @@
 use Rattle.pua_tree.proofs.Common.{rules, ◌≡◌, ◌≢◌, ◌∙◌, ℕ, Option, Some, None, Ok, sym, ap, subst, is_some, nat_cmp, find, WellFormed}
-use Rattle.pua_tree.proofs.Common.{look, with_row, without_row, without_unnamed, with_row_moved, held_in_slots, held_rows, row_at}
+use Rattle.pua_tree.proofs.Common.{with_row, without_row, without_unnamed, with_row_moved, held_in_slots, held_rows}
 use Rattle.pua_tree.specs.Tree as tree
 use Rattle.pua_tree.proofs.EditsKeep.{edits_keep_trees}
-use Rattle.pua_tree.proofs.SlotsHold.{rows_found, rows_sorted}
+use Rattle.pua_tree.proofs.SlotsHold.{rows_sorted}
 use Rattle.pua_tree.proofs.SlabEdits.{found_row, living_in, row_living, free_there, others_left, named_once, named_once_still, row_not_root}
 use Rattle.pua_tree.proofs.SlabEdits.{spots_apart, put_over}
 use Rattle.pua_tree.proofs.slab_tree.SlabTreeFileTree.shift.Goals as goal
@@ -17,17 +17,23 @@ pub returns-in_err-reserve_row-clause-unchanged : goal.returns-in_err-reserve_ro
 returns-in_err-reserve_row-clause-unchanged c = grind (rules, c.reserve_row.ensures.same c.self.inside.next, c.self.view_is)
 
 pub take_row-requires-clause-there : goal.take_row-requires-clause-there
-take_row-requires-clause-there c = sym c.row.ensures ∙ c.in-Some-row.is
+take_row-requires-clause-there c =
+    let next = c.self.inside.next in
+    let displaced = rw c.in-Some.is at c.in_ok-moving.ensures.displaced in
+    found_row c.reserve_row.new.self next c.args.self.now c.args.to c.args.new_name (Some c.in-Some-displaced.displaced)
+    (c.reserve_row.ensures.same next ∙ c.self.view_is) (sym displaced.0 ∙ c.in-Some-displaced.is)
 
 pub move_row-requires-clause-there : goal.move_row-requires-clause-there
 move_row-requires-clause-there c =
     let s = c.reserve_row.new.self in
     let next = c.self.inside.next in
     let same : held_in_slots s next ≡ c.args.self.now = c.reserve_row.ensures.same next ∙ c.self.view_is in
-    let found = rw c.in-Some.is at c.in_ok-node.ensures.found in
-    let apart = spots_apart c.args.self.now c.args.from c.args.name.now c.args.to c.args.new_name c.in-Some.node found.0 found.1 in
+    let found = rw c.in-Some.is at c.in_ok-moving.ensures.found in
+    let displaced = rw c.in-Some.is at c.in_ok-moving.ensures.displaced in
+    let apart = spots_apart c.args.self.now c.args.from c.args.name.now c.args.to c.args.new_name c.in-Some.moving.node found
+    (λ e. displaced.1 (displaced.0 ∙ e)) in
     others_left s c.take_row.new.self (c.args.to, c.args.new_name) c.take_row.ensures.rows (c.args.from, c.args.name.now) apart
-    ∙ found_row s next c.args.self.now c.args.from c.args.name.now (Some c.in-Some.node) same found.0
+    ∙ found_row s next c.args.self.now c.args.from c.args.name.now (Some c.in-Some.moving.node) same found
 
 pub move_row-requires-clause-free : goal.move_row-requires-clause-free
 move_row-requires-clause-free c = free_there c.reserve_row.new.self c.take_row.new.self (c.args.to, c.args.new_name) c.take_row.ensures.rows
@@ -37,21 +43,19 @@ move_row-requires-clause-not_root c =
     let s = c.reserve_row.new.self in
     let next = c.self.inside.next in
     let same : held_in_slots s next ≡ c.args.self.now = c.reserve_row.ensures.same next ∙ c.self.view_is in
-    let found = rw c.in-Some.is at c.in_ok-node.ensures.found in
-    row_not_root s next c.args.from c.in-Some.node c.args.name.now (subst WellFormed (sym (c.reserve_row.ensures.same next))
-    c.self.invariant.0) (found_row s next c.args.self.now c.args.from c.args.name.now (Some c.in-Some.node) same found.0)
+    let found = rw c.in-Some.is at c.in_ok-moving.ensures.found in
+    row_not_root s next c.args.from c.in-Some.moving.node c.args.name.now (subst WellFormed (sym (c.reserve_row.ensures.same next))
+    c.self.invariant.0) (found_row s next c.args.self.now c.args.from c.args.name.now (Some c.in-Some.moving.node) same found)
 
 pub move_row-requires-clause-dir_once : goal.move_row-requires-clause-dir_once
 move_row-requires-clause-dir_once c =
     let s = c.reserve_row.new.self in
     let next = c.self.inside.next in
-    let there : row_at s (c.args.to, c.args.new_name) ≡ Some c.in-Some-row.displaced = sym c.row.ensures ∙ c.in-Some-row.is in
-    let same : held_in_slots s next ≡ c.args.self.now = c.reserve_row.ensures.same next ∙ c.self.view_is in
-    let found = rw c.in-Some.is at c.in_ok-node.ensures.found in
-    let look_is : look c.args.self.now c.args.to c.args.new_name ≡ Some c.in-Some-row.displaced =
-    sym (ap (λ (t : tree.Tree). look t c.args.to c.args.new_name) same) ∙ rows_found s (c.args.to, c.args.new_name) ∙ there in
-    let other : c.in-Some-row.displaced ≢ c.in-Some.node = λ e. found.1 (look_is ∙ ap Some e) in
-    named_once_still s c.take_row.new.self next (c.args.to, c.args.new_name) c.in-Some-row.displaced c.in-Some.node
+    let displaced = rw c.in-Some.is at c.in_ok-moving.ensures.displaced in
+    let there = found_row s next c.args.self.now c.args.to c.args.new_name (Some c.in-Some-displaced.displaced)
+    (c.reserve_row.ensures.same next ∙ c.self.view_is) (sym displaced.0 ∙ c.in-Some-displaced.is) in
+    let other : c.in-Some-displaced.displaced ≢ c.in-Some.moving.node = λ e. displaced.1 (c.in-Some-displaced.is ∙ ap Some e) in
+    named_once_still s c.take_row.new.self next (c.args.to, c.args.new_name) c.in-Some-displaced.displaced c.in-Some.moving.node
     (subst WellFormed (sym (c.reserve_row.ensures.same next)) c.self.invariant.0)
     c.take_row.ensures.rows c.take_row.ensures.nodes there other (move_row-requires-clause-not_root c)
 
@@ -59,38 +63,38 @@ pub drop_unnamed-requires-clause-living : goal.drop_unnamed-requires-clause-livi
 drop_unnamed-requires-clause-living c =
     let s = c.reserve_row.new.self in
     let next = c.self.inside.next in
-    let there : row_at s (c.args.to, c.args.new_name) ≡ Some c.in-Some-row.displaced = sym c.row.ensures ∙ c.in-Some-row.is in
-    living_in c.move_row.new.self c.in-Some-row.displaced
-    (ap (λ ns. is_some (find nat_cmp c.in-Some-row.displaced ns)) (c.move_row.ensures.nodes ∙ c.take_row.ensures.nodes)
-    ∙ row_living s next c.args.to c.in-Some-row.displaced c.args.new_name (subst WellFormed (sym (c.reserve_row.ensures.same next))
+    let displaced = rw c.in-Some.is at c.in_ok-moving.ensures.displaced in
+    let there = found_row s next c.args.self.now c.args.to c.args.new_name (Some c.in-Some-displaced.displaced)
+    (c.reserve_row.ensures.same next ∙ c.self.view_is) (sym displaced.0 ∙ c.in-Some-displaced.is) in
+    living_in c.move_row.new.self c.in-Some-displaced.displaced
+    (ap (λ ns. is_some (find nat_cmp c.in-Some-displaced.displaced ns)) (c.move_row.ensures.nodes ∙ c.take_row.ensures.nodes)
+    ∙ row_living s next c.args.to c.in-Some-displaced.displaced c.args.new_name (subst WellFormed (sym (c.reserve_row.ensures.same next))
     c.self.invariant.0) there)
 
-pub returns-in-Some-row-clause-exact : goal.returns-in-Some-row-clause-exact
-returns-in-Some-row-clause-exact c =
+pub returns-in-Some-displaced-clause-exact : goal.returns-in-Some-displaced-clause-exact
+returns-in-Some-displaced-clause-exact c =
     let s = c.reserve_row.new.self in
     let next = c.self.inside.next in
-    let there : row_at s (c.args.to, c.args.new_name) ≡ Some c.in-Some-row.displaced = sym c.row.ensures ∙ c.in-Some-row.is in
     let same : held_in_slots s next ≡ c.args.self.now = c.reserve_row.ensures.same next ∙ c.self.view_is in
-    let look_is : look c.args.self.now c.args.to c.args.new_name ≡ Some c.in-Some-row.displaced =
-    sym (ap (λ (t : tree.Tree). look t c.args.to c.args.new_name) same) ∙ rows_found s (c.args.to, c.args.new_name) ∙ there in
-    let change = λ (t : tree.Tree). with_row (without_row t c.args.from c.args.name.now) c.args.to c.args.new_name c.in-Some.node in
-    let after = λ (o : Option ℕ). with_row_moved c.args.self.now c.args.from c.args.name.now c.args.to c.args.new_name c.in-Some.node o in
+    let change = λ (t : tree.Tree). with_row (without_row t c.args.from c.args.name.now) c.args.to c.args.new_name c.in-Some.moving.node in
+    let after = λ (o : Option ℕ). with_row_moved c.args.self.now c.args.from c.args.name.now c.args.to c.args.new_name c.in-Some.moving.node o in
     let first : held_in_slots c.take_row.new.self next ≡ without_row (held_in_slots s next) c.args.to c.args.new_name =
     λ i. record { rows = c.take_row.ensures.rows i; nodes = c.take_row.ensures.nodes i; next = next } in
     let second : held_in_slots c.move_row.new.self next ≡ change (held_in_slots c.take_row.new.self next) =
     λ i. record { rows = c.move_row.ensures.rows i; nodes = c.move_row.ensures.nodes i; next = next } in
     let over : change (without_row (held_in_slots s next) c.args.to c.args.new_name) ≡ change (held_in_slots s next) =
     λ i. record (held_in_slots s next)
-    { rows = put_over (c.args.to, c.args.new_name) (c.args.from, c.args.name.now) c.in-Some.node (held_rows s) (rows_sorted s) i } in
+    { rows = put_over (c.args.to, c.args.new_name) (c.args.from, c.args.name.now) c.in-Some.moving.node (held_rows s) (rows_sorted s) i } in
     let came : held_in_slots c.move_row.new.self next ≡ change c.args.self.now = second ∙ ap change first ∙ over ∙ ap change same in
-    let left : held_in_slots c.drop_unnamed.new.self next ≡ after (Some c.in-Some-row.displaced) =
-    c.drop_unnamed.ensures.unnamed next ∙ ap (λ (t : tree.Tree). without_unnamed t c.in-Some-row.displaced) came in
-    (rw c.in-Some.is at c.in_ok-node.ensures.exact) ∙ ap (λ (o : Option ℕ). Ok (after o)) look_is ∙ ap (λ (t : tree.Tree). Ok t) (sym left)
+    let left : held_in_slots c.drop_unnamed.new.self next ≡ after (Some c.in-Some-displaced.displaced) =
+    c.drop_unnamed.ensures.unnamed next ∙ ap (λ (t : tree.Tree). without_unnamed t c.in-Some-displaced.displaced) came in
+    (rw c.in-Some.is at c.in_ok-moving.ensures.exact) ∙ ap (λ (o : Option ℕ). Ok (after o)) c.in-Some-displaced.is ∙
+    ap (λ (t : tree.Tree). Ok t) (sym left)
 
-pub invariant_of-self-in-Some-row : goal.invariant_of-self-in-Some-row
-invariant_of-self-in-Some-row c = (
+pub invariant_of-self-in-Some-displaced : goal.invariant_of-self-in-Some-displaced
+invariant_of-self-in-Some-displaced c = (
   (edits_keep_trees.shifting c.args.self.now _ c.args.from c.args.to c.args.name.now c.args.new_name
-      (subst WellFormed c.self.view_is c.self.invariant.0) c.may_shift.ensures.name (returns-in-Some-row-clause-exact c)).0,
+      (subst WellFormed c.self.view_is c.self.invariant.0) c.may_shift.ensures.name (returns-in-Some-displaced-clause-exact c)).0,
   c.drop_unnamed.ensures.kept,
 )
 
@@ -99,40 +103,41 @@ move_row-requires-in-None-clause-there c =
     let s = c.reserve_row.new.self in
     let next = c.self.inside.next in
     let same : held_in_slots s next ≡ c.args.self.now = c.reserve_row.ensures.same next ∙ c.self.view_is in
-    let found = rw c.in-Some.is at c.in_ok-node.ensures.found in
-    found_row s next c.args.self.now c.args.from c.args.name.now (Some c.in-Some.node) same found.0
+    let found = rw c.in-Some.is at c.in_ok-moving.ensures.found in
+    found_row s next c.args.self.now c.args.from c.args.name.now (Some c.in-Some.moving.node) same found
 
 pub move_row-requires-in-None-clause-free : goal.move_row-requires-in-None-clause-free
-move_row-requires-in-None-clause-free c = sym c.row.ensures ∙ c.in-None.is
+move_row-requires-in-None-clause-free c =
+    let next = c.self.inside.next in
+    let displaced = rw c.in-Some.is at c.in_ok-moving.ensures.displaced in
+    found_row c.reserve_row.new.self next c.args.self.now c.args.to c.args.new_name None
+    (c.reserve_row.ensures.same next ∙ c.self.view_is) (sym displaced.0 ∙ c.in-None.is)
 
 pub move_row-requires-in-None-clause-not_root : goal.move_row-requires-in-None-clause-not_root
 move_row-requires-in-None-clause-not_root c =
     let s = c.reserve_row.new.self in
     let next = c.self.inside.next in
-    row_not_root s next c.args.from c.in-Some.node c.args.name.now (subst WellFormed (sym (c.reserve_row.ensures.same next))
+    row_not_root s next c.args.from c.in-Some.moving.node c.args.name.now (subst WellFormed (sym (c.reserve_row.ensures.same next))
     c.self.invariant.0) (move_row-requires-in-None-clause-there c)
 
 pub move_row-requires-in-None-clause-dir_once : goal.move_row-requires-in-None-clause-dir_once
 move_row-requires-in-None-clause-dir_once c =
     let s = c.reserve_row.new.self in
     let next = c.self.inside.next in
-    named_once s next c.in-Some.node (subst WellFormed (sym (c.reserve_row.ensures.same next)) c.self.invariant.0)
+    named_once s next c.in-Some.moving.node (subst WellFormed (sym (c.reserve_row.ensures.same next)) c.self.invariant.0)
     (move_row-requires-in-None-clause-not_root c)
 
 pub returns-in-None-clause-exact : goal.returns-in-None-clause-exact
 returns-in-None-clause-exact c =
     let s = c.reserve_row.new.self in
     let next = c.self.inside.next in
-    let there : row_at s (c.args.to, c.args.new_name) ≡ None = sym c.row.ensures ∙ c.in-None.is in
     let same : held_in_slots s next ≡ c.args.self.now = c.reserve_row.ensures.same next ∙ c.self.view_is in
-    let look_is : look c.args.self.now c.args.to c.args.new_name ≡ None =
-    sym (ap (λ (t : tree.Tree). look t c.args.to c.args.new_name) same) ∙ rows_found s (c.args.to, c.args.new_name) ∙ there in
-    let change = λ (t : tree.Tree). with_row (without_row t c.args.from c.args.name.now) c.args.to c.args.new_name c.in-Some.node in
-    let after = λ (o : Option ℕ). with_row_moved c.args.self.now c.args.from c.args.name.now c.args.to c.args.new_name c.in-Some.node o in
+    let change = λ (t : tree.Tree). with_row (without_row t c.args.from c.args.name.now) c.args.to c.args.new_name c.in-Some.moving.node in
+    let after = λ (o : Option ℕ). with_row_moved c.args.self.now c.args.from c.args.name.now c.args.to c.args.new_name c.in-Some.moving.node o in
     let second : held_in_slots c.move_row-in-None.new.self next ≡ change (held_in_slots s next) =
     λ i. record { rows = c.move_row-in-None.ensures.rows i; nodes = c.move_row-in-None.ensures.nodes i; next = next } in
     let came : held_in_slots c.move_row-in-None.new.self next ≡ after None = second ∙ ap change same in
-    (rw c.in-Some.is at c.in_ok-node.ensures.exact) ∙ ap (λ (o : Option ℕ). Ok (after o)) look_is ∙ ap (λ (t : tree.Tree). Ok t) (sym came)
+    (rw c.in-Some.is at c.in_ok-moving.ensures.exact) ∙ ap (λ (o : Option ℕ). Ok (after o)) c.in-None.is ∙ ap (λ (t : tree.Tree). Ok t) (sym came)
 
 pub invariant_of-self-in-None : goal.invariant_of-self-in-None
 invariant_of-self-in-None c = (

@@ -1,4 +1,4 @@
-use Rattle.pua_tree.proofs.Common.{arith, ◌≡◌, ◌∙◌, sym, ap, subst, put, find, WellFormed, spot_cmp, Follows, tree_with, entry_said}
+use Rattle.pua_tree.proofs.Common.{arith, ◌≡◌, ◌∙◌, sym, ap, subst, put, find, WellFormed, spot_cmp, Follows, tree_with, entry_at}
 use Rattle.pua_tree.proofs.Common.{held_in_slots, held_rows}
 use Rattle.pua_tree.specs.Tree as tree
 use Rattle.pua_tree.proofs.Raised.{grown_keeps}
@@ -19,17 +19,17 @@ returns-in_err-reserve_node-clause-unchanged c = grind (arith, c.reserve_node.en
 pub add_made-requires-clause-new : goal.add_made-requires-clause-new
 add_made-requires-clause-new c =
     let s = c.reserve_node.new.self in
-    let e = entry_said c.args.entry in
+    let e = entry_at c.args.spot.now.dir c.args.spot.now.name c.args.stands in
     let next = c.self.inside.next in
     let formed : WellFormed (held_in_slots s next) = subst WellFormed (sym (c.reserve_node.ensures.same next)) c.self.invariant.0 in
     let follows : Follows (held_in_slots s next) e =
     subst (λ (t : tree.Tree). Follows t e) (sym (c.reserve_node.ensures.same next ∙ c.self.view_is)) c.requires in
-    new_where_made s next formed c.reserve_node.ensures.kept e follows.number c.args.entry.made follows.enters
+    new_where_made s next formed c.reserve_node.ensures.kept e follows.number c.args.stands.made follows.enters
 
 pub put_row-requires-clause-free : goal.put_row-requires-clause-free
 put_row-requires-clause-free c =
     let s = c.reserve_node.new.self in
-    let e = entry_said c.args.entry in
+    let e = entry_at c.args.spot.now.dir c.args.spot.now.name c.args.stands in
     let next = c.self.inside.next in
     let formed : WellFormed (held_in_slots s next) = subst WellFormed (sym (c.reserve_node.ensures.same next)) c.self.invariant.0 in
     let follows : Follows (held_in_slots s next) e =
@@ -42,7 +42,7 @@ put_row-requires-clause-free c =
 pub put_row-requires-clause-dir_once : goal.put_row-requires-clause-dir_once
 put_row-requires-clause-dir_once c =
     let s = c.reserve_node.new.self in
-    let e = entry_said c.args.entry in
+    let e = entry_at c.args.spot.now.dir c.args.spot.now.name c.args.stands in
     let next = c.self.inside.next in
     let formed : WellFormed (held_in_slots s next) = subst WellFormed (sym (c.reserve_node.ensures.same next)) c.self.invariant.0 in
     let follows : Follows (held_in_slots s next) e =
@@ -53,7 +53,7 @@ put_row-requires-clause-dir_once c =
 pub returns-clause-grown : goal.returns-clause-grown
 returns-clause-grown c =
     let s = c.reserve_node.new.self in
-    let e = entry_said c.args.entry in
+    let e = entry_at c.args.spot.now.dir c.args.spot.now.name c.args.stands in
     let next = c.self.inside.next in
     let same : held_in_slots s next ≡ c.args.self.now = c.reserve_node.ensures.same next ∙ c.self.view_is in
     let formed : WellFormed (held_in_slots s next) = subst WellFormed (sym (c.reserve_node.ensures.same next)) c.self.invariant.0 in
@@ -67,7 +67,7 @@ returns-clause-grown c =
 pub invariant_of-self-2 : goal.invariant_of-self-2
 invariant_of-self-2 c =
     let t = c.args.self.now in
-    let e = entry_said c.args.entry in (
+    let e = entry_at c.args.spot.now.dir c.args.spot.now.name c.args.stands in (
       subst WellFormed (sym (returns-clause-grown c)) (grown_keeps t e (subst WellFormed c.self.view_is c.self.invariant.0) c.requires),
       c.put_row.ensures.kept,
     )

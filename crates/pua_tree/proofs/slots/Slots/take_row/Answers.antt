@@ -1,5 +1,5 @@
 use Rattle.pua_tree.proofs.Common.{refl, Slots}
-use Rattle.pua_tree.proofs.SlotsKeep.{some_rows, some_names, rows_after_take, nodes_after_take, kept_after_take}
+use Rattle.pua_tree.proofs.SlotsKeep.{names_known, some_rows, some_names, rows_after_take, nodes_after_take, kept_after_take}
 use Rattle.pua_tree.proofs.slots.Slots.take_row.Goals as goal
 
 pub lose_row-requires-clause-some : goal.lose_row-requires-clause-some
@@ -26,7 +26,7 @@ returns-clause-kept c =
       c.args.dir,
       c.args.name.now,
     ) c.args.node c.requires.kept c.swap_remove.ensures.updates (λ y. refl) c.requires.there c.lose_row.ensures
-    c.lose_name.ensures
+    c.lose_name.ensures.restands
 
 pub returns-clause-rows : goal.returns-clause-rows
 returns-clause-rows c =
@@ -36,7 +36,7 @@ returns-clause-rows c =
       c.args.dir,
       c.args.name.now,
     ) c.args.node c.requires.kept c.swap_remove.ensures.updates (λ y. refl) c.requires.there c.lose_row.ensures
-    c.lose_name.ensures
+    c.lose_name.ensures.restands
 
 pub returns-clause-nodes : goal.returns-clause-nodes
 returns-clause-nodes c =
@@ -46,4 +46,7 @@ returns-clause-nodes c =
       c.args.dir,
       c.args.name.now,
     ) c.args.node c.requires.kept c.swap_remove.ensures.updates (λ y. refl) c.requires.there c.lose_row.ensures
-    c.lose_name.ensures
+    c.lose_name.ensures.restands
+
+pub returns-clause-left : goal.returns-clause-left
+returns-clause-left c = names_known c.lose_name.new.self c.args.node c.lose_name.result (returns-clause-kept c) c.lose_name.ensures.left

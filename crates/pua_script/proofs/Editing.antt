@@ -1,0 +1,48 @@
+-- What a call changes that makes a name or takes one away, by the spot that its path named.
+use Rattle.pua_script.proofs.Common.{◌≡◌, ℕ, List, true, refl, ap, ◌∙◌, false≢true, Option, Some, None, Found, Call, CallTable}
+use Rattle.pua_script.proofs.Common.{Change, NoChange, Spot, spot_named, node_named}
+use Rattle.pua_calls.specs.declared.call.Call.TheVariants as call
+use Rattle.pua_script.specs.Decide.{change_by}
+use Rattle.pua_script.specs.Judged.{edit_by, is_edit}
+
+-- the change is one of the spot and of what stands there
+pub edits_by : (table : CallTable) (c : Call) (object : Found) → is_edit c ≡ true →
+    edit_by c (spot_named object) (node_named object) ≡ change_by table c object
+edits_by table call.Stat object is = absurd (false≢true is)
+edits_by table call.Lstat object is = absurd (false≢true is)
+edits_by table call.Readlink object is = absurd (false≢true is)
+edits_by table call.OpenRead object is = absurd (false≢true is)
+edits_by table call.OpenWrite object is = absurd (false≢true is)
+edits_by table call.OpenBoth object is = absurd (false≢true is)
+edits_by table call.Create object is = refl
+edits_by table call.Mkdir object is = refl
+edits_by table call.Rmdir object is = refl
+edits_by table call.Unlink object is = refl
+edits_by table call.Symlink object is = absurd (false≢true is)
+edits_by table call.Chmod object is = absurd (false≢true is)
+edits_by table call.Chdir object is = absurd (false≢true is)
+edits_by table call.Exec object is = absurd (false≢true is)
+
+-- and none where no spot was named
+pub nowhere : (c : Call) (there : Option ℕ) → edit_by c None there ≡ NoChange
+nowhere call.Stat there = refl
+nowhere call.Lstat there = refl
+nowhere call.Readlink there = refl
+nowhere call.OpenRead there = refl
+nowhere call.OpenWrite there = refl
+nowhere call.OpenBoth there = refl
+nowhere call.Create there = refl
+nowhere call.Mkdir there = refl
+nowhere call.Rmdir there = refl
+nowhere call.Unlink there = refl
+nowhere call.Symlink there = refl
+nowhere call.Chmod there = refl
+nowhere call.Chdir there = refl
+nowhere call.Exec there = refl
+
+-- what changes at the spot that was named, its name copied
+module _ (change : Option Spot → Option ℕ → Change) (object : Found) where
+  pub at_spot : (dir : ℕ) (lent name : List ℕ) (there : Option ℕ) → Some (dir, lent) ≡ spot_named object → name ≡ lent →
+      there ≡ node_named object → change (Some (dir, name)) there ≡ change (spot_named object) (node_named object)
+  at_spot dir lent name there spot same is =
+      ap (λ n. change (Some (dir, n)) there) same ∙ ap (change (Some (dir, lent))) is ∙ ap (λ s. change s (node_named object)) spot
