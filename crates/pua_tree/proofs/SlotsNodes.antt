@@ -179,3 +179,12 @@ kept_dropped old new x kept same found filed = let rows = rows_by new old same i
       | true ↦ λ t. absurd (None≢Some n (sym (found q ∙ ap (λ b. cond b None (node_in old q)) t) ∙ e))
       | false ↦ λ t. sym (found q ∙ ap (λ b. cond b None (node_in old q)) t) ∙ e
     ] refl
+
+-- a number taken out that had no slot
+pub found_absent : (old new : Slots) (x : ℕ) → ((q : ℕ) → node_in new q ≡ node_in old q) → slot_of old x ≡ None → (q : ℕ) →
+    node_in new q ≡ cond (q == x) None (node_in old q)
+found_absent old new x same none q =
+    same q ∙ elim (q == x) as (λ b. (q == x) ≡ b → node_in old q ≡ cond b None (node_in old q)) [
+      | true ↦ λ t. ap (λ (o : Option ℕ). option_and_then (slot_get old.nodes) o) (ap (slot_of old) (eqb-true q x t) ∙ none)
+      | false ↦ λ _. refl
+    ] refl

@@ -42,7 +42,7 @@ pub(crate) struct Slots {
     pub(crate) nodes: Slab<SlotNode>,
 }
 
-ghost use Rattle.std.specs.Prelude.{ℕ, ◌≡◌, ◌≢◌, ◌<◌, ◌≤◌, ◌+◌, ◌==◌, ◌^◌, Some, None, IsSome};
+ghost use Rattle.std.specs.Prelude.{ℕ, ◌≡◌, ◌≢◌, ◌<◌, ◌≤◌, ◌+◌, ◌==◌, ◌^◌, Some, None};
 ghost use Rattle.std.specs.Prelude.{IfSome, IfOk, OnOk, if◌then◌else◌, option_copied, option_map};
 ghost use Rattle.std.specs.Prelude.{option_and_then, length, map, not};
 ghost use Rattle.std.specs.Ordering.{is_eq, nat_cmp};
@@ -118,16 +118,6 @@ impl Slots {
                 Kind::Dir => Some(node.standing),
                 _ => None,
             },
-            None => None,
-        }
-    }
-
-    /// How the node of this number stands.
-    fn standing(&self, id: NodeId) -> Option<Stance>
-        ensures { result ≡ option_map (λ node. node.standing) (node_in self.now id) }
-    {
-        match self.node(id) {
-            Some(node) => Some(node.standing),
             None => None,
         }
     }
@@ -330,40 +320,23 @@ impl Slots {
         }
     }
 
-    /// Takes the node of this number away. Its slot is the next that is used.
+    /// Takes the node of this number away, if there is one. Its slot is the next that is used.
     fn drop_node(&mut self, id: NodeId)
         requires kept { AreConsistent self.old }
-        requires living { IsSome (slot_of self.old id) }
         ensures kept { AreConsistent self.new }
         ensures rows { self.new.rows ≡ self.old.rows }
         ensures nodes { held_nodes self.new
             ≡ where_key nat_cmp (λ other. not (is_eq (nat_cmp id other))) (held_nodes self.old) }
     {
-        let slot = self.numbers.swap_remove(&id).unwrap();
-        self.nodes.remove(slot);
-    }
-
-    /// Takes the node of this number away, if it has no name.
-    pub(crate) fn drop_unnamed(&mut self, id: NodeId)
-        requires kept { AreConsistent self.old }
-        requires living { IsSome (node_in self.old id) }
-        ensures kept { AreConsistent self.new }
-        ensures rows { self.new.rows ≡ self.old.rows }
-        ensures unnamed { (next : ℕ) →
-            held_in_slots self.new next ≡ without_unnamed (held_in_slots self.old next) id }
-    {
-        if self
-            .standing(id)
-            .is_some_and(|standing| standing.names == 0)
-        {
-            self.drop_node(id);
+        if let Some(slot) = self.numbers.swap_remove(&id) {
+            self.nodes.remove(slot);
         }
     }
 
-    /// Takes the node of this number away, if this number of its names, all that it has, is none.
-    pub(crate) fn drop_where_none_left(&mut self, id: NodeId, names: usize)
+    /// Takes the node of this number away, if there is one, and this number of its names, all that
+    /// it has, is none.
+    pub(crate) fn drop_unnamed(&mut self, id: NodeId, names: usize)
         requires kept { AreConsistent self.old }
-        requires living { IsSome (node_in self.old id) }
         ensures kept { AreConsistent self.new }
         ensures rows { self.new.rows ≡ self.old.rows }
         ensures unnamed { IfSome (node_in self.old id)
