@@ -47,8 +47,8 @@ module _ (old new : Slots) (from to : tree.Spot) (x : ℕ)
   names_stay y =
       ap (λ r. names_of r y) rows
       ∙ counted-put spot_cmp spots_total exact_spots (λ row. row.1 == y) to x _ (
-        without_at spot_cmp spots_total exact_spots to from (held_rows old)
-        ∙ ap (λ o. cond (not (is_eq (spot_cmp from to))) o None) (rows_found old to ∙ free) ∙ neither (not (is_eq (spot_cmp from to))))
+      without_at spot_cmp spots_total exact_spots to from (held_rows old)
+      ∙ ap (λ o. cond (not (is_eq (spot_cmp from to))) o None) (rows_found old to ∙ free) ∙ neither (not (is_eq (spot_cmp from to))))
       ∙ counted-without spot_cmp spots_total exact_spots (λ row. row.1 == y) from x (held_rows old) (rows_sorted old)
       (rows_found old from ∙ there)
     where
