@@ -7,10 +7,11 @@ ghost use Rattle.pua_steps.specs.Graph.{graph_reach};
 ghost use Rattle.pua_steps.specs.Table.{IsTable, IsState, graph_of};
 ghost use Rattle.pua_steps.specs.Live.{IsSized};
 ghost use Rattle.pua_steps.specs.Lists.{AreListsOf};
-ghost use Rattle.pua_steps.specs.Trail.{pairs_of};
+ghost use Rattle.pua_steps.specs.Trail.{on_word, pairs_of};
 ghost use Rattle.pua_steps.specs.Ready.{IsReady, IsBetween, IsSameWalk, IsTurned, IsNextPair};
 ghost use Rattle.pua_steps.specs.Ready.{IsCounted, IsUnchanged, StaysFront, left_over, trail};
 
+use crate::call_set::CallSet;
 use crate::calls::take_first;
 use crate::frame::Frame;
 use crate::state::State;
@@ -98,6 +99,23 @@ impl Walk {
     {
         self.unchanged = self.word.len();
         self.go_on()
+    }
+
+    /// Takes all calls of the walk's word that are still to be given. The pairs that come after theirs
+    /// are still to come. It reads no letter.
+    pub fn take_calls(&mut self) -> CallSet
+        requires ready { IsReady self.old }
+        ensures ready { IsReady self.new }
+        ensures same { IsSameWalk self.old self.new }
+        ensures word { self.new.word ≡ self.old.word }
+        ensures unchanged { self.new.unchanged ≡ self.old.unchanged }
+        ensures reads { self.new.tables.reads ≡ self.old.tables.reads }
+        ensures pairs { pairs_of (trail self.old) ≡ on_word self.old.word.items result
+            ++ pairs_of (trail self.new) }
+    {
+        let bits = self.calls;
+        self.calls = 0;
+        CallSet { bits }
     }
 
     /// The word of the pair that was given last, by the places of its letters in the alphabet. Before
