@@ -3,6 +3,7 @@
 ghost use Rattle.std.specs.Prelude.{◌≡◌, ◌≢◌, ◌≤◌, ◌<◌, ◌+◌, ◌∷◌, ◌++◌, [], ℕ, IfSome, ◌*◌, ◌^◌};
 ghost use Rattle.std.specs.Prelude.{suc, IfOk, length, vec_capacity, MatchOption};
 ghost use Rattle.pua_steps.specs.Limits.{most_letters, call_count};
+ghost use Rattle.pua_steps.specs.Calls.{calls_of};
 ghost use Rattle.pua_steps.specs.Graph.{graph_reach};
 ghost use Rattle.pua_steps.specs.Table.{IsTable, IsState, graph_of};
 ghost use Rattle.pua_steps.specs.Live.{IsSized};
@@ -11,7 +12,6 @@ ghost use Rattle.pua_steps.specs.Trail.{on_word, pairs_of};
 ghost use Rattle.pua_steps.specs.Ready.{IsReady, IsBetween, IsSameWalk, IsTurned, IsNextPair};
 ghost use Rattle.pua_steps.specs.Ready.{IsCounted, IsUnchanged, StaysFront, left_over, trail};
 
-use crate::call_set::CallSet;
 use crate::calls::take_first;
 use crate::frame::Frame;
 use crate::state::State;
@@ -101,21 +101,20 @@ impl Walk {
         self.go_on()
     }
 
-    /// Takes all calls of the walk's word that are still to be given. The pairs that come after theirs
-    /// are still to come. It reads no letter.
-    pub fn take_calls(&mut self) -> CallSet
-        requires ready { IsReady self.old }
-        ensures ready { IsReady self.new }
+    /// Takes all calls of the walk's word that are still to be given: a bit for each, the first at bit
+    /// 0. The pairs that come after theirs are still to come. It reads no letter.
+    pub fn take_calls(&mut self) -> u16
+        ensures ready { IsReady self.old → IsReady self.new }
         ensures same { IsSameWalk self.old self.new }
         ensures word { self.new.word ≡ self.old.word }
         ensures unchanged { self.new.unchanged ≡ self.old.unchanged }
         ensures reads { self.new.tables.reads ≡ self.old.tables.reads }
-        ensures pairs { pairs_of (trail self.old) ≡ on_word self.old.word.items result
+        ensures pairs { pairs_of (trail self.old) ≡ on_word self.old.word.items (calls_of result)
             ++ pairs_of (trail self.new) }
     {
-        let bits = self.calls;
+        let calls = self.calls;
         self.calls = 0;
-        CallSet { bits }
+        calls
     }
 
     /// The word of the pair that was given last, by the places of its letters in the alphabet. Before
