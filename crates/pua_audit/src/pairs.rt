@@ -7,8 +7,8 @@ ghost use Rattle.pua_audit.specs.Bounds.{pairs_cost};
 ghost use Rattle.pua_audit.specs.Coming.{AreReady, IsNextCall, call_at, to_come};
 ghost use Rattle.pua_audit.specs.Live.{live_states};
 ghost use Rattle.pua_audit.specs.Reach.{rest_after};
-ghost use Rattle.pua_audit.specs.Ready.{IsSound, scope_in};
-ghost use Rattle.pua_audit.specs.Starting.{AreLetters, AreSound, pair_in};
+ghost use Rattle.pua_audit.specs.Ready.{scope_in};
+ghost use Rattle.pua_audit.specs.Starting.{AreLetters, pair_in};
 ghost use Rattle.pua_steps.specs.Limits.{call_count, search_cost};
 
 use crate::path::WordPath;
@@ -45,8 +45,6 @@ impl Pairs {
     ) -> Result<Pairs, OutOfMemory>
         requires tree { P.tree probe.old ≡ terms.seen.tree }
         requires rows { map lent_entry rows.now ≡ terms.seen.tree.rows }
-        requires sound { IsSound terms }
-        requires letters { AreSound terms.limit terms.letters }
         requires word { IfSome after
             (λ r. AreLetters terms.letters terms.limit r.word.items) }
         ensures ready { IfOk result (λ pairs. AreReady pairs) }
@@ -86,7 +84,8 @@ impl Pairs {
         // The path has room for each letter of the word, so none is refused.
         while self.path.starts.len() < self.walk.word().len() {
             let letter = self.walk.word()[self.path.starts.len()];
-            let letters = self.terms.letters.as_slice();
+            let terms = &self.terms;
+            let letters = terms.letters.as_slice();
             self.path.add(&letters[letter]).unwrap();
         }
         Some(call_at(call))

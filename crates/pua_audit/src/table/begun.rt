@@ -13,8 +13,8 @@ ghost use Rattle.pua_audit.specs.Coming.{pairs_resumed, pairs_at};
 ghost use Rattle.pua_audit.specs.Reach.{Pair, rest_after};
 ghost use Rattle.pua_audit.specs.Judge.{Start, base_dir, base_way, is_open};
 ghost use Rattle.pua_audit.specs.Live.{live_states};
-ghost use Rattle.pua_audit.specs.Ready.{IsSound, judge_in, scope_in};
-ghost use Rattle.pua_audit.specs.Starting.{AreLetters, AreSound, pair_in};
+ghost use Rattle.pua_audit.specs.Ready.{judge_in, scope_in};
+ghost use Rattle.pua_audit.specs.Starting.{AreLetters, pair_in};
 ghost use Rattle.pua_steps.specs.Graph.{graph_reach};
 ghost use Rattle.pua_steps.specs.Limits.{call_count, search_cost};
 ghost use Rattle.pua_steps.specs.Lists.{AreListsOf};
@@ -54,8 +54,6 @@ impl Terms {
     ) -> Result<BegunWalk, OutOfMemory>
         requires tree { P.tree probe.old ≡ self.now.seen.tree }
         requires rows { map lent_entry rows.now ≡ self.now.seen.tree.rows }
-        requires sound { IsSound self.now }
-        requires letters { AreSound self.now.limit self.now.letters }
         requires word { IfSome after (λ r. AreLetters self.now.letters self.now.limit
             r.word.items) }
         ensures ready { IfOk result (λ begun. IsReady begun.walk) }
@@ -103,8 +101,6 @@ impl Terms {
         calls: Calls,
         after: Option<Resumption>,
     ) -> Result<BegunWalk, OutOfMemory>
-        requires sound { IsSound self.now }
-        requires letters { AreSound self.now.limit self.now.letters }
         requires word { IfSome after (λ r. AreLetters self.now.letters self.now.limit
             r.word.items) }
         ensures ready { IfOk result (λ begun. IsReady begun.walk) }
@@ -133,8 +129,6 @@ impl Terms {
 
     /// The same where nothing is allowed: no pair is ahead, and no state is live.
     fn begun_closed(&self, alloc: Global) -> Result<BegunWalk, OutOfMemory>
-        requires sound { IsSound self.now }
-        requires letters { AreSound self.now.limit self.now.letters }
         ensures ready { IfOk result (λ begun. IsReady begun.walk) }
         ensures limit { IfOk result (λ begun. begun.walk.limit ≡ self.now.limit) }
         ensures letters { IfOk result (λ begun. begun.walk.tables.steps.letters
@@ -170,7 +164,6 @@ impl Terms {
 
     /// The base itself, as it is found.
     fn base_found(&self) -> Found
-        requires { IsSound self.now }
         ensures { result ≡ Whole (base_dir self.now.base (plain_history self.now.process))
             (base_way self.now.base) }
     {

@@ -11,7 +11,6 @@ ghost use Rattle.pua_policy.specs.History.{History, StandsFor};
 ghost use Rattle.pua_policy.specs.Verdict.{cover};
 ghost use Rattle.pua_audit.specs.Covers.{AreCovered};
 ghost use Rattle.pua_audit.specs.Past.{plain_history};
-ghost use Rattle.pua_audit.specs.Ready.{IsSound};
 
 use crate::table::directories::Directories;
 use crate::terms::Terms;
@@ -31,7 +30,6 @@ impl Terms {
         found: &Result<Found, Errno>,
     ) -> Cover
         requires tree { P.tree probe.old ≡ self.now.seen.tree }
-        requires sound { IsSound self.now }
         requires fits { FoundsFit self.now.seen.tree found.now }
         requires named { IfOk found.now (StandsAsNamed self.now.seen.tree) }
         requires covered { AreCovered self.now.seen.tree (plain_history self.now.process) dirs.now }

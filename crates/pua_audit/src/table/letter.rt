@@ -17,7 +17,7 @@ ghost use Rattle.pua_policy.specs.Verdict.{FoundsFit, cover, verdict_of, is_allo
 ghost use Rattle.pua_audit.specs.Bounds.{letter_cost, object_cost};
 ghost use Rattle.pua_audit.specs.Covers.{AreCovered};
 ghost use Rattle.pua_audit.specs.Past.{plain_history};
-ghost use Rattle.pua_audit.specs.Ready.{IsSound, judge_in};
+ghost use Rattle.pua_audit.specs.Ready.{judge_in};
 ghost use Rattle.pua_audit.specs.Entries.{AreWithin, links_of, found_of, leads_to};
 ghost use Rattle.pua_audit.specs.Spots.{IsNamed};
 ghost use Rattle.pua_audit.specs.Table.{IsLetter};
@@ -59,7 +59,6 @@ impl Terms {
         within: &Within,
     ) -> Letter
         requires tree { P.tree probe.old ≡ self.now.seen.tree }
-        requires sound { IsSound self.now }
         requires living { IsTrue (is_dir self.now.seen.tree dir) }
         requires within { AreWithin self.now.seen.tree self.now.table
             (plain_history self.now.process) dir within.now }
@@ -96,7 +95,6 @@ impl Terms {
         within: &Within,
     ) -> Option<Calls>
         requires tree { P.tree probe.old ≡ self.now.seen.tree }
-        requires sound { IsSound self.now }
         requires living { IsTrue (is_dir self.now.seen.tree dir) }
         requires within { AreWithin self.now.seen.tree self.now.table
             (plain_history self.now.process) dir within.now }
@@ -121,7 +119,6 @@ impl Terms {
 
     /// Whether a veil is kept at a name in a directory.
     fn has_veil(&self, dir: NodeId, name: LentName<'_>) -> bool
-        requires { IsSound self.now }
         ensures none { result ≡ false → perms_kept (plain_history self.now.process)
             (Slot dir name.entry.bytes.now) ≡ None }
         ensures kept { result ≡ true → perms_kept (plain_history self.now.process)
@@ -140,7 +137,6 @@ impl Terms {
         letter: &Component,
     ) -> Letter
         requires tree { P.tree probe.old ≡ self.now.seen.tree }
-        requires sound { IsSound self.now }
         requires living { IsTrue (is_dir self.now.seen.tree dir) }
         requires covered { AreCovered self.now.seen.tree (plain_history self.now.process) dirs.now }
         ensures exact { IsLetter (judge_in self.now) dir letter.now
@@ -183,7 +179,6 @@ impl Terms {
         near: Calls,
     ) -> Calls
         requires tree { P.tree probe.old ≡ self.now.seen.tree }
-        requires sound { IsSound self.now }
         requires living { IsTrue (is_dir self.now.seen.tree dir) }
         requires covered { AreCovered self.now.seen.tree (plain_history self.now.process) dirs.now }
         requires followed { followed.now ≡ found_of (follow self.now.seen.tree dir part.now) }
@@ -216,7 +211,6 @@ impl Terms {
         left: &Cover,
     ) -> Calls
         requires tree { P.tree probe.old ≡ self.now.seen.tree }
-        requires sound { IsSound self.now }
         requires fits { FoundsFit self.now.seen.tree found.now }
         requires left { IfOk found.now
             (λ object. left.now

@@ -11,7 +11,7 @@ ghost use Rattle.pua_audit.specs.Bounds.{row_cost};
 ghost use Rattle.pua_audit.specs.Covers.{AreCovered};
 ghost use Rattle.pua_audit.specs.Judge.{Judge};
 ghost use Rattle.pua_audit.specs.Past.{plain_history};
-ghost use Rattle.pua_audit.specs.Ready.{IsSound, judge_in};
+ghost use Rattle.pua_audit.specs.Ready.{judge_in};
 ghost use Rattle.pua_audit.specs.Rows.{AreLiving, IsGrown, IsJudgedRow};
 ghost use Rattle.pua_audit.specs.Spots.{AreSpotsOf};
 ghost use Rattle.pua_audit.specs.Table.{IsLetter};
@@ -42,7 +42,6 @@ impl Terms {
         over: Cover,
     ) -> Result<Row, OutOfMemory>
         requires tree { P.tree probe.old ≡ self.now.seen.tree }
-        requires sound { IsSound self.now }
         requires spots { AreSpotsOf self.now.seen.tree (plain_history self.now.process)
             self.now.letters spots.now }
         requires living { IsTrue (is_dir self.now.seen.tree dir) }

@@ -6,7 +6,6 @@ ghost use Rattle.std.specs.List.Sorted.{IsNonDecreasingBy};
 ghost use Rattle.pua_tree.specs.LentRows.{lent_entry};
 ghost use Rattle.pua_policy.specs.declared.place.Place.TheVariants.{Slot};
 ghost use Rattle.pua_audit.specs.Past.{plain_history};
-ghost use Rattle.pua_audit.specs.Ready.{IsSound};
 ghost use Rattle.pua_audit.specs.Spots.{AreApartFrom, AreAtLetters, AreLettersIn, AreSpotsOf};
 ghost use Rattle.pua_audit.specs.Spots.{IsApart, IsNamed, IsNowhere, IsUnmarked};
 
@@ -39,7 +38,6 @@ impl Terms {
     /// name that is no letter has none. The error is that a growth was refused.
     pub(crate) fn spots(&self, alloc: Global, rows: &[LentRow<'_>]) -> Result<Spots, OutOfMemory>
         requires rows { map lent_entry rows.now ≡ self.now.seen.tree.rows }
-        requires sound { IsSound self.now }
         ensures { IfOk result
             (λ spots. AreSpotsOf self.now.seen.tree (plain_history self.now.process)
             self.now.letters spots) }

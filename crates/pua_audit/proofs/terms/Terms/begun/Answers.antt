@@ -26,20 +26,17 @@ table-requires g c κs =
     let t : Tree = a.seen.tree in
     let h : History = plain_history a.process in
     let base : ℕ = base_dir a.base h in
-    let there : IsTrue (is_dir t base) = lives a c.requires.sound c.requires.letters opened in
+    let there : IsTrue (is_dir t base) = lives a opened in
     let covered : c.cover-cover.result ≡ cover_in t h c.base_dir.result =
-    c.cover-cover.ensures.exact h c.requires.sound.stands ∙ ap (λ (u : Tree). cover u h c.base_found.result) (c.is_open.ensures.tree ∙ c.requires.tree) ∙
+    c.cover-cover.ensures.exact h a.stands ∙ ap (λ (u : Tree). cover u h c.base_found.result) (c.is_open.ensures.tree ∙ c.requires.tree) ∙
     ap (cover t h) c.base_found.ensures
-    ∙ (covers_descend t h c.requires.sound.tree).directory base (base_way a.base) there ∙ ap (cover_in t h) (sym c.base_dir.ensures) in (
+    ∙ (covers_descend t h a.tree).directory base (base_way a.base) there ∙ ap (cover_in t h) (sym c.base_dir.ensures) in (
       (refl, tt),
       (
         c.calls_on-calls.ensures.tree ∙ c.cover-cover.ensures.tree ∙ c.is_open.ensures.tree ∙ c.requires.tree,
         (
           c.requires.rows,
-          (
-            c.requires.sound,
-            (subst (λ (d : ℕ). IsTrue (is_dir t d)) (sym c.base_dir.ensures) there, covered),
-          ),
+          (subst (λ (d : ℕ). IsTrue (is_dir t d)) (sym c.base_dir.ensures) there, covered),
         ),
       ),
     )
@@ -56,7 +53,7 @@ returns-clause-pairs g c =
     let first = ap (λ (d : ℕ). Some (record { dir = d; used = 0 })) (sym (made.1.3 ∙ c.base_dir.ensures)) in
     let ps : List graph.Pair = graph.graph_reach (graph_of t) a.limit set (Some (record { dir = 0; used = 0 })) in
     let same : map pair_in_numbers (reach (scope_in a)) ≡ map (pair_in_letters a.letters) ps =
-    ap (map pair_in_numbers) (sym (all_along a c.requires.sound c.requires.letters opened)) ∙
+    ap (map pair_in_numbers) (sym (all_along a opened)) ∙
     begun_reach (judge_in a) a.letters made.0 t made.1.0 made.1.2 set own first a.limit in
     let within : AllByRecursion (λ p. IsPair (length a.letters) p) ps =
     subst (λ n. AllByRecursion (λ p. IsPair n p) ps) made.1.0.many (reach_is_within t a.limit set (Some (record { dir = 0; used = 0 }))
@@ -64,7 +61,7 @@ returns-clause-pairs g c =
     let left = c.in_ok-walk.ensures.left ∙
     ap (λ (t : Steps). pairs_resumed c.args.after (graph.graph_reach (graph_of t) a.limit set (Some (record { dir = 0; used = 0 }))))
     c.in_ok-tables.ensures.steps in
-    scope_after (scope_in a) c.args.after ps c.requires.letters.rises c.requires.word within same ∙ ap (pairs_at a.letters) (sym left)
+    scope_after (scope_in a) c.args.after ps a.rises c.requires.word within same ∙ ap (pairs_at a.letters) (sym left)
 
 pub returns-clause-within : goal.returns-clause-within
 returns-clause-within g c =
@@ -95,7 +92,7 @@ returns-clause-live g c =
     c.in_ok-tables.ensures.steps
     ∙ ap (λ n. live_count (graph_of c.in_ok-steps.steps) n a.limit (Some (record { dir = 0; used = 0 })) a.limit) made.1.0.dirs
     ∙ sym (begun_live (scope_in a) made.0 c.in_ok-steps.steps made.1.0 made.1.2 c.bits-calls.result own first
-    (audited a c.requires.sound c.requires.letters) (lives a c.requires.sound c.requires.letters opened) made.1.1)
+    (audited a) (lives a opened) made.1.1)
 
 pub walk_after-requires-clause-word : goal.walk_after-requires-clause-word
 walk_after-requires-clause-word g c =
@@ -106,11 +103,11 @@ walk_after-requires-clause-word g c =
 -- the tables of the table of steps
 
 pub fill-requires-clause-limit : goal.fill-requires-clause-limit
-fill-requires-clause-limit g c = c.requires.letters.few
+fill-requires-clause-limit g c = c.args.self.now.few
 
 pub fill-requires-clause-fits : goal.fill-requires-clause-fits
 fill-requires-clause-fits g c =
-    table_fits c.args.self.now.limit (length c.in_ok-steps.steps.rows.items) c.requires.letters.few c.in_ok-steps.ensures.few
+    table_fits c.args.self.now.limit (length c.in_ok-steps.steps.rows.items) c.args.self.now.few c.in_ok-steps.ensures.few
 
 pub count-requires-clause-sized : goal.count-requires-clause-sized
 count-requires-clause-sized g c =
@@ -127,7 +124,7 @@ count-requires-clause-base g c =
     (first_state (judge_in c.args.self.now) c.args.self.now.letters made.0 c.in_ok-steps.steps made.1.0 made.1.2)
 
 pub count-requires-clause-limit : goal.count-requires-clause-limit
-count-requires-clause-limit g c = c.requires.letters.few
+count-requires-clause-limit g c = c.args.self.now.few
 
 small : (dirs rows : ℕ) → dirs ≡ rows → rows ≤ 4294967296 → dirs * 1088 < 18446744073709551616
 small dirs rows same few = omega arith

@@ -29,13 +29,13 @@ returns-clause-pairs c = λ opened none told.
     let own = λ (call : Call). ap (λ (n : ℕ). has n call) c.bits-calls.ensures.number ∙ told call in
     let ps : List graph.Pair = graph.graph_reach (graph_of t) a.limit set None in
     let same : map pair_in_numbers (reach (scope_in a)) ≡ map (pair_in_letters a.letters) ps =
-    ap (map pair_in_numbers) (sym (all_along a c.requires.sound c.requires.letters opened)) ∙
+    ap (map pair_in_numbers) (sym (all_along a opened)) ∙
     base_reach (judge_in a) a.letters set own (graph_of t) a.limit none in
     let within : AllByRecursion (λ p. IsPair (length a.letters) p) ps =
     all_within t (length a.letters) a.limit set c.no_rows.ensures.letters c.no_rows.ensures.rows in
     let left = c.in_ok-walk.ensures.left ∙
     ap (λ (t : Steps). pairs_resumed c.args.after (graph.graph_reach (graph_of t) a.limit set None)) c.in_ok-tables.ensures.steps in
-    scope_after (scope_in a) c.args.after ps c.requires.letters.rises c.requires.word within same ∙ ap (pairs_at a.letters) (sym left)
+    scope_after (scope_in a) c.args.after ps a.rises c.requires.word within same ∙ ap (pairs_at a.letters) (sym left)
 
 pub returns-clause-within : goal.returns-clause-within
 returns-clause-within c =

@@ -11,7 +11,7 @@ pub returns-clause-pairs : goal.returns-clause-pairs
 returns-clause-pairs c = λ closed after.
     let a = c.args.self.now in
     let none : pairs_of (trail c.in_ok-walk.walk) ≡ [] = c.in_ok-walk.ensures.left ∙ none_reach _ a.limit in
-    nothing_after a c.requires.sound c.requires.letters closed after ∙ ap (pairs_at a.letters) (sym none)
+    nothing_after a closed after ∙ ap (pairs_at a.letters) (sym none)
 
 pub returns-clause-within : goal.returns-clause-within
 returns-clause-within c =
@@ -21,4 +21,4 @@ returns-clause-within c =
 
 pub returns-clause-live : goal.returns-clause-live
 returns-clause-live c = λ closed. let a = c.args.self.now in
-    sym (live_states_count.none (scope_in a) (audited a c.requires.sound c.requires.letters) closed)
+    sym (live_states_count.none (scope_in a) (audited a) closed)

@@ -27,7 +27,7 @@ cover_of-cover-requires g c κs =
       (refl, tt),
       (
         c.last-kept.ensures.tree ∙ c.requires.tree,
-        (c.requires.sound, (fit, (named, (c.requires.covered, (c.requires.living, kept_above t c.args.dir c.args.part.now kept is))))),
+        (fit, (named, (c.requires.covered, (c.requires.living, kept_above t c.args.dir c.args.part.now kept is)))),
       ),
     )
 
@@ -39,7 +39,7 @@ calls_on-requires g c κs =
       (refl, tt),
       (
         c.cover_of-cover.ensures.tree ∙ c.last-kept.ensures.tree ∙ c.requires.tree,
-        (c.requires.sound, (fit, c.cover_of-cover.ensures.exact)),
+        (fit, c.cover_of-cover.ensures.exact),
       ),
     )
 

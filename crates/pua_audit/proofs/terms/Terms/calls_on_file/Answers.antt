@@ -21,7 +21,7 @@ returns-clause-exact g c = λ kept.
           (w.has_veil.ensures.none w.if-has_veil.false)
       | else-within-via-else-within w ↦ c.requires.within.bare w.if-within.false letter
     ] in
-    file_told t a.table a.base h c.args.dir letter c.requires.sound.tree c.requires.living c.in_ok-kind.field-0-0
+    file_told t a.table a.base h c.args.dir letter c.args.self.now.tree c.requires.living c.in_ok-kind.field-0-0
     c.in_ok-calls.calls kept c.in_ok-kind.kind
     c.in_ok-calls.ensures.file (c.in_ok-calls.ensures.calls t a.table h c.args.dir c.requires.within)
     c.in_ok-name.ensures.name found unveiled

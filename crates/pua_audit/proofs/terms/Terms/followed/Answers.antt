@@ -26,15 +26,12 @@ cover_of-cover-requires g c κs =
       (
         c.follow.ensures.tree ∙ c.requires.tree,
         (
-          c.requires.sound,
+          fit,
           (
-            fit,
+            named,
             (
-              named,
-              (
-                c.requires.covered,
-                (c.requires.living, named_above t c.args.dir c.part-part.result found (is ∙ ap found_of followed)),
-              ),
+              c.requires.covered,
+              (c.requires.living, named_above t c.args.dir c.part-part.result found (is ∙ ap found_of followed)),
             ),
           ),
         ),
@@ -48,15 +45,12 @@ calls_kept-far-requires g c κs =
       (
         c.calls_on-near.ensures.tree ∙ c.cover_of-cover.ensures.tree ∙ c.follow.ensures.tree ∙ c.requires.tree,
         (
-          c.requires.sound,
+          c.requires.living,
           (
-            c.requires.living,
+            c.requires.covered,
             (
-              c.requires.covered,
-              (
-                c.counted-followed.ensures.found ∙ ap found_of followed,
-                (c.counted-followed.ensures.links ∙ ap links_of followed, c.calls_on-near.ensures.exact),
-              ),
+              c.counted-followed.ensures.found ∙ ap found_of followed,
+              (c.counted-followed.ensures.links ∙ ap links_of followed, c.calls_on-near.ensures.exact),
             ),
           ),
         ),
@@ -104,7 +98,7 @@ returns-clause-covered g c =
     (founds_of a.seen.tree c.follow.result (subst (λ (u : Tree). IfOk c.follow.result (λ found. FoundFits u found.0)) c.requires.tree
     c.follow.ensures.fits)) in
     subst (λ (o : Option ℕ). IfSome o (λ to. c.cover_of-cover.result ≡ cover_in a.seen.tree h to)) (sym c.directory_of.ensures)
-    (covered_lead a.seen.tree h c.requires.sound.tree c.counted-followed.result.0 c.cover_of-cover.result fit
+    (covered_lead a.seen.tree h a.tree c.counted-followed.result.0 c.cover_of-cover.result fit
     c.cover_of-cover.ensures.exact)
 
 pub returns-clause-cost : goal.returns-clause-cost

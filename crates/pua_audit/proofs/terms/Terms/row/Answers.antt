@@ -18,7 +18,7 @@ loop-letter-init g c =
     let ns : List ℕ = c.deref-letter-items.result.now in
     let among : AreLettersIn c.args.dir s.dots.items s.names.items ns =
     subst (AreLettersIn c.args.dir s.dots.items s.names.items) (sym c.deref-letter-items.ensures.value) c.in_ok-letters.ensures in
-    let bare = letters_bare a c.args.dir missing s.dots.items s.names.items ns c.requires.sound c.requires.living
+    let bare = letters_bare a c.args.dir missing s.dots.items s.names.items ns c.requires.living
     (c.within-within.ensures c.args.dir c.requires.living c.requires.over
     (λ no. c.requires.spots.unveiled c.args.dir (apart_none c.args.dir c.args.spots.now.veiled.items (sym c.has_veil_in-veiled.ensures ∙ no)))).missing c.requires.spots.told among in
     record {
@@ -50,14 +50,11 @@ letter-found-requires g c κs = (
   (
     c.loop-letter.invariant.tree,
     (
-      c.requires.sound,
+      c.requires.living,
       (
-        c.requires.living,
-        (
-          c.within-within.ensures c.args.dir c.requires.living c.requires.over
-              (λ no. c.requires.spots.unveiled c.args.dir (apart_none c.args.dir c.args.spots.now.veiled.items (sym c.has_veil_in-veiled.ensures ∙ no))),
-          c.loop-letter.invariant.covered,
-        ),
+        c.within-within.ensures c.args.dir c.requires.living c.requires.over
+            (λ no. c.requires.spots.unveiled c.args.dir (apart_none c.args.dir c.args.spots.now.veiled.items (sym c.has_veil_in-veiled.ensures ∙ no))),
+        c.loop-letter.invariant.covered,
       ),
     ),
   ),
@@ -91,7 +88,7 @@ loop-letter-preserved g c =
     let ns : List ℕ = c.deref-letter-items.result.now in
     let among : AreLettersIn c.args.dir s.dots.items s.names.items ns =
     subst (AreLettersIn c.args.dir s.dots.items s.names.items) (sym c.deref-letter-items.ensures.value) c.in_ok-letters.ensures in
-    let bare = letters_bare a c.args.dir missing s.dots.items s.names.items ns c.requires.sound c.requires.living
+    let bare = letters_bare a c.args.dir missing s.dots.items s.names.items ns c.requires.living
     (c.within-within.ensures c.args.dir c.requires.living c.requires.over
     (λ no. c.requires.spots.unveiled c.args.dir (apart_none c.args.dir c.args.spots.now.veiled.items (sym c.has_veil_in-veiled.ensures ∙ no)))).missing c.requires.spots.told among in
     let at = all_at_index (λ n. n < length a.letters) ns 0 (among.within (length a.letters) c.requires.spots.told.dotted

@@ -48,7 +48,7 @@ returns c =
         unveiled = λ dir letter low unsorted.
             let unmarked = still dir letter unsorted in
             let place : Place = Slot dir (name letter) in
-            sym (veils_are_kept h place) ∙ ap (λ vs. veil_at vs place) (sym c.requires.sound.stands.veils)
+            sym (veils_are_kept h place) ∙ ap (λ vs. veil_at vs place) (sym c.args.self.now.stands.veils)
             ∙ apart_kept place a.process.veils (subst (λ (ps : List Place). AreApartFrom place ps) places
             (veils_at dir letter low unmarked));
         rise = IsNonDecreasingBy-from_sort_by_key (λ (s : LetterSpot). s.dir) sorted c.sort_unstable_by_key.ensures.sorted
@@ -56,7 +56,7 @@ returns c =
       };
       unveiled = λ dir apart called.
           let place : Place = Slot dir called in
-          sym (veils_are_kept h place) ∙ ap (λ vs. veil_at vs place) (sym c.requires.sound.stands.veils)
+          sym (veils_are_kept h place) ∙ ap (λ vs. veil_at vs place) (sym c.args.self.now.stands.veils)
           ∙ apart_kept place a.process.veils (subst (λ (ps : List Place). AreApartFrom place ps) places
           (c.in_ok-veiled.ensures dir called apart));
     }

@@ -164,10 +164,7 @@ row-requires g c κs =
       (refl, tt),
       (
         l.invariant.tree,
-        (
-          c.requires.sound,
-          (c.in_ok-spots.ensures, (living, (l.invariant.living, (l.invariant.covered, over)))),
-        ),
+        (c.in_ok-spots.ensures, (living, (l.invariant.living, (l.invariant.covered, over)))),
       ),
     )
 
