@@ -59,11 +59,11 @@ impl Terms {
         let mut rows = Vec::new(alloc);
         while let Some(dir) = dirs.at(rows.len()) {
             let over = dirs.cover_at(rows.len());
-            let row = self.row(alloc, probe, &spots, &mut dirs, dir, over)?;
+            let row = spots.row(alloc, probe, &mut dirs, dir, over)?;
             rows.push(row)?;
         }
         Ok(Steps {
-            letters: self.letters.len(),
+            letters: spots.terms.letters.len(),
             rows,
         })
     }

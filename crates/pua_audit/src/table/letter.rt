@@ -45,6 +45,8 @@ pub(crate) struct Letter {
     pub(crate) leads: Option<NodeId>,
     /// What the veils leave of what it names; where it leads to a directory, of the names in that.
     pub(crate) cover: Cover,
+    pub(crate) ghost keeping: { (call : Call) → has kept call ≡ (has all call && keeps_link call) },
+    pub(crate) ghost few: { links ≤ most_links },
 }
 
 impl Terms {
@@ -65,9 +67,6 @@ impl Terms {
         requires covered { AreCovered self.now.seen.tree (plain_history self.now.process) dirs.now }
         ensures exact { IsLetter (judge_in self.now) dir letter.now
             result.all result.kept result.links result.leads }
-        ensures kept { (call : Call) →
-            has result.kept call ≡ (has result.all call && keeps_link call) }
-        ensures links { result.links ≤ most_links }
         ensures lives { IfSome result.leads (λ to. IsTrue (is_dir self.now.seen.tree to)) }
         ensures covered { IfSome result.leads
             (λ to. result.cover ≡ cover_in self.now.seen.tree (plain_history self.now.process) to) }
@@ -141,9 +140,6 @@ impl Terms {
         requires covered { AreCovered self.now.seen.tree (plain_history self.now.process) dirs.now }
         ensures exact { IsLetter (judge_in self.now) dir letter.now
             result.all result.kept result.links result.leads }
-        ensures kept { (call : Call) →
-            has result.kept call ≡ (has result.all call && keeps_link call) }
-        ensures links { result.links ≤ most_links }
         ensures lives { IfSome result.leads (λ to. IsTrue (is_dir self.now.seen.tree to)) }
         ensures covered { IfSome result.leads
             (λ to. result.cover ≡ cover_in self.now.seen.tree (plain_history self.now.process) to) }

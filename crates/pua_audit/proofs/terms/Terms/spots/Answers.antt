@@ -7,8 +7,8 @@ use Rattle.pua_audit.proofs.Lists.{all_among}
 use Rattle.pua_audit.proofs.Spotted.{nowhere_found, apart_kept}
 use Rattle.pua_audit.proofs.terms.Terms.spots.Goals as goal
 
-pub returns : goal.returns
-returns c =
+pub invariant_of-result : goal.invariant_of-result
+invariant_of-result c =
     let a = c.args.self.now in
     let name = λ (letter : ℕ). get_or a.letters letter [] in
     let rows : map lent_entry c.args.rows.now ≡ a.seen.tree.rows = c.requires.rows in

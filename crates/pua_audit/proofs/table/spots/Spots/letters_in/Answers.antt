@@ -1,5 +1,6 @@
 use Rattle.pua_audit.proofs.Common.{◌≡◌, ◌≢◌, ◌<◌, ◌∙◌, ◌++◌, ℕ, List, map, sym, subst, AllByRecursion, IsUnmarked, LetterSpot, all_joined}
 use Rattle.std.specs.List.{Contains}
+use Rattle.std.specs.List.Sorted.{IsNonDecreasingBy}
 use Rattle.std.proofs.lemmas.List.Elements.{Contains-append_left, Contains-append_right}
 use Rattle.std.proofs.lemmas.List.Filters.{dedup_is}
 use Rattle.std.proofs.lemmas.List.Kept.{Contains-dedup_nat, Contains-from_dedup}
@@ -35,6 +36,6 @@ returns c =
       dotted = λ letter apart. all_among (λ n. n ≢ letter) all dots (λ x h. kept x (Contains-append_right at dots x h)) apart;
       spotted = λ letter apart.
           subst (IsUnmarked c.args.dir letter) c.as_slice.ensures.value
-          (c.spots_in.ensures.all letter (all_unmapped (λ n. n ≢ letter) (λ (s : LetterSpot). s.letter) here
+          (c.spots_in.ensures.all (subst (IsNonDecreasingBy (λ spot. spot.dir)) (sym c.as_slice.ensures.value) c.args.self.now.told.rise) letter (all_unmapped (λ n. n ≢ letter) (λ (s : LetterSpot). s.letter) here
           (all_among (λ n. n ≢ letter) all at (λ x h. kept x (Contains-append_left at dots x h)) apart)));
     }

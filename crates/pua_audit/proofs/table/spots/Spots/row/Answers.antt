@@ -8,19 +8,19 @@ use Rattle.pua_audit.proofs.Lists.{IsReached, places_few, reached_all}
 use Rattle.pua_audit.proofs.Moves.{all_at_index, letter_read}
 use Rattle.pua_audit.proofs.Spotted.{apart_none}
 use Rattle.pua_audit.proofs.Rowed.{grown_itself, grown_further}
-use Rattle.pua_audit.proofs.terms.Terms.row.Goals as goal
+use Rattle.pua_audit.proofs.table.spots.Spots.row.Goals as goal
 
 pub loop-letter-init : goal.loop-letter-init
 loop-letter-init g c =
-    let a = c.args.self.now in
-    let s = c.args.spots.now in
+    let a = c.args.self.now.terms.now in
+    let s = c.args.self.now in
     let missing : ℕ = c.within-within.result.missing in
     let ns : List ℕ = c.deref-letter-items.result.now in
     let among : AreLettersIn c.args.dir s.dots.items s.names.items ns =
     subst (AreLettersIn c.args.dir s.dots.items s.names.items) (sym c.deref-letter-items.ensures.value) c.in_ok-letters.ensures in
     let bare = letters_bare a c.args.dir missing s.dots.items s.names.items ns c.requires.living
     (c.within-within.ensures c.args.dir c.requires.living c.requires.over
-    (λ no. c.requires.spots.unveiled c.args.dir (apart_none c.args.dir c.args.spots.now.veiled.items (sym c.has_veil_in-veiled.ensures ∙ no)))).missing c.requires.spots.told among in
+    (λ no. c.args.self.now.unveiled c.args.dir (apart_none c.args.dir c.args.self.now.veiled.items (sym c.has_veil_in-veiled.ensures ∙ no)))).missing c.args.self.now.told among in
     record {
       row = λ n low reached.
           subst (IsJudgedRow (judge_in a) a.letters c.args.dirs.now.numbers c.args.dir n missing) (sym c.new-entries.ensures.items)
@@ -35,13 +35,13 @@ loop-letter-init g c =
 
 pub bounds-components-letter : goal.bounds-components-letter
 bounds-components-letter g c =
-    let a = c.args.self.now in
-    let s = c.args.spots.now in
+    let a = c.args.self.now.terms.now in
+    let s = c.args.self.now in
     let ns : List ℕ = c.deref-letter-items.result.now in
     let among : AreLettersIn c.args.dir s.dots.items s.names.items ns =
     subst (AreLettersIn c.args.dir s.dots.items s.names.items) (sym c.deref-letter-items.ensures.value) c.in_ok-letters.ensures in
-    let at = all_at_index (λ n. n < length a.letters) ns 0 (among.within (length a.letters) c.requires.spots.told.dotted
-    c.requires.spots.told.within) c.loop-letter.letter-index c.loop-letter-test.true in
+    let at = all_at_index (λ n. n < length a.letters) ns 0 (among.within (length a.letters) c.args.self.now.told.dotted
+    c.args.self.now.told.within) c.loop-letter.letter-index c.loop-letter-test.true in
     subst (λ (ls : List (List ℕ)). get_or ns c.loop-letter.letter-index 0 < length ls) (sym c.as_slice-components.ensures.letters) at
 
 pub letter-found-requires : goal.letter-found-requires
@@ -53,7 +53,7 @@ letter-found-requires g c κs = (
       c.requires.living,
       (
         c.within-within.ensures c.args.dir c.requires.living c.requires.over
-            (λ no. c.requires.spots.unveiled c.args.dir (apart_none c.args.dir c.args.spots.now.veiled.items (sym c.has_veil_in-veiled.ensures ∙ no))),
+            (λ no. c.args.self.now.unveiled c.args.dir (apart_none c.args.dir c.args.self.now.veiled.items (sym c.has_veil_in-veiled.ensures ∙ no))),
         c.loop-letter.invariant.covered,
       ),
     ),
@@ -62,14 +62,14 @@ letter-found-requires g c κs = (
 
 pub returns-in_err-put-clause-cost : goal.returns-in_err-put-clause-cost
 returns-in_err-put-clause-cost g c =
-    let a = c.args.self.now in
-    let s = c.args.spots.now in
+    let a = c.args.self.now.terms.now in
+    let s = c.args.self.now in
     let l = c.loop-letter in
     let ns : List ℕ = c.deref-letter-items.result.now in
     let among : AreLettersIn c.args.dir s.dots.items s.names.items ns =
     subst (AreLettersIn c.args.dir s.dots.items s.names.items) (sym c.deref-letter-items.ensures.value) c.in_ok-letters.ensures in
-    let few = places_few ns (length a.letters) among.rise (among.within (length a.letters) c.requires.spots.told.dotted
-    c.requires.spots.told.within) (suc l.letter-index) (omega (arith, c.loop-letter-test.true)) in
+    let few = places_few ns (length a.letters) among.rise (among.within (length a.letters) c.args.self.now.told.dotted
+    c.args.self.now.told.within) (suc l.letter-index) (omega (arith, c.loop-letter-test.true)) in
     omega (
       arith,
       l.invariant.cost,
@@ -80,8 +80,8 @@ returns-in_err-put-clause-cost g c =
 
 pub loop-letter-preserved : goal.loop-letter-preserved
 loop-letter-preserved g c =
-    let a = c.args.self.now in
-    let s = c.args.spots.now in
+    let a = c.args.self.now.terms.now in
+    let s = c.args.self.now in
     let l = c.loop-letter in
     let k : ℕ = l.letter-index in
     let missing : ℕ = c.within-within.result.missing in
@@ -90,9 +90,9 @@ loop-letter-preserved g c =
     subst (AreLettersIn c.args.dir s.dots.items s.names.items) (sym c.deref-letter-items.ensures.value) c.in_ok-letters.ensures in
     let bare = letters_bare a c.args.dir missing s.dots.items s.names.items ns c.requires.living
     (c.within-within.ensures c.args.dir c.requires.living c.requires.over
-    (λ no. c.requires.spots.unveiled c.args.dir (apart_none c.args.dir c.args.spots.now.veiled.items (sym c.has_veil_in-veiled.ensures ∙ no)))).missing c.requires.spots.told among in
-    let at = all_at_index (λ n. n < length a.letters) ns 0 (among.within (length a.letters) c.requires.spots.told.dotted
-    c.requires.spots.told.within) k c.loop-letter-test.true in
+    (λ no. c.args.self.now.unveiled c.args.dir (apart_none c.args.dir c.args.self.now.veiled.items (sym c.has_veil_in-veiled.ensures ∙ no)))).missing c.args.self.now.told among in
+    let at = all_at_index (λ n. n < length a.letters) ns 0 (among.within (length a.letters) c.args.self.now.told.dotted
+    c.args.self.now.told.within) k c.loop-letter-test.true in
     let letter : List ℕ = c.index-components-letter.result in
     let is : letter ≡ get_or a.letters (get_or ns k 0) [] =
     letter_read a.letters c.as_slice-components.result.now (get_or ns k 0) letter c.as_slice-components.ensures.letters at
@@ -116,39 +116,39 @@ loop-letter-preserved g c =
 
 pub returns-clause-row : goal.returns-clause-row
 returns-clause-row g c =
-    let a = c.args.self.now in
-    let s = c.args.spots.now in
+    let a = c.args.self.now.terms.now in
+    let s = c.args.self.now in
     let l = c.loop-letter in
     let ns : List ℕ = c.deref-letter-items.result.now in
     let among : AreLettersIn c.args.dir s.dots.items s.names.items ns =
     subst (AreLettersIn c.args.dir s.dots.items s.names.items) (sym c.deref-letter-items.ensures.value) c.in_ok-letters.ensures in
     let whole : l.letter-index ≡ length ns = omega (arith, c.loop-letter-test.false, l.auto.letter-index-end) in
-    let reached = reached_all ns (length a.letters) l.letter-index (among.within (length a.letters) c.requires.spots.told.dotted
-    c.requires.spots.told.within) whole in
+    let reached = reached_all ns (length a.letters) l.letter-index (among.within (length a.letters) c.args.self.now.told.dotted
+    c.args.self.now.told.within) whole in
     subst (λ (m : ℕ). IsJudgedRow (judge_in a) a.letters l.dirs.numbers c.args.dir (length a.letters) m l.entries.items)
     (sym c.bits-missing.ensures.number) (l.invariant.row (length a.letters) (omega arith) reached)
 
 pub returns-clause-cost : goal.returns-clause-cost
 returns-clause-cost g c =
-    let a = c.args.self.now in
-    let s = c.args.spots.now in
+    let a = c.args.self.now.terms.now in
+    let s = c.args.self.now in
     let l = c.loop-letter in
     let ns : List ℕ = c.deref-letter-items.result.now in
     let among : AreLettersIn c.args.dir s.dots.items s.names.items ns =
     subst (AreLettersIn c.args.dir s.dots.items s.names.items) (sym c.deref-letter-items.ensures.value) c.in_ok-letters.ensures in
-    let few = places_few ns (length a.letters) among.rise (among.within (length a.letters) c.requires.spots.told.dotted
-    c.requires.spots.told.within) l.letter-index (omega (arith, l.auto.letter-index-end)) in
+    let few = places_few ns (length a.letters) among.rise (among.within (length a.letters) c.args.self.now.told.dotted
+    c.args.self.now.told.within) l.letter-index (omega (arith, l.auto.letter-index-end)) in
     omega (arith, l.invariant.cost, letters_within a.seen.tree (length a.letters) l.letter-index few)
 
 pub offset_bounds-components-letter : goal.offset_bounds-components-letter
 offset_bounds-components-letter g c =
-    let a = c.args.self.now in
-    let s = c.args.spots.now in
+    let a = c.args.self.now.terms.now in
+    let s = c.args.self.now in
     let ns : List ℕ = c.deref-letter-items.result.now in
     let among : AreLettersIn c.args.dir s.dots.items s.names.items ns =
     subst (AreLettersIn c.args.dir s.dots.items s.names.items) (sym c.deref-letter-items.ensures.value) c.in_ok-letters.ensures in
-    let at = all_at_index (λ n. n < length a.letters) ns 0 (among.within (length a.letters) c.requires.spots.told.dotted
-    c.requires.spots.told.within) c.loop-letter.letter-index c.loop-letter-test.true in
+    let at = all_at_index (λ n. n < length a.letters) ns 0 (among.within (length a.letters) c.args.self.now.told.dotted
+    c.args.self.now.told.within) c.loop-letter.letter-index c.loop-letter-test.true in
     let h : get_or ns c.loop-letter.letter-index 0 < length c.as_slice-components.result.now =
     subst (λ (ls : List (List ℕ)). get_or ns c.loop-letter.letter-index 0 < length ls) (sym c.as_slice-components.ensures.letters) at in
     search rules
