@@ -62,11 +62,10 @@ impl Terms {
     ) -> Letter
         requires tree { P.tree probe.old ≡ self.now.seen.tree }
         requires living { IsTrue (is_dir self.now.seen.tree dir) }
-        requires within { AreWithin self.now.seen.tree self.now.table
-            (plain_history self.now.process) dir within.now }
         requires covered { AreCovered self.now.seen.tree (plain_history self.now.process) dirs.now }
-        ensures exact { IsLetter (judge_in self.now) dir letter.now
-            result.all result.kept result.links result.leads }
+        ensures exact { AreWithin self.now.seen.tree self.now.table
+            (plain_history self.now.process) dir within.now → IsLetter (judge_in self.now) dir
+            letter.now result.all result.kept result.links result.leads }
         ensures lives { IfSome result.leads (λ to. IsTrue (is_dir self.now.seen.tree to)) }
         ensures covered { IfSome result.leads
             (λ to. result.cover ≡ cover_in self.now.seen.tree (plain_history self.now.process) to) }
@@ -95,9 +94,8 @@ impl Terms {
     ) -> Option<Calls>
         requires tree { P.tree probe.old ≡ self.now.seen.tree }
         requires living { IsTrue (is_dir self.now.seen.tree dir) }
-        requires within { AreWithin self.now.seen.tree self.now.table
-            (plain_history self.now.process) dir within.now }
-        ensures exact { IfSome result (λ calls. (kept : ℕ) →
+        ensures exact { IfSome result (λ calls. AreWithin self.now.seen.tree self.now.table
+            (plain_history self.now.process) dir within.now → (kept : ℕ) →
             IsLetter (judge_in self.now) dir letter.now calls kept 0 None) }
         ensures none { IfNone result (IsNamed letter.now →
             perms_kept (plain_history self.now.process) (Slot dir letter.now) ≡ None →

@@ -37,17 +37,16 @@ impl Spots<'_> {
     ) -> Result<Row, OutOfMemory>
         requires tree { P.tree probe.old ≡ self.now.terms.now.seen.tree }
         requires living { IsTrue (is_dir self.now.terms.now.seen.tree dir) }
-        requires dirs { AreLiving self.now.terms.now.seen.tree dirs.old.numbers }
         requires covers { AreCovered self.now.terms.now.seen.tree
             (plain_history self.now.terms.now.process) dirs.old }
-        requires over { over ≡ cover_in self.now.terms.now.seen.tree
-            (plain_history self.now.terms.now.process) dir }
-        ensures row { IfOk result (λ row. IsJudgedRow (judge_in self.now.terms.now)
-            self.now.terms.now.letters dirs.new.numbers dir (length self.now.terms.now.letters)
-            row.missing row.entries.items) }
+        ensures row { IfOk result (λ row. over ≡ cover_in self.now.terms.now.seen.tree
+            (plain_history self.now.terms.now.process) dir → IsJudgedRow
+            (judge_in self.now.terms.now) self.now.terms.now.letters dirs.new.numbers dir
+            (length self.now.terms.now.letters) row.missing row.entries.items) }
         ensures grown { IfOk result (λ _. IsGrown dirs.old.numbers dirs.new.numbers) }
         ensures living { IfOk result
-            (λ _. AreLiving self.now.terms.now.seen.tree dirs.new.numbers) }
+            (λ _. AreLiving self.now.terms.now.seen.tree dirs.old.numbers →
+            AreLiving self.now.terms.now.seen.tree dirs.new.numbers) }
         ensures covered { IfOk result (λ _. AreCovered self.now.terms.now.seen.tree
             (plain_history self.now.terms.now.process) dirs.new) }
         ensures tree { P.tree probe.new ≡ P.tree probe.old }

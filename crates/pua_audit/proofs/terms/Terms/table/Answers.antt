@@ -17,6 +17,10 @@ loop-dir-preserved g c =
     let rows : List Row = l.rows.items in
     let row : Row = c.in_ok-row.row in
     let at = c.in-Some.ensures in
+    let over : c.cover_at-over.result ≡ cover_in a.seen.tree (plain_history a.process) c.in-Some.dir =
+    c.cover_at-over.ensures a.seen.tree (plain_history a.process) l.invariant.covered
+    ∙ ap (λ (n : ℕ). cover_in a.seen.tree (plain_history a.process) (get_or l.dirs.numbers n 0)) (c.len-in-Some.ensures ∙ sym c.len.ensures)
+    ∙ ap (cover_in a.seen.tree (plain_history a.process)) (sym at.dir) in
     let grown = c.in_ok-row.ensures.grown in
     let inside : length rows < length l.dirs.numbers = omega (arith, at.within, c.len.ensures) in
     let count : c.len.result ≡ length rows = omega (arith, c.len.ensures) in
@@ -24,7 +28,7 @@ loop-dir-preserved g c =
     let last : IsJudgedRow (judge_in a) a.letters new (get_or l.dirs.numbers (length rows) 0) (length a.letters) row.missing
     row.entries.items =
     subst (λ (n : ℕ). IsJudgedRow (judge_in a) a.letters new n (length a.letters) row.missing row.entries.items) here
-    c.in_ok-row.ensures.row in
+    (c.in_ok-row.ensures.row over) in
     let items : c.push.new.self.items ≡ rows ++ row ∷ [] = c.in_ok-push.ensures.items in
     record {
       rows = subst (AreRows (judge_in a) a.letters new) (sym items) (rows_pushed (judge_in a) a.letters l.dirs.numbers new rows
@@ -32,7 +36,7 @@ loop-dir-preserved g c =
       within = omega (arith, ap length items, length-append rows (row ∷ []), inside, grown.more);
       some = omega (arith, l.invariant.some, grown.more);
       first = grown.same 0 l.invariant.some ∙ l.invariant.first;
-      living = c.in_ok-row.ensures.living;
+      living = c.in_ok-row.ensures.living l.invariant.living;
       covered = c.in_ok-row.ensures.covered;
       tree = c.row.ensures.tree ∙ l.invariant.tree;
       cost =
@@ -160,20 +164,15 @@ pub row-requires : goal.row-requires
 row-requires g c κs =
     let a : Terms = c.in_ok-spots.spots.terms.now in
     let t : Tree = a.seen.tree in
-    let h : History = plain_history a.process in
     let l = c.loop-dir in
     let at = c.in-Some.ensures in
     let living : IsTrue (is_dir t c.in-Some.dir) =
     subst (λ (d : ℕ). IsTrue (is_dir t d)) (sym at.dir)
-    (all_at_index (λ (d : ℕ). IsTrue (is_dir t d)) l.dirs.numbers 0 l.invariant.living c.len.result at.within) in
-    let over : c.cover_at-over.result ≡ cover_in t h c.in-Some.dir =
-    c.cover_at-over.ensures t h l.invariant.covered
-    ∙ ap (λ (n : ℕ). cover_in t h (get_or l.dirs.numbers n 0)) (c.len-in-Some.ensures ∙ sym c.len.ensures)
-    ∙ ap (cover_in t h) (sym at.dir) in (
+    (all_at_index (λ (d : ℕ). IsTrue (is_dir t d)) l.dirs.numbers 0 l.invariant.living c.len.result at.within) in (
       (refl, tt),
       (
         l.invariant.tree,
-        (living, (l.invariant.living, (l.invariant.covered, over))),
+        (living, l.invariant.covered),
       ),
     )
 
