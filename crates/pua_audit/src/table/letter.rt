@@ -62,12 +62,14 @@ impl Terms {
     ) -> Letter
         requires tree { P.tree probe.old ≡ self.now.seen.tree }
         requires living { IsTrue (is_dir self.now.seen.tree dir) }
-        requires covered { AreCovered self.now.seen.tree (plain_history self.now.process) dirs.now }
         ensures exact { AreWithin self.now.seen.tree self.now.table
-            (plain_history self.now.process) dir within.now → IsLetter (judge_in self.now) dir
-            letter.now result.all result.kept result.links result.leads }
+            (plain_history self.now.process) dir within.now →
+            AreCovered self.now.seen.tree (plain_history self.now.process) dirs.now →
+            IsLetter (judge_in self.now) dir letter.now
+            result.all result.kept result.links result.leads }
         ensures lives { IfSome result.leads (λ to. IsTrue (is_dir self.now.seen.tree to)) }
-        ensures covered { IfSome result.leads
+        ensures covered { AreCovered self.now.seen.tree (plain_history self.now.process) dirs.now →
+            IfSome result.leads
             (λ to. result.cover ≡ cover_in self.now.seen.tree (plain_history self.now.process) to) }
         ensures tree { P.tree probe.new ≡ P.tree probe.old }
         ensures cost { P.count probe.new ≤ P.count probe.old + letter_cost self.now.seen.tree }
@@ -135,11 +137,12 @@ impl Terms {
     ) -> Letter
         requires tree { P.tree probe.old ≡ self.now.seen.tree }
         requires living { IsTrue (is_dir self.now.seen.tree dir) }
-        requires covered { AreCovered self.now.seen.tree (plain_history self.now.process) dirs.now }
-        ensures exact { IsLetter (judge_in self.now) dir letter.now
+        ensures exact { AreCovered self.now.seen.tree (plain_history self.now.process) dirs.now →
+            IsLetter (judge_in self.now) dir letter.now
             result.all result.kept result.links result.leads }
         ensures lives { IfSome result.leads (λ to. IsTrue (is_dir self.now.seen.tree to)) }
-        ensures covered { IfSome result.leads
+        ensures covered { AreCovered self.now.seen.tree (plain_history self.now.process) dirs.now →
+            IfSome result.leads
             (λ to. result.cover ≡ cover_in self.now.seen.tree (plain_history self.now.process) to) }
         ensures tree { P.tree probe.new ≡ P.tree probe.old }
         ensures cost { P.count probe.new ≤ P.count probe.old
@@ -174,14 +177,12 @@ impl Terms {
     ) -> Calls
         requires tree { P.tree probe.old ≡ self.now.seen.tree }
         requires living { IsTrue (is_dir self.now.seen.tree dir) }
-        requires covered { AreCovered self.now.seen.tree (plain_history self.now.process) dirs.now }
-        requires followed { followed.now ≡ found_of (follow self.now.seen.tree dir part.now) }
-        requires links { links ≡ links_of (follow self.now.seen.tree dir part.now) }
-        requires near { (call : Call) →
-            has near call ≡ is_allowed
+        ensures exact { AreCovered self.now.seen.tree (plain_history self.now.process) dirs.now →
+            followed.now ≡ found_of (follow self.now.seen.tree dir part.now) →
+            links ≡ links_of (follow self.now.seen.tree dir part.now) →
+            ((call : Call) → has near call ≡ is_allowed
             (verdict_of self.now.seen.tree self.now.table (plain_history self.now.process) call
-            followed.now) }
-        ensures exact { (call : Call) →
+            followed.now)) → (call : Call) →
             has result call ≡ is_allowed
             (verdict_of self.now.seen.tree self.now.table (plain_history self.now.process) call
             (last self.now.seen.tree dir 0 part.now Kept)) }
@@ -206,10 +207,9 @@ impl Terms {
     ) -> Calls
         requires tree { P.tree probe.old ≡ self.now.seen.tree }
         requires fits { FoundsFit self.now.seen.tree found.now }
-        requires left { IfOk found.now
+        ensures exact { IfOk found.now
             (λ object. left.now
-            ≡ cover self.now.seen.tree (plain_history self.now.process) object) }
-        ensures exact { (call : Call) →
+            ≡ cover self.now.seen.tree (plain_history self.now.process) object) → (call : Call) →
             has result call ≡ is_allowed
             (verdict_of self.now.seen.tree self.now.table (plain_history self.now.process) call
             found.now) }

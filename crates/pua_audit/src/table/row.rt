@@ -37,9 +37,9 @@ impl Spots<'_> {
     ) -> Result<Row, OutOfMemory>
         requires tree { P.tree probe.old ≡ self.now.terms.now.seen.tree }
         requires living { IsTrue (is_dir self.now.terms.now.seen.tree dir) }
-        requires covers { AreCovered self.now.terms.now.seen.tree
-            (plain_history self.now.terms.now.process) dirs.old }
-        ensures row { IfOk result (λ row. over ≡ cover_in self.now.terms.now.seen.tree
+        ensures row { IfOk result (λ row. AreCovered self.now.terms.now.seen.tree
+            (plain_history self.now.terms.now.process) dirs.old →
+            over ≡ cover_in self.now.terms.now.seen.tree
             (plain_history self.now.terms.now.process) dir → IsJudgedRow
             (judge_in self.now.terms.now) self.now.terms.now.letters dirs.new.numbers dir
             (length self.now.terms.now.letters) row.missing row.entries.items) }
@@ -48,7 +48,8 @@ impl Spots<'_> {
             (λ _. AreLiving self.now.terms.now.seen.tree dirs.old.numbers →
             AreLiving self.now.terms.now.seen.tree dirs.new.numbers) }
         ensures covered { IfOk result (λ _. AreCovered self.now.terms.now.seen.tree
-            (plain_history self.now.terms.now.process) dirs.new) }
+            (plain_history self.now.terms.now.process) dirs.old → AreCovered
+            self.now.terms.now.seen.tree (plain_history self.now.terms.now.process) dirs.new) }
         ensures tree { P.tree probe.new ≡ P.tree probe.old }
         ensures cost { P.count probe.new ≤ P.count probe.old
             + row_cost self.now.terms.now.seen.tree (length self.now.terms.now.letters) }

@@ -48,7 +48,10 @@ returns-clause-pairs g c =
     let made = c.in_ok-steps.ensures.table in
     let t : Steps = c.in_ok-steps.steps in
     let set : ℕ = c.bits-calls.result in
-    let own = λ (call : Call). ap (λ (n : ℕ). has n call) c.bits-calls.ensures.number ∙ c.calls_on-calls.ensures.exact call ∙
+    let left = c.cover-cover.ensures.exact (plain_history a.process) a.stands
+    ∙ ap (λ (u : Tree). cover u (plain_history a.process) c.base_found.result) (c.is_open.ensures.tree ∙ c.requires.tree)
+    ∙ ap (cover a.seen.tree (plain_history a.process)) (c.base_found.ensures ∙ sym c.base_found-2.ensures) in
+    let own = λ (call : Call). ap (λ (n : ℕ). has n call) c.bits-calls.ensures.number ∙ c.calls_on-calls.ensures.exact left call ∙
     ap (λ (f : Found). is_allowed (verdict a.seen.tree a.table (plain_history a.process) call f)) c.base_found-2.ensures in
     let first = ap (λ (d : ℕ). Some (record { dir = d; used = 0 })) (sym (made.1.3 ∙ c.base_dir.ensures)) in
     let ps : List graph.Pair = graph.graph_reach (graph_of t) a.limit set (Some (record { dir = 0; used = 0 })) in
@@ -84,7 +87,10 @@ returns-clause-live g c =
     let a = c.args.self.now in
     let opened : is_open (scope_in a) ≡ true = sym c.is_open.ensures.open ∙ c.if-not-is_open.false in
     let made = c.in_ok-steps.ensures.table in
-    let own = λ (call : Call). ap (λ (n : ℕ). has n call) c.bits-calls.ensures.number ∙ c.calls_on-calls.ensures.exact call ∙
+    let left = c.cover-cover.ensures.exact (plain_history a.process) a.stands
+    ∙ ap (λ (u : Tree). cover u (plain_history a.process) c.base_found.result) (c.is_open.ensures.tree ∙ c.requires.tree)
+    ∙ ap (cover a.seen.tree (plain_history a.process)) (c.base_found.ensures ∙ sym c.base_found-2.ensures) in
+    let own = λ (call : Call). ap (λ (n : ℕ). has n call) c.bits-calls.ensures.number ∙ c.calls_on-calls.ensures.exact left call ∙
     ap (λ (f : Found). is_allowed (verdict a.seen.tree a.table (plain_history a.process) call f)) c.base_found-2.ensures in
     let first = ap (λ (d : ℕ). Some (record { dir = d; used = 0 })) (sym (made.1.3 ∙ c.base_dir.ensures)) in
     c.in_ok-live.ensures ∙

@@ -28,7 +28,7 @@ loop-dir-preserved g c =
     let last : IsJudgedRow (judge_in a) a.letters new (get_or l.dirs.numbers (length rows) 0) (length a.letters) row.missing
     row.entries.items =
     subst (λ (n : ℕ). IsJudgedRow (judge_in a) a.letters new n (length a.letters) row.missing row.entries.items) here
-    (c.in_ok-row.ensures.row over) in
+    (c.in_ok-row.ensures.row l.invariant.covered over) in
     let items : c.push.new.self.items ≡ rows ++ row ∷ [] = c.in_ok-push.ensures.items in
     record {
       rows = subst (AreRows (judge_in a) a.letters new) (sym items) (rows_pushed (judge_in a) a.letters l.dirs.numbers new rows
@@ -37,7 +37,7 @@ loop-dir-preserved g c =
       some = omega (arith, l.invariant.some, grown.more);
       first = grown.same 0 l.invariant.some ∙ l.invariant.first;
       living = c.in_ok-row.ensures.living l.invariant.living;
-      covered = c.in_ok-row.ensures.covered;
+      covered = c.in_ok-row.ensures.covered l.invariant.covered;
       tree = c.row.ensures.tree ∙ l.invariant.tree;
       cost =
           let n : ℕ = length a.letters in
@@ -78,7 +78,8 @@ returns-clause-cost g c =
     subst (λ (d : DirectoriesState). AreNumbers d.numbers) c.dirs-in-loop-dir.view_is c.dirs-in-loop-dir.invariant in
     let few : length l.rows.items ≤ length a.seen.tree.nodes =
     omega (arith, l.invariant.within, rows_few a.seen.tree l.dirs.numbers numbers l.invariant.living) in
-    as_asked _ _ a c.args.self.now c.in_ok-spots.ensures (omega (arith, l.invariant.cost, rows_within a.seen.tree (length a.letters) (length l.rows.items) few))
+    as_asked _ _ a c.args.self.now c.in_ok-spots.ensures
+    (omega (arith, l.invariant.cost, rows_within a.seen.tree (length a.letters) (length l.rows.items) few))
 
 pub returns-in_err-row-clause-cost : goal.returns-in_err-row-clause-cost
 returns-in_err-row-clause-cost g c =
@@ -172,7 +173,7 @@ row-requires g c κs =
       (refl, tt),
       (
         l.invariant.tree,
-        (living, l.invariant.covered),
+        living,
       ),
     )
 

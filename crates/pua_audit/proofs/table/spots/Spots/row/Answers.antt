@@ -1,5 +1,5 @@
 use Rattle.pua_audit.proofs.Common.{◌≡◌, ◌<◌, ◌^◌, ◌∙◌, ℕ, suc, List, length, arith, refl, sym, subst, add-one, letter_cost, plain_history}
-use Rattle.pua_audit.proofs.Common.{cover_in, judge_in, IsJudgedRow, IsLetter, call_count, get_or, rules, []}
+use Rattle.pua_audit.proofs.Common.{AreCovered, cover_in, judge_in, IsJudgedRow, IsLetter, call_count, get_or, rules, []}
 use Rattle.std.proofs.Common.{suc-mul}
 use Rattle.pua_audit.specs.Spots.{AreLettersIn}
 use Rattle.pua_audit.proofs.Costs.{letters_within}
@@ -24,13 +24,13 @@ loop-letter-init g c =
     let bare = λ (over : c.args.over ≡ cover_in a.seen.tree (plain_history a.process) c.args.dir).
     letters_bare a c.args.dir missing s.dots.items s.names.items ns c.requires.living (told over).missing s.told among in
     record {
-      row = λ over n low reached.
+      row = λ covered over n low reached.
           subst (IsJudgedRow (judge_in a) a.letters c.args.dirs.now.numbers c.args.dir n missing) (sym c.new-entries.ensures.items)
           (row_started (judge_in a) a.letters c.args.dir missing ns (bare over) c.args.dirs.now.numbers
           (subst (λ m. m < 2 ^ call_count) c.bits-missing.ensures.number c.bits-missing.ensures.calls) n low reached);
       grown = grown_itself c.args.dirs.now.numbers;
       living = λ living. living;
-      covered = c.requires.covers;
+      covered = λ covered. covered;
       tree = c.requires.tree;
       cost = omega arith;
     }
@@ -47,7 +47,7 @@ bounds-components-letter g c =
     subst (λ (ls : List (List ℕ)). get_or ns c.loop-letter.letter-index 0 < length ls) (sym c.as_slice-components.ensures.letters) at
 
 pub letter-found-requires : goal.letter-found-requires
-letter-found-requires g c κs = ((refl, tt), (c.loop-letter.invariant.tree, (c.requires.living, c.loop-letter.invariant.covered)))
+letter-found-requires g c κs = ((refl, tt), (c.loop-letter.invariant.tree, c.requires.living))
 
 pub returns-in_err-put-clause-cost : goal.returns-in_err-put-clause-cost
 returns-in_err-put-clause-cost g c =
@@ -89,24 +89,27 @@ loop-letter-preserved g c =
     letter_read a.letters c.as_slice-components.result.now (get_or ns k 0) letter c.as_slice-components.ensures.letters at
     c.index-components-letter.is in
     let found = c.letter-found.result in
-    let exact = λ (over : c.args.over ≡ cover_in a.seen.tree (plain_history a.process) c.args.dir).
+    let exact = λ (covered : AreCovered a.seen.tree (plain_history a.process) c.args.dirs.now)
+    (over : c.args.over ≡ cover_in a.seen.tree (plain_history a.process) c.args.dir).
     subst (λ (l : List ℕ). IsLetter (judge_in a) c.args.dir l found.all found.kept found.links found.leads) is
-    (c.letter-found.ensures.exact (told over)) in
+    (c.letter-found.ensures.exact (told over) (l.invariant.covered covered)) in
     record {
-      row = λ over n low reached.
+      row = λ covered over n low reached.
           row_further (judge_in a) a.letters c.args.dir missing ns (bare over) l.dirs.numbers c.put.new.dirs.numbers l.entries.items
-          c.put.new.entries.items k c.loop-letter-test.true among.rise (l.invariant.row over)
-          (c.in_ok-put.ensures.row (judge_in a) a.letters c.args.dir (exact over)) n low
+          c.put.new.entries.items k c.loop-letter-test.true among.rise (l.invariant.row covered over)
+          (c.in_ok-put.ensures.row (judge_in a) a.letters c.args.dir (exact covered over)) n low
           (subst (λ j. IsReached ns j n) (add-one k) reached);
       grown = grown_further c.args.dirs.now.numbers l.dirs.numbers c.put.new.dirs.numbers l.invariant.grown c.in_ok-put.ensures.grown;
       living = λ living. c.in_ok-put.ensures.living a.seen.tree c.letter-found.ensures.lives (l.invariant.living living);
-      covered = c.in_ok-put.ensures.covered a.seen.tree (plain_history a.process) c.letter-found.ensures.covered l.invariant.covered;
+      covered = λ covered.
+          c.in_ok-put.ensures.covered a.seen.tree (plain_history a.process)
+          (c.letter-found.ensures.covered (l.invariant.covered covered)) (l.invariant.covered covered);
       tree = c.letter-found.ensures.tree ∙ l.invariant.tree;
       cost = omega (arith, l.invariant.cost, c.letter-found.ensures.cost, suc-mul k (letter_cost a.seen.tree));
     }
 
 pub returns-clause-row : goal.returns-clause-row
-returns-clause-row g c = λ over.
+returns-clause-row g c = λ covered over.
     let a = c.args.self.now.terms.now in
     let s = c.args.self.now in
     let l = c.loop-letter in
@@ -117,7 +120,7 @@ returns-clause-row g c = λ over.
     let reached = reached_all ns (length a.letters) l.letter-index (among.within (length a.letters) s.told.dotted
     s.told.within) whole in
     subst (λ (m : ℕ). IsJudgedRow (judge_in a) a.letters l.dirs.numbers c.args.dir (length a.letters) m l.entries.items)
-    (sym c.bits-missing.ensures.number) (l.invariant.row over (length a.letters) (omega arith) reached)
+    (sym c.bits-missing.ensures.number) (l.invariant.row covered over (length a.letters) (omega arith) reached)
 
 pub returns-clause-cost : goal.returns-clause-cost
 returns-clause-cost g c =
