@@ -95,9 +95,9 @@ impl Terms {
         within: &Within,
     ) -> Option<Calls>
         requires tree { P.tree probe.old ≡ self.now.seen.tree }
-        requires living { IsTrue (is_dir self.now.seen.tree dir) }
-        ensures exact { IfSome result (λ calls. AreWithin self.now.seen.tree self.now.table
-            (plain_history self.now.process) dir within.now → (kept : ℕ) →
+        ensures exact { IfSome result (λ calls. IsTrue (is_dir self.now.seen.tree dir) →
+            AreWithin self.now.seen.tree self.now.table (plain_history self.now.process) dir
+            within.now → (kept : ℕ) →
             IsLetter (judge_in self.now) dir letter.now calls kept 0 None) }
         ensures none { IfNone result (IsNamed letter.now →
             perms_kept (plain_history self.now.process) (Slot dir letter.now) ≡ None →
