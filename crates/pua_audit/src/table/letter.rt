@@ -206,8 +206,7 @@ impl Terms {
         left: &Cover,
     ) -> Calls
         requires tree { P.tree probe.old ≡ self.now.seen.tree }
-        requires fits { FoundsFit self.now.seen.tree found.now }
-        ensures exact { IfOk found.now
+        ensures exact { FoundsFit self.now.seen.tree found.now → IfOk found.now
             (λ object. left.now
             ≡ cover self.now.seen.tree (plain_history self.now.process) object) → (call : Call) →
             has result call ≡ is_allowed

@@ -2,6 +2,7 @@ use Rattle.pua_audit.proofs.Common.{◌≡◌, ◌<◌, ◌≤◌, ◌∙◌, �
 use Rattle.pua_audit.proofs.Common.{AllByRecursion, true, Tree, is_dir, Found, has, cover_in, History, cover, is_allowed, Call, pairs_at}
 use Rattle.pua_audit.proofs.Common.{pair_in_numbers, pair_in_letters, Judge, base_dir, plain_history, reach, judge_in, scope_in, IfSome}
 use Rattle.pua_audit.proofs.Common.{IsTrue, AreLetters, IsTableOf, live_count, IsPair, Steps}
+use Rattle.pua_path.specs.Fits.{FoundFits}
 use Rattle.pua_policy.specs.Verdict.{verdict}
 use Rattle.pua_policy.proofs.ForCallers.{covers_descend}
 use Rattle.pua_audit.specs.Bounds.{table_cost}
@@ -48,10 +49,12 @@ returns-clause-pairs g c =
     let made = c.in_ok-steps.ensures.table in
     let t : Steps = c.in_ok-steps.steps in
     let set : ℕ = c.bits-calls.result in
+    let fit : FoundFits a.seen.tree c.base_found-2.result =
+    subst (FoundFits a.seen.tree) (sym c.base_found-2.ensures) (lives a opened) in
     let left = c.cover-cover.ensures.exact (plain_history a.process) a.stands
     ∙ ap (λ (u : Tree). cover u (plain_history a.process) c.base_found.result) (c.is_open.ensures.tree ∙ c.requires.tree)
     ∙ ap (cover a.seen.tree (plain_history a.process)) (c.base_found.ensures ∙ sym c.base_found-2.ensures) in
-    let own = λ (call : Call). ap (λ (n : ℕ). has n call) c.bits-calls.ensures.number ∙ c.calls_on-calls.ensures.exact left call ∙
+    let own = λ (call : Call). ap (λ (n : ℕ). has n call) c.bits-calls.ensures.number ∙ c.calls_on-calls.ensures.exact fit left call ∙
     ap (λ (f : Found). is_allowed (verdict a.seen.tree a.table (plain_history a.process) call f)) c.base_found-2.ensures in
     let first = ap (λ (d : ℕ). Some (record { dir = d; used = 0 })) (sym (made.1.3 ∙ c.base_dir.ensures)) in
     let ps : List graph.Pair = graph.graph_reach (graph_of t) a.limit set (Some (record { dir = 0; used = 0 })) in
@@ -87,10 +90,12 @@ returns-clause-live g c =
     let a = c.args.self.now in
     let opened : is_open (scope_in a) ≡ true = sym c.is_open.ensures.open ∙ c.if-not-is_open.false in
     let made = c.in_ok-steps.ensures.table in
+    let fit : FoundFits a.seen.tree c.base_found-2.result =
+    subst (FoundFits a.seen.tree) (sym c.base_found-2.ensures) (lives a opened) in
     let left = c.cover-cover.ensures.exact (plain_history a.process) a.stands
     ∙ ap (λ (u : Tree). cover u (plain_history a.process) c.base_found.result) (c.is_open.ensures.tree ∙ c.requires.tree)
     ∙ ap (cover a.seen.tree (plain_history a.process)) (c.base_found.ensures ∙ sym c.base_found-2.ensures) in
-    let own = λ (call : Call). ap (λ (n : ℕ). has n call) c.bits-calls.ensures.number ∙ c.calls_on-calls.ensures.exact left call ∙
+    let own = λ (call : Call). ap (λ (n : ℕ). has n call) c.bits-calls.ensures.number ∙ c.calls_on-calls.ensures.exact fit left call ∙
     ap (λ (f : Found). is_allowed (verdict a.seen.tree a.table (plain_history a.process) call f)) c.base_found-2.ensures in
     let first = ap (λ (d : ℕ). Some (record { dir = d; used = 0 })) (sym (made.1.3 ∙ c.base_dir.ensures)) in
     c.in_ok-live.ensures ∙

@@ -25,15 +25,6 @@ cover_of-cover-requires g c κs = (
   ),
 )
 
-pub calls_on-requires : goal.calls_on-requires
-calls_on-requires g c κs = (
-  (refl, tt),
-  (
-    c.cover_of-cover.ensures.tree ∙ c.last-kept.ensures.tree ∙ c.requires.tree,
-    subst (λ (u : Tree). FoundsFit u c.last-kept.result) c.requires.tree c.last-kept.ensures.fits,
-  ),
-)
-
 pub returns-clause-exact : goal.returns-clause-exact
 returns-clause-exact g c = λ covered followed links near call.
     let a = c.args.self.now in
@@ -43,7 +34,8 @@ returns-clause-exact g c = λ covered followed links near call.
     let is : kept ≡ last t c.args.dir 0 c.args.part.now Kept =
     c.last-kept.ensures.exact ∙ ap (λ (u : Tree). last u c.args.dir 0 c.args.part.now Kept) c.requires.tree in
     let left = c.cover_of-cover.ensures.exact named covered c.requires.living (kept_above t c.args.dir c.args.part.now kept is) in
-    c.calls_on.ensures.exact left call
+    let fit : FoundsFit t kept = subst (λ (u : Tree). FoundsFit u kept) c.requires.tree c.last-kept.ensures.fits in
+    c.calls_on.ensures.exact fit left call
     ∙ ap (λ (x : Result Found Errno). is_allowed (verdict_of t a.table (plain_history a.process) call x)) is
 
 -- the looks at the tree

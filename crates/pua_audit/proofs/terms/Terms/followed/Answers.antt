@@ -49,12 +49,16 @@ returns-clause-exact g c = λ covered.
     subst (λ (f : Result Found Errno). IfOk f (StandsAsNamed t)) (sym c.counted-followed.ensures.found)
     (founds_are (StandsAsNamed t) c.follow.result (subst (λ (u : Tree). IfOk c.follow.result (λ object. StandsAsNamed u object.0))
     c.requires.tree c.follow.ensures.named)) in
+    let fit : FoundsFit t c.counted-followed.result.0 =
+    subst (FoundsFit t) (sym c.counted-followed.ensures.found)
+    (founds_of t c.follow.result (subst (λ (u : Tree). IfOk c.follow.result (λ object. FoundFits u object.0)) c.requires.tree
+    c.follow.ensures.fits)) in
     let left = c.cover_of-cover.ensures.exact named covered c.requires.living
     (named_above t dir c.part-part.result c.counted-followed.result.0 found_here) in
-    let on = λ (call : Call). c.calls_on-near.ensures.exact left call ∙
+    let on = λ (call : Call). c.calls_on-near.ensures.exact fit left call ∙
     ap (λ (x : Result Found Errno). is_allowed (verdict_of t a.table h call x)) found in
     let on_kept = λ (call : Call). c.calls_kept-far.ensures.exact covered found_here
-    (c.counted-followed.ensures.links ∙ ap links_of followed_here) (c.calls_on-near.ensures.exact left) call ∙
+    (c.counted-followed.ensures.links ∙ ap links_of followed_here) (c.calls_on-near.ensures.exact fit left) call ∙
     ap (λ (p : Part). is_allowed (verdict_of t a.table h call (last t dir 0 p Kept))) part in
     let near : (call : Call) → has c.union-all.result call ≡ allowed_near t a.table h dir letter r call =
     λ call. c.union-all.ensures call ∙ ap (λ b. b || has c.keeping.result call) (c.following.ensures call) ∙
