@@ -3,6 +3,8 @@
 ghost use Rattle.std.specs.Prelude.{◌≡◌, ◌≤◌, ◌+◌, ◌*◌, suc, IfOk, IsTrue};
 ghost use Rattle.std.specs.List.{list_all};
 ghost use Rattle.pua_tree.specs.Tree.{WellFormed, name_cmp};
+ghost use Rattle.std.proofs.Props.{props};
+ghost use Rattle.pua_policy.specs.AllowedCalls.{AreWorkedOut};
 ghost use Rattle.pua_policy.specs.History.{StandsFor};
 ghost use Rattle.pua_audit.specs.Limits.{most_letters, most_path};
 ghost use Rattle.pua_audit.specs.Begin.{longest};
@@ -15,7 +17,7 @@ use crate::base::Base;
 use crate::content::Content;
 use pua_calls::CallTable;
 use pua_path::{Probe, Way};
-use pua_policy::Process;
+use pua_policy::{AllowedCalls, Process};
 use pua_tree::{Kind, NodeId, OutOfMemory};
 use std::alloc::Global;
 
@@ -29,11 +31,14 @@ pub(crate) struct Terms {
     pub(crate) base: Base,
     pub(crate) limit: usize,
     pub(crate) letters: Alphabet,
+    /// What the process is allowed by the table.
+    pub(crate) allowed: AllowedCalls,
     pub(crate) ghost tree: { WellFormed seen.tree },
     pub(crate) ghost stands: { StandsFor process (plain_history process) },
     pub(crate) ghost few: { limit ≤ most_letters },
     pub(crate) ghost known: { IsTrue (list_all is_letter letters) },
     pub(crate) ghost rises: { Rises name_cmp letters } by { Rises-prop name_cmp letters },
+    pub(crate) ghost worked_out: { AreWorkedOut process table allowed } by { Prim.hlevel props },
     pub(crate) ghost short: { limit * suc (longest letters) ≤ most_path },
 }
 
@@ -62,6 +67,7 @@ impl Terms {
         probe.known();
         process.known();
         let process = process.fork(alloc)?;
+        let allowed = AllowedCalls::new(&process, table);
         Ok(Terms {
             seen: Content::of(probe),
             process,
@@ -69,6 +75,7 @@ impl Terms {
             base,
             limit: usize::from(limit),
             letters,
+            allowed,
         })
     }
 

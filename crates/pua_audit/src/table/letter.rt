@@ -219,7 +219,7 @@ impl Terms {
             return Calls::NONE;
         };
         let object = judge::object(probe, found);
-        judge::allowed(&self.process, &self.table, *left, object)
+        self.allowed.on(*left, object)
     }
 }
 

@@ -17,7 +17,7 @@ ghost use Rattle.pua_audit.specs.Spots.{AreUnveiled};
 
 use crate::terms::Terms;
 use pua_calls::Calls;
-use pua_policy::{Cover, Object, judge};
+use pua_policy::{Cover, Object};
 use pua_tree::Kind;
 
 /// The calls that are allowed in a directory on names without a veil of their own, by what stands
@@ -56,7 +56,7 @@ impl Terms {
             ≡ is_allowed (covered_verdict t self.now.table (plain_history self.now.process) call
             cover.now judged) }
     {
-        judge::allowed(&self.process, &self.table, *cover, object)
+        self.allowed.on(*cover, object)
     }
 }
 
