@@ -1,6 +1,6 @@
 //! The letters that directories tell apart from names that they lack.
 
-ghost use Rattle.std.specs.Prelude.{◌≡◌, ◌≢◌, ◌<◌, ◌==◌, ℕ, List, [], length, get_or, map, IfOk};
+ghost use Rattle.std.specs.Prelude.{◌≡◌, ◌≢◌, ◌<◌, ◌≤◌, ◌==◌, ℕ, List, [], length, get_or, map, IfOk};
 ghost use Rattle.std.specs.List.{AllByRecursion, list_any};
 ghost use Rattle.std.specs.List.Sorted.{IsNonDecreasingBy};
 ghost use Rattle.pua_tree.specs.LentRows.{lent_entry};
@@ -196,8 +196,20 @@ fn spots_in(spots: &[LetterSpot], dir: NodeId) -> &[LetterSpot]
 {
     let first = spots.partition_point(|spot| spot.dir < dir);
     let rest = &spots[first..];
-    let past = rest.partition_point(|spot| spot.dir <= dir);
-    &rest[..past]
+    &rest[..run_in(rest, dir)]
+}
+
+/// How many spots at the front are in no later directory than this.
+fn run_in(spots: &[LetterSpot], dir: NodeId) -> usize
+    ensures within { result ≤ length spots.now }
+    ensures past { (d : LetterSpot) → result < length spots.now →
+        dir < (get_or spots.now result d).dir }
+{
+    let mut count = 0;
+    while count < spots.len() && spots[count].dir <= dir {
+        count += 1;
+    }
+    count
 }
 
 /// The letters of spots. The error is that a growth was refused.
