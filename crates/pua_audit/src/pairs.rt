@@ -1,10 +1,11 @@
 //! The pairs of an audit, by a walk over its table of steps.
 
-ghost use Rattle.std.specs.Prelude.{◌≡◌, ◌≤◌, ◌<◌, ◌+◌, ◌*◌, length, option_map, None, IfOk};
+ghost use Rattle.std.specs.Prelude.{◌≡◌, ◌≤◌, ◌<◌, ◌+◌, ◌*◌, ◌++◌, length, option_map, None, IfOk};
 ghost use Rattle.std.specs.Prelude.{IfSome, map};
 ghost use Rattle.pua_tree.specs.LentRows.{lent_entry};
 ghost use Rattle.pua_audit.specs.Bounds.{pairs_cost};
-ghost use Rattle.pua_audit.specs.Coming.{AreReady, IsNextCall, call_at, to_come};
+ghost use Rattle.pua_audit.specs.Coming.{AreReady, IsNextCall, call_at, calls_at};
+ghost use Rattle.pua_audit.specs.Coming.{to_come, walk_word, with_word};
 ghost use Rattle.pua_audit.specs.Live.{live_states};
 ghost use Rattle.pua_audit.specs.Reach.{rest_after};
 ghost use Rattle.pua_audit.specs.Ready.{scope_in};
@@ -90,10 +91,25 @@ impl Pairs {
         }
         Some(call_at(call))
     }
+
+    /// The calls of the walk's word that come after the one that was given last: a bit for each, the
+    /// first at bit 0.
+    pub(crate) fn later_calls(&mut self) -> u16
+        ensures ready { AreReady self.old → AreReady self.new }
+        ensures terms { self.new.terms ≡ self.old.terms }
+        ensures live { self.new.live ≡ self.old.live }
+        ensures path { self.new.path ≡ self.old.path }
+        ensures word { walk_word self.new ≡ walk_word self.old }
+        ensures left { AreReady self.old → to_come self.old
+            ≡ with_word (walk_word self.old) (calls_at result) ++ to_come self.new }
+        ensures reads { self.new.walk.tables.reads ≡ self.old.walk.tables.reads }
+    {
+        self.walk.take_calls()
+    }
 }
 
 /// The call with this number, from 0 on.
-fn call_at(number: u8) -> Call
+pub(crate) fn call_at(number: u8) -> Call
     requires { number < call_count }
     ensures { result ≡ call_at number }
 {
