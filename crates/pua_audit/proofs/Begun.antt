@@ -2,7 +2,8 @@
 use Rattle.pua_audit.proofs.Common.{ℕ, zero, suc, [], None, ◌*◌, ◌<◌, ◌≤◌, ◌≡◌, List, Option, Some, refl, ap, arith, ◌∙◌, map, length}
 use Rattle.pua_audit.proofs.Common.{get_or, bit_of, Call, IsTrue, is_dir, Scope, Judge, Start, base_dir, judge_for, reach_along, IsAudited}
 use Rattle.pua_audit.proofs.Common.{live_states, allowed_at, AreApart, IsKnown, StandsForJudge, pair_in_numbers, pair_in_letters, IsTableOf}
-use Rattle.pua_audit.proofs.Common.{mul-le, has_call, calls_of, live_count, State, Steps}
+use Rattle.pua_audit.proofs.Common.{mul-le, has_call, calls_of, live_count, State, Steps, IfSome, AllByRecursion, AreLetters, subst, sym}
+use Rattle.pua_audit.specs.declared.resume_text.Resumption.{Resumption}
 use Rattle.pua_audit.proofs.Leading.{masks_list}
 use Rattle.pua_audit.proofs.LiveStates.{live_states_count}
 use Rattle.pua_audit.proofs.Refined.{graphs_reach}
@@ -54,3 +55,9 @@ pub none_reach : (g : graph.Graph) (limit : ℕ) → graph.graph_reach g limit 0
 unfolding alone below calls_of
 none_reach g zero = refl
 none_reach g (suc limit) = refl
+
+-- the places of a word are of the letters of a table
+pub known_below : (letters : List (List ℕ)) (limit n : ℕ) (o : Option Resumption) → n ≡ length letters →
+    IfSome o (λ r. AreLetters letters limit r.word.items) → IfSome o (λ r. AllByRecursion (λ letter. letter < n) r.word.items)
+known_below letters limit n None same h = tt
+known_below letters limit n (Some r) same h = subst (λ k. AllByRecursion (λ letter. letter < k) r.word.items) (sym same) h.there

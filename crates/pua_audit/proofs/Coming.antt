@@ -1,6 +1,6 @@
 -- What a call of the walk leaves of the pairs that are still to come, and of the path of its word.
 use Rattle.pua_audit.proofs.Common.{ℕ, suc, ◌+◌, ◌*◌, ◌<◌, ◌≤◌, ◌≡◌, List, [], ◌∷◌, ◌++◌, refl, ap, arith, sym, ◌∙◌, subst, length, get_or}
-use Rattle.pua_audit.proofs.Common.{take, min, zero, vec_capacity, mul-le, AllByRecursion, Word, word_of, Call}
+use Rattle.pua_audit.proofs.Common.{map, take, min, zero, vec_capacity, mul-le, AllByRecursion, Word, word_of, Call}
 use Rattle.pua_audit.proofs.Common.{pairs_at, IsPair, Steps, Result, Ok, Err}
 use Rattle.std.specs.Result.{IsOk, OnErr}
 use Rattle.std.proofs.lemmas.List.{take_more, length-take}
@@ -9,12 +9,12 @@ use Rattle.pua_audit.specs.declared.path.WordPath.{WordPath}
 use Rattle.pua_audit.proofs.Moves.{all_at_index, word_of-push}
 use Rattle.pua_audit.proofs.Spelled.{IsSpelled, room_for}
 use Rattle.pua_audit.proofs.WordPaths.{front_stays, take_whole}
-use Rattle.pua_audit.specs.Coming.{AreReady, IsLine, call_at}
+use Rattle.pua_audit.specs.Coming.{AreReady, IsLine, call_at, walk_word, with_word, to_come}
 use Rattle.pua_audit.specs.declared.pairs.Pairs.{Pairs}
 use Rattle.pua_steps.specs.Graph as graph
 use Rattle.pua_steps.specs.Ready as steps
 use Rattle.pua_steps.specs.Ready.{IsSameWalk, IsUnchanged}
-use Rattle.pua_steps.specs.Trail.{pairs_of}
+use Rattle.pua_steps.specs.Trail.{on_word, pairs_of}
 use Rattle.pua_steps.specs.declared.walk.Walk.{Walk}
 
 all_taken : (P : ℕ → Type 0) (k : ℕ) (xs : List ℕ) → AllByRecursion P xs → AllByRecursion P (take k xs)
@@ -145,6 +145,36 @@ module _ (a : Pairs) (ready : AreReady a) (w : Walk) (of : IsSameWalk a.walk w) 
       within = omega (arith, now.walk.within, now.limit);
       known = known;
     }
+
+all_behind : {A : Type 0} (P : A → Type 0) (xs ys : List A) → AllByRecursion P (xs ++ ys) → AllByRecursion P ys
+all_behind P [] ys all = all
+all_behind P (x ∷ xs) ys all = all_behind P xs ys all.1
+
+-- the pairs of a word's calls
+taken : (letters : List (List ℕ)) (word rest : List ℕ) (more : List graph.Pair) →
+    pairs_at letters (on_word word rest ++ more) ≡ with_word (word_of letters word) (map call_at rest) ++ pairs_at letters more
+taken letters word [] more = refl
+taken letters word (n ∷ rest) more = ap (λ ps. (word_of letters word, call_at n) ∷ ps) (taken letters word rest more)
+
+-- the walk gives all calls of its word
+module _ (a : Pairs) (ready : AreReady a) (w : Walk) (of : IsSameWalk a.walk w) (walk : steps.IsReady w)
+    (stays : w.word.items ≡ a.walk.word.items) (calls : List ℕ)
+    (gives : pairs_of (steps.trail a.walk) ≡ on_word a.walk.word.items calls ++ pairs_of (steps.trail w)) where
+  pub taken_ready : AreReady (record { terms = a.terms; walk = w; live = a.live; path = a.path })
+  taken_ready = record {
+    sound = ready.sound;
+    walk = walk;
+    limit = of.limit ∙ ready.limit;
+    letters = ap (λ (t : Steps). t.letters) of.steps ∙ ready.letters;
+    pairs = all_behind (λ p. IsPair (length a.terms.letters) p) (on_word a.walk.word.items calls) (pairs_of (steps.trail w))
+        (subst (λ (ps : List graph.Pair). AllByRecursion (λ p. IsPair (length a.terms.letters) p) ps) gives ready.pairs);
+    path = subst (λ (v : List ℕ). IsPathAlong a.terms.letters v a.path) (sym stays) ready.path;
+    bytes = ready.bytes;
+    starts = ready.starts;
+  }
+
+  pub taken_left : to_come a ≡ with_word (walk_word a) (map call_at calls) ++ pairs_at a.terms.letters (pairs_of (steps.trail w))
+  taken_left = ap (pairs_at a.terms.letters) gives ∙ taken a.terms.letters a.walk.word.items calls (pairs_of (steps.trail w))
 
 -- letters that are read for a call, as contracts see them
 pub read_within : (new old limit letters : ℕ) → new ≤ old + 2 * (limit * letters) → new ≤ old + 2 * (suc limit * suc letters)

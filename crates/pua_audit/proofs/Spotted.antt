@@ -4,8 +4,7 @@ use Rattle.pua_audit.proofs.Common.{arith, get_or, add-one, inl, inr, Option, re
 use Rattle.pua_audit.proofs.Common.{AllByRecursion, eq_by_cmp, tied_itself, nat_list_cmp_total, nat_cmp-IsAntisymmetric, cases_lt}
 use Rattle.pua_audit.proofs.Common.{map-append, Spot, name_cmp, veil_at, Place, Rises, AreApartFrom, IsNowhere, IsUnmarked, LetterSpot}
 use Rattle.pua_audit.proofs.Common.{all_joined, all_pushed, list_any, ◌==◌, ◌||◌, false≢true, eq-eqb, IsApart}
-use Rattle.std.proofs.Common.{leb}
-use Rattle.std.proofs.Common.{ltb-true, leb-false, slice_index_or}
+use Rattle.std.proofs.Common.{ltb-true, slice_index_or}
 use lib.Pointwise.{bytes_decides}
 use Rattle.std.specs.FinMap.{find as find_key}
 use Rattle.std.specs.Cmp.{Equal-is}
@@ -101,7 +100,7 @@ placed_within count place here bytes other old low =
 -- spots in the order of their directories: those before a directory, those after it, and those between, of which none is of a letter
 
 pub unmarked_between : (dir letter first past : ℕ) (spots rest : List LetterSpot) → drop first spots ≡ rest →
-    AllWithin (λ s. ltb s.dir dir ≡ true) spots 0 first → AllWithin (λ s. leb s.dir dir ≡ false) rest past (length rest)
+    AllWithin (λ s. ltb s.dir dir ≡ true) spots 0 first → AllWithin (λ s. dir < s.dir) rest past (length rest)
     → AllByRecursion (λ s. s.letter ≢ letter) (take past rest) → IsUnmarked dir letter spots
 unmarked_between dir letter first past spots rest is before after between =
     let unmarked = λ (s : LetterSpot). s.dir ≡ dir → s.letter ≢ letter in
@@ -111,8 +110,7 @@ unmarked_between dir letter first past spots rest is before after between =
     let here : AllByRecursion unmarked (take past rest) =
     all_weaker (λ s. s.letter ≢ letter) unmarked (λ s away _. away) (take past rest) between in
     let back : AllByRecursion unmarked (drop past rest) =
-    all_after (λ s. leb s.dir dir ≡ false) unmarked (λ s high same. absurd (omega (arith, same, leb-false s.dir dir high))) past rest
-    after in
+    all_after (λ s. dir < s.dir) unmarked (λ s high same. absurd (omega (arith, same, high))) past rest after in
     let behind : AllByRecursion unmarked (drop first spots) = subst (AllByRecursion unmarked) (take-append-drop past rest ∙
     sym is) (all_joined unmarked (take past rest) (drop past rest) here back) in
     subst (AllByRecursion unmarked) (take-append-drop first spots) (all_joined unmarked (take first spots) (drop first spots) front behind)

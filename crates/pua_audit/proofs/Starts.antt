@@ -1,15 +1,14 @@
 -- What is ahead of a walk that begins.
 use Rattle.pua_audit.proofs.Common.{◌≡◌, [], true, false, not, sym, ap, IsTrue, is_lt, is_dir, is_ended, and_parts, plain_history, Pair}
-use Rattle.pua_audit.proofs.Common.{pair_cmp, reach, rest_after, base_dir, reach_along, IsAudited, scope_in, judge_in, IsSound, Terms}
+use Rattle.pua_audit.proofs.Common.{pair_cmp, reach, rest_after, base_dir, reach_along, IsAudited, scope_in, judge_in, Terms}
 use Rattle.std.proofs.Common.{filter}
 use Rattle.std.specs.Prelude.{Option, Some, None}
 use Rattle.pua_audit.specs.Judge.{is_open}
-use Rattle.pua_audit.specs.Starting.{AreSound}
 use Rattle.pua_audit.proofs.Audited.{reaches_along, closed_reaches}
 
-module _ (a : Terms) (sound : IsSound a) (letters : AreSound a.limit a.letters) where
+module _ (a : Terms) where
   pub audited : IsAudited (scope_in a)
-  audited = record { tree = sound.tree; letters = letters.known; short = letters.short }
+  audited = record { tree = a.tree; letters = a.known; short = a.short }
 
   -- one who is not open reaches nothing
   pub nothing_after : is_open (scope_in a) ≡ false → (after : Option Pair) → rest_after (scope_in a) after ≡ []

@@ -11,6 +11,7 @@ use Rattle.pua_audit.specs.Ready.{word_of, IsSound}
 use Rattle.pua_audit.specs.WordPaths.{IsPathAlong, IsPathOf}
 use Rattle.pua_audit.specs.declared.pairs.Pairs.{Pairs}
 use Rattle.pua_audit.specs.declared.resume_text.Resumption.{Resumption}
+use Rattle.pua_steps.specs.Calls.{calls_of}
 use Rattle.pua_steps.specs.Graph as graph
 use Rattle.pua_steps.specs.Order as order
 use Rattle.pua_steps.specs.Ready as steps
@@ -20,6 +21,14 @@ use Rattle.pua_steps.specs.Within.{IsPair}
 -- the call of a number, from 0 on
 abbrev pub call_at : ℕ → Call
 call_at n = get_or calls n Stat
+
+-- the calls of a set of numbers, in their order
+abbrev pub calls_at : ℕ → List Call
+calls_at set = map call_at (calls_of set)
+
+-- a pair of a word for each of some calls
+abbrev pub with_word : Word → List Call → List Pair
+with_word word calls = map (λ call. (word, call)) calls
 
 -- the pair that places of the alphabet and a number are
 abbrev pub pair_at : List (List ℕ) → graph.Pair → Pair

@@ -9,7 +9,6 @@ use Rattle.pua_policy.specs.History.{History, perms_kept}
 use Rattle.pua_policy.specs.declared.place.Place.{Place}
 use Rattle.pua_policy.specs.declared.place.Place.TheVariants.{Slot}
 use Rattle.pua_audit.specs.declared.table.spots.LetterSpot.{LetterSpot}
-use Rattle.pua_audit.specs.declared.table.spots.Spots.{Spots}
 
 -- none of some spots is that of a letter in a directory
 abbrev pub IsUnmarked : ℕ → ℕ → List LetterSpot → Type 0
@@ -49,11 +48,6 @@ pub record AreLetterSpots (t : Tree) (h : History) (letters : List (List ℕ)) (
   pub unveiled : (dir letter : ℕ) → letter < length letters → IsUnmarked dir letter spots →
       perms_kept h (Slot dir (get_or letters letter [])) ≡ None
   pub rise : IsNonDecreasingBy (λ spot. spot.dir) spots
-
--- what is kept of all letters, and of all directories in which a veil is kept at a name
-pub record AreSpotsOf (t : Tree) (h : History) (letters : List (List ℕ)) (spots : Spots) : Type 0 where
-  pub told : AreLetterSpots t h letters spots.dots.items spots.names.items
-  pub unveiled : (dir : ℕ) → IsApart dir spots.veiled.items → AreUnveiled h dir
 
 -- letters that rise, among them all that are no names, and all with a spot in a directory
 pub record AreLettersIn (dir : ℕ) (dots : List ℕ) (spots : List LetterSpot) (letters : List ℕ) : Type 0 where

@@ -10,7 +10,7 @@ ghost use Rattle.pua_audit.specs.Limits.{most_path};
 ghost use Rattle.pua_steps.specs.Limits.{search_cost};
 ghost use Rattle.pua_audit.specs.Bounds.{begin_cost, letter_count};
 ghost use Rattle.pua_audit.specs.Begin.{Beginning, beginning, still_to_come};
-ghost use Rattle.pua_audit.specs.Lent.{LendsLine};
+ghost use Rattle.pua_audit.specs.Lent.{LendsLine, LendsLines};
 ghost use Rattle.pua_audit.specs.Live.{live_states};
 
 use crate::base::Base;
@@ -19,6 +19,7 @@ use crate::fault::AuditFault;
 use crate::line::Line;
 use crate::pairs::Pairs;
 use crate::path::lent_path;
+use crate::path_lines::PathLines;
 use crate::terms::Terms;
 use pua_calls::CallTable;
 use pua_path::Probe;
@@ -143,5 +144,28 @@ impl Audit {
         let plain = self.pairs.path.is_plain();
         let path = lent_path(self.pairs.terms.base, self.pairs.path.bytes.as_slice());
         Some(Line { path, call, plain })
+    }
+
+    /// Lends the next line, with all that come after it by the same path, in the order of the reach:
+    /// None where no pair is left. Otherwise it is as `next_line`, and either goes on behind what the
+    /// other lent: this lends what `next_line` left of a path.
+    pub fn next_lines<'t, P: Probe<'t>>(&mut self, probe: &mut P) -> Option<PathLines<'_>>
+        requires { P.tree probe.old ≡ self.old.tree }
+        ensures* rest { sem 𝓛 (LendsLines self.entry result) }
+        ensures short { IfSome result (λ lines. length lines.path.now ≤ most_path) }
+        ensures plain { IfSome result (λ lines. lines.plain ≡ list_all is_plain lines.path.now) }
+        ensures tree { P.tree probe.new ≡ P.tree probe.old }
+        ensures asked { P.count probe.new ≡ P.count probe.old }
+    {
+        let first = self.pairs.next_call()?;
+        let later = self.pairs.later_calls();
+        let plain = self.pairs.path.is_plain();
+        let path = lent_path(self.pairs.terms.base, self.pairs.path.bytes.as_slice());
+        Some(PathLines {
+            path,
+            call: first,
+            later,
+            plain,
+        })
     }
 }

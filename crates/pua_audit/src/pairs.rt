@@ -1,14 +1,15 @@
 //! The pairs of an audit, by a walk over its table of steps.
 
-ghost use Rattle.std.specs.Prelude.{◌≡◌, ◌≤◌, ◌<◌, ◌+◌, ◌*◌, length, option_map, None, IfOk};
+ghost use Rattle.std.specs.Prelude.{◌≡◌, ◌≤◌, ◌<◌, ◌+◌, ◌*◌, ◌++◌, length, option_map, None, IfOk};
 ghost use Rattle.std.specs.Prelude.{IfSome, map};
 ghost use Rattle.pua_tree.specs.LentRows.{lent_entry};
 ghost use Rattle.pua_audit.specs.Bounds.{pairs_cost};
-ghost use Rattle.pua_audit.specs.Coming.{AreReady, IsNextCall, call_at, to_come};
+ghost use Rattle.pua_audit.specs.Coming.{AreReady, IsNextCall, call_at, calls_at};
+ghost use Rattle.pua_audit.specs.Coming.{to_come, walk_word, with_word};
 ghost use Rattle.pua_audit.specs.Live.{live_states};
 ghost use Rattle.pua_audit.specs.Reach.{rest_after};
-ghost use Rattle.pua_audit.specs.Ready.{IsSound, scope_in};
-ghost use Rattle.pua_audit.specs.Starting.{AreLetters, AreSound, pair_in};
+ghost use Rattle.pua_audit.specs.Ready.{scope_in};
+ghost use Rattle.pua_audit.specs.Starting.{AreLetters, pair_in};
 ghost use Rattle.pua_steps.specs.Limits.{call_count, search_cost};
 
 use crate::path::WordPath;
@@ -45,8 +46,6 @@ impl Pairs {
     ) -> Result<Pairs, OutOfMemory>
         requires tree { P.tree probe.old ≡ terms.seen.tree }
         requires rows { map lent_entry rows.now ≡ terms.seen.tree.rows }
-        requires sound { IsSound terms }
-        requires letters { AreSound terms.limit terms.letters }
         requires word { IfSome after
             (λ r. AreLetters terms.letters terms.limit r.word.items) }
         ensures ready { IfOk result (λ pairs. AreReady pairs) }
@@ -86,15 +85,31 @@ impl Pairs {
         // The path has room for each letter of the word, so none is refused.
         while self.path.starts.len() < self.walk.word().len() {
             let letter = self.walk.word()[self.path.starts.len()];
-            let letters = self.terms.letters.as_slice();
+            let terms = &self.terms;
+            let letters = terms.letters.as_slice();
             self.path.add(&letters[letter]).unwrap();
         }
         Some(call_at(call))
     }
+
+    /// The calls of the walk's word that come after the one that was given last: a bit for each, the
+    /// first at bit 0.
+    pub(crate) fn later_calls(&mut self) -> u16
+        ensures ready { AreReady self.old → AreReady self.new }
+        ensures terms { self.new.terms ≡ self.old.terms }
+        ensures live { self.new.live ≡ self.old.live }
+        ensures path { self.new.path ≡ self.old.path }
+        ensures word { walk_word self.new ≡ walk_word self.old }
+        ensures left { AreReady self.old → to_come self.old
+            ≡ with_word (walk_word self.old) (calls_at result) ++ to_come self.new }
+        ensures reads { self.new.walk.tables.reads ≡ self.old.walk.tables.reads }
+    {
+        self.walk.take_calls()
+    }
 }
 
 /// The call with this number, from 0 on.
-fn call_at(number: u8) -> Call
+pub(crate) fn call_at(number: u8) -> Call
     requires { number < call_count }
     ensures { result ≡ call_at number }
 {

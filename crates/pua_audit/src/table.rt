@@ -8,7 +8,7 @@ ghost use Rattle.pua_policy.specs.Descent.{cover_in};
 ghost use Rattle.pua_audit.specs.Bounds.{table_cost};
 ghost use Rattle.pua_audit.specs.Graphs.{AreApart};
 ghost use Rattle.pua_audit.specs.Past.{plain_history};
-ghost use Rattle.pua_audit.specs.Ready.{IsSound, judge_in};
+ghost use Rattle.pua_audit.specs.Ready.{judge_in};
 ghost use Rattle.pua_audit.specs.Table.{IsTableOf};
 
 pub(crate) mod begun;
@@ -42,7 +42,6 @@ impl Terms {
     ) -> Result<Steps, OutOfMemory>
         requires tree { P.tree probe.old ≡ self.now.seen.tree }
         requires rows { map lent_entry rows.now ≡ self.now.seen.tree.rows }
-        requires sound { IsSound self.now }
         requires living { IsTrue (is_dir self.now.seen.tree base) }
         requires covered { cover
             ≡ cover_in self.now.seen.tree (plain_history self.now.process) base }
@@ -60,11 +59,11 @@ impl Terms {
         let mut rows = Vec::new(alloc);
         while let Some(dir) = dirs.at(rows.len()) {
             let over = dirs.cover_at(rows.len());
-            let row = self.row(alloc, probe, &spots, &mut dirs, dir, over)?;
+            let row = spots.row(alloc, probe, &mut dirs, dir, over)?;
             rows.push(row)?;
         }
         Ok(Steps {
-            letters: self.letters.len(),
+            letters: spots.terms.letters.len(),
             rows,
         })
     }

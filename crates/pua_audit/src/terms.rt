@@ -1,25 +1,28 @@
 //! What was asked of an audit.
 
-ghost use Rattle.std.specs.Prelude.{◌≡◌, ◌≤◌, ◌+◌, ◌*◌, suc, IfOk};
+ghost use Rattle.std.specs.Prelude.{◌≡◌, ◌≤◌, ◌+◌, ◌*◌, suc, IfOk, IsTrue};
+ghost use Rattle.std.specs.List.{list_all};
+ghost use Rattle.pua_tree.specs.Tree.{WellFormed, name_cmp};
+ghost use Rattle.std.proofs.Props.{props};
+ghost use Rattle.pua_policy.specs.AllowedCalls.{AreWorkedOut};
 ghost use Rattle.pua_policy.specs.History.{StandsFor};
-ghost use Rattle.pua_audit.specs.Limits.{most_path};
+ghost use Rattle.pua_audit.specs.Limits.{most_letters, most_path};
 ghost use Rattle.pua_audit.specs.Begin.{longest};
+ghost use Rattle.pua_audit.specs.Judge.{base_dir, base_way, is_letter, is_open};
+ghost use Rattle.pua_audit.specs.Laws.{Rises, Rises-prop};
 ghost use Rattle.pua_audit.specs.Past.{plain_history};
-ghost use Rattle.pua_audit.specs.Starting.{scope_with};
-ghost use Rattle.pua_audit.specs.Judge.{base_dir, base_way, is_open};
-ghost use Rattle.pua_audit.specs.Ready.{scope_in, IsSound};
 
 use crate::alphabet::{Alphabet, longest};
 use crate::base::Base;
 use crate::content::Content;
 use pua_calls::CallTable;
 use pua_path::{Probe, Way};
-use pua_policy::Process;
+use pua_policy::{AllowedCalls, Process};
 use pua_tree::{Kind, NodeId, OutOfMemory};
 use std::alloc::Global;
 
 /// What was asked of an audit: a process, the table of what calls need, where paths begin, the most
-/// letters of a word, and the letters in the order of their bytes.
+/// letters of a word, and the letters in the order of their bytes. No path of a word is too long.
 #[derive(Drop)]
 pub(crate) struct Terms {
     pub(crate) seen: Content,
@@ -28,9 +31,21 @@ pub(crate) struct Terms {
     pub(crate) base: Base,
     pub(crate) limit: usize,
     pub(crate) letters: Alphabet,
+    /// What the process is allowed by the table.
+    pub(crate) allowed: AllowedCalls,
+    pub(crate) ghost tree: { WellFormed seen.tree },
+    pub(crate) ghost stands: { StandsFor process (plain_history process) },
+    pub(crate) ghost few: { limit ≤ most_letters },
+    pub(crate) ghost known: { IsTrue (list_all is_letter letters) },
+    pub(crate) ghost rises: { Rises name_cmp letters } by { Rises-prop name_cmp letters },
+    pub(crate) ghost worked_out: { AreWorkedOut process table allowed } by { Prim.hlevel props },
+    pub(crate) ghost short: { limit * suc (longest letters) ≤ most_path },
 }
 
 impl Terms {
+    ghost use Rattle.pua_audit.specs.Ready.{scope_in};
+    ghost use Rattle.pua_audit.specs.Starting.{AreSound, scope_with};
+
     /// What was asked of an audit of a copy of a process, by a copy of a table, over the tree of a
     /// probe, by words of at most so many of these letters. `OutOfMemory` where the growth for the
     /// process was refused.
@@ -43,16 +58,16 @@ impl Terms {
         limit: u8,
         letters: Alphabet,
     ) -> Result<Terms, OutOfMemory>
-        requires stands { StandsFor process.now (plain_history process.now) }
-        requires short { limit * suc (longest letters) ≤ most_path }
-        ensures sound { IfOk result (λ terms. IsSound terms) }
+        requires letters { AreSound limit letters }
         ensures scope { IfOk result (λ terms. scope_in terms ≡ scope_with (P.tree probe.now)
             table.now (plain_history process.now) base limit letters) }
         ensures limit { IfOk result (λ terms. terms.limit ≡ limit) }
         ensures letters { IfOk result (λ terms. terms.letters ≡ letters) }
     {
         probe.known();
+        process.known();
         let process = process.fork(alloc)?;
+        let allowed = AllowedCalls::new(&process, table);
         Ok(Terms {
             seen: Content::of(probe),
             process,
@@ -60,6 +75,7 @@ impl Terms {
             base,
             limit: usize::from(limit),
             letters,
+            allowed,
         })
     }
 
@@ -67,7 +83,6 @@ impl Terms {
     /// was not removed.
     pub(crate) fn is_open<'t, P: Probe<'t>>(&self, probe: &mut P) -> bool
         requires tree { P.tree probe.old ≡ self.now.seen.tree }
-        requires sound { IsSound self.now }
         ensures open { result ≡ is_open (scope_in self.now) }
         ensures tree { P.tree probe.new ≡ P.tree probe.old }
         ensures cost { P.count probe.new ≤ P.count probe.old + 1 }
@@ -80,7 +95,6 @@ impl Terms {
 
     /// How many bytes the letters of a word and their slashes have at most.
     pub(crate) fn most_bytes(&self) -> usize
-        requires { self.now.limit * suc (longest self.now.letters) ≤ most_path }
         ensures { result ≡ self.now.limit * suc (longest self.now.letters) }
     {
         self.limit * (longest(self.letters.as_slice()) + 1)
@@ -88,7 +102,6 @@ impl Terms {
 
     /// The directory in which the first letter stands.
     pub(crate) fn base_dir(&self) -> NodeId
-        requires { IsSound self.now }
         ensures { result ≡ base_dir self.now.base (plain_history self.now.process) }
     {
         match self.base {

@@ -7,6 +7,7 @@ use Rattle.std.proofs.lemmas.Bool.{cases_eq, cases_lt, lt-ltb, le-ltb}
 use Rattle.std.specs.Prelude.{◌≢◌, ◌&&◌, ◌||◌, not, bit_and}
 use Rattle.std.proofs.lemmas.List.{get_or-map}
 use Rattle.std.proofs.lemmas.List.FromFn.{get_or-range_with_len}
+use Rattle.std.proofs.lemmas.Nat.{and_le_l}
 use Rattle.std.proofs.lemmas.Nat.Bits.{bit_at_or, bit_at_and, bit_at-lt, bit_at-zero}
 use Rattle.pua_calls.specs.CallSets.{bit_of, has, keeps_link}
 use Rattle.pua_calls.specs.declared.call.Call.TheVariants.{Lstat, Readlink, OpenRead, OpenWrite, OpenBoth, Create, Mkdir, Rmdir}
@@ -42,6 +43,9 @@ has_and a b call = ap (λ n. n == 1) (bit_at_and a b (bit_of call)) ∙
 
 pub or_below : (a b : ℕ) → a < 2 ^ 14 → b < 2 ^ 14 → bit_or a b < 2 ^ 14
 or_below a b = or_lt 14 a b
+
+pub and_below : (a b : ℕ) → a < 2 ^ 14 → bit_and a b < 2 ^ 14
+and_below a b low = omega (arith, and_le_l a b, low)
 
 -- the sets of the calls that keep a link, and of those that follow it
 has_keeping : (call : Call) → has 1926 call ≡ keeps_link call

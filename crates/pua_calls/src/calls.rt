@@ -87,6 +87,16 @@ impl Calls {
         }
     }
 
+    /// Its calls that are among the others too.
+    #[tactic(auto, using(crate::proofs::CallBits::has_and, crate::proofs::CallBits::and_below))]
+    pub fn intersection(self, others: Calls) -> Calls
+        ensures { (call : Call) → has result call ≡ (has self call && has others call) }
+    {
+        Calls {
+            bits: self.bits & others.bits,
+        }
+    }
+
     /// Its calls that are on a link itself, where their path's last part names one.
     #[tactic(auto, using(crate::proofs::CallBits::kept_of))]
     pub fn keeping(self) -> Calls

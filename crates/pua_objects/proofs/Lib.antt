@@ -18,6 +18,7 @@ pub mod Ranges
 pub mod Framed
 pub mod Leaving
 pub mod Entering
+pub mod Unveiled
 pub mod Own
 pub mod Listed
 pub mod Nodes

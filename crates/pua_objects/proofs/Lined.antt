@@ -11,7 +11,7 @@ use Rattle.pua_policy.specs.Verdict.{cover, object_of_kind, rmdir_fault}
 use Rattle.pua_policy.specs.declared.object.Object as seen
 use Rattle.pua_policy.specs.declared.object.Object.TheVariants as see
 use Rattle.pua_objects.specs.Objects.{object_word}
-use Rattle.pua_objects.specs.Items.{subject_given, cover_on}
+use Rattle.pua_objects.specs.Items.{subject_given, cover_on, object_on}
 use Rattle.pua_objects.specs.Lines.{IsLineOn, kind_seen, kind_word}
 use Rattle.pua_objects.specs.declared.item.Item as given
 use Rattle.pua_objects.specs.declared.item.Subject as told
@@ -92,11 +92,12 @@ lined t table h found object line is kind calls = record {
 -- the line of an item, by whether it is about further names
 module _ (t : Tree) (table : CallTable) (h : History) (subject : Subject) (item : given.Item) (on : IsItemOn t h subject item)
     (line : ObjectLine) where
-  pub others_lined : (dir : ℕ) → item.subject ≡ about.Others dir → (item.cover ≡ cover_in t h dir → IsLineOn t table h (Others dir) line) →
-      IsLineOn t table h subject line
+  pub others_lined : (dir : ℕ) → item.subject ≡ about.Others dir → (item.cover ≡ cover_in t h dir → item.object ≡ see.Missing →
+      IsLineOn t table h (Others dir) line) → IsLineOn t table h subject line
   others_lined dir is lines =
       let same : Others dir ≡ subject = ap (subject_given t) (sym is) ∙ on.subject in
-      subst (λ (s : Subject). IsLineOn t table h s line) same (lines (on.cover ∙ ap (cover_on t h) (sym same)))
+      subst (λ (s : Subject). IsLineOn t table h s line) same (lines (on.cover ∙ ap (cover_on t h) (sym same)) (on.object ∙
+      ap (object_on t) (sym same)))
 
   no_others : (s : told.Subject) (dir : ℕ) → ((d : ℕ) → s ≢ about.Others d) → subject_given t s ≡ Others dir → ⊥
   no_others about.Root dir other is = cc

@@ -4,7 +4,10 @@ use Rattle.pua_tree.specs.Tree.{Tree}
 use Rattle.pua_calls.specs.Calls.{CallTable}
 use Rattle.pua_calls.specs.CallSets.{has}
 use Rattle.pua_policy.specs.History.{History}
-use Rattle.pua_policy.specs.Verdict.{is_allowed}
+use Rattle.pua_policy.specs.Objects.{object_seen}
+use Rattle.pua_policy.specs.Verdict.{covered_verdict, is_allowed}
+use Rattle.pua_policy.specs.Verdict.{Object as Judged}
+use Rattle.pua_policy.specs.declared.answer.Cover.{Cover}
 use Rattle.pua_calls.specs.declared.call.Call.{Call}
 use Rattle.pua_policy.specs.declared.object.Object as seen
 use Rattle.pua_policy.specs.declared.object.Object.TheVariants as see
@@ -30,6 +33,11 @@ kind_seen see.Program = kind.Prog
 kind_seen see.Link = kind.Link
 kind_seen see.Directory = kind.Dir
 kind_seen see.Removable = kind.Dir
+
+-- a set of the calls that are allowed on such an object wherever it stands, by what the veils leave of it
+abbrev pub AreAllowed : Tree → CallTable → History → Cover → seen.Object → ℕ → Type 0
+AreAllowed t table h left object set = (judged : Judged) → object ≡ object_seen t judged → (call : Call) →
+    has set call ≡ is_allowed (covered_verdict t table h call left judged)
 
 -- the line tells what its subject is, and has each call that names it and is allowed on it
 pub record IsLineOn (t : Tree) (table : CallTable) (h : History) (subject : Subject) (line : ObjectLine) : Type 0 where

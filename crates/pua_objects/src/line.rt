@@ -3,17 +3,20 @@
 ghost use Rattle.std.specs.Prelude.{◌≡◌, ℕ};
 ghost use Rattle.pua_tree.specs.Tree.{Tree};
 ghost use Rattle.pua_path.specs.declared.found.Found.{Found as FoundThing};
-ghost use Rattle.pua_policy.specs.History.{History, StandsFor};
+ghost use Rattle.pua_calls.specs.Calls.{CallTable as Rules};
+ghost use Rattle.pua_policy.specs.declared.answer.Cover.{Cover as Covered};
+ghost use Rattle.pua_policy.specs.AllowedCalls.{AreWorkedOut};
+ghost use Rattle.pua_policy.specs.History.{History, ProcessState, StandsFor};
 ghost use Rattle.pua_policy.specs.Objects.{object_seen};
 ghost use Rattle.pua_policy.specs.Verdict.{cover as cover_of, object_of};
 ghost use Rattle.pua_objects.specs.Objects.{Subject as About, At, Others, cover_in};
 ghost use Rattle.pua_objects.specs.Items.{IsItemOn};
-ghost use Rattle.pua_objects.specs.Lines.{IsLineOn, kind_seen};
+ghost use Rattle.pua_objects.specs.Lines.{AreAllowed, IsLineOn, kind_seen};
 
 use crate::item::{Item, Subject};
 use crate::kind::ObjectKind;
 use pua_calls::{CallTable, Calls};
-use pua_policy::{Cover, Object, Process, judge};
+use pua_policy::{AllowedCalls, Object, Process, judge};
 
 /// A line of the list, but for the names that lead there.
 #[derive(Clone, Copy, PartialEq, Eq)]
@@ -29,20 +32,41 @@ pub fn line_of(process: &Process, table: &CallTable, item: &Item<'_>) -> ObjectL
     ensures { (t : Tree) (h : History) (about : About) → StandsFor process.now h →
         IsItemOn t h about item.now → IsLineOn t table.now h about result }
 {
+    line_with(
+        item,
+        judge::allowed(process, table, item.cover, item.object),
+    )
+}
+
+/// The same, by what was worked out of a process and a table.
+pub(crate) fn allowed_line(allowed: &AllowedCalls, item: &Item<'_>) -> ObjectLine
+    ensures { (process : ProcessState) (table : Rules) (t : Tree) (h : History) (about : About) →
+        AreWorkedOut process table allowed.now → StandsFor process h →
+        IsItemOn t h about item.now → IsLineOn t table h about result }
+{
+    line_with(item, allowed.on(item.cover, item.object))
+}
+
+/// The line of an item on whose object these calls are allowed.
+fn line_with(item: &Item<'_>, calls: Calls) -> ObjectLine
+    ensures { (t : Tree) (table : Rules) (h : History) (about : About) →
+        AreAllowed t table h item.now.cover item.now.object calls →
+        IsItemOn t h about item.now → IsLineOn t table h about result }
+{
     match item.subject {
-        Subject::Others(_) => line_of_others(process, table, &item.cover),
-        _ => line_at(process, table, &item.cover, item.object),
+        Subject::Others(_) => line_of_others(calls),
+        _ => line_at(item.object, calls),
     }
 }
 
-/// The line of what stands somewhere, or of a name where nothing stands, by what the veils leave of
-/// it. On a link only those calls are listed that keep it.
-fn line_at(process: &Process, table: &CallTable, cover: &Cover, object: Object) -> ObjectLine
-    ensures { (t : Tree) (h : History) (found : FoundThing) → StandsFor process.now h →
-        cover.now ≡ cover_of t h found → object ≡ object_seen t (object_of t found) →
-        IsLineOn t table.now h (At found) result }
+/// The line of what stands somewhere, or of a name where nothing stands, on which these calls are
+/// allowed. On a link only those calls are listed that keep it.
+fn line_at(object: Object, calls: Calls) -> ObjectLine
+    ensures { (t : Tree) (table : Rules) (h : History) (found : FoundThing) (cover : Covered) →
+        AreAllowed t table h cover object calls →
+        cover ≡ cover_of t h found → object ≡ object_seen t (object_of t found) →
+        IsLineOn t table h (At found) result }
 {
-    let calls = judge::allowed(process, table, *cover, object);
     let calls = if object == Object::Link {
         calls.keeping()
     } else {
@@ -54,14 +78,15 @@ fn line_at(process: &Process, table: &CallTable, cover: &Cover, object: Object) 
     }
 }
 
-/// The line of a directory's further names, by what the veils leave of them.
-fn line_of_others(process: &Process, table: &CallTable, cover: &Cover) -> ObjectLine
-    ensures { (t : Tree) (h : History) (dir : ℕ) → StandsFor process.now h →
-        cover.now ≡ cover_in t h dir → IsLineOn t table.now h (Others dir) result }
+/// The line of a directory's further names, on which these calls are allowed.
+fn line_of_others(calls: Calls) -> ObjectLine
+    ensures { (t : Tree) (table : Rules) (h : History) (dir : ℕ) (cover : Covered) →
+        AreAllowed t table h cover Object.Missing calls →
+        cover ≡ cover_in t h dir → IsLineOn t table h (Others dir) result }
 {
     ObjectLine {
         kind: ObjectKind::Other,
-        calls: judge::allowed(process, table, *cover, Object::Missing),
+        calls,
     }
 }
 

@@ -7,9 +7,9 @@ ghost use Rattle.pua_objects.specs.Objects.{items as all_items, objects};
 ghost use Rattle.pua_objects.specs.Ready.{lines_of, IsNextLineListed};
 
 use crate::items::Items;
-use crate::line::{ObjectLine, line_of};
+use crate::line::{ObjectLine, allowed_line};
 use pua_calls::CallTable;
-use pua_policy::Process;
+use pua_policy::{AllowedCalls, Process};
 use pua_tree::{FileTree, Name, OutOfMemory};
 use std::alloc::Global;
 use std::marker::Model;
@@ -22,11 +22,14 @@ use std::marker::Model;
 pub struct Objects<'t, T: FileTree> {
     items: Items<'t, T>,
     table: CallTable,
+    /// What the process is allowed by the table.
+    allowed: AllowedCalls,
     /// How many names at the front of the word are those of the line before.
     shared: usize,
 }
 
 impl<'t, T: FileTree> Model for Objects<'t, T> {
+    ghost use Rattle.pua_policy.specs.AllowedCalls.{AreWorkedOut};
     ghost use Rattle.pua_objects.specs.ObjectsState.{ObjectsState};
 
     ghost Value = { ObjectsState };
@@ -39,6 +42,8 @@ impl<'t, T: FileTree> Model for Objects<'t, T> {
       shared = a.shared;
       left = a.items.left;
     } };
+
+    ghost invariant = { λ a. AreWorkedOut a.items.process a.table a.allowed };
 }
 
 impl<'t, T: FileTree> Objects<'t, T> {
@@ -64,6 +69,7 @@ impl<'t, T: FileTree> Objects<'t, T> {
         Ok(Objects {
             items,
             table: *table,
+            allowed: AllowedCalls::new(process, table),
             shared: 0,
         })
     }
@@ -83,7 +89,7 @@ impl<'t, T: FileTree> Objects<'t, T> {
         self.shared = self.items.word().len();
         while let Some(item) = self.items.next_item() {
             self.shared = self.shared.min(self.items.word().len().saturating_sub(1));
-            let line = line_of(self.items.process(), &self.table, &item);
+            let line = allowed_line(&self.allowed, &item);
             if !line.calls.is_empty() {
                 return Some(line);
             }

@@ -7,7 +7,8 @@ ghost use Rattle.std.specs.List.{AllByRecursion, list_any};
 ghost use Rattle.pua_tree.specs.Tree.{Tree, WellFormed, is_dir, is_dir_kind, look, spot_cmp};
 ghost use Rattle.pua_path.specs.declared.found.Found.TheVariants as found;
 ghost use Rattle.pua_path.specs.declared.found.Way.TheVariants as way;
-ghost use Rattle.pua_policy.specs.History.{History, StandsFor, ProcessState};
+ghost use Rattle.pua_policy.specs.Descent.{own_or};
+ghost use Rattle.pua_policy.specs.History.{History, StandsFor, ProcessState, perms_kept};
 ghost use Rattle.pua_policy.specs.Objects.{object_seen};
 ghost use Rattle.pua_policy.specs.Verdict.{IsDir, is_unveil, object_of, object_of_kind};
 ghost use Rattle.pua_audit.specs.Laws.{Rises};
@@ -156,7 +157,7 @@ impl<'t> ItemWalk<'t> {
             look t dir name.entry.now ≡ node →
             IsItemOn t h (At (found.Slot dir name.entry.now node)) result }
     {
-        let cover = process.own_cover(&Place::Slot(dir, *name), self.inner().cover);
+        let cover = cover_at_name(process, dir, name, self.inner().cover);
         self.word.push_reserved(name);
         Item {
             subject: Subject::Name(dir, name),
@@ -192,7 +193,7 @@ impl<'t> ItemWalk<'t> {
             IsItemOn (T.content tree.now) h (At (found.Whole id (way.Named dir name.entry.now)))
             result }
     {
-        let cover = process.own_cover(&Place::Dir(id), self.inner().cover);
+        let cover = cover_at_dir(process, id, self.inner().cover);
         let item = Item {
             subject: Subject::Dir(id, dir, name),
             object: directory(tree, id),
@@ -271,6 +272,34 @@ fn directory<T: FileTree>(tree: &T, id: NodeId) -> Object
         Object::Removable
     } else {
         Object::Directory
+    }
+}
+
+/// The permissions kept at a name in a directory, or where it has no veil the cover of that
+/// directory's names, which the caller hands on. No place is made where no veil is kept: it takes
+/// some 260 bytes.
+#[tactic(auto, using(crate::proofs::Unveiled::uncovered))]
+fn cover_at_name(process: &Process, dir: NodeId, name: &Name, over: Cover) -> Cover
+    ensures { (h : History) → StandsFor process.now h →
+        result ≡ own_or (perms_kept h (Place.Slot dir name.now)) over }
+{
+    if process.is_veiled() {
+        process.own_cover(&Place::Slot(dir, *name), over)
+    } else {
+        over
+    }
+}
+
+/// The same at a directory.
+#[tactic(auto, using(crate::proofs::Unveiled::uncovered))]
+fn cover_at_dir(process: &Process, dir: NodeId, over: Cover) -> Cover
+    ensures { (h : History) → StandsFor process.now h →
+        result ≡ own_or (perms_kept h (Place.Dir dir)) over }
+{
+    if process.is_veiled() {
+        process.own_cover(&Place::Dir(dir), over)
+    } else {
+        over
     }
 }
 

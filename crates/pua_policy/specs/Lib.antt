@@ -12,3 +12,5 @@ pub mod ReasonLaws
 pub mod Examples
 -- Notes: what the code tells of an object.
 pub mod Objects
+-- Notes: what is worked out once of what a process is allowed.
+pub mod AllowedCalls

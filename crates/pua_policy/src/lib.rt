@@ -1,6 +1,7 @@
 //! Processes, veils and the verdict on a call.
 #![tactic(auto)]
 
+mod allowed_calls;
 mod answer;
 mod cover;
 pub mod judge;
@@ -11,6 +12,7 @@ mod process;
 mod promising;
 mod reason;
 
+pub use allowed_calls::AllowedCalls;
 pub use answer::{Cover, May, Refusal, UnveilFault, Verdict};
 pub use laws::{
     cover_examples, cover_laws, covering_law, descent_law, lacking_law, limits_law, misfit_law,

@@ -30,7 +30,7 @@ unfoldable pub use Rattle.pua_steps.specs.Resuming.{to_give}
 pub use Rattle.pua_steps.specs.Table.{end_of, entries_at, first_of, has_gap, IsEntry, IsState, IsTable, IsVisit, missing_at, missing_visit}
 pub use Rattle.pua_steps.specs.Table.{Rising}
 unfoldable pub use Rattle.pua_steps.specs.Table.{gap, graph_of, visit_of, visits_from}
-pub use Rattle.pua_steps.specs.Trail.{Live, pairs_of, TrailEvent}
+pub use Rattle.pua_steps.specs.Trail.{Live, on_word, pairs_of, TrailEvent}
 unfoldable pub use Rattle.pua_steps.specs.Trail.{ahead, branches, deeper, pending, under, under_all, with_calls}
 pub use Rattle.pua_steps.specs.declared.frame.Frame.{Frame}
 pub use Rattle.pua_steps.specs.declared.lists.Lists.{Lists}

@@ -2,7 +2,8 @@
 use Rattle.pua_steps.proofs.Common.{ℕ, zero, suc, ◌+◌, ◌<◌, ◌≤◌, ◌≡◌, [], ◌∷◌, Bool, true, false, cond, ◌==◌, ◌&&◌, nat_lt, refl, ap, arith}
 use Rattle.pua_steps.proofs.Common.{sym, ◌∙◌, filter, inl, inr, bit_at, range_with_len, cases_eq, cases_lt, lt-ltb, le-ltb, has_call}
 use Rattle.pua_steps.proofs.Common.{calls_of}
-use Rattle.std.specs.Prelude.{◌≢◌}
+use Rattle.std.specs.Prelude.{◌≢◌, ◌*◌, ◌/◌, ◌%◌, ◌^◌}
+use Rattle.std.proofs.lemmas.Nat.Bits.{bit_at_cat_low}
 
 module _ (f g : ℕ → Bool) where
   same_from : (k n : ℕ) → ((i : ℕ) → k ≤ i → i < k + n → g i ≡ f i) → filter f (range_with_len k n) ≡ filter g (range_with_len k n)
@@ -44,6 +45,17 @@ first_taken set rest call within here before gone others =
     first_from (has_call set) (has_call rest) call 0 14 (omega arith) (omega (arith, within)) (λ i less. ap (λ b. b == 1) (before i less))
     (ap (λ b. b == 1) here) (ap (λ b. b == 1) gone)
     (λ i low other. ap (λ b. b == 1) (others i (omega (arith, low)) other))
+
+-- no bit but those of calls counts
+pub low_calls : (set : ℕ) → calls_of (set % 16384) ≡ calls_of set
+unfolding calls_of
+low_calls set = same_from (has_call (set % 16384)) (has_call set) 0 14 (λ i low high. ap (λ b. b == 1) (sym (bit_low i (omega (arith, high)))))
+  where
+    whole : set / 16384 * 2 ^ 14 + set % 16384 ≡ set
+    whole = omega arith
+
+    bit_low : (i : ℕ) → i < 14 → bit_at (set % 16384) i ≡ bit_at set i
+    bit_low i low = sym (bit_at_cat_low (set / 16384) 14 (set % 16384) i low) ∙ ap (λ n. bit_at n i) whole
 
 pub no_calls : calls_of 0 ≡ []
 unfolding calls_of

@@ -1,7 +1,7 @@
 -- What each turn of the code does to what is still to be done.
 use Rattle.pua_steps.proofs.Common.{ℕ, suc, ◌+◌, ◌-◌, ◌<◌, ◌≡◌, List, [], ◌∷◌, ◌++◌, Option, Some, None, true, refl, ap, arith, sym, ◌∙◌}
 use Rattle.pua_steps.proofs.Common.{length, length-append, append-nil, option_to_list, Graph, Word, TrailEvent, Live, under_all, with_calls}
-use Rattle.pua_steps.proofs.Common.{deeper, pending, ahead, State, Visit}
+use Rattle.pua_steps.proofs.Common.{deeper, pending, ahead, pairs_of, on_word, State, Visit}
 use Rattle.pua_steps.proofs.Moves.{under_all-nil, under_all-line, deeper_live, pending_push, pending_back}
 
 module _ (g : Graph) (live : Live) (limit : ℕ) where
@@ -46,6 +46,12 @@ module _ (g : Graph) (live : Live) (limit : ℕ) where
         let more : List TrailEvent = with_calls left ++ deeper g live (limit - length word) o in
         let rest : List TrailEvent = pending g live limit 0 word rests in
         ap (λ es. es ++ rest) (under_all-line word [] c more ∙ ap (λ v. Some (v, c) ∷ under_all word more) (append-nil word))
+
+    -- all calls that a word has left are given
+    pub given_all : (o : Option State) (left : List ℕ) →
+        pairs_of (ahead g live limit word left o rests) ≡ on_word word left ++ pairs_of (ahead g live limit word [] o rests)
+    given_all o [] = refl
+    given_all o (c ∷ left) = ap pairs_of (given o c left) ∙ ap (λ ps. (word, c) ∷ ps) (given_all o left)
 
     -- what comes after a word counts by what it leads to
     pub alike : (left : List ℕ) (o p : Option State) → deeper g live (limit - length word) o ≡ deeper g live (limit - length word) p →

@@ -13,6 +13,10 @@ TrailEvent = Option Pair
 abbrev pub pairs_of : List TrailEvent → List Pair
 pairs_of es = filter_map (λ (e : TrailEvent). e) es
 
+-- a pair of a word for each of some calls
+abbrev pub on_word : Word → List ℕ → List Pair
+on_word word calls = map (λ call. (word, call)) calls
+
 abbrev pub behind : ℕ → TrailEvent → TrailEvent
 behind a e = option_map (λ (p : Pair). (a ∷ p.0, p.1)) e
 

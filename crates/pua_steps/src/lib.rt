@@ -5,6 +5,7 @@
 //! directory its place among the rows of the table, a call the place of its bit in a set.
 #![tactic(auto)]
 
+mod call_set;
 mod calls;
 mod forward;
 mod frame;
@@ -20,6 +21,7 @@ mod tables;
 mod visit;
 mod walk;
 
+pub use call_set::CallSet;
 pub use laws::{steps_examples, steps_laws};
 pub use state::State;
 pub use steps::{Entry, Row, Steps};

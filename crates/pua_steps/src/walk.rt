@@ -3,11 +3,12 @@
 ghost use Rattle.std.specs.Prelude.{◌≡◌, ◌≢◌, ◌≤◌, ◌<◌, ◌+◌, ◌∷◌, ◌++◌, [], ℕ, IfSome, ◌*◌, ◌^◌};
 ghost use Rattle.std.specs.Prelude.{suc, IfOk, length, vec_capacity, MatchOption};
 ghost use Rattle.pua_steps.specs.Limits.{most_letters, call_count};
+ghost use Rattle.pua_steps.specs.Calls.{calls_of};
 ghost use Rattle.pua_steps.specs.Graph.{graph_reach};
 ghost use Rattle.pua_steps.specs.Table.{IsTable, IsState, graph_of};
 ghost use Rattle.pua_steps.specs.Live.{IsSized};
 ghost use Rattle.pua_steps.specs.Lists.{AreListsOf};
-ghost use Rattle.pua_steps.specs.Trail.{pairs_of};
+ghost use Rattle.pua_steps.specs.Trail.{on_word, pairs_of};
 ghost use Rattle.pua_steps.specs.Ready.{IsReady, IsBetween, IsSameWalk, IsTurned, IsNextPair};
 ghost use Rattle.pua_steps.specs.Ready.{IsCounted, IsUnchanged, StaysFront, left_over, trail};
 
@@ -98,6 +99,22 @@ impl Walk {
     {
         self.unchanged = self.word.len();
         self.go_on()
+    }
+
+    /// Takes all calls of the walk's word that are still to be given: a bit for each, the first at bit
+    /// 0. The pairs that come after theirs are still to come. It reads no letter.
+    pub fn take_calls(&mut self) -> u16
+        ensures ready { IsReady self.old → IsReady self.new }
+        ensures same { IsSameWalk self.old self.new }
+        ensures word { self.new.word ≡ self.old.word }
+        ensures unchanged { self.new.unchanged ≡ self.old.unchanged }
+        ensures reads { self.new.tables.reads ≡ self.old.tables.reads }
+        ensures pairs { pairs_of (trail self.old) ≡ on_word self.old.word.items (calls_of result)
+            ++ pairs_of (trail self.new) }
+    {
+        let calls = self.calls;
+        self.calls = 0;
+        calls
     }
 
     /// The word of the pair that was given last, by the places of its letters in the alphabet. Before

@@ -6,15 +6,19 @@ use Rattle.std.specs.List.{list_all}
 use Rattle.std.proofs.lemmas.Bool.{and_parts}
 use Rattle.std.proofs.Math.Seq.{take-append-add}
 use Rattle.pua_tree.specs.Spelling.{is_plain, byte_spelling}
+use Rattle.pua_audit.specs.Coming.{with_word}
 use Rattle.pua_audit.specs.Reach.{Pair, path_of}
+use Rattle.pua_texts.specs.PathLines.{path_line, path_lines}
 use Rattle.pua_audit.specs.declared.base.Base.{Base}
 
--- the first pair's line stands before those of the others
-pub first_line : (base : Base) (word : Word) (call : Call) (path : List ℕ) (left more : List Pair) → path ≡ path_of base word →
-    left ≡ (word, call) ∷ more
-    → pair_lines base left ≡ with_end (spelling path ++ 32 ∷ call_name call) ++ pair_lines base more
-first_line base word call path left more p l = ap (pair_lines base) l ∙
-    ap (λ text. with_end (spelling text ++ 32 ∷ call_name call) ++ pair_lines base more) (sym p)
+-- the lines of a word's pairs stand before those of the others
+pub word_lines : (base : Base) (word : Word) (path : List ℕ) (calls : List Call) (more : List Pair) → path ≡ path_of base word
+    → pair_lines base (with_word word calls ++ more) ≡ path_lines path calls ++ pair_lines base more
+word_lines base word path [] more p = refl
+word_lines base word path (call ∷ calls) more p =
+    ap (λ text. with_end (spelling text ++ 32 ∷ call_name call) ++ pair_lines base (with_word word calls ++ more)) (sym p)
+    ∙ ap (λ rest. path_line path call ++ rest) (word_lines base word path calls more p)
+    ∙ sym (append_assoc (path_line path call) (path_lines path calls) (pair_lines base more))
 
 -- a blank, a name and LF stand after a spelled path
 pub line_ends : (front path name : List ℕ) → (front ++ path) ++ with_end (32 ∷ name) ≡ front ++ with_end (path ++ 32 ∷ name)

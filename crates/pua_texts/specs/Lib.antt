@@ -11,4 +11,5 @@ pub mod VeilDates
 pub mod WhyLists
 pub mod Tells
 pub mod Blocks
+pub mod PathLines
 pub mod KeptPaths

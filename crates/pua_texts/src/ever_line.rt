@@ -13,6 +13,7 @@ ghost use Rattle.pua_texts.specs.EverLines.{ever_lines, kind_of, path_or_new};
 ghost use Rattle.pua_texts.specs.Lines.{with_end};
 
 use crate::block::Block;
+use crate::calls_text::CallsTexts;
 use crate::kept_path::KeptPath;
 use crate::object_line::{add_calls, add_line, kind_bytes};
 use pua_calls::Calls;
@@ -27,6 +28,7 @@ pub(crate) fn add_ever<T: FileTree, S: Sink>(
     block: &mut Block,
     list: &mut Ever<'_, T>,
     path: &mut KeptPath,
+    texts: &mut CallsTexts,
     sink: &mut S,
 ) -> Result<(), PutFault>
     ensures { (h : History) → StandsFor list.old.process h →
@@ -38,7 +40,7 @@ pub(crate) fn add_ever<T: FileTree, S: Sink>(
     while let Some(line) = list.next_line() {
         let word = list.word();
         path.go_to(word, list.shared());
-        add_thing(block, line, path, word, sink)?;
+        add_thing(block, line, path, word, texts, sink)?;
     }
     Ok(())
 }
@@ -49,6 +51,7 @@ fn add_thing<S: Sink>(
     line: EverLine,
     path: &KeptPath,
     word: &[&Name],
+    texts: &mut CallsTexts,
     sink: &mut S,
 ) -> Result<(), PutFault>
     requires kept { IsKept (map (λ name. name.now) word.now) path.now }
@@ -60,7 +63,7 @@ fn add_thing<S: Sink>(
     match line.thing {
         EverThing::Stands(kind) => {
             let calls = line.calls;
-            add_line(block, ObjectLine { kind, calls }, path, word, sink)
+            add_line(block, ObjectLine { kind, calls }, path, word, texts, sink)
         }
         EverThing::Comes(kind) => add_coming(block, kind, line.calls, sink),
     }

@@ -10,6 +10,7 @@ ghost use Rattle.pua_texts.specs.Lists.{IsHeadOf};
 ghost use Rattle.pua_texts.specs.Tells.{TellsTo};
 
 use crate::block::Block;
+use crate::calls_text::CallsTexts;
 use crate::ever_line::add_ever;
 use crate::fault::TextFault;
 use crate::kept_path::KeptPath;
@@ -42,8 +43,18 @@ pub fn write_ever<T: FileTree, S: Sink>(
     let head = ProcessHead::begin(alloc, "ever", number, process)?;
     let mut places = Places::new(alloc, tree)?;
     let mut path = KeptPath::new(alloc)?;
+    let mut texts = CallsTexts::new(alloc)?;
     let mut block = Block::new(alloc)?;
-    let added = add_list(&mut block, front, &head, ever, &mut places, &mut path, sink);
+    let added = add_list(
+        &mut block,
+        front,
+        &head,
+        ever,
+        &mut places,
+        &mut path,
+        &mut texts,
+        sink,
+    );
     block.finish(added, sink)
 }
 
@@ -55,6 +66,7 @@ fn add_list<'t, T: FileTree, S: Sink>(
     ever: &mut Ever<'_, T>,
     places: &mut Places<'t, T>,
     path: &mut KeptPath,
+    texts: &mut CallsTexts,
     sink: &mut S,
 ) -> Result<(), PutFault>
     ensures { (table : Rules) (process : ℕ) (h : History) →
@@ -66,5 +78,5 @@ fn add_list<'t, T: FileTree, S: Sink>(
 {
     block.add_text(front.as_bytes(), sink)?;
     head.add_to(block, places, sink)?;
-    add_ever(block, ever, path, sink)
+    add_ever(block, ever, path, texts, sink)
 }

@@ -4,11 +4,13 @@ ghost use Rattle.std.specs.Prelude.{◌≡◌, ◌≤◌, ◌+◌, ◌*◌, ◌+
 ghost use Rattle.pua_tree.specs.Spelling.{spelling};
 ghost use Rattle.pua_path.specs.Limits.{most_path};
 ghost use Rattle.pua_calls.specs.Calls.{call_name};
+ghost use Rattle.pua_audit.specs.Coming.{calls_at};
 ghost use Rattle.pua_texts.specs.Lines.{with_end, pair_lines};
+ghost use Rattle.pua_texts.specs.PathLines.{path_line, path_lines};
 ghost use Rattle.pua_texts.specs.Blocks.{PassesOn};
 
 use crate::block::{BLOCK, Block, MOST_END, MOST_LINE};
-use pua_audit::Audit;
+use pua_audit::{Audit, PathLines};
 use pua_calls::Call;
 use pua_io::{PutFault, Sink};
 use pua_path::Probe;
@@ -30,24 +32,56 @@ pub(crate) fn add_pairs<'t, P: Probe<'t>, S: Sink>(
         result block.old block.new sink.old sink.new }
     ensures tree { P.tree probe.new ≡ audit.new.tree }
 {
-    while let Some(pair) = audit.next_line(probe) {
-        block.make_room(sink)?;
-        add_line(block, pair.plain, pair.path, pair.call);
+    while let Some(lines) = audit.next_lines(probe) {
+        add_lines(block, lines, sink)?;
     }
     Ok(())
 }
 
-/// Adds the line of a path and a call to a block that has room for it. A path that is printed as it
-/// is needs no spelling.
-#[tactic(auto, using(crate::proofs::Pairs::line_ends))]
-fn add_line(block: &mut Block, plain: bool, path: &[u8], call: Call)
-    requires short { length path.now ≤ most_path }
-    requires plain { IsTrue plain → spelling path.now ≡ path.now }
-    requires free { length block.old + MOST_LINE ≤ BLOCK }
-    ensures { block.new ≡ block.old ++ with_end (spelling path.now ++ 32 ∷ call_name call) }
+/// Adds a line for each of the calls on one path.
+#[inline(always)]
+fn add_lines<S: Sink>(block: &mut Block, lines: PathLines<'_>, sink: &mut S) -> Result<(), PutFault>
+    requires { length lines.path.now ≤ most_path }
+    ensures { (IsTrue lines.entry.plain → spelling lines.entry.path.now ≡ lines.entry.path.now) →
+        PassesOn S.written S.failed
+        (path_lines lines.entry.path.now (lines.entry.call ∷ calls_at lines.entry.later))
+        result block.old block.new sink.old sink.new }
 {
-    add_printed(block, plain, path);
+    let mut call = lines.call;
+    let mut later = lines.later_calls();
+    // The proof names the loop by its label.
+    'calls: loop {
+        add_line(block, lines.plain, lines.path, call, sink)?;
+        let Some(next) = later.take_first() else {
+            return Ok(());
+        };
+        call = next;
+    }
+}
+
+/// Adds the line of a path and a call to a block, which is put where the line might not fit. A path
+/// that is printed as it is needs no spelling.
+#[inline(always)]
+fn add_line<S: Sink>(
+    block: &mut Block,
+    plain: bool,
+    path: &[u8],
+    call: Call,
+    sink: &mut S,
+) -> Result<(), PutFault>
+    requires { length path.now ≤ most_path }
+    ensures { (IsTrue plain → spelling path.now ≡ path.now) →
+        PassesOn S.written S.failed (path_line path.now call)
+        result block.old block.new sink.old sink.new }
+{
+    block.make_room(sink)?;
+    if plain {
+        block.push(path);
+    } else {
+        spell(block, path);
+    }
     add_end(block, call);
+    Ok(())
 }
 
 /// Adds the end of a line, a blank, the name of a call and LF, to a block that has room for what is
@@ -106,7 +140,9 @@ pub(crate) fn add_printed(block: &mut Block, plain: bool, path: &[u8])
     }
 }
 
-/// Adds the spelling of a path to a block that has room for it.
+/// Adds the spelling of a path to a block that has room for it. As a call it would keep the block in
+/// memory for each line that is copied, so it is a part of its callers.
+#[inline(always)]
 fn spell(block: &mut Block, path: &[u8])
     requires { length block.old + 4 * length path.now ≤ BLOCK }
     ensures spelled { block.new ≡ block.old ++ spelling path.now }

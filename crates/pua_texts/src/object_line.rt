@@ -16,6 +16,7 @@ ghost use Rattle.pua_texts.specs.ObjectLines.{object_lines};
 ghost use Rattle.pua_texts.specs.Lines.{with_end};
 
 use crate::block::{BLOCK, Block, MOST_LINE};
+use crate::calls_text::CallsTexts;
 use crate::kept_path::KeptPath;
 use crate::line::{MOST_CALL_NAME, add_call, add_printed};
 use pua_calls::{Call, Calls};
@@ -30,6 +31,7 @@ pub(crate) fn add_objects<T: FileTree, S: Sink>(
     block: &mut Block,
     list: &mut Objects<'_, T>,
     path: &mut KeptPath,
+    texts: &mut CallsTexts,
     sink: &mut S,
 ) -> Result<(), PutFault>
     ensures { (h : History) → StandsFor list.old.process h →
@@ -41,7 +43,7 @@ pub(crate) fn add_objects<T: FileTree, S: Sink>(
     while let Some(line) = list.next_line() {
         let word = list.word();
         path.go_to(word, list.shared());
-        add_line(block, line, path, word, sink)?;
+        add_line(block, line, path, word, texts, sink)?;
     }
     Ok(())
 }
@@ -52,6 +54,7 @@ pub(crate) fn add_line<S: Sink>(
     line: ObjectLine,
     path: &KeptPath,
     word: &[&Name],
+    texts: &mut CallsTexts,
     sink: &mut S,
 ) -> Result<(), PutFault>
     requires kept { IsKept (map (λ name. name.now) word.now) path.now }
@@ -62,7 +65,7 @@ pub(crate) fn add_line<S: Sink>(
 {
     block.add(kind_bytes(line.kind), sink)?;
     add_kept_path(block, path, word, sink)?;
-    add_calls(block, line.calls, b'\n', sink)
+    texts.add_calls_of(block, line, sink)
 }
 
 /// The word of a kind, and a blank.
@@ -158,7 +161,7 @@ pub(crate) fn add_calls<S: Sink>(
 }
 
 /// Adds the names of calls with commas between them to a block that has room for a line.
-fn add_names(block: &mut Block, calls: Calls)
+pub(crate) fn add_names(block: &mut Block, calls: Calls)
     requires { length block.old + MOST_LINE ≤ BLOCK }
     ensures names { block.new ≡ block.old ++ with_commas (map call_name (calls_in calls)) }
     ensures short { length block.new < length block.old + MOST_LINE }

@@ -10,6 +10,7 @@ ghost use Rattle.pua_texts.specs.ObjectLines.{lists_of};
 ghost use Rattle.pua_texts.specs.Tells.{TellsTo};
 
 use crate::block::Block;
+use crate::calls_text::CallsTexts;
 use crate::fault::TextFault;
 use crate::kept_path::KeptPath;
 use crate::places::Places;
@@ -37,8 +38,17 @@ pub fn write_lists<T: FileTree, S: Sink>(
     let mut lists = begin_lists(alloc, world, numbers)?;
     let mut places = Places::new(alloc, world.tree())?;
     let mut path = KeptPath::new(alloc)?;
+    let mut texts = CallsTexts::new(alloc)?;
     let mut block = Block::new(alloc)?;
-    let added = add_lists(&mut block, front, &mut lists, &mut places, &mut path, sink);
+    let added = add_lists(
+        &mut block,
+        front,
+        &mut lists,
+        &mut places,
+        &mut path,
+        &mut texts,
+        sink,
+    );
     block.finish(added, sink)
 }
 
@@ -72,6 +82,7 @@ fn add_lists<'t, T: FileTree, S: Sink>(
     lists: &mut VecDeque<ProcessList<'t, T>>,
     places: &mut Places<'t, T>,
     path: &mut KeptPath,
+    texts: &mut CallsTexts,
     sink: &mut S,
 ) -> Result<(), PutFault>
     ensures { (table : Rules) (w : Replayed) (numbers : List ℕ) → places.old.tree ≡ w.tree →
@@ -82,7 +93,7 @@ fn add_lists<'t, T: FileTree, S: Sink>(
 {
     block.add_text(front.as_bytes(), sink)?;
     while let Some(mut list) = lists.pop_front() {
-        list.add_to(block, places, path, sink)?;
+        list.add_to(block, places, path, texts, sink)?;
     }
     Ok(())
 }

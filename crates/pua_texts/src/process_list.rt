@@ -8,6 +8,7 @@ ghost use Rattle.pua_texts.specs.Lists.{IsListOf};
 ghost use Rattle.pua_texts.specs.ObjectLines.{process_list};
 
 use crate::block::Block;
+use crate::calls_text::CallsTexts;
 use crate::kept_path::KeptPath;
 use crate::object_line::add_objects;
 use crate::places::Places;
@@ -58,6 +59,7 @@ impl<'t, T: FileTree> ProcessList<'t, T> {
         block: &mut Block,
         places: &mut Places<'t, T>,
         path: &mut KeptPath,
+        texts: &mut CallsTexts,
         sink: &mut S,
     ) -> Result<(), PutFault>
         ensures list { (table : Rules) (process : ℕ) (h : History) →
@@ -68,6 +70,6 @@ impl<'t, T: FileTree> ProcessList<'t, T> {
         ensures tree { places.new.tree ≡ places.old.tree }
     {
         self.head.add_to(block, places, sink)?;
-        add_objects(block, &mut self.objects, path, sink)
+        add_objects(block, &mut self.objects, path, texts, sink)
     }
 }

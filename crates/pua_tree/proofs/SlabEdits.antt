@@ -1,6 +1,7 @@
 -- What edits of a tree in slots rest on, by what the tree is.
 use Rattle.pua_tree.proofs.Common.{◌≡◌, ◌≢◌, ◌≤◌, ℕ, ◌+◌, Bool, true, false, not, ◌==◌, cond, T, List, Option, Some, None, option_map}
-use Rattle.pua_tree.proofs.Common.{is_some, refl, sym, ap, ◌∙◌, arith, inl, inr, eqb, eqb-true, eq-eqb, Ok, IfSome, IsSome, option_and_then}
+use Rattle.pua_tree.proofs.Common.{is_some, refl, sym, ap, subst, ◌∙◌, arith, inl, inr, eqb, eqb-true, eq-eqb, Ok, IfSome, IsSome}
+use Rattle.pua_tree.proofs.Common.{option_and_then}
 use Rattle.pua_tree.proofs.Common.{nat_cmp, is_eq, find, put, is_sorted, where_key, is_sorted-put, is_sorted-where_key, same_entries}
 use Rattle.pua_tree.proofs.Common.{false≢true, sum_by-zero, Tree, WellFormed, spot_cmp, is_dir, is_dir_kind, is_living, look, Entry, Enters}
 use Rattle.pua_tree.proofs.Common.{grown_by, row_at, slot_of, node_in, made_of, held_rows, held_nodes, held_in_slots, rows_in, names_of}
@@ -15,8 +16,8 @@ use Rattle.pua_tree.specs.declared.gathered.MadeNode.{MadeNode}
 use Rattle.pua_tree.proofs.Raised.{raised_keeps}
 use Rattle.pua_tree.specs.declared.fault.TreeFault.TheVariants.{NotDir, Taken, Missing, IsDir}
 use Rattle.pua_tree.specs.Slots.{one_at}
-use Rattle.pua_tree.specs.Slots.{IsNew, MayStand, with_made}
-use Rattle.pua_tree.proofs.Base.{mapped, none, past}
+use Rattle.pua_tree.specs.Slots.{HasRow, IsNew, MayEnter, MayMove, MayStand, with_made}
+use Rattle.pua_tree.proofs.Base.{mapped, none, past, same_Some}
 use Rattle.pua_tree.proofs.Content.{spots_total, exact_spots}
 use Rattle.pua_tree.proofs.Tallies.{tally_counts, all_from_found, same_or_other, put_here, put_elsewhere, without_here, without_elsewhere}
 use Rattle.pua_tree.proofs.Tallies.{without_at}
@@ -26,9 +27,13 @@ use Rattle.pua_tree.proofs.EditsKeep.{no_rows, next_is_new, next_not_root}
 use Rattle.pua_tree.proofs.SlotsHold.{rows_found, nodes_found, rows_sorted}
 
 -- a row of the tree is one of the slots
-pub found_row : (s : Slots) (next : ℕ) (t : Tree) (dir : ℕ) (name : List ℕ) (o : Option ℕ) → held_in_slots s next ≡ t →
+found_row : (s : Slots) (next : ℕ) (t : Tree) (dir : ℕ) (name : List ℕ) (o : Option ℕ) → held_in_slots s next ≡ t →
     look t dir name ≡ o → row_at s (dir, name) ≡ o
 found_row s next t dir name o e l = sym (rows_found s (dir, name)) ∙ ap (λ (u : Tree). look u dir name) e ∙ l
+
+pub has_row : (s : Slots) (next : ℕ) (t : Tree) (dir : ℕ) (name : List ℕ) (x : ℕ) → AreConsistent s → held_in_slots s next ≡ t →
+    look t dir name ≡ Some x → HasRow s (dir, name) x
+has_row s next t dir name x kept e l = record { kept = kept; there = found_row s next t dir name (Some x) e l }
 
 -- so is a living node
 pub living_in : (s : Slots) (x : ℕ) → is_some (find nat_cmp x (held_nodes s)) ≡ true → IsSome (node_in s x)
@@ -48,10 +53,18 @@ dir_found s next x n e k = ap (λ (o : Option tree.Node). is_dir_kind (option_ma
     ap (λ (o : Option SlotNode). option_map made_of o) e) ∙ ap (λ j. is_dir_kind (Some j)) k
 
 -- what is no directory may have further names
-pub no_dir_may : (s : Slots) (next x : ℕ) → WellFormed (held_in_slots s next) → is_dir (held_in_slots s next) x ≡ false → MayStand s x
+no_dir_may : (s : Slots) (next x : ℕ) → WellFormed (held_in_slots s next) → is_dir (held_in_slots s next) x ≡ false → MayStand s x
 no_dir_may s next x w other = record {
   not_root = λ e. false≢true (sym other ∙ ap (is_dir (held_in_slots s next)) e ∙ w.root);
   dir_once = λ n e k. absurd (false≢true (sym other ∙ dir_found s next x n e k));
+}
+
+pub tied_may_enter : (s : Slots) (next : ℕ) (t : Tree) (dir : ℕ) (name : List ℕ) (x : ℕ) → WellFormed t → AreConsistent s →
+    held_in_slots s next ≡ t → look t dir name ≡ None → is_dir t x ≡ false → MayEnter s (dir, name) x
+tied_may_enter s next t dir name x w kept e free other = record {
+  kept = kept;
+  free = found_row s next t dir name None e free;
+  may = no_dir_may s next x (subst WellFormed (sym e) w) (ap (λ (u : Tree). is_dir u x) e ∙ other);
 }
 
 -- the next number is new in every way
@@ -98,7 +111,7 @@ module _ (s : Slots) (next : ℕ) (w : WellFormed (held_in_slots s next)) (kept 
 -- what a row that goes leaves
 module _ (old new : Slots) (at : tree.Spot) (rows : held_rows new ≡ where_key spot_cmp (λ spot. not (is_eq (spot_cmp at spot)))
     (held_rows old)) where
-  pub free_left : (spot : tree.Spot) → row_at old spot ≡ None → row_at new spot ≡ None
+  free_left : (spot : tree.Spot) → row_at old spot ≡ None → row_at new spot ≡ None
   free_left spot free =
       sym (rows_found new spot) ∙ ap (find spot_cmp spot) rows ∙ without_at spot_cmp spots_total exact_spots spot at (held_rows old)
       ∙ ap (λ o. cond (not (is_eq (spot_cmp at spot))) o None) (rows_found old spot ∙ free) ∙ either (not (is_eq (spot_cmp at spot)))
@@ -129,7 +142,7 @@ kind_was old new x n nodes e k =
     (m.0, m.1, ap (λ (made : tree.Node). made.kind) m.2 ∙ k)
 
 -- a directory that stood in one row stands in none after that row goes
-pub stands_no_more : (old new : Slots) (at : tree.Spot) (x : ℕ) →
+stands_no_more : (old new : Slots) (at : tree.Spot) (x : ℕ) →
     held_rows new ≡ where_key spot_cmp (λ spot. not (is_eq (spot_cmp at spot))) (held_rows old) → held_nodes new ≡ held_nodes old →
     row_at old at ≡ Some x → x ≢ 0
     → ((n : SlotNode) → node_in old x ≡ Some n → n.kind ≡ Dir → names_of (held_rows old) x ≡ 1) → MayStand new x
@@ -141,14 +154,24 @@ stands_no_more old new at x rows nodes there not_root once = record {
       omega (arith, names_left old new at rows x there x, one_name, here));
 }
 
+-- so that it may come to another spot
+pub moved_may_enter : (old new : Slots) (at to : tree.Spot) (x : ℕ) → MayMove old at to x → AreConsistent new
+    → held_rows new ≡ where_key spot_cmp (λ spot. not (is_eq (spot_cmp at spot))) (held_rows old) → held_nodes new ≡ held_nodes old →
+    MayEnter new to x
+moved_may_enter old new at to x may kept rows nodes = record {
+  kept = kept;
+  free = free_left old new at rows to may.free;
+  may = stands_no_more old new at x rows nodes may.has.there may.not_root may.dir_once;
+}
+
 -- a directory of a tree has one name
-pub named_once : (s : Slots) (next x : ℕ) → WellFormed (held_in_slots s next) → x ≢ 0 → (n : SlotNode) → node_in s x ≡ Some n →
+named_once : (s : Slots) (next x : ℕ) → WellFormed (held_in_slots s next) → x ≢ 0 → (n : SlotNode) → node_in s x ≡ Some n →
     n.kind ≡ Dir → names_of (held_rows s) x ≡ 1
 named_once s next x w nz n e k = sym (tally_counts {K = tree.Spot} (λ y. y == x) (held_rows s)) ∙
     (sound_from (held_in_slots s next) w).once x (dir_found s next x n e k) nz
 
 -- and keeps it where another node's row goes
-pub named_once_still : (old new : Slots) (next : ℕ) (at : tree.Spot) (y x : ℕ) → WellFormed (held_in_slots old next) →
+named_once_still : (old new : Slots) (next : ℕ) (at : tree.Spot) (y x : ℕ) → WellFormed (held_in_slots old next) →
     held_rows new ≡ where_key spot_cmp (λ spot. not (is_eq (spot_cmp at spot))) (held_rows old)
     → held_nodes new ≡ held_nodes old → row_at old at ≡ Some y → y ≢ x → x ≢ 0 → (n : SlotNode) → node_in new x ≡ Some n → n.kind ≡ Dir →
     names_of (held_rows new) x ≡ 1
@@ -158,14 +181,50 @@ named_once_still old new next at y x w rows nodes there other nz n e k =
     let apart : one_at y x ≡ 0 = ap (λ b. cond b 1 0) (ne_eqb y x other) in
     omega (arith, names_left old new at rows y there x, once, apart)
 
-pub row_not_root : (s : Slots) (next dir x : ℕ) (name : List ℕ) → WellFormed (held_in_slots s next) → row_at s (dir, name) ≡ Some x → x ≢ 0
+row_not_root : (s : Slots) (next dir x : ℕ) (name : List ℕ) → WellFormed (held_in_slots s next) → row_at s (dir, name) ≡ Some x → x ≢ 0
 row_not_root s next dir x name w e =
     (row_says (held_in_slots s next) (sound_from (held_in_slots s next) w) (dir, name) x (rows_found s (dir, name) ∙ e)).3
 
 -- spots of different nodes differ
-pub spots_apart : (t : Tree) (from : ℕ) (name : List ℕ) (to : ℕ) (new_name : List ℕ) (x : ℕ) → look t from name ≡ Some x →
+spots_apart : (t : Tree) (from : ℕ) (name : List ℕ) (to : ℕ) (new_name : List ℕ) (x : ℕ) → look t from name ≡ Some x →
     look t to new_name ≢ Some x → ◌≢◌ {A = tree.Spot} (from, name) (to, new_name)
 spots_apart t from name to new_name x found other e = other (ap (λ (spot : tree.Spot). find spot_cmp spot t.rows) (sym e) ∙ found)
+
+-- a row that may be moved
+module _ (s : Slots) (next : ℕ) (t : Tree) (w : WellFormed t) (kept : AreConsistent s) (same : held_in_slots s next ≡ t) (from : ℕ)
+    (name : List ℕ) (to : ℕ) (new_name : List ℕ) (x : ℕ) (found : look t from name ≡ Some x) where
+  formed : WellFormed (held_in_slots s next)
+  formed = subst WellFormed (sym same) w
+
+  has_moved : HasRow s (from, name) x
+  has_moved = has_row s next t from name x kept same found
+
+  no_root : x ≢ 0
+  no_root = row_not_root s next from x name formed has_moved.there
+
+  pub may_move : look t to new_name ≡ None → MayMove s (from, name) (to, new_name) x
+  may_move free = record {
+    has = has_moved;
+    free = found_row s next t to new_name None same free;
+    not_root = no_root;
+    dir_once = named_once s next x formed no_root;
+  }
+
+  -- to where another node's row was taken away
+  pub may_move_there : (y : ℕ) → look t to new_name ≡ Some y → y ≢ x → (taken : Slots) → AreConsistent taken
+      → held_rows taken ≡ where_key spot_cmp (λ spot. not (is_eq (spot_cmp (to, new_name) spot))) (held_rows s)
+      → held_nodes taken ≡ held_nodes s → MayMove taken (from, name) (to, new_name) x
+  may_move_there y there other taken still rows nodes = record {
+    has = record {
+      kept = still;
+      there = others_left s taken (to, new_name) rows (from, name) (spots_apart t from name to new_name x found (λ e.
+          other (same_Some y x (sym there ∙ e)))) ∙ has_moved.there;
+    };
+    free = free_there s taken (to, new_name) rows;
+    not_root = no_root;
+    dir_once = named_once_still s taken next (to, new_name) y x formed rows nodes (found_row s next t to new_name (Some y) same there)
+        other no_root;
+  }
 
 -- a row put at a spot whose row was taken away is put in its place
 pub put_over : (spot at : tree.Spot) (x : ℕ) (rows : List (tree.Spot × ℕ)) → T (is_sorted spot_cmp rows)
@@ -214,7 +273,7 @@ module _ (s : Slots) (next : ℕ) (w : WellFormed (held_in_slots s next)) (kept 
   raised : WellFormed (held_in_slots s e.number)
   raised = raised_keeps (held_in_slots s next) e.number w later
 
-  pub free_spot : (m : Option tree.Node) → Enters (held_in_slots s next) e m → row_at s (e.parent, e.name) ≡ None
+  free_spot : (m : Option tree.Node) → Enters (held_in_slots s next) e m → row_at s (e.parent, e.name) ≡ None
   free_spot None tied = sym (rows_found s (e.parent, e.name)) ∙
       (tie_free (record (held_in_slots s next) { next = e.number + 1 }) e.parent e.node e.name _ tied).0
   free_spot (Some made) added = sym (rows_found s (e.parent, e.name)) ∙
@@ -232,7 +291,7 @@ module _ (s : Slots) (next : ℕ) (w : WellFormed (held_in_slots s next)) (kept 
   new_where_made None tied = tt
   new_where_made (Some made) added = new_node added.0
 
-  pub may_enter : (after : Slots) (m : Option tree.Node) → Enters (held_in_slots s next) e m → held_rows after ≡ held_rows s →
+  may_enter : (after : Slots) (m : Option tree.Node) → Enters (held_in_slots s next) e m → held_rows after ≡ held_rows s →
       held_nodes after ≡ with_made e.node m (held_nodes s) → MayStand after e.node
   may_enter after None tied rows nodes =
       let no_dir = (tie_free (record (held_in_slots s next) { next = e.number + 1 }) e.parent e.node e.name _ tied).1 in
@@ -244,6 +303,16 @@ module _ (s : Slots) (next : ℕ) (w : WellFormed (held_in_slots s next)) (kept 
   may_enter after (Some made) added rows nodes = record {
     not_root = λ z. next_no_root s e.number raised kept (sym added.0 ∙ z);
     dir_once = λ n f k. ap (λ r. names_of r e.node) rows ∙ (new_node added.0).no_names;
+  }
+
+  -- its row may come to its spot, once its node is made
+  pub entry_may_enter : (after : Slots) (m : Option tree.Node) → Enters (held_in_slots s next) e m → AreConsistent after →
+      held_rows after ≡ held_rows s → held_nodes after ≡ with_made e.node m (held_nodes s) → MayEnter after (e.parent, e.name) e.node
+  entry_may_enter after m enters still rows nodes = record {
+    kept = still;
+    free = sym (rows_found after (e.parent, e.name)) ∙ ap (find spot_cmp (e.parent, e.name)) rows ∙ rows_found s (e.parent, e.name)
+        ∙ free_spot m enters;
+    may = may_enter after m enters rows nodes;
   }
 
   pub grown_held : (after : Slots) (m : Option tree.Node) → Enters (held_in_slots s next) e m →

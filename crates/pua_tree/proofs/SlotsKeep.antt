@@ -1,14 +1,14 @@
 -- Rows put into slots and taken out of them leave every node knowing how it stands.
 use Rattle.pua_tree.proofs.Common.{◌≡◌, ◌≢◌, ℕ, ◌+◌, ◌-◌, ◌<◌, ◌^◌, true, false, not, ◌==◌, cond, List, length, Option, Some, None}
 use Rattle.pua_tree.proofs.Common.{option_map, refl, sym, ap, ◌∙◌, arith, inl, inr, eqb-true, eq-eqb, IfSome, is_eq, find, put, where_key}
-use Rattle.pua_tree.proofs.Common.{spot_cmp, row_at, node_in, made_of, held_rows, held_nodes, rows_in, names_of, AreConsistent, Dir, Slots}
+use Rattle.pua_tree.proofs.Common.{spot_cmp, node_in, made_of, held_rows, held_nodes, rows_in, names_of, AreConsistent, Dir, Slots}
 use Rattle.pua_tree.proofs.Common.{SlotNode, subst}
 use Rattle.std.proofs.Common.{ne_eqb, BuildHasherDefault, FoldHasher}
 use Rattle.std.proofs.lemmas.List.Sums.{count_by-le-length}
 use Rattle.indexmap.specs.IndexMap.{IndexMap, UpdatesBy}
 use Rattle.pua_tree.specs.Tree as tree
 use Rattle.pua_tree.specs.Slots.{with_stance, one_at, row_gained}
-use Rattle.pua_tree.specs.Slots.{row_lost, name_gained, name_lost, Restands, MayStand}
+use Rattle.pua_tree.specs.Slots.{row_lost, name_gained, name_lost, Restands, MayEnter, HasRow, IsFiled}
 use Rattle.pua_tree.specs.declared.slots.Stance.{Stance}
 use Rattle.pua_tree.specs.declared.slots.RowNode.{RowNode}
 use Rattle.pua_tree.specs.declared.spot.Spot.{Spot}
@@ -66,9 +66,6 @@ named rows at x f none =
     let some = tally_found spot_cmp spots_total exact_spots (λ y. y == x) at x rows f (eq-eqb x x refl) in
     omega (arith, some, tally_counts {K = tree.Spot} (λ y. y == x) rows, none)
 
-one_here : (d : ℕ) → one_at d d ≡ 1
-one_here d = ap (λ b. cond b 1 0) (eq-eqb d d refl)
-
 -- what a row that is put asks of standings
 module _ (old more : Slots) (at : tree.Spot) (x : ℕ) (kept : AreConsistent old) (small : length (held_rows old) < 2 ^ 63) where
   pub few_rows : IfSome (node_in old at.0) (λ node. node.standing.rows < 2 ^ 63)
@@ -87,10 +84,20 @@ module _ (old more : Slots) (at : tree.Spot) (x : ℕ) (kept : AreConsistent old
 
 -- a row put
 module _ (old more mid : Slots) (rows : IndexMap Spot RowNode (BuildHasherDefault FoldHasher)) (at : tree.Spot) (placed : RowNode)
-    (kept : AreConsistent old)
-    (a : Restands old more (row_gained at.0)) (b : Restands more mid (name_gained at.0 placed.node))
-    (updates : UpdatesBy spot_ghosts.eq (spot_ghosts.eq (key_at at)) mid.rows rows (Some placed)) (free : row_at old at ≡ None)
-    (may : MayStand old placed.node) where
+    (enters : MayEnter old at placed.node) (small : length (held_rows old) < 2 ^ 63)
+    (row_more : IsFiled old → IfSome (node_in old at.0) (λ node. node.standing.rows < 2 ^ 63) → Restands old more (row_gained at.0))
+    (name_more : IsFiled more → IfSome (node_in more placed.node) (λ node. node.standing.names < 2 ^ 63) →
+    Restands more mid (name_gained at.0 placed.node))
+    (same_rows : mid.rows ≡ old.rows) (updates : UpdatesBy spot_ghosts.eq (spot_ghosts.eq (key_at at)) mid.rows rows (Some placed)) where
+  abbrev before_put : AreConsistent old
+  before_put = enters.kept
+
+  abbrev gained_row : Restands old more (row_gained at.0)
+  gained_row = row_more before_put.filed (few_rows old more at placed.node before_put small)
+
+  abbrev gained_name : Restands more mid (name_gained at.0 placed.node)
+  gained_name = name_more gained_row.filed (few_names old more at placed.node before_put small gained_row)
+
   abbrev new : Slots
   new = record mid { rows = rows }
 
@@ -98,30 +105,31 @@ module _ (old more mid : Slots) (rows : IndexMap Spot RowNode (BuildHasherDefaul
   x = placed.node
 
   none_there : find spot_cmp at (held_rows old) ≡ None
-  none_there = rows_found old at ∙ free
+  none_there = rows_found old at ∙ enters.free
 
-  pub rows_after_put : held_rows new ≡ put spot_cmp at x (held_rows old)
-  rows_after_put = rows_put mid new at placed updates ∙ ap (put spot_cmp at x) (rows_by mid old (b.rows ∙ a.rows))
+  rows_after_put : held_rows new ≡ put spot_cmp at x (held_rows old)
+  rows_after_put = rows_put mid new at placed updates ∙ ap (put spot_cmp at x) (rows_by mid old same_rows)
 
   pub nodes_after_put : held_nodes new ≡ held_nodes old
-  nodes_after_put = nodes_same old new (made_alike old more mid (row_gained at.0) (name_gained at.0 x) a b)
+  nodes_after_put = nodes_same old new (made_alike old more mid (row_gained at.0) (name_gained at.0 x) gained_row gained_name)
 
   stood : (y : ℕ) (m : SlotNode) → node_in new y ≡ Some m →
-      (n : SlotNode) × (node_in old y ≡ Some n) × (changed old more mid (row_gained at.0) (name_gained at.0 x) a b y n ≡ m)
-  stood = was old more mid (row_gained at.0) (name_gained at.0 x) a b
+      (n : SlotNode) × (node_in old y ≡ Some n)
+      × (changed old more mid (row_gained at.0) (name_gained at.0 x) gained_row gained_name y n ≡ m)
+  stood = was old more mid (row_gained at.0) (name_gained at.0 x) gained_row gained_name
 
-  pub kept_after_put : ((n : SlotNode) → node_in old x ≡ Some n → n.kind ≡ placed.kind) → AreConsistent new
+  pub kept_after_put : ((n : SlotNode) → node_in more x ≡ Some n → n.kind ≡ placed.kind) → AreConsistent new
   kept_after_put kind_is = record {
-    filed = record { filled = b.filed.filled; apart = b.filed.apart; no_other = b.filed.no_other };
+    filed = record { filled = gained_name.filed.filled; apart = gained_name.filed.apart; no_other = gained_name.filed.no_other };
     standing = record {
       rows_counted = λ y m e. (let w = stood y m e in
           sym (ap (λ (n : SlotNode). n.standing.rows) w.2)
-          ∙ ap (λ r. r + one_at at.0 y) (kept.standing.rows_counted y w.0 w.1)
+          ∙ ap (λ r. r + one_at at.0 y) (before_put.standing.rows_counted y w.0 w.1)
           ∙ sym (counted-put spot_cmp spots_total exact_spots (λ row. row.0.0 == y) at x (held_rows old) none_there)
           ∙ sym (ap (λ rows. rows_in rows y) rows_after_put));
       names_counted = λ y m e. (let w = stood y m e in
           sym (ap (λ (n : SlotNode). n.standing.names) w.2)
-          ∙ ap (λ r. r + one_at x y) (kept.standing.names_counted y w.0 w.1)
+          ∙ ap (λ r. r + one_at x y) (before_put.standing.names_counted y w.0 w.1)
           ∙ sym (counted-put spot_cmp spots_total exact_spots (λ row. row.1 == y) at x (held_rows old) none_there)
           ∙ sym (ap (λ rows. names_of rows y) rows_after_put));
       dir_above = λ spot y m f e d. (let w = stood y m e in
@@ -138,8 +146,8 @@ module _ (old more mid : Slots) (rows : IndexMap Spot RowNode (BuildHasherDefaul
                 above ∙ elsewhere spot y w.0 kind w.1 row)
           ]);
       above_root = λ m e. (let w = stood 0 m e in
-          sym (ap (λ (n : SlotNode). n.standing.above) w.2) ∙ ap (λ t. cond t at.0 w.0.standing.above) (ne_eqb x 0 may.not_root) ∙
-          kept.standing.above_root w.0 w.1);
+          sym (ap (λ (n : SlotNode). n.standing.above) w.2) ∙ ap (λ t. cond t at.0 w.0.standing.above) (ne_eqb x 0 enters.may.not_root) ∙
+          before_put.standing.above_root w.0 w.1);
     };
     kinds = λ q row m r e. (let w = stood row.node m e in
         sym (ap (λ (n : SlotNode). n.kind) w.2) ∙
@@ -152,24 +160,39 @@ module _ (old more mid : Slots) (rows : IndexMap Spot RowNode (BuildHasherDefaul
           elim (x == y) as (λ b. (x == y) ≡ b → cond b at.0 n.standing.above ≡ spot.0) [
             | true ↦ λ t. (let here : x ≡ y = eqb-true x y t in
                 absurd (named (held_rows old) spot y row (ap (names_of (held_rows old)) (sym here) ∙
-                may.dir_once n (ap (node_in old) here ∙ e) kind)))
-            | false ↦ λ _. kept.standing.dir_above spot y n row e kind
+                enters.may.dir_once n (ap (node_in old) here ∙ e) kind)))
+            | false ↦ λ _. before_put.standing.dir_above spot y n row e kind
           ] refl
 
       said : (q : tree.Spot) (row : RowNode) (n : SlotNode) → node_in old row.node ≡ Some n → (here : Bool) →
           cond here (Some placed) (row_in mid q) ≡ Some row → n.kind ≡ row.kind
       said q row n e true r =
           let same = same_Some placed row r in
-          kind_is n (ap (λ (p : RowNode). node_in old p.node) same ∙ e) ∙ ap (λ (p : RowNode). p.kind) same
-      said q row n e false r = kept.kinds q row n (sym (row_by mid old (b.rows ∙ a.rows) q) ∙ r) e
+          let here = ap (λ (p : RowNode). node_in old p.node) same ∙ e in
+          kind_is (with_stance (row_gained at.0 x n.standing) n) (gained_row.nodes x ∙
+          ap (option_map (λ m. with_stance (row_gained at.0 x m.standing) m)) here)
+          ∙ ap (λ (p : RowNode). p.kind) same
+      said q row n e false r = before_put.kinds q row n (sym (row_by mid old same_rows q) ∙ r) e
 
 -- a row taken away
-module _ (old between more new : Slots) (at : tree.Spot) (x : ℕ) (kept : AreConsistent old)
-    (updates : UpdatesBy spot_ghosts.eq (spot_ghosts.eq (key_at at)) old.rows between.rows None) (same : (y : ℕ) →
-    node_in between y ≡ node_in old y)
-    (there : row_at old at ≡ Some x) where
+module _ (old more new : Slots) (rows : IndexMap Spot RowNode (BuildHasherDefault FoldHasher)) (at : tree.Spot) (x : ℕ)
+    (has : HasRow old at x) (updates : UpdatesBy spot_ghosts.eq (spot_ghosts.eq (key_at at)) old.rows rows None)
+    (row_less : IsFiled (record old { rows = rows }) → Restands (record old { rows = rows }) more (row_lost at.0))
+    (name_less : IsFiled more → Restands more new (name_lost x)) (same_rows : new.rows ≡ rows) where
+  abbrev before_take : AreConsistent old
+  before_take = has.kept
+
+  abbrev between : Slots
+  between = record old { rows = rows }
+
+  abbrev lost_row : Restands between more (row_lost at.0)
+  lost_row = row_less (record { filled = before_take.filed.filled; apart = before_take.filed.apart; no_other = before_take.filed.no_other })
+
+  abbrev lost_name : Restands more new (name_lost x)
+  lost_name = name_less lost_row.filed
+
   found_there : find spot_cmp at (held_rows old) ≡ Some x
-  found_there = rows_found old at ∙ there
+  found_there = rows_found old at ∙ has.there
 
   one_row_fewer : (y : ℕ) → rows_in (where_key spot_cmp (λ spot. not (is_eq (spot_cmp at spot))) (held_rows old)) y + one_at at.0 y
       ≡ rows_in (held_rows old) y
@@ -180,71 +203,56 @@ module _ (old between more new : Slots) (at : tree.Spot) (x : ℕ) (kept : AreCo
       ≡ names_of (held_rows old) y
   one_name_fewer y = counted-without spot_cmp spots_total exact_spots (λ row. row.1 == y) at x (held_rows old) (rows_sorted old) found_there
 
-  pub some_rows : IfSome (node_in between at.0) (λ node. 0 < node.standing.rows)
-  some_rows = each (node_in between at.0) (λ n e.
-      let counted = kept.standing.rows_counted at.0 n (sym (same at.0) ∙ e) in
-      omega (arith, counted, one_row_fewer at.0, one_here at.0))
+  rows_after_take : held_rows new ≡ where_key spot_cmp (λ spot. not (is_eq (spot_cmp at spot))) (held_rows old)
+  rows_after_take = rows_by new between same_rows ∙ rows_taken old between at updates
 
-  module _ (a : Restands between more (row_lost at.0)) where
-    pub some_names : IfSome (node_in more x) (λ node. 0 < node.standing.names)
-    some_names = each (node_in more x) (λ m e.
-        let w = mapped (λ n. with_stance (row_lost at.0 x n.standing) n) (node_in between x) m (sym (a.nodes x) ∙ e) in
-        let counted = kept.standing.names_counted x w.0 (sym (same x) ∙ w.1) in
-        let names : w.0.standing.names ≡ m.standing.names = ap (λ (n : SlotNode). n.standing.names) w.2 in
-        omega (arith, counted, names, one_name_fewer x, one_here x))
+  pub nodes_after_take : held_nodes new ≡ held_nodes old
+  nodes_after_take = nodes_same old new (made_alike between more new (row_lost at.0) (name_lost x) lost_row lost_name)
 
-    module _ (b : Restands more new (name_lost x)) where
-      pub rows_after_take : held_rows new ≡ where_key spot_cmp (λ spot. not (is_eq (spot_cmp at spot))) (held_rows old)
-      rows_after_take = rows_by new between (b.rows ∙ a.rows) ∙ rows_taken old between at updates
+  left : (y : ℕ) (m : SlotNode) → node_in new y ≡ Some m →
+      (n : SlotNode) × (node_in old y ≡ Some n) × (changed between more new (row_lost at.0) (name_lost x) lost_row lost_name y n ≡ m)
+  left = was between more new (row_lost at.0) (name_lost x) lost_row lost_name
 
-      pub nodes_after_take : held_nodes new ≡ held_nodes old
-      nodes_after_take = nodes_same old new (λ y. made_alike between more new (row_lost at.0) (name_lost x) a b y ∙
-          ap (λ (o : Option SlotNode). option_map made_of o) (same y))
+  fewer : (n before after one_less : ℕ) → n ≡ before → after + one_less ≡ before → n - one_less ≡ after
+  fewer n before after one_less e l = omega arith
 
-      left : (y : ℕ) (m : SlotNode) → node_in new y ≡ Some m →
-          (n : SlotNode) × (node_in old y ≡ Some n) × (changed between more new (row_lost at.0) (name_lost x) a b y n ≡ m)
-      left y m e = let w = was between more new (row_lost at.0) (name_lost x) a b y m e in (w.0, sym (same y) ∙ w.1, w.2)
+  row_was : (spot : tree.Spot) (y : ℕ) → find spot_cmp spot (held_rows new) ≡ Some y → find spot_cmp spot (held_rows old) ≡ Some y
+  row_was spot y f =
+      let found : find spot_cmp spot (where_key spot_cmp (λ other. not (is_eq (spot_cmp at other))) (held_rows old)) ≡ Some y =
+      ap (find spot_cmp spot) (sym rows_after_take) ∙ f in
+      elim (same_or_other spot_cmp spots_total exact_spots spot at) [
+        | inl s ↦ absurd (Some≢None y (sym found ∙
+            ap (λ q. find spot_cmp q (where_key spot_cmp (λ other. not (is_eq (spot_cmp at other))) (held_rows old))) s.0 ∙
+            without_here spot_cmp spots_total exact_spots at (held_rows old)))
+        | inr s ↦ sym (without_elsewhere spot_cmp spots_total exact_spots spot at (held_rows old) s.0) ∙ found
+      ]
 
-      fewer : (n before after one_less : ℕ) → n ≡ before → after + one_less ≡ before → n - one_less ≡ after
-      fewer n before after one_less e l = omega arith
-
-      row_was : (spot : tree.Spot) (y : ℕ) → find spot_cmp spot (held_rows new) ≡ Some y → find spot_cmp spot (held_rows old) ≡ Some y
-      row_was spot y f =
-          let found : find spot_cmp spot (where_key spot_cmp (λ other. not (is_eq (spot_cmp at other))) (held_rows old)) ≡ Some y =
-          ap (find spot_cmp spot) (sym rows_after_take) ∙ f in
-          elim (same_or_other spot_cmp spots_total exact_spots spot at) [
-            | inl s ↦ absurd (Some≢None y (sym found ∙
-                ap (λ q. find spot_cmp q (where_key spot_cmp (λ other. not (is_eq (spot_cmp at other))) (held_rows old))) s.0 ∙
-                without_here spot_cmp spots_total exact_spots at (held_rows old)))
-            | inr s ↦ sym (without_elsewhere spot_cmp spots_total exact_spots spot at (held_rows old) s.0) ∙ found
-          ]
-
-      pub kept_after_take : AreConsistent new
-      kept_after_take = record {
-        filed = b.filed;
-        standing = record {
-          rows_counted = λ y m e. (let w = left y m e in
-              sym (ap (λ (n : SlotNode). n.standing.rows) w.2)
-              ∙ fewer w.0.standing.rows (rows_in (held_rows old) y) _ (one_at at.0 y) (kept.standing.rows_counted y w.0 w.1)
-              (one_row_fewer y)
-              ∙ sym (ap (λ rows. rows_in rows y) rows_after_take));
-          names_counted = λ y m e. (let w = left y m e in
-              sym (ap (λ (n : SlotNode). n.standing.names) w.2)
-              ∙ fewer w.0.standing.names (names_of (held_rows old) y) _ (one_at x y) (kept.standing.names_counted y w.0 w.1)
-              (one_name_fewer y)
-              ∙ sym (ap (λ rows. names_of rows y) rows_after_take));
-          dir_above = λ spot y m f e d. (let w = left y m e in
-              sym (ap (λ (n : SlotNode). n.standing.above) w.2)
-              ∙ kept.standing.dir_above spot y w.0 (row_was spot y f) w.1 (ap (λ (n : SlotNode). n.kind) w.2 ∙ d));
-          above_root = λ m e. (let w = left 0 m e in
-              sym (ap (λ (n : SlotNode). n.standing.above) w.2) ∙ kept.standing.above_root w.0 w.1);
-        };
-        kinds = λ q row m r e. (let w = left row.node m e in
-            sym (ap (λ (n : SlotNode). n.kind) w.2) ∙
-            kept.kinds q row w.0 (stayed (row_in old q) (spot_ghosts.eq (key_at at) (key_at q)) row (sym (updates.0 (key_at q)) ∙
-            sym (row_by new between (b.rows ∙ a.rows) q) ∙ r)) w.1);
-      }
-        where
-          stayed : (was : Option RowNode) (here : Bool) (row : RowNode) → cond here None was ≡ Some row → was ≡ Some row
-          stayed was true row r = absurd (Some≢None row (sym r))
-          stayed was false row r = r
+  pub kept_after_take : AreConsistent new
+  kept_after_take = record {
+    filed = lost_name.filed;
+    standing = record {
+      rows_counted = λ y m e. (let w = left y m e in
+          sym (ap (λ (n : SlotNode). n.standing.rows) w.2)
+          ∙ fewer w.0.standing.rows (rows_in (held_rows old) y) _ (one_at at.0 y) (before_take.standing.rows_counted y w.0 w.1)
+          (one_row_fewer y)
+          ∙ sym (ap (λ rows. rows_in rows y) rows_after_take));
+      names_counted = λ y m e. (let w = left y m e in
+          sym (ap (λ (n : SlotNode). n.standing.names) w.2)
+          ∙ fewer w.0.standing.names (names_of (held_rows old) y) _ (one_at x y) (before_take.standing.names_counted y w.0 w.1)
+          (one_name_fewer y)
+          ∙ sym (ap (λ rows. names_of rows y) rows_after_take));
+      dir_above = λ spot y m f e d. (let w = left y m e in
+          sym (ap (λ (n : SlotNode). n.standing.above) w.2)
+          ∙ before_take.standing.dir_above spot y w.0 (row_was spot y f) w.1 (ap (λ (n : SlotNode). n.kind) w.2 ∙ d));
+      above_root = λ m e. (let w = left 0 m e in
+          sym (ap (λ (n : SlotNode). n.standing.above) w.2) ∙ before_take.standing.above_root w.0 w.1);
+    };
+    kinds = λ q row m r e. (let w = left row.node m e in
+        sym (ap (λ (n : SlotNode). n.kind) w.2) ∙
+        before_take.kinds q row w.0 (stayed (row_in old q) (spot_ghosts.eq (key_at at) (key_at q)) row (sym (updates.0 (key_at q)) ∙
+        sym (row_by new between same_rows q) ∙ r)) w.1);
+  }
+    where
+      stayed : (was : Option RowNode) (here : Bool) (row : RowNode) → cond here None was ≡ Some row → was ≡ Some row
+      stayed was true row r = absurd (Some≢None row (sym r))
+      stayed was false row r = r

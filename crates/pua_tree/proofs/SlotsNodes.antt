@@ -4,6 +4,7 @@ use Rattle.pua_tree.proofs.Common.{eqb-true, eq-eqb, true≢false, IsSome, optio
 use Rattle.pua_tree.proofs.Common.{node_in, held_rows, rows_in, names_of, AreConsistent, Slots, SlotNode}
 use Rattle.std.proofs.Common.{ne_eqb}
 use Rattle.slab.specs.Slab.{get as slot_get, slab_len, Updates}
+use Rattle.std.specs.Option.{OnSome}
 use Rattle.pua_tree.specs.Slots.{IsFiled}
 use Rattle.pua_tree.proofs.Base.{same_Some, None≢Some}
 use Rattle.pua_tree.specs.contracts.spot.SpotPartialEq.TheImpl.{ghosts as spot_ghosts}
@@ -178,4 +179,17 @@ kept_dropped old new x kept same found filed = let rows = rows_by new old same i
     was q n e = elim (q == x) as (λ b. (q == x) ≡ b → node_in old q ≡ Some n) [
       | true ↦ λ t. absurd (None≢Some n (sym (found q ∙ ap (λ b. cond b None (node_in old q)) t) ∙ e))
       | false ↦ λ t. sym (found q ∙ ap (λ b. cond b None (node_in old q)) t) ∙ e
+    ] refl
+
+pub when_some : {X P : Type 0} (o : Option X) → IsSome o → OnSome o P → P
+when_some None some p = absurd (true≢false (sym some))
+when_some (Some x) some p = p
+
+-- a number taken out that had no slot
+pub found_absent : (old new : Slots) (x : ℕ) → ((q : ℕ) → node_in new q ≡ node_in old q) → slot_of old x ≡ None → (q : ℕ) →
+    node_in new q ≡ cond (q == x) None (node_in old q)
+found_absent old new x same none q =
+    same q ∙ elim (q == x) as (λ b. (q == x) ≡ b → node_in old q ≡ cond b None (node_in old q)) [
+      | true ↦ λ t. ap (λ (o : Option ℕ). option_and_then (slot_get old.nodes) o) (ap (slot_of old) (eqb-true q x t) ∙ none)
+      | false ↦ λ _. refl
     ] refl

@@ -95,10 +95,8 @@ with_stance standing node = record node { standing = standing }
 abbrev pub standing_of_dir : SlotNode → Option Stance
 standing_of_dir node = if tree.is_dir_kind (Some node.kind) then Some node.standing else None
 
--- standings have changed so, and nothing else
+-- standings have changed so, and nothing else of nodes
 pub record Restands (old new : Slots) (change : ℕ → Stance → Stance) : Type 0 where
-  pub rows : new.rows ≡ old.rows
-  pub numbers : new.numbers ≡ old.numbers
   pub filed : IsFiled new
   pub nodes : (x : ℕ) → node_in new x ≡ option_map (λ node. with_stance (change x node.standing) node) (node_in old x)
 
@@ -124,6 +122,24 @@ name_lost node x standing = record standing { names = standing.names - one_at no
 pub record MayStand (s : Slots) (x : ℕ) : Type 0 where
   pub not_root : x ≢ 0
   pub dir_once : (node : SlotNode) → node_in s x ≡ Some node → node.kind ≡ Dir → names_of (held_rows s) x ≡ 0
+
+-- a row may come to a spot: nothing stands there, and its node may stand in a further row
+pub record MayEnter (s : Slots) (at : tree.Spot) (x : ℕ) : Type 0 where
+  pub kept : AreConsistent s
+  pub free : row_at s at ≡ None
+  pub may : MayStand s x
+
+-- a node stands in the row at a spot
+pub record HasRow (s : Slots) (at : tree.Spot) (x : ℕ) : Type 0 where
+  pub kept : AreConsistent s
+  pub there : row_at s at ≡ Some x
+
+-- a node's row may move to a spot: nothing stands there, the node is not the root, and a directory has no other name
+pub record MayMove (s : Slots) (at to : tree.Spot) (x : ℕ) : Type 0 where
+  pub has : HasRow s at x
+  pub free : row_at s to ≡ None
+  pub not_root : x ≢ 0
+  pub dir_once : (node : SlotNode) → node_in s x ≡ Some node → node.kind ≡ Dir → names_of (held_rows s) x ≡ 1
 
 -- a number that no node has, and no row names
 pub record IsNew (s : Slots) (x : ℕ) : Type 0 where

@@ -105,7 +105,7 @@ impl FileTree for SlabTree {
     fn cut(&mut self, dir: NodeId, name: &Name) -> Result<NodeId, TreeFault> {
         let node = may_cut(self, dir, name)?;
         let names = self.slots.take_row(dir, name, node);
-        self.slots.drop_where_none_left(node, names);
+        self.slots.drop_unnamed(node, names);
         Ok(node)
     }
 
@@ -123,9 +123,9 @@ impl FileTree for SlabTree {
         self.slots.reserve_row()?;
         match displaced {
             Some(displaced) => {
-                self.slots.take_row(to, &new_name, displaced);
+                let names = self.slots.take_row(to, &new_name, displaced);
                 self.slots.move_row(from, name, to, new_name, node);
-                self.slots.drop_unnamed(displaced);
+                self.slots.drop_unnamed(displaced, names);
             }
             None => self.slots.move_row(from, name, to, new_name, node),
         }

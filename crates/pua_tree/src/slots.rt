@@ -34,7 +34,8 @@ pub(crate) struct RowNode {
     pub(crate) kind: Kind,
 }
 
-/// Rows and nodes. A node's number is never given again; its slot is.
+/// Rows and nodes. A node's number is never given again; its slot is. What a change leaves is said
+/// of rows and nodes that are consistent before it, as those of a `SlabTree` are.
 #[derive(Drop)]
 pub(crate) struct Slots {
     pub(crate) rows: IndexMap<Spot, RowNode>,
@@ -42,7 +43,7 @@ pub(crate) struct Slots {
     pub(crate) nodes: Slab<SlotNode>,
 }
 
-ghost use Rattle.std.specs.Prelude.{ℕ, ◌≡◌, ◌≢◌, ◌<◌, ◌≤◌, ◌+◌, ◌==◌, ◌^◌, Some, None, IsSome};
+ghost use Rattle.std.specs.Prelude.{ℕ, ◌≡◌, ◌<◌, ◌≤◌, ◌==◌, ◌^◌, Some, None};
 ghost use Rattle.std.specs.Prelude.{IfSome, IfOk, OnOk, if◌then◌else◌, option_copied, option_map};
 ghost use Rattle.std.specs.Prelude.{option_and_then, length, map, not};
 ghost use Rattle.std.specs.Ordering.{is_eq, nat_cmp};
@@ -50,13 +51,13 @@ ghost use Rattle.std.specs.FinMap.{put};
 ghost use Rattle.std.specs.FinMap.Entries.{where_key};
 ghost use Rattle.indexmap.specs.IndexMap.{spare};
 ghost use Rattle.slab.specs.Slab.{HasRoomFor};
-ghost use Rattle.pua_tree.specs.declared.slots.SlotNode.{SlotNode};
 ghost use Rattle.pua_tree.specs.Tree.{spot_cmp, empty_tree, distinct_names};
 ghost use Rattle.pua_tree.specs.Edits.{without_unnamed};
 ghost use Rattle.pua_tree.specs.Reading.{said_node};
 ghost use Rattle.pua_tree.specs.LentRows.{lent_entry};
 ghost use Rattle.pua_tree.specs.Slots.{held_rows, held_nodes, held_in_slots, names_of, IsNew};
-ghost use Rattle.pua_tree.specs.Slots.{MayStand, with_made, row_in, row_at, slot_of, node_in};
+ghost use Rattle.pua_tree.specs.Slots.{with_made, row_in, row_at, slot_of, node_in};
+ghost use Rattle.pua_tree.specs.Slots.{HasRow, MayEnter, MayMove};
 ghost use Rattle.pua_tree.specs.Slots.{AreConsistent, Restands, row_gained, row_lost, name_gained};
 ghost use Rattle.pua_tree.specs.Slots.{name_lost, IsFiled, standing_of_dir};
 
@@ -122,63 +123,53 @@ impl Slots {
         }
     }
 
-    /// How the node of this number stands.
-    fn standing(&self, id: NodeId) -> Option<Stance>
-        ensures { result ≡ option_map (λ node. node.standing) (node_in self.now id) }
-    {
-        match self.node(id) {
-            Some(node) => Some(node.standing),
-            None => None,
-        }
-    }
-
     /// Counts a further row of a directory.
     fn gain_row(&mut self, dir: NodeId)
-        requires filed { IsFiled self.old }
-        requires few { IfSome (node_in self.old dir) (λ node. node.standing.rows < 2 ^ 63) }
-        ensures { Restands self.old self.new (row_gained dir) }
+        ensures rows { self.new.rows ≡ self.old.rows }
+        ensures restands { IsFiled self.old →
+            IfSome (node_in self.old dir) (λ node. node.standing.rows < 2 ^ 63) →
+            Restands self.old self.new (row_gained dir) }
     {
         let Some(slot) = self.slot(dir) else {
             return;
         };
         if let Some(node) = self.nodes.get_mut(slot) {
-            node.standing.rows += 1;
+            node.standing.rows = node.standing.rows.wrapping_add(1);
         }
     }
 
     /// Counts a row of a directory no more.
     fn lose_row(&mut self, dir: NodeId)
-        requires filed { IsFiled self.old }
-        requires some { IfSome (node_in self.old dir) (λ node. 0 < node.standing.rows) }
-        ensures { Restands self.old self.new (row_lost dir) }
+        ensures rows { self.new.rows ≡ self.old.rows }
+        ensures restands { IsFiled self.old → Restands self.old self.new (row_lost dir) }
     {
         let Some(slot) = self.slot(dir) else {
             return;
         };
         if let Some(node) = self.nodes.get_mut(slot) {
-            node.standing.rows -= 1;
+            node.standing.rows = node.standing.rows.saturating_sub(1);
         }
     }
 
     /// Counts a further name of a node, which is in this directory, and answers what the node is.
     fn gain_name(&mut self, node: NodeId, dir: NodeId) -> Option<Kind>
-        requires filed { IsFiled self.old }
-        requires few { IfSome (node_in self.old node) (λ node. node.standing.names < 2 ^ 63) }
-        ensures restands { Restands self.old self.new (name_gained dir node) }
+        ensures rows { self.new.rows ≡ self.old.rows }
+        ensures restands { IsFiled self.old →
+            IfSome (node_in self.old node) (λ node. node.standing.names < 2 ^ 63) →
+            Restands self.old self.new (name_gained dir node) }
         ensures kind { result ≡ option_map (λ node. node.kind) (node_in self.old node) }
     {
         let slot = self.slot(node)?;
         let node = self.nodes.get_mut(slot)?;
-        node.standing.names += 1;
+        node.standing.names = node.standing.names.wrapping_add(1);
         node.standing.above = dir;
         Some(node.kind)
     }
 
     /// Counts a name of a node no more, and answers how many are left.
     fn lose_name(&mut self, node: NodeId) -> usize
-        requires filed { IsFiled self.old }
-        requires some { IfSome (node_in self.old node) (λ node. 0 < node.standing.names) }
-        ensures restands { Restands self.old self.new (name_lost node) }
+        ensures rows { self.new.rows ≡ self.old.rows }
+        ensures restands { IsFiled self.old → Restands self.old self.new (name_lost node) }
         ensures left { IfSome (node_in self.new node) (λ node. result ≡ node.standing.names) }
     {
         let Some(slot) = self.slot(node) else {
@@ -187,7 +178,7 @@ impl Slots {
         let Some(node) = self.nodes.get_mut(slot) else {
             return 0;
         };
-        node.standing.names -= 1;
+        node.standing.names = node.standing.names.saturating_sub(1);
         node.standing.names
     }
 
@@ -208,22 +199,20 @@ impl Slots {
 
     /// How many nodes there are.
     pub(crate) fn node_count(&self) -> usize
-        requires { IsFiled self.now }
-        ensures { result ≡ length (held_nodes self.now) }
+        ensures { IsFiled self.now → result ≡ length (held_nodes self.now) }
     {
         self.numbers.len()
     }
 
     /// Puts a row at a spot that has none.
     pub(crate) fn put_row(&mut self, spot: &Spot, node: NodeId)
-        requires kept { AreConsistent self.old }
-        requires room { 0 < spare self.old.rows }
-        requires free { row_at self.old (spot.now.dir, spot.now.name) ≡ None }
-        requires dir_once { MayStand self.old node }
-        ensures kept { AreConsistent self.new }
+        requires { 0 < spare self.old.rows }
+        ensures kept { MayEnter self.old (spot.now.dir, spot.now.name) node →
+            AreConsistent self.new }
         ensures rows { held_rows self.new
             ≡ put spot_cmp (spot.now.dir, spot.now.name) node (held_rows self.old) }
-        ensures nodes { held_nodes self.new ≡ held_nodes self.old }
+        ensures nodes { MayEnter self.old (spot.now.dir, spot.now.name) node →
+            held_nodes self.new ≡ held_nodes self.old }
     {
         let count = self.row_count();
         prove!(count < usize::MAX);
@@ -237,16 +226,15 @@ impl Slots {
     /// Takes away the row of this directory and name, in which this node stands, and answers how
     /// many names are left to the node.
     pub(crate) fn take_row(&mut self, dir: NodeId, name: &Name, node: NodeId) -> usize
-        requires kept { AreConsistent self.old }
-        requires there { row_at self.old (dir, name.now) ≡ Some node }
-        ensures kept { AreConsistent self.new }
+        ensures kept { HasRow self.old (dir, name.now) node → AreConsistent self.new }
         ensures rows { held_rows self.new
             ≡ where_key spot_cmp (λ spot. not (is_eq (spot_cmp (dir, name.now) spot)))
             (held_rows self.old) }
-        ensures nodes { held_nodes self.new ≡ held_nodes self.old }
+        ensures nodes { HasRow self.old (dir, name.now) node →
+            held_nodes self.new ≡ held_nodes self.old }
         ensures room { spare self.old.rows ≤ spare self.new.rows }
-        ensures left { IfSome (node_in self.new node)
-            (λ _. result ≡ names_of (held_rows self.new) node) }
+        ensures left { HasRow self.old (dir, name.now) node →
+            IfSome (node_in self.new node) (λ _. result ≡ names_of (held_rows self.new) node) }
     {
         let spot = Spot { dir, name: *name };
         self.rows.swap_remove(&spot);
@@ -263,20 +251,16 @@ impl Slots {
         new_name: Name,
         node: NodeId,
     )
-        requires kept { AreConsistent self.old }
-        requires room { 0 < spare self.old.rows }
-        requires there { row_at self.old (from, name.now) ≡ Some node }
-        requires free { row_at self.old (to, new_name) ≡ None }
-        requires not_root { node ≢ 0 }
-        requires dir_once { (n : SlotNode) → node_in self.old node ≡ Some n → n.kind ≡ Kind.Dir →
-            names_of (held_rows self.old) node ≡ 1 }
-        ensures kept { AreConsistent self.new }
+        requires { 0 < spare self.old.rows }
+        ensures kept { MayMove self.old (from, name.now) (to, new_name) node →
+            AreConsistent self.new }
         ensures rows { held_rows self.new ≡ put spot_cmp (
           to,
           new_name,
         ) node (where_key spot_cmp
             (λ spot. not (is_eq (spot_cmp (from, name.now) spot))) (held_rows self.old)) }
-        ensures nodes { held_nodes self.new ≡ held_nodes self.old }
+        ensures nodes { MayMove self.old (from, name.now) (to, new_name) node →
+            held_nodes self.new ≡ held_nodes self.old }
     {
         self.take_row(from, name, node);
         self.put_row(
@@ -290,13 +274,11 @@ impl Slots {
 
     /// Puts a node under a number that no node has and no row names.
     pub(crate) fn add_node(&mut self, id: NodeId, kind: Kind, target: Option<Vec<u8>>)
-        requires kept { AreConsistent self.old }
         requires slot_room { HasRoomFor self.old.nodes 1 }
         requires number_room { 0 < spare self.old.numbers }
-        requires new { IsNew self.old id }
-        ensures kept { AreConsistent self.new }
+        ensures kept { AreConsistent self.old → IsNew self.old id → AreConsistent self.new }
         ensures rows { self.new.rows ≡ self.old.rows }
-        ensures nodes { held_nodes self.new
+        ensures nodes { AreConsistent self.old → IsNew self.old id → held_nodes self.new
             ≡ put nat_cmp id (record
             { kind = kind; target = option_map (λ bytes. bytes.items) target })
             (held_nodes self.old) }
@@ -316,13 +298,13 @@ impl Slots {
 
     /// Puts the node that an entry of a listing makes, if it makes one.
     pub(crate) fn add_made(&mut self, id: NodeId, made: Option<MadeNode>)
-        requires kept { AreConsistent self.old }
         requires slot_room { HasRoomFor self.old.nodes 1 }
         requires number_room { 0 < spare self.old.numbers }
-        requires new { IfSome made (λ _. IsNew self.old id) }
-        ensures kept { AreConsistent self.new }
+        ensures kept { AreConsistent self.old → IfSome made (λ _. IsNew self.old id) →
+            AreConsistent self.new }
         ensures rows { self.new.rows ≡ self.old.rows }
-        ensures nodes { held_nodes self.new ≡ with_made id (option_map said_node made)
+        ensures nodes { AreConsistent self.old → IfSome made (λ _. IsNew self.old id) →
+            held_nodes self.new ≡ with_made id (option_map said_node made)
             (held_nodes self.old) }
     {
         if let Some(MadeNode { kind, target }) = made {
@@ -330,44 +312,26 @@ impl Slots {
         }
     }
 
-    /// Takes the node of this number away. Its slot is the next that is used.
+    /// Takes the node of this number away, if there is one. Its slot is the next that is used.
     fn drop_node(&mut self, id: NodeId)
-        requires kept { AreConsistent self.old }
-        requires living { IsSome (slot_of self.old id) }
-        ensures kept { AreConsistent self.new }
+        ensures kept { AreConsistent self.old → AreConsistent self.new }
         ensures rows { self.new.rows ≡ self.old.rows }
-        ensures nodes { held_nodes self.new
+        ensures nodes { AreConsistent self.old → held_nodes self.new
             ≡ where_key nat_cmp (λ other. not (is_eq (nat_cmp id other))) (held_nodes self.old) }
     {
-        let slot = self.numbers.swap_remove(&id).unwrap();
-        self.nodes.remove(slot);
-    }
-
-    /// Takes the node of this number away, if it has no name.
-    pub(crate) fn drop_unnamed(&mut self, id: NodeId)
-        requires kept { AreConsistent self.old }
-        requires living { IsSome (node_in self.old id) }
-        ensures kept { AreConsistent self.new }
-        ensures rows { self.new.rows ≡ self.old.rows }
-        ensures unnamed { (next : ℕ) →
-            held_in_slots self.new next ≡ without_unnamed (held_in_slots self.old next) id }
-    {
-        if self
-            .standing(id)
-            .is_some_and(|standing| standing.names == 0)
-        {
-            self.drop_node(id);
+        if let Some(slot) = self.numbers.swap_remove(&id) {
+            self.nodes.try_remove(slot);
         }
     }
 
-    /// Takes the node of this number away, if this number of its names, all that it has, is none.
-    pub(crate) fn drop_where_none_left(&mut self, id: NodeId, names: usize)
-        requires kept { AreConsistent self.old }
-        requires living { IsSome (node_in self.old id) }
-        ensures kept { AreConsistent self.new }
+    /// Takes the node of this number away, if there is one, and this number of its names, all that
+    /// it has, is none.
+    pub(crate) fn drop_unnamed(&mut self, id: NodeId, names: usize)
+        ensures kept { AreConsistent self.old → AreConsistent self.new }
         ensures rows { self.new.rows ≡ self.old.rows }
-        ensures unnamed { IfSome (node_in self.old id)
-            (λ _. names ≡ names_of (held_rows self.old) id) → (next : ℕ) →
+        ensures unnamed { AreConsistent self.old →
+            IfSome (node_in self.old id) (λ _. names ≡ names_of (held_rows self.old) id) →
+            (next : ℕ) →
             held_in_slots self.new next ≡ without_unnamed (held_in_slots self.old next) id }
     {
         if names == 0 {
@@ -377,8 +341,7 @@ impl Slots {
 
     /// Makes room for a further row. The only error is that memory is refused.
     pub(crate) fn reserve_row(&mut self) -> Result<(), AllocError>
-        requires { AreConsistent self.old }
-        ensures kept { AreConsistent self.new }
+        ensures kept { AreConsistent self.old → AreConsistent self.new }
         ensures same { (next : ℕ) → held_in_slots self.new next ≡ held_in_slots self.old next }
         ensures room { OnOk result (0 < spare self.new.rows) }
     {
@@ -387,8 +350,7 @@ impl Slots {
 
     /// Makes room for a further row and a further node. The only error is that memory is refused.
     pub(crate) fn reserve_node(&mut self) -> Result<(), AllocError>
-        requires { AreConsistent self.old }
-        ensures kept { AreConsistent self.new }
+        ensures kept { AreConsistent self.old → AreConsistent self.new }
         ensures same { (next : ℕ) → held_in_slots self.new next ≡ held_in_slots self.old next }
         ensures row_room { OnOk result (0 < spare self.new.rows) }
         ensures number_room { OnOk result (0 < spare self.new.numbers) }

@@ -5,14 +5,16 @@ ghost use Rattle.std.specs.Prelude.{option_map, None, IfOk, IfSome, map, []};
 ghost use Rattle.pua_tree.specs.LentRows.{lent_entry};
 ghost use Rattle.std.specs.List.{AllByRecursion};
 ghost use Rattle.pua_path.specs.declared.found.Found.TheVariants.{Whole};
+ghost use Rattle.pua_calls.specs.CallSets.{has};
+ghost use Rattle.pua_calls.specs.declared.call.Call.{Call};
 ghost use Rattle.pua_audit.specs.Bounds.{pairs_cost};
 ghost use Rattle.pua_audit.specs.Past.{plain_history};
 ghost use Rattle.pua_audit.specs.Coming.{pairs_resumed, pairs_at};
 ghost use Rattle.pua_audit.specs.Reach.{Pair, rest_after};
-ghost use Rattle.pua_audit.specs.Judge.{base_dir, base_way, is_open};
+ghost use Rattle.pua_audit.specs.Judge.{Start, base_dir, base_way, is_open};
 ghost use Rattle.pua_audit.specs.Live.{live_states};
-ghost use Rattle.pua_audit.specs.Ready.{IsSound, scope_in};
-ghost use Rattle.pua_audit.specs.Starting.{AreLetters, AreSound, pair_in};
+ghost use Rattle.pua_audit.specs.Ready.{judge_in, scope_in};
+ghost use Rattle.pua_audit.specs.Starting.{AreLetters, pair_in};
 ghost use Rattle.pua_steps.specs.Graph.{graph_reach};
 ghost use Rattle.pua_steps.specs.Limits.{call_count, search_cost};
 ghost use Rattle.pua_steps.specs.Lists.{AreListsOf};
@@ -24,6 +26,7 @@ ghost use Rattle.pua_steps.specs.Within.{IsPair};
 
 use crate::resume_text::Resumption;
 use crate::terms::Terms;
+use pua_calls::Calls;
 use pua_path::{Found, Probe};
 use pua_steps::{State, Steps, Tables, Walk};
 use pua_tree::{LentRow, OutOfMemory};
@@ -41,6 +44,7 @@ impl Terms {
     /// after one, by the places of letters and the numbers of calls from 0 on; and how many states
     /// are live. Where the process has ended, or its base was removed, there is no pair. The error
     /// is that a growth was refused.
+    #[tactic(auto, using(crate::proofs::Begun::table_fits, crate::proofs::Starts::lives))]
     pub(crate) fn begun<'t, P: Probe<'t>>(
         &self,
         alloc: Global,
@@ -50,8 +54,6 @@ impl Terms {
     ) -> Result<BegunWalk, OutOfMemory>
         requires tree { P.tree probe.old ≡ self.now.seen.tree }
         requires rows { map lent_entry rows.now ≡ self.now.seen.tree.rows }
-        requires sound { IsSound self.now }
-        requires letters { AreSound self.now.limit self.now.letters }
         requires word { IfSome after (λ r. AreLetters self.now.letters self.now.limit
             r.word.items) }
         ensures ready { IfOk result (λ begun. IsReady begun.walk) }
@@ -74,54 +76,15 @@ impl Terms {
         ensures cost { P.count probe.new ≤ P.count probe.old + pairs_cost self.now.seen.tree
             (length self.now.letters) }
     {
-        // Each part is a function, so that its proof begins with what is true there.
         if !self.is_open(probe) {
             return self.begun_closed(alloc);
         }
-        if self.limit == 0 {
-            return self.begun_at_base(alloc, probe, after);
-        }
-        self.begun_open(alloc, probe, rows, after)
-    }
-
-    /// The same where something may be allowed.
-    #[tactic(auto, using(crate::proofs::Begun::table_fits, crate::proofs::Starts::lives))]
-    fn begun_open<'t, P: Probe<'t>>(
-        &self,
-        alloc: Global,
-        probe: &mut P,
-        rows: &[LentRow<'_>],
-        after: Option<Resumption>,
-    ) -> Result<BegunWalk, OutOfMemory>
-        requires tree { P.tree probe.old ≡ self.now.seen.tree }
-        requires rows { map lent_entry rows.now ≡ self.now.seen.tree.rows }
-        requires sound { IsSound self.now }
-        requires letters { AreSound self.now.limit self.now.letters }
-        requires word { IfSome after (λ r. AreLetters self.now.letters self.now.limit
-            r.word.items) }
-        requires open { is_open (scope_in self.now) ≡ true }
-        ensures ready { IfOk result (λ begun. IsReady begun.walk) }
-        ensures limit { IfOk result (λ begun. begun.walk.limit ≡ self.now.limit) }
-        ensures letters { IfOk result (λ begun. begun.walk.tables.steps.letters
-            ≡ length self.now.letters) }
-        ensures pairs { IfOk result
-            (λ begun. rest_after (scope_in self.now)
-            (option_map (pair_in self.now.letters) after) ≡ pairs_at self.now.letters
-            (pairs_of (trail begun.walk))) }
-        ensures within { IfOk result
-            (λ begun. AllByRecursion (λ p. IsPair (length self.now.letters) p)
-            (pairs_of (trail begun.walk))) }
-        ensures live { IfOk result (λ begun.
-            begun.live ≡ length (live_states (scope_in self.now))) }
-        ensures reads { IfOk result (λ begun. begun.walk.tables.reads
-            ≤ search_cost * self.now.limit) }
-        ensures unread { after ≡ None → IfOk result (λ begun. begun.walk.tables.reads ≡ 0) }
-        ensures tree { P.tree probe.new ≡ P.tree probe.old }
-        ensures cost { P.count probe.new + 1 ≤ P.count probe.old + pairs_cost self.now.seen.tree
-            (length self.now.letters) }
-    {
         let cover = self.process.cover(probe, &self.base_found());
-        let calls = self.calls_on(probe, &Ok(self.base_found()), &cover).bits();
+        let calls = self.calls_on(probe, &Ok(self.base_found()), &cover);
+        if self.limit == 0 {
+            return self.begun_at_base(alloc, calls, after);
+        }
+        let calls = calls.bits();
         let steps = self.table(alloc, probe, rows, self.base_dir(), cover)?;
         let base = Some(State { dir: 0, used: 0 });
         let tables = Tables::fill(alloc, steps, self.limit)?;
@@ -130,43 +93,35 @@ impl Terms {
         Ok(BegunWalk { walk, live })
     }
 
-    /// The same where the empty word is the only one: its pairs need no row of the table, and
-    /// no state is live.
-    fn begun_at_base<'t, P: Probe<'t>>(
+    /// The same where the empty word is the only one, by its calls: its pairs need no row of the
+    /// table, and no state is live.
+    fn begun_at_base(
         &self,
         alloc: Global,
-        probe: &mut P,
+        calls: Calls,
         after: Option<Resumption>,
     ) -> Result<BegunWalk, OutOfMemory>
-        requires tree { P.tree probe.old ≡ self.now.seen.tree }
-        requires sound { IsSound self.now }
-        requires letters { AreSound self.now.limit self.now.letters }
         requires word { IfSome after (λ r. AreLetters self.now.letters self.now.limit
             r.word.items) }
-        requires open { is_open (scope_in self.now) ≡ true }
-        requires none { self.now.limit ≡ 0 }
         ensures ready { IfOk result (λ begun. IsReady begun.walk) }
         ensures limit { IfOk result (λ begun. begun.walk.limit ≡ self.now.limit) }
         ensures letters { IfOk result (λ begun. begun.walk.tables.steps.letters
             ≡ length self.now.letters) }
-        ensures pairs { IfOk result
+        ensures pairs { is_open (scope_in self.now) ≡ true → self.now.limit ≡ 0 →
+            ((call : Call) → has calls call ≡ (judge_in self.now).own Start call) → IfOk result
             (λ begun. rest_after (scope_in self.now)
             (option_map (pair_in self.now.letters) after) ≡ pairs_at self.now.letters
             (pairs_of (trail begun.walk))) }
         ensures within { IfOk result
             (λ begun. AllByRecursion (λ p. IsPair (length self.now.letters) p)
             (pairs_of (trail begun.walk))) }
-        ensures live { IfOk result (λ begun.
+        ensures live { self.now.limit ≡ 0 → IfOk result (λ begun.
             begun.live ≡ length (live_states (scope_in self.now))) }
         ensures reads { IfOk result (λ begun. begun.walk.tables.reads
             ≤ search_cost * self.now.limit) }
         ensures unread { after ≡ None → IfOk result (λ begun. begun.walk.tables.reads ≡ 0) }
-        ensures tree { P.tree probe.new ≡ P.tree probe.old }
-        ensures cost { P.count probe.new ≤ P.count probe.old
-            + (length self.now.seen.tree.nodes + 1) }
     {
-        let cover = self.process.cover(probe, &self.base_found());
-        let calls = self.calls_on(probe, &Ok(self.base_found()), &cover).bits();
+        let calls = calls.bits();
         let tables = Tables::fill(alloc, self.no_rows(alloc), self.limit)?;
         let walk = walk_after(alloc, tables, calls, None, self.limit, after)?;
         Ok(BegunWalk { walk, live: 0 })
@@ -174,20 +129,18 @@ impl Terms {
 
     /// The same where nothing is allowed: no pair is ahead, and no state is live.
     fn begun_closed(&self, alloc: Global) -> Result<BegunWalk, OutOfMemory>
-        requires sound { IsSound self.now }
-        requires letters { AreSound self.now.limit self.now.letters }
-        requires closed { is_open (scope_in self.now) ≡ false }
         ensures ready { IfOk result (λ begun. IsReady begun.walk) }
         ensures limit { IfOk result (λ begun. begun.walk.limit ≡ self.now.limit) }
         ensures letters { IfOk result (λ begun. begun.walk.tables.steps.letters
             ≡ length self.now.letters) }
-        ensures pairs { IfOk result (λ begun. (after : Option Pair) →
+        ensures pairs { is_open (scope_in self.now) ≡ false → IfOk result
+            (λ begun. (after : Option Pair) →
             rest_after (scope_in self.now) after ≡ pairs_at self.now.letters
             (pairs_of (trail begun.walk))) }
         ensures within { IfOk result
             (λ begun. AllByRecursion (λ p. IsPair (length self.now.letters) p)
             (pairs_of (trail begun.walk))) }
-        ensures live { IfOk result (λ begun.
+        ensures live { is_open (scope_in self.now) ≡ false → IfOk result (λ begun.
             begun.live ≡ length (live_states (scope_in self.now))) }
         ensures reads { IfOk result (λ begun. begun.walk.tables.reads
             ≤ search_cost * self.now.limit) }
@@ -211,7 +164,6 @@ impl Terms {
 
     /// The base itself, as it is found.
     fn base_found(&self) -> Found
-        requires { IsSound self.now }
         ensures { result ≡ Whole (base_dir self.now.base (plain_history self.now.process))
             (base_way self.now.base) }
     {

@@ -11,7 +11,6 @@ ghost use Rattle.pua_policy.specs.History.{History, StandsFor};
 ghost use Rattle.pua_policy.specs.Verdict.{cover};
 ghost use Rattle.pua_audit.specs.Covers.{AreCovered};
 ghost use Rattle.pua_audit.specs.Past.{plain_history};
-ghost use Rattle.pua_audit.specs.Ready.{IsSound};
 
 use crate::table::directories::Directories;
 use crate::terms::Terms;
@@ -31,14 +30,12 @@ impl Terms {
         found: &Result<Found, Errno>,
     ) -> Cover
         requires tree { P.tree probe.old ≡ self.now.seen.tree }
-        requires sound { IsSound self.now }
         requires fits { FoundsFit self.now.seen.tree found.now }
-        requires named { IfOk found.now (StandsAsNamed self.now.seen.tree) }
-        requires covered { AreCovered self.now.seen.tree (plain_history self.now.process) dirs.now }
-        requires living { IsTrue (is_dir self.now.seen.tree from) }
-        requires above { IfOk found.now (λ object. part.now ≡ parts.DotDot →
-            object ≡ Whole (above self.now.seen.tree from) DotDot) }
-        ensures exact { IfOk found.now
+        ensures exact { IfOk found.now (StandsAsNamed self.now.seen.tree) →
+            AreCovered self.now.seen.tree (plain_history self.now.process) dirs.now →
+            IsTrue (is_dir self.now.seen.tree from) →
+            IfOk found.now (λ object. part.now ≡ parts.DotDot →
+            object ≡ Whole (above self.now.seen.tree from) DotDot) → IfOk found.now
             (λ object. result ≡ cover self.now.seen.tree (plain_history self.now.process) object) }
         ensures tree { P.tree probe.new ≡ P.tree probe.old }
         ensures cost { P.count probe.new ≤ P.count probe.old + length self.now.seen.tree.nodes }

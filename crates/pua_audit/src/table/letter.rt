@@ -17,7 +17,7 @@ ghost use Rattle.pua_policy.specs.Verdict.{FoundsFit, cover, verdict_of, is_allo
 ghost use Rattle.pua_audit.specs.Bounds.{letter_cost, object_cost};
 ghost use Rattle.pua_audit.specs.Covers.{AreCovered};
 ghost use Rattle.pua_audit.specs.Past.{plain_history};
-ghost use Rattle.pua_audit.specs.Ready.{IsSound, judge_in};
+ghost use Rattle.pua_audit.specs.Ready.{judge_in};
 ghost use Rattle.pua_audit.specs.Entries.{AreWithin, links_of, found_of, leads_to};
 ghost use Rattle.pua_audit.specs.Spots.{IsNamed};
 ghost use Rattle.pua_audit.specs.Table.{IsLetter};
@@ -45,6 +45,8 @@ pub(crate) struct Letter {
     pub(crate) leads: Option<NodeId>,
     /// What the veils leave of what it names; where it leads to a directory, of the names in that.
     pub(crate) cover: Cover,
+    pub(crate) ghost keeping: { (call : Call) → has kept call ≡ (has all call && keeps_link call) },
+    pub(crate) ghost few: { links ≤ most_links },
 }
 
 impl Terms {
@@ -59,18 +61,15 @@ impl Terms {
         within: &Within,
     ) -> Letter
         requires tree { P.tree probe.old ≡ self.now.seen.tree }
-        requires sound { IsSound self.now }
         requires living { IsTrue (is_dir self.now.seen.tree dir) }
-        requires within { AreWithin self.now.seen.tree self.now.table
-            (plain_history self.now.process) dir within.now }
-        requires covered { AreCovered self.now.seen.tree (plain_history self.now.process) dirs.now }
-        ensures exact { IsLetter (judge_in self.now) dir letter.now
+        ensures exact { AreWithin self.now.seen.tree self.now.table
+            (plain_history self.now.process) dir within.now →
+            AreCovered self.now.seen.tree (plain_history self.now.process) dirs.now →
+            IsLetter (judge_in self.now) dir letter.now
             result.all result.kept result.links result.leads }
-        ensures kept { (call : Call) →
-            has result.kept call ≡ (has result.all call && keeps_link call) }
-        ensures links { result.links ≤ most_links }
         ensures lives { IfSome result.leads (λ to. IsTrue (is_dir self.now.seen.tree to)) }
-        ensures covered { IfSome result.leads
+        ensures covered { AreCovered self.now.seen.tree (plain_history self.now.process) dirs.now →
+            IfSome result.leads
             (λ to. result.cover ≡ cover_in self.now.seen.tree (plain_history self.now.process) to) }
         ensures tree { P.tree probe.new ≡ P.tree probe.old }
         ensures cost { P.count probe.new ≤ P.count probe.old + letter_cost self.now.seen.tree }
@@ -96,11 +95,9 @@ impl Terms {
         within: &Within,
     ) -> Option<Calls>
         requires tree { P.tree probe.old ≡ self.now.seen.tree }
-        requires sound { IsSound self.now }
-        requires living { IsTrue (is_dir self.now.seen.tree dir) }
-        requires within { AreWithin self.now.seen.tree self.now.table
-            (plain_history self.now.process) dir within.now }
-        ensures exact { IfSome result (λ calls. (kept : ℕ) →
+        ensures exact { IfSome result (λ calls. IsTrue (is_dir self.now.seen.tree dir) →
+            AreWithin self.now.seen.tree self.now.table (plain_history self.now.process) dir
+            within.now → (kept : ℕ) →
             IsLetter (judge_in self.now) dir letter.now calls kept 0 None) }
         ensures none { IfNone result (IsNamed letter.now →
             perms_kept (plain_history self.now.process) (Slot dir letter.now) ≡ None →
@@ -121,7 +118,6 @@ impl Terms {
 
     /// Whether a veil is kept at a name in a directory.
     fn has_veil(&self, dir: NodeId, name: LentName<'_>) -> bool
-        requires { IsSound self.now }
         ensures none { result ≡ false → perms_kept (plain_history self.now.process)
             (Slot dir name.entry.bytes.now) ≡ None }
         ensures kept { result ≡ true → perms_kept (plain_history self.now.process)
@@ -140,16 +136,13 @@ impl Terms {
         letter: &Component,
     ) -> Letter
         requires tree { P.tree probe.old ≡ self.now.seen.tree }
-        requires sound { IsSound self.now }
         requires living { IsTrue (is_dir self.now.seen.tree dir) }
-        requires covered { AreCovered self.now.seen.tree (plain_history self.now.process) dirs.now }
-        ensures exact { IsLetter (judge_in self.now) dir letter.now
+        ensures exact { AreCovered self.now.seen.tree (plain_history self.now.process) dirs.now →
+            IsLetter (judge_in self.now) dir letter.now
             result.all result.kept result.links result.leads }
-        ensures kept { (call : Call) →
-            has result.kept call ≡ (has result.all call && keeps_link call) }
-        ensures links { result.links ≤ most_links }
         ensures lives { IfSome result.leads (λ to. IsTrue (is_dir self.now.seen.tree to)) }
-        ensures covered { IfSome result.leads
+        ensures covered { AreCovered self.now.seen.tree (plain_history self.now.process) dirs.now →
+            IfSome result.leads
             (λ to. result.cover ≡ cover_in self.now.seen.tree (plain_history self.now.process) to) }
         ensures tree { P.tree probe.new ≡ P.tree probe.old }
         ensures cost { P.count probe.new ≤ P.count probe.old
@@ -183,16 +176,13 @@ impl Terms {
         near: Calls,
     ) -> Calls
         requires tree { P.tree probe.old ≡ self.now.seen.tree }
-        requires sound { IsSound self.now }
         requires living { IsTrue (is_dir self.now.seen.tree dir) }
-        requires covered { AreCovered self.now.seen.tree (plain_history self.now.process) dirs.now }
-        requires followed { followed.now ≡ found_of (follow self.now.seen.tree dir part.now) }
-        requires links { links ≡ links_of (follow self.now.seen.tree dir part.now) }
-        requires near { (call : Call) →
-            has near call ≡ is_allowed
+        ensures exact { AreCovered self.now.seen.tree (plain_history self.now.process) dirs.now →
+            followed.now ≡ found_of (follow self.now.seen.tree dir part.now) →
+            links ≡ links_of (follow self.now.seen.tree dir part.now) →
+            ((call : Call) → has near call ≡ is_allowed
             (verdict_of self.now.seen.tree self.now.table (plain_history self.now.process) call
-            followed.now) }
-        ensures exact { (call : Call) →
+            followed.now)) → (call : Call) →
             has result call ≡ is_allowed
             (verdict_of self.now.seen.tree self.now.table (plain_history self.now.process) call
             (last self.now.seen.tree dir 0 part.now Kept)) }
@@ -216,12 +206,9 @@ impl Terms {
         left: &Cover,
     ) -> Calls
         requires tree { P.tree probe.old ≡ self.now.seen.tree }
-        requires sound { IsSound self.now }
-        requires fits { FoundsFit self.now.seen.tree found.now }
-        requires left { IfOk found.now
+        ensures exact { FoundsFit self.now.seen.tree found.now → IfOk found.now
             (λ object. left.now
-            ≡ cover self.now.seen.tree (plain_history self.now.process) object) }
-        ensures exact { (call : Call) →
+            ≡ cover self.now.seen.tree (plain_history self.now.process) object) → (call : Call) →
             has result call ≡ is_allowed
             (verdict_of self.now.seen.tree self.now.table (plain_history self.now.process) call
             found.now) }
@@ -232,7 +219,7 @@ impl Terms {
             return Calls::NONE;
         };
         let object = judge::object(probe, found);
-        judge::allowed(&self.process, &self.table, *left, object)
+        self.allowed.on(*left, object)
     }
 }
 

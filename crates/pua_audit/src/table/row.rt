@@ -1,26 +1,21 @@
 //! The row of a directory.
 
-ghost use Rattle.std.specs.Prelude.{◌≡◌, ◌<◌, ◌≤◌, ◌+◌, ◌&&◌, ℕ, List, [], length, get_or};
+ghost use Rattle.std.specs.Prelude.{◌≡◌, ◌<◌, ◌≤◌, ◌+◌, ℕ, List, [], length, get_or};
 ghost use Rattle.std.specs.Prelude.{option_map, Option, None, IfOk, IfSome, IsTrue};
 ghost use Rattle.pua_tree.specs.Tree.{Tree, is_dir};
-ghost use Rattle.pua_calls.specs.CallSets.{has, keeps_link};
 ghost use Rattle.pua_policy.specs.Descent.{cover_in};
 ghost use Rattle.pua_policy.specs.History.{History};
-ghost use Rattle.pua_calls.specs.declared.call.Call.{Call};
 ghost use Rattle.pua_audit.specs.Bounds.{row_cost};
 ghost use Rattle.pua_audit.specs.Covers.{AreCovered};
 ghost use Rattle.pua_audit.specs.Judge.{Judge};
 ghost use Rattle.pua_audit.specs.Past.{plain_history};
-ghost use Rattle.pua_audit.specs.Ready.{IsSound, judge_in};
+ghost use Rattle.pua_audit.specs.Ready.{judge_in};
 ghost use Rattle.pua_audit.specs.Rows.{AreLiving, IsGrown, IsJudgedRow};
-ghost use Rattle.pua_audit.specs.Spots.{AreSpotsOf};
 ghost use Rattle.pua_audit.specs.Table.{IsLetter};
-ghost use Rattle.pua_steps.specs.Limits.{most_links};
 
 use crate::table::directories::Directories;
 use crate::table::letter::Letter;
 use crate::table::spots::Spots;
-use crate::terms::Terms;
 use pua_calls::Calls;
 use pua_path::Probe;
 use pua_policy::Cover;
@@ -28,7 +23,7 @@ use pua_steps::{Entry, Row};
 use pua_tree::{NodeId, OutOfMemory};
 use std::alloc::Global;
 
-impl Terms {
+impl Spots<'_> {
     /// The row of a living directory, by its cover. Only the letters that it tells apart are looked
     /// up: one set of calls tells all others. What a letter leads to is put after the other
     /// directories. The error is that a growth was refused.
@@ -36,37 +31,39 @@ impl Terms {
         &self,
         alloc: Global,
         probe: &mut P,
-        spots: &Spots,
         dirs: &mut Directories,
         dir: NodeId,
         over: Cover,
     ) -> Result<Row, OutOfMemory>
-        requires tree { P.tree probe.old ≡ self.now.seen.tree }
-        requires sound { IsSound self.now }
-        requires spots { AreSpotsOf self.now.seen.tree (plain_history self.now.process)
-            self.now.letters spots.now }
-        requires living { IsTrue (is_dir self.now.seen.tree dir) }
-        requires dirs { AreLiving self.now.seen.tree dirs.old.numbers }
-        requires covers { AreCovered self.now.seen.tree (plain_history self.now.process) dirs.old }
-        requires over { over ≡ cover_in self.now.seen.tree (plain_history self.now.process) dir }
-        ensures row { IfOk result (λ row. IsJudgedRow (judge_in self.now) self.now.letters
-            dirs.new.numbers dir (length self.now.letters) row.missing row.entries.items) }
+        requires tree { P.tree probe.old ≡ self.now.terms.now.seen.tree }
+        requires living { IsTrue (is_dir self.now.terms.now.seen.tree dir) }
+        ensures row { IfOk result (λ row. AreCovered self.now.terms.now.seen.tree
+            (plain_history self.now.terms.now.process) dirs.old →
+            over ≡ cover_in self.now.terms.now.seen.tree
+            (plain_history self.now.terms.now.process) dir → IsJudgedRow
+            (judge_in self.now.terms.now) self.now.terms.now.letters dirs.new.numbers dir
+            (length self.now.terms.now.letters) row.missing row.entries.items) }
         ensures grown { IfOk result (λ _. IsGrown dirs.old.numbers dirs.new.numbers) }
-        ensures living { IfOk result (λ _. AreLiving self.now.seen.tree dirs.new.numbers) }
-        ensures covered { IfOk result
-            (λ _. AreCovered self.now.seen.tree (plain_history self.now.process) dirs.new) }
+        ensures living { IfOk result
+            (λ _. AreLiving self.now.terms.now.seen.tree dirs.old.numbers →
+            AreLiving self.now.terms.now.seen.tree dirs.new.numbers) }
+        ensures covered { IfOk result (λ _. AreCovered self.now.terms.now.seen.tree
+            (plain_history self.now.terms.now.process) dirs.old → AreCovered
+            self.now.terms.now.seen.tree (plain_history self.now.terms.now.process) dirs.new) }
         ensures tree { P.tree probe.new ≡ P.tree probe.old }
-        ensures cost { P.count probe.new ≤ P.count probe.old + row_cost self.now.seen.tree
-            (length self.now.letters) }
+        ensures cost { P.count probe.new ≤ P.count probe.old
+            + row_cost self.now.terms.now.seen.tree (length self.now.terms.now.letters) }
     {
-        let veiled = spots.has_veil_in(dir);
-        let within = self.within(over, veiled);
+        let veiled = self.has_veil_in(dir);
+        let within = self.terms.within(over, veiled);
         let missing = within.missing.bits();
-        let letters = spots.letters_in(alloc, dir)?;
+        let letters = self.letters_in(alloc, dir)?;
         let mut entries = Vec::new(alloc);
         for letter in &letters {
-            let components = self.letters.as_slice();
-            let found = self.letter(probe, dirs, dir, &components[*letter], &within);
+            let components = self.terms.letters.as_slice();
+            let found = self
+                .terms
+                .letter(probe, dirs, dir, &components[*letter], &within);
             found.put(*letter, within.missing, dirs, &mut entries)?;
         }
         Ok(Row { entries, missing })
@@ -84,9 +81,6 @@ impl Letter {
         dirs: &mut Directories,
         entries: &mut Vec<Entry>,
     ) -> Result<(), OutOfMemory>
-        requires kept { (call : Call) →
-            has self.now.kept call ≡ (has self.now.all call && keeps_link call) }
-        requires links { self.now.links ≤ most_links }
         ensures row { IfOk result (λ _. (w : Judge) (letters : List (List ℕ)) (dir : ℕ) →
             IsLetter w dir (get_or letters letter []) self.now.all self.now.kept self.now.links
             self.now.leads

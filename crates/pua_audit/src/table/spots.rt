@@ -1,14 +1,14 @@
 //! The letters that directories tell apart from names that they lack.
 
-ghost use Rattle.std.specs.Prelude.{◌≡◌, ◌≢◌, ◌<◌, ◌==◌, ℕ, List, [], length, get_or, map, IfOk};
+ghost use Rattle.std.specs.Prelude.{◌≡◌, ◌≢◌, ◌<◌, ◌≤◌, ◌==◌, ℕ, List, [], length, get_or, map, IfOk};
 ghost use Rattle.std.specs.List.{AllByRecursion, list_any};
 ghost use Rattle.std.specs.List.Sorted.{IsNonDecreasingBy};
 ghost use Rattle.pua_tree.specs.LentRows.{lent_entry};
 ghost use Rattle.pua_policy.specs.declared.place.Place.TheVariants.{Slot};
 ghost use Rattle.pua_audit.specs.Past.{plain_history};
-ghost use Rattle.pua_audit.specs.Ready.{IsSound};
-ghost use Rattle.pua_audit.specs.Spots.{AreApartFrom, AreAtLetters, AreLettersIn, AreSpotsOf};
-ghost use Rattle.pua_audit.specs.Spots.{IsApart, IsNamed, IsNowhere, IsUnmarked};
+ghost use Rattle.std.proofs.Props.{props};
+ghost use Rattle.pua_audit.specs.Spots.{AreApartFrom, AreAtLetters, AreLetterSpots, AreLettersIn};
+ghost use Rattle.pua_audit.specs.Spots.{AreUnveiled, IsApart, IsNamed, IsNowhere, IsUnmarked};
 
 use crate::table::placed::Places;
 use crate::terms::Terms;
@@ -23,26 +23,32 @@ pub(crate) struct LetterSpot {
     pub(crate) letter: usize,
 }
 
-/// The letters that directories tell apart from names that they lack.
+/// The letters that directories tell apart from names that they lack, of what was asked of an audit.
 #[derive(Drop)]
-pub(crate) struct Spots {
+pub(crate) struct Spots<'l> {
+    pub(crate) terms: &'l Terms,
     /// The letters that are no names, which each directory tells apart.
     pub(crate) dots: Vec<usize>,
     /// Those that are names, in the order of the directories that tell them apart.
     pub(crate) names: Vec<LetterSpot>,
     /// The directories in which a veil is kept at a name.
     pub(crate) veiled: Vec<NodeId>,
+    pub(crate) ghost told: { AreLetterSpots terms.now.seen.tree (plain_history terms.now.process)
+        terms.now.letters dots.items names.items } by { Prim.hlevel props },
+    pub(crate) ghost unveiled: { (dir : ℕ) → IsApart dir veiled.items →
+        AreUnveiled (plain_history terms.now.process) dir },
 }
 
 impl Terms {
     /// The letters that are no names, and the spots of all rows and of all veils at names. A veil's
     /// name that is no letter has none. The error is that a growth was refused.
-    pub(crate) fn spots(&self, alloc: Global, rows: &[LentRow<'_>]) -> Result<Spots, OutOfMemory>
+    pub(crate) fn spots(
+        &self,
+        alloc: Global,
+        rows: &[LentRow<'_>],
+    ) -> Result<Spots<'_>, OutOfMemory>
         requires rows { map lent_entry rows.now ≡ self.now.seen.tree.rows }
-        requires sound { IsSound self.now }
-        ensures { IfOk result
-            (λ spots. AreSpotsOf self.now.seen.tree (plain_history self.now.process)
-            self.now.letters spots) }
+        ensures { IfOk result (λ spots. spots.terms.now ≡ self.now) }
     {
         let letters = Places::of(alloc, &self.letters)?;
         let places = self.process.places(alloc)?;
@@ -54,6 +60,7 @@ impl Terms {
         let dots = self.dots(alloc)?;
         let veiled = veiled_dirs(alloc, places)?;
         Ok(Spots {
+            terms: self,
             dots,
             names,
             veiled,
@@ -158,7 +165,7 @@ impl Places<'_> {
     }
 }
 
-impl Spots {
+impl Spots<'_> {
     /// Whether a veil is kept at a name in a directory.
     pub(crate) fn has_veil_in(&self, dir: NodeId) -> bool
         ensures { result ≡ list_any (λ other. other == dir) self.now.veiled.items }
@@ -169,7 +176,6 @@ impl Spots {
     /// The letters that a directory tells apart from names that it lacks, in their order, each once.
     /// The error is that a growth was refused.
     pub(crate) fn letters_in(&self, alloc: Global, dir: NodeId) -> Result<Vec<usize>, OutOfMemory>
-        requires { IsNonDecreasingBy (λ spot. spot.dir) self.now.names.items }
         ensures { IfOk result (λ letters. AreLettersIn dir self.now.dots.items self.now.names.items
             letters.items) }
     {
@@ -183,16 +189,27 @@ impl Spots {
 
 /// The spots in a directory, among spots in the order of their directories.
 fn spots_in(spots: &[LetterSpot], dir: NodeId) -> &[LetterSpot]
-    requires { IsNonDecreasingBy (λ spot. spot.dir) spots.now }
     ensures within { (count : ℕ) → AllByRecursion (λ spot. spot.letter < count) spots.now →
         AllByRecursion (λ spot. spot.letter < count) result.now }
-    ensures all { (letter : ℕ) → AllByRecursion (λ spot. spot.letter ≢ letter) result.now →
-        IsUnmarked dir letter spots.now }
+    ensures all { IsNonDecreasingBy (λ spot. spot.dir) spots.now → (letter : ℕ) →
+        AllByRecursion (λ spot. spot.letter ≢ letter) result.now → IsUnmarked dir letter spots.now }
 {
     let first = spots.partition_point(|spot| spot.dir < dir);
     let rest = &spots[first..];
-    let past = rest.partition_point(|spot| spot.dir <= dir);
-    &rest[..past]
+    &rest[..run_in(rest, dir)]
+}
+
+/// How many spots at the front are in no later directory than this.
+fn run_in(spots: &[LetterSpot], dir: NodeId) -> usize
+    ensures within { result ≤ length spots.now }
+    ensures past { (d : LetterSpot) → result < length spots.now →
+        dir < (get_or spots.now result d).dir }
+{
+    let mut count = 0;
+    while count < spots.len() && spots[count].dir <= dir {
+        count += 1;
+    }
+    count
 }
 
 /// The letters of spots. The error is that a growth was refused.

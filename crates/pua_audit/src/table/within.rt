@@ -13,12 +13,11 @@ ghost use Rattle.pua_policy.specs.Verdict.{covered_verdict, is_allowed, object_o
 ghost use Rattle.pua_calls.specs.declared.call.Call.{Call};
 ghost use Rattle.pua_audit.specs.Entries.{AreWithin, allowed_within};
 ghost use Rattle.pua_audit.specs.Past.{plain_history};
-ghost use Rattle.pua_audit.specs.Ready.{IsSound};
 ghost use Rattle.pua_audit.specs.Spots.{AreUnveiled};
 
 use crate::terms::Terms;
 use pua_calls::Calls;
-use pua_policy::{Cover, Object, judge};
+use pua_policy::{Cover, Object};
 use pua_tree::Kind;
 
 /// The calls that are allowed in a directory on names without a veil of their own, by what stands
@@ -36,7 +35,6 @@ impl Terms {
     /// The calls on names that have no veil of their own, in any living directory that has this cover,
     /// and in which a name has a veil of its own only if that is said here.
     pub(crate) fn within(&self, cover: Cover, veiled: bool) -> Within
-        requires { IsSound self.now }
         ensures { (dir : ℕ) → IsTrue (is_dir self.now.seen.tree dir) →
             cover ≡ cover_in self.now.seen.tree (plain_history self.now.process) dir →
             (veiled ≡ false → AreUnveiled (plain_history self.now.process) dir)
@@ -53,13 +51,12 @@ impl Terms {
 
     /// The calls on an object that has this cover.
     fn calls_over(&self, cover: &Cover, object: Object) -> Calls
-        requires { IsSound self.now }
         ensures { (t : Tree) (judged : judged.Object) → object ≡ object_seen t judged →
             (call : Call) → has result call
             ≡ is_allowed (covered_verdict t self.now.table (plain_history self.now.process) call
             cover.now judged) }
     {
-        judge::allowed(&self.process, &self.table, *cover, object)
+        self.allowed.on(*cover, object)
     }
 }
 

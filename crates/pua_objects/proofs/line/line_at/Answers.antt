@@ -8,12 +8,12 @@ use Rattle.pua_objects.proofs.line.line_at.Goals.{then-eq, else-eq}
 use Rattle.pua_objects.proofs.line.line_at.Goals as goal
 
 pub returns : goal.returns
-returns c = λ t h found stands covered seen.
+returns c = λ t table h found left allowed covered seen.
     let object = c.args.object in
-    let allows : Call → Bool = λ call. is_allowed (verdict t c.args.table.now h call found) in
-    let judged : (call : Call) → has c.allowed-calls.result call ≡ allows call =
-    λ call. c.allowed-calls.ensures t h (object_of t found) stands seen call ∙
-    ap (λ (left : Cover). is_allowed (covered_verdict t c.args.table.now h call left (object_of t found))) covered in
+    let allows : Call → Bool = λ call. is_allowed (verdict t table h call found) in
+    let judged : (call : Call) → has c.args.calls call ≡ allows call =
+    λ call. allowed (object_of t found) seen call ∙
+    ap (λ (left : Cover). is_allowed (covered_verdict t table h call left (object_of t found))) covered in
     let listed : (call : Call) → has c.if-eq.calls call ≡ ((keeps_link call || not (is_link_seen object)) && allows call) =
     elim c.if-eq.branch [
       | then-eq w ↦ λ call.
@@ -26,4 +26,4 @@ returns c = λ t h found stands covered seen.
           ap (λ set. has set call) w.calls-is ∙ judged call ∙ kept_or_not (keeps_link call) (allows call)
           ∙ ap (λ b. (keeps_link call || not b) && allows call) (sym other)
     ] in
-    lined t c.args.table.now h found object (record { kind = c.kind_seen.result; calls = c.if-eq.calls }) seen c.kind_seen.ensures listed
+    lined t table h found object (record { kind = c.kind_seen.result; calls = c.if-eq.calls }) seen c.kind_seen.ensures listed

@@ -1,4 +1,4 @@
-use Rattle.pua_texts.proofs.Common.{List, ℕ, ◌++◌, [], Ok, Err, ap, subst, ◌∙◌, codes, err_from_is_err_and, ever_lines_of, Passes}
+use Rattle.pua_texts.proofs.Common.{List, ℕ, [], Ok, Err, ap, subst, ◌∙◌, codes, err_from_is_err_and, ever_lines_of, Passes}
 use Rattle.pua_texts.proofs.Common.{ever_lines, head_lines}
 use Rattle.pua_ever.specs.Ever.{ever}
 use Rattle.pua_texts.specs.EverLines.{ever_list}

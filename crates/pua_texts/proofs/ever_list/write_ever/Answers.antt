@@ -1,4 +1,4 @@
-use Rattle.pua_texts.proofs.Common.{List, ℕ, ◌++◌, subst, Tree, Passes}
+use Rattle.pua_texts.proofs.Common.{List, ℕ, ◌++◌, subst, Tree, Passes, refl, err_from_is_err_and}
 use Rattle.pua_texts.specs.EverLines.{ever_list}
 use Rattle.pua_texts.specs.EverLists.{IsEverOf}
 use Rattle.pua_texts.proofs.ever_list.write_ever.Goals as goal
@@ -17,3 +17,8 @@ returns g c = λ table h stands is.
     c.add_list-added.new.block (g.S.Sink.written c.args.sink.now) (g.S.Sink.written c.add_list-added.new.sink)
     (g.S.Sink.failed c.args.sink.now) (g.S.Sink.failed c.add_list-added.new.sink)) c.in_ok-places.ensures
     (c.add_list-added.ensures table c.args.number h headed) is))
+
+pub returns-in_err-block : goal.returns-in_err-block
+returns-in_err-block g c = λ table h stands is.
+    let p = err_from_is_err_and c.from_residual-in_err-block.result c.from_residual-in_err-block.ensures.1 in
+    rw (p.1, p.2) refl

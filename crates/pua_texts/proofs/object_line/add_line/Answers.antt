@@ -45,13 +45,13 @@ returns g c =
     let b : List ℕ = c.args.block.now in
     let kind = subst (λ (t : List ℕ). Passes t (Ok tt) b c.add.new.self (g.S.Sink.written c.args.sink.now) (g.S.Sink.written c.add.new.sink)
     (g.S.Sink.failed c.args.sink.now) (g.S.Sink.failed c.add.new.sink)) c.kind_bytes.ensures.bytes c.in_ok-add.ensures in
-    subst (λ (t : List ℕ). Passes t c.add_calls.result b c.add_calls.new.block (g.S.Sink.written c.args.sink.now)
-    (g.S.Sink.written c.add_calls.new.sink) (g.S.Sink.failed c.args.sink.now) (g.S.Sink.failed c.add_calls.new.sink))
+    subst (λ (t : List ℕ). Passes t c.add_calls_of.result b c.add_calls_of.new.block (g.S.Sink.written c.args.sink.now)
+    (g.S.Sink.written c.add_calls_of.new.sink) (g.S.Sink.failed c.args.sink.now) (g.S.Sink.failed c.add_calls_of.new.sink))
     (line_parts k w names)
-    (passes_then (k ++ 32 ∷ []) ((w ++ 32 ∷ []) ++ (names ++ 10 ∷ [])) b c.add.new.self c.add_calls.new.block c.add_calls.result
-    (g.S.Sink.written c.args.sink.now) (g.S.Sink.written c.add.new.sink) (g.S.Sink.written c.add_calls.new.sink)
-    (g.S.Sink.failed c.args.sink.now) (g.S.Sink.failed c.add.new.sink) (g.S.Sink.failed c.add_calls.new.sink) kind
-    (passes_then (w ++ 32 ∷ []) (names ++ 10 ∷ []) c.add.new.self c.add_kept_path.new.block c.add_calls.new.block c.add_calls.result
-    (g.S.Sink.written c.add.new.sink) (g.S.Sink.written c.add_kept_path.new.sink) (g.S.Sink.written c.add_calls.new.sink)
-    (g.S.Sink.failed c.add.new.sink) (g.S.Sink.failed c.add_kept_path.new.sink) (g.S.Sink.failed c.add_calls.new.sink)
-    c.in_ok-add_kept_path.ensures c.add_calls.ensures))
+    (passes_then (k ++ 32 ∷ []) ((w ++ 32 ∷ []) ++ (names ++ 10 ∷ [])) b c.add.new.self c.add_calls_of.new.block c.add_calls_of.result
+    (g.S.Sink.written c.args.sink.now) (g.S.Sink.written c.add.new.sink) (g.S.Sink.written c.add_calls_of.new.sink)
+    (g.S.Sink.failed c.args.sink.now) (g.S.Sink.failed c.add.new.sink) (g.S.Sink.failed c.add_calls_of.new.sink) kind
+    (passes_then (w ++ 32 ∷ []) (names ++ 10 ∷ []) c.add.new.self c.add_kept_path.new.block c.add_calls_of.new.block c.add_calls_of.result
+    (g.S.Sink.written c.add.new.sink) (g.S.Sink.written c.add_kept_path.new.sink) (g.S.Sink.written c.add_calls_of.new.sink)
+    (g.S.Sink.failed c.add.new.sink) (g.S.Sink.failed c.add_kept_path.new.sink) (g.S.Sink.failed c.add_calls_of.new.sink)
+    c.in_ok-add_kept_path.ensures c.add_calls_of.ensures))

@@ -1,22 +1,14 @@
-use Rattle.pua_audit.proofs.Common.{◌≡◌, ◌≤◌, ◌+◌, ◌*◌, refl, rules, arith, subst, ℕ, suc, List, [], sym, ap, ◌∙◌, map, length, Result, Ok}
+use Rattle.pua_audit.proofs.Common.{◌≡◌, ◌≤◌, ◌+◌, ◌*◌, refl, arith, subst, ℕ, suc, List, [], sym, ap, ◌∙◌, map, length, Result, Ok}
 use Rattle.pua_audit.proofs.Common.{Err, IfSome, lent_entry, Tree, part_cost, plain_history, Scope, rest_after, live_states, scope_in}
 use Rattle.pua_audit.proofs.Common.{AreLetters, AuditFault, Terms}
 use Rattle.std.specs.Prelude.{option_map}
 use Rattle.pua_path.specs.Counts.{one_more}
 use Rattle.pua_steps.specs.Limits.{search_cost}
-use Rattle.pua_policy.specs.History.{StandsFor}
 use Rattle.pua_audit.specs.Begin.{Beginning, beginning}
 use Rattle.pua_audit.specs.Bounds.{begin_cost, letter_count, pairs_cost}
-use Rattle.pua_audit.specs.Starting.{AreSound, pair_in, scope_with, beginning_with}
+use Rattle.pua_audit.specs.Starting.{pair_in, scope_with, beginning_with}
 use Rattle.pua_audit.proofs.Pasts.{stands_for_past, rest_by_process, live_by_process}
 use Rattle.pua_audit.proofs.audit.Audit.begin.Goals as goal
-
-pub new-requires : goal.new-requires
-new-requires g c =
-    let past : StandsFor c.args.process.now (plain_history c.args.process.now) =
-    stands_for_past c.args.process.now c.known.ensures.history c.known.ensures.stands in
-    let short = c.in_ok-letters.ensures.sound.sound.short in
-    search rules
 
 pub returns-clause-begun : goal.returns-clause-begun
 returns-clause-begun g c = λ h stands.
@@ -93,14 +85,11 @@ begin-requires g c κs =
     let rows : map lent_entry c.deref-2.result.now ≡ terms.seen.tree.rows =
     ap (map lent_entry) c.deref-2.ensures.value ∙ c.in_ok-rows.ensures.rows
     ∙ ap (λ (t : Tree). t.rows) (sym (same ∙ c.in_ok-rows.ensures.tree)) in
-    let letters : AreSound terms.limit terms.letters =
-    subst (λ (n : ℕ). AreSound n terms.letters) (sym c.in_ok-terms.ensures.limit)
-    (subst (λ (ls : List (List ℕ)). AreSound c.args.limit ls) (sym items) checked.sound) in
     let word : IfSome after (λ r. AreLetters terms.letters terms.limit r.word.items) =
     subst (λ (n : ℕ). IfSome after (λ r. AreLetters terms.letters n r.word.items)) (sym c.in_ok-terms.ensures.limit)
     (subst (λ (ls : List (List ℕ)). IfSome after (λ r. AreLetters ls c.args.limit r.word.items)) (sym items)
     checked.after) in
-    ((refl, tt), (sym same, (rows, (c.in_ok-terms.ensures.sound, (letters, word)))))
+    ((refl, tt), (sym same, (rows, word)))
 
 pub returns-clause-reads : goal.returns-clause-reads
 returns-clause-reads g c =

@@ -6,8 +6,9 @@ pub returns-clause-ready : goal.returns-clause-ready
 returns-clause-ready g c =
     let w = c.in_ok-walk.field-0.walk in
     let got = c.in_ok-walk.ensures in
+    let t = c.args.terms in
     record {
-      sound = c.requires.sound;
+      sound = record { tree = t.tree; stands = t.stands; short = t.short };
       walk = got.ready;
       limit = got.limit;
       letters = got.letters;

@@ -7,49 +7,36 @@ use Rattle.pua_audit.proofs.terms.Terms.calls_kept.Goals as goal
 
 -- no link was followed
 pub returns-then-is_ok-clause-exact : goal.returns-then-is_ok-clause-exact
-returns-then-is_ok-clause-exact g c = λ call.
+returns-then-is_ok-clause-exact g c = λ covered followed links near call.
     let a = c.args.self.now in
     let t = a.seen.tree in
-    let alike = kept_unlinked t c.args.dir c.args.part.now (follow t c.args.dir c.args.part.now) refl (sym c.requires.links ∙
-    c.if-links-eq0.true) (ap is_ok (sym c.requires.followed) ∙ sym c.is_ok.ensures.value ∙ c.if-is_ok.true) in
-    c.requires.near call ∙
-    ap (λ (x : Result Found Errno). is_allowed (verdict_of t a.table (plain_history a.process) call x)) (c.requires.followed ∙
+    let alike = kept_unlinked t c.args.dir c.args.part.now (follow t c.args.dir c.args.part.now) refl (sym links ∙
+    c.if-links-eq0.true) (ap is_ok (sym followed) ∙ sym c.is_ok.ensures.value ∙ c.if-is_ok.true) in
+    near call ∙
+    ap (λ (x : Result Found Errno). is_allowed (verdict_of t a.table (plain_history a.process) call x)) (followed ∙
     sym alike)
 
 pub cover_of-cover-requires : goal.cover_of-cover-requires
-cover_of-cover-requires g c κs =
-    let t : Tree = c.args.self.now.seen.tree in
-    let kept : Result Found Errno = c.last-kept.result in
-    let fit : FoundsFit t kept = subst (λ (u : Tree). FoundsFit u kept) c.requires.tree c.last-kept.ensures.fits in
-    let named : IfOk kept (StandsAsNamed t) = subst (λ (u : Tree). IfOk kept (StandsAsNamed u)) c.requires.tree c.last-kept.ensures.named in
-    let is : kept ≡ last t c.args.dir 0 c.args.part.now Kept = c.last-kept.ensures.exact ∙
-    ap (λ (u : Tree). last u c.args.dir 0 c.args.part.now Kept) c.requires.tree in (
-      (refl, tt),
-      (
-        c.last-kept.ensures.tree ∙ c.requires.tree,
-        (c.requires.sound, (fit, (named, (c.requires.covered, (c.requires.living, kept_above t c.args.dir c.args.part.now kept is))))),
-      ),
-    )
-
-pub calls_on-requires : goal.calls_on-requires
-calls_on-requires g c κs =
-    let t : Tree = c.args.self.now.seen.tree in
-    let fit : FoundsFit t c.last-kept.result =
-    subst (λ (u : Tree). FoundsFit u c.last-kept.result) c.requires.tree c.last-kept.ensures.fits in (
-      (refl, tt),
-      (
-        c.cover_of-cover.ensures.tree ∙ c.last-kept.ensures.tree ∙ c.requires.tree,
-        (c.requires.sound, (fit, c.cover_of-cover.ensures.exact)),
-      ),
-    )
+cover_of-cover-requires g c κs = (
+  (refl, tt),
+  (
+    c.last-kept.ensures.tree ∙ c.requires.tree,
+    subst (λ (u : Tree). FoundsFit u c.last-kept.result) c.requires.tree c.last-kept.ensures.fits,
+  ),
+)
 
 pub returns-clause-exact : goal.returns-clause-exact
-returns-clause-exact g c = λ call.
+returns-clause-exact g c = λ covered followed links near call.
     let a = c.args.self.now in
     let t : Tree = a.seen.tree in
-    let is : c.last-kept.result ≡ last t c.args.dir 0 c.args.part.now Kept =
+    let kept : Result Found Errno = c.last-kept.result in
+    let named : IfOk kept (StandsAsNamed t) = subst (λ (u : Tree). IfOk kept (StandsAsNamed u)) c.requires.tree c.last-kept.ensures.named in
+    let is : kept ≡ last t c.args.dir 0 c.args.part.now Kept =
     c.last-kept.ensures.exact ∙ ap (λ (u : Tree). last u c.args.dir 0 c.args.part.now Kept) c.requires.tree in
-    c.calls_on.ensures.exact call ∙ ap (λ (x : Result Found Errno). is_allowed (verdict_of t a.table (plain_history a.process) call x)) is
+    let left = c.cover_of-cover.ensures.exact named covered c.requires.living (kept_above t c.args.dir c.args.part.now kept is) in
+    let fit : FoundsFit t kept = subst (λ (u : Tree). FoundsFit u kept) c.requires.tree c.last-kept.ensures.fits in
+    c.calls_on.ensures.exact fit left call
+    ∙ ap (λ (x : Result Found Errno). is_allowed (verdict_of t a.table (plain_history a.process) call x)) is
 
 -- the looks at the tree
 

@@ -7,7 +7,7 @@ use Rattle.pua_audit.proofs.terms.Terms.calls_on_file.Goals as goal
 use Rattle.pua_audit.proofs.terms.Terms.calls_on_file.Goals.{else-within-via-then-within+else-has_veil, else-within-via-else-within}
 
 pub returns-clause-exact : goal.returns-clause-exact
-returns-clause-exact g c = λ kept.
+returns-clause-exact g c = λ living within kept.
     let a = c.args.self.now in
     let t : Tree = a.seen.tree in
     let h : History = plain_history a.process in
@@ -19,9 +19,9 @@ returns-clause-exact g c = λ kept.
       | else-within-via-then-within+else-has_veil w ↦
           subst (λ (name : List ℕ). perms_kept h (place.Slot c.args.dir name) ≡ None) c.in_ok-name.ensures.bytes
           (w.has_veil.ensures.none w.if-has_veil.false)
-      | else-within-via-else-within w ↦ c.requires.within.bare w.if-within.false letter
+      | else-within-via-else-within w ↦ within.bare w.if-within.false letter
     ] in
-    file_told t a.table a.base h c.args.dir letter c.requires.sound.tree c.requires.living c.in_ok-kind.field-0-0
+    file_told t a.table a.base h c.args.dir letter c.args.self.now.tree living c.in_ok-kind.field-0-0
     c.in_ok-calls.calls kept c.in_ok-kind.kind
-    c.in_ok-calls.ensures.file (c.in_ok-calls.ensures.calls t a.table h c.args.dir c.requires.within)
+    c.in_ok-calls.ensures.file (c.in_ok-calls.ensures.calls t a.table h c.args.dir within)
     c.in_ok-name.ensures.name found unveiled

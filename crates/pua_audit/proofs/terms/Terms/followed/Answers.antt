@@ -10,61 +10,26 @@ use Rattle.pua_audit.proofs.terms.Terms.followed.Goals as goal
 pub cover_of-cover-requires : goal.cover_of-cover-requires
 cover_of-cover-requires g c κs =
     let t : Tree = c.args.self.now.seen.tree in
-    let r : Result (Found × ℕ) Errno = c.follow.result in
-    let found : Result Found Errno = c.counted-followed.result.0 in
-    let is : found ≡ found_of r = c.counted-followed.ensures.found in
-    let followed : r ≡ follow t c.args.dir c.part-part.result = c.follow.ensures.exact ∙
-    ap (λ (u : Tree). follow u c.args.dir c.part-part.result) c.requires.tree in
-    let fit : FoundsFit t found =
-    subst (FoundsFit t) (sym is)
-    (founds_of t r (subst (λ (u : Tree). IfOk r (λ object. FoundFits u object.0)) c.requires.tree c.follow.ensures.fits)) in
-    let named : IfOk found (StandsAsNamed t) =
-    subst (λ (f : Result Found Errno). IfOk f (StandsAsNamed t)) (sym is)
-    (founds_are (StandsAsNamed t) r (subst (λ (u : Tree). IfOk r (λ object. StandsAsNamed u object.0)) c.requires.tree
-    c.follow.ensures.named)) in (
+    let r : Result (Found × ℕ) Errno = c.follow.result in (
       (refl, tt),
       (
         c.follow.ensures.tree ∙ c.requires.tree,
-        (
-          c.requires.sound,
-          (
-            fit,
-            (
-              named,
-              (
-                c.requires.covered,
-                (c.requires.living, named_above t c.args.dir c.part-part.result found (is ∙ ap found_of followed)),
-              ),
-            ),
-          ),
-        ),
+        subst (FoundsFit t) (sym c.counted-followed.ensures.found)
+            (founds_of t r (subst (λ (u : Tree). IfOk r (λ object. FoundFits u object.0)) c.requires.tree c.follow.ensures.fits)),
       ),
     )
 
 pub calls_kept-far-requires : goal.calls_kept-far-requires
-calls_kept-far-requires g c κs =
-    let followed = c.follow.ensures.exact ∙ ap (λ (u : Tree). follow u c.args.dir c.part-part.result) c.requires.tree in (
-      (refl, tt),
-      (
-        c.calls_on-near.ensures.tree ∙ c.cover_of-cover.ensures.tree ∙ c.follow.ensures.tree ∙ c.requires.tree,
-        (
-          c.requires.sound,
-          (
-            c.requires.living,
-            (
-              c.requires.covered,
-              (
-                c.counted-followed.ensures.found ∙ ap found_of followed,
-                (c.counted-followed.ensures.links ∙ ap links_of followed, c.calls_on-near.ensures.exact),
-              ),
-            ),
-          ),
-        ),
-      ),
-    )
+calls_kept-far-requires g c κs = (
+  (refl, tt),
+  (
+    c.calls_on-near.ensures.tree ∙ c.cover_of-cover.ensures.tree ∙ c.follow.ensures.tree ∙ c.requires.tree,
+    c.requires.living,
+  ),
+)
 
 pub returns-clause-exact : goal.returns-clause-exact
-returns-clause-exact g c =
+returns-clause-exact g c = λ covered.
     let a = c.args.self.now in
     let t : Tree = a.seen.tree in
     let h : History = plain_history a.process in
@@ -76,9 +41,24 @@ returns-clause-exact g c =
     ap (follow t dir) part in
     let found : c.counted-followed.result.0 ≡ found_of r = c.counted-followed.ensures.found ∙ ap found_of followed in
     let links : c.counted-followed.result.1 ≡ links_of r = c.counted-followed.ensures.links ∙ ap links_of followed in
-    let on = λ (call : Call). c.calls_on-near.ensures.exact call ∙
+    let followed_here : c.follow.result ≡ follow t dir c.part-part.result = c.follow.ensures.exact ∙
+    ap (λ (u : Tree). follow u dir c.part-part.result) c.requires.tree in
+    let found_here : c.counted-followed.result.0 ≡ found_of (follow t dir c.part-part.result) =
+    c.counted-followed.ensures.found ∙ ap found_of followed_here in
+    let named : IfOk c.counted-followed.result.0 (StandsAsNamed t) =
+    subst (λ (f : Result Found Errno). IfOk f (StandsAsNamed t)) (sym c.counted-followed.ensures.found)
+    (founds_are (StandsAsNamed t) c.follow.result (subst (λ (u : Tree). IfOk c.follow.result (λ object. StandsAsNamed u object.0))
+    c.requires.tree c.follow.ensures.named)) in
+    let fit : FoundsFit t c.counted-followed.result.0 =
+    subst (FoundsFit t) (sym c.counted-followed.ensures.found)
+    (founds_of t c.follow.result (subst (λ (u : Tree). IfOk c.follow.result (λ object. FoundFits u object.0)) c.requires.tree
+    c.follow.ensures.fits)) in
+    let left = c.cover_of-cover.ensures.exact named covered c.requires.living
+    (named_above t dir c.part-part.result c.counted-followed.result.0 found_here) in
+    let on = λ (call : Call). c.calls_on-near.ensures.exact fit left call ∙
     ap (λ (x : Result Found Errno). is_allowed (verdict_of t a.table h call x)) found in
-    let on_kept = λ (call : Call). c.calls_kept-far.ensures.exact call ∙
+    let on_kept = λ (call : Call). c.calls_kept-far.ensures.exact covered found_here
+    (c.counted-followed.ensures.links ∙ ap links_of followed_here) (c.calls_on-near.ensures.exact fit left) call ∙
     ap (λ (p : Part). is_allowed (verdict_of t a.table h call (last t dir 0 p Kept))) part in
     let near : (call : Call) → has c.union-all.result call ≡ allowed_near t a.table h dir letter r call =
     λ call. c.union-all.ensures call ∙ ap (λ b. b || has c.keeping.result call) (c.following.ensures call) ∙
@@ -96,16 +76,25 @@ returns-clause-exact g c =
     (sym (c.directory_of.ensures ∙ ap leads_to found)) told)
 
 pub returns-clause-covered : goal.returns-clause-covered
-returns-clause-covered g c =
+returns-clause-covered g c = λ covered.
     let a = c.args.self.now in
     let h : History = plain_history a.process in
     let fit : FoundsFit a.seen.tree c.counted-followed.result.0 =
     subst (FoundsFit a.seen.tree) (sym c.counted-followed.ensures.found)
     (founds_of a.seen.tree c.follow.result (subst (λ (u : Tree). IfOk c.follow.result (λ found. FoundFits u found.0)) c.requires.tree
     c.follow.ensures.fits)) in
+    let followed_here : c.follow.result ≡ follow a.seen.tree c.args.dir c.part-part.result = c.follow.ensures.exact ∙
+    ap (λ (u : Tree). follow u c.args.dir c.part-part.result) c.requires.tree in
+    let found_here : c.counted-followed.result.0 ≡ found_of (follow a.seen.tree c.args.dir c.part-part.result) =
+    c.counted-followed.ensures.found ∙ ap found_of followed_here in
+    let named : IfOk c.counted-followed.result.0 (StandsAsNamed a.seen.tree) =
+    subst (λ (f : Result Found Errno). IfOk f (StandsAsNamed a.seen.tree)) (sym c.counted-followed.ensures.found)
+    (founds_are (StandsAsNamed a.seen.tree) c.follow.result (subst (λ (u : Tree). IfOk c.follow.result
+    (λ object. StandsAsNamed u object.0)) c.requires.tree c.follow.ensures.named)) in
     subst (λ (o : Option ℕ). IfSome o (λ to. c.cover_of-cover.result ≡ cover_in a.seen.tree h to)) (sym c.directory_of.ensures)
-    (covered_lead a.seen.tree h c.requires.sound.tree c.counted-followed.result.0 c.cover_of-cover.result fit
-    c.cover_of-cover.ensures.exact)
+    (covered_lead a.seen.tree h a.tree c.counted-followed.result.0 c.cover_of-cover.result fit
+    (c.cover_of-cover.ensures.exact named covered c.requires.living
+    (named_above a.seen.tree c.args.dir c.part-part.result c.counted-followed.result.0 found_here)))
 
 pub returns-clause-cost : goal.returns-clause-cost
 returns-clause-cost g c = omega (

@@ -7,8 +7,8 @@ use Rattle.pua_audit.proofs.Lists.{all_among}
 use Rattle.pua_audit.proofs.Spotted.{nowhere_found, apart_kept}
 use Rattle.pua_audit.proofs.terms.Terms.spots.Goals as goal
 
-pub returns : goal.returns
-returns c =
+pub invariant_of-result : goal.invariant_of-result
+invariant_of-result c =
     let a = c.args.self.now in
     let name = λ (letter : ℕ). get_or a.letters letter [] in
     let rows : map lent_entry c.args.rows.now ≡ a.seen.tree.rows = c.requires.rows in
@@ -48,7 +48,7 @@ returns c =
         unveiled = λ dir letter low unsorted.
             let unmarked = still dir letter unsorted in
             let place : Place = Slot dir (name letter) in
-            sym (veils_are_kept h place) ∙ ap (λ vs. veil_at vs place) (sym c.requires.sound.stands.veils)
+            sym (veils_are_kept h place) ∙ ap (λ vs. veil_at vs place) (sym c.args.self.now.stands.veils)
             ∙ apart_kept place a.process.veils (subst (λ (ps : List Place). AreApartFrom place ps) places
             (veils_at dir letter low unmarked));
         rise = IsNonDecreasingBy-from_sort_by_key (λ (s : LetterSpot). s.dir) sorted c.sort_unstable_by_key.ensures.sorted
@@ -56,7 +56,7 @@ returns c =
       };
       unveiled = λ dir apart called.
           let place : Place = Slot dir called in
-          sym (veils_are_kept h place) ∙ ap (λ vs. veil_at vs place) (sym c.requires.sound.stands.veils)
+          sym (veils_are_kept h place) ∙ ap (λ vs. veil_at vs place) (sym c.args.self.now.stands.veils)
           ∙ apart_kept place a.process.veils (subst (λ (ps : List Place). AreApartFrom place ps) places
           (c.in_ok-veiled.ensures dir called apart));
     }

@@ -1,7 +1,8 @@
 use Rattle.pua_audit.proofs.Common.{◌≡◌, ◌<◌, ◌≤◌, ◌∙◌, ◌+◌, ◌*◌, ◌-◌, ℕ, suc, nat_eq, List, [], ◌∷◌, ◌++◌, length, map, get_or, arith}
 use Rattle.pua_audit.proofs.Common.{refl, sym, ap, subst, AllByRecursion, IsTrue, length-append, length-map, insert_key, Tree, is_dir}
 use Rattle.pua_audit.proofs.Common.{cover_in, History, row_cost, AreCovered, DirectoriesState, Judge, plain_history, judge_in, AreNumbers}
-use Rattle.pua_audit.proofs.Common.{IsJudgedRow, Steps}
+use Rattle.pua_audit.proofs.Common.{IsJudgedRow, IsTableOf, Steps, Terms}
+use Rattle.pua_audit.specs.Bounds.{table_cost}
 use Rattle.pua_audit.proofs.Costs.{next_within, one_row_more, rows_few, rows_within}
 use Rattle.pua_audit.proofs.Moves.{all_at_index}
 use Rattle.pua_audit.proofs.Made.{AreRows, rows_pushed, table_made, numbers_apart}
@@ -10,12 +11,16 @@ use Rattle.pua_audit.proofs.terms.Terms.table.Goals as goal
 
 pub loop-dir-preserved : goal.loop-dir-preserved
 loop-dir-preserved g c =
-    let a = c.args.self.now in
+    let a : Terms = c.in_ok-spots.spots.terms.now in
     let l = c.loop-dir in
     let new : List ℕ = c.row.new.dirs.numbers in
     let rows : List Row = l.rows.items in
     let row : Row = c.in_ok-row.row in
     let at = c.in-Some.ensures in
+    let over : c.cover_at-over.result ≡ cover_in a.seen.tree (plain_history a.process) c.in-Some.dir =
+    c.cover_at-over.ensures a.seen.tree (plain_history a.process) l.invariant.covered
+    ∙ ap (λ (n : ℕ). cover_in a.seen.tree (plain_history a.process) (get_or l.dirs.numbers n 0)) (c.len-in-Some.ensures ∙ sym c.len.ensures)
+    ∙ ap (cover_in a.seen.tree (plain_history a.process)) (sym at.dir) in
     let grown = c.in_ok-row.ensures.grown in
     let inside : length rows < length l.dirs.numbers = omega (arith, at.within, c.len.ensures) in
     let count : c.len.result ≡ length rows = omega (arith, c.len.ensures) in
@@ -23,7 +28,7 @@ loop-dir-preserved g c =
     let last : IsJudgedRow (judge_in a) a.letters new (get_or l.dirs.numbers (length rows) 0) (length a.letters) row.missing
     row.entries.items =
     subst (λ (n : ℕ). IsJudgedRow (judge_in a) a.letters new n (length a.letters) row.missing row.entries.items) here
-    c.in_ok-row.ensures.row in
+    (c.in_ok-row.ensures.row l.invariant.covered over) in
     let items : c.push.new.self.items ≡ rows ++ row ∷ [] = c.in_ok-push.ensures.items in
     record {
       rows = subst (AreRows (judge_in a) a.letters new) (sym items) (rows_pushed (judge_in a) a.letters l.dirs.numbers new rows
@@ -31,8 +36,8 @@ loop-dir-preserved g c =
       within = omega (arith, ap length items, length-append rows (row ∷ []), inside, grown.more);
       some = omega (arith, l.invariant.some, grown.more);
       first = grown.same 0 l.invariant.some ∙ l.invariant.first;
-      living = c.in_ok-row.ensures.living;
-      covered = c.in_ok-row.ensures.covered;
+      living = c.in_ok-row.ensures.living l.invariant.living;
+      covered = c.in_ok-row.ensures.covered l.invariant.covered;
       tree = c.row.ensures.tree ∙ l.invariant.tree;
       cost =
           let n : ℕ = length a.letters in
@@ -43,7 +48,7 @@ loop-dir-preserved g c =
 
 pub returns-clause-table : goal.returns-clause-table
 returns-clause-table g c =
-    let a = c.args.self.now in
+    let a : Terms = c.in_ok-spots.spots.terms.now in
     let l = c.loop-dir in
     let t : Steps = record { letters = c.len-2.result; rows = l.rows } in
     let whole : length l.rows.items ≡ length l.dirs.numbers = omega (arith, c.in_default.ensures.none, c.len.ensures, l.invariant.within) in
@@ -53,50 +58,56 @@ returns-clause-table g c =
     subst (λ (d : DirectoriesState). AreNumbers d.numbers) c.dirs-in-loop-dir.view_is c.dirs-in-loop-dir.invariant in (
       l.dirs.numbers,
       (
-        table_made (judge_in a) a.letters l.dirs.numbers t many few whole l.invariant.rows,
+        subst (λ (u : Terms). IsTableOf (judge_in u) u.letters l.dirs.numbers t) c.in_ok-spots.ensures
+            (table_made (judge_in a) a.letters l.dirs.numbers t many few whole l.invariant.rows),
         numbers_apart l.dirs.numbers numbers,
         l.invariant.some,
         l.invariant.first,
       ),
     )
 
+as_asked : (old made : ℕ) (a asked : Terms) → a ≡ asked → made ≤ old + table_cost a.seen.tree (length a.letters)
+    → made ≤ old + table_cost asked.seen.tree (length asked.letters)
+as_asked old made a asked same = subst (λ (u : Terms). made ≤ old + table_cost u.seen.tree (length u.letters)) same
+
 pub returns-clause-cost : goal.returns-clause-cost
 returns-clause-cost g c =
-    let a = c.args.self.now in
+    let a : Terms = c.in_ok-spots.spots.terms.now in
     let l = c.loop-dir in
     let numbers : AreNumbers l.dirs.numbers =
     subst (λ (d : DirectoriesState). AreNumbers d.numbers) c.dirs-in-loop-dir.view_is c.dirs-in-loop-dir.invariant in
     let few : length l.rows.items ≤ length a.seen.tree.nodes =
     omega (arith, l.invariant.within, rows_few a.seen.tree l.dirs.numbers numbers l.invariant.living) in
-    omega (arith, l.invariant.cost, rows_within a.seen.tree (length a.letters) (length l.rows.items) few)
+    as_asked _ _ a c.args.self.now c.in_ok-spots.ensures
+    (omega (arith, l.invariant.cost, rows_within a.seen.tree (length a.letters) (length l.rows.items) few))
 
 pub returns-in_err-row-clause-cost : goal.returns-in_err-row-clause-cost
 returns-in_err-row-clause-cost g c =
-    let a = c.args.self.now in
+    let a : Terms = c.in_ok-spots.spots.terms.now in
     let l = c.loop-dir in
     let numbers : AreNumbers l.dirs.numbers =
     subst (λ (d : DirectoriesState). AreNumbers d.numbers) c.dirs-in-loop-dir.view_is c.dirs-in-loop-dir.invariant in
     let inside : length l.rows.items < length l.dirs.numbers = omega (arith, c.in-Some.ensures.within, c.len.ensures) in
-    omega (
+    as_asked _ _ a c.args.self.now c.in_ok-spots.ensures (omega (
       arith,
       c.row.ensures.cost,
       l.invariant.cost,
       next_within a.seen.tree (length a.letters) (length l.rows.items) l.dirs.numbers numbers l.invariant.living inside,
-    )
+    ))
 
 pub returns-in_err-push-clause-cost : goal.returns-in_err-push-clause-cost
 returns-in_err-push-clause-cost g c =
-    let a = c.args.self.now in
+    let a : Terms = c.in_ok-spots.spots.terms.now in
     let l = c.loop-dir in
     let numbers : AreNumbers l.dirs.numbers =
     subst (λ (d : DirectoriesState). AreNumbers d.numbers) c.dirs-in-loop-dir.view_is c.dirs-in-loop-dir.invariant in
     let inside : length l.rows.items < length l.dirs.numbers = omega (arith, c.in-Some.ensures.within, c.len.ensures) in
-    omega (
+    as_asked _ _ a c.args.self.now c.in_ok-spots.ensures (omega (
       arith,
       c.row.ensures.cost,
       l.invariant.cost,
       next_within a.seen.tree (length a.letters) (length l.rows.items) l.dirs.numbers numbers l.invariant.living inside,
-    )
+    ))
 
 -- before the first row
 
@@ -114,10 +125,11 @@ not_more n m = omega arith
 
 pub loop-dir-init : goal.loop-dir-init
 loop-dir-init g c =
-    let a = c.args.self.now in
+    let a : Terms = c.in_ok-spots.spots.terms.now in
     let t : Tree = a.seen.tree in
     let h : History = plain_history a.process in
     let new = c.place.new.self in
+    let same : a ≡ c.args.self.now = c.in_ok-spots.ensures in
     let placed = c.in_ok-place.ensures in
     let alone : new.numbers ≡ c.args.base ∷ [] =
     placed.all ∙ ap (λ (ns : List ℕ). insert_key nat_eq ns c.args.base) c.new-dirs.ensures.numbers in
@@ -126,10 +138,12 @@ loop-dir-init g c =
       within = none_within c.new-rows.result.items new.numbers c.new-rows.ensures.items;
       some = some_within c.in_ok-place.field-0 (length new.numbers) placed.place.0;
       first = ap (λ (ns : List ℕ). get_or ns 0 0) alone;
-      living = subst (AllByRecursion (λ (d : ℕ). IsTrue (is_dir t d))) (sym alone) (c.requires.living, tt);
-      covered = placed.covered t h c.requires.covered
+      living = subst (AllByRecursion (λ (d : ℕ). IsTrue (is_dir t d))) (sym alone)
+          (subst (λ (u : Terms). IsTrue (is_dir u.seen.tree c.args.base)) (sym same) c.requires.living, tt);
+      covered = placed.covered t h (subst (λ (u : Terms). c.args.cover ≡ cover_in u.seen.tree (plain_history u.process) c.args.base)
+          (sym same) c.requires.covered)
           (c.new-dirs.ensures.covers ∙ ap (map (cover_in t h)) (sym c.new-dirs.ensures.numbers));
-      tree = c.requires.tree;
+      tree = c.requires.tree ∙ ap (λ (u : Terms). u.seen.tree) (sym same);
       cost = not_more (g.P.Probe.count c.args.probe.now) (length c.new-rows.result.items * row_cost t (length a.letters));
     }
 
@@ -143,31 +157,23 @@ cover_below t h dirs place other covered same low =
 
 pub cover_at-over-requires : goal.cover_at-over-requires
 cover_at-over-requires g c =
-    let a = c.args.self.now in
+    let a : Terms = c.in_ok-spots.spots.terms.now in
     cover_below a.seen.tree (plain_history a.process) c.loop-dir.dirs c.len-in-Some.result c.len.result c.loop-dir.invariant.covered
     (c.len-in-Some.ensures ∙ sym c.len.ensures) c.in-Some.ensures.within
 
 pub row-requires : goal.row-requires
 row-requires g c κs =
-    let a = c.args.self.now in
+    let a : Terms = c.in_ok-spots.spots.terms.now in
     let t : Tree = a.seen.tree in
-    let h : History = plain_history a.process in
     let l = c.loop-dir in
     let at = c.in-Some.ensures in
     let living : IsTrue (is_dir t c.in-Some.dir) =
     subst (λ (d : ℕ). IsTrue (is_dir t d)) (sym at.dir)
-    (all_at_index (λ (d : ℕ). IsTrue (is_dir t d)) l.dirs.numbers 0 l.invariant.living c.len.result at.within) in
-    let over : c.cover_at-over.result ≡ cover_in t h c.in-Some.dir =
-    c.cover_at-over.ensures t h l.invariant.covered
-    ∙ ap (λ (n : ℕ). cover_in t h (get_or l.dirs.numbers n 0)) (c.len-in-Some.ensures ∙ sym c.len.ensures)
-    ∙ ap (cover_in t h) (sym at.dir) in (
+    (all_at_index (λ (d : ℕ). IsTrue (is_dir t d)) l.dirs.numbers 0 l.invariant.living c.len.result at.within) in (
       (refl, tt),
       (
         l.invariant.tree,
-        (
-          c.requires.sound,
-          (c.in_ok-spots.ensures, (living, (l.invariant.living, (l.invariant.covered, over)))),
-        ),
+        living,
       ),
     )
 

@@ -6,15 +6,15 @@ use Rattle.pua_audit.proofs.terms.Terms.table.Given as goal
 -- the first directories have their rows
 abbrev pub invariant-loop-dir : goal.invariant-loop-dir
 invariant-loop-dir g l = record {
-  rows : AreRows (judge_in l.self) l.self.letters l.dirs.numbers l.rows.items;
+  rows : AreRows (judge_in l.spots.terms.now) l.spots.terms.now.letters l.dirs.numbers l.rows.items;
   within : length l.rows.items ≤ length l.dirs.numbers;
   some : 0 < length l.dirs.numbers;
   first : get_or l.dirs.numbers 0 0 ≡ l.fn.base;
-  living : AreLiving l.self.seen.tree l.dirs.numbers;
-  covered : AreCovered l.self.seen.tree (plain_history l.self.process) l.dirs;
-  tree : g.P.Probe.tree l.probe ≡ l.self.seen.tree;
+  living : AreLiving l.spots.terms.now.seen.tree l.dirs.numbers;
+  covered : AreCovered l.spots.terms.now.seen.tree (plain_history l.spots.terms.now.process) l.dirs;
+  tree : g.P.Probe.tree l.probe ≡ l.spots.terms.now.seen.tree;
   cost : g.P.Probe.count l.probe ≤ g.P.Probe.count l.fn.probe
-      + suc (length l.rows.items * row_cost l.self.seen.tree (length l.self.letters));
+      + suc (length l.rows.items * row_cost l.spots.terms.now.seen.tree (length l.spots.terms.now.letters));
 }
 
 abbrev pub decreases-loop-dir : goal.decreases-loop-dir

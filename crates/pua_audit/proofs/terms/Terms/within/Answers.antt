@@ -7,7 +7,7 @@ pub returns : goal.returns
 returns c = λ dir living over bare.
     let a = c.args.self.now in
     let t = a.seen.tree in
-    let is = within_is t a.table (plain_history a.process) c.requires.tree dir living c.args.cover over in
+    let is = within_is t a.table (plain_history a.process) a.tree dir living c.args.cover over in
     record {
       missing = λ call. c.calls_over.ensures t IsMissing refl call ∙ is IsMissing call;
       file = λ call. c.calls_over-2.ensures t IsFile refl call ∙ is IsFile call;

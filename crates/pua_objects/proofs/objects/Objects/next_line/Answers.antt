@@ -1,6 +1,7 @@
 use Rattle.pua_objects.proofs.Common.{◌≡◌, ◌≢◌, [], refl, sym, ap, subst, ◌∙◌, arith, length, take, length-map, ProcessState, StandsFor}
 use Rattle.pua_objects.proofs.Common.{lines_of}
 use Rattle.pua_calls.specs.CallSets.{calls_in}
+use Rattle.pua_policy.specs.AllowedCalls.{AreWorkedOut}
 use Rattle.pua_objects.specs.ObjectsState.{ObjectsState}
 use Rattle.pua_objects.proofs.Fronts.{shares_on}
 use Rattle.pua_objects.proofs.Listed.{left_out, kept_in, told_lined}
@@ -14,6 +15,7 @@ loop-item-init g c =
       tree = ap (λ (s : ObjectsState). s.tree) is;
       process = ap (λ (s : ObjectsState). s.process) is;
       table = ap (λ (s : ObjectsState). s.table) is;
+      worked_out = c.self.invariant;
       fewer = omega (arith, ap (λ (s : ObjectsState). length s.left) is);
       shared = ap (λ (s : ObjectsState). take (length c.word.result.now) s.word) is;
       so_far = λ h stands. ap (λ (s : ObjectsState). lines_of c.args.self.now.tree c.args.self.now.table h s.left) (sym is);
@@ -31,13 +33,11 @@ returns-then-not-is_empty-clause-line g c =
     let at = c.loop-item.self-inside in
     let after = c.next_item.new.self in
     let first = c.in-Some.ensures.item in
-    let line = c.line_of-line.result in
+    let line = c.allowed_line-line.result in
     let some : calls_in line.calls ≢ [] = not_from_Decides c.is_empty.result c.is_empty.ensures c.if-not-is_empty.true in
-    let process = c.process-in-Some.ensures ∙ c.in-Some.ensures.of.1 in
     let on = told_lined old.tree at.items.tree old.process at.items.process old.table at.table now.tree now.process now.table first.subject
     c.in-Some.item line first.tells
-    (λ h stands told. c.line_of-line.ensures at.items.tree h first.subject (subst (λ (p : ProcessState). StandsFor p h) (sym process)
-    stands) told) in
+    (λ h. c.allowed_line-line.ensures at.items.process at.table at.items.tree h first.subject now.worked_out) in
     let history = c.known.ensures.history in
     let known = subst (λ (p : ProcessState). StandsFor p history) (c.process.ensures ∙ ap (λ (s : ObjectsState). s.process) c.self.view_is)
     c.known.ensures.stands in
@@ -61,17 +61,16 @@ loop-item-preserved g c =
     let at = c.loop-item.self-inside in
     let after = c.next_item.new.self in
     let first = c.in-Some.ensures.item in
-    let line = c.line_of-line.result in
+    let line = c.allowed_line-line.result in
     let none : calls_in line.calls ≡ [] = c.is_empty.ensures.0 c.if-not-is_empty.false in
-    let process = c.process-in-Some.ensures ∙ c.in-Some.ensures.of.1 in
     let on = told_lined old.tree at.items.tree old.process at.items.process old.table at.table now.tree now.process now.table first.subject
     c.in-Some.item line first.tells
-    (λ h stands told. c.line_of-line.ensures at.items.tree h first.subject (subst (λ (p : ProcessState). StandsFor p h) (sym process)
-    stands) told) in
+    (λ h. c.allowed_line-line.ensures at.items.process at.table at.items.tree h first.subject now.worked_out) in
     record {
       tree = c.in-Some.ensures.of.0 ∙ now.tree;
       process = c.in-Some.ensures.of.1 ∙ now.process;
       table = now.table;
+      worked_out = subst (λ (p : ProcessState). AreWorkedOut p at.table at.allowed) (sym c.in-Some.ensures.of.1) now.worked_out;
       fewer = omega (arith, ap length first.left, now.fewer);
       shared = shares_on c.min-self-inside.result c.loop-item.self-inside.shared c.args.self.now.word c.loop-item.self-inside.items.word
           c.next_item.new.self.word

@@ -13,7 +13,7 @@ returns-clause-item g c = λ h inner around fits stands dirs covered row living.
     record {
       subject = refl;
       object = c.directory.ensures dir name;
-      cover = c.own_cover-cover.ensures h stands ∙ ap (own_or own) (ap (λ (d : OpenDir). d.cover) (c.inner.ensures inner around dirs) ∙
+      cover = c.cover_at_dir-cover.ensures h stands ∙ ap (own_or own) (ap (λ (d : OpenDir). d.cover) (c.inner.ensures inner around dirs) ∙
           covered)
           ∙ sym (down.below dir name c.args.id row living) ∙ sym (down.directory c.args.id (way.Named dir name) living);
     }

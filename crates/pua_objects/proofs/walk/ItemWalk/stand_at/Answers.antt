@@ -10,6 +10,6 @@ returns-clause-item c = λ t h inner around node fits stands dirs covered seen r
     record {
       subject = ap (λ node. At (found.Slot c.args.dir name node)) row;
       object = seen;
-      cover = c.own_cover-cover.ensures h stands ∙ ap (own_or own) (ap (λ (d : OpenDir). d.cover) (c.inner.ensures inner around dirs) ∙
+      cover = c.cover_at_name-cover.ensures h stands ∙ ap (own_or own) (ap (λ (d : OpenDir). d.cover) (c.inner.ensures inner around dirs) ∙
           covered) ∙ sym ((covers_descend t h fits).at_name c.args.dir name node);
     }

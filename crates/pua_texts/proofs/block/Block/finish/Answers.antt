@@ -1,4 +1,4 @@
-use Rattle.pua_texts.proofs.Common.{[], Ok, Err, subst, PutFault, Passes}
+use Rattle.pua_texts.proofs.Common.{[], Err, subst, PutFault, Passes}
 use Rattle.std.specs.Prelude.{Result}
 use Rattle.pua_texts.proofs.Passing.{passes_written}
 use Rattle.pua_texts.proofs.block.Block.finish.Goals as goal

@@ -1,36 +1,26 @@
-use Rattle.pua_tree.proofs.Common.{◌≡◌, ◌∙◌, Ok, Some, sym, ap, subst, is_some, nat_cmp, find, WellFormed, without_row, without_unnamed}
+use Rattle.pua_tree.proofs.Common.{◌≡◌, ◌∙◌, Ok, sym, ap, subst, WellFormed, without_row, without_unnamed}
 use Rattle.pua_tree.proofs.Common.{held_in_slots}
 use Rattle.pua_tree.specs.Tree as tree
 use Rattle.pua_tree.proofs.EditsKeep.{edits_keep_trees}
-use Rattle.pua_tree.proofs.SlabEdits.{found_row, living_in, row_living}
+use Rattle.pua_tree.proofs.SlabEdits.{has_row}
 use Rattle.pua_tree.proofs.slab_tree.SlabTreeFileTree.cut.Goals as goal
-
-pub take_row-names-requires-clause-there : goal.take_row-names-requires-clause-there
-take_row-names-requires-clause-there c =
-    found_row c.self.inside.slots c.self.inside.next c.args.self.now c.args.dir c.args.name.now (Some c.in_ok-node.node) c.self.view_is
-    c.in_ok-node.ensures.found
-
-pub drop_where_none_left-requires-clause-living : goal.drop_where_none_left-requires-clause-living
-drop_where_none_left-requires-clause-living c =
-    let x = c.in_ok-node.node in
-    let there = found_row c.self.inside.slots c.self.inside.next c.args.self.now c.args.dir c.args.name.now (Some x) c.self.view_is
-    c.in_ok-node.ensures.found in
-    living_in c.take_row-names.new.self x (ap (λ ns. is_some (find nat_cmp x ns)) c.take_row-names.ensures.nodes ∙
-    row_living c.self.inside.slots c.self.inside.next c.args.dir x c.args.name.now c.self.invariant.0 there)
 
 pub returns-clause-exact : goal.returns-clause-exact
 returns-clause-exact c =
     let next = c.self.inside.next in
+    let has = has_row c.self.inside.slots next c.args.self.now c.args.dir c.args.name.now c.in_ok-node.node c.self.invariant.1
+    c.self.view_is c.in_ok-node.ensures.found in
     let taken : held_in_slots c.take_row-names.new.self next ≡ without_row c.args.self.now c.args.dir c.args.name.now =
-    (λ i. record { rows = c.take_row-names.ensures.rows i; nodes = c.take_row-names.ensures.nodes i; next = next }) ∙
+    (λ i. record { rows = c.take_row-names.ensures.rows i; nodes = c.take_row-names.ensures.nodes has i; next = next }) ∙
     ap (λ (t : tree.Tree). without_row t c.args.dir c.args.name.now) c.self.view_is in
     c.in_ok-node.ensures.exact ∙
-    ap (λ (t : tree.Tree). Ok (c.in_ok-node.node, t)) (sym (c.drop_where_none_left.ensures.unnamed c.take_row-names.ensures.left next ∙
-    ap (λ (t : tree.Tree). without_unnamed t c.in_ok-node.node) taken))
+    ap (λ (t : tree.Tree). Ok (c.in_ok-node.node, t)) (sym (c.drop_unnamed.ensures.unnamed (c.take_row-names.ensures.kept has)
+    (c.take_row-names.ensures.left has) next ∙ ap (λ (t : tree.Tree). without_unnamed t c.in_ok-node.node) taken))
 
 pub invariant_of-self : goal.invariant_of-self
 invariant_of-self c = (
   (edits_keep_trees.cutting c.args.self.now _ c.args.dir c.in_ok-node.node c.args.name.now
       (subst WellFormed c.self.view_is c.self.invariant.0) (returns-clause-exact c)).0,
-  c.drop_where_none_left.ensures.kept,
+  c.drop_unnamed.ensures.kept (c.take_row-names.ensures.kept (has_row c.self.inside.slots c.self.inside.next c.args.self.now c.args.dir
+      c.args.name.now c.in_ok-node.node c.self.invariant.1 c.self.view_is c.in_ok-node.ensures.found)),
 )

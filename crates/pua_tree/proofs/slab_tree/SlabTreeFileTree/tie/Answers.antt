@@ -1,42 +1,37 @@
-use Rattle.pua_tree.proofs.Common.{rules, ◌≡◌, ◌∙◌, Ok, None, sym, ap, subst, WellFormed, is_dir, with_row, held_in_slots}
+use Rattle.pua_tree.proofs.Common.{rules, ◌≡◌, ◌∙◌, Ok, sym, ap, subst, WellFormed, with_row, held_in_slots}
 use Rattle.pua_tree.specs.Tree as tree
 use Rattle.pua_tree.proofs.EditsKeep.{edits_keep_trees}
-use Rattle.pua_tree.proofs.SlabEdits.{found_row, no_dir_may}
+use Rattle.pua_tree.proofs.SlabEdits.{tied_may_enter}
 use Rattle.pua_tree.proofs.slab_tree.SlabTreeFileTree.tie.Goals as goal
 
 pub invariant_of-self : goal.invariant_of-self
 invariant_of-self c = (
   subst WellFormed (sym (c.reserve_row.ensures.same c.self.inside.next)) c.self.invariant.0,
-  c.reserve_row.ensures.kept,
+  c.reserve_row.ensures.kept c.self.invariant.1,
 )
 
 pub returns-in_err-reserve_row-clause-unchanged : goal.returns-in_err-reserve_row-clause-unchanged
 returns-in_err-reserve_row-clause-unchanged c = search (rules, c.reserve_row.ensures.same c.self.inside.next ∙ c.self.view_is)
 
-pub put_row-requires-clause-free : goal.put_row-requires-clause-free
-put_row-requires-clause-free c =
-    found_row c.reserve_row.new.self c.self.inside.next c.args.self.now c.args.dir c.args.name None
-    (c.reserve_row.ensures.same c.self.inside.next ∙ c.self.view_is) c.in_ok-may_tie.ensures.free
-
-pub put_row-requires-clause-dir_once : goal.put_row-requires-clause-dir_once
-put_row-requires-clause-dir_once c =
-    let next = c.self.inside.next in
-    let same : held_in_slots c.reserve_row.new.self next ≡ c.args.self.now = c.reserve_row.ensures.same next ∙ c.self.view_is in
-    no_dir_may c.reserve_row.new.self next c.args.node (subst WellFormed (sym (c.reserve_row.ensures.same next)) c.self.invariant.0)
-    (ap (λ (t : tree.Tree). is_dir t c.args.node) same ∙ c.in_ok-may_tie.ensures.no_dir)
-
 pub returns-clause-exact : goal.returns-clause-exact
 returns-clause-exact c =
     let next = c.self.inside.next in
     let same : held_in_slots c.reserve_row.new.self next ≡ c.args.self.now = c.reserve_row.ensures.same next ∙ c.self.view_is in
+    let enters = tied_may_enter c.reserve_row.new.self next c.args.self.now c.args.dir c.args.name c.args.node
+    (subst WellFormed c.self.view_is c.self.invariant.0) (c.reserve_row.ensures.kept c.self.invariant.1) same c.in_ok-may_tie.ensures.free
+    c.in_ok-may_tie.ensures.no_dir in
     let came : held_in_slots c.put_row.new.self next ≡ with_row c.args.self.now c.args.dir c.args.name c.args.node =
-    (λ i. record { rows = c.put_row.ensures.rows i; nodes = c.put_row.ensures.nodes i; next = next }) ∙
+    (λ i. record { rows = c.put_row.ensures.rows i; nodes = c.put_row.ensures.nodes enters i; next = next }) ∙
     ap (λ (t : tree.Tree). with_row t c.args.dir c.args.name c.args.node) same in
     c.in_ok-may_tie.ensures.exact ∙ ap (λ (t : tree.Tree). Ok t) (sym came)
 
 pub invariant_of-self-2 : goal.invariant_of-self-2
-invariant_of-self-2 c = (
-  (edits_keep_trees.tying c.args.self.now _ c.args.dir c.args.node c.args.name (subst WellFormed c.self.view_is c.self.invariant.0)
-      c.may_tie.ensures.name (returns-clause-exact c)).0,
-  c.put_row.ensures.kept,
-)
+invariant_of-self-2 c =
+    let next = c.self.inside.next in
+    let formed = subst WellFormed c.self.view_is c.self.invariant.0 in (
+      (edits_keep_trees.tying c.args.self.now _ c.args.dir c.args.node c.args.name formed c.may_tie.ensures.name
+          (returns-clause-exact c)).0,
+      c.put_row.ensures.kept (tied_may_enter c.reserve_row.new.self next c.args.self.now c.args.dir c.args.name c.args.node formed
+          (c.reserve_row.ensures.kept c.self.invariant.1) (c.reserve_row.ensures.same next ∙ c.self.view_is) c.in_ok-may_tie.ensures.free
+          c.in_ok-may_tie.ensures.no_dir),
+    )

@@ -1,54 +1,44 @@
-use Rattle.pua_tree.proofs.Common.{arith, ◌≡◌, ◌∙◌, sym, ap, subst, put, find, WellFormed, spot_cmp, Follows, tree_with, entry_at}
+use Rattle.pua_tree.proofs.Common.{arith, ◌≡◌, ◌∙◌, sym, ap, subst, put, IfSome, WellFormed, spot_cmp, Follows, tree_with, entry_at}
 use Rattle.pua_tree.proofs.Common.{held_in_slots, held_rows}
 use Rattle.pua_tree.specs.Tree as tree
+use Rattle.pua_tree.specs.Slots.{IsNew, MayEnter}
 use Rattle.pua_tree.proofs.Raised.{grown_keeps}
 use Rattle.pua_tree.proofs.SlotsKeep.{rows_by}
-use Rattle.pua_tree.proofs.SlotsHold.{rows_found}
-use Rattle.pua_tree.proofs.SlabEdits.{new_where_made, free_spot, may_enter, grown_held}
+use Rattle.pua_tree.proofs.SlabEdits.{new_where_made, entry_may_enter, grown_held}
 use Rattle.pua_tree.proofs.slab_tree.SlabTreeGathered.put.Goals as goal
 
 pub invariant_of-self : goal.invariant_of-self
 invariant_of-self c = (
   subst WellFormed (sym (c.reserve_node.ensures.same c.self.inside.next)) c.self.invariant.0,
-  c.reserve_node.ensures.kept,
+  c.reserve_node.ensures.kept c.self.invariant.1,
 )
 
 pub returns-in_err-reserve_node-clause-unchanged : goal.returns-in_err-reserve_node-clause-unchanged
 returns-in_err-reserve_node-clause-unchanged c = grind (arith, c.reserve_node.ensures.same c.self.inside.next, c.self.view_is)
 
-pub add_made-requires-clause-new : goal.add_made-requires-clause-new
-add_made-requires-clause-new c =
+-- the node that is made is new, and its row may come to its spot
+is_new : (c : goal.After-self-1) → IfSome c.args.stands.made (λ _. IsNew c.reserve_node.new.self c.args.stands.node)
+is_new c =
     let s = c.reserve_node.new.self in
     let e = entry_at c.args.spot.now.dir c.args.spot.now.name c.args.stands in
     let next = c.self.inside.next in
-    let formed : WellFormed (held_in_slots s next) = subst WellFormed (sym (c.reserve_node.ensures.same next)) c.self.invariant.0 in
     let follows : Follows (held_in_slots s next) e =
     subst (λ (t : tree.Tree). Follows t e) (sym (c.reserve_node.ensures.same next ∙ c.self.view_is)) c.requires in
-    new_where_made s next formed c.reserve_node.ensures.kept e follows.number c.args.stands.made follows.enters
+    new_where_made s next (subst WellFormed (sym (c.reserve_node.ensures.same next)) c.self.invariant.0)
+    (c.reserve_node.ensures.kept c.self.invariant.1) e follows.number c.args.stands.made follows.enters
 
-pub put_row-requires-clause-free : goal.put_row-requires-clause-free
-put_row-requires-clause-free c =
+comes : (c : goal.After-self-1) → MayEnter c.add_made.new.self (c.args.spot.now.dir, c.args.spot.now.name) c.args.stands.node
+comes c =
     let s = c.reserve_node.new.self in
     let e = entry_at c.args.spot.now.dir c.args.spot.now.name c.args.stands in
     let next = c.self.inside.next in
-    let formed : WellFormed (held_in_slots s next) = subst WellFormed (sym (c.reserve_node.ensures.same next)) c.self.invariant.0 in
+    let kept = c.reserve_node.ensures.kept c.self.invariant.1 in
     let follows : Follows (held_in_slots s next) e =
     subst (λ (t : tree.Tree). Follows t e) (sym (c.reserve_node.ensures.same next ∙ c.self.view_is)) c.requires in
-    sym (rows_found c.add_made.new.self (e.parent, e.name)) ∙
-    ap (λ rows. find spot_cmp (e.parent, e.name) rows) (rows_by c.add_made.new.self s c.add_made.ensures.rows) ∙
-    rows_found s (e.parent, e.name)
-    ∙ free_spot s next formed c.reserve_node.ensures.kept e follows.number e.made follows.enters
-
-pub put_row-requires-clause-dir_once : goal.put_row-requires-clause-dir_once
-put_row-requires-clause-dir_once c =
-    let s = c.reserve_node.new.self in
-    let e = entry_at c.args.spot.now.dir c.args.spot.now.name c.args.stands in
-    let next = c.self.inside.next in
-    let formed : WellFormed (held_in_slots s next) = subst WellFormed (sym (c.reserve_node.ensures.same next)) c.self.invariant.0 in
-    let follows : Follows (held_in_slots s next) e =
-    subst (λ (t : tree.Tree). Follows t e) (sym (c.reserve_node.ensures.same next ∙ c.self.view_is)) c.requires in
-    may_enter s next formed c.reserve_node.ensures.kept e follows.number c.add_made.new.self e.made follows.enters
-    (rows_by c.add_made.new.self s c.add_made.ensures.rows) c.add_made.ensures.nodes
+    entry_may_enter s next (subst WellFormed (sym (c.reserve_node.ensures.same next)) c.self.invariant.0) kept e follows.number
+    c.add_made.new.self e.made follows.enters (c.add_made.ensures.kept kept (is_new c))
+    (rows_by c.add_made.new.self s c.add_made.ensures.rows)
+    (c.add_made.ensures.nodes kept (is_new c))
 
 pub returns-clause-grown : goal.returns-clause-grown
 returns-clause-grown c =
@@ -60,8 +50,9 @@ returns-clause-grown c =
     let follows : Follows (held_in_slots s next) e = subst (λ (t : tree.Tree). Follows t e) (sym same) c.requires in
     let rows : held_rows c.put_row.new.self ≡ put spot_cmp (e.parent, e.name) e.node (held_rows s) =
     c.put_row.ensures.rows ∙ ap (put spot_cmp (e.parent, e.name) e.node) (rows_by c.add_made.new.self s c.add_made.ensures.rows) in
-    grown_held s next formed c.reserve_node.ensures.kept e follows.number c.put_row.new.self e.made follows.enters rows
-    (c.put_row.ensures.nodes ∙ c.add_made.ensures.nodes)
+    let kept = c.reserve_node.ensures.kept c.self.invariant.1 in
+    grown_held s next formed kept e follows.number c.put_row.new.self e.made follows.enters rows
+    (c.put_row.ensures.nodes (comes c) ∙ c.add_made.ensures.nodes kept (is_new c))
     ∙ ap (λ (t : tree.Tree). tree_with t e) same
 
 pub invariant_of-self-2 : goal.invariant_of-self-2
@@ -69,5 +60,5 @@ invariant_of-self-2 c =
     let t = c.args.self.now in
     let e = entry_at c.args.spot.now.dir c.args.spot.now.name c.args.stands in (
       subst WellFormed (sym (returns-clause-grown c)) (grown_keeps t e (subst WellFormed c.self.view_is c.self.invariant.0) c.requires),
-      c.put_row.ensures.kept,
+      c.put_row.ensures.kept (comes c),
     )

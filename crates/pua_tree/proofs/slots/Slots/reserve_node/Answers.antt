@@ -5,11 +5,11 @@ use Rattle.pua_tree.proofs.SlotsNodes.{kept_alike, filed_alike, found_alike}
 use Rattle.pua_tree.proofs.slots.Slots.reserve_node.Goals as goal
 
 pub returns-clause-kept : goal.returns-clause-kept
-returns-clause-kept c =
+returns-clause-kept c kept =
     let old = c.args.self.now in
     let new : Slots = record { rows = c.reserve.new.self; numbers = c.reserve-2.new.self; nodes = c.reserve-3.new.self } in
     let slots = λ (x : ℕ). ap (lookup (number_ghosts.eq x)) c.reserve-2.ensures.entries in
     let got = λ (slot : ℕ). ap (λ (s : Slab SlotNode). slot_get s slot) c.reserve-3.ensures.rest_kept in
     let filed = filed_alike old new slots got (ap (λ (s : Slab SlotNode). slab_len s) c.reserve-3.ensures.rest_kept)
-    (ap length c.reserve-2.ensures.entries) c.requires.filed in
-    kept_alike old new (sym c.reserve.ensures.entries) (found_alike old new slots got) filed c.requires
+    (ap length c.reserve-2.ensures.entries) kept.filed in
+    kept_alike old new (sym c.reserve.ensures.entries) (found_alike old new slots got) filed kept

@@ -26,7 +26,7 @@ returns-clause-row c = λ w letters dir letter row.
     (sym c.bits-2.ensures.number)
     (subst (λ (o : Option ℕ). IsLetter w dir (get_or letters n []) a.all a.kept e.links o) (sym to.0) letter)) in
     let more : e.all ≡ 0 → e.kept ≡ 0 =
-    kept_none e.all e.kept c.bits-2.ensures.calls (λ call. ap (λ m. has m call) c.bits-2.ensures.number ∙ c.requires.kept call ∙
+    kept_none e.all e.kept c.bits-2.ensures.calls (λ call. ap (λ m. has m call) c.bits-2.ensures.number ∙ a.keeping call ∙
     ap (λ m. has m call && keeps_link call) (sym c.bits.ensures.number)) in
     let fits : IsEntryFor (n + 1) (length dirs) e =
     record {
@@ -34,7 +34,7 @@ returns-clause-row c = λ w letters dir letter row.
       kept = c.bits-2.ensures.calls;
       all = c.bits.ensures.calls;
       more = more;
-      links = c.requires.links;
+      links = a.few;
       to = to.1;
     } in
     subst (IsJudgedRow w letters dirs dir (n + 1) c.args.missing) (sym c.in_ok-push.ensures.items)

@@ -1,5 +1,6 @@
 use Rattle.pua_audit.proofs.Common.{◌≡◌, ◌≢◌, ◌<◌, ◌∙◌, ◌++◌, ℕ, List, map, sym, subst, AllByRecursion, IsUnmarked, LetterSpot, all_joined}
 use Rattle.std.specs.List.{Contains}
+use Rattle.std.specs.List.Sorted.{IsNonDecreasingBy}
 use Rattle.std.proofs.lemmas.List.Elements.{Contains-append_left, Contains-append_right}
 use Rattle.std.proofs.lemmas.List.Filters.{dedup_is}
 use Rattle.std.proofs.lemmas.List.Kept.{Contains-dedup_nat, Contains-from_dedup}
@@ -18,6 +19,8 @@ returns c =
     let gathered : c.extend_from_slice.new.self.items ≡ at ++ dots = c.in_ok-extend_from_slice.ensures.items ∙
     (λ i. c.in_ok-letters.ensures i ++ c.as_slice-2.ensures.value i) in
     let is = dedup_is _ _ _ c.dedup.ensures.filtered in
+    let rise : IsNonDecreasingBy (λ (s : LetterSpot). s.dir) c.as_slice.result.now =
+    rw c.as_slice.ensures.value c.args.self.now.told.rise in
     let moved = c.sort_unstable.ensures.permutation in
     let kept : (x : ℕ) → Contains (at ++ dots) x → Contains all x =
     λ x h. rw is (Contains-dedup_nat _ x (Contains-permutation _ _ x moved (subst (λ (l : List ℕ). Contains l x) (sym gathered) h))) in
@@ -35,6 +38,6 @@ returns c =
       dotted = λ letter apart. all_among (λ n. n ≢ letter) all dots (λ x h. kept x (Contains-append_right at dots x h)) apart;
       spotted = λ letter apart.
           subst (IsUnmarked c.args.dir letter) c.as_slice.ensures.value
-          (c.spots_in.ensures.all letter (all_unmapped (λ n. n ≢ letter) (λ (s : LetterSpot). s.letter) here
+          (c.spots_in.ensures.all rise letter (all_unmapped (λ n. n ≢ letter) (λ (s : LetterSpot). s.letter) here
           (all_among (λ n. n ≢ letter) all at (λ x h. kept x (Contains-append_left at dots x h)) apart)));
     }
