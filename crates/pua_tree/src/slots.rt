@@ -35,7 +35,8 @@ pub(crate) struct RowNode {
 }
 
 /// Rows and nodes. A node's number is never given again; its slot is. What a change leaves is said
-/// of rows and nodes that are consistent before it, as those of a `SlabTree` are.
+/// of rows and nodes that are consistent before it, as those of a `SlabTree` are, and have room for
+/// what it puts. What finds no room is not put.
 #[derive(Drop)]
 pub(crate) struct Slots {
     pub(crate) rows: IndexMap<Spot, RowNode>,
@@ -50,14 +51,13 @@ ghost use Rattle.std.specs.Ordering.{is_eq, nat_cmp};
 ghost use Rattle.std.specs.FinMap.{put};
 ghost use Rattle.std.specs.FinMap.Entries.{where_key};
 ghost use Rattle.indexmap.specs.IndexMap.{spare};
-ghost use Rattle.slab.specs.Slab.{HasRoomFor};
 ghost use Rattle.pua_tree.specs.Tree.{spot_cmp, empty_tree, distinct_names};
 ghost use Rattle.pua_tree.specs.Edits.{without_unnamed};
 ghost use Rattle.pua_tree.specs.Reading.{said_node};
 ghost use Rattle.pua_tree.specs.LentRows.{lent_entry};
 ghost use Rattle.pua_tree.specs.Slots.{held_rows, held_nodes, held_in_slots, names_of, IsNew};
 ghost use Rattle.pua_tree.specs.Slots.{with_made, row_in, row_at, slot_of, node_in};
-ghost use Rattle.pua_tree.specs.Slots.{HasRow, MayEnter, MayMove};
+ghost use Rattle.pua_tree.specs.Slots.{HasRow, MayEnter, MayMove, HasNodeRoom};
 ghost use Rattle.pua_tree.specs.Slots.{AreConsistent, Restands, row_gained, row_lost, name_gained};
 ghost use Rattle.pua_tree.specs.Slots.{name_lost, IsFiled, standing_of_dir};
 
@@ -204,12 +204,11 @@ impl Slots {
         self.numbers.len()
     }
 
-    /// Puts a row at a spot that has none.
+    /// Puts a row at a spot that has none, where there is room for it.
     pub(crate) fn put_row(&mut self, spot: &Spot, node: NodeId)
-        requires { 0 < spare self.old.rows }
-        ensures kept { MayEnter self.old (spot.now.dir, spot.now.name) node →
-            AreConsistent self.new }
-        ensures rows { held_rows self.new
+        ensures kept { 0 < spare self.old.rows →
+            MayEnter self.old (spot.now.dir, spot.now.name) node → AreConsistent self.new }
+        ensures rows { 0 < spare self.old.rows → held_rows self.new
             ≡ put spot_cmp (spot.now.dir, spot.now.name) node (held_rows self.old) }
         ensures nodes { MayEnter self.old (spot.now.dir, spot.now.name) node →
             held_nodes self.new ≡ held_nodes self.old }
@@ -220,7 +219,7 @@ impl Slots {
         // A row of a node that is none may say anything.
         let kind = self.gain_name(node, spot.dir).unwrap_or(Kind::File);
         let row = RowNode { node, kind };
-        self.rows.insert(*spot, row).unwrap();
+        let _ = self.rows.insert(*spot, row);
     }
 
     /// Takes away the row of this directory and name, in which this node stands, and answers how
@@ -242,7 +241,8 @@ impl Slots {
         self.lose_name(node)
     }
 
-    /// Moves the row of this directory and name, in which this node stands, to a spot that has none.
+    /// Moves the row of this directory and name, in which this node stands, to a spot that has
+    /// none, where there is room for a further row.
     pub(crate) fn move_row(
         &mut self,
         from: NodeId,
@@ -251,10 +251,9 @@ impl Slots {
         new_name: Name,
         node: NodeId,
     )
-        requires { 0 < spare self.old.rows }
-        ensures kept { MayMove self.old (from, name.now) (to, new_name) node →
-            AreConsistent self.new }
-        ensures rows { held_rows self.new ≡ put spot_cmp (
+        ensures kept { 0 < spare self.old.rows →
+            MayMove self.old (from, name.now) (to, new_name) node → AreConsistent self.new }
+        ensures rows { 0 < spare self.old.rows → held_rows self.new ≡ put spot_cmp (
           to,
           new_name,
         ) node (where_key spot_cmp
@@ -272,13 +271,13 @@ impl Slots {
         );
     }
 
-    /// Puts a node under a number that no node has and no row names.
+    /// Puts a node under a number that no node has and no row names, where there is room for it.
     pub(crate) fn add_node(&mut self, id: NodeId, kind: Kind, target: Option<Vec<u8>>)
-        requires slot_room { HasRoomFor self.old.nodes 1 }
-        requires number_room { 0 < spare self.old.numbers }
-        ensures kept { AreConsistent self.old → IsNew self.old id → AreConsistent self.new }
+        ensures kept { HasNodeRoom self.old → AreConsistent self.old → IsNew self.old id →
+            AreConsistent self.new }
         ensures rows { self.new.rows ≡ self.old.rows }
-        ensures nodes { AreConsistent self.old → IsNew self.old id → held_nodes self.new
+        ensures nodes { HasNodeRoom self.old → AreConsistent self.old → IsNew self.old id →
+            held_nodes self.new
             ≡ put nat_cmp id (record
             { kind = kind; target = option_map (λ bytes. bytes.items) target })
             (held_nodes self.old) }
@@ -288,22 +287,23 @@ impl Slots {
             rows: 0,
             names: 0,
         };
-        let slot = self.nodes.insert_reserved(SlotNode {
+        let node = SlotNode {
             kind,
             target,
             standing,
-        });
-        self.numbers.insert(id, slot).unwrap();
+        };
+        if let Ok(slot) = self.nodes.insert(node) {
+            let _ = self.numbers.insert(id, slot);
+        }
     }
 
-    /// Puts the node that an entry of a listing makes, if it makes one.
+    /// Puts the node that an entry of a listing makes, if it makes one and there is room for it.
     pub(crate) fn add_made(&mut self, id: NodeId, made: Option<MadeNode>)
-        requires slot_room { HasRoomFor self.old.nodes 1 }
-        requires number_room { 0 < spare self.old.numbers }
-        ensures kept { AreConsistent self.old → IfSome made (λ _. IsNew self.old id) →
-            AreConsistent self.new }
+        ensures kept { HasNodeRoom self.old → AreConsistent self.old →
+            IfSome made (λ _. IsNew self.old id) → AreConsistent self.new }
         ensures rows { self.new.rows ≡ self.old.rows }
-        ensures nodes { AreConsistent self.old → IfSome made (λ _. IsNew self.old id) →
+        ensures nodes { HasNodeRoom self.old → AreConsistent self.old →
+            IfSome made (λ _. IsNew self.old id) →
             held_nodes self.new ≡ with_made id (option_map said_node made)
             (held_nodes self.old) }
     {
@@ -353,8 +353,7 @@ impl Slots {
         ensures kept { AreConsistent self.old → AreConsistent self.new }
         ensures same { (next : ℕ) → held_in_slots self.new next ≡ held_in_slots self.old next }
         ensures row_room { OnOk result (0 < spare self.new.rows) }
-        ensures number_room { OnOk result (0 < spare self.new.numbers) }
-        ensures slot_room { OnOk result (HasRoomFor self.new.nodes 1) }
+        ensures node_room { OnOk result (HasNodeRoom self.new) }
     {
         self.rows.reserve(1)?;
         self.numbers.reserve(1)?;
