@@ -1,5 +1,8 @@
 //! What a reader of listings fills: a tree that takes one entry after another.
 
+ghost use Rattle.std.specs.Prelude.{IsTrue, option_map};
+ghost use Rattle.pua_tree.specs.Tree.{target_fits};
+
 use crate::fault::OutOfMemory;
 use crate::name::LentName;
 use crate::node::{Kind, NodeId};
@@ -30,6 +33,7 @@ pub(crate) struct Standing {
 pub(crate) struct MadeNode {
     pub(crate) kind: Kind,
     pub(crate) target: Option<Vec<u8>>,
+    pub(crate) ghost fits: { IsTrue (target_fits kind (option_map (λ t. t.items) target)) },
 }
 
 /// A tree that begins as the root alone, and takes entries under numbers that rise and may leave some
@@ -49,11 +53,11 @@ pub(crate) trait Gathered: FileTree + Drop {
         ensures { result ≡ look (Self.content self.now) spot.now.dir spot.now.name };
 
     /// Puts a node into a new row at this spot, and the node itself into the tree where the line
-    /// makes it. The next number is then above the line's. The only error is that memory for it is
-    /// refused; the tree is then as it was.
+    /// makes it. The next number is then above the line's. What may not follow the tree's entries is
+    /// not put. The only error is that memory for it is refused; the tree is then as it was.
     fn put(&mut self, spot: &Spot, stands: Standing) -> Result<(), OutOfMemory>
-        requires { Follows (Self.content self.old) (entry_at spot.now.dir spot.now.name stands) }
-        ensures grown { OnOk result (Self.content self.new ≡ tree_with (Self.content self.old)
-            (entry_at spot.now.dir spot.now.name stands)) }
+        ensures grown { let entry = entry_at spot.now.dir spot.now.name stands in
+            Follows (Self.content self.old) entry →
+            OnOk result (Self.content self.new ≡ tree_with (Self.content self.old) entry) }
         ensures unchanged { OnErr result (Self.content self.new ≡ Self.content self.old) };
 }

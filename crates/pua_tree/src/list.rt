@@ -2,7 +2,7 @@
 
 use crate::fault::{OutOfMemory, TreeFault};
 use crate::gathered::{Gathered, MadeNode, Standing};
-use crate::judgement::{self, Judged, Moving, may_add, may_cut, may_shift, may_tie};
+use crate::judgement::{self, Judged, Moving, may_add, may_cut, may_put, may_shift, may_tie};
 use crate::list_edits::{copied_target, push_made, put_row, reserve_one, take_row, take_unnamed};
 use crate::name::{LentName, Name};
 use crate::node::{Kind, NodeId};
@@ -191,6 +191,9 @@ impl Gathered for ListTree {
     }
 
     fn put(&mut self, spot: &Spot, stands: Standing) -> Result<(), OutOfMemory> {
+        if !may_put(self, spot, &stands) {
+            return Ok(());
+        }
         reserve_one(&mut self.rows, &mut self.nodes)?;
         let Standing { number, node, made } = stands;
         let row = ListRow {

@@ -2,7 +2,7 @@
 
 use crate::fault::{OutOfMemory, TreeFault};
 use crate::gathered::{Gathered, MadeNode, Standing};
-use crate::judgement::{self, Judged, Moving, may_add, may_cut, may_shift, may_tie};
+use crate::judgement::{self, Judged, Moving, may_add, may_cut, may_put, may_shift, may_tie};
 use crate::list_edits::copied_target;
 use crate::name::{LentName, Name};
 use crate::node::{Kind, NodeId};
@@ -91,7 +91,8 @@ impl FileTree for SlabTree {
         let node = NodeId::new(number);
         let made = Some(MadeNode { kind, target });
         let stands = Standing { number, node, made };
-        self.put(&Spot { dir, name }, stands)?;
+        self.slots.put_entry(&Spot { dir, name }, stands)?;
+        self.next = number + 1;
         Ok(node)
     }
 
@@ -144,10 +145,11 @@ impl Gathered for SlabTree {
     }
 
     fn put(&mut self, spot: &Spot, stands: Standing) -> Result<(), OutOfMemory> {
-        self.slots.reserve_node()?;
-        let Standing { number, node, made } = stands;
-        self.slots.add_made(node, made);
-        self.slots.put_row(spot, node);
+        if !may_put(self, spot, &stands) {
+            return Ok(());
+        }
+        let number = stands.number;
+        self.slots.put_entry(spot, stands)?;
         self.next = number + 1;
         Ok(())
     }

@@ -1,6 +1,6 @@
 //! Rows by their spots, and nodes in slots that are used again, found by their numbers.
 
-use crate::gathered::MadeNode;
+use crate::gathered::{MadeNode, Standing};
 use crate::name::Name;
 use crate::node::{Kind, NodeId};
 use crate::spot::Spot;
@@ -45,15 +45,15 @@ pub(crate) struct Slots {
 }
 
 ghost use Rattle.std.specs.Prelude.{ℕ, ◌≡◌, ◌<◌, ◌≤◌, ◌==◌, ◌^◌, Some, None};
-ghost use Rattle.std.specs.Prelude.{IfSome, IfOk, OnOk, if◌then◌else◌, option_copied, option_map};
-ghost use Rattle.std.specs.Prelude.{option_and_then, length, map, not};
+ghost use Rattle.std.specs.Prelude.{IfSome, IfOk, OnOk, OnErr, if◌then◌else◌, option_copied};
+ghost use Rattle.std.specs.Prelude.{option_map, option_and_then, ◌+◌, length, map, not};
 ghost use Rattle.std.specs.Ordering.{is_eq, nat_cmp};
 ghost use Rattle.std.specs.FinMap.{put};
 ghost use Rattle.std.specs.FinMap.Entries.{where_key};
 ghost use Rattle.indexmap.specs.IndexMap.{spare};
-ghost use Rattle.pua_tree.specs.Tree.{spot_cmp, empty_tree, distinct_names};
+ghost use Rattle.pua_tree.specs.Tree.{spot_cmp, empty_tree, distinct_names, WellFormed};
 ghost use Rattle.pua_tree.specs.Edits.{without_unnamed};
-ghost use Rattle.pua_tree.specs.Reading.{said_node};
+ghost use Rattle.pua_tree.specs.Reading.{Follows, said_node, entry_at, tree_with};
 ghost use Rattle.pua_tree.specs.LentRows.{lent_entry};
 ghost use Rattle.pua_tree.specs.Slots.{held_rows, held_nodes, held_in_slots, names_of, IsNew};
 ghost use Rattle.pua_tree.specs.Slots.{with_made, row_in, row_at, slot_of, node_in};
@@ -307,9 +307,30 @@ impl Slots {
             held_nodes self.new ≡ with_made id (option_map said_node made)
             (held_nodes self.old) }
     {
-        if let Some(MadeNode { kind, target }) = made {
+        if let Some(MadeNode { kind, target, .. }) = made {
             self.add_node(id, kind, target);
         }
+    }
+
+    /// Puts what an entry of a listing says, which may follow a tree that is held: a row at this
+    /// spot, and the node that the entry makes, if it makes one. The only error is that memory is
+    /// refused; the tree is then as it was.
+    pub(crate) fn put_entry(&mut self, spot: &Spot, stands: Standing) -> Result<(), AllocError>
+        ensures grown { AreConsistent self.old → (next : ℕ) →
+            WellFormed (held_in_slots self.old next) →
+            let entry = entry_at spot.now.dir spot.now.name stands in
+            Follows (held_in_slots self.old next) entry →
+            OnOk result (AreConsistent self.new × (held_in_slots self.new (stands.number + 1)
+            ≡ tree_with (held_in_slots self.old next) entry)) }
+        ensures kept { OnErr result (AreConsistent self.old → AreConsistent self.new) }
+        ensures unchanged { OnErr result ((next : ℕ) →
+            held_in_slots self.new next ≡ held_in_slots self.old next) }
+    {
+        self.reserve_node()?;
+        let Standing { node, made, .. } = stands;
+        self.add_made(node, made);
+        self.put_row(spot, node);
+        Ok(())
     }
 
     /// Takes the node of this number away, if there is one. Its slot is the next that is used.

@@ -1,4 +1,4 @@
-use Rattle.pua_tree.proofs.Common.{◌≡◌, ◌∙◌, ◌+◌, ◌++◌, ◌∷◌, [], length, Ok, true, false, is_some, sym, subst, rules, arith, look, entry_of}
+use Rattle.pua_tree.proofs.Common.{◌≡◌, ◌∙◌, ◌++◌, ◌∷◌, [], Ok, true, false, is_some, sym, subst, rules, look, entry_of}
 use Rattle.pua_tree.proofs.Common.{Gathers, Follows, entry_at, entry_said, tree_with, ap, List, ℕ}
 use Rattle.pua_tree.specs.Tree as tree
 use Rattle.pua_tree.proofs.Entries.{Fits}
@@ -21,22 +21,6 @@ returns-then-n-gt-MOST_LINES-clause-exact g c = λ es h _ _.
     c.in_ok-entry.ensures es h ∙
     crowded_entry c.args.self.now.hard t c.args.self.now.greatest es c.args.n e h free c.if-n-gt-MOST_LINES.true
 
-pub put-requires : goal.put-requires
-put-requires g c =
-    let t = g.T.FileTree.content c.args.self.now.tree in
-    let e = entry_said c.in_ok-entry.entry in
-    let es = c.requires.1.0 in
-    let h : Gathers c.args.self.now.hard t c.args.self.now.greatest es = c.requires.1.1 in
-    let count : c.args.n ≡ length es + 3 = omega (arith, c.requires.1.2, c.requires.2) in
-    let free : is_some (look t e.parent e.name) ≡ false = search rules in
-    let read : entry_of c.args.self.now.hard es c.args.n c.args.text.now ≡ Ok e = c.in_ok-entry.ensures es h ∙
-    admitted_entry c.args.self.now.hard t c.args.self.now.greatest es c.args.n e h free c.if-n-gt-MOST_LINES.false in
-    let follows : Follows t e =
-    fit_follows c.args.self.now.hard t c.args.self.now.greatest es e h
-    (entry_read c.args.self.now.hard es c.args.n c.args.text.now e count read).1 in
-    let said = c.in_ok-entry.entry in
-    subst (λ (name : List ℕ). Follows t (entry_at said.parent name said.stands)) (sym c.overwrite.ensures) follows
-
 pub returns-clause-exact : goal.returns-clause-exact
 returns-clause-exact g c = λ es h count.
     let t = g.T.FileTree.content c.args.self.now.tree in
@@ -45,9 +29,12 @@ returns-clause-exact g c = λ es h count.
     let read : entry_of c.args.self.now.hard es c.args.n c.args.text.now ≡ Ok e = c.in_ok-entry.ensures es h ∙
     admitted_entry c.args.self.now.hard t c.args.self.now.greatest es c.args.n e h free c.if-n-gt-MOST_LINES.false in
     let said = c.in_ok-entry.entry in
+    let fits : Fits c.args.self.now.hard es e = (entry_read c.args.self.now.hard es c.args.n c.args.text.now e count read).1 in
+    let follows : Follows t (entry_at said.parent c.overwrite.new.self said.stands) =
+    subst (λ (name : List ℕ). Follows t (entry_at said.parent name said.stands)) (sym c.overwrite.ensures)
+    (fit_follows c.args.self.now.hard t c.args.self.now.greatest es e h fits) in
     let grown =
-    c.in_ok-put.ensures.grown ∙ ap (λ (name : List ℕ). tree_with t (entry_at said.parent name said.stands)) c.overwrite.ensures in
-    let fits : Fits c.args.self.now.hard es e = (entry_read c.args.self.now.hard es c.args.n c.args.text.now e count read).1 in (
+    c.in_ok-put.ensures.grown follows ∙ ap (λ (name : List ℕ). tree_with t (entry_at said.parent name said.stands)) c.overwrite.ensures in (
       e,
       read,
       subst (λ (u : tree.Tree). Gathers c.args.self.now.hard u e.number (es ++ e ∷ [])) (sym grown)
