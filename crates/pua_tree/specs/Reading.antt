@@ -59,11 +59,15 @@ abbrev pub node_follows : Tree → ℕ → ℕ → Option tree.Node → Bool
 node_follows t number x None = is_living t x && not (is_dir t x)
 node_follows t number x (Some made) = x == number
 
--- the same as a test, for an entry whose name is one, and what it makes is made well
+-- a row may come to a spot, whose directory lives, under this number
+abbrev pub row_follows : Tree → ℕ → ℕ → List ℕ → Bool
+row_follows t number dir name =
+    nat_le t.next number && (nat_lt number number_end && (is_none (look t dir name) && has_name_room t))
+
+-- the same as a test, for an entry whose name is one, and of which what it makes is made well
 abbrev pub follows : Tree → listing.Entry → Bool
 follows t e =
-    nat_le t.next e.number && (nat_lt e.number number_end && (is_dir t e.parent && (is_none (look t e.parent e.name)
-    && (has_name_room t && node_follows t e.number e.node e.made))))
+    is_dir t e.parent && (node_follows t e.number e.node e.made && row_follows t e.number e.parent e.name)
 
 -- the tree of entries each of which fits those before it, and the greatest of their numbers
 pub record Gathers (hard : Bool) (t : Tree) (greatest : ℕ) (es : List listing.Entry) : Type 0 where

@@ -64,7 +64,8 @@ ghost use Rattle.pua_tree.specs.Names.{is_name};
 ghost use Rattle.pua_tree.specs.Tree.{Node, is_dir, kind_at, look, found_at, climb};
 ghost use Rattle.pua_tree.specs.Edits.{add, tie, cut, shift, is_full_dir, is_full_dir_there};
 ghost use Rattle.pua_tree.specs.Edits.{has_name_room, has_room};
-ghost use Rattle.pua_tree.specs.Reading.{follows, node_follows, entry_at, said_node};
+ghost use Rattle.pua_tree.specs.Reading.{follows, row_follows, node_follows, entry_at};
+ghost use Rattle.pua_tree.specs.Reading.{said_node};
 ghost use Rattle.pua_tree.specs.Edits.{with_row, with_new, without_row, without_unnamed};
 ghost use Rattle.pua_tree.specs.Edits.{with_row_moved};
 
@@ -159,12 +160,20 @@ pub(crate) fn may_put<T: Judged>(tree: &T, spot: &Spot, stands: &Standing) -> bo
     ensures name { IsTrue (is_name spot.now.name) }
 {
     spot.name.known();
-    tree.next_number() <= stands.number
-        && stands.number < NUMBER_END
-        && is_dir(tree, spot.dir)
+    is_dir(tree, spot.dir) && may_have_row(tree, stands) && may_put_row(tree, spot, stands.number)
+}
+
+/// Whether a row may come to this spot, whose directory lives, under the number of a line.
+pub(crate) fn may_put_row<T: Judged>(tree: &T, spot: &Spot, number: u32) -> bool
+    ensures follows { result
+        ≡ row_follows (T.held tree.now) number spot.now.dir spot.now.name }
+    ensures name { IsTrue (is_name spot.now.name) }
+{
+    spot.name.known();
+    tree.next_number() <= number
+        && number < NUMBER_END
         && tree.node_at(spot).is_none()
         && has_name_room(tree)
-        && may_have_row(tree, stands)
 }
 
 /// Whether the node of a line may come to a row: what the line makes has its number, and another

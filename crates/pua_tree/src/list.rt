@@ -190,9 +190,9 @@ impl Gathered for ListTree {
         self.node_at(spot)
     }
 
-    fn put(&mut self, spot: &Spot, stands: Standing) -> Result<(), OutOfMemory> {
+    fn put(&mut self, spot: &Spot, stands: Standing) -> Result<bool, OutOfMemory> {
         if !may_put(self, spot, &stands) {
-            return Ok(());
+            return Ok(false);
         }
         reserve_one(&mut self.rows, &mut self.nodes)?;
         let Standing { number, node, made } = stands;
@@ -204,7 +204,7 @@ impl Gathered for ListTree {
         put_row(&mut self.rows, row);
         push_made(&mut self.nodes, node, made);
         self.next = number + 1;
-        Ok(())
+        Ok(true)
     }
 }
 

@@ -186,14 +186,16 @@ impl<T: Gathered> Reading<T> {
         let entry = self.entry(alloc, n, text, room)?;
         self.spot.dir = entry.parent;
         self.spot.name.overwrite(entry.name);
-        if self.tree.row_at(&self.spot).is_some() {
-            return Err(ListingFault::Taken(n));
-        }
         if n > MOST_LINES {
-            return Err(ListingFault::TooMany(n));
+            return Err(match self.tree.row_at(&self.spot) {
+                Some(_) => ListingFault::Taken(n),
+                None => ListingFault::TooMany(n),
+            });
         }
         self.greatest = entry.stands.number;
-        self.tree.put(&self.spot, entry.stands)?;
+        if !self.tree.put(&self.spot, entry.stands)? {
+            return Err(ListingFault::Taken(n));
+        }
         Ok(())
     }
 

@@ -2,7 +2,7 @@
 
 use crate::fault::{OutOfMemory, TreeFault};
 use crate::gathered::{Gathered, MadeNode, Standing};
-use crate::judgement::{self, Judged, Moving, may_add, may_cut, may_put, may_shift, may_tie};
+use crate::judgement::{self, Judged, Moving, may_add, may_cut, may_put_row, may_shift, may_tie};
 use crate::list_edits::copied_target;
 use crate::name::{LentName, Name};
 use crate::node::{Kind, NodeId};
@@ -91,7 +91,9 @@ impl FileTree for SlabTree {
         let node = NodeId::new(number);
         let made = Some(MadeNode { kind, target });
         let stands = Standing { number, node, made };
-        self.slots.put_entry(&Spot { dir, name }, stands)?;
+        let above = self.slots.slot(dir);
+        self.slots
+            .put_entry(above, None, &Spot { dir, name }, stands)?;
         self.next = number + 1;
         Ok(node)
     }
@@ -144,14 +146,16 @@ impl Gathered for SlabTree {
         self.node_at(spot)
     }
 
-    fn put(&mut self, spot: &Spot, stands: Standing) -> Result<(), OutOfMemory> {
-        if !may_put(self, spot, &stands) {
-            return Ok(());
-        }
+    fn put(&mut self, spot: &Spot, stands: Standing) -> Result<bool, OutOfMemory> {
+        let above = self.slots.dir_slot(spot.dir);
+        let other = self.slots.other_slot(&stands);
         let number = stands.number;
-        self.slots.put_entry(spot, stands)?;
+        if above.is_none() || !stands.may_stand(other) || !may_put_row(self, spot, number) {
+            return Ok(false);
+        }
+        self.slots.put_entry(above, other, spot, stands)?;
         self.next = number + 1;
-        Ok(())
+        Ok(true)
     }
 }
 

@@ -1,5 +1,5 @@
 use Rattle.pua_tree.proofs.Common.{◌≡◌, ◌∙◌, ◌++◌, [], option_map, sym, ap, subst, map, cons_option, put, WellFormed, spot_cmp, row_entry}
-use Rattle.pua_tree.proofs.Common.{node_entry, Follows, tree_with, entry_at}
+use Rattle.pua_tree.proofs.Common.{◌+◌, node_entry, held_tree, Follows, tree_with, entry_at}
 use Rattle.pua_tree.specs.Tree as tree
 use Rattle.pua_tree.proofs.Follows.{follows_from}
 use Rattle.pua_tree.proofs.ListEdits.{entry_came}
@@ -12,8 +12,10 @@ follows c =
     follows_from c.args.self.now c.args.spot.now.dir c.args.spot.now.name c.args.stands c.may_put.ensures.name
     (sym c.may_put.ensures.follows ∙ c.if-not-may_put.false)
 
-pub returns-clause-grown : goal.returns-clause-grown
-returns-clause-grown c = λ _.
+grown : (c : goal.After-self-1) →
+    held_tree c.put_row.new.rows.items c.push_made.new.nodes.items (c.args.stands.number + 1)
+    ≡ tree_with c.args.self.now (entry_at c.args.spot.now.dir c.args.spot.now.name c.args.stands)
+grown c =
     let inside = c.self.inside in
     let e = entry_at c.args.spot.now.dir c.args.spot.now.name c.args.stands in
     let still : Follows _ e = subst (λ (t : tree.Tree). Follows t e) (sym c.self.view_is) (follows c) in
@@ -25,7 +27,10 @@ returns-clause-grown c = λ _.
     c.self.invariant still.number still.enters row node
     ∙ ap (λ (t : tree.Tree). tree_with t e) c.self.view_is
 
+pub returns-clause-grown : goal.returns-clause-grown
+returns-clause-grown c = λ _. grown c
+
 pub invariant_of-self-2 : goal.invariant_of-self-2
 invariant_of-self-2 c =
     let formed : WellFormed c.args.self.now = subst WellFormed c.self.view_is c.self.invariant in
-    subst WellFormed (sym (returns-clause-grown c (follows c))) (grown_keeps c.args.self.now _ formed (follows c))
+    subst WellFormed (sym (grown c)) (grown_keeps c.args.self.now _ formed (follows c))

@@ -1,5 +1,5 @@
 use Rattle.pua_tree.proofs.Common.{◌≡◌, ◌<◌, ◌+◌, ◌∙◌, rules, arith, sym, subst, Ok, Some, option_map, WellFormed, AreConsistent, Follows}
-use Rattle.pua_tree.proofs.Common.{Entry, tree_with, held_in_slots}
+use Rattle.pua_tree.proofs.Common.{Entry, true≢false, tree_with, held_in_slots}
 use Rattle.pua_tree.specs.Tree as tree
 use Rattle.pua_tree.specs.Edits.{add, with_new}
 use Rattle.pua_tree.proofs.Raised.{grown_keeps}
@@ -39,7 +39,9 @@ module _ (c : goal.After-self-1) where
   }
 
   grown : AreConsistent c.put_entry.new.self × (held_in_slots c.put_entry.new.self (c.self.inside.next + 1) ≡ tree_with t e)
-  grown = c.in_ok-put_entry.ensures.grown c.self.invariant.1 c.self.inside.next c.self.invariant.0 follows
+  grown =
+      c.in_ok-put_entry.ensures.grown c.slot-above.ensures (λ none. absurd (true≢false (sym none))) c.self.invariant.1
+      c.self.inside.next c.self.invariant.0 follows
 
 pub invariant_of-self-2 : goal.invariant_of-self-2
 invariant_of-self-2 c = (subst WellFormed (sym (grown c).1) (grown_keeps (t c) (e c) c.self.invariant.0 (follows c)), (grown c).0)
