@@ -1,12 +1,12 @@
 //! Sinks, texts and the whole program, each once more where a growth was refused: nothing was written
 //! by the first call, and the second writes everything.
 
-use crate::LISTING;
-use crate::called::{
+use crate::hostile::LISTING;
+use crate::hostile::called::{
     audit_done, command_done, ever_done, objects_done, objects_why_done, run_done, run_why_done,
     why_done,
 };
-use crate::growth::is_refused;
+use crate::hostile::growth::is_refused;
 use anyhow::Result;
 use pua_audit::Base;
 use pua_calls::Rules;

@@ -1,10 +1,10 @@
 //! A list of objects that is begun once more where a growth was refused, and gives its lines whole
 //! whatever is refused then.
 
-use crate::LISTING;
-use crate::growth::is_refused;
-use crate::growth::readings::tree_read;
-use crate::trees::ListedTree;
+use crate::hostile::LISTING;
+use crate::hostile::growth::is_refused;
+use crate::hostile::growth::readings::tree_read;
+use crate::hostile::trees::ListedTree;
 use anyhow::Result;
 use pua_calls::{Call, CallTable, Calls, Perms};
 use pua_objects::{ObjectKind, ObjectLine, Objects};

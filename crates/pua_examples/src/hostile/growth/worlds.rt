@@ -1,12 +1,12 @@
 //! Worlds, made once more where a growth was refused; and requests, each made once more, over a
 //! world that is as it was.
 
-use crate::LISTING;
-use crate::growth::is_refused;
-use crate::growth::readings::{script_read, tree_read};
-use crate::growth::seen::world_seen;
-use crate::listed::listing_of;
-use crate::trees::ListedTree;
+use crate::hostile::LISTING;
+use crate::hostile::growth::is_refused;
+use crate::hostile::growth::readings::{script_read, tree_read};
+use crate::hostile::growth::seen::world_seen;
+use crate::hostile::listed::listing_of;
+use crate::hostile::trees::ListedTree;
 use anyhow::Result;
 use pua_calls::CallTable;
 use pua_path::Errno;

@@ -1,7 +1,7 @@
 //! Calls of functions whose contracts are long to load. Each is cited here alone, and nothing of it is
 //! promised on: what they do is compared with what is written.
 
-use crate::LISTING;
+use crate::hostile::LISTING;
 use pua_tool::{
     Inputs, Job, MemorySink, Processes, Sink, TableChoice, ToolFault, audit_to, command, ever_to,
     objects_to, objects_why_to, run_to, run_why_to, why_to,

@@ -1,9 +1,9 @@
 //! Sinks that break at each of their puts, and readers that fail at each of their reads.
 
-use crate::LISTING;
-use crate::called::{audit_done, command_done};
-use crate::dripping::{DrippingReader, DrippingSink};
-use crate::told::{count, wrong_unless};
+use crate::hostile::LISTING;
+use crate::hostile::called::{audit_done, command_done};
+use crate::hostile::dripping::{DrippingReader, DrippingSink};
+use crate::hostile::told::{count, wrong_unless};
 use anyhow::Result;
 use pua_audit::Base;
 use pua_tool::{

@@ -1,10 +1,10 @@
 //! Live states of audits, and looks and reads in numbers, by direct calls over both kinds of tree.
 
 use self::AuditSize::{First, Whole};
-use crate::LISTING;
-use crate::audited::TreeAudit;
-use crate::told::{count, wrong_unless};
-use crate::trees::ListedTree;
+use crate::hostile::LISTING;
+use crate::hostile::audited::TreeAudit;
+use crate::hostile::told::{count, wrong_unless};
+use crate::hostile::trees::ListedTree;
 use anyhow::Result;
 use pua_calls::{Call, CallTable};
 use pua_policy::Process;

@@ -1,9 +1,9 @@
 //! Processes, each made, given veils and copied once more where a growth was refused.
 
-use crate::LISTING;
-use crate::growth::is_refused;
-use crate::growth::readings::tree_read;
-use crate::growth::seen::process_seen;
+use crate::hostile::LISTING;
+use crate::hostile::growth::is_refused;
+use crate::hostile::growth::readings::tree_read;
+use crate::hostile::growth::seen::process_seen;
 use anyhow::{Result, bail};
 use pua_calls::{Perms, Promises};
 use pua_policy::{Place, Process, UnveilFault};

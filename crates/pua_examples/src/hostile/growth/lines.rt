@@ -1,11 +1,11 @@
 //! An audit that is begun once more where a growth was refused, and lists its lines whole whatever
 //! is refused then.
 
-use crate::LISTING;
-use crate::audited::TreeAudit;
-use crate::growth::is_refused;
-use crate::growth::readings::tree_read;
-use crate::trees::ListedTree;
+use crate::hostile::LISTING;
+use crate::hostile::audited::TreeAudit;
+use crate::hostile::growth::is_refused;
+use crate::hostile::growth::readings::tree_read;
+use crate::hostile::trees::ListedTree;
 use anyhow::Result;
 use pua_audit::AuditFault;
 use pua_calls::{Call, CallTable, Perms};

@@ -1,11 +1,11 @@
 //! Inputs, listings, names, scripts and tables of calls, each read once more where a growth was refused.
 
-use crate::LISTING;
-use crate::dripping::DrippingReader;
-use crate::growth::is_refused;
-use crate::growth::worlds::{REQUESTS, SCRIPT};
-use crate::listed::listing_of;
-use crate::trees::ListedTree;
+use crate::hostile::LISTING;
+use crate::hostile::dripping::DrippingReader;
+use crate::hostile::growth::is_refused;
+use crate::hostile::growth::worlds::{REQUESTS, SCRIPT};
+use crate::hostile::listed::listing_of;
+use crate::hostile::trees::ListedTree;
 use anyhow::Result;
 use pua_calls::{Call, CallTable, Perms, TableFault};
 use pua_script::{Script, ScriptFault, read_script};

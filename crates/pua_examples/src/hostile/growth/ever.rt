@@ -1,11 +1,11 @@
 //! A list for ever that is begun once more where a growth was refused, and gives its lines whole
 //! whatever is refused then.
 
-use crate::LISTING;
-use crate::growth::is_refused;
-use crate::growth::objects::{set_of, spooler};
-use crate::growth::readings::tree_read;
-use crate::trees::ListedTree;
+use crate::hostile::LISTING;
+use crate::hostile::growth::is_refused;
+use crate::hostile::growth::objects::{set_of, spooler};
+use crate::hostile::growth::readings::tree_read;
+use crate::hostile::trees::ListedTree;
 use anyhow::{Result, bail};
 use pua_calls::{Call, CallTable};
 use pua_ever::{Ever, EverFault, EverLine, EverThing};

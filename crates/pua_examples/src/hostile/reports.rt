@@ -1,9 +1,9 @@
 //! Help, the version and the lines of faults, on outputs that take a few bytes a put: each is written
 //! whole. The same commands with outputs in memory say what it is, and of the lines also a table.
 
-use crate::called::command_done;
-use crate::dripping::DrippingSink;
-use crate::told::{count, tell_unless};
+use crate::hostile::called::command_done;
+use crate::hostile::dripping::DrippingSink;
+use crate::hostile::told::{count, tell_unless};
 use anyhow::Result;
 use pua_tool::{DEVICE, DONE, MemoryInputs, MemorySink, REFUSED};
 use std::alloc::Global;
