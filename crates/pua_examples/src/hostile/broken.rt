@@ -80,10 +80,15 @@ pub(crate) fn run(rt: &HostRuntime) -> Result<()> {
     short_audits(rt)?;
     short_commands(rt)?;
     small_rooms(rt)?;
+    long_texts(rt)?;
+    readings(rt)
+}
+
+/// The cases of the long audit.
+fn long_texts(rt: &HostRuntime) -> Result<()> {
     let whole = long_text(rt)?;
     long_audits(rt, whole.bytes())?;
-    short_puts(rt, whole.bytes())?;
-    readings(rt)
+    short_puts(rt, whole.bytes())
 }
 
 /// The first bytes of a text, at most so many.

@@ -26,20 +26,20 @@ pub(crate) fn run(rt: &HostRuntime) -> Result<()> {
     hold::<ListTree>(rt, &mut again)?;
     hold::<SlabTree>(rt, &mut again)?;
     let alloc = rt.alloc();
-    tell_unless(rt, readings::hold(alloc, &mut again)?, WRONG, "readings")?;
-    tell_unless(rt, processes::hold(alloc, &mut again)?, WRONG, "processes")?;
-    tell_unless(rt, texts::hold(alloc, &mut again)?, WRONG, "texts")?;
+    tell_unless(rt, readings::hold(alloc, &mut again), WRONG, "readings")?;
+    tell_unless(rt, processes::hold(alloc, &mut again), WRONG, "processes")?;
+    tell_unless(rt, texts::hold(alloc, &mut again), WRONG, "texts")?;
     Ok(println!(rt; "{again} calls made once more")?)
 }
 
 /// Makes the calls that are of a tree of this kind.
 fn hold<T: ListedTree>(rt: &HostRuntime, again: &mut u32) -> Result<()> {
     let alloc = rt.alloc();
-    tell_unless(rt, readings::is_listed::<T>(alloc, again)?, WRONG, "trees")?;
-    tell_unless(rt, worlds::hold::<T>(alloc, again)?, WRONG, "worlds")?;
-    tell_unless(rt, lines::hold::<T>(alloc, again)?, WRONG, "audits")?;
-    tell_unless(rt, objects::hold::<T>(alloc, again)?, WRONG, "objects")?;
-    tell_unless(rt, ever::hold::<T>(alloc, again)?, WRONG, "lists for ever")
+    tell_unless(rt, readings::is_listed::<T>(alloc, again), WRONG, "trees")?;
+    tell_unless(rt, worlds::hold::<T>(alloc, again), WRONG, "worlds")?;
+    tell_unless(rt, lines::hold::<T>(alloc, again), WRONG, "audits")?;
+    tell_unless(rt, objects::hold::<T>(alloc, again), WRONG, "objects")?;
+    tell_unless(rt, ever::hold::<T>(alloc, again), WRONG, "lists for ever")
 }
 
 /// Whether a growth was refused to a call: that is counted, and the call is to be made once more.

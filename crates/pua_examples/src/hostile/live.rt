@@ -179,11 +179,22 @@ fn is_found_twice(alloc: Global, listing: &[u8], case: &Case<'_>) -> Result<bool
 
 /// A world in which a script was run.
 fn world_after<T: ListedTree>(alloc: Global, listing: &[u8], script: &[u8]) -> Result<World<T>> {
-    let tree = T::read(alloc, listing)?;
-    let script = read_script(alloc, script)?;
-    let mut world = World::new(alloc, tree, CallTable::standard())?;
-    let _ = world.run(alloc, &script)?;
+    let mut world = world_of::<T>(alloc, listing)?;
+    serve(alloc, &mut world, script)?;
     Ok(world)
+}
+
+/// A world over the tree of a listing.
+fn world_of<T: ListedTree>(alloc: Global, listing: &[u8]) -> Result<World<T>> {
+    let tree = T::read(alloc, listing)?;
+    Ok(World::new(alloc, tree, CallTable::standard())?)
+}
+
+/// Runs a script in a world.
+fn serve<T: ListedTree>(alloc: Global, world: &mut World<T>, script: &[u8]) -> Result<()> {
+    let script = read_script(alloc, script)?;
+    let _ = world.run(alloc, &script)?;
+    Ok(())
 }
 
 /// Whether an audit over one kind of tree finds this, within the bounds.

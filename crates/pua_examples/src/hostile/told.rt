@@ -13,9 +13,14 @@ pub(crate) fn count(rt: &HostRuntime, what: &str, number: usize, of: &str) -> Re
     Ok(println!(rt; "{what}: {number} {of}")?)
 }
 
-/// Prints what became of something, unless it is as it has to be.
-pub(crate) fn tell_unless(rt: &HostRuntime, holds: bool, what: &str, word: &str) -> Result<()> {
-    if holds {
+/// Prints what became of something, unless it is as it has to be. It fails where that can't be told.
+pub(crate) fn tell_unless(
+    rt: &HostRuntime,
+    holds: Result<bool>,
+    what: &str,
+    word: &str,
+) -> Result<()> {
+    if holds? {
         return Ok(());
     }
     tell(rt, what, word)

@@ -71,7 +71,17 @@ const LINES: [Wanted; 8] = [
 pub(crate) fn hold<T: ListedTree>(alloc: Global, again: &mut u32) -> Result<bool> {
     let tree = tree_read::<T>(alloc, LISTING, again)?;
     let process = spooler(alloc)?;
-    let Ok(mut list) = begun_again(alloc, &tree, &process, again) else {
+    is_begun(alloc, &tree, &process, again)
+}
+
+/// Whether a list of a process gives them.
+fn is_begun<T: FileTree>(
+    alloc: Global,
+    tree: &T,
+    process: &Process,
+    again: &mut u32,
+) -> Result<bool> {
+    let Ok(mut list) = begun_again(alloc, tree, process, again) else {
         bail!("there is no list for ever");
     };
     Ok(is_listed(&mut list))

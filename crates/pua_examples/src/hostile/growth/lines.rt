@@ -36,7 +36,17 @@ const LINES: [(&[u8], Call); 12] = [
 pub(crate) fn hold<T: ListedTree>(alloc: Global, again: &mut u32) -> Result<bool> {
     let tree = tree_read::<T>(alloc, LISTING, again)?;
     let process = reader(alloc)?;
-    let mut audit = begun_again(alloc, &tree, &process, again)?;
+    is_begun(alloc, &tree, &process, again)
+}
+
+/// Whether an audit of a process lists them.
+fn is_begun<T: FileTree>(
+    alloc: Global,
+    tree: &T,
+    process: &Process,
+    again: &mut u32,
+) -> Result<bool> {
+    let mut audit = begun_again(alloc, tree, process, again)?;
     Ok(is_listed(&mut audit))
 }
 

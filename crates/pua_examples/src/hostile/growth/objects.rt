@@ -39,7 +39,17 @@ const LINES: [Wanted; 4] = [
 pub(crate) fn hold<T: ListedTree>(alloc: Global, again: &mut u32) -> Result<bool> {
     let tree = tree_read::<T>(alloc, LISTING, again)?;
     let process = spooler(alloc)?;
-    let mut objects = begun_again(alloc, &tree, &process, again)?;
+    is_begun(alloc, &tree, &process, again)
+}
+
+/// Whether a list of a process gives them.
+fn is_begun<T: FileTree>(
+    alloc: Global,
+    tree: &T,
+    process: &Process,
+    again: &mut u32,
+) -> Result<bool> {
+    let mut objects = begun_again(alloc, tree, process, again)?;
     Ok(is_listed(&mut objects))
 }
 
@@ -67,22 +77,24 @@ fn begun_again<'t, T: FileTree>(
 
 /// A locked process that may write into a directory under one name alone.
 pub(crate) fn spooler(alloc: Global) -> Result<Process> {
-    let etc = NodeId::new(1);
     let mut process = Process::new(alloc)?;
-    for (place, perms) in [
-        (Place::Dir(etc), Perms::READ.union(Perms::CREATE)),
-        (place_of(etc, b"log")?, Perms::WRITE.union(Perms::CREATE)),
-        (place_of(etc, b"passwd")?, Perms::READ),
-    ] {
-        process.unveil_at(place, perms)?;
-    }
+    unveil_all(&mut process)?;
     process.lock();
     Ok(process)
 }
 
-/// The place of a name in a directory.
-fn place_of(dir: NodeId, name: &[u8]) -> Result<Place> {
-    Ok(Place::Slot(dir, Name::read(name)?))
+/// Puts its veils.
+fn unveil_all(process: &mut Process) -> Result<()> {
+    let etc = NodeId::new(1);
+    process.unveil_at(Place::Dir(etc), Perms::READ.union(Perms::CREATE))?;
+    unveil_name(process, etc, b"log", Perms::WRITE.union(Perms::CREATE))?;
+    unveil_name(process, etc, b"passwd", Perms::READ)
+}
+
+/// Puts a veil on a name in a directory.
+fn unveil_name(process: &mut Process, dir: NodeId, name: &[u8], perms: Perms) -> Result<()> {
+    let place = Place::Slot(dir, Name::read(name)?);
+    Ok(process.unveil_at(place, perms)?)
 }
 
 /// Whether a list gives each of the lines in turn, and then none.

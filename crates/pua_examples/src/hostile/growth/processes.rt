@@ -19,17 +19,33 @@ const DIRS: [u32; 20] = [
 pub(crate) fn hold(alloc: Global, again: &mut u32) -> Result<bool> {
     let tree = tree_read::<ListTree>(alloc, LISTING, again)?;
     let mut process = process_made(alloc, again)?;
-    pledge(&mut process)?;
-    let are_put = are_unveiled(alloc, &tree, &mut process, again)?;
-    let copy = process_copied(alloc, &process, again)?;
-    let wanted = process_seen(alloc, &tree, &with_veils(alloc, DIRS.len())?)?;
-    let is_kept = is_seen(alloc, &tree, &process, wanted.as_slice())?;
-    Ok(are_put && is_kept && is_seen(alloc, &tree, &copy, wanted.as_slice())?)
+    let are_put = are_put(alloc, &tree, &mut process, again)?;
+    Ok(is_copied(alloc, &tree, &process, again)? && are_put)
+}
+
+/// Whether a new process takes all veils.
+fn are_put(alloc: Global, tree: &ListTree, process: &mut Process, again: &mut u32) -> Result<bool> {
+    pledge(process)?;
+    are_unveiled(alloc, tree, process, again)
+}
+
+/// Whether a process with all veils is copied as it has to be.
+fn is_copied(alloc: Global, tree: &ListTree, process: &Process, again: &mut u32) -> Result<bool> {
+    let copy = process_copied(alloc, process, again)?;
+    let wanted = veils_seen(alloc, tree, DIRS.len())?;
+    let is_kept = is_seen(alloc, tree, process, wanted.as_slice())?;
+    Ok(is_seen(alloc, tree, &copy, wanted.as_slice())? && is_kept)
 }
 
 /// Whether that can be seen of a process.
 fn is_seen(alloc: Global, tree: &ListTree, process: &Process, wanted: &[u8]) -> Result<bool> {
     Ok(process_seen(alloc, tree, process)?.as_slice() == wanted)
+}
+
+/// What can be seen of a process with so many of the veils.
+fn veils_seen(alloc: Global, tree: &ListTree, count: usize) -> Result<Vec<u8>> {
+    let process = with_veils(alloc, count)?;
+    process_seen(alloc, tree, &process)
 }
 
 /// Whether a process takes all veils, one by one.
@@ -90,7 +106,7 @@ fn is_unveiled(
         put?;
         return Ok(true);
     }
-    let wanted = process_seen(alloc, tree, &with_veils(alloc, before)?)?;
+    let wanted = veils_seen(alloc, tree, before)?;
     let is_same = is_seen(alloc, tree, process, wanted.as_slice())?;
     Ok(unveil(process, dir).is_ok() && is_same)
 }
@@ -98,9 +114,15 @@ fn is_unveiled(
 /// A process with so many of the veils.
 fn with_veils(alloc: Global, count: usize) -> Result<Process> {
     let mut process = Process::new(alloc)?;
-    pledge(&mut process)?;
-    for dir in DIRS.iter().take(count) {
-        unveil(&mut process, *dir)?;
-    }
+    put_veils(&mut process, count)?;
     Ok(process)
+}
+
+/// Puts so many of the veils.
+fn put_veils(process: &mut Process, count: usize) -> Result<()> {
+    pledge(process)?;
+    for dir in DIRS.iter().take(count) {
+        unveil(process, *dir)?;
+    }
+    Ok(())
 }

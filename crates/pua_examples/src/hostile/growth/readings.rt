@@ -40,25 +40,35 @@ const TABLE: &[u8] = b"[mkdir]\npromises = [\"cpath\", \"dpath\"]\nveil = \"c\"\
 
 /// Whether everything is read as it has to be.
 pub(crate) fn hold(alloc: Global, again: &mut u32) -> Result<bool> {
-    let bytes = bytes_read(alloc, again)?;
-    let taken = input_taken(alloc, again)?;
-    let script = script_read(alloc, again)?;
-    let table = table_read(alloc, again)?;
-    let is_read = bytes.as_slice() == LISTING && taken.as_slice() == LISTING;
-    let are_sets = table.alternatives(Call::Mkdir).len() == 2
-        && table.perms(Call::Mkdir) == Perms::CREATE;
-    Ok(is_read && are_sets && script.requests().len() == REQUESTS)
+    let is_read = bytes_read(alloc, again)?.as_slice() == LISTING;
+    let is_taken = input_taken(alloc, again)?.as_slice() == LISTING;
+    let is_script = script_read(alloc, again)?.requests().len() == REQUESTS;
+    Ok(are_sets(&table_read(alloc, again)?) && is_read && is_taken && is_script)
+}
+
+/// Whether that is the table.
+fn are_sets(table: &CallTable) -> bool {
+    table.alternatives(Call::Mkdir).len() == 2 && table.perms(Call::Mkdir) == Perms::CREATE
 }
 
 /// Whether a tree of this kind is read, and lists its names and its rows, as it has to.
 pub(crate) fn is_listed<T: ListedTree>(alloc: Global, again: &mut u32) -> Result<bool> {
     let tree = tree_read::<T>(alloc, LISTING, again)?;
     let twice = tree_read::<T>(alloc, NAMED_TWICE, again)?;
-    let names = names_told(alloc, &tree, again)?;
-    let rows = rows_lent(alloc, &tree, again)?;
-    let is_read = listing_of(alloc, &tree)?.as_slice() == LISTING
-        && listing_of(alloc, &twice)?.as_slice() == NAMES_LISTED;
-    Ok(is_read && are_names(names.as_slice()) && are_rows(rows.as_slice()))
+    let are_told = are_told(alloc, &tree, again)?;
+    let is_twice = is_listing(alloc, &twice, NAMES_LISTED)?;
+    Ok(is_listing(alloc, &tree, LISTING)? && is_twice && are_told)
+}
+
+/// Whether a tree tells its names and lends its rows as it has to.
+fn are_told<T: FileTree>(alloc: Global, tree: &T, again: &mut u32) -> Result<bool> {
+    let is_told = are_names(names_told(alloc, tree, again)?.as_slice());
+    Ok(are_rows(rows_lent(alloc, tree, again)?.as_slice()) && is_told)
+}
+
+/// Whether that is the listing of a tree.
+fn is_listing<T: FileTree>(alloc: Global, tree: &T, wanted: &[u8]) -> Result<bool> {
+    Ok(listing_of(alloc, tree)?.as_slice() == wanted)
 }
 
 fn bytes_read(alloc: Global, again: &mut u32) -> Result<Vec<u8>> {

@@ -20,8 +20,7 @@ pub(crate) fn process_seen<T: FileTree>(
     process: &Process,
 ) -> Result<Vec<u8>> {
     let mut text = reach_seen(alloc, tree, process)?;
-    let state = state_seen(alloc, process)?;
-    text.extend_from_slice(state.as_bytes())?;
+    add_state(alloc, process, &mut text)?;
     Ok(text)
 }
 
@@ -31,19 +30,27 @@ fn reach_seen<T: FileTree>(alloc: Global, tree: &T, process: &Process) -> Result
     audit.lines(alloc)
 }
 
-fn state_seen(alloc: Global, process: &Process) -> Result<String> {
+/// Adds the directory of a process, and whether it is locked or has ended.
+fn add_state(alloc: Global, process: &Process, text: &mut Vec<u8>) -> Result<()> {
     let dir = process.dir().number();
     let (locked, ended) = (process.locked(), process.ended());
-    Ok(format!(in alloc; "in {dir}, locked {locked}, ended {ended}\n")?)
+    let state = format!(in alloc; "in {dir}, locked {locked}, ended {ended}\n")?;
+    Ok(text.extend_from_slice(state.as_bytes())?)
 }
 
 /// The listing of a world's tree, and what can be seen of each of its processes.
 pub(crate) fn world_seen<T: FileTree>(alloc: Global, world: &World<T>) -> Result<Vec<u8>> {
     let mut text = listing_of(alloc, world.tree())?;
-    for number in 1..=PROCESSES {
-        add_process(alloc, world, number, &mut text)?;
-    }
+    add_processes(alloc, world, &mut text)?;
     Ok(text)
+}
+
+/// Adds what can be seen of the processes.
+fn add_processes<T: FileTree>(alloc: Global, world: &World<T>, text: &mut Vec<u8>) -> Result<()> {
+    for number in 1..=PROCESSES {
+        add_process(alloc, world, number, text)?;
+    }
+    Ok(())
 }
 
 /// Adds what can be seen of the process of a number, if there is one.

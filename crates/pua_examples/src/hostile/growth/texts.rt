@@ -144,26 +144,40 @@ fn is_filled(alloc: Global, again: &mut u32) -> Result<bool> {
 /// Whether a text is written whole; where a growth is refused first, into a sink that is still empty.
 fn is_written(alloc: Global, asked: Asked, text: &[u8], again: &mut u32) -> Result<bool> {
     let mut sink = sink_made(alloc, again)?;
-    let mut answer = asked.put(alloc, &mut sink);
-    if is_refused(&answer, ToolFault::OutOfMemory, again) {
-        let is_empty = sink.bytes().is_empty();
-        answer = asked.put(alloc, &mut sink);
-        return Ok(is_empty && answer.is_ok() && sink.bytes() == text);
+    Ok(is_put(alloc, asked, &mut sink, again) && sink.bytes() == text)
+}
+
+/// Whether a text is put into an empty sink, which stays empty where a growth is refused first.
+fn is_put(alloc: Global, asked: Asked, sink: &mut MemorySink, again: &mut u32) -> bool {
+    let answer = asked.put(alloc, sink);
+    if !is_refused(&answer, ToolFault::OutOfMemory, again) {
+        return answer.is_ok();
     }
-    Ok(answer.is_ok() && sink.bytes() == text)
+    sink.bytes().is_empty() && asked.put(alloc, sink).is_ok()
 }
 
 /// Whether the program writes the audit whole, and reports the refusal alone where there is one.
 fn is_done(alloc: Global, again: &mut u32) -> Result<bool> {
+    let mut out = sink_made(alloc, again)?;
+    let mut err = sink_made(alloc, again)?;
+    Ok(is_commanded(alloc, &mut out, &mut err, again))
+}
+
+/// Whether it does so with these outputs.
+fn is_commanded(
+    alloc: Global,
+    out: &mut MemorySink,
+    err: &mut MemorySink,
+    again: &mut u32,
+) -> bool {
     let entries = [("T", LISTING), ("S", SCRIPT), ("C", TABLE)];
     let mut inputs = MemoryInputs::new(&entries);
-    let (mut out, mut err) = (sink_made(alloc, again)?, sink_made(alloc, again)?);
-    let mut status = command_done(alloc, &WORDS, &mut inputs, &mut out, &mut err);
+    let mut status = command_done(alloc, &WORDS, &mut inputs, out, err);
     let mut line = b"".as_slice();
     if status == MEMORY && out.bytes().is_empty() {
         *again = again.saturating_add(1);
         line = b"pua: out of memory\n";
-        status = command_done(alloc, &WORDS, &mut inputs, &mut out, &mut err);
+        status = command_done(alloc, &WORDS, &mut inputs, out, err);
     }
-    Ok(status == DONE && out.bytes() == AUDIT && err.bytes() == line)
+    status == DONE && out.bytes() == AUDIT && err.bytes() == line
 }

@@ -52,10 +52,25 @@ const LEFT: &[u8] =
 /// have to be.
 pub(crate) fn hold<T: ListedTree>(alloc: Global, again: &mut u32) -> Result<bool> {
     let script = script_read(alloc, again)?;
+    let is_answered = is_answered::<T>(alloc, &script, again)?;
+    Ok(is_run::<T>(alloc, &script, again)? && is_answered)
+}
+
+/// Whether a world serves the requests one by one as it has to.
+fn is_answered<T: ListedTree>(alloc: Global, script: &Script, again: &mut u32) -> Result<bool> {
     let mut world = world_made::<T>(alloc, again)?;
-    let is_served = is_served(alloc, &mut world, &script, again)?;
-    let is_left = listing_of(alloc, world.tree())?.as_slice() == LEFT;
-    Ok(is_served && is_left && is_run::<T>(alloc, &script, again)?)
+    is_left(alloc, &mut world, script, again)
+}
+
+/// Whether each request is answered as it has to be, and leaves the tree so.
+fn is_left<T: ListedTree>(
+    alloc: Global,
+    world: &mut World<T>,
+    script: &Script,
+    again: &mut u32,
+) -> Result<bool> {
+    let is_served = is_served(alloc, world, script, again)?;
+    Ok(listing_of(alloc, world.tree())?.as_slice() == LEFT && is_served)
 }
 
 /// A world over a tree.
@@ -65,11 +80,18 @@ fn world_over<T: ListedTree>(alloc: Global, tree: T) -> Result<World<T>, OutOfMe
 
 /// A world of the tree; where it is refused a growth, the tree is gone and read once more.
 fn world_made<T: ListedTree>(alloc: Global, again: &mut u32) -> Result<World<T>> {
-    let mut world = world_over(alloc, tree_read::<T>(alloc, LISTING, again)?);
+    let tree = tree_read::<T>(alloc, LISTING, again)?;
+    let world = world_over(alloc, tree);
     if is_refused(&world, OutOfMemory, again) {
-        world = world_over(alloc, tree_read::<T>(alloc, LISTING, again)?);
+        return world_new(alloc, again);
     }
     Ok(world?)
+}
+
+/// A world of the tree, where no growth is refused to it.
+fn world_new<T: ListedTree>(alloc: Global, again: &mut u32) -> Result<World<T>> {
+    let tree = tree_read::<T>(alloc, LISTING, again)?;
+    Ok(world_over(alloc, tree)?)
 }
 
 /// What a request is answered.
@@ -124,10 +146,16 @@ fn answer_again<T: ListedTree>(
 /// What can be seen of a world that served so many requests, the first ones.
 fn seen_after<T: ListedTree>(alloc: Global, script: &Script, count: usize) -> Result<Vec<u8>> {
     let mut world = world_made::<T>(alloc, &mut 0)?;
-    for request in script.requests().iter().take(count) {
-        applied(&mut world, request)?;
-    }
+    serve_first(&mut world, script, count)?;
     world_seen(alloc, &world)
+}
+
+/// Serves so many requests, the first ones.
+fn serve_first<T: ListedTree>(world: &mut World<T>, script: &Script, count: usize) -> Result<()> {
+    for request in script.requests().iter().take(count) {
+        applied(world, request)?;
+    }
+    Ok(())
 }
 
 /// Whether a world is one that served so many requests, the first ones.
@@ -145,14 +173,33 @@ fn is_after<T: ListedTree>(
 /// that of some first requests, and another one answers all of them.
 fn is_run<T: ListedTree>(alloc: Global, script: &Script, again: &mut u32) -> Result<bool> {
     let mut world = world_made::<T>(alloc, again)?;
-    let answers = served(alloc, &mut world, script);
-    if !is_refused(&answers, WorldFault::OutOfMemory, again) {
-        return Ok(answers?.as_slice() == ANSWERS.as_slice());
+    is_run_in(alloc, &mut world, script, again)
+}
+
+/// Whether it is so in this world.
+fn is_run_in<T: ListedTree>(
+    alloc: Global,
+    world: &mut World<T>,
+    script: &Script,
+    again: &mut u32,
+) -> Result<bool> {
+    let answers = served(alloc, world, script);
+    if is_refused(&answers, WorldFault::OutOfMemory, again) {
+        return is_run_again(alloc, world, script);
     }
-    let is_front = is_after_some(alloc, &world, script)?;
-    let mut whole = world_made::<T>(alloc, &mut 0)?;
-    let answers = served(alloc, &mut whole, script)?;
-    Ok(is_front && answers.as_slice() == ANSWERS.as_slice())
+    Ok(answers?.as_slice() == ANSWERS.as_slice())
+}
+
+/// Whether a world to which a growth was refused is as it has to be, and another one answers all.
+fn is_run_again<T: ListedTree>(alloc: Global, world: &World<T>, script: &Script) -> Result<bool> {
+    let is_front = is_after_some(alloc, world, script)?;
+    Ok(is_whole::<T>(alloc, script)? && is_front)
+}
+
+/// Whether another world answers all requests as they have to be.
+fn is_whole<T: ListedTree>(alloc: Global, script: &Script) -> Result<bool> {
+    let mut world = world_made::<T>(alloc, &mut 0)?;
+    Ok(served(alloc, &mut world, script)?.as_slice() == ANSWERS.as_slice())
 }
 
 /// Whether a world is one that served some first requests.
