@@ -7,11 +7,8 @@ mod broken;
 mod called;
 mod dripping;
 pub(crate) mod growth;
-mod listed;
 mod live;
 mod reports;
-mod told;
-mod trees;
 
 use anyhow::Result;
 

@@ -1,16 +1,18 @@
-//! Callers of the libraries, as docs/CALLING.md goes through them; trees of both kinds, edited side by side
-//! and filled to their limits; and the libraries in hostile surroundings. A line is printed for each, which says
-//! whether it is as expected, and one for each edit of which that isn't so. With the word `growth` only those
-//! calls are made to which growths may be refused.
+//! Callers of the libraries, as docs/CALLING.md goes through them; trees of both kinds, edited side
+//! by side and filled to their limits; and the libraries in hostile surroundings. A line is printed
+//! for each, which says whether it is as expected, and one for each edit of which that isn't so. With
+//! the word `growth` it makes only the calls to which growths may be refused.
 #![tactic(auto)]
 
 mod called;
 mod calling;
 mod edits;
 mod hostile;
+mod listed;
 mod random;
 mod rooms;
 mod told;
+mod trees;
 mod worlds;
 
 use anyhow::Result;

@@ -18,6 +18,15 @@ pub(crate) struct TreeAudit<'t, T: FileTree> {
     ghost same_tree: { probe.tree ≡ audit.tree },
 }
 
+/// How often an audit looked at the tree, how many components it read, and how many of its states
+/// are live.
+#[derive(Clone, Copy)]
+pub(crate) struct Taken {
+    pub(crate) looks: u64,
+    pub(crate) reads: u64,
+    pub(crate) live: usize,
+}
+
 /// How many lines an audit lent, and how many components were read at most for one of them, or to find
 /// that none was left.
 #[derive(Clone, Copy)]
@@ -50,19 +59,13 @@ impl<'t, T: FileTree> TreeAudit<'t, T> {
         Ok(TreeAudit { probe, audit })
     }
 
-    /// How often it looked at the tree.
-    pub(crate) fn looks(&self) -> u64 {
-        self.probe.probes()
-    }
-
-    /// How many components it read.
-    pub(crate) fn reads(&self) -> u64 {
-        self.audit.reads()
-    }
-
-    /// How many states are live.
-    pub(crate) fn live(&self) -> usize {
-        self.audit.table_len()
+    /// What it took up to now.
+    pub(crate) fn taken(&self) -> Taken {
+        Taken {
+            looks: self.probe.probes(),
+            reads: self.audit.reads(),
+            live: self.audit.table_len(),
+        }
     }
 
     /// Whether it lends this line next; whether it lends none, where none is given.

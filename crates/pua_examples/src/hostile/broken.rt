@@ -3,7 +3,7 @@
 use crate::hostile::LISTING;
 use crate::hostile::called::{audit_done, command_done};
 use crate::hostile::dripping::{DrippingReader, DrippingSink};
-use crate::hostile::told::{count, wrong_unless};
+use crate::told::{count, wrong_unless};
 use anyhow::Result;
 use pua_audit::Base;
 use pua_tool::{
@@ -11,6 +11,7 @@ use pua_tool::{
     read_bytes,
 };
 use std::alloc::Global;
+use std::ops::Range;
 
 /// A listing, a script, and the audit of process 1 with them.
 #[derive(Clone, Copy)]
@@ -58,12 +59,13 @@ const LONG: Audited<'static> = Audited {
 /// How many bytes the text of the long audit has.
 const LONG_BYTES: usize = 68_027;
 
-/// The ends of the first block and of the text. There stand 8 bytes before the lines of the long audit, and
-/// 61,430 bytes of these in the first block.
-const EDGES: [usize; 4] = [8, 61_430, 61_438, LONG_BYTES];
-
-/// How many sinks break about each of them: from two puts before it to three puts after it.
-const ABOUT: usize = 6;
+/// From which puts on the sinks fail that break about the ends of the first block and of the text:
+/// from two puts before each of them to three puts after it. There stand 8 bytes before the lines of
+/// the long audit, and 61,430 bytes of these in the first block.
+const CUTS: [usize; 24] = [
+    6, 7, 8, 9, 10, 11, 61_428, 61_429, 61_430, 61_431, 61_432, 61_433, 61_436, 61_437, 61_438,
+    61_439, 61_440, 61_441, 68_025, 68_026, 68_027, 68_028, 68_029, 68_030,
+];
 
 /// How many bytes the sinks take a put that never fail.
 const PUTS: [usize; 7] = [1, 2, 7, 4_096, 65_535, 65_536, 65_537];
@@ -75,20 +77,78 @@ const ROOM: usize = 131_072;
 /// doesn't fail.
 const READERS: usize = 120;
 
-/// Prints a line for each case that is not as it has to be, and how many cases each table has.
-pub(crate) fn run(rt: &HostRuntime) -> Result<()> {
-    short_audits(rt)?;
-    short_commands(rt)?;
-    small_rooms(rt)?;
-    long_texts(rt)?;
-    readings(rt)
+/// What is tried with each of some numbers.
+#[derive(Clone, Copy)]
+enum Trial {
+    /// The short audit, with a sink that fails from this put on, ..
+    ShortAudit,
+    /// .. its command, with such a sink, ..
+    ShortCommand,
+    /// .. and with a sink in memory that has so much room: too little, or just enough.
+    SmallRoom,
+    /// The long audit, with a sink that fails from the put in this row of `CUTS` on, ..
+    LongAudit,
+    /// .. and with a sink that takes as much a put as this row of `PUTS` says, and never fails.
+    ShortPuts,
+    /// The listing, read by a reader that fails at this read.
+    Reading,
 }
 
-/// The cases of the long audit.
-fn long_texts(rt: &HostRuntime) -> Result<()> {
-    let whole = long_text(rt)?;
-    long_audits(rt, whole.bytes())?;
-    short_puts(rt, whole.bytes())
+impl Trial {
+    /// Whether it ends with this number as it has to. `long` is the text of the long audit.
+    fn holds(self, alloc: Global, number: usize, long: &[u8]) -> Result<bool> {
+        match self {
+            Trial::ShortAudit => Ok(is_cut(alloc, &SHORT, SHORT_TEXT, 1, number)),
+            Trial::ShortCommand => is_cut_command(alloc, number),
+            Trial::SmallRoom => is_filled(alloc, number),
+            Trial::LongAudit => Ok(is_long_cut(alloc, long, Some(&1), CUTS.get(number))),
+            Trial::ShortPuts => Ok(is_long_cut(alloc, long, PUTS.get(number), Some(&usize::MAX))),
+            Trial::Reading => Ok(is_read(alloc, number)),
+        }
+    }
+}
+
+/// A trial, what it is of, the first number, how many there are, and of what.
+type Trials = (Trial, &'static str, usize, usize, &'static str);
+
+/// All trials.
+const TRIALS: [Trials; 6] = [
+    (Trial::ShortAudit, "short audit", 1, BREAKS, "sinks"),
+    (Trial::ShortCommand, "short command", 1, BREAKS, "sinks"),
+    (Trial::SmallRoom, "short command", 0, BREAKS, "rooms"),
+    (Trial::LongAudit, "long audit", 0, CUTS.len(), "sinks"),
+    (Trial::ShortPuts, "short puts", 0, PUTS.len(), "sinks"),
+    (Trial::Reading, "readings", 1, READERS, "readers"),
+];
+
+/// Prints a line for each case that is not as it has to be, and how many cases each table has.
+pub(crate) fn run(rt: &HostRuntime) -> Result<()> {
+    let long = long_text(rt)?;
+    try_all(rt, long.bytes())
+}
+
+/// Goes through all trials.
+fn try_all(rt: &HostRuntime, long: &[u8]) -> Result<()> {
+    for (trial, what, first, number, of) in &TRIALS {
+        let numbers = *first..first.saturating_add(*number);
+        try_each(rt, *trial, what, numbers, long)?;
+        count(rt, what, *number, of)?;
+    }
+    Ok(())
+}
+
+/// Tries each number.
+fn try_each(
+    rt: &HostRuntime,
+    trial: Trial,
+    what: &str,
+    numbers: Range<usize>,
+    long: &[u8],
+) -> Result<()> {
+    for number in numbers {
+        wrong_unless(rt, trial.holds(rt.alloc(), number, long), what, number)?;
+    }
+    Ok(())
 }
 
 /// The first bytes of a text, at most so many.
@@ -117,13 +177,17 @@ fn is_cut(
     answer == wanted && sink.bytes() == held
 }
 
-/// The short audit, with a sink that fails from each put on.
-fn short_audits(rt: &HostRuntime) -> Result<()> {
-    for fails_from in 1..=BREAKS {
-        let holds = is_cut(rt.alloc(), &SHORT, SHORT_TEXT, 1, fails_from);
-        wrong_unless(rt, holds, "short audit, put", fails_from)?;
-    }
-    count(rt, "short audit", BREAKS, "sinks")
+/// Whether the long audit is cut as it has to be by a sink with such numbers, if both are given.
+fn is_long_cut(
+    alloc: Global,
+    text: &[u8],
+    most: Option<&usize>,
+    fails_from: Option<&usize>,
+) -> bool {
+    let (Some(most), Some(fails_from)) = (most, fails_from) else {
+        return false;
+    };
+    is_cut(alloc, &LONG, text, *most, *fails_from)
 }
 
 /// Whether the command of the short audit writes so many bytes of its text to this output, which leaves
@@ -153,30 +217,11 @@ fn is_cut_command(alloc: Global, fails_from: usize) -> Result<bool> {
     Ok(is_reported(alloc, &mut out, wanted)? && out.bytes() == wanted)
 }
 
-/// The command of the short audit, with a sink that fails from each put on.
-fn short_commands(rt: &HostRuntime) -> Result<()> {
-    for fails_from in 1..=BREAKS {
-        let holds = is_cut_command(rt.alloc(), fails_from)?;
-        wrong_unless(rt, holds, "short command, put", fails_from)?;
-    }
-    count(rt, "short command", BREAKS, "sinks")
-}
-
 /// Whether the command of the short audit fills a sink in memory that has so much room.
 fn is_filled(alloc: Global, room: usize) -> Result<bool> {
     let wanted = front(SHORT_TEXT, room);
     let mut out = MemorySink::new(alloc, room)?;
     Ok(is_reported(alloc, &mut out, wanted)? && out.bytes() == wanted)
-}
-
-/// The command of the short audit, with a sink in memory for each room that is too small, and for
-/// the whole text.
-fn small_rooms(rt: &HostRuntime) -> Result<()> {
-    for room in 0..BREAKS {
-        let holds = is_filled(rt.alloc(), room)?;
-        wrong_unless(rt, holds, "short command, room", room)?;
-    }
-    count(rt, "short command", BREAKS, "rooms")
 }
 
 /// The text of the long audit.
@@ -189,32 +234,6 @@ fn long_text(rt: &HostRuntime) -> Result<MemorySink> {
     Ok(whole)
 }
 
-/// The long audit, with sinks that fail about the ends of the first block and of the text.
-fn long_audits(rt: &HostRuntime, text: &[u8]) -> Result<()> {
-    for edge in &EDGES {
-        cut_about(rt, text, edge.saturating_sub(2))?;
-    }
-    count(rt, "long audit", EDGES.len() * ABOUT, "sinks")
-}
-
-/// The long audit, with sinks that fail from this put and from each of the next ones on.
-fn cut_about(rt: &HostRuntime, text: &[u8], first: usize) -> Result<()> {
-    for fails_from in first..first.saturating_add(ABOUT) {
-        let holds = is_cut(rt.alloc(), &LONG, text, 1, fails_from);
-        wrong_unless(rt, holds, "long audit, put", fails_from)?;
-    }
-    Ok(())
-}
-
-/// The long audit, with sinks that take little or much a put, and never fail.
-fn short_puts(rt: &HostRuntime, text: &[u8]) -> Result<()> {
-    for most in &PUTS {
-        let holds = is_cut(rt.alloc(), &LONG, text, *most, usize::MAX);
-        wrong_unless(rt, holds, "long audit, bytes a put", *most)?;
-    }
-    count(rt, "short puts", PUTS.len(), "sinks")
-}
-
 /// Whether the listing is read by a reader that fails at this read, if it comes so far.
 fn is_read(alloc: Global, fails_at: usize) -> bool {
     let mut source = ReadSource::new(DrippingReader::new(LISTING, fails_at));
@@ -222,12 +241,4 @@ fn is_read(alloc: Global, fails_at: usize) -> bool {
         Ok(all) => fails_at == READERS && all.as_slice() == LISTING,
         Err(fault) => fails_at < READERS && fault == InputFault::Unreadable,
     }
-}
-
-/// The listing, read by readers that fail at each read.
-fn readings(rt: &HostRuntime) -> Result<()> {
-    for fails_at in 1..=READERS {
-        wrong_unless(rt, is_read(rt.alloc(), fails_at), "reading, read", fails_at)?;
-    }
-    count(rt, "readings", READERS, "readers")
 }

@@ -10,8 +10,8 @@ mod seen;
 mod texts;
 mod worlds;
 
-use crate::hostile::told::tell_unless;
-use crate::hostile::trees::ListedTree;
+use crate::told::tell_unless;
+use crate::trees::ListedTree;
 use anyhow::Result;
 use pua_tree::{ListTree, SlabTree};
 

@@ -2,13 +2,13 @@
 
 use self::AuditSize::{First, Whole};
 use crate::hostile::LISTING;
-use crate::hostile::audited::TreeAudit;
-use crate::hostile::told::{count, wrong_unless};
-use crate::hostile::trees::ListedTree;
+use crate::hostile::audited::{Taken, TreeAudit};
+use crate::told::{count, wrong_unless};
+use crate::trees::ListedTree;
+use crate::worlds::run_over;
 use anyhow::Result;
 use pua_calls::{Call, CallTable};
 use pua_policy::Process;
-use pua_script::{World, read_script};
 use pua_tree::{FileTree, ListTree, SlabTree};
 use std::alloc::Global;
 use std::fs;
@@ -164,7 +164,7 @@ fn judged_in(rt: &HostRuntime, file: &str, cases: &[Case<'_>], first: usize) -> 
 fn judged(rt: &HostRuntime, listing: &[u8], cases: &[Case<'_>], first: usize) -> Result<usize> {
     let mut number = first;
     for case in cases {
-        let holds = is_found_twice(rt.alloc(), listing, case)?;
+        let holds = is_found_twice(rt.alloc(), listing, case);
         wrong_unless(rt, holds, "live states, case", number)?;
         number = number.saturating_add(1);
     }
@@ -177,31 +177,11 @@ fn is_found_twice(alloc: Global, listing: &[u8], case: &Case<'_>) -> Result<bool
     Ok(is_found && is_found_over::<SlabTree>(alloc, listing, case)?)
 }
 
-/// A world in which a script was run.
-fn world_after<T: ListedTree>(alloc: Global, listing: &[u8], script: &[u8]) -> Result<World<T>> {
-    let mut world = world_of::<T>(alloc, listing)?;
-    serve(alloc, &mut world, script)?;
-    Ok(world)
-}
-
-/// A world over the tree of a listing.
-fn world_of<T: ListedTree>(alloc: Global, listing: &[u8]) -> Result<World<T>> {
-    let tree = T::read(alloc, listing)?;
-    Ok(World::new(alloc, tree, CallTable::standard())?)
-}
-
-/// Runs a script in a world.
-fn serve<T: ListedTree>(alloc: Global, world: &mut World<T>, script: &[u8]) -> Result<()> {
-    let script = read_script(alloc, script)?;
-    let _ = world.run(alloc, &script)?;
-    Ok(())
-}
-
 /// Whether an audit over one kind of tree finds this, within the bounds.
 fn is_found_over<T: ListedTree>(alloc: Global, listing: &[u8], case: &Case<'_>) -> Result<bool> {
-    let world = world_after::<T>(alloc, listing, case.script)?;
-    match world.process(1) {
-        Some(process) => is_audited(alloc, world.tree(), process, world.table(), case),
+    let ran = run_over(alloc, T::read(alloc, listing)?, case.script)?;
+    match ran.world.process(1) {
+        Some(process) => is_audited(alloc, ran.world.tree(), process, ran.world.table(), case),
         None => Ok(false),
     }
 }
@@ -215,9 +195,9 @@ fn is_audited<T: FileTree>(
     case: &Case<'_>,
 ) -> Result<bool> {
     let mut audit = TreeAudit::begin(alloc, tree, process, table, case.candidates, case.limit)?;
-    let looks = audit.looks();
-    let is_begun = looks <= case.looks && audit.reads() == 0;
-    Ok(is_begun && is_lent(&mut audit, case) && audit.looks() == looks)
+    let Taken { looks, reads, .. } = audit.taken();
+    let is_begun = looks <= case.looks && reads == 0;
+    Ok(is_begun && is_lent(&mut audit, case) && audit.taken().looks == looks)
 }
 
 /// Whether an audit lends what is found, within the bounds.
@@ -225,8 +205,8 @@ fn is_lent<T: FileTree>(audit: &mut TreeAudit<'_, T>, case: &Case<'_>) -> bool {
     match case.found {
         Whole(live, lines) => {
             let lent = audit.count();
-            lent.most_reads <= case.reads && (audit.live(), lent.lines) == (live, lines)
+            lent.most_reads <= case.reads && (audit.taken().live, lent.lines) == (live, lines)
         }
-        First(path) => audit.lends(Some((path, Call::Stat))) && audit.reads() <= case.reads,
+        First(path) => audit.lends(Some((path, Call::Stat))) && audit.taken().reads <= case.reads,
     }
 }

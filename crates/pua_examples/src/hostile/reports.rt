@@ -3,7 +3,7 @@
 
 use crate::hostile::called::command_done;
 use crate::hostile::dripping::DrippingSink;
-use crate::hostile::told::{count, tell_unless};
+use crate::told::{count, tell_unless};
 use anyhow::Result;
 use pua_tool::{DEVICE, DONE, MemoryInputs, MemorySink, REFUSED};
 use std::alloc::Global;

@@ -5,7 +5,7 @@ use crate::hostile::LISTING;
 use crate::hostile::growth::is_refused;
 use crate::hostile::growth::objects::{set_of, spooler};
 use crate::hostile::growth::readings::tree_read;
-use crate::hostile::trees::ListedTree;
+use crate::trees::ListedTree;
 use anyhow::{Result, bail};
 use pua_calls::{Call, CallTable};
 use pua_ever::{Ever, EverFault, EverLine, EverThing};

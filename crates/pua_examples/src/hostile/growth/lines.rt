@@ -5,7 +5,7 @@ use crate::hostile::LISTING;
 use crate::hostile::audited::TreeAudit;
 use crate::hostile::growth::is_refused;
 use crate::hostile::growth::readings::tree_read;
-use crate::hostile::trees::ListedTree;
+use crate::trees::ListedTree;
 use anyhow::Result;
 use pua_audit::AuditFault;
 use pua_calls::{Call, CallTable, Perms};

@@ -4,7 +4,7 @@
 use crate::hostile::LISTING;
 use crate::hostile::growth::is_refused;
 use crate::hostile::growth::readings::tree_read;
-use crate::hostile::trees::ListedTree;
+use crate::trees::ListedTree;
 use anyhow::Result;
 use pua_calls::{Call, CallTable, Calls, Perms};
 use pua_objects::{ObjectKind, ObjectLine, Objects};

@@ -1,7 +1,7 @@
 //! What can be seen of processes and worlds, as a text: before and after a refusal it is the same.
 
 use crate::hostile::audited::TreeAudit;
-use crate::hostile::listed::listing_of;
+use crate::listed::listing_of;
 use anyhow::Result;
 use pua_calls::CallTable;
 use pua_policy::Process;

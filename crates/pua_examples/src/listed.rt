@@ -7,6 +7,11 @@ use std::alloc::Global;
 /// Numbers from here on are of no node, in the trees that are listed here.
 const NUMBERS: u32 = 16;
 
+/// Whether that is the listing of a tree.
+pub(crate) fn is_listing<T: FileTree>(alloc: Global, tree: &T, wanted: &[u8]) -> Result<bool> {
+    Ok(listing_of(alloc, tree)?.as_slice() == wanted)
+}
+
 /// The listing of a tree whose numbers are below 16, by looks at it alone.
 pub(crate) fn listing_of<T: FileTree>(alloc: Global, tree: &T) -> Result<Vec<u8>> {
     let mut listing = Vec::from_slice(alloc, b"tree 1\n0 dir\n")?;
