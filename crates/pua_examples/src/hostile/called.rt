@@ -1,11 +1,7 @@
 //! Calls of functions whose contracts are long to load. Each is cited here alone, and nothing of it is
 //! promised on: what they do is compared with what is written.
 
-use crate::hostile::LISTING;
-use pua_tool::{
-    Inputs, Job, MemorySink, Processes, Sink, TableChoice, ToolFault, audit_to, command, ever_to,
-    objects_to, objects_why_to, run_to, run_why_to, why_to,
-};
+use pua_tool::{Inputs, Job, Sink, ToolFault, audit_to, command};
 use std::alloc::Global;
 
 /// Does what the words of a command ask for, and answers its status.
@@ -28,68 +24,4 @@ pub(crate) fn audit_done<S: Sink>(
     sink: &mut S,
 ) -> Result<(), ToolFault> {
     audit_to(alloc, tree, script, job, sink)
-}
-
-/// Writes the text of a run of a script over the listing, by a table of calls or by none.
-pub(crate) fn run_done(
-    alloc: Global,
-    script: &[u8],
-    table: Option<&[u8]>,
-    sink: &mut MemorySink,
-) -> Result<(), ToolFault> {
-    run_to(alloc, LISTING, script, table, sink)
-}
-
-/// Writes the list of objects of these processes after a script over the listing.
-pub(crate) fn objects_done(
-    alloc: Global,
-    script: &[u8],
-    table: TableChoice<'_>,
-    processes: Processes,
-    sink: &mut MemorySink,
-) -> Result<(), ToolFault> {
-    objects_to(alloc, LISTING, script, table, processes, sink)
-}
-
-/// Writes the list for ever of a process after a script over the listing.
-pub(crate) fn ever_done(
-    alloc: Global,
-    script: &[u8],
-    table: TableChoice<'_>,
-    process: u32,
-    sink: &mut MemorySink,
-) -> Result<(), ToolFault> {
-    ever_to(alloc, LISTING, script, table, process, sink)
-}
-
-/// Writes a run of a script over the listing, with reasons.
-pub(crate) fn run_why_done(
-    alloc: Global,
-    script: &[u8],
-    table: TableChoice<'_>,
-    sink: &mut MemorySink,
-) -> Result<(), ToolFault> {
-    run_why_to(alloc, LISTING, script, table, sink)
-}
-
-/// Writes what decides a request of the first process behind a script over the listing.
-pub(crate) fn why_done(
-    alloc: Global,
-    script: &[u8],
-    table: TableChoice<'_>,
-    fields: &[&[u8]],
-    sink: &mut MemorySink,
-) -> Result<(), ToolFault> {
-    why_to(alloc, LISTING, script, table, 1, fields, sink)
-}
-
-/// Writes the list of objects with reasons of these processes after a script over the listing.
-pub(crate) fn objects_why_done(
-    alloc: Global,
-    script: &[u8],
-    table: TableChoice<'_>,
-    processes: Processes,
-    sink: &mut MemorySink,
-) -> Result<(), ToolFault> {
-    objects_why_to(alloc, LISTING, script, table, processes, sink)
 }

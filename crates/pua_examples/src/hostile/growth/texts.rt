@@ -1,18 +1,11 @@
-//! Sinks, texts and the whole program, each once more where a growth was refused: nothing was written
-//! by the first call, and the second writes everything.
+//! Sinks, and commands of the whole program, each once more where a growth was refused: the first
+//! time nothing was written, and the second time everything is.
 
 use crate::hostile::LISTING;
-use crate::hostile::called::{
-    audit_done, command_done, ever_done, objects_done, objects_why_done, run_done, run_why_done,
-    why_done,
-};
+use crate::hostile::called::command_done;
 use crate::hostile::growth::is_refused;
 use anyhow::Result;
-use pua_audit::Base;
-use pua_calls::Rules;
-use pua_tool::{
-    DONE, Job, MEMORY, MemoryInputs, MemorySink, Processes, Sink, TableChoice, ToolFault,
-};
+use pua_tool::{DONE, MEMORY, MemoryInputs, MemorySink, Sink};
 use pua_tree::OutOfMemory;
 use std::alloc::Global;
 
@@ -51,79 +44,51 @@ const CHAIN: &[u8] =
 const REASONED: &[u8] =
     b"1 ok\n2 ok\n3 EACCES no w in veil r on /etc/passwd since line 1\nobjects 1\nprocess alive\npromises -\nexecpromises -\nunveil locked\nveil /etc/passwd r\nfile /etc/passwd stat,lstat,open-r,chmod fattr,rpath /etc/passwd r 1\n";
 
-/// What is asked once more.
-const FIELDS: [&[u8]; 2] = [b"open-w", b"/t/up/passwd"];
-
-/// Of which processes the list is.
-const PROCESSES: Processes = Processes::All;
-
-/// By which table the texts are.
-const TABLES: TableChoice<'static> = TableChoice {
-    rules: Rules::Profile,
-    rows: Some(TABLE),
-};
-
-/// What the audit is asked for.
-const JOB: Job<'static> = Job {
-    limit: 3,
-    process: 1,
-    base: Base::Root,
-    after: None,
-    table: Some(TABLE),
-    candidates: &[],
-};
-
-/// The words of the command that does the same.
-const WORDS: [&str; 7] = ["audit", "--limit", "3", "--table", "C", "T", "S"];
-
 /// For how many bytes a sink has room.
 const ROOM: usize = 512;
 
-/// What is written of the script.
-#[derive(Clone, Copy)]
-enum Asked {
-    Run,
-    Objects,
-    Ever,
-    Audit,
-    Reasons,
-    Chain,
-    Reasoned,
-}
+/// The inputs of the commands.
+const ENTRIES: [(&str, &[u8]); 4] = [("T", LISTING), ("S", SCRIPT), ("A", ASKING), ("C", TABLE)];
 
-impl Asked {
-    /// Writes it into a sink.
-    fn put(self, alloc: Global, sink: &mut MemorySink) -> Result<(), ToolFault> {
-        match self {
-            Asked::Run => run_done(alloc, SCRIPT, Some(TABLE), sink),
-            Asked::Objects => objects_done(alloc, SCRIPT, TABLES, PROCESSES, sink),
-            Asked::Ever => ever_done(alloc, SCRIPT, TABLES, 1, sink),
-            Asked::Audit => audit_done(alloc, LISTING, SCRIPT, &JOB, sink),
-            Asked::Reasons => run_why_done(alloc, ASKING, TABLES, sink),
-            Asked::Chain => why_done(alloc, ASKING, TABLES, &FIELDS, sink),
-            Asked::Reasoned => objects_why_done(alloc, ASKING, TABLES, PROCESSES, sink),
-        }
-    }
-}
+/// The words of a command, and the text that it writes.
+type Wanted = (&'static [&'static str], &'static [u8]);
 
-/// What is asked for, and the text that is written then.
-const TEXTS: [(Asked, &[u8]); 7] = [
-    (Asked::Run, RUN),
-    (Asked::Objects, OBJECTS),
-    (Asked::Ever, EVER),
-    (Asked::Audit, AUDIT),
-    (Asked::Reasons, REASONS),
-    (Asked::Chain, CHAIN),
-    (Asked::Reasoned, REASONED),
+/// The commands.
+const TEXTS: [Wanted; 7] = [
+    (&["run", "--table", "C", "T", "S"], RUN),
+    (
+        &["objects", "--process", "all", "--table", "C", "T", "S"],
+        OBJECTS,
+    ),
+    (&["objects", "--ever", "--table", "C", "T", "S"], EVER),
+    (&["audit", "--limit", "3", "--table", "C", "T", "S"], AUDIT),
+    (&["run", "--why", "--table", "C", "T", "A"], REASONS),
+    (
+        &["why", "--table", "C", "T", "A", "open-w", "/t/up/passwd"],
+        CHAIN,
+    ),
+    (
+        &[
+            "objects",
+            "--why",
+            "--process",
+            "all",
+            "--table",
+            "C",
+            "T",
+            "A",
+        ],
+        REASONED,
+    ),
 ];
 
 /// Whether all is written as it has to be.
 pub(crate) fn hold(alloc: Global, again: &mut u32) -> Result<bool> {
     let mut holds = is_filled(alloc, again)?;
-    for (asked, text) in &TEXTS {
-        holds = is_written(alloc, *asked, text, again)? && holds;
+    for (words, text) in &TEXTS {
+        holds = is_written(alloc, words, text, again)? && holds;
     }
-    Ok(is_done(alloc, again)? && holds)
+    Ok(holds)
 }
 
 fn sink_made(alloc: Global, again: &mut u32) -> Result<MemorySink> {
@@ -141,43 +106,29 @@ fn is_filled(alloc: Global, again: &mut u32) -> Result<bool> {
     Ok(is_taken && sink.bytes() == [7u8; ROOM].as_slice())
 }
 
-/// Whether a text is written whole; where a growth is refused first, into a sink that is still empty.
-fn is_written(alloc: Global, asked: Asked, text: &[u8], again: &mut u32) -> Result<bool> {
-    let mut sink = sink_made(alloc, again)?;
-    Ok(is_put(alloc, asked, &mut sink, again) && sink.bytes() == text)
-}
-
-/// Whether a text is put into an empty sink, which stays empty where a growth is refused first.
-fn is_put(alloc: Global, asked: Asked, sink: &mut MemorySink, again: &mut u32) -> bool {
-    let answer = asked.put(alloc, sink);
-    if !is_refused(&answer, ToolFault::OutOfMemory, again) {
-        return answer.is_ok();
-    }
-    sink.bytes().is_empty() && asked.put(alloc, sink).is_ok()
-}
-
-/// Whether the program writes the audit whole, and reports the refusal alone where there is one.
-fn is_done(alloc: Global, again: &mut u32) -> Result<bool> {
+/// Whether a command writes this text whole into a sink.
+fn is_written(alloc: Global, words: &[&str], text: &[u8], again: &mut u32) -> Result<bool> {
     let mut out = sink_made(alloc, again)?;
     let mut err = sink_made(alloc, again)?;
-    Ok(is_commanded(alloc, &mut out, &mut err, again))
+    Ok(is_done(alloc, words, &mut out, &mut err, again) && out.bytes() == text)
 }
 
-/// Whether it does so with these outputs.
-fn is_commanded(
+/// Whether a command is done; where a growth is refused first, that alone is reported, and nothing is
+/// written before it is done once more.
+fn is_done(
     alloc: Global,
+    words: &[&str],
     out: &mut MemorySink,
     err: &mut MemorySink,
     again: &mut u32,
 ) -> bool {
-    let entries = [("T", LISTING), ("S", SCRIPT), ("C", TABLE)];
-    let mut inputs = MemoryInputs::new(&entries);
-    let mut status = command_done(alloc, &WORDS, &mut inputs, out, err);
+    let mut inputs = MemoryInputs::new(&ENTRIES);
+    let mut status = command_done(alloc, words, &mut inputs, out, err);
     let mut line = b"".as_slice();
     if status == MEMORY && out.bytes().is_empty() {
         *again = again.saturating_add(1);
         line = b"pua: out of memory\n";
-        status = command_done(alloc, &WORDS, &mut inputs, out, err);
+        status = command_done(alloc, words, &mut inputs, out, err);
     }
-    status == DONE && out.bytes() == AUDIT && err.bytes() == line
+    status == DONE && err.bytes() == line
 }
