@@ -4,16 +4,22 @@
 mod ever;
 mod lines;
 mod objects;
-mod processes;
 mod readings;
 mod seen;
 mod texts;
 mod worlds;
 
+use crate::hostile::LISTING;
 use crate::told::tell_unless;
 use crate::trees::ListedTree;
+use crate::worlds::run_over;
 use anyhow::Result;
-use pua_tree::{ListTree, SlabTree};
+use pua_policy::Process;
+use pua_tree::{FileTree, ListTree, SlabTree};
+
+/// The script of a spooler: a locked process that may write into a directory under one name.
+const SPOOLER: &[u8] =
+    b"1 unveil /etc rc\n1 unveil /etc/log wc\n1 unveil /etc/passwd r\n1 unveil - -\n";
 
 /// What is printed before calls of which something was wrong.
 const WRONG: &str = "wrong after a refused growth";
@@ -27,7 +33,6 @@ pub(crate) fn run(rt: &HostRuntime) -> Result<()> {
     hold::<SlabTree>(rt, &mut again)?;
     let alloc = rt.alloc();
     tell_unless(rt, readings::hold(alloc, &mut again), WRONG, "readings")?;
-    tell_unless(rt, processes::hold(alloc, &mut again), WRONG, "processes")?;
     tell_unless(rt, texts::hold(alloc, &mut again), WRONG, "texts")?;
     Ok(println!(rt; "{again} calls made once more")?)
 }
@@ -38,8 +43,29 @@ fn hold<T: ListedTree>(rt: &HostRuntime, again: &mut u32) -> Result<()> {
     tell_unless(rt, readings::is_listed::<T>(alloc, again), WRONG, "trees")?;
     tell_unless(rt, worlds::hold::<T>(alloc, again), WRONG, "worlds")?;
     tell_unless(rt, lines::hold::<T>(alloc, again), WRONG, "audits")?;
-    tell_unless(rt, objects::hold::<T>(alloc, again), WRONG, "objects")?;
-    tell_unless(rt, ever::hold::<T>(alloc, again), WRONG, "lists for ever")
+    hold_lists::<T>(rt, again)
+}
+
+/// Makes the calls that list what the spooler may touch.
+fn hold_lists<T: ListedTree>(rt: &HostRuntime, again: &mut u32) -> Result<()> {
+    let ran = run_over(rt.alloc(), T::read(rt.alloc(), LISTING)?, SPOOLER)?;
+    match ran.world.process(1) {
+        Some(process) => hold_lists_of(rt, ran.world.tree(), process, again),
+        None => tell_unless(rt, Ok(false), WRONG, "processes"),
+    }
+}
+
+/// Makes the calls that list what a process may touch.
+fn hold_lists_of<T: FileTree>(
+    rt: &HostRuntime,
+    tree: &T,
+    process: &Process,
+    again: &mut u32,
+) -> Result<()> {
+    let holds = objects::are_listed(rt.alloc(), tree, process, again);
+    tell_unless(rt, Ok(holds), WRONG, "objects")?;
+    let holds = ever::are_listed(rt.alloc(), tree, process, again);
+    tell_unless(rt, Ok(holds), WRONG, "lists for ever")
 }
 
 /// Whether a growth was refused to a call: that is counted, and the call is to be made once more.

@@ -3,45 +3,44 @@
 
 use crate::hostile::LISTING;
 use crate::hostile::growth::is_refused;
-use crate::hostile::growth::readings::{script_read, tree_read};
+use crate::hostile::growth::readings::tree_read;
 use crate::hostile::growth::seen::world_seen;
-use crate::listed::listing_of;
+use crate::listed::is_listing;
 use crate::trees::ListedTree;
+use crate::worlds::run_over;
 use anyhow::Result;
 use pua_calls::CallTable;
 use pua_path::Errno;
-use pua_script::{Answer, Request, Script, World, WorldFault};
+use pua_script::{Answer, Request, Script, ScriptFault, World, WorldFault, read_script};
 use pua_tree::OutOfMemory;
 use std::alloc::Global;
 
-/// Requests that take memory: edits, further names, veils at new places, copies of a process. The
-/// first path is too long to lie in its request, so it takes memory when it is read.
-pub(crate) const SCRIPT: &[u8] =
-    b"1 create /tmp/../tmp/../tmp/../tmp/../a\n1 mkdir /tmp/new\n1 symlink ../etc /tmp/new/l\n1 rename /a /tmp/new/b\n1 unveil /etc rw\n1 unveil /etc/passwd r\n1 fork 2\n2 unveil /tmp rwc\n2 fork 3\n3 unlink /tmp/new/l\n3 unveil /etc/passwd rw\n1 fork 2\n2 rename /tmp/new/b /tmp/c\n3 create /tmp/new/d\n1 stat /tmp\n3 stat /tmp/c\n2 link /tmp/c /tmp/l\n2 rename /tmp/l /tmp/new/m\n";
+/// Requests that take memory: edits, further names, veils at twenty places, copies of a process.
+/// The first path is too long to lie in its request, so it takes memory when it is read. The ninth
+/// and the seventeenth veil, for which a process needs more room, are on names that audits try.
+const SCRIPT: &[u8] =
+    b"1 create /tmp/../tmp/../tmp/../tmp/../a\n1 mkdir /tmp/new\n1 symlink ../etc /tmp/new/l\n1 rename /a /tmp/new/b\n1 unveil /etc rw\n1 unveil /etc/passwd r\n1 unveil /etc/etc c\n1 unveil /etc/self c\n1 unveil /etc/t c\n1 unveil /etc/tmp c\n1 unveil /etc/up c\n1 unveil /etc/v1 c\n1 unveil /etc/sh c\n1 unveil /etc/v2 c\n1 unveil /etc/v3 c\n1 unveil /etc/v4 c\n1 unveil /etc/v5 c\n1 unveil /etc/v6 c\n1 unveil /etc/v7 c\n1 unveil /etc/v8 c\n1 unveil /etc/new c\n1 unveil /etc/v9 c\n1 unveil /etc/w1 c\n1 unveil /etc/w2 c\n1 fork 2\n2 unveil /tmp rwc\n2 pledge stdio,rpath,wpath,cpath,unveil,proc rpath\n2 fork 3\n3 unlink /tmp/new/l\n3 unveil /etc/passwd rw\n1 fork 2\n2 rename /tmp/new/b /tmp/c\n3 create /tmp/new/d\n1 stat /tmp\n3 stat /tmp/c\n2 link /tmp/c /tmp/l\n2 rename /tmp/l /tmp/new/m\n";
 
 /// How many they are.
-pub(crate) const REQUESTS: usize = 18;
+const REQUESTS: usize = 37;
+
+/// The answer to most of them.
+const OKAY: Answer = Answer::Okay;
+
+/// The answer to a veil with more letters than are kept there.
+const PERM: Answer = Answer::Failed(Errno::EPERM);
+
+/// The answer to a copy under a number that was given.
+const AGAIN: Answer = Answer::Failed(Errno::EAGAIN);
+
+/// The answer to a call on what no veil covers.
+const NOENT: Answer = Answer::Failed(Errno::ENOENT);
 
 /// What they are answered.
 const ANSWERS: [Answer; REQUESTS] = [
-    Answer::Okay,
-    Answer::Okay,
-    Answer::Okay,
-    Answer::Okay,
-    Answer::Okay,
-    Answer::Okay,
-    Answer::Okay,
-    Answer::Okay,
-    Answer::Okay,
-    Answer::Okay,
-    Answer::Failed(Errno::EPERM),
-    Answer::Failed(Errno::EAGAIN),
-    Answer::Okay,
-    Answer::Okay,
-    Answer::Failed(Errno::ENOENT),
-    Answer::Okay,
-    Answer::Okay,
-    Answer::Okay,
+    OKAY, OKAY, OKAY, OKAY, OKAY, OKAY, OKAY, OKAY, OKAY, OKAY, OKAY, OKAY, OKAY, OKAY, OKAY, OKAY,
+    OKAY, OKAY, OKAY, OKAY, OKAY, OKAY, OKAY, OKAY, OKAY, OKAY, OKAY, OKAY, OKAY, PERM, AGAIN,
+    OKAY, OKAY, NOENT, OKAY, OKAY, OKAY,
 ];
 
 /// The listing of the tree that they leave.
@@ -54,6 +53,15 @@ pub(crate) fn hold<T: ListedTree>(alloc: Global, again: &mut u32) -> Result<bool
     let script = script_read(alloc, again)?;
     let is_answered = is_answered::<T>(alloc, &script, again)?;
     Ok(is_run::<T>(alloc, &script, again)? && is_answered)
+}
+
+/// The script of the requests.
+fn script_read(alloc: Global, again: &mut u32) -> Result<Script> {
+    let mut script = read_script(alloc, SCRIPT);
+    if is_refused(&script, ScriptFault::OutOfMemory, again) {
+        script = read_script(alloc, SCRIPT);
+    }
+    Ok(script?)
 }
 
 /// Whether a world serves the requests one by one as it has to.
@@ -70,7 +78,21 @@ fn is_left<T: ListedTree>(
     again: &mut u32,
 ) -> Result<bool> {
     let is_served = is_served(alloc, world, script, again)?;
-    Ok(listing_of(alloc, world.tree())?.as_slice() == LEFT && is_served)
+    Ok(is_listing(alloc, world.tree(), LEFT)? && is_served)
+}
+
+/// A world of the tree; where it is refused a growth, the tree is gone and read once more.
+fn world_made<T: ListedTree>(alloc: Global, again: &mut u32) -> Result<World<T>> {
+    let world = world_over(alloc, tree_read::<T>(alloc, LISTING, again)?);
+    if is_refused(&world, OutOfMemory, again) {
+        return world_new(alloc);
+    }
+    Ok(world?)
+}
+
+/// A world of the tree, where no growth is refused to it.
+fn world_new<T: ListedTree>(alloc: Global) -> Result<World<T>> {
+    Ok(world_over(alloc, T::read(alloc, LISTING)?)?)
 }
 
 /// A world over a tree.
@@ -78,34 +100,9 @@ fn world_over<T: ListedTree>(alloc: Global, tree: T) -> Result<World<T>, OutOfMe
     World::new(alloc, tree, CallTable::standard())
 }
 
-/// A world of the tree; where it is refused a growth, the tree is gone and read once more.
-fn world_made<T: ListedTree>(alloc: Global, again: &mut u32) -> Result<World<T>> {
-    let tree = tree_read::<T>(alloc, LISTING, again)?;
-    let world = world_over(alloc, tree);
-    if is_refused(&world, OutOfMemory, again) {
-        return world_new(alloc, again);
-    }
-    Ok(world?)
-}
-
-/// A world of the tree, where no growth is refused to it.
-fn world_new<T: ListedTree>(alloc: Global, again: &mut u32) -> Result<World<T>> {
-    let tree = tree_read::<T>(alloc, LISTING, again)?;
-    Ok(world_over(alloc, tree)?)
-}
-
 /// What a request is answered.
 fn applied<T: ListedTree>(world: &mut World<T>, request: &Request) -> Result<Answer, WorldFault> {
     world.apply(request)
-}
-
-/// What all requests are answered.
-fn served<T: ListedTree>(
-    alloc: Global,
-    world: &mut World<T>,
-    script: &Script,
-) -> Result<Vec<Answer>, WorldFault> {
-    world.run(alloc, script)
 }
 
 /// Whether each request is answered as it has to be.
@@ -117,35 +114,33 @@ fn is_served<T: ListedTree>(
 ) -> Result<bool> {
     let mut is_answered = script.requests().len() == REQUESTS;
     for (before, request) in script.requests().iter().enumerate() {
-        let answer = answer_again(alloc, world, script, before, request, again)?;
-        is_answered = is_answered && answer == ANSWERS.get(before).copied();
+        is_answered = is_applied(alloc, world, script, before, request, again)? && is_answered;
     }
     Ok(is_answered)
 }
 
-/// What a request is answered, before which so many were served; None where a growth was refused to it and
-/// the world was then not as it had been.
-fn answer_again<T: ListedTree>(
+/// Whether a request, before which so many were served, is answered as it has to be; where a growth
+/// is refused to it, the world is as it was, and the second time it is answered so.
+fn is_applied<T: ListedTree>(
     alloc: Global,
     world: &mut World<T>,
     script: &Script,
     before: usize,
     request: &Request,
     again: &mut u32,
-) -> Result<Option<Answer>> {
+) -> Result<bool> {
+    let wanted = ANSWERS.get(before).copied();
     let answer = applied(world, request);
-    if !is_refused(&answer, WorldFault::OutOfMemory, again) {
-        return Ok(Some(answer?));
+    if is_refused(&answer, WorldFault::OutOfMemory, again) {
+        let is_same = is_after(alloc, world, script, before)?;
+        return Ok(applied(world, request).ok() == wanted && is_same);
     }
-    if !is_after(alloc, world, script, before)? {
-        return Ok(None);
-    }
-    Ok(Some(applied(world, request)?))
+    Ok(answer.ok() == wanted)
 }
 
 /// What can be seen of a world that served so many requests, the first ones.
 fn seen_after<T: ListedTree>(alloc: Global, script: &Script, count: usize) -> Result<Vec<u8>> {
-    let mut world = world_made::<T>(alloc, &mut 0)?;
+    let mut world = world_new::<T>(alloc)?;
     serve_first(&mut world, script, count)?;
     world_seen(alloc, &world)
 }
@@ -183,7 +178,7 @@ fn is_run_in<T: ListedTree>(
     script: &Script,
     again: &mut u32,
 ) -> Result<bool> {
-    let answers = served(alloc, world, script);
+    let answers = world.run(alloc, script);
     if is_refused(&answers, WorldFault::OutOfMemory, again) {
         return is_run_again(alloc, world, script);
     }
@@ -193,13 +188,13 @@ fn is_run_in<T: ListedTree>(
 /// Whether a world to which a growth was refused is as it has to be, and another one answers all.
 fn is_run_again<T: ListedTree>(alloc: Global, world: &World<T>, script: &Script) -> Result<bool> {
     let is_front = is_after_some(alloc, world, script)?;
-    Ok(is_whole::<T>(alloc, script)? && is_front)
+    Ok(is_whole::<T>(alloc)? && is_front)
 }
 
 /// Whether another world answers all requests as they have to be.
-fn is_whole<T: ListedTree>(alloc: Global, script: &Script) -> Result<bool> {
-    let mut world = world_made::<T>(alloc, &mut 0)?;
-    Ok(served(alloc, &mut world, script)?.as_slice() == ANSWERS.as_slice())
+fn is_whole<T: ListedTree>(alloc: Global) -> Result<bool> {
+    let ran = run_over(alloc, T::read(alloc, LISTING)?, SCRIPT)?;
+    Ok(ran.answers.as_slice() == ANSWERS.as_slice())
 }
 
 /// Whether a world is one that served some first requests.
