@@ -2,10 +2,10 @@
 //! time nothing was written, and the second time everything is.
 
 use crate::hostile::LISTING;
-use crate::hostile::called::command_done;
+use crate::hostile::called::{command_done, run_done};
 use crate::hostile::growth::is_refused;
 use anyhow::Result;
-use pua_tool::{DONE, MEMORY, MemoryInputs, MemorySink, Sink};
+use pua_tool::{DONE, MEMORY, MemoryInputs, MemorySink, Sink, ToolFault};
 use pua_tree::OutOfMemory;
 use std::alloc::Global;
 
@@ -84,7 +84,7 @@ const TEXTS: [Wanted; 7] = [
 
 /// Whether all is written as it has to be.
 pub(crate) fn hold(alloc: Global, again: &mut u32) -> Result<bool> {
-    let mut holds = is_filled(alloc, again)?;
+    let mut holds = is_filled(alloc, again)? && is_run_whole(alloc, again)?;
     for (words, text) in &TEXTS {
         holds = is_written(alloc, words, text, again)? && holds;
     }
@@ -104,6 +104,16 @@ fn is_filled(alloc: Global, again: &mut u32) -> Result<bool> {
     let mut sink = sink_made(alloc, again)?;
     let is_taken = sink.put(&[7; ROOM]) == Ok(ROOM) && sink.put(&[7]).is_err();
     Ok(is_taken && sink.bytes() == [7u8; ROOM].as_slice())
+}
+
+/// Whether the run is written whole by the call of the library, whose rules are the profile's.
+fn is_run_whole(alloc: Global, again: &mut u32) -> Result<bool> {
+    let mut sink = sink_made(alloc, again)?;
+    let mut answer = run_done(alloc, LISTING, SCRIPT, TABLE, &mut sink);
+    if is_refused(&answer, ToolFault::OutOfMemory, again) && sink.bytes().is_empty() {
+        answer = run_done(alloc, LISTING, SCRIPT, TABLE, &mut sink);
+    }
+    Ok(answer.is_ok() && sink.bytes() == RUN)
 }
 
 /// Whether a command writes this text whole into a sink.
