@@ -1,6 +1,6 @@
 #!/bin/sh
 # Each growth of memory refused in turn to calls that are then made once more: sh growth.sh PROGRAM
-# PROGRAM is that of the crate pua_hostile. Its growth number N is refused, for N from 1 until a run
+# PROGRAM is that of the crate pua_examples. Its growth number N is refused, for N from 1 until a run
 # meets no refusal. A run has to end as it must after the second call, or, where the growth was refused
 # to something else than these calls, with a fault. A line is printed for each run that ends otherwise, then
 # how many runs there were, in how many a call was made once more, and how many were wrong.

@@ -1,16 +1,14 @@
 -- What the code reads of an audit's beginning.
 use Rattle.std.specs.Prelude.{◌≡◌, ◌<◌, ◌≤◌, ◌*◌, suc, ℕ, Bool, List, length, Option, Some, None, Result, Ok, option_map, IfSome}
-use Rattle.std.specs.Prelude.{IsTrue, MatchBool}
-use Rattle.std.specs.List.{AllByRecursion, list_all}
-use Rattle.pua_tree.specs.Tree.{Tree, WellFormed, name_cmp}
+use Rattle.std.specs.Prelude.{MatchBool}
+use Rattle.std.specs.List.{AllByRecursion}
+use Rattle.pua_tree.specs.Tree.{Tree, WellFormed}
 use Rattle.pua_tree.specs.Steps.{◌>>=◌}
 use Rattle.pua_calls.specs.Calls.{CallTable}
 use Rattle.pua_policy.specs.History.{History}
 use Rattle.pua_audit.specs.Reach.{Word, Pair, Scope}
 use Rattle.pua_audit.specs.Limits.{most_letters, most_path}
 use Rattle.pua_audit.specs.Begin.{Beginning, longest, resume_in, word_within}
-use Rattle.pua_audit.specs.Judge.{is_letter}
-use Rattle.pua_audit.specs.Laws.{Rises}
 use Rattle.pua_audit.specs.Ready.{word_of}
 use Rattle.pua_audit.specs.declared.base.Base.{Base}
 use Rattle.pua_audit.specs.declared.fault.AuditFault.{AuditFault}
@@ -32,11 +30,9 @@ IsRead letters limit word result places =
 abbrev pub pair_in : List (List ℕ) → Resumption → Pair
 pair_in letters r = (word_of letters r.word.items, r.call)
 
--- letters in the order of their bytes, and no path of a word is too long
+-- a word has no more letters than it may have, and no path of a word is too long
 pub record AreSound (limit : ℕ) (letters : List (List ℕ)) : Type 0 where
   pub few : limit ≤ most_letters
-  pub known : IsTrue (list_all is_letter letters)
-  pub rises : Rises name_cmp letters
   pub short : limit * suc (longest letters) ≤ most_path
 
 -- what is audited by words of these letters

@@ -138,9 +138,11 @@ impl Alphabet {
         self.letters.as_slice()
     }
 
-    /// Does nothing: its contract says that each letter is a name or `..`.
+    /// Does nothing: its contract says that each letter is a name or `..`, and that they rise by
+    /// their bytes.
     pub(crate) fn known(&self)
-        ensures { IsTrue (list_all is_letter self.now) }
+        ensures letters { IsTrue (list_all is_letter self.now) }
+        ensures rises { Rises name_cmp self.now }
     {
         // The prover knows the invariant of a value that is read.
         let _ = &self.letters;

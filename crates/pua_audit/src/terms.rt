@@ -44,7 +44,7 @@ pub(crate) struct Terms {
 
 impl Terms {
     ghost use Rattle.pua_audit.specs.Ready.{scope_in};
-    ghost use Rattle.pua_audit.specs.Starting.{AreSound, scope_with};
+    ghost use Rattle.pua_audit.specs.Starting.{scope_with};
 
     /// What was asked of an audit of a copy of a process, by a copy of a table, over the tree of a
     /// probe, by words of at most so many of these letters. `OutOfMemory` where the growth for the
@@ -58,7 +58,8 @@ impl Terms {
         limit: u8,
         letters: Alphabet,
     ) -> Result<Terms, OutOfMemory>
-        requires letters { AreSound limit letters }
+        requires few { limit ≤ most_letters }
+        requires short { limit * suc (longest letters) ≤ most_path }
         ensures scope { IfOk result (λ terms. scope_in terms ≡ scope_with (P.tree probe.now)
             table.now (plain_history process.now) base limit letters) }
         ensures limit { IfOk result (λ terms. terms.limit ≡ limit) }
@@ -66,6 +67,7 @@ impl Terms {
     {
         probe.known();
         process.known();
+        letters.known();
         let process = process.fork(alloc)?;
         let allowed = AllowedCalls::new(&process, table);
         Ok(Terms {

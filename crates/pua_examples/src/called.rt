@@ -1,7 +1,7 @@
 //! The functions of `calling`, over a small site.
 
 use crate::calling::{Served, ask, can_touch, is_reached, list, read, replay};
-use crate::told::tell;
+use crate::told::tell_expected;
 use anyhow::Result;
 use pua_calls::{Call, CallTable};
 use pua_path::Errno;
@@ -24,7 +24,7 @@ const FRONT: &[u8] = b"1 ok\n2 ok\n3 ok\n4 ok\n5 ok\nobjects 2\n";
 /// Prints whether a caller of each library is answered as expected.
 pub(crate) fn run(rt: &HostRuntime) -> Result<()> {
     let is_called = is_replay_asked(rt.alloc())? && is_list_written(rt.alloc())?;
-    tell(rt, "a caller of each library", is_called)
+    tell_expected(rt, "a caller of each library", is_called)
 }
 
 /// Whether a server and its child are told what they may do.

@@ -1,11 +1,12 @@
 //! Edits of a tree in slots and of a tree of two sorted lists, side by side: a row of edits by which
 //! slots are used again, and then many at random. After each edit both trees answer the same.
 
+use crate::listed::is_listing;
 use crate::random::Random;
-use crate::told::tell;
-use crate::worlds::{run_over, script_of};
+use crate::told::{tell_expected, wrong_unless};
+use crate::trees::ListedTree;
+use crate::worlds::run_over;
 use anyhow::Result;
-use pua_calls::CallTable;
 use pua_script::Answer;
 use pua_tree::{
     FileTree, Kind, ListTree, Name, NodeId, SlabTree, TreeFault, read_listing, read_listing_slab,
@@ -24,11 +25,14 @@ const ROOT: &[u8] = b"tree 1\n0 dir\n";
 /// A script that removes a directory and makes three further nodes.
 const SCRIPT: &[u8] = b"1 mkdir /a\n1 rmdir /a\n1 create /b\n1 mkdir /a\n1 create /c\n";
 
+/// The listing of the tree that it leaves: the nodes have numbers that were never given.
+const LEFT: &[u8] = b"tree 1\n0 dir\n2 file 0 b\n3 dir 0 a\n4 file 0 c\n";
+
 /// Prints whether numbers are given once where slots are used again, and a line for each edit after
 /// which the two trees differ; then how many edits there were.
 pub(crate) fn run(rt: &HostRuntime) -> Result<()> {
     edit_new(rt)?;
-    tell(rt, "slots used again", are_new(rt.alloc())?)?;
+    tell_expected(rt, "slots used again", are_new(rt.alloc())?)?;
     Ok(println!(rt; "{EDITS} edits of two trees")?)
 }
 
@@ -59,47 +63,21 @@ fn edit_once(
 ) -> Result<()> {
     let is_alike = edit.answer(listed) == edit.answer(slotted);
     let are_same = are_same(rt.alloc(), listed, slotted, number)?;
-    tell_edit(rt, number, is_alike && are_same)
-}
-
-/// Prints that two trees differ after an edit, if they do.
-fn tell_edit(rt: &HostRuntime, number: u32, are_alike: bool) -> Result<()> {
-    if are_alike {
-        return Ok(());
-    }
-    Ok(println!(rt; "the trees differ after edit {number}")?)
+    let is_made = is_alike && are_same;
+    wrong_unless(rt, Ok(is_made), "edit of two trees", number as usize)
 }
 
 /// Whether numbers are given once, over each kind of tree.
 fn are_new(alloc: Global) -> Result<bool> {
-    let is_listed = are_given_once(alloc, read_listing(alloc, ROOT)?)?;
-    Ok(is_listed && are_given_once(alloc, read_listing_slab(alloc, ROOT)?)?)
+    Ok(are_given_once::<ListTree>(alloc)? && are_given_once::<SlabTree>(alloc)?)
 }
 
 /// Whether the script is answered `ok` throughout, and gives numbers that were never given.
-fn are_given_once<T: FileTree + Drop>(alloc: Global, tree: T) -> Result<bool> {
-    let script = script_of(alloc, SCRIPT)?;
-    let ran = run_over(alloc, tree, &script, CallTable::standard())?;
-    let are_okay = ran.answers.as_slice() == [Answer::Okay; 5].as_slice();
-    Ok(are_named(ran.world.tree())? && are_okay)
-}
-
-/// Whether the nodes that the script makes have new numbers.
-fn are_named<T: FileTree>(tree: &T) -> Result<bool> {
-    let is_b = is_named(tree, b"b", 2)?;
-    let is_a = is_named(tree, b"a", 3)?;
-    let is_c = is_named(tree, b"c", 4)?;
-    Ok(is_b && is_a && is_c && tree.kind(NodeId::new(1)).is_none())
-}
-
-/// Whether the node with a name in the root has this number.
-fn is_named<T: FileTree>(tree: &T, name: &[u8], number: u32) -> Result<bool> {
-    let name = named(name)?;
-    Ok(tree.look(NodeId::ROOT, &name) == Some(NodeId::new(number)))
-}
-
-fn named(bytes: &[u8]) -> Result<Name> {
-    Ok(Name::read(bytes)?)
+fn are_given_once<T: ListedTree>(alloc: Global) -> Result<bool> {
+    let ran = run_over(alloc, T::read(alloc, ROOT)?, SCRIPT)?;
+    let tree = ran.world.tree();
+    let is_left = is_listing(alloc, tree, LEFT)? && tree.kind(NodeId::new(1)).is_none();
+    Ok(is_left && ran.answers.as_slice() == [Answer::Okay; 5].as_slice())
 }
 
 /// An edit of a tree.
@@ -157,7 +135,7 @@ fn drawn_node<T: FileTree>(random: &mut Random, tree: &T) -> Result<NodeId> {
 
 fn drawn_name(random: &mut Random) -> Result<Name> {
     let place = random.below(NAMES.len());
-    named(NAMES.get(place).copied().unwrap_or("a").as_bytes())
+    Ok(Name::read(NAMES.get(place).copied().unwrap_or("a").as_bytes())?)
 }
 
 /// Whether two trees have the same names, and answer the same about each number up to this one.

@@ -1,15 +1,13 @@
 //! Trees with as many names as may be, of one file, and of as many nodes, over each kind of tree: memory is ample
 //! for all of them.
 
-use crate::told::tell;
-use crate::worlds::{run_over, script_of};
+use crate::told::tell_expected;
+use crate::trees::ListedTree;
+use crate::worlds::run_over;
 use anyhow::Result;
-use pua_calls::CallTable;
 use pua_path::Errno;
 use pua_script::Answer;
-use pua_tree::{
-    FileTree, Kind, ListTree, Name, NodeId, TreeFault, read_listing, read_listing_slab,
-};
+use pua_tree::{FileTree, Kind, ListTree, Name, NodeId, SlabTree, TreeFault, read_listing};
 use std::alloc::Global;
 
 /// A root in which nothing stands.
@@ -35,24 +33,22 @@ const FILES: u32 = 65_534;
 
 /// Prints whether such trees are made, and are then full.
 pub(crate) fn run(rt: &HostRuntime) -> Result<()> {
-    tell(rt, "65,534 names of one file", are_most_names(rt.alloc())?)?;
-    tell(rt, "65,534 files", are_full(rt.alloc())?)
+    tell_expected(rt, "65,534 names of one file", are_most_names(rt.alloc())?)?;
+    tell_expected(rt, "65,534 files", are_full(rt.alloc())?)
 }
 
 /// Whether a tree of each kind takes so many files, and is then full.
 fn are_full(alloc: Global) -> Result<bool> {
-    let is_listed_full = is_full(alloc, read_listing(alloc, ROOT)?)?;
-    Ok(is_listed_full && is_full(alloc, read_listing_slab(alloc, ROOT)?)?)
+    Ok(is_full::<ListTree>(alloc)? && is_full::<SlabTree>(alloc)?)
 }
 
 /// Whether an empty tree takes the files, and a world over it then has room for no node and no further name,
 /// until a name is taken away.
-fn is_full<T: FileTree + Drop>(alloc: Global, tree: T) -> Result<bool> {
-    let mut tree = tree;
+fn is_full<T: ListedTree>(alloc: Global) -> Result<bool> {
+    let mut tree = T::read(alloc, ROOT)?;
     let is_filled = is_filled(alloc, &mut tree)?;
-    let script = script_of(alloc, SCRIPT)?;
-    let answers = run_over(alloc, tree, &script, CallTable::standard())?.answers;
-    Ok(is_filled && answers.as_slice() == ANSWERS.as_slice())
+    let ran = run_over(alloc, tree, SCRIPT)?;
+    Ok(is_filled && ran.answers.as_slice() == ANSWERS.as_slice())
 }
 
 /// Adds the files; whether each gets the next number, and the tree takes neither a node nor a further name then,

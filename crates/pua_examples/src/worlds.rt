@@ -1,9 +1,8 @@
-//! Worlds that scripts leave. A fault of a script is that which commands report.
+//! Worlds that scripts leave.
 
 use anyhow::Result;
 use pua_calls::CallTable;
-use pua_script::{Answer, Script, World, read_script};
-use pua_tool::ToolFault;
+use pua_script::{Answer, World, read_script};
 use pua_tree::FileTree;
 use std::alloc::Global;
 
@@ -14,22 +13,19 @@ pub(crate) struct Ran<T: FileTree + Drop> {
     pub(crate) world: World<T>,
 }
 
-/// Runs a script over a tree, by a table of calls.
+/// Runs a script over a tree, by the standard table of calls.
 pub(crate) fn run_over<T: FileTree + Drop>(
     alloc: Global,
     tree: T,
-    script: &Script,
-    table: CallTable,
+    script: &[u8],
 ) -> Result<Ran<T>> {
-    let mut world = World::new(alloc, tree, table)?;
-    let answers = world.run(alloc, script)?;
+    let mut world = World::new(alloc, tree, CallTable::standard())?;
+    let answers = serve(alloc, &mut world, script)?;
     Ok(Ran { answers, world })
 }
 
-/// The script that lines are.
-pub(crate) fn script_of(alloc: Global, lines: &[u8]) -> Result<Script> {
-    match read_script(alloc, lines) {
-        Ok(script) => Ok(script),
-        Err(fault) => Err(ToolFault::Script(fault).into()),
-    }
+/// What the lines of a script are answered in a world.
+fn serve<T: FileTree>(alloc: Global, world: &mut World<T>, script: &[u8]) -> Result<Vec<Answer>> {
+    let script = read_script(alloc, script)?;
+    Ok(world.run(alloc, &script)?)
 }

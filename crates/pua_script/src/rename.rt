@@ -4,14 +4,14 @@ ghost use Rattle.std.specs.Prelude.{◌≡◌, ℕ, ◌==◌, Ok, IfOk, IsTrue};
 ghost use Rattle.std.specs.List.{list_any};
 ghost use Rattle.pua_tree.specs.Tree.{is_dir, climb};
 ghost use Rattle.pua_tree.specs.Edits.{is_same_node};
-ghost use Rattle.pua_path.specs.Fits.{spot_named, node_named};
+ghost use Rattle.pua_path.specs.Fits.{StandsAsNamed, spot_named, node_named};
 ghost use Rattle.pua_path.specs.Walks.{found_seen};
 ghost use Rattle.pua_path.specs.declared.text.Ending.TheVariants.{Dropped};
 ghost use Rattle.pua_policy.specs.Verdict.{or_fault};
 ghost use Rattle.pua_script.specs.Decide.{Asking, ShiftRow, decide_rename, dots_fault};
 ghost use Rattle.pua_script.specs.Decide.{inside_fault, is_whole, kinds_fault, shifting};
 ghost use Rattle.pua_script.specs.Decide.{top_fault, ways_fault};
-ghost use Rattle.pua_script.specs.Judged.{NameFits, decision_by, if_covered, shifted};
+ghost use Rattle.pua_script.specs.Judged.{decision_by, if_covered, shifted};
 
 use crate::granted::Granted;
 use crate::pair::{Pair, is_whole, judge_pair, node_named, spot_named};
@@ -48,11 +48,12 @@ pub(crate) fn judge_rename<'t, T: FileTree>(
     }
 }
 
-/// The row of what was found, unless something is wrong with it or with the place that it would get.
+/// The row of what was found, unless something is wrong with it or with the place that it would
+/// get.
 fn decide_shift<'a, T: FileTree>(tree: &T, pair: &Pair<'a>) -> Result<Option<Shift<'a>>, Refusal>
-    requires { NameFits (T.content tree.now) (found_seen pair.now.to) }
-    ensures { shifted result ≡ decide_rename (T.content tree.now) (found_seen pair.now.from)
-        (found_seen pair.now.to) (node_named (found_seen pair.now.from)) }
+    ensures { StandsAsNamed (T.content tree.now) (found_seen pair.now.to) → shifted result
+        ≡ decide_rename (T.content tree.now) (found_seen pair.now.from) (found_seen pair.now.to)
+        (node_named (found_seen pair.now.from)) }
 {
     let (from, to) = (&pair.from, &pair.to);
     let Some(node) = node_named(from) else {
@@ -152,8 +153,8 @@ fn move_fault<T: FileTree>(
     from: &LentFound<'_>,
     to: &LentFound<'_>,
 ) -> Option<Errno>
-    requires { NameFits (T.content tree.now) (found_seen to.now) }
-    ensures { result ≡ or_fault (inside_fault (T.content tree.now) node (spot_named (found_seen to.now)))
+    ensures { StandsAsNamed (T.content tree.now) (found_seen to.now) → result ≡ or_fault
+        (inside_fault (T.content tree.now) node (spot_named (found_seen to.now)))
         (kinds_fault (T.content tree.now) node (found_seen from.now) (found_seen to.now)) }
 {
     inside_fault(tree, node, to).or(kinds_fault(tree, from, to))
@@ -161,8 +162,8 @@ fn move_fault<T: FileTree>(
 
 /// `EINVAL` where a directory would come to stand in itself or beneath itself.
 fn inside_fault<T: FileTree>(tree: &T, node: NodeId, to: &LentFound<'_>) -> Option<Errno>
-    requires { NameFits (T.content tree.now) (found_seen to.now) }
-    ensures { result ≡ inside_fault (T.content tree.now) node (spot_named (found_seen to.now)) }
+    ensures { StandsAsNamed (T.content tree.now) (found_seen to.now) →
+        result ≡ inside_fault (T.content tree.now) node (spot_named (found_seen to.now)) }
 {
     let Some(spot) = spot_named(to) else {
         return None;
@@ -173,10 +174,10 @@ fn inside_fault<T: FileTree>(tree: &T, node: NodeId, to: &LentFound<'_>) -> Opti
     None
 }
 
-/// Whether a directory is this node, or stands beneath it.
+/// Whether a living directory is this node, or stands beneath it.
 fn is_within<T: FileTree>(tree: &T, dir: NodeId, node: NodeId) -> bool
-    requires { IsTrue (is_dir (T.content tree.now) dir) }
-    ensures { result ≡ list_any (λ d. d == node) (climb (T.content tree.now) dir) }
+    ensures { IsTrue (is_dir (T.content tree.now) dir) →
+        result ≡ list_any (λ d. d == node) (climb (T.content tree.now) dir) }
 {
     tree.known();
     let mut at = dir;

@@ -3,6 +3,7 @@ pub mod AnswerLines
 pub mod Outcomes
 pub mod Pairs
 pub mod Passing
+pub mod Copying
 pub mod ObjectLines
 pub mod KeptPaths
 pub mod EverLines

@@ -1,12 +1,14 @@
 -- The lines of pairs, in blocks.
-use Rattle.pua_texts.proofs.Common.{◌≡◌, ℕ, ◌+◌, List, [], ◌∷◌, ◌++◌, length, take, refl, sym, ap, ◌∙◌, append_assoc, spelling, call_name}
-use Rattle.pua_texts.proofs.Common.{Call, Word, with_end, pair_lines}
-use Rattle.std.specs.Prelude.{IsTrue}
-use Rattle.std.specs.List.{list_all}
+use Rattle.pua_texts.proofs.Common.{◌≡◌, ℕ, ◌≤◌, List, [], ◌∷◌, ◌++◌, length, refl, sym, ap, ◌∙◌, append_assoc, arith, length-map}
+use Rattle.pua_texts.proofs.Common.{Call, Word, spelling, call_name, with_end, pair_lines}
+use Rattle.std.specs.Prelude.{IsTrue, not}
+use Rattle.std.specs.List.{list_all, range_with_len}
 use Rattle.std.proofs.lemmas.Bool.{and_parts}
-use Rattle.std.proofs.Math.Seq.{take-append-add}
+use Rattle.std.proofs.lemmas.List.Filters.{length-filter_both}
+use Rattle.std.proofs.lemmas.List.FromFn.{length-range_with_len}
+use Rattle.pua_steps.specs.Calls.{calls_of, has_call}
 use Rattle.pua_tree.specs.Spelling.{is_plain, byte_spelling}
-use Rattle.pua_audit.specs.Coming.{with_word}
+use Rattle.pua_audit.specs.Coming.{call_at, calls_at, with_word}
 use Rattle.pua_audit.specs.Reach.{Pair, path_of}
 use Rattle.pua_texts.specs.PathLines.{path_line, path_lines}
 use Rattle.pua_audit.specs.declared.base.Base.{Base}
@@ -25,11 +27,17 @@ pub line_ends : (front path name : List ℕ) → (front ++ path) ++ with_end (32
 line_ends front path name = append_assoc front path (with_end (32 ∷ name)) ∙
     ap (λ r. front ++ r) (sym (append_assoc path (32 ∷ name) (10 ∷ [])))
 
--- what stands after a name is cut off
-pub name_kept : (n : ℕ) (block padded name : List ℕ) → n ≡ length block + length name → take (length name) padded ≡ name →
-    take n (block ++ padded) ≡ block ++ name
-name_kept n block padded name many is = ap (λ k. take k (block ++ padded)) many ∙ take-append-add block padded (length name) ∙
-    ap (λ t. block ++ t) is
+-- a set has no more calls than there are
+pub few_calls : (set : ℕ) → length (calls_at set) ≤ 14
+unfolding calls_of
+few_calls set =
+    omega (
+      arith,
+      length-map (calls_of set) call_at,
+      length-filter_both (has_call set) (λ call. not (has_call set call)) (λ _. refl)
+          (range_with_len 0 14),
+      length-range_with_len 0 14,
+    )
 
 -- bytes that stand for themselves are their own spelling
 pub spelling_plain : (bytes : List ℕ) → IsTrue (list_all is_plain bytes) → spelling bytes ≡ bytes

@@ -1,5 +1,5 @@
 -- Blocks of bytes on the way to a sink.
-use Rattle.std.specs.Prelude.{◌≡◌, ℕ, List, ◌++◌, Option, Result, Ok, Err}
+use Rattle.std.specs.Prelude.{◌≡◌, ◌≤◌, ℕ, List, ◌++◌, Option, Result, Ok, Err, length, take}
 use Rattle.pua_io.specs.Sinks.{Adds, AddsFront, HasFailed}
 use Rattle.pua_io.specs.declared.sink.PutFault.{PutFault}
 
@@ -18,3 +18,9 @@ Passes text (Err fault) old new a b before after = AddsFront (old ++ text) a b �
 abbrev pub PassesOn : {A : Type 0} → (A → Option (List ℕ)) → (A → ℕ) → List ℕ → Result (Unit {0}) PutFault → List ℕ → List ℕ → A → A →
     Type 0
 PassesOn written failed text r old new a b = Passes text r old new (written a) (written b) (failed a) (failed b)
+
+-- bytes in reserved room for `most` are at least `len` now, and those of before stand in front of the others
+pub record Filled (old new : List ℕ) (len most capacity : ℕ) : Type 0 where
+  pub front : (n : ℕ) → n ≤ length old → take n new ≡ take n old
+  pub filled : len ≤ length new
+  pub reserved : most ≤ capacity

@@ -11,5 +11,6 @@ pub mod VeilDates
 pub mod WhyLists
 pub mod Tells
 pub mod Blocks
+pub mod Copied
 pub mod PathLines
 pub mod KeptPaths

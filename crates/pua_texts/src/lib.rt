@@ -7,6 +7,7 @@ mod answers;
 mod audit_list;
 mod block;
 mod calls_text;
+mod copies;
 mod ever_line;
 mod ever_list;
 mod fault;

@@ -6,10 +6,12 @@ ghost use Rattle.pua_path.specs.Limits.{most_path};
 ghost use Rattle.pua_calls.specs.Calls.{call_name};
 ghost use Rattle.pua_audit.specs.Coming.{calls_at};
 ghost use Rattle.pua_texts.specs.Lines.{with_end, pair_lines};
-ghost use Rattle.pua_texts.specs.PathLines.{path_line, path_lines};
+ghost use Rattle.pua_texts.specs.PathLines.{path_line, path_lines, printed_line, printed_lines};
+ghost use Rattle.pua_texts.specs.Copied.{Copied};
 ghost use Rattle.pua_texts.specs.Blocks.{PassesOn};
 
-use crate::block::{BLOCK, Block, MOST_END, MOST_LINE};
+use crate::block::{BLOCK, Block, MOST_END, MOST_LINE, MOST_LINES};
+use crate::copies::{copy_front, overwrite};
 use pua_audit::{Audit, PathLines};
 use pua_calls::Call;
 use pua_io::{PutFault, Sink};
@@ -47,11 +49,14 @@ fn add_lines<S: Sink>(block: &mut Block, lines: PathLines<'_>, sink: &mut S) -> 
         (path_lines lines.entry.path.now (lines.entry.call ∷ calls_at lines.entry.later))
         result block.old block.new sink.old sink.new }
 {
+    if lines.plain {
+        return block.add_plain(lines, sink);
+    }
     let mut call = lines.call;
     let mut later = lines.later_calls();
     // The proof names the loop by its label.
     'calls: loop {
-        add_line(block, lines.plain, lines.path, call, sink)?;
+        add_line(block, lines.path, call, sink)?;
         let Some(next) = later.take_first() else {
             return Ok(());
         };
@@ -59,43 +64,64 @@ fn add_lines<S: Sink>(block: &mut Block, lines: PathLines<'_>, sink: &mut S) -> 
     }
 }
 
-/// Adds the line of a path and a call to a block, which is put where the line might not fit. A path
-/// that is printed as it is needs no spelling.
-#[inline(always)]
+/// Adds the line of a path and a call to a block, which is put where the line might not fit.
 fn add_line<S: Sink>(
     block: &mut Block,
-    plain: bool,
     path: &[u8],
     call: Call,
     sink: &mut S,
 ) -> Result<(), PutFault>
     requires { length path.now ≤ most_path }
-    ensures { (IsTrue plain → spelling path.now ≡ path.now) →
-        PassesOn S.written S.failed (path_line path.now call)
+    ensures { PassesOn S.written S.failed (path_line path.now call)
         result block.old block.new sink.old sink.new }
 {
     block.make_room(sink)?;
-    if plain {
-        block.push(path);
-    } else {
-        spell(block, path);
-    }
-    add_end(block, call);
+    spell(block, path);
+    block.push(&padded_end(call)[..call.name().len() + 2]);
     Ok(())
 }
 
-/// Adds the end of a line, a blank, the name of a call and LF, to a block that has room for what is
-/// copied. A copy of so many bytes as the program knows beforehand is quick, so the blanks after LF
-/// are copied too, and cut off again.
+/// Copies the lines of a path that is printed as it is to a place in a buffer, and answers where
+/// they end. Lines that don't fit are left out. It is a call for each path, since as a part of its
+/// callers it would keep in memory what it needs for each line.
+#[inline(never)]
+pub(crate) fn copy_lines(buffer: &mut [u8], at: usize, lines: PathLines<'_>) -> usize
+    ensures { at + MOST_LINES * (length lines.entry.path.now + MOST_END) ≤ length buffer.old →
+        Copied buffer.old buffer.new at (printed_lines lines.entry.path.now
+        (lines.entry.call ∷ calls_at lines.entry.later)) result }
+{
+    let mut end = at;
+    let mut call = lines.call;
+    let mut later = lines.later_calls();
+    // The proof names the loop by its label.
+    'calls: loop {
+        end = copy_line(buffer, end, lines.path, call);
+        let Some(next) = later.take_first() else {
+            return end;
+        };
+        call = next;
+    }
+}
+
+/// Copies the line of a call and of a path that is printed as it is to a place in a buffer, and
+/// answers where it ends. What is copied for its end may be longer than that is; where all of this
+/// does not fit, nothing is copied, and the answer is the place.
 #[inline(always)]
-fn add_end(block: &mut Block, call: Call)
-    requires { length block.old + MOST_END ≤ BLOCK }
-    ensures { block.new ≡ block.old ++ with_end (32 ∷ call_name call) }
+fn copy_line(buffer: &mut [u8], at: usize, path: &[u8], call: Call) -> usize
+    ensures copied { at + (length path.now + MOST_END) ≤ length buffer.old →
+        Copied buffer.old buffer.new at (printed_line path.now call) result }
+    ensures short { at + (length path.now + MOST_END) ≤ length buffer.old →
+        result ≤ at + (length path.now + MOST_END) }
 {
     let padded = padded_end(call);
-    let end = block.len() + call.name().len() + 2;
-    block.push(padded);
-    block.truncate(end);
+    let room = path.len() + MOST_END;
+    if room > buffer.len() || at > buffer.len() - room {
+        return at;
+    }
+    let end = at + path.len();
+    overwrite(&mut buffer[at..end], path);
+    copy_front::<MOST_END>(&mut buffer[end..end + MOST_END], 0, padded);
+    end + (call.name().len() + 2)
 }
 
 /// A blank, the name of a call and LF, with blanks after them.
@@ -140,9 +166,7 @@ pub(crate) fn add_printed(block: &mut Block, plain: bool, path: &[u8])
     }
 }
 
-/// Adds the spelling of a path to a block that has room for it. As a call it would keep the block in
-/// memory for each line that is copied, so it is a part of its callers.
-#[inline(always)]
+/// Adds the spelling of a path to a block that has room for it.
 fn spell(block: &mut Block, path: &[u8])
     requires { length block.old + 4 * length path.now ≤ BLOCK }
     ensures spelled { block.new ≡ block.old ++ spelling path.now }
@@ -153,40 +177,12 @@ fn spell(block: &mut Block, path: &[u8])
     }
 }
 
-/// Adds the name of a call to a block that has room for the longest. A copy of so many bytes as the
-/// program knows beforehand is quick, so those after the name are copied too, and cut off again.
+/// Adds the name of a call to a block that has room for the longest.
 #[inline(always)]
 pub(crate) fn add_call(block: &mut Block, call: Call)
     requires { length block.old + MOST_CALL_NAME ≤ BLOCK }
     ensures name { block.new ≡ block.old ++ call_name call }
     ensures short { length block.new ≤ length block.old + MOST_CALL_NAME }
 {
-    let padded = padded_name(call);
-    let end = block.len() + call.name().len();
-    block.push(padded);
-    block.truncate(end);
-}
-
-/// The name of a call with blanks after it.
-fn padded_name(call: Call) -> &'static [u8]
-    ensures name { take (length (call_name call)) result.now ≡ call_name call }
-    ensures width { length result.now ≡ MOST_CALL_NAME }
-    ensures short { length (call_name call) ≤ MOST_CALL_NAME }
-{
-    match call {
-        Call::Stat => b"stat    ",
-        Call::Lstat => b"lstat   ",
-        Call::Readlink => b"readlink",
-        Call::OpenRead => b"open-r  ",
-        Call::OpenWrite => b"open-w  ",
-        Call::OpenBoth => b"open-rw ",
-        Call::Create => b"create  ",
-        Call::Mkdir => b"mkdir   ",
-        Call::Rmdir => b"rmdir   ",
-        Call::Unlink => b"unlink  ",
-        Call::Symlink => b"symlink ",
-        Call::Chmod => b"chmod   ",
-        Call::Chdir => b"chdir   ",
-        Call::Exec => b"exec    ",
-    }
+    block.push(call.name().as_bytes());
 }

@@ -6,7 +6,7 @@ use Rattle.pua_tree.proofs.Common.{map-append, reverse-append, bytes_decides, on
 use Rattle.std.proofs.Common.{find}
 use Rattle.std.proofs.Common.{ok_or, is_ok, nat_cmp}
 use Rattle.std.proofs.Common.{is_eq}
-use Rattle.std.specs.Result.{result_ok}
+use Rattle.std.specs.Result.{result_ok, IsOk}
 use Rattle.std.specs.Cmp.{nat_cmp_is}
 use Rattle.std.proofs.lemmas.Bool.{eq-eqb, eqb-true}
 use Rattle.pua_tree.specs.Steps.{◌>>=◌}
@@ -40,6 +40,10 @@ mapped f (Some x) y e = (x, refl, same_Some (f x) y e)
 
 pub Err≢Ok : {A E : Type 0} (f : E) (x : A) → ◌≡◌ {A = Result A E} (Err f) (Ok x) → ⊥
 Err≢Ok f x e = true≢false (ap is_ok (sym e))
+
+pub ok_value : {A E : Type 0} (r : Result A E) → IsOk r → (x : A) × (r ≡ Ok x)
+ok_value (Ok x) h = (x, refl)
+ok_value (Err f) h = absurd (true≢false (sym h))
 
 pub same_Ok : {A E : Type 0} (x y : A) → ◌≡◌ {A = Result A E} (Ok x) (Ok y) → x ≡ y
 same_Ok {A} {E} x y e = ap (ok_part x) e

@@ -1,9 +1,12 @@
 -- What a reader has gathered of a listing, looked up and added to.
 use Rattle.pua_tree.proofs.Common.{◌≡◌, ◌<◌, ◌≤◌, ℕ, Bool, List, [], ◌∷◌, ◌++◌, Ok, Err, true, false, is_some, ltb, refl, sym, ap, subst}
-use Rattle.pua_tree.proofs.Common.{◌∙◌, le-ltb, lt-ltb, Tree, look, is_taken, Gathers, Follows, tree_with}
+use Rattle.pua_tree.proofs.Common.{◌∙◌, ◌+◌, length, false≢true, le-ltb, lt-ltb, Tree, look, is_taken, Gathers, Follows, tree_with}
 use Rattle.pua_tree.specs.Listing as listing
-use Rattle.pua_tree.specs.Listing.{entry_or_fault}
+use Rattle.pua_tree.specs.Listing.{entry_of, entry_or_fault}
+use Rattle.pua_tree.specs.Reading.{follows}
 use Rattle.pua_tree.specs.declared.fault.ListingFault.TheVariants.{Taken, TooMany}
+use Rattle.pua_tree.proofs.Follows.{passes}
+use Rattle.pua_tree.proofs.ListingGrammar.{entry_read}
 use Rattle.pua_tree.proofs.ListingIsTree as trees
 use Rattle.pua_tree.proofs.Entries.{Fits, fits_from, entries_push, taken_is_found, last_number_push, tree_push}
 
@@ -35,6 +38,17 @@ admitted_entry hard t greatest es n e g h few =
 pub fit_follows : (hard : Bool) (t : Tree) (greatest : ℕ) (es : List listing.Entry) (e : listing.Entry) → Gathers hard t greatest es →
     Fits hard es e → Follows t e
 fit_follows hard t greatest es e g f = subst (λ u. Follows u e) (sym g.tree) (trees.fit_follows hard es e g.fit f)
+
+-- where an entry that a line says may not be put into the tree, its name is taken
+pub refused_entry : (hard : Bool) (t : Tree) (greatest : ℕ) (es : List listing.Entry) (n : ℕ) (text : List ℕ) (e : listing.Entry) →
+    Gathers hard t greatest es → n ≡ length es + 3 → n ≤ 4097 → entry_of hard es n text ≡ entry_or_fault es n e → follows t e ≡ false →
+    entry_of hard es n text ≡ Err (Taken n)
+refused_entry hard t greatest es n text e g count few said refused =
+    said ∙ elim (is_some (look t e.parent e.name)) as (λ b. is_some (look t e.parent e.name) ≡ b → entry_or_fault es n e ≡ Err (Taken n)) [
+      | true ↦ λ taken. taken_entry hard t greatest es n e g taken
+      | false ↦ λ free. (let read = said ∙ admitted_entry hard t greatest es n e g free few in
+          absurd (false≢true (sym refused ∙ passes t e (fit_follows hard t greatest es e g (entry_read hard es n text e count read).1))))
+    ] refl
 
 -- entries to which one more has been read
 pub gathered_more : (hard : Bool) (t : Tree) (greatest : ℕ) (es : List listing.Entry) (e : listing.Entry) → Gathers hard t greatest es →

@@ -1,20 +1,21 @@
 -- What edits of a tree in slots rest on, by what the tree is.
-use Rattle.pua_tree.proofs.Common.{◌≡◌, ◌≢◌, ◌≤◌, ℕ, ◌+◌, Bool, true, false, not, ◌==◌, cond, T, List, Option, Some, None, option_map}
+use Rattle.pua_tree.proofs.Common.{◌≡◌, ◌≢◌, ℕ, ◌+◌, Bool, true, false, not, ◌==◌, cond, T, List, Option, Some, None, option_map}
 use Rattle.pua_tree.proofs.Common.{is_some, refl, sym, ap, subst, ◌∙◌, arith, inl, inr, eqb, eqb-true, eq-eqb, Ok, IfSome, IsSome}
 use Rattle.pua_tree.proofs.Common.{option_and_then}
 use Rattle.pua_tree.proofs.Common.{nat_cmp, is_eq, find, put, is_sorted, where_key, is_sorted-put, is_sorted-where_key, same_entries}
 use Rattle.pua_tree.proofs.Common.{false≢true, sum_by-zero, Tree, WellFormed, spot_cmp, is_dir, is_dir_kind, is_living, look, Entry, Enters}
 use Rattle.pua_tree.proofs.Common.{grown_by, row_at, slot_of, node_in, made_of, held_rows, held_nodes, held_in_slots, rows_in, names_of}
-use Rattle.pua_tree.proofs.Common.{AreConsistent, Dir, Slots, SlotNode}
+use Rattle.pua_tree.proofs.Common.{AreConsistent, Dir, Slots, SlotNode, and_parts, Follows}
 use Rattle.std.proofs.Common.{ne_eqb}
 use Rattle.slab.specs.Slab.{get as slot_get}
 use Rattle.pua_tree.specs.Tree as tree
 use Rattle.pua_tree.specs.Tree.{empty_tree}
-use Rattle.pua_tree.specs.Edits.{add, tie}
+use Rattle.pua_tree.specs.Edits.{tie}
 use Rattle.pua_tree.specs.Reading.{said_node}
 use Rattle.pua_tree.specs.declared.gathered.MadeNode.{MadeNode}
 use Rattle.pua_tree.proofs.Raised.{raised_keeps}
-use Rattle.pua_tree.specs.declared.fault.TreeFault.TheVariants.{NotDir, Taken, Missing, IsDir}
+use Rattle.pua_tree.proofs.Follows.{passes, free_where}
+use Rattle.pua_tree.specs.declared.fault.TreeFault.TheVariants.{NotDir, Missing, IsDir}
 use Rattle.pua_tree.specs.Slots.{one_at}
 use Rattle.pua_tree.specs.Slots.{HasRow, IsNew, MayEnter, MayMove, MayStand, with_made}
 use Rattle.pua_tree.proofs.Base.{mapped, none, past, same_Some}
@@ -23,7 +24,7 @@ use Rattle.pua_tree.proofs.Tallies.{tally_counts, all_from_found, same_or_other,
 use Rattle.pua_tree.proofs.Tallies.{without_at}
 use Rattle.pua_tree.proofs.InOrder.{counted-without}
 use Rattle.pua_tree.proofs.Sound.{sound_from, row_says}
-use Rattle.pua_tree.proofs.EditsKeep.{no_rows, next_is_new, next_not_root}
+use Rattle.pua_tree.proofs.EditsKeep.{is_living_dir, no_rows, next_is_new, next_not_root}
 use Rattle.pua_tree.proofs.SlotsHold.{rows_found, nodes_found, rows_sorted}
 
 -- a row of the tree is one of the slots
@@ -95,15 +96,9 @@ module _ (s : Slots) (next : ℕ) (w : WellFormed (held_in_slots s next)) (kept 
       ∙ all_from_found spot_cmp spots_total exact_spots (λ row. eqb (cond (row.0.0 == next) 1 0) 0) (held_rows s) (rows_sorted s) (λ at x f.
       (let dir = (row_says (held_in_slots s next) (sound_from (held_in_slots s next) w) at x f).0 in
       let other : (at.0 == next) ≡ false =
-      ne_eqb at.0 next (λ e. false≢true (sym new_number ∙ living_dir next (ap (is_dir (held_in_slots s next)) (sym e) ∙ dir))) in
+      ne_eqb at.0 next (λ e. false≢true (sym new_number ∙
+      is_living_dir (held_in_slots s next) next (ap (is_dir (held_in_slots s next)) (sym e) ∙ dir))) in
       ap (λ b. eqb (cond b 1 0) 0) other)))
-    where
-      dir_lives : (o : Option tree.Node) → is_dir_kind (option_map (λ n. n.kind) o) ≡ true → is_some o ≡ true
-      dir_lives None h = absurd (false≢true h)
-      dir_lives (Some n) h = refl
-
-      living_dir : (d : ℕ) → is_dir (held_in_slots s next) d ≡ true → is_living (held_in_slots s next) d ≡ true
-      living_dir d h = dir_lives (find nat_cmp d (held_nodes s)) h
 
   pub next_no_root : next ≢ 0
   next_no_root = next_not_root (held_in_slots s next) (sound_from (held_in_slots s next) w)
@@ -247,37 +242,34 @@ put_over spot at x rows h =
           ∙ sym (put_elsewhere spot_cmp spots_total exact_spots q spot x right s.0 ∙ without_at spot_cmp spots_total exact_spots q at rows)
     ])
 
--- where a node may be added, no row stands
-pub add_free : (t : Tree) (dir : ℕ) (name : List ℕ) (node : tree.Node) (after : ℕ × Tree) → add t dir name node ≡ Ok after →
-    look t dir name ≡ None
-add_free t dir name node after e =
-    let in_dir = past (not (is_dir t dir)) NotDir _ after e in
-    let free = past (is_some (look t dir name)) Taken _ after in_dir.1 in
-    none (look t dir name) free.0
-
 -- the root alone is a tree
 pub empty_is_tree : WellFormed empty_tree
 empty_is_tree = record { rows_in_order = refl; nodes_in_order = refl; root = refl; rows_fit = refl; nodes_fit = refl }
 
-tie_free : (t : Tree) (dir x : ℕ) (name : List ℕ) (after : Tree) → tie t dir name x ≡ Ok after →
-    (look t dir name ≡ None) × (is_dir t x ≡ false)
-tie_free t dir x name after e =
+tied_no_dir : (t : Tree) (dir x : ℕ) (name : List ℕ) (after : Tree) → tie t dir name x ≡ Ok after → is_dir t x ≡ false
+tied_no_dir t dir x name after e =
     let in_dir = past (not (is_dir t dir)) NotDir _ after e in
     let lives = past (not (is_living t x)) Missing _ after in_dir.1 in
-    let other = past (is_dir t x) IsDir _ after lives.1 in
-    let free = past (is_some (look t dir name)) Taken _ after other.1 in
-    (none (look t dir name) free.0, other.0)
+    (past (is_dir t x) IsDir _ after lives.1).0
 
 -- what the slots have of an entry that may follow
-module _ (s : Slots) (next : ℕ) (w : WellFormed (held_in_slots s next)) (kept : AreConsistent s) (e : Entry) (later : next ≤ e.number) where
+module _ (s : Slots) (next : ℕ) (w : WellFormed (held_in_slots s next)) (kept : AreConsistent s) (e : Entry)
+    (follows : Follows (held_in_slots s next) e) where
   raised : WellFormed (held_in_slots s e.number)
-  raised = raised_keeps (held_in_slots s next) e.number w later
+  raised = raised_keeps (held_in_slots s next) e.number w follows.number
 
-  free_spot : (m : Option tree.Node) → Enters (held_in_slots s next) e m → row_at s (e.parent, e.name) ≡ None
-  free_spot None tied = sym (rows_found s (e.parent, e.name)) ∙
-      (tie_free (record (held_in_slots s next) { next = e.number + 1 }) e.parent e.node e.name _ tied).0
-  free_spot (Some made) added = sym (rows_found s (e.parent, e.name)) ∙
-      add_free (record (held_in_slots s next) { next = e.number }) e.parent e.name made _ added.2
+  free_spot : row_at s (e.parent, e.name) ≡ None
+  free_spot = sym (rows_found s (e.parent, e.name)) ∙
+      none _ (free_where (held_in_slots s next) e (passes (held_in_slots s next) e follows))
+
+  -- its directory has a slot
+  pub has_slot : IsSome (slot_of s e.parent)
+  has_slot = slotted (slot_of s e.parent) (living_in s e.parent (is_living_dir (held_in_slots s next) e.parent
+      (and_parts (is_dir (held_in_slots s next) e.parent) _ (passes (held_in_slots s next) e follows)).0))
+    where
+      slotted : (o : Option ℕ) → IsSome (option_and_then (slot_get s.nodes) o) → IsSome o
+      slotted None h = h
+      slotted (Some slot) h = refl
 
   new_node : e.node ≡ e.number → IsNew s e.node
   new_node same = record {
@@ -294,7 +286,7 @@ module _ (s : Slots) (next : ℕ) (w : WellFormed (held_in_slots s next)) (kept 
   may_enter : (after : Slots) (m : Option tree.Node) → Enters (held_in_slots s next) e m → held_rows after ≡ held_rows s →
       held_nodes after ≡ with_made e.node m (held_nodes s) → MayStand after e.node
   may_enter after None tied rows nodes =
-      let no_dir = (tie_free (record (held_in_slots s next) { next = e.number + 1 }) e.parent e.node e.name _ tied).1 in
+      let no_dir = tied_no_dir (record (held_in_slots s next) { next = e.number + 1 }) e.parent e.node e.name _ tied in
       record {
         not_root = λ z. false≢true (sym no_dir ∙ ap (is_dir (held_in_slots s next)) z ∙ w.root);
         dir_once = λ n f k. (let was = kind_was s after e.node n nodes f k in
@@ -311,7 +303,7 @@ module _ (s : Slots) (next : ℕ) (w : WellFormed (held_in_slots s next)) (kept 
   entry_may_enter after m enters still rows nodes = record {
     kept = still;
     free = sym (rows_found after (e.parent, e.name)) ∙ ap (find spot_cmp (e.parent, e.name)) rows ∙ rows_found s (e.parent, e.name)
-        ∙ free_spot m enters;
+        ∙ free_spot;
     may = may_enter after m enters rows nodes;
   }
 

@@ -2,7 +2,7 @@
 use Rattle.pua_tree.proofs.Common.{◌≡◌, ◌≢◌, ℕ, ◌+◌, ◌-◌, ◌<◌, ◌^◌, true, false, not, ◌==◌, cond, List, length, Option, Some, None}
 use Rattle.pua_tree.proofs.Common.{option_map, refl, sym, ap, ◌∙◌, arith, inl, inr, eqb-true, eq-eqb, IfSome, is_eq, find, put, where_key}
 use Rattle.pua_tree.proofs.Common.{spot_cmp, node_in, made_of, held_rows, held_nodes, rows_in, names_of, AreConsistent, Dir, Slots}
-use Rattle.pua_tree.proofs.Common.{SlotNode, subst}
+use Rattle.pua_tree.proofs.Common.{SlotNode, subst, Kind}
 use Rattle.std.proofs.Common.{ne_eqb, BuildHasherDefault, FoldHasher}
 use Rattle.std.proofs.lemmas.List.Sums.{count_by-le-length}
 use Rattle.indexmap.specs.IndexMap.{IndexMap, UpdatesBy}
@@ -83,96 +83,96 @@ module _ (old more : Slots) (at : tree.Spot) (x : ℕ) (kept : AreConsistent old
       omega (arith, counted, within, small, names))
 
 -- a row put
-module _ (old more mid : Slots) (rows : IndexMap Spot RowNode (BuildHasherDefault FoldHasher)) (at : tree.Spot) (placed : RowNode)
-    (enters : MayEnter old at placed.node) (small : length (held_rows old) < 2 ^ 63)
+module _ (old more mid : Slots) (at : tree.Spot) (x : ℕ) (enters : MayEnter old at x) (small : length (held_rows old) < 2 ^ 63)
     (row_more : IsFiled old → IfSome (node_in old at.0) (λ node. node.standing.rows < 2 ^ 63) → Restands old more (row_gained at.0))
-    (name_more : IsFiled more → IfSome (node_in more placed.node) (λ node. node.standing.names < 2 ^ 63) →
-    Restands more mid (name_gained at.0 placed.node))
-    (same_rows : mid.rows ≡ old.rows) (updates : UpdatesBy spot_ghosts.eq (spot_ghosts.eq (key_at at)) mid.rows rows (Some placed)) where
+    (name_more : IsFiled more → IfSome (node_in more x) (λ node. node.standing.names < 2 ^ 63) →
+    Restands more mid (name_gained at.0 x)) where
   abbrev before_put : AreConsistent old
   before_put = enters.kept
 
   abbrev gained_row : Restands old more (row_gained at.0)
-  gained_row = row_more before_put.filed (few_rows old more at placed.node before_put small)
+  gained_row = row_more before_put.filed (few_rows old more at x before_put small)
 
-  abbrev gained_name : Restands more mid (name_gained at.0 placed.node)
-  gained_name = name_more gained_row.filed (few_names old more at placed.node before_put small gained_row)
+  abbrev gained_name : Restands more mid (name_gained at.0 x)
+  gained_name = name_more gained_row.filed (few_names old more at x before_put small gained_row)
 
-  abbrev new : Slots
-  new = record mid { rows = rows }
+  pub nodes_after_put : held_nodes mid ≡ held_nodes old
+  nodes_after_put = nodes_same old mid (made_alike old more mid (row_gained at.0) (name_gained at.0 x) gained_row gained_name)
 
-  abbrev x : ℕ
-  x = placed.node
+  module _ (kind : Kind) (rows : IndexMap Spot RowNode (BuildHasherDefault FoldHasher)) (same_rows : mid.rows ≡ old.rows)
+      (updates : UpdatesBy spot_ghosts.eq (spot_ghosts.eq (key_at at)) mid.rows rows (Some (record { node = x; kind = kind }))) where
+    abbrev new : Slots
+    new = record mid { rows = rows }
 
-  none_there : find spot_cmp at (held_rows old) ≡ None
-  none_there = rows_found old at ∙ enters.free
+    abbrev placed : RowNode
+    placed = record { node = x; kind = kind }
 
-  rows_after_put : held_rows new ≡ put spot_cmp at x (held_rows old)
-  rows_after_put = rows_put mid new at placed updates ∙ ap (put spot_cmp at x) (rows_by mid old same_rows)
+    none_there : find spot_cmp at (held_rows old) ≡ None
+    none_there = rows_found old at ∙ enters.free
 
-  pub nodes_after_put : held_nodes new ≡ held_nodes old
-  nodes_after_put = nodes_same old new (made_alike old more mid (row_gained at.0) (name_gained at.0 x) gained_row gained_name)
+    rows_after_put : held_rows new ≡ put spot_cmp at x (held_rows old)
+    rows_after_put = rows_put mid new at placed updates ∙ ap (put spot_cmp at x) (rows_by mid old same_rows)
 
-  stood : (y : ℕ) (m : SlotNode) → node_in new y ≡ Some m →
-      (n : SlotNode) × (node_in old y ≡ Some n)
-      × (changed old more mid (row_gained at.0) (name_gained at.0 x) gained_row gained_name y n ≡ m)
-  stood = was old more mid (row_gained at.0) (name_gained at.0 x) gained_row gained_name
+    stood : (y : ℕ) (m : SlotNode) → node_in new y ≡ Some m →
+        (n : SlotNode) × (node_in old y ≡ Some n)
+        × (changed old more mid (row_gained at.0) (name_gained at.0 x) gained_row gained_name y n ≡ m)
+    stood = was old more mid (row_gained at.0) (name_gained at.0 x) gained_row gained_name
 
-  pub kept_after_put : ((n : SlotNode) → node_in more x ≡ Some n → n.kind ≡ placed.kind) → AreConsistent new
-  kept_after_put kind_is = record {
-    filed = record { filled = gained_name.filed.filled; apart = gained_name.filed.apart; no_other = gained_name.filed.no_other };
-    standing = record {
-      rows_counted = λ y m e. (let w = stood y m e in
-          sym (ap (λ (n : SlotNode). n.standing.rows) w.2)
-          ∙ ap (λ r. r + one_at at.0 y) (before_put.standing.rows_counted y w.0 w.1)
-          ∙ sym (counted-put spot_cmp spots_total exact_spots (λ row. row.0.0 == y) at x (held_rows old) none_there)
-          ∙ sym (ap (λ rows. rows_in rows y) rows_after_put));
-      names_counted = λ y m e. (let w = stood y m e in
-          sym (ap (λ (n : SlotNode). n.standing.names) w.2)
-          ∙ ap (λ r. r + one_at x y) (before_put.standing.names_counted y w.0 w.1)
-          ∙ sym (counted-put spot_cmp spots_total exact_spots (λ row. row.1 == y) at x (held_rows old) none_there)
-          ∙ sym (ap (λ rows. names_of rows y) rows_after_put));
-      dir_above = λ spot y m f e d. (let w = stood y m e in
-          let found : find spot_cmp spot (put spot_cmp at x (held_rows old)) ≡ Some y = ap (find spot_cmp spot) (sym rows_after_put) ∙
-          f in
-          let above : m.standing.above ≡ cond (x == y) at.0 w.0.standing.above = sym (ap (λ (n : SlotNode). n.standing.above) w.2) in
-          let kind : w.0.kind ≡ Dir = ap (λ (n : SlotNode). n.kind) w.2 ∙ d in
-          elim (same_or_other spot_cmp spots_total exact_spots spot at) [
-            | inl s ↦ (let here : x ≡ y = same_Some x y (sym (put_here spot_cmp spots_total exact_spots at x (held_rows old)) ∙
-                ap (λ q. find spot_cmp q (put spot_cmp at x (held_rows old))) (sym s.0) ∙ found) in
-                above ∙ ap (λ t. cond t at.0 w.0.standing.above) (eq-eqb x y here) ∙ ap (λ (q : tree.Spot). q.0) (sym s.0))
-            | inr s ↦ (let row : find spot_cmp spot (held_rows old) ≡ Some y =
-                sym (put_elsewhere spot_cmp spots_total exact_spots spot at x (held_rows old) s.0) ∙ found in
-                above ∙ elsewhere spot y w.0 kind w.1 row)
-          ]);
-      above_root = λ m e. (let w = stood 0 m e in
-          sym (ap (λ (n : SlotNode). n.standing.above) w.2) ∙ ap (λ t. cond t at.0 w.0.standing.above) (ne_eqb x 0 enters.may.not_root) ∙
-          before_put.standing.above_root w.0 w.1);
-    };
-    kinds = λ q row m r e. (let w = stood row.node m e in
-        sym (ap (λ (n : SlotNode). n.kind) w.2) ∙
-        said q row w.0 w.1 (spot_ghosts.eq (key_at at) (key_at q)) (sym (updates.0 (key_at q)) ∙ r));
-  }
-    where
-      elsewhere : (spot : tree.Spot) (y : ℕ) (n : SlotNode) → n.kind ≡ Dir → node_in old y ≡ Some n →
-          find spot_cmp spot (held_rows old) ≡ Some y → cond (x == y) at.0 n.standing.above ≡ spot.0
-      elsewhere spot y n kind e row =
-          elim (x == y) as (λ b. (x == y) ≡ b → cond b at.0 n.standing.above ≡ spot.0) [
-            | true ↦ λ t. (let here : x ≡ y = eqb-true x y t in
-                absurd (named (held_rows old) spot y row (ap (names_of (held_rows old)) (sym here) ∙
-                enters.may.dir_once n (ap (node_in old) here ∙ e) kind)))
-            | false ↦ λ _. before_put.standing.dir_above spot y n row e kind
-          ] refl
+    pub kept_after_put : ((n : SlotNode) → node_in more x ≡ Some n → n.kind ≡ kind) → AreConsistent new
+    kept_after_put kind_is = record {
+      filed = record { filled = gained_name.filed.filled; apart = gained_name.filed.apart; no_other = gained_name.filed.no_other };
+      standing = record {
+        rows_counted = λ y m e. (let w = stood y m e in
+            sym (ap (λ (n : SlotNode). n.standing.rows) w.2)
+            ∙ ap (λ r. r + one_at at.0 y) (before_put.standing.rows_counted y w.0 w.1)
+            ∙ sym (counted-put spot_cmp spots_total exact_spots (λ row. row.0.0 == y) at x (held_rows old) none_there)
+            ∙ sym (ap (λ rows. rows_in rows y) rows_after_put));
+        names_counted = λ y m e. (let w = stood y m e in
+            sym (ap (λ (n : SlotNode). n.standing.names) w.2)
+            ∙ ap (λ r. r + one_at x y) (before_put.standing.names_counted y w.0 w.1)
+            ∙ sym (counted-put spot_cmp spots_total exact_spots (λ row. row.1 == y) at x (held_rows old) none_there)
+            ∙ sym (ap (λ rows. names_of rows y) rows_after_put));
+        dir_above = λ spot y m f e d. (let w = stood y m e in
+            let found : find spot_cmp spot (put spot_cmp at x (held_rows old)) ≡ Some y = ap (find spot_cmp spot) (sym rows_after_put) ∙
+            f in
+            let above : m.standing.above ≡ cond (x == y) at.0 w.0.standing.above = sym (ap (λ (n : SlotNode). n.standing.above) w.2) in
+            let kind : w.0.kind ≡ Dir = ap (λ (n : SlotNode). n.kind) w.2 ∙ d in
+            elim (same_or_other spot_cmp spots_total exact_spots spot at) [
+              | inl s ↦ (let here : x ≡ y = same_Some x y (sym (put_here spot_cmp spots_total exact_spots at x (held_rows old)) ∙
+                  ap (λ q. find spot_cmp q (put spot_cmp at x (held_rows old))) (sym s.0) ∙ found) in
+                  above ∙ ap (λ t. cond t at.0 w.0.standing.above) (eq-eqb x y here) ∙ ap (λ (q : tree.Spot). q.0) (sym s.0))
+              | inr s ↦ (let row : find spot_cmp spot (held_rows old) ≡ Some y =
+                  sym (put_elsewhere spot_cmp spots_total exact_spots spot at x (held_rows old) s.0) ∙ found in
+                  above ∙ elsewhere spot y w.0 kind w.1 row)
+            ]);
+        above_root = λ m e. (let w = stood 0 m e in
+            sym (ap (λ (n : SlotNode). n.standing.above) w.2) ∙ ap (λ t. cond t at.0 w.0.standing.above) (ne_eqb x 0 enters.may.not_root) ∙
+            before_put.standing.above_root w.0 w.1);
+      };
+      kinds = λ q row m r e. (let w = stood row.node m e in
+          sym (ap (λ (n : SlotNode). n.kind) w.2) ∙
+          said q row w.0 w.1 (spot_ghosts.eq (key_at at) (key_at q)) (sym (updates.0 (key_at q)) ∙ r));
+    }
+      where
+        elsewhere : (spot : tree.Spot) (y : ℕ) (n : SlotNode) → n.kind ≡ Dir → node_in old y ≡ Some n →
+            find spot_cmp spot (held_rows old) ≡ Some y → cond (x == y) at.0 n.standing.above ≡ spot.0
+        elsewhere spot y n kind e row =
+            elim (x == y) as (λ b. (x == y) ≡ b → cond b at.0 n.standing.above ≡ spot.0) [
+              | true ↦ λ t. (let here : x ≡ y = eqb-true x y t in
+                  absurd (named (held_rows old) spot y row (ap (names_of (held_rows old)) (sym here) ∙
+                  enters.may.dir_once n (ap (node_in old) here ∙ e) kind)))
+              | false ↦ λ _. before_put.standing.dir_above spot y n row e kind
+            ] refl
 
-      said : (q : tree.Spot) (row : RowNode) (n : SlotNode) → node_in old row.node ≡ Some n → (here : Bool) →
-          cond here (Some placed) (row_in mid q) ≡ Some row → n.kind ≡ row.kind
-      said q row n e true r =
-          let same = same_Some placed row r in
-          let here = ap (λ (p : RowNode). node_in old p.node) same ∙ e in
-          kind_is (with_stance (row_gained at.0 x n.standing) n) (gained_row.nodes x ∙
-          ap (option_map (λ m. with_stance (row_gained at.0 x m.standing) m)) here)
-          ∙ ap (λ (p : RowNode). p.kind) same
-      said q row n e false r = before_put.kinds q row n (sym (row_by mid old same_rows q) ∙ r) e
+        said : (q : tree.Spot) (row : RowNode) (n : SlotNode) → node_in old row.node ≡ Some n → (here : Bool) →
+            cond here (Some placed) (row_in mid q) ≡ Some row → n.kind ≡ row.kind
+        said q row n e true r =
+            let same = same_Some placed row r in
+            let here = ap (λ (p : RowNode). node_in old p.node) same ∙ e in
+            kind_is (with_stance (row_gained at.0 x n.standing) n) (gained_row.nodes x ∙
+            ap (option_map (λ m. with_stance (row_gained at.0 x m.standing) m)) here)
+            ∙ ap (λ (p : RowNode). p.kind) same
+        said q row n e false r = before_put.kinds q row n (sym (row_by mid old same_rows q) ∙ r) e
 
 -- a row taken away
 module _ (old more new : Slots) (rows : IndexMap Spot RowNode (BuildHasherDefault FoldHasher)) (at : tree.Spot) (x : ℕ)

@@ -5,7 +5,6 @@ use Rattle.std.proofs.Common.{length-append, add-one}
 use Rattle.std.specs.Prelude.{codes}
 use Rattle.pua_tree.specs.Listing as listing
 use Rattle.pua_tree.specs.Listing.{entries_of, after_header, listing_of_lines}
-use Rattle.pua_tree.specs.Reading.{IsGathered}
 use Rattle.pua_tree.specs.declared.fault.ListingFault.TheVariants.{BadLine}
 use Rattle.bstr.specs.Text.{lines_of, without_terminator}
 use Rattle.pua_tree.proofs.Base.{other_word}
@@ -19,10 +18,6 @@ pub record IsSoFar (hard : Bool) (all rest : List (List ℕ)) (n : ℕ) (t : Tre
   pub count : n ≡ length es + 2
   pub few : n ≤ 4097
   pub so_far : entries_of hard [] 3 all ≡ entries_of hard es (suc n) rest
-
-pub still_gathered : (hard : Bool) (all rest : List (List ℕ)) (n : ℕ) (t : Tree) (greatest : ℕ) → IsSoFar hard all rest n t greatest →
-    (before : ℕ) × IsGathered hard t greatest before × (n + 1 ≡ before + 1)
-still_gathered hard all rest n t greatest s = (n, (s.es, s.gathers, s.count), refl)
 
 next_line : (hard : Bool) (all rest more : List (List ℕ)) (n next : ℕ) (t : Tree) (greatest : ℕ) (text : List ℕ)
     (s : IsSoFar hard all rest n t greatest) → rest ≡ text ∷ more → next ≡ n + 1 →

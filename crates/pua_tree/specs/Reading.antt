@@ -1,10 +1,11 @@
 -- What a reader of a listing's lines has gathered so far, and what a further entry makes of it.
-use Rattle.std.specs.Prelude.{◌≡◌, ◌≤◌, ◌<◌, ◌+◌, ℕ, Bool, List, [], Option, Some, None, Ok, IsTrue, option_map, length}
+use Rattle.std.specs.Prelude.{◌≡◌, ◌≤◌, ◌<◌, ◌+◌, ◌==◌, ◌&&◌, ℕ, Bool, not, nat_le, nat_lt, List, [], Option, Some, None, is_none, Ok}
+use Rattle.std.specs.Prelude.{IsTrue, option_map}
 use Rattle.pua_tree.specs.Limits.{number_end}
 use Rattle.pua_tree.specs.Names.{is_name}
 use Rattle.pua_tree.specs.Tree as tree
-use Rattle.pua_tree.specs.Tree.{Tree, target_fits}
-use Rattle.pua_tree.specs.Edits.{add, tie, with_new, with_row}
+use Rattle.pua_tree.specs.Tree.{Tree, target_fits, is_dir, is_living, look}
+use Rattle.pua_tree.specs.Edits.{add, tie, with_new, with_row, has_name_room}
 use Rattle.pua_tree.specs.Listing as listing
 use Rattle.pua_tree.specs.Listing.{last_number, tree_of}
 use Rattle.pua_tree.specs.Grammar.{entries_fit}
@@ -53,12 +54,23 @@ pub record Follows (t : Tree) (e : listing.Entry) : Type 0 where
   pub named : IsTrue (is_name e.name)
   pub enters : Enters t e e.made
 
+-- the node of an entry may stand in a further row: what is made has the entry's number, and another lives and is no directory
+abbrev pub node_follows : Tree → ℕ → ℕ → Option tree.Node → Bool
+node_follows t number x None = is_living t x && not (is_dir t x)
+node_follows t number x (Some made) = x == number
+
+-- a row may come to a spot, whose directory lives, under this number
+abbrev pub row_follows : Tree → ℕ → ℕ → List ℕ → Bool
+row_follows t number dir name =
+    nat_le t.next number && (nat_lt number number_end && (is_none (look t dir name) && has_name_room t))
+
+-- the same as a test, for an entry whose name is one, and of which what it makes is made well
+abbrev pub follows : Tree → listing.Entry → Bool
+follows t e =
+    is_dir t e.parent && (node_follows t e.number e.node e.made && row_follows t e.number e.parent e.name)
+
 -- the tree of entries each of which fits those before it, and the greatest of their numbers
 pub record Gathers (hard : Bool) (t : Tree) (greatest : ℕ) (es : List listing.Entry) : Type 0 where
   pub fit : IsTrue (entries_fit hard [] es)
   pub tree : t ≡ tree_of es
   pub highest : greatest ≡ last_number es
-
--- it is that of so many lines, the first two counted
-abbrev pub IsGathered : Bool → Tree → ℕ → ℕ → Type 0
-IsGathered hard t greatest lines = (es : List listing.Entry) × Gathers hard t greatest es × (lines ≡ length es + 2)

@@ -1,12 +1,12 @@
 -- What rows and numbers in maps, and nodes in slots, hold of a tree.
-use Rattle.std.specs.Prelude.{ℕ, ◌≡◌, ◌≢◌, ◌==◌, ◌+◌, ◌-◌, not, if◌then◌else◌, List, [], ◌∷◌, map, count_by, Option, Some, None, IsSome}
-use Rattle.std.specs.Prelude.{option_map, option_and_then}
+use Rattle.std.specs.Prelude.{ℕ, ◌≡◌, ◌≢◌, ◌==◌, ◌<◌, ◌+◌, ◌-◌, not, if◌then◌else◌, List, [], ◌∷◌, map, count_by, Option, Some, None}
+use Rattle.std.specs.Prelude.{IsSome, option_map, option_and_then}
 use Rattle.std.specs.declared.cmp.Ordering.{Ordering}
 use Rattle.std.specs.Ordering.{nat_cmp, is_eq}
 use Rattle.std.specs.FinMap.{find as find_key, put}
 use Rattle.std.specs.FinMap.Entries.{where_key}
-use Rattle.indexmap.specs.IndexMap.{get, index_map_len}
-use Rattle.slab.specs.Slab.{get as slot_get, slab_len}
+use Rattle.indexmap.specs.IndexMap.{get, index_map_len, spare}
+use Rattle.slab.specs.Slab.{get as slot_get, slab_len, HasRoomFor}
 use Rattle.pua_tree.specs.Tree as tree
 use Rattle.pua_tree.specs.Tree.{spot_cmp}
 use Rattle.pua_tree.specs.declared.node.Kind.TheVariants.{Dir}
@@ -140,6 +140,10 @@ pub record MayMove (s : Slots) (at to : tree.Spot) (x : ℕ) : Type 0 where
   pub free : row_at s to ≡ None
   pub not_root : x ≢ 0
   pub dir_once : (node : SlotNode) → node_in s x ≡ Some node → node.kind ≡ Dir → names_of (held_rows s) x ≡ 1
+
+-- a further node has room without further memory
+abbrev pub HasNodeRoom : Slots → Type 0
+HasNodeRoom s = HasRoomFor s.nodes 1 × (0 < spare s.numbers)
 
 -- a number that no node has, and no row names
 pub record IsNew (s : Slots) (x : ℕ) : Type 0 where

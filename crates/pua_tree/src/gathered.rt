@@ -1,5 +1,8 @@
 //! What a reader of listings fills: a tree that takes one entry after another.
 
+ghost use Rattle.std.specs.Prelude.{◌≡◌, ◌==◌, if◌then◌else◌, IsTrue, option_map, is_some};
+ghost use Rattle.pua_tree.specs.Tree.{target_fits};
+
 use crate::fault::OutOfMemory;
 use crate::name::LentName;
 use crate::node::{Kind, NodeId};
@@ -25,19 +28,34 @@ pub(crate) struct Standing {
     pub(crate) made: Option<MadeNode>,
 }
 
+impl Standing {
+    /// Whether the node may come to a row: the line makes it, under its own number, or else it was
+    /// found in a slot.
+    pub(crate) fn may_stand(&self, slot: Option<usize>) -> bool
+        ensures { result ≡ (if is_some self.now.made then self.now.node == self.now.number
+            else is_some slot) }
+    {
+        match &self.made {
+            Some(_) => self.node.number() == self.number,
+            None => slot.is_some(),
+        }
+    }
+}
+
 /// A node that a line makes, and where it leads if it is a link.
 #[derive(Drop)]
 pub(crate) struct MadeNode {
     pub(crate) kind: Kind,
     pub(crate) target: Option<Vec<u8>>,
+    pub(crate) ghost fits: { IsTrue (target_fits kind (option_map (λ t. t.items) target)) },
 }
 
 /// A tree that begins as the root alone, and takes entries under numbers that rise and may leave some
 /// out. What it holds so far is its content.
 pub(crate) trait Gathered: FileTree + Drop {
-    ghost use Rattle.std.specs.Prelude.{◌≡◌, OnOk, OnErr, IfOk};
+    ghost use Rattle.std.specs.Prelude.{◌≡◌, ◌≢◌, Ok, IfOk, true};
     ghost use Rattle.pua_tree.specs.Tree.{empty_tree, look};
-    ghost use Rattle.pua_tree.specs.Reading.{Follows, tree_with, entry_at};
+    ghost use Rattle.pua_tree.specs.Reading.{follows, tree_with, entry_at};
 
     /// The root alone, with room for so many rows. The only error is that the memory for it is
     /// refused.
@@ -49,11 +67,13 @@ pub(crate) trait Gathered: FileTree + Drop {
         ensures { result ≡ look (Self.content self.now) spot.now.dir spot.now.name };
 
     /// Puts a node into a new row at this spot, and the node itself into the tree where the line
-    /// makes it. The next number is then above the line's. The only error is that memory for it is
-    /// refused; the tree is then as it was.
-    fn put(&mut self, spot: &Spot, stands: Standing) -> Result<(), OutOfMemory>
-        requires { Follows (Self.content self.old) (entry_at spot.now.dir spot.now.name stands) }
-        ensures grown { OnOk result (Self.content self.new ≡ tree_with (Self.content self.old)
-            (entry_at spot.now.dir spot.now.name stands)) }
-        ensures unchanged { OnErr result (Self.content self.new ≡ Self.content self.old) };
+    /// makes it. The next number is then above the line's. What may not follow the tree's entries,
+    /// as at a spot that has a row, is not put. Answers whether it was put. The only error is that
+    /// memory for it is refused. The tree is as it was where nothing is put.
+    fn put(&mut self, spot: &Spot, stands: Standing) -> Result<bool, OutOfMemory>
+        ensures follows { IfOk result (λ put. put
+            ≡ follows (Self.content self.old) (entry_at spot.now.dir spot.now.name stands)) }
+        ensures grown { result ≡ Ok true → Self.content self.new
+            ≡ tree_with (Self.content self.old) (entry_at spot.now.dir spot.now.name stands) }
+        ensures unchanged { result ≢ Ok true → Self.content self.new ≡ Self.content self.old };
 }

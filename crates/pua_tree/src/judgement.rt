@@ -2,6 +2,7 @@
 //! what is found by bytes.
 
 use crate::fault::TreeFault;
+use crate::gathered::Standing;
 use crate::name::{LentName, Name};
 use crate::node::{Kind, NodeId};
 use crate::spot::Spot;
@@ -63,6 +64,8 @@ ghost use Rattle.pua_tree.specs.Names.{is_name};
 ghost use Rattle.pua_tree.specs.Tree.{Node, is_dir, kind_at, look, found_at, climb};
 ghost use Rattle.pua_tree.specs.Edits.{add, tie, cut, shift, is_full_dir, is_full_dir_there};
 ghost use Rattle.pua_tree.specs.Edits.{has_name_room, has_room};
+ghost use Rattle.pua_tree.specs.Reading.{follows, row_follows, node_follows, entry_at};
+ghost use Rattle.pua_tree.specs.Reading.{said_node};
 ghost use Rattle.pua_tree.specs.Edits.{with_row, with_new, without_row, without_unnamed};
 ghost use Rattle.pua_tree.specs.Edits.{with_row_moved};
 
@@ -147,6 +150,45 @@ pub(crate) fn may_tie<T: Judged>(
         return Err(TreeFault::Full);
     }
     Ok(())
+}
+
+/// Whether a node may come to a new row at this spot, under the number of a line, and be made there
+/// where the line makes it.
+pub(crate) fn may_put<T: Judged>(tree: &T, spot: &Spot, stands: &Standing) -> bool
+    ensures follows { result
+        ≡ follows (T.held tree.now) (entry_at spot.now.dir spot.now.name stands.now) }
+    ensures name { IsTrue (is_name spot.now.name) }
+{
+    spot.name.known();
+    is_dir(tree, spot.dir) && may_have_row(tree, stands) && may_put_row(tree, spot, stands.number)
+}
+
+/// Whether a row may come to this spot, whose directory lives, under the number of a line.
+pub(crate) fn may_put_row<T: Judged>(tree: &T, spot: &Spot, number: u32) -> bool
+    ensures follows { result
+        ≡ row_follows (T.held tree.now) number spot.now.dir spot.now.name }
+    ensures name { IsTrue (is_name spot.now.name) }
+{
+    spot.name.known();
+    tree.next_number() <= number
+        && number < NUMBER_END
+        && tree.node_at(spot).is_none()
+        && has_name_room(tree)
+}
+
+/// Whether the node of a line may come to a row: what the line makes has its number, and another
+/// lives and is no directory.
+fn may_have_row<T: Judged>(tree: &T, stands: &Standing) -> bool
+    ensures { result ≡ node_follows (T.held tree.now) stands.now.number stands.now.node
+        (option_map said_node stands.now.made) }
+{
+    match &stands.made {
+        Some(_) => stands.node.number() == stands.number,
+        None => match tree.kind_of(stands.node) {
+            None | Some(Kind::Dir) => false,
+            Some(_) => true,
+        },
+    }
 }
 
 /// The node of a row that may be taken away, or else the first fault.

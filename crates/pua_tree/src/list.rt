@@ -2,7 +2,7 @@
 
 use crate::fault::{OutOfMemory, TreeFault};
 use crate::gathered::{Gathered, MadeNode, Standing};
-use crate::judgement::{self, Judged, Moving, may_add, may_cut, may_shift, may_tie};
+use crate::judgement::{self, Judged, Moving, may_add, may_cut, may_put, may_shift, may_tie};
 use crate::list_edits::{copied_target, push_made, put_row, reserve_one, take_row, take_unnamed};
 use crate::name::{LentName, Name};
 use crate::node::{Kind, NodeId};
@@ -190,7 +190,10 @@ impl Gathered for ListTree {
         self.node_at(spot)
     }
 
-    fn put(&mut self, spot: &Spot, stands: Standing) -> Result<(), OutOfMemory> {
+    fn put(&mut self, spot: &Spot, stands: Standing) -> Result<bool, OutOfMemory> {
+        if !may_put(self, spot, &stands) {
+            return Ok(false);
+        }
         reserve_one(&mut self.rows, &mut self.nodes)?;
         let Standing { number, node, made } = stands;
         let row = ListRow {
@@ -201,7 +204,7 @@ impl Gathered for ListTree {
         put_row(&mut self.rows, row);
         push_made(&mut self.nodes, node, made);
         self.next = number + 1;
-        Ok(())
+        Ok(true)
     }
 }
 

@@ -80,7 +80,7 @@ pub(crate) fn push_made(nodes: &mut Vec<ListNode>, id: NodeId, made: Option<Made
         ≡ map node_entry nodes.old.items
         ++ cons_option (option_map (λ node. (id, node)) (option_map said_node made)) [] }
 {
-    if let Some(MadeNode { kind, target }) = made {
+    if let Some(MadeNode { kind, target, .. }) = made {
         nodes.push(ListNode { id, kind, target }).unwrap();
     }
 }

@@ -3,16 +3,16 @@
 
 ghost use Rattle.std.specs.Prelude.{ℕ, List, ◌≡◌, ◌≢◌, ◌≤◌, ◌+◌, ◌++◌, ◌∷◌, [], Some, Ok, Err};
 ghost use Rattle.std.specs.Prelude.{MatchResult, MatchOption, OnOk, OnErr, IfOk, IfErr, nat_lt};
-ghost use Rattle.std.specs.Prelude.{length, option_map, not, ◌&&◌, min, ◌/◌};
+ghost use Rattle.std.specs.Prelude.{length, option_map, IsTrue, not, ◌&&◌, min, ◌/◌};
 ghost use Rattle.std.specs.Bool.{OnTrue, OnFalse};
 ghost use Rattle.pua_tree.specs.Limits.{highest_listed};
 ghost use Rattle.pua_tree.specs.Spelling.{number_within};
-ghost use Rattle.pua_tree.specs.Tree.{is_dir, is_living};
+ghost use Rattle.pua_tree.specs.Tree.{is_dir, is_living, target_fits};
 ghost use Rattle.pua_tree.specs.Lines.{line_read};
 ghost use Rattle.pua_tree.specs.Listing.{listing, listing_of_lines, after_header, entry_of};
 ghost use Rattle.pua_tree.specs.Listing.{entries_of, entry_or_fault, only_if, node_of};
 ghost use Rattle.pua_tree.specs.Listing.{Entry as Said};
-ghost use Rattle.pua_tree.specs.Reading.{Gathers, IsGathered, entry_said, said_node};
+ghost use Rattle.pua_tree.specs.Reading.{Gathers, entry_said, said_node};
 
 use crate::fault::ListingFault;
 use crate::field::number_within;
@@ -173,9 +173,6 @@ impl<T: Gathered> Reading<T> {
         text: &[u8],
         room: &mut [u8; Name::MOST],
     ) -> Result<(), ListingFault>
-        requires { (before : ℕ)
-            × IsGathered self.old.hard (T.content self.old.tree) self.old.greatest before
-            × (n ≡ before + 1) }
         ensures room { OnOk result (n ≤ MOST_LINES) }
         ensures hard { self.new.hard ≡ self.old.hard }
         ensures exact { (es : List Said)
@@ -189,14 +186,16 @@ impl<T: Gathered> Reading<T> {
         let entry = self.entry(alloc, n, text, room)?;
         self.spot.dir = entry.parent;
         self.spot.name.overwrite(entry.name);
-        if self.tree.row_at(&self.spot).is_some() {
-            return Err(ListingFault::Taken(n));
-        }
         if n > MOST_LINES {
-            return Err(ListingFault::TooMany(n));
+            return Err(match self.tree.row_at(&self.spot) {
+                Some(_) => ListingFault::Taken(n),
+                None => ListingFault::TooMany(n),
+            });
         }
         self.greatest = entry.stands.number;
-        self.tree.put(&self.spot, entry.stands)?;
+        if !self.tree.put(&self.spot, entry.stands)? {
+            return Err(ListingFault::Taken(n));
+        }
         Ok(())
     }
 
@@ -304,6 +303,8 @@ fn target_of(
     ensures ok { IfOk result (λ target. (es : List Said) (number : ℕ)
         → node_of es n number (line_read line.now) (Some kind)
         ≡ Ok (number, Some (record { kind = kind; target = option_map (λ t. t.items) target }))) }
+    ensures fits { IfOk result (λ target.
+        IsTrue (target_fits kind (option_map (λ t. t.items) target))) }
     ensures err { IfErr result (λ fault. fault ≢ ListingFault.OutOfMemory
         → (es : List Said) (number : ℕ)
         → node_of es n number (line_read line.now) (Some kind) ≡ Err fault) }

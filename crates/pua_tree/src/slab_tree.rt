@@ -2,7 +2,7 @@
 
 use crate::fault::{OutOfMemory, TreeFault};
 use crate::gathered::{Gathered, MadeNode, Standing};
-use crate::judgement::{self, Judged, Moving, may_add, may_cut, may_shift, may_tie};
+use crate::judgement::{self, Judged, Moving, may_add, may_cut, may_put_row, may_shift, may_tie};
 use crate::list_edits::copied_target;
 use crate::name::{LentName, Name};
 use crate::node::{Kind, NodeId};
@@ -91,7 +91,10 @@ impl FileTree for SlabTree {
         let node = NodeId::new(number);
         let made = Some(MadeNode { kind, target });
         let stands = Standing { number, node, made };
-        self.put(&Spot { dir, name }, stands)?;
+        let above = self.slots.slot(dir);
+        self.slots
+            .put_entry(above, None, &Spot { dir, name }, stands)?;
+        self.next = number + 1;
         Ok(node)
     }
 
@@ -143,13 +146,16 @@ impl Gathered for SlabTree {
         self.node_at(spot)
     }
 
-    fn put(&mut self, spot: &Spot, stands: Standing) -> Result<(), OutOfMemory> {
-        self.slots.reserve_node()?;
-        let Standing { number, node, made } = stands;
-        self.slots.add_made(node, made);
-        self.slots.put_row(spot, node);
+    fn put(&mut self, spot: &Spot, stands: Standing) -> Result<bool, OutOfMemory> {
+        let above = self.slots.dir_slot(spot.dir);
+        let other = self.slots.other_slot(&stands);
+        let number = stands.number;
+        if above.is_none() || !stands.may_stand(other) || !may_put_row(self, spot, number) {
+            return Ok(false);
+        }
+        self.slots.put_entry(above, other, spot, stands)?;
         self.next = number + 1;
-        Ok(())
+        Ok(true)
     }
 }
 

@@ -1,6 +1,6 @@
 //! Rows by their spots, and nodes in slots that are used again, found by their numbers.
 
-use crate::gathered::MadeNode;
+use crate::gathered::{MadeNode, Standing};
 use crate::name::Name;
 use crate::node::{Kind, NodeId};
 use crate::spot::Spot;
@@ -35,7 +35,8 @@ pub(crate) struct RowNode {
 }
 
 /// Rows and nodes. A node's number is never given again; its slot is. What a change leaves is said
-/// of rows and nodes that are consistent before it, as those of a `SlabTree` are.
+/// of rows and nodes that are consistent before it, as those of a `SlabTree` are, and have room for
+/// what it puts. What finds no room is not put.
 #[derive(Drop)]
 pub(crate) struct Slots {
     pub(crate) rows: IndexMap<Spot, RowNode>,
@@ -43,21 +44,22 @@ pub(crate) struct Slots {
     pub(crate) nodes: Slab<SlotNode>,
 }
 
-ghost use Rattle.std.specs.Prelude.{ℕ, ◌≡◌, ◌<◌, ◌≤◌, ◌==◌, ◌^◌, Some, None};
-ghost use Rattle.std.specs.Prelude.{IfSome, IfOk, OnOk, if◌then◌else◌, option_copied, option_map};
-ghost use Rattle.std.specs.Prelude.{option_and_then, length, map, not};
+ghost use Rattle.std.specs.Prelude.{ℕ, ◌≡◌, ◌≢◌, ◌<◌, ◌≤◌, ◌==◌, ◌^◌, Some, None, IsSome};
+ghost use Rattle.std.specs.Prelude.{IfSome, IfOk, OnOk, OnErr, if◌then◌else◌, option_copied};
+ghost use Rattle.std.specs.Prelude.{option_map, option_and_then, ◌+◌, length, map, not, is_some};
+ghost use Rattle.std.specs.Prelude.{is_none, true, ◌&&◌};
 ghost use Rattle.std.specs.Ordering.{is_eq, nat_cmp};
 ghost use Rattle.std.specs.FinMap.{put};
 ghost use Rattle.std.specs.FinMap.Entries.{where_key};
 ghost use Rattle.indexmap.specs.IndexMap.{spare};
-ghost use Rattle.slab.specs.Slab.{HasRoomFor};
-ghost use Rattle.pua_tree.specs.Tree.{spot_cmp, empty_tree, distinct_names};
+ghost use Rattle.pua_tree.specs.Tree.{spot_cmp, empty_tree, distinct_names, WellFormed};
+ghost use Rattle.pua_tree.specs.Tree.{is_dir_kind};
 ghost use Rattle.pua_tree.specs.Edits.{without_unnamed};
-ghost use Rattle.pua_tree.specs.Reading.{said_node};
+ghost use Rattle.pua_tree.specs.Reading.{Follows, said_node, entry_at, tree_with};
 ghost use Rattle.pua_tree.specs.LentRows.{lent_entry};
 ghost use Rattle.pua_tree.specs.Slots.{held_rows, held_nodes, held_in_slots, names_of, IsNew};
 ghost use Rattle.pua_tree.specs.Slots.{with_made, row_in, row_at, slot_of, node_in};
-ghost use Rattle.pua_tree.specs.Slots.{HasRow, MayEnter, MayMove};
+ghost use Rattle.pua_tree.specs.Slots.{HasRow, MayEnter, MayMove, HasNodeRoom};
 ghost use Rattle.pua_tree.specs.Slots.{AreConsistent, Restands, row_gained, row_lost, name_gained};
 ghost use Rattle.pua_tree.specs.Slots.{name_lost, IsFiled, standing_of_dir};
 
@@ -123,14 +125,15 @@ impl Slots {
         }
     }
 
-    /// Counts a further row of a directory.
-    fn gain_row(&mut self, dir: NodeId)
+    /// Counts a further row of the directory in this slot.
+    fn gain_row(&mut self, slot: Option<usize>)
         ensures rows { self.new.rows ≡ self.old.rows }
-        ensures restands { IsFiled self.old →
+        ensures numbers { self.new.numbers ≡ self.old.numbers }
+        ensures restands { (dir : ℕ) → slot ≡ slot_of self.old dir → IsFiled self.old →
             IfSome (node_in self.old dir) (λ node. node.standing.rows < 2 ^ 63) →
             Restands self.old self.new (row_gained dir) }
     {
-        let Some(slot) = self.slot(dir) else {
+        let Some(slot) = slot else {
             return;
         };
         if let Some(node) = self.nodes.get_mut(slot) {
@@ -151,16 +154,17 @@ impl Slots {
         }
     }
 
-    /// Counts a further name of a node, which is in this directory, and answers what the node is.
-    fn gain_name(&mut self, node: NodeId, dir: NodeId) -> Option<Kind>
+    /// Counts a further name of the node in this slot, which is in this directory, and answers what
+    /// the node is.
+    fn gain_name(&mut self, slot: Option<usize>, dir: NodeId) -> Option<Kind>
         ensures rows { self.new.rows ≡ self.old.rows }
-        ensures restands { IsFiled self.old →
+        ensures restands { (node : ℕ) → slot ≡ slot_of self.old node → IsFiled self.old →
             IfSome (node_in self.old node) (λ node. node.standing.names < 2 ^ 63) →
             Restands self.old self.new (name_gained dir node) }
-        ensures kind { result ≡ option_map (λ node. node.kind) (node_in self.old node) }
+        ensures kind { (node : ℕ) → slot ≡ slot_of self.old node →
+            result ≡ option_map (λ node. node.kind) (node_in self.old node) }
     {
-        let slot = self.slot(node)?;
-        let node = self.nodes.get_mut(slot)?;
+        let node = self.nodes.get_mut(slot?)?;
         node.standing.names = node.standing.names.wrapping_add(1);
         node.standing.above = dir;
         Some(node.kind)
@@ -182,8 +186,39 @@ impl Slots {
         node.standing.names
     }
 
+    /// The slot of the directory of this number, and None for what is no living directory.
+    pub(crate) fn dir_slot(&self, id: NodeId) -> Option<usize>
+        ensures slot { IsSome result → result ≡ slot_of self.now id }
+        ensures dir { is_some result
+            ≡ is_dir_kind (option_map (λ node. node.kind) (node_in self.now id)) }
+    {
+        let slot = self.slot(id)?;
+        match self.nodes.get(slot)?.kind {
+            Kind::Dir => Some(slot),
+            _ => None,
+        }
+    }
+
+    /// The slot of a node that stands in other rows, where a line gives it a further one: None for
+    /// what is no living node, or a directory, and where the line makes the node.
+    pub(crate) fn other_slot(&self, stands: &Standing) -> Option<usize>
+        ensures slot { IsSome result → result ≡ slot_of self.now stands.now.node }
+        ensures other { is_some result ≡ (is_none stands.now.made
+            && (is_some (node_in self.now stands.now.node) && not (is_dir_kind
+            (option_map (λ node. node.kind) (node_in self.now stands.now.node))))) }
+    {
+        if stands.made.is_some() {
+            return None;
+        }
+        let slot = self.slot(stands.node)?;
+        match self.nodes.get(slot)?.kind {
+            Kind::Dir => None,
+            _ => Some(slot),
+        }
+    }
+
     /// The slot of the node of this number.
-    fn slot(&self, id: NodeId) -> Option<usize>
+    pub(crate) fn slot(&self, id: NodeId) -> Option<usize>
         ensures { result ≡ slot_of self.now id }
     {
         self.numbers.get(&id).copied()
@@ -204,23 +239,44 @@ impl Slots {
         self.numbers.len()
     }
 
-    /// Puts a row at a spot that has none.
+    /// Puts a row at a spot that has none, where there is room for it.
     pub(crate) fn put_row(&mut self, spot: &Spot, node: NodeId)
-        requires { 0 < spare self.old.rows }
-        ensures kept { MayEnter self.old (spot.now.dir, spot.now.name) node →
-            AreConsistent self.new }
-        ensures rows { held_rows self.new
+        ensures kept { 0 < spare self.old.rows →
+            MayEnter self.old (spot.now.dir, spot.now.name) node → AreConsistent self.new }
+        ensures rows { 0 < spare self.old.rows → held_rows self.new
             ≡ put spot_cmp (spot.now.dir, spot.now.name) node (held_rows self.old) }
         ensures nodes { MayEnter self.old (spot.now.dir, spot.now.name) node →
             held_nodes self.new ≡ held_nodes self.old }
     {
+        let above = self.slot(spot.dir);
+        let slot = self.slot(node);
+        self.put_row_under(above, slot, spot, node);
+    }
+
+    /// The same, where the slots of the spot's directory and of the node have been looked up.
+    fn put_row_under(
+        &mut self,
+        above: Option<usize>,
+        slot: Option<usize>,
+        spot: &Spot,
+        node: NodeId,
+    )
+        ensures kept { above ≡ slot_of self.old spot.now.dir → slot ≡ slot_of self.old node →
+            0 < spare self.old.rows →
+            MayEnter self.old (spot.now.dir, spot.now.name) node → AreConsistent self.new }
+        ensures rows { 0 < spare self.old.rows → held_rows self.new
+            ≡ put spot_cmp (spot.now.dir, spot.now.name) node (held_rows self.old) }
+        ensures nodes { above ≡ slot_of self.old spot.now.dir → slot ≡ slot_of self.old node →
+            MayEnter self.old (spot.now.dir, spot.now.name) node →
+            held_nodes self.new ≡ held_nodes self.old }
+    {
         let count = self.row_count();
         prove!(count < usize::MAX);
-        self.gain_row(spot.dir);
+        self.gain_row(above);
         // A row of a node that is none may say anything.
-        let kind = self.gain_name(node, spot.dir).unwrap_or(Kind::File);
+        let kind = self.gain_name(slot, spot.dir).unwrap_or(Kind::File);
         let row = RowNode { node, kind };
-        self.rows.insert(*spot, row).unwrap();
+        let _ = self.rows.insert(*spot, row);
     }
 
     /// Takes away the row of this directory and name, in which this node stands, and answers how
@@ -242,7 +298,8 @@ impl Slots {
         self.lose_name(node)
     }
 
-    /// Moves the row of this directory and name, in which this node stands, to a spot that has none.
+    /// Moves the row of this directory and name, in which this node stands, to a spot that has
+    /// none, where there is room for a further row.
     pub(crate) fn move_row(
         &mut self,
         from: NodeId,
@@ -251,10 +308,9 @@ impl Slots {
         new_name: Name,
         node: NodeId,
     )
-        requires { 0 < spare self.old.rows }
-        ensures kept { MayMove self.old (from, name.now) (to, new_name) node →
-            AreConsistent self.new }
-        ensures rows { held_rows self.new ≡ put spot_cmp (
+        ensures kept { 0 < spare self.old.rows →
+            MayMove self.old (from, name.now) (to, new_name) node → AreConsistent self.new }
+        ensures rows { 0 < spare self.old.rows → held_rows self.new ≡ put spot_cmp (
           to,
           new_name,
         ) node (where_key spot_cmp
@@ -272,44 +328,100 @@ impl Slots {
         );
     }
 
-    /// Puts a node under a number that no node has and no row names.
-    pub(crate) fn add_node(&mut self, id: NodeId, kind: Kind, target: Option<Vec<u8>>)
-        requires slot_room { HasRoomFor self.old.nodes 1 }
-        requires number_room { 0 < spare self.old.numbers }
-        ensures kept { AreConsistent self.old → IsNew self.old id → AreConsistent self.new }
+    /// Puts a node under a number that no node has and no row names, where there is room for it.
+    /// Answers its slot.
+    pub(crate) fn add_node(
+        &mut self,
+        id: NodeId,
+        kind: Kind,
+        target: Option<Vec<u8>>,
+    ) -> Option<usize>
+        ensures kept { HasNodeRoom self.old → AreConsistent self.old → IsNew self.old id →
+            AreConsistent self.new }
         ensures rows { self.new.rows ≡ self.old.rows }
-        ensures nodes { AreConsistent self.old → IsNew self.old id → held_nodes self.new
+        ensures nodes { HasNodeRoom self.old → AreConsistent self.old → IsNew self.old id →
+            held_nodes self.new
             ≡ put nat_cmp id (record
             { kind = kind; target = option_map (λ bytes. bytes.items) target })
             (held_nodes self.old) }
+        ensures others { HasNodeRoom self.old → AreConsistent self.old → IsNew self.old id →
+            (x : ℕ) → x ≢ id → slot_of self.new x ≡ slot_of self.old x }
+        ensures slot { HasNodeRoom self.old → AreConsistent self.old → IsNew self.old id →
+            result ≡ slot_of self.new id }
     {
         let standing = Stance {
             above: NodeId::ROOT,
             rows: 0,
             names: 0,
         };
-        let slot = self.nodes.insert_reserved(SlotNode {
+        let node = SlotNode {
             kind,
             target,
             standing,
-        });
-        self.numbers.insert(id, slot).unwrap();
+        };
+        let Ok(slot) = self.nodes.insert(node) else {
+            return None;
+        };
+        let _ = self.numbers.insert(id, slot);
+        Some(slot)
     }
 
-    /// Puts the node that an entry of a listing makes, if it makes one.
-    pub(crate) fn add_made(&mut self, id: NodeId, made: Option<MadeNode>)
-        requires slot_room { HasRoomFor self.old.nodes 1 }
-        requires number_room { 0 < spare self.old.numbers }
-        ensures kept { AreConsistent self.old → IfSome made (λ _. IsNew self.old id) →
-            AreConsistent self.new }
+    /// Puts the node that an entry of a listing makes, if it makes one and there is room for it.
+    /// Answers its slot, and this one where none is made.
+    pub(crate) fn add_made(
+        &mut self,
+        id: NodeId,
+        made: Option<MadeNode>,
+        other: Option<usize>,
+    ) -> Option<usize>
+        ensures kept { HasNodeRoom self.old → AreConsistent self.old →
+            IfSome made (λ _. IsNew self.old id) → AreConsistent self.new }
         ensures rows { self.new.rows ≡ self.old.rows }
-        ensures nodes { AreConsistent self.old → IfSome made (λ _. IsNew self.old id) →
+        ensures nodes { HasNodeRoom self.old → AreConsistent self.old →
+            IfSome made (λ _. IsNew self.old id) →
             held_nodes self.new ≡ with_made id (option_map said_node made)
             (held_nodes self.old) }
+        ensures others { HasNodeRoom self.old → AreConsistent self.old →
+            IfSome made (λ _. IsNew self.old id) →
+            (x : ℕ) → IsSome (slot_of self.old x) → slot_of self.new x ≡ slot_of self.old x }
+        ensures slot { HasNodeRoom self.old → AreConsistent self.old →
+            IfSome made (λ _. IsNew self.old id) →
+            (is_none made ≡ true → other ≡ slot_of self.old id) → result ≡ slot_of self.new id }
     {
-        if let Some(MadeNode { kind, target }) = made {
-            self.add_node(id, kind, target);
+        match made {
+            Some(MadeNode { kind, target, .. }) => self.add_node(id, kind, target),
+            None => other,
         }
+    }
+
+    /// Puts what an entry of a listing says, which may follow a tree that is held: a row at this
+    /// spot, and the node that the entry makes, if it makes one. The slots of the spot's directory,
+    /// and of the node where none is made, have been looked up. The only error is that memory is
+    /// refused; the tree is then as it was.
+    pub(crate) fn put_entry(
+        &mut self,
+        above: Option<usize>,
+        other: Option<usize>,
+        spot: &Spot,
+        stands: Standing,
+    ) -> Result<(), AllocError>
+        ensures grown { above ≡ slot_of self.old spot.now.dir →
+            (is_none stands.made ≡ true → other ≡ slot_of self.old stands.node) →
+            AreConsistent self.old → (next : ℕ) →
+            WellFormed (held_in_slots self.old next) →
+            let entry = entry_at spot.now.dir spot.now.name stands in
+            Follows (held_in_slots self.old next) entry →
+            OnOk result (AreConsistent self.new × (held_in_slots self.new (stands.number + 1)
+            ≡ tree_with (held_in_slots self.old next) entry)) }
+        ensures kept { OnErr result (AreConsistent self.old → AreConsistent self.new) }
+        ensures unchanged { OnErr result ((next : ℕ) →
+            held_in_slots self.new next ≡ held_in_slots self.old next) }
+    {
+        self.reserve_node()?;
+        let Standing { node, made, .. } = stands;
+        let slot = self.add_made(node, made, other);
+        self.put_row_under(above, slot, spot, node);
+        Ok(())
     }
 
     /// Takes the node of this number away, if there is one. Its slot is the next that is used.
@@ -352,9 +464,9 @@ impl Slots {
     pub(crate) fn reserve_node(&mut self) -> Result<(), AllocError>
         ensures kept { AreConsistent self.old → AreConsistent self.new }
         ensures same { (next : ℕ) → held_in_slots self.new next ≡ held_in_slots self.old next }
+        ensures slots { (x : ℕ) → slot_of self.new x ≡ slot_of self.old x }
         ensures row_room { OnOk result (0 < spare self.new.rows) }
-        ensures number_room { OnOk result (0 < spare self.new.numbers) }
-        ensures slot_room { OnOk result (HasRoomFor self.new.nodes 1) }
+        ensures node_room { OnOk result (HasNodeRoom self.new) }
     {
         self.rows.reserve(1)?;
         self.numbers.reserve(1)?;

@@ -1,9 +1,7 @@
-use Rattle.pua_audit.proofs.Common.{◌≡◌, ◌≤◌, ◌∙◌, length, map, sym, ap, subst, arith, IsTrue, list_all, length-map, name_cmp, longest}
-use Rattle.pua_audit.proofs.Common.{is_letter, Rises}
+use Rattle.pua_audit.proofs.Common.{◌≡◌, ◌≤◌, ◌∙◌, length, map, sym, ap, subst, arith, length-map, longest}
 use Rattle.pua_audit.specs.Reach.{alphabet_of}
 use Rattle.pua_audit.specs.Bounds.{names_or_none}
-use Rattle.pua_audit.proofs.Rising.{alphabet_rises}
-use Rattle.pua_audit.proofs.Beginnings.{begun, alphabet_letters, same_product}
+use Rattle.pua_audit.proofs.Beginnings.{begun, same_product}
 use Rattle.pua_audit.proofs.beginning.letters_within.Goals as goal
 
 pub returns-clause-begun : goal.returns-clause-begun
@@ -21,17 +19,11 @@ returns-clause-begun g c = λ table h base after.
 
 pub returns-clause-sound : goal.returns-clause-sound
 returns-clause-sound g c =
-    let t = g.P.Probe.tree c.args.probe.now in
-    let texts = map (λ s. s.now) c.args.candidates.now in
-    let names = c.in_ok-names.names.items in
     let letters = c.in_ok-letters.letters in
-    let same : letters ≡ alphabet_of t names = c.in_ok-letters.ensures t c.requires.rows ∙ ap (alphabet_of t) c.as_slice.ensures.value in
     let most : c.longest.result ≡ longest letters = c.longest.ensures.longest ∙ ap longest c.as_slice-2.ensures.letters in
     let product = same_product c.from.result c.args.limit c.longest.result (longest letters) c.from.ensures most in
     record {
       few = c.if-limit-gt-MOST_LETTERS.false;
-      known = subst (λ l. IsTrue (list_all is_letter l)) (sym same) (alphabet_letters t c.known.ensures texts names c.in_ok-names.ensures);
-      rises = subst (Rises name_cmp) (sym same) (alphabet_rises t names);
       short = subst (λ n. n ≤ 1023) product c.if-from-longest-gt-MOST_PATH.false;
     }
 

@@ -7,7 +7,7 @@ use Rattle.pua_texts.proofs.line.add_lines.Goals as goal
 
 pub calls-init : goal.calls-init
 calls-init g c = record {
-  lines = λ _. record {
+  lines = record {
     done = [];
     parts = ap (λ (later : List Call). path_lines c.args.lines.path.now (c.args.lines.call ∷ later)) (sym c.later_calls-later.ensures);
     passes = passes_none c.args.block.now (g.S.Sink.written c.args.sink.now) (g.S.Sink.failed c.args.sink.now);
@@ -15,7 +15,7 @@ calls-init g c = record {
 }
 
 pub returns-in_err-add_line : goal.returns-in_err-add_line
-returns-in_err-add_line g c = λ told.
+returns-in_err-add_line g c = λ _.
     let path = c.args.lines.path.now in
     let p = err_from_is_err_and c.from_residual.result c.from_residual.ensures.1 in
     rw p.1 (passing_fails (path_lines path (c.args.lines.call ∷ calls_at c.args.lines.later))
@@ -23,32 +23,32 @@ returns-in_err-add_line g c = λ told.
     c.args.block.now c.calls.block [] [] p.0
     (g.S.Sink.written c.args.sink.now) (g.S.Sink.written c.calls.sink) (g.S.Sink.written c.add_line.new.sink)
     (g.S.Sink.failed c.args.sink.now) (g.S.Sink.failed c.calls.sink) (g.S.Sink.failed c.add_line.new.sink)
-    (c.calls.invariant.lines told) refl (c.in_err-add_line.ensures told))
+    c.calls.invariant.lines refl c.in_err-add_line.ensures)
 
 pub returns-in_default : goal.returns-in_default
-returns-in_default g c = λ told.
+returns-in_default g c = λ _.
     let path = c.args.lines.path.now in
     passing_last (path_lines path (c.args.lines.call ∷ calls_at c.args.lines.later))
     (path_lines path (c.calls.call ∷ calls_at c.calls.later)) (path_line path c.calls.call)
     c.args.block.now c.calls.block c.add_line.new.block (Ok tt)
     (g.S.Sink.written c.args.sink.now) (g.S.Sink.written c.calls.sink) (g.S.Sink.written c.add_line.new.sink)
     (g.S.Sink.failed c.args.sink.now) (g.S.Sink.failed c.calls.sink) (g.S.Sink.failed c.add_line.new.sink)
-    (c.calls.invariant.lines told)
+    c.calls.invariant.lines
     (ap (λ (later : List Call). path_lines path (c.calls.call ∷ later)) c.in_default.ensures.0 ∙ append-nil (path_line path c.calls.call))
-    (c.in_ok-add_line.ensures told)
+    c.in_ok-add_line.ensures
 
 pub calls-preserved : goal.calls-preserved
 calls-preserved g c =
     let path = c.args.lines.path.now in
     record {
-      lines = λ told. passing_more (path_lines path (c.args.lines.call ∷ calls_at c.args.lines.later))
+      lines = passing_more (path_lines path (c.args.lines.call ∷ calls_at c.args.lines.later))
           (path_lines path (c.calls.call ∷ calls_at c.calls.later)) (path_line path c.calls.call)
           (path_lines path (c.in-Some.next ∷ calls_at c.take_first.new.self))
           c.args.block.now c.calls.block c.add_line.new.block
           (g.S.Sink.written c.args.sink.now) (g.S.Sink.written c.calls.sink) (g.S.Sink.written c.add_line.new.sink)
           (g.S.Sink.failed c.args.sink.now) (g.S.Sink.failed c.calls.sink) (g.S.Sink.failed c.add_line.new.sink)
-          (c.calls.invariant.lines told) (ap (λ (later : List Call). path_lines path (c.calls.call ∷ later)) c.in-Some.ensures)
-          (c.in_ok-add_line.ensures told);
+          c.calls.invariant.lines (ap (λ (later : List Call). path_lines path (c.calls.call ∷ later)) c.in-Some.ensures)
+          c.in_ok-add_line.ensures;
     }
 
 pub calls-smaller : goal.calls-smaller

@@ -1,9 +1,6 @@
 use Rattle.pua_tree.proofs.Common.{◌≡◌, ◌∷◌, ◌∙◌, refl, rules, err_from_is_err_and}
-use Rattle.pua_tree.proofs.SoFar.{one_more, one_stops, still_gathered}
+use Rattle.pua_tree.proofs.SoFar.{one_more, one_stops}
 use Rattle.pua_tree.proofs.listing.read_entries.Goals as goal
-
-pub read-requires : goal.read-requires
-read-requires g c = rw c.loop-text.invariant.0 (still_gathered c.args.hard c.args.lines _ c.loop-text.n _ _ c.loop-text.invariant.1)
 
 pub loop-text-preserved : goal.loop-text-preserved
 loop-text-preserved g c =

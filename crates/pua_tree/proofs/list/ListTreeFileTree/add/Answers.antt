@@ -1,8 +1,5 @@
 use Rattle.pua_tree.proofs.Common.{rules}
 use Rattle.pua_tree.proofs.list.ListTreeFileTree.add.Goals as goal
 
-pub put-requires : goal.put-requires
-put-requires c = search rules
-
 pub returns-clause-exact : goal.returns-clause-exact
 returns-clause-exact c = search rules

@@ -1,5 +1,6 @@
-use Rattle.pua_tree.proofs.Common.{rules, ◌≡◌, ◌∙◌, ℕ, Option, Some, None, Ok, sym, ap, subst, WellFormed}
+use Rattle.pua_tree.proofs.Common.{rules, arith, ◌≡◌, ◌<◌, ◌∙◌, ℕ, Option, Some, None, Ok, sym, ap, subst, WellFormed}
 use Rattle.pua_tree.proofs.Common.{with_row, without_row, without_unnamed, with_row_moved, held_in_slots, held_rows}
+use Rattle.indexmap.specs.IndexMap.{spare}
 use Rattle.pua_tree.specs.Tree as tree
 use Rattle.pua_tree.specs.Slots.{HasRow, MayMove}
 use Rattle.pua_tree.proofs.EditsKeep.{edits_keep_trees}
@@ -16,6 +17,10 @@ invariant_of-self c = (
 
 pub returns-in_err-reserve_row-clause-unchanged : goal.returns-in_err-reserve_row-clause-unchanged
 returns-in_err-reserve_row-clause-unchanged c = grind (rules, c.reserve_row.ensures.same c.self.inside.next, c.self.view_is)
+
+-- room is left for the row that moves
+room : (c : goal.After-drop_unnamed) → 0 < spare c.take_row-names.new.self.rows
+room c = let made = c.in_ok-reserve_row.ensures.room in omega (arith, made, c.take_row-names.ensures.room)
 
 -- the row of the other node that goes
 goes : (c : goal.After-drop_unnamed) → HasRow c.reserve_row.new.self (c.args.to, c.args.new_name) c.in-Some-displaced.displaced
@@ -49,16 +54,14 @@ returns-in-Some-displaced-clause-exact c =
     let first : held_in_slots c.take_row-names.new.self next ≡ without_row (held_in_slots s next) c.args.to c.args.new_name =
     λ i. record { rows = c.take_row-names.ensures.rows i; nodes = c.take_row-names.ensures.nodes (goes c) i; next = next } in
     let second : held_in_slots c.move_row.new.self next ≡ change (held_in_slots c.take_row-names.new.self next) =
-    λ i. record { rows = c.move_row.ensures.rows i; nodes = c.move_row.ensures.nodes (comes c) i; next = next } in
+    λ i. record { rows = c.move_row.ensures.rows (room c) i; nodes = c.move_row.ensures.nodes (comes c) i; next = next } in
     let over : change (without_row (held_in_slots s next) c.args.to c.args.new_name) ≡ change (held_in_slots s next) =
     λ i. record (held_in_slots s next)
     { rows = put_over (c.args.to, c.args.new_name) (c.args.from, c.args.name.now) c.in-Some.moving.node (held_rows s) (rows_sorted s) i } in
     let came : held_in_slots c.move_row.new.self next ≡ change c.args.self.now = second ∙ ap change first ∙ over ∙ ap change same in
     let left : held_in_slots c.drop_unnamed.new.self next ≡ after (Some c.in-Some-displaced.displaced) =
-    c.drop_unnamed.ensures.unnamed (c.move_row.ensures.kept (comes c)) (left_after_move c.take_row-names.new.self c.move_row.new.self (
-      c.args.from,
-      c.args.name.now,
-    ) (c.args.to, c.args.new_name) c.in-Some.moving.node c.move_row.ensures.rows (c.move_row.ensures.nodes (comes c))
+    c.drop_unnamed.ensures.unnamed (c.move_row.ensures.kept (room c) (comes c))
+    (left_after_move c.take_row-names.new.self c.move_row.new.self (c.args.from, c.args.name.now) (c.args.to, c.args.new_name) c.in-Some.moving.node (c.move_row.ensures.rows (room c)) (c.move_row.ensures.nodes (comes c))
     (comes c).has.there (comes c).free c.in-Some-displaced.displaced c.take_row-names.result (c.take_row-names.ensures.left (goes c))) next
     ∙ ap (λ (t : tree.Tree). without_unnamed t c.in-Some-displaced.displaced) came in
     (rw c.in-Some.is at c.in_ok-moving.ensures.exact) ∙ ap (λ (o : Option ℕ). Ok (after o)) c.in-Some-displaced.is ∙
@@ -68,7 +71,7 @@ pub invariant_of-self-in-Some-displaced : goal.invariant_of-self-in-Some-displac
 invariant_of-self-in-Some-displaced c = (
   (edits_keep_trees.shifting c.args.self.now _ c.args.from c.args.to c.args.name.now c.args.new_name
       (subst WellFormed c.self.view_is c.self.invariant.0) c.may_shift.ensures.name (returns-in-Some-displaced-clause-exact c)).0,
-  c.drop_unnamed.ensures.kept (c.move_row.ensures.kept (comes c)),
+  c.drop_unnamed.ensures.kept (c.move_row.ensures.kept (room c) (comes c)),
 )
 
 -- a row that comes to a spot that has none
@@ -91,7 +94,11 @@ returns-in-None-clause-exact c =
     let after =
     λ (o : Option ℕ). with_row_moved c.args.self.now c.args.from c.args.name.now c.args.to c.args.new_name c.in-Some.moving.node o in
     let second : held_in_slots c.move_row-in-None.new.self next ≡ change (held_in_slots s next) =
-    λ i. record { rows = c.move_row-in-None.ensures.rows i; nodes = c.move_row-in-None.ensures.nodes (comes_alone c) i; next = next } in
+    λ i. record {
+      rows = c.move_row-in-None.ensures.rows c.in_ok-reserve_row.ensures.room i;
+      nodes = c.move_row-in-None.ensures.nodes (comes_alone c) i;
+      next = next;
+    } in
     let came : held_in_slots c.move_row-in-None.new.self next ≡ after None = second ∙ ap change same in
     (rw c.in-Some.is at c.in_ok-moving.ensures.exact) ∙ ap (λ (o : Option ℕ). Ok (after o)) c.in-None.is ∙
     ap (λ (t : tree.Tree). Ok t) (sym came)
@@ -100,5 +107,5 @@ pub invariant_of-self-in-None : goal.invariant_of-self-in-None
 invariant_of-self-in-None c = (
   (edits_keep_trees.shifting c.args.self.now _ c.args.from c.args.to c.args.name.now c.args.new_name
       (subst WellFormed c.self.view_is c.self.invariant.0) c.may_shift.ensures.name (returns-in-None-clause-exact c)).0,
-  c.move_row-in-None.ensures.kept (comes_alone c),
+  c.move_row-in-None.ensures.kept c.in_ok-reserve_row.ensures.room (comes_alone c),
 )

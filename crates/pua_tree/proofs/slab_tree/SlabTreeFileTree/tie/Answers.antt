@@ -1,5 +1,6 @@
 use Rattle.pua_tree.proofs.Common.{rules, ◌≡◌, ◌∙◌, Ok, sym, ap, subst, WellFormed, with_row, held_in_slots}
 use Rattle.pua_tree.specs.Tree as tree
+use Rattle.pua_tree.specs.Slots.{MayEnter}
 use Rattle.pua_tree.proofs.EditsKeep.{edits_keep_trees}
 use Rattle.pua_tree.proofs.SlabEdits.{tied_may_enter}
 use Rattle.pua_tree.proofs.slab_tree.SlabTreeFileTree.tie.Goals as goal
@@ -13,25 +14,27 @@ invariant_of-self c = (
 pub returns-in_err-reserve_row-clause-unchanged : goal.returns-in_err-reserve_row-clause-unchanged
 returns-in_err-reserve_row-clause-unchanged c = search (rules, c.reserve_row.ensures.same c.self.inside.next ∙ c.self.view_is)
 
+-- the row may come to its spot
+enters : (c : goal.After-put_row) → MayEnter c.reserve_row.new.self (c.args.dir, c.args.name) c.args.node
+enters c =
+    let next = c.self.inside.next in
+    tied_may_enter c.reserve_row.new.self next c.args.self.now c.args.dir c.args.name c.args.node
+    (subst WellFormed c.self.view_is c.self.invariant.0) (c.reserve_row.ensures.kept c.self.invariant.1)
+    (c.reserve_row.ensures.same next ∙ c.self.view_is) c.in_ok-may_tie.ensures.free c.in_ok-may_tie.ensures.no_dir
+
 pub returns-clause-exact : goal.returns-clause-exact
 returns-clause-exact c =
     let next = c.self.inside.next in
     let same : held_in_slots c.reserve_row.new.self next ≡ c.args.self.now = c.reserve_row.ensures.same next ∙ c.self.view_is in
-    let enters = tied_may_enter c.reserve_row.new.self next c.args.self.now c.args.dir c.args.name c.args.node
-    (subst WellFormed c.self.view_is c.self.invariant.0) (c.reserve_row.ensures.kept c.self.invariant.1) same c.in_ok-may_tie.ensures.free
-    c.in_ok-may_tie.ensures.no_dir in
+    let rows = c.put_row.ensures.rows c.in_ok-reserve_row.ensures.room in
     let came : held_in_slots c.put_row.new.self next ≡ with_row c.args.self.now c.args.dir c.args.name c.args.node =
-    (λ i. record { rows = c.put_row.ensures.rows i; nodes = c.put_row.ensures.nodes enters i; next = next }) ∙
+    (λ i. record { rows = rows i; nodes = c.put_row.ensures.nodes (enters c) i; next = next }) ∙
     ap (λ (t : tree.Tree). with_row t c.args.dir c.args.name c.args.node) same in
     c.in_ok-may_tie.ensures.exact ∙ ap (λ (t : tree.Tree). Ok t) (sym came)
 
 pub invariant_of-self-2 : goal.invariant_of-self-2
-invariant_of-self-2 c =
-    let next = c.self.inside.next in
-    let formed = subst WellFormed c.self.view_is c.self.invariant.0 in (
-      (edits_keep_trees.tying c.args.self.now _ c.args.dir c.args.node c.args.name formed c.may_tie.ensures.name
-          (returns-clause-exact c)).0,
-      c.put_row.ensures.kept (tied_may_enter c.reserve_row.new.self next c.args.self.now c.args.dir c.args.name c.args.node formed
-          (c.reserve_row.ensures.kept c.self.invariant.1) (c.reserve_row.ensures.same next ∙ c.self.view_is) c.in_ok-may_tie.ensures.free
-          c.in_ok-may_tie.ensures.no_dir),
-    )
+invariant_of-self-2 c = (
+  (edits_keep_trees.tying c.args.self.now _ c.args.dir c.args.node c.args.name (subst WellFormed c.self.view_is c.self.invariant.0)
+      c.may_tie.ensures.name (returns-clause-exact c)).0,
+  c.put_row.ensures.kept c.in_ok-reserve_row.ensures.room (enters c),
+)
