@@ -43,6 +43,9 @@ use Cwd qw(getcwd);
 use Errno qw(ENOENT ENOTDIR ENAMETOOLONG);
 use Getopt::Long qw(:config posix_default no_ignore_case bundling);
 
+my ($NAME) = $0 =~ m{([^/]*)\z};
+my $USAGE = "usage: $NAME [-kv] [-r ROOT] [-s SCRIPT] [-x PATH]... [PATH]...\n";
+
 my $MOST_LISTED = 4096;    # names, the root among them
 my $MOST_TARGET = 1023;    # bytes in a link's target
 my $MOST_NAME   = 255;     # bytes in a component
@@ -73,7 +76,7 @@ my %walked;                # by a directory's path: that all in it was taken
 my %nodes  = ('' => { kind => 'dir' });    # what is listed, by its path; the root's is empty
 my %inside = ('' => {});                   # by a directory's path: the names listed in it
 
-sub report { print STDERR "list.pl: @_\n"; return }
+sub report { print STDERR "$NAME: @_\n"; return }
 
 sub fail { report(@_); exit 1 }
 
@@ -367,7 +370,7 @@ sub judge_size {
     }
     my @largest = sort { $below{$b} <=> $below{$a} || $a cmp $b } keys %below;
     splice @largest, $MOST_NAMED if @largest > $MOST_NAMED;
-    fail(join "\nlist.pl: ", map { shown($_) . ": $below{$_} names in it" } @largest) if @largest;
+    fail(join "\n$NAME: ", map { shown($_) . ": $below{$_} names in it" } @largest) if @largest;
     exit 1;
 }
 
@@ -480,7 +483,7 @@ my $understood = GetOptions(
     'x=s' => \@exclusions,
 );
 if (!$understood || !(@ARGV || defined $given || defined $script) || grep { $_ eq '' } @ARGV, @exclusions) {
-    print STDERR "usage: list.pl [-kv] [-r ROOT] [-s SCRIPT] [-x PATH]... [PATH]...\n";
+    print STDERR $USAGE;
     exit 2;
 }
 utf8::is_utf8($_) && utf8::encode($_) for @ARGV, @exclusions, grep { defined } $given, $script;

@@ -19,6 +19,8 @@ use strict;
 use warnings;
 no warnings 'recursion';    # a tree may be 4,000 directories deep
 
+my ($NAME) = $0 =~ m{([^/]*)\z};
+
 my @COLUMNS = qw(read written executed made removed);
 my %COLUMNS = (
     (map { $_ => ['read'] } qw(stat lstat readlink open-r chdir)),
@@ -59,7 +61,7 @@ details[open] > summary > :first-child::before { content: '\25be\a0' }
 }
 END
 
-sub fail { print STDERR "page.pl: @_\n"; exit 1 }
+sub fail { print STDERR "$NAME: @_\n"; exit 1 }
 
 # A text as HTML has it.
 sub text { my ($text) = @_; $text =~ s/([&<>"'])/'&#' . ord($1) . ';'/ge; return $text }
@@ -186,7 +188,7 @@ sub add_list {
     return;
 }
 
-if (@ARGV < 1 || @ARGV > 2) { print STDERR "usage: page.pl TREE [OBJECTS]\n"; exit 2 }
+if (@ARGV < 1 || @ARGV > 2 || $ARGV[0] =~ /\A-./) { print STDERR "usage: $NAME TREE [OBJECTS]\n"; exit 2 }
 my ($tree, $objects) = (@ARGV, '/dev/stdin');
 my @listing = lines($tree);
 my ($answers, @lists) = lists($objects, lines($objects));

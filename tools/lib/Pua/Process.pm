@@ -1,0 +1,141 @@
+package Pua::Process;
+
+# What a traced process has: its root and working directory, its open files, its promises. All paths are
+# from the root of the system. Where the first process began isn't known before the whole trace is read:
+# $START stands for that directory at the begin of a path. Where a directory or a file isn't known, its
+# path is undef.
+#
+# An open file is a hash with its `path`, its `mode` (open-r, open-w or open-rw), and `opened`, the call
+# that opened it. Descriptors that were copied share it.
+use strict;
+use warnings;
+use Exporter qw(import);
+our @EXPORT_OK = qw($START moved tidy);
+
+our $START = "\0";
+
+sub new {
+    my ($class) = @_;
+    return bless { root => '', directory => $START, files => {}, closes => {} }, $class;
+}
+
+# What a child has after the fork.
+sub forked {
+    my ($self) = @_;
+    return bless { %$self, files => { %{ $self->{files} } }, closes => { %{ $self->{closes} } } }, ref $self;
+}
+
+# A program is started: descriptors that close on exec are closed. Execpromises become the promises, and
+# stay; without them nothing is left of the sandbox.
+sub execs {
+    my ($self) = @_;
+    $self->closes($_) for keys %{ $self->{closes} };
+    $self->{promises} = $self->{execpromises};
+    @$self{qw(closed veiled)} = () unless $self->{promises};
+    return;
+}
+
+# A path that begins at the process's root, from the root of the system. There `..` leads nowhere else.
+sub from_root {
+    my ($self, $path) = @_;
+    1 while $self->{root} ne '' && $path =~ s{\A/+\.\.?(?=/|\z)}{};
+    return $self->{root} . $path;
+}
+
+# The path of what a text names, from this directory or from the working directory.
+sub whole {
+    my ($self, $text, $directory) = @_;
+    return $self->from_root($text) if $text =~ m{\A/};
+    $directory = $self->{directory} if @_ < 3;
+    return unless defined $directory;
+    return $directory eq '/' ? "/$text" : "$directory/$text";
+}
+
+# A path without what doesn't alter where it leads: doubled slashes, a slash at its end, and `.`.
+sub tidy {
+    my ($path) = @_;
+    return unless defined $path;
+    my $begin = $path =~ s{\A([^/]+)}{} ? $1 : '';
+    my $tidy = $begin . join '', map { "/$_" } grep { $_ ne '' && $_ ne '.' } split m{/}, $path;
+    return $tidy eq '' ? '/' : $tidy;
+}
+
+sub file { my ($self, $number) = @_; return defined $number ? $self->{files}{$number} : undef }
+
+# A descriptor gets this file, or one that isn't known.
+sub opens {
+    my ($self, $number, $file, $closes_on_exec) = @_;
+    return unless defined $number;
+    $self->closes($number);
+    $self->{files}{$number} = $file if $file;
+    $self->{closes}{$number} = 1 if $closes_on_exec;
+    return;
+}
+
+sub closes {
+    my ($self, $number) = @_;
+    delete $self->{files}{$number};
+    delete $self->{closes}{$number};
+    return;
+}
+
+sub closes_from {
+    my ($self, $least) = @_;
+    $self->closes($_) for grep { $_ >= $least } keys %{ $self->{files} }, keys %{ $self->{closes} };
+    return;
+}
+
+sub sets_close_on_exec {
+    my ($self, $number, $closes) = @_;
+    delete $self->{closes}{$number};
+    $self->{closes}{$number} = 1 if $closes;
+    return;
+}
+
+# A pledge that succeeded: its lists, of which one may be undef, and the call.
+sub pledges {
+    my ($self, $promises, $execpromises, $call) = @_;
+    $self->{promises} = { map { $_ => 1 } split /,/, $promises } if defined $promises;
+    $self->{execpromises} = { map { $_ => 1 } split /,/, $execpromises } if defined $execpromises;
+    $self->{closed} = $call if defined $promises;
+    return;
+}
+
+# Whether it holds these promises; all of them before it has pledged.
+sub holds {
+    my ($self, @promises) = @_;
+    return !$self->{promises} || !grep { !$self->{promises}{$_} } @promises;
+}
+
+# A tidy path without `..`, as if no component of it were a link.
+sub plain {
+    my ($path) = @_;
+    my ($begin, $rest) = $path =~ m{\A([^/]*)(.*)\z}s;
+    my @parts;
+    for my $part (grep { $_ ne '' } split m{/}, $rest) {
+        if ($part eq '..') { pop @parts }
+        else               { push @parts, $part }
+    }
+    return $begin . join '', map { "/$_" } @parts;
+}
+
+# Something was moved to another path, or, without one, removed: what these processes have of it. A path
+# that leads through it by `..` is taken to lead back to where it stood.
+sub moved {
+    my ($old, $new, @processes) = @_;
+    $old = plain($old);
+    my $inside = qr{\A\Q$old\E(?=/|\z)};
+    my $move = sub {
+        my ($path) = @_;
+        return $path if !defined $path || $path eq '/';
+        my $plain = plain($path);
+        return $path =~ $inside ? $plain : $path if $plain !~ $inside;
+        return defined $new ? plain($new) . substr $plain, length $old : undef;
+    };
+    my %files = map { $_ => $_ } map { values %{ $_->{files} } } @processes;
+    $_->{path} = $move->($_->{path}) for values %files;
+    $_->{directory} = $move->($_->{directory}) for @processes;
+    return;
+}
+
+1;
