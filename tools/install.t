@@ -33,16 +33,28 @@ sub installed {
     return \%modes;
 }
 
-my @tools = map { m{\Atools/(\w+)\.pl\z} ? $1 : () } glob 'tools/*.pl';
-my %wanted = (
-    '/usr/bin/pua'                => '755',
-    '/usr/share/man/man1/pua.1'   => '644',
-    map { ("/usr/bin/pua-$_" => '755') } @tools,
+my @tools   = map { m{\Atools/(\w+)\.pl\z} ? $1 : () } glob 'tools/*.pl';
+my @modules = map { m{\Atools/lib/Pua/(\w+\.pm)\z} ? $1 : () } glob 'tools/lib/Pua/*.pm';
+my %wanted_tools = (
+    (map { ("/usr/bin/pua-$_" => '755') } @tools),
+    (map { ("/usr/share/pua/perl/Pua/$_" => '644') } @modules),
 );
+my %wanted = (%wanted_tools, '/usr/bin/pua' => '755', '/usr/share/man/man1/pua.1' => '644');
 
+is make('install-tools'), 0, 'the tools are installed';
+is_deeply installed(), \%wanted_tools, 'each tool, with its modules, and no program';
 is make('install'), 0, 'it is installed';
 is_deeply installed(), \%wanted, 'the program, its page and each tool are there, with their modes';
 is `$to/root/usr/bin/pua`, "stand-in\n", 'the program is the one that was given';
+
+# The tools run where they are installed, from anywhere, and say by which name they were called.
+chdir $to or die "cannot enter $to: $!\n";
+for my $tool (@tools) {
+    my $said = `$to/root/usr/bin/pua-$tool -? 2>&1`;
+    like $said, qr/^usage: pua-$tool /m, "pua-$tool finds its modules and tells its name";
+}
+chdir $top or die "cannot enter $top: $!\n";
+
 is make('install'), 0, 'it is installed again over itself';
 is make('uninstall'), 0, 'it is taken away';
 is_deeply installed(), {}, 'nothing is left';
