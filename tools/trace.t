@@ -831,6 +831,79 @@ line 20: left out: revoke, which pua lacks: /dev/tty (1 in all)
 line 14: __realpath is written stat (1 in all)
 END
 
+gives('where a process is', <<'END');
+7 chdir(0x1c60) = 0 "a"
+7 __getcwd(0x1c60,0x400) = 4 "/b/a"
+7 open(0x1c60,0<O_RDONLY>) = 3 ".."
+7 openat(3,0x1c60,0<O_RDONLY>) = 4 "c"
+7 chdir(0x1c60) = 0 "/d"
+7 stat(0x1c60,0x1d60) = 0 "e"
+7 __getcwd(0x1c60,0x400) = 4 "/l"
+7 fchdir(3) = 0
+7 fchdir(9) = 0
+7 stat(0x1c60,0x1d60) = -1 errno 2 No such file or directory "f"
+7 chdir(0x1c60) = -1 errno 2 No such file or directory "g"
+7 symlink(0x1c60,0x1d60) = 0 "h" "/i"
+7 __getcwd(0x1c60,0x400) = 4 "/j"
+7 stat(0x1c60,0x1d60) = 0 "k"
+7 chdir(0x1c60) = 0 "m"
+7 stat(0x1c60,0x1d60) = 0 "n"
+--
+1 chdir /b : ok
+1 chdir a : ok
+1 open-r .. : ok
+1 open-r /b/a/../c : ok
+1 chdir /d : ok
+1 stat e : ok
+1 chdir /b/a/.. : ok
+1 symlink h /i : ok
+1 stat /j/k : ok
+1 chdir /j/m : ok
+1 stat n : ok
+--
+line 19: may be wrong: relative paths, which begin at /d in the script: by __getcwd the directory is /l (1 in all)
+line 24: left out: fchdir, of which the path is not known (1 in all)
+line 26: left out: a relative path, since the working directory is not known any more (2 in all)
+END
+
+gives('roots', <<'END');
+7 open(0x1c60,0<O_RDONLY>) = 3 "/a"
+7 fork() = 8
+8 chroot(0x1c60) = 0 "/r//s/./"
+8 stat(0x1c60,0x1d60) = 0 "/../x"
+8 stat(0x1c60,0x1d60) = 0 "/.././../y/.."
+8 openat(3,0x1c60,0<O_RDONLY>) = 4 "z"
+8 chroot(0x1c60) = 0 "/t"
+8 stat(0x1c60,0x1d60) = 0 "/"
+7 fchdir(9) = 0
+7 fork() = 9
+9 chroot(0x1c60) = 0 "u"
+9 stat(0x1c60,0x1d60) = 0 "/v"
+7 stat(0x1c60,0x1d60) = 0 "/w"
+--
+1 open-r /a : ok
+1 fork 2 : ok
+2 stat /r/s/x : ok
+2 stat /r/s/y/.. : ok
+2 open-r /a/z : ok
+2 stat /r/s/t/ : ok
+1 fork 3 : ok
+1 stat /w : ok
+--
+line 9: may be wrong: paths below /r/s, written so after chroot(2): links and .. may lead elsewhere (-c prints a script of that root) (3 in all)
+line 21: may be wrong: paths below /r/s/t, written so after chroot(2): links and .. may lead elsewhere (-c prints a script of that root) (1 in all)
+line 24: left out: fchdir, of which the path is not known (1 in all)
+line 31: left out: what follows a chroot to a directory whose path is not known (1 in all)
+END
+
+{
+    my $deep = 'd' x 200;
+    my $short = join "\n", qq(7 open(0x1c60,0<O_RDONLY>) = 3 "/$deep"),
+        (map { my $next = $_ + 1; qq(7 openat($_,0x1c60,0<O_RDONLY>) = $next "$deep") } 3 .. 8), '';
+    gives('a path that grows', "$short--\n" . join('', map { '1 open-r ' . "/$deep" x $_ . " : ok\n" } 1 .. 5)
+        . "--\nline 16: left out: openat, of which the whole path is too long (2 in all)\n");
+}
+
 gives('relative paths', <<'END');
 7 stat(0x1c60,0x1d60) = 0 "a"
 7 chdir(0x1c60) = 0 "d"
@@ -858,6 +931,24 @@ gives('relative paths', <<'END');
 --
 line 1: may be wrong: relative paths, which are taken from the root: where the first process began is not known (-d) (4 in all)
 END
+
+# Traces of whole daemons. Each file NAME-RUN.expected has the words of a run over NAME.kdump, and, apart from
+# each other by `--`, the script with its answers, the reports, and what is held.
+for my $file (glob "$TOOLS/../tests/data/traces/*.expected") {
+    my ($name, $run) = basename($file) =~ /\A(\w+)-(\w+)\.expected\z/;
+    my ($words, $expected) = split /\n/, content($file), 2;
+    my ($lines, $reports, $held) = split /^--\n/m, $expected, 3;
+    unlink 'answers', 'held';
+    my ($status, $out, $err) =
+        trace('-e', 'answers', '-o', 'held', split(/ /, $words), "$TOOLS/../tests/data/traces/$name.kdump");
+    my $number = 0;
+    is($out, $lines =~ s/ : \S+$//gmr, "$name, $run: the script");
+    is(content('answers'), $lines =~ s/^.* : (\S+)$/++$number . " $1"/gmer, "$name, $run: the answers");
+    is($err, $reports =~ s/^/trace.pl: /gmr, "$name, $run: the reports");
+    is(content('held'), $held, "$name, $run: what is held");
+    is($status, 0, "$name, $run: the status");
+    is(system("$PUA run tree out > ran"), 0, "$name, $run: pua reads it") if defined $PUA && $words !~ /k/;
+}
 
 # Lines that are no records.
 my $LONG = '0,' x 50_000;
