@@ -12,8 +12,8 @@ PERLDIR = $(DESTDIR)$(PREFIX)/share/pua/perl
 PROGRAM = crates/pua/out/pua
 
 # Each tool is installed as pua-NAME, for tools/NAME.pl, and has a page man/pua-NAME.1.
-TOOLS = list trace page
-MODULES = Calls Kdump Process Reports
+TOOLS = list trace page glance
+MODULES = Calls Kdump Lists Process Reports
 
 all:
 	cd crates/pua && rt run -- --version
