@@ -27,22 +27,26 @@ test:
 	for test in tests/*.t; do perl $$test $(PROGRAM) || exit 1; done
 
 install: install-tools
+	install -d $(MANDIR)/man7
 	install -m 755 $(PROGRAM) $(BINDIR)/pua
 	install -m 644 man/pua.1 $(MANDIR)/man1/pua.1
+	perl man/model.pl docs/MODEL.md > $(MANDIR)/man7/pua-model.7
+	chmod 644 $(MANDIR)/man7/pua-model.7
 
 # The tools alone, for a machine that has perl and no program.
 install-tools:
 	install -d $(BINDIR) $(MANDIR)/man1 $(PERLDIR)/Pua
 	for tool in $(TOOLS); do \
 		install -m 755 tools/$$tool.pl $(BINDIR)/pua-$$tool || exit 1; \
+		install -m 644 man/pua-$$tool.1 $(MANDIR)/man1/pua-$$tool.1 || exit 1; \
 	done
 	for module in $(MODULES); do \
 		install -m 644 tools/lib/Pua/$$module.pm $(PERLDIR)/Pua/$$module.pm || exit 1; \
 	done
 
 uninstall:
-	rm -f $(BINDIR)/pua $(MANDIR)/man1/pua.1
-	for tool in $(TOOLS); do rm -f $(BINDIR)/pua-$$tool; done
+	rm -f $(BINDIR)/pua $(MANDIR)/man1/pua.1 $(MANDIR)/man7/pua-model.7
+	for tool in $(TOOLS); do rm -f $(BINDIR)/pua-$$tool $(MANDIR)/man1/pua-$$tool.1; done
 	for module in $(MODULES); do rm -f $(PERLDIR)/Pua/$$module.pm; done
 
 .PHONY: all check test install install-tools uninstall
