@@ -87,6 +87,7 @@ my $first;         # process 1
 my @processes;     # those that have a number, in its order
 my $taken = 0;     # how many calls were taken
 my @entries;       # what becomes the lines of the script
+my %roots = ('/' => 1);    # those that a process had
 my $reports = Pua::Reports->new;
 
 sub report { print STDERR "$NAME: @_\n"; return }
@@ -377,6 +378,7 @@ sub follow_chroot {
     $has->{lost} = 1 unless defined $root;
     return unless defined $root;
     $has->{root} = $root eq '/' ? '' : $root;
+    $roots{ path($root) } = 1;
     return unless defined $only;
     $has->{astray} = 1;
     note($WRONG, $call->{line}, 'may be wrong: what was unveiled before the chroot is not in this script')
@@ -563,6 +565,8 @@ sub report_all {
         . 'pledged, unveiled and opened by then, and where it was, is not in the script') unless $begins;
     report("the script has $lines lines, and pua reads at most $MOST_LINES") if $lines > $MOST_LINES;
     report('the script has ' . @processes . " processes, and pua makes at most $MOST_PROCESSES") if @processes > $MOST_PROCESSES;
+    my $root = !defined $only || $only eq '' ? '/' : path($only);
+    report("no process had the root $root, but: " . join ', ', sort keys %roots) unless $roots{$root};
     report($_) for $reports->texts($verbose);
     return;
 }

@@ -1044,6 +1044,8 @@ END
     ($status, $out, $err) = trace('-c', '/www');
     is($status . $out . said_of_lines($err), "01 chdir /\n1 stat a\ntrace.pl: line 5: may be wrong: "
         . "what was unveiled before the chroot is not in this script (1 in all)\n", 'a veil that is older than the root');
+    ($status, $out, $err) = trace('-c', '/ww');
+    is($status . $out . said_of_lines($err), "0trace.pl: no process had the root /ww, but: /, /www\n", 'a root that none had');
     file('trace', kdump(join '', map { "7 fork() = $_\n" } 1000 .. 1254));
     ($status, $out, $err) = trace('-v');
     is(said_of_lines($err), '', '256 processes');

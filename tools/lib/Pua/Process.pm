@@ -123,18 +123,22 @@ sub plain {
 # that leads through it by `..` is taken to lead back to where it stood.
 sub moved {
     my ($old, $new, @processes) = @_;
-    $old = plain($old);
+    ($old, $new) = map { defined $_ ? plain($_) : undef } $old, $new;
+    my ($name) = $old =~ m{([^/]*)\z};
     my $inside = qr{\A\Q$old\E(?=/|\z)};
     my $move = sub {
         my ($path) = @_;
-        return $path if !defined $path || $path eq '/';
         my $plain = plain($path);
         return $path =~ $inside ? $plain : $path if $plain !~ $inside;
-        return defined $new ? plain($new) . substr $plain, length $old : undef;
+        return defined $new ? $new . substr $plain, length $old : undef;
     };
-    my %files = map { $_ => $_ } map { values %{ $_->{files} } } @processes;
-    $_->{path} = $move->($_->{path}) for values %files;
-    $_->{directory} = $move->($_->{directory}) for @processes;
+    for my $process (@processes) {
+        for my $file (grep { defined $_->{path} && index($_->{path}, $name) >= 0 } values %{ $process->{files} }) {
+            $file->{path} = $move->($file->{path});
+        }
+        my $directory = $process->{directory};
+        $process->{directory} = $move->($directory) if defined $directory && index($directory, $name) >= 0;
+    }
     return;
 }
 
