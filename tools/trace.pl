@@ -429,7 +429,7 @@ sub take_fork {
     return note($REST, $call->{line}, 'left out: a fork that failed') unless $call->{child};
     number($call->{child}, $call->{process}{has}->forked);
     $call->{child}{program} = $call->{process}{program};
-    push @entries, { %$call, fields => ['fork'] };
+    push @entries, { %$call, fields => ['fork'], aside => !is_told($call->{process}{has}) };
     return;
 }
 
@@ -504,14 +504,9 @@ sub begins_with_exec {
     return $begin && $begin->{name} eq 'execve';
 }
 
-# The processes that have a line, and those from which they were forked.
+# The processes that did something in the root of the script, and those from which they were forked.
 sub needed {
-    my %needed;
-    for my $entry (@entries) {
-        my $process = $entry->{process};
-        next if $entry->{child} && defined $only && $only ne '';
-        $needed{ $process->{number} } = 1;
-    }
+    my %needed = map { $_->{process}{number} => 1 } grep { !$_->{aside} } @entries;
     for my $process (reverse @processes) {
         $needed{ $process->{parent}{number} } = 1 if $needed{ $process->{number} } && $process->{parent};
     }
@@ -527,7 +522,7 @@ sub lines {
     unshift @entries, { process => $first, fields => ['chdir', \$moves], answer => 'ok' } if defined $moves;
     for my $entry (@entries) {
         my ($process, $child) = @$entry{qw(process child)};
-        next if $child && defined $only && !$needed->{ $child->{number} };
+        next if $entry->{aside} && !$needed->{ $child->{number} };
         my @fields = map { ref $_ ? path($$_) : $_ } @{ $entry->{fields} };
         push @fields, $child->{number} if $child;
         note($WRONG, $entry->{line},
@@ -561,8 +556,9 @@ sub held {
 # Reports how the trace begins, and what was noted, by its weight.
 sub report_all {
     my ($begins, $lines) = @_;
-    report("the trace begins in the middle of process 1, $first->{pid} (" . spelled($first->{command} || '') . '): what it had '
-        . 'pledged, unveiled and opened by then, and where it was, is not in the script') unless $begins;
+    my $command = spelled(defined $first->{command} ? $first->{command} : '');
+    report("the trace begins in the middle of process 1 ($command, pid $first->{pid}): what it had pledged, unveiled and opened by "
+        . 'then, and where it was, is not in the script') unless $begins;
     report("the script has $lines lines, and pua reads at most $MOST_LINES") if $lines > $MOST_LINES;
     report('the script has ' . @processes . " processes, and pua makes at most $MOST_PROCESSES") if @processes > $MOST_PROCESSES;
     my $root = !defined $only || $only eq '' ? '/' : path($only);
