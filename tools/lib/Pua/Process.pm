@@ -130,11 +130,11 @@ sub moved {
         my ($path) = @_;
         my $plain = plain($path);
         return $path =~ $inside ? $plain : $path if $plain !~ $inside;
-        return defined $new ? $new . substr $plain, length $old : undef;
+        return defined $new ? $new . substr $path =~ $inside ? $path : $plain, length $old : undef;
     };
     for my $process (@processes) {
-        for my $file (grep { defined $_->{path} && index($_->{path}, $name) >= 0 } values %{ $process->{files} }) {
-            $file->{path} = $move->($file->{path});
+        for my $file (values %{ $process->{files} }) {
+            $file->{path} = $move->($file->{path}) if defined $file->{path} && index($file->{path}, $name) >= 0;
         }
         my $directory = $process->{directory};
         $process->{directory} = $move->($directory) if defined $directory && index($directory, $name) >= 0;

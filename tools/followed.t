@@ -1,0 +1,210 @@
+#!/usr/bin/perl
+# Tests what trace.pl follows, beside real calls: perl tools/followed.t [SEED [COUNT]]
+#
+# A process makes random calls in a real tree, from directories' descriptors, over copies of them, forks and
+# changes of its directory, and each is recorded as kdump would print it. Then the lines of the script that
+# trace.pl makes of these records are done in a tree that is made anew at the same place. Each has to be answered
+# as its call was, and the two trees have to end alike: a path that was followed wrongly leads elsewhere.
+#
+# Half of the trees have symbolic links, and nothing is moved or removed in them: a directory that was opened
+# through a link, and moved by another path since then, is one that trace.pl doesn't follow.
+use strict;
+use warnings;
+use Config;
+use Cwd qw(abs_path);
+use Errno ();
+use File::Basename qw(dirname);
+use File::Find qw(find);
+use File::Path qw(make_path remove_tree);
+use File::Temp qw(tempdir);
+use POSIX ();
+use Test::More;
+
+plan skip_all => 'the numbers of calls are those of Linux on x86-64' unless $Config{archname} =~ /\Ax86_64-linux/;
+
+my ($SEED, $COUNT) = (@ARGV, (71, 24)[@ARGV .. 1]);
+my $TRACE = dirname(abs_path(__FILE__)) . '/trace.pl';
+my $room  = abs_path(tempdir(CLEANUP => 1));
+my $tree  = "$room/tree" . '/s' x 12;    # deep, so that `..` doesn't lead out of what is made anew
+my @NAMES = qw(a b c d);
+
+# The numbers of Linux's calls; the numbers that OpenBSD has for the errnos that they are answered.
+my %NUMBERS = (openat => 257, mkdirat => 258, fstatat => 262, unlinkat => 263, renameat => 264, linkat => 265,
+    symlinkat => 266, fchmodat => 268, close => 3, dup => 32, dup2 => 33, fchdir => 81, fchmod => 91);
+my %ERRNOS = (ENOENT => 2, EBADF => 9, EBUSY => 16, EEXIST => 17, EXDEV => 18, ENOTDIR => 20, EISDIR => 21, EINVAL => 22,
+    EPERM => 1, ELOOP => 62, ENOTEMPTY => 66);
+my %NAMES_OF = map { no strict 'refs'; (&{"Errno::$_"}() => $_) } keys %ERRNOS;
+my ($HERE, $NOFOLLOW, $REMOVEDIR) = (-100, 0x100, 0x200);    # as Linux has them
+
+# A tree that is always the same, with links or without.
+sub make_tree {
+    my ($has_links) = @_;
+    chdir $room or die "$room: $!";
+    remove_tree("$room/tree");
+    make_path(map { "$tree/$_" } 'a/a/b', 'a/c', 'b/a', 'c');
+    for my $file ('a/b', 'a/a/a', 'b/b', 'c/a', 'c/c', 'd') {
+        open my $out, '>', "$tree/$file" or die "$file: $!";
+        close $out or die "$file: $!";
+    }
+    return unless $has_links;
+    symlink '../b', "$tree/a/d" or die "a/d: $!";
+    symlink "$tree/a/a", "$tree/b/d" or die "b/d: $!";
+    return;
+}
+
+# All that is in the tree, with its modes and targets.
+sub shape {
+    my @shape;
+    find({ no_chdir => 1, wanted => sub { push @shape, $_ . ' ' . (-l $_ ? readlink : sprintf '%o', (lstat)[2]) } }, "$room/tree");
+    return [sort @shape];
+}
+
+# What a call was answered: the errno's name, or ok with its value.
+sub answered {
+    my ($value) = @_;
+    return ($NAMES_OF{ $! + 0 } || "E$!") if !defined $value || $value < 0;
+    return ('ok', $value);
+}
+sub called {
+    my ($name, @words) = @_;
+    return answered(syscall($NUMBERS{$name}, map { /\A-?[0-9]+\z/ ? $_ + 0 : $_ } @words));
+}
+
+my $log;
+sub record { printf {$log} "%6d %-8s %s\n", $$, 'walker', $_ for @_; return }
+
+# Makes a call and records it: its words for Linux, and as kdump prints it, with the paths among them.
+sub makes {
+    my ($name, $words, $printed, @paths) = @_;
+    my ($answer, $value) = called($name, @$words);
+    record("CALL  $name($printed)", (map { "NAMI  \"$_\"" } @paths),
+        "RET   $name " . ($answer eq 'ok' ? $value : "-1 errno $ERRNOS{$answer} Words"));
+    return ($answer, $value);
+}
+
+sub pick { return $_[ rand @_ ] }
+
+# A path of a few names, mostly a relative one.
+sub any_path {
+    my @parts = map { pick(@NAMES, @NAMES, '..', '.') } 0 .. rand 3;
+    return rand() < 0.8 ? join '/', @parts : join '/', $tree, grep { $_ ne '..' } @parts;
+}
+
+# Makes one of the calls, from the descriptors that are open.
+sub make_any {
+    my ($open, $moves) = @_;
+    my ($at, $to) = map { pick(@$open, 'AT_FDCWD', 'AT_FDCWD') } 1, 2;
+    my ($from, $into) = map { $_ eq 'AT_FDCWD' ? $HERE : $_ } $at, $to;
+    my ($path, $other, $number) = (any_path(), any_path(), @$open ? pick(@$open) : 99);
+    my $call = pick(qw(openat openat openat mkdirat fstatat fstatat symlinkat fchmodat fchmod fchdir fchdir dup dup2 close),
+        $moves ? qw(renameat renameat unlinkat rmdir linkat) : ());
+    if ($call eq 'openat') {
+        my ($answer, $value) = makes($call, [$from, $path, 0, 0], "$at,0x1c60,0<O_RDONLY>", $path);
+        push @$open, $value if $answer eq 'ok';
+    } elsif ($call eq 'fstatat') {
+        my $buffer = ' ' x 256;
+        my $follows = rand() < 0.5;
+        makes($call, [$from, $path, $buffer, $follows ? 0 : $NOFOLLOW], "$at,0x1c60,0x1d60," . ($follows ? '0<>' : '0x2<AT_SYMLINK_NOFOLLOW>'), $path);
+    } elsif ($call eq 'mkdirat')   { makes($call, [$from, $path, 0755], "$at,0x1c60,0755", $path) }
+    elsif ($call eq 'symlinkat')   { makes($call, [$other, $from, $path], "0x1c60,$at,0x1d60", $other, $path) if !$moves }
+    elsif ($call eq 'fchmodat')    { makes($call, [$from, $path, 0711], "$at,0x1c60,0711,0<>", $path) }
+    elsif ($call eq 'fchmod')      { makes($call, [$number, 0711], "$number,0711") }
+    elsif ($call eq 'fchdir')      { makes($call, [$number], $number) }
+    elsif ($call eq 'renameat')    { makes($call, [$from, $path, $into, $other], "$at,0x1c60,$to,0x1d60", $path, $other) }
+    elsif ($call eq 'linkat')      { makes($call, [$from, $path, $into, $other, 0], "$at,0x1c60,$to,0x1d60,0<>", $path, $other) }
+    elsif ($call eq 'unlinkat')    { makes($call, [$from, $path, 0], "$at,0x1c60,0<>", $path) }
+    elsif ($call eq 'rmdir')       { makes('unlinkat', [$from, $path, $REMOVEDIR], "$at,0x1c60,0x8<AT_REMOVEDIR>", $path) }
+    elsif ($call eq 'dup')         { my ($answer, $value) = makes($call, [$number], $number); push @$open, $value if $answer eq 'ok' }
+    elsif ($call eq 'dup2')        { makes($call, [$number, $to], "$number,$to") if $to =~ /\A[0-9]/ }
+    elsif (@$open > 4)             { makes($call, [$number], $number); @$open = grep { $_ != $number } @$open }
+    return;
+}
+
+# Makes calls, some of them in children, and each record of a child before its fork returns.
+sub make_calls {
+    my ($count, $moves, @open) = @_;
+    for (1 .. $count) {
+        if (rand() < 0.04 && $count > 10) {
+            record('CALL  fork()');
+            $log->flush;
+            my ($seed, $child) = (int rand 2**31, fork);
+            die "fork: $!" unless defined $child;
+            if (!$child) {
+                srand $seed;
+                record('RET   fork 0');
+                make_calls(int $count / 3, $moves, @open);
+                record('CALL  exit(0)');
+                $log->flush;
+                POSIX::_exit(0);
+            }
+            waitpid $child, 0;
+            record("RET   fork $child");
+        } else {
+            make_any(\@open, $moves);
+        }
+    }
+    return;
+}
+
+# Does a line of a script, in the place of its call.
+sub done {
+    my ($call, @words) = @_;
+    local $! = 0;
+    return called('fstatat', $HERE, $words[0], ' ' x 256, $call eq 'stat' ? 0 : $NOFOLLOW) if $call =~ /\Al?stat\z/;
+    return called('fchmodat', $HERE, $words[0], 0711) if $call eq 'chmod';
+    if ($call eq 'open-r') {
+        my ($answer, $value) = called('openat', $HERE, $words[0], 0, 0);
+        POSIX::close($value) if $answer eq 'ok';
+        return $answer;
+    }
+    return called('mkdirat', $HERE, $words[0], 0755) if $call eq 'mkdir';
+    return called('symlinkat', $words[0], $HERE, $words[1]) if $call eq 'symlink';
+    return called('renameat', $HERE, $words[0], $HERE, $words[1]) if $call eq 'rename';
+    return called('linkat', $HERE, $words[0], $HERE, $words[1], 0) if $call eq 'link';
+    return called('unlinkat', $HERE, $words[0], $call eq 'rmdir' ? $REMOVEDIR : 0) if $call =~ /\A(?:unlink|rmdir)\z/;
+    return answered(chdir($words[0]) ? 0 : -1) if $call eq 'chdir';
+    die "a line of a script: $call @words";
+}
+
+my $done = 0;    # lines of scripts
+for my $number (1 .. $COUNT) {
+    my $moves = $number % 2;
+    srand $SEED * 1000 + $number;
+    make_tree(!$moves);
+    open $log, '>>', "$room/trace" or die "trace: $!";
+    truncate $log, 0;
+    chdir $tree or die "$tree: $!";
+    make_calls(150, $moves);
+    close $log or die "trace: $!";
+    my $shape = shape();
+    chdir $room or die "$room: $!";
+    my $said = `$^X -w $TRACE -d $tree -e answers trace 2>&1 > script`;
+    is($? . (() = $said =~ / at \S+ line [0-9]+\.$/mg), '00', "$number: the trace is read") or diag $said;
+
+    make_tree(!$moves);
+    open my $script,  '<', 'script'  or die "script: $!";
+    open my $answers, '<', 'answers' or die "answers: $!";
+    my (%directories, @differ);    # by process: where it is
+    opendir $directories{1}, $room or die "$room: $!";    # a fork's child begins with its parent's
+    while (my $line = <$script>) {
+        chomp $line;
+        my ($process, $call, @words) = split / /, $line;
+        my (undef, $answer) = split ' ', scalar <$answers>;
+        if ($call eq 'fork') {
+            $directories{ $words[0] } = $directories{$process};
+            next;
+        }
+        chdir $directories{$process} or die "process $process: $!";
+        my ($now) = done($call, @words);
+        push @differ, "$line: $answer, now $now" if $now ne $answer;
+        next unless $call eq 'chdir' && $now eq 'ok';
+        opendir my $here, '.' or die ".: $!";
+        $directories{$process} = $here;
+    }
+    is(join("\n", @differ), '', "$number: each line is answered as its call was");
+    is_deeply(shape(), $shape, "$number: the trees end alike");
+    $done += $.;
+}
+cmp_ok($done, '>', 150 * $COUNT, 'lines of scripts');
+chdir '/';
+done_testing;
