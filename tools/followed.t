@@ -90,11 +90,18 @@ sub any_path {
     return rand() < 0.8 ? join '/', @parts : join '/', $tree, grep { $_ ne '..' } @parts;
 }
 
+# Whether a directory was removed. From such a one Linux goes on to what is above it, which other kernels don't.
+sub is_removed {
+    my ($from) = @_;
+    return (readlink($from < 0 ? '/proc/self/cwd' : "/proc/self/fd/$from") // '') =~ / \(deleted\)\z/;
+}
+
 # Makes one of the calls, from the descriptors that are open.
 sub make_any {
     my ($open, $moves) = @_;
     my ($at, $to) = map { pick(@$open, 'AT_FDCWD', 'AT_FDCWD') } 1, 2;
     my ($from, $into) = map { $_ eq 'AT_FDCWD' ? $HERE : $_ } $at, $to;
+    return if grep { is_removed($_) } $from, $into;
     my ($path, $other, $number) = (any_path(), any_path(), @$open ? pick(@$open) : 99);
     my $call = pick(qw(openat openat openat mkdirat fstatat fstatat symlinkat fchmodat fchmod fchdir fchdir dup dup2 close),
         $moves ? qw(renameat renameat unlinkat rmdir linkat) : ());

@@ -55,7 +55,7 @@ use Getopt::Long qw(:config posix_default no_ignore_case bundling);
 use Pua::Calls qw(%ABOUT %BITS %CALLS %FLAGS_AT %FROM %FURTHER $HERE %LIKE @MODES %NEEDS %OPENINGS
     descriptor flags flags_of_open is_null promises);
 use Pua::Kdump;
-use Pua::Process qw($START moved tidy);
+use Pua::Process qw($START moved plain tidy);
 use Pua::Reports qw($WRONG $MATTERS $REST spelled);
 
 my ($NAME) = $0 =~ m{([^/]*)\z};
@@ -399,7 +399,7 @@ sub follow {
         @$has{qw(directory astray)} = ($path, 0);
     } elsif ($as eq 'rename' && defined $path && defined $new) {
         my @all = map { $_->{has} } @processes;
-        moved($new, undef, @all);
+        moved($new, undef, @all) if plain($new) ne plain($path);
         moved($path, $new, @all);
     } elsif ($as =~ /\A(?:unlink|rmdir)\z/ && defined $path) {
         moved($path, undef, map { $_->{has} } @processes);
@@ -466,8 +466,8 @@ sub take_line {
     my @fields = fields($call);
     $reports->be_quiet(0);
     push @entries, { %$call, fields => \@fields, call => $call } if @fields && is_told($has);
-    note($WRONG, $call->{line}, 'may be wrong: paths below ' . spelled($has->{root}) . ', written so after chroot(2):'
-        . ' links and .. may lead elsewhere (-c prints a script of that root)')
+    note($WRONG, $call->{line},
+        'may be wrong: paths below ' . spelled($has->{root}) . ', after chroot(2): links and .. may lead elsewhere (see -c)')
         if @fields && !defined $only && $has->{root} ne '' && grep { ref } @fields;
     follow($call) if $call->{answer} eq 'ok';
     return;

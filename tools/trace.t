@@ -824,7 +824,7 @@ gives('calls that pua lacks', <<'END');
 --
 1 stat /var/w\040w/a : ok
 --
-line 14: may be wrong: paths below /var/w\040w, written so after chroot(2): links and .. may lead elsewhere (-c prints a script of that root) (1 in all)
+line 14: may be wrong: paths below /var/w\040w, after chroot(2): links and .. may lead elsewhere (see -c) (1 in all)
 line 1: left out: chown, which pua has by its rules of OpenBSD alone (-k writes it): /a, /var/w\040w/b (2 in all)
 line 4: left out: fchdir, of which the path is not known (1 in all)
 line 20: left out: revoke, which pua lacks: /dev/tty (1 in all)
@@ -890,8 +890,8 @@ gives('roots', <<'END');
 1 fork 3 : ok
 1 stat /w : ok
 --
-line 9: may be wrong: paths below /r/s, written so after chroot(2): links and .. may lead elsewhere (-c prints a script of that root) (3 in all)
-line 21: may be wrong: paths below /r/s/t, written so after chroot(2): links and .. may lead elsewhere (-c prints a script of that root) (1 in all)
+line 9: may be wrong: paths below /r/s, after chroot(2): links and .. may lead elsewhere (see -c) (3 in all)
+line 21: may be wrong: paths below /r/s/t, after chroot(2): links and .. may lead elsewhere (see -c) (1 in all)
 line 24: left out: fchdir, of which the path is not known (1 in all)
 line 31: left out: what follows a chroot to a directory whose path is not known (1 in all)
 END

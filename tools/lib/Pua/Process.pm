@@ -10,7 +10,7 @@ package Pua::Process;
 use strict;
 use warnings;
 use Exporter qw(import);
-our @EXPORT_OK = qw($START moved tidy);
+our @EXPORT_OK = qw($START moved plain tidy);
 
 our $START = "\0";
 
@@ -119,6 +119,13 @@ sub plain {
     return $begin . join '', map { "/$_" } @parts;
 }
 
+# Whether a path leads through what stands at a place: by `..` it may lead out of it again.
+sub leads_through {
+    my ($path, $place) = @_;
+    my @parts = split m{/}, $path;
+    return grep { plain(join '/', @parts[0 .. $_]) =~ $place } 0 .. $#parts;
+}
+
 # Something was moved to another path, or, without one, removed: what these processes have of it. A path
 # that leads through it by `..` is taken to lead back to where it stood.
 sub moved {
@@ -129,7 +136,7 @@ sub moved {
     my $move = sub {
         my ($path) = @_;
         my $plain = plain($path);
-        return $path =~ $inside ? $plain : $path if $plain !~ $inside;
+        return leads_through($path, $inside) ? $plain : $path if $plain !~ $inside;
         return defined $new ? $new . substr $path =~ $inside ? $path : $plain, length $old : undef;
     };
     for my $process (@processes) {
