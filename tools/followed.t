@@ -4,10 +4,13 @@
 # A process makes random calls in a real tree, from directories' descriptors, over copies of them, forks and
 # changes of its directory, and each is recorded as kdump would print it. Then the lines of the script that
 # trace.pl makes of these records are done in a tree that is made anew at the same place. Each has to be answered
-# as its call was, and the two trees have to end alike: a path that was followed wrongly leads elsewhere.
+# as its call was, and the two trees have to end alike: a path that was followed wrongly leads elsewhere. With
+# PUA=PROGRAM that pua runs the script too, over a listing that list.pl makes before the calls: it has to answer
+# `ok` where the system did.
 #
 # Half of the trees have symbolic links, and nothing is moved or removed in them: a directory that was opened
-# through a link, and moved by another path since then, is one that trace.pl doesn't follow.
+# through a link, and moved by another path since then, is one that trace.pl doesn't follow. In the others children
+# change their root, if the user may; from then on they use no `..`, of which trace.pl says that it leads elsewhere.
 use strict;
 use warnings;
 use Config;
@@ -23,14 +26,18 @@ use Test::More;
 plan skip_all => 'the numbers of calls are those of Linux on x86-64' unless $Config{archname} =~ /\Ax86_64-linux/;
 
 my ($SEED, $COUNT) = (@ARGV, (71, 24)[@ARGV .. 1]);
-my $TRACE = dirname(abs_path(__FILE__)) . '/trace.pl';
+my ($LIST, $TRACE) = map { dirname(abs_path(__FILE__)) . "/$_.pl" } qw(list trace);
+my $PUA   = defined $ENV{PUA} ? abs_path($ENV{PUA}) : undef;
 my $room  = abs_path(tempdir(CLEANUP => 1));
 my $tree  = "$room/tree" . '/s' x 12;    # deep, so that `..` doesn't lead out of what is made anew
 my @NAMES = qw(a b c d);
+my $top   = $tree;     # of the tree, for whoever changed its root
+my $in_root = 0;       # whether this process did
 
 # The numbers of Linux's calls; the numbers that OpenBSD has for the errnos that they are answered.
 my %NUMBERS = (openat => 257, mkdirat => 258, fstatat => 262, unlinkat => 263, renameat => 264, linkat => 265,
-    symlinkat => 266, fchmodat => 268, close => 3, dup => 32, dup2 => 33, fchdir => 81, fchmod => 91);
+    symlinkat => 266, fchmodat => 268, close => 3, dup => 32, dup2 => 33, fchdir => 81, fchmod => 91, fstat => 5,
+    chroot => 161);
 my %ERRNOS = (ENOENT => 2, EBADF => 9, EBUSY => 16, EEXIST => 17, EXDEV => 18, ENOTDIR => 20, EISDIR => 21, EINVAL => 22,
     EPERM => 1, ELOOP => 62, ENOTEMPTY => 66);
 my %NAMES_OF = map { no strict 'refs'; (&{"Errno::$_"}() => $_) } keys %ERRNOS;
@@ -86,14 +93,16 @@ sub pick { return $_[ rand @_ ] }
 
 # A path of a few names, mostly a relative one.
 sub any_path {
-    my @parts = map { pick(@NAMES, @NAMES, '..', '.') } 0 .. rand 3;
-    return rand() < 0.8 ? join '/', @parts : join '/', $tree, grep { $_ ne '..' } @parts;
+    my @parts = map { pick(@NAMES, @NAMES, '.', $in_root ? () : '..') } 0 .. rand 3;
+    return rand() < 0.8 ? join '/', @parts : join '/', $top, grep { $_ ne '..' } @parts;
 }
 
 # Whether a directory was removed. From such a one Linux goes on to what is above it, which other kernels don't.
 sub is_removed {
     my ($from) = @_;
-    return (readlink($from < 0 ? '/proc/self/cwd' : "/proc/self/fd/$from") // '') =~ / \(deleted\)\z/;
+    return !(stat '.')[3] if $from < 0;
+    my $buffer = ' ' x 256;
+    return (called('fstat', $from, $buffer))[0] ne 'ok' || !unpack 'x16 Q', $buffer;    # how many names it has
 }
 
 # Makes one of the calls, from the descriptors that are open.
@@ -127,6 +136,17 @@ sub make_any {
     return;
 }
 
+# Makes one of the directories the root of this process, if there is one of this name.
+sub change_root {
+    my $path = join '/', map { pick('a', 'b', 'c') } 0 .. rand 2;
+    my $inside = rand() < 0.5 ? "$tree/$path" : $path;
+    my ($answer) = called('chroot', $inside);
+    return if $answer ne 'ok';
+    record('CALL  chroot(0x1c60)', "NAMI  \"$inside\"", 'RET   chroot 0');
+    ($top, $in_root) = ('', 1);
+    return;
+}
+
 # Makes calls, some of them in children, and each record of a child before its fork returns.
 sub make_calls {
     my ($count, $moves, @open) = @_;
@@ -139,6 +159,7 @@ sub make_calls {
             if (!$child) {
                 srand $seed;
                 record('RET   fork 0');
+                change_root() if $moves && !$in_root && rand() < 0.3;
                 make_calls(int $count / 3, $moves, @open);
                 record('CALL  exit(0)');
                 $log->flush;
@@ -180,6 +201,7 @@ for my $number (1 .. $COUNT) {
     make_tree(!$moves);
     open $log, '>>', "$room/trace" or die "trace: $!";
     truncate $log, 0;
+    is(system("$^X $LIST $room/tree > listing 2> said"), 0, "$number: it is listed") if defined $PUA;
     chdir $tree or die "$tree: $!";
     make_calls(150, $moves);
     close $log or die "trace: $!";
@@ -189,6 +211,11 @@ for my $number (1 .. $COUNT) {
     is($? . (() = $said =~ / at \S+ line [0-9]+\.$/mg), '00', "$number: the trace is read") or diag $said;
 
     make_tree(!$moves);
+    if (defined $PUA) {
+        my @ran = map { s/ E\w+$/ refused/r } `$PUA run --rules openbsd listing script`;
+        open my $told, '<', 'answers' or die "answers: $!";
+        is_deeply(\@ran, [map { s/ E\w+$/ refused/r } <$told>], "$number: pua answers as the system");
+    }
     open my $script,  '<', 'script'  or die "script: $!";
     open my $answers, '<', 'answers' or die "answers: $!";
     my (%directories, @differ);    # by process: where it is

@@ -873,6 +873,7 @@ gives('roots', <<'END');
 8 stat(0x1c60,0x1d60) = 0 "/../x"
 8 stat(0x1c60,0x1d60) = 0 "/.././../y/.."
 8 openat(3,0x1c60,0<O_RDONLY>) = 4 "z"
+8 stat(0x1c60,0x1d60) = 0 "/./.."
 8 chroot(0x1c60) = 0 "/t"
 8 stat(0x1c60,0x1d60) = 0 "/"
 7 fchdir(9) = 0
@@ -886,14 +887,15 @@ gives('roots', <<'END');
 2 stat /r/s/x : ok
 2 stat /r/s/y/.. : ok
 2 open-r /a/z : ok
+2 stat /r/s/. : ok
 2 stat /r/s/t/ : ok
 1 fork 3 : ok
 1 stat /w : ok
 --
-line 9: may be wrong: paths below /r/s, after chroot(2): links and .. may lead elsewhere (see -c) (3 in all)
-line 21: may be wrong: paths below /r/s/t, after chroot(2): links and .. may lead elsewhere (see -c) (1 in all)
-line 24: left out: fchdir, of which the path is not known (1 in all)
-line 31: left out: what follows a chroot to a directory whose path is not known (1 in all)
+line 9: may be wrong: paths below /r/s, after chroot(2): links and .. may lead elsewhere (see -c) (4 in all)
+line 24: may be wrong: paths below /r/s/t, after chroot(2): links and .. may lead elsewhere (see -c) (1 in all)
+line 27: left out: fchdir, of which the path is not known (1 in all)
+line 34: left out: what follows a chroot to a directory whose path is not known (1 in all)
 END
 
 {

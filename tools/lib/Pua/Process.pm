@@ -38,8 +38,9 @@ sub execs {
 # A path that begins at the process's root, from the root of the system. There `..` leads nowhere else.
 sub from_root {
     my ($self, $path) = @_;
-    1 while $self->{root} ne '' && $path =~ s{\A/+\.\.?(?=/|\z)}{};
-    return $self->{root} . $path;
+    return $path if $self->{root} eq '';
+    1 while $path =~ s{\A/+\.\.?(?=/+[^/])}{};
+    return $self->{root} . $path =~ s{\A/+\.\.(?=/*\z)}{/.}r;
 }
 
 # The path of what a text names, from this directory or from the working directory.
