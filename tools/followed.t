@@ -94,7 +94,7 @@ sub pick { return $_[ rand @_ ] }
 # A path of a few names, mostly a relative one.
 sub any_path {
     my @parts = map { pick(@NAMES, @NAMES, '.', $in_root ? () : '..') } 0 .. rand 3;
-    return rand() < 0.8 ? join '/', @parts : join '/', $top, grep { $_ ne '..' } @parts;
+    return rand() < 0.8 ? join '/', @parts : join '/', $top, (grep { $_ ne '..' } @parts), pick(@NAMES);
 }
 
 # Whether a directory was removed. From such a one Linux goes on to what is above it, which other kernels don't.
@@ -111,7 +111,7 @@ sub make_any {
     my ($at, $to) = map { pick(@$open, 'AT_FDCWD', 'AT_FDCWD') } 1, 2;
     my ($from, $into) = map { $_ eq 'AT_FDCWD' ? $HERE : $_ } $at, $to;
     return if grep { is_removed($_) } $from, $into;
-    my ($path, $other, $number) = (any_path(), any_path(), @$open ? pick(@$open) : 99);
+    my ($path, $other, $number) = (any_path(), any_path(), @$open ? pick(@$open) : 9999);
     my $call = pick(qw(openat openat openat mkdirat fstatat fstatat symlinkat fchmodat fchmod fchdir fchdir dup dup2 close),
         $moves ? qw(renameat renameat unlinkat rmdir linkat) : ());
     if ($call eq 'openat') {
@@ -171,6 +171,7 @@ sub make_calls {
             make_any(\@open, $moves);
         }
     }
+    POSIX::close($_) for @open;
     return;
 }
 
