@@ -47,8 +47,7 @@ sub texts {
     }
     my $count = 0;
     $count += $_->{count} for @rest;
-    push @texts, "and $count reports, of kinds: " . @rest . ', by which no line is wrong and nothing is missing (-v names them)'
-        if @rest;
+    push @texts, "further reports, by which no line is wrong and nothing that matters is left out: $count (-v names them)" if @rest;
     return @texts;
 }
 
