@@ -102,7 +102,7 @@ sub is_removed {
     my ($from) = @_;
     return !(stat '.')[3] if $from < 0;
     my $buffer = ' ' x 256;
-    return (called('fstat', $from, $buffer))[0] ne 'ok' || !unpack 'x16 Q', $buffer;    # how many names it has
+    return syscall($NUMBERS{fstat}, $from + 0, $buffer) || !unpack 'x16 Q', $buffer;    # how many names it has
 }
 
 # Makes one of the calls, from the descriptors that are open.

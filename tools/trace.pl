@@ -460,7 +460,7 @@ sub take_line {
     my ($call) = @_;
     my $has = $call->{process}{has};
     return leave_out($call, "$call->{name}, of which $call->{lacks}") unless defined $call->{answer};
-    return leave_out($call, 'what follows a chroot to a directory whose path is not known') if $has->{lost};
+    return leave_out($call, 'what a process does in a root of which the path is not known') if $has->{lost};
     return take_fork($call) if $call->{as} eq 'fork';
     $reports->be_quiet(!is_told($has));
     my @fields = fields($call);

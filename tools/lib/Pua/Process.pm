@@ -1,9 +1,9 @@
 package Pua::Process;
 
-# What a traced process has: its root and working directory, its open files, its promises. All paths are
-# from the root of the system. Where the first process began isn't known before the whole trace is read:
-# $START stands for that directory at the begin of a path. Where a directory or a file isn't known, its
-# path is undef.
+# What a traced process has: its root and working directory, its open files, its promises. All paths are from
+# the root of the system. Where the first process began isn't known before the whole trace is read: $START
+# stands for that directory at the begin of a path. Where a directory or a file isn't known, its path is undef;
+# a process whose root isn't known is `lost`.
 #
 # An open file is a hash with its `path`, its `mode` (open-r, open-w or open-rw), and `opened`, the call
 # that opened it. Descriptors that were copied share it.
@@ -144,8 +144,10 @@ sub moved {
         for my $file (values %{ $process->{files} }) {
             $file->{path} = $move->($file->{path}) if defined $file->{path} && index($file->{path}, $name) >= 0;
         }
-        my $directory = $process->{directory};
-        $process->{directory} = $move->($directory) if defined $directory && index($directory, $name) >= 0;
+        for my $place (grep { defined $process->{$_} && index($process->{$_}, $name) >= 0 } qw(directory root)) {
+            $process->{$place} = $move->($process->{$place});
+        }
+        @$process{qw(root lost)} = ('', 1) unless defined $process->{root};
     }
     return;
 }
