@@ -16,20 +16,20 @@ our $START = "\0";
 
 sub new {
     my ($class) = @_;
-    return bless { root => '', directory => $START, files => {}, closes => {} }, $class;
+    return bless { root => '', directory => $START, files => {}, at_exec => {} }, $class;
 }
 
 # What a child has after the fork.
 sub forked {
     my ($self) = @_;
-    return bless { %$self, files => { %{ $self->{files} } }, closes => { %{ $self->{closes} } } }, ref $self;
+    return bless { %$self, files => { %{ $self->{files} } }, at_exec => { %{ $self->{at_exec} } } }, ref $self;
 }
 
 # A program is started: descriptors that close on exec are closed. Execpromises become the promises, and
 # stay; without them nothing is left of the sandbox.
 sub execs {
     my ($self) = @_;
-    $self->closes($_) for keys %{ $self->{closes} };
+    $self->closes($_) for keys %{ $self->{at_exec} };
     $self->{promises} = $self->{execpromises};
     @$self{qw(closed veiled)} = () unless $self->{promises};
     return;
@@ -43,11 +43,10 @@ sub from_root {
     return $self->{root} . $path =~ s{\A/+\.\.(?=/*\z)}{/.}r;
 }
 
-# The path of what a text names, from this directory or from the working directory.
+# The path of what a text names, from the root or from this directory, which may not be known.
 sub whole {
     my ($self, $text, $directory) = @_;
     return $self->from_root($text) if $text =~ m{\A/};
-    $directory = $self->{directory} if @_ < 3;
     return unless defined $directory;
     return $directory eq '/' ? "/$text" : "$directory/$text";
 }
@@ -69,27 +68,27 @@ sub opens {
     return unless defined $number;
     $self->closes($number);
     $self->{files}{$number} = $file if $file;
-    $self->{closes}{$number} = 1 if $closes_on_exec;
+    $self->{at_exec}{$number} = 1 if $closes_on_exec;
     return;
 }
 
 sub closes {
     my ($self, $number) = @_;
     delete $self->{files}{$number};
-    delete $self->{closes}{$number};
+    delete $self->{at_exec}{$number};
     return;
 }
 
 sub closes_from {
     my ($self, $least) = @_;
-    $self->closes($_) for grep { $_ >= $least } keys %{ $self->{files} }, keys %{ $self->{closes} };
+    $self->closes($_) for grep { $_ >= $least } keys %{ $self->{files} }, keys %{ $self->{at_exec} };
     return;
 }
 
 sub sets_close_on_exec {
     my ($self, $number, $closes) = @_;
-    delete $self->{closes}{$number};
-    $self->{closes}{$number} = 1 if $closes;
+    delete $self->{at_exec}{$number};
+    $self->{at_exec}{$number} = 1 if $closes;
     return;
 }
 
