@@ -120,7 +120,7 @@ sub path {
 sub refused { my ($call) = @_; return $call->{pledged} && $call->{answer} =~ /\A(?:killed|ENOSYS)\z/ }
 
 # Whether the script has what a process does now.
-sub is_told { my ($has) = @_; return !defined $only || $has->{root} eq $only }
+sub is_told { my ($has) = @_; return !defined $only || (!$has->{lost} && $has->{root} eq $only) }
 
 # A whole path from the root of the script; undef where it isn't below that.
 sub from_only {
@@ -171,9 +171,10 @@ sub written {
     my ($name, $has) = ($call->{name}, $call->{process}{has});
     return $text if $text eq '' || ($call->{as} eq 'symlink' && $place == 0);
     my ($is_here, $is_whole) = (!defined begins_from($call, $place), $text =~ m{\A/});
-    return $text if $is_whole && (defined $only || $has->{root} eq '');
+    return $text if $is_whole && !$has->{lost} && (defined $only || $has->{root} eq '');
     my $whole = whole($call, $text, $place);
     if (!defined $whole) {
+        return leave_out($call, 'a path from the root of a process, since that root is not known') if $is_whole;
         return leave_out($call, 'a relative path, since the working directory is not known any more') if $is_here;
         return note($REST, $call->{line}, "left out: $name from a descriptor of no directory") if $call->{answer} =~ $NO_DIRECTORY;
         return leave_out($call, "$name from a directory's descriptor, of which the path is not known");
@@ -356,6 +357,7 @@ sub follow_getcwd {
     my ($path) = @{ $call->{paths} };
     return unless defined $path && $path =~ m{\A/};
     my ($is, $was) = (tidy($has->from_root($path)), $has->{directory});
+    return unless defined $is;
     if (defined $was && $was =~ s/\A$START//) {
         if (!defined $started && $is =~ m{\A(.*)\Q$was\E\z}s) {
             $started = $1 eq '' ? '/' : $1;
@@ -375,7 +377,7 @@ sub follow_chroot {
     my ($has, $call) = @_;
     my ($path) = @{ $call->{paths} };
     my $root = defined $path ? tidy($has->whole($path, $has->{directory})) : undef;
-    $has->{lost} = 1 unless defined $root;
+    $has->{lost} = !defined $root;
     return unless defined $root;
     $has->{root} = $root eq '/' ? '' : $root;
     $roots{ path($root) } = 1;
@@ -460,7 +462,6 @@ sub take_line {
     my ($call) = @_;
     my $has = $call->{process}{has};
     return leave_out($call, "$call->{name}, of which $call->{lacks}") unless defined $call->{answer};
-    return leave_out($call, 'what a process does in a root of which the path is not known') if $has->{lost};
     return take_fork($call) if $call->{as} eq 'fork';
     $reports->be_quiet(!is_told($has));
     my @fields = fields($call);

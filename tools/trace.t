@@ -895,7 +895,7 @@ gives('roots', <<'END');
 line 9: may be wrong: paths below /r/s, after chroot(2): links and .. may lead elsewhere (see -c) (4 in all)
 line 24: may be wrong: paths below /r/s/t, after chroot(2): links and .. may lead elsewhere (see -c) (1 in all)
 line 27: left out: fchdir, of which the path is not known (1 in all)
-line 34: left out: what a process does in a root of which the path is not known (1 in all)
+line 34: left out: a path from the root of a process, since that root is not known (1 in all)
 END
 
 {

@@ -35,9 +35,11 @@ sub execs {
     return;
 }
 
-# A path that begins at the process's root, from the root of the system. There `..` leads nowhere else.
+# A path that begins at the process's root, from the root of the system; undef where that root isn't known. There
+# `..` leads nowhere else.
 sub from_root {
     my ($self, $path) = @_;
+    return if $self->{lost};
     return $path if $self->{root} eq '';
     1 while $path =~ s{\A/+\.\.?(?=/+[^/])}{};
     return $self->{root} . $path =~ s{\A/+\.\.(?=/*\z)}{/.}r;
