@@ -124,7 +124,19 @@ sub row_of {
     return row($tag, $first, $kind, @$said ? ($said->[0]{calls}, $said->[0]{now}, @{ $said->[0]{why} }) : ());
 }
 
-# Adds to the page the rows of a node and of what is in it; answers how many names these are, and whether
+# The pieces of a page, of which some are lists of pieces, one after the other.
+sub flat {
+    my @pieces = reverse @_;
+    my @flat;
+    while (@pieces) {
+        my $piece = pop @pieces;
+        if (ref $piece) { push @pieces, reverse @$piece }
+        else            { push @flat, $piece }
+    }
+    return @flat;
+}
+
+# Adds to the page the rows of a node and of what is in it, as lists in it; answers how many names these are, and whether
 # one can be touched, has a veil or was left out. Many names that are nothing of these are folded.
 sub add_rows {
     my ($page, $name, $node) = @_;
@@ -139,7 +151,7 @@ sub add_rows {
     for my $row (sort { $bytes{$a} cmp $bytes{$b} } keys %bytes) {
         my @below;
         my ($more, $is_touched) = add_rows(\@below, $row, $in->{$row});
-        push @parts, [$is_touched, @below];
+        push @parts, [$is_touched, \@below];
         ($names, $beside, $touched) = ($names + $more, $beside + ($is_touched ? 0 : $more), $touched || $is_touched);
     }
     $first .= " <small>names in it, none to be touched: $names</small>" if $names && !$touched;
@@ -148,10 +160,10 @@ sub add_rows {
     push @$page, $folds ? '<details' . ($touched ? ' open' : '') . ">$row" : $row;
     push @$page, row_of('div', '<i>any other name</i>', 'other', [$node->{other}]) if $node->{other};
     my $is_folded = $touched && $beside > $MOST_BESIDE;
-    push @$page, map { my (undef, @rows) = @$_; @rows } grep { $_->[0] || !$is_folded } @parts;
+    push @$page, map { $_->[1] } grep { $_->[0] || !$is_folded } @parts;
     if ($is_folded) {
         push @$page, '<details>' . row('summary', "<i>names beside these, none to be touched: $beside</i>", '');
-        push @$page, map { my (undef, @rows) = @$_; @rows } grep { !$_->[0] } @parts;
+        push @$page, map { $_->[1] } grep { !$_->[0] } @parts;
         push @$page, "</details>\n";
     }
     push @$page, "</details>\n" if $folds;
@@ -233,7 +245,7 @@ sub page_of {
             add_list(\@page, $root, $told, $told != $list && $told->{ever} && !$list->{ever} ? $list : undef);
         }
     }
-    return (@page, "</body></html>\n");
+    return (flat(@page), "</body></html>\n");
 }
 
 my $manifest;
