@@ -128,6 +128,17 @@ sub leads_through {
     return grep { plain(join '/', @parts[0 .. $_]) =~ $place } 0 .. $#parts;
 }
 
+# Whether a path leads by `..` above where it begins.
+sub climbs {
+    my ($path) = @_;
+    my $depth = 0;
+    for my $part (grep { $_ ne '' } split m{/}, $path) {
+        $depth += $part eq '..' ? -1 : 1;
+        return 1 if $depth < 0;
+    }
+    return 0;
+}
+
 # Something was moved to another path, or, without one, removed: what these processes have of it. A path
 # that leads through it by `..` is taken to lead back to where it stood.
 sub moved {
@@ -139,7 +150,9 @@ sub moved {
         my ($path) = @_;
         my $plain = plain($path);
         return leads_through($path, $inside) ? $plain : $path if $plain !~ $inside;
-        return defined $new ? $new . substr $path =~ $inside ? $path : $plain, length $old : undef;
+        return unless defined $new;
+        my $rest = substr $path =~ $inside ? $path : $plain, length $old;
+        return $new . (climbs($rest) ? substr $plain, length $old : $rest);
     };
     for my $process (@processes) {
         for my $file (values %{ $process->{files} }) {
