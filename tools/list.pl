@@ -3,47 +3,49 @@
 #
 #     list.pl [-kv] [-m FILE] [-r ROOT] [-s SCRIPT] [-x PATH]... [PATH]...
 #
-# Each PATH is listed at its own place below the root, with all that is in it; of the directories on
-# the way to it, only what leads there is listed. What isn't listed, pua takes for missing. For a script
-# that is made of a trace take the listing before the run: afterwards the files are what the run left.
+# Each PATH is listed at its own place below the root, with all that is in it; of the directories
+# on the way to it, only what leads there is listed. What isn't listed, pua takes for missing. For
+# a script that is made of a trace take the listing before the run: afterwards the files are what
+# the run left.
 #
 #     -k         goes on where a file, a directory or a link can't be read or listed. A directory
 #                that can't be read is listed as an empty one.
-#     -m FILE    writes into FILE what isn't listed though it was asked for: a line `left-out PATH` for
-#                what a -x left out, and `passed-over PATH` for what -k did. It is kept beside the
-#                listing, which doesn't show it; page.pl and glance.pl do.
-#     -r ROOT    takes the directory ROOT for the root, as after chroot(2); every other path is then
-#                one below ROOT. With neither PATH nor SCRIPT, all of ROOT is listed.
+#     -m FILE    writes into FILE what isn't listed though it was asked for: a line `left-out
+#                PATH` for what a -x left out, and `passed-over PATH` for what -k did. It is kept
+#                beside the listing, which doesn't show it; page.pl and glance.pl do.
+#     -r ROOT    takes the directory ROOT for the root, as after chroot(2); every other path is
+#                then one below ROOT. With neither PATH nor SCRIPT, all of ROOT is listed.
 #     -s SCRIPT  lists what a script for pua can be about: for each path that it names the
-#                directories on the way, the links and what they lead to, and what stands there. Of a
-#                directory that it veils, opens, renames or removes, or to whose name it renames
-#                something, all that is in it is listed too. A relative path is taken from where the
-#                process is by then, and from the root at first. A script that is made of a trace
-#                exists after its run alone: list by it on a machine where that run wasn't.
+#                directories on the way, the links and what they lead to, and what stands there.
+#                Of a directory that it veils, opens, renames or removes, or to whose name it
+#                renames something, all that is in it is listed too. A relative path is taken from
+#                where the process is by then, and from the root at first. A script that is made
+#                of a trace exists after its run alone: list by it on a machine where that run
+#                wasn't.
 #     -v         reports each link that leads out of the listing by itself.
-#     -x PATH    leaves PATH out, with all that is in it; a directory is listed as an empty one. It
-#                may be given several times. Links in it are not followed.
+#     -x PATH    leaves PATH out, with all that is in it; a directory is listed as an empty one.
+#                It may be given several times. Links in it are not followed.
 #
-# Directories are listed as `dir`, symbolic links as `link`, plain files that someone may execute as
-# `prog`, and all else as `file`: plain files, sockets, fifos and devices. What has several names, by
-# its device and inode, is listed once, under the first of them in the order of the listing; each
-# other one is a `hard` line, and the listing's first line is then `tree 2`, else `tree 1`. Links are
-# not followed, except on the way to a PATH; mount points are crossed. Names come in the order of
-# their bytes, so two runs over the same files print the same.
+# Directories are listed as `dir`, symbolic links as `link`, plain files that someone may execute
+# as `prog`, and all else as `file`: plain files, sockets, fifos and devices. What has several
+# names, by its device and inode, is listed once, under the first of them in the order of the
+# listing; each other one is a `hard` line, and the listing's first line is then `tree 2`, else
+# `tree 1`. Links are not followed, except on the way to a PATH; mount points are crossed. Names
+# come in the order of their bytes, so two runs over the same files print the same.
 #
 # Lines on standard error report what a reader of the listing has to know: links whose target is
-# there but isn't listed, summed up by where they lead to; each further name of what is listed, which
-# a veil on the first one doesn't cover; that something has a name which isn't listed; a directory
-# that was left out, and a -x that left nothing out; with -k what was passed over, and how much; with
-# -s what the script names in vain, each name once and no name that the script makes, how many relative
-# paths are taken from the root, and each process that is left without a veil and holds a promise about
-# paths, and how many names aren't listed. To count these, -s reads the directories below the root then,
-# up to 100,000 names.
+# there but isn't listed, summed up by where they lead to; each further name of what is listed,
+# which a veil on the first one doesn't cover; that something has a name which isn't listed; a
+# directory that was left out, and a -x that left nothing out; with -k what was passed over, and
+# how much; with -s what the script names in vain, each name once and no name that the script
+# makes, how many relative paths are taken from the root, and each process that is left without a
+# veil and holds a promise about paths, and how many names aren't listed. To count these, -s reads
+# the directories below the root then, up to 100,000 names.
 #
-# Status 0: the listing was printed. Status 1: a file, a directory, a link or the script can't be read,
-# the script isn't one, there are more than 4,096 names (how many, and in which directories most of
-# them are, is reported), or a link's target is longer than pua reads; then nothing was printed.
-# Status 2: the words are no use of it.
+# Status 0: the listing was printed. Status 1: a file, a directory, a link or the script can't be
+# read, the script isn't one, there are more than 4,096 names (how many, and in which directories
+# most of them are, is reported), or a link's target is longer than pua reads; then nothing was
+# printed. Status 2: the words are no use of it.
 use strict;
 use warnings;
 use Cwd qw(getcwd);
@@ -128,8 +130,8 @@ sub whole {
 # What stands at a path on the disk: the fields of lstat, or none.
 sub found { my ($path) = @_; return lstat($path eq '' && $root eq '' ? '/' : "$root$path") }
 
-# Takes what stands at a path, whose directory is listed already, into the listing; answers its kind,
-# and an empty one where it is passed over.
+# Takes what stands at a path, whose directory is listed already, into the listing; answers its
+# kind, and an empty one where it is passed over.
 sub take {
     my ($path) = @_;
     return $nodes{$path}{kind} if $nodes{$path};
@@ -214,9 +216,10 @@ sub take_way {
     return;
 }
 
-# Follows a path on the disk, and takes the links by which it leads on. With $follows a link at its
-# end leads on too. Answers the path of what is there, and nothing where a -x left it out; where the
-# path leads nowhere, how far it leads, why it doesn't go on, and the path and the error there.
+# Follows a path on the disk, and takes the links by which it leads on. With $follows a link at
+# its end leads on too. Answers the path of what is there, and nothing where a -x left it out;
+# where the path leads nowhere, how far it leads, why it doesn't go on, and the path and the error
+# there.
 sub follow {
     my ($operand, $follows) = @_;
     my ($path, $links, @parts) = ('', 0, parts(whole($operand)));
@@ -256,8 +259,8 @@ sub take_operand {
     return;
 }
 
-# Takes what a script names by a path, in the role that the table of arguments has for it. Answers why it
-# leads nowhere, if nothing is there that has to be.
+# Takes what a script names by a path, in the role that the table of arguments has for it. Answers
+# why it leads nowhere, if nothing is there that has to be.
 sub take_named {
     my ($named, $role) = @_;
     my ($path, $fault, $at, $error) = follow($named, 1);
@@ -304,7 +307,8 @@ sub requests {
     return @requests;
 }
 
-# Takes what the requests of a script name, and reports what isn't there though the script doesn't make it.
+# Takes what the requests of a script name, and reports what isn't there though the script doesn't
+# make it.
 sub take_script {
     my (%made, %in_vain, @named, %relative);
     my %directory;    # by process: where it went
@@ -333,21 +337,26 @@ sub take_script {
         my ($path, $place, $fault) = @$name;
         my $way = $place;
         $way = above($way) while $way ne '' && !$made{$way};
-        report('the script names ' . spelled($path) . ", which leads nowhere: $fault") if $way eq '';
+        report('the script names ' . spelled($path) . ", which leads nowhere: $fault")
+            if $way eq '';
     }
-    report('relative paths of the script are taken from /, where no chdir is before them: ' . keys %relative) if %relative;
+    report('relative paths of the script are taken from /, where no chdir is before them: '
+        . keys %relative)
+        if %relative;
     return;
 }
 
-# What a process holds after a pledge: the promises of its first or second word, none where it is `-`.
+# What a process holds after a pledge: the promises of its first or second word, none where it is
+# `-`.
 sub held_by {
     my ($word) = @_;
     return $word eq '-' ? undef : { map { $_ => 1 } split /,/, $word };
 }
 
-# The processes that a script leaves without a veil, though they may touch something by a path, as far as
-# its text shows: each with its promises about paths. Each request is taken to succeed. An exec drops the
-# veils where no execpromises were set, and else they are the promises from then on.
+# The processes that a script leaves without a veil, though they may touch something by a path, as
+# far as its text shows: each with its promises about paths. Each request is taken to succeed. An
+# exec drops the veils where no execpromises were set, and else they are the promises from then
+# on.
 sub unveiled {
     my %state = (1 => { veils => 0 });
     for my $request (@_) {
@@ -376,8 +385,8 @@ sub unveiled {
     return %unveiled;
 }
 
-# How many names there are on the disk, the root among them, as far as directories can be read. Counting
-# ends where there are more than anyone wants to know.
+# How many names there are on the disk, the root among them, as far as directories can be read.
+# Counting ends where there are more than anyone wants to know.
 sub names_there {
     my ($count, @paths) = (1, '');
     while ($count <= $MOST_COUNTED && defined(my $path = pop @paths)) {
@@ -393,8 +402,8 @@ sub report_unveiled {
     my %unveiled = unveiled(@_) or return;
     my $count = names_there();
     my $left = $count > $MOST_COUNTED ? "more than $MOST_COUNTED" : $count - keys %nodes;
-    report("process $_ has no veil, and may touch all by path ($unveiled{$_}); names that are not listed: $left")
-        for sort { $a <=> $b } keys %unveiled;
+    report("process $_ has no veil, and may touch all by path ($unveiled{$_}); "
+        . "names that are not listed: $left") for sort { $a <=> $b } keys %unveiled;
     return;
 }
 
@@ -439,12 +448,13 @@ sub outside {
     return;
 }
 
-# What a line has for a node, in which $parent is the number of its directory and $made that of the
-# same file under an earlier name, if there is one.
+# What a line has for a node, in which $parent is the number of its directory and $made that of
+# the same file under an earlier name, if there is one.
 sub fields {
     my ($node, $parent, $name, $made) = @_;
     return ('hard', $parent, $name, $made) if defined $made;
-    return ($node->{kind}, $parent, $name, defined $node->{target} ? spelled($node->{target}) : ());
+    my @target = defined $node->{target} ? spelled($node->{target}) : ();
+    return ($node->{kind}, $parent, $name, @target);
 }
 
 # The lines of the listing, and the paths in their order.
@@ -461,7 +471,8 @@ sub lines {
         $header = 'tree 2' if defined $made;
         $made{ $node->{file} } = $number{$path} unless defined $made;
         push @lines,
-            join(' ', $number{$path}, fields($node, $number{ above($path) }, spelled($name), $made)) . "\n";
+            join(' ', $number{$path}, fields($node, $number{ above($path) }, spelled($name), $made))
+            . "\n";
         unshift @paths, map { "$path/$_" } sort keys %{ $inside{$path} || {} };
     }
     return (["$header\n", "0 dir\n", @lines], \@order);
@@ -501,9 +512,11 @@ sub report_gaps {
 sub write_manifest {
     my ($name) = @_;
     my ($file) = $name =~ /\A(.*)\z/s;    # the user's own word, also under -T
-    my %lines = ((map { $_ => 'left-out' } grep { $left_out{$_} } keys %left_out), map { $_ => 'passed-over' } keys %passed_over);
+    my %lines = map { $_ => 'passed-over' } keys %passed_over;
+    $lines{$_} = 'left-out' for grep { $left_out{$_} } keys %left_out;
     open my $out, '>', $file or fail(spelled($file) . ": $!");
-    print {$out} map { "$lines{$_} " . shown($_) . "\n" } sort keys %lines or fail(spelled($file) . ": $!");
+    print {$out} map { "$lines{$_} " . shown($_) . "\n" } sort keys %lines
+        or fail(spelled($file) . ": $!");
     close $out or fail(spelled($file) . ": $!");
     return;
 }
@@ -533,7 +546,8 @@ my $understood = GetOptions(
     'v'   => \$each_link,
     'x=s' => \@exclusions,
 );
-if (!$understood || !(@ARGV || defined $given || defined $script) || grep { $_ eq '' } @ARGV, @exclusions, grep { defined } $manifest) {
+my @words = (@ARGV, @exclusions, grep { defined } $manifest);
+if (!$understood || !(@ARGV || defined $given || defined $script) || grep { $_ eq '' } @words) {
     print STDERR $USAGE;
     exit 2;
 }

@@ -3,22 +3,24 @@
 #
 #     page.pl [-m MANIFEST] TREE [OBJECTS [EVER]]
 #
-# TREE is the listing, and OBJECTS the output of `pua objects` over it, of now or with `--ever`; standard
-# input if it is left out. What is written is one HTML file, without scripts, that loads nothing. For each list of OBJECTS,
-# of which `--process all` prints several, it has the state of the process, if there are lines about it,
-# and the tree: beside each name what can be read, written, executed, made and removed there, and the
-# veil whose place stands there now. A directory is folded where nothing below it can be touched and no
-# veil stands, and so are more than four such names beside others. An open-rw stands in two columns, a
-# create of what is there among what is written, and a connect too.
+# TREE is the listing, and OBJECTS the output of `pua objects` over it, of now or with `--ever`;
+# standard input if it is left out. What is written is one HTML file, without scripts, that loads
+# nothing. For each list of OBJECTS, of which `--process all` prints several, it has the state of
+# the process, if there are lines about it, and the tree: beside each name what can be read,
+# written, executed, made and removed there, and the veil whose place stands there now. A
+# directory is folded where nothing below it can be touched and no veil stands, and so are more
+# than four such names beside others. An open-rw stands in two columns, a create of what is there
+# among what is written, and a connect too.
 #
-# EVER is a list for ever of a process whose list of now is in OBJECTS: it follows that one, and what it has
-# more is marked. What MANIFEST has, as list.pl -m writes it, is marked as not listed.
+# EVER is a list for ever of a process whose list of now is in OBJECTS: it follows that one, and
+# what it has more is marked. What MANIFEST has, as list.pl -m writes it, is marked as not listed.
 #
-# The tree is that of the listing, before the script, with what the list adds; such a name is marked
-# `not listed`. What the script removed stands there still, as something that can't be touched.
+# The tree is that of the listing, before the script, with what the list adds; such a name is
+# marked `not listed`. What the script removed stands there still, as something that can't be
+# touched.
 #
-# Status 0: the page was written. Status 1: a file can't be read, TREE is no listing, or OBJECTS or EVER is
-# no list of objects; then nothing was written. Status 2: the words are no use of it.
+# Status 0: the page was written. Status 1: a file can't be read, TREE is no listing, or OBJECTS
+# or EVER is no list of objects; then nothing was written. Status 2: the words are no use of it.
 use strict;
 use warnings;
 no warnings 'recursion';    # a tree may be 4,000 directories deep
@@ -35,7 +37,8 @@ my ($NAME) = $0 =~ m{([^/]*)\z};
 my $MOST_BESIDE = 4;    # names that can't be touched and still stand unfolded beside others
 
 my %FIELDS = (dir => 4, file => 4, prog => 4, link => 5, hard => 5);    # of a line of a listing
-my %MISSING = ('left-out' => 'left out of the listing', 'passed-over' => 'passed over by the listing');
+my %MISSING = ('left-out' => 'left out of the listing',
+    'passed-over' => 'passed over by the listing');
 my %STATES = (
     'process ended'   => 'it can touch nothing',
     'promises -'      => 'none were ever pledged: it holds all but error',
@@ -44,9 +47,16 @@ my %STATES = (
     'unveil open'     => 'further veils can be put: the list holds for now alone',
     'no veils'        => 'it can touch what is not listed too',
     'rules openbsd'   => 'as OpenBSD\'s kernel is known to answer',
-    'exec bounded'    => 'programs that are started keep the veils, and hold the execpromises at most',
+    'exec bounded'    =>
+        'programs that are started keep the veils, and hold the execpromises at most',
     'exec open'       => 'the list holds until a program is started',
 );
+my $HEAD = <<'END';
+<!DOCTYPE html>
+<html lang="en"><head><meta charset="utf-8"><title>What can be touched</title>
+<meta http-equiv="Content-Security-Policy" content="default-src 'none'; style-src 'unsafe-inline'">
+<meta name="viewport" content="width=device-width">
+END
 my $STYLE = <<'END';
 :root { color-scheme: light dark }
 body { font: 14px/1.5 sans-serif; margin: 1em auto; max-width: 100em; padding: 0 1em }
@@ -103,8 +113,8 @@ sub node {
     return $node;
 }
 
-# A row: what stands in the first column, and the calls on a thing of this kind in theirs; those of a list for
-# ever that aren't among $now, the calls of the list of now, are marked.
+# A row: what stands in the first column, and the calls on a thing of this kind in theirs; those
+# of a list for ever that aren't among $now, the calls of the list of now, are marked.
 sub row {
     my ($tag, $first, $kind, $calls, $now, @why) = @_;
     my $cells = columns($kind, $calls);
@@ -112,16 +122,22 @@ sub row {
     $first .= ' <small>by ' . text("@why") . '</small>' if @why;
     my @cells;
     for my $column (@COLUMNS, $cells->{else} ? 'else' : ()) {
-        my @texts = map { defined $now && !$was{$_} ? '<b class="more">' . text($_) . '</b>' : text($_) } @{ $cells->{$column} || [] };
+        my @texts;
+        for my $call (@{ $cells->{$column} || [] }) {
+            my $is_more = defined $now && !$was{$call};
+            push @texts, $is_more ? '<b class="more">' . text($call) . '</b>' : text($call);
+        }
         push @cells, "<span title=\"$column\">@texts</span>";
     }
-    return "<$tag class=\"row" . (%$cells ? '' : ' untouched') . "\"><span>$first</span>@cells</$tag>\n";
+    return "<$tag class=\"row" . (%$cells ? '' : ' untouched')
+        . "\"><span>$first</span>@cells</$tag>\n";
 }
 
 # The row of what a list of objects says of a node.
 sub row_of {
     my ($tag, $first, $kind, $said) = @_;
-    return row($tag, $first, $kind, @$said ? ($said->[0]{calls}, $said->[0]{now}, @{ $said->[0]{why} }) : ());
+    my ($says) = @$said or return row($tag, $first, $kind);
+    return row($tag, $first, $kind, @$says{qw(calls now)}, @{ $says->{why} });
 }
 
 # The pieces of a page, of which some are lists of pieces, one after the other.
@@ -136,8 +152,9 @@ sub flat {
     return @flat;
 }
 
-# Adds to the page the rows of a node and of what is in it, as lists in it; answers how many names these are, and whether
-# one can be touched, has a veil or was left out. Many names that are nothing of these are folded.
+# Adds to the page the rows of a node and of what is in it, as lists in it; answers how many names
+# these are, and whether one can be touched, has a veil or was left out. Many names that are
+# nothing of these are folded.
 sub add_rows {
     my ($page, $name, $node) = @_;
     my ($kind, $in, $badges) = ($node->{kind}, $node->{in} || {}, $node->{badges} || []);
@@ -152,22 +169,28 @@ sub add_rows {
         my @below;
         my ($more, $is_touched) = add_rows(\@below, $row, $in->{$row});
         push @parts, [$is_touched, \@below];
-        ($names, $beside, $touched) = ($names + $more, $beside + ($is_touched ? 0 : $more), $touched || $is_touched);
+        $names += $more;
+        $beside += $more unless $is_touched;
+        $touched ||= $is_touched;
     }
     $first .= " <small>names in it, none to be touched: $names</small>" if $names && !$touched;
     my $folds = $names || $node->{other};
     my $row = row_of($folds ? 'summary' : 'div', $first, $kind, [$node->{said} || ()]);
     push @$page, $folds ? '<details' . ($touched ? ' open' : '') . ">$row" : $row;
-    push @$page, row_of('div', '<i>any other name</i>', 'other', [$node->{other}]) if $node->{other};
+    push @$page, row_of('div', '<i>any other name</i>', 'other', [$node->{other}])
+        if $node->{other};
     my $is_folded = $touched && $beside > $MOST_BESIDE;
     push @$page, map { $_->[1] } grep { $_->[0] || !$is_folded } @parts;
     if ($is_folded) {
-        push @$page, '<details>' . row('summary', "<i>names beside these, none to be touched: $beside</i>", '');
+        push @$page, '<details>' . row('summary',
+            "<i>names beside these, none to be touched: $beside</i>", '');
         push @$page, map { $_->[1] } grep { !$_->[0] } @parts;
         push @$page, "</details>\n";
     }
     push @$page, "</details>\n" if $folds;
-    push @$page, row_of('div', text($name) . ' <small>once it is free</small>', 'missing', [$node->{freed}]) if $node->{freed};
+    push @$page,
+        row_of('div', text($name) . ' <small>once it is free</small>', 'missing', [$node->{freed}])
+        if $node->{freed};
     return (1 + $names, $touched || $node->{said} || @$badges ? 1 : 0);
 }
 
@@ -176,51 +199,71 @@ sub says {
     my ($line, $state, $can_start) = @_;
     return $STATES{$line} if $STATES{$line};
     return 'its directory was removed' if $line =~ /\Aveil - /;
-    return $can_start ? 'unset: a program that it starts has no veils, and all promises but error' : 'unset; it can start no program'
+    return $can_start ? 'unset: a program that it starts has no veils, and all promises but error'
+        : 'unset; it can start no program'
         if $line eq 'execpromises -';
     return 'no veil hides it' if $line =~ /\Aopening \S+ \S+\z/;
-    return 'unix: no line shows that it can connect to each socket where a veil has w, and bind one where a veil has c'
-        if $line =~ /\Apromises / && !$state->{by_openbsd} && $state->{promises} && $state->{promises}{unix};
+    return 'unix: no line shows that it can connect to each socket where a veil has w, '
+        . 'and bind one where a veil has c'
+        if $line =~ /\Apromises / && !$state->{by_openbsd} && $state->{promises}
+            && $state->{promises}{unix};
     return '';
 }
 
-# Adds to the page the lines of a list's state, and to the tree the marks of what they say of a place.
+# Adds to the page the lines of a list's state, and to the tree the marks of what they say of a
+# place.
 sub add_state {
     my ($page, $tree, $list) = @_;
     my $state = state_of($list);
-    my $can_start = holds($state, 'exec') && grep { $_->[2] =~ /(?:\A|,)exec(?:,|\z)/ } @{ $list->{objects} };
+    my $can_start = holds($state, 'exec')
+        && grep { $_->[2] =~ /(?:\A|,)exec(?:,|\z)/ } @{ $list->{objects} };
     my @lines = @{ $list->{state} };
     push @$page, "<ul>\n";
     push @$page, "<li><code>no lines on the state of the process</code> </li>\n" unless @lines;
     for my $line (@lines) {
-        my $class = $line =~ /\A(?:unveil open|process ended|no veils|exec open)\z/ ? ' class="alarm"' : '';
-        push @$page, "<li><code$class>" . text($line) . '</code> ' . text(says($line, $state, $can_start)) . "</li>\n";
+        my $class = $line =~ /\A(?:unveil open|process ended|no veils|exec open)\z/
+            ? ' class="alarm"' : '';
+        push @$page, "<li><code$class>" . text($line) . '</code> '
+            . text(says($line, $state, $can_start)) . "</li>\n";
     }
-    my $is_unveiled = !$state->{ended} && !@{ $state->{veils} } && !grep { $_ eq 'no veils' } @lines;
-    push @$page, "<li><code class=\"alarm\">no veils</code> $STATES{'no veils'}</li>\n" if @lines && $is_unveiled;
+    my $is_unveiled = !$state->{ended} && !@{ $state->{veils} }
+        && !grep { $_ eq 'no veils' } @lines;
+    push @$page, "<li><code class=\"alarm\">no veils</code> $STATES{'no veils'}</li>\n"
+        if @lines && $is_unveiled;
     push @$page, "</ul>\n";
-    push @{ node($tree, $_->[0])->{badges} }, ['veil', "veil $_->[1]"] for grep { $_->[0] ne '-' } @{ $state->{veils} };
-    push @{ node($tree, $_->[0])->{badges} }, ['veil', "opening $_->[1]"] for @{ $state->{openings} };
+    push @{ node($tree, $_->[0])->{badges} }, ['veil', "veil $_->[1]"]
+        for grep { $_->[0] ne '-' } @{ $state->{veils} };
+    push @{ node($tree, $_->[0])->{badges} }, ['veil', "opening $_->[1]"]
+        for @{ $state->{openings} };
     return;
 }
 
-# Adds to the page a list of objects, over a tree of its own. $now is the list of now of the same process,
-# where the list is for ever and that is known.
+# Adds to the page a list of objects, over a tree of its own. $now is the list of now of the same
+# process, where the list is for ever and that is known.
 sub add_list {
     my ($page, $tree, $list, $now) = @_;
     my %was = map { join(' ', @$_[0, 1]) => $_->[2] } $now ? @{ $now->{objects} } : ();
-    push @$page, "<h2>What process $list->{process} can " . ($list->{ever} ? 'ever ' : '') . "touch</h2>\n";
-    push @$page, "<p>What the list of now does not have is <b class=\"more\">marked</b>.</p>\n" if $now;
+    push @$page, "<h2>What process $list->{process} can " . ($list->{ever} ? 'ever ' : '')
+        . "touch</h2>\n";
+    push @$page, "<p>What the list of now does not have is <b class=\"more\">marked</b>.</p>\n"
+        if $now;
     add_state($page, $tree, $list);
-    push @$page, "<div class=\"row head\">", (map { "<span>$_</span>" } 'name', @COLUMNS), "</div>\n";
+    push @$page, "<div class=\"row head\">", (map { "<span>$_</span>" } 'name', @COLUMNS),
+        "</div>\n";
     for my $object (@{ $list->{objects} }) {
         my ($kind, $path, $calls, @why) = @$object;
         my $node = $path eq 'new' ? { kind => '' } : node($tree, $path);
         my $said = { calls => $calls, why => \@why, now => $now && ($was{"$kind $path"} || '') };
-        if ($path eq 'new') { push @$page, row_of('div', "<i>new</i> <small>$kind</small>", $kind, [$said]) }
-        elsif ($kind eq 'other') { $node->{other} = $said }
-        elsif ($kind eq 'missing' && $node->{said}) { $node->{freed} = $said }
-        else { %$node = (%$node, $node->{kind} eq $kind ? () : (note => undef), kind => $kind, said => $said) }
+        if ($path eq 'new') {
+            push @$page, row_of('div', "<i>new</i> <small>$kind</small>", $kind, [$said]);
+        } elsif ($kind eq 'other') {
+            $node->{other} = $said;
+        } elsif ($kind eq 'missing' && $node->{said}) {
+            $node->{freed} = $said;
+        } else {
+            delete $node->{note} if $node->{kind} ne $kind;
+            @$node{qw(kind said)} = ($kind, $said);
+        }
     }
     add_rows($page, '', $tree);
     return;
@@ -234,22 +277,25 @@ sub page_of {
     my (undef, @later) = defined $ever ? lists_of($ever, lines_of($ever)) : ();
     my $missing = defined $manifest ? manifest_of($manifest) : {};
     my @unlike = map { ', <code>' . text($_) . '</code>' } grep { !/\A[0-9]+ ok\z/ } @$answers;
-    my @page = ("<!DOCTYPE html>\n<html lang=\"en\"><head><meta charset=\"utf-8\"><title>What can be touched</title>\n",
-        "<meta http-equiv=\"Content-Security-Policy\" content=\"default-src 'none'; style-src 'unsafe-inline'\">\n",
-        "<meta name=\"viewport\" content=\"width=device-width\"><style>\n$STYLE</style></head><body>\n",
+    my @page = ($HEAD, "<style>\n$STYLE</style></head><body>\n",
         '<p>Answers to the script: ', @$answers - @unlike, ' ok', @unlike, ".</p>\n");
-    for my $list (@lists, grep { my $late = $_; !grep { $_->{process} == $late->{process} } @lists } @later) {
+    my %listed = map { $_->{process} => 1 } @lists;
+    for my $list (@lists, grep { !$listed{ $_->{process} } } @later) {
         for my $told ($list, grep { $_ != $list && $_->{process} == $list->{process} } @later) {
             my $root = tree($tree, @listing);
-            push @{ node($root, $_)->{badges} }, ['alarm', $MISSING{ $missing->{$_} }] for sort keys %$missing;
-            add_list(\@page, $root, $told, $told != $list && $told->{ever} && !$list->{ever} ? $list : undef);
+            push @{ node($root, $_)->{badges} }, ['alarm', $MISSING{ $missing->{$_} }]
+                for sort keys %$missing;
+            my $is_later = $told != $list && $told->{ever} && !$list->{ever};
+            add_list(\@page, $root, $told, $is_later ? $list : undef);
         }
     }
     return (flat(@page), "</body></html>\n");
 }
 
 my $manifest;
-if (!GetOptions('m=s' => \$manifest) || @ARGV < 1 || @ARGV > 3 || grep { $_ eq '' } @ARGV, grep { defined } $manifest) {
+my $understood = GetOptions('m=s' => \$manifest);
+my @words = (@ARGV, grep { defined } $manifest);
+if (!$understood || @ARGV < 1 || @ARGV > 3 || grep { $_ eq '' } @words) {
     print STDERR "usage: $NAME [-m MANIFEST] TREE [OBJECTS [EVER]]\n";
     exit 2;
 }

@@ -3,47 +3,51 @@
 #
 #     trace.pl [-klvx] [-c ROOT] [-d DIRECTORY] [-e FILE] [-o FILE] [TRACE]
 #
-# TRACE is the text that kdump(1) prints of what `ktrace -i` traced; standard input if it is left out.
-# The script has a line for each call that pua knows, in the order in which the calls returned. Processes
-# are numbered from 1, that of the first record, in the order of their forks. Take the listing of the
-# files before the run that is traced: afterwards they are what the run left.
+# TRACE is the text that kdump(1) prints of what `ktrace -i` traced; standard input if it is left
+# out. The script has a line for each call that pua knows, in the order in which the calls
+# returned. Processes are numbered from 1, that of the first record, in the order of their forks.
+# Take the listing of the files before the run that is traced: afterwards they are what the run
+# left.
 #
-#     -c ROOT        prints the script of one root alone: the calls that were made in it, with paths from
-#                    there, and the forks that lead to them. `-c /` leaves out what was done after chroot(2).
-#     -d DIRECTORY   the working directory in which the first process began: the script begins with a
-#                    chdir to it. If it is left out, it is what __getcwd(2) says, and else the root.
-#     -e FILE        writes into FILE what the kernel answered to the lines of the script, as `pua run`
-#                    does: so `pua run TREE SCRIPT | diff FILE -` shows where the two differ.
-#     -k             writes connect, bind, mknod (mkfifo too) and chown as lines of their own, for a pua that
-#                    knows these calls by its rules of OpenBSD.
+#     -c ROOT        prints the script of one root alone: the calls that were made in it, with
+#                    paths from there, and the forks that lead to them. `-c /` leaves out what was
+#                    done after chroot(2).
+#     -d DIRECTORY   the working directory in which the first process began: the script begins
+#                    with a chdir to it. If it is left out, it is what __getcwd(2) says, and else
+#                    the root.
+#     -e FILE        writes into FILE what the kernel answered to the lines of the script, as `pua
+#                    run` does: so `pua run TREE SCRIPT | diff FILE -` shows where the two differ.
+#     -k             writes connect, bind, mknod (mkfifo too) and chown as lines of their own, for
+#                    a pua that knows these calls by its rules of OpenBSD.
 #     -l             keeps what ld.so opens for a program.
-#     -o FILE        writes into FILE what each process still had open at its end, or at the end of the trace,
-#                    though it was opened before the last pledge or lock of the process: `held P MODE PATH
-#                    since line N`, of the script. A path is `-` where nothing is known to be there.
+#     -o FILE        writes into FILE what each process still had open at its end, or at the end
+#                    of the trace, though it was opened before the last pledge or lock of the
+#                    process: `held P MODE PATH since line N`, of the script. A path is `-` where
+#                    nothing is known to be there.
 #     -v             names each report.
 #     -x             keeps exits, and what comes after the end of a process.
 #
-# Descriptors are followed, over copies, forks and execs. So a path that begins at a directory's descriptor
-# is written whole, fchdir is a chdir, and fchmod and its like are about the path that was opened. What was
-# renamed or removed by the same path since then is followed too. Where such a path isn't known the call is
-# left out.
+# Descriptors are followed, over copies, forks and execs. So a path that begins at a directory's
+# descriptor is written whole, fchdir is a chdir, and fchmod and its like are about the path that
+# was opened. What was renamed or removed by the same path since then is followed too. Where such
+# a path isn't known the call is left out.
 #
 # After chroot(2) paths are written with the new root before them, without -c.
 #
-# open is open-r, open-w, open-rw or create by its flags; access, statfs, pathconf and realpath are stat;
-# truncate is open-w; utimes and chflags are chmod. A relative path stays as it is. An execve that fails is
-# no line. Where pledge refused a call before its path was recorded, the path is written as the empty one:
-# it decides nothing.
+# open is open-r, open-w, open-rw or create by its flags; access, statfs, pathconf and realpath
+# are stat; truncate is open-w; utimes and chflags are chmod. A relative path stays as it is. An
+# execve that fails is no line. Where pledge refused a call before its path was recorded, the path
+# is written as the empty one: it decides nothing.
 #
-# Standard error has first whether the trace begins in the middle of a process; then what makes lines wrong;
-# then what was left out and might matter; then the count of all other reports; and at last a table of the
-# processes. Each kind of report stands there once, with the line of the trace where it is first and how
-# often it is there.
+# Standard error has first whether the trace begins in the middle of a process; then what makes
+# lines wrong; then what was left out and might matter; then the count of all other reports; and
+# at last a table of the processes. Each kind of report stands there once, with the line of the
+# trace where it is first and how often it is there.
 #
 # It was tried on texts that were written by hand (trace.t), not on a system.
 #
-# Status 0: the script was printed. Status 1: a file can't be read or written, or TRACE has no record
-# of kdump. Status 2: the words are no use of it.
+# Status 0: the script was printed. Status 1: a file can't be read or written, or TRACE has no
+# record of kdump. Status 2: the words are no use of it.
 use strict;
 use warnings;
 
@@ -65,7 +69,8 @@ my $MOST_LINES     = 60_000;    # in a script
 my $MOST_PROCESSES = 256;       # that a script makes
 my $MOST_PATH      = 1023;      # bytes in a path
 
-# What is followed, though it is no line: what each of these calls does to its process, if it succeeds.
+# What is followed, though it is no line: what each of these calls does to its process, if it
+# succeeds.
 my %FOLLOWED = (
     (map { $_ => sub { $_[0]->opens($_[1]{value}) } } qw(socket accept accept4 kqueue kqueue1)),
     close     => sub { $_[0]->closes($_[2]) if defined $_[2] },
@@ -96,7 +101,8 @@ sub fail { report(@_); exit 1 }
 
 sub note { $reports->note(@_); return }
 
-# Leaves a call out of the script; answers no fields. Without a pledge or an unveil later answers are wrong.
+# Leaves a call out of the script; answers no fields. Without a pledge or an unveil later answers
+# are wrong.
 sub leave_out {
     my ($call, $what, $path) = @_;
     my $alters = ($call->{answer} || '') eq 'ok' && ($call->{as} || '') =~ /\A(?:pledge|unveil)\z/;
@@ -105,8 +111,8 @@ sub leave_out {
     return;
 }
 
-# A path as a script has it, in which neither `-` nor `=` stands for itself; of what begins where the first
-# process began, from there.
+# A path as a script has it, in which neither `-` nor `=` stands for itself; of what begins where
+# the first process began, from there.
 sub path {
     my ($bytes) = @_;
     if ($bytes =~ s/\A$START//) {
@@ -117,7 +123,10 @@ sub path {
 }
 
 # That pledge refused a call, so that its texts decide nothing.
-sub refused { my ($call) = @_; return $call->{pledged} && $call->{answer} =~ /\A(?:killed|ENOSYS)\z/ }
+sub refused {
+    my ($call) = @_;
+    return $call->{pledged} && $call->{answer} =~ /\A(?:killed|ENOSYS)\z/;
+}
 
 # Whether the script has what a process does now.
 sub is_told { my ($has) = @_; return !defined $only || (!$has->{lost} && $has->{root} eq $only) }
@@ -135,19 +144,21 @@ sub texts {
     my ($call, $count) = @_;
     my ($name, @texts) = ($call->{name}, @{ $call->{paths} });
     @texts = $call->{texts}{socket} if !@texts && defined $call->{texts}{socket};
-    return leave_out($call, "$name, of which a path can't be read") if $call->{broken} || grep { /\0/ } @texts;
+    return leave_out($call, "$name, of which a path can't be read")
+        if $call->{broken} || grep { /\0/ } @texts;
     return @texts[0 .. $count - 1] if @texts >= $count;
     my $locked = $name eq 'unveil' && $call->{answer} eq 'EPERM';
     return leave_out($call, "$name, of which the trace doesn't have "
             . ($name =~ /\Asymlink/ ? 'the target' : @texts ? 'the second path' : 'the path'))
         unless $locked || refused($call);
-    note($REST, $call->{line}, "$name was answered $call->{answer} before its path was recorded: it is written =");
+    note($REST, $call->{line},
+        "$name was answered $call->{answer} before its path was recorded: it is written =");
     my @missing = ('') x ($count - @texts);
     return $call->{as} eq 'symlink' ? (@missing, @texts) : (@texts, @missing);
 }
 
-# The directory from which a text of a call begins, if it isn't the working directory or the root: the
-# number of its descriptor.
+# The directory from which a text of a call begins, if it isn't the working directory or the root:
+# the number of its descriptor.
 sub begins_from {
     my ($call, $place) = @_;
     my $from = ($FROM{ $call->{name} } || [])->[$place];
@@ -174,16 +185,21 @@ sub written {
     return $text if $is_whole && !$has->{lost} && (defined $only || $has->{root} eq '');
     my $whole = whole($call, $text, $place);
     if (!defined $whole) {
-        return leave_out($call, 'a path from the root of a process, since that root is not known') if $is_whole;
-        return leave_out($call, 'a relative path, since the working directory is not known any more') if $is_here;
-        return note($REST, $call->{line}, "left out: $name from a descriptor of no directory") if $call->{answer} =~ $NO_DIRECTORY;
-        return leave_out($call, "$name from a directory's descriptor, of which the path is not known");
+        return leave_out($call, 'a path from the root of a process, since that root is not known')
+            if $is_whole;
+        return leave_out($call,
+            'a relative path, since the working directory is not known any more') if $is_here;
+        return note($REST, $call->{line}, "left out: $name from a descriptor of no directory")
+            if $call->{answer} =~ $NO_DIRECTORY;
+        return leave_out($call,
+            "$name from a directory's descriptor, of which the path is not known");
     }
     my $inside = from_only($whole);
     return leave_out($call, "$name outside of $only", spelled($whole)) unless defined $inside;
     $call->{relative} = 1 if $whole =~ /\A$START/;
     return $text if $is_here && !$is_whole && !$has->{astray};
-    return leave_out($call, "$name, of which the whole path is too long") if length $inside > $MOST_PATH;
+    return leave_out($call, "$name, of which the whole path is too long")
+        if length $inside > $MOST_PATH;
     return $inside;
 }
 
@@ -201,17 +217,19 @@ sub paths {
     return @written;
 }
 
-# The path of what a call's descriptor stands for; none where it is left out. What asks for no promise
-# beside the descriptor isn't written where pua would end the process for the want of one.
+# The path of what a call's descriptor stands for; none where it is left out. What asks for no
+# promise beside the descriptor isn't written where pua would end the process for the want of one.
 sub path_of_descriptor {
     my ($call) = @_;
     my ($name, $has) = ($call->{name}, $call->{process}{has});
     my $file = $has->file(descriptor($call, 0));
     return if $call->{answer} =~ $NO_DIRECTORY;
-    return leave_out($call, "$name, of which the path is not known") unless $file && defined $file->{path};
+    return leave_out($call, "$name, of which the path is not known")
+        unless $file && defined $file->{path};
     $call->{whole} = [$file->{path}];
     my $inside = from_only($file->{path});
-    return leave_out($call, "$name outside of $only", spelled($file->{path})) unless defined $inside;
+    return leave_out($call, "$name outside of $only", spelled($file->{path}))
+        unless defined $inside;
     return leave_out($call, "$name, which asks for fewer promises than by a path", path($inside))
         if $call->{as} ne 'chdir' && !refused($call) && !$has->holds(@{ $NEEDS{ $call->{as} } });
     $call->{relative} = 1 if $file->{path} =~ /\A$START/;
@@ -222,14 +240,18 @@ sub path_of_descriptor {
 sub kind_of_open {
     my ($call) = @_;
     my ($name, $flags) = ($call->{name}, flags_of_open($call));
-    return leave_out($call, "$name, of which the flags can't be read") if !defined $flags || ($flags & 3) == 3;
+    return leave_out($call, "$name, of which the flags can't be read")
+        if !defined $flags || ($flags & 3) == 3;
     my $mode   = $flags & 3;
     my $create = $flags & $BITS{O_CREAT};
-    return leave_out($call, "$name with O_CREAT that doesn't write, which pua lacks") if $create && $mode == 0;
-    note($REST, $call->{line}, "$name with O_CREAT and O_RDWR is written create, which asks for neither rpath nor r")
+    return leave_out($call, "$name with O_CREAT that doesn't write, which pua lacks")
+        if $create && $mode == 0;
+    note($REST, $call->{line},
+        "$name with O_CREAT and O_RDWR is written create, which asks for neither rpath nor r")
         if $create && $mode == $BITS{O_RDWR};
     for my $flag (qw(O_EXCL O_NOFOLLOW O_DIRECTORY O_SHLOCK O_EXLOCK)) {
-        note($REST, $call->{line}, "$name with $flag is written without it") if $flags & $BITS{$flag};
+        note($REST, $call->{line}, "$name with $flag is written without it")
+            if $flags & $BITS{$flag};
     }
     note($REST, $call->{line}, "$name with O_TRUNC that doesn't write is written open-r")
         if $flags & $BITS{O_TRUNC} && $mode == 0;
@@ -248,8 +270,8 @@ sub pledge_fields {
         if (!defined $text && !is_null($call->{arguments}[$place])) {
             return leave_out($call, "pledge, of which the trace doesn't have the ${what}s")
                 if $call->{answer} eq 'ok' || ($place == 0 && !refused($call));
-            note($REST, $call->{line},
-                "pledge was answered $call->{answer} before its ${what}s were recorded: they are written -");
+            note($REST, $call->{line}, "pledge was answered $call->{answer} before its ${what}s "
+                . 'were recorded: they are written -');
         }
         push @fields, $list;
     }
@@ -266,7 +288,7 @@ sub unveil_fields {
         if !defined $letters && $$at ne '';
     $letters = '=' if !defined $letters || $letters eq '';
     return leave_out($call, "unveil, of which a script can't have the permissions")
-        if $letters =~ /[^\x21-\x7e]|\A-\z/ || ($letters eq '=' && length($call->{texts}{flags} || ''));
+        if $letters =~ /[^\x21-\x7e]|\A-\z/ || ($call->{texts}{flags} || '') eq '=';
     return ('unveil', $at, $letters);
 }
 
@@ -276,11 +298,14 @@ sub path_fields {
     my ($name, $as) = @$call{qw(name as)};
     if ($as =~ /\A(?:connect|bind)\z/ && !@{ $call->{paths} } && !defined $call->{texts}{socket}) {
         return if !refused($call);    # it is about no path
-        return leave_out($call, "$name, which pua lacks without a path, and which ended its process");
+        return leave_out($call,
+            "$name, which pua lacks without a path, and which ended its process");
     }
-    my @paths = $ABOUT{$name} ? path_of_descriptor($call) : paths($call, $as =~ /\A(?:symlink|rename|link)\z/ ? 2 : 1)
+    my @paths = $ABOUT{$name} ? path_of_descriptor($call)
+        : paths($call, $as =~ /\A(?:symlink|rename|link)\z/ ? 2 : 1)
         or return;
-    return leave_out($call, "$name, which pua has by its rules of OpenBSD alone (-k writes it)", path(${ $paths[0] }))
+    return leave_out($call, "$name, which pua has by its rules of OpenBSD alone (-k writes it)",
+        path(${ $paths[0] }))
         if $FURTHER{$as} && !$further;
     $as = kind_of_open($call) or return if $as eq 'open';
     my $flags = defined $FLAGS_AT{$name} ? flags($call->{arguments}[ $FLAGS_AT{$name} ]) : 0;
@@ -290,18 +315,24 @@ sub path_fields {
     $as = 'lstat' if $name eq 'fstatat'  && $flags & $BITS{AT_SYMLINK_NOFOLLOW};
     $as = 'rmdir' if $name eq 'unlinkat' && $flags & $BITS{AT_REMOVEDIR};
     note($REST, $call->{line}, "$name is written $as") if $LIKE{$name};
-    note($REST, $call->{line}, "$name is written $as, which asks the veils too") if $ABOUT{$name} && $as ne 'chdir';
+    note($REST, $call->{line}, "$name is written $as, which asks the veils too")
+        if $ABOUT{$name} && $as ne 'chdir';
     return ($as, @paths);
 }
 
-# The promise by which a kernel looks up a file by itself, past the veils, where pua answers otherwise.
+# The promise by which a kernel looks up a file by itself, past the veils, where pua answers
+# otherwise.
 sub opening {
     my ($call, $as) = @_;
     my ($has, $needs) = ($call->{process}{has}, $NEEDS{$as});
     return if !$needs || !$has->{promises} || $call->{answer} eq 'killed';
-    return if $has->holds(@$needs) && (!$has->{veiled} || $call->{answer} =~ /\A(?:ENOENT|EACCES)\z/);
-    my ($promise) = grep { $has->{promises}{$_} && $call->{paths}[0] =~ $OPENINGS{$_} } sort keys %OPENINGS;
-    return $promise;
+    my $is_hidden = $call->{answer} =~ /\A(?:ENOENT|EACCES)\z/;
+    return if $has->holds(@$needs) && (!$has->{veiled} || $is_hidden);
+    for my $promise (sort keys %OPENINGS) {
+        return $promise
+            if $has->{promises}{$promise} && $call->{paths}[0] =~ $OPENINGS{$promise};
+    }
+    return;
 }
 
 # Whether it is ld.so that opens, for a program that was started.
@@ -328,7 +359,8 @@ sub fields {
         return;
     }
     my $promise = $ABOUT{ $call->{name} } ? undef : opening($call, $as);
-    return leave_out($call, "$call->{name} by the promise $promise itself", path(${ $paths[0] })) if $promise;
+    return leave_out($call, "$call->{name} by the promise $promise itself", path(${ $paths[0] }))
+        if $promise;
     return ($as, @paths);
 }
 
@@ -336,7 +368,8 @@ sub follow_copy {
     my ($has, $call, $number) = @_;
     my $copy = descriptor($call, 1);
     return if !defined $copy || !defined $number || $copy == $number;
-    $has->opens($copy, $has->file($number), $call->{name} eq 'dup3' && ($call->{arguments}[2] || '') =~ /CLOEXEC|0x10000/);
+    my $flags = $call->{name} eq 'dup3' ? flags($call->{arguments}[2]) || 0 : 0;
+    $has->opens($copy, $has->file($number), $flags & $BITS{O_CLOEXEC});
     return;
 }
 
@@ -345,13 +378,14 @@ sub follow_fcntl {
     my (undef, $what, $value) = (@{ $call->{arguments} }, '', '');
     return unless defined $number;
     $has->opens($call->{value}, $has->file($number), $1) if $what =~ /\AF_DUPFD(_CLOEXEC)?\b/;
-    $has->sets_close_on_exec($number, (flags($value) || 0) & $BITS{FD_CLOEXEC}) if $what =~ /\AF_SETFD\b/;
+    $has->sets_close_on_exec($number, (flags($value) || 0) & $BITS{FD_CLOEXEC})
+        if $what =~ /\AF_SETFD\b/;
     return;
 }
 
-# The working directory is named. If the process has only gone on from where the first process began, that is
-# known now; if it was lost, it is known again, though a script can't have it: relative paths are then
-# written whole.
+# The working directory is named. If the process has only gone on from where the first process
+# began, that is known now; if it was lost, it is known again, though a script can't have it:
+# relative paths are then written whole.
 sub follow_getcwd {
     my ($has, $call) = @_;
     my ($path) = @{ $call->{paths} };
@@ -365,7 +399,8 @@ sub follow_getcwd {
         }
         return if defined $started && tidy("$started$was") eq $is;
     } elsif (defined $was) {
-        note($WRONG, $call->{line}, "may be wrong: relative paths, which begin at ${\spelled($was)} in the script: by "
+        note($WRONG, $call->{line},
+            "may be wrong: relative paths, which begin at ${\spelled($was)} in the script: by "
             . '__getcwd the directory is ' . spelled($is)) if $was ne $is;
         return;
     }
@@ -383,7 +418,8 @@ sub follow_chroot {
     $roots{ path($root) } = 1;
     return unless defined $only;
     $has->{astray} = 1;
-    note($WRONG, $call->{line}, 'may be wrong: what was unveiled before the chroot is not in this script')
+    note($WRONG, $call->{line},
+        'may be wrong: what was unveiled before the chroot is not in this script')
         if $has->{veiled} && is_told($has);
     return;
 }
@@ -396,7 +432,8 @@ sub follow {
     if ($as eq 'open') {
         my $flags = flags_of_open($call);
         my $mode = defined $flags ? $MODES[ $flags & 3 ] : undef;
-        $has->opens($call->{value}, $mode && { path => $path, mode => $mode, opened => $call }, ($flags || 0) & $BITS{O_CLOEXEC});
+        my $file = $mode && { path => $path, mode => $mode, opened => $call };
+        $has->opens($call->{value}, $file, ($flags || 0) & $BITS{O_CLOEXEC});
     } elsif ($as eq 'chdir') {
         @$has{qw(directory astray)} = ($path, 0);
     } elsif ($as eq 'rename' && defined $path && defined $new) {
@@ -410,7 +447,8 @@ sub follow {
         $process->{program} = $call->{paths}[0];
         $process->{loading} = ($call->{paths}[1] || '') =~ m{/ld\.so\z};
     } elsif ($as eq 'pledge') {
-        $has->pledges((map { defined $_ ? promises($_) : undef } @{ $call->{texts} }{qw(promise execpromise)}), $call);
+        my @texts = @{ $call->{texts} }{qw(promise execpromise)};
+        $has->pledges((map { defined $_ ? promises($_) : undef } @texts), $call);
     } elsif ($as eq 'unveil') {
         $has->{ is_null($call->{arguments}[0]) ? 'closed' : 'veiled' } = $call;
     }
@@ -448,7 +486,8 @@ sub take_other {
     my ($call) = @_;
     my ($name, $answer, $has) = ($call->{name}, $call->{answer}, $call->{process}{has});
     return unless defined $answer;
-    return leave_out($call, "$name, which pua lacks, and which ended its process") if $answer eq 'killed';
+    return leave_out($call, "$name, which pua lacks, and which ended its process")
+        if $answer eq 'killed';
     if (my $follow = $FOLLOWED{$name}) {
         $follow->($has, $call, descriptor($call, 0)) if $answer eq 'ok';
     } else {
@@ -461,14 +500,16 @@ sub take_other {
 sub take_line {
     my ($call) = @_;
     my $has = $call->{process}{has};
-    return leave_out($call, "$call->{name}, of which $call->{lacks}") unless defined $call->{answer};
+    return leave_out($call, "$call->{name}, of which $call->{lacks}")
+        unless defined $call->{answer};
     return take_fork($call) if $call->{as} eq 'fork';
     $reports->be_quiet(!is_told($has));
     my @fields = fields($call);
     $reports->be_quiet(0);
     push @entries, { %$call, fields => \@fields, call => $call } if @fields && is_told($has);
     note($WRONG, $call->{line},
-        'may be wrong: paths below ' . spelled($has->{root}) . ', after chroot(2): links and .. may lead elsewhere (see -c)')
+        'may be wrong: paths below ' . spelled($has->{root})
+            . ', after chroot(2): links and .. may lead elsewhere (see -c)')
         if @fields && !defined $only && $has->{root} ne '' && grep { ref } @fields;
     follow($call) if $call->{answer} eq 'ok';
     return;
@@ -482,7 +523,8 @@ sub take {
     $call->{as}    = $CALLS{ $call->{name} };
     my $killed = ($call->{answer} || '') eq 'killed';
     if (!$process->{has}) {
-        leave_out($call, "process $process->{pid} (" . spelled($process->{command} || '') . '): its fork is not in the trace')
+        leave_out($call, "process $process->{pid} (" . spelled($process->{command} || '')
+            . '): its fork is not in the trace')
             if $call->{as};
     } elsif ($process->{ended} && !$exits) {
         leave_out($call, 'what comes after the end of its process');
@@ -497,19 +539,22 @@ sub take {
     return;
 }
 
-# Whether a trace begins before its first process began its program: the first call that is known here is
-# an execve that succeeds.
+# Whether a trace begins before its first process began its program: the first call that is known
+# here is an execve that succeeds.
 sub begins_with_exec {
     my @calls = @_;
-    my ($begin) = grep { ($_->{process} || 0) == $first && !($_->{name} eq 'execve' && ($_->{answer} || '') ne 'ok') } @calls;
+    my ($begin) = grep { ($_->{process} || 0) == $first
+        && !($_->{name} eq 'execve' && ($_->{answer} || '') ne 'ok') } @calls;
     return $begin && $begin->{name} eq 'execve';
 }
 
-# The processes that did something in the root of the script, and those from which they were forked.
+# The processes that did something in the root of the script, and those from which they were
+# forked.
 sub needed {
     my %needed = map { $_->{process}{number} => 1 } grep { !$_->{aside} } @entries;
     for my $process (reverse @processes) {
-        $needed{ $process->{parent}{number} } = 1 if $needed{ $process->{number} } && $process->{parent};
+        $needed{ $process->{parent}{number} } = 1
+            if $needed{ $process->{number} } && $process->{parent};
     }
     return \%needed;
 }
@@ -519,15 +564,19 @@ sub lines {
     my (@script, @answers);
     my $needed = needed();
     my $moves = !defined $only || $only eq '' ? $directory : undef;
-    $moves = $started if !defined $directory && defined $started && $started ne '/' && grep { $_->{relative} } @entries;
-    unshift @entries, { process => $first, fields => ['chdir', \$moves], answer => 'ok' } if defined $moves;
+    $moves = $started
+        if !defined $directory && defined $started && $started ne '/'
+        && grep { $_->{relative} } @entries;
+    unshift @entries, { process => $first, fields => ['chdir', \$moves], answer => 'ok' }
+        if defined $moves;
     for my $entry (@entries) {
         my ($process, $child) = @$entry{qw(process child)};
         next if $entry->{aside} && !$needed->{ $child->{number} };
         my @fields = map { ref $_ ? path($$_) : $_ } @{ $entry->{fields} };
         push @fields, $child->{number} if $child;
         note($WRONG, $entry->{line},
-            'may be wrong: relative paths, which are taken from the root: where the first process began is not known (-d)')
+            'may be wrong: relative paths, which are taken from the root: where the first process '
+                . 'began is not known (-d)')
             if $entry->{relative} && !defined $started;
         push @script, join(' ', $process->{number}, @fields) . "\n";
         $child->{made} = 1 if $child;
@@ -539,7 +588,8 @@ sub lines {
     return (\@script, \@answers);
 }
 
-# What the processes still have open, though it was opened before they closed their sandbox for the last time.
+# What the processes still have open, though it was opened before they closed their sandbox for
+# the last time.
 sub held {
     my @held;
     for my $process (grep { $_->{made} && !($exits && $_->{gone}) } @processes) {
@@ -548,7 +598,8 @@ sub held {
         for my $file (sort { $a->{opened}{order} <=> $b->{opened}{order} } values %files) {
             next if $file->{opened}{order} > $closed->{order};
             push @held, join(' ', 'held', $process->{number}, $file->{mode},
-                defined $file->{path} ? path($file->{path}) : '-', 'since line', $file->{opened}{put} || '-') . "\n";
+                defined $file->{path} ? path($file->{path}) : '-',
+                'since line', $file->{opened}{put} || '-') . "\n";
         }
     }
     return \@held;
@@ -558,12 +609,16 @@ sub held {
 sub report_all {
     my ($begins, $lines) = @_;
     my $command = spelled(defined $first->{command} ? $first->{command} : '');
-    report("the trace begins in the middle of process 1 ($command, pid $first->{pid}): what it had pledged, unveiled and opened by "
-        . 'then, and where it was, is not in the script') unless $begins;
-    report("the script has $lines lines, and pua reads at most $MOST_LINES") if $lines > $MOST_LINES;
-    report('the script has ' . @processes . " processes, and pua makes at most $MOST_PROCESSES") if @processes > $MOST_PROCESSES;
+    report("the trace begins in the middle of process 1 ($command, pid $first->{pid}): what it "
+        . 'had pledged, unveiled and opened by then, and where it was, is not in the script')
+        unless $begins;
+    report("the script has $lines lines, and pua reads at most $MOST_LINES")
+        if $lines > $MOST_LINES;
+    report('the script has ' . @processes . " processes, and pua makes at most $MOST_PROCESSES")
+        if @processes > $MOST_PROCESSES;
     my $root = !defined $only || $only eq '' ? '/' : path($only);
-    report("no process had the root $root, but: " . join ', ', sort keys %roots) unless $roots{$root};
+    report("no process had the root $root, but: " . join ', ', sort keys %roots)
+        unless $roots{$root};
     report($_) for $reports->texts($verbose);
     return;
 }
@@ -573,8 +628,10 @@ sub report_processes {
     my @rows = [qw(process pid parent lines end program)];
     for my $process (grep { $_->{made} } @processes) {
         my $program = defined $process->{program} ? $process->{program} : $process->{command};
-        push @rows, [@$process{qw(number pid)}, $process->{parent} ? $process->{parent}{number} : '-', $process->{lines},
-            $process->{end} || (defined $process->{command} ? 'alive' : 'no record'), spelled(defined $program ? $program : '')];
+        my $parent = $process->{parent} ? $process->{parent}{number} : '-';
+        my $end = $process->{end} || (defined $process->{command} ? 'alive' : 'no record');
+        push @rows, [@$process{qw(number pid)}, $parent, $process->{lines}, $end,
+            spelled(defined $program ? $program : '')];
     }
     report(sprintf '%-7s %7s %7s %6s  %-16s %s', map { defined $_ ? $_ : '-' } @$_) for @rows;
     return;
@@ -595,8 +652,10 @@ sub write_file {
     return write_all($out, spelled($file), $lines);
 }
 
-my $understood = GetOptions('c=s' => \$only, 'd=s' => \$directory, 'e=s' => \$answers_to, 'o=s' => \$held_to,
-    'k' => \$further, 'l' => \$loaders, 'v' => \$verbose, 'x' => \$exits);
+my $understood = GetOptions(
+    'c=s' => \$only, 'd=s' => \$directory, 'e=s' => \$answers_to, 'o=s' => \$held_to,
+    'k' => \$further, 'l' => \$loaders, 'v' => \$verbose, 'x' => \$exits,
+);
 if (!$understood || @ARGV > 1 || grep({ $_ eq '' } @ARGV, grep { defined } $answers_to, $held_to)
     || grep { !m{\A/} } grep { defined } $only, $directory) {
     print STDERR $USAGE;
@@ -614,7 +673,8 @@ if (!eval { $trace->read_all; 1 }) {
     chomp(my $fault = $@);
     fail($fault);
 }
-fail('no record of kdump in the trace; what ktrace writes has to be read by kdump first') unless $trace->{records};
+fail('no record of kdump in the trace; what ktrace writes has to be read by kdump first')
+    unless $trace->{records};
 $first = $trace->{first};
 number($first, Pua::Process->new);
 $first->{made} = 1;
