@@ -3,8 +3,8 @@
 #
 #     perl man/model.pl docs/MODEL.md > pua-model.7
 #
-# It knows what that page has: headings, paragraphs, lists with dashes, tables, of which the first column is in
-# bold, and in a line bold, italics and code. Anything else it takes for text.
+# It knows what that page has: headings, paragraphs, lists with dashes, tables, of which the first
+# column is in bold, and in a line bold, italics and code. Anything else it takes for text.
 use strict;
 use warnings;
 
@@ -39,6 +39,12 @@ sub filled {
     return map { s/\A(?=[.'])/\\&/r . "\n" } @lines;
 }
 
+# The cells of a line of a table.
+sub cells {
+    my ($line) = @_;
+    return map { s/\A +| +\z//gr } split /(?<!\\)\|/, $line =~ s/\A\||\|\z//gr;
+}
+
 # A row of a table: its first cell is a tag, and each other one has the heading of its column.
 sub row {
     my ($headings, @cells) = @_;
@@ -46,7 +52,8 @@ sub row {
     $tag =~ s/\*\*//g;
     my @lines = ('.It ' . inline($tag) =~ s/(?<!\S)(?=[A-Z][a-z]{1,2}(?!\S))/\\&/gr . "\n");
     for my $place (0 .. $#cells) {
-        push @lines, @lines > 1 ? ".Pp\n" : (), filled("*$headings->[ $place + 1 ]:* $cells[$place]");
+        push @lines, @lines > 1 ? ".Pp\n" : (),
+            filled("*$headings->[ $place + 1 ]:* $cells[$place]");
     }
     return @lines;
 }
@@ -54,7 +61,8 @@ sub row {
 my ($file) = @ARGV or die "usage: perl model.pl FILE\n";
 open my $in, '<', $file or die "$file: $!\n";
 my @blocks = split /\n{2,}/, do { local $/ = undef; <$in> };
-print ".\\\" Made by man/model.pl of docs/MODEL.md.\n.Dd November 28, 2026\n.Dt PUA-MODEL 7\n.Os\n",
+print ".\\\" Made by man/model.pl of docs/MODEL.md.\n",
+    ".Dd November 28, 2026\n.Dt PUA-MODEL 7\n.Os\n",
     ".Sh NAME\n.Nm pua-model\n.Nd what the model of\n.Xr pua 1\nleaves out\n.Sh DESCRIPTION\n";
 my $begins = 1;    # whether a section begins, so that no paragraph is to be ended
 for my $block (@blocks) {
@@ -66,10 +74,11 @@ for my $block (@blocks) {
         $begins = 1;
         next;
     } elsif ($block =~ /\A\|/) {
-        my ($head, undef, @rows) = map { [map { s/\A +| +\z//gr } split /(?<!\\)\|/, s/\A\||\|\z//gr] } split /\n/, $block;
+        my ($head, undef, @rows) = map { [cells($_)] } split /\n/, $block;
         print ".Bl -tag -width Ds\n", (map { row($head, @$_) } @rows), ".El\n";
     } elsif ($block =~ /\A- /) {
-        print ".Bl -dash\n", (map { (".It\n", filled($_)) } split /^- /m, $block =~ s/\A- //r), ".El\n";
+        print ".Bl -dash\n", (map { (".It\n", filled($_)) } split /^- /m, $block =~ s/\A- //r),
+            ".El\n";
     } else {
         print $begins ? '' : ".Pp\n", filled($block);
     }

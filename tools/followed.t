@@ -1,16 +1,17 @@
 #!/usr/bin/perl
 # Tests what trace.pl follows, beside real calls: perl tools/followed.t [SEED [COUNT]]
 #
-# A process makes random calls in a real tree, from directories' descriptors, over copies of them, forks and
-# changes of its directory, and each is recorded as kdump would print it. Then the lines of the script that
-# trace.pl makes of these records are done in a tree that is made anew at the same place. Each has to be answered
-# as its call was, and the two trees have to end alike: a path that was followed wrongly leads elsewhere. With
-# PUA=PROGRAM that pua runs the script too, over a listing that list.pl makes before the calls: it has to answer
-# `ok` where the system did.
+# A process makes random calls in a real tree, from directories' descriptors, over copies of them,
+# forks and changes of its directory, and each is recorded as kdump would print it. Then the lines
+# of the script that trace.pl makes of these records are done in a tree that is made anew at the
+# same place. Each has to be answered as its call was, and the two trees have to end alike: a path
+# that was followed wrongly leads elsewhere. With PUA=PROGRAM that pua runs the script too, over a
+# listing that list.pl makes before the calls: it has to answer `ok` where the system did.
 #
-# Half of the trees have symbolic links, and nothing is moved or removed in them: a directory that was opened
-# through a link, and moved by another path since then, is one that trace.pl doesn't follow. In the others children
-# change their root, if the user may; from then on they use no `..`, of which trace.pl says that it leads elsewhere.
+# Half of the trees have symbolic links, and nothing is moved or removed in them: a directory that
+# was opened through a link, and moved by another path since then, is one that trace.pl doesn't
+# follow. In the others children change their root, if the user may; from then on they use no
+# `..`, of which trace.pl says that it leads elsewhere.
 use strict;
 use warnings;
 use Config;
@@ -23,7 +24,8 @@ use File::Temp qw(tempdir);
 use POSIX ();
 use Test::More;
 
-plan skip_all => 'the numbers of calls are those of Linux on x86-64' unless $Config{archname} =~ /\Ax86_64-linux/;
+plan skip_all => 'the numbers of calls are those of Linux on x86-64'
+    unless $Config{archname} =~ /\Ax86_64-linux/;
 
 my ($SEED, $COUNT) = (@ARGV, (71, 24)[@ARGV .. 1]);
 my ($LIST, $TRACE) = map { dirname(abs_path(__FILE__)) . "/$_.pl" } qw(list trace);
@@ -35,11 +37,15 @@ my $top   = $tree;     # of the tree, for whoever changed its root
 my $in_root = 0;       # whether this process did
 
 # The numbers of Linux's calls; the numbers that OpenBSD has for the errnos that they are answered.
-my %NUMBERS = (openat => 257, mkdirat => 258, fstatat => 262, unlinkat => 263, renameat => 264, linkat => 265,
-    symlinkat => 266, fchmodat => 268, close => 3, dup => 32, dup2 => 33, fchdir => 81, fchmod => 91, fstat => 5,
-    chroot => 161);
-my %ERRNOS = (ENOENT => 2, EBADF => 9, EBUSY => 16, EEXIST => 17, EXDEV => 18, ENOTDIR => 20, EISDIR => 21, EINVAL => 22,
-    EPERM => 1, ELOOP => 62, ENOTEMPTY => 66);
+my %NUMBERS = (
+    close => 3, fstat => 5, dup => 32, dup2 => 33, fchdir => 81, fchmod => 91, chroot => 161,
+    openat => 257, mkdirat => 258, fstatat => 262, unlinkat => 263, renameat => 264,
+    linkat => 265, symlinkat => 266, fchmodat => 268,
+);
+my %ERRNOS = (
+    EPERM => 1, ENOENT => 2, EBADF => 9, EBUSY => 16, EEXIST => 17, EXDEV => 18, ENOTDIR => 20,
+    EISDIR => 21, EINVAL => 22, ELOOP => 62, ENOTEMPTY => 66,
+);
 my %NAMES_OF = map { no strict 'refs'; (&{"Errno::$_"}() => $_) } keys %ERRNOS;
 my ($HERE, $NOFOLLOW, $REMOVEDIR) = (-100, 0x100, 0x200);    # as Linux has them
 
@@ -62,7 +68,10 @@ sub make_tree {
 # All that is in the tree, with its modes and targets.
 sub shape {
     my @shape;
-    find({ no_chdir => 1, wanted => sub { push @shape, $_ . ' ' . (-l $_ ? readlink : sprintf '%o', (lstat)[2]) } }, "$room/tree");
+    my $take = sub {
+        push @shape, "$_ " . (-l $_ ? readlink : sprintf '%o', (lstat)[2]);
+    };
+    find({ no_chdir => 1, wanted => $take }, "$room/tree");
     return [sort @shape];
 }
 
@@ -80,7 +89,8 @@ sub called {
 my $log;
 sub record { printf {$log} "%6d %-8s %s\n", $$, 'walker', $_ for @_; return }
 
-# Makes a call and records it: its words for Linux, and as kdump prints it, with the paths among them.
+# Makes a call and records it: its words for Linux, and as kdump prints it, with the paths among
+# them.
 sub makes {
     my ($name, $words, $printed, @paths) = @_;
     my ($answer, $value) = called($name, @$words);
@@ -94,45 +104,66 @@ sub pick { return $_[ rand @_ ] }
 # A path of a few names, mostly a relative one.
 sub any_path {
     my @parts = map { pick(@NAMES, @NAMES, '.', $in_root ? () : '..') } 0 .. rand 3;
-    return rand() < 0.8 ? join '/', @parts : join '/', $top, (grep { $_ ne '..' } @parts), pick(@NAMES);
+    return join '/', @parts if rand() < 0.8;
+    return join '/', $top, (grep { $_ ne '..' } @parts), pick(@NAMES);
 }
 
-# Whether a directory was removed. From such a one Linux goes on to what is above it, which other kernels don't.
+# Whether a directory was removed. From such a one Linux goes on to what is above it, which other
+# kernels don't.
 sub is_removed {
     my ($from) = @_;
     return !(stat '.')[3] if $from < 0;
     my $buffer = ' ' x 256;
-    return syscall($NUMBERS{fstat}, $from + 0, $buffer) || !unpack 'x16 Q', $buffer;    # how many names it has
+    return 1 if syscall $NUMBERS{fstat}, $from + 0, $buffer;
+    return !unpack 'x16 Q', $buffer;    # how many names it has
 }
+
+# What each call has: its words for Linux, and what kdump prints of them and of its paths.
+my %HAS = (
+    openat    => sub { return ([@_[1, 3], 0, 0], "$_[0],0x1c60,0<O_RDONLY>", $_[3]) },
+    mkdirat   => sub { return ([@_[1, 3], 0755], "$_[0],0x1c60,0755", $_[3]) },
+    unlinkat  => sub { return ([@_[1, 3], 0], "$_[0],0x1c60,0<>", $_[3]) },
+    rmdir     => sub { return ([@_[1, 3], $REMOVEDIR], "$_[0],0x1c60,0x8<AT_REMOVEDIR>", $_[3]) },
+    stat      => sub { return ([@_[1, 3], ' ' x 256, 0], "$_[0],0x1c60,0x1d60,0<>", $_[3]) },
+    fchmodat  => sub { return ([@_[1, 3], 0711], "$_[0],0x1c60,0711,0<>", $_[3]) },
+    symlinkat => sub { return ([@_[4, 1, 3]], "0x1c60,$_[0],0x1d60", @_[4, 3]) },
+    fchmod    => sub { return ([$_[5], 0711], "$_[5],0711") },
+    dup2      => sub { return ([@_[5, 6]], "$_[5],$_[6]") },
+    (map { $_ => sub { return ([$_[5]], $_[5]) } } qw(dup close fchdir)),
+    lstat     => sub {
+        my ($at, $from, undef, $path) = @_;
+        my $printed = "$at,0x1c60,0x1d60,0x2<AT_SYMLINK_NOFOLLOW>";
+        return ([$from, $path, ' ' x 256, $NOFOLLOW], $printed, $path);
+    },
+    renameat  => sub {
+        my ($at, $from, $to, $path, $other) = @_;
+        my $into = $to eq 'AT_FDCWD' ? $HERE : $to;
+        return ([$from, $path, $into, $other], "$at,0x1c60,$to,0x1d60", $path, $other);
+    },
+    linkat    => sub {
+        my ($at, $from, $to, $path, $other) = @_;
+        my $into = $to eq 'AT_FDCWD' ? $HERE : $to;
+        return ([$from, $path, $into, $other, 0], "$at,0x1c60,$to,0x1d60,0<>", $path, $other);
+    },
+);
+my %CALLED = (rmdir => 'unlinkat', stat => 'fstatat', lstat => 'fstatat');    # by the kernel
+my @MOVING  = qw(renameat renameat unlinkat rmdir linkat);
+my @STAYING = qw(openat openat openat mkdirat stat lstat fchmodat fchmod fchdir fchdir
+    dup dup2 close);
 
 # Makes one of the calls, from the descriptors that are open.
 sub make_any {
     my ($open, $moves) = @_;
+    my $call = pick(@STAYING, $moves ? @MOVING : 'symlinkat');
+    return if !@$open && $call =~ /\A(?:dup2?|close)\z/ || ($call eq 'close' && @$open < 5);
     my ($at, $to) = map { pick(@$open, 'AT_FDCWD', 'AT_FDCWD') } 1, 2;
     my ($from, $into) = map { $_ eq 'AT_FDCWD' ? $HERE : $_ } $at, $to;
     return if grep { is_removed($_) } $from, $into;
-    my ($path, $other, $number) = (any_path(), any_path(), @$open ? pick(@$open) : 9999);
-    my $call = pick(qw(openat openat openat mkdirat fstatat fstatat symlinkat fchmodat fchmod fchdir fchdir dup dup2 close),
-        $moves ? qw(renameat renameat unlinkat rmdir linkat) : ());
-    if ($call eq 'openat') {
-        my ($answer, $value) = makes($call, [$from, $path, 0, 0], "$at,0x1c60,0<O_RDONLY>", $path);
-        push @$open, $value if $answer eq 'ok';
-    } elsif ($call eq 'fstatat') {
-        my $buffer = ' ' x 256;
-        my $follows = rand() < 0.5;
-        makes($call, [$from, $path, $buffer, $follows ? 0 : $NOFOLLOW], "$at,0x1c60,0x1d60," . ($follows ? '0<>' : '0x2<AT_SYMLINK_NOFOLLOW>'), $path);
-    } elsif ($call eq 'mkdirat')   { makes($call, [$from, $path, 0755], "$at,0x1c60,0755", $path) }
-    elsif ($call eq 'symlinkat')   { makes($call, [$other, $from, $path], "0x1c60,$at,0x1d60", $other, $path) if !$moves }
-    elsif ($call eq 'fchmodat')    { makes($call, [$from, $path, 0711], "$at,0x1c60,0711,0<>", $path) }
-    elsif ($call eq 'fchmod')      { makes($call, [$number, 0711], "$number,0711") }
-    elsif ($call eq 'fchdir')      { makes($call, [$number], $number) }
-    elsif ($call eq 'renameat')    { makes($call, [$from, $path, $into, $other], "$at,0x1c60,$to,0x1d60", $path, $other) }
-    elsif ($call eq 'linkat')      { makes($call, [$from, $path, $into, $other, 0], "$at,0x1c60,$to,0x1d60,0<>", $path, $other) }
-    elsif ($call eq 'unlinkat')    { makes($call, [$from, $path, 0], "$at,0x1c60,0<>", $path) }
-    elsif ($call eq 'rmdir')       { makes('unlinkat', [$from, $path, $REMOVEDIR], "$at,0x1c60,0x8<AT_REMOVEDIR>", $path) }
-    elsif ($call eq 'dup')         { my ($answer, $value) = makes($call, [$number], $number); push @$open, $value if $answer eq 'ok' }
-    elsif ($call eq 'dup2')        { makes($call, [$number, $to], "$number,$to") if $to =~ /\A[0-9]/ }
-    elsif (@$open > 4)             { makes($call, [$number], $number); @$open = grep { $_ != $number } @$open }
+    my @numbers = map { @$open ? pick(@$open) : 9999 } 1, 2;
+    my @has = $HAS{$call}->($at, $from, $to, any_path(), any_path(), @numbers);
+    my ($answer, $value) = makes($CALLED{$call} || $call, @has);
+    push @$open, $value if $answer eq 'ok' && $call =~ /\A(?:openat|dup)\z/;
+    @$open = grep { $_ != $numbers[0] } @$open if $call eq 'close';
     return;
 }
 
@@ -179,7 +210,8 @@ sub make_calls {
 sub done {
     my ($call, @words) = @_;
     local $! = 0;
-    return called('fstatat', $HERE, $words[0], ' ' x 256, $call eq 'stat' ? 0 : $NOFOLLOW) if $call =~ /\Al?stat\z/;
+    return called('fstatat', $HERE, $words[0], ' ' x 256, $call eq 'stat' ? 0 : $NOFOLLOW)
+        if $call =~ /\Al?stat\z/;
     return called('fchmodat', $HERE, $words[0], 0711) if $call eq 'chmod';
     if ($call eq 'open-r') {
         my ($answer, $value) = called('openat', $HERE, $words[0], 0, 0);
@@ -190,7 +222,8 @@ sub done {
     return called('symlinkat', $words[0], $HERE, $words[1]) if $call eq 'symlink';
     return called('renameat', $HERE, $words[0], $HERE, $words[1]) if $call eq 'rename';
     return called('linkat', $HERE, $words[0], $HERE, $words[1], 0) if $call eq 'link';
-    return called('unlinkat', $HERE, $words[0], $call eq 'rmdir' ? $REMOVEDIR : 0) if $call =~ /\A(?:unlink|rmdir)\z/;
+    return called('unlinkat', $HERE, $words[0], $call eq 'rmdir' ? $REMOVEDIR : 0)
+        if $call =~ /\A(?:unlink|rmdir)\z/;
     return answered(chdir($words[0]) ? 0 : -1) if $call eq 'chdir';
     die "a line of a script: $call @words";
 }
@@ -202,20 +235,23 @@ for my $number (1 .. $COUNT) {
     make_tree(!$moves);
     open $log, '>>', "$room/trace" or die "trace: $!";
     truncate $log, 0;
-    is(system("$^X $LIST $room/tree > listing 2> said"), 0, "$number: it is listed") if defined $PUA;
+    is(system("$^X $LIST $room/tree > listing 2> said"), 0, "$number: it is listed")
+        if defined $PUA;
     chdir $tree or die "$tree: $!";
     make_calls(150, $moves);
     close $log or die "trace: $!";
     my $shape = shape();
     chdir $room or die "$room: $!";
     my $said = `$^X -w $TRACE -d $tree -e answers trace 2>&1 > script`;
-    is($? . (() = $said =~ / at \S+ line [0-9]+\.$/mg), '00', "$number: the trace is read") or diag $said;
+    is($? . (() = $said =~ / at \S+ line [0-9]+\.$/mg), '00', "$number: the trace is read")
+        or diag $said;
 
     make_tree(!$moves);
     if (defined $PUA) {
         my @ran = map { s/ E\w+$/ refused/r } `$PUA run --rules openbsd listing script`;
         open my $told, '<', 'answers' or die "answers: $!";
-        is_deeply(\@ran, [map { s/ E\w+$/ refused/r } <$told>], "$number: pua answers as the system");
+        is_deeply(\@ran, [map { s/ E\w+$/ refused/r } <$told>],
+            "$number: pua answers as the system");
     }
     open my $script,  '<', 'script'  or die "script: $!";
     open my $answers, '<', 'answers' or die "answers: $!";

@@ -31,8 +31,8 @@ sub content {
     return defined $bytes ? $bytes : '';
 }
 
-# Runs glance.pl as for foreign text, with these words and, as its input, the file `list`: its status, and what
-# it wrote on both outputs.
+# Runs glance.pl as for foreign text, with these words and, as its input, the file `list`: its
+# status, and what it wrote on both outputs.
 sub glance {
     my @words = @_;
     my $child = fork;
@@ -236,11 +236,14 @@ OUT
 
 # Many paths, several files, what the listing lacks, and what is held open.
 {
-    file('list', 'objects 1', 'process alive', 'promises stdio,unix', 'execpromises -', 'unveil locked',
+    file('list', 'objects 1', 'process alive', 'promises stdio,unix', 'execpromises -',
+        'unveil locked',
         (map { "veil /s$_ w" } 1 .. 7));
-    file('other', '1 ok', 'objects 1', 'process ended', 'objects 2', 'process alive', 'promises =', 'execpromises -', 'unveil locked');
+    file('other', '1 ok', 'objects 1', 'process ended', 'objects 2', 'process alive',
+        'promises =', 'execpromises -', 'unveil locked');
     file('manifest', 'left-out /usr/include', 'passed-over /root', 'left-out /a\\040b');
-    file('held', 'held 2 open-r /etc/ssl since line 3', 'held 2 open-rw - since line -', 'held 1 open-w /x since line 4');
+    file('held', 'held 2 open-r /etc/ssl since line 3', 'held 2 open-rw - since line -',
+        'held 1 open-w /x since line 4');
     my ($status, $out, $err) = glance('-m', 'manifest', '-o', 'held', 'list', 'other');
     is($out, <<'END', 'two files, a manifest, and what is held');
 not in the listing /a\040b, /root, /usr/include
@@ -258,7 +261,8 @@ END
     is("$status $err", '0 ', 'two files, a manifest, and what is held: the status');
     file('manifest');
     file('held');
-    is((glance('-m', 'manifest', '-o', 'held', 'other'))[1], (glance('other'))[1], 'an empty manifest, and nothing that is held');
+    is((glance('-m', 'manifest', '-o', 'held', 'other'))[1], (glance('other'))[1],
+        'an empty manifest, and nothing that is held');
 }
 
 # Faults: nothing is written, and one line says why.
@@ -273,9 +277,11 @@ END
         [[$list, 'run'], 'run: it has no list of objects'],
         [['-m', file('bad', 'left-out usr'), $list], 'bad: line 1: no line of a manifest'],
         [['-m', 'none', $list], 'none: No such file or directory'],
-        [['-o', file('open', 'held 1 open-r /a since line 1', 'held 1 stat /a since line 1'), $list], 'open: line 2: nothing that is held'],
+        [['-o', file('open', 'held 1 open-r /a since line 1', 'held 1 stat /a since line 1'),
+            $list], 'open: line 2: nothing that is held'],
     );
-    is_deeply([glance(@{ $_->[0] })], [1, '', "glance.pl: $_->[1]\n"], "a fault: $_->[1]") for @faults;
+    is_deeply([glance(@{ $_->[0] })], [1, '', "glance.pl: $_->[1]\n"], "a fault: $_->[1]")
+        for @faults;
     my $usage = "usage: glance.pl [-m MANIFEST] [-o HELD] [LIST]...\n";
     for my $words ([''], ['-m', ''], ['-o', '', 'list'], ['-q'], ['-m']) {
         my ($status, $out, $err) = glance(@$words);

@@ -1,11 +1,12 @@
 package Pua::Lists;
 
-# Reads what `pua objects` prints, the manifests of list.pl -m, and what trace.pl -o writes. What isn't of
-# the right form ends in a `die` with the file, the line and the fault.
+# Reads what `pua objects` prints, the manifests of list.pl -m, and what trace.pl -o writes. What
+# isn't of the right form ends in a `die` with the file, the line and the fault.
 use strict;
 use warnings;
 use Exporter qw(import);
-our @EXPORT_OK = qw(@COLUMNS columns has_promise holds lines_of lists_of manifest_of held_of state_of);
+our @EXPORT_OK = qw(@COLUMNS columns has_promise holds lines_of lists_of manifest_of held_of
+    state_of);
 
 # Under which heads the calls of an object are shown.
 our @COLUMNS = qw(read written executed made removed);
@@ -29,8 +30,9 @@ sub lines_of {
     return @lines;
 }
 
-# The answers above the lists that `pua objects` printed, and the lists: of each its `process`, whether it is
-# of what `ever` can be touched, the lines of its `state`, and its `objects`, each as its fields.
+# The answers above the lists that `pua objects` printed, and the lists: of each its `process`,
+# whether it is of what `ever` can be touched, the lines of its `state`, and its `objects`, each
+# as its fields.
 sub lists_of {
     my ($name, @lines) = @_;
     my (@answers, @lists);
@@ -52,7 +54,8 @@ sub lists_of {
     return (\@answers, @lists);
 }
 
-# The calls of an object of this kind, by the heads under which they are shown; `else` for any others.
+# The calls of an object of this kind, by the heads under which they are shown; `else` for any
+# others.
 sub columns {
     my ($kind, $calls) = @_;
     my %cells;
@@ -70,28 +73,38 @@ sub promises_of {
     return { map { $_ => 1 } $text eq '=' ? () : split /,/, $text };
 }
 
-# What the lines of a list's state say: whether the process has `ended`; its `promises` and `execpromises`,
-# undef where there are none; `unveil` (locked, given-up or open); its `veils`, each with path and letters;
-# its `openings`, each with path, calls and `veils` where these are asked; and whether it is told `by_openbsd`, with calls on sockets.
+# What the lines of a list's state say: whether the process has `ended`; its `promises` and
+# `execpromises`, undef where there are none; `unveil` (locked, given-up or open); its `veils`,
+# each with path and letters; its `openings`, each with path, calls and `veils` where these are
+# asked; and whether it is told `by_openbsd`, with calls on sockets.
 sub state_of {
     my ($list) = @_;
     my %state = (veils => [], openings => []);
     for my $line (@{ $list->{state} }) {
         my ($word, @rest) = split / /, $line;
-        if    ($line eq 'process ended')                   { $state{ended} = 1 }
-        elsif ($word =~ /\A(?:exec)?promises\z/)           { $state{$word} = promises_of($rest[0]) }
-        elsif ($word =~ /\A(?:unveil|exec)\z/)             { $state{$word} = $rest[0] }
-        elsif ($word eq 'veil' && @rest == 2)              { push @{ $state{veils} }, \@rest }
-        elsif ($word eq 'opening')                         { push @{ $state{openings} }, \@rest }
-        elsif ($line eq 'rules openbsd')                   { $state{by_openbsd} = 1 }
+        if ($line eq 'process ended')             { $state{ended} = 1 }
+        elsif ($word =~ /\A(?:exec)?promises\z/)  { $state{$word} = promises_of($rest[0]) }
+        elsif ($word =~ /\A(?:unveil|exec)\z/)    { $state{$word} = $rest[0] }
+        elsif ($word eq 'veil' && @rest == 2)     { push @{ $state{veils} }, \@rest }
+        elsif ($word eq 'opening')                { push @{ $state{openings} }, \@rest }
+        elsif ($line eq 'rules openbsd')          { $state{by_openbsd} = 1 }
     }
-    $state{by_openbsd} ||= @{ $state{openings} } || grep { $_->[2] =~ /\b(?:connect|bind)\b/ } @{ $list->{objects} };
+    $state{by_openbsd} ||= @{ $state{openings} }
+        || grep { $_->[2] =~ /\b(?:connect|bind)\b/ } @{ $list->{objects} };
     return \%state;
 }
 
-# Whether a process of this state holds a promise by name, and whether it holds it or never pledged.
-sub has_promise { my ($state, $promise) = @_; return $state->{promises} && $state->{promises}{$promise} }
-sub holds       { my ($state, $promise) = @_; return !$state->{promises} || $state->{promises}{$promise} }
+# Whether a process of this state holds a promise by name, and whether it holds it or never
+# pledged.
+sub has_promise {
+    my ($state, $promise) = @_;
+    return $state->{promises} && $state->{promises}{$promise};
+}
+
+sub holds {
+    my ($state, $promise) = @_;
+    return !$state->{promises} || $state->{promises}{$promise};
+}
 
 # By their paths, the places that a listing doesn't have though it was asked for them, and why.
 sub manifest_of {
@@ -99,7 +112,8 @@ sub manifest_of {
     my ($number, %missing) = (0);
     for my $line (lines_of($name)) {
         $number++;
-        $line =~ m{\A(left-out|passed-over) (/\S*)\z} or die "$name: line $number: no line of a manifest\n";
+        $line =~ m{\A(left-out|passed-over) (/\S*)\z}
+            or die "$name: line $number: no line of a manifest\n";
         $missing{$2} = $1;
     }
     return \%missing;
@@ -111,7 +125,8 @@ sub held_of {
     my ($number, %held) = (0);
     for my $line (lines_of($name)) {
         $number++;
-        $line =~ m{\Aheld ([0-9]+) (open-\w+ (?:/\S*|-)) since line \S+\z} or die "$name: line $number: nothing that is held\n";
+        $line =~ m{\Aheld ([0-9]+) (open-\w+ (?:/\S*|-)) since line \S+\z}
+            or die "$name: line $number: nothing that is held\n";
         push @{ $held{$1} }, $2;
     }
     return \%held;
