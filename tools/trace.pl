@@ -34,6 +34,10 @@
 #
 # After chroot(2) paths are written with the new root before them, without -c.
 #
+# Two kinds of calls are left out since pua would end the process for them, and answer all its later
+# lines `gone`: what a promise opens by itself, such as /etc/resolv.conf for dns; and a call about a
+# descriptor, where the process doesn't hold the promises that the call needs by a path.
+#
 # open is open-r, open-w, open-rw or create by its flags; access, statfs, pathconf and realpath
 # are stat; truncate is open-w; utimes and chflags are chmod. A relative path stays as it is. An
 # execve that fails is no line. Where pledge refused a call before its path was recorded, the path
@@ -44,7 +48,8 @@
 # at last a table of the processes. Each kind of report stands there once, with the line of the
 # trace where it is first and how often it is there.
 #
-# It was tried on texts that were written by hand (trace.t), not on a system.
+# It was tried on texts that were written by hand (trace.t) and on records of real calls of Linux
+# (followed.t), not on the system whose kdump it reads.
 #
 # Status 0: the script was printed. Status 1: a file can't be read or written, or TRACE has no
 # record of kdump. Status 2: the words are no use of it.
