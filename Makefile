@@ -1,15 +1,19 @@
-# Builds pua, passes its gate, and installs it. Any make(1) will do.
+# Builds pua, tests it, passes its gate, and installs it. Any make(1) will do.
 
 PREFIX = /usr/local
 DESTDIR =
 BINDIR = $(DESTDIR)$(PREFIX)/bin
-MANDIR = $(DESTDIR)$(PREFIX)/share/man/man1
+MANDIR = $(DESTDIR)$(PREFIX)/share/man
 
-# The program that is installed: what `all` builds.
+# Where the installed tools look for their modules: ../share/pua/perl, seen from where they are.
+PERLDIR = $(DESTDIR)$(PREFIX)/share/pua/perl
+
+# The program that is installed and tested: what `all` builds.
 PROGRAM = crates/pua/out/pua
 
-# Each tool is installed as pua-NAME, for tools/NAME.pl.
-TOOLS = list trace page
+# Each tool is installed as pua-NAME, for tools/NAME.pl, and has a page man/pua-NAME.1.
+TOOLS = list trace page glance
+MODULES = Calls Kdump Lists Process Reports
 
 all:
 	cd crates/pua && rt run -- --version
@@ -17,16 +21,32 @@ all:
 check:
 	.ci/run
 
-install:
-	install -d $(BINDIR) $(MANDIR)
+# The tests in perl, over a program that is built already.
+test:
+	for test in tools/*.t; do PUA=$(PROGRAM) perl $$test || exit 1; done
+	for test in tests/*.t; do perl $$test $(PROGRAM) || exit 1; done
+
+install: install-tools
+	install -d $(MANDIR)/man7
 	install -m 755 $(PROGRAM) $(BINDIR)/pua
-	install -m 644 man/pua.1 $(MANDIR)/pua.1
+	install -m 644 man/pua.1 $(MANDIR)/man1/pua.1
+	perl man/model.pl docs/MODEL.md > $(MANDIR)/man7/pua-model.7
+	chmod 644 $(MANDIR)/man7/pua-model.7
+
+# The tools alone, for a machine that has perl and no program.
+install-tools:
+	install -d $(BINDIR) $(MANDIR)/man1 $(PERLDIR)/Pua
 	for tool in $(TOOLS); do \
 		install -m 755 tools/$$tool.pl $(BINDIR)/pua-$$tool || exit 1; \
+		install -m 644 man/pua-$$tool.1 $(MANDIR)/man1/pua-$$tool.1 || exit 1; \
+	done
+	for module in $(MODULES); do \
+		install -m 644 tools/lib/Pua/$$module.pm $(PERLDIR)/Pua/$$module.pm || exit 1; \
 	done
 
 uninstall:
-	rm -f $(BINDIR)/pua $(MANDIR)/pua.1
-	for tool in $(TOOLS); do rm -f $(BINDIR)/pua-$$tool; done
+	rm -f $(BINDIR)/pua $(MANDIR)/man1/pua.1 $(MANDIR)/man7/pua-model.7
+	for tool in $(TOOLS); do rm -f $(BINDIR)/pua-$$tool $(MANDIR)/man1/pua-$$tool.1; done
+	for module in $(MODULES); do rm -f $(PERLDIR)/Pua/$$module.pm; done
 
-.PHONY: all check install uninstall
+.PHONY: all check test install install-tools uninstall

@@ -1,60 +1,76 @@
 #!/usr/bin/perl
 # Prints the listing of real files and directories, as pua reads it:
 #
-#     list.pl [-kv] [-r ROOT] [-s SCRIPT] [-x PATH]... [PATH]...
+#     list.pl [-kv] [-m FILE] [-r ROOT] [-s SCRIPT] [-x PATH]... [PATH]...
 #
-# Each PATH is listed at its own place below the root, with all that is in it; of the directories on
-# the way to it, only what leads there is listed. What isn't listed, pua takes for missing.
+# Each PATH is listed at its own place below the root, with all that is in it; of the directories
+# on the way to it, only what leads there is listed. What isn't listed, pua takes for missing. For
+# a script that is made of a trace take the listing before the run: afterwards the files are what
+# the run left.
 #
 #     -k         goes on where a file, a directory or a link can't be read or listed. A directory
 #                that can't be read is listed as an empty one.
-#     -r ROOT    takes the directory ROOT for the root, as after chroot(2); every other path is then
-#                one below ROOT. With neither PATH nor SCRIPT, all of ROOT is listed.
+#     -m FILE    writes into FILE what isn't listed though it was asked for: a line `left-out
+#                PATH` for what a -x left out, and `passed-over PATH` for what -k did. It is kept
+#                beside the listing, which doesn't show it; page.pl and glance.pl do.
+#     -r ROOT    takes the directory ROOT for the root, as after chroot(2); every other path is
+#                then one below ROOT. With neither PATH nor SCRIPT, all of ROOT is listed.
 #     -s SCRIPT  lists what a script for pua can be about: for each path that it names the
-#                directories on the way, the links and what they lead to, and what stands there. Of a
-#                directory that it veils, opens, renames or removes, or to whose name it renames
-#                something, all that is in it is listed too. A relative path is taken from the root.
+#                directories on the way, the links and what they lead to, and what stands there.
+#                Of a directory that it veils, opens, renames or removes, or to whose name it
+#                renames something, all that is in it is listed too. A relative path is taken from
+#                where the process is by then, and from the root at first. A script that is made
+#                of a trace exists after its run alone: list by it on a machine where that run
+#                wasn't.
 #     -v         reports each link that leads out of the listing by itself.
-#     -x PATH    leaves PATH out, with all that is in it; a directory is listed as an empty one. It
-#                may be given several times. Links in it are not followed.
+#     -x PATH    leaves PATH out, with all that is in it; a directory is listed as an empty one.
+#                It may be given several times. Links in it are not followed.
 #
-# Directories are listed as `dir`, symbolic links as `link`, plain files that someone may execute as
-# `prog`, and all else as `file`: plain files, sockets, fifos and devices. What has several names, by
-# its device and inode, is listed once, under the first of them in the order of the listing; each
-# other one is a `hard` line, and the listing's first line is then `tree 2`, else `tree 1`. Links are
-# not followed, except on the way to a PATH; mount points are crossed. Names come in the order of
-# their bytes, so two runs over the same files print the same.
+# Directories are listed as `dir`, symbolic links as `link`, plain files that someone may execute
+# as `prog`, and all else as `file`: plain files, sockets, fifos and devices. What has several
+# names, by its device and inode, is listed once, under the first of them in the order of the
+# listing; each other one is a `hard` line, and the listing's first line is then `tree 2`, else
+# `tree 1`. Links are not followed, except on the way to a PATH; mount points are crossed. Names
+# come in the order of their bytes, so two runs over the same files print the same.
 #
 # Lines on standard error report what a reader of the listing has to know: links whose target is
-# there but isn't listed, summed up by where they lead to; each further name of what is listed, which
-# a veil on the first one doesn't cover; that something has a name which isn't listed; a directory
-# that was left out, and a -x that left nothing out; with -k what was passed over, and how much; with
-# -s what the script names in vain, where its relative paths are taken from, and each process that is
-# left without a veil, which sees all, and how many names aren't listed. To count these, -s reads all
-# directories below the root then.
+# there but isn't listed, summed up by where they lead to; each further name of what is listed,
+# which a veil on the first one doesn't cover; that something has a name which isn't listed; a
+# directory that was left out, and a -x that left nothing out; with -k what was passed over, and
+# how much; with -s what the script names in vain, each name once and no name that the script
+# makes, how many relative paths are taken from the root, and each process that is left without a
+# veil and holds a promise about paths, and how many names aren't listed. To count these, -s reads
+# the directories below the root then, up to 100,000 names.
 #
-# Status 0: the listing was printed. Status 1: a file, a directory, a link or the script can't be read,
-# the script isn't one, there are more than 4,096 names (how many, and in which directories most of
-# them are, is reported), or a link's target is longer than pua reads; then nothing was printed.
-# Status 2: the words are no use of it.
+# Status 0: the listing was printed. Status 1: a file, a directory, a link or the script can't be
+# read, the script isn't one, there are more than 4,096 names (how many, and in which directories
+# most of them are, is reported), or a link's target is longer than pua reads; then nothing was
+# printed. Status 2: the words are no use of it.
 use strict;
 use warnings;
 use Cwd qw(getcwd);
 use Errno qw(ENOENT ENOTDIR ENAMETOOLONG);
 use Getopt::Long qw(:config posix_default no_ignore_case bundling);
 
+my ($NAME) = $0 =~ m{([^/]*)\z};
+my $USAGE = "usage: $NAME [-kv] [-m FILE] [-r ROOT] [-s SCRIPT] [-x PATH]... [PATH]...\n";
+
 my $MOST_LISTED = 4096;    # names, the root among them
 my $MOST_TARGET = 1023;    # bytes in a link's target
 my $MOST_NAME   = 255;     # bytes in a component
 my $MOST_LINKS  = 32;      # links followed in one resolution
 my $MOST_NAMED  = 10;      # directories that are named where there are too many names
+my $MOST_COUNTED = 100_000;    # names that are counted beside the listing
+
+# The promises by which something is touched by a path.
+my @ABOUT_PATHS = qw(rpath wpath cpath dpath tmppath exec fattr chown unix);
 
 # By the name of a call in a script: what each of its arguments is. A `path` is followed to what
 # stands there, and of a `tree` all that is in it matters too; with `new` nothing has to be there.
 my %arguments = (
-    (map { $_ => ['path'] } qw(stat lstat readlink unlink chmod chdir exec)),
+    (map { $_ => ['path'] } qw(stat lstat readlink unlink chmod chdir exec connect chown)),
     (map { $_ => ['tree'] } qw(open-r open-w open-rw rmdir)),
-    (map { $_ => ['new path'] } qw(create mkdir)),
+    (map { $_ => ['new path'] } qw(create mkdir bind mknod)),
     symlink => ['text', 'new path'],
     rename  => ['tree', 'new tree'],
     link    => ['path', 'new path'],
@@ -73,7 +89,7 @@ my %walked;                # by a directory's path: that all in it was taken
 my %nodes  = ('' => { kind => 'dir' });    # what is listed, by its path; the root's is empty
 my %inside = ('' => {});                   # by a directory's path: the names listed in it
 
-sub report { print STDERR "list.pl: @_\n"; return }
+sub report { print STDERR "$NAME: @_\n"; return }
 
 sub fail { report(@_); exit 1 }
 
@@ -114,8 +130,8 @@ sub whole {
 # What stands at a path on the disk: the fields of lstat, or none.
 sub found { my ($path) = @_; return lstat($path eq '' && $root eq '' ? '/' : "$root$path") }
 
-# Takes what stands at a path, whose directory is listed already, into the listing; answers its kind,
-# and an empty one where it is passed over.
+# Takes what stands at a path, whose directory is listed already, into the listing; answers its
+# kind, and an empty one where it is passed over.
 sub take {
     my ($path) = @_;
     return $nodes{$path}{kind} if $nodes{$path};
@@ -200,9 +216,10 @@ sub take_way {
     return;
 }
 
-# Follows a path on the disk, and takes the links by which it leads on. With $follows a link at its
-# end leads on too. Answers the path of what is there, and nothing where a -x left it out; where the
-# path leads nowhere, how far it leads, why it doesn't go on, and the path and the error there.
+# Follows a path on the disk, and takes the links by which it leads on. With $follows a link at
+# its end leads on too. Answers the path of what is there, and nothing where a -x left it out;
+# where the path leads nowhere, how far it leads, why it doesn't go on, and the path and the error
+# there.
 sub follow {
     my ($operand, $follows) = @_;
     my ($path, $links, @parts) = ('', 0, parts(whole($operand)));
@@ -242,10 +259,11 @@ sub take_operand {
     return;
 }
 
-# Takes what a script names by a path, in the role that the table of arguments has for it.
+# Takes what a script names by a path, in the role that the table of arguments has for it. Answers
+# why it leads nowhere, if nothing is there that has to be.
 sub take_named {
     my ($named, $role) = @_;
-    my ($path, $fault, $at, $error) = follow("/$named", 1);
+    my ($path, $fault, $at, $error) = follow($named, 1);
     return unless defined $path;
     take_way($path);
     take($path);
@@ -254,7 +272,7 @@ sub take_named {
     } elsif (defined $error && !grep { $error == $_ } ENOENT, ENOTDIR, ENAMETOOLONG) {
         pass_over($at, "$error");
     } elsif ($role !~ /new/) {
-        report('the script names ' . spelled($named) . ", which leads nowhere: $fault");
+        return $fault;
     }
     return;
 }
@@ -289,12 +307,15 @@ sub requests {
     return @requests;
 }
 
-# Takes what the requests of a script name, and reports where its relative paths are taken from.
+# Takes what the requests of a script name, and reports what isn't there though the script doesn't
+# make it.
 sub take_script {
-    my @requests = @_;
-    my %relative;
-    for my $request (@requests) {
+    my (%made, %in_vain, @named, %relative);
+    my %directory;    # by process: where it went
+    for my $request (@_) {
         my ($where, $process, $call, @words) = @$request;
+        my $here = $directory{$process};
+        $directory{ $words[0] } = $here if $call eq 'fork';
         next if $call eq 'unveil' && $words[0] eq '-';
         for my $role (@{ $arguments{$call} }) {
             my $word = shift @words;
@@ -302,44 +323,73 @@ sub take_script {
             my $path = unspelled($word);
             fail("$where: bad path") unless defined $path;
             next if $path eq '';
-            $relative{$path} = 1 if $path !~ m{\A/};
-            take_named($path, $role);
+            $relative{$path} = 1 if $path !~ m{\A/} && !defined $here;
+            my $whole = $path =~ m{\A/} ? $path : (defined $here ? $here : '') . "/$path";
+            my $place = join '', map { "/$_" } grep { $_ ne '.' } parts($whole);
+            $made{$place} = 1 if $role =~ /new/;
+            $directory{$process} = $whole if $call eq 'chdir';
+            my $fault = take_named($whole, $role);
+            next if !defined $fault || $in_vain{$place}++;
+            push @named, [$path, $place, $fault];
         }
     }
-    my $moves = grep { $_->[2] eq 'chdir' } @requests;
-    report('relative paths of the script are taken from /'
-            . ($moves ? ', though it moves (chdir)' : '') . ': ' . keys %relative)
+    for my $name (@named) {
+        my ($path, $place, $fault) = @$name;
+        my $way = $place;
+        $way = above($way) while $way ne '' && !$made{$way};
+        report('the script names ' . spelled($path) . ", which leads nowhere: $fault")
+            if $way eq '';
+    }
+    report('relative paths of the script are taken from /, where no chdir is before them: '
+        . keys %relative)
         if %relative;
     return;
 }
 
-# The processes that a script leaves without a veil, as far as its text shows: each request is taken
-# to succeed, and an exec drops the veils where no execpromises were set.
+# What a process holds after a pledge: the promises of its first or second word, none where it is
+# `-`.
+sub held_by {
+    my ($word) = @_;
+    return $word eq '-' ? undef : { map { $_ => 1 } split /,/, $word };
+}
+
+# The processes that a script leaves without a veil, though they may touch something by a path, as
+# far as its text shows: each with its promises about paths. Each request is taken to succeed. An
+# exec drops the veils where no execpromises were set, and else they are the promises from then
+# on.
 sub unveiled {
-    my %state = (1 => { veils => 0, kept => 0 });
+    my %state = (1 => { veils => 0 });
     for my $request (@_) {
         my (undef, $process, $call, @words) = @$request;
         my $state = $state{$process} or next;
         if ($call eq 'unveil') {
             $state->{veils}++ if $words[0] ne '-';
         } elsif ($call eq 'pledge') {
-            $state->{kept} = 1 if $words[1] ne '-';
+            $state->{promises} = held_by($words[0]) if $words[0] ne '-';
+            $state->{next}     = held_by($words[1]) if $words[1] ne '-';
         } elsif ($call eq 'exec') {
-            $state->{veils} = 0 unless $state->{kept};
-            $state->{kept}  = 0;
+            $state->{veils} = 0 unless $state->{next};
+            $state->{promises} = delete $state->{next};
         } elsif ($call eq 'fork') {
             $state{ $words[0] } ||= {%$state};
         } elsif ($call eq 'exit') {
             delete $state{$process};
         }
     }
-    return sort { $a <=> $b } grep { !$state{$_}{veils} } keys %state;
+    my %unveiled;
+    for my $process (grep { !$state{$_}{veils} } keys %state) {
+        my $promises = $state{$process}{promises};
+        my @held = grep { !$promises || $promises->{$_} } @ABOUT_PATHS;
+        $unveiled{$process} = $promises ? join ',', @held : 'it never pledged' if @held;
+    }
+    return %unveiled;
 }
 
 # How many names there are on the disk, the root among them, as far as directories can be read.
+# Counting ends where there are more than anyone wants to know.
 sub names_there {
     my ($count, @paths) = (1, '');
-    while (defined(my $path = pop @paths)) {
+    while ($count <= $MOST_COUNTED && defined(my $path = pop @paths)) {
         my ($names) = names_in($path);
         $count += @$names;
         push @paths, grep { found($_) && -d _ } map { "$path/$_" } @$names;
@@ -347,12 +397,13 @@ sub names_there {
     return $count;
 }
 
-# Reports the processes that see all, and how much of it isn't listed.
+# Reports the processes that may touch all, and how much of it isn't listed.
 sub report_unveiled {
-    my @processes = unveiled(@_) or return;
-    my $left = names_there() - keys %nodes;
-    report("process $_ is left without a veil, so it sees all; names that are not listed: $left")
-        for @processes;
+    my %unveiled = unveiled(@_) or return;
+    my $count = names_there();
+    my $left = $count > $MOST_COUNTED ? "more than $MOST_COUNTED" : $count - keys %nodes;
+    report("process $_ has no veil, and may touch all by path ($unveiled{$_}); "
+        . "names that are not listed: $left") for sort { $a <=> $b } keys %unveiled;
     return;
 }
 
@@ -367,7 +418,7 @@ sub judge_size {
     }
     my @largest = sort { $below{$b} <=> $below{$a} || $a cmp $b } keys %below;
     splice @largest, $MOST_NAMED if @largest > $MOST_NAMED;
-    fail(join "\nlist.pl: ", map { shown($_) . ": $below{$_} names in it" } @largest) if @largest;
+    fail(join "\n$NAME: ", map { shown($_) . ": $below{$_} names in it" } @largest) if @largest;
     exit 1;
 }
 
@@ -397,12 +448,13 @@ sub outside {
     return;
 }
 
-# What a line has for a node, in which $parent is the number of its directory and $made that of the
-# same file under an earlier name, if there is one.
+# What a line has for a node, in which $parent is the number of its directory and $made that of
+# the same file under an earlier name, if there is one.
 sub fields {
     my ($node, $parent, $name, $made) = @_;
     return ('hard', $parent, $name, $made) if defined $made;
-    return ($node->{kind}, $parent, $name, defined $node->{target} ? spelled($node->{target}) : ());
+    my @target = defined $node->{target} ? spelled($node->{target}) : ();
+    return ($node->{kind}, $parent, $name, @target);
 }
 
 # The lines of the listing, and the paths in their order.
@@ -419,7 +471,8 @@ sub lines {
         $header = 'tree 2' if defined $made;
         $made{ $node->{file} } = $number{$path} unless defined $made;
         push @lines,
-            join(' ', $number{$path}, fields($node, $number{ above($path) }, spelled($name), $made)) . "\n";
+            join(' ', $number{$path}, fields($node, $number{ above($path) }, spelled($name), $made))
+            . "\n";
         unshift @paths, map { "$path/$_" } sort keys %{ $inside{$path} || {} };
     }
     return (["$header\n", "0 dir\n", @lines], \@order);
@@ -455,6 +508,19 @@ sub report_gaps {
     return;
 }
 
+# Writes what isn't listed though it was asked for, in the order of the bytes of its paths.
+sub write_manifest {
+    my ($name) = @_;
+    my ($file) = $name =~ /\A(.*)\z/s;    # the user's own word, also under -T
+    my %lines = map { $_ => 'passed-over' } keys %passed_over;
+    $lines{$_} = 'left-out' for grep { $left_out{$_} } keys %left_out;
+    open my $out, '>', $file or fail(spelled($file) . ": $!");
+    print {$out} map { "$lines{$_} " . shown($_) . "\n" } sort keys %lines
+        or fail(spelled($file) . ": $!");
+    close $out or fail(spelled($file) . ": $!");
+    return;
+}
+
 # Reports, in the order of the listing, the names of what has several.
 sub report_names {
     my ($order) = @_;
@@ -471,16 +537,18 @@ sub report_names {
     return;
 }
 
-my ($script, @exclusions);
+my ($script, $manifest, @exclusions);
 my $understood = GetOptions(
     'k'   => \$go_on,
+    'm=s' => \$manifest,
     'r=s' => \$given,
     's=s' => \$script,
     'v'   => \$each_link,
     'x=s' => \@exclusions,
 );
-if (!$understood || !(@ARGV || defined $given || defined $script) || grep { $_ eq '' } @ARGV, @exclusions) {
-    print STDERR "usage: list.pl [-kv] [-r ROOT] [-s SCRIPT] [-x PATH]... [PATH]...\n";
+my @words = (@ARGV, @exclusions, grep { defined } $manifest);
+if (!$understood || !(@ARGV || defined $given || defined $script) || grep { $_ eq '' } @words) {
+    print STDERR $USAGE;
     exit 2;
 }
 utf8::is_utf8($_) && utf8::encode($_) for @ARGV, @exclusions, grep { defined } $given, $script;
@@ -499,6 +567,7 @@ report_links($order);
 report_names($order);
 report_gaps();
 report_unveiled(@requests) if defined $script;
+write_manifest($manifest) if defined $manifest;
 binmode STDOUT;
 print @$lines or fail("standard output: $!");
 close STDOUT or fail("standard output: $!");

@@ -306,11 +306,12 @@ sub refuses {
     my $root = room();
     make_path('d');
     file('f');
-    my $usage = qr/^usage: list\.pl \[-kv\] \[-r ROOT\] \[-s SCRIPT\] \[-x PATH\]\.\.\. \[PATH\]\.\.\.\n\z/m;
+    my $usage = qr/^usage: list\.pl \[-kv\] \[-m FILE\] \[-r ROOT\] \[-s SCRIPT\] \[-x PATH\]\.\.\. \[PATH\]\.\.\.\n\z/m;
     refuses('no words',          [],                     2, $usage);
     refuses('an unknown option', ['-q', '/etc'],         2, $usage);
     refuses('no path',           ['-x', '/etc'],         2, $usage);
     refuses('an empty path',     ['/etc', ''],           2, $usage);
+    refuses('an empty manifest', ['-m', '', '/etc'],     2, $usage);
     refuses('a missing path',    ['-r', $root, '/none'], 1, qr/\Alist\.pl: \/none: \S.*\n\z/);
     refuses('a file on the way', ['-r', $root, '/f/x'],  1, qr/\Alist\.pl: \/f(\/x)?: \S.*\n\z/);
     refuses('a missing root',    ['-r', "$root/none"],   1, qr/: not a directory\n\z/);
@@ -366,7 +367,10 @@ sub refuses {
         close $out;
         return lists("a script: $what", ['-r', $root, '-s', $script], $lines, @reports);
     };
-    my $sees = sub { "process $_[0] is left without a veil, so it sees all; names that are not listed: $_[1]" };
+    my $sees = sub {
+        my ($process, $left, $why) = (@_, 'it never pledged');
+        return "process $process has no veil, and may touch all by path ($why); names that are not listed: $left";
+    };
     my @site = ('1 dir 0 www', '2 dir 1 site', '3 dir 2 deep', '4 file 3 page', '5 file 2 index');
     $try->('a veil', "1 unveil /www/site r\n1 unveil - -\n1 pledge stdio,rpath -\n1 stat /www\n", \@site);
     $try->('DOS ends, and none', "1 unveil /www/site r\r\n1 stat /www", \@site);
@@ -381,10 +385,22 @@ sub refuses {
         ['1 dir 0 etc', '2 file 1 passwd', '3 dir 0 www'],
         'the script names /www/sitee, which leads nowhere: /www/sitee: No such file or directory',
         'the script names /etc/passwd/x, which leads nowhere: /etc/passwd: not a directory');
-    $try->('relative paths', "1 unveil www/site r\n", \@site, 'relative paths of the script are taken from /: 1');
-    $try->('relative paths, and it moves', "1 unveil /www/site r\n1 chdir /www\n1 stat site/index\n", \@site,
-        'the script names site/index, which leads nowhere: /site: No such file or directory',
-        'relative paths of the script are taken from /, though it moves (chdir): 1');
+    my $relative = 'relative paths of the script are taken from /, where no chdir is before them';
+    $try->('relative paths', "1 unveil www/site r\n1 stat ./www\n1 stat www/site\n", \@site, "$relative: 2");
+    $try->('it moves, and what it forks is there too', "1 unveil /old r\n1 chdir /www\n1 fork 2\n1 chdir ..\n2 chdir site/./deep\n"
+        . "2 open-r ../deep\n2 fork 3\n2 chdir /old\n3 stat ../index\n1 stat www/other\n2 unlink f\n",
+        ['1 dir 0 old', '2 file 1 f', '3 dir 0 www', '4 dir 3 other', '5 dir 3 site', '6 dir 5 deep', '7 file 6 page', '8 file 5 index']);
+    $try->('what it made, and what is not there is named once', "1 unveil /www r\n1 mkdir /new\n1 stat /new/x\n1 chdir /new\n1 stat y\n1 stat /none\n"
+        . "1 symlink /old /l\n1 stat /l\n1 stat /none\n1 rename /old /moved\n1 stat /moved/f\n1 bind /sock\n1 chmod /sock\n1 stat /newer\n"
+        . "1 create /made\n1 connect /s2\n1 chown /made\n1 mknod /fifo\n1 open-r //fifo\n",
+        ['1 dir 0 old', '2 file 1 f', '3 dir 0 www', '4 dir 3 other', '5 file 4 key', '6 dir 3 site', '7 dir 6 deep', '8 file 7 page',
+            '9 file 6 index'],
+        'the script names /none, which leads nowhere: /none: No such file or directory',
+        'the script names /newer, which leads nowhere: /newer: No such file or directory',
+        'the script names /s2, which leads nowhere: /s2: No such file or directory');
+    $try->('who has no veil, and what of it', "1 fork 2\n1 fork 3\n1 fork 4\n1 fork 5\n1 fork 6\n1 pledge stdio,dns,inet -\n2 pledge stdio,unix,rpath -\n"
+        . "3 pledge = -\n4 pledge stdio,cpath,exec stdio,fattr\n4 exec /bin/worker\n5 pledge stdio,exec -\n5 exec /bin/worker\n6 unveil /old r\n",
+        ['1 dir 0 bin', '2 prog 1 worker', '3 dir 0 old', '4 file 3 f'], $sees->(2, 16, 'rpath,unix'), $sees->(4, 16, 'fattr'), $sees->(5, 16));
     $try->('what is renamed and removed', "1 unveil = r\n1 rename /old /new\n1 symlink /etc /s\n", ['1 dir 0 old', '2 file 1 f']);
     $try->('processes', "1 fork 2\n1 unveil /old r\n1 fork 3\n3 exec /bin/worker\n1 pledge - stdio\n1 fork 4\n4 exec /bin/worker\n2 exit\n1 fork 5\n",
         ['1 dir 0 bin', '2 prog 1 worker', '3 dir 0 old', '4 file 3 f'], $sees->(3, 16));
@@ -434,6 +450,40 @@ SKIP: {
     unlink "$room/out", "$room/err";
     $> = $<;
     chmod 0755, 'closed';
+}
+
+# What isn't listed though it was asked for is kept beside the listing.
+{
+    my $root = room();
+    make_path('a/b b', 'a/c', 'd');
+    file($_) for 'a/b b/1', 'a/c/2', 'd/3';
+    symlink 'x' x 256, 'd/wide' or die;
+    my $kept = "$room/manifest";
+    lists('a manifest', ['-k', '-m', $kept, '-r', $root, '-x', '/a/b b', '-x', '/d/3', '-x', '/none'],
+        ['1 dir 0 a', '2 dir 1 b\\040b', '3 dir 1 c', '4 file 3 2', '5 dir 0 d'],
+        '/d/wide: the target is too long; leave it out with -x; passed over', '/a/b\\040b: left out, and listed as an empty directory',
+        '/none: nothing was left out', 'passed over, since they could not be read or listed: 1');
+    is(content($kept), "left-out /a/b\\040b\nleft-out /d/3\npassed-over /d/wide\n", 'a manifest: what it has');
+    lists('a manifest of nothing', ['-m', $kept, '-r', "$root/a/c"], ['1 file 0 2']);
+    is(content($kept), '', 'a manifest of nothing: what it has');
+    refuses('a manifest that can not be written', ['-m', "$root/none/m", '-r', "$root/a/c"], 1, qr{\Alist\.pl: \S+/none/m: \S.*\n\z});
+}
+
+# What isn't listed is counted up to 100,000.
+{
+    my $root = room();
+    make_path('a', 'b', 'c');
+    file('script');
+    for my $directory ('a', 'b') {
+        file("$directory/0");
+        link "$directory/0", "$directory/$_" or die "link: $!" for 1 .. 49_998;
+    }
+    my ($status, $out, $err) = list('-r', $root, '-s', "$root/script");
+    is($err, 'list.pl: process 1 has no veil, and may touch all by path (it never pledged); names that are not listed: more than '
+        . "100000\n", 'counting ends');
+    unlink "a/$_" for 1 .. 4;
+    ($status, $out, $err) = list('-r', $root, '-s', "$root/script");
+    like($err, qr/not listed: 99998\n\z/, 'up to there it is exact');
 }
 
 chdir '/';

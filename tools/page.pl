@@ -1,41 +1,62 @@
 #!/usr/bin/perl
 # Writes a page of what a process can touch, from a listing and what `pua objects` prints:
 #
-#     page.pl TREE [OBJECTS]
+#     page.pl [-m MANIFEST] TREE [OBJECTS [EVER]]
 #
-# TREE is the listing, and OBJECTS the output of `pua objects` over it, of now or with `--ever`; standard
-# input if it is left out. What is written is one HTML file, without scripts, that loads nothing. For each list of OBJECTS,
-# of which `--process all` prints several, it has the state of the process, if there are lines about it,
-# and the tree: beside each name what can be read, written, executed, made and removed there, and the
-# veil whose place stands there now. A directory is folded where nothing below it can be touched and no
-# veil stands. An open-rw stands in two columns, and a create of what is there among what is written.
+# TREE is the listing, and OBJECTS the output of `pua objects` over it, of now or with `--ever`;
+# standard input if it is left out. What is written is one HTML file, without scripts, that loads
+# nothing. For each list of OBJECTS, of which `--process all` prints several, it has the state of
+# the process, if there are lines about it, and the tree: beside each name what can be read,
+# written, executed, made and removed there, and the veil whose place stands there now. A
+# directory is folded where nothing below it can be touched and no veil stands, and so are more
+# than four such names beside others. An open-rw stands in two columns, a create of what is there
+# among what is written, and a connect too.
 #
-# The tree is that of the listing, before the script, with what the list adds; such a name is marked
-# `not listed`. What the script removed stands there still, as something that can't be touched.
+# EVER is a list for ever of a process whose list of now is in OBJECTS: it follows that one, and
+# what it has more is marked. What MANIFEST has, as list.pl -m writes it, is marked as not listed.
 #
-# Status 0: the page was written. Status 1: a file can't be read, TREE is no listing, or OBJECTS is no
-# list of objects; then nothing was written. Status 2: the words are no use of it.
+# The tree is that of the listing, before the script, with what the list adds; such a name is
+# marked `not listed`. What the script removed stands there still, as something that can't be
+# touched.
+#
+# Status 0: the page was written. Status 1: a file can't be read, TREE is no listing, or OBJECTS
+# or EVER is no list of objects; then nothing was written. Status 2: the words are no use of it.
 use strict;
 use warnings;
 no warnings 'recursion';    # a tree may be 4,000 directories deep
 
-my @COLUMNS = qw(read written executed made removed);
-my %COLUMNS = (
-    (map { $_ => ['read'] } qw(stat lstat readlink open-r chdir)),
-    (map { $_ => ['written'] } qw(open-w create chmod)),
-    (map { $_ => ['made'] } qw(mkdir symlink)),
-    (map { $_ => ['removed'] } qw(rmdir unlink)),
-    'open-rw' => ['read', 'written'], exec => ['executed'],
-);
+BEGIN {
+    my ($here) = __FILE__ =~ m{\A(.*/)}s;
+    unshift @INC, map { ($here || './') . $_ } '../share/pua/perl', 'lib';
+}
+use Getopt::Long qw(:config posix_default no_ignore_case bundling);
+use Pua::Lists qw(@COLUMNS columns holds lines_of lists_of manifest_of state_of);
+
+my ($NAME) = $0 =~ m{([^/]*)\z};
+
+my $MOST_BESIDE = 4;    # names that can't be touched and still stand unfolded beside others
+
 my %FIELDS = (dir => 4, file => 4, prog => 4, link => 5, hard => 5);    # of a line of a listing
+my %MISSING = ('left-out' => 'left out of the listing',
+    'passed-over' => 'passed over by the listing');
 my %STATES = (
     'process ended'   => 'it can touch nothing',
     'promises -'      => 'none were ever pledged: it holds all but error',
-    'execpromises -'  => 'unset: a program that it starts has no veils, and all promises but error',
     'unveil locked'   => 'no further veil can be put',
     'unveil given-up' => 'no further veil can be put, since the promise unveil was given up',
     'unveil open'     => 'further veils can be put: the list holds for now alone',
+    'no veils'        => 'it can touch what is not listed too',
+    'rules openbsd'   => 'as OpenBSD\'s kernel is known to answer',
+    'exec bounded'    =>
+        'programs that are started keep the veils, and hold the execpromises at most',
+    'exec open'       => 'the list holds until a program is started',
 );
+my $HEAD = <<'END';
+<!DOCTYPE html>
+<html lang="en"><head><meta charset="utf-8"><title>What can be touched</title>
+<meta http-equiv="Content-Security-Policy" content="default-src 'none'; style-src 'unsafe-inline'">
+<meta name="viewport" content="width=device-width">
+END
 my $STYLE = <<'END';
 :root { color-scheme: light dark }
 body { font: 14px/1.5 sans-serif; margin: 1em auto; max-width: 100em; padding: 0 1em }
@@ -49,8 +70,8 @@ summary::-webkit-details-marker { display: none } div > span:first-child::before
 summary > :first-child::before { content: '\25b8\a0' }
 details[open] > summary > :first-child::before { content: '\25be\a0' }
 .untouched { color: GrayText; color: light-dark(#666, #aaa) }
-.veil, .alarm { background: #369; border-radius: 3px; color: #fff; padding: 0 .4em }
-.alarm { background: #b30 }
+.veil, .alarm, .more { background: #369; border-radius: 3px; color: #fff; padding: 0 .4em }
+.alarm { background: #b30 } .more { background: #063 }
 @media (max-width: 76em) {
   .row { display: block; padding: .2em 0 }
   .head { display: none } details > :not(summary) { margin-left: .6em }
@@ -59,37 +80,25 @@ details[open] > summary > :first-child::before { content: '\25be\a0' }
 }
 END
 
-sub fail { print STDERR "page.pl: @_\n"; exit 1 }
+sub fail { print STDERR "$NAME: @_\n"; exit 1 }
 
 # A text as HTML has it.
 sub text { my ($text) = @_; $text =~ s/([&<>"'])/'&#' . ord($1) . ';'/ge; return $text }
 
-# The lines of a file; each is made of visible fields with one blank between them.
-sub lines {
-    my ($name) = @_;
-    open my $in, '<', $name or fail("$name: $!");
-    my @lines = <$in>;
-    fail("$name: it cannot be read") if $in->error;
-    s/\r?\n\z// for @lines;
-    my @bad = grep { $lines[ $_ - 1 ] !~ /\A[!-~]+(?: [!-~]+)*\z/ } 1 .. @lines;
-    fail("$name: line $bad[0]: bad line") if @bad;
-    return @lines;
-}
-
 # The tree of a listing: a node has a kind, and by their names the nodes that are `in` it.
 sub tree {
     my ($name, @lines) = @_;
-    fail("$name: it is no listing") if @lines < 2 || "@lines[0, 1]" !~ /\Atree [12] 0 dir\z/;
+    die "$name: it is no listing\n" if @lines < 2 || "@lines[0, 1]" !~ /\Atree [12] 0 dir\z/;
     my %nodes = (0 => { kind => 'dir', listed => 1 });
     for my $number (3 .. @lines) {
         my ($where, @fields) = ("$name: line $number", split / /, $lines[ $number - 1 ]);
         my ($id, $kind, $parent, $row, $last) = @fields;
-        fail("$where: bad line") if @fields != ($FIELDS{ $kind || '' } || 0) || $row =~ m{/};
-        fail("$where: bad number") if $nodes{$id};
-        fail("$where: bad parent") if ($nodes{$parent} || { kind => '' })->{kind} ne 'dir';
+        die "$where: bad line\n" if @fields != ($FIELDS{ $kind || '' } || 0) || $row =~ m{/};
+        die "$where: bad number\n" if $nodes{$id};
+        die "$where: bad parent\n" if ($nodes{$parent} || { kind => '' })->{kind} ne 'dir';
         my $node = { kind => $kind, listed => 1, $kind eq 'link' ? (note => "-> $last") : () };
         if ($kind eq 'hard') {
-            fail("$where: bad node") if ($nodes{$last} || { kind => 'dir' })->{kind} eq 'dir';
+            die "$where: bad node\n" if ($nodes{$last} || { kind => 'dir' })->{kind} eq 'dir';
             $node = { %{ $nodes{$last} }, note => "(a further name of node $last)" };
         }
         $nodes{$parent}{in}{$row} = $nodes{$id} = $node;
@@ -104,98 +113,197 @@ sub node {
     return $node;
 }
 
-# The answers above the lists that `pua objects` printed, and the lists: of each its heading, the lines
-# of the state, and those about objects.
-sub lists {
-    my ($name, @lines) = @_;
-    my (@answers, @lists);
-    for my $number (1 .. @lines) {
-        my $line = $lines[ $number - 1 ];
-        if    ($line =~ /\A(?:objects|ever) [0-9]+\z/) { push @lists, { heading => $line } }
-        elsif (!@lists && $line =~ /\A[0-9]+ /)        { push @answers, $line }
-        elsif (@lists && $line =~ m{\A(?!veil )[a-z-]+ (?:/\S*|new) \S}) { push @{ $lists[-1]{objects} }, $line }
-        elsif (@lists && $line =~ /\A[a-z]+ \S/)       { push @{ $lists[-1]{state} }, $line }
-        else { fail("$name: line $number: no line of a list of objects") }
-    }
-    fail("$name: it has no list of objects") unless @lists;
-    return (\@answers, @lists);
-}
-
-# A row: what stands in the first column, and the calls on a thing of this kind in theirs.
+# A row: what stands in the first column, and the calls on a thing of this kind in theirs; those
+# of a list for ever that aren't among $now, the calls of the list of now, are marked.
 sub row {
-    my ($tag, $first, $kind, $calls, @why) = @_;
-    my %cells;
-    for my $call (split /,/, $calls || '') {
-        my $is_made = $call eq 'create' && $kind =~ /\A(?:missing|other)\z/;
-        push @{ $cells{$_} }, $call for $is_made ? 'made' : @{ $COLUMNS{$call} || ['else'] };
-    }
+    my ($tag, $first, $kind, $calls, $now, @why) = @_;
+    my $cells = columns($kind, $calls);
+    my %was = map { $_ => 1 } split /,/, defined $now ? $now : '';
     $first .= ' <small>by ' . text("@why") . '</small>' if @why;
-    my @cells = map { "<span title=\"$_\">" . text(join ' ', @{ $cells{$_} || [] }) . '</span>' }
-        @COLUMNS, $cells{else} ? 'else' : ();
-    return "<$tag class=\"row" . (%cells ? '' : ' untouched') . "\"><span>$first</span>@cells</$tag>\n";
+    my @cells;
+    for my $column (@COLUMNS, $cells->{else} ? 'else' : ()) {
+        my @texts;
+        for my $call (@{ $cells->{$column} || [] }) {
+            my $is_more = defined $now && !$was{$call};
+            push @texts, $is_more ? '<b class="more">' . text($call) . '</b>' : text($call);
+        }
+        push @cells, "<span title=\"$column\">@texts</span>";
+    }
+    return "<$tag class=\"row" . (%$cells ? '' : ' untouched')
+        . "\"><span>$first</span>@cells</$tag>\n";
 }
 
-# Adds to the page the rows of a node and of what is in it; answers how many names these are, and whether
-# one can be touched or has a veil.
+# The row of what a list of objects says of a node.
+sub row_of {
+    my ($tag, $first, $kind, $said) = @_;
+    my ($says) = @$said or return row($tag, $first, $kind);
+    return row($tag, $first, $kind, @$says{qw(calls now)}, @{ $says->{why} });
+}
+
+# The pieces of a page, of which some are lists of pieces, one after the other.
+sub flat {
+    my @pieces = reverse @_;
+    my @flat;
+    while (@pieces) {
+        my $piece = pop @pieces;
+        if (ref $piece) { push @pieces, reverse @$piece }
+        else            { push @flat, $piece }
+    }
+    return @flat;
+}
+
+# Adds to the page the rows of a node and of what is in it, as lists in it; answers how many names
+# these are, and whether one can be touched, has a veil or was left out. Many names that are
+# nothing of these are folded.
 sub add_rows {
     my ($page, $name, $node) = @_;
-    my ($kind, $in, $veils) = ($node->{kind}, $node->{in} || {}, $node->{veils} || []);
+    my ($kind, $in, $badges) = ($node->{kind}, $node->{in} || {}, $node->{badges} || []);
     my $first = text($name) . ($kind eq 'dir' || %$in ? '/' : " <small>$kind</small>");
     $first .= ' ' . text($node->{note}) if defined $node->{note};
     $first .= ' <small>not listed</small>' if !$node->{listed} && $kind ne 'missing';
-    $first .= ' <b class="veil">veil ' . text($_) . '</b>' for @$veils;
-    my $place = push @$page, '';
-    push @$page, row('div', '<i>any other name</i>', 'other', @{ $node->{other} }) if $node->{other};
-    my ($names, $touched) = (0, $node->{other} ? 1 : 0);
+    $first .= " <b class=\"$_->[0]\">" . text($_->[1]) . '</b>' for @$badges;
+    my ($names, $beside, $touched) = (0, 0, $node->{other} ? 1 : 0);
+    my @parts;    # of each name in it whether it or what is below it can be touched, and the rows
     my %bytes = map { my $row = $_; ($row => $row =~ s/\\([0-7]{3})/chr oct $1/ger) } keys %$in;
     for my $row (sort { $bytes{$a} cmp $bytes{$b} } keys %bytes) {
-        my ($more, $is_touched) = add_rows($page, $row, $in->{$row});
-        ($names, $touched) = ($names + $more, $touched || $is_touched);
+        my @below;
+        my ($more, $is_touched) = add_rows(\@below, $row, $in->{$row});
+        push @parts, [$is_touched, \@below];
+        $names += $more;
+        $beside += $more unless $is_touched;
+        $touched ||= $is_touched;
     }
     $first .= " <small>names in it, none to be touched: $names</small>" if $names && !$touched;
     my $folds = $names || $node->{other};
-    my $row = row($folds ? 'summary' : 'div', $first, $kind, @{ $node->{calls} || [] });
-    $page->[ $place - 1 ] = $folds ? '<details' . ($touched ? ' open' : '') . ">$row" : $row;
+    my $row = row_of($folds ? 'summary' : 'div', $first, $kind, [$node->{said} || ()]);
+    push @$page, $folds ? '<details' . ($touched ? ' open' : '') . ">$row" : $row;
+    push @$page, row_of('div', '<i>any other name</i>', 'other', [$node->{other}])
+        if $node->{other};
+    my $is_folded = $touched && $beside > $MOST_BESIDE;
+    push @$page, map { $_->[1] } grep { $_->[0] || !$is_folded } @parts;
+    if ($is_folded) {
+        push @$page, '<details>' . row('summary',
+            "<i>names beside these, none to be touched: $beside</i>", '');
+        push @$page, map { $_->[1] } grep { !$_->[0] } @parts;
+        push @$page, "</details>\n";
+    }
     push @$page, "</details>\n" if $folds;
-    push @$page, row('div', text($name) . ' <small>once it is free</small>', 'missing', @{ $node->{freed} }) if $node->{freed};
-    return (1 + $names, $touched || $node->{calls} || @$veils ? 1 : 0);
+    push @$page,
+        row_of('div', text($name) . ' <small>once it is free</small>', 'missing', [$node->{freed}])
+        if $node->{freed};
+    return (1 + $names, $touched || $node->{said} || @$badges ? 1 : 0);
 }
 
-# Adds to the page a list of objects, over a tree of its own.
-sub add_list {
+# What is to be said of a line of the state.
+sub says {
+    my ($line, $state, $can_start) = @_;
+    return $STATES{$line} if $STATES{$line};
+    return 'its directory was removed' if $line =~ /\Aveil - /;
+    return $can_start ? 'unset: a program that it starts has no veils, and all promises but error'
+        : 'unset; it can start no program'
+        if $line eq 'execpromises -';
+    return 'no veil hides it' if $line =~ /\Aopening \S+ \S+\z/;
+    return 'unix: no line shows that it can connect to each socket where a veil has w, '
+        . 'and bind one where a veil has c'
+        if $line =~ /\Apromises / && !$state->{by_openbsd} && $state->{promises}
+            && $state->{promises}{unix};
+    return '';
+}
+
+# Adds to the page the lines of a list's state, and to the tree the marks of what they say of a
+# place.
+sub add_state {
     my ($page, $tree, $list) = @_;
-    my ($what, $process) = split / /, $list->{heading};
-    my @objects = map { [split / /] } @{ $list->{objects} || [] };
-    push @$page, "<h2>What process $process can " . ($what eq 'ever' ? 'ever ' : '') . "touch</h2>\n<ul>\n";
-    for my $line (@{ $list->{state} || ['no lines on the state of the process'] }) {
-        my $class = $line =~ /\A(?:unveil open|process ended)\z/ ? ' class="alarm"' : '';
-        my $says = $STATES{$line} || ($line =~ /\Aveil - / ? 'its directory was removed' : '');
-        push @$page, "<li><code$class>" . text($line) . "</code> $says</li>\n";
-        push @{ node($tree, $1)->{veils} }, $2 if $line =~ m{\Aveil (/\S*) (\S+)\z};
+    my $state = state_of($list);
+    my $can_start = holds($state, 'exec')
+        && grep { $_->[2] =~ /(?:\A|,)exec(?:,|\z)/ } @{ $list->{objects} };
+    my @lines = @{ $list->{state} };
+    push @$page, "<ul>\n";
+    push @$page, "<li><code>no lines on the state of the process</code> </li>\n" unless @lines;
+    for my $line (@lines) {
+        my $class = $line =~ /\A(?:unveil open|process ended|no veils|exec open)\z/
+            ? ' class="alarm"' : '';
+        push @$page, "<li><code$class>" . text($line) . '</code> '
+            . text(says($line, $state, $can_start)) . "</li>\n";
     }
-    push @$page, "</ul>\n<div class=\"row head\">", (map { "<span>$_</span>" } 'name', @COLUMNS), "</div>\n";
-    for my $object (@objects) {
-        my ($kind, $path, @rest) = @$object;
+    my $is_unveiled = !$state->{ended} && !@{ $state->{veils} }
+        && !grep { $_ eq 'no veils' } @lines;
+    push @$page, "<li><code class=\"alarm\">no veils</code> $STATES{'no veils'}</li>\n"
+        if @lines && $is_unveiled;
+    push @$page, "</ul>\n";
+    push @{ node($tree, $_->[0])->{badges} }, ['veil', "veil $_->[1]"]
+        for grep { $_->[0] ne '-' } @{ $state->{veils} };
+    push @{ node($tree, $_->[0])->{badges} }, ['veil', "opening $_->[1]"]
+        for @{ $state->{openings} };
+    return;
+}
+
+# Adds to the page a list of objects, over a tree of its own. $now is the list of now of the same
+# process, where the list is for ever and that is known.
+sub add_list {
+    my ($page, $tree, $list, $now) = @_;
+    my %was = map { join(' ', @$_[0, 1]) => $_->[2] } $now ? @{ $now->{objects} } : ();
+    push @$page, "<h2>What process $list->{process} can " . ($list->{ever} ? 'ever ' : '')
+        . "touch</h2>\n";
+    push @$page, "<p>What the list of now does not have is <b class=\"more\">marked</b>.</p>\n"
+        if $now;
+    add_state($page, $tree, $list);
+    push @$page, "<div class=\"row head\">", (map { "<span>$_</span>" } 'name', @COLUMNS),
+        "</div>\n";
+    for my $object (@{ $list->{objects} }) {
+        my ($kind, $path, $calls, @why) = @$object;
         my $node = $path eq 'new' ? { kind => '' } : node($tree, $path);
-        if ($path eq 'new') { push @$page, row('div', "<i>new</i> <small>$kind</small>", $kind, @rest) }
-        elsif ($kind eq 'other') { $node->{other} = \@rest }
-        elsif ($kind eq 'missing' && $node->{calls}) { $node->{freed} = \@rest }
-        else { %$node = (%$node, $node->{kind} eq $kind ? () : (note => undef), kind => $kind, calls => \@rest) }
+        my $said = { calls => $calls, why => \@why, now => $now && ($was{"$kind $path"} || '') };
+        if ($path eq 'new') {
+            push @$page, row_of('div', "<i>new</i> <small>$kind</small>", $kind, [$said]);
+        } elsif ($kind eq 'other') {
+            $node->{other} = $said;
+        } elsif ($kind eq 'missing' && $node->{said}) {
+            $node->{freed} = $said;
+        } else {
+            delete $node->{note} if $node->{kind} ne $kind;
+            @$node{qw(kind said)} = ($kind, $said);
+        }
     }
     add_rows($page, '', $tree);
     return;
 }
 
-if (@ARGV < 1 || @ARGV > 2) { print STDERR "usage: page.pl TREE [OBJECTS]\n"; exit 2 }
-my ($tree, $objects) = (@ARGV, '/dev/stdin');
-my @listing = lines($tree);
-my ($answers, @lists) = lists($objects, lines($objects));
-my @unlike = map { ', <code>' . text($_) . '</code>' } grep { !/\A[0-9]+ ok\z/ } @$answers;
-my @page = ("<!DOCTYPE html>\n<html lang=\"en\"><head><meta charset=\"utf-8\"><title>What can be touched</title>\n",
-    "<meta http-equiv=\"Content-Security-Policy\" content=\"default-src 'none'; style-src 'unsafe-inline'\">\n",
-    "<meta name=\"viewport\" content=\"width=device-width\"><style>\n$STYLE</style></head><body>\n",
-    '<p>Answers to the script: ', @$answers - @unlike, ' ok', @unlike, ".</p>\n");
-add_list(\@page, tree($tree, @listing), $_) for @lists;
+# The page: of the listing, the lists, the lists for ever, and what the listing lacks.
+sub page_of {
+    my ($tree, $objects, $ever, $manifest) = @_;
+    my @listing = lines_of($tree);
+    my ($answers, @lists) = lists_of($objects, lines_of($objects));
+    my (undef, @later) = defined $ever ? lists_of($ever, lines_of($ever)) : ();
+    my $missing = defined $manifest ? manifest_of($manifest) : {};
+    my @unlike = map { ', <code>' . text($_) . '</code>' } grep { !/\A[0-9]+ ok\z/ } @$answers;
+    my @page = ($HEAD, "<style>\n$STYLE</style></head><body>\n",
+        '<p>Answers to the script: ', @$answers - @unlike, ' ok', @unlike, ".</p>\n");
+    my %listed = map { $_->{process} => 1 } @lists;
+    for my $list (@lists, grep { !$listed{ $_->{process} } } @later) {
+        for my $told ($list, grep { $_ != $list && $_->{process} == $list->{process} } @later) {
+            my $root = tree($tree, @listing);
+            push @{ node($root, $_)->{badges} }, ['alarm', $MISSING{ $missing->{$_} }]
+                for sort keys %$missing;
+            my $is_later = $told != $list && $told->{ever} && !$list->{ever};
+            add_list(\@page, $root, $told, $is_later ? $list : undef);
+        }
+    }
+    return (flat(@page), "</body></html>\n");
+}
+
+my $manifest;
+my $understood = GetOptions('m=s' => \$manifest);
+my @words = (@ARGV, grep { defined } $manifest);
+if (!$understood || @ARGV < 1 || @ARGV > 3 || grep { $_ eq '' } @words) {
+    print STDERR "usage: $NAME [-m MANIFEST] TREE [OBJECTS [EVER]]\n";
+    exit 2;
+}
+my @page = eval { page_of($ARGV[0], @ARGV > 1 ? $ARGV[1] : '/dev/stdin', $ARGV[2], $manifest) };
+if (!@page) {
+    chomp(my $fault = $@);
+    fail($fault);
+}
 binmode STDOUT;
-print @page, "</body></html>\n" or fail("standard output: $!");
+print @page or fail("standard output: $!");
 close STDOUT or fail("standard output: $!");

@@ -107,10 +107,11 @@ my @site = ('1 dir 0 www', '2 dir 1 site', '3 file 2 index', '4 file 1 key', '5 
     my @state = map { m{<li><code( class="alarm")?>([^<]*)</code> ([^<]*)</li>} ? ($1 ? '! ' : '') . "$2: $3" : () }
         split /^/, $page;
     is_deeply(\@state, ['process alive: ', 'promises rpath,stdio,unveil: ',
-        'execpromises -: unset: a program that it starts has no veils, and all promises but error',
+        'execpromises -: unset; it can start no program',
         '! unveil open: further veils can be put: the list holds for now alone', 'veil /www/site r: ',
         'veil /none =: ', 'veil - rwc: its directory was removed', '! process ended: it can touch nothing',
         'process alive: ', 'promises =: ', 'execpromises =: ', 'unveil locked: no further veil can be put',
+        '! no veils: it can touch what is not listed too',
         'process alive: ', 'promises -: none were ever pledged: it holds all but error', 'execpromises exec: ',
         'unveil given-up: no further veil can be put, since the promise unveil was given up', 'veil /www r: ',
         'veil /www rw: ',
@@ -137,6 +138,71 @@ my @site = ('1 dir 0 www', '2 dir 1 site', '3 file 2 index', '4 file 1 key', '5 
     like($page, qr{<li><code>limits none</code> </li>}, 'a line of the state that is not known stands as it is');
 }
 
+# Programs that it starts: said where one can be executed. Sockets: said where no line shows them.
+{
+    my $says = sub {
+        my (@list) = @_;
+        my $page = page_of('a state', \@site, ['ever 1', 'process alive', @list]);
+        return join '; ', map { m{<li><code(?: class="alarm")?>(?:execpromises|promises|opening|rules|no|exec) ?[^<]*</code> ([^<]+)</li>} ? $1 : () } split /^/, $page;
+    };
+    my $no_sandbox = 'unset: a program that it starts has no veils, and all promises but error';
+    my @veil = ('unveil locked', 'veil /www rwx');
+    is($says->('promises exec,stdio', 'execpromises -', @veil, 'prog /www/p stat,exec'), $no_sandbox, 'it starts programs');
+    is($says->('promises -', 'execpromises -', @veil, 'prog /www/p exec'),
+        "none were ever pledged: it holds all but error; $no_sandbox", 'it never pledged');
+    is($says->('promises exec,stdio', 'execpromises -', @veil, 'prog /www/p stat'), 'unset; it can start no program', 'there is none');
+    is($says->('promises stdio', 'execpromises stdio', @veil), '', 'execpromises are set');
+    my $sockets = 'unix: no line shows that it can connect to each socket where a veil has w, and bind one where a veil has c';
+    is($says->('promises stdio,unix', 'execpromises stdio', @veil), $sockets, 'sockets without lines');
+    is($says->('promises stdio,unix', 'execpromises stdio', 'rules openbsd', 'opening /etc/hosts open-r', 'opening /tmp/ create veils', @veil),
+        'as OpenBSD&#39;s kernel is known to answer; no veil hides it', 'sockets with lines, and openings');
+    is($says->('promises stdio', 'execpromises stdio', 'no veils', 'unveil locked', 'exec bounded'),
+        'it can touch what is not listed too; programs that are started keep the veils, and hold the execpromises at most',
+        'what is told of veils and programs stands there once');
+}
+{
+    my $page = page_of('sockets and openings', \@site, ['objects 1', 'process alive', 'promises stdio,unix', 'execpromises -', 'unveil locked',
+        'rules openbsd', 'opening /etc/passwd open-r', 'veil /www wc', 'file /www/key connect,chown', 'other /www bind,mknod']);
+    is_deeply([grep { /passwd|key|other/ } rows($page)], ['2 | passwd file opening open-r', '2 | any other name | made: bind mknod',
+        '2 | key file | written: connect chown'], 'sockets have lines, and openings stand in the tree');
+}
+
+# Names beside those that can be touched are folded where there are more than four; what a listing lacks stands
+# there.
+{
+    my @many = ('1 dir 0 d', (map { "$_ file 1 n$_" } 2 .. 7), '8 dir 1 o', '9 file 8 p');
+    my @rows = map { "$_ file" } map { "2 | n$_" } 2 .. 7;
+    my $page = page_of('folded', \@many, ['objects 1', 'file /d/n4 stat', 'file /d/o/p stat']);
+    is_deeply([rows($page)], ['0 | /', '1 | d/', '2 | n4 file | read: stat', '2 | o/', '3 | p file | read: stat',
+        '2 | names beside these, none to be touched: 5', map { "3 | n$_ file" } 2, 3, 5 .. 7], 'five names are folded');
+    $page = page_of('not folded', \@many, ['objects 1', 'file /d/n4 stat', 'file /d/n7 stat', 'file /d/o/p stat']);
+    is_deeply([rows($page)], ['0 | /', '1 | d/', '2 | n2 file', '2 | n3 file', '2 | n4 file | read: stat', '2 | n5 file', '2 | n6 file',
+        '2 | n7 file | read: stat', '2 | o/', '3 | p file | read: stat'], 'four are not');
+    file('tree', 'tree 1', '0 dir', @many);
+    file('objects', 'objects 1', 'file /d/n4 stat');
+    file('manifest', 'left-out /d/o', 'passed-over /x/y');
+    my ($status, $out, $err) = page('-m', 'manifest', 'tree', 'objects');
+    is("$status $err", '0 ', 'a manifest: the status');
+    is_deeply([rows($out)], ['0 | /', '1 | d/', '2 | n4 file | read: stat', '2 | o/ left out of the listing names in it, none to be touched: 1',
+        '3 | p file', '2 | names beside these, none to be touched: 5', (map { "3 | n$_ file" } 2, 3, 5 .. 7),
+        '1 | x/ not listed', '2 | y  not listed passed over by the listing'], 'what the listing lacks is never folded');
+}
+
+# What a list for ever has more than the list of now.
+{
+    file('tree', 'tree 1', '0 dir', @site);
+    file('now', '1 ok', 'objects 1', 'process alive', 'promises stdio', 'file /www/key stat,unlink', 'objects 2', 'process ended');
+    file('ever', '1 ok', 'ever 1', 'process alive', 'promises stdio', 'file /www/key stat,open-r,unlink', 'missing /www/key create',
+        'file new stat', 'ever 3', 'process alive', 'promises stdio', 'file /www/key stat');
+    my ($status, $out, $err) = page('tree', 'now', 'ever');
+    is("$status $err", '0 ', 'now and ever: the status');
+    is_deeply([$out =~ m{<h2>What (.*) touch</h2>}g], ['process 1 can', 'process 1 can ever', 'process 2 can', 'process 3 can ever'],
+        'each list for ever follows that of now');
+    my @marked = map { m{<span>(?:<i>)?(\w+)} ? "$1: " . join(' ', m{<b class="more">([\w-]+)</b>}g) : () } grep { /class="more">[a-z-]+<\/b>/ && /class="row/ }
+        split /^/, $out;
+    is_deeply(\@marked, ['new: stat', 'key: open-r', 'key: create'], 'what it has more is marked, of the process whose list of now is there');
+}
+
 # A name with a veil of its own that can come to be free has two lines.
 {
     my $page = page_of('free names', \@site, ['ever 1', 'file /www/key unlink', 'missing /www/key create', 'missing /www/pid mkdir']);
@@ -149,9 +215,9 @@ my @site = ('1 dir 0 www', '2 dir 1 site', '3 file 2 index', '4 file 1 key', '5 
     my $page = page_of('kinds', ['1 link 0 b /etc', '2 file 0 a', '3 hard 0 c 2', '4 prog 0 \134', '5 prog 0 \040',
         '6 link 0 gone /etc', '7 link 0 B x', '8 hard 0 d 7'],
         ['objects 1', 'link /b lstat', 'file /gone stat', 'link /d lstat']);
-    is_deeply([rows($page)], ['0 | /', '1 | \040 prog', '1 | B link -> x', '1 | \134 prog', '1 | a file',
-        '1 | b link -> /etc | read: lstat', '1 | c file (a further name of node 2)',
-        '1 | d link (a further name of node 7) | read: lstat', '1 | gone file | read: stat'],
+    is_deeply([rows($page)], ['0 | /', '1 | b link -> /etc | read: lstat', '1 | d link (a further name of node 7) | read: lstat',
+        '1 | gone file | read: stat', '1 | names beside these, none to be touched: 5', '2 | \040 prog', '2 | B link -> x',
+        '2 | \134 prog', '2 | a file', '2 | c file (a further name of node 2)'],
         'links have their targets, further names their nodes, and names stand in the order of their bytes');
 }
 
@@ -168,7 +234,7 @@ my @site = ('1 dir 0 www', '2 dir 1 site', '3 file 2 index', '4 file 1 key', '5 
     my $fixed = join '|', '!DOCTYPE html', 'html lang="en"', 'meta charset="utf-8"',
         q{meta http-equiv="Content-Security-Policy" content="default-src 'none'; style-src 'unsafe-inline'"},
         'meta name="viewport" content="width=device-width"', '(?:div|summary) class="row(?: head| untouched)?"',
-        'span title="(?:read|written|executed|made|removed|else)"', 'details(?: open)?', 'b class="veil"',
+        'span title="(?:read|written|executed|made|removed|else)"', 'details(?: open)?', 'b class="(?:veil|alarm|more)"',
         'code(?: class="alarm")?', '/?(?:head|title|body|html|p|h2|ul|li|div|span|small|i|b|code|details|summary)';
     $rest =~ s/<(?:$fixed)>//g;
     unlike($rest, qr/[<>"']/, 'the tags are those of page.pl, and no name has a part in one');
@@ -203,8 +269,9 @@ my @site = ('1 dir 0 www', '2 dir 1 site', '3 file 2 index', '4 file 1 key', '5 
         my ($what, $listing, $objects, $says) = @$fault;
         is_deeply([page($listing, $objects)], [1, '', "page.pl: $says\n"], $what);
     }
-    for my $words ([], [$tree, $list, $list]) {
-        is_deeply([page(@$words)], [2, '', "usage: page.pl TREE [OBJECTS]\n"], 'words that are no use of it: ' . @$words);
+    for my $words ([], [$tree, $list, $list, $list], [$tree, ''], ['-m', '', $tree]) {
+        my $usage = "usage: page.pl [-m MANIFEST] TREE [OBJECTS [EVER]]\n";
+        is_deeply([page(@$words)], [2, '', $usage], 'words that are no use of it: ' . @$words);
     }
     is(system("$^X -T $PAGE $tree < $list > piped && $^X -T $PAGE $tree $list | cmp -s - piped"), 0,
         'standard input is read');
@@ -229,6 +296,7 @@ for my $output (glob "$TOOLS/../examples/*/{objects,all}-output") {
     my @counts = map { my $pattern = $_; scalar(() = $page =~ /$pattern/g) } 'class="row">', '<li>', '<b class="veil">';
     my @lines = map { my $pattern = $_; scalar(() = $text =~ /$pattern/mg) } '^(?!veil )[a-z]+ /',
         '^(?:process|promises|execpromises|unveil|veil) ', '^veil /';
+    $lines[1] += grep { /^process alive$/m && !/^veil /m } split /^(?=objects )/m, $text;    # it has a line of its own
     is("$status $err@counts", "0 @lines", 'objects, states and veils: ' . ($output =~ m{([^/]*/[^/]*)\z})[0]);
 }
 done_testing;

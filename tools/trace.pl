@@ -1,254 +1,266 @@
 #!/usr/bin/perl
 # Prints the script of a trace, as pua reads it:
 #
-#     trace.pl [-d DIRECTORY] [-e FILE] [TRACE]
+#     trace.pl [-klvx] [-c ROOT] [-d DIRECTORY] [-e FILE] [-o FILE] [TRACE]
 #
-# TRACE is the text that kdump(1) prints of what `ktrace -i` traced; standard input if it is left out.
-# The script has a line for each call that pua knows, in the order in which the calls returned.
-# Processes are numbered from 1, that of the first record, in the order of their forks.
+# TRACE is the text that kdump(1) prints of what `ktrace -i` traced; standard input if it is left
+# out. The script has a line for each call that pua knows, in the order in which the calls
+# returned. Processes are numbered from 1, that of the first record, in the order of their forks.
+# Take the listing of the files before the run that is traced: afterwards they are what the run
+# left.
 #
-#     -d DIRECTORY   the working directory in which the first process began: the script begins with a
-#                    chdir to it. It is the root if it is left out.
-#     -e FILE        writes into FILE what the kernel answered to the lines of the script, as `pua run`
-#                    does: so `pua run TREE SCRIPT | diff FILE -` shows where the two differ.
+#     -c ROOT        prints the script of one root alone: the calls that were made in it, with
+#                    paths from there, and the forks that lead to them. `-c /` leaves out what was
+#                    done after chroot(2).
+#     -d DIRECTORY   the working directory in which the first process began: the script begins
+#                    with a chdir to it. If it is left out, it is what __getcwd(2) says, and else
+#                    the root.
+#     -e FILE        writes into FILE what the kernel answered to the lines of the script, as `pua
+#                    run` does: so `pua run TREE SCRIPT | diff FILE -` shows where the two differ.
+#     -k             writes connect, bind, mknod (mkfifo too) and chown as lines of their own, for
+#                    a pua that knows these calls by its rules of OpenBSD.
+#     -l             keeps what ld.so opens for a program.
+#     -o FILE        writes into FILE what each process still had open at its end, or at the end
+#                    of the trace, though it was opened before the last pledge or lock of the
+#                    process: `held P MODE PATH since line N`, of the script. A path is `-` where
+#                    nothing is known to be there.
+#     -v             names each report.
+#     -x             keeps exits, and what comes after the end of a process.
 #
-# open is open-r, open-w, open-rw or create by its flags, access is stat, and the calls with a
-# directory's descriptor (openat and its like) are the plain ones where they have AT_FDCWD or an
-# absolute path. An execve that fails is no line. A relative path stays as it is. Where pledge refused
-# a call before its path was recorded, the path is written as the empty one: it decides nothing.
+# Descriptors are followed, over copies, forks and execs. So a path that begins at a directory's
+# descriptor is written whole, fchdir is a chdir, and fchmod and its like are about the path that
+# was opened. What was renamed or removed by the same path since then is followed too. Where such
+# a path isn't known the call is left out.
 #
-# Lines on standard error report what the script doesn't have or say, each kind once, with the line
-# of the trace where it is first and how often it is there.
+# After chroot(2) paths are written with the new root before them, without -c.
 #
-# It was written from the documented form of kdump's output (and, where its manual page is silent, from
-# what is known of kdump's sources in releases 7.x), and tried on texts that were written by hand after
-# it (trace.t), not on a system.
+# Two kinds of calls are left out since pua would end the process for them, and answer all its later
+# lines `gone`: what a promise opens by itself, such as /etc/resolv.conf for dns; and a call about a
+# descriptor, where the process doesn't hold the promises that the call needs by a path.
 #
-# Status 0: the script was printed. Status 1: a file can't be read or written, or TRACE has no record
-# of kdump. Status 2: the words are no use of it.
+# open is open-r, open-w, open-rw or create by its flags; access, statfs, pathconf and realpath
+# are stat; truncate is open-w; utimes and chflags are chmod. A relative path stays as it is. An
+# execve that fails is no line. Where pledge refused a call before its path was recorded, the path
+# is written as the empty one: it decides nothing.
+#
+# Standard error has first whether the trace begins in the middle of a process; then what makes
+# lines wrong; then what was left out and might matter; then the count of all other reports; and
+# at last a table of the processes. Each kind of report stands there once, with the line of the
+# trace where it is first and how often it is there.
+#
+# It was tried on texts that were written by hand (trace.t) and on records of real calls of Linux
+# (followed.t), not on the system whose kdump it reads.
+#
+# Status 0: the script was printed. Status 1: a file can't be read or written, or TRACE has no
+# record of kdump. Status 2: the words are no use of it.
 use strict;
 use warnings;
+
+BEGIN {
+    my ($here) = __FILE__ =~ m{\A(.*/)}s;
+    unshift @INC, map { ($here || './') . $_ } '../share/pua/perl', 'lib';
+}
 use Getopt::Long qw(:config posix_default no_ignore_case bundling);
+use Pua::Calls qw(%ABOUT %BITS %CALLS %FLAGS_AT %FROM %FURTHER $HERE %LIKE @MODES %NEEDS %OPENINGS
+    descriptor flags flags_of_open is_null promises);
+use Pua::Kdump;
+use Pua::Process qw($START moved plain tidy);
+use Pua::Reports qw($WRONG $MATTERS $REST spelled);
 
-my $MOST_BYTES = 16_384;    # in a line of the trace, and in a text that it quotes
-my $MOST_LINES = 60_000;    # in a script
+my ($NAME) = $0 =~ m{([^/]*)\z};
+my $USAGE = "usage: $NAME [-klvx] [-c ROOT] [-d DIRECTORY] [-e FILE] [-o FILE] [TRACE]\n";
 
-# The errnos of OpenBSD, by their numbers from 1.
-my @ERRNOS = qw(
-    EPERM ENOENT ESRCH EINTR EIO ENXIO E2BIG ENOEXEC EBADF ECHILD EDEADLK ENOMEM EACCES EFAULT
-    ENOTBLK EBUSY EEXIST EXDEV ENODEV ENOTDIR EISDIR EINVAL ENFILE EMFILE ENOTTY ETXTBSY EFBIG
-    ENOSPC ESPIPE EROFS EMLINK EPIPE EDOM ERANGE EAGAIN EINPROGRESS EALREADY ENOTSOCK EDESTADDRREQ
-    EMSGSIZE EPROTOTYPE ENOPROTOOPT EPROTONOSUPPORT ESOCKTNOSUPPORT EOPNOTSUPP EPFNOSUPPORT
-    EAFNOSUPPORT EADDRINUSE EADDRNOTAVAIL ENETDOWN ENETUNREACH ENETRESET ECONNABORTED ECONNRESET
-    ENOBUFS EISCONN ENOTCONN ESHUTDOWN ETOOMANYREFS ETIMEDOUT ECONNREFUSED ELOOP ENAMETOOLONG
-    EHOSTDOWN EHOSTUNREACH ENOTEMPTY EPROCLIM EUSERS EDQUOT ESTALE EREMOTE EBADRPC ERPCMISMATCH
-    EPROGUNAVAIL EPROGMISMATCH EPROCUNAVAIL ENOLCK ENOSYS EFTYPE EAUTH ENEEDAUTH EIPSEC ENOATTR
-    EILSEQ ENOMEDIUM EMEDIUMTYPE EOVERFLOW ECANCELED EIDRM ENOMSG ENOTSUP EBADMSG ENOTRECOVERABLE
-    EOWNERDEAD EPROTO
+my $MOST_LINES     = 60_000;    # in a script
+my $MOST_PROCESSES = 256;       # that a script makes
+my $MOST_PATH      = 1023;      # bytes in a path
+
+# What is followed, though it is no line: what each of these calls does to its process, if it
+# succeeds.
+my %FOLLOWED = (
+    (map { $_ => sub { $_[0]->opens($_[1]{value}) } } qw(socket accept accept4 kqueue kqueue1)),
+    close     => sub { $_[0]->closes($_[2]) if defined $_[2] },
+    closefrom => sub { $_[0]->closes_from($_[2]) if defined $_[2] },
+    dup       => sub { $_[0]->opens($_[1]{value}, $_[0]->file($_[2])) },
+    dup2      => \&follow_copy,
+    dup3      => \&follow_copy,
+    fcntl     => \&follow_fcntl,
+    __getcwd  => \&follow_getcwd,
+    chroot    => \&follow_chroot,
 );
 
-# The bits of flags, as OpenBSD has them.
-my %BITS = (
-    O_RDONLY => 0, O_WRONLY => 1, O_RDWR => 2, O_SHLOCK => 0x10, O_EXLOCK => 0x20,
-    O_NOFOLLOW => 0x100, O_CREAT => 0x200, O_TRUNC => 0x400, O_EXCL => 0x800,
-    O_DIRECTORY => 0x20000, AT_SYMLINK_NOFOLLOW => 2, AT_REMOVEDIR => 8,
-);
+my $NO_DIRECTORY = qr/\A(?:EBADF|ENOTDIR)\z/;    # what a descriptor of none is answered
 
-# The calls of a kernel, and what they are in a script.
-my %CALLS = (
-    (map { $_ => $_ } qw(stat lstat readlink open mkdir rmdir unlink symlink rename link chmod chdir)),
-    (map { $_ => $_ } qw(pledge unveil fork)),
-    (map { $_ . 'at' => $_ } qw(open readlink mkdir unlink symlink rename link)),
-    access => 'stat', faccessat => 'stat', fstatat => 'stat', fchmodat => 'chmod',
-    execve => 'exec', vfork => 'fork',
-);
-
-# Which arguments of a call are the directories from which its paths begin; a symlink's target begins
-# from none.
-my %FROM = (
-    (map { $_ => [0] } qw(openat readlinkat mkdirat unlinkat faccessat fstatat fchmodat)),
-    renameat => [0, 2], linkat => [0, 2], symlinkat => [undef, 1],
-);
-my $HERE = qr/\A(?:AT_FDCWD|-100|0x(?:f{8})?ffffff9c|4294967196)(?:<.*>)?\z/;
-
-my ($in, $line, $held, $at_end) = (undef, 0, '', 0);    # the trace, and what was read of it
-my @again;         # a line that was read too early
-my $records = 0;
+my ($directory, $answers_to, $held_to, $only);    # what -d, -e, -o and -c gave
+my ($further, $loaders, $verbose, $exits);        # whether -k, -l, -v and -x were given
+my $started;       # the directory in which the first process began, where it is known
 my $first;         # process 1
-my %processes;     # by its pid: the process that has it now
-my %under_way;     # by process and thread: the call that has not returned yet
+my @processes;     # those that have a number, in its order
+my $taken = 0;     # how many calls were taken
 my @entries;       # what becomes the lines of the script
-my %reports;       # by what is reported: its first line, and how often it is there
+my %roots = ('/' => 1);    # those that a process had
+my $reports = Pua::Reports->new;
 
-sub report { print STDERR "trace.pl: @_\n"; return }
+sub report { print STDERR "$NAME: @_\n"; return }
 
 sub fail { report(@_); exit 1 }
 
-# Keeps a report on a line of the trace.
-sub note {
-    my ($at, $what) = @_;
-    my $kept = $reports{$what} ||= { line => $at, count => 0 };
-    $kept->{line} = $at if $at < $kept->{line};
-    $kept->{count}++;
-    return;
-}
+sub note { $reports->note(@_); return }
 
-# Leaves a call out of the script; answers no fields.
+# Leaves a call out of the script; answers no fields. Without a pledge or an unveil later answers
+# are wrong.
 sub leave_out {
-    my ($call, $what) = @_;
-    note($call->{line}, "left out: $what");
+    my ($call, $what, $path) = @_;
+    my $alters = ($call->{answer} || '') eq 'ok' && ($call->{as} || '') =~ /\A(?:pledge|unveil)\z/;
+    note($alters ? $WRONG : $MATTERS, $call->{line},
+        ($alters ? 'left out, so that later lines may be wrong: ' : 'left out: ') . $what, $path);
     return;
 }
 
-# Bytes that aren't visible, and backslashes, as a backslash and three octal digits.
-sub spelled {
-    my ($bytes) = @_;
-    $bytes =~ s/([^\x21-\x7e]|\\)/sprintf '\\%03o', ord $1/ge;
-    return $bytes;
-}
-
-# The next line of the trace, without its end; an empty one in place of one that is too long; undef
-# after the last.
-sub next_line {
-    return shift @again if @again;
-    my ($end, $long) = (index($held, "\n"), 0);
-    while ($end < 0 && !$at_end) {
-        ($held, $long) = ('', 1) if length $held > $MOST_BYTES;
-        my $before = length $held;
-        my $read = read $in, $held, 65_536, $before;
-        fail("the trace: $!") unless defined $read;
-        $at_end = $read == 0;
-        $end = index $held, "\n", $before;
-    }
-    return if $end < 0 && $held eq '' && !$long;
-    $line++;
-    my $text = substr $held, 0, $end < 0 ? length $held : $end + 1, '';
-    $text =~ s/\r?\n\z//;
-    return $text unless $long || length $text > $MOST_BYTES;
-    note($line, 'no record of kdump: the line is too long');
-    return '';
-}
-
-# The byte of a control character's letter, as in `^A`.
-sub control { my ($letter) = @_; return $letter eq '?' ? 0x7f : ord($letter) & 0x1f }
-
-# The bytes for which a text of vis(3) stands; undef where it is none.
-my %ESCAPES = (
-    n => "\n", r => "\r", b => "\b", a => "\a", v => "\x0b", t => "\t", f => "\f", s => ' ', E => "\e",
-    '\\' => '\\', '"' => '"',
-);
-sub bytes_of {
-    my ($text) = @_;
-    my $bytes = '';
-    pos($text) = 0;
-    while (pos $text < length $text) {
-        if    ($text =~ /\G([^\\]+)/gc)             { $bytes .= $1 }
-        elsif ($text =~ /\G\\([nrbavtfsE\\"])/gc)   { $bytes .= $ESCAPES{$1} }
-        elsif ($text =~ /\G\\([0-3][0-7]{2}|[0-7]{1,2}(?![0-7]))/gc) { $bytes .= chr oct $1 }
-        elsif ($text =~ /\G\\\^([?-_])/gc)          { $bytes .= chr control($1) }
-        elsif ($text =~ /\G\\M\^([?-_])/gc)         { $bytes .= chr(0x80 | control($1)) }
-        elsif ($text =~ /\G\\M-([\x21-\x7e])/gc)    { $bytes .= chr(0x80 | ord $1) }
-        else                                        { return }
-    }
-    return $bytes;
-}
-
-# The bytes of a quoted text; undef where it is none. kdump ends a line that would be too wide by a
-# backslash, and begins the next one by a tab.
-sub quoted {
-    my ($text) = @_;
-    my $inside = '';
-    return unless $text =~ s/\A"//;
-    while ($text =~ /\A((?:[^"\\]++|\\(?:M?\^[?-_]|M-[!-~]|.))*+)(["\\])\z/) {
-        $inside .= $1;
-        return bytes_of($inside) if $2 eq '"';
-        $text = next_line();
-        return if !defined $text || length $inside > $MOST_BYTES;
-        next if $text =~ s/\A\t//;
-        @again = ($text);
-        return;
-    }
-    return;
-}
-
-# The number that flags stand for: their own, as in 0x601<O_WRONLY|O_CREAT|O_TRUNC>, or that of their
-# names; undef where they are none.
-sub flags {
-    my ($text) = @_;
-    return unless defined $text;
-    return hex $1 if $text =~ /\A0x([0-9a-f]{1,8})(?:<.*>)?\z/;
-    return $1 if $text =~ /\A([0-9]{1,10})(?:<.*>)?\z/;
-    my $flags = 0;
-    for my $name (split /\|/, $text) {
-        return unless $name =~ /\A[A-Z_]+\z/;
-        $flags |= $BITS{$name} || 0;
-    }
-    return $flags;
-}
-
-sub is_null { my ($argument) = @_; return defined $argument && $argument =~ /\A(?:0|0x0|NULL)\z/ }
-
-# A path as a script has it, in which neither `-` nor `=` stands for itself.
+# A path as a script has it, in which neither `-` nor `=` stands for itself; of what begins where
+# the first process began, from there.
 sub path {
     my ($bytes) = @_;
+    if ($bytes =~ s/\A$START//) {
+        my $begin = defined $started && $started ne '/' ? $started : '';
+        $bytes = $begin . $bytes eq '' ? '/' : $begin . $bytes;
+    }
     return $bytes eq '' ? '=' : spelled($bytes =~ /\A[=-]\z/ ? "./$bytes" : $bytes);
 }
 
 # That pledge refused a call, so that its texts decide nothing.
-sub refused { my ($call) = @_; return $call->{pledged} && $call->{answer} =~ /\A(?:killed|ENOSYS)\z/ }
+sub refused {
+    my ($call) = @_;
+    return $call->{pledged} && $call->{answer} =~ /\A(?:killed|ENOSYS)\z/;
+}
+
+# Whether the script has what a process does now.
+sub is_told { my ($has) = @_; return !defined $only || (!$has->{lost} && $has->{root} eq $only) }
+
+# A whole path from the root of the script; undef where it isn't below that.
+sub from_only {
+    my ($path) = @_;
+    return $path unless defined $only;
+    return unless $path =~ s{\A\Q$only\E(?=/|\z)}{};
+    return $path eq '' ? '/' : $path;
+}
+
+# The texts of a call that are paths, and as many as are asked for; none where it is left out.
+sub texts {
+    my ($call, $count) = @_;
+    my ($name, @texts) = ($call->{name}, @{ $call->{paths} });
+    @texts = $call->{texts}{socket} if !@texts && defined $call->{texts}{socket};
+    return leave_out($call, "$name, of which a path can't be read")
+        if $call->{broken} || grep { /\0/ } @texts;
+    return @texts[0 .. $count - 1] if @texts >= $count;
+    my $locked = $name eq 'unveil' && $call->{answer} eq 'EPERM';
+    return leave_out($call, "$name, of which the trace doesn't have "
+            . ($name =~ /\Asymlink/ ? 'the target' : @texts ? 'the second path' : 'the path'))
+        unless $locked || refused($call);
+    note($REST, $call->{line},
+        "$name was answered $call->{answer} before its path was recorded: it is written =");
+    my @missing = ('') x ($count - @texts);
+    return $call->{as} eq 'symlink' ? (@missing, @texts) : (@texts, @missing);
+}
+
+# The directory from which a text of a call begins, if it isn't the working directory or the root:
+# the number of its descriptor.
+sub begins_from {
+    my ($call, $place) = @_;
+    my $from = ($FROM{ $call->{name} } || [])->[$place];
+    return if !defined $from || ($call->{arguments}[$from] || '') =~ $HERE;
+    my $number = descriptor($call, $from);
+    return defined $number ? $number : '';
+}
+
+# The whole path of a text of a call; undef where it isn't known.
+sub whole {
+    my ($call, $text, $place) = @_;
+    my ($has, $from) = ($call->{process}{has}, begins_from($call, $place));
+    return if $text eq '' || ($call->{as} eq 'symlink' && $place == 0);
+    my $file = defined $from ? $has->file($from) : undef;
+    return $has->whole($text, defined $from ? $file && $file->{path} : $has->{directory});
+}
+
+# A text of a call as the script has it; undef where the call is left out.
+sub written {
+    my ($call, $text, $place) = @_;
+    my ($name, $has) = ($call->{name}, $call->{process}{has});
+    return $text if $text eq '' || ($call->{as} eq 'symlink' && $place == 0);
+    my ($is_here, $is_whole) = (!defined begins_from($call, $place), $text =~ m{\A/});
+    return $text if $is_whole && !$has->{lost} && (defined $only || $has->{root} eq '');
+    my $whole = whole($call, $text, $place);
+    if (!defined $whole) {
+        return leave_out($call, 'a path from the root of a process, since that root is not known')
+            if $is_whole;
+        return leave_out($call,
+            'a relative path, since the working directory is not known any more') if $is_here;
+        return note($REST, $call->{line}, "left out: $name from a descriptor of no directory")
+            if $call->{answer} =~ $NO_DIRECTORY;
+        return leave_out($call,
+            "$name from a directory's descriptor, of which the path is not known");
+    }
+    my $inside = from_only($whole);
+    return leave_out($call, "$name outside of $only", spelled($whole)) unless defined $inside;
+    $call->{relative} = 1 if $whole =~ /\A$START/;
+    return $text if $is_here && !$is_whole && !$has->{astray};
+    return leave_out($call, "$name, of which the whole path is too long")
+        if length $inside > $MOST_PATH;
+    return $inside;
+}
 
 # The first paths of a call, as many as are asked for; none where it is left out.
 sub paths {
     my ($call, $count) = @_;
-    my ($name, @paths) = ($call->{name}, @{ $call->{paths} });
-    return leave_out($call, "$name, of which a path can't be read") if $call->{broken} || grep { /\0/ } @paths;
-    if (@paths < $count) {
-        my $locked = $name eq 'unveil' && $call->{answer} eq 'EPERM';
-        return leave_out($call, "$name, of which the trace doesn't have "
-                . ($name =~ /\Asymlink/ ? 'the target' : @paths ? 'the second path' : 'the path'))
-            unless $locked || refused($call);
-        note($call->{line}, "$name was answered $call->{answer} before its path was recorded: it is written =");
-        my @missing = ('') x ($count - @paths);
-        @paths = $call->{as} eq 'symlink' ? (@missing, @paths) : (@paths, @missing);
-    }
-    my $from = $FROM{$name} || [];
+    my @texts = texts($call, $count) or return;
+    $call->{whole} = [map { tidy(whole($call, $texts[$_], $_)) } 0 .. $count - 1];
+    my @written;
     for my $place (0 .. $count - 1) {
-        next if !defined $from->[$place] || $paths[$place] =~ m{\A(?:/|\z)};
-        return leave_out($call, "$name from a directory's descriptor")
-            unless ($call->{arguments}[ $from->[$place] ] || '') =~ $HERE;
+        my $text = written($call, $texts[$place], $place);
+        return unless defined $text;
+        push @written, \$text;
     }
-    $call->{relative} = 1 if grep { m{\A[^/]} } $call->{as} eq 'symlink' ? $paths[1] : @paths[0 .. $count - 1];
-    return map { path($_) } @paths[0 .. $count - 1];
+    return @written;
+}
+
+# The path of what a call's descriptor stands for; none where it is left out. What asks for no
+# promise beside the descriptor isn't written where pua would end the process for the want of one.
+sub path_of_descriptor {
+    my ($call) = @_;
+    my ($name, $has) = ($call->{name}, $call->{process}{has});
+    my $file = $has->file(descriptor($call, 0));
+    return if $call->{answer} =~ $NO_DIRECTORY;
+    return leave_out($call, "$name, of which the path is not known")
+        unless $file && defined $file->{path};
+    $call->{whole} = [$file->{path}];
+    my $inside = from_only($file->{path});
+    return leave_out($call, "$name outside of $only", spelled($file->{path}))
+        unless defined $inside;
+    return leave_out($call, "$name, which asks for fewer promises than by a path", path($inside))
+        if $call->{as} ne 'chdir' && !refused($call) && !$has->holds(@{ $NEEDS{ $call->{as} } });
+    $call->{relative} = 1 if $file->{path} =~ /\A$START/;
+    return \$inside;
 }
 
 # What an open is in a script; none where it is left out.
 sub kind_of_open {
     my ($call) = @_;
-    my $name  = $call->{name};
-    my $flags = flags($call->{arguments}[ $name eq 'open' ? 1 : 2 ]);
-    return leave_out($call, "$name, of which the flags can't be read") if !defined $flags || ($flags & 3) == 3;
+    my ($name, $flags) = ($call->{name}, flags_of_open($call));
+    return leave_out($call, "$name, of which the flags can't be read")
+        if !defined $flags || ($flags & 3) == 3;
     my $mode   = $flags & 3;
     my $create = $flags & $BITS{O_CREAT};
-    return leave_out($call, "$name with O_CREAT that doesn't write, which pua lacks") if $create && $mode == 0;
-    note($call->{line}, "$name with O_CREAT and O_RDWR is written create, which asks for neither rpath nor r")
+    return leave_out($call, "$name with O_CREAT that doesn't write, which pua lacks")
+        if $create && $mode == 0;
+    note($REST, $call->{line},
+        "$name with O_CREAT and O_RDWR is written create, which asks for neither rpath nor r")
         if $create && $mode == $BITS{O_RDWR};
     for my $flag (qw(O_EXCL O_NOFOLLOW O_DIRECTORY O_SHLOCK O_EXLOCK)) {
-        note($call->{line}, "$name with $flag is written without it") if $flags & $BITS{$flag};
+        note($REST, $call->{line}, "$name with $flag is written without it")
+            if $flags & $BITS{$flag};
     }
-    note($call->{line}, "$name with O_TRUNC that doesn't write is written open-r")
+    note($REST, $call->{line}, "$name with O_TRUNC that doesn't write is written open-r")
         if $flags & $BITS{O_TRUNC} && $mode == 0;
-    return $create ? 'create' : ('open-r', 'open-w', 'open-rw')[$mode];
-}
-
-# The promises of a pledge as a script has them: with commas where C has blanks; undef where a script
-# can't have them.
-sub promises {
-    my ($text) = @_;
-    return '=' if $text eq '';
-    my @keywords = split / +/, $text;
-    return if !@keywords || grep { /\A\z|[^\x21-\x7e]|,/ } @keywords;
-    my $list = join ',', @keywords;
-    return $list =~ /\A[=-]\z/ ? undef : $list;
+    return $create ? 'create' : $MODES[$mode];
 }
 
 sub pledge_fields {
@@ -263,8 +275,8 @@ sub pledge_fields {
         if (!defined $text && !is_null($call->{arguments}[$place])) {
             return leave_out($call, "pledge, of which the trace doesn't have the ${what}s")
                 if $call->{answer} eq 'ok' || ($place == 0 && !refused($call));
-            note($call->{line},
-                "pledge was answered $call->{answer} before its ${what}s were recorded: they are written -");
+            note($REST, $call->{line}, "pledge was answered $call->{answer} before its ${what}s "
+                . 'were recorded: they are written -');
         }
         push @fields, $list;
     }
@@ -276,234 +288,358 @@ sub unveil_fields {
     my ($path, $permissions) = @{ $call->{arguments} };
     return qw(unveil - -) if is_null($path) && is_null($permissions);
     my $letters = $call->{texts}{flags};
-    my @paths = paths($call, 1) or return;
+    my ($at) = paths($call, 1) or return;
     return leave_out($call, "unveil, of which the trace doesn't have the permissions")
-        if !defined $letters && $paths[0] ne '=';
+        if !defined $letters && $$at ne '';
     $letters = '=' if !defined $letters || $letters eq '';
     return leave_out($call, "unveil, of which a script can't have the permissions")
-        if $letters =~ /[^\x21-\x7e]|\A-\z/ || ($letters eq '=' && length($call->{texts}{flags} || ''));
-    return ('unveil', @paths, $letters);
+        if $letters =~ /[^\x21-\x7e]|\A-\z/ || ($call->{texts}{flags} || '') eq '=';
+    return ('unveil', $at, $letters);
+}
+
+# The fields of a call on paths after the process; none where it is left out.
+sub path_fields {
+    my ($call) = @_;
+    my ($name, $as) = @$call{qw(name as)};
+    if ($as =~ /\A(?:connect|bind)\z/ && !@{ $call->{paths} } && !defined $call->{texts}{socket}) {
+        return if !refused($call);    # it is about no path
+        return leave_out($call,
+            "$name, which pua lacks without a path, and which ended its process");
+    }
+    my @paths = $ABOUT{$name} ? path_of_descriptor($call)
+        : paths($call, $as =~ /\A(?:symlink|rename|link)\z/ ? 2 : 1)
+        or return;
+    return leave_out($call, "$name, which pua has by its rules of OpenBSD alone (-k writes it)",
+        path(${ $paths[0] }))
+        if $FURTHER{$as} && !$further;
+    $as = kind_of_open($call) or return if $as eq 'open';
+    my $flags = defined $FLAGS_AT{$name} ? flags($call->{arguments}[ $FLAGS_AT{$name} ]) : 0;
+    return leave_out($call, "$name, of which the flags can't be read") unless defined $flags;
+    return leave_out($call, "$name of a link itself, which pua lacks", path(${ $paths[0] }))
+        if $as =~ /\A(?:chmod|chown)\z/ && $flags & $BITS{AT_SYMLINK_NOFOLLOW};
+    $as = 'lstat' if $name eq 'fstatat'  && $flags & $BITS{AT_SYMLINK_NOFOLLOW};
+    $as = 'rmdir' if $name eq 'unlinkat' && $flags & $BITS{AT_REMOVEDIR};
+    note($REST, $call->{line}, "$name is written $as") if $LIKE{$name};
+    note($REST, $call->{line}, "$name is written $as, which asks the veils too")
+        if $ABOUT{$name} && $as ne 'chdir';
+    return ($as, @paths);
+}
+
+# The promise by which a kernel looks up a file by itself, past the veils, where pua answers
+# otherwise.
+sub opening {
+    my ($call, $as) = @_;
+    my ($has, $needs) = ($call->{process}{has}, $NEEDS{$as});
+    return if !$needs || !$has->{promises} || $call->{answer} eq 'killed';
+    my $is_hidden = $call->{answer} =~ /\A(?:ENOENT|EACCES)\z/;
+    return if $has->holds(@$needs) && (!$has->{veiled} || $is_hidden);
+    for my $promise (sort keys %OPENINGS) {
+        return $promise
+            if $has->{promises}{$promise} && $call->{paths}[0] =~ $OPENINGS{$promise};
+    }
+    return;
+}
+
+# Whether it is ld.so that opens, for a program that was started.
+sub is_loaders {
+    my ($call, $as) = @_;
+    my $process = $call->{process};
+    return 0 unless $process->{loading};
+    return 1 if $as eq 'open-r' && $call->{paths}[0] =~ m{(?:\.so(?:\.[0-9]+)*|/ld\.so\.hints)\z};
+    return $process->{loading} = 0;
 }
 
 # The fields of a call's line after the process; none where it is left out.
 sub fields {
     my ($call) = @_;
-    my ($name, $as) = @$call{qw(name as)};
-    return pledge_fields($call) if $as eq 'pledge';
-    return unveil_fields($call) if $as eq 'unveil';
-    return leave_out($call, 'an execve that failed')
-        if $as eq 'exec' && $call->{answer} ne 'ok' && !refused($call);
-    my @paths = paths($call, $as =~ /\A(?:symlink|rename|link)\z/ ? 2 : 1) or return;
-    $as = kind_of_open($call) or return if $as eq 'open';
-    my %flags_at = (fstatat => 3, fchmodat => 3, unlinkat => 2);
-    my $flags = defined $flags_at{$name} ? flags($call->{arguments}[ $flags_at{$name} ]) : 0;
-    return leave_out($call, "$name, of which the flags can't be read") unless defined $flags;
-    return leave_out($call, 'fchmodat of a link itself, which pua lacks')
-        if $name eq 'fchmodat' && $flags & $BITS{AT_SYMLINK_NOFOLLOW};
-    $as = 'lstat' if $name eq 'fstatat'  && $flags & $BITS{AT_SYMLINK_NOFOLLOW};
-    $as = 'rmdir' if $name eq 'unlinkat' && $flags & $BITS{AT_REMOVEDIR};
+    return pledge_fields($call) if $call->{as} eq 'pledge';
+    return unveil_fields($call) if $call->{as} eq 'unveil';
+    if ($call->{as} eq 'exec' && $call->{answer} ne 'ok' && !refused($call)) {
+        note($REST, $call->{line}, 'left out: an execve that failed');
+        return;
+    }
+    my ($as, @paths) = path_fields($call) or return;
+    if (is_loaders($call, $as) && !$loaders) {
+        note($REST, $call->{line}, 'left out: what ld.so opens (-l keeps it)');
+        return;
+    }
+    my $promise = $ABOUT{ $call->{name} } ? undef : opening($call, $as);
+    return leave_out($call, "$call->{name} by the promise $promise itself", path(${ $paths[0] }))
+        if $promise;
     return ($as, @paths);
 }
 
-# Takes a fork that returned: its line stands before the first line of the child, which may have been
-# there before.
-sub take_fork {
-    my ($call, $pid) = @_;
-    return leave_out($call, 'a fork that failed') if $call->{answer} ne 'ok' && !refused($call);
-    my $child = defined $pid ? $processes{$pid} : undef;
-    if (!$child || !$child->{fork} || $child->{fork}{process}) {
-        $child = { pid => $pid };
-        $child->{fork} = { child => $child };
-        $processes{$pid} = $child if defined $pid;
-        push @entries, $child->{fork};
-    }
-    my $entry = $child->{fork};
-    @$entry{qw(process fields answer line)} = ($call->{process}, ['fork'], @$call{qw(answer line)});
+sub follow_copy {
+    my ($has, $call, $number) = @_;
+    my $copy = descriptor($call, 1);
+    return if !defined $copy || !defined $number || $copy == $number;
+    my $flags = $call->{name} eq 'dup3' ? flags($call->{arguments}[2]) || 0 : 0;
+    $has->opens($copy, $has->file($number), $flags & $BITS{O_CLOEXEC});
     return;
 }
 
-# Takes a call that has an answer; $pid is a child's.
-sub take {
-    my ($call, $answer, $pid) = @_;
-    my $name = $call->{name};
-    $call->{answer} = $answer;
-    $call->{process}{done} = 1 if $answer eq 'killed';
-    $call->{as} = $CALLS{$name};
-    if (!$call->{as}) {
-        my $path = $call->{paths}[0];
-        return leave_out($call, "$name, which pua lacks, and which ended its process") if $answer eq 'killed';
-        return leave_out($call, 'chroot to ' . path($path)
-                . ': list the new root (list.pl -r), and let the script begin after it')
-            if $name eq 'chroot' && $answer eq 'ok' && defined $path;
-        return leave_out($call, 'fchdir: the trace has no name for the new working directory')
-            if $name eq 'fchdir' && $answer eq 'ok';
-        return leave_out($call, "$name, which pua lacks") if defined $path;
+sub follow_fcntl {
+    my ($has, $call, $number) = @_;
+    my (undef, $what, $value) = (@{ $call->{arguments} }, '', '');
+    return unless defined $number;
+    $has->opens($call->{value}, $has->file($number), $1) if $what =~ /\AF_DUPFD(_CLOEXEC)?\b/;
+    $has->sets_close_on_exec($number, (flags($value) || 0) & $BITS{FD_CLOEXEC})
+        if $what =~ /\AF_SETFD\b/;
+    return;
+}
+
+# The working directory is named. If the process has only gone on from where the first process
+# began, that is known now; if it was lost, it is known again, though a script can't have it:
+# relative paths are then written whole.
+sub follow_getcwd {
+    my ($has, $call) = @_;
+    my ($path) = @{ $call->{paths} };
+    return unless defined $path && $path =~ m{\A/};
+    my ($is, $was) = (tidy($has->from_root($path)), $has->{directory});
+    return unless defined $is;
+    if (defined $was && $was =~ s/\A$START//) {
+        if (!defined $started && $is =~ m{\A(.*)\Q$was\E\z}s) {
+            $started = $1 eq '' ? '/' : $1;
+            return;
+        }
+        return if defined $started && tidy("$started$was") eq $is;
+    } elsif (defined $was) {
+        note($WRONG, $call->{line},
+            "may be wrong: relative paths, which begin at ${\spelled($was)} in the script: by "
+            . '__getcwd the directory is ' . spelled($is)) if $was ne $is;
         return;
     }
-    return take_fork($call, $pid) if $call->{as} eq 'fork';
-    my @fields = fields($call) or return;
-    push @entries, { %$call, fields => \@fields };
+    @$has{qw(directory astray)} = ($is, 1);
     return;
 }
 
-# The process of a record, which may be its first, the return of its fork. A process that isn't the first
-# begins with a fork, which may return later in its parent: an entry is kept for it.
-sub process_of {
-    my ($pid, $command, $begins) = @_;
-    my $process = $processes{$pid};
-    if (!$process || ($begins && ($process->{done} || $process->{begun}))) {
-        $process = { pid => $pid };
-        if (%processes) {
-            $process->{fork} = { child => $process };
-            push @entries, $process->{fork};
-        } else {
-            ($first, $process->{number}) = ($process, 1);
-        }
-        $processes{$pid} = $process;
-    }
-    $process->{begun} = 1 if $begins;
-    $process->{command} = $command;
-    return $process;
+sub follow_chroot {
+    my ($has, $call) = @_;
+    my ($path) = @{ $call->{paths} };
+    my $root = defined $path ? tidy($has->whole($path, $has->{directory})) : undef;
+    $has->{lost} = !defined $root;
+    return unless defined $root;
+    $has->{root} = $root eq '/' ? '' : $root;
+    $roots{ path($root) } = 1;
+    return unless defined $only;
+    $has->{astray} = 1;
+    note($WRONG, $call->{line},
+        'may be wrong: what was unveiled before the chroot is not in this script')
+        if $has->{veiled} && is_told($has);
+    return;
 }
 
-sub without_return {
+# What a call that succeeded does to its process.
+sub follow {
     my ($call) = @_;
-    return take($call, 'killed') if $call->{pledged};
-    return leave_out($call, "$call->{name}, of which no return is there (kdump -H tells threads apart)")
-        if $CALLS{ $call->{name} };
+    my ($process, $as, $path, $new) = (@$call{qw(process as)}, @{ $call->{whole} || [] });
+    my $has = $process->{has};
+    if ($as eq 'open') {
+        my $flags = flags_of_open($call);
+        my $mode = defined $flags ? $MODES[ $flags & 3 ] : undef;
+        my $file = $mode && { path => $path, mode => $mode, opened => $call };
+        $has->opens($call->{value}, $file, ($flags || 0) & $BITS{O_CLOEXEC});
+    } elsif ($as eq 'chdir') {
+        @$has{qw(directory astray)} = ($path, 0);
+    } elsif ($as eq 'rename' && defined $path && defined $new) {
+        my @all = map { $_->{has} } @processes;
+        moved($new, undef, @all) if plain($new) ne plain($path);
+        moved($path, $new, @all);
+    } elsif ($as =~ /\A(?:unlink|rmdir)\z/ && defined $path) {
+        moved($path, undef, map { $_->{has} } @processes);
+    } elsif ($as eq 'exec') {
+        $has->execs;
+        $process->{program} = $call->{paths}[0];
+        $process->{loading} = ($call->{paths}[1] || '') =~ m{/ld\.so\z};
+    } elsif ($as eq 'pledge') {
+        my @texts = @{ $call->{texts} }{qw(promise execpromise)};
+        $has->pledges((map { defined $_ ? promises($_) : undef } @texts), $call);
+    } elsif ($as eq 'unveil') {
+        $has->{ is_null($call->{arguments}[0]) ? 'closed' : 'veiled' } = $call;
+    }
     return;
 }
 
-sub take_call {
-    my ($process, $thread, $text) = @_;
-    my $before = delete $under_way{$thread};
-    without_return($before) if $before;
-    my ($name, $arguments) = $text =~ /\A(\w+|\[-?[0-9]+\])\((.*)\)\z/a
-        or return note($line, 'a CALL that is none');
-    my $call = {
-        name => $name, arguments => [split /,/, $arguments, -1], line => $line, process => $process,
-        paths => [], texts => {},
-    };
-    if ($name eq 'exit') {
-        $process->{done} = 1;
-        push @entries, { %$call, fields => ['exit'], answer => 'ok' };
+# Takes a process into the script.
+sub number {
+    my ($process, $has) = @_;
+    push @processes, $process;
+    @$process{qw(number has lines)} = (scalar @processes, $has, 0);
+    return;
+}
+
+# Takes a fork: its line stands before the first line of the child.
+sub take_fork {
+    my ($call) = @_;
+    return note($REST, $call->{line}, 'left out: a fork that failed') unless $call->{child};
+    number($call->{child}, $call->{process}{has}->forked);
+    $call->{child}{program} = $call->{process}{program};
+    push @entries, { %$call, fields => ['fork'], aside => !is_told($call->{process}{has}) };
+    return;
+}
+
+# Takes the end of a process.
+sub take_end {
+    my ($call) = @_;
+    push @entries, { %$call, fields => ['exit'] } if $exits && is_told($call->{process}{has});
+    $call->{process}{ended} = 1;
+    return;
+}
+
+# Takes a call that is no line.
+sub take_other {
+    my ($call) = @_;
+    my ($name, $answer, $has) = ($call->{name}, $call->{answer}, $call->{process}{has});
+    return unless defined $answer;
+    return leave_out($call, "$name, which pua lacks, and which ended its process")
+        if $answer eq 'killed';
+    if (my $follow = $FOLLOWED{$name}) {
+        $follow->($has, $call, descriptor($call, 0)) if $answer eq 'ok';
     } else {
-        $under_way{$thread} = $call;
+        leave_out($call, "$name, which pua lacks", path($call->{paths}[0]));
     }
     return;
 }
 
-sub take_return {
-    my ($process, $thread, $text) = @_;
-    my ($name, $value) = $text =~ /\A(\S+) (.+)\z/ or return note($line, 'a RET that is none');
-    my $call = $under_way{$thread};
-    return if !$call || $call->{name} ne $name;
-    delete $under_way{$thread};
-    return if $value eq 'RESTART';    # the same call comes again
-    if ($value =~ /\A-1 errno ([0-9]{1,9})(?: |\z)/) {
-        return take($call, $1 > 0 && $ERRNOS[$1 - 1] || "E$1");
+# Takes a call that may be a line.
+sub take_line {
+    my ($call) = @_;
+    my $has = $call->{process}{has};
+    return leave_out($call, "$call->{name}, of which $call->{lacks}")
+        unless defined $call->{answer};
+    return take_fork($call) if $call->{as} eq 'fork';
+    $reports->be_quiet(!is_told($has));
+    my @fields = fields($call);
+    $reports->be_quiet(0);
+    push @entries, { %$call, fields => \@fields, call => $call } if @fields && is_told($has);
+    note($WRONG, $call->{line},
+        'may be wrong: paths below ' . spelled($has->{root})
+            . ', after chroot(2): links and .. may lead elsewhere (see -c)')
+        if @fields && !defined $only && $has->{root} ne '' && grep { ref } @fields;
+    follow($call) if $call->{answer} eq 'ok';
+    return;
+}
+
+# Takes a call into the script, in the order of the returns.
+sub take {
+    my ($call) = @_;
+    my $process = $call->{process} or return;
+    $call->{order} = $taken++;
+    $call->{as}    = $CALLS{ $call->{name} };
+    my $killed = ($call->{answer} || '') eq 'killed';
+    if (!$process->{has}) {
+        leave_out($call, "process $process->{pid} (" . spelled($process->{command} || '')
+            . '): its fork is not in the trace')
+            if $call->{as};
+    } elsif ($process->{ended} && !$exits) {
+        leave_out($call, 'what comes after the end of its process');
+    } elsif ($call->{name} =~ /\A(?:exit|signal)\z/) {
+        take_end($call);
+    } elsif ($call->{as}) {
+        take_line($call);
+    } else {
+        take_other($call);
     }
-    return take($call, 'ok', $1) if $value =~ m{\A([0-9]{1,20}|JUSTRETURN)(?:/|\z)};
-    return take($call, 'ok', hex $1) if $value =~ /\A0x([0-9a-f]{1,8})\z/;
-    return leave_out($call, "$name, of which the return can't be read");
-}
-
-sub take_name {
-    my ($process, $thread, $text) = @_;
-    my ($call, $at) = ($under_way{$thread}, $line);
-    my $bytes = quoted($text);
-    note($at, "a NAMI that can't be read") unless defined $bytes;
-    return unless $call;
-    $call->{broken} = 1 unless defined $bytes;
-    push @{ $call->{paths} }, $bytes if defined $bytes && @{ $call->{paths} } < 2;
+    $process->{ended} = 1 if $killed;
     return;
 }
 
-sub take_structure {
-    my ($process, $thread, $text) = @_;
-    my ($call, $at) = ($under_way{$thread}, $line);
-    my ($what, $rest) = $text =~ /\A(promise|execpromise|flags)=(.*)\z/ or return;
-    my $bytes = quoted($rest);
-    note($at, "a STRU that can't be read") unless defined $bytes;
-    return unless $call;
-    $call->{broken} = 1 unless defined $bytes;
-    $call->{texts}{$what} = $bytes;
-    return;
+# Whether a trace begins before its first process began its program: the first call that is known
+# here is an execve that succeeds.
+sub begins_with_exec {
+    my @calls = @_;
+    my ($begin) = grep { ($_->{process} || 0) == $first
+        && !($_->{name} eq 'execve' && ($_->{answer} || '') ne 'ok') } @calls;
+    return $begin && $begin->{name} eq 'execve';
 }
 
-sub take_refusal {
-    my ($process, $thread) = @_;
-    $under_way{$thread}{pledged} = 1 if $under_way{$thread};
-    return;
-}
-
-# A signal: SIGABRT, after a refusal by pledge, has ended the process in its call.
-sub take_signal {
-    my ($process, $thread, $text) = @_;
-    return unless $text =~ /\ASIGABRT\b/;
-    for my $key (sort keys %under_way) {
-        my $call = $under_way{$key};
-        take(delete $under_way{$key}, 'killed') if $call->{process} == $process && $call->{pledged};
+# The processes that did something in the root of the script, and those from which they were
+# forked.
+sub needed {
+    my %needed = map { $_->{process}{number} => 1 } grep { !$_->{aside} } @entries;
+    for my $process (reverse @processes) {
+        $needed{ $process->{parent}{number} } = 1
+            if $needed{ $process->{number} } && $process->{parent};
     }
-    return;
-}
-
-my %RECORDS = (
-    CALL => \&take_call, RET => \&take_return, NAMI => \&take_name, STRU => \&take_structure,
-    PLDG => \&take_refusal, PSIG => \&take_signal,
-    map { $_ => undef } qw(GIO USER ARGS ENV STRT),
-);
-my $WORDS  = join '|', sort keys %RECORDS;
-my $RECORD = qr{\A *([0-9]{1,9})(?:/([0-9]{1,9}))? (?:(.*?) )??($WORDS)(?: +(.*))?\z};
-
-sub read_trace {
-    while (defined(my $text = next_line())) {
-        if ($text =~ $RECORD) {
-            my ($pid, $thread, $command, $word, $rest) = ($1, $2 || '', $3, $4, $5);
-            $records++;
-            my $take = $RECORDS{$word} or next;
-            $rest = '' unless defined $rest;
-            $command = '' unless defined $command;
-            $command =~ s/\A +| .*\z//g;    # what follows is the time of -R and -T
-            my $begins = $word eq 'RET' && $rest =~ /\Av?fork 0\z/;
-            $take->(process_of($pid, $command, $begins), "$pid/$thread", $rest);
-        } elsif ($text =~ /\A[^ \t]/) {
-            note($line, 'no record of kdump');
-        }
-    }
-    without_return($under_way{$_})
-        for sort { $under_way{$a}{line} <=> $under_way{$b}{line} || $a cmp $b } keys %under_way;
-    return;
+    return \%needed;
 }
 
 # The lines of the script, and those of the answers.
 sub lines {
-    my ($directory) = @_;
     my (@script, @answers);
-    my $made = 1;
-    unshift @entries, { process => $first, fields => ['chdir', path($directory)], answer => 'ok' }
-        if defined $directory;
+    my $needed = needed();
+    my $moves = !defined $only || $only eq '' ? $directory : undef;
+    $moves = $started
+        if !defined $directory && defined $started && $started ne '/'
+        && grep { $_->{relative} } @entries;
+    unshift @entries, { process => $first, fields => ['chdir', \$moves], answer => 'ok' }
+        if defined $moves;
     for my $entry (@entries) {
-        my $process = $entry->{process} or next;
-        if (!$process->{number}) {
-            leave_out($entry, "process $process->{pid} (" . spelled($process->{command} || '')
-                    . '): its fork is not in the trace');
-            next;
-        }
-        my @fields = @{ $entry->{fields} };
-        if (my $child = $entry->{child}) {
-            push @fields, $child->{number} = ++$made;
-            $child->{placed} = $process->{placed};
-        }
-        note($entry->{line},
-            'a relative path: it is taken from the root, or with -d from another directory')
-            if $entry->{relative} && !$process->{placed};
-        $process->{placed} = 1 if $fields[0] eq 'chdir' && $fields[1] =~ m{\A/} && $entry->{answer} eq 'ok';
+        my ($process, $child) = @$entry{qw(process child)};
+        next if $entry->{aside} && !$needed->{ $child->{number} };
+        my @fields = map { ref $_ ? path($$_) : $_ } @{ $entry->{fields} };
+        push @fields, $child->{number} if $child;
+        note($WRONG, $entry->{line},
+            'may be wrong: relative paths, which are taken from the root: where the first process '
+                . 'began is not known (-d)')
+            if $entry->{relative} && !defined $started;
         push @script, join(' ', $process->{number}, @fields) . "\n";
-        push @answers, @script . ' ' . ($process->{ended} ? 'gone' : $entry->{answer}) . "\n";
-        $process->{ended} = 1 if $fields[0] eq 'exit' || $entry->{answer} eq 'killed';
+        $child->{made} = 1 if $child;
+        push @answers, @script . ' ' . ($process->{gone} ? 'gone' : $entry->{answer}) . "\n";
+        $process->{lines}++;
+        $process->{gone} = 1 if $fields[0] eq 'exit' || $entry->{answer} eq 'killed';
+        $entry->{call}{put} = @script if $entry->{call};
     }
     return (\@script, \@answers);
+}
+
+# What the processes still have open, though it was opened before they closed their sandbox for
+# the last time.
+sub held {
+    my @held;
+    for my $process (grep { $_->{made} && !($exits && $_->{gone}) } @processes) {
+        my $closed = $process->{has}{closed} or next;
+        my %files = map { $_ => $_ } values %{ $process->{has}{files} };
+        for my $file (sort { $a->{opened}{order} <=> $b->{opened}{order} } values %files) {
+            next if $file->{opened}{order} > $closed->{order};
+            push @held, join(' ', 'held', $process->{number}, $file->{mode},
+                defined $file->{path} ? path($file->{path}) : '-',
+                'since line', $file->{opened}{put} || '-') . "\n";
+        }
+    }
+    return \@held;
+}
+
+# Reports how the trace begins, and what was noted, by its weight.
+sub report_all {
+    my ($begins, $lines) = @_;
+    my $command = spelled(defined $first->{command} ? $first->{command} : '');
+    report("the trace begins in the middle of process 1 ($command, pid $first->{pid}): what it "
+        . 'had pledged, unveiled and opened by then, and where it was, is not in the script')
+        unless $begins;
+    report("the script has $lines lines, and pua reads at most $MOST_LINES")
+        if $lines > $MOST_LINES;
+    report('the script has ' . @processes . " processes, and pua makes at most $MOST_PROCESSES")
+        if @processes > $MOST_PROCESSES;
+    my $root = !defined $only || $only eq '' ? '/' : path($only);
+    report("no process had the root $root, but: " . join ', ', sort keys %roots)
+        unless $roots{$root};
+    report($_) for $reports->texts($verbose);
+    return;
+}
+
+# Reports which processes there are, and how each of them ended.
+sub report_processes {
+    my @rows = [qw(process pid parent lines end program)];
+    for my $process (grep { $_->{made} } @processes) {
+        my $program = defined $process->{program} ? $process->{program} : $process->{command};
+        my $parent = $process->{parent} ? $process->{parent}{number} : '-';
+        my $end = $process->{end} || (defined $process->{command} ? 'alive' : 'no record');
+        push @rows, [@$process{qw(number pid)}, $parent, $process->{lines}, $end,
+            spelled(defined $program ? $program : '')];
+    }
+    report(sprintf '%-7s %7s %7s %6s  %-16s %s', map { defined $_ ? $_ : '-' } @$_) for @rows;
+    return;
 }
 
 sub write_all {
@@ -514,28 +650,46 @@ sub write_all {
     return;
 }
 
-my ($directory, $answers_to);
-my $understood = GetOptions('d=s' => \$directory, 'e=s' => \$answers_to);
-if (!$understood || @ARGV > 1 || grep({ $_ eq '' } @ARGV, defined $answers_to ? $answers_to : ())
-    || (defined $directory && $directory !~ m{\A/})) {
-    print STDERR "usage: trace.pl [-d DIRECTORY] [-e FILE] [TRACE]\n";
+sub write_file {
+    my ($name, $lines) = @_;
+    my ($file) = $name =~ /\A(.*)\z/s;    # the user's own word, also under -T
+    open my $out, '>', $file or fail(spelled($file) . ": $!");
+    return write_all($out, spelled($file), $lines);
+}
+
+my $understood = GetOptions(
+    'c=s' => \$only, 'd=s' => \$directory, 'e=s' => \$answers_to, 'o=s' => \$held_to,
+    'k' => \$further, 'l' => \$loaders, 'v' => \$verbose, 'x' => \$exits,
+);
+if (!$understood || @ARGV > 1 || grep({ $_ eq '' } @ARGV, grep { defined } $answers_to, $held_to)
+    || grep { !m{\A/} } grep { defined } $only, $directory) {
+    print STDERR $USAGE;
     exit 2;
 }
+($only = tidy($only)) =~ s{\A/\z}{} if defined $only;
+my $in = \*STDIN;
 if (@ARGV) {
     open $in, '<', $ARGV[0] or fail(spelled($ARGV[0]) . ": $!");
-} else {
-    $in = \*STDIN;
 }
 binmode $in;
-read_trace();
-fail('no record of kdump in the trace; what ktrace writes has to be read by kdump first') unless $records;
-my ($script, $answers) = lines($directory);
-report("the script has " . @$script . " lines, and pua reads at most $MOST_LINES") if @$script > $MOST_LINES;
-report("line $reports{$_}{line}: $_ ($reports{$_}{count} in all)")
-    for sort { $reports{$a}{line} <=> $reports{$b}{line} || $a cmp $b } keys %reports;
-if (defined $answers_to) {
-    my ($file) = $answers_to =~ /\A(.*)\z/s;    # the user's own word, also under -T
-    open my $out, '>', $file or fail(spelled($file) . ": $!");
-    write_all($out, spelled($file), $answers);
+my %wanted = map { $_ => 1 } keys %CALLS, keys %FOLLOWED;
+my $trace = Pua::Kdump->new($in, sub { note($MATTERS, @_) }, \%wanted);
+if (!eval { $trace->read_all; 1 }) {
+    chomp(my $fault = $@);
+    fail($fault);
 }
+fail('no record of kdump in the trace; what ktrace writes has to be read by kdump first')
+    unless $trace->{records};
+$first = $trace->{first};
+number($first, Pua::Process->new);
+$first->{made} = 1;
+$started = $first->{has}{directory} = tidy($directory) if defined $directory;
+my @calls = @{ $trace->{calls} };
+take($_) for @calls;
+my ($script, $answers) = lines();
+my $held = held();
+write_file($answers_to, $answers) if defined $answers_to;
+write_file($held_to, $held) if defined $held_to;
+report_all(scalar begins_with_exec(@calls), scalar @$script);
+report_processes();
 write_all(\*STDOUT, 'standard output', $script);

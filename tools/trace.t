@@ -5,12 +5,13 @@
 use strict;
 use warnings;
 use Cwd qw(abs_path);
-use File::Basename qw(dirname);
+use File::Basename qw(basename dirname);
 use File::Temp qw(tempdir);
 use POSIX ();
 use Test::More;
 
-my $TRACE = dirname(abs_path(__FILE__)) . '/trace.pl';
+my $TOOLS = dirname(abs_path(__FILE__));
+my $TRACE = "$TOOLS/trace.pl";
 my $PUA   = defined $ENV{PUA} ? abs_path($ENV{PUA}) : undef;
 my $room  = tempdir(CLEANUP => 1);
 chdir $room or die "$room: $!";
@@ -72,6 +73,13 @@ sub kdump {
     return $kdump;
 }
 
+# What is said of a trace, without that it begins in the middle, as most of the texts here do, and without
+# the table of the processes.
+sub said_of_lines {
+    my ($err) = @_;
+    return join '', grep { !/\Atrace\.pl: (?:the trace begins in the middle |(?:process|[0-9]+)  )/ } split /^/, $err;
+}
+
 # That a trace gives these lines, each with its answer after ` : `, and these reports.
 sub gives_all {
     my ($what, $trace, $lines, $reports) = @_;
@@ -83,10 +91,10 @@ sub gives_all {
     }
     file('trace', $trace);
     unlink 'answers';
-    my ($status, $out, $err) = trace('-e', 'answers');
+    my ($status, $out, $err) = trace('-vx', '-e', 'answers');
     is($out, join('', @script), "$what: the script");
     is(content('answers'), join('', @answers), "$what: the answers");
-    is($err, join('', map { "trace.pl: $_\n" } split /\n/, $reports), "$what: the reports");
+    is(said_of_lines($err), join('', map { "trace.pl: $_\n" } split /\n/, $reports), "$what: the reports");
     is($status, 0, "$what: the status");
     is(system("$PUA run tree out > ran"), 0, "$what: pua reads it") if defined $PUA;
     return;
@@ -100,10 +108,12 @@ sub gives {
     return;
 }
 
-# The tool itself.
+# The tool itself, and its modules.
 for my $option ('-wc', '-Twc') {
-    my $said = `$^X $option $TRACE 2>&1`;
-    like($said, qr/\A\S+ syntax OK\n\z/, "perl $option has nothing to say");
+    for my $file ($TRACE, glob "$TOOLS/lib/Pua/*.pm") {
+        my $said = `$^X $option -I$TOOLS/lib $file 2>&1`;
+        like($said, qr/\A\S+ syntax OK\n\z/, "perl $option has nothing to say of " . basename($file));
+    }
 }
 
 # A daemon, from its start to its end.
@@ -264,6 +274,8 @@ gives('flags that a script does not have', <<'END');
 1 open-r /g : ok
 1 create /k : ok
 --
+line 22: left out: open with O_CREAT that doesn't write, which pua lacks (1 in all)
+line 25: left out: open, of which the flags can't be read (2 in all)
 line 1: open with O_CREAT and O_RDWR is written create, which asks for neither rpath nor r (2 in all)
 line 4: open with O_EXCL is written without it (1 in all)
 line 7: open with O_NOFOLLOW is written without it (1 in all)
@@ -271,8 +283,6 @@ line 10: open with O_DIRECTORY is written without it (1 in all)
 line 13: open with O_TRUNC that doesn't write is written open-r (1 in all)
 line 16: open with O_EXLOCK is written without it (1 in all)
 line 19: open with O_SHLOCK is written without it (1 in all)
-line 22: left out: open with O_CREAT that doesn't write, which pua lacks (1 in all)
-line 25: left out: open, of which the flags can't be read (2 in all)
 END
 
 gives('calls with two paths', <<'END');
@@ -334,10 +344,10 @@ gives("from a directory's descriptor", <<'END');
 7 openat(3,0x1c60,0<O_RDONLY>) = 4 "a"
 --
 --
-line 1: left out: openat from a directory's descriptor (3 in all)
-line 7: left out: renameat from a directory's descriptor (1 in all)
-line 11: left out: symlinkat from a directory's descriptor (1 in all)
-line 15: left out: fchmodat of a link itself, which pua lacks (1 in all)
+line 1: left out: openat from a directory's descriptor, of which the path is not known (3 in all)
+line 7: left out: renameat from a directory's descriptor, of which the path is not known (1 in all)
+line 11: left out: symlinkat from a directory's descriptor, of which the path is not known (1 in all)
+line 15: left out: fchmodat of a link itself, which pua lacks: /o (1 in all)
 line 18: left out: unlinkat, of which the flags can't be read (1 in all)
 END
 
@@ -386,10 +396,11 @@ END
 7 RET   pledge 0
 --
 --
-line 1: left out: pledge, of which a script can't have the promises (7 in all)
+line 22: left out, so that later lines may be wrong: pledge, of which the trace doesn't have the promises (1 in all)
+line 24: left out, so that later lines may be wrong: pledge, of which the trace doesn't have the execpromises (1 in all)
+line 26: left out, so that later lines may be wrong: pledge, of which a script can't have the promises (1 in all)
+line 1: left out: pledge, of which a script can't have the promises (6 in all)
 line 19: left out: pledge, of which a script can't have the execpromises (1 in all)
-line 22: left out: pledge, of which the trace doesn't have the promises (1 in all)
-line 24: left out: pledge, of which the trace doesn't have the execpromises (1 in all)
 line 27: a STRU that can't be read (1 in all)
 END
 
@@ -434,9 +445,10 @@ END
 7 unveil(0x1c60,0) = -1 errno 14 Bad address
 --
 --
+line 13: left out, so that later lines may be wrong: unveil, of which the trace doesn't have the permissions (1 in all)
+line 16: left out, so that later lines may be wrong: unveil, of which the trace doesn't have the path (1 in all)
 line 1: left out: unveil, of which a script can't have the permissions (3 in all)
-line 13: left out: unveil, of which the trace doesn't have the permissions (1 in all)
-line 16: left out: unveil, of which the trace doesn't have the path (2 in all)
+line 19: left out: unveil, of which the trace doesn't have the path (1 in all)
 END
 
 # Paths of any bytes, as kdump writes them, and as a script has them.
@@ -594,13 +606,13 @@ END
 9 open-r = : killed
 1 fork 10 : ok
 --
+line 38: left out: socket, which pua lacks, and which ended its process (1 in all)
 line 3: open was answered killed before its path was recorded: it is written = (1 in all)
 line 8: execve was answered killed before its path was recorded: it is written = (1 in all)
 line 18: unveil was answered killed before its path was recorded: it is written = (1 in all)
 line 23: symlink was answered killed before its path was recorded: it is written = (1 in all)
 line 28: pledge was answered killed before its promises were recorded: they are written - (1 in all)
 line 33: openat was answered killed before its path was recorded: it is written = (1 in all)
-line 38: left out: socket, which pua lacks, and which ended its process (1 in all)
 END
 
 gives('killed, and the trace ends', <<'END');
@@ -630,9 +642,9 @@ gives('the promise error', <<'END');
 1 fork 3 : ok
 3 exit : ok
 --
-line 1: mkdir was answered ENOSYS before its path was recorded: it is written = (1 in all)
 line 10: left out: mkdir, of which the trace doesn't have the path (1 in all)
 line 12: left out: rmdir, of which the trace doesn't have the path (1 in all)
+line 1: mkdir was answered ENOSYS before its path was recorded: it is written = (1 in all)
 END
 
 gives('other signals', <<'END');
@@ -645,6 +657,7 @@ gives('other signals', <<'END');
 7 NAMI  "pagesd.core"
 --
 1 open-r /fifo : EINTR
+1 exit : ok
 END
 
 # Forks: the child's records come after the parent's return, or before it.
@@ -719,6 +732,7 @@ gives('a pid that comes again after a signal', <<'END');
 --
 1 fork 2 : ok
 2 stat /a : ok
+2 exit : ok
 1 fork 3 : ok
 3 stat /b : ok
 END
@@ -793,7 +807,7 @@ gives('threads that are not told apart', <<'END');
 1 stat /b : ok
 --
 line 6: left out: open, of which no return is there (kdump -H tells threads apart) (1 in all)
-line 11: left out: mkdir, of which no return is there (kdump -H tells threads apart) (1 in all)
+line 11: left out: mkdir, of which the trace ends before it returns (1 in all)
 END
 
 gives('calls that pua lacks', <<'END');
@@ -804,16 +818,93 @@ gives('calls that pua lacks', <<'END');
 7 fchdir(9) = -1 errno 9 Bad file descriptor
 7 __realpath(0x1c60,0x1d60) = 0 "/a"
 7 chown(0x1c60,0,0) = -1 errno 2 No such file or directory "/b"
+7 revoke(0x1c60) = -1 errno 22 Invalid argument "/dev/tty"
 7 CALL  [999](0x1)
 7 RET   [999] -1 errno 78 Function not implemented
 --
+1 stat /var/w\040w/a : ok
 --
-line 1: left out: chown, which pua lacks (2 in all)
-line 4: left out: fchdir: the trace has no name for the new working directory (1 in all)
-line 6: left out: chroot to /var/w\040w: list the new root (list.pl -r), and let the script begin after it (1 in all)
-line 9: left out: chroot, which pua lacks (1 in all)
-line 14: left out: __realpath, which pua lacks (1 in all)
+line 14: may be wrong: paths below /var/w\040w, after chroot(2): links and .. may lead elsewhere (see -c) (1 in all)
+line 1: left out: chown, which pua has by its rules of OpenBSD alone (-k writes it): /a, /var/w\040w/b (2 in all)
+line 4: left out: fchdir, of which the path is not known (1 in all)
+line 20: left out: revoke, which pua lacks: /dev/tty (1 in all)
+line 14: __realpath is written stat (1 in all)
 END
+
+gives('where a process is', <<'END');
+7 chdir(0x1c60) = 0 "a"
+7 __getcwd(0x1c60,0x400) = 4 "/b/a"
+7 open(0x1c60,0<O_RDONLY>) = 3 ".."
+7 openat(3,0x1c60,0<O_RDONLY>) = 4 "c"
+7 chdir(0x1c60) = 0 "/d"
+7 stat(0x1c60,0x1d60) = 0 "e"
+7 __getcwd(0x1c60,0x400) = 4 "/l"
+7 fchdir(3) = 0
+7 fchdir(9) = 0
+7 stat(0x1c60,0x1d60) = -1 errno 2 No such file or directory "f"
+7 chdir(0x1c60) = -1 errno 2 No such file or directory "g"
+7 symlink(0x1c60,0x1d60) = 0 "h" "/i"
+7 __getcwd(0x1c60,0x400) = 4 "/j"
+7 stat(0x1c60,0x1d60) = 0 "k"
+7 chdir(0x1c60) = 0 "m"
+7 stat(0x1c60,0x1d60) = 0 "n"
+--
+1 chdir /b : ok
+1 chdir a : ok
+1 open-r .. : ok
+1 open-r /b/a/../c : ok
+1 chdir /d : ok
+1 stat e : ok
+1 chdir /b/a/.. : ok
+1 symlink h /i : ok
+1 stat /j/k : ok
+1 chdir /j/m : ok
+1 stat n : ok
+--
+line 19: may be wrong: relative paths, which begin at /d in the script: by __getcwd the directory is /l (1 in all)
+line 24: left out: fchdir, of which the path is not known (1 in all)
+line 26: left out: a relative path, since the working directory is not known any more (2 in all)
+END
+
+gives('roots', <<'END');
+7 open(0x1c60,0<O_RDONLY>) = 3 "/a"
+7 fork() = 8
+8 chroot(0x1c60) = 0 "/r//s/./"
+8 stat(0x1c60,0x1d60) = 0 "/../x"
+8 stat(0x1c60,0x1d60) = 0 "/.././../y/.."
+8 openat(3,0x1c60,0<O_RDONLY>) = 4 "z"
+8 stat(0x1c60,0x1d60) = 0 "/./.."
+8 chroot(0x1c60) = 0 "/t"
+8 stat(0x1c60,0x1d60) = 0 "/"
+7 fchdir(9) = 0
+7 fork() = 9
+9 chroot(0x1c60) = 0 "u"
+9 stat(0x1c60,0x1d60) = 0 "/v"
+7 stat(0x1c60,0x1d60) = 0 "/w"
+--
+1 open-r /a : ok
+1 fork 2 : ok
+2 stat /r/s/x : ok
+2 stat /r/s/y/.. : ok
+2 open-r /a/z : ok
+2 stat /r/s/. : ok
+2 stat /r/s/t/ : ok
+1 fork 3 : ok
+1 stat /w : ok
+--
+line 9: may be wrong: paths below /r/s, after chroot(2): links and .. may lead elsewhere (see -c) (4 in all)
+line 24: may be wrong: paths below /r/s/t, after chroot(2): links and .. may lead elsewhere (see -c) (1 in all)
+line 27: left out: fchdir, of which the path is not known (1 in all)
+line 34: left out: a path from the root of a process, since that root is not known (1 in all)
+END
+
+{
+    my $deep = 'd' x 200;
+    my $short = join "\n", qq(7 open(0x1c60,0<O_RDONLY>) = 3 "/$deep"),
+        (map { my $next = $_ + 1; qq(7 openat($_,0x1c60,0<O_RDONLY>) = $next "$deep") } 3 .. 8), '';
+    gives('a path that grows', "$short--\n" . join('', map { '1 open-r ' . "/$deep" x $_ . " : ok\n" } 1 .. 5)
+        . "--\nline 16: left out: openat, of which the whole path is too long (2 in all)\n");
+}
 
 gives('relative paths', <<'END');
 7 stat(0x1c60,0x1d60) = 0 "a"
@@ -840,8 +931,26 @@ gives('relative paths', <<'END');
 3 unlink a : ok
 2 unlink a : ok
 --
-line 1: a relative path: it is taken from the root, or with -d from another directory (4 in all)
+line 1: may be wrong: relative paths, which are taken from the root: where the first process began is not known (-d) (4 in all)
 END
+
+# Traces of whole daemons. Each file NAME-RUN.expected has the words of a run over NAME.kdump, and, apart from
+# each other by `--`, the script with its answers, the reports, and what is held.
+for my $file (glob "$TOOLS/../tests/data/traces/*.expected") {
+    my ($name, $run) = basename($file) =~ /\A(\w+)-(\w+)\.expected\z/;
+    my ($words, $expected) = split /\n/, content($file), 2;
+    my ($lines, $reports, $held) = split /^--\n/m, $expected, 3;
+    unlink 'answers', 'held';
+    my ($status, $out, $err) =
+        trace('-e', 'answers', '-o', 'held', split(/ /, $words), "$TOOLS/../tests/data/traces/$name.kdump");
+    my $number = 0;
+    is($out, $lines =~ s/ : \S+$//gmr, "$name, $run: the script");
+    is(content('answers'), $lines =~ s/^.* : (\S+)$/++$number . " $1"/gmer, "$name, $run: the answers");
+    is($err, $reports =~ s/^/trace.pl: /gmr, "$name, $run: the reports");
+    is(content('held'), $held, "$name, $run: what is held");
+    is($status, 0, "$name, $run: the status");
+    is(system("$PUA run tree out > ran"), 0, "$name, $run: pua reads it") if defined $PUA && $words !~ /k/;
+}
 
 # Lines that are no records.
 my $LONG = '0,' x 50_000;
@@ -868,8 +977,10 @@ gives('lines that are no records', <<"END");
 1 exit : ok
 --
 line 1: no record of kdump (2 in all)
+line 7: a record NOPE, which is not known (1 in all)
 line 10: a CALL that is none (2 in all)
 line 11: a RET that is none (1 in all)
+line 13: a record CSW, which is not known (1 in all)
 line 14: no record of kdump: the line is too long (2 in all)
 END
 
@@ -887,7 +998,7 @@ $SLASHES$SLASHES${SLASHES}7 RET   stat 0
 --
 line 1: left out: stat, of which a path can't be read (1 in all)
 line 2: a NAMI that can't be read (2 in all)
-line 10: left out: stat, of which no return is there (kdump -H tells threads apart) (1 in all)
+line 10: left out: stat, of which the trace ends before it returns (1 in all)
 END
 
 {
@@ -896,9 +1007,9 @@ END
     is($status, 1,  'a line without an end: the status');
     is($out,    '', 'a line without an end: nothing is printed');
     like($err, qr/\Atrace\.pl: no record of kdump in the trace; /, 'a line without an end: the report');
-    file('trace', kdump("7 CALL  exit(0)\n" x 60_001));
+    file('trace', kdump(qq(7 stat(0x1c60,0x1d60) = 0 "/a"\n) x 60_001));
     ($status, $out, $err) = trace();
-    is($err, "trace.pl: the script has 60001 lines, and pua reads at most 60000\n", 'more lines than pua reads');
+    is(said_of_lines($err), "trace.pl: the script has 60001 lines, and pua reads at most 60000\n", 'more lines than pua reads');
 }
 
 gives('names of commands', <<'END');
@@ -914,22 +1025,35 @@ END
 
 # The words.
 {
-    my $usage = "usage: trace.pl [-d DIRECTORY] [-e FILE] [TRACE]\n";
+    my $usage = "usage: trace.pl [-klvx] [-c ROOT] [-d DIRECTORY] [-e FILE] [-o FILE] [TRACE]\n";
     file('trace', kdump('7 CALL  exit(0)'));
-    for my $words (['a', 'b'], [''], ['-e', ''], ['-e'], ['-d', 'home'], ['-d', '']) {
+    for my $words (['a', 'b'], [''], ['-e', ''], ['-e'], ['-d', 'home'], ['-d', ''], ['-c', 'www'], ['-c', ''], ['-o', ''], ['-q']) {
         my ($status, $out, $err) = trace(@$words);
         is("$status$out", '2', "no use of it: @$words");
         like($err, qr/\Q$usage\E\z/, "no use of it: @$words: the report");
     }
     file('trace', kdump("7 fork() = 8\n" . '8 stat(0x1c60,0x1d60) = 0 "a"'));
     my ($status, $out, $err) = trace('-d', '/my home', '-e', 'answers');
-    is("$status$out$err", "01 chdir /my\\040home\n1 fork 2\n2 stat a\n", 'a working directory');
+    is($status . $out . said_of_lines($err), "01 chdir /my\\040home\n1 fork 2\n2 stat a\n", 'a working directory');
     is(content('answers'), "1 ok\n2 ok\n3 ok\n", 'a working directory: the answers');
     file('trace', kdump('7 CALL  exit(0)'));
-    ($status, $out, $err) = trace('trace');
-    is("$status$out$err", "01 exit\n", 'a file that is named');
+    ($status, $out, $err) = trace('-x', 'trace');
+    is($status . $out . said_of_lines($err), "01 exit\n", 'a file that is named');
     ($status, $out, $err) = trace("no\nne");
     like("$status$out$err", qr/\A1trace\.pl: no\\012ne: \S.*\n\z/, 'a file that is not there');
+    file('trace', kdump(join "\n", '7 CALL  unveil(0x1c60,0x1d60)', '7 STRU  flags="r"', '7 NAMI  "/www"', '7 RET   unveil 0',
+        '7 chroot(0x1c60) = 0 "/www"', '7 chdir(0x1c60) = 0 "/"', '7 stat(0x1c60,0x1d60) = 0 "a"'));
+    ($status, $out, $err) = trace('-c', '/www');
+    is($status . $out . said_of_lines($err), "01 chdir /\n1 stat a\ntrace.pl: line 5: may be wrong: "
+        . "what was unveiled before the chroot is not in this script (1 in all)\n", 'a veil that is older than the root');
+    ($status, $out, $err) = trace('-c', '/ww');
+    is($status . $out . said_of_lines($err), "0trace.pl: no process had the root /ww, but: /, /www\n", 'a root that none had');
+    file('trace', kdump(join '', map { "7 fork() = $_\n" } 1000 .. 1254));
+    ($status, $out, $err) = trace('-v');
+    is(said_of_lines($err), '', '256 processes');
+    file('trace', kdump(join '', map { "7 fork() = $_\n" } 1000 .. 1255));
+    ($status, $out, $err) = trace('-v');
+    is(said_of_lines($err), "trace.pl: the script has 257 processes, and pua makes at most 256\n", 'more than pua makes');
     ($status, $out, $err) = trace('-e', 'none/answers');
     like("$status$out$err", qr{\A1trace\.pl: none/answers: \S.*\n\z}, 'answers that can not be written');
     ($status, $out, $err) = trace('.');

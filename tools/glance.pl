@@ -1,0 +1,168 @@
+#!/usr/bin/perl
+# Prints at a glance what `pua objects` printed: a line for each process, and what no line of an
+# object shows:
+#
+#     glance.pl [-m MANIFEST] [-o HELD] [LIST]...
+#
+# LIST is the output of `pua objects`, of now or with `--ever`; standard input if it is left out.
+# What is kept of several, or of all processes by `--process all`, comes one after the other.
+#
+# The line of a process has its veils and its lock, and how many lines of objects have something
+# that can be read, written, executed, made and removed; more than one of them may be about one
+# name. Below it stands, as far as it is so: that it has no veils at all, that it never pledged,
+# that it can put further veils; that programs which it starts have no sandbox; which sockets it
+# can connect to and where it can bind one; that it takes descriptors from others; its promises
+# for the network; and what its promises open past the veils, beside what stdio opens for every
+# process: /dev/null, /etc/localtime and /usr/share/zoneinfo.
+#
+#     -m MANIFEST  what list.pl -m wrote: says first what the listing doesn't have.
+#     -o HELD      what trace.pl -o wrote: says of each process what it holds open.
+#
+# Status 0: it was printed. Status 1: a file can't be read, or is no list of objects; then nothing
+# was printed. Status 2: the words are no use of it.
+use strict;
+use warnings;
+
+BEGIN {
+    my ($here) = __FILE__ =~ m{\A(.*/)}s;
+    unshift @INC, map { ($here || './') . $_ } '../share/pua/perl', 'lib';
+}
+use Getopt::Long qw(:config posix_default no_ignore_case bundling);
+use Pua::Lists qw(@COLUMNS columns has_promise held_of holds lines_of lists_of manifest_of
+    state_of);
+
+my ($NAME) = $0 =~ m{([^/]*)\z};
+my $MOST_NAMED = 5;    # paths that a line names
+
+my @ABOUT_PATHS = qw(rpath wpath cpath dpath tmppath exec fattr chown unix);    # promises
+my @NETWORK     = qw(inet mcast dns bpf pf route wroute vmm);
+
+# What promises open by themselves. A list by OpenBSD's rules has it; for any other it is said
+# here.
+my %OPENINGS = (
+    dns   => ['/etc/resolv.conf', '/etc/hosts', '/etc/services', '/etc/protocols'],
+    getpw => ['/etc/pwd.db', '/etc/group', '/etc/netid'],
+);
+my %BY_STDIO = map { $_ => 1 } qw(/dev/null /etc/localtime /usr/share/zoneinfo/);
+
+# The first of some things, and how many more there are.
+sub some {
+    my @things = @_;
+    my @more = splice @things, @things > $MOST_NAMED ? $MOST_NAMED : @things;
+    return join(', ', @things) . (@more ? ' and ' . @more . ' more' : '');
+}
+
+# How many objects of a list have a call under each head, and those that have a call of this name.
+sub counts {
+    my ($list) = @_;
+    my %counts = map { $_ => 0 } @COLUMNS;
+    for my $object (@{ $list->{objects} }) {
+        $counts{$_}++ for keys %{ columns($object->[0], $object->[2]) };
+    }
+    return \%counts;
+}
+
+sub paths_with {
+    my ($list, $call) = @_;
+    return map { $_->[1] } grep { $_->[2] =~ /(?:\A|,)\Q$call\E(?:,|\z)/ } @{ $list->{objects} };
+}
+
+# What is to be said of programs that are started.
+sub about_programs {
+    my ($list, $state, $executed) = @_;
+    return 'the list holds until a program is started' if ($state->{exec} || '') eq 'open';
+    return if !holds($state, 'exec') || $state->{execpromises};
+    return "programs that it starts have no sandbox: $executed can be executed" if $executed;
+    return $list->{ever} ? ()
+        : 'programs that it starts have no sandbox, though none that is listed can be executed';
+}
+
+# What is to be said of sockets in the file system: by lines of objects if the list has them, else
+# by veils.
+sub about_sockets {
+    my ($list, $state) = @_;
+    return if !holds($state, 'unix');
+    if ($state->{by_openbsd}) {
+        my @connects = paths_with($list, 'connect');
+        my @binds = paths_with($list, 'bind');
+        return ((@connects ? 'connects, if these are sockets, to ' . some(@connects) : ()),
+            (@binds ? 'binds sockets in ' . some(@binds) : ()));
+    }
+    return 'connects to each socket, and binds sockets anywhere: no line shows it'
+        unless @{ $state->{veils} };
+    my $silent   = ': no line shows it';
+    my @connects = map { $_->[0] } grep { $_->[1] =~ /w/ } @{ $state->{veils} };
+    my @binds    = map { $_->[0] } grep { $_->[1] =~ /c/ } @{ $state->{veils} };
+    return (
+        (@connects ? 'connects to each socket at or below ' . some(@connects) . $silent : ()),
+        (@binds ? 'binds sockets at or below ' . some(@binds) . $silent : ()),
+    );
+}
+
+# What is to be said of files that promises open.
+sub about_openings {
+    my ($state) = @_;
+    my @paths = map { $_->[0] } grep { @$_ == 2 } @{ $state->{openings} };    # others ask veils
+    my @promises = grep { has_promise($state, $_) } sort keys %OPENINGS;
+    @paths = map { @{ $OPENINGS{$_} } } @promises if !@paths;
+    @paths = grep { !$BY_STDIO{$_} } @paths;
+    return @paths ? 'opens past the veils ' . some(@paths) : ();
+}
+
+# The lines of a process.
+sub lines_about {
+    my ($list, $held) = @_;
+    my ($state, $counts) = (state_of($list), counts($list));
+    my $name = "process $list->{process}" . ($list->{ever} ? ' ever' : '');
+    return "$name: ended" if $state->{ended};
+    my $veils = @{ $state->{veils} };
+    my @says;
+    push @says, 'no veils at all: it touches what is not listed too'
+        if !$veils && grep { holds($state, $_) } @ABOUT_PATHS;
+    push @says, 'it never pledged: it holds all promises' if !$state->{promises};
+    push @says, 'not locked: it can put further veils' if ($state->{unveil} || '') eq 'open';
+    push @says, about_programs($list, $state, $counts->{executed}), about_sockets($list, $state);
+    push @says, 'takes descriptors from others (recvfd)' if has_promise($state, 'recvfd');
+    my @network = grep { has_promise($state, $_) } @NETWORK;
+    push @says, 'the network: ' . join ',', @network if @network;
+    push @says, about_openings($state);
+    push @says, 'holds open ' . some(@{ $held->{ $list->{process} } })
+        if $held->{ $list->{process} };
+    return ("$name: veils $veils, " . ($state->{unveil} || 'lock not told') . '; '
+        . join(', ', map { "$_ $counts->{$_}" } @COLUMNS),
+        map { "    $_" } @says);
+}
+
+# The lines of a file.
+sub lines_in {
+    my ($file, $held) = @_;
+    my ($answers, @lists) = lists_of($file, lines_of($file));
+    my %answers;
+    $answers{ (split / /, $_)[1] }++ for @$answers;
+    return ('answers: ' . (join(', ', map { "$_ $answers{$_}" } sort keys %answers) || 'none'),
+        map { lines_about($_, $held) } @lists);
+}
+
+sub fail { print STDERR "$NAME: @_\n"; exit 1 }
+
+my ($manifest, $held);
+my $understood = GetOptions('m=s' => \$manifest, 'o=s' => \$held);
+if (!$understood || grep { $_ eq '' } @ARGV, grep { defined } $manifest, $held) {
+    print STDERR "usage: $NAME [-m MANIFEST] [-o HELD] [LIST]...\n";
+    exit 2;
+}
+my @files = @ARGV ? @ARGV : '/dev/stdin';
+my @lines;
+eval {
+    my $missing = defined $manifest ? manifest_of($manifest) : {};
+    my $opened  = defined $held     ? held_of($held)         : {};
+    push @lines, 'not in the listing ' . some(sort keys %$missing) if %$missing;
+    push @lines, (@files > 1 ? "$_:" : ()), lines_in($_, $opened) for @files;
+    1;
+} or do {
+    chomp(my $fault = $@);
+    fail($fault);
+};
+binmode STDOUT;
+print map { "$_\n" } @lines or fail("standard output: $!");
+close STDOUT or fail("standard output: $!");

@@ -1,0 +1,306 @@
+#!/usr/bin/perl
+# Tests of glance.pl: perl tools/glance.t
+use strict;
+use warnings;
+use Cwd qw(abs_path);
+use File::Basename qw(dirname);
+use File::Temp qw(tempdir);
+use POSIX ();
+use Test::More;
+
+my $TOOLS  = dirname(abs_path(__FILE__));
+my $GLANCE = "$TOOLS/glance.pl";
+my $room   = tempdir(CLEANUP => 1);
+chdir $room or die "$room: $!";
+
+sub file {
+    my ($name, @lines) = @_;
+    open my $out, '>', $name or die "$name: $!";
+    print $out map { "$_\n" } @lines;
+    close $out or die "$name: $!";
+    return $name;
+}
+
+# The whole content of a file.
+sub content {
+    my ($name) = @_;
+    open my $in, '<:raw', $name or die "$name: $!";
+    local $/ = undef;
+    my $bytes = <$in>;
+    close $in;
+    return defined $bytes ? $bytes : '';
+}
+
+# Runs glance.pl as for foreign text, with these words and, as its input, the file `list`: its
+# status, and what it wrote on both outputs.
+sub glance {
+    my @words = @_;
+    my $child = fork;
+    die "fork: $!" unless defined $child;
+    if (!$child) {
+        open STDIN,  '<', 'list' or POSIX::_exit(99);
+        open STDOUT, '>', 'out'  or POSIX::_exit(99);
+        open STDERR, '>', 'err'  or POSIX::_exit(99);
+        exec $^X, '-T', '-w', $GLANCE, @words or POSIX::_exit(99);
+    }
+    waitpid $child, 0;
+    return ($? >> 8, content('out'), content('err'));
+}
+
+# That these lists are told by these lines.
+sub tells {
+    my ($what, $lists, @lines) = @_;
+    file('list', split /\n/, $lists);
+    my ($status, $out, $err) = glance();
+    is($out, join('', map { "$_\n" } @lines), $what);
+    is("$status $err", '0 ', "$what: the status");
+    return;
+}
+
+for my $option ('-wc', '-Twc') {
+    like(`$^X $option $GLANCE 2>&1`, qr/\A\S+ syntax OK\n\z/, "perl $option has nothing to say");
+}
+
+# One line a process, whatever its list.
+tells('a site', <<'END', 'answers: ENOENT 1, ok 2', 'process 1: veils 1, locked; read 3, written 2, executed 0, made 2, removed 1');
+1 ok
+2 ENOENT no veil on /x or above since line 1
+3 ok
+objects 1
+process alive
+promises cpath,rpath,stdio,wpath
+execpromises -
+unveil locked
+veil /www rwc
+dir /www stat,lstat,open-r,chdir
+other /www create,mkdir,symlink
+file /www/key open-w,open-rw,create,unlink,chmod
+file /www/page open-r
+file /www/log open-w
+missing /www/pid create
+END
+
+tells('what no object line shows', <<'END', split /\n/, <<'OUT');
+1 killed
+2 gone
+objects 1
+process ended
+objects 2
+process alive
+promises -
+execpromises -
+unveil open
+dir / stat,lstat,open-r,chdir
+prog /bin/sh stat,exec
+objects 3
+process alive
+promises exec,proc,stdio
+execpromises -
+unveil locked
+veil /nosuch r
+objects 4
+process alive
+promises exec,stdio
+execpromises rpath,stdio
+unveil given-up
+veil - rwc
+objects 5
+process alive
+promises dns,inet,recvfd,stdio,unix
+execpromises -
+unveil locked
+veil /run rw
+veil /var wc
+veil /etc r
+objects 6
+process alive
+promises stdio,unix
+execpromises -
+unveil locked
+objects 7
+process alive
+promises getpw,stdio,tty
+execpromises =
+unveil locked
+objects 8
+process alive
+promises =
+execpromises -
+unveil given-up
+END
+answers: gone 1, killed 1
+process 1: ended
+process 2: veils 0, open; read 2, written 0, executed 1, made 0, removed 0
+    no veils at all: it touches what is not listed too
+    it never pledged: it holds all promises
+    not locked: it can put further veils
+    programs that it starts have no sandbox: 1 can be executed
+    connects to each socket, and binds sockets anywhere: no line shows it
+process 3: veils 1, locked; read 0, written 0, executed 0, made 0, removed 0
+    programs that it starts have no sandbox, though none that is listed can be executed
+process 4: veils 1, given-up; read 0, written 0, executed 0, made 0, removed 0
+process 5: veils 3, locked; read 0, written 0, executed 0, made 0, removed 0
+    connects to each socket at or below /run, /var: no line shows it
+    binds sockets at or below /var: no line shows it
+    takes descriptors from others (recvfd)
+    the network: inet,dns
+    opens past the veils /etc/resolv.conf, /etc/hosts, /etc/services, /etc/protocols
+process 6: veils 0, locked; read 0, written 0, executed 0, made 0, removed 0
+    no veils at all: it touches what is not listed too
+    connects to each socket, and binds sockets anywhere: no line shows it
+process 7: veils 0, locked; read 0, written 0, executed 0, made 0, removed 0
+    opens past the veils /etc/pwd.db, /etc/group, /etc/netid
+process 8: veils 0, given-up; read 0, written 0, executed 0, made 0, removed 0
+OUT
+
+# A list by OpenBSD's rules, with what such lists are to have, and lists for ever.
+tells('openings and sockets that have lines', <<'END', split /\n/, <<'OUT');
+1 ok
+objects 1
+process alive
+promises dns,stdio,unix
+execpromises -
+unveil locked
+rules openbsd
+opening /etc/resolv.conf stat,open-r
+opening /etc/hosts open-r
+opening /dev/null open-r,open-w,open-rw
+opening /usr/share/zoneinfo/ open-r
+opening /tmp/ create,unlink veils
+veil /run wc
+file /run/d.sock connect
+other /run bind
+missing /run/ctl bind
+objects 2
+process alive
+promises stdio,unix
+execpromises -
+no veils
+unveil locked
+rules openbsd
+END
+answers: ok 1
+process 1: veils 1, locked; read 0, written 1, executed 0, made 2, removed 0
+    connects, if these are sockets, to /run/d.sock
+    binds sockets in /run, /run/ctl
+    the network: dns
+    opens past the veils /etc/resolv.conf, /etc/hosts
+process 2: veils 0, locked; read 0, written 0, executed 0, made 0, removed 0
+    no veils at all: it touches what is not listed too
+OUT
+
+tells('lists for ever', <<'END', split /\n/, <<'OUT');
+ever 1
+process alive
+promises cpath,exec,rpath,stdio
+execpromises -
+unveil locked
+exec open
+veil /in wc
+dir /in chdir
+file /in/a stat,unlink
+file new open-r
+dir new mkdir
+prog /in/run exec
+ever 2
+process alive
+promises cpath,exec,stdio
+execpromises stdio
+unveil locked
+exec bounded
+veil /in wc
+prog /in/run exec
+ever 3
+process alive
+promises exec,rpath,stdio
+execpromises -
+unveil locked
+veil /a r
+file /a stat
+ever 4
+process alive
+promises exec,stdio
+execpromises -
+unveil locked
+veil /a x
+prog /a exec
+END
+answers: none
+process 1 ever: veils 1, locked; read 3, written 0, executed 1, made 1, removed 1
+    the list holds until a program is started
+process 2 ever: veils 1, locked; read 0, written 0, executed 1, made 0, removed 0
+process 3 ever: veils 1, locked; read 1, written 0, executed 0, made 0, removed 0
+process 4 ever: veils 1, locked; read 0, written 0, executed 1, made 0, removed 0
+    programs that it starts have no sandbox: 1 can be executed
+OUT
+
+# Many paths, several files, what the listing lacks, and what is held open.
+{
+    file('list', 'objects 1', 'process alive', 'promises stdio,unix', 'execpromises -',
+        'unveil locked',
+        (map { "veil /s$_ w" } 1 .. 7));
+    file('other', '1 ok', 'objects 1', 'process ended', 'objects 2', 'process alive',
+        'promises =', 'execpromises -', 'unveil locked');
+    file('manifest', 'left-out /usr/include', 'passed-over /root', 'left-out /a\\040b');
+    file('held', 'held 2 open-r /etc/ssl since line 3', 'held 2 open-rw - since line -',
+        'held 1 open-w /x since line 4');
+    my ($status, $out, $err) = glance('-m', 'manifest', '-o', 'held', 'list', 'other');
+    is($out, <<'END', 'two files, a manifest, and what is held');
+not in the listing /a\040b, /root, /usr/include
+list:
+answers: none
+process 1: veils 7, locked; read 0, written 0, executed 0, made 0, removed 0
+    connects to each socket at or below /s1, /s2, /s3, /s4, /s5 and 2 more: no line shows it
+    holds open open-w /x
+other:
+answers: ok 1
+process 1: ended
+process 2: veils 0, locked; read 0, written 0, executed 0, made 0, removed 0
+    holds open open-r /etc/ssl, open-rw -
+END
+    is("$status $err", '0 ', 'two files, a manifest, and what is held: the status');
+    file('manifest');
+    file('held');
+    is((glance('-m', 'manifest', '-o', 'held', 'other'))[1], (glance('other'))[1],
+        'an empty manifest, and nothing that is held');
+}
+
+# Faults: nothing is written, and one line says why.
+{
+    my $list = file('list', '1 ok', 'objects 1', 'process ended');
+    my @faults = (
+        [['none'], 'none: No such file or directory'],
+        [['.'], '.: it cannot be read'],
+        [[file('tree', 'tree 1', '0 dir')], 'tree: line 1: no line of a list of objects'],
+        [[file('run', '1 ok')], 'run: it has no list of objects'],
+        [[file('tab', "objects\t1")], 'tab: line 1: bad line'],
+        [[$list, 'run'], 'run: it has no list of objects'],
+        [['-m', file('bad', 'left-out usr'), $list], 'bad: line 1: no line of a manifest'],
+        [['-m', 'none', $list], 'none: No such file or directory'],
+        [['-o', file('open', 'held 1 open-r /a since line 1', 'held 1 stat /a since line 1'),
+            $list], 'open: line 2: nothing that is held'],
+    );
+    is_deeply([glance(@{ $_->[0] })], [1, '', "glance.pl: $_->[1]\n"], "a fault: $_->[1]")
+        for @faults;
+    my $usage = "usage: glance.pl [-m MANIFEST] [-o HELD] [LIST]...\n";
+    for my $words ([''], ['-m', ''], ['-o', '', 'list'], ['-q'], ['-m']) {
+        my ($status, $out, $err) = glance(@$words);
+        is("$status$out", '2', "no use of it: @$words");
+        like($err, qr/\Q$usage\E\z/, "no use of it: @$words: the report");
+    }
+    SKIP: {
+        skip 'there is no /dev/full here', 1 unless -c '/dev/full';
+        isnt(system("$^X -T $GLANCE $list > /dev/full 2> err"), 0, 'an output that is full');
+    }
+}
+
+# Each list of the examples is told, with a line for each process that it has.
+for my $output (glob "$TOOLS/../examples/*/*{objects,all,ever}*-output") {
+    my $text = content($output);
+    my ($status, $out, $err) = glance($output);
+    my @processes = $text =~ /^(?:objects|ever) [0-9]+$/mg;
+    my @told = $out =~ /^process [0-9]+/mg;
+    is("$status $err" . @told, '0 ' . @processes, ($output =~ m{([^/]*/[^/]*)\z})[0]);
+}
+chdir '/';
+done_testing;
