@@ -25,8 +25,12 @@ install:
 		install -m 755 tools/$$tool.pl $(BINDIR)/pua-$$tool || exit 1; \
 	done
 
+# A release for any system with a C compiler, and its tests: see release/README.md.
+dist distcheck:
+	cd release && $(MAKE) $@
+
 uninstall:
 	rm -f $(BINDIR)/pua $(MANDIR)/pua.1
 	for tool in $(TOOLS); do rm -f $(BINDIR)/pua-$$tool; done
 
-.PHONY: all check install uninstall
+.PHONY: all check install dist distcheck uninstall
