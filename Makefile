@@ -44,9 +44,13 @@ install-tools:
 		install -m 644 tools/lib/Pua/$$module.pm $(PERLDIR)/Pua/$$module.pm || exit 1; \
 	done
 
+# A release for any system with a C compiler, and its tests: see release/README.md.
+dist distcheck:
+	cd release && $(MAKE) $@
+
 uninstall:
 	rm -f $(BINDIR)/pua $(MANDIR)/man1/pua.1 $(MANDIR)/man7/pua-model.7
 	for tool in $(TOOLS); do rm -f $(BINDIR)/pua-$$tool $(MANDIR)/man1/pua-$$tool.1; done
 	for module in $(MODULES); do rm -f $(PERLDIR)/Pua/$$module.pm; done
 
-.PHONY: all check test install install-tools uninstall
+.PHONY: all check test install install-tools dist distcheck uninstall
