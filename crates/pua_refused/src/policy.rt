@@ -1,5 +1,9 @@
 //! Wrong bodies of `pua_policy`.
 
+mod allowed;
 mod execs;
+mod pledges;
 mod processes;
+mod promised;
+mod veils;
 mod verdicts;
