@@ -3,7 +3,7 @@
 use pua_calls::Promises;
 use pua_path::Errno;
 
-/// No text is the empty set of promises.
+/// A text without bytes names the empty set of promises.
 fn no_text_refused() {
     if Promises::read(b"") != Ok(Promises::NONE) {
         unreachable!()

@@ -38,7 +38,7 @@ fn perms_union_forgets_the_others() {
     }
 }
 
-/// No permission is left of none.
+/// The empty set of permissions stays empty without those of another.
 fn lacking_letters_turned() {
     if Perms::NONE.without(Perms::READ) != Perms::NONE {
         unreachable!()

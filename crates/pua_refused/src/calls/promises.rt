@@ -31,21 +31,21 @@ fn promises_meet_takes_the_others() {
     }
 }
 
-/// No promise is left of none.
+/// The empty set of promises stays empty without those of another.
 fn lacking_promises_turned() {
     if Promises::NONE.without(Promises::RPATH) != Promises::NONE {
         unreachable!()
     }
 }
 
-/// No promises have no keyword at any index, as at the first.
+/// The empty set of promises has not even the first keyword.
 fn promises_keyword_of_others() {
     if Promises::NONE.keyword(0).is_some() {
         unreachable!()
     }
 }
 
-/// No promises have no keywords.
+/// The empty set of promises has no keywords.
 fn names_of_others(alloc: Global) {
     let Ok(names) = Promises::NONE.names(alloc) else {
         return;

@@ -5,7 +5,7 @@ use pua_policy::judge::allowed;
 use pua_policy::{AllowedCalls, Cover, Object, Process};
 use std::alloc::Global;
 
-/// A new process may do more with a file than the last of the calls that it may do.
+/// Of the calls that are allowed on a file the first is among them, as the last is.
 fn allowed_calls_forgotten(alloc: Global) {
     let Ok(process) = Process::new(alloc) else {
         return;

@@ -29,7 +29,7 @@ fn promised_without_promises(alloc: Global) {
     }
 }
 
-/// A new process holds what stat needs.
+/// A new process holds what stat needs: all promises of one of its alternatives.
 fn promised_by_no_alternative(alloc: Global) {
     let Ok(process) = Process::new(alloc) else {
         return;

@@ -79,7 +79,7 @@ fn kept_of_the_first_unveil(alloc: Global) {
     }
 }
 
-/// After an unveil its veil is lent.
+/// After an unveil a veil is lent.
 fn no_veils_lent(alloc: Global) {
     let Ok(mut process) = Process::new(alloc) else {
         return;
@@ -95,7 +95,7 @@ fn no_veils_lent(alloc: Global) {
     }
 }
 
-/// After an unveil its place is lent.
+/// After an unveil a place is lent.
 fn veiled_places_forgotten(alloc: Global) {
     let Ok(mut process) = Process::new(alloc) else {
         return;

@@ -25,7 +25,7 @@ fn allowed_call_kills<'t, P: Probe<'t>>(alloc: Global, probe: &mut P) {
     }
 }
 
-/// A call of a process that has ended does not fail: the process stays ended.
+/// A call of a process that has ended is answered by its end, and by no error.
 fn killed_is_a_failure<'t, P: Probe<'t>>(alloc: Global, probe: &mut P) {
     let Ok(mut process) = Process::new(alloc) else {
         return;

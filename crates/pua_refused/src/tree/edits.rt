@@ -71,7 +71,7 @@ fn tie_needs_a_number(alloc: Global, tree: &mut ListTree, dir: NodeId, name: Nam
     }
 }
 
-/// A number that was taken away is not given again, whichever tree it was.
+/// The number after the last one is given next, also where the last one was taken away.
 fn freed_number_given_again(alloc: Global) {
     let Ok(mut tree) = read_listing(alloc, b"tree 1\n0 dir\n1 file 0 a\n") else {
         return;
