@@ -3,6 +3,7 @@
 //! the answer can be proved. A function is named for the wrong body, and its doc says what holds.
 #![tactic(auto)]
 
+mod calls;
 mod path;
 mod policy;
 mod script;
