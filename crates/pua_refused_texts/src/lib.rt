@@ -5,5 +5,6 @@
 #![tactic(auto)]
 
 mod audit;
+mod lists;
 mod tool;
 mod words;
