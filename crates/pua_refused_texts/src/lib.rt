@@ -4,5 +4,6 @@
 //! what holds. (`pua_refused` has those of the libraries below.)
 #![tactic(auto)]
 
+mod io;
 mod tool;
 mod words;
