@@ -5,5 +5,6 @@
 #![tactic(auto)]
 
 mod io;
+mod steps;
 mod tool;
 mod words;
