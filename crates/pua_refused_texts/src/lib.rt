@@ -6,5 +6,6 @@
 
 mod io;
 mod steps;
+mod texts;
 mod tool;
 mod words;
