@@ -5,6 +5,9 @@
 #![tactic(auto)]
 
 mod audit;
+mod io;
 mod lists;
+mod steps;
+mod texts;
 mod tool;
 mod words;

@@ -1,5 +1,9 @@
 //! Wrong bodies of `pua_tool`.
 
+mod breaking;
+mod tables;
+mod telling;
+
 use pua_calls::Rules;
 use pua_tool::{
     Command, DONE, MemoryInputs, MemorySink, ReadSource, Sink, Text, command, perform, put_all,
