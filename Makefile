@@ -14,6 +14,14 @@ TOOLS = list trace page
 all:
 	cd crates/pua && rt run -- --version
 
+# Before each commit: what changed is proved again, and the program is tested; no edits, and nothing from nothing.
+quick: all
+	perl -T tools/refused.pl
+	for part in tools/*.t; do perl $$part || exit 1; done
+	cd crates/pua_refused && rt check
+	cd crates/pua_refused_texts && rt check
+	for part in tests/*.t; do perl $$part $(PROGRAM) || exit 1; done
+
 check:
 	.ci/run
 
@@ -29,4 +37,4 @@ uninstall:
 	rm -f $(BINDIR)/pua $(MANDIR)/pua.1
 	for tool in $(TOOLS); do rm -f $(BINDIR)/pua-$$tool; done
 
-.PHONY: all check install uninstall
+.PHONY: all quick check install uninstall
