@@ -25,7 +25,7 @@ my $TABLE = 'tests/data/refused';
 
 # Crates of claims; in others a claim stands in a module of this name.
 my @CLAIM_CRATES = qw(pua_refused pua_refused_texts);
-my $CLAIM_MODULE = qr{/src/refused(?:\.rt|/)};
+my $CLAIM_MODULE = qr{/refused(?:\.rt|/)};
 
 my @crates = crate_names();
 my %is_claims = map { $_ => 1 } @CLAIM_CRATES;
@@ -94,7 +94,8 @@ sub text_of {
     return scalar <$handle>;
 }
 
-# The public functions of a crate, those of its public traits among them: path, file, whether it is a law.
+# The public functions of a crate, those of its public traits among them: path, file, whether it is a law. Laws stand in files
+# of that name, or say so in theirs.
 sub public_functions {
     my ($crate) = @_;
     return map { functions_in($crate, $_) } grep { $_ !~ $CLAIM_MODULE } files_below("crates/$crate/src", '.rt');
@@ -110,7 +111,7 @@ sub functions_in {
             ($type, $is_trait) = ($1, 0);
         } elsif ($line =~ /^(\s*)(pub )?(?:const )?fn (\w+)/ && ($2 || $1 && $is_trait)) {
             my $path = join '::', $crate, $1 ? $type : (), $3;
-            push @found, { path => $path, file => $file, law => $3 =~ /_laws?$|_alike$|_examples$|^edits_keep_trees$/ };
+            push @found, { path => $path, file => $file, law => $file =~ m{/laws\.rt$} || $3 =~ /_laws?$|_examples$/ };
         }
     }
     return @found;
