@@ -111,7 +111,7 @@ sub functions_in {
             ($type, $is_trait) = ($1, 0);
         } elsif ($line =~ /^(\s*)(pub )?(?:const )?fn (\w+)/ && ($2 || $1 && $is_trait)) {
             my $path = join '::', $crate, $1 ? $type : (), $3;
-            push @found, { path => $path, file => $file, law => $file =~ m{/laws\.rt$} || $3 =~ /_laws?$|_examples$/ };
+            push @found, { path => $path, file => $file, law => ($file =~ m{/laws\.rt$} || $path =~ /(?:_laws?|_examples)$/) ? 1 : 0 };
         }
     }
     return @found;
