@@ -18,6 +18,12 @@ MODULES = Calls Kdump Lists Process Reports
 all:
 	cd crates/pua && rt run -- --version
 
+# Before each commit: what changed is proved again, and the program is tested; no edits, and nothing from nothing.
+quick: all test
+	perl -T tools/refused.pl
+	cd crates/pua_refused && rt check
+	cd crates/pua_refused_texts && rt check
+
 check:
 	.ci/run
 
@@ -53,4 +59,4 @@ uninstall:
 	for tool in $(TOOLS); do rm -f $(BINDIR)/pua-$$tool $(MANDIR)/man1/pua-$$tool.1; done
 	for module in $(MODULES); do rm -f $(PERLDIR)/Pua/$$module.pm; done
 
-.PHONY: all check test install install-tools dist distcheck uninstall
+.PHONY: all quick check test install install-tools dist distcheck uninstall

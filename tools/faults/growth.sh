@@ -1,17 +1,42 @@
 #!/bin/sh
-# Each growth of memory refused in turn to calls that are then made once more: sh growth.sh PROGRAM
-# PROGRAM is that of the crate pua_examples. Its growth number N is refused, for N from 1 until a run
+# Each growth of memory refused in turn to calls that are then made once more: sh growth.sh
+# It first builds the program that makes the calls, of what lies in growth/ and of some files of the crate
+# pua_examples, in a new folder with a copy of the crates. (The gate doesn't prove it: what it shows when it is run is
+# what contracts say already, over the real allocator.) Then its growth number N is refused, for N from 1 until a run
 # meets no refusal. A run has to end as it must after the second call, or, where the growth was refused
 # to something else than these calls, with a fault. A line is printed for each run that ends otherwise, then
 # how many runs there were, in how many a call was made once more, and how many were wrong.
-. "$(dirname "$0")/refusing.sh"
+set -u
+faults=$(realpath "$(dirname "$0")")
+top=$(realpath "$faults/../..")
+copy=$(mktemp -d)
+trap 'rm -rf "$copy"' EXIT
+
+# The crates, and in the place of pua_examples what is of no account for the calls left out.
+(cd "$top" && tar -cf - --exclude=out HANDLES crates.txt crates) | (cd "$copy" && tar -xf -) || exit 2
+crate=$copy/crates/pua_examples
+kept='src/hostile/audited.rt src/hostile/called.rt src/hostile/dripping.rt src/listed.rt src/told.rt src/trees.rt src/worlds.rt
+    proofs/hostile proofs/Common.antt'
+mv "$crate" "$copy/whole"
+mkdir -p "$crate/src/hostile" "$crate/src/growth" "$crate/proofs"
+for part in $kept; do cp -R "$copy/whole/$part" "$crate/$part"; done
+echo 'pub mod Common' > "$crate/proofs/Lib.antt"
+(cd "$faults/growth" && find . -name '*.rattle') | while read -r part; do
+    cp "$faults/growth/$part" "$crate/src/${part%.rattle}.rt"
+done
+echo '0 calls made once more' > "$crate/stdout"
+(cd "$crate" && rt run) || exit 2
+
+set -- "$crate/out/pua_examples"
+. "$faults/refusing.sh"
+trap 'rm -rf "$copy" "$room"' EXIT
 runs=0
 again=0
 elsewhere=0
 wrong=0
 
 while :; do
-    refused $((runs + 1)) growth
+    refused $((runs + 1))
     [ -s met ] || break
     runs=$((runs + 1))
     case "$status $(cat written)" in

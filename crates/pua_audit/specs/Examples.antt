@@ -89,6 +89,9 @@ pub record ReachRows : Type 0 where
       ∷ codes "/a symlink" ∷ []
   pub spelled : lines_from_root empty_tree one_promise (codes "a\\040b" ∷ []) 1 None ≡ codes "/a\\040b mkdir" ∷ codes "/a\\040b symlink"
       ∷ []
+  -- letters are in the order of their bytes, and not of how these are spelled
+  pub in_order_of_bytes : lines_from_root empty_tree one_promise (codes "A" ∷ codes "\\040" ∷ []) 1 None ≡ codes "/\\040 mkdir"
+      ∷ codes "/\\040 symlink" ∷ codes "/A mkdir" ∷ codes "/A symlink" ∷ []
   pub one_file : lines_from_root example_tree one_veil [] 2 None ≡ codes "/etc/passwd stat" ∷ codes "/etc/passwd lstat"
       ∷ codes "/etc/passwd open-r" ∷ []
   pub from_working_directory : lines_from Cwd example_tree (Moved 1 ∷ one_veil) [] 1 None ≡ codes "passwd stat" ∷ codes "passwd lstat"
@@ -133,6 +136,7 @@ reach_rows = record {
   missing_name = refl;
   resumed = refl;
   spelled = refl;
+  in_order_of_bytes = refl;
   one_file = refl;
   from_working_directory = refl;
   ended_process = refl;

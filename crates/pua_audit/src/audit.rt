@@ -1,5 +1,7 @@
 //! The audit of a process: its reach, pair by pair.
 
+mod refused;
+
 ghost use Rattle.std.specs.Prelude.{◌*◌, ◌≡◌, ◌≢◌, ◌≤◌, ◌+◌, Ok, Err, None, IfOk, IfErr, IfSome};
 ghost use Rattle.std.specs.Prelude.{length, map, option_map};
 ghost use Rattle.std.specs.Borrow.{sem};

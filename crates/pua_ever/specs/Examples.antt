@@ -16,6 +16,10 @@ lines t h = map (ever_line_text t) (ever t standard_table h)
 abbrev pub lines_by_openbsd : Tree → History → List (List ℕ)
 lines_by_openbsd t h = map (ever_line_text t) (ever t openbsd_table h)
 
+-- the names that lead to what each line is about
+abbrev pub words : Tree → History → List (List (List ℕ))
+words t h = map (λ line. line.word) (ever t standard_table h)
+
 abbrev directory : Node
 directory = record { kind = Dir; target = None }
 
@@ -150,6 +154,21 @@ abbrev pub one_that_stays_history : History
 one_that_stays_history =
     locked_after (
     Unveiled (place.Slot 1 (codes "k")) reading
+    ∷ Unveiled (place.Dir 0) (reading + writing + creating)
+    ∷ new_history)
+
+-- the same of a directory in the place of the file
+abbrev pub dir_that_stays_tree : Tree
+dir_that_stays_tree = record {
+  rows = ((0, codes "a"), 1) ∷ ((1, codes "b"), 2) ∷ [];
+  nodes = (0, directory) ∷ (1, directory) ∷ (2, directory) ∷ [];
+  next = 3;
+}
+
+abbrev pub dir_that_stays_history : History
+dir_that_stays_history =
+    locked_after (
+    Unveiled (place.Dir 2) reading
     ∷ Unveiled (place.Dir 0) (reading + writing + creating)
     ∷ new_history)
 
@@ -308,6 +327,17 @@ pub record EverRows : Type 0 where
       ∷ codes "file new stat,lstat,open-r,open-w,open-rw,create,unlink,chmod"
       ∷ codes "link new lstat,readlink,unlink"
       ∷ []
+  pub dir_that_stays : lines dir_that_stays_tree dir_that_stays_history ≡
+      codes "dir / stat,lstat,open-r,chmod,chdir"
+      ∷ codes "other / create,mkdir,symlink"
+      ∷ codes "dir /a stat,lstat,open-r,chmod,chdir"
+      ∷ codes "other /a create,mkdir,symlink"
+      ∷ codes "dir /a/b stat,lstat,open-r,chdir"
+      ∷ codes "dir new stat,lstat,open-r,rmdir,chmod,chdir"
+      ∷ codes "other new create,mkdir,symlink"
+      ∷ codes "file new stat,lstat,open-r,open-w,open-rw,create,unlink,chmod"
+      ∷ codes "link new lstat,readlink,unlink"
+      ∷ []
   pub no_veil : lines no_veil_tree no_veil_history ≡
       codes "dir / stat,lstat,open-r,chmod,chdir"
       ∷ codes "other / create,mkdir,symlink"
@@ -319,6 +349,9 @@ pub record EverRows : Type 0 where
       ∷ codes "file new stat,lstat,open-r,open-w,open-rw,create,unlink,chmod"
       ∷ codes "link new lstat,readlink,unlink"
       ∷ []
+  -- no names lead to what can be made
+  pub words_of_all : words no_veil_tree no_veil_history ≡
+      [] ∷ [] ∷ (codes "a" ∷ []) ∷ (codes "a" ∷ []) ∷ (codes "a" ∷ codes "k" ∷ []) ∷ [] ∷ [] ∷ [] ∷ [] ∷ []
   pub no_cpath : lines no_cpath_tree no_cpath_history ≡
       codes "dir / stat,lstat,open-r,chdir"
       ∷ codes "dir /a stat,lstat,open-r,chdir"
@@ -379,7 +412,9 @@ ever_rows = record {
   dead_name = refl;
   second_name = refl;
   one_that_stays = refl;
+  dir_that_stays = refl;
   no_veil = refl;
+  words_of_all = refl;
   no_cpath = refl;
   aliases = refl;
   standard_aliases = refl;

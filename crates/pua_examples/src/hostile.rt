@@ -6,7 +6,6 @@ mod audited;
 mod broken;
 mod called;
 mod dripping;
-pub(crate) mod growth;
 mod live;
 mod reports;
 
@@ -20,6 +19,5 @@ const LISTING: &[u8] =
 pub(crate) fn run(rt: &HostRuntime) -> Result<()> {
     broken::run(rt)?;
     reports::run(rt)?;
-    live::run(rt)?;
-    growth::run(rt)
+    live::run(rt)
 }

@@ -2,5 +2,7 @@
 pub mod Sinks
 pub mod Sources
 pub mod Held
+-- Worked rows, which hold by computation.
+pub mod Examples
 -- Notes: what inputs in memory keep.
 pub mod Named

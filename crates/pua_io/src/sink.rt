@@ -1,5 +1,7 @@
 //! Where texts are written.
 
+mod refused;
+
 ghost use Rattle.std.specs.Prelude.{◌≡◌, ◌↔◌, ◌<◌, ◌≤◌, ◌-◌, ℕ, List, [], Option, Some, IfOk};
 ghost use Rattle.std.specs.Prelude.{IsErr, OnOk, OnErr, length, min};
 ghost use Rattle.std.specs.Io.Buffered.{writer_buffer, writer_contents};

@@ -1,5 +1,7 @@
 //! Reading to the end.
 
+mod refused;
+
 ghost use Rattle.std.specs.Prelude.{◌≡◌, ◌≢◌, ◌≤◌, ◌+◌, ℕ, List, Option, Err, IfOk, OnOk, OnErr};
 ghost use Rattle.std.specs.Prelude.{IfSome, length};
 ghost use Rattle.std.specs.Io.KnownBytes.{ReadConsumes};

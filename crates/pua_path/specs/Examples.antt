@@ -1,7 +1,9 @@
 -- Worked rows on resolution over the example tree, and paths that meet many links.
 use Rattle.std.specs.Prelude.{◌≡◌, [], ◌∷◌, Some, None, Ok, Err, codes, refl}
+use Rattle.pua_tree.specs.Tree.{Tree}
 use Rattle.pua_tree.specs.Examples.{example_tree}
-use Rattle.pua_path.specs.Resolution.{resolution, step, last}
+use Rattle.pua_tree.specs.declared.node.Kind.TheVariants.{Dir, File, Link}
+use Rattle.pua_path.specs.Resolution.{resolution, step, last, follow}
 use Rattle.pua_path.specs.Traces.{trace_from, trace_of_text}
 use Rattle.pua_path.specs.declared.errno.Errno.TheVariants.{ENOENT, ENOTDIR, ELOOP}
 use Rattle.pua_path.specs.declared.text.Ending.TheVariants as ending
@@ -12,6 +14,17 @@ use Rattle.pua_path.specs.declared.found.Found.TheVariants.{Whole, Slot}
 use Rattle.pua_path.specs.declared.traced.Stop.TheVariants.{NoEntry, NoDirectory, LinkBeyond}
 use Rattle.pua_path.specs.declared.traced.TextFault.TheVariants.{EmptyText, NulInText}
 use Rattle.pua_path.specs.declared.traced.PathFault.TheVariants.{InText, NoStart, Stops}
+
+-- a file, and a link to it whose target ends in a slash
+abbrev pub tree_of_slash : Tree
+tree_of_slash = record {
+  rows = ((0, codes "f"), 1) ∷ ((0, codes "l"), 2) ∷ [];
+  nodes = (0, record { kind = Dir; target = None }) ∷ (1, record { kind = File; target = None }) ∷ (
+    2,
+    record { kind = Link; target = Some (codes "f/") },
+  ) ∷ [];
+  next = 3;
+}
 
 -- what texts name in the example tree, from the root
 pub record ResolutionRows : Type 0 where
@@ -26,12 +39,18 @@ pub record ResolutionRows : Type 0 where
   pub through_missing : resolution example_tree 0 ending.Dot (codes "/no/x") Followed ≡ Err ENOENT
   pub endless : resolution example_tree 0 ending.Dot (codes "/tmp/self") Followed ≡ Err ELOOP
   pub endless_kept : resolution example_tree 0 ending.Dot (codes "/tmp/self") Kept ≡ Ok (Slot 3 (codes "self") (Some 6))
+  -- a slash at the end of a link's target asks for a directory, whatever the path's own ending
+  pub slash_of_target : resolution tree_of_slash 0 ending.Dropped (codes "/l") Followed ≡ Err ENOTDIR
 
 -- one part after another
 pub record StepRows : Type 0 where
   pub first : step example_tree 0 0 (part.Name (codes "t")) ≡ Ok (3, 1)
   pub second : step example_tree 3 1 (part.Name (codes "up")) ≡ Ok (1, 2)
   pub third : last example_tree 1 2 (part.Name (codes "passwd")) Followed ≡ Ok (Slot 1 (codes "passwd") (Some 2))
+  -- the links that were followed before count
+  pub last_link : last example_tree 0 31 (part.Name (codes "t")) Followed ≡ Ok (Whole 3 (Named 0 (codes "tmp")))
+  pub link_beyond : last example_tree 0 32 (part.Name (codes "t")) Followed ≡ Err ELOOP
+  pub followed : follow example_tree 0 (part.Name (codes "t")) ≡ Ok (Whole 3 (Named 0 (codes "tmp")), 1)
 
 -- how texts go, from the root and from elsewhere
 pub record TraceRows : Type 0 where
@@ -60,10 +79,11 @@ resolution_rows = record {
   through_missing = refl;
   endless = refl;
   endless_kept = refl;
+  slash_of_target = refl;
 }
 
 pub step_rows : StepRows
-step_rows = record { first = refl; second = refl; third = refl }
+step_rows = record { first = refl; second = refl; third = refl; last_link = refl; link_beyond = refl; followed = refl }
 
 pub trace_rows : TraceRows
 unfolding trace_from

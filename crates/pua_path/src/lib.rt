@@ -8,6 +8,7 @@ mod lent;
 mod limits;
 mod piece;
 mod probe;
+mod refused;
 mod resolver;
 mod rest;
 mod text;

@@ -10,7 +10,7 @@ use Rattle.pua_policy.specs.History.{History, Pledged, Unveiled, Locked, Ended, 
 use Rattle.pua_policy.specs.History.{unveil_fault, veils, may_any, pledged_set, after_exec}
 use Rattle.pua_policy.specs.Misfits.{misfit}
 use Rattle.pua_policy.specs.Reasons.{Holds, HasEnded, Lacks, promising, covering}
-use Rattle.pua_policy.specs.Verdict.{cover, verdict_on, object_fault, rmdir_fault, IsDir, IsFile, IsProg, IsLink, IsMissing}
+use Rattle.pua_policy.specs.Verdict.{cover, verdict_on, object_of, object_fault, rmdir_fault, IsDir, IsFile, IsProg, IsLink, IsMissing}
 use Rattle.pua_path.specs.declared.errno.Errno.TheVariants.{EACCES, EPERM, EINVAL, ENOENT, EBUSY, EEXIST, ENOTDIR, EISDIR, ENOTEMPTY}
 use Rattle.pua_path.specs.declared.found.Way.TheVariants as way
 use Rattle.pua_path.specs.declared.found.Found.TheVariants as found
@@ -36,6 +36,9 @@ pub record CoverRows : Type 0 where
   pub missing : cover example_tree three_veils (found.Slot 1 (codes "x") None) ≡ Only reading
   pub own_alone : cover example_tree (Unveiled (Slot 1 (codes "passwd")) writing ∷ three_veils) (found.Slot 1 (codes "passwd") (Some 2))
       ≡ Only writing
+  -- no veil is kept over it
+  pub own_without_others : cover example_tree (Unveiled (Slot 1 (codes "passwd")) writing ∷ new_history)
+      (found.Slot 1 (codes "passwd") (Some 2)) ≡ Only writing
   pub increase : unveil_fault three_veils (Dir 3) reading ≡ Some NotPermitted
   pub locked : unveil_fault (Locked ∷ three_veils) (Dir 0) 0 ≡ Some NotPermitted
   pub reduction : unveil_fault three_veils (Dir 0) 0 ≡ None
@@ -48,6 +51,7 @@ cover_rows = record {
   own = refl;
   missing = refl;
   own_alone = refl;
+  own_without_others = refl;
   increase = refl;
   locked = refl;
   reduction = refl;
@@ -68,6 +72,8 @@ narrowed_history = Pledged (Some (rpath + wpath)) (Some wpath) ∷ with_error
 pub record VerdictRows : Type 0 where
   pub veiled : verdict_on example_tree standard_table root_veiled Stat (codes "/tmp/sh") ≡ Failed EACCES
   pub unveiled : verdict_on example_tree standard_table root_veiled Stat (codes "/etc") ≡ Allowed
+  -- something stands there too
+  pub cover_before_kind : verdict_on example_tree standard_table root_veiled Mkdir (codes "/tmp/sh") ≡ Failed EACCES
   pub exec_increase : pledge_fault (Pledged None (Some rpath) ∷ new_history) None (Some (rpath + wpath)) ≡ Some EPERM
   pub first_promises : pledge_fault (Pledged None (Some rpath) ∷ new_history) (Some (rpath + error)) None ≡ None
   pub under_error : pledge_fault with_error (Some (rpath + wpath)) (Some wpath) ≡ None
@@ -83,6 +89,7 @@ pub verdict_rows : VerdictRows
 verdict_rows = record {
   veiled = refl;
   unveiled = refl;
+  cover_before_kind = refl;
   exec_increase = refl;
   first_promises = refl;
   under_error = refl;
@@ -135,6 +142,7 @@ pub record SetRows : Type 0 where
   pub no_calls : calls_in 0 ≡ []
   pub all_calls : calls_in (2 ^ 14 - 1) ≡ calls
   pub on_links : filter keeps_link calls ≡ Lstat ∷ Readlink ∷ Mkdir ∷ Rmdir ∷ Unlink ∷ Symlink ∷ []
+  pub link : object_seen example_tree (object_of example_tree (found.Slot 3 (codes "up") (Some 5))) ≡ see.Link
   pub with_rows : object_seen example_tree (IsDir 1 (way.Named 0 (codes "etc"))) ≡ see.Directory
   pub without_rows : object_seen empty_tree (IsDir 0 (way.Named 0 (codes "d"))) ≡ see.Removable
   pub by_dot : object_seen empty_tree (IsDir 0 way.Dot) ≡ see.Directory
@@ -145,6 +153,7 @@ set_rows = record {
   no_calls = refl;
   all_calls = refl;
   on_links = refl;
+  link = refl;
   with_rows = refl;
   without_rows = refl;
   by_dot = refl;

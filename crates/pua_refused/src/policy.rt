@@ -1,8 +1,9 @@
-//! Wrong bodies of `pua_calls` and of `pua_policy`.
+//! Wrong bodies of `pua_policy`.
 
-mod calls;
+mod allowed;
 mod execs;
+mod pledges;
 mod processes;
-mod promises;
-mod tables;
+mod promised;
+mod veils;
 mod verdicts;

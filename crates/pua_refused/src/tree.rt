@@ -2,6 +2,9 @@
 
 mod answers;
 mod edits;
+mod faults;
+mod fields;
 mod listings;
+mod names;
 mod slab_edits;
 mod texts;

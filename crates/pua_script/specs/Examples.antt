@@ -238,6 +238,9 @@ pub record ReplayRows : Type 0 where
   pub veil_moves : answers_of (root_alone ++ codes "1 dir 0 d" ∷ codes "2 file 1 f" ∷ []) (codes "1 fork 2" ∷ codes "1 unveil /d r"
       ∷ codes "2 rename /d /e" ∷ codes "1 stat /e/f" ∷ codes "1 stat /d" ∷ codes "1 unveil /e rw" ∷ []) ≡ Okay ∷ Okay ∷ Okay ∷ Okay
       ∷ Failed ENOENT ∷ Failed EPERM ∷ []
+  -- so does one that was put by a relative path
+  pub relative_veil_moves : answers_of (root_alone ++ codes "1 dir 0 d" ∷ codes "2 file 1 f" ∷ []) (codes "1 fork 2" ∷ codes "1 unveil d r"
+      ∷ codes "2 rename d e" ∷ codes "1 stat e/f" ∷ codes "1 stat d" ∷ []) ≡ Okay ∷ Okay ∷ Okay ∷ Okay ∷ Failed ENOENT ∷ []
   -- a name's veil does not cover a directory
   pub name_becomes_directory : answers_of root_alone (codes "1 fork 2" ∷ codes "1 unveil /f rwc" ∷ codes "2 mkdir /f" ∷ codes "1 stat /f"
       ∷ codes "2 rmdir /f" ∷ codes "1 create /f" ∷ []) ≡ Okay ∷ Okay ∷ Okay ∷ Failed ENOENT ∷ Okay ∷ Okay ∷ []
@@ -294,6 +297,7 @@ replay_rows = record {
   unknown_before_increase = refl;
   unveils = refl;
   veil_moves = refl;
+  relative_veil_moves = refl;
   name_becomes_directory = refl;
   gone_and_long = refl;
   error_then_unveil = refl;

@@ -7,3 +7,5 @@ pub mod Dates
 pub mod Frames
 -- What a request touches, and which questions that concerns.
 pub mod Concerns
+-- Worked rows, which hold by computation.
+pub mod Examples

@@ -8,6 +8,7 @@
 mod chain;
 mod change;
 mod concerns;
+mod laws;
 mod marks;
 mod plain;
 mod reason_line;
@@ -18,5 +19,6 @@ mod watch;
 mod watches;
 
 pub use chain::chain_text;
+pub use laws::since_examples;
 pub use reason_lines::reason_text;
 pub use veils::{dated_text, veils_of};

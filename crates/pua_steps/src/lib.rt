@@ -13,6 +13,7 @@ mod laws;
 mod limits;
 mod lists;
 mod live;
+mod refused;
 mod resumed;
 mod seek;
 mod state;

@@ -3,13 +3,17 @@ use Rattle.std.specs.Prelude.{◌≡◌, ℕ, List, [], ◌∷◌, None, Some, O
 use Rattle.std.specs.Fmt.{digits}
 use Rattle.pua_tree.specs.Examples.{text_of_lines}
 use Rattle.pua_tree.specs.declared.fault.ListingFault.TheVariants.{BadLine}
+use Rattle.pua_path.specs.Traces.{trace_from}
 use Rattle.pua_calls.specs.declared.rules.Rules.TheVariants.{Openbsd}
 use Rattle.pua_script.specs.declared.fault.ScriptFault.TheVariants.{BadCall}
 use Rattle.pua_audit.specs.declared.base.Base.TheVariants.{Root, Cwd}
 use Rattle.pua_audit.specs.declared.fault.AuditFault.TheVariants.{BadResume}
+use Rattle.pua_why.specs.Texts.{promises_text}
 use Rattle.pua_words.specs.declared.command.Processes.TheVariants.{One, All}
 use Rattle.pua_tool.specs.Texts.{Wanted, by_standard, replay_of, audit_start, run_text, audit_text}
 use Rattle.pua_tool.specs.ObjectTexts.{objects_text}
+use Rattle.pua_tool.specs.EverTexts.{ever_text}
+use Rattle.pua_tool.specs.WhyTexts.{objects_why_text, posed_script, run_why_text, why_text}
 use Rattle.pua_tool.specs.declared.fault.ToolFault.TheVariants.{Listing, Script, NoProcess, Audit}
 
 abbrev pub root_listing : List ℕ
@@ -40,6 +44,18 @@ root_and_directory = text_of_lines (codes "tree 1" ∷ codes "0 dir" ∷ codes "
 abbrev pub pairing : List ℕ
 pairing = text_of_lines (codes "1 fork 7" ∷ codes "7 pledge = -" ∷ codes "1 exit" ∷ [])
 
+abbrev pub reading_alone : List ℕ
+reading_alone = text_of_lines (codes "1 pledge stdio,rpath -" ∷ [])
+
+abbrev pub link_and_file : List ℕ
+link_and_file = text_of_lines (codes "tree 1" ∷ codes "0 dir" ∷ codes "1 link 0 a b" ∷ codes "2 file 0 b" ∷ [])
+
+abbrev pub two_directories : List ℕ
+two_directories = text_of_lines (codes "tree 1" ∷ codes "0 dir" ∷ codes "1 dir 0 d" ∷ codes "2 dir 0 e" ∷ [])
+
+abbrev pub veiling_in_turn : List ℕ
+veiling_in_turn = text_of_lines (codes "1 unveil /d r" ∷ codes "1 fork 2" ∷ codes "2 unveil /e r" ∷ [])
+
 abbrev pub plain_job : Wanted
 plain_job = record { limit = 2; process = 1; base = Root; after = None; candidates = codes "a" ∷ [] }
 
@@ -66,6 +82,11 @@ pub record TextRows : Type 0 where
   pub another_process : audit_text by_standard root_listing forking (record plain_job { limit = 0; process = 2; base = Cwd })
       ≡ Ok (text_of_lines (codes "1 ok" ∷ codes "2 ok" ∷ codes "reach 2" ∷ codes ". stat" ∷ codes ". lstat" ∷ codes ". open-r"
       ∷ codes ". chmod" ∷ codes ". chdir" ∷ []))
+  pub audit_by_standard : audit_text by_standard root_listing changing (record plain_job { limit = 0; base = Cwd })
+      ≡ Ok (text_of_lines (codes "1 ok" ∷ codes "2 ok" ∷ codes "reach 1" ∷ codes ". chmod" ∷ []))
+  pub beyond_chdir : audit_text by_standard root_listing reading_alone (record plain_job { limit = 1; candidates = [] })
+      ≡ Ok (text_of_lines (codes "1 ok" ∷ codes "reach 1" ∷ codes "/ stat" ∷ codes "/ lstat" ∷ codes "/ open-r" ∷ codes "/ chdir"
+      ∷ codes "/.. stat" ∷ codes "/.. lstat" ∷ codes "/.. open-r" ∷ codes "/.. chdir" ∷ []))
   pub objects : objects_text by_standard root_listing creating_alone (One 1)
       ≡ Ok (text_of_lines (codes "1 ok" ∷ codes "objects 1" ∷ codes "process alive" ∷ codes "promises cpath,stdio" ∷ codes "execpromises -"
       ∷ codes "unveil given-up" ∷ codes "other / mkdir,symlink" ∷ []))
@@ -82,6 +103,13 @@ pub record TextRows : Type 0 where
   pub all_objects : objects_text by_standard root_listing pairing All
       ≡ Ok (text_of_lines (codes "1 ok" ∷ codes "2 ok" ∷ codes "3 ok" ∷ codes "objects 1" ∷ codes "process ended" ∷ codes "objects 7"
       ∷ codes "process alive" ∷ codes "promises =" ∷ codes "execpromises -" ∷ codes "unveil given-up" ∷ []))
+  pub beyond_link : objects_text by_standard link_and_file reading_alone (One 1)
+      ≡ Ok (text_of_lines (codes "1 ok" ∷ codes "objects 1" ∷ codes "process alive" ∷ codes "promises rpath,stdio" ∷ codes "execpromises -"
+      ∷ codes "unveil given-up" ∷ codes "dir / stat,lstat,open-r,chdir" ∷ codes "link /a lstat,readlink" ∷ codes "file /b stat,lstat,open-r"
+      ∷ []))
+  pub ever : ever_text by_standard root_listing pairing 7
+      ≡ Ok (text_of_lines (codes "1 ok" ∷ codes "2 ok" ∷ codes "3 ok" ∷ codes "ever 7" ∷ codes "process alive" ∷ codes "promises ="
+      ∷ codes "execpromises -" ∷ codes "unveil given-up" ∷ []))
   pub never_listed : objects_text by_standard root_listing [] (One 2) ≡ Err NoProcess
   pub bad_listing : audit_text by_standard (text_of_lines (codes "tree 1" ∷ codes "0 dir" ∷ codes "1 dir 0" ∷ [])) (codes "1") plain_job
       ≡ Err (Listing (BadLine 3))
@@ -90,7 +118,7 @@ pub record TextRows : Type 0 where
   pub bad_resume : audit_text by_standard root_listing [] (record plain_job { after = Some (codes "stat:/nope") }) ≡ Err (Audit BadResume)
 
 pub text_rows : TextRows
-unfolding digits replay_of audit_start objects_text
+unfolding digits replay_of audit_start objects_text ever_text
 text_rows = record {
   run = refl;
   run_of_no_lines = refl;
@@ -102,14 +130,35 @@ text_rows = record {
   beneath_a_spelled_name = refl;
   ended_process = refl;
   another_process = refl;
+  audit_by_standard = refl;
+  beyond_chdir = refl;
   objects = refl;
   ended_objects = refl;
   veiled_objects = refl;
   removed_place = refl;
   all_objects = refl;
+  beyond_link = refl;
+  ever = refl;
   never_listed = refl;
   bad_listing = refl;
   bad_script = refl;
   never_made = refl;
   bad_resume = refl;
 }
+
+-- texts with reasons
+pub record ReasonTextRows : Type 0 where
+  pub run_by_openbsd : run_why_text (record by_standard { rules = Openbsd }) root_listing changing
+      ≡ Ok (text_of_lines (codes "1 ok" ∷ codes "2 killed no rpath since line 1" ∷ []))
+  pub another_process : why_text by_standard root_listing pairing 7 (codes "stat" ∷ codes "/" ∷ [])
+      ≡ Ok (text_of_lines (codes "killed no rpath since line 2" ∷ []))
+  pub dated_veils : objects_why_text by_standard two_directories veiling_in_turn All
+      ≡ Ok (text_of_lines (codes "1 ok" ∷ codes "2 ok" ∷ codes "3 ok"
+      ∷ codes "objects 1" ∷ codes "process alive" ∷ codes "promises -" ∷ codes "execpromises -" ∷ codes "unveil open" ∷ codes "veil /d r"
+      ∷ codes "dir /d stat,lstat,open-r,chdir rpath /d r 1"
+      ∷ codes "objects 2" ∷ codes "process alive" ∷ codes "promises -" ∷ codes "execpromises -" ∷ codes "unveil open" ∷ codes "veil /d r"
+      ∷ codes "veil /e r" ∷ codes "dir /d stat,lstat,open-r,chdir rpath /d r 1" ∷ codes "dir /e stat,lstat,open-r,chdir rpath /e r 3" ∷ []))
+
+pub reason_text_rows : ReasonTextRows
+unfolding digits trace_from promises_text posed_script why_text objects_why_text
+reason_text_rows = record { run_by_openbsd = refl; another_process = refl; dated_veils = refl }

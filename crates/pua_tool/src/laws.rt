@@ -3,7 +3,7 @@
 
 ghost use Rattle.std.specs.Prelude.{◌≡◌};
 ghost use Rattle.pua_tool.specs.Alike.{AnswersAlike, LinesAlike};
-ghost use Rattle.pua_tool.specs.Examples.{TextRows};
+ghost use Rattle.pua_tool.specs.Examples.{ReasonTextRows, TextRows};
 ghost use Rattle.pua_tool.specs.Futures.{Confinement, ConfinementAsRead, Narrowing};
 ghost use Rattle.pua_tool.specs.Futures.{NarrowingAsRead, NarrowingNow};
 ghost use Rattle.pua_script.specs.Futures.{RulesNarrow};
@@ -12,9 +12,10 @@ ghost use Rattle.pua_script.specs.Tightening.{OthersLeave, OthersLeaveAlways};
 use pua_tree::FileTree;
 
 /// Examples of whole texts, and of what refuses them.
-#[tactic(auto, using(crate::specs::Examples::text_rows))]
+#[tactic(auto, using(crate::specs::Examples::text_rows, crate::specs::Examples::reason_text_rows))]
 pub fn text_examples()
-    ensures { TextRows }
+    ensures texts { TextRows }
+    ensures reasons { ReasonTextRows }
 {}
 
 /// Narrowing ("Every future of a locked process" in docs/DEFINITIONS.md): over each tree the later

@@ -3,7 +3,8 @@ use Rattle.std.specs.Prelude.{◌≡◌, ℕ, List, [], ◌∷◌, ◌++◌, Res
 use Rattle.std.specs.Fmt.{digits}
 use Rattle.pua_tree.specs.Examples.{text_of_lines}
 use Rattle.pua_tree.specs.Listing.{listing}
-use Rattle.pua_tree.specs.Tree.{Tree}
+use Rattle.pua_tree.specs.Limits.{number_end}
+use Rattle.pua_tree.specs.Tree.{Tree, empty_tree}
 use Rattle.pua_tree.specs.declared.fault.ListingFault.{ListingFault}
 use Rattle.pua_path.specs.Traces.{trace_from}
 use Rattle.pua_calls.specs.Calls.{CallTable, standard_table, openbsd_table}
@@ -76,6 +77,12 @@ pub record WhyRows : Type 0 where
   pub forks : why_of root_alone (codes "1 fork 2" ∷ codes "1 fork 2" ∷ codes "2 exit" ∷ codes "2 stat /" ∷ codes "3 stat /" ∷ []) ≡
       codes "1 ok" ∷ codes "2 EAGAIN process 2 exists since line 1" ∷ codes "3 ok" ∷ codes "4 gone ended since line 3"
       ∷ codes "5 gone never made" ∷ []
+  -- another path's fault is another reason
+  pub another_path : why_of root_alone (codes "1 mkdir /a" ∷ codes "1 rename /a/f /b/g" ∷ []) ≡
+      codes "1 ok" ∷ codes "2 ENOENT new: /b is missing since line 1" ∷ []
+  -- of a tree that has no number left
+  pub full : lines_over standard_table (Ok (record empty_tree { next = number_end })) (script (text_of_lines (codes "1 mkdir /a" ∷ []))) ≡
+      codes "1 ENOSPC tree is full" ∷ []
   pub children : why_of root_alone (codes "1 pledge stdio,proc -" ∷ codes "1 fork 2" ∷ codes "2 stat /" ∷ []) ≡
       codes "1 ok" ∷ codes "2 ok" ∷ codes "3 killed no rpath since line 1" ∷ []
   pub removed : why_of with_dir (codes "1 chdir /d" ∷ codes "1 rmdir /d" ∷ codes "1 stat ." ∷ []) ≡
@@ -114,6 +121,13 @@ pub record WhyRows : Type 0 where
       ∷ codes "new: veil rwc on /d since line 1" ∷ codes "ok" ∷ []
   pub no_veils : chain_of example ([]) (codes "1 open-w /etc/passwd") ≡
       codes "needs wpath" ∷ codes "names file /etc/passwd" ∷ codes "no veils" ∷ codes "ok" ∷ []
+  pub root : chain_of example ([]) (codes "1 stat /") ≡
+      codes "needs rpath" ∷ codes "names dir /" ∷ codes "no veils" ∷ codes "ok" ∷ []
+  pub program : chain_of example ([]) (codes "1 exec /tmp/sh") ≡
+      codes "needs exec" ∷ codes "names prog /tmp/sh" ∷ codes "no veils" ∷ codes "ok" ∷ []
+  -- a veil that lacks a letter is told by the answer alone
+  pub lacking_veil : chain_of example (codes "1 unveil /etc r" ∷ []) (codes "1 open-rw /etc/passwd") ≡
+      codes "needs rpath,wpath" ∷ codes "names file /etc/passwd" ∷ codes "EACCES no w in veil r on /etc since line 1" ∷ []
   pub another_veil : chain_of example (codes "1 unveil /etc r" ∷ []) (codes "1 unveil /etc/passwd rw") ≡
       codes "needs unveil" ∷ codes "names file /etc/passwd" ∷ codes "ok" ∷ []
   pub by_kernel : why_by openbsd_table ordered_tree (codes "1 pledge stdio,cpath -" ∷ codes "1 rename /f /g" ∷ []) ≡
@@ -122,6 +136,9 @@ pub record WhyRows : Type 0 where
       codes "1 ok" ∷ codes "2 killed no cpath since line 1" ∷ []
   pub kernel_pair : chain_by openbsd_table ordered_tree [] (codes "1 rename /d/f /d/h") ≡
       codes "needs cpath,rpath" ∷ codes "old: names file /d/f" ∷ codes "new: names missing /d/h" ∷ codes "old: no veils"
+      ∷ codes "new: no veils" ∷ codes "ok" ∷ []
+  pub kernel_link : chain_by openbsd_table ordered_tree [] (codes "1 link /f /g") ≡
+      codes "needs cpath,rpath" ∷ codes "old: names file /f" ∷ codes "new: names missing /g" ∷ codes "old: no veils"
       ∷ codes "new: no veils" ∷ codes "ok" ∷ []
 
 pub why_rows : WhyRows
@@ -138,6 +155,8 @@ why_rows = record {
   locks = refl;
   pledges = refl;
   forks = refl;
+  another_path = refl;
+  full = refl;
   children = refl;
   removed = refl;
   made_again = refl;
@@ -151,8 +170,12 @@ why_rows = record {
   no_promise = refl;
   two_paths = refl;
   no_veils = refl;
+  root = refl;
+  program = refl;
+  lacking_veil = refl;
   another_veil = refl;
   by_kernel = refl;
   by_kernel_new = refl;
   kernel_pair = refl;
+  kernel_link = refl;
 }

@@ -1,7 +1,7 @@
 //! Calls of functions whose contracts are long to load. Each is cited here alone, and nothing of it is
 //! promised on: what they do is compared with what is written.
 
-use pua_tool::{Inputs, Job, MemorySink, Sink, ToolFault, audit_to, command, run_to};
+use pua_tool::{Inputs, Job, Sink, ToolFault, audit_to, command};
 use std::alloc::Global;
 
 /// Does what the words of a command ask for, and answers its status.
@@ -24,15 +24,4 @@ pub(crate) fn audit_done<S: Sink>(
     sink: &mut S,
 ) -> Result<(), ToolFault> {
     audit_to(alloc, tree, script, job, sink)
-}
-
-/// Writes the text of a run of a script over a listing, by the rows of a table.
-pub(crate) fn run_done(
-    alloc: Global,
-    tree: &[u8],
-    script: &[u8],
-    table: &[u8],
-    sink: &mut MemorySink,
-) -> Result<(), ToolFault> {
-    run_to(alloc, tree, script, Some(table), sink)
 }

@@ -46,6 +46,20 @@ fn exec_drops_error(alloc: Global) {
     }
 }
 
+/// Execpromises are unset by the exec that takes them.
+fn exec_leaves_execpromises(alloc: Global) {
+    let Ok(mut process) = Process::new(alloc) else {
+        return;
+    };
+    let Ok(()) = process.pledge(None, Some(Promises::RPATH)) else {
+        unreachable!()
+    };
+    process.exec_into();
+    if process.execpromises().is_some() {
+        unreachable!()
+    }
+}
+
 /// Execpromises that stay are those of the program that is started.
 fn execpromises_unset(alloc: Global) {
     let Ok(mut process) = Process::new(alloc) else {

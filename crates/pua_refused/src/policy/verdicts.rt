@@ -1,9 +1,9 @@
-//! Verdicts, and the calls that are allowed.
+//! Verdicts.
 
-use pua_calls::{Call, CallTable, Perms, Promises};
-use pua_path::{Found, Probe, Way};
-use pua_policy::judge::{allowed, promised, promised_for, verdict};
-use pua_policy::{Cover, Object, Process, Verdict};
+use pua_calls::{Call, CallTable};
+use pua_path::{Errno, Found, Probe, Way};
+use pua_policy::judge::{verdict, verdict_of};
+use pua_policy::{Process, Verdict};
 use pua_tree::NodeId;
 use std::alloc::Global;
 
@@ -13,60 +13,39 @@ const ROOT: Found = Found::Whole {
     way: Way::Top,
 };
 
-/// A process that has ended holds no promise.
-fn death_refuses_nothing(alloc: Global) {
+/// A call that is allowed does not end the process.
+fn allowed_call_kills<'t, P: Probe<'t>>(alloc: Global, probe: &mut P) {
+    let Ok(process) = Process::new(alloc) else {
+        return;
+    };
+    probe.known();
+    let table = CallTable::standard();
+    if let Verdict::Death = verdict(probe, &process, &table, Call::Stat, &ROOT) {
+        unreachable!()
+    }
+}
+
+/// A call of a process that has ended is answered by its end, and by no error.
+fn killed_is_a_failure<'t, P: Probe<'t>>(alloc: Global, probe: &mut P) {
     let Ok(mut process) = Process::new(alloc) else {
         return;
     };
     process.end();
-    if let Ok(()) = promised(&process, Promises::RPATH) {
-        unreachable!()
-    }
-    if let Ok(()) = promised_for(&process, &CallTable::standard(), Call::Stat) {
+    probe.known();
+    let table = CallTable::standard();
+    if let Verdict::Failed(_) = verdict(probe, &process, &table, Call::Stat, &ROOT) {
         unreachable!()
     }
 }
 
-/// A call isn't allowed where the veils leave no permission that it needs.
-fn allowed_without_permissions(alloc: Global) {
+/// A call whose path failed fails by the error of its path.
+fn path_fault_is_enoent<'t, P: Probe<'t>>(alloc: Global, probe: &mut P) {
     let Ok(process) = Process::new(alloc) else {
         return;
     };
-    let calls = allowed(
-        &process,
-        &CallTable::standard(),
-        Cover::Only(Perms::NONE),
-        Object::File,
-    );
-    if calls.contains(Call::Stat) {
-        unreachable!()
-    }
-}
-
-/// A process that has ended is allowed no call.
-fn allowed_without_promises(alloc: Global) {
-    let Ok(mut process) = Process::new(alloc) else {
-        return;
-    };
-    process.end();
-    let calls = allowed(&process, &CallTable::standard(), Cover::All, Object::File);
-    if calls.contains(Call::Stat) {
-        unreachable!()
-    }
-}
-
-/// A directory that has rows isn't removed.
-fn full_directory_removed(alloc: Global) {
-    let Ok(process) = Process::new(alloc) else {
-        return;
-    };
-    let calls = allowed(
-        &process,
-        &CallTable::standard(),
-        Cover::All,
-        Object::Directory,
-    );
-    if calls.contains(Call::Rmdir) {
+    let table = CallTable::standard();
+    let fault = Err(Errno::ENOTDIR);
+    if let Verdict::Failed(Errno::ENOENT) = verdict_of(probe, &process, &table, Call::Stat, fault) {
         unreachable!()
     }
 }

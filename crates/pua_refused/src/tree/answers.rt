@@ -1,7 +1,83 @@
 //! Of what trees answer.
 
-use pua_tree::{FileTree, Kind, Name, NodeId, SlabTree, read_listing, read_listing_slab};
+use pua_tree::{FileTree, Kind, ListTree, Name, NodeId, SlabTree, read_listing, read_listing_slab};
 use std::alloc::Global;
+
+/// The kind of a directory is that of a directory.
+fn kind_of_a_file(alloc: Global) {
+    let Ok(tree) = read_listing(alloc, b"tree 1\n0 dir\n1 dir 0 a\n") else {
+        return;
+    };
+    if tree.kind(NodeId::new(1)) != Some(Kind::Dir) {
+        unreachable!()
+    }
+}
+
+/// A look gives the node that has the name, and not its directory.
+fn look_gives_the_directory(alloc: Global) {
+    let Ok(tree) = read_listing(alloc, b"tree 1\n0 dir\n1 file 0 a\n") else {
+        return;
+    };
+    let Some(name) = Name::from_bytes(b"a") else {
+        unreachable!()
+    };
+    if tree.look(NodeId::ROOT, &name) != Some(NodeId::new(1)) {
+        unreachable!()
+    }
+}
+
+/// A lent name is found in directories below the root too.
+fn look_gives_names_of_the_root_alone(alloc: Global) {
+    let Ok(tree) = read_listing(alloc, b"tree 1\n0 dir\n1 dir 0 a\n2 file 1 b\n") else {
+        return;
+    };
+    let Some(name) = Name::from_bytes(b"b") else {
+        unreachable!()
+    };
+    if tree.find_named(NodeId::new(1), name.lent()).is_none() {
+        unreachable!()
+    }
+}
+
+/// A tree with a row has a name.
+fn names_left_out(alloc: Global) {
+    let Ok(tree) = read_listing(alloc, b"tree 1\n0 dir\n1 file 0 a\n") else {
+        return;
+    };
+    let Ok(names) = tree.names(alloc) else {
+        return;
+    };
+    if names.is_empty() {
+        unreachable!()
+    }
+}
+
+/// A tree with a row lends one.
+fn rows_left_out(alloc: Global) {
+    let Ok(tree) = read_listing(alloc, b"tree 1\n0 dir\n1 file 0 a\n") else {
+        return;
+    };
+    let Ok(rows) = tree.rows(alloc) else {
+        return;
+    };
+    if rows.is_empty() {
+        unreachable!()
+    }
+}
+
+/// A target keeps all of its bytes, also where they are more than those of a name.
+#[tactic(auto, using(crate::proofs::Trees::node_put))]
+fn target_cut_at_255(tree: &mut ListTree, dir: NodeId, name: Name) {
+    let Ok(link) = tree.add(dir, name, Kind::Link, Some(&[b'/'; 300])) else {
+        return;
+    };
+    let Some(target) = tree.target(link) else {
+        unreachable!()
+    };
+    if target.len() != 300 {
+        unreachable!()
+    }
+}
 
 /// A file is no empty directory.
 fn file_is_empty(alloc: Global) {

@@ -1,6 +1,6 @@
 //! Of edits of trees.
 
-use pua_tree::{FileTree, ListTree, Name, NodeId, TreeFault, read_listing};
+use pua_tree::{FileTree, Kind, ListTree, Name, NodeId, TreeFault, read_listing};
 use std::alloc::Global;
 
 /// A directory has one name.
@@ -68,5 +68,23 @@ fn tie_needs_a_number(alloc: Global, tree: &mut ListTree, dir: NodeId, name: Nam
         && let Err(TreeFault::Full) = tree.tie(dir, name, node)
     {
         unreachable!()
+    }
+}
+
+/// The number after the last one is given next, also where the last one was taken away.
+fn freed_number_given_again(alloc: Global) {
+    let Ok(mut tree) = read_listing(alloc, b"tree 1\n0 dir\n1 file 0 a\n") else {
+        return;
+    };
+    let Some(name) = Name::from_bytes(b"a") else {
+        unreachable!()
+    };
+    let Ok(_) = tree.cut(NodeId::ROOT, &name) else {
+        unreachable!()
+    };
+    if let Ok(node) = tree.add(NodeId::ROOT, name, Kind::File, None) {
+        if node != NodeId::new(2) {
+            unreachable!()
+        }
     }
 }

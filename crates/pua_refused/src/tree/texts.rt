@@ -1,8 +1,7 @@
-//! Of names, targets and spellings.
+//! Of targets and spellings.
 
-use pua_tree::{Name, is_target, unspelled};
+use pua_tree::{are_plain, byte_spelling, has_short_components, is_target, unspelled};
 use std::alloc::Global;
-use std::hash::{Hash, Hasher};
 
 /// A target has no NUL.
 fn target_with_nul() {
@@ -11,47 +10,30 @@ fn target_with_nul() {
     }
 }
 
-/// A name may have 255 bytes where one of them is spelled in octal.
-fn name_of_255_too_long() {
-    let mut spelling = [b'a'; 258];
-    spelling[0] = b'\\';
-    spelling[1] = b'0';
-    spelling[2] = b'0';
-    spelling[3] = b'1';
-    if Name::read(&spelling).is_err() {
+/// A component of 256 bytes is not short.
+fn component_of_256() {
+    if has_short_components(&[b'a'; 256]) {
         unreachable!()
     }
 }
 
-/// Names of one length may differ.
-fn names_equal_by_length() {
-    let Some(first) = Name::from_bytes(b"a") else {
-        unreachable!()
-    };
-    let Some(second) = Name::from_bytes(b"b") else {
-        unreachable!()
-    };
-    if first == second {
+/// A backslash does not stand for itself.
+fn backslash_taken_for_plain() {
+    if are_plain(b"\\") {
         unreachable!()
     }
 }
 
-/// A name is the same again where it was lent and copied.
-fn lent_name_cut(name: &Name) {
-    if name.lent().name() != *name {
+/// The octal digits of a byte begin with the most significant one.
+fn octal_digits_reversed() {
+    if byte_spelling(b'\n').as_bytes() != b"\\012".as_slice() {
         unreachable!()
     }
 }
 
-/// A name comes before another where its bytes do.
-fn names_in_falling_order() {
-    let Some(first) = Name::from_bytes(b"a") else {
-        unreachable!()
-    };
-    let Some(second) = Name::from_bytes(b"b") else {
-        unreachable!()
-    };
-    if first > second {
+/// A byte that stands for itself is spelled by one byte.
+fn spelled_byte_padded() {
+    if byte_spelling(b'a').as_bytes().len() != 1 {
         unreachable!()
     }
 }
@@ -79,17 +61,6 @@ fn unspelled_cut_at_255(alloc: Global) {
     };
     let Some(bytes) = read else { unreachable!() };
     if bytes.len() != 297 {
-        unreachable!()
-    }
-}
-
-/// A name is hashed by its bytes.
-fn name_hashed_by_length<H: Hasher + Copy>(name: &Name, start: H) {
-    let mut by_name = start;
-    name.hash(&mut by_name);
-    let mut by_bytes = start;
-    by_bytes.write(name.bytes());
-    if by_name.finish() != by_bytes.finish() {
         unreachable!()
     }
 }

@@ -1,0 +1,11 @@
+//! Wrong bodies of `pua_calls`.
+
+mod keywords;
+mod names;
+mod needs;
+mod pairs;
+mod perms;
+mod promises;
+mod rules;
+mod sets;
+mod tables;

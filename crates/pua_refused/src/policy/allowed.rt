@@ -1,0 +1,91 @@
+//! The calls that are allowed.
+
+use pua_calls::{Call, CallTable, Perms, table_examples};
+use pua_policy::judge::allowed;
+use pua_policy::{AllowedCalls, Cover, Object, Process};
+use std::alloc::Global;
+
+/// Of the calls that are allowed on a file the first is among them, as the last is.
+fn allowed_calls_forgotten(alloc: Global) {
+    let Ok(process) = Process::new(alloc) else {
+        return;
+    };
+    let calls = allowed(&process, &CallTable::standard(), Cover::All, Object::File);
+    if !calls.contains(Call::Stat) {
+        unreachable!()
+    }
+}
+
+/// A call isn't allowed where the veils leave no permission that it needs.
+fn allowed_without_permissions(alloc: Global) {
+    let Ok(process) = Process::new(alloc) else {
+        return;
+    };
+    let calls = allowed(
+        &process,
+        &CallTable::standard(),
+        Cover::Only(Perms::NONE),
+        Object::File,
+    );
+    if calls.contains(Call::Stat) {
+        unreachable!()
+    }
+}
+
+/// A process that has ended is allowed no call.
+fn allowed_without_promises(alloc: Global) {
+    let Ok(mut process) = Process::new(alloc) else {
+        return;
+    };
+    process.end();
+    let calls = allowed(&process, &CallTable::standard(), Cover::All, Object::File);
+    if calls.contains(Call::Stat) {
+        unreachable!()
+    }
+}
+
+/// A directory that has rows isn't removed.
+fn full_directory_removed(alloc: Global) {
+    let Ok(process) = Process::new(alloc) else {
+        return;
+    };
+    let calls = allowed(
+        &process,
+        &CallTable::standard(),
+        Cover::All,
+        Object::Directory,
+    );
+    if calls.contains(Call::Rmdir) {
+        unreachable!()
+    }
+}
+
+/// The permissions that a call needs are those of the table that is given.
+fn permissions_of_another_table(alloc: Global) {
+    let Ok(process) = Process::new(alloc) else {
+        return;
+    };
+    table_examples();
+    let text = b"[stat]\npromises = [\"\"]\nveil = \"\"\n";
+    let Ok(table) = CallTable::read(alloc, text) else {
+        return;
+    };
+    let calls = AllowedCalls::new(&process, &table).on(Cover::Only(Perms::NONE), Object::File);
+    if !calls.contains(Call::Stat) {
+        unreachable!()
+    }
+}
+
+/// On what no veil covers stat is not allowed.
+fn uncovered_allowed_all(alloc: Global) {
+    let Ok(process) = Process::new(alloc) else {
+        return;
+    };
+    let allowed = AllowedCalls::new(&process, &CallTable::standard());
+    if allowed
+        .on(Cover::Nothing, Object::File)
+        .contains(Call::Stat)
+    {
+        unreachable!()
+    }
+}

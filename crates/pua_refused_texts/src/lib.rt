@@ -1,0 +1,13 @@
+//! What wrong bodies of the libraries from `pua_audit` to `pua_tool` would answer: each function
+//! meets such an answer and is proved never to, by the contracts of what it calls alone. So no body
+//! that gives the answer can be proved. A function is named for the wrong body, and its doc says
+//! what holds. (`pua_refused` has those of the libraries below.)
+#![tactic(auto)]
+
+mod audit;
+mod io;
+mod lists;
+mod steps;
+mod texts;
+mod tool;
+mod words;
