@@ -7,6 +7,7 @@
 
 mod call_set;
 mod calls;
+mod counted;
 mod forward;
 mod frame;
 mod laws;
@@ -14,6 +15,7 @@ mod limits;
 mod lists;
 mod live;
 mod resumed;
+mod search;
 mod seek;
 mod state;
 mod steps;
