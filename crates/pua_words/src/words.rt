@@ -1,8 +1,9 @@
 //! The words of the command line, read by `clap`.
 
 ghost use Rattle.std.specs.Prelude.{◌≡◌, ◌↔◌, IfErr, IfOk, IfSome, Some, codes, map, option_map};
-ghost use Rattle.pua_words.specs.Commands.{MayBeAsked, AsksSoundly, IsProcessNumber, list_asked};
-ghost use Rattle.pua_words.specs.Commands.{run_asked};
+ghost use Rattle.clap.specs.Matches.{first_value, found_of};
+ghost use Rattle.pua_words.specs.Commands.{MayBeAsked, AsksSoundly, IsProcessNumber, IsTextOf};
+ghost use Rattle.pua_words.specs.Commands.{list_asked, run_asked};
 ghost use Rattle.pua_words.specs.Usages.{IsStop, line_for};
 
 use crate::command::{AuditWords, Command, EverWords, ObjectWords, Processes, Text, WhyWords};
@@ -253,7 +254,15 @@ fn stop_of(alloc: Global, error: &Error, line: UsageLine) -> Stop
 
 /// The inputs that all commands have, and the text that is asked for.
 fn read_inputs<'a>(found: &ArgMatches<'a>, text: Text<'a>) -> Option<Command<'a>>
-    ensures { IfSome result (λ command. command.text ≡ text.entry) }
+    ensures text { IfSome result (λ command. command.text ≡ text.entry) }
+    ensures tree { IfSome result (λ command.
+        Some command.tree.now ≡ first_value (found_of found.now) (codes "tree")) }
+    ensures script { IfSome result (λ command.
+        Some command.script.now ≡ first_value (found_of found.now) (codes "script")) }
+    ensures rules { IfSome result (λ command. (command.rules ≡ Rules.Openbsd)
+        ↔ (first_value (found_of found.now) (codes "rules") ≡ Some (codes "openbsd"))) }
+    ensures table { IfSome result (λ command. option_map (λ name. name.now) command.table
+        ≡ first_value (found_of found.now) (codes "table")) }
 {
     let (Some(tree), Some(script)) = (found.get_str("tree"), found.get_str("script")) else {
         return None;
@@ -306,6 +315,7 @@ fn read_processes(text: Option<&str>) -> Option<Processes>
     ensures sound { IfSome result MayBeAsked }
     ensures all { (result ≡ Some Processes.All) ↔ (option_map (λ s. s.now) text.entry
         ≡ Some (codes "all")) }
+    ensures text { IfSome result (IsTextOf (option_map (λ s. s.now) text.entry)) }
 {
     match text {
         Some("all") => Some(Processes::All),
@@ -321,7 +331,13 @@ fn read_audit<'a>(
     alloc: Global,
     found: &ArgMatches<'a>,
 ) -> Result<Option<AuditWords<'a>>, AllocError>
-    ensures { IfOk result (λ words. IfSome words (λ words. IsProcessNumber words.process)) }
+    ensures process { IfOk result
+        (λ words. IfSome words (λ words. IsProcessNumber words.process)) }
+    ensures base { IfOk result (λ words. IfSome words (λ words. (words.base ≡ Base.Cwd)
+        ↔ (first_value (found_of found.now) (codes "base") ≡ Some (codes "cwd")))) }
+    ensures after { IfOk result (λ words. IfSome words (λ words.
+        option_map (λ pair. pair.now) words.after
+        ≡ first_value (found_of found.now) (codes "after"))) }
 {
     let (Some(limit), Some(process)) = (found.get_one::<u8>("limit"), read_process(found)) else {
         return Ok(None);
