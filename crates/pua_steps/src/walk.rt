@@ -192,7 +192,8 @@ impl Walk {
         ensures ready { IsReady self.new }
         ensures same { IsSameWalk self.old self.new }
         ensures next { (n : ℕ) × (IsCounted self.old.tables.counted.reads n
-            self.new.tables.counted.reads × IsTurned (left_over self.old self.old.frames.items) result self.new n) }
+            self.new.tables.counted.reads
+            × IsTurned (left_over self.old self.old.frames.items) result self.new n) }
         ensures unchanged { StaysFront self.old.unchanged self.old.word.items self.new.unchanged
             self.new.word.items }
     {
