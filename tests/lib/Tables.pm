@@ -62,8 +62,18 @@ sub _value {
 # A text without its escapes.
 sub _plain {
     my ($text) = @_;
-    $text =~ s/\\(.)/exists $ESCAPED{$1} ? $ESCAPED{$1} : die "no escape: $1\n"/ge;
+    $text =~ s/\\(u[0-9A-F]{4}|.)/_escaped($1)/ge;
     return $text;
+}
+
+# What an escape stands for, in bytes.
+sub _escaped {
+    my ($escape) = @_;
+    return $ESCAPED{$escape} if exists $ESCAPED{$escape};
+    my ($number) = $escape =~ /\Au(.+)/ or die "no escape: $escape\n";
+    my $letter = chr hex $number;
+    utf8::encode($letter);
+    return $letter;
 }
 
 # A text as a line; nothing where there is none.

@@ -54,10 +54,22 @@ run run "$(printf '\377')" script
 expect 'a word that is no text' 2 "$usage"
 run audit --limit 1 --after '' tree script
 expect 'an empty word' 1 'pua: audit: bad resume'
+run audit --limit 1 --after "stat:/
+" tree script
+expect 'a line end behind the pair' 1 'pua: audit: bad resume'
+run audit tree script $(seq -f name%g 1 5000) --limit 1
+expect 'an option behind many words' 1 'pua: audit: too many names'
 run run '' script
 expect 'a file without a name' 3 'pua: cannot read '
+run run tree -
+expect 'a hyphen is a name' 3 'pua: cannot read -'
 run run tree/below script
 expect 'a file below a file' 3 'pua: cannot read tree/below'
+deep=$(printf 'a%.0s' $(seq 1 200))/$(printf 'b%.0s' $(seq 1 200))
+mkdir -p "$deep"
+cp tree "$deep/tree"
+run run "$deep/tree" script
+expect 'a name of many bytes, and another' 0 ''
 run run /dev/zero script
 expect 'a file without an end' 3 'pua: cannot read /dev/zero'
 run run /dev/null script

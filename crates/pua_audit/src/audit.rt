@@ -49,7 +49,7 @@ impl Model for Audit {
       alphabet = a.pairs.terms.letters;
       limit = a.pairs.terms.limit;
       live = a.pairs.live;
-      reads = a.pairs.walk.tables.reads;
+      reads = a.pairs.walk.tables.counted.reads;
       left = to_come a.pairs;
     } };
 

@@ -53,8 +53,9 @@ impl Pairs {
         ensures left { IfOk result (λ pairs. to_come pairs ≡ rest_after (scope_in terms)
             (option_map (pair_in terms.letters) after)) }
         ensures live { IfOk result (λ pairs. pairs.live ≡ length (live_states (scope_in terms))) }
-        ensures reads { IfOk result (λ pairs. pairs.walk.tables.reads ≤ search_cost * terms.limit) }
-        ensures unread { after ≡ None → IfOk result (λ pairs. pairs.walk.tables.reads ≡ 0) }
+        ensures reads { IfOk result (λ pairs. pairs.walk.tables.counted.reads
+            ≤ search_cost * terms.limit) }
+        ensures unread { after ≡ None → IfOk result (λ pairs. pairs.walk.tables.counted.reads ≡ 0) }
         ensures tree { P.tree probe.new ≡ P.tree probe.old }
         ensures cost { P.count probe.new ≤ P.count probe.old + pairs_cost terms.seen.tree
             (length terms.letters) }
@@ -76,7 +77,7 @@ impl Pairs {
         ensures terms { self.new.terms ≡ self.old.terms }
         ensures live { self.new.live ≡ self.old.live }
         ensures next { IsNextCall self.old result self.new }
-        ensures reads { self.new.walk.tables.reads ≤ self.old.walk.tables.reads
+        ensures reads { self.new.walk.tables.counted.reads ≤ self.old.walk.tables.counted.reads
             + 2 * (self.old.terms.limit * length self.old.terms.letters) }
     {
         let next = self.walk.next_call();
@@ -102,7 +103,7 @@ impl Pairs {
         ensures word { walk_word self.new ≡ walk_word self.old }
         ensures left { AreReady self.old → to_come self.old
             ≡ with_word (walk_word self.old) (calls_at result) ++ to_come self.new }
-        ensures reads { self.new.walk.tables.reads ≡ self.old.walk.tables.reads }
+        ensures reads { self.new.walk.tables.counted.reads ≡ self.old.walk.tables.counted.reads }
     {
         self.walk.take_calls()
     }

@@ -24,7 +24,16 @@ const FRONT: &[u8] = b"1 ok\n2 ok\n3 ok\n4 ok\n5 ok\nobjects 2\n";
 /// Prints whether a caller of each library is answered as expected.
 pub(crate) fn run(rt: &HostRuntime) -> Result<()> {
     let is_called = is_replay_asked(rt.alloc())? && is_list_written(rt.alloc())?;
-    tell_expected(rt, "a caller of each library", is_called)
+    tell_expected(rt, "a caller of each library", is_called)?;
+    let is_told = are_faults_told(rt.alloc())?;
+    tell_expected(rt, "faults that no text of a table brings", is_told)
+}
+
+/// Whether the faults of a table whose calls no text of one can name are told by these.
+fn are_faults_told(alloc: Global) -> Result<bool> {
+    let rename = format!(in alloc; "{}", ToolFault::RenameLacksC)?;
+    let link = format!(in alloc; "{}", ToolFault::LinkLacksC)?;
+    Ok(rename.as_str() == "pua: table: rename: no c" && link.as_str() == "pua: table: link: no c")
 }
 
 /// Whether a server and its child are told what they may do.

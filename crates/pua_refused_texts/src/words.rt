@@ -67,6 +67,13 @@ fn empty_text_shown(alloc: Global, words: &[&str]) {
     }
 }
 
+/// Words that ask for no text about the program bring none.
+fn text_shown_for_a_run(alloc: Global) {
+    if let Err(Stop::Display(_)) = read_words(alloc, &["run", "T", "S"]) {
+        unreachable!()
+    }
+}
+
 /// The line of the program shows no list of objects.
 fn lines_exchanged() {
     if UsageLine::Program.text() == UsageLine::Objects.text() {

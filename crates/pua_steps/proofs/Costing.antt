@@ -84,10 +84,10 @@ cost_of a ready n es e =
     let sized = ready.sound.sized in
     few_visits (narrow_of a.tables.steps a.tables.live) (live_of a.tables.live) a.limit a.tables.steps.letters
     (λ s. IsState a.tables.steps s) (fits a.tables.steps a.tables.live a.limit known sized) a.word.items (calls_of a.calls) a.behind
-    (rests_of a.tables.steps a.tables.lists a.frames.items) n es
+    (rests_of a.tables.steps a.tables.counted.lists a.frames.items) n es
     (states_of (λ s. IsState a.tables.steps s) (λ s. live_of a.tables.live (a.limit - length a.word.items) s ≡ true) a.behind ready.behind)
-    (rests_are a.tables.steps a.tables.live a.limit known sized a.tables.lists ready.sound.listed.known a.frames.items ready.states)
-    (omega (arith, length-map a.frames.items (rest_of a.tables.steps a.tables.lists), ready.framed, ready.within)) e
+    (rests_are a.tables.steps a.tables.live a.limit known sized a.tables.counted.lists ready.sound.listed.known a.frames.items ready.states)
+    (omega (arith, length-map a.frames.items (rest_of a.tables.steps a.tables.counted.lists), ready.framed, ready.within)) e
 
 looks-pairs : (n : ℕ) (es : List TrailEvent) → pairs_of (looks n es) ≡ pairs_of es
 unfolding looks

@@ -8,7 +8,7 @@ use Rattle.pua_steps.proofs.Base.{all_pushed}
 pub entered_ready : (t : Steps) (v : table.Live) (ls : Lists) (limit : ℕ) (word : List ℕ) (front : List Frame) (f : Frame) (letter : ℕ)
     (b : Walk) → IsTable t → IsSized t v limit → AreListsOf t v limit ls → AreOpen t ls front → IsOpen t ls f → b.calls < 2 ^ 14
     → IfSome b.behind (λ s. IsState t s × (live_of v (limit - length word - 1) s ≡ true)) → length front ≡ length word → length word < limit
-    → b.tables.steps ≡ t → b.tables.live ≡ v → b.tables.lists ≡ ls → b.limit ≡ limit → limit ≤ vec_capacity b.word →
+    → b.tables.steps ≡ t → b.tables.live ≡ v → b.tables.counted.lists ≡ ls → b.limit ≡ limit → limit ≤ vec_capacity b.word →
     limit ≤ vec_capacity b.frames → b.word.items ≡ word ++ letter ∷ [] → b.frames.items ≡ front ++ f ∷ [] → b.unchanged ≤ length word →
     IsReady b
 entered_ready t v ls limit word front f letter b known sized listed opens waits few behind even short steps live lists limits words frames
@@ -22,12 +22,12 @@ entered_ready t v ls limit word front f letter b known sized listed opens waits 
         table = subst IsTable (sym steps) known;
         sized = subst (λ (t : Steps). IsSized t b.tables.live b.limit) (sym steps)
             (subst (λ (v : table.Live). IsSized t v b.limit) (sym live) (subst (λ n. IsSized t v n) (sym limits) sized));
-        listed = subst (λ (t : Steps). AreListsOf t b.tables.live b.limit b.tables.lists) (sym steps)
-            (subst (λ (v : table.Live). AreListsOf t v b.limit b.tables.lists) (sym live)
-            (subst (λ n. AreListsOf t v n b.tables.lists) (sym limits) (subst (AreListsOf t v limit) (sym lists) listed)));
+        listed = subst (λ (t : Steps). AreListsOf t b.tables.live b.limit b.tables.counted.lists) (sym steps)
+            (subst (λ (v : table.Live). AreListsOf t v b.limit b.tables.counted.lists) (sym live)
+            (subst (λ n. AreListsOf t v n b.tables.counted.lists) (sym limits) (subst (AreListsOf t v limit) (sym lists) listed)));
         room = record { words = omega (arith, words, limits); frames = omega (arith, frames, limits) };
       };
-      states = subst (λ (t : Steps). AreOpen t b.tables.lists b.frames.items) (sym steps)
+      states = subst (λ (t : Steps). AreOpen t b.tables.counted.lists b.frames.items) (sym steps)
           (subst (λ (ls : Lists). AreOpen t ls b.frames.items) (sym lists)
           (subst (AreOpen t ls) (sym pushed) (all_pushed (λ g. IsOpen t ls g) front f opens waits)));
       calls = few;

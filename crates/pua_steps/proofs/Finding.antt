@@ -3,10 +3,10 @@ use Rattle.pua_steps.proofs.Common.{ℕ, zero, suc, ◌+◌, ◌<◌, ◌≤◌,
 use Rattle.pua_steps.proofs.Common.{◌∙◌, length, take, drop, get_or, inl, inr, subst, ◌^◌, cases_Bool, cases_eq, eq-eqb, eqb-true, IfSome}
 use Rattle.pua_steps.proofs.Common.{AllByRecursion, IsSplit, IsTable, IsState, IsVisit, IsEntry, Rising, visit_of, missing_visit, first_of}
 use Rattle.pua_steps.proofs.Common.{visits_from, missing_at, AreListsOf, IsOpen, within, span_of, list_of, narrow_of, rest_of, State, Visit}
-use Rattle.pua_steps.proofs.Common.{Entry, Row, Steps, Frame, Span, Lists}
+use Rattle.pua_steps.proofs.Common.{Entry, Steps, Frame, Span, Lists}
 use Rattle.pua_steps.specs.Table.{with_letter}
 use Rattle.pua_steps.specs.declared.live.Live as table
-use Rattle.pua_steps.proofs.Visits.{some_at, all_at, row_missing, visit_is}
+use Rattle.pua_steps.proofs.Visits.{some_at, all_at, visit_is}
 use Rattle.pua_steps.proofs.Listing.{all_within, drop-drop, list_rises}
 use Rattle.pua_steps.proofs.Splitting.{Cut, cut_at, split_missed, split_found}
 
@@ -145,20 +145,20 @@ module _ (t : Steps) (v : table.Live) (limit : ℕ) (ls : Lists) (known : IsTabl
         pub missed_open : IsOpen t ls (frame_at (span.place + p))
         missed_open = opens (span.place + p) p refl (missed_parts t s part a p is within_all part_known part_rises low high lacks).1
 
-        module _ (r : Row) (here : r ≡ get_or t.rows.items s.dir r) where
-          pub missed_visit : IsVisit t (record { letter = a; calls = r.missing; behind = None })
+        module _ (m : ℕ) (here : m ≡ missing_at t s.dir) where
+          pub missed_visit : IsVisit t (record { letter = a; calls = m; behind = None })
           missed_visit = record {
             letter = within_all;
-            calls = subst (λ k. k < 2 ^ 14) (row_missing t s.dir r is.dir here) (known s.dir is.dir).missing;
+            calls = subst (λ k. k < 2 ^ 14) (sym here) (known s.dir is.dir).missing;
             behind = tt;
           }
 
-          pub missed_split : IsSplit a (narrow_of t v l s) (record { letter = a; calls = r.missing; behind = None })
+          pub missed_split : IsSplit a (narrow_of t v l s) (record { letter = a; calls = m; behind = None })
               (rest_of t ls (frame_at (span.place + p)))
           missed_split =
-              splits (span.place + p) p (missing_visit (missing_at t s.dir) a) (record { letter = a; calls = r.missing; behind = None })
+              splits (span.place + p) p (missing_visit (missing_at t s.dir) a) (record { letter = a; calls = m; behind = None })
               refl
-              (ap (λ k. missing_visit k a) (sym (row_missing t s.dir r is.dir here)))
+              (ap (λ k. missing_visit k a) here)
               (missed_parts t s part a p is within_all part_known part_rises low high lacks).0
 
       module _ (e : Entry) (some : with_letter a (first_of (within ls.entries.items (span.place + p) span.end)) ≡ Some e) where

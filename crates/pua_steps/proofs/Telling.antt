@@ -1,5 +1,5 @@
 -- What a bound and a list say of an entry.
-use Rattle.pua_steps.proofs.Common.{◌≡◌, ◌<◌, ◌≤◌, ℕ, Bool, true, false, not, ◌||◌, ◌==◌, nat_lt, sym, ap, ◌∙◌, arith, inl, inr, cases_Bool}
+use Rattle.pua_steps.proofs.Common.{◌≡◌, ◌<◌, ◌≤◌, ℕ, true, false, not, ◌||◌, ◌==◌, nat_lt, sym, ap, ◌∙◌, arith, inl, inr, cases_Bool}
 use Rattle.pua_steps.proofs.Common.{cases_eq, eqb-true, lt-ltb, le-ltb, bound_of, is_useful, graph_of, visit_of, Entry, Steps}
 use Rattle.std.proofs.Common.{◌≢◌}
 use Rattle.std.specs.Prelude.{◌⊎◌}

@@ -52,12 +52,12 @@ rests_of t ls frames = map (rest_of t ls) frames
 -- what is still to be done
 abbrev pub trail : Walk → List TrailEvent
 trail a = ahead (narrow_of a.tables.steps a.tables.live) (live_of a.tables.live) a.limit a.word.items (calls_of a.calls) a.behind
-    (rests_of a.tables.steps a.tables.lists a.frames.items)
+    (rests_of a.tables.steps a.tables.counted.lists a.frames.items)
 
 -- what frames leave
 abbrev pub left_over : Walk → List Frame → List TrailEvent
 left_over a frames = pending (narrow_of a.tables.steps a.tables.live) (live_of a.tables.live) a.limit 0 a.word.items
-    (rests_of a.tables.steps a.tables.lists frames)
+    (rests_of a.tables.steps a.tables.counted.lists frames)
 
 pub record HasRoom (a : Walk) : Type 0 where
   pub words : a.limit ≤ vec_capacity a.word
@@ -70,13 +70,13 @@ AreOpen t ls frames = AllByRecursion (λ f. IsOpen t ls f) frames
 pub record HasSoundTables (a : Walk) : Type 0 where
   pub table : IsTable a.tables.steps
   pub sized : IsSized a.tables.steps a.tables.live a.limit
-  pub listed : AreListsOf a.tables.steps a.tables.live a.limit a.tables.lists
+  pub listed : AreListsOf a.tables.steps a.tables.live a.limit a.tables.counted.lists
   pub room : HasRoom a
 
 -- each letter of the word has its frame
 pub record IsReady (a : Walk) : Type 0 where
   pub sound : HasSoundTables a
-  pub states : AreOpen a.tables.steps a.tables.lists a.frames.items
+  pub states : AreOpen a.tables.steps a.tables.counted.lists a.frames.items
   pub calls : a.calls < 2 ^ call_count
   pub behind : IfSome a.behind (λ s. IsState a.tables.steps s × (live_of a.tables.live (a.limit - length a.word.items) s ≡ true))
   pub framed : length a.frames.items ≡ length a.word.items
@@ -86,7 +86,7 @@ pub record IsReady (a : Walk) : Type 0 where
 -- the deepest frame waits for a letter
 pub record IsBetween (a : Walk) : Type 0 where
   pub sound : HasSoundTables a
-  pub states : AreOpen a.tables.steps a.tables.lists a.frames.items
+  pub states : AreOpen a.tables.steps a.tables.counted.lists a.frames.items
   pub calls : a.calls ≡ 0
   pub behind : a.behind ≡ None
   pub framed : length a.word.items ≡ length a.frames.items - 1
@@ -96,7 +96,7 @@ pub record IsBetween (a : Walk) : Type 0 where
 pub record IsSameWalk (a b : Walk) : Type 0 where
   pub steps : b.tables.steps ≡ a.tables.steps
   pub live : b.tables.live ≡ a.tables.live
-  pub lists : b.tables.lists ≡ a.tables.lists
+  pub lists : b.tables.counted.lists ≡ a.tables.counted.lists
   pub limit : b.limit ≡ a.limit
 
 -- so many letters stand at the front of both words

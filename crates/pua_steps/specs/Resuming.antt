@@ -25,4 +25,4 @@ to_give g live limit word calls o rests way call =
 
 abbrev pub to_give_after : Walk → Word → ℕ → List Pair
 to_give_after a way call = to_give (narrow_of a.tables.steps a.tables.live) (live_of a.tables.live) a.limit a.word.items a.calls a.behind
-    (rests_of a.tables.steps a.tables.lists a.frames.items) way call
+    (rests_of a.tables.steps a.tables.counted.lists a.frames.items) way call

@@ -7,6 +7,7 @@
 
 mod call_set;
 mod calls;
+mod counted;
 mod forward;
 mod frame;
 mod laws;
@@ -15,6 +16,7 @@ mod lists;
 mod live;
 mod refused;
 mod resumed;
+mod search;
 mod seek;
 mod state;
 mod steps;

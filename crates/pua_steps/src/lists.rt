@@ -1,19 +1,17 @@
 //! The entries that a walk reads: of each directory those whose letters may give something.
 
 ghost use Rattle.std.specs.Prelude.{◌≡◌, ◌≤◌, ◌<◌, ◌+◌, ◌*◌, ◌++◌, ◌∷◌, [], ℕ, suc, cond, length};
-ghost use Rattle.std.specs.Prelude.{take, drop, get_or, min, None, IfOk, IfSome, MatchOption};
+ghost use Rattle.std.specs.Prelude.{get_or, None, IfOk, IfSome};
 ghost use Rattle.std.specs.List.{AllByRecursion};
 ghost use Rattle.pua_steps.specs.Limits.{most_links};
 ghost use Rattle.pua_steps.specs.Live.{IsSized};
-ghost use Rattle.pua_steps.specs.Lists.{is_useful, list_of, span_of, within, IsListAt, AreListsOf};
+ghost use Rattle.pua_steps.specs.Lists.{is_useful, list_of, span_of, IsListAt, AreListsOf};
 ghost use Rattle.pua_steps.specs.Lists.{IsLonger};
-ghost use Rattle.pua_steps.specs.Table.{IsTable, IsEntry, Rising, first_of, with_letter};
+ghost use Rattle.pua_steps.specs.Table.{IsTable, IsEntry};
 ghost use Rattle.pua_steps.specs.declared.steps.Entry.{Entry};
 ghost use Rattle.pua_steps.specs.declared.lists.Span.{Span};
 
-use crate::frame::Frame;
 use crate::live::Live;
-use crate::state::State;
 use crate::steps::{Entry, Steps};
 use std::alloc::{AllocError, Global};
 
@@ -187,102 +185,13 @@ impl Lists {
         self.spans[self.layers[left] + dir as usize]
     }
 
-    /// A state with all letters of its list still to be tried, where at most `left` letters may come
-    /// after each.
-    pub(crate) fn open(&self, left: usize, state: State) -> Frame
-        requires layer { left < length self.now.layers.items }
-        requires dir { get_or self.now.layers.items left 0 + state.dir
-            < length self.now.spans.items }
-        ensures { result ≡ record {
-          state = state;
-          next = 0;
-          place = (span_of self.now left state.dir).place;
-          end = (span_of self.now left state.dir).end;
-        } }
+    /// The entry at a place among those of all lists. It is not counted: once lists are in a
+    /// `Counted`, that alone comes here.
+    pub(crate) fn entry(&self, place: usize) -> Entry
+        requires { place < length self.now.entries.items }
+        ensures { result ≡ get_or self.now.entries.items place
+            (record { letter = 0; all = 0; kept = 0; links = 0; to = None }) }
     {
-        let Span { place, end } = self.span(left, state.dir);
-        Frame {
-            state,
-            next: 0,
-            place,
-            end,
-        }
+        self.entries[place]
     }
-
-    /// The entry at a place, which is counted, or None from `end` on.
-    #[inline]
-    pub(crate) fn entry(&self, place: usize, end: usize, reads: &mut u64) -> Option<Entry>
-        requires { end ≤ length self.now.entries.items }
-        ensures entry { result ≡ first_of (within self.now.entries.items place end) }
-        ensures reads { MatchOption result (reads.new ≡ reads.old)
-            (λ _. reads.new ≡ min (reads.old + 1) 18446744073709551615) }
-    {
-        if place < end {
-            *reads = reads.saturating_add(1);
-            return Some(self.entries[place]);
-        }
-        None
-    }
-
-    /// How many entries of a list stand before a letter. It is found by one binary search: each entry
-    /// that it reads is counted.
-    pub(crate) fn count_before(&self, span: Span, letter: usize, reads: &mut u64) -> usize
-        requires order { span.place ≤ span.end }
-        requires inside { span.end ≤ length self.now.entries.items }
-        requires rises { Rising 0 (within self.now.entries.items span.place span.end) }
-        ensures few { result ≤ length (within self.now.entries.items span.place span.end) }
-        ensures low { AllByRecursion (λ e. e.letter < letter)
-            (take result (within self.now.entries.items span.place span.end)) }
-        ensures high { IfSome
-            (first_of (drop result (within self.now.entries.items span.place span.end)))
-            (λ e. letter ≤ e.letter) }
-        ensures reads { reads.new ≤ reads.old + 64 }
-        ensures raised { min reads.old 18446744073709551615 ≤ reads.new }
-    {
-        let list = &self.entries[span.place..span.end];
-        let mut low = 0;
-        let mut high = list.len();
-        while low < high {
-            let middle = low + (high - low) / 2;
-            if read(list, middle, reads).letter < letter {
-                low = middle + 1;
-            } else {
-                high = middle;
-            }
-        }
-        low
-    }
-
-    /// The entry at a place before `end`, if it is that of the letter. An entry that it reads is
-    /// counted.
-    pub(crate) fn entry_of(
-        &self,
-        place: usize,
-        end: usize,
-        letter: usize,
-        reads: &mut u64,
-    ) -> Option<Entry>
-        requires { end ≤ length self.now.entries.items }
-        ensures entry { result
-            ≡ with_letter letter (first_of (within self.now.entries.items place end)) }
-        ensures reads { reads.new ≤ reads.old + 1 }
-        ensures raised { min reads.old 18446744073709551615 ≤ reads.new }
-    {
-        let entry = self.entry(place, end, reads)?;
-        if entry.letter == letter {
-            return Some(entry);
-        }
-        None
-    }
-}
-
-/// An entry of a list: it is counted.
-fn read(list: &[Entry], place: usize, reads: &mut u64) -> Entry
-    requires { place < length list.now }
-    ensures entry { result ≡ get_or list.now place
-        (record { letter = 0; all = 0; kept = 0; links = 0; to = None }) }
-    ensures reads { reads.new ≡ min (reads.old + 1) 18446744073709551615 }
-{
-    *reads = reads.saturating_add(1);
-    list[place]
 }

@@ -5,18 +5,18 @@ ghost use Rattle.std.specs.Prelude.{◌≡◌, ◌≤◌, ◌+◌, ◌*◌, leng
 ghost use Rattle.pua_steps.specs.Lists.{AreListsOf, IsOpen};
 ghost use Rattle.pua_steps.specs.Table.{IsTable};
 
+use crate::counted::Counted;
 use crate::frame::Frame;
-use crate::lists::Lists;
 use crate::tables::Tables;
 use crate::walk::Walk;
 
 /// An entry of a list that is read is counted.
-fn entry_read_uncounted(lists: &Lists, place: usize, end: usize)
-    requires { end ≤ length lists.now.entries.items }
+fn entry_read_uncounted(counted: &mut Counted, place: usize, end: usize)
+    requires { end ≤ length counted.old.lists.entries.items }
 {
-    let mut reads = 0;
-    let entry = lists.entry(place, end, &mut reads);
-    if entry.is_some() && reads == 0 {
+    let before = counted.reads();
+    let entry = counted.entry(place, end);
+    if entry.is_some() && before < u64::MAX && counted.reads() <= before {
         unreachable!()
     }
 }
@@ -28,8 +28,8 @@ fn tables_tell_no_reads(tables: &mut Tables, left: usize, frame: &mut Frame)
     requires layer { left * tables.old.live.dirs + tables.old.live.dirs
         ≤ length tables.old.live.bounds.items }
     requires listed { AreListsOf tables.old.steps tables.old.live
-        (length tables.old.lists.layers.items) tables.old.lists }
-    requires open { IsOpen tables.old.steps tables.old.lists frame.old }
+        (length tables.old.counted.lists.layers.items) tables.old.counted.lists }
+    requires open { IsOpen tables.old.steps tables.old.counted.lists frame.old }
 {
     let before = tables.reads();
     let visit = tables.next_visit(left, frame);

@@ -1,6 +1,6 @@
 //! A walk that goes on after a pair.
 
-ghost use Rattle.std.specs.Prelude.{◌≡◌, ◌<◌, ◌≤◌, ◌+◌, ◌^◌, ◌*◌, ◌∷◌, [], ℕ, List, suc, length};
+ghost use Rattle.std.specs.Prelude.{◌≡◌, ◌<◌, ◌≤◌, ◌+◌, ◌^◌, ◌*◌, ◌∷◌, [], ℕ, List, suc, length, min};
 ghost use Rattle.std.specs.Prelude.{Some, IfOk, IfSome};
 ghost use Rattle.std.specs.List.{AllByRecursion};
 ghost use Rattle.pua_steps.specs.Limits.{most_letters, call_count};
@@ -26,7 +26,8 @@ impl Walk {
     /// places of its letters, and the call with the number `call`, from 0 on. The word's path may lead
     /// nowhere, the word may be longer than `limit`, and the pair need not be allowed. The other
     /// arguments are those of `begin`, as is the error. It goes to that place by one binary search a
-    /// letter, and does not walk there from the first pair.
+    /// letter, and does not walk there from the first pair: its lists are those that it was given, so
+    /// their count went on from what it was.
     pub fn resume(
         alloc: Global,
         tables: Tables,
@@ -38,7 +39,7 @@ impl Walk {
     ) -> Result<Walk, AllocError>
         requires table { IsTable tables.steps }
         requires sized { IsSized tables.steps tables.live limit }
-        requires listed { AreListsOf tables.steps tables.live limit tables.lists }
+        requires listed { AreListsOf tables.steps tables.live limit tables.counted.lists }
         requires calls { calls < 2 ^ call_count }
         requires base { IfSome base (λ s. IsState tables.steps s) }
         requires word { AllByRecursion (λ letter. letter < tables.steps.letters) word.now }
@@ -47,7 +48,10 @@ impl Walk {
         ensures of { IfOk result (λ walk.
             (walk.tables.steps ≡ tables.steps) × (walk.limit ≡ limit)) }
         ensures reads { IfOk result (λ walk.
-            walk.tables.reads ≤ tables.reads + search_cost * length word.now) }
+            walk.tables.counted.reads ≤ tables.counted.reads + search_cost * length word.now) }
+        ensures raised { IfOk result (λ walk.
+            min tables.counted.reads 18446744073709551615 ≤ walk.tables.counted.reads) }
+        ensures lists { IfOk result (λ walk. walk.tables.counted.lists ≡ tables.counted.lists) }
         ensures left { IfOk result (λ walk.
             pairs_of (trail walk) ≡ pairs_after (
               word.now,
@@ -68,8 +72,10 @@ impl Walk {
         requires call { call < call_count }
         ensures ready { IsReady self.new }
         ensures same { IsSameWalk self.old self.new }
-        ensures reads { self.new.tables.reads ≤ self.old.tables.reads
+        ensures reads { self.new.tables.counted.reads ≤ self.old.tables.counted.reads
             + search_cost * length word.now }
+        ensures raised { min self.old.tables.counted.reads 18446744073709551615
+            ≤ self.new.tables.counted.reads }
         ensures left { pairs_of (trail self.new) ≡ pairs_after (
           word.now,
           call,
@@ -93,7 +99,10 @@ impl Walk {
         requires letter { letter < self.old.tables.steps.letters }
         ensures ready { IsReady self.new }
         ensures same { IsSameWalk self.old self.new }
-        ensures reads { self.new.tables.reads ≤ self.old.tables.reads + search_cost }
+        ensures reads { self.new.tables.counted.reads
+            ≤ self.old.tables.counted.reads + search_cost }
+        ensures raised { min self.old.tables.counted.reads 18446744073709551615
+            ≤ self.new.tables.counted.reads }
         ensures gives { (way : List ℕ) (call : ℕ) →
             to_give_after self.old (letter ∷ way) call ≡ to_give_after self.new way call }
     {

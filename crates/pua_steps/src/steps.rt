@@ -1,15 +1,10 @@
 //! The table of steps: what each letter in each directory leads to.
 
-ghost use Rattle.std.specs.Prelude.{◌≡◌, ◌<◌, ◌≤◌, ◌∷◌, [], MatchOption, IfSome, None, Some, min};
-ghost use Rattle.std.specs.Prelude.{◌+◌, option_map};
-ghost use Rattle.std.specs.List.{AllByRecursion};
+ghost use Rattle.std.specs.Prelude.{◌≡◌, ◌≤◌, option_map};
 ghost use Rattle.pua_steps.specs.Limits.{most_links};
-ghost use Rattle.pua_steps.specs.Lists.{IsOpen, rest_of};
-ghost use Rattle.pua_steps.specs.Table.{IsTable, IsEntry, IsVisit, visit_of, has_gap, end_of};
+ghost use Rattle.pua_steps.specs.Table.{visit_of, has_gap};
 
-use crate::frame::Frame;
 use crate::limits::MOST_LINKS;
-use crate::lists::Lists;
 use crate::state::State;
 use crate::visit::Visit;
 
@@ -74,67 +69,19 @@ impl Entry {
     }
 }
 
-/// Counts a letter that comes after all entries of a list, so that none was read and counted for it.
-fn count_past(entry: Option<Entry>, reads: &mut u64)
-    ensures { reads.new ≡ elim entry [
-      | None ↦ min (reads.old + 1) 18446744073709551615
-      | Some _ ↦ reads.old
-    ] }
+/// Whether calls are allowed on the letters without entries, and there is one of them from `next` on
+/// and before `end`.
+pub(crate) fn has_gap(missing: u16, next: usize, end: usize) -> bool
+    ensures { result ≡ has_gap missing next end }
 {
-    if entry.is_none() {
-        *reads = reads.saturating_add(1);
-    }
+    missing != 0 && next < end
 }
 
 impl Row {
-    /// Whether calls are allowed on the letters without entries, and there is one of them from `next`
-    /// on and before `end`.
+    /// The same of a row.
     pub(crate) fn has_gap(&self, next: usize, end: usize) -> bool
         ensures { result ≡ has_gap self.now.missing next end }
     {
-        self.missing != 0 && next < end
-    }
-}
-
-impl Steps {
-    /// The letter of an entry, or the number of all letters.
-    fn end(&self, entry: Option<Entry>) -> usize
-        ensures { result ≡ end_of self.now.letters entry }
-    {
-        match entry {
-            Some(entry) => entry.letter,
-            None => self.letters,
-        }
-    }
-
-    /// Takes the next letter of an open state, and counts it. None where it has none left: the frame
-    /// stays as it is.
-    pub(crate) fn visit(&self, lists: &Lists, frame: &mut Frame, reads: &mut u64) -> Option<Visit>
-        requires table { IsTable self.now }
-        requires known { AllByRecursion (λ e. IsEntry self.now e) lists.now.entries.items }
-        requires open { IsOpen self.now lists.now frame.old }
-        ensures open { IsOpen self.now lists.now frame.new }
-        ensures rest { MatchOption result (rest_of self.now lists.now frame.old ≡ [])
-            (λ v. rest_of self.now lists.now frame.old ≡ v ∷ rest_of self.now lists.now frame.new) }
-        ensures visit { IfSome result (λ v. IsVisit self.now v) }
-        ensures reads { MatchOption result (reads.new ≡ reads.old)
-            (λ _. reads.new ≡ min (reads.old + 1) 18446744073709551615) }
-    {
-        let row = &self.rows[frame.state.dir as usize];
-        let entry = lists.entry(frame.place, frame.end, reads);
-        if row.has_gap(frame.next, self.end(entry)) {
-            count_past(entry, reads);
-            let letter = frame.next;
-            frame.next += 1;
-            return Some(Visit {
-                letter,
-                calls: row.missing,
-                behind: None,
-            });
-        }
-        let entry = entry?;
-        frame.place += 1;
-        frame.next = entry.letter + 1;
-        Some(entry.visit(frame.state.used))
+        has_gap(self.missing, next, end)
     }
 }

@@ -53,7 +53,7 @@ impl Walk {
     ) -> Result<Walk, AllocError>
         requires table { IsTable tables.steps }
         requires sized { IsSized tables.steps tables.live limit }
-        requires listed { AreListsOf tables.steps tables.live limit tables.lists }
+        requires listed { AreListsOf tables.steps tables.live limit tables.counted.lists }
         requires calls { calls < 2 ^ call_count }
         requires base { IfSome base (λ s. IsState tables.steps s) }
         ensures ready { IfOk result (λ walk. IsReady walk) }
@@ -89,9 +89,9 @@ impl Walk {
               self.new.word.items,
               call,
             ) ∷ pairs_of (trail self.new)) }
-        ensures count { (n : ℕ) × (IsCounted self.old.tables.reads n self.new.tables.reads
-            × IsNextPair self.old result self.new n) }
-        ensures cost { self.new.tables.reads ≤ self.old.tables.reads
+        ensures count { (n : ℕ) × (IsCounted self.old.tables.counted.reads n
+            self.new.tables.counted.reads × IsNextPair self.old result self.new n) }
+        ensures cost { self.new.tables.counted.reads ≤ self.old.tables.counted.reads
             + 2 * (self.old.limit * self.old.tables.steps.letters) }
         ensures unchanged { IsUnchanged self.old.word.items self.new.unchanged self.new.word.items }
         ensures stays { self.old.calls ≢ 0 →
@@ -108,7 +108,7 @@ impl Walk {
         ensures same { IsSameWalk self.old self.new }
         ensures word { self.new.word ≡ self.old.word }
         ensures unchanged { self.new.unchanged ≡ self.old.unchanged }
-        ensures reads { self.new.tables.reads ≡ self.old.tables.reads }
+        ensures reads { self.new.tables.counted.reads ≡ self.old.tables.counted.reads }
         ensures pairs { pairs_of (trail self.old) ≡ on_word self.old.word.items (calls_of result)
             ++ pairs_of (trail self.new) }
     {
@@ -136,7 +136,7 @@ impl Walk {
 
     /// How many letters the walk has read so far. It stays at its greatest value once there.
     pub fn reads(&self) -> u64
-        ensures { result ≡ self.now.tables.reads }
+        ensures { result ≡ self.now.tables.counted.reads }
     {
         self.tables.reads()
     }
@@ -146,8 +146,8 @@ impl Walk {
         requires { IsReady self.old }
         ensures ready { IsReady self.new }
         ensures same { IsSameWalk self.old self.new }
-        ensures next { (n : ℕ) × (IsCounted self.old.tables.reads n self.new.tables.reads
-            × IsNextPair self.old result self.new n) }
+        ensures next { (n : ℕ) × (IsCounted self.old.tables.counted.reads n
+            self.new.tables.counted.reads × IsNextPair self.old result self.new n) }
         ensures unchanged { StaysFront self.old.unchanged self.old.word.items self.new.unchanged
             self.new.word.items }
         ensures stays { self.old.calls ≢ 0 →
@@ -170,8 +170,8 @@ impl Walk {
         requires given { self.old.calls ≡ 0 }
         ensures ready { IsReady self.new }
         ensures same { IsSameWalk self.old self.new }
-        ensures next { (n : ℕ) × (IsCounted self.old.tables.reads n self.new.tables.reads
-            × IsTurned (trail self.old) result self.new n) }
+        ensures next { (n : ℕ) × (IsCounted self.old.tables.counted.reads n
+            self.new.tables.counted.reads × IsTurned (trail self.old) result self.new n) }
         ensures unchanged { StaysFront self.old.unchanged self.old.word.items self.new.unchanged
             self.new.word.items }
     {
@@ -191,7 +191,8 @@ impl Walk {
         requires { IsBetween self.old }
         ensures ready { IsReady self.new }
         ensures same { IsSameWalk self.old self.new }
-        ensures next { (n : ℕ) × (IsCounted self.old.tables.reads n self.new.tables.reads
+        ensures next { (n : ℕ) × (IsCounted self.old.tables.counted.reads n
+            self.new.tables.counted.reads
             × IsTurned (left_over self.old self.old.frames.items) result self.new n) }
         ensures unchanged { StaysFront self.old.unchanged self.old.word.items self.new.unchanged
             self.new.word.items }
@@ -217,8 +218,8 @@ impl Walk {
         requires frames { length self.old.frames.items < vec_capacity self.old.frames }
         ensures steps { self.new.tables.steps ≡ self.old.tables.steps }
         ensures live { self.new.tables.live ≡ self.old.tables.live }
-        ensures lists { self.new.tables.lists ≡ self.old.tables.lists }
-        ensures reads { self.new.tables.reads ≡ self.old.tables.reads }
+        ensures lists { self.new.tables.counted.lists ≡ self.old.tables.counted.lists }
+        ensures reads { self.new.tables.counted.reads ≡ self.old.tables.counted.reads }
         ensures limit { self.new.limit ≡ self.old.limit }
         ensures unchanged { self.new.unchanged ≡ self.old.unchanged }
         ensures room { (vec_capacity self.old.word ≤ vec_capacity self.new.word)
@@ -237,8 +238,8 @@ impl Walk {
         requires { length self.old.word.items < vec_capacity self.old.word }
         ensures steps { self.new.tables.steps ≡ self.old.tables.steps }
         ensures live { self.new.tables.live ≡ self.old.tables.live }
-        ensures lists { self.new.tables.lists ≡ self.old.tables.lists }
-        ensures reads { self.new.tables.reads ≡ self.old.tables.reads }
+        ensures lists { self.new.tables.counted.lists ≡ self.old.tables.counted.lists }
+        ensures reads { self.new.tables.counted.reads ≡ self.old.tables.counted.reads }
         ensures limit { self.new.limit ≡ self.old.limit }
         ensures unchanged { self.new.unchanged ≡ self.old.unchanged }
         ensures frames { self.new.frames ≡ self.old.frames }

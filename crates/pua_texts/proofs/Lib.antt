@@ -8,6 +8,7 @@ pub mod ObjectLines
 pub mod KeptPaths
 pub mod EverLines
 pub mod States
+pub mod StateLaw
 pub mod Lists
 pub mod Climbing
 pub mod VeilDates

@@ -1,9 +1,10 @@
 -- What a list says of the state of a process: its promises, whether it may put veils, and its veils with where their places stand.
-use Rattle.std.specs.Prelude.{◌↔◌, ◌⊎◌, ◌≡◌, ℕ, zero, suc, Bool, if◌then◌else◌, List, [], ◌∷◌, ◌++◌, flat_map, length, reverse, Option}
+use Rattle.std.specs.Prelude.{◌↔◌, ◌⊎◌, ◌≡◌, ℕ, zero, suc, Bool, true, false, map, if◌then◌else◌, List, [], ◌∷◌, ◌++◌, flat_map, length, reverse, Option}
 use Rattle.std.specs.Prelude.{Some, None, codes, decimal}
+use Rattle.std.specs.List.{Contains}
 use Rattle.std.specs.Option.{option_map_or}
 use Rattle.pua_tree.specs.Tree.{Tree, is_dir, spot_of}
-use Rattle.pua_calls.specs.Promises.{holds, unveil, keywords_of, perm_letters}
+use Rattle.pua_calls.specs.Promises.{holds, unveil, keyword_rows, keywords_of, perm_letters}
 use Rattle.pua_policy.specs.History.{History, held_set, held_for_exec, is_ended, is_locked, pledged_set, veils}
 use Rattle.pua_policy.specs.declared.place.Place.{Place}
 use Rattle.pua_policy.specs.declared.place.Place.TheVariants.{Dir, Slot}
@@ -84,6 +85,34 @@ veil_lines t vs = flat_map (veil_line t) vs
 abbrev pub head_lines : Tree → List ℕ → ℕ → History → List ℕ
 head_lines t title process h = (heading_line title process ++ own_lines h) ++ veil_lines t (living_veils h)
 
--- the law: a process that can put no veil any more prints `locked` or `given-up`, and only such a one does
+-- the laws: a process that can put no veil any more prints `locked` or `given-up`, and only such a one does
 abbrev pub ConfinedIsPrinted : Type 0
 ConfinedIsPrinted = (h : History) → IsConfined h ↔ ((unveil_word h ≡ codes "locked") ⊎ (unveil_word h ≡ codes "given-up"))
+
+-- what is printed of promises: `-` where no pledge gave any; or else the keywords of rows, in which each keyword is whose
+-- promise is among them, and no other; `=` for none
+abbrev pub TellsPromises : Option ℕ → List ℕ → Type 0
+TellsPromises None text = text ≡ codes "-"
+TellsPromises (Some set) text = (rows : List (List ℕ × ℕ)) × (text ≡ or_equals (with_commas (map (λ row. row.0) rows))) ×
+    ((row : List ℕ × ℕ) → Contains rows row ↔ (Contains keyword_rows row × (holds set row.1 ≡ true)))
+
+-- the lines of a living process before those of its veils, and what their words say
+pub record TellsState (h : History) (text : List ℕ) : Type 0 where
+  pub promises : List ℕ
+  pub for_exec : List ℕ
+  pub unveils : List ℕ
+  pub lines : text ≡ with_end (codes "process alive") ++ with_end (codes "promises " ++ promises)
+      ++ with_end (codes "execpromises " ++ for_exec) ++ with_end (codes "unveil " ++ unveils)
+  pub held : TellsPromises (pledged_set h) promises
+  pub held_for_exec : TellsPromises (held_for_exec h) for_exec
+  pub confined : IsConfined h ↔ ((unveils ≡ codes "locked") ⊎ (unveils ≡ codes "given-up"))
+
+-- so do the lines that are printed of a process that has not ended
+abbrev pub StateIsPrinted : Type 0
+StateIsPrinted = (h : History) → is_ended h ≡ false → TellsState h (own_lines h)
+
+-- each veil that such a process keeps has its line, with where its place stands and its letters
+abbrev pub VeilsArePrinted : Type 0
+VeilsArePrinted = (t : Tree) (h : History) (place : Place) (perms : ℕ) → is_ended h ≡ false → Contains (veils h) (place, perms) →
+    (before : List ℕ) × (after : List ℕ) × (veil_lines t (living_veils h)
+    ≡ before ++ with_end (codes "veil " ++ veil_place_text t place ++ 32 ∷ or_equals (perm_letters perms)) ++ after)

@@ -1,10 +1,15 @@
 //! A law on what a list says of a state, the contract of a function that does nothing.
 
-ghost use Rattle.pua_texts.specs.States.{ConfinedIsPrinted};
+ghost use Rattle.pua_texts.specs.States.{ConfinedIsPrinted, StateIsPrinted, VeilsArePrinted};
 
-/// A process that is locked or doesn't hold `unveil`, and so can put no veil any more, has the line
-/// `unveil locked` or `unveil given-up` in its state, and only such a process has one of them.
-#[tactic(auto, using(crate::proofs::States::confined_is_printed))]
+/// The state of a process that has not ended has four lines and one for each of its veils. The line
+/// `promises` has the keyword of each promise that was given and not given up, and no other keyword,
+/// or `-` where none were ever given; so has `execpromises` of those for an exec. A process that is
+/// locked or doesn't hold `unveil`, and so can put no veil any more, has the line `unveil locked` or
+/// `unveil given-up`, and only such a process has one of them. Each veil has its line.
+#[tactic(auto, using(crate::proofs::States::confined_is_printed, crate::proofs::StateLaw::state_is_printed, crate::proofs::StateLaw::veils_are_printed))]
 pub fn state_law()
-    ensures { ConfinedIsPrinted }
+    ensures confined { ConfinedIsPrinted }
+    ensures state { StateIsPrinted }
+    ensures veils { VeilsArePrinted }
 {}

@@ -36,12 +36,12 @@ whole_front text a b c adds keeps = (
 )
 
 -- a command that halted, and a flush after it
-pub ended_by_halt : (held : Held) (flushed : Result (Unit {0}) PutFault) (a b c : Option (List ℕ)) (before between after : ℕ)
-    → OnOk flushed (after ≡ between) → OnErr flushed (after ≡ next_count between) → Keeps b c → HasHalted held a b before between →
-    HasEnded held a c before after
-ended_by_halt held flushed a b c before between after same rises keeps (inl (command, sound, inl (lacks, unwritten))) =
+pub ended_by_halt : (words : List (List ℕ)) (held : Held) (flushed : Result (Unit {0}) PutFault) (a b c : Option (List ℕ)) (before between after : ℕ)
+    → OnOk flushed (after ≡ between) → OnErr flushed (after ≡ next_count between) → Keeps b c → HasHalted words held a b before between →
+    HasEnded words held a c before after
+ended_by_halt words held flushed a b c before between after same rises keeps (inl (command, sound, inl (lacks, unwritten))) =
     inl (command, sound, inl (lacks, subst (λ x. Keeps x c) unwritten keeps))
-ended_by_halt held flushed a b c before between after same rises keeps (inl (command, sound, inr cut)) =
+ended_by_halt words held flushed a b c before between after same rises keeps (inl (command, sound, inr cut)) =
     inl (
       command,
       sound,
@@ -53,18 +53,18 @@ ended_by_halt held flushed a b c before between after same rises keeps (inl (com
             failed = failed_still flushed before between after same rises cut.failed;
           }),
     )
-ended_by_halt held flushed a b c before between after same rises keeps (inr (text, front, failed)) =
-    inr (text, front_still text a b c front keeps, failed_still flushed before between after same rises failed)
+ended_by_halt words held flushed a b c before between after same rises keeps (inr (asks, (text, front, failed))) =
+    inr (asks, (text, front_still text a b c front keeps, failed_still flushed before between after same rises failed))
 
 -- a command that was done, and a flush that failed
-pub ended_by_flush : (held : Held) (a b c : Option (List ℕ)) (before between after : ℕ)
-    → between ≡ before → after ≡ next_count between → Keeps b c → HasAnswered held a b → HasEnded held a c before after
-ended_by_flush held a b c before between after same rises keeps answered = by_answer answered
+pub ended_by_flush : (words : List (List ℕ)) (held : Held) (a b c : Option (List ℕ)) (before between after : ℕ)
+    → between ≡ before → after ≡ next_count between → Keeps b c → HasAnswered words held a b → HasEnded words held a c before after
+ended_by_flush words held a b c before between after same rises keeps answered = by_answer answered
   where
     failed : HasFailed before after
     failed = subst (λ k. HasFailed before k) (sym rises) (subst (λ k. HasFailed k (next_count between)) same (counted_has_failed between))
 
-    by_answer : HasAnswered held a b → HasEnded held a c before after
+    by_answer : HasAnswered words held a b → HasEnded words held a c before after
     by_answer (inl (command, sound, done)) =
         inl (
           command,
@@ -72,26 +72,26 @@ ended_by_flush held a b c before between after same rises keeps answered = by_an
           inr
               (record { text = done.text; asks = done.asks; adds = whole_front done.text a b c done.adds keeps; failed = failed }),
         )
-    by_answer (inr (text, some, adds)) = inr (text, whole_front text a b c adds keeps, failed)
+    by_answer (inr (asks, (text, some, adds))) = inr (asks, (text, whole_front text a b c adds keeps, failed))
 
 -- an output that was flushed when a command ended with a device's status, or after one that was done
-pub ended_by_status : (held : Held) (flushed : Result (Unit {0}) PutFault) (status result : ℕ) (a b c : Option (List ℕ))
+pub ended_by_status : (words : List (List ℕ)) (held : Held) (flushed : Result (Unit {0}) PutFault) (status result : ℕ) (a b c : Option (List ℕ))
     (before between after : ℕ)
     → OnOk flushed (result ≡ status) → (status ≢ DONE → result ≡ status) → OnOk flushed (after ≡ between) →
     OnErr flushed (after ≡ next_count between) → Keeps b c
-    → (status ≡ DONE → HasAnswered held a b) → (status ≡ DONE → between ≡ before) → (status ≡ DEVICE → HasHalted held a b before between)
-    → result ≡ DEVICE → HasEnded held a c before after
-ended_by_status held (Ok done) status result a b c before between after kept stopped same rises keeps answered unfailed halted device =
-    ended_by_halt held (Ok done) a b c before between after same rises keeps (halted (sym kept ∙ device))
-ended_by_status held (Err fault) status result a b c before between after kept stopped same rises keeps answered unfailed halted device =
+    → (status ≡ DONE → HasAnswered words held a b) → (status ≡ DONE → between ≡ before)
+    → (status ≡ DEVICE → HasHalted words held a b before between) → result ≡ DEVICE → HasEnded words held a c before after
+ended_by_status words held (Ok done) status result a b c before between after kept stopped same rises keeps answered unfailed halted device =
+    ended_by_halt words held (Ok done) a b c before between after same rises keeps (halted (sym kept ∙ device))
+ended_by_status words held (Err fault) status result a b c before between after kept stopped same rises keeps answered unfailed halted device =
     by_order (cases_order status 0)
   where
-    by_order : (status ≡ 0) ⊎ ((status < 0) ⊎ (0 < status)) → HasEnded held a c before after
-    by_order (inl done) = ended_by_flush held a b c before between after (unfailed done) rises keeps (answered done)
+    by_order : (status ≡ 0) ⊎ ((status < 0) ⊎ (0 < status)) → HasEnded words held a c before after
+    by_order (inl done) = ended_by_flush words held a b c before between after (unfailed done) rises keeps (answered done)
     by_order (inr (inl less)) = absurd (omega (arith, less))
     by_order (inr (inr more)) =
         let other : status ≢ DONE = λ done. omega (arith, more, done) in
-        ended_by_halt held (Err fault) a b c before between after same rises keeps (halted (sym (stopped other) ∙ device))
+        ended_by_halt words held (Err fault) a b c before between after same rises keeps (halted (sym (stopped other) ∙ device))
 
 -- what is told of a command, or else of the flush after it; T says that a status was told
 pub told_by_status : {E : Type 0} (T : ℕ → E → E → Type 0) (status result : ℕ) (a b c : E)

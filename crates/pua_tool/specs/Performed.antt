@@ -3,6 +3,7 @@ use Rattle.std.specs.Prelude.{◌≡◌, ◌<◌, ◌⊎◌, ⊤, ℕ, List, len
 use Rattle.std.specs.Borrow.{Bor}
 use Rattle.std.specs.Io.KnownBytes.{Keeps}
 use Rattle.pua_words.specs.Commands.{AsksSoundly}
+use Rattle.pua_words.specs.Usages.{AsksAbout}
 use Rattle.pua_words.specs.declared.command.Command.{Command}
 use Rattle.pua_words.specs.declared.command.Text.{Text}
 use Rattle.pua_words.specs.declared.command.Text.TheVariants.{Run, RunWhy, Why, Audit, Objects, ObjectsWhy, Ever}
@@ -121,22 +122,23 @@ IsStopped held command (Usage line) old new before after = ⊥
 IsStopped held command (Unreadable name) old new before after = Lacks held command name.now × (new ≡ old)
 IsStopped held command (Tool fault) old new before after = IsUnwritten held command fault old new before after
 
--- what words that are done have written: the whole text of a command, or a text of some bytes about the program
-abbrev pub HasAnswered : Held → Option (List ℕ) → Option (List ℕ) → Type 0
-HasAnswered held old new = ((command : Command) × AsksSoundly command.text × IsDone held command old new)
-    ⊎ ((text : List ℕ) × (0 < length text) × Adds text old new)
+-- what words that are done have written: the whole text of a command or, where one of the words asks for that, a text of
+-- some bytes about the program
+abbrev pub HasAnswered : List (List ℕ) → Held → Option (List ℕ) → Option (List ℕ) → Type 0
+HasAnswered words held old new = ((command : Command) × AsksSoundly command.text × IsDone held command old new)
+    ⊎ (AsksAbout words × ((text : List ℕ) × (0 < length text) × Adds text old new))
 
 -- why words ended with a device's status: a command's input is missing and nothing was written, or a put failed and a
--- front of a text was written
-abbrev pub HasHalted : Held → Option (List ℕ) → Option (List ℕ) → ℕ → ℕ → Type 0
-HasHalted held old new before after =
+-- front of a command's text was written, or of one about the program where one of the words asks for that
+abbrev pub HasHalted : List (List ℕ) → Held → Option (List ℕ) → Option (List ℕ) → ℕ → ℕ → Type 0
+HasHalted words held old new before after =
     ((command : Command) × AsksSoundly command.text ×
     ((LacksInput held command × (new ≡ old)) ⊎ IsCutShort held command old new before after))
-    ⊎ ((text : List ℕ) × AddsFront text old new × HasFailed before after)
+    ⊎ (AsksAbout words × ((text : List ℕ) × AddsFront text old new × HasFailed before after))
 
 -- the same after the output was handed on, or could not be: where nothing was written, known bytes stay, and a front may be the whole text
-abbrev pub HasEnded : Held → Option (List ℕ) → Option (List ℕ) → ℕ → ℕ → Type 0
-HasEnded held old new before after =
+abbrev pub HasEnded : List (List ℕ) → Held → Option (List ℕ) → Option (List ℕ) → ℕ → ℕ → Type 0
+HasEnded words held old new before after =
     ((command : Command) × AsksSoundly command.text ×
     ((LacksInput held command × Keeps old new) ⊎ IsCutShort held command old new before after))
-    ⊎ ((text : List ℕ) × AddsFront text old new × HasFailed before after)
+    ⊎ (AsksAbout words × ((text : List ℕ) × AddsFront text old new × HasFailed before after))

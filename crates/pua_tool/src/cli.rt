@@ -2,6 +2,7 @@
 
 ghost use Rattle.std.specs.Prelude.{◌≡◌, ◌≢◌, ◌≤◌, [], OnErr, OnOk, map};
 ghost use Rattle.std.specs.Io.Buffered.{writer_buffer, writer_contents};
+ghost use Rattle.std.specs.Io.KnownBytes.{Keeps};
 ghost use Rattle.pua_words.specs.Usages.{line_for, usage_line_text};
 ghost use Rattle.pua_words.specs.Commands.{AsksSoundly};
 ghost use Rattle.pua_words.specs.declared.command.Command.{Command};
@@ -22,7 +23,7 @@ use std::io::{BufWriter, Write};
 
 /// [`command`], with an output that holds bytes back, which are handed on at the end: after
 /// [`DONE`] nothing is held back. Where they can't be handed on, that is told as a text is that
-/// can't be written.
+/// can't be written. After [`REFUSED`], [`USAGE`] and [`MEMORY`] nothing was written.
 pub fn program<I: Inputs, W: Write + Drop, E: Sink>(
     alloc: Global,
     words: &[&str],
@@ -31,19 +32,22 @@ pub fn program<I: Inputs, W: Write + Drop, E: Sink>(
     err: &mut E,
 ) -> u8
     ensures done { result ≡ DONE →
-        HasAnswered (I.holds inputs.old) (writer_contents W.contents out.old.0)
-        (writer_contents W.contents out.new.0) }
+        HasAnswered (map (λ word. word.now) words.now) (I.holds inputs.old)
+        (writer_contents W.contents out.old.0) (writer_contents W.contents out.new.0) }
     ensures refused { result ≡ REFUSED → (c : Command) × AsksSoundly c.text
         × IsRefused (I.holds inputs.old) c }
     ensures usage { result ≡ USAGE →
         IsLineTold (with_end (usage_line_text (line_for (map (λ word. word.now) words.now))))
         (E.written err.old) (E.written err.new) (E.failed err.old) (E.failed err.new) }
-    ensures device { result ≡ DEVICE → HasEnded (I.holds inputs.old)
+    ensures device { result ≡ DEVICE →
+        HasEnded (map (λ word. word.now) words.now) (I.holds inputs.old)
         (writer_contents W.contents out.old.0)
         (writer_contents W.contents out.new.0) out.old.1 out.new.1 }
     ensures told { result ≢ DONE → TellsStatus result
         (E.written err.old) (E.written err.new) (E.failed err.old) (E.failed err.new) }
     ensures handed { result ≡ DONE → writer_buffer out.new.0 ≡ [] }
+    ensures unwritten { result ≢ DONE → result ≢ DEVICE →
+        Keeps (writer_contents W.contents out.old.0) (writer_contents W.contents out.new.0) }
     ensures unfailed { result ≡ DONE → out.new.1 ≡ out.old.1 }
     ensures quiet { result ≡ DONE → err.new ≡ err.old }
     ensures statuses { result ≤ MEMORY }
@@ -73,8 +77,9 @@ fn at_end<E: Sink>(status: u8, flushed: Result<(), PutFault>, err: &mut E) -> u8
     status
 }
 
-/// Does what the words after the program's name ask for: [`perform`], of the command that they say.
-/// Which command that is, and which words are none, is `clap`'s to say and in no contract.
+/// Does what the words after the program's name ask for: [`perform`], of the command that they say,
+/// or a text about the program, for words alone of which one asks for that. Which command words say,
+/// and which words are none, is `clap`'s to say and in no contract.
 ///
 /// It answers the status: [`DONE`] where it is done, [`REFUSED`] where an input was refused,
 /// [`USAGE`] where the words are no command, [`DEVICE`] where a file can't be read or the text can't
@@ -89,13 +94,15 @@ pub fn command<I: Inputs, O: Sink, E: Sink>(
     err: &mut E,
 ) -> u8
     ensures done { result ≡ DONE →
-        HasAnswered (I.holds inputs.old) (O.written out.old) (O.written out.new) }
+        HasAnswered (map (λ word. word.now) words.now) (I.holds inputs.old)
+        (O.written out.old) (O.written out.new) }
     ensures refused { result ≡ REFUSED → (c : Command) × AsksSoundly c.text
         × IsRefused (I.holds inputs.old) c }
     ensures usage { result ≡ USAGE →
         IsLineTold (with_end (usage_line_text (line_for (map (λ word. word.now) words.now))))
         (E.written err.old) (E.written err.new) (E.failed err.old) (E.failed err.new) }
-    ensures device { result ≡ DEVICE → HasHalted (I.holds inputs.old)
+    ensures device { result ≡ DEVICE →
+        HasHalted (map (λ word. word.now) words.now) (I.holds inputs.old)
         (O.written out.old) (O.written out.new) (O.failed out.old) (O.failed out.new) }
     ensures told { result ≢ DONE → TellsStatus result
         (E.written err.old) (E.written err.new) (E.failed err.old) (E.failed err.new) }

@@ -1,5 +1,6 @@
 -- What the words of a command line may ask for.
-use Rattle.std.specs.Prelude.{ℕ, ◌≤◌, ⊤, Bool, true, false, Option, Some, None}
+use Rattle.std.specs.Prelude.{ℕ, ◌≡◌, ◌≤◌, ⊤, Bool, true, false, List, Option, Some, None, codes}
+use Rattle.std.specs.Str.Parse.{digits_value, without_leading_plus}
 use Rattle.pua_words.specs.declared.command.Text.{Text}
 use Rattle.pua_words.specs.declared.command.Text.TheVariants.{Run, RunWhy, Why, Audit, Objects, ObjectsWhy, Ever}
 use Rattle.pua_words.specs.declared.command.Processes.{Processes}
@@ -14,6 +15,12 @@ IsProcessNumber n = (1 ≤ n) × (n ≤ MOST_NUMBER)
 abbrev pub MayBeAsked : Processes → Type 0
 MayBeAsked (One process) = IsProcessNumber process
 MayBeAsked All = ⊤
+
+-- the text has the number of the process in decimal digits, or means all
+abbrev pub IsTextOf : Option (List ℕ) → Processes → Type 0
+IsTextOf None processes = ⊥
+IsTextOf (Some text) (One process) = digits_value 10 (without_leading_plus text) ≡ process
+IsTextOf (Some text) All = text ≡ codes "all"
 
 -- an audit is asked of a process that may have been made, and so is a list for ever, a single request, and a list of
 -- objects unless it is asked of all

@@ -1,5 +1,5 @@
--- Which line tells how the program is used.
-use Rattle.std.specs.Prelude.{◌≡◌, ◌<◌, ⊤, ℕ, List, [], ◌∷◌, length, codes, string_bytes, if◌then◌else◌}
+-- Which line tells how the program is used, and by which words a text about it is asked for.
+use Rattle.std.specs.Prelude.{◌≡◌, ◌<◌, ◌||◌, ⊤, ℕ, Bool, true, List, [], ◌∷◌, length, get_or, codes, string_bytes, if◌then◌else◌}
 use Rattle.std.specs.Str.{bytes_eq}
 use Rattle.pua_words.specs.declared.usage.UsageLine.{UsageLine}
 use Rattle.pua_words.specs.declared.usage.UsageLine.TheVariants.{Program, Objects, Why}
@@ -18,8 +18,18 @@ usage_line_text Objects =
     codes "pua: usage: pua objects [--ever|--why] [--process P|all] [--rules profile|openbsd] [--table FILE] TREE SCRIPT"
 usage_line_text Why = codes "pua: usage: pua why [--process P] [--rules profile|openbsd] [--table FILE] TREE SCRIPT CALL [ARG...]"
 
--- words that are no command have this line, and a text about the program has some bytes
-abbrev pub IsStop : UsageLine → Stop → Type 0
-IsStop line (Usage told) = told ≡ line
-IsStop line (Display text) = 0 < length (string_bytes text)
-IsStop line OutOfMemory = ⊤
+-- the words by which help or the version is asked for
+abbrev pub is_about : List ℕ → Bool
+is_about word =
+    bytes_eq word (codes "help") || bytes_eq word (codes "--help") || bytes_eq word (codes "-h") || bytes_eq word (codes "--version")
+    || bytes_eq word (codes "-V")
+
+-- one of the words is such a word
+abbrev pub AsksAbout : List (List ℕ) → Type 0
+AsksAbout words = (i : ℕ) × (i < length words) × (is_about (get_or words i []) ≡ true)
+
+-- words that are no command have their line, and a text about the program, of some bytes, is one that they ask for
+abbrev pub IsStop : List (List ℕ) → Stop → Type 0
+IsStop words (Usage told) = told ≡ line_for words
+IsStop words (Display text) = AsksAbout words × (0 < length (string_bytes text))
+IsStop words OutOfMemory = ⊤

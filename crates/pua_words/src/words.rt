@@ -1,9 +1,11 @@
 //! The words of the command line, read by `clap`.
 
 ghost use Rattle.std.specs.Prelude.{◌≡◌, ◌↔◌, IfErr, IfOk, IfSome, Some, codes, map, option_map};
-ghost use Rattle.pua_words.specs.Commands.{MayBeAsked, AsksSoundly, IsProcessNumber, list_asked};
-ghost use Rattle.pua_words.specs.Commands.{run_asked};
-ghost use Rattle.pua_words.specs.Usages.{IsStop, line_for};
+ghost use Rattle.std.specs.Prelude.{true};
+ghost use Rattle.clap.specs.Matches.{first_value, found_of};
+ghost use Rattle.pua_words.specs.Commands.{MayBeAsked, AsksSoundly, IsProcessNumber, IsTextOf};
+ghost use Rattle.pua_words.specs.Commands.{list_asked, run_asked};
+ghost use Rattle.pua_words.specs.Usages.{AsksAbout, IsStop, is_about};
 
 use crate::command::{AuditWords, Command, EverWords, ObjectWords, Processes, Text, WhyWords};
 use crate::help;
@@ -44,14 +46,13 @@ impl From<AllocError> for Stop {
 /// lines of [`UsageLine`], as `clap` reads them: which words those are is in no contract.
 pub fn read_words<'a>(alloc: Global, words: &'a [&'a str]) -> Result<Command<'a>, Stop>
     ensures process { IfOk result (λ command. AsksSoundly command.text) }
-    ensures stop { IfErr result (IsStop (line_for (map (λ word. word.now) words.now))) }
+    ensures stop { IfErr result (IsStop (map (λ word. word.now) words.now)) }
 {
-    let line = UsageLine::of(words);
     let found = match pua_command(alloc)?.try_get_matches_from(words) {
         Ok(found) => found,
-        Err(error) => return Err(stop_of(alloc, &error, line)),
+        Err(error) => return Err(stop_of(alloc, &error, words)),
     };
-    read_command(alloc, &found)?.ok_or(Stop::Usage(line))
+    read_command(alloc, &found)?.ok_or(Stop::Usage(UsageLine::of(words)))
 }
 
 /// What the words mean that `clap` takes. None doesn't come: it is what is left where `clap` takes
@@ -236,24 +237,61 @@ fn rules<'a>(alloc: Global) -> Arg<'a> {
         .value_parser(["profile", "openbsd"].as_slice())
 }
 
-/// What an error of `clap` asks for: a text about the program, or nothing.
-fn stop_of(alloc: Global, error: &Error, line: UsageLine) -> Stop
-    ensures { IsStop line result }
+/// What an error of `clap` over these words asks for: a text about the program, or nothing.
+fn stop_of(alloc: Global, error: &Error, words: &[&str]) -> Stop
+    ensures { IsStop (map (λ word. word.now) words.now) result }
 {
     match error.kind() {
         ErrorKind::OutOfMemory => Stop::OutOfMemory,
-        ErrorKind::DisplayHelp | ErrorKind::DisplayVersion => match error.to_string(alloc) {
-            Ok(text) if !text.is_empty() => Stop::Display(text),
-            Ok(_) => Stop::Usage(line),
-            Err(_) => Stop::OutOfMemory,
-        },
-        _ => Stop::Usage(line),
+        ErrorKind::DisplayHelp | ErrorKind::DisplayVersion if asks_about(words) => {
+            display(alloc, error, words)
+        }
+        _ => Stop::Usage(UsageLine::of(words)),
     }
+}
+
+/// The text about the program that the words ask for.
+fn display(alloc: Global, error: &Error, words: &[&str]) -> Stop
+    requires { AsksAbout (map (λ word. word.now) words.now) }
+    ensures { IsStop (map (λ word. word.now) words.now) result }
+{
+    match error.to_string(alloc) {
+        Ok(text) if !text.is_empty() => Stop::Display(text),
+        Ok(_) => Stop::Usage(UsageLine::of(words)),
+        Err(_) => Stop::OutOfMemory,
+    }
+}
+
+/// Whether help or the version is asked for by one of the words.
+fn asks_about(words: &[&str]) -> bool
+    ensures { result ≡ true → AsksAbout (map (λ word. word.now) words.now) }
+{
+    for word in words {
+        if is_about(word) {
+            return true;
+        }
+    }
+    false
+}
+
+/// Whether help or the version is asked for by this word.
+fn is_about(word: &str) -> bool
+    ensures { result ≡ is_about word.now }
+{
+    word == "help" || word == "--help" || word == "-h" || word == "--version" || word == "-V"
 }
 
 /// The inputs that all commands have, and the text that is asked for.
 fn read_inputs<'a>(found: &ArgMatches<'a>, text: Text<'a>) -> Option<Command<'a>>
-    ensures { IfSome result (λ command. command.text ≡ text.entry) }
+    ensures text { IfSome result (λ command. command.text ≡ text.entry) }
+    ensures tree { IfSome result (λ command.
+        Some command.tree.now ≡ first_value (found_of found.now) (codes "tree")) }
+    ensures script { IfSome result (λ command.
+        Some command.script.now ≡ first_value (found_of found.now) (codes "script")) }
+    ensures rules { IfSome result (λ command. (command.rules ≡ Rules.Openbsd)
+        ↔ (first_value (found_of found.now) (codes "rules") ≡ Some (codes "openbsd"))) }
+    ensures table { IfSome result (λ command. option_map (λ name. name.now) command.table
+        ≡ first_value (found_of found.now) (codes "table")) }
 {
     let (Some(tree), Some(script)) = (found.get_str("tree"), found.get_str("script")) else {
         return None;
@@ -306,6 +344,7 @@ fn read_processes(text: Option<&str>) -> Option<Processes>
     ensures sound { IfSome result MayBeAsked }
     ensures all { (result ≡ Some Processes.All) ↔ (option_map (λ s. s.now) text.entry
         ≡ Some (codes "all")) }
+    ensures text { IfSome result (IsTextOf (option_map (λ s. s.now) text.entry)) }
 {
     match text {
         Some("all") => Some(Processes::All),
@@ -321,7 +360,13 @@ fn read_audit<'a>(
     alloc: Global,
     found: &ArgMatches<'a>,
 ) -> Result<Option<AuditWords<'a>>, AllocError>
-    ensures { IfOk result (λ words. IfSome words (λ words. IsProcessNumber words.process)) }
+    ensures process { IfOk result
+        (λ words. IfSome words (λ words. IsProcessNumber words.process)) }
+    ensures base { IfOk result (λ words. IfSome words (λ words. (words.base ≡ Base.Cwd)
+        ↔ (first_value (found_of found.now) (codes "base") ≡ Some (codes "cwd")))) }
+    ensures after { IfOk result (λ words. IfSome words (λ words.
+        option_map (λ pair. pair.now) words.after
+        ≡ first_value (found_of found.now) (codes "after"))) }
 {
     let (Some(limit), Some(process)) = (found.get_one::<u8>("limit"), read_process(found)) else {
         return Ok(None);

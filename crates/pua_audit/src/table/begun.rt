@@ -69,9 +69,9 @@ impl Terms {
             (pairs_of (trail begun.walk))) }
         ensures live { IfOk result (λ begun.
             begun.live ≡ length (live_states (scope_in self.now))) }
-        ensures reads { IfOk result (λ begun. begun.walk.tables.reads
+        ensures reads { IfOk result (λ begun. begun.walk.tables.counted.reads
             ≤ search_cost * self.now.limit) }
-        ensures unread { after ≡ None → IfOk result (λ begun. begun.walk.tables.reads ≡ 0) }
+        ensures unread { after ≡ None → IfOk result (λ begun. begun.walk.tables.counted.reads ≡ 0) }
         ensures tree { P.tree probe.new ≡ P.tree probe.old }
         ensures cost { P.count probe.new ≤ P.count probe.old + pairs_cost self.now.seen.tree
             (length self.now.letters) }
@@ -117,9 +117,9 @@ impl Terms {
             (pairs_of (trail begun.walk))) }
         ensures live { self.now.limit ≡ 0 → IfOk result (λ begun.
             begun.live ≡ length (live_states (scope_in self.now))) }
-        ensures reads { IfOk result (λ begun. begun.walk.tables.reads
+        ensures reads { IfOk result (λ begun. begun.walk.tables.counted.reads
             ≤ search_cost * self.now.limit) }
-        ensures unread { after ≡ None → IfOk result (λ begun. begun.walk.tables.reads ≡ 0) }
+        ensures unread { after ≡ None → IfOk result (λ begun. begun.walk.tables.counted.reads ≡ 0) }
     {
         let calls = calls.bits();
         let tables = Tables::fill(alloc, self.no_rows(alloc), self.limit)?;
@@ -142,9 +142,9 @@ impl Terms {
             (pairs_of (trail begun.walk))) }
         ensures live { is_open (scope_in self.now) ≡ false → IfOk result (λ begun.
             begun.live ≡ length (live_states (scope_in self.now))) }
-        ensures reads { IfOk result (λ begun. begun.walk.tables.reads
+        ensures reads { IfOk result (λ begun. begun.walk.tables.counted.reads
             ≤ search_cost * self.now.limit) }
-        ensures unread { IfOk result (λ begun. begun.walk.tables.reads ≡ 0) }
+        ensures unread { IfOk result (λ begun. begun.walk.tables.counted.reads ≡ 0) }
     {
         let tables = Tables::fill(alloc, self.no_rows(alloc), self.limit)?;
         let walk = Walk::begin(alloc, tables, 0, None, self.limit)?;
@@ -186,7 +186,7 @@ fn walk_after(
 ) -> Result<Walk, AllocError>
     requires table { IsTable tables.steps }
     requires sized { IsSized tables.steps tables.live limit }
-    requires listed { AreListsOf tables.steps tables.live limit tables.lists }
+    requires listed { AreListsOf tables.steps tables.live limit tables.counted.lists }
     requires calls { calls < 2 ^ call_count }
     requires base { IfSome base (λ s. IsState tables.steps s) }
     requires word { IfSome after (λ r. AllByRecursion (λ letter. letter < tables.steps.letters)
@@ -195,8 +195,10 @@ fn walk_after(
     ensures ready { IfOk result (λ walk. IsReady walk) }
     ensures steps { IfOk result (λ walk. walk.tables.steps ≡ tables.steps) }
     ensures limit { IfOk result (λ walk. walk.limit ≡ limit) }
-    ensures reads { IfOk result (λ walk. walk.tables.reads ≤ tables.reads + search_cost * limit) }
-    ensures unread { after ≡ None → IfOk result (λ walk. walk.tables.reads ≡ tables.reads) }
+    ensures reads { IfOk result (λ walk.
+        walk.tables.counted.reads ≤ tables.counted.reads + search_cost * limit) }
+    ensures unread { after ≡ None → IfOk result
+        (λ walk. walk.tables.counted.reads ≡ tables.counted.reads) }
     ensures left { IfOk result (λ walk. pairs_of (trail walk)
         ≡ pairs_resumed after (graph_reach (graph_of tables.steps) limit calls base)) }
 {

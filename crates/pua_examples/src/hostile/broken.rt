@@ -70,6 +70,9 @@ const CUTS: [usize; 24] = [
 /// How many bytes the sinks take a put that never fail.
 const PUTS: [usize; 7] = [1, 2, 7, 4_096, 65_535, 65_536, 65_537];
 
+/// How many bytes a put the sinks take whose puts are counted.
+const WIDE: [usize; 3] = [65_536, 65_537, usize::MAX];
+
 /// Room for the longest of the texts.
 const ROOM: usize = 131_072;
 
@@ -88,8 +91,10 @@ enum Trial {
     SmallRoom,
     /// The long audit, with a sink that fails from the put in this row of `CUTS` on, ..
     LongAudit,
-    /// .. and with a sink that takes as much a put as this row of `PUTS` says, and never fails.
+    /// .. with a sink that takes as much a put as this row of `PUTS` says, and never fails, ..
     ShortPuts,
+    /// .. and with one that takes as much as this row of `WIDE` says, which is a block or more.
+    FewPuts,
     /// The listing, read by a reader that fails at this read.
     Reading,
 }
@@ -103,6 +108,7 @@ impl Trial {
             Trial::SmallRoom => is_filled(alloc, number),
             Trial::LongAudit => Ok(is_long_cut(alloc, long, Some(&1), CUTS.get(number))),
             Trial::ShortPuts => Ok(is_long_cut(alloc, long, PUTS.get(number), Some(&usize::MAX))),
+            Trial::FewPuts => Ok(are_puts_few(alloc, long, WIDE.get(number))),
             Trial::Reading => Ok(is_read(alloc, number)),
         }
     }
@@ -112,12 +118,13 @@ impl Trial {
 type Trials = (Trial, &'static str, usize, usize, &'static str);
 
 /// All trials.
-const TRIALS: [Trials; 6] = [
+const TRIALS: [Trials; 7] = [
     (Trial::ShortAudit, "short audit", 1, BREAKS, "sinks"),
     (Trial::ShortCommand, "short command", 1, BREAKS, "sinks"),
     (Trial::SmallRoom, "short command", 0, BREAKS, "rooms"),
     (Trial::LongAudit, "long audit", 0, CUTS.len(), "sinks"),
     (Trial::ShortPuts, "short puts", 0, PUTS.len(), "sinks"),
+    (Trial::FewPuts, "few puts", 0, WIDE.len(), "sinks"),
     (Trial::Reading, "readings", 1, READERS, "readers"),
 ];
 
@@ -188,6 +195,18 @@ fn is_long_cut(
         return false;
     };
     is_cut(alloc, &LONG, text, *most, *fails_from)
+}
+
+/// Whether the long audit is put in blocks, with a sink that takes so many bytes a put, if that is
+/// given: in a put for each 60,000 bytes, and three more at most.
+fn are_puts_few(alloc: Global, text: &[u8], most: Option<&usize>) -> bool {
+    let Some(most) = most else {
+        return false;
+    };
+    let mut sink = DrippingSink::new(alloc, *most, usize::MAX);
+    let answer = audit_done(alloc, LONG.tree, LONG.script, &LONG.job, &mut sink);
+    let few = (text.len() / 60_000).saturating_add(3);
+    answer == Ok(()) && sink.bytes() == text && sink.puts() <= few
 }
 
 /// Whether the command of the short audit writes so many bytes of its text to this output, which leaves

@@ -34,6 +34,11 @@ impl DrippingSink {
     pub(crate) fn bytes(&self) -> &[u8] {
         self.bytes.as_slice()
     }
+
+    /// How many puts there were.
+    pub(crate) fn puts(&self) -> usize {
+        self.puts
+    }
 }
 
 impl Sink for DrippingSink {

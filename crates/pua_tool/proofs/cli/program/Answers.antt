@@ -16,7 +16,7 @@ returns-clause-usage g c same =
 
 pub returns-clause-device : goal.returns-clause-device
 returns-clause-device g c same =
-    ended_by_status (g.I.Inputs.holds c.args.inputs.now) c.flush-flushed.result c.command-status.result c.at_end.result _ _ _ _ _ _
+    ended_by_status (map (λ word. word.now) c.args.words.now) (g.I.Inputs.holds c.args.inputs.now) c.flush-flushed.result c.command-status.result c.at_end.result _ _ _ _ _ _
     c.at_end.ensures.kept c.at_end.ensures.stopped c.flush-flushed.ensures.unfailed c.flush-flushed.ensures.rises
     c.flush-flushed.ensures.bytes
     c.command-status.ensures.done c.command-status.ensures.unfailed c.command-status.ensures.device same

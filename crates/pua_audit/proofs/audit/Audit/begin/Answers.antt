@@ -93,7 +93,7 @@ begin-requires g c κs =
 
 pub returns-clause-reads : goal.returns-clause-reads
 returns-clause-reads g c =
-    subst (λ (n : ℕ). c.in_ok-pairs.pairs.walk.tables.reads ≤ search_cost * n) c.in_ok-terms.ensures.limit c.in_ok-pairs.ensures.reads
+    subst (λ (n : ℕ). c.in_ok-pairs.pairs.walk.tables.counted.reads ≤ search_cost * n) c.in_ok-terms.ensures.limit c.in_ok-pairs.ensures.reads
 
 -- the looks at the tree
 

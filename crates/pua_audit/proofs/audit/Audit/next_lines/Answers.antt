@@ -36,8 +36,8 @@ returns g c =
     let alphabet = ap (λ (t : Terms). t.letters) terms ∙ ap (λ (s : AuditState). s.alphabet) c.self.view_is in
     let limit = ap (λ (t : Terms). t.limit) terms ∙ ap (λ (s : AuditState). s.limit) c.self.view_is in
     let live = more.live ∙ c.next_call.ensures.live ∙ ap (λ (s : AuditState). s.live) c.self.view_is in
-    let reads = subst (λ (s : AuditState). b.walk.tables.reads ≤ s.reads + 2 * (suc s.limit * suc (length s.alphabet))) c.self.view_is
-    (read_within b.walk.tables.reads c.self.inside.pairs.walk.tables.reads c.self.inside.pairs.terms.limit
+    let reads = subst (λ (s : AuditState). b.walk.tables.counted.reads ≤ s.reads + 2 * (suc s.limit * suc (length s.alphabet))) c.self.view_is
+    (read_within b.walk.tables.counted.reads c.self.inside.pairs.walk.tables.counted.reads c.self.inside.pairs.terms.limit
     (length c.self.inside.pairs.terms.letters)
     (omega (arith, more.reads, c.next_call.ensures.reads))) in (
       (refl, λ _. tt, (tree, base, (word, (path ∙ ap (λ (y : Base). path_of y word) base, left)), (alphabet, limit, live), reads)),

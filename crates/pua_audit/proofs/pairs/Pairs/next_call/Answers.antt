@@ -116,8 +116,8 @@ pub returns-clause-reads : goal.returns-clause-reads
 returns-clause-reads c =
     let a = c.args.self.now in
     let few = c.next_call-next.ensures.cost in
-    subst (λ (w : Walk). w.tables.reads ≤ a.walk.tables.reads + 2 * (a.terms.limit * length a.terms.letters))
+    subst (λ (w : Walk). w.tables.counted.reads ≤ a.walk.tables.counted.reads + 2 * (a.terms.limit * length a.terms.letters))
     (sym c.loop-self.invariant.walk)
-    (subst (λ n. c.next_call-next.new.self.tables.reads ≤ a.walk.tables.reads + 2 * (n * length a.terms.letters))
+    (subst (λ n. c.next_call-next.new.self.tables.counted.reads ≤ a.walk.tables.counted.reads + 2 * (n * length a.terms.letters))
     c.requires.ready.limit
-    (subst (λ n. c.next_call-next.new.self.tables.reads ≤ a.walk.tables.reads + 2 * (a.walk.limit * n)) c.requires.ready.letters few))
+    (subst (λ n. c.next_call-next.new.self.tables.counted.reads ≤ a.walk.tables.counted.reads + 2 * (a.walk.limit * n)) c.requires.ready.letters few))

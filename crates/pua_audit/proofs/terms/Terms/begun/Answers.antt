@@ -155,7 +155,7 @@ walk_after-requires-clause-sized g c =
 
 pub walk_after-requires-clause-listed : goal.walk_after-requires-clause-listed
 walk_after-requires-clause-listed g c =
-    subst (λ (t : Steps). AreListsOf t c.in_ok-tables.tables.live c.args.self.now.limit c.in_ok-tables.tables.lists)
+    subst (λ (t : Steps). AreListsOf t c.in_ok-tables.tables.live c.args.self.now.limit c.in_ok-tables.tables.counted.lists)
     (sym c.in_ok-tables.ensures.steps) c.in_ok-tables.ensures.listed
 
 pub walk_after-requires-clause-calls : goal.walk_after-requires-clause-calls
@@ -190,7 +190,7 @@ reads_more now before limit more none = omega arith
 
 pub returns-clause-reads : goal.returns-clause-reads
 returns-clause-reads g c =
-    reads_more c.in_ok-walk.walk.tables.reads c.in_ok-tables.tables.reads c.args.self.now.limit c.in_ok-walk.ensures.reads
+    reads_more c.in_ok-walk.walk.tables.counted.reads c.in_ok-tables.tables.counted.reads c.args.self.now.limit c.in_ok-walk.ensures.reads
     c.in_ok-tables.ensures.reads
 
 pub returns-clause-unread : goal.returns-clause-unread

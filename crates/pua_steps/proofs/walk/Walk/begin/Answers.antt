@@ -7,7 +7,7 @@ pub returns : goal.returns
 returns c =
     let t = c.args.tables.steps in
     let v = c.args.tables.live in
-    let ls = c.args.tables.lists in
+    let ls = c.args.tables.counted.lists in
     let limit : ℕ = c.args.limit in
     let word = c.in_ok-word.ensures.items in
     let frames = c.in_ok-frames.ensures.items in

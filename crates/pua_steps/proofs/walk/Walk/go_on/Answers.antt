@@ -24,7 +24,7 @@ returns-in-Some-clause-next c =
         far.1.0,
         record {
           next = far.1.1 ∙ ap (looks far.0) (given_by (narrow_of a.tables.steps a.tables.live) (live_of a.tables.live) a.limit
-              (rest_of a.tables.steps a.tables.lists) a.word.items a.calls c.take_first.new.calls c.in-Some.call a.behind a.frames.items
+              (rest_of a.tables.steps a.tables.counted.lists) a.word.items a.calls c.take_first.new.calls c.in-Some.call a.behind a.frames.items
               c.in-Some.ensures.2);
         },
       ),
@@ -37,10 +37,10 @@ returns-then-not-advance-clause-next c =
     let got = c.advance.ensures.next in
     let off = turned_off _ c.advance.result c.advance.new.self got.0 got.1.1 c.if-not-advance.true in
     let same = ap (λ k. ahead (narrow_of a.tables.steps a.tables.live) (live_of a.tables.live) a.limit a.word.items (calls_of k) a.behind
-    (rests_of a.tables.steps a.tables.lists a.frames.items)) (sym c.in_default.ensures.0) in (
+    (rests_of a.tables.steps a.tables.counted.lists a.frames.items)) (sym c.in_default.ensures.0) in (
       far.0 + got.0,
       (
-        counted_more c.args.self.now.tables.reads far.0 got.0 a.tables.reads c.advance.new.self.tables.reads far.1.0 got.1.0,
+        counted_more c.args.self.now.tables.counted.reads far.0 got.0 a.tables.counted.reads c.advance.new.self.tables.counted.reads far.1.0 got.1.0,
         record { next = (far.1.1 ∙ ap (looks far.0) (same ∙ off.0) ∙ looks-looks far.0 got.0 [], off.1) },
       ),
     )
@@ -52,7 +52,7 @@ words-smaller c =
     let got = c.advance.ensures.next in
     let on = turned_on _ c.advance.result b got.0 got.1.1 c.if-not-advance.false in
     let same = ap (λ k. ahead (narrow_of a.tables.steps a.tables.live) (live_of a.tables.live) a.limit a.word.items (calls_of k) a.behind
-    (rests_of a.tables.steps a.tables.lists a.frames.items)) (sym c.in_default.ensures.0) in
+    (rests_of a.tables.steps a.tables.counted.lists a.frames.items)) (sym c.in_default.ensures.0) in
     let long : length (trail a) ≡ length (looks got.0 (trail b)) = ap length (same ∙ on.1) in
     omega (arith, long, looks-length got.0 (trail b), on.0)
 
@@ -64,7 +64,7 @@ words-preserved c =
     let got = c.advance.ensures.next in
     let on = turned_on _ c.advance.result b got.0 got.1.1 c.if-not-advance.false in
     let same = ap (λ k. ahead (narrow_of a.tables.steps a.tables.live) (live_of a.tables.live) a.limit a.word.items (calls_of k) a.behind
-    (rests_of a.tables.steps a.tables.lists a.frames.items)) (sym c.in_default.ensures.0) in
+    (rests_of a.tables.steps a.tables.counted.lists a.frames.items)) (sym c.in_default.ensures.0) in
     record {
       ready = c.advance.ensures.ready;
       same = record {
@@ -80,7 +80,7 @@ words-preserved c =
       so_far = (
         far.0 + got.0,
         (
-          counted_more c.args.self.now.tables.reads far.0 got.0 a.tables.reads c.advance.new.self.tables.reads far.1.0 got.1.0,
+          counted_more c.args.self.now.tables.counted.reads far.0 got.0 a.tables.counted.reads c.advance.new.self.tables.counted.reads far.1.0 got.1.0,
           far.1.1 ∙
               ap (looks far.0) (same ∙ on.1) ∙ looks-looks far.0 got.0 (trail b),
         ),

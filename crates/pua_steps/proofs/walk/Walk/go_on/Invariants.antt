@@ -10,7 +10,7 @@ invariant-words l = record {
   unchanged : StaysFront l.fn.self.unchanged l.fn.self.word.items l.self.unchanged l.self.word.items;
   stays : l.fn.self.calls ≢ 0 → (l.self.word ≡ l.fn.self.word) × (l.self.unchanged ≡ l.fn.self.unchanged) ×
       (l.self.calls ≡ l.fn.self.calls);
-  so_far : (n : ℕ) × (IsCounted l.fn.self.tables.reads n l.self.tables.reads × (trail l.fn.self ≡ looks n (trail l.self)));
+  so_far : (n : ℕ) × (IsCounted l.fn.self.tables.counted.reads n l.self.tables.counted.reads × (trail l.fn.self ≡ looks n (trail l.self)));
 }
 
 abbrev pub decreases-words : goal.decreases-words

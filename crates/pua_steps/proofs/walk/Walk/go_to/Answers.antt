@@ -22,16 +22,17 @@ loop-letter-init c =
       ready = ready;
       same = record { steps = refl; live = refl; lists = refl; limit = refl };
       reads = omega arith;
+      raised = omega arith;
       index = omega arith;
       so_far = (λ i. to_give (narrow_of t a.tables.live) (live_of a.tables.live) a.limit (fresh.0 i) a.calls a.behind
-          (rests_of t a.tables.lists (fresh.1 i)) way call)
+          (rests_of t a.tables.counted.lists (fresh.1 i)) way call)
           ∙ give_start (narrow_of t a.tables.live) (live_of a.tables.live) a.limit (λ s. IsState t s)
           (prunes t a.tables.live a.limit ready.sound.table ready.sound.sized) a.calls a.behind way call stands
           ∙ sym (λ i. pairs_after (
             way,
             call,
           ) (pairs_of (ahead (narrow_of t a.tables.live) (live_of a.tables.live) a.limit (fresh.0 i) (calls_of a.calls) a.behind
-          (rests_of t a.tables.lists (fresh.1 i)))));
+          (rests_of t a.tables.counted.lists (fresh.1 i)))));
     }
 
 pub returns-in_default-clause-left : goal.returns-in_default-clause-left
@@ -44,7 +45,7 @@ returns-in_default-clause-left c =
     let inv = c.loop-letter.invariant in
     let split = drop_more way d 0 c.loop-letter-test.true in
     let none : a.behind ≡ None = c.in_default.is in
-    let rests = rests_of t a.tables.lists a.frames.items in
+    let rests = rests_of t a.tables.counted.lists a.frames.items in
     let g = narrow_of t a.tables.live in
     let v = live_of a.tables.live in
     sym (ap (λ w. to_give_after a w call) split
@@ -85,6 +86,7 @@ loop-letter-preserved c =
         limit = c.descend.ensures.same.limit ∙ inv.same.limit;
       };
       reads = omega (arith, c.descend.ensures.reads, inv.reads);
+      raised = omega (arith, c.descend.ensures.raised, inv.raised);
       index = omega (arith, c.loop-letter-test.true);
       so_far = sym (ap (λ w. to_give_after a w c.args.call) split ∙ c.descend.ensures.gives (drop (d + 1) way) c.args.call) ∙ inv.so_far;
     }
@@ -102,7 +104,7 @@ returns-clause-left c =
     sym (ap (λ w. to_give_after a w c.args.call) (drop_of_length-le way past)
     ∙ give_here (narrow_of t a.tables.live) (live_of a.tables.live) a.limit (λ s. IsState t s)
     (prunes t a.tables.live a.limit inv.ready.sound.table inv.ready.sound.sized) a.word.items a.calls
-    (rests_of t a.tables.lists a.frames.items) c.args.call a.behind c.calls_after-self.result stands c.calls_after-self.ensures.after)
+    (rests_of t a.tables.counted.lists a.frames.items) c.args.call a.behind c.calls_after-self.result stands c.calls_after-self.ensures.after)
     ∙ inv.so_far
 
 pub returns-in_default-clause-reads : goal.returns-in_default-clause-reads
@@ -110,3 +112,9 @@ returns-in_default-clause-reads c = omega (arith, c.loop-letter.invariant.reads,
 
 pub returns-clause-reads : goal.returns-clause-reads
 returns-clause-reads c = omega (arith, c.loop-letter.invariant.reads, c.loop-letter.invariant.index)
+
+pub returns-in_default-clause-raised : goal.returns-in_default-clause-raised
+returns-in_default-clause-raised c = c.loop-letter.invariant.raised
+
+pub returns-clause-raised : goal.returns-clause-raised
+returns-clause-raised c = c.loop-letter.invariant.raised

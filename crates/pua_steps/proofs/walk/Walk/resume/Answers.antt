@@ -1,4 +1,4 @@
-use Rattle.pua_steps.proofs.Common.{◌≤◌, ◌+◌, ◌*◌, length, ◌<◌, ◌∙◌, ap, sym, subst, AllByRecursion, pairs_after}
+use Rattle.pua_steps.proofs.Common.{◌≤◌, ◌+◌, ◌*◌, length, ◌<◌, ◌∙◌, ap, sym, subst, arith, AllByRecursion, pairs_after}
 use Rattle.pua_steps.specs.Limits.{search_cost}
 use Rattle.pua_steps.specs.declared.tables.Tables.{Tables}
 use Rattle.pua_steps.proofs.walk.Walk.resume.Goals as goal
@@ -17,5 +17,11 @@ returns-clause-of c = (
 )
 
 pub returns-clause-reads : goal.returns-clause-reads
-returns-clause-reads c = subst (λ (t : Tables). c.go_to.new.self.tables.reads ≤ t.reads + search_cost * length c.args.word.now)
+returns-clause-reads c = subst (λ (t : Tables). c.go_to.new.self.tables.counted.reads ≤ t.counted.reads + search_cost * length c.args.word.now)
     c.in_ok-walk.ensures.of.0 c.go_to.ensures.reads
+
+pub returns-clause-raised : goal.returns-clause-raised
+returns-clause-raised c = omega (arith, ap (λ (t : Tables). t.counted.reads) c.in_ok-walk.ensures.of.0, c.go_to.ensures.raised)
+
+pub returns-clause-lists : goal.returns-clause-lists
+returns-clause-lists c = c.go_to.ensures.same.lists ∙ ap (λ (t : Tables). t.counted.lists) c.in_ok-walk.ensures.of.0

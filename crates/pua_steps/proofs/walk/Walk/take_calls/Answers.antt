@@ -7,6 +7,6 @@ pub returns-clause-pairs : goal.returns-clause-pairs
 returns-clause-pairs c =
     let a = c.args.self.now in
     given_all (narrow_of a.tables.steps a.tables.live) (live_of a.tables.live) a.limit a.word.items
-    (rests_of a.tables.steps a.tables.lists a.frames.items) a.behind (calls_of a.calls)
+    (rests_of a.tables.steps a.tables.counted.lists a.frames.items) a.behind (calls_of a.calls)
     ∙ ap (λ (cs : List ℕ). on_word a.word.items (calls_of a.calls) ++ pairs_of (ahead (narrow_of a.tables.steps a.tables.live)
-    (live_of a.tables.live) a.limit a.word.items cs a.behind (rests_of a.tables.steps a.tables.lists a.frames.items))) (sym no_calls)
+    (live_of a.tables.live) a.limit a.word.items cs a.behind (rests_of a.tables.steps a.tables.counted.lists a.frames.items))) (sym no_calls)

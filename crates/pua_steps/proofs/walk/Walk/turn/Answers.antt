@@ -32,7 +32,7 @@ next_visit-requires-clause-open c =
     let f : Frame = c.index_mut.result.now in
     let front : List Frame = take k a.frames.items in
     let split : a.frames.items ≡ front ++ f ∷ [] = last_split a.frames.items k f (grind (arith, common_steps)) c.index_mut.ensures.value in
-    (all_front (λ f. IsOpen a.tables.steps a.tables.lists f) front f (subst (AreOpen a.tables.steps a.tables.lists) split
+    (all_front (λ f. IsOpen a.tables.steps a.tables.counted.lists f) front f (subst (AreOpen a.tables.steps a.tables.counted.lists) split
     c.loop-self.invariant.states)).1
 
 pub returns-in-Some-clause-next : goal.returns-in-Some-clause-next
@@ -53,7 +53,7 @@ returns-in-Some-clause-next c =
     let e =
     far.1.1
     ∙ ap (looks far.0) (taken_by (narrow_of a.tables.steps a.tables.live) (live_of a.tables.live) a.limit
-    (rest_of a.tables.steps a.tables.lists) a.word.items a.frames.items front f got.0 split even (a.limit - k - 1) (omega (
+    (rest_of a.tables.steps a.tables.counted.lists) a.word.items a.frames.items front f got.0 split even (a.limit - k - 1) (omega (
       arith,
       c.len-deepest.ensures,
       c.loop-self.invariant.framed,
@@ -62,18 +62,18 @@ returns-in-Some-clause-next c =
     got.1.1.next.1 pushed c.go_by.ensures.word c.go_by.ensures.calls c.go_by.ensures.behind)
     ∙ looks-looks far.0 got.0 _
     ∙ ap (λ (t : Steps). looks (far.0 + got.0) (ahead (narrow_of t a.tables.live) (live_of a.tables.live) a.limit b.word.items
-    (calls_of b.calls) b.behind (rests_of t a.tables.lists b.frames.items))) (sym (c.go_by.ensures.steps ∙ c.next_visit.ensures.steps))
+    (calls_of b.calls) b.behind (rests_of t a.tables.counted.lists b.frames.items))) (sym (c.go_by.ensures.steps ∙ c.next_visit.ensures.steps))
     ∙ ap (λ (v : table.Live). looks (far.0 + got.0) (ahead (narrow_of b.tables.steps v) (live_of v) a.limit b.word.items (calls_of b.calls)
-    b.behind (rests_of b.tables.steps a.tables.lists b.frames.items))) (sym (c.go_by.ensures.live ∙ c.next_visit.ensures.live))
+    b.behind (rests_of b.tables.steps a.tables.counted.lists b.frames.items))) (sym (c.go_by.ensures.live ∙ c.next_visit.ensures.live))
     ∙ ap (λ n. looks (far.0 + got.0) (ahead (narrow_of b.tables.steps b.tables.live) (live_of b.tables.live) n b.word.items
-    (calls_of b.calls) b.behind (rests_of b.tables.steps a.tables.lists b.frames.items))) (sym c.go_by.ensures.limit)
+    (calls_of b.calls) b.behind (rests_of b.tables.steps a.tables.counted.lists b.frames.items))) (sym c.go_by.ensures.limit)
     ∙ ap (λ (ls : Lists). looks (far.0 + got.0) (ahead (narrow_of b.tables.steps b.tables.live) (live_of b.tables.live) b.limit b.word.items
     (calls_of b.calls) b.behind (rests_of b.tables.steps ls b.frames.items))) (sym (c.go_by.ensures.lists ∙ c.next_visit.ensures.lists))
     in (
       far.0 + got.0,
       (
-        subst (λ k. IsCounted c.args.self.now.tables.reads (far.0 + got.0) k) (sym c.go_by.ensures.reads)
-            (counted_more c.args.self.now.tables.reads far.0 got.0 a.tables.reads c.next_visit.new.self.reads far.1.0 got.1.0),
+        subst (λ k. IsCounted c.args.self.now.tables.counted.reads (far.0 + got.0) k) (sym c.go_by.ensures.reads)
+            (counted_more c.args.self.now.tables.counted.reads far.0 got.0 a.tables.counted.reads c.next_visit.new.self.counted.reads far.1.0 got.1.0),
         record { next = (omega (arith, got.1.1.next.0), e); over = λ h. absurd cc },
       ),
     )
@@ -88,8 +88,8 @@ loop-self-preserved c =
     let u : Steps = c.next_visit.new.self.steps in
     let v : table.Live = a.tables.live in
     let w : table.Live = c.next_visit.new.self.live in
-    let ls : Lists = a.tables.lists in
-    let ms : Lists = c.next_visit.new.self.lists in
+    let ls : Lists = a.tables.counted.lists in
+    let ms : Lists = c.next_visit.new.self.counted.lists in
     let k : ℕ = c.len-deepest.result - 1 in
     let f : Frame = c.index_mut.result.now in
     let front : List Frame = take k a.frames.items in
@@ -107,7 +107,7 @@ loop-self-preserved c =
     let e =
     far.1.1
     ∙ ap (looks far.0) (left_by (narrow_of a.tables.steps a.tables.live) (live_of a.tables.live) a.limit
-    (rest_of a.tables.steps a.tables.lists) a.word.items a.frames.items rest f got.0 last even (a.limit - k - 1) (omega (
+    (rest_of a.tables.steps a.tables.counted.lists) a.word.items a.frames.items rest f got.0 last even (a.limit - k - 1) (omega (
       arith,
       c.len-deepest.ensures,
       c.loop-self.invariant.framed,
@@ -135,7 +135,7 @@ loop-self-preserved c =
         room = record { words = grind (arith, common_steps); frames = grind (arith, common_steps) };
       };
       states = moved_open t u v w ls ms c.next_visit.ensures.steps c.next_visit.ensures.live c.next_visit.ensures.lists rest
-          (all_front (λ f. IsOpen a.tables.steps a.tables.lists f) rest f (subst (AreOpen a.tables.steps a.tables.lists) last
+          (all_front (λ f. IsOpen a.tables.steps a.tables.counted.lists f) rest f (subst (AreOpen a.tables.steps a.tables.counted.lists) last
           inv.states)).0;
       calls = inv.calls;
       behind = inv.behind;
@@ -146,7 +146,7 @@ loop-self-preserved c =
           c.pop-in-loop-self.ensures.items inv.front;
       so_far = (
         far.0 + got.0,
-        (counted_more c.args.self.now.tables.reads far.0 got.0 a.tables.reads c.next_visit.new.self.reads far.1.0 got.1.0, e),
+        (counted_more c.args.self.now.tables.counted.reads far.0 got.0 a.tables.counted.reads c.next_visit.new.self.counted.reads far.1.0 got.1.0, e),
       );
     }
 
@@ -161,9 +161,9 @@ returns-clause-next c =
         far.1.0,
         record {
           next = far.1.1 ∙ ap (looks far.0) (none_left (narrow_of a.tables.steps a.tables.live) (live_of a.tables.live) a.limit
-              (rest_of a.tables.steps a.tables.lists) a.word.items a.frames.items none);
+              (rest_of a.tables.steps a.tables.counted.lists) a.word.items a.frames.items none);
           over = λ _. all_over (narrow_of a.tables.steps a.tables.live) (live_of a.tables.live) a.limit
-              (rest_of a.tables.steps a.tables.lists) a.word.items a.calls a.behind a.frames.items inv.calls inv.behind none;
+              (rest_of a.tables.steps a.tables.counted.lists) a.word.items a.calls a.behind a.frames.items inv.calls inv.behind none;
         },
       ),
     )
@@ -188,9 +188,9 @@ returns-in-Some-clause-ready c =
     let stands = subst (λ o. IfSome o (λ s. IsState a.tables.steps s ×
     (live_of a.tables.live (a.limit - length a.word.items - 1) s ≡ true))) (sym c.go_by.ensures.behind)
     (subst (λ n. IfSome c.in-Some.visit.behind (λ s. IsState a.tables.steps s × (live_of a.tables.live n s ≡ true))) left given.behind) in
-    entered_ready a.tables.steps a.tables.live a.tables.lists a.limit a.word.items front c.next_visit.new.frame c.in-Some.visit.letter b
+    entered_ready a.tables.steps a.tables.live a.tables.counted.lists a.limit a.word.items front c.next_visit.new.frame c.in-Some.visit.letter b
     inv.sound.table inv.sound.sized inv.sound.listed
-    (all_front (λ f. IsOpen a.tables.steps a.tables.lists f) front f (subst (AreOpen a.tables.steps a.tables.lists) split inv.states)).0
+    (all_front (λ f. IsOpen a.tables.steps a.tables.counted.lists f) front f (subst (AreOpen a.tables.steps a.tables.counted.lists) split inv.states)).0
     c.next_visit.ensures.open
     (subst (λ n. n < 2 ^ 14) (sym c.go_by.ensures.calls) given.calls) stands even short (c.go_by.ensures.steps ∙
     c.next_visit.ensures.steps) (c.go_by.ensures.live ∙ c.next_visit.ensures.live) (c.go_by.ensures.lists ∙

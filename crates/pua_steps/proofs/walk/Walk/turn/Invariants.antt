@@ -6,14 +6,14 @@ abbrev pub invariant-loop-self : goal.invariant-loop-self
 invariant-loop-self l = record {
   same : IsSameWalk l.fn.self l.self;
   sound : HasSoundTables l.self;
-  states : AreOpen l.self.tables.steps l.self.tables.lists l.self.frames.items;
+  states : AreOpen l.self.tables.steps l.self.tables.counted.lists l.self.frames.items;
   calls : l.self.calls ≡ 0;
   behind : l.self.behind ≡ None;
   framed : length l.self.word.items ≡ length l.self.frames.items - 1;
   most : length l.self.frames.items ≤ l.self.limit;
   unchanged : l.self.unchanged ≡ l.fn.self.unchanged;
   front : IsLonger ℕ l.self.word.items l.fn.self.word.items;
-  so_far : (n : ℕ) × (IsCounted l.fn.self.tables.reads n l.self.tables.reads ×
+  so_far : (n : ℕ) × (IsCounted l.fn.self.tables.counted.reads n l.self.tables.counted.reads ×
       (left_over l.fn.self l.fn.self.frames.items ≡ looks n (left_over l.self l.self.frames.items)));
 }
 

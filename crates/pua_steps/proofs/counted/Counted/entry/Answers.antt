@@ -1,5 +1,5 @@
 use Rattle.pua_steps.proofs.Common.{rules}
-use Rattle.pua_steps.proofs.lists.Lists.entry.Goals as goal
+use Rattle.pua_steps.proofs.counted.Counted.entry.Goals as goal
 
 pub returns-then-place-end-clause-reads : goal.returns-then-place-end-clause-reads
 returns-then-place-end-clause-reads c = search rules
