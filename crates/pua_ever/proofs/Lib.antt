@@ -6,6 +6,7 @@ pub mod Ways
 pub mod Quiet
 pub mod Origins
 pub mod Stepping
+pub mod Execs
 pub mod Along
 pub mod Unedited
 pub mod KindFaults

@@ -1,5 +1,5 @@
 -- What is true of all that can ever be touched.
-use Rattle.std.specs.Prelude.{◌≡◌, ◌<◌, ◌≤◌, ◌++◌, ℕ, List, [], ◌∷◌, Some, None, Result, Ok, IsTrue, IsFalse}
+use Rattle.std.specs.Prelude.{◌≡◌, ◌⊎◌, ⊤, ◌<◌, ◌≤◌, ◌++◌, ℕ, List, [], ◌∷◌, Some, None, Result, Ok, IsTrue, IsFalse}
 use Rattle.std.specs.List.{Contains}
 use Rattle.pua_tree.specs.Tree.{Tree, WellFormed, Spot, look, kind_at}
 use Rattle.pua_tree.specs.declared.node.Kind.TheVariants as kind
@@ -21,11 +21,12 @@ use Rattle.pua_policy.specs.declared.place.Place.TheVariants as place
 use Rattle.pua_script.specs.Requests.{Asked}
 use Rattle.pua_tree.specs.Listing.{listing}
 use Rattle.pua_script.specs.Scripts.{script}
-use Rattle.pua_script.specs.Replay.{World, new_world, history_of, world_after}
+use Rattle.pua_script.specs.Replay.{World, apply, new_world, history_of, world_after}
 use Rattle.pua_script.specs.Laws.{IsConfined}
-use Rattle.pua_script.specs.Family.{family, is_member, none_done, members_alone, is_exec, HasHistoryOf}
+use Rattle.pua_script.specs.Family.{family, family_then, is_done, is_member, none_done, members_alone, is_exec, HasHistoryOf}
 use Rattle.pua_script.specs.Tightening.{NoCallNeedsError, Tightens}
 use Rattle.pua_script.specs.Confinement.{TreesAlong}
+use Rattle.pua_script.specs.Bytes.{are_in_bytes}
 use Rattle.pua_objects.specs.Objects.{At, Others, Line, objects, own_way}
 use Rattle.pua_ever.specs.Ever.{NewDir, NewOthers, NewFile, NewLink, Thing, Stands, Comes, EverLine, ever}
 
@@ -141,6 +142,48 @@ EverOfMany =
     let after = world_after table w asks in
     HasHistoryOf after member (Foresees w.tree table now after.tree)
 
+-- each request is a member's, or leaves the tree as it was
+abbrev pub MembersEdit : CallTable → World → List Asked → List ℕ → Type 0
+MembersEdit table w [] members = ⊤
+MembersEdit table w (ask ∷ asks) members =
+    (IsTrue (is_member members ask.process) ⊎ ((apply table w ask).1.tree ≡ w.tree))
+    × MembersEdit table (apply table w ask).1 asks (family_then table w ask members)
+
+-- an exec of a member that is answered ok leaves it within a history: with its veils, no promise beyond it but `error`, and
+-- no way to put veils. So it is where execpromises were set that the history holds, since veils and lock then stay
+abbrev pub LoosensNone : CallTable → History → World → Asked → List ℕ → Type 0
+LoosensNone table now w ask members =
+    IsTrue (is_done is_exec table w ask members) →
+    HasHistoryOf (apply table w ask).1 ask.process (λ h. Tightens now h × (IsFalse (is_ended h) → IsFalse (is_ended now)))
+
+abbrev pub NoExecLoosens : CallTable → History → World → List Asked → List ℕ → Type 0
+NoExecLoosens table now w [] members = ⊤
+NoExecLoosens table now w (ask ∷ asks) members =
+    LoosensNone table now w ask members × NoExecLoosens table now (apply table w ask).1 asks (family_then table w ask members)
+
+-- the same of them where others may ask for anything that leaves the tree as it is, and members may become other
+-- programs, if these may do no more
+abbrev pub EverWithExecs : Type 0
+EverWithExecs =
+    (table : CallTable) → NoCallNeedsError table → EditsNeedC table →
+    (w : World) (asks : List Asked) (members : List ℕ) (now : History) →
+    ActsWithin w now members → VeilsStand w.tree now → TreesAlong table w asks →
+    NoExecLoosens table now w asks members → MembersEdit table w asks members →
+    (member : ℕ) → IsTrue (is_member (family table w asks members) member) →
+    let after = world_after table w asks in
+    HasHistoryOf after member (Foresees w.tree table now after.tree)
+
+-- the same of them where others may ask for anything that leaves the tree as it is
+abbrev pub EverBeside : Type 0
+EverBeside =
+    (table : CallTable) → NoCallNeedsError table → EditsNeedC table →
+    (w : World) (asks : List Asked) (members : List ℕ) (now : History) →
+    ActsWithin w now members → VeilsStand w.tree now → TreesAlong table w asks →
+    IsTrue (none_done is_exec table w asks members) → MembersEdit table w asks members →
+    (member : ℕ) → IsTrue (is_member (family table w asks members) member) →
+    let after = world_after table w asks in
+    HasHistoryOf after member (Foresees w.tree table now after.tree)
+
 -- each veil of each process stands on a number that was given: so it is in each world that a replay leaves
 abbrev pub PlacesStand : World → Type 0
 PlacesStand w = (process : ℕ) (h : History) → history_of w process ≡ Some h → VeilsStand w.tree h
@@ -161,6 +204,20 @@ EverAsRead =
     (process : ℕ) (now : History) → history_of w process ≡ Some now → IsConfined now →
     IsTrue (none_done is_exec table w asks (process ∷ [])) →
     IsTrue (members_alone table w asks (process ∷ [])) →
+    (member : ℕ) → IsTrue (is_member (family table w asks (process ∷ [])) member) →
+    let after = world_after table w asks in
+    HasHistoryOf after member (Foresees w.tree table now after.tree)
+
+-- a listing and a script as a command reads them, and behind them any list of requests in bytes, however long, in which
+-- others than the family leave the tree as it is
+abbrev pub EverAfterRead : Type 0
+EverAfterRead =
+    (table : CallTable) → NoCallNeedsError table → EditsNeedC table →
+    (tree_bytes script_bytes : List ℕ) (t : Tree) (first asks : List Asked) →
+    listing tree_bytes ≡ Ok t → script script_bytes ≡ Ok first → IsTrue (are_in_bytes asks) →
+    let w = world_after table (new_world t) first in
+    (process : ℕ) (now : History) → history_of w process ≡ Some now → IsConfined now →
+    IsTrue (none_done is_exec table w asks (process ∷ [])) → MembersEdit table w asks (process ∷ []) →
     (member : ℕ) → IsTrue (is_member (family table w asks (process ∷ [])) member) →
     let after = world_after table w asks in
     HasHistoryOf after member (Foresees w.tree table now after.tree)

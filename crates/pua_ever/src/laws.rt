@@ -1,7 +1,9 @@
 //! Laws and worked examples, each the contract of a function that does nothing.
 
 ghost use Rattle.pua_ever.specs.Examples.{EverRows};
-ghost use Rattle.pua_ever.specs.Laws.{EverAsRead, EverComplete, EverOfMany, NowWithinEver};
+ghost use Rattle.pua_ever.specs.Laws.{EverAfterRead, EverAsRead, EverBeside, EverComplete, EverOfMany};
+ghost use Rattle.pua_ever.specs.Laws.{EverWithExecs};
+ghost use Rattle.pua_ever.specs.Laws.{NowWithinEver};
 ghost use Rattle.pua_ever.specs.Laws.{ReplaysKeepPlaces, RulesEditByC, WithoutExec};
 
 /// Whatever a process that can put no veil any more and what it forks ask for, as long as they alone ask
@@ -12,8 +14,11 @@ ghost use Rattle.pua_ever.specs.Laws.{ReplaysKeepPlaces, RulesEditByC, WithoutEx
 pub fn ever_law()
     ensures complete { EverComplete }
     ensures many { EverOfMany }
+    ensures beside { EverBeside }
+    ensures execs { EverWithExecs }
     ensures exec { WithoutExec }
     ensures read { EverAsRead }
+    ensures after_read { EverAfterRead }
 {}
 
 /// The list of the objects of now lies within the list for ever: each line of now has one there by the
