@@ -1,11 +1,11 @@
 -- What is known of each row stays known over a list of requests of a family.
 use Rattle.pua_ever.proofs.Common.{◌≡◌, ◌⊎◌, subst, ℕ, List, [], ◌∷◌, true, false, sym, ap, ◌∙◌, inl, inr, None, Ok, not, ◌&&◌, ◌||◌, is_none}
-use Rattle.pua_ever.proofs.Common.{and_parts, and_from, not-true, Tree, WellFormed, Spot, is_dir, kind_at, has_no_row, empty_tree}
+use Rattle.pua_ever.proofs.Common.{and_parts, and_from, Tree, WellFormed, Spot, is_dir, kind_at, has_no_row, empty_tree}
 use Rattle.pua_ever.proofs.Common.{is_link_kind, Found, Whole, Slot, Top, CallTable, is_kept, History, may_any, IsMissing, cover}
-use Rattle.pua_ever.proofs.Common.{cover_fault, covered_verdict, is_allowed, Asked, World, apply, world_after, is_member, is_exec, is_done}
-use Rattle.pua_ever.proofs.Common.{none_done, family_then, NoCallNeedsError, TreesAlong, has_c, IsWithin, verdicts_within}
-use Rattle.pua_ever.proofs.Common.{Members, members_then, first_tree, cover_in, covers_descend, is_yes, New, NewDir, NewOthers, NewFile}
-use Rattle.pua_ever.proofs.Common.{NewLink, maker, EditsNeedC, VeilsStand}
+use Rattle.pua_ever.proofs.Common.{cover_fault, covered_verdict, is_allowed, Asked, World, apply, world_after, is_member}
+use Rattle.pua_ever.proofs.Common.{family_then, NoCallNeedsError, TreesAlong, has_c, IsWithin, verdicts_within}
+use Rattle.pua_ever.proofs.Common.{Members, first_tree, cover_in, covers_descend, is_yes, New, NewDir, NewOthers, NewFile}
+use Rattle.pua_ever.proofs.Common.{NewLink, maker, EditsNeedC, VeilsStand, Cover, can_move, may_rename}
 use Rattle.pua_calls.specs.declared.call.Call.TheVariants as call
 use Rattle.pua_script.specs.Confinement.{object_in}
 use Rattle.pua_script.proofs.ForCallers.{same_cover}
@@ -49,9 +49,20 @@ module _ (table : CallTable) (sound : NoCallNeedsError table) (now a : History) 
         (yes_before table sound now a within table.link.old.needs.alternatives sound.link.0 two.0)
         (yes_before table sound now a within table.link.new.needs.alternatives sound.link.1 two.1)
 
+    -- and so it is of who may rename
+    move_within : (left : Cover) → can_move table a left ≡ true → can_move table now left ≡ true
+    move_within left can =
+        let parts = and_parts (may_rename table a) _ can in
+        let two = and_parts (is_yes (may_any a table.rename.old.needs.alternatives)) _ parts.0 in
+        and_from (may_rename table now) _
+        (and_from (is_yes (may_any now table.rename.old.needs.alternatives)) _
+        (yes_before table sound now a within table.rename.old.needs.alternatives sound.rename.0 two.0)
+        (yes_before table sound now a within table.rename.new.needs.alternatives sound.rename.1 two.1)) parts.1
+
     from_within : (x : ℕ) → From table t a x → From table t now x
     from_within x (is_new e) = is_new e
-    from_within x (is_moved r e has) = is_moved r e (ap has_c (sym (same (object_in t r x))) ∙ has)
+    from_within x (is_moved r e can) =
+        is_moved r e (ap (can_move table now) (sym (same (object_in t r x))) ∙ move_within (cover t a (object_in t r x)) can)
     from_within x (is_linked r e plain can) =
         let parts = and_parts (may_link table a) _ can in
         is_linked r e plain

@@ -13,7 +13,6 @@ ghost use Rattle.pua_calls.specs.declared.call.Call.{Call as AnyCall};
 ghost use Rattle.pua_policy.specs.History.{History, StandsFor, perms_kept, may_any as may_any_of};
 ghost use Rattle.pua_policy.specs.Objects.{object_seen};
 ghost use Rattle.pua_policy.specs.Verdict.{IsDir, object_of_kind};
-ghost use Rattle.pua_script.specs.Confinement.{has_c as cover_has_c};
 ghost use Rattle.pua_objects.specs.Items.{SubjectFits, IsItemOn};
 ghost use Rattle.pua_objects.specs.Objects.{Subject as About, At, Others};
 ghost use Rattle.pua_objects.specs.Objects.{cover_in as cover_of_others};
@@ -21,6 +20,7 @@ ghost use Rattle.pua_ever.specs.Ever.{may_edit as edits_tree, is_yes as says_yes
 ghost use Rattle.pua_ever.specs.Ever.{can_make, is_allowed_under, is_ever_allowed, is_new_allowed};
 ghost use Rattle.pua_ever.specs.Ever.{is_named_way, own_spot};
 ghost use Rattle.pua_ever.specs.Ever.{may_link as links_files, can_link as gives_names};
+ghost use Rattle.pua_ever.specs.Ever.{can_move as moves};
 ghost use Rattle.pua_ever.specs.Ever.{named_covers};
 ghost use Rattle.pua_ever.specs.EverReady.{IsProspects, AreOnFreed, new_of, own_given};
 ghost use Rattle.pua_ever.specs.EverReady.{kind_allowed, kind_covers};
@@ -28,11 +28,12 @@ ghost use Rattle.pua_ever.specs.Laws.{EditsNeedC};
 
 use crate::made::Made;
 use crate::movable::{Movable, calls_by_object};
+use crate::moving::{can_move, may_any};
 use crate::openings::{find_openings, has_c};
-use pua_calls::{Call, CallTable, Calls, Promises};
+use pua_calls::{Call, CallTable, Calls};
 use pua_objects::{Item, Subject};
 use pua_path::Last;
-use pua_policy::{Cover, May, Object, Place, Process, judge};
+use pua_policy::{Cover, Object, Place, Process, judge};
 use pua_tree::{FileTree, Name, NodeId, OutOfMemory};
 use std::alloc::Global;
 
@@ -107,14 +108,6 @@ fn may_call(process: &Process, table: &CallTable) -> bool
         .any(|call| may_any(process, table.alternatives(*call)))
 }
 
-/// Whether a process holds one of these sets of promises.
-fn may_any(process: &Process, alternatives: &[Promises]) -> bool
-    ensures { (h : History) → StandsFor process.now h →
-        result ≡ says_yes (may_any_of h alternatives.now) }
-{
-    process.may_any(alternatives) == May::Yes
-}
-
 impl Prospects {
     /// The calls that can ever be allowed on what an item is about.
     pub(crate) fn calls_on(&self, process: &Process, table: &CallTable, item: &Item<'_>) -> Calls
@@ -149,7 +142,7 @@ impl Prospects {
             has result call ≡ is_ever_allowed t table.now h (At (Whole dir way)) call }
     {
         let emptied = self.can_empty(dir, is_named);
-        if self.moves_dir(process, dir, &item.cover) {
+        if moves_dir(process, table, dir, &item.cover) {
             return self.movable.on_dir(emptied);
         }
         let object = self.seen_as(emptied, item.object);
@@ -162,7 +155,7 @@ impl Prospects {
             IsProspects t table.now h self.now → cover.now ≡ cover_of_others t h dir →
             (call : AnyCall) → has result call ≡ is_ever_allowed t table.now h (Others dir) call }
     {
-        if self.moves_dir(process, dir, cover) {
+        if moves_dir(process, table, dir, cover) {
             return self.movable.others;
         }
         judge::allowed(process, table, *cover, Object::Missing)
@@ -207,7 +200,7 @@ impl Prospects {
             ≡ is_allowed_under table.now h (named_covers t table.now h (Some kind) cover.now)
             (object_of_kind (Some kind)) call }
     {
-        if self.may_edit && has_c(*cover) {
+        if can_move(process, table, cover) {
             return self.movable.on(object);
         }
         let calls = judge::allowed(process, table, *cover, object);
@@ -293,16 +286,15 @@ impl Prospects {
             object
         }
     }
+}
 
-    /// Whether a directory can be moved to where it is covered otherwise: it has no veil of its own,
-    /// which would go with it.
-    fn moves_dir(&self, process: &Process, dir: NodeId, cover: &Cover) -> bool
-        ensures { (h : History) → StandsFor process.now h → result
-            ≡ ((self.now.may_edit && is_none (perms_kept h (Place.Dir dir)))
-            && cover_has_c cover.now) }
-    {
-        self.may_edit && process.kept(&Place::Dir(dir)).is_none() && has_c(*cover)
-    }
+/// Whether a directory can be moved to where it is covered otherwise: it has no veil of its own,
+/// which would go with it.
+fn moves_dir(process: &Process, table: &CallTable, dir: NodeId, cover: &Cover) -> bool
+    ensures { (h : History) → StandsFor process.now h →
+        result ≡ (is_none (perms_kept h (Place.Dir dir)) && moves table.now h cover.now) }
+{
+    process.kept(&Place::Dir(dir)).is_none() && can_move(process, table, cover)
 }
 
 /// The name at which what an item is about stands; None for the root, for further names, and where
