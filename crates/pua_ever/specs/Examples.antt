@@ -390,3 +390,60 @@ ever_rows = record {
   link_without_c = refl;
   process_first = refl;
 }
+
+-- `/in` has wc and `/tmp` has rwc: what stands in `/in` can be moved to where it is read, but not by OpenBSD's rules, where
+-- rename asks `r` of the old name too
+abbrev pub drop_box_tree : Tree
+drop_box_tree = record {
+  rows = ((0, codes "in"), 1) ∷ ((0, codes "tmp"), 2) ∷ ((1, codes "f"), 3) ∷ [];
+  nodes = (0, directory) ∷ (1, directory) ∷ (2, directory) ∷ (3, file) ∷ [];
+  next = 4;
+}
+
+abbrev pub drop_box_history : History
+drop_box_history =
+    locked_after (
+    Unveiled (place.Dir 2) (reading + writing + creating)
+    ∷ Unveiled (place.Dir 1) (writing + creating)
+    ∷ new_history)
+
+-- what can be moved, by rules by which rename asks more of the old name than `c`: by these nothing is carried out of `/a`
+-- in a directory either, so the program in it is not run
+pub record MovedRows : Type 0 where
+  pub drop_box : lines drop_box_tree drop_box_history ≡
+      codes "dir /in rmdir,chmod"
+      ∷ codes "other /in create,mkdir,symlink"
+      ∷ codes "file /in/f stat,lstat,open-r,open-w,open-rw,create,unlink,chmod"
+      ∷ codes "dir /tmp stat,lstat,open-r,rmdir,chmod,chdir"
+      ∷ codes "other /tmp create,mkdir,symlink"
+      ∷ codes "dir new stat,lstat,open-r,rmdir,chmod,chdir"
+      ∷ codes "other new create,mkdir,symlink"
+      ∷ codes "file new stat,lstat,open-r,open-w,open-rw,create,unlink,chmod"
+      ∷ codes "link new lstat,readlink,unlink"
+      ∷ []
+  pub openbsd_drop_box : lines_by_openbsd drop_box_tree drop_box_history ≡
+      codes "dir /in rmdir,chmod"
+      ∷ codes "other /in create,mkdir,symlink"
+      ∷ codes "file /in/f open-w,create,unlink,chmod"
+      ∷ codes "dir /tmp stat,lstat,open-r,rmdir,chmod,chdir"
+      ∷ codes "other /tmp create,mkdir,symlink"
+      ∷ codes "dir new stat,lstat,open-r,rmdir,chmod,chdir"
+      ∷ codes "other new create,mkdir,symlink"
+      ∷ codes "file new stat,lstat,open-r,open-w,open-rw,create,unlink,chmod"
+      ∷ codes "link new lstat,readlink,unlink"
+      ∷ []
+  pub openbsd_name_and_area : lines_by_openbsd name_and_area_tree name_and_area_history ≡
+      codes "dir / stat,lstat,open-r,chdir"
+      ∷ codes "dir /a rmdir,chmod"
+      ∷ codes "other /a create,mkdir,symlink"
+      ∷ codes "prog /a/p open-w,create,unlink,chmod"
+      ∷ codes "prog /f stat,lstat,open-r,open-w,open-rw,create,unlink,chmod"
+      ∷ codes "missing /f create,mkdir,symlink"
+      ∷ codes "dir new stat,lstat,open-r,rmdir,chmod,chdir"
+      ∷ codes "other new create,mkdir,symlink"
+      ∷ codes "file new stat,lstat,open-r,open-w,open-rw,create,unlink,chmod"
+      ∷ codes "link new lstat,readlink,unlink"
+      ∷ []
+
+pub moved_rows : MovedRows
+moved_rows = record { drop_box = refl; openbsd_drop_box = refl; openbsd_name_and_area = refl }

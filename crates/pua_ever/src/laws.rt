@@ -1,6 +1,6 @@
 //! Laws and worked examples, each the contract of a function that does nothing.
 
-ghost use Rattle.pua_ever.specs.Examples.{EverRows};
+ghost use Rattle.pua_ever.specs.Examples.{EverRows, MovedRows};
 ghost use Rattle.pua_ever.specs.Laws.{EverAfterRead, EverAsRead, EverBeside, EverComplete, EverOfMany};
 ghost use Rattle.pua_ever.specs.Laws.{EverWithExecs};
 ghost use Rattle.pua_ever.specs.Laws.{NowWithinEver};
@@ -40,4 +40,10 @@ pub fn premises_law()
 #[tactic(auto, using(crate::specs::Examples::ever_rows))]
 pub fn ever_examples()
     ensures { EverRows }
+{}
+
+/// Examples of what can be moved, and so be touched.
+#[tactic(auto, using(crate::specs::Examples::moved_rows))]
+pub fn moving_examples()
+    ensures { MovedRows }
 {}
