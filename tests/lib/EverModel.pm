@@ -168,10 +168,13 @@ sub _promises {
     return 0;
 }
 
-# The line of something, if a call can be allowed on it under one of some covers.
+# The line of something, if a call can be allowed on it under one of some covers. A file that can be written, or have
+# its mode set, and one that is new can be made a program: so exec, the last of the calls, is that of a program then.
 sub _line {
     my ($ever, $kind, $path, $is, @covers) = @_;
     my @calls = grep { $ever->_is_allowed($_, $is, @covers) } @Model::CALLS;
+    my $turns = $is eq 'file' && ($path eq 'new' || grep { /\A(?:open-w|open-rw|create|chmod)\z/ } @calls);
+    push @calls, 'exec' if $turns && $ever->_is_allowed('exec', 'prog', @covers);
     return @calls ? "$kind $path " . join(',', @calls) : ();
 }
 

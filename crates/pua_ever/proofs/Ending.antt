@@ -21,7 +21,7 @@ use Rattle.pua_path.specs.declared.errno.Errno.{Errno}
 use Rattle.pua_path.specs.declared.found.Last.{Last}
 use Rattle.pua_path.specs.declared.found.Last.TheVariants.{Kept}
 use Rattle.pua_calls.specs.Calls.{ending_of, last_of}
-use Rattle.pua_policy.specs.Verdict.{IsFile, IsLink, rmdir_fault}
+use Rattle.pua_policy.specs.Verdict.{IsFile, IsProg, IsLink, rmdir_fault}
 use Rattle.pua_policy.specs.Verdict.{verdict}
 use Rattle.pua_calls.specs.declared.call.Call.TheVariants as call
 use Rattle.pua_policy.specs.declared.place.Place.TheVariants as place
@@ -33,7 +33,7 @@ use Rattle.pua_objects.proofs.ForCallers.{named_by_row}
 use Rattle.pua_objects.proofs.ForCallers.{has_item, found_dir}
 use Rattle.pua_objects.proofs.ForCallers.{one_of_calls, some_of, failed}
 use Rattle.pua_ever.specs.Ever.{ever_covers, named_covers}
-use Rattle.pua_ever.specs.Ever.{covers_of, covers_of_dir, ever_object, ever_calls}
+use Rattle.pua_ever.specs.Ever.{can_allow, can_allow_new, covers_of, covers_of_dir, ever_object, ever_calls}
 use Rattle.pua_ever.specs.Ever.{new_covers, new_object, is_new_named, new_calls, Thing}
 use Rattle.pua_ever.specs.Ever.{names_to_free}
 use Rattle.pua_ever.specs.Laws.{IsLineOf, of_dir, of_new_dir, of_row, of_new_file, of_new_link, of_name, of_others}
@@ -96,15 +96,32 @@ module _ (t : Tree) (table : CallTable) (h : History) (what : Option Kind) (now 
       by true = a
       by false = inr (subst (λ (b : Bool). Among (cond b (file_covers t table h) []) c) (sym can) a)
 
+-- what is allowed on a thing as it is can be allowed on it
+pub can_from : (table : CallTable) (h : History) (covers : List Cover) (object : Object) (c : Call) →
+    is_allowed_under table h covers object c ≡ true → can_allow table h covers object c ≡ true
+can_from table h covers IsFile c e = or_left (is_allowed_under table h covers IsFile c) _ e
+can_from table h covers IsProg c e = e
+can_from table h covers IsLink c e = e
+can_from table h covers IsMissing c e = e
+can_from table h covers (IsDir dir way) c e = e
+
+can_new : (t : Tree) (table : CallTable) (h : History) (made : New) (c : Call) →
+    is_allowed_under table h (new_covers t table h made) (new_object made) c ≡ true → can_allow_new t table h made c ≡ true
+can_new t table h NewDir c e = e
+can_new t table h NewOthers c e = e
+can_new t table h NewFile c e = or_left (is_allowed_under table h (file_covers t table h) IsFile c) _ e
+can_new t table h NewLink c e = e
+
 module _ (table : CallTable) (t0 : Tree) (h : History) where
   -- the calls of a line
   pub calls_among : (subject : Subject) (c : Call) → is_named_by t0 c subject ≡ true →
       is_allowed_under table h (covers_of t0 table h subject) (ever_object t0 table h subject) c ≡ true →
       Among (ever_calls t0 table h subject) c
   calls_among subject c named allowed =
-      among_filter (λ c. is_named_by t0 c subject && is_allowed_under table h (covers_of t0 table h subject)
-      (ever_object t0 table h subject) c) calls c
-      (and_from (is_named_by t0 c subject) _ named allowed) (one_of_calls c)
+      among_filter (λ c. is_named_by t0 c subject && can_allow table h (covers_of t0 table h subject) (ever_object t0 table h subject) c)
+      calls c
+      (and_from (is_named_by t0 c subject) _ named
+      (can_from table h (covers_of t0 table h subject) (ever_object t0 table h subject) c allowed)) (one_of_calls c)
 
   -- a call is allowed under one of the covers
   pub under_one : (covers : List Cover) (object : Object) (c : Call) (left : Cover) → Among covers left →
@@ -179,11 +196,10 @@ module _ (table : CallTable) (t0 : Tree) (h : History) (well0 : WellFormed t0) (
       → Among (new_calls t0 table h made) c
   new_among made c edits can named allowed =
       let P : Bool → Type 0 =
-      λ b. Among (cond b (filter (λ call. is_new_named made call && is_allowed_under table h (new_covers t0 table h made) (new_object made)
-      call) calls) []) c in
+      λ b. Among (cond b (filter (λ call. is_new_named made call && can_allow_new t0 table h made call) calls) []) c in
       subst P (sym (and_from (may_edit table h) _ edits can))
-      (among_filter (λ call. is_new_named made call && is_allowed_under table h (new_covers t0 table h made) (new_object made) call) calls c
-      (and_from (is_new_named made c) _ named allowed) (one_of_calls c))
+      (among_filter (λ call. is_new_named made call && can_allow_new t0 table h made call) calls c
+      (and_from (is_new_named made c) _ named (can_new t0 table h made c allowed)) (one_of_calls c))
 
   module _ (u : Tree) (k : Stays table t0 h well0 stand u) (edit : (may_edit table h ≡ true) ⊎ (u ≡ t0)) (c : Call) where
     su : Sound u

@@ -10,6 +10,7 @@ pub mod Execs
 pub mod Along
 pub mod Unedited
 pub mod KindFaults
+pub mod ExecCalls
 pub mod Ending
 pub mod Complete
 pub mod Now

@@ -14,7 +14,7 @@ use Rattle.pua_policy.specs.declared.answer.May.TheVariants as may
 use Rattle.pua_policy.specs.declared.object.Object as seen
 use Rattle.pua_policy.specs.declared.object.Object.TheVariants as see
 use Rattle.pua_script.proofs.ForCallers.{c_from_cover}
-use Rattle.pua_ever.specs.Ever.{ever_covers}
+use Rattle.pua_ever.specs.Ever.{can_allow, ever_covers}
 use Rattle.pua_ever.specs.EverReady.{IsProspects}
 use Rattle.pua_ever.specs.declared.prospects.Prospects.{Prospects}
 use Rattle.pua_ever.proofs.KindFaults.{dir_as}
@@ -118,11 +118,18 @@ module _ (t : Tree) (table : CallTable) (h : History) (p : Prospects) (is : IsPr
     abbrev empties : Bool
     empties = is_named_way way && (can_empty t h dir && (may_edit table h || not (list_any (λ row. row.0.0 == dir) t.rows)))
 
+    -- a directory is no file
+    dir_allows : (covers : List Cover) (b : Bool) (call : Call) →
+        is_allowed_under table h covers (dir_as b) call ≡ can_allow table h covers (dir_as b) call
+    dir_allows covers true call = refl
+    dir_allows covers false call = refl
+
     under : (call : Call) (covers : List Cover) → ever_covers moves (cover_in t h dir) (dir_covers t h) ≡ covers →
         is_allowed_under table h covers (dir_as empties) call ≡ is_ever_allowed t table h (At (Whole dir way)) call
     under call covers same =
         ap (λ cs. is_allowed_under table h cs (dir_as empties) call) (sym same)
-        ∙ ap (λ b. b && is_allowed_under table h (ever_covers moves (cover_in t h dir) (dir_covers t h)) (dir_as empties) call)
+        ∙ dir_allows (ever_covers moves (cover_in t h dir) (dir_covers t h)) empties call
+        ∙ ap (λ b. b && can_allow table h (ever_covers moves (cover_in t h dir) (dir_covers t h)) (dir_as empties) call)
         (sym (or-true (keeps_link call)))
 
     -- one that can be moved

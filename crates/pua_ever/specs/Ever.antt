@@ -17,7 +17,7 @@ use Rattle.pua_calls.specs.CallSets.{keeps_link, is_kept}
 use Rattle.pua_policy.specs.History.{History, perms_kept, veils, may_any}
 use Rattle.pua_policy.specs.declared.answer.May.{May}
 use Rattle.pua_policy.specs.declared.answer.May.TheVariants.{Yes}
-use Rattle.pua_policy.specs.Verdict.{Object, IsDir, IsFile, IsLink, IsMissing, object_of, cover, cover_fault, covered_verdict, is_allowed}
+use Rattle.pua_policy.specs.Verdict.{Object, IsDir, IsFile, IsProg, IsLink, IsMissing, object_of, cover, cover_fault, covered_verdict, is_allowed}
 use Rattle.pua_policy.specs.declared.answer.Cover.{Cover}
 use Rattle.pua_policy.specs.declared.answer.Cover.TheVariants.{Only}
 use Rattle.pua_calls.specs.declared.call.Call.{Call}
@@ -204,11 +204,31 @@ abbrev pub is_allowed_under : CallTable → History → List Cover → Object �
 is_allowed_under table h covers object call =
     list_any (λ left. is_allowed (covered_verdict empty_tree table h call left object)) covers
 
+-- by these calls a file can come to be a program: a kernel starts what was written, once its mode lets it. In a script a
+-- kind never changes
+abbrev pub turning_calls : List Call
+turning_calls = call.OpenWrite ∷ call.OpenBoth ∷ call.Create ∷ call.Chmod ∷ []
+
+abbrev pub is_exec_call : Call → Bool
+is_exec_call call.Exec = true
+is_exec_call _ = false
+
+-- the call is exec, and allowed on a program under one of these covers
+abbrev pub starts_under : CallTable → History → List Cover → Call → Bool
+starts_under table h covers call = is_exec_call call && is_allowed_under table h covers IsProg call
+
+-- a call can be allowed on such a thing under these covers: as it is, or, where it is a file that can be made a program, as
+-- that
+abbrev pub can_allow : CallTable → History → List Cover → Object → Call → Bool
+can_allow table h covers IsFile call =
+    is_allowed_under table h covers IsFile call
+    || (list_any (is_allowed_under table h covers IsFile) turning_calls && starts_under table h covers call)
+can_allow table h covers object call = is_allowed_under table h covers object call
+
 -- the calls that can ever be allowed on what stands or could stand now
 abbrev pub is_ever_allowed : Tree → CallTable → History → Subject → Call → Bool
 is_ever_allowed t table h subject call =
-    is_named_by t call subject
-    && is_allowed_under table h (covers_of t table h subject) (ever_object t table h subject) call
+    is_named_by t call subject && can_allow table h (covers_of t table h subject) (ever_object t table h subject) call
 
 abbrev pub ever_calls : Tree → CallTable → History → Subject → List Call
 ever_calls t table h subject = filter (is_ever_allowed t table h subject) calls
@@ -247,10 +267,14 @@ is_new_named _ call = true
 abbrev pub can_make : Tree → CallTable → History → New → Bool
 can_make t table h new = is_allowed_under table h (name_covers t h ++ dir_covers t h) IsMissing (maker new)
 
--- a call is allowed on it under one of these covers
+-- a call can be allowed on it under these covers; a file is made with any mode, so as a program too
+abbrev pub can_allow_new : Tree → CallTable → History → New → Call → Bool
+can_allow_new t table h NewFile call =
+    is_allowed_under table h (file_covers t table h) IsFile call || starts_under table h (file_covers t table h) call
+can_allow_new t table h new call = is_allowed_under table h (new_covers t table h new) (new_object new) call
+
 abbrev pub is_new_allowed : Tree → CallTable → History → New → Call → Bool
-is_new_allowed t table h new call =
-    is_new_named new call && is_allowed_under table h (new_covers t table h new) (new_object new) call
+is_new_allowed t table h new call = is_new_named new call && can_allow_new t table h new call
 
 abbrev pub new_calls : Tree → CallTable → History → New → List Call
 new_calls t table h new =

@@ -1,6 +1,6 @@
 //! Laws and worked examples, each the contract of a function that does nothing.
 
-ghost use Rattle.pua_ever.specs.Examples.{EverRows, MovedRows};
+ghost use Rattle.pua_ever.specs.Examples.{EverRows, MovedRows, StartedRows};
 ghost use Rattle.pua_ever.specs.Laws.{EverAfterRead, EverAsRead, EverBeside, EverComplete, EverOfMany};
 ghost use Rattle.pua_ever.specs.Laws.{EverWithExecs};
 ghost use Rattle.pua_ever.specs.Laws.{NowWithinEver};
@@ -46,4 +46,10 @@ pub fn ever_examples()
 #[tactic(auto, using(crate::specs::Examples::moved_rows))]
 pub fn moving_examples()
     ensures { MovedRows }
+{}
+
+/// Examples of what can be started that was no program.
+#[tactic(auto, using(crate::specs::Examples::started_rows))]
+pub fn program_examples()
+    ensures { StartedRows }
 {}

@@ -17,7 +17,8 @@ ghost use Rattle.pua_objects.specs.Items.{SubjectFits, IsItemOn};
 ghost use Rattle.pua_objects.specs.Objects.{Subject as About, At, Others};
 ghost use Rattle.pua_objects.specs.Objects.{cover_in as cover_of_others};
 ghost use Rattle.pua_ever.specs.Ever.{may_edit as edits_tree, is_yes as says_yes, edit_calls};
-ghost use Rattle.pua_ever.specs.Ever.{can_make, is_allowed_under, is_ever_allowed, is_new_allowed};
+ghost use Rattle.pua_ever.specs.Ever.{can_allow, can_make, is_allowed_under, is_ever_allowed};
+ghost use Rattle.pua_ever.specs.Ever.{is_new_allowed};
 ghost use Rattle.pua_ever.specs.Ever.{is_named_way, own_spot};
 ghost use Rattle.pua_ever.specs.Ever.{may_link as links_files, can_link as gives_names};
 ghost use Rattle.pua_ever.specs.Ever.{can_move as moves};
@@ -30,6 +31,7 @@ use crate::made::Made;
 use crate::movable::{Movable, calls_by_object};
 use crate::moving::{can_move, may_any};
 use crate::openings::{find_openings, has_c};
+use crate::programs::{on_file, on_new_file};
 use pua_calls::{Call, CallTable, Calls};
 use pua_objects::{Item, Subject};
 use pua_path::Last;
@@ -182,7 +184,7 @@ impl Prospects {
             IsProspects t table.now h self.now →
             object ≡ object_seen empty_tree (object_of_kind kind) →
             (call : AnyCall) → has result call
-            ≡ is_allowed_under table.now h (kind_covers t table.now h cover.now kind)
+            ≡ can_allow table.now h (kind_covers t table.now h cover.now kind)
             (object_of_kind kind) call }
     {
         if object == Object::Missing {
@@ -191,8 +193,25 @@ impl Prospects {
         self.on_thing(process, table, cover, object)
     }
 
-    /// The same, of what stands there.
+    /// The same, of what stands there; of a file with exec, where it can be made a program.
     fn on_thing(&self, process: &Process, table: &CallTable, cover: &Cover, object: Object) -> Calls
+        ensures { (t : Tree) (h : History) (kind : Kind) → StandsFor process.now h →
+            IsProspects t table.now h self.now →
+            object ≡ object_seen empty_tree (object_of_kind (Some kind)) →
+            (call : AnyCall) → has result call
+            ≡ can_allow table.now h (named_covers t table.now h (Some kind) cover.now)
+            (object_of_kind (Some kind)) call }
+    {
+        let calls = self.on_seen(process, table, cover, object);
+        if object != Object::File {
+            return calls;
+        }
+        let as_program = self.on_seen(process, table, cover, Object::Program);
+        on_file(calls, as_program)
+    }
+
+    /// The same, of what stays what it is.
+    fn on_seen(&self, process: &Process, table: &CallTable, cover: &Cover, object: Object) -> Calls
         ensures { (t : Tree) (h : History) (kind : Kind) → StandsFor process.now h →
             IsProspects t table.now h self.now →
             object ≡ object_seen empty_tree (object_of_kind (Some kind)) →
@@ -262,7 +281,7 @@ impl Prospects {
         match made {
             Made::Dir => self.movable.emptied,
             Made::Others => self.movable.others,
-            Made::File => self.movable.file,
+            Made::File => on_new_file(self.movable.file, self.movable.program),
             Made::Link => self.movable.link.keeping(),
         }
     }

@@ -1,13 +1,29 @@
-use Rattle.pua_ever.proofs.Common.{◌≡◌, [], ◌∷◌, true, sym, ap, ◌∙◌, if◌then◌else◌, Some, object_of_kind, can_link, can_move}
-use Rattle.pua_ever.proofs.Common.{file_covers, is_allowed_under}
+use Rattle.pua_ever.proofs.Common.{◌≡◌, refl, ◌∙◌, ◌&&◌, ◌||◌, list_any, Some, empty_tree, has}
+use Rattle.pua_ever.proofs.Common.{object_seen, object_of_kind, Call, is_allowed_under, rules, tests}
+use Rattle.pua_tree.specs.declared.node.Kind.TheVariants.{Dir, File, Prog, Link}
+use Rattle.pua_policy.specs.Verdict.{IsFile}
+use Rattle.pua_ever.specs.Ever.{can_allow, is_exec_call, named_covers, turning_calls}
 use Rattle.pua_ever.proofs.prospects.Prospects.on_thing.Goals as goal
+use Rattle.pua_ever.proofs.prospects.Prospects.on_thing.Goals.{Start}
 
-pub returns-then-can_move : goal.returns-then-can_move
-returns-then-can_move c = λ t h kind stands found sees call.
-    let table = c.args.table.now in
-    let now = c.args.cover.now in
-    let can : can_move table h now ≡ true = sym (c.can_move.ensures h stands) ∙ c.if-can_move.true in
-    let others = file_covers t table h in
-    let further = if can_link table h (Some kind) now then others else [] in
-    c.on.ensures t table h kind found.movable sees call ∙
-    ap (λ b. is_allowed_under table h (if b then others else now ∷ further) (object_of_kind (Some kind)) call) (sym can)
+pub returns : goal.returns
+returns c = λ t h kind stands found sees call.
+    elim kind as (λ k. c.args.object ≡ object_seen empty_tree (object_of_kind (Some k)) → has c.on_file.result call
+    ≡ can_allow c.args.table.now h (named_covers t c.args.table.now h (Some k) c.args.cover.now) (object_of_kind (Some k)) call) [
+      | File ↦ λ sees. (
+          let as_file : (x : Call) → has c.on_seen-calls.result x
+          ≡ is_allowed_under c.args.table.now h (named_covers t c.args.table.now h (Some File) c.args.cover.now) IsFile x =
+          λ x. c.on_seen-calls.ensures t h File stands found sees x in
+          let as_program = c.on_seen-as_program.ensures t h Prog stands found refl in
+          c.on_file.ensures call ∙
+          (λ i. as_file call i || (list_any (λ x. as_file x i) turning_calls && (is_exec_call call && as_program call i))))
+      | Dir ↦ λ sees. (
+          let as_file : (x : Call) → has c.on_seen-calls.result x
+          ≡ is_allowed_under c.args.table.now h (named_covers t c.args.table.now h (Some Dir) c.args.cover.now) IsFile x =
+          λ x. c.on_seen-calls.ensures t h Dir stands found sees x in
+          let as_program = c.on_seen-as_program.ensures t h Prog stands found refl in
+          c.on_file.ensures call ∙
+          (λ i. as_file call i || (list_any (λ x. as_file x i) turning_calls && (is_exec_call call && as_program call i))))
+      | Prog ↦ λ sees. search (rules, tests)
+      | Link ↦ λ sees. search (rules, tests)
+    ] sees
