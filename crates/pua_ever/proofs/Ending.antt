@@ -11,7 +11,7 @@ use Rattle.pua_ever.proofs.Common.{verdict_of, is_allowed, Call, Cover, May, Wor
 use Rattle.pua_ever.proofs.Common.{own_or, Among, among_left, among_right, among_map, among_filter, contained, covers_descend}
 use Rattle.pua_ever.proofs.Common.{named_within_text, row_cover, is_free, can_empty, dir_covers, file_covers, may_edit, can_link, can_move}
 use Rattle.pua_ever.proofs.Common.{removable_dir, is_named_way, is_allowed_under, ever_line, New, NewDir, NewOthers, NewFile, NewLink}
-use Rattle.pua_ever.proofs.Common.{can_make, Stands, Comes, EverLine, subjects_of, all_new, new_line, has_ever_calls, ever, VeilsStand}
+use Rattle.pua_ever.proofs.Common.{same_Some, eqb-true, can_make, Stands, Comes, EverLine, subjects_of, all_new, new_line, has_ever_calls, ever, VeilsStand}
 use Rattle.std.specs.Prelude.{◌∷◌}
 use Rattle.pua_tree.specs.declared.node.Kind.TheVariants as kind
 use Rattle.pua_tree.proofs.ForCallers.{Sound}
@@ -327,14 +327,14 @@ module _ (table : CallTable) (t0 : Tree) (h : History) (well0 : WellFormed t0) (
     slot_then s x other = ap (λ b. cover t0 h (cond b (Whole x (Named s.0 s.1)) (Slot s.0 s.1 (Some x)))) other
 
     -- a line of a row of the beginning, under a cover that its thing can come under
-    hit_row : (r : Spot) (s : Spot) (x : ℕ) → look t0 r.0 r.1 ≡ Some x → node_at u x ≡ node_at t0 x → is_dir u x ≡ false →
+    hit_row : (r : Spot) (s : Spot) (x : ℕ) → look t0 r.0 r.1 ≡ Some x → (look t0 s.0 s.1 ≡ Some x → r ≡ s) → node_at u x ≡ node_at t0 x → is_dir u x ≡ false →
         (last_of c ≡ Followed → is_link u (Slot s.0 s.1 (Some x)) ≡ false)
         → may_any h (rule_of table c).alternatives ≡ may.Yes →
         cover_fault (cover u h (Slot s.0 s.1 (Some x))) (rule_of table c).perms ≡ None →
         object_fault u c (object_of_kind (kind_at u x)) ≡ None
         → Among (named_covers t0 table h (kind_at t0 x) (cover t0 h (Slot r.0 r.1 (Some x)))) (cover u h (Slot s.0 s.1 (Some x))) →
         Hit (Slot s.0 s.1 (Some x))
-    hit_row r s x at same other followed granted covered fine a =
+    hit_row r s x at own same other followed granted covered fine a =
         let same_kind : kind_at u x ≡ kind_at t0 x = ap (option_map (λ n. n.kind)) same in
         let other_then : is_dir t0 x ≡ false = sym (same_dir t0 u x same) ∙ other in
         let fits : FoundFits t0 (Slot r.0 r.1 (Some x)) =
@@ -350,7 +350,7 @@ module _ (table : CallTable) (t0 : Tree) (h : History) (well0 : WellFormed t0) (
               (under_one table t0 h (covers_of t0 table h subject) (ever_object t0 table h subject) c (cover u h (Slot s.0 s.1 (Some x))) a
               granted covered
               (ap (λ o. object_fault empty_tree c (object_of_kind o)) (sym same_kind) ∙ sym (plain_alike u c (kind_at u x)) ∙ fine)));
-          about = of_row r at;
+          about = of_row r at own;
         }
 
     hit_file : (s : Spot) (x : ℕ) → look u s.0 s.1 ≡ Some x → is_dir u x ≡ false →
@@ -371,42 +371,62 @@ module _ (table : CallTable) (t0 : Tree) (h : History) (well0 : WellFormed t0) (
         lives = (row_says u su s x e).2
 
         hit_old : x < t0.next → Hit (Slot s.0 s.1 (Some x))
-        hit_old below = elim (file_under table t0 h well0 stand u k s x e other) [
-          | inl fixed ↦ (let then : is_dir t0 x ≡ false = sym (same_dir t0 u x same) ∙ other in
-              let covers : cover u h (Slot s.0 s.1 (Some x)) ≡ cover t0 h (Slot s.0 s.1 (Some x)) = sym (slot_of s x other) ∙
-              fixed_covered table t0 h well0 stand u k s x e fixed ∙ slot_then s x then in
-              here s fixed.0 (subst (Among (named_covers t0 table h (kind_at t0 x) (cover t0 h (Slot s.0 s.1 (Some x))))) (sym covers)
-              (named_first t0 table h (kind_at t0 x) (cover t0 h (Slot s.0 s.1 (Some x)))
-              (λ can. absurd (false≢true (sym fixed.1 ∙ ap (can_move table h) (slot_then s x then) ∙ can))))))
-          | inr came ↦ elim edit [
-            | inl edits ↦ moved came.1 came.0.origin
-            | inr tree ↦ (let at : look t0 s.0 s.1 ≡ Some x = ap (λ v. look v s.0 s.1) (sym tree) ∙ e in
-                let covers : cover u h (Slot s.0 s.1 (Some x)) ≡ cover t0 h (Slot s.0 s.1 (Some x)) =
-                ap (λ v. cover v h (Slot s.0 s.1 (Some x))) tree in
-                here s at (subst (Among (named_covers t0 table h (kind_at t0 x) (cover t0 h (Slot s.0 s.1 (Some x))))) (sym covers)
-                (named_first t0 table h (kind_at t0 x) (cover t0 h (Slot s.0 s.1 (Some x)))
-                (λ can. subst (Among (file_covers t0 table h)) (slot_of s x other ∙ covers) came.1))))
-          ]
-        ]
+        hit_old below = by (look t0 s.0 s.1) refl
           where
             same : node_at u x ≡ node_at t0 x
             same = k.old x below lives
 
-            here : (r : Spot) → look t0 r.0 r.1 ≡ Some x →
-                Among (named_covers t0 table h (kind_at t0 x) (cover t0 h (Slot r.0 r.1 (Some x)))) (cover u h (Slot s.0 s.1 (Some x))) →
-                Hit (Slot s.0 s.1 (Some x))
-            here r at a = hit_row r s x at same other followed parts.may parts.covered parts.kind a
+            then : is_dir t0 x ≡ false
+            then = sym (same_dir t0 u x same) ∙ other
 
-            moved : Among (file_covers t0 table h) (row_cover u h s x) → Origin table t0 h well0 stand x → Hit (Slot s.0 s.1 (Some x))
-            moved a (stood r at can) =
-                let then : is_dir t0 x ≡ false = sym (same_dir t0 u x same) ∙ other in
-                here r at (named_moved t0 table h (kind_at t0 x) (cover t0 h (Slot r.0 r.1 (Some x))) (cover u h (Slot s.0 s.1 (Some x)))
+            here : (r : Spot) → look t0 r.0 r.1 ≡ Some x → (look t0 s.0 s.1 ≡ Some x → r ≡ s) →
+                Among (named_covers t0 table h (kind_at t0 x) (cover t0 h (Slot r.0 r.1 (Some x)))) (cover u h (Slot s.0 s.1 (Some x))) → Hit (Slot s.0 s.1 (Some x))
+            here r at own a = hit_row r s x at own same other followed parts.may parts.covered parts.kind a
+
+            by_move : (r : Spot) → look t0 r.0 r.1 ≡ Some x → (look t0 s.0 s.1 ≡ Some x → r ≡ s) →
+                can_move table h (row_cover t0 h r x) ≡ true → Among (file_covers t0 table h) (row_cover u h s x) →
+                Hit (Slot s.0 s.1 (Some x))
+            by_move r at own can a =
+                here r at own (named_moved t0 table h (kind_at t0 x) (cover t0 h (Slot r.0 r.1 (Some x))) (cover u h (Slot s.0 s.1 (Some x)))
                 (ap (can_move table h) (sym (slot_then r x then)) ∙ can) (subst (Among (file_covers t0 table h)) (slot_of s x other) a))
-            moved a (linked r at plain can) =
-                here r at (named_linked t0 table h (kind_at t0 x) (cover t0 h (Slot r.0 r.1 (Some x))) (cover u h (Slot s.0 s.1 (Some x)))
-                (ap (can_link table h (kind_at t0 x)) (sym (slot_then r x plain)) ∙ can)
-                (subst (Among (file_covers t0 table h)) (slot_of s x other) a))
-            moved a (since from) = absurd (omega (arith, below, from))
+
+            -- it stands in a row in which it stood then
+            at_home : look t0 s.0 s.1 ≡ Some x → Hit (Slot s.0 s.1 (Some x))
+            at_home at = by_cover (can_move table h (row_cover t0 h s x)) refl
+              where
+                by_cover : (b : Bool) → can_move table h (row_cover t0 h s x) ≡ b → Hit (Slot s.0 s.1 (Some x))
+                by_cover true can = elim (file_under table t0 h well0 stand u k s x e other) [
+                  | inl fixed ↦ absurd (false≢true (sym fixed.1 ∙ can))
+                  | inr came ↦ by_move s at (λ _. refl) can came.1
+                ]
+                by_cover false stays =
+                    let covers : cover u h (Slot s.0 s.1 (Some x)) ≡ cover t0 h (Slot s.0 s.1 (Some x)) = sym (slot_of s x other) ∙ fixed_covered table t0 h well0 stand u k s x e (at, stays) ∙
+                    slot_then s x then in
+                    here s at (λ _. refl) (subst (Among (named_covers t0 table h (kind_at t0 x) (cover t0 h (Slot s.0 s.1 (Some x))))) (sym covers)
+                    (named_first t0 table h (kind_at t0 x) (cover t0 h (Slot s.0 s.1 (Some x)))
+                    (λ can. absurd (false≢true (sym stays ∙ ap (can_move table h) (slot_then s x then) ∙ can)))))
+
+            -- it came there
+            away : (look t0 s.0 s.1 ≡ Some x → ⊥) → Hit (Slot s.0 s.1 (Some x))
+            away never = elim (file_under table t0 h well0 stand u k s x e other) [
+              | inl fixed ↦ absurd (never fixed.0)
+              | inr came ↦ from came.1 came.0.origin
+            ]
+              where
+                from : Among (file_covers t0 table h) (row_cover u h s x) → Origin table t0 h well0 stand x → Hit (Slot s.0 s.1 (Some x))
+                from a (stood r at can) = by_move r at (λ e. absurd (never e)) can a
+                from a (linked r at plain can) =
+                    here r at (λ e. absurd (never e)) (named_linked t0 table h (kind_at t0 x) (cover t0 h (Slot r.0 r.1 (Some x))) (cover u h (Slot s.0 s.1 (Some x)))
+                    (ap (can_link table h (kind_at t0 x)) (sym (slot_then r x plain)) ∙ can)
+                    (subst (Among (file_covers t0 table h)) (slot_of s x other) a))
+                from a (since after) = absurd (omega (arith, below, after))
+
+            by : (o : Option ℕ) → look t0 s.0 s.1 ≡ o → Hit (Slot s.0 s.1 (Some x))
+            by None is = away (λ e. Some≢None x (sym e ∙ is))
+            by (Some y) is = elim (y == x) as (λ b. (y == x) ≡ b → Hit (Slot s.0 s.1 (Some x))) [
+              | true ↦ λ same. at_home (is ∙ ap Some (eqb-true y x same))
+              | false ↦ λ differs. away (λ e. false≢true (sym differs ∙ eq-eqb y x (same_Some y x (sym is ∙ e))))
+            ] refl
 
         hit_young : t0.next ≤ x → Known table t0 h well0 stand u x → Hit (Slot s.0 s.1 (Some x))
         hit_young from known = by known.made known.kinds known.can

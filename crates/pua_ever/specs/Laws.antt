@@ -51,14 +51,15 @@ abbrev pub VeilsStand : Tree → History → Type 0
 VeilsStand t h = (at : Place) (perms : ℕ) → perms_kept h at ≡ Some perms → dir_of_place at < t.next
 
 -- the line of what a path named in a later tree, by what stood in the tree `t` of the beginning:
--- a directory of then has its own; a file, program or link of then that of a row in which it stood then;
+-- a directory of then has its own; a file, program or link of then that of the row in which it stands, where it stood
+-- there then, and else that of one in which it stood;
 -- a missing name its own, where a veil is kept at it, and else that of its directory's further names.
 -- What has a number that was not given then is new, and its line is that of its kind
 pub data IsLineOf (t later : Tree) (h : History) : Thing → Found → Type 0 where
   of_dir : {dir : ℕ} {way : Way} →
       dir < t.next → IsLineOf t later h (Stands (At (Whole dir (own_way t dir)))) (Whole dir way)
   of_row : {dir : ℕ} {name : List ℕ} {node : ℕ} →
-      (row : Spot) → look t row.0 row.1 ≡ Some node →
+      (row : Spot) → look t row.0 row.1 ≡ Some node → (look t dir name ≡ Some node → row ≡ (dir, name)) →
       IsLineOf t later h (Stands (At (Slot row.0 row.1 (Some node)))) (Slot dir name (Some node))
   of_name : {dir : ℕ} {name : List ℕ} →
       (perms : ℕ) → perms_kept h (place.Slot dir name) ≡ Some perms →
