@@ -161,7 +161,7 @@ replays_keep_places table needs w (ask ∷ asks) trees places =
     replays_keep_places table needs (apply table w ask).1 asks trees.1 (step table needs w ask trees.0 places)
 
 -- at the beginning there are no veils
-new_places : (t : Tree) → PlacesStand (new_world t)
+pub new_places : (t : Tree) → PlacesStand (new_world t)
 new_places t process h is at perms e = by process is
   where
     none : h ≡ new_history → ⊥

@@ -1,10 +1,10 @@
 -- Who holds what none of the edits needs leaves the tree.
 use Rattle.pua_ever.proofs.Common.{◌≡◌, ◌⊎◌, ℕ, List, [], ◌∷◌, Bool, true, false, cond, refl, sym, ap, subst, ◌∙◌, inl, inr, list_any, Some}
-use Rattle.pua_ever.proofs.Common.{is_some, nat_le, not, false≢true, and_parts, or_left, or_right, not-true, EAGAIN, Found, History}
-use Rattle.pua_ever.proofs.Common.{may_any, CallTable, rule_of, Call, May, most_processes, Asked, tree_left, is_member, is_exec, is_done}
-use Rattle.pua_ever.proofs.Common.{none_done, family_then, World, Fails, Copies, change_effect, history_of, apply}
+use Rattle.pua_ever.proofs.Common.{is_some, nat_le, false≢true, or_left, or_right, EAGAIN, Found, History}
+use Rattle.pua_ever.proofs.Common.{may_any, CallTable, rule_of, Call, May, most_processes, Asked, tree_left, is_member}
+use Rattle.pua_ever.proofs.Common.{family_then, World, Fails, Copies, change_effect, history_of, apply}
 use Rattle.pua_ever.proofs.Common.{world_after, Change, CopyAs, change_by, IsDecided, Action, OnPath, Symlink, Rename, Link, Pledge, Unveil}
-use Rattle.pua_ever.proofs.Common.{Lock, Fork, Exit, by_going, IsWithin, Members, members_then, Among, is_yes, may_edit}
+use Rattle.pua_ever.proofs.Common.{Lock, Fork, Exit, by_going, IsWithin, Members, Among, is_yes, may_edit}
 use Rattle.std.proofs.Common.{◌||◌}
 use Rattle.std.specs.List.{AllByRecursion}
 use Rattle.std.specs.Prelude.{length}

@@ -189,6 +189,10 @@ EverBeside =
 abbrev pub PlacesStand : World → Type 0
 PlacesStand w = (process : ℕ) (h : History) → history_of w process ≡ Some h → VeilsStand w.tree h
 
+-- and so it is before the first request
+abbrev pub NewPlacesStand : Type 0
+NewPlacesStand = (t : Tree) → PlacesStand (new_world t)
+
 abbrev pub ReplaysKeepPlaces : Type 0
 ReplaysKeepPlaces =
     (table : CallTable) → EditsNeedC table → (w : World) (asks : List Asked) →
