@@ -8,12 +8,19 @@ use Rattle.pua_path.specs.Resolution.{resolution_of_text}
 use Rattle.pua_calls.specs.Calls.{ending_of, last_of}
 use Rattle.pua_script.specs.Family.{family, HasHistoryOf}
 use Rattle.pua_script.proofs.ForCallers.{begins, at_all}
-use Rattle.pua_ever.specs.Laws.{EverBeside, EverComplete, EverOfMany, EverWithExecs, Foresees, MembersEdit, NoExecLoosens}
+use Rattle.pua_ever.specs.Laws.{EverBeside, EverComplete, EverOfMany, EverWithExecs, Foresees, MembersEdit, NoExecLoosens, StartsForeseen}
+use Rattle.pua_ever.proofs.Common.{◌∙◌, sym, cover, cover_fault, Found, is_yes, may_any, May, named_within_text, object_fault, resolutions_fit}
+use Rattle.pua_ever.proofs.Common.{rule_of, Slot}
+use Rattle.pua_calls.specs.declared.call.Call.TheVariants as call
+use Rattle.pua_policy.specs.Verdict.{IsProg}
+use Rattle.pua_policy.specs.declared.answer.May.TheVariants as may
+use Rattle.pua_script.proofs.ForCallers.{same_cover}
 use Rattle.pua_ever.proofs.Execs.{members_along, none_loosens}
 use Rattle.pua_ever.proofs.Origins.{at_first}
 use Rattle.pua_ever.proofs.Along.{stays_along}
-use Rattle.pua_ever.proofs.Unedited.{unedited_along}
-use Rattle.pua_ever.proofs.Ending.{foreseen}
+use Rattle.pua_ever.proofs.Unedited.{unedited_along, yes_before}
+use Rattle.pua_ever.proofs.Ending.{foreseen, parts_of}
+use Rattle.pua_ever.proofs.Starting.{start_foreseen}
 
 -- who asks alone edits alone
 edits_alone : (table : CallTable) (asks : List Asked) (w : World) (members : List ℕ) → members_alone table w asks members ≡ true →
@@ -79,3 +86,42 @@ ever_beside table sound needs w asks members now acts stand trees none edit memb
 pub ever_of_many : EverOfMany
 ever_of_many table sound needs w asks members now acts stand trees none alone member belongs =
     ever_beside table sound needs w asks members now acts stand trees none (edits_alone table asks w members alone) member belongs
+
+yes_is : (m : May) → is_yes m ≡ true → m ≡ may.Yes
+yes_is may.Yes e = refl
+yes_is may.Enosys e = absurd (false≢true e)
+yes_is may.Death e = absurd (false≢true e)
+
+pub starts_foreseen : StartsForeseen
+starts_foreseen table sound needs w asks members now acts stand trees none edit member belongs =
+    let are : Members w members now false = λ m belongs. let one = acts m belongs in
+    (one.0, one.1, record { within = record { tightens = one.2.0; ended = one.2.1 }; dir = λ e. absurd (false≢true e) }) in
+    let loosens = none_loosens table now asks w members none in
+    let well = first_tree table w asks trees in
+    let u = (world_after table w asks).tree in
+    let k = stays_along table sound needs w.tree now well stand asks w members are loosens edit trees (at_first table w.tree now well stand)
+    in
+    let last = members_along table now asks w members are loosens member belongs in
+    let edits : (may_edit table now ≡ true) ⊎ (u ≡ w.tree) =
+    by (may_edit table now) refl (λ lacks. unedited_along table sound now lacks asks w members are loosens edit) in (
+      last.0,
+      last.1,
+      λ from text dir name x named kinds allowed.
+          let object : Found = Slot dir name (Some x) in
+          let found = (resolutions_fit u k.well).whole from (ending_of call.Exec) text (last_of call.Exec) object
+          (named_within_text u from (ending_of call.Exec) text (last_of call.Exec) object named) in
+          let needed = rule_of table call.Exec in
+          let parts = parts_of (may_any last.0 needed.alternatives) (cover_fault (cover u last.0 object) needed.perms)
+          (object_fault u call.Exec IsProg) allowed in
+          start_foreseen table w.tree now well stand u k edits dir name x found.named.1 kinds (record {
+            may = yes_is (may_any now needed.alternatives)
+                (yes_before table sound now last.0 last.2.within needed.alternatives (sound.calls call.Exec) (ap is_yes parts.may));
+            covered = ap (λ left. cover_fault left needed.perms) (sym (same_cover last.0 now last.2.within.tightens.unveils u object)) ∙
+                parts.covered;
+            kind = parts.kind;
+          }),
+    )
+  where
+    by : {u t : Tree} (b : Bool) → may_edit table now ≡ b → (may_edit table now ≡ false → u ≡ t) → (may_edit table now ≡ true) ⊎ (u ≡ t)
+    by true is same = inl is
+    by false is same = inr (same is)

@@ -206,7 +206,7 @@ module _ (table : CallTable) (t0 : Tree) (h : History) (well0 : WellFormed t0) (
     su = sound_from u k.well
 
     -- what is made is made by an edit
-    edits_if_young : (x : ℕ) → t0.next ≤ x → is_living u x ≡ true → may_edit table h ≡ true
+    pub edits_if_young : (x : ℕ) → t0.next ≤ x → is_living u x ≡ true → may_edit table h ≡ true
     edits_if_young x from lives = elim edit [
       | inl yes_edits ↦ yes_edits
       | inr same ↦ (let below = below_next t0 h well0 x (ap (λ v. is_living v x) (sym same) ∙ lives) in absurd (omega arith))
@@ -353,6 +353,82 @@ module _ (table : CallTable) (t0 : Tree) (h : History) (well0 : WellFormed t0) (
           about = of_row r at own;
         }
 
+    -- the row of the beginning whose line a file, program or link has, and that its cover of now is one that it can come under
+    pub record HomeOf (s : Spot) (x : ℕ) : Type 0 where
+      pub row : Spot
+      pub at : look t0 row.0 row.1 ≡ Some x
+      pub own : look t0 s.0 s.1 ≡ Some x → row ≡ s
+      pub under : Among (named_covers t0 table h (kind_at t0 x) (cover t0 h (Slot row.0 row.1 (Some x)))) (cover u h (Slot s.0 s.1 (Some x)))
+
+    pub home_of : (s : Spot) (x : ℕ) → look u s.0 s.1 ≡ Some x → is_dir u x ≡ false → x < t0.next → HomeOf s x
+    home_of s x e other below = by (look t0 s.0 s.1) refl
+      where
+        lives : is_living u x ≡ true
+        lives = (row_says u su s x e).2
+
+        same : node_at u x ≡ node_at t0 x
+        same = k.old x below lives
+
+        then : is_dir t0 x ≡ false
+        then = sym (same_dir t0 u x same) ∙ other
+
+        here : (r : Spot) → look t0 r.0 r.1 ≡ Some x → (look t0 s.0 s.1 ≡ Some x → r ≡ s) →
+            Among (named_covers t0 table h (kind_at t0 x) (cover t0 h (Slot r.0 r.1 (Some x)))) (cover u h (Slot s.0 s.1 (Some x))) → HomeOf s x
+        here r at own a = record { row = r; at = at; own = own; under = a }
+
+        by_move : (r : Spot) → look t0 r.0 r.1 ≡ Some x → (look t0 s.0 s.1 ≡ Some x → r ≡ s) →
+            can_move table h (row_cover t0 h r x) ≡ true → Among (file_covers t0 table h) (row_cover u h s x) →
+            HomeOf s x
+        by_move r at own can a =
+            here r at own (named_moved t0 table h (kind_at t0 x) (cover t0 h (Slot r.0 r.1 (Some x))) (cover u h (Slot s.0 s.1 (Some x)))
+            (ap (can_move table h) (sym (slot_then r x then)) ∙ can) (subst (Among (file_covers t0 table h)) (slot_of s x other) a))
+
+        -- it stands in a row in which it stood then
+        at_home : look t0 s.0 s.1 ≡ Some x → HomeOf s x
+        at_home at = by_cover (can_move table h (row_cover t0 h s x)) refl
+          where
+            by_cover : (b : Bool) → can_move table h (row_cover t0 h s x) ≡ b → HomeOf s x
+            by_cover true can = elim (file_under table t0 h well0 stand u k s x e other) [
+              | inl fixed ↦ absurd (false≢true (sym fixed.1 ∙ can))
+              | inr came ↦ by_move s at (λ _. refl) can came.1
+            ]
+            by_cover false stays =
+                let covers : cover u h (Slot s.0 s.1 (Some x)) ≡ cover t0 h (Slot s.0 s.1 (Some x)) = sym (slot_of s x other) ∙ fixed_covered table t0 h well0 stand u k s x e (at, stays) ∙
+                slot_then s x then in
+                here s at (λ _. refl) (subst (Among (named_covers t0 table h (kind_at t0 x) (cover t0 h (Slot s.0 s.1 (Some x))))) (sym covers)
+                (named_first t0 table h (kind_at t0 x) (cover t0 h (Slot s.0 s.1 (Some x)))
+                (λ can. absurd (false≢true (sym stays ∙ ap (can_move table h) (slot_then s x then) ∙ can)))))
+
+        -- it came there
+        away : (look t0 s.0 s.1 ≡ Some x → ⊥) → HomeOf s x
+        away never = elim (file_under table t0 h well0 stand u k s x e other) [
+          | inl fixed ↦ absurd (never fixed.0)
+          | inr came ↦ from came.1 came.0.origin
+        ]
+          where
+            from : Among (file_covers t0 table h) (row_cover u h s x) → Origin table t0 h well0 stand x → HomeOf s x
+            from a (stood r at can) = by_move r at (λ e. absurd (never e)) can a
+            from a (linked r at plain can) =
+                here r at (λ e. absurd (never e)) (named_linked t0 table h (kind_at t0 x) (cover t0 h (Slot r.0 r.1 (Some x))) (cover u h (Slot s.0 s.1 (Some x)))
+                (ap (can_link table h (kind_at t0 x)) (sym (slot_then r x plain)) ∙ can)
+                (subst (Among (file_covers t0 table h)) (slot_of s x other) a))
+            from a (since after) = absurd (omega (arith, below, after))
+
+        by : (o : Option ℕ) → look t0 s.0 s.1 ≡ o → HomeOf s x
+        by None is = away (λ e. Some≢None x (sym e ∙ is))
+        by (Some y) is = elim (y == x) as (λ b. (y == x) ≡ b → HomeOf s x) [
+          | true ↦ λ same. at_home (is ∙ ap Some (eqb-true y x same))
+          | false ↦ λ differs. away (λ e. false≢true (sym differs ∙ eq-eqb y x (same_Some y x (sym is ∙ e))))
+        ] refl
+
+    -- and the cover of a new one
+    pub young_cover_at : (s : Spot) (x : ℕ) → look u s.0 s.1 ≡ Some x → is_dir u x ≡ false → t0.next ≤ x →
+        Among (file_covers t0 table h) (cover u h (Slot s.0 s.1 (Some x)))
+    young_cover_at s x e other from = elim (file_under table t0 h well0 stand u k s x e other) [
+      | inl fixed ↦ (let below = below_next t0 h well0 x (row_says t0 s0 s x fixed.0).2 in absurd (omega arith))
+      | inr came ↦ subst (Among (file_covers t0 table h)) (slot_of s x other) came.1
+    ]
+
     hit_file : (s : Spot) (x : ℕ) → look u s.0 s.1 ≡ Some x → is_dir u x ≡ false →
         (last_of c ≡ Followed → is_link u (Slot s.0 s.1 (Some x)) ≡ false)
         → verdict u table h c (Slot s.0 s.1 (Some x)) ≡ Allowed → Hit (Slot s.0 s.1 (Some x))
@@ -371,71 +447,15 @@ module _ (table : CallTable) (t0 : Tree) (h : History) (well0 : WellFormed t0) (
         lives = (row_says u su s x e).2
 
         hit_old : x < t0.next → Hit (Slot s.0 s.1 (Some x))
-        hit_old below = by (look t0 s.0 s.1) refl
-          where
-            same : node_at u x ≡ node_at t0 x
-            same = k.old x below lives
-
-            then : is_dir t0 x ≡ false
-            then = sym (same_dir t0 u x same) ∙ other
-
-            here : (r : Spot) → look t0 r.0 r.1 ≡ Some x → (look t0 s.0 s.1 ≡ Some x → r ≡ s) →
-                Among (named_covers t0 table h (kind_at t0 x) (cover t0 h (Slot r.0 r.1 (Some x)))) (cover u h (Slot s.0 s.1 (Some x))) → Hit (Slot s.0 s.1 (Some x))
-            here r at own a = hit_row r s x at own same other followed parts.may parts.covered parts.kind a
-
-            by_move : (r : Spot) → look t0 r.0 r.1 ≡ Some x → (look t0 s.0 s.1 ≡ Some x → r ≡ s) →
-                can_move table h (row_cover t0 h r x) ≡ true → Among (file_covers t0 table h) (row_cover u h s x) →
-                Hit (Slot s.0 s.1 (Some x))
-            by_move r at own can a =
-                here r at own (named_moved t0 table h (kind_at t0 x) (cover t0 h (Slot r.0 r.1 (Some x))) (cover u h (Slot s.0 s.1 (Some x)))
-                (ap (can_move table h) (sym (slot_then r x then)) ∙ can) (subst (Among (file_covers t0 table h)) (slot_of s x other) a))
-
-            -- it stands in a row in which it stood then
-            at_home : look t0 s.0 s.1 ≡ Some x → Hit (Slot s.0 s.1 (Some x))
-            at_home at = by_cover (can_move table h (row_cover t0 h s x)) refl
-              where
-                by_cover : (b : Bool) → can_move table h (row_cover t0 h s x) ≡ b → Hit (Slot s.0 s.1 (Some x))
-                by_cover true can = elim (file_under table t0 h well0 stand u k s x e other) [
-                  | inl fixed ↦ absurd (false≢true (sym fixed.1 ∙ can))
-                  | inr came ↦ by_move s at (λ _. refl) can came.1
-                ]
-                by_cover false stays =
-                    let covers : cover u h (Slot s.0 s.1 (Some x)) ≡ cover t0 h (Slot s.0 s.1 (Some x)) = sym (slot_of s x other) ∙ fixed_covered table t0 h well0 stand u k s x e (at, stays) ∙
-                    slot_then s x then in
-                    here s at (λ _. refl) (subst (Among (named_covers t0 table h (kind_at t0 x) (cover t0 h (Slot s.0 s.1 (Some x))))) (sym covers)
-                    (named_first t0 table h (kind_at t0 x) (cover t0 h (Slot s.0 s.1 (Some x)))
-                    (λ can. absurd (false≢true (sym stays ∙ ap (can_move table h) (slot_then s x then) ∙ can)))))
-
-            -- it came there
-            away : (look t0 s.0 s.1 ≡ Some x → ⊥) → Hit (Slot s.0 s.1 (Some x))
-            away never = elim (file_under table t0 h well0 stand u k s x e other) [
-              | inl fixed ↦ absurd (never fixed.0)
-              | inr came ↦ from came.1 came.0.origin
-            ]
-              where
-                from : Among (file_covers t0 table h) (row_cover u h s x) → Origin table t0 h well0 stand x → Hit (Slot s.0 s.1 (Some x))
-                from a (stood r at can) = by_move r at (λ e. absurd (never e)) can a
-                from a (linked r at plain can) =
-                    here r at (λ e. absurd (never e)) (named_linked t0 table h (kind_at t0 x) (cover t0 h (Slot r.0 r.1 (Some x))) (cover u h (Slot s.0 s.1 (Some x)))
-                    (ap (can_link table h (kind_at t0 x)) (sym (slot_then r x plain)) ∙ can)
-                    (subst (Among (file_covers t0 table h)) (slot_of s x other) a))
-                from a (since after) = absurd (omega (arith, below, after))
-
-            by : (o : Option ℕ) → look t0 s.0 s.1 ≡ o → Hit (Slot s.0 s.1 (Some x))
-            by None is = away (λ e. Some≢None x (sym e ∙ is))
-            by (Some y) is = elim (y == x) as (λ b. (y == x) ≡ b → Hit (Slot s.0 s.1 (Some x))) [
-              | true ↦ λ same. at_home (is ∙ ap Some (eqb-true y x same))
-              | false ↦ λ differs. away (λ e. false≢true (sym differs ∙ eq-eqb y x (same_Some y x (sym is ∙ e))))
-            ] refl
+        hit_old below =
+            let home = home_of s x e other below in
+            hit_row home.row s x home.at home.own (k.old x below lives) other followed parts.may parts.covered parts.kind home.under
 
         hit_young : t0.next ≤ x → Known table t0 h well0 stand u x → Hit (Slot s.0 s.1 (Some x))
         hit_young from known = by known.made known.kinds known.can
           where
             a : Among (file_covers t0 table h) (cover u h (Slot s.0 s.1 (Some x)))
-            a = elim (file_under table t0 h well0 stand u k s x e other) [
-              | inl fixed ↦ (let below = below_next t0 h well0 x (row_says t0 s0 s x fixed.0).2 in absurd (omega arith))
-              | inr came ↦ subst (Among (file_covers t0 table h)) (slot_of s x other) came.1
-            ]
+            a = young_cover_at s x e other from
 
             edits : may_edit table h ≡ true
             edits = edits_if_young x from lives

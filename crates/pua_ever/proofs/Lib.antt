@@ -12,6 +12,7 @@ pub mod Unedited
 pub mod KindFaults
 pub mod ExecCalls
 pub mod Ending
+pub mod Starting
 pub mod Complete
 pub mod Now
 pub mod NoExec

@@ -12,7 +12,7 @@ use Rattle.pua_calls.specs.Promises.{holds, creating}
 use Rattle.pua_calls.specs.Calls.{CallTable, table_by_rules, rule_of, ending_of, last_of}
 use Rattle.pua_calls.specs.declared.rules.Rules.{Rules}
 use Rattle.pua_policy.specs.History.{History, perms_kept, is_ended}
-use Rattle.pua_policy.specs.Verdict.{verdict_of}
+use Rattle.pua_policy.specs.Verdict.{IsProg, cover, covered_verdict, verdict_of}
 use Rattle.pua_policy.specs.declared.answer.Verdict.TheVariants.{Allowed}
 use Rattle.pua_calls.specs.declared.call.Call.{Call}
 use Rattle.pua_calls.specs.declared.call.Call.TheVariants as call
@@ -28,7 +28,7 @@ use Rattle.pua_script.specs.Tightening.{NoCallNeedsError, Tightens}
 use Rattle.pua_script.specs.Confinement.{TreesAlong}
 use Rattle.pua_script.specs.Bytes.{are_in_bytes}
 use Rattle.pua_objects.specs.Objects.{At, Others, Line, objects, own_way}
-use Rattle.pua_ever.specs.Ever.{NewDir, NewOthers, NewFile, NewLink, Thing, Stands, Comes, EverLine, ever}
+use Rattle.pua_ever.specs.Ever.{NewDir, NewOthers, NewFile, NewLink, Thing, Stands, Comes, EverLine, turning_calls, ever}
 
 -- the five calls that make a name or take one away need `c`, and so do both names of rename and the new one of
 -- link: its old name stays, whatever it needs
@@ -124,6 +124,25 @@ WithoutExec =
     IsTrue (members_alone table w asks (process ∷ [])) → NoLineHasExec w.tree table now →
     IsTrue (none_done is_exec table w asks (process ∷ []))
 
+-- over a later tree: whatever path names a file on which exec would be allowed by a history, were it a program. It has a
+-- line: that of a file of then has exec where it has a call by which the file can come to be a program, and that of a new
+-- file has it in any case
+pub record IsStartForeseen (t : Tree) (table : CallTable) (h : History) (later : Tree) (object : Found) : Type 0 where
+  pub thing : Thing
+  pub about : IsLineOf t later h thing object
+  pub turned : (line : EverLine) → Contains (ever t table h) line → line.thing ≡ thing →
+      (turning : Call) → Contains turning_calls turning → Contains line.calls turning → Contains line.calls call.Exec
+  pub made : thing ≡ Comes NewFile →
+      (line : EverLine) × Contains (ever t table h) line × (line.thing ≡ Comes NewFile) × Contains line.calls call.Exec
+
+abbrev pub ForeseesStarts : Tree → CallTable → History → Tree → History → Type 0
+ForeseesStarts t table now later last =
+    (from : ℕ) (text : List ℕ) (dir : ℕ) (name : List ℕ) (node : ℕ) →
+    resolution_of_text later from (ending_of call.Exec) text (last_of call.Exec) ≡ Ok (Slot dir name (Some node)) →
+    kind_at later node ≡ Some kind.File →
+    covered_verdict later table last call.Exec (cover later last (Slot dir name (Some node))) IsProg ≡ Allowed →
+    IsStartForeseen t table now later (Slot dir name (Some node))
+
 -- several processes that act together: each has the veils of a history, no promise beyond it but `error`,
 -- and is ended where that is. Such are a process and those that it forked before now, if none has put a
 -- veil since
@@ -184,6 +203,17 @@ EverBeside =
     (member : ℕ) → IsTrue (is_member (family table w asks members) member) →
     let after = world_after table w asks in
     HasHistoryOf after member (Foresees w.tree table now after.tree)
+
+-- so where a kernel makes programs of what they make, write or set the mode of, it starts none whose line has no exec
+abbrev pub StartsForeseen : Type 0
+StartsForeseen =
+    (table : CallTable) → NoCallNeedsError table → EditsNeedC table →
+    (w : World) (asks : List Asked) (members : List ℕ) (now : History) →
+    ActsWithin w now members → VeilsStand w.tree now → TreesAlong table w asks →
+    IsTrue (none_done is_exec table w asks members) → MembersEdit table w asks members →
+    (member : ℕ) → IsTrue (is_member (family table w asks members) member) →
+    let after = world_after table w asks in
+    HasHistoryOf after member (ForeseesStarts w.tree table now after.tree)
 
 -- each veil of each process stands on a number that was given: so it is in each world that a replay leaves
 abbrev pub PlacesStand : World → Type 0

@@ -4,19 +4,22 @@ ghost use Rattle.pua_ever.specs.Examples.{EverRows, MovedRows, StartedRows};
 ghost use Rattle.pua_ever.specs.Laws.{EverAfterRead, EverAsRead, EverBeside, EverComplete, EverOfMany};
 ghost use Rattle.pua_ever.specs.Laws.{EverWithExecs};
 ghost use Rattle.pua_ever.specs.Laws.{NowWithinEver};
-ghost use Rattle.pua_ever.specs.Laws.{NewPlacesStand, ReplaysKeepPlaces, RulesEditByC, WithoutExec};
+ghost use Rattle.pua_ever.specs.Laws.{NewPlacesStand, ReplaysKeepPlaces, RulesEditByC};
+ghost use Rattle.pua_ever.specs.Laws.{StartsForeseen, WithoutExec};
 
 /// Whatever a process that can put no veil any more and what it forks ask for, as long as nobody else
 /// changes the tree and no exec of theirs succeeds: if a call of one of them is then allowed on what a path
 /// names, the line of that thing in the list of the beginning has the call. So it is of several processes
 /// with the same veils, of execs that let them do no more, and behind a listing and a script as a command
-/// reads them. Where no line has an exec, none can succeed.
+/// reads them. Where no line has an exec, none can succeed; and a file that is made, or that a call of
+/// its line can make a program, has exec in its line wherever it could be started, were it one.
 pub fn ever_law()
     ensures complete { EverComplete }
     ensures many { EverOfMany }
     ensures beside { EverBeside }
     ensures execs { EverWithExecs }
     ensures exec { WithoutExec }
+    ensures starts { StartsForeseen }
     ensures read { EverAsRead }
     ensures after_read { EverAfterRead }
 {}
