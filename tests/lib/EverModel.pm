@@ -33,6 +33,7 @@ sub lines {
     $ever->{dirs} = [ sort { $a <=> $b } grep { $model->{kind}{$_} eq 'dir' } keys %{ $model->{kind} } ];
     $ever->{edits} = grep { $ever->_promises($_) } @EDITS, 'new name of rename', 'new name of link';
     $ever->{links} = $ever->_promises('old name of link') && $ever->_promises('new name of link');
+    $ever->{renames} = $ever->_promises('old name of rename') && $ever->_promises('new name of rename');
     $ever->_find_covers;
     return ($ever->_lines_in(0), map { $ever->_new_line($_) } @NEW);
 }
@@ -43,10 +44,19 @@ sub _find_covers {
     my ($ever) = @_;
     my @names = map { $_->{letters} } grep { $ever->_is_open($_) } $ever->_veiled;
     $ever->{dir_covers} = [ map { $ever->_cover_of_dir($_) } grep { $ever->_is_way_in($_) } @{ $ever->{dirs} } ];
-    my $some = grep { _has_c($ever->_cover_of_dir($_)) } @{ $ever->{dirs} };
+    my @open = grep { _has_c($_) } map { $ever->_cover_of_dir($_) } @{ $ever->{dirs} };
+    my $some = grep { $ever->_can_move($_) } @open;
     $ever->{name_covers} = \@names;
-    $ever->{file_covers} = [ @names, $some ? @{ $ever->{dir_covers} } : () ];
+    $ever->{file_covers} = [ @names, @open, $some ? @{ $ever->{dir_covers} } : () ];
     return;
+}
+
+# Whether what has such a cover can be moved.
+sub _can_move {
+    my ($ever, $cover) = @_;
+    return $ever->{renames}
+        && _has_c($cover)
+        && !Model::_lacking($ever->{model}{needs}{'old name of rename'}[1], $cover);
 }
 
 sub _has_c { return defined $_[0] && $_[0] =~ /c/ }
@@ -128,14 +138,14 @@ sub _is_below {
 sub _covers_of_dir {
     my ($ever, $dir) = @_;
     my $cover = $ever->_cover_of_dir($dir);
-    my $moves = $ever->{edits} && !exists $ever->{process}{letters}{$dir} && _has_c($cover);
+    my $moves = !exists $ever->{process}{letters}{$dir} && $ever->_can_move($cover);
     return $moves ? @{ $ever->{dir_covers} } : $cover;
 }
 
 sub _covers_of_name {
     my ($ever, $found, $kind) = @_;
     my $cover = $ever->{model}->_cover($ever->{process}, $found);
-    return @{ $ever->{file_covers} } if $ever->{edits} && _has_c($cover);
+    return @{ $ever->{file_covers} } if $ever->_can_move($cover);
     return ($cover, $ever->_can_link($cover, $kind) ? @{ $ever->{file_covers} } : ());
 }
 
@@ -158,10 +168,13 @@ sub _promises {
     return 0;
 }
 
-# The line of something, if a call can be allowed on it under one of some covers.
+# The line of something, if a call can be allowed on it under one of some covers. A file that can be written, or have
+# its mode set, and one that is new can be made a program: so exec, the last of the calls, is that of a program then.
 sub _line {
     my ($ever, $kind, $path, $is, @covers) = @_;
     my @calls = grep { $ever->_is_allowed($_, $is, @covers) } @Model::CALLS;
+    my $turns = $is eq 'file' && ($path eq 'new' || grep { /\A(?:open-w|open-rw|create|chmod)\z/ } @calls);
+    push @calls, 'exec' if $turns && $ever->_is_allowed('exec', 'prog', @covers);
     return @calls ? "$kind $path " . join(',', @calls) : ();
 }
 

@@ -1,16 +1,18 @@
 -- What is known of each row stays known over a list of requests of a family.
-use Rattle.pua_ever.proofs.Common.{◌≡◌, ℕ, List, [], ◌∷◌, true, false, sym, ap, ◌∙◌, inl, inr, None, Ok, not, ◌&&◌, ◌||◌, is_none}
-use Rattle.pua_ever.proofs.Common.{and_parts, and_from, not-true, Tree, WellFormed, Spot, is_dir, kind_at, has_no_row, empty_tree}
+use Rattle.pua_ever.proofs.Common.{◌≡◌, ◌⊎◌, subst, ℕ, List, [], ◌∷◌, true, false, sym, ap, ◌∙◌, inl, inr, None, Ok, not, ◌&&◌, ◌||◌, is_none}
+use Rattle.pua_ever.proofs.Common.{and_parts, and_from, Tree, WellFormed, Spot, is_dir, kind_at, has_no_row, empty_tree}
 use Rattle.pua_ever.proofs.Common.{is_link_kind, Found, Whole, Slot, Top, CallTable, is_kept, History, may_any, IsMissing, cover}
-use Rattle.pua_ever.proofs.Common.{cover_fault, covered_verdict, is_allowed, Asked, World, apply, world_after, is_member, is_exec, is_done}
-use Rattle.pua_ever.proofs.Common.{none_done, members_alone, family_then, NoCallNeedsError, TreesAlong, has_c, IsWithin, verdicts_within}
-use Rattle.pua_ever.proofs.Common.{Members, members_then, first_tree, cover_in, covers_descend, is_yes, New, NewDir, NewOthers, NewFile}
-use Rattle.pua_ever.proofs.Common.{NewLink, maker, EditsNeedC, VeilsStand}
+use Rattle.pua_ever.proofs.Common.{cover_fault, covered_verdict, is_allowed, Asked, World, apply, world_after, is_member}
+use Rattle.pua_ever.proofs.Common.{family_then, NoCallNeedsError, TreesAlong, has_c, IsWithin, verdicts_within}
+use Rattle.pua_ever.proofs.Common.{Members, first_tree, cover_in, covers_descend, is_yes, New, NewDir, NewOthers, NewFile}
+use Rattle.pua_ever.proofs.Common.{NewLink, maker, EditsNeedC, VeilsStand, Cover, can_move, may_rename}
 use Rattle.pua_calls.specs.declared.call.Call.TheVariants as call
 use Rattle.pua_script.specs.Confinement.{object_in}
 use Rattle.pua_script.proofs.ForCallers.{same_cover}
 use Rattle.pua_script.proofs.ForCallers.{each_spares, by_other}
 use Rattle.pua_ever.specs.Ever.{may_link}
+use Rattle.pua_ever.specs.Laws.{MembersEdit, NoExecLoosens}
+use Rattle.pua_ever.proofs.Execs.{members_still}
 use Rattle.pua_ever.proofs.Grown.{Grown, Written, by_name, by_turn, From, is_new, is_moved, is_linked, Put, Born, name_cover}
 use Rattle.pua_ever.proofs.Growing.{takes, requests_grow}
 use Rattle.pua_ever.proofs.Origins.{Stays}
@@ -47,9 +49,20 @@ module _ (table : CallTable) (sound : NoCallNeedsError table) (now a : History) 
         (yes_before table sound now a within table.link.old.needs.alternatives sound.link.0 two.0)
         (yes_before table sound now a within table.link.new.needs.alternatives sound.link.1 two.1)
 
+    -- and so it is of who may rename
+    move_within : (left : Cover) → can_move table a left ≡ true → can_move table now left ≡ true
+    move_within left can =
+        let parts = and_parts (may_rename table a) _ can in
+        let two = and_parts (is_yes (may_any a table.rename.old.needs.alternatives)) _ parts.0 in
+        and_from (may_rename table now) _
+        (and_from (is_yes (may_any now table.rename.old.needs.alternatives)) _
+        (yes_before table sound now a within table.rename.old.needs.alternatives sound.rename.0 two.0)
+        (yes_before table sound now a within table.rename.new.needs.alternatives sound.rename.1 two.1)) parts.1
+
     from_within : (x : ℕ) → From table t a x → From table t now x
     from_within x (is_new e) = is_new e
-    from_within x (is_moved r e has) = is_moved r e (ap has_c (sym (same (object_in t r x))) ∙ has)
+    from_within x (is_moved r e can) =
+        is_moved r e (ap (can_move table now) (sym (same (object_in t r x))) ∙ move_within (cover t a (object_in t r x)) can)
     from_within x (is_linked r e plain can) =
         let parts = and_parts (may_link table a) _ can in
         is_linked r e plain
@@ -86,20 +99,23 @@ module _ (table : CallTable) (sound : NoCallNeedsError table) (now a : History) 
 module _ (table : CallTable) (sound : NoCallNeedsError table) (needs : EditsNeedC table) (t0 : Tree) (now : History) (well0 : WellFormed t0)
     (stand : VeilsStand t0 now) where
   pub stays_along : (asks : List Asked) (w : World) (members : List ℕ) → Members w members now false →
-      none_done is_exec table w asks members ≡ true
-      → members_alone table w asks members ≡ true → TreesAlong table w asks → Stays table t0 now well0 stand w.tree →
+      NoExecLoosens table now w asks members
+      → MembersEdit table w asks members → TreesAlong table w asks → Stays table t0 now well0 stand w.tree →
       Stays table t0 now well0 stand (world_after table w asks).tree
-  stays_along [] w members are none alone trees k = k
-  stays_along (ask ∷ asks) w members are none alone trees k =
-      let asked = and_parts (is_member members ask.process) _ alone in
-      let parts = and_parts (not (is_done is_exec table w ask members)) _ none in
-      let asker = are ask.process asked.0 in
-      let after = (apply table w ask).1 in
-      let well = first_tree table after asks trees.1 in
-      let spared = by_other asker.0 now asker.2.within.tightens.unveils w.tree after.tree
-      (each_spares table (takes table needs) w ask asker.0 trees.0 well asker.1) in
-      let grown = grown_within table sound now asker.0 asker.2.within w.tree trees.0 after.tree
-      (requests_grow table needs w ask asker.0 trees.0 asker.1) in
-      stays_along asks after (family_then table w ask members)
-      (members_then table now w ask members false are (not-true (is_done is_exec table w ask members) parts.0)) parts.1 asked.1 trees.1
-      (stays_then table t0 now well0 stand w.tree after.tree k well grown spared)
+  stays_along [] w members are none edit trees k = k
+  stays_along (ask ∷ asks) w members are none edit trees k =
+      stays_along asks (apply table w ask).1 (family_then table w ask members)
+      (members_still table now w ask members are none.0) none.1 edit.1 trees.1 (step edit.0)
+    where
+      step : (is_member members ask.process ≡ true) ⊎ ((apply table w ask).1.tree ≡ w.tree) →
+          Stays table t0 now well0 stand (apply table w ask).1.tree
+      step (inl belongs) =
+          let asker = are ask.process belongs in
+          let after = (apply table w ask).1 in
+          let well = first_tree table after asks trees.1 in
+          let spared = by_other asker.0 now asker.2.within.tightens.unveils w.tree after.tree
+          (each_spares table (takes table needs) w ask asker.0 trees.0 well asker.1) in
+          let grown = grown_within table sound now asker.0 asker.2.within w.tree trees.0 after.tree
+          (requests_grow table needs w ask asker.0 trees.0 asker.1) in
+          stays_then table t0 now well0 stand w.tree after.tree k well grown spared
+      step (inr same) = subst (Stays table t0 now well0 stand) (sym same) k

@@ -2,22 +2,39 @@
 use Rattle.pua_ever.proofs.Common.{◌≡◌, ◌⊎◌, ℕ, List, [], ◌∷◌, Bool, true, false, refl, ap, inl, inr, Tree, CallTable, History, verdict_of}
 use Rattle.pua_ever.proofs.Common.{is_allowed, allowed_is, Asked, World, world_after, verdicts_within, false≢true, is_member, is_exec}
 use Rattle.pua_ever.proofs.Common.{none_done, members_alone, NoCallNeedsError, TreesAlong, Members, first_tree, may_edit, EditsNeedC}
-use Rattle.pua_ever.proofs.Common.{VeilsStand}
+use Rattle.pua_ever.proofs.Common.{VeilsStand, and_parts, apply, family_then, history_of, Some}
+use Rattle.pua_script.specs.Laws.{IsConfined}
 use Rattle.pua_path.specs.Resolution.{resolution_of_text}
 use Rattle.pua_calls.specs.Calls.{ending_of, last_of}
 use Rattle.pua_script.specs.Family.{family, HasHistoryOf}
-use Rattle.pua_script.proofs.ForCallers.{begins, members_after, at_all}
-use Rattle.pua_ever.specs.Laws.{EverComplete, EverOfMany, Foresees}
+use Rattle.pua_script.proofs.ForCallers.{begins, at_all}
+use Rattle.pua_ever.specs.Laws.{EverBeside, EverComplete, EverOfMany, EverWithExecs, Foresees, MembersEdit, NoExecLoosens, StartsForeseen}
+use Rattle.pua_ever.proofs.Common.{◌∙◌, sym, cover, cover_fault, Found, is_yes, may_any, May, named_within_text, object_fault, resolutions_fit}
+use Rattle.pua_ever.proofs.Common.{rule_of, Slot}
+use Rattle.pua_calls.specs.declared.call.Call.TheVariants as call
+use Rattle.pua_policy.specs.Verdict.{IsProg}
+use Rattle.pua_policy.specs.declared.answer.May.TheVariants as may
+use Rattle.pua_script.proofs.ForCallers.{same_cover}
+use Rattle.pua_ever.proofs.Execs.{members_along, none_loosens}
 use Rattle.pua_ever.proofs.Origins.{at_first}
 use Rattle.pua_ever.proofs.Along.{stays_along}
-use Rattle.pua_ever.proofs.Unedited.{unedited_along}
-use Rattle.pua_ever.proofs.Ending.{foreseen}
+use Rattle.pua_ever.proofs.Unedited.{unedited_along, yes_before}
+use Rattle.pua_ever.proofs.Ending.{foreseen, parts_of}
+use Rattle.pua_ever.proofs.Starting.{start_foreseen}
+
+-- who asks alone edits alone
+edits_alone : (table : CallTable) (asks : List Asked) (w : World) (members : List ℕ) → members_alone table w asks members ≡ true →
+    MembersEdit table w asks members
+edits_alone table [] w members alone = tt
+edits_alone table (ask ∷ asks) w members alone =
+    let parts = and_parts (is_member members ask.process) _ alone in
+    (inl parts.0, edits_alone table asks (apply table w ask).1 (family_then table w ask members) parts.1)
 
 -- of any members within a history
 complete_within : (table : CallTable) → NoCallNeedsError table → EditsNeedC table →
     (w : World) (asks : List Asked) (members : List ℕ) (now : History) →
-    Members w members now false → VeilsStand w.tree now → TreesAlong table w asks → none_done is_exec table w asks members ≡ true →
-    members_alone table w asks members ≡ true →
+    Members w members now false → VeilsStand w.tree now → TreesAlong table w asks → NoExecLoosens table now w asks members →
+    MembersEdit table w asks members →
     (member : ℕ) → is_member (family table w asks members) member ≡ true →
     HasHistoryOf (world_after table w asks) member (Foresees w.tree table now (world_after table w asks).tree)
 complete_within table sound needs w asks members now are stand trees none alone member belongs =
@@ -25,7 +42,7 @@ complete_within table sound needs w asks members now are stand trees none alone 
     let u = (world_after table w asks).tree in
     let k = stays_along table sound needs w.tree now well stand asks w members are none alone trees (at_first table w.tree now well stand)
     in
-    let last = members_after table now asks w members false are none member belongs in
+    let last = members_along table now asks w members are none member belongs in
     let edit : (may_edit table now ≡ true) ⊎ (u ≡ w.tree) =
     by (may_edit table now) refl (λ lacks. unedited_along table sound now lacks asks w members are none alone) in (
       last.0,
@@ -40,14 +57,71 @@ complete_within table sound needs w asks members now are stand trees none alone 
     by true is same = inl is
     by false is same = inr (same is)
 
+pub beside_one : (table : CallTable) → NoCallNeedsError table → EditsNeedC table →
+    (w : World) (asks : List Asked) (process : ℕ) (now : History) →
+    history_of w process ≡ Some now → IsConfined now → VeilsStand w.tree now → TreesAlong table w asks →
+    none_done is_exec table w asks (process ∷ []) ≡ true → MembersEdit table w asks (process ∷ []) →
+    (member : ℕ) → is_member (family table w asks (process ∷ [])) member ≡ true →
+    HasHistoryOf (world_after table w asks) member (Foresees w.tree table now (world_after table w asks).tree)
+beside_one table sound needs w asks process now here confined stand trees none edit member belongs =
+    complete_within table sound needs w asks (process ∷ []) now (at_all w (process ∷ []) now (begins table now w process here confined))
+    stand trees (none_loosens table now asks w (process ∷ []) none) edit member belongs
+
 pub ever_complete : EverComplete
 ever_complete table sound needs w asks process now here confined stand trees none alone member belongs =
-    complete_within table sound needs w asks (process ∷ []) now (at_all w (process ∷ []) now (begins table now w process here confined))
-    stand trees none alone member belongs
+    beside_one table sound needs w asks process now here confined stand trees none (edits_alone table asks w (process ∷ []) alone) member
+    belongs
 
-pub ever_of_many : EverOfMany
-ever_of_many table sound needs w asks members now acts stand trees none alone member belongs =
+pub ever_with_execs : EverWithExecs
+ever_with_execs table sound needs w asks members now acts stand trees none edit member belongs =
     complete_within table sound needs w asks members now
     (λ m belongs. let one = acts m belongs in
     (one.0, one.1, record { within = record { tightens = one.2.0; ended = one.2.1 }; dir = λ e. absurd (false≢true e) }))
-    stand trees none alone member belongs
+    stand trees none edit member belongs
+
+pub ever_beside : EverBeside
+ever_beside table sound needs w asks members now acts stand trees none edit member belongs =
+    ever_with_execs table sound needs w asks members now acts stand trees (none_loosens table now asks w members none) edit member belongs
+
+pub ever_of_many : EverOfMany
+ever_of_many table sound needs w asks members now acts stand trees none alone member belongs =
+    ever_beside table sound needs w asks members now acts stand trees none (edits_alone table asks w members alone) member belongs
+
+yes_is : (m : May) → is_yes m ≡ true → m ≡ may.Yes
+yes_is may.Yes e = refl
+yes_is may.Enosys e = absurd (false≢true e)
+yes_is may.Death e = absurd (false≢true e)
+
+pub starts_foreseen : StartsForeseen
+starts_foreseen table sound needs w asks members now acts stand trees none edit member belongs =
+    let are : Members w members now false = λ m belongs. let one = acts m belongs in
+    (one.0, one.1, record { within = record { tightens = one.2.0; ended = one.2.1 }; dir = λ e. absurd (false≢true e) }) in
+    let loosens = none_loosens table now asks w members none in
+    let well = first_tree table w asks trees in
+    let u = (world_after table w asks).tree in
+    let k = stays_along table sound needs w.tree now well stand asks w members are loosens edit trees (at_first table w.tree now well stand)
+    in
+    let last = members_along table now asks w members are loosens member belongs in
+    let edits : (may_edit table now ≡ true) ⊎ (u ≡ w.tree) =
+    by (may_edit table now) refl (λ lacks. unedited_along table sound now lacks asks w members are loosens edit) in (
+      last.0,
+      last.1,
+      λ from text dir name x named kinds allowed.
+          let object : Found = Slot dir name (Some x) in
+          let found = (resolutions_fit u k.well).whole from (ending_of call.Exec) text (last_of call.Exec) object
+          (named_within_text u from (ending_of call.Exec) text (last_of call.Exec) object named) in
+          let needed = rule_of table call.Exec in
+          let parts = parts_of (may_any last.0 needed.alternatives) (cover_fault (cover u last.0 object) needed.perms)
+          (object_fault u call.Exec IsProg) allowed in
+          start_foreseen table w.tree now well stand u k edits dir name x found.named.1 kinds (record {
+            may = yes_is (may_any now needed.alternatives)
+                (yes_before table sound now last.0 last.2.within needed.alternatives (sound.calls call.Exec) (ap is_yes parts.may));
+            covered = ap (λ left. cover_fault left needed.perms) (sym (same_cover last.0 now last.2.within.tightens.unveils u object)) ∙
+                parts.covered;
+            kind = parts.kind;
+          }),
+    )
+  where
+    by : {u t : Tree} (b : Bool) → may_edit table now ≡ b → (may_edit table now ≡ false → u ≡ t) → (may_edit table now ≡ true) ⊎ (u ≡ t)
+    by true is same = inl is
+    by false is same = inr (same is)

@@ -7,11 +7,11 @@ use Rattle.pua_ever.proofs.Common.{empty_tree, Kind, sound_from, row_says, row_o
 use Rattle.pua_ever.proofs.Common.{IsNotEmpty, Followed, Way, Named, Top, Dot, DotDot, Found, Whole, Slot, resolutions_fit, CallTable}
 use Rattle.pua_ever.proofs.Common.{calls, rule_of, keeps_link, is_kept, History, perms_kept, veils, may_any, Object, IsDir, IsMissing}
 use Rattle.pua_ever.proofs.Common.{object_of_kind, object_fault, cover, cover_fault, or_fault, allowed_unless, if_promised, covered_verdict}
-use Rattle.pua_ever.proofs.Common.{verdict_of, is_allowed, Call, Cover, May, has_c, Word, Subject, At, Others, Item, items, cover_in}
+use Rattle.pua_ever.proofs.Common.{verdict_of, is_allowed, Call, Cover, May, Word, Subject, At, Others, Item, items, cover_in}
 use Rattle.pua_ever.proofs.Common.{own_or, Among, among_left, among_right, among_map, among_filter, contained, covers_descend}
-use Rattle.pua_ever.proofs.Common.{named_within_text, row_cover, is_free, can_empty, dir_covers, file_covers, may_edit, can_link}
+use Rattle.pua_ever.proofs.Common.{named_within_text, row_cover, is_free, can_empty, dir_covers, file_covers, may_edit, can_link, can_move}
 use Rattle.pua_ever.proofs.Common.{removable_dir, is_named_way, is_allowed_under, ever_line, New, NewDir, NewOthers, NewFile, NewLink}
-use Rattle.pua_ever.proofs.Common.{can_make, Stands, Comes, EverLine, subjects_of, all_new, new_line, has_ever_calls, ever, VeilsStand}
+use Rattle.pua_ever.proofs.Common.{same_Some, eqb-true, can_make, Stands, Comes, EverLine, subjects_of, all_new, new_line, has_ever_calls, ever, VeilsStand}
 use Rattle.std.specs.Prelude.{◌∷◌}
 use Rattle.pua_tree.specs.declared.node.Kind.TheVariants as kind
 use Rattle.pua_tree.proofs.ForCallers.{Sound}
@@ -21,7 +21,7 @@ use Rattle.pua_path.specs.declared.errno.Errno.{Errno}
 use Rattle.pua_path.specs.declared.found.Last.{Last}
 use Rattle.pua_path.specs.declared.found.Last.TheVariants.{Kept}
 use Rattle.pua_calls.specs.Calls.{ending_of, last_of}
-use Rattle.pua_policy.specs.Verdict.{IsFile, IsLink, rmdir_fault}
+use Rattle.pua_policy.specs.Verdict.{IsFile, IsProg, IsLink, rmdir_fault}
 use Rattle.pua_policy.specs.Verdict.{verdict}
 use Rattle.pua_calls.specs.declared.call.Call.TheVariants as call
 use Rattle.pua_policy.specs.declared.place.Place.TheVariants as place
@@ -33,17 +33,17 @@ use Rattle.pua_objects.proofs.ForCallers.{named_by_row}
 use Rattle.pua_objects.proofs.ForCallers.{has_item, found_dir}
 use Rattle.pua_objects.proofs.ForCallers.{one_of_calls, some_of, failed}
 use Rattle.pua_ever.specs.Ever.{ever_covers, named_covers}
-use Rattle.pua_ever.specs.Ever.{covers_of, covers_of_dir, ever_object, ever_calls}
+use Rattle.pua_ever.specs.Ever.{can_allow, can_allow_new, covers_of, covers_of_dir, ever_object, ever_calls}
 use Rattle.pua_ever.specs.Ever.{new_covers, new_object, is_new_named, new_calls, Thing}
 use Rattle.pua_ever.specs.Ever.{names_to_free}
 use Rattle.pua_ever.specs.Laws.{IsLineOf, of_dir, of_new_dir, of_row, of_new_file, of_new_link, of_name, of_others}
 use Rattle.pua_ever.specs.Laws.{of_new_others, IsForeseen}
-use Rattle.pua_ever.proofs.Grown.{new_kind}
+use Rattle.pua_ever.proofs.Grown.{new_kind, moved_has_c}
 use Rattle.pua_ever.proofs.Ways.{any_among, way_by_c}
 use Rattle.pua_ever.proofs.Covers.{given_or_new, living_dir, below_next}
 use Rattle.pua_ever.proofs.KindFaults.{plain_alike, dir_as, dir_alike}
 use Rattle.pua_ever.proofs.Origins.{Origin, stood, linked, since, Known, Stays, DirUnder, at_rest, come, old_dir, dir_under, file_under}
-use Rattle.pua_ever.proofs.Origins.{could_empty, free_then}
+use Rattle.pua_ever.proofs.Origins.{could_empty, fixed_covered, free_then}
 
 one_new : (made : New) → Among all_new made
 one_new NewDir = inl refl
@@ -65,42 +65,52 @@ parts_of may.Enosys a b e = cc
 parts_of may.Death a b e = cc
 
 -- a cover that stays, or is among those that a thing can come under
-pub ever_first : (b : Bool) (now : Cover) (others : List Cover) → (has_c now ≡ true → Among others now) →
-    Among (ever_covers b now others) now
+pub ever_first : (b : Bool) (now : Cover) (others : List Cover) → (b ≡ true → Among others now) → Among (ever_covers b now others) now
 ever_first false now others some = inl refl
-ever_first true now others some = by (has_c now) refl
-  where
-    by : (b : Bool) → has_c now ≡ b → Among (ever_covers true now others) now
-    by true has = rw has (some has)
-    by false lacks = rw lacks (inl refl)
+ever_first true now others some = some refl
 
-ever_other : (b : Bool) (now : Cover) (others : List Cover) (c : Cover) → b ≡ true → has_c now ≡ true → Among others c →
-    Among (ever_covers b now others) c
-ever_other b now others c moves has a = rw (moves, has) a
+ever_other : (b : Bool) (now : Cover) (others : List Cover) (c : Cover) → b ≡ true → Among others c → Among (ever_covers b now others) c
+ever_other b now others c moves a = rw moves a
 
 -- the same of a file, program or link, which link can give a further name
 module _ (t : Tree) (table : CallTable) (h : History) (what : Option Kind) (now : Cover) where
   abbrev further : List Cover
-  further = cond (can_link table h what now) (file_covers t h) []
+  further = cond (can_link table h what now) (file_covers t table h) []
 
-  pub named_first : (has_c now ≡ true → Among (file_covers t h) now) → Among (named_covers t table h what now) now
-  named_first some = by (may_edit table h) (has_c now) refl
+  pub named_first : (can_move table h now ≡ true → Among (file_covers t table h) now) → Among (named_covers t table h what now) now
+  named_first some = by (can_move table h now) refl
     where
-      by : (a b : Bool) → has_c now ≡ b → Among (cond (a && b) (file_covers t h) (now ∷ further)) now
-      by true true has = some has
-      by true false lacks = inl refl
-      by false b has = inl refl
+      by : (b : Bool) → can_move table h now ≡ b → Among (cond b (file_covers t table h) (now ∷ further)) now
+      by true can = some can
+      by false stays = inl refl
 
-  pub named_moved : (c : Cover) → may_edit table h ≡ true → has_c now ≡ true → Among (file_covers t h) c →
+  pub named_moved : (c : Cover) → can_move table h now ≡ true → Among (file_covers t table h) c →
       Among (named_covers t table h what now) c
-  named_moved c edits has a = rw (edits, has) a
+  named_moved c can a = rw can a
 
-  pub named_linked : (c : Cover) → can_link table h what now ≡ true → Among (file_covers t h) c → Among (named_covers t table h what now) c
-  named_linked c can a = by (may_edit table h && has_c now)
+  pub named_linked : (c : Cover) → can_link table h what now ≡ true → Among (file_covers t table h) c →
+      Among (named_covers t table h what now) c
+  named_linked c can a = by (can_move table h now)
     where
-      by : (b : Bool) → Among (cond b (file_covers t h) (now ∷ further)) c
+      by : (b : Bool) → Among (cond b (file_covers t table h) (now ∷ further)) c
       by true = a
-      by false = inr (subst (λ (b : Bool). Among (cond b (file_covers t h) []) c) (sym can) a)
+      by false = inr (subst (λ (b : Bool). Among (cond b (file_covers t table h) []) c) (sym can) a)
+
+-- what is allowed on a thing as it is can be allowed on it
+pub can_from : (table : CallTable) (h : History) (covers : List Cover) (object : Object) (c : Call) →
+    is_allowed_under table h covers object c ≡ true → can_allow table h covers object c ≡ true
+can_from table h covers IsFile c e = or_left (is_allowed_under table h covers IsFile c) _ e
+can_from table h covers IsProg c e = e
+can_from table h covers IsLink c e = e
+can_from table h covers IsMissing c e = e
+can_from table h covers (IsDir dir way) c e = e
+
+can_new : (t : Tree) (table : CallTable) (h : History) (made : New) (c : Call) →
+    is_allowed_under table h (new_covers t table h made) (new_object made) c ≡ true → can_allow_new t table h made c ≡ true
+can_new t table h NewDir c e = e
+can_new t table h NewOthers c e = e
+can_new t table h NewFile c e = or_left (is_allowed_under table h (file_covers t table h) IsFile c) _ e
+can_new t table h NewLink c e = e
 
 module _ (table : CallTable) (t0 : Tree) (h : History) where
   -- the calls of a line
@@ -108,9 +118,10 @@ module _ (table : CallTable) (t0 : Tree) (h : History) where
       is_allowed_under table h (covers_of t0 table h subject) (ever_object t0 table h subject) c ≡ true →
       Among (ever_calls t0 table h subject) c
   calls_among subject c named allowed =
-      among_filter (λ c. is_named_by t0 c subject && is_allowed_under table h (covers_of t0 table h subject)
-      (ever_object t0 table h subject) c) calls c
-      (and_from (is_named_by t0 c subject) _ named allowed) (one_of_calls c)
+      among_filter (λ c. is_named_by t0 c subject && can_allow table h (covers_of t0 table h subject) (ever_object t0 table h subject) c)
+      calls c
+      (and_from (is_named_by t0 c subject) _ named
+      (can_from table h (covers_of t0 table h subject) (ever_object t0 table h subject) c allowed)) (one_of_calls c)
 
   -- a call is allowed under one of the covers
   pub under_one : (covers : List Cover) (object : Object) (c : Call) (left : Cover) → Among covers left →
@@ -181,22 +192,21 @@ module _ (table : CallTable) (t0 : Tree) (h : History) (well0 : WellFormed t0) (
       ) a (inr (among_map (λ s. (item.word, s)) (names_to_free t0 table h item.subject) subject b))
 
   new_among : (made : New) (c : Call) → may_edit table h ≡ true → can_make t0 table h made ≡ true → is_new_named made c ≡ true →
-      is_allowed_under table h (new_covers t0 h made) (new_object made) c ≡ true
+      is_allowed_under table h (new_covers t0 table h made) (new_object made) c ≡ true
       → Among (new_calls t0 table h made) c
   new_among made c edits can named allowed =
       let P : Bool → Type 0 =
-      λ b. Among (cond b (filter (λ call. is_new_named made call && is_allowed_under table h (new_covers t0 h made) (new_object made)
-      call) calls) []) c in
+      λ b. Among (cond b (filter (λ call. is_new_named made call && can_allow_new t0 table h made call) calls) []) c in
       subst P (sym (and_from (may_edit table h) _ edits can))
-      (among_filter (λ call. is_new_named made call && is_allowed_under table h (new_covers t0 h made) (new_object made) call) calls c
-      (and_from (is_new_named made c) _ named allowed) (one_of_calls c))
+      (among_filter (λ call. is_new_named made call && can_allow_new t0 table h made call) calls c
+      (and_from (is_new_named made c) _ named (can_new t0 table h made c allowed)) (one_of_calls c))
 
   module _ (u : Tree) (k : Stays table t0 h well0 stand u) (edit : (may_edit table h ≡ true) ⊎ (u ≡ t0)) (c : Call) where
     su : Sound u
     su = sound_from u k.well
 
     -- what is made is made by an edit
-    edits_if_young : (x : ℕ) → t0.next ≤ x → is_living u x ≡ true → may_edit table h ≡ true
+    pub edits_if_young : (x : ℕ) → t0.next ≤ x → is_living u x ≡ true → may_edit table h ≡ true
     edits_if_young x from lives = elim edit [
       | inl yes_edits ↦ yes_edits
       | inr same ↦ (let below = below_next t0 h well0 x (ap (λ v. is_living v x) (sym same) ∙ lives) in absurd (omega arith))
@@ -210,14 +220,14 @@ module _ (table : CallTable) (t0 : Tree) (h : History) (well0 : WellFormed t0) (
     ]
       where
         at_first : Among (covers_of_dir t0 table h d) (cover_in t0 h d)
-        at_first = ever_first (may_edit table h && is_none (perms_kept h (place.Dir d))) (cover_in t0 h d) (dir_covers t0 h)
-            (λ has. way_by_c t0 h d was has)
+        at_first = ever_first (is_none (perms_kept h (place.Dir d)) && can_move table h (cover_in t0 h d)) (cover_in t0 h d) (dir_covers t0 h)
+            (λ both. way_by_c t0 h d was (moved_has_c table h (cover_in t0 h d) (and_parts (is_none (perms_kept h (place.Dir d))) _ both).1))
 
         by : may_edit table h ≡ true → DirUnder table t0 h well0 stand u d → Among (covers_of_dir t0 table h d) (cover_in u h d)
         by edits (at_rest _ same) = subst (Among (covers_of_dir t0 table h d)) (sym same) at_first
         by edits (come a none had) =
-            ever_other (may_edit table h && is_none (perms_kept h (place.Dir d))) (cover_in t0 h d) (dir_covers t0 h) (cover_in u h d)
-            (and_from (may_edit table h) _ edits (ap is_none none)) (had was) a
+            ever_other (is_none (perms_kept h (place.Dir d)) && can_move table h (cover_in t0 h d)) (cover_in t0 h d) (dir_covers t0 h)
+            (cover_in u h d) (and_from (is_none (perms_kept h (place.Dir d))) _ (ap is_none none) (had was)) a
 
     young_cover : (d : ℕ) → is_dir u d ≡ true → t0.next ≤ d → Among (dir_covers t0 h) (cover_in u h d)
     young_cover d is from = by (dir_under table t0 h well0 stand u k d is)
@@ -317,14 +327,14 @@ module _ (table : CallTable) (t0 : Tree) (h : History) (well0 : WellFormed t0) (
     slot_then s x other = ap (λ b. cover t0 h (cond b (Whole x (Named s.0 s.1)) (Slot s.0 s.1 (Some x)))) other
 
     -- a line of a row of the beginning, under a cover that its thing can come under
-    hit_row : (r : Spot) (s : Spot) (x : ℕ) → look t0 r.0 r.1 ≡ Some x → node_at u x ≡ node_at t0 x → is_dir u x ≡ false →
+    hit_row : (r : Spot) (s : Spot) (x : ℕ) → look t0 r.0 r.1 ≡ Some x → (look t0 s.0 s.1 ≡ Some x → r ≡ s) → node_at u x ≡ node_at t0 x → is_dir u x ≡ false →
         (last_of c ≡ Followed → is_link u (Slot s.0 s.1 (Some x)) ≡ false)
         → may_any h (rule_of table c).alternatives ≡ may.Yes →
         cover_fault (cover u h (Slot s.0 s.1 (Some x))) (rule_of table c).perms ≡ None →
         object_fault u c (object_of_kind (kind_at u x)) ≡ None
         → Among (named_covers t0 table h (kind_at t0 x) (cover t0 h (Slot r.0 r.1 (Some x)))) (cover u h (Slot s.0 s.1 (Some x))) →
         Hit (Slot s.0 s.1 (Some x))
-    hit_row r s x at same other followed granted covered fine a =
+    hit_row r s x at own same other followed granted covered fine a =
         let same_kind : kind_at u x ≡ kind_at t0 x = ap (option_map (λ n. n.kind)) same in
         let other_then : is_dir t0 x ≡ false = sym (same_dir t0 u x same) ∙ other in
         let fits : FoundFits t0 (Slot r.0 r.1 (Some x)) =
@@ -340,8 +350,84 @@ module _ (table : CallTable) (t0 : Tree) (h : History) (well0 : WellFormed t0) (
               (under_one table t0 h (covers_of t0 table h subject) (ever_object t0 table h subject) c (cover u h (Slot s.0 s.1 (Some x))) a
               granted covered
               (ap (λ o. object_fault empty_tree c (object_of_kind o)) (sym same_kind) ∙ sym (plain_alike u c (kind_at u x)) ∙ fine)));
-          about = of_row r at;
+          about = of_row r at own;
         }
+
+    -- the row of the beginning whose line a file, program or link has, and that its cover of now is one that it can come under
+    pub record HomeOf (s : Spot) (x : ℕ) : Type 0 where
+      pub row : Spot
+      pub at : look t0 row.0 row.1 ≡ Some x
+      pub own : look t0 s.0 s.1 ≡ Some x → row ≡ s
+      pub under : Among (named_covers t0 table h (kind_at t0 x) (cover t0 h (Slot row.0 row.1 (Some x)))) (cover u h (Slot s.0 s.1 (Some x)))
+
+    pub home_of : (s : Spot) (x : ℕ) → look u s.0 s.1 ≡ Some x → is_dir u x ≡ false → x < t0.next → HomeOf s x
+    home_of s x e other below = by (look t0 s.0 s.1) refl
+      where
+        lives : is_living u x ≡ true
+        lives = (row_says u su s x e).2
+
+        same : node_at u x ≡ node_at t0 x
+        same = k.old x below lives
+
+        then : is_dir t0 x ≡ false
+        then = sym (same_dir t0 u x same) ∙ other
+
+        here : (r : Spot) → look t0 r.0 r.1 ≡ Some x → (look t0 s.0 s.1 ≡ Some x → r ≡ s) →
+            Among (named_covers t0 table h (kind_at t0 x) (cover t0 h (Slot r.0 r.1 (Some x)))) (cover u h (Slot s.0 s.1 (Some x))) → HomeOf s x
+        here r at own a = record { row = r; at = at; own = own; under = a }
+
+        by_move : (r : Spot) → look t0 r.0 r.1 ≡ Some x → (look t0 s.0 s.1 ≡ Some x → r ≡ s) →
+            can_move table h (row_cover t0 h r x) ≡ true → Among (file_covers t0 table h) (row_cover u h s x) →
+            HomeOf s x
+        by_move r at own can a =
+            here r at own (named_moved t0 table h (kind_at t0 x) (cover t0 h (Slot r.0 r.1 (Some x))) (cover u h (Slot s.0 s.1 (Some x)))
+            (ap (can_move table h) (sym (slot_then r x then)) ∙ can) (subst (Among (file_covers t0 table h)) (slot_of s x other) a))
+
+        -- it stands in a row in which it stood then
+        at_home : look t0 s.0 s.1 ≡ Some x → HomeOf s x
+        at_home at = by_cover (can_move table h (row_cover t0 h s x)) refl
+          where
+            by_cover : (b : Bool) → can_move table h (row_cover t0 h s x) ≡ b → HomeOf s x
+            by_cover true can = elim (file_under table t0 h well0 stand u k s x e other) [
+              | inl fixed ↦ absurd (false≢true (sym fixed.1 ∙ can))
+              | inr came ↦ by_move s at (λ _. refl) can came.1
+            ]
+            by_cover false stays =
+                let covers : cover u h (Slot s.0 s.1 (Some x)) ≡ cover t0 h (Slot s.0 s.1 (Some x)) = sym (slot_of s x other) ∙ fixed_covered table t0 h well0 stand u k s x e (at, stays) ∙
+                slot_then s x then in
+                here s at (λ _. refl) (subst (Among (named_covers t0 table h (kind_at t0 x) (cover t0 h (Slot s.0 s.1 (Some x))))) (sym covers)
+                (named_first t0 table h (kind_at t0 x) (cover t0 h (Slot s.0 s.1 (Some x)))
+                (λ can. absurd (false≢true (sym stays ∙ ap (can_move table h) (slot_then s x then) ∙ can)))))
+
+        -- it came there
+        away : (look t0 s.0 s.1 ≡ Some x → ⊥) → HomeOf s x
+        away never = elim (file_under table t0 h well0 stand u k s x e other) [
+          | inl fixed ↦ absurd (never fixed.0)
+          | inr came ↦ from came.1 came.0.origin
+        ]
+          where
+            from : Among (file_covers t0 table h) (row_cover u h s x) → Origin table t0 h well0 stand x → HomeOf s x
+            from a (stood r at can) = by_move r at (λ e. absurd (never e)) can a
+            from a (linked r at plain can) =
+                here r at (λ e. absurd (never e)) (named_linked t0 table h (kind_at t0 x) (cover t0 h (Slot r.0 r.1 (Some x))) (cover u h (Slot s.0 s.1 (Some x)))
+                (ap (can_link table h (kind_at t0 x)) (sym (slot_then r x plain)) ∙ can)
+                (subst (Among (file_covers t0 table h)) (slot_of s x other) a))
+            from a (since after) = absurd (omega (arith, below, after))
+
+        by : (o : Option ℕ) → look t0 s.0 s.1 ≡ o → HomeOf s x
+        by None is = away (λ e. Some≢None x (sym e ∙ is))
+        by (Some y) is = elim (y == x) as (λ b. (y == x) ≡ b → HomeOf s x) [
+          | true ↦ λ same. at_home (is ∙ ap Some (eqb-true y x same))
+          | false ↦ λ differs. away (λ e. false≢true (sym differs ∙ eq-eqb y x (same_Some y x (sym is ∙ e))))
+        ] refl
+
+    -- and the cover of a new one
+    pub young_cover_at : (s : Spot) (x : ℕ) → look u s.0 s.1 ≡ Some x → is_dir u x ≡ false → t0.next ≤ x →
+        Among (file_covers t0 table h) (cover u h (Slot s.0 s.1 (Some x)))
+    young_cover_at s x e other from = elim (file_under table t0 h well0 stand u k s x e other) [
+      | inl fixed ↦ (let below = below_next t0 h well0 x (row_says t0 s0 s x fixed.0).2 in absurd (omega arith))
+      | inr came ↦ subst (Among (file_covers t0 table h)) (slot_of s x other) came.1
+    ]
 
     hit_file : (s : Spot) (x : ℕ) → look u s.0 s.1 ≡ Some x → is_dir u x ≡ false →
         (last_of c ≡ Followed → is_link u (Slot s.0 s.1 (Some x)) ≡ false)
@@ -361,53 +447,15 @@ module _ (table : CallTable) (t0 : Tree) (h : History) (well0 : WellFormed t0) (
         lives = (row_says u su s x e).2
 
         hit_old : x < t0.next → Hit (Slot s.0 s.1 (Some x))
-        hit_old below = elim (file_under table t0 h well0 stand u k s x e other) [
-          | inl fixed ↦ (let stays = k.uncovered s x fixed.0 fixed.1 in
-              let then : is_dir t0 x ≡ false = sym (same_dir t0 u x same) ∙ other in
-              let covers : cover u h (Slot s.0 s.1 (Some x)) ≡ cover t0 h (Slot s.0 s.1 (Some x)) = sym (slot_of s x other) ∙
-              stays.covered ∙ slot_then s x then in
-              here s fixed.0 (subst (Among (named_covers t0 table h (kind_at t0 x) (cover t0 h (Slot s.0 s.1 (Some x))))) (sym covers)
-              (named_first t0 table h (kind_at t0 x) (cover t0 h (Slot s.0 s.1 (Some x)))
-              (λ has. absurd (false≢true (sym fixed.1 ∙ ap has_c (slot_then s x then) ∙ has))))))
-          | inr came ↦ elim edit [
-            | inl edits ↦ moved edits came.1 came.0.origin
-            | inr tree ↦ (let at : look t0 s.0 s.1 ≡ Some x = ap (λ v. look v s.0 s.1) (sym tree) ∙ e in
-                let covers : cover u h (Slot s.0 s.1 (Some x)) ≡ cover t0 h (Slot s.0 s.1 (Some x)) =
-                ap (λ v. cover v h (Slot s.0 s.1 (Some x))) tree in
-                here s at (subst (Among (named_covers t0 table h (kind_at t0 x) (cover t0 h (Slot s.0 s.1 (Some x))))) (sym covers)
-                (named_first t0 table h (kind_at t0 x) (cover t0 h (Slot s.0 s.1 (Some x)))
-                (λ has. subst (Among (file_covers t0 h)) (slot_of s x other ∙ covers) came.1))))
-          ]
-        ]
-          where
-            same : node_at u x ≡ node_at t0 x
-            same = k.old x below lives
-
-            here : (r : Spot) → look t0 r.0 r.1 ≡ Some x →
-                Among (named_covers t0 table h (kind_at t0 x) (cover t0 h (Slot r.0 r.1 (Some x)))) (cover u h (Slot s.0 s.1 (Some x))) →
-                Hit (Slot s.0 s.1 (Some x))
-            here r at a = hit_row r s x at same other followed parts.may parts.covered parts.kind a
-
-            moved : may_edit table h ≡ true → Among (file_covers t0 h) (row_cover u h s x) → Origin table t0 h well0 stand x →
-                Hit (Slot s.0 s.1 (Some x))
-            moved edits a (stood r at has) =
-                let then : is_dir t0 x ≡ false = sym (same_dir t0 u x same) ∙ other in
-                here r at (named_moved t0 table h (kind_at t0 x) (cover t0 h (Slot r.0 r.1 (Some x))) (cover u h (Slot s.0 s.1 (Some x)))
-                edits (ap has_c (sym (slot_then r x then)) ∙ has) (subst (Among (file_covers t0 h)) (slot_of s x other) a))
-            moved edits a (linked r at plain can) =
-                here r at (named_linked t0 table h (kind_at t0 x) (cover t0 h (Slot r.0 r.1 (Some x))) (cover u h (Slot s.0 s.1 (Some x)))
-                (ap (can_link table h (kind_at t0 x)) (sym (slot_then r x plain)) ∙ can)
-                (subst (Among (file_covers t0 h)) (slot_of s x other) a))
-            moved edits a (since from) = absurd (omega (arith, below, from))
+        hit_old below =
+            let home = home_of s x e other below in
+            hit_row home.row s x home.at home.own (k.old x below lives) other followed parts.may parts.covered parts.kind home.under
 
         hit_young : t0.next ≤ x → Known table t0 h well0 stand u x → Hit (Slot s.0 s.1 (Some x))
         hit_young from known = by known.made known.kinds known.can
           where
-            a : Among (file_covers t0 h) (cover u h (Slot s.0 s.1 (Some x)))
-            a = elim (file_under table t0 h well0 stand u k s x e other) [
-              | inl fixed ↦ (let below = below_next t0 h well0 x (row_says t0 s0 s x fixed.0).2 in absurd (omega arith))
-              | inr came ↦ subst (Among (file_covers t0 h)) (slot_of s x other) came.1
-            ]
+            a : Among (file_covers t0 table h) (cover u h (Slot s.0 s.1 (Some x)))
+            a = young_cover_at s x e other from
 
             edits : may_edit table h ≡ true
             edits = edits_if_young x from lives
@@ -423,14 +471,14 @@ module _ (table : CallTable) (t0 : Tree) (h : History) (well0 : WellFormed t0) (
             by NewFile kinds can = record {
               thing = Comes NewFile;
               listed = listed_new NewFile c (new_among NewFile c edits can refl
-                  (under_one table t0 h (file_covers t0 h) IsFile c (cover u h (Slot s.0 s.1 (Some x))) a parts.may parts.covered
+                  (under_one table t0 h (file_covers t0 table h) IsFile c (cover u h (Slot s.0 s.1 (Some x))) a parts.may parts.covered
                   (sym (plain_alike u c (Some kind.File)) ∙ ap (λ o. object_fault u c (object_of_kind o)) (sym kinds) ∙ parts.kind)));
               about = of_new_file from kinds;
             }
             by NewLink kinds can = record {
               thing = Comes NewLink;
               listed = listed_new NewLink c (new_among NewLink c edits can (kept_link (last_of c) refl followed kinds)
-                  (under_one table t0 h (file_covers t0 h) IsLink c (cover u h (Slot s.0 s.1 (Some x))) a parts.may parts.covered
+                  (under_one table t0 h (file_covers t0 table h) IsLink c (cover u h (Slot s.0 s.1 (Some x))) a parts.may parts.covered
                   (sym (plain_alike u c (Some kind.Link)) ∙ ap (λ o. object_fault u c (object_of_kind o)) (sym kinds) ∙ parts.kind)));
               about = of_new_link from kinds;
             }

@@ -2,3 +2,6 @@
 
 -- each veil in the list of a history is what is kept at its place
 pub use Rattle.pua_ever.proofs.KeptVeils.{among_kept_at}
+-- a list for ever behind what is read, and where nothing refuses it
+pub use Rattle.pua_ever.proofs.Standing.{ever_after_read}
+pub use Rattle.pua_ever.proofs.Refused.{unrefused_table, unrefused_history}

@@ -7,7 +7,7 @@ use Rattle.pua_ever.proofs.Common.{is_kept, History, may_any, working_dir, IsMis
 use Rattle.pua_ever.proofs.Common.{object_fault, allowed_unless, if_promised, is_allowed, Call, Asked, most_processes, World, Fails, Copies}
 use Rattle.pua_ever.proofs.Common.{change_effect, history_of, apply, tree_left, Action, OnPath, Symlink, Rename, Link, Pledge, Unveil, Lock}
 use Rattle.pua_ever.proofs.Common.{Fork, Exit, has_c, Change, CopyAs, change_by, IsDecided, by_going, covers_descend, named_within_text}
-use Rattle.pua_ever.proofs.Common.{row_cover, is_yes, can_link, New, NewDir, NewFile, NewLink, maker, EditsNeedC}
+use Rattle.pua_ever.proofs.Common.{row_cover, is_yes, can_link, can_move, may_rename, New, NewDir, NewFile, NewLink, maker, EditsNeedC, List, FoundFits}
 use Rattle.std.proofs.Common.{not}
 use Rattle.std.specs.Prelude.{length}
 use Rattle.std.proofs.lemmas.Bool.{not-false}
@@ -26,7 +26,7 @@ use Rattle.pua_script.specs.Confinement.{TakingNeedsC}
 use Rattle.pua_script.specs.Decide.{NoChange, AddNode, CutRow, ShiftRow, TieRow, adding, shifting, fault_if}
 use Rattle.pua_script.specs.Decide.{is_whole, plain_node, link_node, kinds_fault}
 use Rattle.pua_script.specs.Guards.{IsShift}
-use Rattle.pua_script.proofs.ForCallers.{name_fits, c_from_cover, covered_by_c, has_spot, by_tree, by_own_tree, by_cutting}
+use Rattle.pua_script.proofs.ForCallers.{name_fits, c_from_cover, covered_by_c, by_tree, by_own_tree, by_cutting}
 use Rattle.pua_script.proofs.ForCallers.{by_tying, first_none, second_none, not_faulty}
 use Rattle.pua_ever.specs.Ever.{may_link}
 use Rattle.pua_ever.proofs.Grown.{Grown, Written, by_name, by_turn, From, is_moved, is_linked, new_kind, name_cover, grown_all, grown_add}
@@ -86,12 +86,40 @@ module _ (table : CallTable) (needs : EditsNeedC table) (t : Tree) (h : History)
       let is : (dir, name) ≡ s = same_Some (dir, name) s e in
       (ap (λ (r : Spot). is_dir t r.0) (sym is) ∙ fits.named.0, ap (λ (r : Spot). look t r.0 r.1) (sym is) ∙ fits.named.1)
 
-  -- the row of what is moved or gets a further name is covered with `c`
-  comes : (a : Found) (x : ℕ) → NameFits t a → cover_fault (cover t h a) creating ≡ None → node_named a ≡ Some x → (s : Spot) →
-      spot_named a ≡ Some s → From table t h x
-  comes a x fits covered is s e =
-      let here = (standing a fits s e).1 ∙ is in
-      is_moved s here (has_spot t h well table (takes table needs) a fits creating refl covered s e x here)
+  is_other : (b : Bool) → not b ≡ true → b ≡ false
+  is_other true e = cc
+  is_other false e = refl
+
+  -- what stands at a name as no directory is none
+  plain_at : (dir : ℕ) (name : List ℕ) (y : ℕ) → FoundFits t (Slot dir name (Some y)) → is_dir t y ≡ false
+  plain_at dir name y fits =
+      is_other (is_dir t y) (and_parts (option_eq ◌==◌ (look t dir name) (Some y)) (not (is_dir t y))
+      (and_parts (is_dir t dir) (option_eq ◌==◌ (look t dir name) (Some y) && not (is_dir t y)) fits).1).1
+
+  -- what covers the row by whose name something was found
+  row_named : (a : Found) (x : ℕ) → NameFits t a → node_named a ≡ Some x → (s : Spot) → spot_named a ≡ Some s →
+      row_cover t h s x ≡ cover t h a
+  row_named (Whole dir (way.Named parent name)) x fits is s e =
+      (λ i. row_cover t h (sym (same_Some (parent, name) s e) i) (sym (same_Some dir x is) i)) ∙
+      ap (λ b. cover t h (cond b (Whole dir (way.Named parent name)) (Slot parent name (Some dir)))) fits.fits
+  row_named (Whole dir way.Dot) x fits is s e = cc
+  row_named (Whole dir way.DotDot) x fits is s e = cc
+  row_named (Whole dir way.Top) x fits is s e = cc
+  row_named (Slot dir name (Some y)) x fits is s e =
+      (λ i. row_cover t h (sym (same_Some (dir, name) s e) i) (sym (same_Some y x is) i)) ∙
+      ap (λ b. cover t h (cond b (Whole y (way.Named dir name)) (Slot dir name (Some y)))) (plain_at dir name y fits.fits)
+  row_named (Slot dir name None) x fits is s e = absurd (None≢Some x is)
+
+  -- the row of what is moved is one by which it can be
+  comes : (a : Found) (x : ℕ) → NameFits t a → may_rename table h ≡ true → cover_fault (cover t h a) table.rename.old.needs.perms ≡ None →
+      node_named a ≡ Some x → (s : Spot) → spot_named a ≡ Some s → From table t h x
+  comes a x fits held covered is s e =
+      let under = row_named a x fits is s e in
+      is_moved s ((standing a fits s e).1 ∙ is)
+      (ap (can_move table h) under ∙
+      and_from (may_rename table h) _ held
+      (and_from (has_c (cover t h a)) _ (c_from_cover (cover t h a) table.rename.old.needs.perms needs.rename_old covered)
+      (ap is_none covered)))
 
   whole_dir : (a : Found) (x : ℕ) → NameFits t a → node_named a ≡ Some x → is_whole a ≡ true → is_dir t x ≡ true
   whole_dir (Whole dir w) x fits is e = ap (is_dir t) (sym (same_Some dir x is)) ∙ fits.fits
@@ -116,29 +144,32 @@ module _ (table : CallTable) (needs : EditsNeedC table) (t : Tree) (h : History)
   named_c : (a : Found) → cover_fault (cover t h a) creating ≡ None → has_c (cover t h a) ≡ true
   named_c a covered = c_from_cover (cover t h a) creating refl covered
 
-  by_shifted : (a b : Found) (x : ℕ) → NameFits t a → NameFits t b → cover_fault (cover t h a) creating ≡ None →
+  by_shifted : (a b : Found) (x : ℕ) → NameFits t a → NameFits t b → may_rename table h ≡ true →
+      cover_fault (cover t h a) table.rename.old.needs.perms ≡ None →
       cover_fault (cover t h b) creating ≡ None → node_named a ≡ Some x → kinds_fault t x a b ≡ None
       → (oa ob : Option Spot) → spot_named a ≡ oa → spot_named b ≡ ob → Grows (shifting oa ob)
-  by_shifted a b x fa fb ca cb is kinds (Some sa) (Some sb) ea eb =
-      (x, (standing a fa sa ea).1 ∙ is, (standing b fb sb eb).0, goes a b x fa fb (named_c b cb) is kinds sb eb, comes a x fa ca is sa ea)
-  by_shifted a b x fa fb ca cb is kinds (Some sa) None ea eb = tt
-  by_shifted a b x fa fb ca cb is kinds None ob ea eb = tt
+  by_shifted a b x fa fb held ca cb is kinds (Some sa) (Some sb) ea eb = (
+    x,
+    (standing a fa sa ea).1 ∙ is,
+    (standing b fb sb eb).0,
+    goes a b x fa fb (named_c b cb) is kinds sb eb,
+    comes a x fa held ca is sa ea,
+  )
+  by_shifted a b x fa fb held ca cb is kinds (Some sa) None ea eb = tt
+  by_shifted a b x fa fb held ca cb is kinds None ob ea eb = tt
 
-  by_moved : (a b : Found) (x : ℕ) (c : Change) → NameFits t a → NameFits t b → cover_fault (cover t h a) creating ≡ None →
+  by_moved : (a b : Found) (x : ℕ) (c : Change) → NameFits t a → NameFits t b → may_rename table h ≡ true →
+      cover_fault (cover t h a) table.rename.old.needs.perms ≡ None →
       cover_fault (cover t h b) creating ≡ None → node_named a ≡ Some x
       → (c ≡ NoChange) ⊎ IsShift t a b x c → Grows c
-  by_moved a b x c fa fb ca cb is (inl same) = subst Grows (sym same) tt
-  by_moved a b x c fa fb ca cb is (inr shifts) =
-      subst Grows (sym shifts.is) (by_shifted a b x fa fb ca cb is shifts.kinds (spot_named a) (spot_named b) refl refl)
+  by_moved a b x c fa fb held ca cb is (inl same) = subst Grows (sym same) tt
+  by_moved a b x c fa fb held ca cb is (inr shifts) =
+      subst Grows (sym shifts.is) (by_shifted a b x fa fb held ca cb is shifts.kinds (spot_named a) (spot_named b) refl refl)
 
   free_name : (b : Found) → is_some (node_named b) ≡ false → (s : Spot) → spot_named b ≡ Some s → has_c (cover t h b) ≡ true →
       has_c (name_cover table t h s) ≡ true
   free_name (Slot dir name o) free s e has = ap (λ (r : Spot). has_c (name_cover table t h r)) (sym (same_Some (dir, name) s e)) ∙ has
   free_name (Whole y w) free s e has = cc
-
-  is_other : (b : Bool) → not b ≡ true → b ≡ false
-  is_other true e = cc
-  is_other false e = refl
 
   -- what gets a further name by link
   came : (a : Found) (x : ℕ) → IsOf t table.link.old.last a → may_link table h ≡ true →
@@ -147,8 +178,7 @@ module _ (table : CallTable) (needs : EditsNeedC table) (t : Tree) (h : History)
       subst (From table t h) (same_Some y x is) (is_linked (dir, name) of.named.1 plain gives)
     where
       plain : is_dir t y ≡ false
-      plain = is_other (is_dir t y) (and_parts (option_eq ◌==◌ (look t dir name) (Some y)) (not (is_dir t y))
-          (and_parts (is_dir t dir) (option_eq ◌==◌ (look t dir name) (Some y) && not (is_dir t y)) of.fits).1).1
+      plain = plain_at dir name y of.fits
 
       under : row_cover t h (dir, name) y ≡ cover t h (Slot dir name (Some y))
       under = ap (λ b. cover t h (cond b (Whole y (way.Named dir name)) (Slot dir name (Some y)))) plain
@@ -174,8 +204,8 @@ module _ (table : CallTable) (needs : EditsNeedC table) (t : Tree) (h : History)
   grows_by (Rename old new) c d =
       by_moved d.old d.new d.node c (name_fits t well (working_dir h) Dropped old table.rename.old.last d.old d.two.found_old)
       (name_fits t well (working_dir h) Dropped new table.rename.new.last d.new d.two.found_new)
-      (covered_by_c (cover t h d.old) _ needs.rename_old d.two.covered_old) (covered_by_c (cover t h d.new) _ needs.rename_new
-      d.two.covered_new) d.two.named d.moves
+      (and_from (is_yes (may_any h table.rename.old.needs.alternatives)) _ (ap is_yes d.two.promised_old) (ap is_yes d.two.promised_new))
+      d.two.covered_old (covered_by_c (cover t h d.new) _ needs.rename_new d.two.covered_new) d.two.named d.moves
   grows_by (Link old new) c d =
       let of_old = (resolutions_fit t well).whole (working_dir h) Dot old table.link.old.last d.old
       (named_within_text t (working_dir h) Dot old table.link.old.last d.old d.two.found_old) in

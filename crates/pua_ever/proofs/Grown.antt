@@ -3,8 +3,8 @@ use Rattle.pua_ever.proofs.Common.{◌≡◌, ◌≢◌, ◌⊎◌, ◌≤◌, �
 use Rattle.pua_ever.proofs.Common.{Some, None, Ok, Err, is_some, ◌==◌, option_map, nat_cmp, nat_cmp_total, nat_cmp-IsAntisymmetric}
 use Rattle.pua_ever.proofs.Common.{false≢true, Tree, Node, Spot, spot_cmp, is_dir, is_living, look, node_at, kind_at, is_empty, empty_tree}
 use Rattle.pua_ever.proofs.Common.{Kind, spots_total, exact_spots, Some≢None, same_Some, Slot, CallTable, History, IsMissing, cover}
-use Rattle.pua_ever.proofs.Common.{covered_verdict, is_allowed, Cover, tree_left, has_c, cover_in, row_cover, can_link, New, NewDir}
-use Rattle.pua_ever.proofs.Common.{NewOthers, NewFile, NewLink, maker}
+use Rattle.pua_ever.proofs.Common.{covered_verdict, is_allowed, Cover, tree_left, has_c, cover_in, row_cover, can_link, can_move, New}
+use Rattle.pua_ever.proofs.Common.{NewDir, NewOthers, NewFile, NewLink, maker, may_rename, and_parts}
 use Rattle.std.proofs.Common.{not, ◌&&◌}
 use Rattle.pua_tree.specs.Tree.{rows_of}
 use Rattle.pua_tree.specs.Edits.{with_row, without_row, without_node, without_unnamed, with_new, add, tie, cut, cut_found, shift}
@@ -21,6 +21,10 @@ new_kind NewDir = kind.Dir
 new_kind NewOthers = kind.Dir
 new_kind NewFile = kind.File
 new_kind NewLink = kind.Link
+
+-- what can be moved has `c`
+pub moved_has_c : (table : CallTable) (h : History) (left : Cover) → can_move table h left ≡ true → has_c left ≡ true
+moved_has_c table h left can = (and_parts (has_c left) _ (and_parts (may_rename table h) _ can).1).0
 
 module _ (table : CallTable) (t : Tree) (h : History) where
   -- what covers a name at which nothing stands
@@ -40,10 +44,10 @@ module _ (table : CallTable) (t : Tree) (h : History) where
     by_name : has_c (name_cover s) ≡ true → Written s x
     by_turn : (y : ℕ) → look t s.0 s.1 ≡ Some y → is_empty t y ≡ true → has_c (cover_in t h y) ≡ true → is_dir t x ≡ true → Written s x
 
-  -- its node is new, or has a row that is covered with `c`, or is no directory and has a row by which link gives it a further name
+  -- its node is new, or has a row by which it can be moved, or is no directory and has a row by which link gives it a further name
   pub data From (x : ℕ) : Type 0 where
     is_new : x ≡ t.next → From x
-    is_moved : (r : Spot) → look t r.0 r.1 ≡ Some x → has_c (row_cover t h r x) ≡ true → From x
+    is_moved : (r : Spot) → look t r.0 r.1 ≡ Some x → can_move table h (row_cover t h r x) ≡ true → From x
     is_linked : (r : Spot) → look t r.0 r.1 ≡ Some x → is_dir t x ≡ false → can_link table h (kind_at t x) (row_cover t h r x) ≡ true →
         From x
 

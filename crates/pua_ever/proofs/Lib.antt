@@ -6,10 +6,13 @@ pub mod Ways
 pub mod Quiet
 pub mod Origins
 pub mod Stepping
+pub mod Execs
 pub mod Along
 pub mod Unedited
 pub mod KindFaults
+pub mod ExecCalls
 pub mod Ending
+pub mod Starting
 pub mod Complete
 pub mod Now
 pub mod NoExec

@@ -14,7 +14,7 @@ use Rattle.pua_objects.specs.Items.{IsItemOn, object_on, cover_on}
 use Rattle.pua_objects.specs.declared.item.Item as given
 use Rattle.pua_objects.specs.declared.item.Subject as about
 use Rattle.pua_objects.specs.declared.item.Subject.TheVariants as subject
-use Rattle.pua_ever.specs.Ever.{named_covers, can_be_freed}
+use Rattle.pua_ever.specs.Ever.{can_allow, named_covers, can_be_freed}
 use Rattle.pua_ever.specs.EverReady.{kind_allowed, own_given}
 use Rattle.pua_ever.proofs.Prospected.{last}
 use Rattle.std.proofs.Math.Bool.{or-true}
@@ -49,7 +49,7 @@ module _ (t : Tree) (well : WellFormed t) (table : CallTable) (h : History) wher
   name_calls dir name (Some x) fits object left set is covered all call =
       all (kind_at t x) (is ∙ seen_alike t (kind_at t x)) call
       ∙ (λ i. (keeps_link call || not (is_link_kind (kind_at t x)))
-      && is_allowed_under table h (if has_kind dir name x fits.1.1 i then named_covers t table h (kind_at t x) (covered i) else covered i
+      && can_allow table h (if has_kind dir name x fits.1.1 i then named_covers t table h (kind_at t x) (covered i) else covered i
       ∷ []) (object_of_kind (kind_at t x)) call)
 
   -- whether the name of a thing can come to be free, by the thing's own cover

@@ -6,7 +6,7 @@ use Rattle.pua_ever.proofs.Common.{sound_from, row_says, misfit_errno, IsNotEmpt
 use Rattle.pua_ever.proofs.Common.{calls, rule_of, History, perms_kept, veils, may_any, IsDir, IsMissing, object_of_kind, object_fault}
 use Rattle.pua_ever.proofs.Common.{cover, cover_fault, is_allowed, Call, Cover, Only, has_c, Word, Subject, At, Others, Item, items}
 use Rattle.pua_ever.proofs.Common.{cover_in, own_or, Among, among_left, among_map, map_among, among_filter, filter_among, contained}
-use Rattle.pua_ever.proofs.Common.{among_contained, covers_descend, allowed_is, is_free, can_empty, dir_covers, file_covers, may_edit}
+use Rattle.pua_ever.proofs.Common.{among_contained, covers_descend, allowed_is, is_free, can_empty, dir_covers, file_covers, may_edit, can_move}
 use Rattle.pua_ever.proofs.Common.{is_named_way, is_allowed_under, ever_line, EverLine, subjects_of, all_new, new_line, has_ever_calls}
 use Rattle.pua_ever.proofs.Common.{ever}
 use Rattle.std.specs.Prelude.{length}
@@ -22,7 +22,8 @@ use Rattle.pua_ever.specs.Ever.{covers_of, covers_of_dir, ever_object}
 use Rattle.pua_ever.specs.Ever.{ever_calls}
 use Rattle.pua_ever.specs.Laws.{IsWithinEver, NowWithinEver}
 use Rattle.pua_ever.proofs.Covers.{slot_row}
-use Rattle.pua_ever.proofs.Ways.{way_by_c, name_by_veil, some_dir_by, file_by_name, file_by_dir}
+use Rattle.pua_ever.proofs.Ways.{way_by_c, name_by_veil, open_by, file_by_name, file_by_open}
+use Rattle.pua_ever.proofs.Grown.{moved_has_c}
 use Rattle.pua_ever.proofs.KindFaults.{plain_alike, dir_as, dir_alike}
 use Rattle.pua_ever.proofs.Ending.{parts_of, ever_first, named_first, calls_among, under_one}
 use Rattle.pua_ever.proofs.Prospected.{empty_can}
@@ -68,12 +69,14 @@ module _ (t : Tree) (h : History) where
   module _ (well : WellFormed t) (table : CallTable) (c : Call) where
     -- what covers a thing now is among its covers
     dir_cover : (dir : ℕ) → is_dir t dir ≡ true → Among (covers_of_dir t table h dir) (cover_in t h dir)
-    dir_cover dir is = ever_first (may_edit table h && is_none (perms_kept h (place.Dir dir))) (cover_in t h dir) (dir_covers t h)
-        (λ has. way_by_c t h dir is has)
+    dir_cover dir is = ever_first (is_none (perms_kept h (place.Dir dir)) && can_move table h (cover_in t h dir)) (cover_in t h dir)
+        (dir_covers t h)
+        (λ both. way_by_c t h dir is (moved_has_c table h (cover_in t h dir) (and_parts (is_none (perms_kept h (place.Dir dir))) _ both).1))
 
     file_cover : (dir : ℕ) (name : List ℕ) (x : ℕ) → look t dir name ≡ Some x → is_dir t x ≡ false →
         Among (covers_of t table h (At (Slot dir name (Some x)))) (cover t h (Slot dir name (Some x)))
-    file_cover dir name x row other = named_first t table h (kind_at t x) left (by (perms_kept h (place.Slot dir name)) refl)
+    file_cover dir name x row other =
+        named_first t table h (kind_at t x) left (λ can. by (perms_kept h (place.Slot dir name)) refl (moved_has_c table h left can))
       where
         left : Cover
         left = cover t h (Slot dir name (Some x))
@@ -87,16 +90,16 @@ module _ (t : Tree) (h : History) where
         free : has_c left ≡ true → is_free t h (dir, name) ≡ true
         free has = rw (row, ap has_c (slot_row t h well (dir, name) x other ∙ sym over) ∙ has) refl
 
-        by : (o : Option ℕ) → perms_kept h (place.Slot dir name) ≡ o → has_c left ≡ true → Among (file_covers t h) left
+        by : (o : Option ℕ) → perms_kept h (place.Slot dir name) ≡ o → has_c left ≡ true → Among (file_covers t table h) left
         by (Some perms) own has =
             let same : left ≡ Only perms = over ∙ ap (λ o. own_or o (cover_in t h dir)) own in
-            subst (Among (file_covers t h)) (sym same)
-            (file_by_name t h (Only perms) (name_by_veil t h dir name perms living own (ap has_c (sym same) ∙ has) (free has)))
+            subst (Among (file_covers t table h)) (sym same)
+            (file_by_name t h table (Only perms) (name_by_veil t h dir name perms living own (ap has_c (sym same) ∙ has) (free has)))
         by None own has =
             let same : left ≡ cover_in t h dir = over ∙ ap (λ o. own_or o (cover_in t h dir)) own in
             let with_c : has_c (cover_in t h dir) ≡ true = ap has_c (sym same) ∙ has in
-            subst (Among (file_covers t h)) (sym same) (file_by_dir t h (cover_in t h dir) (way_by_c t h dir living with_c)
-            (some_dir_by t h dir living with_c))
+            subst (Among (file_covers t table h)) (sym same)
+            (file_by_open t h table (cover_in t h dir) (open_by t h dir living with_c))
 
     -- a directory that can be removed now is empty now
     abbrev empties : ℕ → Way → Bool

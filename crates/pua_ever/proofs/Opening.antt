@@ -1,12 +1,12 @@
 -- The covers that the veils give are those of the definition.
-use Rattle.pua_ever.proofs.Common.{◌≡◌, ◌≢◌, ℕ, List, [], ◌∷◌, ◌++◌, Bool, true, false, length, map, refl, sym, ap, subst, ◌∙◌, inl, inr}
-use Rattle.pua_ever.proofs.Common.{arith, Option, Some, None, is_some, not, ◌&&◌, ◌==◌, filter, filter_map, nat_lt, if◌then◌else◌, list_any}
+use Rattle.pua_ever.proofs.Common.{◌≡◌, ◌≢◌, ℕ, List, [], ◌∷◌, ◌++◌, Bool, true, false, map, refl, sym, ap, subst, ◌∙◌, inl, inr}
+use Rattle.pua_ever.proofs.Common.{Option, Some, None, is_some, not, ◌&&◌, ◌==◌, filter, filter_map, if◌then◌else◌, list_any}
 use Rattle.pua_ever.proofs.Common.{false≢true, eq-eqb, eqb-true, and_parts, and_from, not-true, Tree, WellFormed, Spot, is_dir, look, climb}
 use Rattle.pua_ever.proofs.Common.{same_Some, None≢Some, sound_from, row_says, row_of, History, perms_kept, veils, has_veil, is_unveil}
 use Rattle.pua_ever.proofs.Common.{Cover, All, Only, Place, has_c, cover_in, Among, among_left, among_right, map_among, filter_among}
 use Rattle.pua_ever.proofs.Common.{contained, among_contained, among_filter_map, is_free, can_empty, has_c_outside, directories, dir_covers}
-use Rattle.pua_ever.proofs.Common.{name_covers, some_dir_has_c, dir_opening, name_opening, entrance_cover, HaveSame}
-use Rattle.std.proofs.lemmas.Bool.{or_cases, lt-ltb}
+use Rattle.pua_ever.proofs.Common.{name_covers, open_covers, dir_opening, name_opening, entrance_cover, HaveSame}
+use Rattle.std.proofs.lemmas.Bool.{or_cases}
 use Rattle.pua_policy.specs.Verdict.{nearest}
 use Rattle.pua_policy.specs.declared.place.Place.TheVariants as place
 use Rattle.pua_policy.proofs.ForCallers.{any_veil}
@@ -20,7 +20,7 @@ use Rattle.pua_ever.proofs.Opened.{when_some, when, opening_is, opening_from, op
 use Rattle.pua_ever.proofs.Opened.{outsides}
 use Rattle.pua_ever.proofs.Origin.{own_cover, origin}
 use Rattle.pua_ever.proofs.Quiet.{above_row}
-use Rattle.pua_ever.proofs.Ways.{any_found, among_dir, among_rows, way_by_c, way_by_name, way_by_turn, name_by_veil, some_dir_by}
+use Rattle.pua_ever.proofs.Ways.{any_found, among_dir, among_rows, way_by_c, way_by_name, way_by_turn, name_by_veil, open_by}
 
 -- both ways
 pub have_same : {X : Type 0} (xs ys : List X) → ((x : X) → Among xs x → Among ys x) → ((x : X) → Among ys x → Among xs x) → HaveSame xs ys
@@ -215,15 +215,14 @@ module _ (t : Tree) (h : History) (well : WellFormed t) where
           (when _ _ (and_from (is_dir t d) _ one.0 two.1) ∙ opening_from _ perms veil two.0 ∙ parts.1)
       all c ((place.Dir d, perms), a, e) = absurd (None≢Some c e)
 
-  pub some_same : nat_lt 0 (length own_covers) ≡ some_dir_has_c t h
-  some_same = by own_covers (some_dir_has_c t h) refl refl
+  pub open_same : HaveSame own_covers (open_covers t h)
+  open_same = have_same _ _ within all
     where
-      by : (cs : List Cover) (b : Bool) → own_covers ≡ cs → some_dir_has_c t h ≡ b → nat_lt 0 (length cs) ≡ b
-      by [] false cs e = refl
-      by [] true cs e =
-          let found = any_found (λ dir. has_c (cover_in t h dir)) (directories t) e in
-          absurd (subst (λ cs. Among cs (cover_in t h found.0)) cs (by_own found.0 (among_dir t well found.0 found.1) found.2))
-      by (c ∷ cs) true same e = lt-ltb 0 (length (c ∷ cs)) (omega arith)
-      by (c ∷ cs) false same e =
-          let at = own_dir_at c (subst (λ cs. Among cs c) (sym same) (inl refl)) in
-          absurd (false≢true (sym e ∙ some_dir_by t h at.0 at.1 at.2))
+      within : (c : Cover) → Among own_covers c → Among (open_covers t h) c
+      within c a = let at = own_dir_at c a in subst (Among (open_covers t h)) at.3 (open_by t h at.0 at.1 at.2)
+
+      all : (c : Cover) → Among (open_covers t h) c → Among own_covers c
+      all c a =
+          let parts = filter_among has_c (map (cover_in t h) (directories t)) c a in
+          let from = map_among (cover_in t h) (directories t) c parts.0 in
+          subst (Among own_covers) from.2 (by_own from.0 (among_dir t well from.0 from.1) (ap has_c from.2 ∙ parts.1))

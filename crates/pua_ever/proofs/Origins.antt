@@ -6,24 +6,24 @@ use Rattle.pua_ever.proofs.Common.{WellFormed, Spot, spot_cmp, is_dir, is_living
 use Rattle.pua_ever.proofs.Common.{Reaches, sound_from, row_says, row_of, same_Some, Some≢None, spots_total, exact_spots, same_dir}
 use Rattle.pua_ever.proofs.Common.{CallTable, History, perms_kept, Only, has_c, UncoveredStay, cover_in, own_or, Among, among_left}
 use Rattle.pua_ever.proofs.Common.{among_right, covers_descend, row_cover, is_free, can_link, can_empty, has_c_outside, dir_covers}
-use Rattle.pua_ever.proofs.Common.{name_covers, some_dir_has_c, file_covers, New, can_make, VeilsStand}
+use Rattle.pua_ever.proofs.Common.{name_covers, open_covers, some_dir_moves, file_covers, New, can_make, can_move, VeilsStand, Cover}
 use Rattle.pua_tree.proofs.ForCallers.{Sound, above_dir}
 use Rattle.pua_tree.proofs.ForCallers.{none_found, all_from_found}
 use Rattle.pua_policy.specs.declared.place.Place.TheVariants as place
-use Rattle.pua_ever.proofs.Grown.{new_kind}
+use Rattle.pua_ever.proofs.Grown.{new_kind, moved_has_c}
 use Rattle.pua_ever.proofs.Covers.{given_or_new, dir_row, slot_row, own_dir, under_dir, living_dir, below_next}
 use Rattle.pua_ever.proofs.Quiet.{Quiet}
-use Rattle.pua_ever.proofs.Ways.{way_by_c, way_by_name, way_by_turn, name_by_veil, some_dir_by, file_by_name, file_by_dir, quiet_dir}
-use Rattle.pua_ever.proofs.Ways.{quiet_name}
+use Rattle.pua_ever.proofs.Ways.{way_by_c, way_by_name, way_by_turn, name_by_veil, open_by, open_among, moves_by, file_by_name}
+use Rattle.pua_ever.proofs.Ways.{file_by_open, file_by_dir, quiet_dir, quiet_name}
 
 module _ (table : CallTable) (t0 : Tree) (h : History) (well0 : WellFormed t0) (stand : VeilsStand t0 h) where
-  -- a row that isn't covered with `c` at the beginning
+  -- a row by which nothing can be moved at the beginning
   abbrev pub Fixed : Spot → ℕ → Type 0
-  Fixed s x = (look t0 s.0 s.1 ≡ Some x) × (has_c (row_cover t0 h s x) ≡ false)
+  Fixed s x = (look t0 s.0 s.1 ≡ Some x) × (can_move table h (row_cover t0 h s x) ≡ false)
 
-  -- a thing that stood in a row with `c`, or in one by which link gives it a further name, or was made since
+  -- a thing that stood in a row by which it can be moved, or in one by which link gives it a further name, or was made since
   pub data Origin (x : ℕ) : Type 0 where
-    stood : (r : Spot) → look t0 r.0 r.1 ≡ Some x → has_c (row_cover t0 h r x) ≡ true → Origin x
+    stood : (r : Spot) → look t0 r.0 r.1 ≡ Some x → can_move table h (row_cover t0 h r x) ≡ true → Origin x
     linked : (r : Spot) → look t0 r.0 r.1 ≡ Some x → is_dir t0 x ≡ false → can_link table h (kind_at t0 x) (row_cover t0 h r x) ≡ true →
         Origin x
     since : t0.next ≤ x → Origin x
@@ -39,7 +39,7 @@ module _ (table : CallTable) (t0 : Tree) (h : History) (well0 : WellFormed t0) (
     pub origin : Origin x
     pub file : is_dir u x ≡ false → is_dir t0 s.0 ≡ true → has_c (own_or (perms_kept h (place.Slot s.0 s.1)) (cover_in t0 h s.0)) ≡ true
     pub dir : is_dir u x ≡ true → is_dir t0 s.0 ≡ true → has_c (cover_in t0 h s.0) ≡ false → Entrance s x
-    pub inner : t0.next ≤ s.0 → some_dir_has_c t0 h ≡ true
+    pub inner : is_dir u x ≡ false → t0.next ≤ s.0 → (has_c (cover_in u h s.0) ≡ true) ⊎ (some_dir_moves t0 table h ≡ true)
 
   pub record Known (u : Tree) (x : ℕ) : Type 0 where
     pub made : New
@@ -60,7 +60,7 @@ module _ (table : CallTable) (t0 : Tree) (h : History) (well0 : WellFormed t0) (
   at_first = record {
     well = well0;
     uncovered = λ s x here lacks. record { row = here; node = refl; covered = refl };
-    rows = λ s x e. by s x e (has_c (row_cover t0 h s x)) refl;
+    rows = λ s x e. by s x e (can_move table h (row_cover t0 h s x)) refl;
     old = λ x below lives. refl;
     young = λ x from lives. let below = below_next t0 h well0 x lives in absurd (omega arith);
     next = omega arith;
@@ -70,13 +70,16 @@ module _ (table : CallTable) (t0 : Tree) (h : History) (well0 : WellFormed t0) (
     };
   }
     where
-      by : (s : Spot) (x : ℕ) → look t0 s.0 s.1 ≡ Some x → (b : Bool) → has_c (row_cover t0 h s x) ≡ b → Fixed s x ⊎ Came t0 s x
+      has : (s : Spot) (x : ℕ) → can_move table h (row_cover t0 h s x) ≡ true → has_c (row_cover t0 h s x) ≡ true
+      has s x can = moved_has_c table h (row_cover t0 h s x) can
+
+      by : (s : Spot) (x : ℕ) → look t0 s.0 s.1 ≡ Some x → (b : Bool) → can_move table h (row_cover t0 h s x) ≡ b → Fixed s x ⊎ Came t0 s x
       by s x e false is = inl (e, is)
       by s x e true is = inr (record {
         origin = stood s e is;
-        file = λ other lives. ap has_c (sym (slot_row t0 h well0 s x other)) ∙ is;
-        dir = λ dir lives lacks. still e dir (ap has_c (sym (dir_row t0 h well0 s x dir)) ∙ is);
-        inner = λ from. let below = below_next t0 h well0 s.0 (living_dir t0 h well0 s.0 (row_says t0 (sound_from t0 well0) s x e).0) in
+        file = λ other lives. ap has_c (sym (slot_row t0 h well0 s x other)) ∙ has s x is;
+        dir = λ dir lives lacks. still e dir (ap has_c (sym (dir_row t0 h well0 s x dir)) ∙ has s x is);
+        inner = λ other from. let below = below_next t0 h well0 s.0 (living_dir t0 h well0 s.0 (row_says t0 (sound_from t0 well0) s x e).0) in
             absurd (omega arith);
       })
 
@@ -84,7 +87,7 @@ module _ (table : CallTable) (t0 : Tree) (h : History) (well0 : WellFormed t0) (
   pub data DirUnder (u : Tree) (d : ℕ) : Type 0 where
     at_rest : is_dir t0 d ≡ true → cover_in u h d ≡ cover_in t0 h d → DirUnder u d
     come : Among (dir_covers t0 h) (cover_in u h d) → perms_kept h (place.Dir d) ≡ None →
-        (is_dir t0 d ≡ true → has_c (cover_in t0 h d) ≡ true) → DirUnder u d
+        (is_dir t0 d ≡ true → can_move table h (cover_in t0 h d) ≡ true) → DirUnder u d
 
   module _ (u : Tree) (k : Stays u) where
     su : Sound u
@@ -93,6 +96,21 @@ module _ (table : CallTable) (t0 : Tree) (h : History) (well0 : WellFormed t0) (
     -- what lives still and lived then is as it was
     pub old_dir : (d : ℕ) → d < t0.next → is_dir u d ≡ true → is_dir t0 d ≡ true
     old_dir d below is = sym (same_dir t0 u d (k.old d below (living_dir u h k.well d is))) ∙ is
+
+    -- what lives still and stood in a row then
+    pub same_then : (r s : Spot) (x : ℕ) → look t0 r.0 r.1 ≡ Some x → look u s.0 s.1 ≡ Some x → node_at u x ≡ node_at t0 x
+    same_then r s x then e = k.old x (below_next t0 h well0 x (row_says t0 (sound_from t0 well0) r x then).2) (row_says u su s x e).2
+
+    dir_then : (r s : Spot) (x : ℕ) → look t0 r.0 r.1 ≡ Some x → look u s.0 s.1 ≡ Some x → is_dir u x ≡ true → is_dir t0 x ≡ true
+    dir_then r s x then e is = sym (same_dir t0 u x (same_then r s x then e)) ∙ is
+
+    -- without `c` nothing moves
+    unmoved : (left : Cover) → has_c left ≡ false → can_move table h left ≡ false
+    unmoved left lacks = by (can_move table h left) refl
+      where
+        by : (b : Bool) → can_move table h left ≡ b → can_move table h left ≡ false
+        by false e = e
+        by true e = absurd (false≢true (sym lacks ∙ moved_has_c table h left e))
 
     -- a name at which something else stands could come to be free
     pub free_or_fixed : (s : Spot) (x : ℕ) → look u s.0 s.1 ≡ Some x → (is_free t0 h s ≡ true) ⊎ Fixed s x
@@ -103,7 +121,7 @@ module _ (table : CallTable) (t0 : Tree) (h : History) (well0 : WellFormed t0) (
         at y is true has = inl has
         at y is false lacks =
             let same : y ≡ x = same_Some y x (sym (k.uncovered s y is lacks).row ∙ e) in
-            inr (subst (Fixed s) same (is, lacks))
+            inr (subst (Fixed s) same (is, unmoved (row_cover t0 h s y) lacks))
 
         by : (o : Option ℕ) → look t0 s.0 s.1 ≡ o → (is_free t0 h s ≡ true) ⊎ Fixed s x
         by None is = inl (rw is refl)
@@ -120,8 +138,8 @@ module _ (table : CallTable) (t0 : Tree) (h : History) (well0 : WellFormed t0) (
     came_under s d e is none came over =
         come (subst (Among (dir_covers t0 h)) (sym (under_dir u h k.well s d is e none)) (by over)) none (had came.origin)
       where
-        had : Origin d → is_dir t0 d ≡ true → has_c (cover_in t0 h d) ≡ true
-        had (stood r at has) dir = ap has_c (sym (dir_row t0 h well0 r d dir)) ∙ has
+        had : Origin d → is_dir t0 d ≡ true → can_move table h (cover_in t0 h d) ≡ true
+        had (stood r at can) dir = ap (can_move table h) (sym (dir_row t0 h well0 r d dir)) ∙ can
         had (linked r at plain can) dir = absurd (false≢true (sym plain ∙ dir))
         had (since from) dir = let below = below_next t0 h well0 d (living_dir t0 h well0 d dir) in absurd (omega arith)
 
@@ -135,12 +153,10 @@ module _ (table : CallTable) (t0 : Tree) (h : History) (well0 : WellFormed t0) (
             fixed_never fixed = never fixed came.origin
               where
                 never : Fixed s d → Origin d → ⊥
-                never fixed (stood r at has) =
-                    let dir : is_dir t0 d ≡ true = sym (same_dir t0 u d (k.uncovered s d fixed.0 fixed.1).node) ∙ is in
-                    false≢true (sym fixed.1 ∙ ap has_c (dir_row t0 h well0 s d dir ∙ sym (dir_row t0 h well0 r d dir)) ∙ has)
-                never fixed (linked r at plain can) =
-                    let dir : is_dir t0 d ≡ true = sym (same_dir t0 u d (k.uncovered s d fixed.0 fixed.1).node) ∙ is in
-                    false≢true (sym plain ∙ dir)
+                never fixed (stood r at can) =
+                    let dir : is_dir t0 d ≡ true = dir_then s s d fixed.0 e is in
+                    false≢true (sym fixed.1 ∙ ap (can_move table h) (dir_row t0 h well0 s d dir ∙ sym (dir_row t0 h well0 r d dir)) ∙ can)
+                never fixed (linked r at plain can) = false≢true (sym plain ∙ dir_then s s d fixed.0 e is)
                 never fixed (since from) =
                     let below = below_next t0 h well0 d (row_says t0 (sound_from t0 well0) s d fixed.0).2 in absurd (omega arith)
         entered lives lacks (turned y at dir has empty more) = way_by_turn t0 h s.0 s.1 y lives at dir has empty more
@@ -155,12 +171,21 @@ module _ (table : CallTable) (t0 : Tree) (h : History) (well0 : WellFormed t0) (
               | false ↦ λ lacks. subst (Among (dir_covers t0 h)) (sym same) (entered lives lacks (came.dir is lives lacks))
             ] refl
 
-    -- a directory that stays where it was without `c`
-    fixed_under : (s : Spot) (d : ℕ) → is_dir u d ≡ true → Fixed s d → DirUnder u d
-    fixed_under s d is fixed =
-        let stays = k.uncovered s d fixed.0 fixed.1 in
-        let dir : is_dir t0 d ≡ true = sym (same_dir t0 u d stays.node) ∙ is in
-        at_rest dir (sym (dir_row u h k.well s d is) ∙ stays.covered ∙ dir_row t0 h well0 s d dir)
+    -- a directory that stays where it was is covered as what it stands in, which can't be moved either
+    fixed_under : (s : Spot) (d : ℕ) → look u s.0 s.1 ≡ Some d → is_dir u d ≡ true → perms_kept h (place.Dir d) ≡ None → Fixed s d →
+        DirUnder u s.0 → DirUnder u d
+    fixed_under s d e is none fixed over = by over
+      where
+        dir : is_dir t0 d ≡ true
+        dir = dir_then s s d fixed.0 e is
+
+        under_then : cover_in t0 h d ≡ cover_in t0 h s.0
+        under_then = under_dir t0 h well0 s d dir fixed.0 none
+
+        by : DirUnder u s.0 → DirUnder u d
+        by (at_rest lives same) = at_rest dir (under_dir u h k.well s d is e none ∙ same ∙ sym under_then)
+        by (come a n had) = absurd (false≢true (sym fixed.1 ∙ ap (can_move table h) (dir_row t0 h well0 s d dir ∙ under_then) ∙
+            had (row_says t0 (sound_from t0 well0) s d fixed.0).0))
 
     under : (steps d : ℕ) → Reaches u steps d → is_dir u d ≡ true → DirUnder u d
     under zero d root is =
@@ -175,13 +200,40 @@ module _ (table : CallTable) (t0 : Tree) (h : History) (well0 : WellFormed t0) (
         by None own over =
             let row = row_of u su d is up.0 in
             elim (k.rows row.0 d row.1) [
-              | inl fixed ↦ fixed_under row.0 d is fixed
+              | inl fixed ↦ fixed_under row.0 d row.1 is own fixed (subst (DirUnder u) row.2 over)
               | inr came ↦ came_under row.0 d row.1 is own came (subst (DirUnder u) row.2 over)
             ]
 
     pub dir_under : (d : ℕ) → is_dir u d ≡ true → DirUnder u d
     dir_under zero is = under zero 0 refl is
     dir_under (suc d) is = let way = su.rooted (suc d) is (λ e. omega (arith, e)) in under way.0 (suc d) way.1 is
+
+    -- what stays where it was is covered as it was
+    pub fixed_covered : (s : Spot) (x : ℕ) → look u s.0 s.1 ≡ Some x → Fixed s x → row_cover u h s x ≡ row_cover t0 h s x
+    fixed_covered s x e fixed = by (is_dir u x) refl
+      where
+        same : is_dir u x ≡ is_dir t0 x
+        same = same_dir t0 u x (same_then s s x fixed.0 e)
+
+        at_dir : is_dir u x ≡ true → is_dir t0 x ≡ true → DirUnder u x → row_cover u h s x ≡ row_cover t0 h s x
+        at_dir is was (at_rest _ covers) = dir_row u h k.well s x is ∙ covers ∙ sym (dir_row t0 h well0 s x was)
+        at_dir is was (come a n had) = absurd (false≢true (sym fixed.1 ∙ ap (can_move table h) (dir_row t0 h well0 s x was) ∙ had was))
+
+        at_name : is_dir t0 x ≡ false → (o : Option ℕ) → perms_kept h (place.Slot s.0 s.1) ≡ o → DirUnder u s.0 →
+            own_or o (cover_in u h s.0) ≡ own_or o (cover_in t0 h s.0)
+        at_name plain (Some perms) own over = refl
+        at_name plain None own (at_rest _ covers) = covers
+        at_name plain None own (come a n had) =
+            absurd (false≢true (sym fixed.1 ∙ ap (can_move table h) (slot_row t0 h well0 s x plain ∙
+            ap (λ o. own_or o (cover_in t0 h s.0)) own) ∙ had (row_says t0 (sound_from t0 well0) s x fixed.0).0))
+
+        by : (b : Bool) → is_dir u x ≡ b → row_cover u h s x ≡ row_cover t0 h s x
+        by true is = at_dir is (sym same ∙ is) (dir_under x is)
+        by false other =
+            let plain = sym same ∙ other in
+            slot_row u h k.well s x other ∙
+            at_name plain (perms_kept h (place.Slot s.0 s.1)) refl (dir_under s.0 (row_says u su s x e).0) ∙
+            sym (slot_row t0 h well0 s x plain)
 
     -- what a name is covered by at which nothing or no directory stands, if it has `c`
     pub name_under : (s : Spot) → is_dir u s.0 ≡ true → is_free t0 h s ≡ true →
@@ -202,14 +254,14 @@ module _ (table : CallTable) (t0 : Tree) (h : History) (well0 : WellFormed t0) (
 
     -- what is no directory: it stays as it was, or came under one of the covers
     pub file_under : (s : Spot) (x : ℕ) → look u s.0 s.1 ≡ Some x → is_dir u x ≡ false →
-        Fixed s x ⊎ (Came u s x × Among (file_covers t0 h) (row_cover u h s x))
+        Fixed s x ⊎ (Came u s x × Among (file_covers t0 table h) (row_cover u h s x))
     file_under s x e other = elim (k.rows s x e) [
       | inl fixed ↦ inl fixed
       | inr came ↦ elim (free_or_fixed s x e) [
         | inr fixed ↦ inl fixed
         | inl free ↦ inr (
           came,
-          subst (Among (file_covers t0 h)) (sym (slot_row u h k.well s x other)) (by came free (perms_kept h (place.Slot s.0 s.1)) refl),
+          subst (Among (file_covers t0 table h)) (sym (slot_row u h k.well s x other)) (by came free (perms_kept h (place.Slot s.0 s.1)) refl),
         )
       ]
     ]
@@ -217,21 +269,29 @@ module _ (table : CallTable) (t0 : Tree) (h : History) (well0 : WellFormed t0) (
         lives : is_dir u s.0 ≡ true
         lives = (row_says u su s x e).0
 
-        at_dir : Came u s x → perms_kept h (place.Slot s.0 s.1) ≡ None → DirUnder u s.0 → Among (file_covers t0 h) (cover_in u h s.0)
+        -- a file in it can be moved with a directory of the beginning
+        with_old : (d : ℕ) → is_dir t0 d ≡ true → can_move table h (cover_in t0 h d) ≡ true → some_dir_moves t0 table h ≡ true
+        with_old d dir can =
+            moves_by t0 h table (cover_in t0 h d) (open_by t0 h d dir (moved_has_c table h (cover_in t0 h d) can)) can
+
+        at_dir : Came u s x → perms_kept h (place.Slot s.0 s.1) ≡ None → DirUnder u s.0 → Among (file_covers t0 table h) (cover_in u h s.0)
         at_dir came none (at_rest dir same) =
             let has : has_c (cover_in t0 h s.0) ≡ true = ap (λ o. has_c (own_or o (cover_in t0 h s.0))) (sym none) ∙ came.file other dir in
-            file_by_dir t0 h (cover_in u h s.0) (rest_way s.0 dir same has) (some_dir_by t0 h s.0 dir has)
-        at_dir came none (come a n had) = file_by_dir t0 h (cover_in u h s.0) a (elim (given_or_new t0 s.0) [
-          | inl below ↦ (let dir = old_dir s.0 below lives in some_dir_by t0 h s.0 dir (had dir))
-          | inr from ↦ came.inner from
-        ])
+            file_by_open t0 h table (cover_in u h s.0) (subst (Among (open_covers t0 h)) (sym same) (open_by t0 h s.0 dir has))
+        at_dir came none (come a n had) = elim (given_or_new t0 s.0) [
+          | inl below ↦ (let dir = old_dir s.0 below lives in file_by_dir t0 h table (cover_in u h s.0) a (with_old s.0 dir (had dir)))
+          | inr from ↦ elim (came.inner other from) [
+            | inl has ↦ file_by_open t0 h table (cover_in u h s.0) (open_among t0 h (cover_in u h s.0) a has)
+            | inr some ↦ file_by_dir t0 h table (cover_in u h s.0) a some
+          ]
+        ]
 
         by : Came u s x → is_free t0 h s ≡ true → (o : Option ℕ) → perms_kept h (place.Slot s.0 s.1) ≡ o →
-            Among (file_covers t0 h) (own_or o (cover_in u h s.0))
+            Among (file_covers t0 table h) (own_or o (cover_in u h s.0))
         by came free (Some perms) is =
             let dir = old_dir s.0 (stand (place.Slot s.0 s.1) perms is) lives in
             let has : has_c (Only perms) ≡ true = ap (λ o. has_c (own_or o (cover_in t0 h s.0))) (sym is) ∙ came.file other dir in
-            file_by_name t0 h (Only perms) (name_by_veil t0 h s.0 s.1 perms dir is has free)
+            file_by_name t0 h table (Only perms) (name_by_veil t0 h s.0 s.1 perms dir is has free)
         by came free None is = at_dir came is (dir_under s.0 lives)
 
     -- a directory in which nothing stands could come to be empty at the beginning

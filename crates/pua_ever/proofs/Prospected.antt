@@ -5,7 +5,8 @@ use Rattle.pua_ever.proofs.Common.{Spot, is_dir, is_empty, has_no_row, empty_tre
 use Rattle.pua_ever.proofs.Common.{Whole, CallTable, rule_of, has, keeps_link, History, perms_kept, may_any, object_seen, Object, IsDir}
 use Rattle.pua_ever.proofs.Common.{object_fault, cover_fault, or_fault, allowed_unless, if_promised, covered_verdict, is_allowed, Call}
 use Rattle.pua_ever.proofs.Common.{Cover, May, has_c, At, cover_in, row_cover, can_empty, dir_covers, may_edit, removable_dir, lasting_dir}
-use Rattle.pua_ever.proofs.Common.{is_named_way, is_allowed_under, is_ever_allowed, EditsNeedC}
+use Rattle.pua_ever.proofs.Common.{is_named_way, is_allowed_under, is_ever_allowed, EditsNeedC, can_move, may_rename, is_yes, or_left}
+use Rattle.pua_ever.proofs.Grown.{moved_has_c}
 use Rattle.pua_path.specs.declared.errno.Errno.{Errno}
 use Rattle.pua_calls.specs.declared.call.Call.TheVariants as call
 use Rattle.pua_policy.specs.declared.place.Place.TheVariants as place
@@ -13,7 +14,7 @@ use Rattle.pua_policy.specs.declared.answer.May.TheVariants as may
 use Rattle.pua_policy.specs.declared.object.Object as seen
 use Rattle.pua_policy.specs.declared.object.Object.TheVariants as see
 use Rattle.pua_script.proofs.ForCallers.{c_from_cover}
-use Rattle.pua_ever.specs.Ever.{ever_covers}
+use Rattle.pua_ever.specs.Ever.{can_allow, ever_covers}
 use Rattle.pua_ever.specs.EverReady.{IsProspects}
 use Rattle.pua_ever.specs.declared.prospects.Prospects.{Prospects}
 use Rattle.pua_ever.proofs.KindFaults.{dir_as}
@@ -99,10 +100,16 @@ module _ (t : Tree) (h : History) where
   pub empty_can : (dir : ℕ) → not (list_any (λ row. row.0.0 == dir) t.rows) ≡ true → can_empty t h dir ≡ true
   empty_can dir none = empty_rows dir t.rows none
 
+-- who may rename may edit the tree
+rename_edits : (table : CallTable) (h : History) → may_rename table h ≡ true → may_edit table h ≡ true
+rename_edits table h both =
+    or_left (is_yes (may_any h table.rename.new.needs.alternatives)) _
+    (and_parts (is_yes (may_any h table.rename.old.needs.alternatives)) _ both).1
+
 module _ (t : Tree) (table : CallTable) (h : History) (p : Prospects) (is : IsProspects t table h p) where
   module _ (dir : ℕ) (way : Way) (living : is_dir t dir ≡ true) where
     abbrev moves : Bool
-    moves = may_edit table h && is_none (perms_kept h (place.Dir dir))
+    moves = is_none (perms_kept h (place.Dir dir)) && can_move table h (cover_in t h dir)
 
     abbrev stays : Bool
     stays = list_any (λ other. other == dir) p.held.items
@@ -111,15 +118,22 @@ module _ (t : Tree) (table : CallTable) (h : History) (p : Prospects) (is : IsPr
     abbrev empties : Bool
     empties = is_named_way way && (can_empty t h dir && (may_edit table h || not (list_any (λ row. row.0.0 == dir) t.rows)))
 
+    -- a directory is no file
+    dir_allows : (covers : List Cover) (b : Bool) (call : Call) →
+        is_allowed_under table h covers (dir_as b) call ≡ can_allow table h covers (dir_as b) call
+    dir_allows covers true call = refl
+    dir_allows covers false call = refl
+
     under : (call : Call) (covers : List Cover) → ever_covers moves (cover_in t h dir) (dir_covers t h) ≡ covers →
         is_allowed_under table h covers (dir_as empties) call ≡ is_ever_allowed t table h (At (Whole dir way)) call
     under call covers same =
         ap (λ cs. is_allowed_under table h cs (dir_as empties) call) (sym same)
-        ∙ ap (λ b. b && is_allowed_under table h (ever_covers moves (cover_in t h dir) (dir_covers t h)) (dir_as empties) call)
+        ∙ dir_allows (ever_covers moves (cover_in t h dir) (dir_covers t h)) empties call
+        ∙ ap (λ b. b && can_allow table h (ever_covers moves (cover_in t h dir) (dir_covers t h)) (dir_as empties) call)
         (sym (or-true (keeps_link call)))
 
     -- one that can be moved
-    pub moved_calls : (moves && has_c (cover_in t h dir)) ≡ true → (emptied : Bool) → emptied ≡ (is_named_way way && not stays)
+    pub moved_calls : moves ≡ true → (emptied : Bool) → emptied ≡ (is_named_way way && not stays)
         → (call : Call) → has (cond emptied p.movable.emptied p.movable.dir) call ≡ is_ever_allowed t table h (At (Whole dir way)) call
     moved_calls can emptied same call =
         found emptied
@@ -130,8 +144,11 @@ module _ (t : Tree) (table : CallTable) (h : History) (p : Prospects) (is : IsPr
         found true = is.movable.emptied call
         found false = is.movable.dir call
 
+        can_be : can_move table h (cover_in t h dir) ≡ true
+        can_be = (and_parts (is_none (perms_kept h (place.Dir dir))) _ can).1
+
         edits : may_edit table h ≡ true
-        edits = (and_parts (may_edit table h) _ (and_parts moves _ can).0).0
+        edits = rename_edits table h (and_parts (may_rename table h) _ can_be).0
 
         right : (b : Bool) → (b && true) ≡ b
         right true = refl
@@ -139,11 +156,11 @@ module _ (t : Tree) (table : CallTable) (h : History) (p : Prospects) (is : IsPr
 
         test : (is_named_way way && not stays) ≡ empties
         test = ap (λ b. is_named_way way && b)
-            (sym (is.held dir living (and_parts moves _ can).1) ∙ sym (right (can_empty t h dir)) ∙
+            (sym (is.held dir living (moved_has_c table h (cover_in t h dir) can_be)) ∙ sym (right (can_empty t h dir)) ∙
             ap (λ b. can_empty t h dir && (b || not (list_any (λ row. row.0.0 == dir) t.rows))) (sym edits))
 
     -- one that can't
-    pub still_calls : EditsNeedC table → (moves && has_c (cover_in t h dir)) ≡ false → (object : seen.Object) →
+    pub still_calls : EditsNeedC table → moves ≡ false → (object : seen.Object) →
         object ≡ cond ((is_named_way way && not stays) && may_edit table h) see.Removable (object_seen t (IsDir dir way))
         → (set : ℕ) → ((o : Object) → object ≡ object_seen empty_tree o → (call : Call) →
         has set call ≡ is_allowed (covered_verdict empty_tree table h call (cover_in t h dir) o))

@@ -3,12 +3,12 @@ use Rattle.pua_ever.proofs.Common.{◌≡◌, ◌≢◌, ℕ, zero, suc, List, B
 use Rattle.pua_ever.proofs.Common.{◌||◌, ◌==◌, list_any, false≢true, and_parts, not-true, eqb-true, or_left, Tree, WellFormed, Spot}
 use Rattle.pua_ever.proofs.Common.{spot_cmp, is_dir, is_living, look, node_at, above, climb, is_empty, has_no_row, Reaches, sound_from}
 use Rattle.pua_ever.proofs.Common.{row_says, row_of, spots_total, exact_spots, same_dir, CallTable, History, perms_kept, Only, has_c}
-use Rattle.pua_ever.proofs.Common.{UncoveredStay, cover_in, own_or, covers_descend, is_below}
+use Rattle.pua_ever.proofs.Common.{UncoveredStay, cover_in, own_or, covers_descend, is_below, row_cover}
 use Rattle.pua_tree.proofs.ForCallers.{above_is}
 use Rattle.pua_tree.proofs.ForCallers.{none_found}
 use Rattle.pua_policy.proofs.ForCallers.{climb_step, climb_root}
 use Rattle.pua_policy.specs.declared.place.Place.TheVariants as place
-use Rattle.pua_ever.proofs.Grown.{Grown, Written, by_name, by_turn, From, is_new, is_moved, is_linked, Put, name_cover}
+use Rattle.pua_ever.proofs.Grown.{Grown, Written, by_name, by_turn, From, is_new, is_moved, is_linked, Put, name_cover, moved_has_c}
 use Rattle.pua_ever.proofs.Covers.{dir_row, living_dir, below_next}
 
 -- nothing with `c` is outside
@@ -90,9 +90,10 @@ module _ (table : CallTable) (h : History) (t u : Tree) (well : WellFormed t) (w
   pub never_turned : (x : ℕ) → is_dir t x ≡ true → From table t h x → (x == y) ≡ false → is_empty t y ≡ true → ⊥
   never_turned x is (is_new new) other empty = let below = below_next t h well x (living_dir t h well x is) in absurd (omega (arith, new))
   never_turned x is (is_linked r e plain can) other empty = absurd (false≢true (sym plain ∙ is))
-  never_turned x is (is_moved r e has) other empty =
+  never_turned x is (is_moved r e can) other empty =
       let way = way_up t well y x is in
-      not_empty t well y n way.0 x way.1 is other (inside_dir x is (ap has_c (sym (dir_row t h well r x is)) ∙ has))
+      not_empty t well y n way.0 x way.1 is other (inside_dir x is (ap has_c (sym (dir_row t h well r x is)) ∙
+      moved_has_c table h (row_cover t h r x) can))
       (and_parts (is_dir t y) (has_no_row t y) empty).1
 
   -- where a row was written is inside

@@ -30,10 +30,10 @@ use Rattle.pua_tree.specs.Edits.{add, cut, shift, tie}
 use Rattle.pua_script.proofs.ForCallers.{replays_keep_trees, replays_keep_byte_trees, listings_list_byte_trees, scripts_ask_in_bytes}
 use Rattle.pua_script.proofs.ForCallers.{by_request, by_decision, decisions_are_guarded, by_placing, by_cutting, by_tying}
 use Rattle.pua_script.proofs.ForCallers.{by_moves}
-use Rattle.pua_ever.specs.Laws.{dir_of_place, PlacesStand, ReplaysKeepPlaces, EverAsRead}
+use Rattle.pua_ever.specs.Laws.{dir_of_place, PlacesStand, ReplaysKeepPlaces, EverAfterRead, EverAsRead}
 use Rattle.pua_ever.proofs.Growing.{numbers_grow}
 use Rattle.pua_ever.proofs.Covers.{living_dir, below_next}
-use Rattle.pua_ever.proofs.Complete.{ever_complete}
+use Rattle.pua_ever.proofs.Complete.{beside_one, ever_complete}
 
 -- no veil comes by an event that is none, nor by leaving out pledges
 kept_after : (h : History) (at : Place) → perms_kept (filter (λ event. not (is_pledge event)) h) at ≡ perms_kept h at
@@ -161,7 +161,7 @@ replays_keep_places table needs w (ask ∷ asks) trees places =
     replays_keep_places table needs (apply table w ask).1 asks trees.1 (step table needs w ask trees.0 places)
 
 -- at the beginning there are no veils
-new_places : (t : Tree) → PlacesStand (new_world t)
+pub new_places : (t : Tree) → PlacesStand (new_world t)
 new_places t process h is at perms e = by process is
   where
     none : h ≡ new_history → ⊥
@@ -185,3 +185,15 @@ ever_as_read table sound needs tree_bytes script_bytes t first asks listed scrip
     (new_places t) in
     ever_complete table sound needs w asks process now here confined (places process now here)
     (replays_keep_trees table w asks left bytes.1) none alone member belongs
+
+pub ever_after_read : EverAfterRead
+ever_after_read table sound needs tree_bytes script_bytes t first asks listed scripted bytes process now here confined none edit member
+    belongs =
+    let w = world_after table (new_world t) first in
+    let said = scripts_ask_in_bytes script_bytes first scripted in
+    let tree : IsByteTree t = listings_list_byte_trees tree_bytes t listed in
+    let left = replays_keep_byte_trees table (new_world t) first tree said in
+    let places = replays_keep_places table needs (new_world t) first (replays_keep_trees table (new_world t) first tree said)
+    (new_places t) in
+    beside_one table sound needs w asks process now here confined (places process now here)
+    (replays_keep_trees table w asks left bytes) none edit member belongs

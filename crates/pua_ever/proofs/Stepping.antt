@@ -1,17 +1,17 @@
 -- One request keeps what is known of each row.
 use Rattle.pua_ever.proofs.Common.{◌≡◌, ◌≢◌, ◌⊎◌, ◌≤◌, ◌<◌, ℕ, true, false, refl, sym, ap, subst, ◌∙◌, inl, inr, arith, Option, Some, None}
 use Rattle.pua_ever.proofs.Common.{◌==◌, is_some, option_map, false≢true, and_parts, eqb-true, Tree, WellFormed, Spot, is_dir, is_living}
-use Rattle.pua_ever.proofs.Common.{look, node_at, is_empty, has_no_row, empty_tree, sound_from, row_says, same_dir, CallTable, History}
+use Rattle.pua_ever.proofs.Common.{zero, suc, Bool, Reaches, above, row_of, look, node_at, is_empty, has_no_row, empty_tree, sound_from, row_says, same_dir, CallTable, History}
 use Rattle.pua_ever.proofs.Common.{perms_kept, IsMissing, covered_verdict, is_allowed, has_c, UncoveredStay, cover_in, own_or}
-use Rattle.pua_ever.proofs.Common.{covers_descend, row_cover, can_link, has_c_outside, some_dir_has_c, New, maker, can_make, VeilsStand}
+use Rattle.pua_ever.proofs.Common.{covers_descend, row_cover, can_link, has_c_outside, some_dir_moves, New, maker, can_make, can_move, VeilsStand}
 use Rattle.pua_policy.specs.declared.place.Place.TheVariants as place
 use Rattle.pua_script.proofs.ForCallers.{spared_twice}
-use Rattle.pua_ever.proofs.Grown.{Grown, Written, by_name, by_turn, From, is_new, is_moved, is_linked, Makes, name_cover}
-use Rattle.pua_ever.proofs.Ways.{any_among, some_dir_by, some_dir_among}
-use Rattle.pua_ever.proofs.Covers.{dir_row, living_dir, below_next}
-use Rattle.pua_ever.proofs.Quiet.{quiet_then, never_turned}
+use Rattle.pua_ever.proofs.Grown.{Grown, Written, by_name, by_turn, From, is_new, is_moved, is_linked, Makes, name_cover, moved_has_c}
+use Rattle.pua_ever.proofs.Ways.{any_among, open_by, open_among, moves_by}
+use Rattle.pua_ever.proofs.Covers.{dir_row, own_dir, under_dir, living_dir, below_next}
+use Rattle.pua_ever.proofs.Quiet.{quiet_then, never_turned, way_up}
 use Rattle.pua_ever.proofs.Origins.{Fixed, Origin, linked, since, Entrance, by_veil, turned, still, Came, Known, Stays, DirUnder, at_rest}
-use Rattle.pua_ever.proofs.Origins.{come, dir_under, name_under, could_empty, free_then}
+use Rattle.pua_ever.proofs.Origins.{come, dir_under, fixed_covered, same_then, name_under, could_empty, free_then}
 
 module _ (table : CallTable) (t0 : Tree) (h : History) (well0 : WellFormed t0) (stand : VeilsStand t0 h) where
   abbrev Came0 : Tree → Spot → ℕ → Type 0
@@ -40,46 +40,97 @@ module _ (table : CallTable) (t0 : Tree) (h : History) (well0 : WellFormed t0) (
     lives : (s : Spot) (x : ℕ) → look u s.0 s.1 ≡ Some x → is_living u x ≡ true
     lives s x e = (row_says u (sound_from u well) s x e).2
 
-    -- a row that was there with `c`, by the tree before, came with its origin
-    came_from : (r : Spot) (x : ℕ) → look t r.0 r.1 ≡ Some x → has_c (row_cover t h r x) ≡ true → Origin0 x
-    came_from r x e has = elim (k.rows r x e) [
-      | inl fixed ↦ absurd (false≢true (sym (ap has_c (k.uncovered r x fixed.0 fixed.1).covered ∙ fixed.1) ∙ has))
+    -- a row by which its thing can be moved, by the tree before, came with its origin
+    came_from : (r : Spot) (x : ℕ) → look t r.0 r.1 ≡ Some x → can_move table h (row_cover t h r x) ≡ true → Origin0 x
+    came_from r x e can = elim (k.rows r x e) [
+      | inl fixed ↦ absurd (false≢true (sym fixed.1 ∙
+          ap (can_move table h) (sym (fixed_covered table t0 h well0 stand t k r x e fixed)) ∙ can))
       | inr came ↦ came.origin
     ]
 
     origin_of : (x : ℕ) → From table t h x → Origin0 x
     origin_of x (is_new new) = since (let from = k.next in omega arith)
-    origin_of x (is_moved r e has) = came_from r x e has
+    origin_of x (is_moved r e can) = came_from r x e can
     origin_of x (is_linked r e plain can) = elim (k.rows r x e) [
-      | inl fixed ↦ (let stays = k.uncovered r x fixed.0 fixed.1 in
-          linked r fixed.0 (sym (same_dir t0 t x stays.node) ∙ plain)
-          ((λ i. can_link table h (ap (option_map (λ n. n.kind)) (sym stays.node) i) (sym stays.covered i)) ∙ can))
+      | inl fixed ↦ (let node = same_then table t0 h well0 stand t k r r x fixed.0 e in
+          let covered = fixed_covered table t0 h well0 stand t k r x e fixed in
+          linked r fixed.0 (sym (same_dir t0 t x node) ∙ plain)
+          ((λ i. can_link table h (ap (option_map (λ n. n.kind)) (sym node) i) (sym covered i)) ∙ can))
       | inr came ↦ came.origin
     ]
 
     -- a directory that has `c` now had it at the beginning, or is not of the beginning
     had_c : (d : ℕ) → is_dir t0 d ≡ true → Under0 t d → has_c (cover_in t h d) ≡ true → has_c (cover_in t0 h d) ≡ true
     had_c d dir (at_rest is same) has = ap has_c (sym same) ∙ has
-    had_c d dir (come a n had) has = had dir
+    had_c d dir (come a n had) has = moved_has_c table h (cover_in t0 h d) (had dir)
 
-    -- something that has `c` now is carried, if it isn't of the beginning
-    carried : (d : ℕ) → Under0 t d → has_c (cover_in t h d) ≡ true → some_dir_has_c t0 h ≡ true
-    carried d (at_rest dir same) has = some_dir_by t0 h d dir (ap has_c (sym same) ∙ has)
-    carried d (come a n had) has = some_dir_among t0 h (cover_in t h d) a has
+    -- a directory that can be moved is covered as one was that could be
+    movable_then : (d : ℕ) → Under0 t d → can_move table h (cover_in t h d) ≡ true → some_dir_moves t0 table h ≡ true
+    movable_then d (at_rest dir same) can =
+        let was : can_move table h (cover_in t0 h d) ≡ true = ap (can_move table h) (sym same) ∙ can in
+        moves_by t0 h table (cover_in t0 h d) (open_by t0 h d dir (moved_has_c table h (cover_in t0 h d) was)) was
+    movable_then d (come a n had) can =
+        moves_by t0 h table (cover_in t h d) (open_among t0 h (cover_in t h d) a (moved_has_c table h (cover_in t h d) can)) can
+
+    -- where none could be moved, none is, and covers of directories stay
+    module _ (none : some_dir_moves t0 table h ≡ false) where
+      never_moved : (d : ℕ) → is_dir t d ≡ true → From table t h d → ⊥
+      never_moved d dir (is_new new) = let below = below_next t h k.well d (living_dir t h k.well d dir) in omega (arith, new)
+      never_moved d dir (is_linked r e plain can) = false≢true (sym plain ∙ dir)
+      never_moved d dir (is_moved r e can) =
+          false≢true (sym none ∙ movable_then d (dir_under table t0 h well0 stand t k d dir)
+          (ap (can_move table h) (sym (dir_row t h k.well r d dir)) ∙ can))
+
+      covers_stay_in : (steps d : ℕ) → Reaches u steps d → is_dir u d ≡ true → is_dir t d ≡ true → cover_in u h d ≡ cover_in t h d
+      covers_stay_in zero d root is dir =
+          ap (cover_in u h) root ∙ (covers_descend u h well).root ∙ sym (covers_descend t h k.well).root ∙ ap (cover_in t h) (sym root)
+      covers_stay_in (suc steps) d up is dir = by (perms_kept h (place.Dir d)) refl (covers_stay_in steps (above u d) up.1)
+        where
+          by : (o : Option ℕ) → perms_kept h (place.Dir d) ≡ o
+              → (is_dir u (above u d) ≡ true → is_dir t (above u d) ≡ true → cover_in u h (above u d) ≡ cover_in t h (above u d))
+              → cover_in u h d ≡ cover_in t h d
+          by (Some perms) own rest = own_dir u h well d perms is up.0 own ∙ sym (own_dir t h k.well d perms dir up.0 own)
+          by None own rest =
+              let row = row_of u (sound_from u well) d is up.0 in
+              elim (grown.rows row.0 d row.1) [
+                | inl there ↦ (let over : cover_in u h row.0.0 ≡ cover_in t h row.0.0 =
+                    ap (cover_in u h) (sym row.2) ∙
+                    rest (ap (is_dir u) row.2 ∙ (row_says u (sound_from u well) row.0 d row.1).0)
+                    (ap (is_dir t) row.2 ∙ (row_says t (sound_from t k.well) row.0 d there).0) ∙
+                    ap (cover_in t h) row.2 in
+                    under_dir u h well row.0 d is row.1 own ∙ over ∙ sym (under_dir t h k.well row.0 d dir there own))
+                | inr put ↦ absurd (never_moved d dir put.from)
+              ]
+
+      covers_stay : (d : ℕ) → is_dir u d ≡ true → is_dir t d ≡ true → cover_in u h d ≡ cover_in t h d
+      covers_stay d is dir = let up = way_up u well 0 d is in covers_stay_in up.0 d up.1 is dir
+
+    -- so what had `c` in the tree before has it still, or something can be moved
+    stays_open : (d : ℕ) → is_dir u d ≡ true → is_dir t d ≡ true → has_c (cover_in t h d) ≡ true →
+        (has_c (cover_in u h d) ≡ true) ⊎ (some_dir_moves t0 table h ≡ true)
+    stays_open d is dir has = by (some_dir_moves t0 table h) refl
+      where
+        by : (b : Bool) → some_dir_moves t0 table h ≡ b → (has_c (cover_in u h d) ≡ true) ⊎ (some_dir_moves t0 table h ≡ true)
+        by true some = inr some
+        by false none = inl (ap has_c (covers_stay none d is dir) ∙ has)
 
     -- what stood in a directory without `c` and had `c` gave way
     gave_way : (s : Spot) (y x : ℕ) → look t s.0 s.1 ≡ Some y → is_dir t y ≡ true → is_empty t y ≡ true → has_c (cover_in t h y) ≡ true →
         is_dir t x ≡ true → From table t h x
         → is_dir t0 s.0 ≡ true → has_c (cover_in t0 h s.0) ≡ false → Entrance0 s x
-    gave_way s y x e dir empty has is from over lacks = elim (k.rows s y e) [
-      | inl fixed ↦ absurd (false≢true (sym (ap has_c (sym (dir_row t h k.well s y dir) ∙ (k.uncovered s y fixed.0 fixed.1).covered) ∙
-          fixed.1) ∙ has))
-      | inr came ↦ elim (x == y) as (λ b. (x == y) ≡ b → Entrance0 s x) [
-        | true ↦ λ same. subst (Entrance0 s) (sym (eqb-true x y same)) (came.dir dir over lacks)
-        | false ↦ λ differs. by differs (came.dir dir over lacks)
-      ] refl
-    ]
+    gave_way s y x e dir empty has is from over lacks = elim (x == y) as (λ b. (x == y) ≡ b → Entrance0 s x) [
+      | true ↦ λ same. subst (Entrance0 s) (sym (eqb-true x y same)) stood_so
+      | false ↦ λ differs. by differs stood_so
+    ] refl
       where
+        stood_so : Entrance0 s y
+        stood_so = elim (k.rows s y e) [
+          | inl fixed ↦ (let was : is_dir t0 y ≡ true = sym (same_dir t0 t y (same_then table t0 h well0 stand t k s s y fixed.0 e)) ∙ dir in
+              still fixed.0 was (ap has_c (sym (dir_row t0 h well0 s y was) ∙ sym (fixed_covered table t0 h well0 stand t k s y e fixed) ∙
+              dir_row t h k.well s y dir) ∙ has))
+          | inr came ↦ came.dir dir over lacks
+        ]
+
         other : y ≢ 0
         other = (row_says t (sound_from t k.well) s y e).3
 
@@ -120,15 +171,16 @@ module _ (table : CallTable) (t0 : Tree) (h : History) (well0 : WellFormed t0) (
     put_dir s x over from (by_turn y at empty has is) dir lacks =
         gave_way s y x at (and_parts (is_dir t y) (has_no_row t y) empty).0 empty has is from dir lacks
 
-    put_inner : (s : Spot) (x : ℕ) → is_dir t s.0 ≡ true → Written table t h s x → t0.next ≤ s.0 → some_dir_has_c t0 h ≡ true
-    put_inner s x over (by_name has) from = by (perms_kept h (place.Slot s.0 s.1)) refl (named_c s has)
+    put_inner : (s : Spot) (x : ℕ) → look u s.0 s.1 ≡ Some x → is_dir t s.0 ≡ true → Written table t h s x → is_dir u x ≡ false →
+        t0.next ≤ s.0 → (has_c (cover_in u h s.0) ≡ true) ⊎ (some_dir_moves t0 table h ≡ true)
+    put_inner s x e over (by_name has) other from = by (perms_kept h (place.Slot s.0 s.1)) refl (named_c s has)
       where
         by : (o : Option ℕ) → perms_kept h (place.Slot s.0 s.1) ≡ o → has_c (own_or o (cover_in t h s.0)) ≡ true →
-            some_dir_has_c t0 h ≡ true
+            (has_c (cover_in u h s.0) ≡ true) ⊎ (some_dir_moves t0 table h ≡ true)
         by (Some perms) e has = let below : s.0 < t0.next = stand (place.Slot s.0 s.1) perms e in absurd (omega arith)
-        by None e has = carried s.0 (dir_under table t0 h well0 stand t k s.0 over) has
-    put_inner s x over (by_turn y at empty has is) from =
-        carried y (dir_under table t0 h well0 stand t k y (and_parts (is_dir t y) (has_no_row t y) empty).0) has
+        by None own has = stays_open s.0 (row_says u (sound_from u well) s x e).0 over has
+    put_inner s x e over (by_turn y at empty has is) other from =
+        absurd (false≢true (sym other ∙ same_dir t u x (same_node x (living_dir t h k.well x is) (lives s x e)) ∙ is))
 
     rows_then : (s : Spot) (x : ℕ) → look u s.0 s.1 ≡ Some x → Fixed table t0 h well0 stand s x ⊎ Came0 u s x
     rows_then s x e = elim (grown.rows s x e) [
@@ -139,14 +191,17 @@ module _ (table : CallTable) (t0 : Tree) (h : History) (well0 : WellFormed t0) (
               origin = came.origin;
               file = λ other dir. came.file (sym same ∙ other) dir;
               dir = λ is dir lacks. came.dir (sym same ∙ is) dir lacks;
-              inner = came.inner;
+              inner = λ other from. elim (came.inner (sym same ∙ other) from) [
+                | inl has ↦ stays_open s.0 (row_says u (sound_from u well) s x e).0 (row_says t (sound_from t k.well) s x there).0 has
+                | inr some ↦ inr some
+              ];
             }))
       ]
       | inr put ↦ inr (record {
         origin = origin_of x put.from;
         file = λ other dir. put_file s x e put.lives put.written other dir;
         dir = λ is dir lacks. put_dir s x put.lives put.from put.written dir lacks;
-        inner = λ from. put_inner s x put.lives put.written from;
+        inner = λ other from. put_inner s x e put.lives put.written other from;
       })
     ]
 

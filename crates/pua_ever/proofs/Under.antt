@@ -1,9 +1,8 @@
 -- What some cover of a list passes, some cover of another one with the same elements does.
-use Rattle.pua_ever.proofs.Common.{◌≡◌, List, [], ◌++◌, Bool, true, false, refl, sym, ◌∙◌, ◌||◌, if◌then◌else◌, nat_lt, list_any}
+use Rattle.pua_ever.proofs.Common.{◌≡◌, List, [], ◌++◌, Bool, true, false, refl, sym, ◌∙◌, ◌||◌, if◌then◌else◌, ap, list_any}
 use Rattle.pua_ever.proofs.Common.{false≢true, list_any-append, contained, among_contained, Tree, empty_tree, CallTable, History, Object}
 use Rattle.pua_ever.proofs.Common.{covered_verdict, is_allowed, Cover, Call, is_allowed_under, dir_covers, name_covers, file_covers}
-use Rattle.pua_ever.proofs.Common.{some_dir_has_c, HaveSame}
-use Rattle.std.specs.Prelude.{length}
+use Rattle.pua_ever.proofs.Common.{some_dir_moves, can_move, open_covers, HaveSame}
 use Rattle.std.specs.List.{Contains}
 use Rattle.pua_ever.proofs.Ways.{any_among, any_found}
 
@@ -36,17 +35,32 @@ module _ (t : Tree) (table : CallTable) (h : History) (dirs entrances names : Li
         ∙ (λ i. any_same passes names (name_covers t h) names_same i || under_dirs i)
         ∙ sym (list_any-append passes (name_covers t h) (dir_covers t h))
 
-    pub under_files : nat_lt 0 (length dirs) ≡ some_dir_has_c t h
-        → is_allowed_under table h (names ++ (if nat_lt 0 (length dirs) then dirs ++ entrances else [])) judged call
-        ≡ is_allowed_under table h (file_covers t h) judged call
-    under_files some =
-        list_any-append passes names (if nat_lt 0 (length dirs) then dirs ++ entrances else [])
-        ∙ (λ i. any_same passes names (name_covers t h) names_same i || by (nat_lt 0 (length dirs)) (some_dir_has_c t h) some i)
-        ∙ sym (list_any-append passes (name_covers t h) (if some_dir_has_c t h then dir_covers t h else []))
+    -- some directory moves where one of the covers says so
+    pub some_moves : HaveSame dirs (open_covers t h) → list_any (can_move table h) dirs ≡ some_dir_moves t table h
+    some_moves open_same = any_same (can_move table h) dirs (open_covers t h) open_same
+
+    pub under_files : HaveSame dirs (open_covers t h) → (moves : Bool) → moves ≡ some_dir_moves t table h
+        → is_allowed_under table h (names ++ (dirs ++ (if moves then entrances else []))) judged call
+        ≡ is_allowed_under table h (file_covers t table h) judged call
+    under_files open_same moves some =
+        list_any-append passes names (dirs ++ (if moves then entrances else []))
+        ∙ (λ i. any_same passes names (name_covers t h) names_same i || by moves i)
+        ∙ ap (λ b. list_any passes (name_covers t h) || list_any passes (open_covers t h ++ (if b then dir_covers t h else []))) some
+        ∙ sym (list_any-append passes (name_covers t h) (open_covers t h ++ (if some_dir_moves t table h then dir_covers t h else [])))
       where
-        by : (a b : Bool) → a ≡ b →
-            list_any passes (if a then dirs ++ entrances else []) ≡ list_any passes (if b then dir_covers t h else [])
-        by true true e = under_dirs
-        by false false e = refl
-        by true false e = absurd (false≢true (sym e))
-        by false true e = absurd (false≢true e)
+        twice : (a b : Bool) → (a || b) ≡ (a || (a || b))
+        twice true b = refl
+        twice false b = refl
+
+        by : (b : Bool) → list_any passes (dirs ++ (if b then entrances else [])) ≡ list_any passes
+            (open_covers t h ++ (if b then dir_covers t h else []))
+        by false =
+            list_any-append passes dirs []
+            ∙ ap (λ a. a || false) (any_same passes dirs (open_covers t h) open_same)
+            ∙ sym (list_any-append passes (open_covers t h) [])
+        by true =
+            list_any-append passes dirs entrances
+            ∙ twice (list_any passes dirs) (list_any passes entrances)
+            ∙ ap (λ b. list_any passes dirs || b) (sym (list_any-append passes dirs entrances))
+            ∙ (λ i. any_same passes dirs (open_covers t h) open_same i || under_dirs i)
+            ∙ sym (list_any-append passes (open_covers t h) (dir_covers t h))

@@ -1,10 +1,10 @@
 -- Who holds what none of the edits needs leaves the tree.
-use Rattle.pua_ever.proofs.Common.{◌≡◌, ℕ, List, [], ◌∷◌, Bool, true, false, cond, refl, sym, ap, subst, ◌∙◌, inl, inr, list_any, Some}
-use Rattle.pua_ever.proofs.Common.{is_some, nat_le, not, false≢true, and_parts, or_left, or_right, not-true, EAGAIN, Found, History}
-use Rattle.pua_ever.proofs.Common.{may_any, CallTable, rule_of, Call, May, most_processes, Asked, tree_left, is_member, is_exec, is_done}
-use Rattle.pua_ever.proofs.Common.{none_done, members_alone, family_then, World, Fails, Copies, change_effect, history_of, apply}
+use Rattle.pua_ever.proofs.Common.{◌≡◌, ◌⊎◌, ℕ, List, [], ◌∷◌, Bool, true, false, cond, refl, sym, ap, subst, ◌∙◌, inl, inr, list_any, Some}
+use Rattle.pua_ever.proofs.Common.{is_some, nat_le, false≢true, or_left, or_right, EAGAIN, Found, History}
+use Rattle.pua_ever.proofs.Common.{may_any, CallTable, rule_of, Call, May, most_processes, Asked, tree_left, is_member}
+use Rattle.pua_ever.proofs.Common.{family_then, World, Fails, Copies, change_effect, history_of, apply}
 use Rattle.pua_ever.proofs.Common.{world_after, Change, CopyAs, change_by, IsDecided, Action, OnPath, Symlink, Rename, Link, Pledge, Unveil}
-use Rattle.pua_ever.proofs.Common.{Lock, Fork, Exit, by_going, IsWithin, Members, members_then, Among, is_yes, may_edit}
+use Rattle.pua_ever.proofs.Common.{Lock, Fork, Exit, by_going, IsWithin, Members, Among, is_yes, may_edit}
 use Rattle.std.proofs.Common.{◌||◌}
 use Rattle.std.specs.List.{AllByRecursion}
 use Rattle.std.specs.Prelude.{length}
@@ -14,6 +14,8 @@ use Rattle.pua_policy.specs.declared.answer.May.TheVariants.{Yes, Enosys, Death}
 use Rattle.pua_script.proofs.ForCallers.{by_own_tree}
 use Rattle.pua_script.proofs.ForCallers.{may_yes}
 use Rattle.pua_ever.specs.Ever.{edit_calls}
+use Rattle.pua_ever.specs.Laws.{MembersEdit, NoExecLoosens}
+use Rattle.pua_ever.proofs.Execs.{members_still}
 use Rattle.pua_ever.proofs.Ways.{any_among, any_found}
 
 module _ (table : CallTable) (w : World) (h : History) (lacks : may_edit table h ≡ false) where
@@ -103,12 +105,14 @@ module _ (table : CallTable) (sound : NoCallNeedsError table) (now : History) wh
       by false false false is in_link e = λ i. is i || (in_link i || e i)
 
   pub unedited_along : may_edit table now ≡ false → (asks : List Asked) (w : World) (members : List ℕ) → Members w members now false
-      → none_done is_exec table w asks members ≡ true → members_alone table w asks members ≡ true → (world_after table w asks).tree ≡ w.tree
-  unedited_along lacks [] w members are none alone = refl
-  unedited_along lacks (ask ∷ asks) w members are none alone =
-      let asked = and_parts (is_member members ask.process) _ alone in
-      let parts = and_parts (not (is_done is_exec table w ask members)) _ none in
-      let asker = are ask.process asked.0 in
+      → NoExecLoosens table now w asks members → MembersEdit table w asks members → (world_after table w asks).tree ≡ w.tree
+  unedited_along lacks [] w members are none edit = refl
+  unedited_along lacks (ask ∷ asks) w members are none edit =
       unedited_along lacks asks (apply table w ask).1 (family_then table w ask members)
-      (members_then table now w ask members false are (not-true (is_done is_exec table w ask members) parts.0)) parts.1 asked.1
-      ∙ unedited table w ask asker.0 asker.1 (still_unable asker.0 asker.2.within lacks)
+      (members_still table now w ask members are none.0) none.1 edit.1
+      ∙ step edit.0
+    where
+      step : (is_member members ask.process ≡ true) ⊎ ((apply table w ask).1.tree ≡ w.tree) → (apply table w ask).1.tree ≡ w.tree
+      step (inl belongs) =
+          let asker = are ask.process belongs in unedited table w ask asker.0 asker.1 (still_unable asker.0 asker.2.within lacks)
+      step (inr same) = same

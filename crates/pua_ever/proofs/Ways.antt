@@ -5,8 +5,8 @@ use Rattle.pua_ever.proofs.Common.{nat_cmp-IsAntisymmetric, false≢true, eq-eqb
 use Rattle.pua_ever.proofs.Common.{Node, WellFormed, Spot, spot_cmp, is_dir, is_dir_kind, look, node_at, sound_from, spots_total}
 use Rattle.pua_ever.proofs.Common.{exact_spots, History, perms_kept, veils, same_place, Place, Cover, Only, same_place_is, has_c, cover_in}
 use Rattle.pua_ever.proofs.Common.{Among, among_left, among_right, among_map, map_among, among_filter, filter_among, among_filter_map}
-use Rattle.pua_ever.proofs.Common.{is_free, can_empty, is_below, has_c_outside, directories, dir_covers, name_covers, some_dir_has_c}
-use Rattle.pua_ever.proofs.Common.{file_covers}
+use Rattle.pua_ever.proofs.Common.{is_free, can_empty, is_below, has_c_outside, directories, dir_covers, name_covers, some_dir_moves}
+use Rattle.pua_ever.proofs.Common.{file_covers, open_covers, can_move, CallTable, map, subst}
 use Rattle.std.specs.Ordering.{is_eq}
 use Rattle.std.specs.Cmp.{Equal-is}
 use Rattle.std.specs.FinMap.{find as find_key}
@@ -121,21 +121,32 @@ module _ (t : Tree) (h : History) where
       ) (Only perms) (kept_among (place.Slot d name) perms e)
       (ap (λ b. cond b (Some (Only perms)) None) (and_from (is_dir t d) _ is (and_from (has_c (Only perms)) _ has free)))
 
-  pub some_dir_by : (d : ℕ) → is_dir t d ≡ true → has_c (cover_in t h d) ≡ true → some_dir_has_c t h ≡ true
-  some_dir_by d is has = any_among (λ dir. has_c (cover_in t h dir)) (directories t) d (dir_among d is) has
+  -- the cover of a directory with `c` is one of those in which a file can be put
+  pub open_by : (d : ℕ) → is_dir t d ≡ true → has_c (cover_in t h d) ≡ true → Among (open_covers t h) (cover_in t h d)
+  open_by d is has =
+      among_filter has_c (map (cover_in t h) (directories t)) (cover_in t h d) has
+      (among_map (cover_in t h) (directories t) d (dir_among d is))
 
-  -- a cover with `c` under which a directory can come is one of a directory
-  pub some_dir_among : (c : Cover) → Among (dir_covers t h) c → has_c c ≡ true → some_dir_has_c t h ≡ true
-  some_dir_among c a has =
+  -- and so is one with `c` under which a directory can come
+  pub open_among : (c : Cover) → Among (dir_covers t h) c → has_c c ≡ true → Among (open_covers t h) c
+  open_among c a has =
       let from = map_among (cover_in t h) (filter (is_way_in t h) (directories t)) c a in
-      any_among (λ dir. has_c (cover_in t h dir)) (directories t) from.0 (filter_among (is_way_in t h) (directories t) from.0 from.1).0
-      (ap has_c from.2 ∙ has)
+      let here = (filter_among (is_way_in t h) (directories t) from.0 from.1).0 in
+      among_filter has_c (map (cover_in t h) (directories t)) c has
+      (subst (Among (map (cover_in t h) (directories t))) from.2 (among_map (cover_in t h) (directories t) from.0 here))
 
-  pub file_by_name : (c : Cover) → Among (name_covers t h) c → Among (file_covers t h) c
-  file_by_name c a = among_left (name_covers t h) _ c a
+  module _ (table : CallTable) where
+    pub moves_by : (c : Cover) → Among (open_covers t h) c → can_move table h c ≡ true → some_dir_moves t table h ≡ true
+    moves_by c a can = any_among (can_move table h) (open_covers t h) c a can
 
-  pub file_by_dir : (c : Cover) → Among (dir_covers t h) c → some_dir_has_c t h ≡ true → Among (file_covers t h) c
-  file_by_dir c a some = among_right (name_covers t h) _ c (rw some a)
+    pub file_by_name : (c : Cover) → Among (name_covers t h) c → Among (file_covers t table h) c
+    file_by_name c a = among_left (name_covers t h) _ c a
+
+    pub file_by_open : (c : Cover) → Among (open_covers t h) c → Among (file_covers t table h) c
+    file_by_open c a = among_right (name_covers t h) _ c (among_left (open_covers t h) _ c a)
+
+    pub file_by_dir : (c : Cover) → Among (dir_covers t h) c → some_dir_moves t table h ≡ true → Among (file_covers t table h) c
+    file_by_dir c a some = among_right (name_covers t h) _ c (among_right (open_covers t h) _ c (rw some a))
 
   -- where nothing outside has `c`, no directory and no name there has
   pub quiet_dir : (y d : ℕ) → has_c_outside t h y ≡ false → is_dir t d ≡ true → is_below t y d ≡ false → has_c (cover_in t h d) ≡ false

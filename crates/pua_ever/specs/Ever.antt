@@ -2,7 +2,7 @@
 -- more: each thing that stands or could stand in the tree now, or can be made, with the calls that can
 -- ever be allowed on it. A thing **has c** where what covers it has the letter `c`; where there is no veil
 -- at all, everything has. What has no `c` is never moved, replaced or removed; but where link needs less of
--- its old name, it can be given a further one.
+-- its old name, it can be given a further one. What has `c` is moved where rename's old name needs no more.
 use Rattle.std.specs.Prelude.{ℕ, Bool, true, false, not, ◌&&◌, ◌||◌, if◌then◌else◌, List, [], ◌∷◌, ◌++◌, map, filter, filter_map, flat_map}
 use Rattle.std.specs.Prelude.{◌==◌, Option, Some, None, is_some, is_none, nat_lt, length, codes}
 use Rattle.std.specs.List.{list_any, list_all}
@@ -17,7 +17,7 @@ use Rattle.pua_calls.specs.CallSets.{keeps_link, is_kept}
 use Rattle.pua_policy.specs.History.{History, perms_kept, veils, may_any}
 use Rattle.pua_policy.specs.declared.answer.May.{May}
 use Rattle.pua_policy.specs.declared.answer.May.TheVariants.{Yes}
-use Rattle.pua_policy.specs.Verdict.{Object, IsDir, IsFile, IsLink, IsMissing, object_of, cover, cover_fault, covered_verdict, is_allowed}
+use Rattle.pua_policy.specs.Verdict.{Object, IsDir, IsFile, IsProg, IsLink, IsMissing, object_of, cover, cover_fault, covered_verdict, is_allowed}
 use Rattle.pua_policy.specs.declared.answer.Cover.{Cover}
 use Rattle.pua_policy.specs.declared.answer.Cover.TheVariants.{Only}
 use Rattle.pua_calls.specs.declared.call.Call.{Call}
@@ -102,13 +102,9 @@ veil_cover_at t h (place.Dir dir) perms = None
 abbrev pub name_covers : Tree → History → List Cover
 name_covers t h = filter_map (λ veil. veil_cover_at t h veil.0 veil.1) (veils h)
 
--- some directory has `c`: so a file can be put into a directory, and be moved with it
-abbrev pub some_dir_has_c : Tree → History → Bool
-some_dir_has_c t h = list_any (λ dir. has_c (cover_in t h dir)) (directories t)
-
--- the covers under which anything else can come
-abbrev pub file_covers : Tree → History → List Cover
-file_covers t h = name_covers t h ++ (if some_dir_has_c t h then dir_covers t h else [])
+-- those of the directories that have `c`, in which a file can be put
+abbrev pub open_covers : Tree → History → List Cover
+open_covers t h = filter has_c (map (cover_in t h) (directories t))
 
 -- the tree can change by them at all: they may give a new name by rename or link, or make one of the five calls that edit a tree
 abbrev pub edit_calls : List Call
@@ -124,6 +120,25 @@ may_edit table h =
     || (is_yes (may_any h table.link.new.needs.alternatives)
     || list_any (λ edit. is_yes (may_any h (rule_of table edit).alternatives)) edit_calls)
 
+-- the promises of both of rename's names are held
+abbrev pub may_rename : CallTable → History → Bool
+may_rename table h =
+    is_yes (may_any h table.rename.old.needs.alternatives) && is_yes (may_any h table.rename.new.needs.alternatives)
+
+-- a thing can be moved: what covers it now has `c`, and what rename's old name needs, which may be more
+abbrev pub can_move : CallTable → History → Cover → Bool
+can_move table h now =
+    may_rename table h && (has_c now && is_none (cover_fault now table.rename.old.needs.perms))
+
+-- some directory with `c` can be moved, and what was put into it with it
+abbrev pub some_dir_moves : Tree → CallTable → History → Bool
+some_dir_moves t table h = list_any (can_move table h) (open_covers t h)
+
+-- the covers under which anything else can come
+abbrev pub file_covers : Tree → CallTable → History → List Cover
+file_covers t table h =
+    name_covers t h ++ (open_covers t h ++ (if some_dir_moves t table h then dir_covers t h else []))
+
 -- the promises of both of link's names are held
 abbrev pub may_link : CallTable → History → Bool
 may_link table h =
@@ -137,21 +152,22 @@ can_link table h kind now =
     && (is_none (cover_fault now table.link.old.needs.perms)
     && (not (is_link_kind kind) || is_kept table.link.old.last))
 
--- all covers under which a thing can come, by what covers it now and those to which it can be moved
+-- all covers under which a thing can come, by whether it can be moved, what covers it now and those to which it can be
+-- moved
 abbrev pub ever_covers : Bool → Cover → List Cover → List Cover
-ever_covers moves now others = if moves && has_c now then others else now ∷ []
+ever_covers moves now others = if moves then others else now ∷ []
 
 -- those of a file, program or link, which can also come under another cover by a further name, and keep what
 -- covers it now by this one
 abbrev pub named_covers : Tree → CallTable → History → Option Kind → Cover → List Cover
 named_covers t table h kind now =
-    if may_edit table h && has_c now then file_covers t h
-    else now ∷ (if can_link table h kind now then file_covers t h else [])
+    if can_move table h now then file_covers t table h
+    else now ∷ (if can_link table h kind now then file_covers t table h else [])
 
 -- a directory with a veil of its own keeps its cover wherever it is
 abbrev pub covers_of_dir : Tree → CallTable → History → ℕ → List Cover
 covers_of_dir t table h dir =
-    ever_covers (may_edit table h && is_none (perms_kept h (place.Dir dir))) (cover_in t h dir) (dir_covers t h)
+    ever_covers (is_none (perms_kept h (place.Dir dir)) && can_move table h (cover_in t h dir)) (cover_in t h dir) (dir_covers t h)
 
 -- and a missing name keeps its own veil
 abbrev pub covers_of : Tree → CallTable → History → Subject → List Cover
@@ -188,11 +204,31 @@ abbrev pub is_allowed_under : CallTable → History → List Cover → Object �
 is_allowed_under table h covers object call =
     list_any (λ left. is_allowed (covered_verdict empty_tree table h call left object)) covers
 
+-- by these calls a file can come to be a program: a kernel starts what was written, once its mode lets it. In a script a
+-- kind never changes
+abbrev pub turning_calls : List Call
+turning_calls = call.OpenWrite ∷ call.OpenBoth ∷ call.Create ∷ call.Chmod ∷ []
+
+abbrev pub is_exec_call : Call → Bool
+is_exec_call call.Exec = true
+is_exec_call _ = false
+
+-- the call is exec, and allowed on a program under one of these covers
+abbrev pub starts_under : CallTable → History → List Cover → Call → Bool
+starts_under table h covers call = is_exec_call call && is_allowed_under table h covers IsProg call
+
+-- a call can be allowed on such a thing under these covers: as it is, or, where it is a file that can be made a program, as
+-- that
+abbrev pub can_allow : CallTable → History → List Cover → Object → Call → Bool
+can_allow table h covers IsFile call =
+    is_allowed_under table h covers IsFile call
+    || (list_any (is_allowed_under table h covers IsFile) turning_calls && starts_under table h covers call)
+can_allow table h covers object call = is_allowed_under table h covers object call
+
 -- the calls that can ever be allowed on what stands or could stand now
 abbrev pub is_ever_allowed : Tree → CallTable → History → Subject → Call → Bool
 is_ever_allowed t table h subject call =
-    is_named_by t call subject
-    && is_allowed_under table h (covers_of t table h subject) (ever_object t table h subject) call
+    is_named_by t call subject && can_allow table h (covers_of t table h subject) (ever_object t table h subject) call
 
 abbrev pub ever_calls : Tree → CallTable → History → Subject → List Call
 ever_calls t table h subject = filter (is_ever_allowed t table h subject) calls
@@ -211,11 +247,11 @@ maker NewOthers = call.Mkdir
 maker NewFile = call.Create
 maker NewLink = call.Symlink
 
-abbrev pub new_covers : Tree → History → New → List Cover
-new_covers t h NewDir = dir_covers t h
-new_covers t h NewOthers = dir_covers t h
-new_covers t h NewFile = file_covers t h
-new_covers t h NewLink = file_covers t h
+abbrev pub new_covers : Tree → CallTable → History → New → List Cover
+new_covers t table h NewDir = dir_covers t h
+new_covers t table h NewOthers = dir_covers t h
+new_covers t table h NewFile = file_covers t table h
+new_covers t table h NewLink = file_covers t table h
 
 abbrev pub new_object : New → Object
 new_object NewDir = removable_dir
@@ -231,10 +267,14 @@ is_new_named _ call = true
 abbrev pub can_make : Tree → CallTable → History → New → Bool
 can_make t table h new = is_allowed_under table h (name_covers t h ++ dir_covers t h) IsMissing (maker new)
 
--- a call is allowed on it under one of these covers
+-- a call can be allowed on it under these covers; a file is made with any mode, so as a program too
+abbrev pub can_allow_new : Tree → CallTable → History → New → Call → Bool
+can_allow_new t table h NewFile call =
+    is_allowed_under table h (file_covers t table h) IsFile call || starts_under table h (file_covers t table h) call
+can_allow_new t table h new call = is_allowed_under table h (new_covers t table h new) (new_object new) call
+
 abbrev pub is_new_allowed : Tree → CallTable → History → New → Call → Bool
-is_new_allowed t table h new call =
-    is_new_named new call && is_allowed_under table h (new_covers t h new) (new_object new) call
+is_new_allowed t table h new call = is_new_named new call && can_allow_new t table h new call
 
 abbrev pub new_calls : Tree → CallTable → History → New → List Call
 new_calls t table h new =

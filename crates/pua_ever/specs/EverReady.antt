@@ -22,7 +22,7 @@ use Rattle.pua_objects.specs.declared.item.Item as given
 use Rattle.pua_objects.specs.declared.item.Subject as about
 use Rattle.pua_objects.specs.declared.item.Subject.TheVariants as subject
 use Rattle.pua_ever.specs.Ever.{New, NewDir, NewOthers, NewFile, NewLink, Thing, can_empty, may_edit, may_link, named_covers}
-use Rattle.pua_ever.specs.Ever.{is_allowed_under, is_ever_allowed, can_be_freed, has_ever_calls}
+use Rattle.pua_ever.specs.Ever.{can_allow, is_ever_allowed, can_be_freed, has_ever_calls}
 use Rattle.pua_ever.specs.EverLines.{ever_lines_of, IsThing, line_with}
 use Rattle.pua_ever.specs.EverState.{Left, Now, Freed, Coming}
 use Rattle.pua_ever.specs.Laws.{EditsNeedC}
@@ -112,7 +112,7 @@ kind_covers t table h now kind = if is_some kind then named_covers t table h kin
 abbrev pub kind_allowed : Tree → CallTable → History → Cover → Option Kind → Call → Bool
 kind_allowed t table h now kind call =
     (keeps_link call || not (is_link_kind kind))
-    && is_allowed_under table h (kind_covers t table h now kind) (object_of_kind kind) call
+    && can_allow table h (kind_covers t table h now kind) (object_of_kind kind) call
 
 -- a line, which may have no calls, is about the first thing that is to come, and the others stay
 pub record IsEverGiven (t : Tree) (table : CallTable) (process : ProcessState) (old : List Left) (word : Word)

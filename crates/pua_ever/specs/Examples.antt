@@ -291,7 +291,7 @@ pub record EverRows : Type 0 where
       ∷ codes "missing /f create,mkdir,symlink"
       ∷ codes "dir new stat,lstat,open-r,rmdir,chmod,chdir"
       ∷ codes "other new create,mkdir,symlink"
-      ∷ codes "file new stat,lstat,open-r,open-w,open-rw,create,unlink,chmod"
+      ∷ codes "file new stat,lstat,open-r,open-w,open-rw,create,unlink,chmod,exec"
       ∷ codes "link new lstat,readlink,unlink"
       ∷ []
   pub dead_name : lines dead_name_tree dead_name_history ≡
@@ -343,10 +343,10 @@ pub record EverRows : Type 0 where
       ∷ codes "other / create,mkdir,symlink"
       ∷ codes "dir /a stat,lstat,open-r,rmdir,chmod,chdir"
       ∷ codes "other /a create,mkdir,symlink"
-      ∷ codes "file /a/k stat,lstat,open-r,open-w,open-rw,create,unlink,chmod"
+      ∷ codes "file /a/k stat,lstat,open-r,open-w,open-rw,create,unlink,chmod,exec"
       ∷ codes "dir new stat,lstat,open-r,rmdir,chmod,chdir"
       ∷ codes "other new create,mkdir,symlink"
-      ∷ codes "file new stat,lstat,open-r,open-w,open-rw,create,unlink,chmod"
+      ∷ codes "file new stat,lstat,open-r,open-w,open-rw,create,unlink,chmod,exec"
       ∷ codes "link new lstat,readlink,unlink"
       ∷ []
   -- no names lead to what can be made
@@ -425,3 +425,132 @@ ever_rows = record {
   link_without_c = refl;
   process_first = refl;
 }
+
+-- `/in` has wc and `/tmp` has rwc: what stands in `/in` can be moved to where it is read, but not by OpenBSD's rules, where
+-- rename asks `r` of the old name too
+abbrev pub drop_box_tree : Tree
+drop_box_tree = record {
+  rows = ((0, codes "in"), 1) ∷ ((0, codes "tmp"), 2) ∷ ((1, codes "f"), 3) ∷ [];
+  nodes = (0, directory) ∷ (1, directory) ∷ (2, directory) ∷ (3, file) ∷ [];
+  next = 4;
+}
+
+abbrev pub drop_box_history : History
+drop_box_history =
+    locked_after (
+    Unveiled (place.Dir 2) (reading + writing + creating)
+    ∷ Unveiled (place.Dir 1) (writing + creating)
+    ∷ new_history)
+
+-- what can be moved, by rules by which rename asks more of the old name than `c`: by these nothing is carried out of `/a`
+-- in a directory either, so the program in it is not run
+pub record MovedRows : Type 0 where
+  pub drop_box : lines drop_box_tree drop_box_history ≡
+      codes "dir /in rmdir,chmod"
+      ∷ codes "other /in create,mkdir,symlink"
+      ∷ codes "file /in/f stat,lstat,open-r,open-w,open-rw,create,unlink,chmod"
+      ∷ codes "dir /tmp stat,lstat,open-r,rmdir,chmod,chdir"
+      ∷ codes "other /tmp create,mkdir,symlink"
+      ∷ codes "dir new stat,lstat,open-r,rmdir,chmod,chdir"
+      ∷ codes "other new create,mkdir,symlink"
+      ∷ codes "file new stat,lstat,open-r,open-w,open-rw,create,unlink,chmod"
+      ∷ codes "link new lstat,readlink,unlink"
+      ∷ []
+  pub openbsd_drop_box : lines_by_openbsd drop_box_tree drop_box_history ≡
+      codes "dir /in rmdir,chmod"
+      ∷ codes "other /in create,mkdir,symlink"
+      ∷ codes "file /in/f open-w,create,unlink,chmod"
+      ∷ codes "dir /tmp stat,lstat,open-r,rmdir,chmod,chdir"
+      ∷ codes "other /tmp create,mkdir,symlink"
+      ∷ codes "dir new stat,lstat,open-r,rmdir,chmod,chdir"
+      ∷ codes "other new create,mkdir,symlink"
+      ∷ codes "file new stat,lstat,open-r,open-w,open-rw,create,unlink,chmod"
+      ∷ codes "link new lstat,readlink,unlink"
+      ∷ []
+  pub openbsd_name_and_area : lines_by_openbsd name_and_area_tree name_and_area_history ≡
+      codes "dir / stat,lstat,open-r,chdir"
+      ∷ codes "dir /a rmdir,chmod"
+      ∷ codes "other /a create,mkdir,symlink"
+      ∷ codes "prog /a/p open-w,create,unlink,chmod"
+      ∷ codes "prog /f stat,lstat,open-r,open-w,open-rw,create,unlink,chmod"
+      ∷ codes "missing /f create,mkdir,symlink"
+      ∷ codes "dir new stat,lstat,open-r,rmdir,chmod,chdir"
+      ∷ codes "other new create,mkdir,symlink"
+      ∷ codes "file new stat,lstat,open-r,open-w,open-rw,create,unlink,chmod"
+      ∷ codes "link new lstat,readlink,unlink"
+      ∷ []
+
+pub moved_rows : MovedRows
+moved_rows = record { drop_box = refl; openbsd_drop_box = refl; openbsd_name_and_area = refl }
+
+-- `/tmp` has rwxc: what is made there, and the file that stands there, can be made programs
+abbrev pub job_tree : Tree
+job_tree = record {
+  rows = ((0, codes "tmp"), 1) ∷ ((1, codes "job"), 2) ∷ [];
+  nodes = (0, directory) ∷ (1, directory) ∷ (2, file) ∷ [];
+  next = 3;
+}
+
+abbrev job_veil : History
+job_veil = Unveiled (place.Dir 1) (reading + writing + executing + creating) ∷ new_history
+
+abbrev pub job_history : History
+job_history = locked_after job_veil
+
+-- and so they can't be where exec isn't held
+abbrev pub no_exec_history : History
+no_exec_history = Pledged (Some (rpath + wpath + cpath + fattr)) None ∷ Locked ∷ job_veil
+
+-- `/bin` has rx and `/tmp` has rwc: nothing writes the file in `/bin`, and nothing that is written comes under x
+abbrev pub plain_file_tree : Tree
+plain_file_tree = record {
+  rows = ((0, codes "bin"), 1) ∷ ((0, codes "tmp"), 2) ∷ ((1, codes "f"), 3) ∷ [];
+  nodes = (0, directory) ∷ (1, directory) ∷ (2, directory) ∷ (3, file) ∷ [];
+  next = 4;
+}
+
+abbrev pub plain_file_history : History
+plain_file_history =
+    locked_after (
+    Unveiled (place.Dir 2) (reading + writing + creating)
+    ∷ Unveiled (place.Dir 1) (reading + executing)
+    ∷ new_history)
+
+-- a mode alone is enough
+abbrev pub mode_history : History
+mode_history = Pledged (Some (fattr + exec)) None ∷ Locked ∷ Unveiled (place.Dir 1) (writing + executing) ∷ new_history
+
+-- what can be started that was no program: a file that is made, is written or has its mode set, where it can come under x
+pub record StartedRows : Type 0 where
+  pub job : lines job_tree job_history ≡
+      codes "dir /tmp stat,lstat,open-r,rmdir,chmod,chdir"
+      ∷ codes "other /tmp create,mkdir,symlink"
+      ∷ codes "file /tmp/job stat,lstat,open-r,open-w,open-rw,create,unlink,chmod,exec"
+      ∷ codes "dir new stat,lstat,open-r,rmdir,chmod,chdir"
+      ∷ codes "other new create,mkdir,symlink"
+      ∷ codes "file new stat,lstat,open-r,open-w,open-rw,create,unlink,chmod,exec"
+      ∷ codes "link new lstat,readlink,unlink"
+      ∷ []
+  pub no_exec : lines job_tree no_exec_history ≡
+      codes "dir /tmp stat,lstat,open-r,rmdir,chmod,chdir"
+      ∷ codes "other /tmp create,mkdir,symlink"
+      ∷ codes "file /tmp/job stat,lstat,open-r,open-w,open-rw,create,unlink,chmod"
+      ∷ codes "dir new stat,lstat,open-r,rmdir,chmod,chdir"
+      ∷ codes "other new create,mkdir,symlink"
+      ∷ codes "file new stat,lstat,open-r,open-w,open-rw,create,unlink,chmod"
+      ∷ codes "link new lstat,readlink,unlink"
+      ∷ []
+  pub plain_file : lines plain_file_tree plain_file_history ≡
+      codes "dir /bin stat,lstat,open-r,chdir"
+      ∷ codes "file /bin/f stat,lstat,open-r"
+      ∷ codes "dir /tmp stat,lstat,open-r,rmdir,chmod,chdir"
+      ∷ codes "other /tmp create,mkdir,symlink"
+      ∷ codes "dir new stat,lstat,open-r,rmdir,chmod,chdir"
+      ∷ codes "other new create,mkdir,symlink"
+      ∷ codes "file new stat,lstat,open-r,open-w,open-rw,create,unlink,chmod"
+      ∷ codes "link new lstat,readlink,unlink"
+      ∷ []
+  pub mode : lines plain_file_tree mode_history ≡ codes "dir /bin chmod" ∷ codes "file /bin/f chmod,exec" ∷ []
+
+pub started_rows : StartedRows
+started_rows = record { job = refl; no_exec = refl; plain_file = refl; mode = refl }

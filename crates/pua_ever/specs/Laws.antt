@@ -1,5 +1,5 @@
 -- What is true of all that can ever be touched.
-use Rattle.std.specs.Prelude.{◌≡◌, ◌<◌, ◌≤◌, ◌++◌, ℕ, List, [], ◌∷◌, Some, None, Result, Ok, IsTrue, IsFalse}
+use Rattle.std.specs.Prelude.{◌≡◌, ◌⊎◌, ⊤, ◌<◌, ◌≤◌, ◌++◌, ℕ, List, [], ◌∷◌, Some, None, Result, Ok, IsTrue, IsFalse}
 use Rattle.std.specs.List.{Contains}
 use Rattle.pua_tree.specs.Tree.{Tree, WellFormed, Spot, look, kind_at}
 use Rattle.pua_tree.specs.declared.node.Kind.TheVariants as kind
@@ -12,7 +12,7 @@ use Rattle.pua_calls.specs.Promises.{holds, creating}
 use Rattle.pua_calls.specs.Calls.{CallTable, table_by_rules, rule_of, ending_of, last_of}
 use Rattle.pua_calls.specs.declared.rules.Rules.{Rules}
 use Rattle.pua_policy.specs.History.{History, perms_kept, is_ended}
-use Rattle.pua_policy.specs.Verdict.{verdict_of}
+use Rattle.pua_policy.specs.Verdict.{IsProg, cover, covered_verdict, verdict_of}
 use Rattle.pua_policy.specs.declared.answer.Verdict.TheVariants.{Allowed}
 use Rattle.pua_calls.specs.declared.call.Call.{Call}
 use Rattle.pua_calls.specs.declared.call.Call.TheVariants as call
@@ -21,13 +21,14 @@ use Rattle.pua_policy.specs.declared.place.Place.TheVariants as place
 use Rattle.pua_script.specs.Requests.{Asked}
 use Rattle.pua_tree.specs.Listing.{listing}
 use Rattle.pua_script.specs.Scripts.{script}
-use Rattle.pua_script.specs.Replay.{World, new_world, history_of, world_after}
+use Rattle.pua_script.specs.Replay.{World, apply, new_world, history_of, world_after}
 use Rattle.pua_script.specs.Laws.{IsConfined}
-use Rattle.pua_script.specs.Family.{family, is_member, none_done, members_alone, is_exec, HasHistoryOf}
+use Rattle.pua_script.specs.Family.{family, family_then, is_done, is_member, none_done, members_alone, is_exec, HasHistoryOf}
 use Rattle.pua_script.specs.Tightening.{NoCallNeedsError, Tightens}
 use Rattle.pua_script.specs.Confinement.{TreesAlong}
+use Rattle.pua_script.specs.Bytes.{are_in_bytes}
 use Rattle.pua_objects.specs.Objects.{At, Others, Line, objects, own_way}
-use Rattle.pua_ever.specs.Ever.{NewDir, NewOthers, NewFile, NewLink, Thing, Stands, Comes, EverLine, ever}
+use Rattle.pua_ever.specs.Ever.{NewDir, NewOthers, NewFile, NewLink, Thing, Stands, Comes, EverLine, turning_calls, ever}
 
 -- the five calls that make a name or take one away need `c`, and so do both names of rename and the new one of
 -- link: its old name stays, whatever it needs
@@ -50,14 +51,15 @@ abbrev pub VeilsStand : Tree → History → Type 0
 VeilsStand t h = (at : Place) (perms : ℕ) → perms_kept h at ≡ Some perms → dir_of_place at < t.next
 
 -- the line of what a path named in a later tree, by what stood in the tree `t` of the beginning:
--- a directory of then has its own; a file, program or link of then that of a row in which it stood then;
+-- a directory of then has its own; a file, program or link of then that of the row in which it stands, where it stood
+-- there then, and else that of one in which it stood;
 -- a missing name its own, where a veil is kept at it, and else that of its directory's further names.
 -- What has a number that was not given then is new, and its line is that of its kind
 pub data IsLineOf (t later : Tree) (h : History) : Thing → Found → Type 0 where
   of_dir : {dir : ℕ} {way : Way} →
       dir < t.next → IsLineOf t later h (Stands (At (Whole dir (own_way t dir)))) (Whole dir way)
   of_row : {dir : ℕ} {name : List ℕ} {node : ℕ} →
-      (row : Spot) → look t row.0 row.1 ≡ Some node →
+      (row : Spot) → look t row.0 row.1 ≡ Some node → (look t dir name ≡ Some node → row ≡ (dir, name)) →
       IsLineOf t later h (Stands (At (Slot row.0 row.1 (Some node)))) (Slot dir name (Some node))
   of_name : {dir : ℕ} {name : List ℕ} →
       (perms : ℕ) → perms_kept h (place.Slot dir name) ≡ Some perms →
@@ -122,6 +124,25 @@ WithoutExec =
     IsTrue (members_alone table w asks (process ∷ [])) → NoLineHasExec w.tree table now →
     IsTrue (none_done is_exec table w asks (process ∷ []))
 
+-- over a later tree: whatever path names a file on which exec would be allowed by a history, were it a program. It has a
+-- line: that of a file of then has exec where it has a call by which the file can come to be a program, and that of a new
+-- file has it in any case
+pub record IsStartForeseen (t : Tree) (table : CallTable) (h : History) (later : Tree) (object : Found) : Type 0 where
+  pub thing : Thing
+  pub about : IsLineOf t later h thing object
+  pub turned : (line : EverLine) → Contains (ever t table h) line → line.thing ≡ thing →
+      (turning : Call) → Contains turning_calls turning → Contains line.calls turning → Contains line.calls call.Exec
+  pub made : thing ≡ Comes NewFile →
+      (line : EverLine) × Contains (ever t table h) line × (line.thing ≡ Comes NewFile) × Contains line.calls call.Exec
+
+abbrev pub ForeseesStarts : Tree → CallTable → History → Tree → History → Type 0
+ForeseesStarts t table now later last =
+    (from : ℕ) (text : List ℕ) (dir : ℕ) (name : List ℕ) (node : ℕ) →
+    resolution_of_text later from (ending_of call.Exec) text (last_of call.Exec) ≡ Ok (Slot dir name (Some node)) →
+    kind_at later node ≡ Some kind.File →
+    covered_verdict later table last call.Exec (cover later last (Slot dir name (Some node))) IsProg ≡ Allowed →
+    IsStartForeseen t table now later (Slot dir name (Some node))
+
 -- several processes that act together: each has the veils of a history, no promise beyond it but `error`,
 -- and is ended where that is. Such are a process and those that it forked before now, if none has put a
 -- veil since
@@ -141,9 +162,66 @@ EverOfMany =
     let after = world_after table w asks in
     HasHistoryOf after member (Foresees w.tree table now after.tree)
 
+-- each request is a member's, or leaves the tree as it was
+abbrev pub MembersEdit : CallTable → World → List Asked → List ℕ → Type 0
+MembersEdit table w [] members = ⊤
+MembersEdit table w (ask ∷ asks) members =
+    (IsTrue (is_member members ask.process) ⊎ ((apply table w ask).1.tree ≡ w.tree))
+    × MembersEdit table (apply table w ask).1 asks (family_then table w ask members)
+
+-- an exec of a member that is answered ok leaves it within a history: with its veils, no promise beyond it but `error`, and
+-- no way to put veils. So it is where execpromises were set that the history holds, since veils and lock then stay
+abbrev pub LoosensNone : CallTable → History → World → Asked → List ℕ → Type 0
+LoosensNone table now w ask members =
+    IsTrue (is_done is_exec table w ask members) →
+    HasHistoryOf (apply table w ask).1 ask.process (λ h. Tightens now h × (IsFalse (is_ended h) → IsFalse (is_ended now)))
+
+abbrev pub NoExecLoosens : CallTable → History → World → List Asked → List ℕ → Type 0
+NoExecLoosens table now w [] members = ⊤
+NoExecLoosens table now w (ask ∷ asks) members =
+    LoosensNone table now w ask members × NoExecLoosens table now (apply table w ask).1 asks (family_then table w ask members)
+
+-- the same of them where others may ask for anything that leaves the tree as it is, and members may become other
+-- programs, if these may do no more
+abbrev pub EverWithExecs : Type 0
+EverWithExecs =
+    (table : CallTable) → NoCallNeedsError table → EditsNeedC table →
+    (w : World) (asks : List Asked) (members : List ℕ) (now : History) →
+    ActsWithin w now members → VeilsStand w.tree now → TreesAlong table w asks →
+    NoExecLoosens table now w asks members → MembersEdit table w asks members →
+    (member : ℕ) → IsTrue (is_member (family table w asks members) member) →
+    let after = world_after table w asks in
+    HasHistoryOf after member (Foresees w.tree table now after.tree)
+
+-- the same of them where others may ask for anything that leaves the tree as it is
+abbrev pub EverBeside : Type 0
+EverBeside =
+    (table : CallTable) → NoCallNeedsError table → EditsNeedC table →
+    (w : World) (asks : List Asked) (members : List ℕ) (now : History) →
+    ActsWithin w now members → VeilsStand w.tree now → TreesAlong table w asks →
+    IsTrue (none_done is_exec table w asks members) → MembersEdit table w asks members →
+    (member : ℕ) → IsTrue (is_member (family table w asks members) member) →
+    let after = world_after table w asks in
+    HasHistoryOf after member (Foresees w.tree table now after.tree)
+
+-- so where a kernel makes programs of what they make, write or set the mode of, it starts none whose line has no exec
+abbrev pub StartsForeseen : Type 0
+StartsForeseen =
+    (table : CallTable) → NoCallNeedsError table → EditsNeedC table →
+    (w : World) (asks : List Asked) (members : List ℕ) (now : History) →
+    ActsWithin w now members → VeilsStand w.tree now → TreesAlong table w asks →
+    IsTrue (none_done is_exec table w asks members) → MembersEdit table w asks members →
+    (member : ℕ) → IsTrue (is_member (family table w asks members) member) →
+    let after = world_after table w asks in
+    HasHistoryOf after member (ForeseesStarts w.tree table now after.tree)
+
 -- each veil of each process stands on a number that was given: so it is in each world that a replay leaves
 abbrev pub PlacesStand : World → Type 0
 PlacesStand w = (process : ℕ) (h : History) → history_of w process ≡ Some h → VeilsStand w.tree h
+
+-- and so it is before the first request
+abbrev pub NewPlacesStand : Type 0
+NewPlacesStand = (t : Tree) → PlacesStand (new_world t)
 
 abbrev pub ReplaysKeepPlaces : Type 0
 ReplaysKeepPlaces =
@@ -161,6 +239,20 @@ EverAsRead =
     (process : ℕ) (now : History) → history_of w process ≡ Some now → IsConfined now →
     IsTrue (none_done is_exec table w asks (process ∷ [])) →
     IsTrue (members_alone table w asks (process ∷ [])) →
+    (member : ℕ) → IsTrue (is_member (family table w asks (process ∷ [])) member) →
+    let after = world_after table w asks in
+    HasHistoryOf after member (Foresees w.tree table now after.tree)
+
+-- a listing and a script as a command reads them, and behind them any list of requests in bytes, however long, in which
+-- others than the family leave the tree as it is
+abbrev pub EverAfterRead : Type 0
+EverAfterRead =
+    (table : CallTable) → NoCallNeedsError table → EditsNeedC table →
+    (tree_bytes script_bytes : List ℕ) (t : Tree) (first asks : List Asked) →
+    listing tree_bytes ≡ Ok t → script script_bytes ≡ Ok first → IsTrue (are_in_bytes asks) →
+    let w = world_after table (new_world t) first in
+    (process : ℕ) (now : History) → history_of w process ≡ Some now → IsConfined now →
+    IsTrue (none_done is_exec table w asks (process ∷ [])) → MembersEdit table w asks (process ∷ []) →
     (member : ℕ) → IsTrue (is_member (family table w asks (process ∷ [])) member) →
     let after = world_after table w asks in
     HasHistoryOf after member (Foresees w.tree table now after.tree)

@@ -14,7 +14,7 @@ pub record IsMovable (t : Tree) (table : CallTable) (h : History) (found : Movab
   pub dir : (call : Call) → has found.dir call ≡ is_allowed_under table h (dir_covers t h) lasting_dir call
   pub emptied : (call : Call) → has found.emptied call ≡ is_allowed_under table h (dir_covers t h) removable_dir call
   pub others : (call : Call) → has found.others call ≡ is_allowed_under table h (dir_covers t h) IsMissing call
-  pub file : (call : Call) → has found.file call ≡ is_allowed_under table h (file_covers t h) IsFile call
-  pub program : (call : Call) → has found.program call ≡ is_allowed_under table h (file_covers t h) IsProg call
-  pub link : (call : Call) → has found.link call ≡ is_allowed_under table h (file_covers t h) IsLink call
+  pub file : (call : Call) → has found.file call ≡ is_allowed_under table h (file_covers t table h) IsFile call
+  pub program : (call : Call) → has found.program call ≡ is_allowed_under table h (file_covers t table h) IsProg call
+  pub link : (call : Call) → has found.link call ≡ is_allowed_under table h (file_covers t table h) IsLink call
   pub made : (call : Call) → has found.made call ≡ is_allowed_under table h (name_covers t h ++ dir_covers t h) IsMissing call

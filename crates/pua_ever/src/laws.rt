@@ -1,19 +1,27 @@
 //! Laws and worked examples, each the contract of a function that does nothing.
 
-ghost use Rattle.pua_ever.specs.Examples.{EverRows};
-ghost use Rattle.pua_ever.specs.Laws.{EverAsRead, EverComplete, EverOfMany, NowWithinEver};
-ghost use Rattle.pua_ever.specs.Laws.{ReplaysKeepPlaces, RulesEditByC, WithoutExec};
+ghost use Rattle.pua_ever.specs.Examples.{EverRows, MovedRows, StartedRows};
+ghost use Rattle.pua_ever.specs.Laws.{EverAfterRead, EverAsRead, EverBeside, EverComplete, EverOfMany};
+ghost use Rattle.pua_ever.specs.Laws.{EverWithExecs};
+ghost use Rattle.pua_ever.specs.Laws.{NowWithinEver};
+ghost use Rattle.pua_ever.specs.Laws.{NewPlacesStand, ReplaysKeepPlaces, RulesEditByC};
+ghost use Rattle.pua_ever.specs.Laws.{StartsForeseen, WithoutExec};
 
-/// Whatever a process that can put no veil any more and what it forks ask for, as long as they alone ask
-/// and no exec of theirs succeeds: if a call of one of them is then allowed on what a path names, the line
-/// of that thing in the list of the beginning has the call. So it is of several processes with the same
-/// veils, and of a listing and a script as a command reads them. Where no line has an exec, none can
-/// succeed.
+/// Whatever a process that can put no veil any more and what it forks ask for, as long as nobody else
+/// changes the tree and no exec of theirs succeeds: if a call of one of them is then allowed on what a path
+/// names, the line of that thing in the list of the beginning has the call. So it is of several processes
+/// with the same veils, of execs that let them do no more, and behind a listing and a script as a command
+/// reads them. Where no line has an exec, none can succeed; and a file that is made, or that a call of
+/// its line can make a program, has exec in its line wherever it could be started, were it one.
 pub fn ever_law()
     ensures complete { EverComplete }
     ensures many { EverOfMany }
+    ensures beside { EverBeside }
+    ensures execs { EverWithExecs }
     ensures exec { WithoutExec }
+    ensures starts { StartsForeseen }
     ensures read { EverAsRead }
+    ensures after_read { EverAfterRead }
 {}
 
 /// The list of the objects of now lies within the list for ever: each line of now has one there by the
@@ -23,10 +31,11 @@ pub fn now_law()
     ensures { NowWithinEver }
 {}
 
-/// Each veil stands on a number that was given, in each world that a replay leaves; and the rules of the
-/// profile and those of OpenBSD are tables that the laws speak of.
-#[tactic(auto, using(crate::proofs::Standing::replays_keep_places, crate::proofs::Rules::rules_edit_by_c))]
+/// Each veil stands on a number that was given, in a new world and in each that a replay leaves; and the
+/// rules of the profile and those of OpenBSD are tables that the laws speak of.
+#[tactic(auto, using(crate::proofs::Standing::new_places, crate::proofs::Standing::replays_keep_places, crate::proofs::Rules::rules_edit_by_c))]
 pub fn premises_law()
+    ensures new { NewPlacesStand }
     ensures places { ReplaysKeepPlaces }
     ensures rules { RulesEditByC }
 {}
@@ -35,4 +44,16 @@ pub fn premises_law()
 #[tactic(auto, using(crate::specs::Examples::ever_rows))]
 pub fn ever_examples()
     ensures { EverRows }
+{}
+
+/// Examples of what can be moved, and so be touched.
+#[tactic(auto, using(crate::specs::Examples::moved_rows))]
+pub fn moving_examples()
+    ensures { MovedRows }
+{}
+
+/// Examples of what can be started that was no program.
+#[tactic(auto, using(crate::specs::Examples::started_rows))]
+pub fn program_examples()
+    ensures { StartedRows }
 {}

@@ -1,6 +1,6 @@
 //! The calls that can ever be allowed on what can be moved or made.
 
-ghost use Rattle.std.specs.Prelude.{◌≡◌, Some, ◌++◌, [], IfOk, length, nat_lt, if◌then◌else◌};
+ghost use Rattle.std.specs.Prelude.{◌≡◌, Some, ◌++◌, [], IfOk, if◌then◌else◌};
 ghost use Rattle.pua_tree.specs.Tree.{Tree, empty_tree};
 ghost use Rattle.pua_tree.specs.declared.node.Kind.{Kind};
 ghost use Rattle.pua_calls.specs.Calls.{CallTable as Table};
@@ -10,19 +10,20 @@ ghost use Rattle.pua_policy.specs.History.{History, StandsFor};
 ghost use Rattle.pua_policy.specs.Objects.{object_seen};
 ghost use Rattle.pua_policy.specs.Verdict.{Object as Judged, IsMissing, object_of_kind};
 ghost use Rattle.pua_ever.specs.Ever.{is_allowed_under, dir_covers, name_covers, file_covers};
-ghost use Rattle.pua_ever.specs.Ever.{some_dir_has_c};
+ghost use Rattle.pua_ever.specs.Ever.{open_covers};
 ghost use Rattle.pua_ever.specs.Movable.{IsMovable};
 ghost use Rattle.pua_ever.specs.Openings.{HaveSame};
 
+use crate::moving::moves_any;
 use crate::openings::{Openings, find_openings};
 use pua_calls::{CallTable, Calls};
 use pua_policy::{Cover, Object, Process, judge};
 use pua_tree::{FileTree, OutOfMemory};
 use std::alloc::Global;
 
-/// The calls that can ever be allowed on what has `c` now and no veil of its own that goes with it,
-/// and on what is made, by what it is: the calls that are allowed under some cover that it can come
-/// to have. So they are on a file, program or link that link can give a further name, beside those
+/// The calls that can ever be allowed on what can be moved now and has no veil of its own that goes
+/// with it, and on what is made, by what it is: the calls that are allowed under some cover that it
+/// can come to have. So they are on a file, program or link that link can give a further name, beside those
 /// that its own cover allows.
 #[derive(Clone, Copy)]
 pub struct Movable {
@@ -56,7 +57,7 @@ impl Movable {
             IsMovable t table h self.now → object
             ≡ object_seen empty_tree (object_of_kind (Some kind)) →
             (call : Call) →
-            has result call ≡ is_allowed_under table h (file_covers t h) (object_of_kind
+            has result call ≡ is_allowed_under table h (file_covers t table h) (object_of_kind
             (Some kind)) call }
     {
         match object {
@@ -89,15 +90,16 @@ pub(crate) fn calls_by_object(process: &Process, table: &CallTable, found: &Open
     ensures { (t : Tree) (h : History) → StandsFor process.now h →
         HaveSame (found.now.dirs.items ++ found.now.entrances.items) (dir_covers t h) →
         HaveSame found.now.names.items (name_covers t h) →
-        nat_lt 0 (length found.now.dirs.items) ≡ some_dir_has_c t h →
+        HaveSame found.now.dirs.items (open_covers t h) →
         IsMovable t table.now h result }
 {
     let dir = on_dirs(process, table, found, Object::Directory);
     let emptied = on_dirs(process, table, found, Object::Removable);
     let others = on_dirs(process, table, found, Object::Missing);
-    let file = on_files(process, table, found, Object::File);
-    let program = on_files(process, table, found, Object::Program);
-    let link = on_files(process, table, found, Object::Link);
+    let moves = moves_any(process, table, &found.dirs);
+    let file = on_files(process, table, found, moves, Object::File);
+    let program = on_files(process, table, found, moves, Object::Program);
+    let link = on_files(process, table, found, moves, Object::Link);
     let made = on_names(process, table, found);
     Movable {
         dir,
@@ -122,19 +124,27 @@ fn on_dirs(process: &Process, table: &CallTable, found: &Openings, object: Objec
     own.union(others)
 }
 
-/// The calls on such an object where anything else can come.
-fn on_files(process: &Process, table: &CallTable, found: &Openings, object: Object) -> Calls
+/// The calls on such an object where anything else can come, by whether some directory with `c` can
+/// be moved.
+fn on_files(
+    process: &Process,
+    table: &CallTable,
+    found: &Openings,
+    moves: bool,
+    object: Object,
+) -> Calls
     ensures { (h : History) (judged : Judged) → StandsFor process.now h → object
         ≡ object_seen empty_tree judged →
         (call : Call) → has result call ≡ is_allowed_under table.now h (found.now.names.items
-        ++ (if nat_lt 0 (length found.now.dirs.items) then found.now.dirs.items
-        ++ found.now.entrances.items else [])) judged call }
+        ++ (found.now.dirs.items ++ (if moves then found.now.entrances.items else []))) judged
+        call }
 {
     let at_names = under(process, table, &found.names, object);
-    if found.dirs.len() == 0 {
-        return at_names;
+    if moves {
+        let anywhere = on_dirs(process, table, found, object);
+        return at_names.union(anywhere);
     }
-    let in_dirs = on_dirs(process, table, found, object);
+    let in_dirs = under(process, table, &found.dirs, object);
     at_names.union(in_dirs)
 }
 

@@ -1,7 +1,7 @@
 //! Where things can come that are moved or made, by the veils of a process.
 
 ghost use Rattle.std.specs.Prelude.{◌≡◌, ◌<◌, ◌≤◌, ◌++◌, ◌∷◌, [], ℕ, Some, None, true, not, ◌==◌};
-ghost use Rattle.std.specs.Prelude.{IfOk, IsTrue, filter_map, map, get_or, length, nat_lt};
+ghost use Rattle.std.specs.Prelude.{IfOk, IsTrue, filter_map, map, get_or, length};
 ghost use Rattle.std.specs.Prelude.{if◌then◌else◌};
 ghost use Rattle.std.specs.List.{list_any};
 ghost use Rattle.pua_tree.specs.Tree.{above, is_dir as lives_as_dir, look as node_at_name};
@@ -10,7 +10,7 @@ ghost use Rattle.pua_script.specs.Confinement.{has_c as cover_has_c, object_in};
 ghost use Rattle.pua_objects.specs.Objects.{cover_in as cover_of_others};
 ghost use Rattle.pua_ever.specs.Ever.{row_cover as cover_of_row, is_free as can_be_free, can_empty};
 ghost use Rattle.pua_ever.specs.Ever.{is_below as stands_below, dir_covers, name_covers};
-ghost use Rattle.pua_ever.specs.Ever.{some_dir_has_c};
+ghost use Rattle.pua_ever.specs.Ever.{open_covers};
 ghost use Rattle.pua_ever.specs.Openings.{opening as opening_of, is_barred as barred_by};
 ghost use Rattle.pua_ever.specs.Openings.{dir_opening as dir_opening_of};
 ghost use Rattle.pua_ever.specs.Openings.{name_opening as name_opening_of};
@@ -41,9 +41,9 @@ pub(crate) struct Openings {
 }
 
 /// Finds by the veils of a process where things can come that are moved or made: a directory under
-/// the covers of `dirs` and `entrances`, anything else at a name under those of `names`; some
-/// directory has `c` where `dirs` is not empty. A directory that has `c` can be emptied where it is
-/// not one of `held`. The only error is that a growth was refused. For each veil it is climbed from
+/// the covers of `dirs` and `entrances`, anything else at a name under those of `names` and in a
+/// directory under those of `dirs`. A directory that has `c` can be emptied where it is not one of
+/// `held`. The only error is that a growth was refused. For each veil it is climbed from
 /// a directory to the root a few times, however many other veils there are.
 pub(crate) fn find_openings<T: FileTree>(
     alloc: Global,
@@ -55,8 +55,8 @@ pub(crate) fn find_openings<T: FileTree>(
         ++ found.entrances.items) (dir_covers (T.content tree.now) h)) }
     ensures names { IfOk result (λ found. (h : History) → StandsFor process.now h →
         HaveSame found.names.items (name_covers (T.content tree.now) h)) }
-    ensures some { IfOk result (λ found. (h : History) → StandsFor process.now h →
-        nat_lt 0 (length found.dirs.items) ≡ some_dir_has_c (T.content tree.now) h) }
+    ensures open { IfOk result (λ found. (h : History) → StandsFor process.now h →
+        HaveSame found.dirs.items (open_covers (T.content tree.now) h)) }
     ensures held { IfOk result (λ found. (h : History) (dir : ℕ) → StandsFor process.now h →
         lives_as_dir (T.content tree.now) dir ≡ true →
         cover_has_c (cover_of_others (T.content tree.now) h dir) ≡ true →

@@ -13,14 +13,15 @@ ghost use Rattle.pua_calls.specs.declared.call.Call.{Call as AnyCall};
 ghost use Rattle.pua_policy.specs.History.{History, StandsFor, perms_kept, may_any as may_any_of};
 ghost use Rattle.pua_policy.specs.Objects.{object_seen};
 ghost use Rattle.pua_policy.specs.Verdict.{IsDir, object_of_kind};
-ghost use Rattle.pua_script.specs.Confinement.{has_c as cover_has_c};
 ghost use Rattle.pua_objects.specs.Items.{SubjectFits, IsItemOn};
 ghost use Rattle.pua_objects.specs.Objects.{Subject as About, At, Others};
 ghost use Rattle.pua_objects.specs.Objects.{cover_in as cover_of_others};
 ghost use Rattle.pua_ever.specs.Ever.{may_edit as edits_tree, is_yes as says_yes, edit_calls};
-ghost use Rattle.pua_ever.specs.Ever.{can_make, is_allowed_under, is_ever_allowed, is_new_allowed};
+ghost use Rattle.pua_ever.specs.Ever.{can_allow, can_make, is_allowed_under, is_ever_allowed};
+ghost use Rattle.pua_ever.specs.Ever.{is_new_allowed};
 ghost use Rattle.pua_ever.specs.Ever.{is_named_way, own_spot};
 ghost use Rattle.pua_ever.specs.Ever.{may_link as links_files, can_link as gives_names};
+ghost use Rattle.pua_ever.specs.Ever.{can_move as moves};
 ghost use Rattle.pua_ever.specs.Ever.{named_covers};
 ghost use Rattle.pua_ever.specs.EverReady.{IsProspects, AreOnFreed, new_of, own_given};
 ghost use Rattle.pua_ever.specs.EverReady.{kind_allowed, kind_covers};
@@ -28,11 +29,13 @@ ghost use Rattle.pua_ever.specs.Laws.{EditsNeedC};
 
 use crate::made::Made;
 use crate::movable::{Movable, calls_by_object};
+use crate::moving::{can_move, may_any};
 use crate::openings::{find_openings, has_c};
-use pua_calls::{Call, CallTable, Calls, Promises};
+use crate::programs::{on_file, on_new_file};
+use pua_calls::{Call, CallTable, Calls};
 use pua_objects::{Item, Subject};
 use pua_path::Last;
-use pua_policy::{Cover, May, Object, Place, Process, judge};
+use pua_policy::{Cover, Object, Place, Process, judge};
 use pua_tree::{FileTree, Name, NodeId, OutOfMemory};
 use std::alloc::Global;
 
@@ -107,14 +110,6 @@ fn may_call(process: &Process, table: &CallTable) -> bool
         .any(|call| may_any(process, table.alternatives(*call)))
 }
 
-/// Whether a process holds one of these sets of promises.
-fn may_any(process: &Process, alternatives: &[Promises]) -> bool
-    ensures { (h : History) → StandsFor process.now h →
-        result ≡ says_yes (may_any_of h alternatives.now) }
-{
-    process.may_any(alternatives) == May::Yes
-}
-
 impl Prospects {
     /// The calls that can ever be allowed on what an item is about.
     pub(crate) fn calls_on(&self, process: &Process, table: &CallTable, item: &Item<'_>) -> Calls
@@ -149,7 +144,7 @@ impl Prospects {
             has result call ≡ is_ever_allowed t table.now h (At (Whole dir way)) call }
     {
         let emptied = self.can_empty(dir, is_named);
-        if self.moves_dir(process, dir, &item.cover) {
+        if moves_dir(process, table, dir, &item.cover) {
             return self.movable.on_dir(emptied);
         }
         let object = self.seen_as(emptied, item.object);
@@ -162,7 +157,7 @@ impl Prospects {
             IsProspects t table.now h self.now → cover.now ≡ cover_of_others t h dir →
             (call : AnyCall) → has result call ≡ is_ever_allowed t table.now h (Others dir) call }
     {
-        if self.moves_dir(process, dir, cover) {
+        if moves_dir(process, table, dir, cover) {
             return self.movable.others;
         }
         judge::allowed(process, table, *cover, Object::Missing)
@@ -189,7 +184,7 @@ impl Prospects {
             IsProspects t table.now h self.now →
             object ≡ object_seen empty_tree (object_of_kind kind) →
             (call : AnyCall) → has result call
-            ≡ is_allowed_under table.now h (kind_covers t table.now h cover.now kind)
+            ≡ can_allow table.now h (kind_covers t table.now h cover.now kind)
             (object_of_kind kind) call }
     {
         if object == Object::Missing {
@@ -198,8 +193,25 @@ impl Prospects {
         self.on_thing(process, table, cover, object)
     }
 
-    /// The same, of what stands there.
+    /// The same, of what stands there; of a file with exec, where it can be made a program.
     fn on_thing(&self, process: &Process, table: &CallTable, cover: &Cover, object: Object) -> Calls
+        ensures { (t : Tree) (h : History) (kind : Kind) → StandsFor process.now h →
+            IsProspects t table.now h self.now →
+            object ≡ object_seen empty_tree (object_of_kind (Some kind)) →
+            (call : AnyCall) → has result call
+            ≡ can_allow table.now h (named_covers t table.now h (Some kind) cover.now)
+            (object_of_kind (Some kind)) call }
+    {
+        let calls = self.on_seen(process, table, cover, object);
+        if object != Object::File {
+            return calls;
+        }
+        let as_program = self.on_seen(process, table, cover, Object::Program);
+        on_file(calls, as_program)
+    }
+
+    /// The same, of what stays what it is.
+    fn on_seen(&self, process: &Process, table: &CallTable, cover: &Cover, object: Object) -> Calls
         ensures { (t : Tree) (h : History) (kind : Kind) → StandsFor process.now h →
             IsProspects t table.now h self.now →
             object ≡ object_seen empty_tree (object_of_kind (Some kind)) →
@@ -207,7 +219,7 @@ impl Prospects {
             ≡ is_allowed_under table.now h (named_covers t table.now h (Some kind) cover.now)
             (object_of_kind (Some kind)) call }
     {
-        if self.may_edit && has_c(*cover) {
+        if can_move(process, table, cover) {
             return self.movable.on(object);
         }
         let calls = judge::allowed(process, table, *cover, object);
@@ -269,7 +281,7 @@ impl Prospects {
         match made {
             Made::Dir => self.movable.emptied,
             Made::Others => self.movable.others,
-            Made::File => self.movable.file,
+            Made::File => on_new_file(self.movable.file, self.movable.program),
             Made::Link => self.movable.link.keeping(),
         }
     }
@@ -293,16 +305,15 @@ impl Prospects {
             object
         }
     }
+}
 
-    /// Whether a directory can be moved to where it is covered otherwise: it has no veil of its own,
-    /// which would go with it.
-    fn moves_dir(&self, process: &Process, dir: NodeId, cover: &Cover) -> bool
-        ensures { (h : History) → StandsFor process.now h → result
-            ≡ ((self.now.may_edit && is_none (perms_kept h (Place.Dir dir)))
-            && cover_has_c cover.now) }
-    {
-        self.may_edit && process.kept(&Place::Dir(dir)).is_none() && has_c(*cover)
-    }
+/// Whether a directory can be moved to where it is covered otherwise: it has no veil of its own,
+/// which would go with it.
+fn moves_dir(process: &Process, table: &CallTable, dir: NodeId, cover: &Cover) -> bool
+    ensures { (h : History) → StandsFor process.now h →
+        result ≡ (is_none (perms_kept h (Place.Dir dir)) && moves table.now h cover.now) }
+{
+    process.kept(&Place::Dir(dir)).is_none() && can_move(process, table, cover)
 }
 
 /// The name at which what an item is about stands; None for the root, for further names, and where

@@ -1,6 +1,6 @@
 //! The functions of `calling`, over a small site.
 
-use crate::calling::{Served, ask, can_touch, is_reached, list, read, replay};
+use crate::calling::{Served, ask, can_ever_start, can_touch, is_reached, list, read, replay};
 use crate::told::tell_expected;
 use anyhow::Result;
 use pua_calls::{Call, CallTable};
@@ -60,7 +60,8 @@ fn is_server_told(alloc: Global, served: &Served, server: &Process) -> Result<bo
     let index = ask(tree, server, table, Call::OpenRead, b"/www/site/index");
     let key = ask(tree, server, table, Call::OpenRead, b"/www/key");
     let are_asked = index == Verdict::Allowed && key == Verdict::Failed(Errno::ENOENT);
-    Ok(may_only_read(alloc, tree, server, table)? && are_asked)
+    let starts = can_ever_start(alloc, tree, server, table).ok() == Some(false);
+    Ok(may_only_read(alloc, tree, server, table)? && are_asked && starts)
 }
 
 /// Whether a process can touch something, and may read and not write.

@@ -16,13 +16,15 @@ ghost use Rattle.pua_script.specs.Worlds.{StandsForWorld};
 ghost use Rattle.pua_audit.specs.Begin.{Beginning, beginning, still_to_come};
 ghost use Rattle.pua_audit.specs.declared.base.Base.TheVariants.{Root};
 ghost use Rattle.pua_objects.specs.Objects.{objects};
+ghost use Rattle.pua_ever.specs.Laws.{NoLineHasExec};
 ghost use Rattle.pua_tool.specs.ObjectTexts.{objects_text};
 ghost use Rattle.pua_tool.specs.Texts.{by_standard};
-ghost use Rattle.pua_examples.specs.Calling.{first_fault};
+ghost use Rattle.pua_examples.specs.Calling.{NeverStarts, first_fault};
 
 use pua_audit::{Audit, AuditFault, Base};
 use pua_calls::needs::ending;
 use pua_calls::{Call, CallTable};
+use pua_ever::{Ever, EverFault, ever_law};
 use pua_objects::{Objects, completeness_law};
 use pua_path::{Counted, Ending, Errno, Found, Last, PathText, resolve};
 use pua_policy::judge::verdict_of;
@@ -179,6 +181,31 @@ pub(crate) fn can_touch<T: FileTree>(
     tree.known();
     let mut list = Objects::begin(alloc, tree, process, table)?;
     Ok(list.next_line().is_some())
+}
+
+/// Whether a process that can put no veil any more, or what it forks, can ever start a program by
+/// their own doing. Where not, no exec of theirs is answered ok, whatever they ask for behind a
+/// world of a replay with this tree and this process. The error is that of the list's beginning.
+pub(crate) fn can_ever_start<T: FileTree>(
+    alloc: Global,
+    tree: &T,
+    process: &Process,
+    table: &CallTable,
+) -> Result<bool, EverFault>
+    ensures never { IfOk result (λ starts. IsFalse starts → (h : History) → StandsFor process.now h →
+        NoLineHasExec (T.content tree.now) table.now h) }
+    ensures none { IfOk result (λ starts. IsFalse starts →
+        NeverStarts (T.content tree.now) process.now table.now) }
+{
+    ever_law();
+    table.known();
+    let mut list = Ever::begin(alloc, tree, process, table)?;
+    while let Some(line) = list.next_line() {
+        if line.calls.contains(Call::Exec) {
+            return Ok(true);
+        }
+    }
+    Ok(false)
 }
 
 /// The text of `pua objects` for a process or for all, in memory with room for so many bytes. The error

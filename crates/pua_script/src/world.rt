@@ -42,7 +42,7 @@ ghost use Rattle.std.specs.Prelude.{◌≡◌, IfOk, OnErr, MatchResult, IsFalse
 ghost use Rattle.pua_tree.specs.Tree.{Tree, WellFormed};
 ghost use Rattle.pua_calls.specs.Calls.{CallTable as Calls};
 ghost use Rattle.pua_calls.specs.Tables.{NoCallNeedsError};
-ghost use Rattle.pua_script.specs.Futures.{AreDone, AreDoneInPart, AreHeld, AreServedInPart};
+ghost use Rattle.pua_script.specs.Futures.{AreDone, AreDoneInPart, AreHeld, AreServedInPart, HaveTrees};
 ghost use Rattle.pua_script.specs.Futures.{IsNarrowing, IsSparing};
 ghost use Rattle.pua_script.specs.Replay.{new_world};
 ghost use Rattle.pua_script.specs.Worlds.{AreNumbersOf, HasReplay, StandsForWorld, IsProcessOf};
@@ -167,6 +167,7 @@ impl<T: FileTree> World<T> {
         ensures served { IfOk result
             (λ answers. AreServed self.old script.now answers.items self.new) }
         ensures held { IfOk result (λ _. AreHeld self.old script.now self.new) }
+        ensures trees { IfOk result (λ _. HaveTrees self.old script.now) }
         ensures in_part { OnErr result (AreServedInPart self.old script.now self.new) }
     {
         // What is true of the requests together follows from what `serve_each` says of each. So it is a

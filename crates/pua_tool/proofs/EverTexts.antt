@@ -27,7 +27,7 @@ module _ (choice : Chosen) (tree_bytes script_bytes : List ℕ) (process : ℕ) 
   replay_answers done r a b n m is = subst (λ (answer : Result (List ℕ) ToolFault). Answers answer r a b n m) (sym (ever_is done is))
 
 -- what comes after the replay, by the history of the process
-abbrev after_by : Replayed → ℕ → History → Result (List ℕ) ToolFault
+abbrev pub after_by : Replayed → ℕ → History → Result (List ℕ) ToolFault
 after_by done process h =
     unless_reason process (refusal done.table h) (answer_lines 1 done.answers ++ ever_list done.table done.world.tree process h)
 

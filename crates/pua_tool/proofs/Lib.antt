@@ -6,6 +6,7 @@ pub mod Alike
 pub mod ObjectTexts
 pub mod EverTexts
 pub mod AuditTexts
+pub mod Written
 pub mod Stops
 pub mod Ends
 pub mod WhyTexts

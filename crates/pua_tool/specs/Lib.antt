@@ -9,6 +9,7 @@ pub mod Performed
 -- What is proved of these.
 pub mod Futures
 pub mod Alike
+pub mod Forever
 -- Worked rows, which hold by computation.
 pub mod Examples
 -- Notes: what the code has begun.

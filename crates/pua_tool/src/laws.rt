@@ -4,6 +4,7 @@
 ghost use Rattle.std.specs.Prelude.{◌≡◌};
 ghost use Rattle.pua_tool.specs.Alike.{AnswersAlike, LinesAlike};
 ghost use Rattle.pua_tool.specs.Examples.{ReasonTextRows, TextRows};
+ghost use Rattle.pua_tool.specs.Forever.{EverAsWritten};
 ghost use Rattle.pua_tool.specs.Futures.{Confinement, ConfinementAsRead, Narrowing};
 ghost use Rattle.pua_tool.specs.Futures.{NarrowingAsRead, NarrowingNow};
 ghost use Rattle.pua_script.specs.Futures.{RulesNarrow};
@@ -42,6 +43,13 @@ pub fn confined()
     ensures rows { Confinement }
     ensures read { ConfinementAsRead }
     ensures rules { RulesNarrow }
+{}
+
+/// Where there is a text of a list for ever, it is the answers and the list of the process, which is complete: whatever is
+/// asked behind the script, as long as nobody else changes the tree and no exec of the family succeeds.
+#[tactic(auto, using(crate::proofs::Written::ever_as_written))]
+pub fn ever_text_law()
+    ensures { EverAsWritten }
 {}
 
 /// Over any two trees of the same content, however each is kept, a script is answered the same by a

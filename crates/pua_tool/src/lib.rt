@@ -26,7 +26,7 @@ pub use cli::{command, program};
 pub use ever::ever_to;
 pub use fault::ToolFault;
 pub use job::Job;
-pub use laws::{confined, narrowing, text_examples, trees_alike};
+pub use laws::{confined, ever_text_law, narrowing, text_examples, trees_alike};
 pub use objects::objects_to;
 pub use objects_why::objects_why_to;
 pub use pua_io::{

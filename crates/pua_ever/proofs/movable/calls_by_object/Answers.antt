@@ -1,12 +1,15 @@
-use Rattle.pua_ever.proofs.Common.{refl, ◌∙◌, IsMissing, lasting_dir, removable_dir}
+use Rattle.pua_ever.proofs.Common.{refl, ap, ◌∙◌, list_any, IsMissing, can_move, lasting_dir, removable_dir}
+use Rattle.pua_calls.specs.declared.call.Call.TheVariants.{Stat}
 use Rattle.pua_policy.specs.Verdict.{IsFile, IsProg, IsLink}
-use Rattle.pua_ever.proofs.Under.{under_dirs, under_files, under_made}
+use Rattle.pua_ever.proofs.Under.{some_moves, under_dirs, under_files, under_made}
 use Rattle.pua_ever.proofs.movable.calls_by_object.Goals as goal
 
 pub returns : goal.returns
-returns c = λ t h stands dirs names some.
+returns c = λ t h stands dirs names opens.
     let table = c.args.table.now in
     let found = c.args.found.now in
+    let moves = c.moves_any-moves.ensures h stands ∙ ap (list_any (can_move table h)) c.deref.ensures.value
+    ∙ some_moves t table h found.dirs.items found.entrances.items found.names.items dirs IsMissing Stat names opens in
     record {
       dir = λ call. c.on_dirs-dir.ensures h lasting_dir stands refl call ∙
           under_dirs t table h found.dirs.items found.entrances.items found.names.items dirs lasting_dir call;
@@ -15,11 +18,11 @@ returns c = λ t h stands dirs names some.
       others = λ call. c.on_dirs-others.ensures h IsMissing stands refl call ∙
           under_dirs t table h found.dirs.items found.entrances.items found.names.items dirs IsMissing call;
       file = λ call. c.on_files-file.ensures h IsFile stands refl call ∙
-          under_files t table h found.dirs.items found.entrances.items found.names.items dirs IsFile call names some;
+          under_files t table h found.dirs.items found.entrances.items found.names.items dirs IsFile call names opens c.moves_any-moves.result moves;
       program = λ call. c.on_files-program.ensures h IsProg stands refl call ∙
-          under_files t table h found.dirs.items found.entrances.items found.names.items dirs IsProg call names some;
+          under_files t table h found.dirs.items found.entrances.items found.names.items dirs IsProg call names opens c.moves_any-moves.result moves;
       link = λ call. c.on_files-link.ensures h IsLink stands refl call ∙
-          under_files t table h found.dirs.items found.entrances.items found.names.items dirs IsLink call names some;
+          under_files t table h found.dirs.items found.entrances.items found.names.items dirs IsLink call names opens c.moves_any-moves.result moves;
       made = λ call. c.on_names-made.ensures h stands call ∙
           under_made t table h found.dirs.items found.entrances.items found.names.items dirs IsMissing call names;
     }

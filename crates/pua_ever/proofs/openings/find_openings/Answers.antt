@@ -1,9 +1,8 @@
-use Rattle.pua_ever.proofs.Common.{◌≡◌, [], ◌∷◌, ◌++◌, map, sym, ap, subst, ◌∙◌, filter_map, nat_lt, not, ◌==◌, if◌then◌else◌, list_any}
+use Rattle.pua_ever.proofs.Common.{◌≡◌, [], ◌∷◌, ◌++◌, map, sym, ap, subst, ◌∙◌, filter_map, not, ◌==◌, if◌then◌else◌, list_any}
 use Rattle.pua_ever.proofs.Common.{Tree, WellFormed, History, StandsFor, has_veil, All, dir_covers, name_covers, dir_opening, name_opening}
-use Rattle.pua_ever.proofs.Common.{opened_dir, held_dir, entrance_cover, HaveSame}
-use Rattle.std.specs.Prelude.{length}
+use Rattle.pua_ever.proofs.Common.{opened_dir, held_dir, entrance_cover, open_covers, HaveSame}
 use Rattle.pua_ever.proofs.Opened.{places_of, held, empties}
-use Rattle.pua_ever.proofs.Opening.{own_covers, entrances, dirs_same, names_same, some_same}
+use Rattle.pua_ever.proofs.Opening.{own_covers, entrances, dirs_same, names_same, open_same}
 use Rattle.pua_ever.proofs.openings.find_openings.Goals as goal
 use Rattle.pua_ever.proofs.openings.find_openings.Goals.{After-drop-places}
 use Rattle.pua_ever.proofs.openings.find_openings.Given.{Over}
@@ -44,9 +43,10 @@ returns-in-Ok-clause-names g c =
     λ h stands. subst (λ xs. HaveSame xs (name_covers (t g c h stands) h)) (sym (names g c h stands))
     (names_same (t g c h stands) h (well g c h stands))
 
-pub returns-in-Ok-clause-some : goal.returns-in-Ok-clause-some
-returns-in-Ok-clause-some g c = λ h stands. ap (λ xs. nat_lt 0 (length xs)) (dirs g c h stands) ∙
-    some_same (t g c h stands) h (well g c h stands)
+pub returns-in-Ok-clause-open : goal.returns-in-Ok-clause-open
+returns-in-Ok-clause-open g c =
+    λ h stands. subst (λ xs. HaveSame xs (open_covers (t g c h stands) h)) (sym (dirs g c h stands))
+    (open_same (t g c h stands) h (well g c h stands))
 
 pub returns-in-Ok-clause-held : goal.returns-in-Ok-clause-held
 returns-in-Ok-clause-held g c = λ h dir stands is has.

@@ -1,5 +1,5 @@
 use Rattle.pua_ever.proofs.Common.{◌≡◌, true, false, sym, ap, ◌∙◌, ◌&&◌, ◌==◌, not, is_none, if◌then◌else◌, list_any, empty_tree, has}
-use Rattle.pua_ever.proofs.Common.{perms_kept, covered_verdict, is_allowed, has_c, cover_in, may_edit, is_named_way}
+use Rattle.pua_ever.proofs.Common.{perms_kept, covered_verdict, is_allowed, can_move, cover_in, is_named_way}
 use Rattle.pua_policy.specs.declared.object.Object.TheVariants as see
 use Rattle.pua_policy.specs.declared.place.Place.TheVariants as place
 use Rattle.pua_ever.proofs.Prospected.{moved_calls, still_calls}
@@ -7,8 +7,8 @@ use Rattle.pua_ever.proofs.prospects.Prospects.on_dir.Goals as goal
 
 pub returns-then-moves_dir : goal.returns-then-moves_dir
 returns-then-moves_dir c = λ t h way needs stands is living named covered seen call.
-    let can : ((may_edit c.args.table.now h && is_none (perms_kept h (place.Dir c.args.dir))) && has_c (cover_in t h c.args.dir)) ≡ true
-    = (λ i. (sym is.edits i && is_none (perms_kept h (place.Dir c.args.dir))) && has_c (sym covered i)) ∙
+    let can : (is_none (perms_kept h (place.Dir c.args.dir)) && can_move c.args.table.now h (cover_in t h c.args.dir)) ≡ true
+    = (λ i. is_none (perms_kept h (place.Dir c.args.dir)) && can_move c.args.table.now h (sym covered i)) ∙
     sym (c.moves_dir.ensures h stands) ∙ c.if-moves_dir.true in
     ap (λ set. has set call) c.on_dir.ensures
     ∙ moved_calls t c.args.table.now h c.args.self.now is c.args.dir way living can c.can_empty-emptied.result
@@ -17,8 +17,8 @@ returns-then-moves_dir c = λ t h way needs stands is living named covered seen 
 pub returns : goal.returns
 returns c = λ t h way needs stands is living named covered seen call.
     let p = c.args.self.now in
-    let can : ((may_edit c.args.table.now h && is_none (perms_kept h (place.Dir c.args.dir))) && has_c (cover_in t h c.args.dir)) ≡ false
-    = (λ i. (sym is.edits i && is_none (perms_kept h (place.Dir c.args.dir))) && has_c (sym covered i)) ∙
+    let can : (is_none (perms_kept h (place.Dir c.args.dir)) && can_move c.args.table.now h (cover_in t h c.args.dir)) ≡ false
+    = (λ i. is_none (perms_kept h (place.Dir c.args.dir)) && can_move c.args.table.now h (sym covered i)) ∙
     sym (c.moves_dir.ensures h stands) ∙ c.if-moves_dir.false in
     let emptied : c.can_empty-emptied.result ≡ (is_named_way way && not (list_any (λ other. other == c.args.dir) p.held.items))
     = c.can_empty-emptied.ensures ∙ ap (λ b. b && not (list_any (λ other. other == c.args.dir) p.held.items)) named in

@@ -1,5 +1,29 @@
-use Rattle.pua_ever.proofs.Common.{rules}
+use Rattle.pua_ever.proofs.Common.{◌≡◌, refl, ◌∙◌, ◌&&◌, ◌||◌, list_any, Some, empty_tree, has}
+use Rattle.pua_ever.proofs.Common.{object_seen, object_of_kind, Call, is_allowed_under, rules, tests}
+use Rattle.pua_tree.specs.declared.node.Kind.TheVariants.{Dir, File, Prog, Link}
+use Rattle.pua_policy.specs.Verdict.{IsFile}
+use Rattle.pua_ever.specs.Ever.{can_allow, is_exec_call, named_covers, turning_calls}
 use Rattle.pua_ever.proofs.prospects.Prospects.on_thing.Goals as goal
+use Rattle.pua_ever.proofs.prospects.Prospects.on_thing.Goals.{Start}
 
-pub returns-then-has_c : goal.returns-then-has_c
-returns-then-has_c c = search rules
+pub returns : goal.returns
+returns c = λ t h kind stands found sees call.
+    elim kind as (λ k. c.args.object ≡ object_seen empty_tree (object_of_kind (Some k)) → has c.on_file.result call
+    ≡ can_allow c.args.table.now h (named_covers t c.args.table.now h (Some k) c.args.cover.now) (object_of_kind (Some k)) call) [
+      | File ↦ λ sees. (
+          let as_file : (x : Call) → has c.on_seen-calls.result x
+          ≡ is_allowed_under c.args.table.now h (named_covers t c.args.table.now h (Some File) c.args.cover.now) IsFile x =
+          λ x. c.on_seen-calls.ensures t h File stands found sees x in
+          let as_program = c.on_seen-as_program.ensures t h Prog stands found refl in
+          c.on_file.ensures call ∙
+          (λ i. as_file call i || (list_any (λ x. as_file x i) turning_calls && (is_exec_call call && as_program call i))))
+      | Dir ↦ λ sees. (
+          let as_file : (x : Call) → has c.on_seen-calls.result x
+          ≡ is_allowed_under c.args.table.now h (named_covers t c.args.table.now h (Some Dir) c.args.cover.now) IsFile x =
+          λ x. c.on_seen-calls.ensures t h Dir stands found sees x in
+          let as_program = c.on_seen-as_program.ensures t h Prog stands found refl in
+          c.on_file.ensures call ∙
+          (λ i. as_file call i || (list_any (λ x. as_file x i) turning_calls && (is_exec_call call && as_program call i))))
+      | Prog ↦ λ sees. search (rules, tests)
+      | Link ↦ λ sees. search (rules, tests)
+    ] sees

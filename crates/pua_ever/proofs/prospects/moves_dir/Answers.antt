@@ -1,5 +1,5 @@
 use Rattle.pua_ever.proofs.Common.{rules}
-use Rattle.pua_ever.proofs.prospects.Prospects.moves_dir.Goals as goal
+use Rattle.pua_ever.proofs.prospects.moves_dir.Goals as goal
 
 pub returns-then-is_none : goal.returns-then-is_none
 returns-then-is_none c = search rules

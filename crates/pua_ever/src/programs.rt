@@ -1,0 +1,40 @@
+//! Files that can be made programs.
+
+ghost use Rattle.std.specs.Prelude.{◌≡◌, ◌&&◌, ◌||◌};
+ghost use Rattle.std.specs.List.{list_any};
+ghost use Rattle.pua_calls.specs.CallSets.{has};
+ghost use Rattle.pua_calls.specs.declared.call.Call.{Call as AnyCall};
+ghost use Rattle.pua_ever.specs.Ever.{is_exec_call, turning_calls};
+
+use pua_calls::{Call, Calls};
+
+/// The calls on a file that stands, by those on a file and those on a program under the same covers:
+/// exec too where one of them can make it a program.
+pub(crate) fn on_file(as_file: Calls, as_program: Calls) -> Calls
+    ensures { (call : AnyCall) → has result call ≡ (has as_file call
+        || (list_any (has as_file) turning_calls && (is_exec_call call && has as_program call))) }
+{
+    if can_turn(as_file) {
+        return on_new_file(as_file, as_program);
+    }
+    as_file
+}
+
+/// The same of a file that is made, whose mode is given with it.
+pub(crate) fn on_new_file(as_file: Calls, as_program: Calls) -> Calls
+    ensures { (call : AnyCall) → has result call
+        ≡ (has as_file call || (is_exec_call call && has as_program call)) }
+{
+    if as_program.contains(Call::Exec) {
+        return as_file.with(Call::Exec);
+    }
+    as_file
+}
+
+/// Whether one of the calls on a file writes it or sets its mode.
+fn can_turn(calls: Calls) -> bool
+    ensures { result ≡ list_any (has calls) turning_calls }
+{
+    const TURNING: [Call; 4] = [Call::OpenWrite, Call::OpenBoth, Call::Create, Call::Chmod];
+    TURNING.iter().any(|call| calls.contains(*call))
+}

@@ -1,0 +1,70 @@
+-- What a list for ever that was written says of the future.
+use Rattle.pua_tool.proofs.Common.{◌≡◌, ◌∙◌, ℕ, List, [], ◌++◌, ap, refl, sym, Err, Ok, Option, Some, None, CallTable, Tree, Asked, World}
+use Rattle.pua_tool.proofs.Common.{History, history_of, new_world, answers_to, world_after, answer_lines, listing, script, Chosen, Replayed}
+use Rattle.pua_tool.proofs.Common.{table_by, as_listing, as_script, unless_reason, ToolFault}
+use Rattle.std.proofs.Common.{◌⊎◌, inl, inr, true}
+use Rattle.std.specs.Prelude.{ok_or}
+use Rattle.pua_tree.specs.Steps.{◌>>=◌}
+use Rattle.pua_tree.proofs.ForCallers.{same_Ok, Err≢Ok}
+use Rattle.pua_policy.specs.History.{is_ended}
+use Rattle.pua_script.specs.Laws.{IsConfined}
+use Rattle.pua_ever.specs.Refusals.{refusal}
+use Rattle.pua_ever.specs.declared.refusal.Refusal.{Refusal}
+use Rattle.pua_ever.proofs.ForCallers.{ever_after_read, unrefused_table, unrefused_history}
+use Rattle.pua_texts.specs.EverLines.{ever_list}
+use Rattle.pua_tool.specs.EverTexts.{ever_after, ever_fault, ever_text}
+use Rattle.pua_tool.specs.Forever.{EverAsWritten, IsEverWritten, IsForeseenBehind}
+use Rattle.pua_tool.specs.declared.fault.ToolFault.TheVariants.{NoProcess}
+use Rattle.pua_tool.proofs.Replays.{replayed_is}
+use Rattle.pua_tool.proofs.EverTexts.{ever_is, after_made, after_by}
+use Rattle.pua_tool.proofs.Tables.{tables_need_no_error}
+
+module _ (choice : Chosen) (tree_bytes script_bytes : List ℕ) (table : CallTable) (t : Tree) (first : List Asked) (process : ℕ)
+    (text : List ℕ) (given : table_by choice ≡ Ok table) (read : listing tree_bytes ≡ Ok t) (scripted : script script_bytes ≡ Ok first)
+    (told : ever_text choice tree_bytes script_bytes process ≡ Ok text) where
+  abbrev w : World
+  w = world_after table (new_world t) first
+
+  abbrev done : Replayed
+  done = record { table = table; answers = answers_to table (new_world t) first; world = w }
+
+  after : ever_after done process ≡ Ok text
+  after = sym (ever_is choice tree_bytes script_bytes process done
+      (replayed_is choice tree_bytes script_bytes table t first given (ap as_listing read) (ap as_script scripted))) ∙ told
+
+  never : history_of w process ≡ None → ⊥
+  never is = Err≢Ok NoProcess text
+      (sym (ap (λ made. ok_or made NoProcess >>= after_by done process) is) ∙ after)
+
+  abbrev whole : History → List ℕ
+  whole h = answer_lines 1 done.answers ++ ever_list table w.tree process h
+
+  unless_told : (h : History) (o : Option Refusal) → unless_reason process o (whole h) ≡ Ok text → (o ≡ None) × (text ≡ whole h)
+  unless_told h None e = (refl, sym (same_Ok (whole h) text e))
+  unless_told h (Some reason) e = absurd (Err≢Ok (ever_fault process reason) text e)
+
+  foreseen_behind : (h : History) → history_of w process ≡ Some h → refusal table h ≡ None → IsConfined h ⊎ (is_ended h ≡ true) →
+      IsForeseenBehind table w process h ⊎ (is_ended h ≡ true)
+  foreseen_behind h here none (inl confined) =
+      inl (λ asks bytes alone edit member belongs.
+      ever_after_read table (tables_need_no_error choice table given) (unrefused_table table h none) tree_bytes script_bytes t first asks
+      read scripted bytes process h here confined alone edit member belongs)
+  foreseen_behind h here none (inr ended) = inr ended
+
+  written : IsEverWritten table t first process text
+  written = by (history_of w process) refl
+    where
+      by : (made : Option History) → history_of w process ≡ made → IsEverWritten table t first process text
+      by None is = absurd (never is)
+      by (Some h) is =
+          let parts = unless_told h (refusal table h) (sym (after_made done process h is) ∙ after) in
+          record {
+            now = h;
+            here = is;
+            is_text = parts.1;
+            complete = foreseen_behind h is parts.0 (unrefused_history table h parts.0);
+          }
+
+pub ever_as_written : EverAsWritten
+ever_as_written choice tree_bytes script_bytes table t first process text given read scripted told =
+    written choice tree_bytes script_bytes table t first process text given read scripted told
