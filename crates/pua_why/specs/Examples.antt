@@ -80,6 +80,13 @@ pub record WhyRows : Type 0 where
   -- another path's fault is another reason
   pub another_path : why_of root_alone (codes "1 mkdir /a" ∷ codes "1 rename /a/f /b/g" ∷ []) ≡
       codes "1 ok" ∷ codes "2 ENOENT new: /b is missing since line 1" ∷ []
+  -- what is missing, or is no directory, is the same reason where the path stops there and where it ends there
+  pub missing_further_on : why_of root_alone (codes "1 mkdir /b" ∷ codes "1 exec /b/c" ∷ []) ≡
+      codes "1 ok" ∷ codes "2 ENOENT /b/c is missing" ∷ []
+  pub no_directory_further_on : why_of root_alone (codes "1 mkdir /d" ∷ codes "1 create /d/x" ∷ codes "1 create /f"
+      ∷ codes "1 symlink f /l" ∷ codes "1 symlink d /m" ∷ codes "1 rename /m /l" ∷ codes "1 chdir /l/x" ∷ []) ≡
+      codes "1 ok" ∷ codes "2 ok" ∷ codes "3 ok" ∷ codes "4 ok" ∷ codes "5 ok" ∷ codes "6 ok"
+      ∷ codes "7 ENOTDIR /d/x is no directory since line 4" ∷ []
   -- of a tree that has no number left
   pub full : lines_over standard_table (Ok (record empty_tree { next = number_end })) (script (text_of_lines (codes "1 mkdir /a" ∷ []))) ≡
       codes "1 ENOSPC tree is full" ∷ []
@@ -156,6 +163,8 @@ why_rows = record {
   pledges = refl;
   forks = refl;
   another_path = refl;
+  missing_further_on = refl;
+  no_directory_further_on = refl;
   full = refl;
   children = refl;
   removed = refl;

@@ -37,12 +37,26 @@ path_key (Stops (NoEntry spot)) = 5
 path_key (Stops (NoDirectory spot)) = 6
 path_key (Stops (LinkBeyond spot)) = 7
 
+-- what is missing, or is no directory, has one key, whether the path stops there or ends there: both have the same words
+abbrev pub misfit_group : Misfit → ℕ
+misfit_group Missing = 3
+misfit_group Exists = 6
+misfit_group IsDirectory = 6
+misfit_group IsNoFile = 6
+misfit_group IsNoDirectory = 3
+misfit_group IsNoLink = 6
+misfit_group IsNoProgram = 6
+misfit_group IsNotEmpty = 6
+misfit_group ByDot = 6
+misfit_group ByDotDot = 6
+misfit_group ByNothing = 6
+
 abbrev pub misfit_key : Misfit → ℕ
-misfit_key Missing = 0
+misfit_key Missing = 5
 misfit_key Exists = 1
 misfit_key IsDirectory = 2
 misfit_key IsNoFile = 3
-misfit_key IsNoDirectory = 4
+misfit_key IsNoDirectory = 6
 misfit_key IsNoLink = 5
 misfit_key IsNoProgram = 6
 misfit_key IsNotEmpty = 7
@@ -61,7 +75,7 @@ fault_key (BadTarget fault) = 2 ∷ text_key fault ∷ []
 fault_key (BadPath side fault) = 3 ∷ side_key side ∷ path_key fault ∷ []
 fault_key (Uncovered side object) = 4 ∷ side_key side ∷ []
 fault_key (LacksLetters side place given lacks) = 5 ∷ side_key side ∷ given ∷ lacks ∷ place_key place
-fault_key (Unfit side object misfit) = 6 ∷ side_key side ∷ misfit_key misfit ∷ []
+fault_key (Unfit side object misfit) = misfit_group misfit ∷ side_key side ∷ misfit_key misfit ∷ []
 fault_key (Inside old new) = 7 ∷ []
 fault_key (UnknownPromise of_exec) = 8 ∷ exec_key of_exec ∷ []
 fault_key (AsksPromises of_exec lacks) = 9 ∷ exec_key of_exec ∷ lacks ∷ []

@@ -4,8 +4,8 @@ ghost use Rattle.std.specs.Prelude.{◌≡◌, ◌++◌, ◌∷◌, IfOk, OnOk, 
 ghost use Rattle.pua_path.specs.declared.traced.PathFault.TheVariants as faults;
 ghost use Rattle.pua_tree.specs.Names.{same_bytes};
 ghost use Rattle.pua_calls.specs.Promises.{lacking};
-ghost use Rattle.pua_why.specs.Keys.{exec_key, fault_key, misfit_key, path_key, place_key};
-ghost use Rattle.pua_why.specs.Keys.{reason_key, side_key, text_key};
+ghost use Rattle.pua_why.specs.Keys.{exec_key, fault_key, misfit_group, misfit_key, path_key};
+ghost use Rattle.pua_why.specs.Keys.{place_key, reason_key, side_key, text_key};
 ghost use Rattle.pua_why.specs.Seen.{fault_seen, reason_seen, side_seen};
 
 use crate::told::{Fault, Reason, Side};
@@ -94,7 +94,11 @@ fn add_fault(numbers: &mut Vec<u64>, fault: &Fault<'_>) -> Result<(), OutOfMemor
         }
         Fault::Unfit(side, _, misfit) => add(
             numbers,
-            &[6, side_number(side), misfit_number(misfit)],
+            &[
+                misfit_group_number(misfit),
+                side_number(side),
+                misfit_number(misfit),
+            ],
         ),
         Fault::Inside { .. } => add(numbers, &[7]),
         Fault::UnknownPromise { of_exec } => add(numbers, &[8, exec_number(of_exec)]),
@@ -215,15 +219,25 @@ fn stop_number(stop: &Stop) -> u64
     }
 }
 
+/// What is missing, or is no directory, counts among what stops a path.
+fn misfit_group_number(misfit: Misfit) -> u64
+    ensures { result ≡ misfit_group misfit }
+{
+    match misfit {
+        Misfit::Missing | Misfit::IsNoDirectory => 3,
+        _ => 6,
+    }
+}
+
 fn misfit_number(misfit: Misfit) -> u64
     ensures { result ≡ misfit_key misfit }
 {
     match misfit {
-        Misfit::Missing => 0,
+        Misfit::Missing => 5,
         Misfit::Exists => 1,
         Misfit::IsDirectory => 2,
         Misfit::IsNoFile => 3,
-        Misfit::IsNoDirectory => 4,
+        Misfit::IsNoDirectory => 6,
         Misfit::IsNoLink => 5,
         Misfit::IsNoProgram => 6,
         Misfit::IsNotEmpty => 7,
