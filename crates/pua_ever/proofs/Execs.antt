@@ -4,8 +4,7 @@ use Rattle.pua_ever.proofs.Common.{false≢true, eq-eqb, eqb-true, CallTable, Hi
 use Rattle.pua_ever.proofs.Common.{is_member, is_exec, is_done, none_done, family_then, Members, members_then, Action, OnPath, Symlink}
 use Rattle.pua_ever.proofs.Common.{Rename, Link, Pledge, Unveil, Lock, Fork, Exit}
 use Rattle.pua_script.specs.Family.{family, is_okay, with_child, HasHistoryOf}
-use Rattle.pua_script.proofs.ForCallers.{others_leave}
-use Rattle.pua_script.proofs.Families.{Belongs}
+use Rattle.pua_script.proofs.ForCallers.{Belongs, others_leave}
 use Rattle.pua_ever.specs.Laws.{LoosensNone, NoExecLoosens}
 
 -- an exec makes no process

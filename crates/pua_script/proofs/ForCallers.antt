@@ -15,7 +15,7 @@ pub use Rattle.pua_script.proofs.Others.{others_leave, others_leave_always}
 -- a history within another: the same covers, and no more is allowed
 pub use Rattle.pua_script.proofs.Allowing.{IsWithin, same_cover, may_yes, verdicts_within}
 -- the members of a family, one request after another
-pub use Rattle.pua_script.proofs.Families.{Members, begins, members_then, members_after}
+pub use Rattle.pua_script.proofs.Families.{Belongs, Members, begins, members_then, members_after}
 -- what one request leaves of the rows without `c`, or two of them, and what it leaves by other histories with the same veils
 pub use Rattle.pua_script.proofs.Confining.{each_spares, spared_twice}
 pub use Rattle.pua_script.proofs.Confined.{by_other, first_tree, at_all}
