@@ -4,6 +4,10 @@ use Rattle.pua_since.proofs.Common.{is_some, same_bytes, CallTable, History, Ask
 use Rattle.pua_since.proofs.Common.{Failed, Ended, reason, Test, forebear, since, date_of, reason_since, IsToldOf, IsWatched, is_told}
 use Rattle.pua_since.proofs.Common.{Question, Told, Watch}
 use Rattle.pua_path.specs.declared.errno.Errno.TheVariants.{ENOSPC}
+use Rattle.pua_path.specs.declared.found.Found.{Found}
+use Rattle.pua_policy.specs.declared.reason.Misfit.{Misfit}
+use Rattle.pua_policy.specs.declared.reason.Misfit.TheVariants.{Missing}
+use Rattle.pua_script.specs.Decide.{Side}
 use Rattle.pua_why.specs.Checked.{reason_checked, granted_by, told_by}
 use Rattle.pua_why.specs.Keys.{reason_key}
 use Rattle.pua_why.specs.Reasons.{Ends, LacksPromises, BadTarget, BadPath, Uncovered, LacksLetters, Unfit, Inside, UnknownPromise}
@@ -67,6 +71,12 @@ from_told answer Granted r dated e = by (granted_or_full answer)
     by (inl granted) = absurd (subst IsDated (sym e ∙ granted) dated)
     by (inr full) = absurd (subst IsDated (sym e ∙ full) dated)
 
+-- what does not fit has not the key of what lacks room
+unfit_key : (side : Side) (object : Found) (misfit : Misfit) →
+    same_bytes (reason_key (Refused NoRoom)) (reason_key (Refused (Unfit side object misfit))) ≡ false
+unfit_key side object Missing = refl
+unfit_key side object _ = refl
+
 -- and neither what is granted nor what lacks room has its key
 other_key : (r : Reason) → IsDated r → (same_bytes (reason_key Granted) (reason_key r) ≡ false) ×
     (same_bytes (reason_key (Refused NoRoom)) (reason_key r) ≡ false)
@@ -74,6 +84,7 @@ other_key NeverMade dated = absurd dated
 other_key Granted dated = absurd dated
 other_key (Refused NoRoom) dated = absurd dated
 other_key Ended dated = (refl, refl)
+other_key (Refused (Unfit side object misfit)) dated = (refl, unfit_key side object misfit)
 other_key (Refused _) dated = (refl, refl)
 
 -- so the checks tell it where it is the reason
