@@ -1,0 +1,414 @@
+#!/usr/bin/perl
+# Tests of the documents: perl tests/docs.t [PROGRAM]
+#
+# What a page shows is what happens, and what it names is there:
+#
+# - Each block of README.md and docs/ that begins with `$ ` is run, in the folder that its page says, with the program
+#   first on the path, and has to print what the page shows. A line `..` on a page stands for lines that it leaves out.
+#   In docs/EXAMPLES.md each other line that begins with `pua ` is run too, and has to complain of nothing.
+# - The EXAMPLES of each manual page are run over the files that man/pua.1 shows. Where such a page shows no output,
+#   the commands only have to complain of nothing.
+# - The code in docs/CALLING.md is that of the proved callers, function by function.
+# - Each file and each name in docs/ARCHITECTURE.md is there.
+# - Help, usage lines, the manual pages and README have the same options, of the program and of each tool.
+#
+# Where the sources of the program are not there, as in a release, what needs them is left out, and said.
+use strict;
+use warnings;
+use Cwd qw(abs_path);
+use File::Basename qw(basename dirname);
+use File::Find qw(find);
+use File::Temp qw(tempdir);
+use Test::More;
+
+my $TOP = dirname(dirname(abs_path(__FILE__)));
+my $PROGRAM = abs_path(@ARGV ? $ARGV[0] : "$TOP/crates/pua/out/pua");
+defined $PROGRAM && -x $PROGRAM or die "docs.t: no such program; name one\n";
+chdir $TOP or die "$TOP: $!\n";
+
+# Where the commands of a page are run, and by which words it says so.
+my %FOLDERS = (
+    'README.md'        => ['.',        'Each block of commands on this page begins in the top folder'],
+    'docs/EXAMPLES.md' => ['examples', 'commands below are run in `examples`'],
+);
+
+# A block in which some command begins with one of these words is not run.
+my %SKIPPED = (
+    rt      => 'the toolchain is not asked here',
+    make    => 'nothing is built or installed here',
+    cc      => 'there need not be a compiler',
+    ktrace  => 'a command of OpenBSD',
+    kdump   => 'a command of OpenBSD',
+    'perl tools/list.pl' => 'the files of this machine are not asked',
+);
+
+# Options that a usage line leaves out: that of runs and audits is fixed, and these came later (docs/DECISIONS.md).
+my %LEFT_OUT = (run => [qw(rules why)], audit => [qw(rules)]);
+
+# A room for what commands write, and a folder in which the program and the tools have the names that pages use.
+my $room = tempdir(CLEANUP => 1);
+mkdir "$room/$_" or die "$room/$_: $!\n" for qw(bin tmp man);
+symlink $PROGRAM, "$room/bin/pua" or die "$room/bin/pua: $!\n";
+for my $tool (glob 'tools/*.pl') {
+    my $path = "$room/bin/pua-" . basename($tool, '.pl');
+    put($path, "#!/bin/sh\nexec perl '$TOP/$tool' \"\$@\"\n");
+    chmod 0755, $path or die "$path: $!\n";
+}
+$ENV{PATH} = "$room/bin:$ENV{PATH}";
+
+my $has_sources = -d 'crates';
+test_pages();
+test_manuals();
+SKIP: {
+    skip 'the sources are not here', 1 if !$has_sources;
+    test_calling();
+    test_architecture();
+}
+test_options();
+test_tools();
+done_testing();
+
+sub content {
+    my ($name) = @_;
+    open my $in, '<:raw', $name or die "$name: $!\n";
+    local $/;
+    my $text = <$in>;
+    return defined $text ? $text : '';
+}
+
+sub put {
+    my ($name, $text) = @_;
+    open my $out, '>:raw', $name or die "$name: $!\n";
+    print $out $text or die "$name: $!\n";
+    close $out or die "$name: $!\n";
+    return;
+}
+
+# ---- Commands
+
+sub test_pages {
+    for my $page ('README.md', glob 'docs/*.md') {
+        my @blocks = blocks_in($page) or next;
+        my ($folder, $words) = @{ $FOLDERS{$page} || [] };
+        if (!defined $folder) {
+            fail("$page has commands, and this test does not know where they are run");
+            next;
+        }
+        like(join(' ', split ' ', content($page)), qr/\Q$words\E/, "$page says where its commands are run");
+        test_block($folder, $_) for @blocks;
+        test_plain($folder, $page) if $page eq 'docs/EXAMPLES.md';
+    }
+    return;
+}
+
+# The blocks of a page that begin with a command: each with its name, and its commands with what they print.
+sub blocks_in {
+    my ($page) = @_;
+    my ($number, $indent, @blocks) = (0);
+    for (split /\n/, content($page)) {
+        $number++;
+        if (defined $indent && /^$indent(.*)/) {
+            push @{ $blocks[-1]{lines} }, $1;
+        }
+        elsif (/^( {4,})(\$ .*)/) {
+            $indent = $1;
+            push @blocks, { name => "$page:$number", lines => [$2] };
+        }
+        else { undef $indent }
+    }
+    $_->{commands} = [commands_in(@{ $_->{lines} })] for @blocks;
+    return @blocks;
+}
+
+# The commands in the lines of a block. A command goes on after a line that ends with a bar or a backslash, and up to the
+# end of the text that it takes.
+sub commands_in {
+    my (@commands, $end, $goes_on);
+    for (@_) {
+        if (!$goes_on && !defined $end && s/^\$ //) { push @commands, { command => '', prints => [] } }
+        elsif (!$goes_on && !defined $end) {
+            push @{ $commands[-1]{prints} }, $_;
+            next;
+        }
+        $commands[-1]{command} .= "$_\n";
+        if (defined $end) { undef $end if $_ eq $end }
+        elsif (/<<'(\w+)'/) { $end = $1 }
+        $goes_on = !defined $end && /[|\\]$/;
+    }
+    return @commands;
+}
+
+sub test_block {
+    my ($folder, $block) = @_;
+    my @commands = @{ $block->{commands} };
+    my ($skipped) = grep { defined } map { skipped_for($_->{command}) } @commands;
+    SKIP: {
+        skip "$block->{name}: $skipped", scalar @commands if defined $skipped;
+        my @printed = printed_by($folder, map { $_->{command} } @commands);
+        for my $command (@commands) {
+            my $printed = shift @printed;
+            my @shown = @{ $command->{prints} };
+            my $pattern = join '', map { $_ eq '..' ? '(?:.*\n)*?' : quotemeta($_) . '\n' } @shown;
+            my ($name) = $command->{command} =~ /(.*)/;
+            ok($printed =~ /\A$pattern\z/, "$block->{name}: $name")
+                or diag("printed:\n$printed", "the page has:\n", map { "$_\n" } @shown);
+        }
+    }
+    return;
+}
+
+# Why a command is not run, if it isn't.
+sub skipped_for {
+    my ($command) = @_;
+    for my $part (split /&&|\|\|?|;/, $command) {
+        for my $words (sort keys %SKIPPED) {
+            return "$words: $SKIPPED{$words}" if $part =~ /^\s*\Q$words\E\b/;
+        }
+    }
+    return;
+}
+
+# What commands print, one after another in one shell that begins in a folder. What they write to /tmp goes elsewhere.
+sub printed_by {
+    my ($folder, @commands) = @_;
+    my $mark = '-- that was one command';
+    s{(?<![\w./])/tmp/}{$room/tmp/}g for @commands;
+    put("$room/commands", join '', "cd '$folder' || exit\n", map { "$_\necho '$mark'\n" } @commands);
+    system "sh '$room/commands' > '$room/printed' 2>&1 < /dev/null";
+    my $printed = content("$room/printed");
+    $printed =~ s{\Q$room\E/tmp/}{/tmp/}g;
+    my @printed = split /^\Q$mark\E\n/m, $printed, -1;
+    return map { defined ? $_ : '' } @printed[0 .. $#commands];
+}
+
+# Tests that what a page asks of the program without a `$ ` is answered.
+sub test_plain {
+    my ($folder, $page) = @_;
+    my $number = 0;
+    for (split /\n/, content($page)) {
+        $number++;
+        next if !/^    (pua .*)/;
+        my ($complaint) = printed_by($folder, "$1 2>&1 > /dev/null");
+        is($complaint, '', "$page:$number: $1");
+    }
+    return;
+}
+
+# ---- Manual pages
+
+# Runs the examples of manual pages, in a folder with the listing and the script that man/pua.1 shows.
+sub test_manuals {
+    my %texts = texts_shown('man/pua.1');
+    is(join(' ', sort keys %texts), 'listing script', 'man/pua.1 shows a listing and a script');
+    put("$room/man/$_", $texts{$_}) for keys %texts;
+    put("$room/man/table", content('examples/free-stat/table'));
+    symlink "$TOP/tools", "$room/man/tools" or die "$room/man/tools: $!\n";
+    my ($answers) = printed_by("$room/man", 'pua run --rules openbsd listing script');
+    put("$room/man/answers", $answers);
+    for my $page (sort { length $a <=> length $b or $a cmp $b } glob 'man/*.1') {
+        for my $block (examples_of($page)) {
+            my @commands = commands_in(@$block);
+            for my $command (@commands) {
+                my $name = "$page: " . $command->{command} =~ s/\n.*//sr;
+                SKIP: {
+                    my $skipped = skipped_for($command->{command});
+                    skip "$name: $skipped", 1 if defined $skipped;
+                    my $shown = join '', map { "$_\n" } @{ $command->{prints} };
+                    my ($printed) = printed_by("$room/man",
+                        $shown eq '' ? "{ $command->{command}} 2>&1 > /dev/null" : $command->{command});
+                    is($printed, $shown, $name);
+                }
+            }
+        }
+    }
+    return;
+}
+
+# The texts that the EXAMPLES of a page show, each after the name of its file.
+sub texts_shown {
+    my ($page) = @_;
+    my ($name, %texts);
+    for my $part (split /^\.Ed\n/m, section($page, 'EXAMPLES')) {
+        my ($before, $text) = split /^\.Bd -literal.*\n/m, $part;
+        next if !defined $text || $text =~ /^\$ /m;
+        ($name) = $before =~ /.*^\.Pa (\w+)/ms;
+        $texts{$name} = $text;
+    }
+    return %texts;
+}
+
+# The blocks of commands in the EXAMPLES of a page.
+sub examples_of {
+    my ($page) = @_;
+    my ($within, @blocks);
+    for (split /\n/, section($page, 'EXAMPLES')) {
+        s/\\e/\\/g;
+        if    (s/^\.Dl (?=\$ )//)  { push @blocks, [$_] }
+        elsif (/^\.Bd/)            { push @blocks, []; $within = 1 }
+        elsif (/^\.Ed/)            { $within = 0 }
+        elsif ($within)            { push @{ $blocks[-1] }, $_ }
+    }
+    s/^# .*// for map { @$_ } @blocks;
+    @$_ = grep { $_ ne '' } @$_ for @blocks;
+    return grep { @$_ && $_->[0] =~ /^\$ / } @blocks;
+}
+
+sub section {
+    my ($page, $name) = @_;
+    return content($page) =~ /^\.Sh $name\n(.*?)(?=^\.Sh |\z)/ms ? $1 : '';
+}
+
+# ---- The code in docs/CALLING.md
+
+sub test_calling {
+    my %proved = functions_in(content('crates/pua_examples/src/calling.rt'), '');
+    my %shown = functions_in(content('docs/CALLING.md'), '    ');
+    is(join(' ', sort keys %shown), join(' ', sort keys %proved), 'CALLING goes through the functions of calling.rt');
+    for my $name (sort keys %shown) {
+        my ($here, $there) = ($shown{$name}, $proved{$name});
+        next if !$there;
+        is($here->{head}, $there->{head}, "CALLING: what $name takes and gives");
+        is($here->{body}, $there->{body}, "CALLING: the body of $name");
+        my %has = map { $_ => 1 } @{ $there->{clauses} };
+        ok($has{$_}, "CALLING: a clause of $name") or diag($_) for @{ $here->{clauses} };
+    }
+    return;
+}
+
+# The functions in a text whose lines of code are indented by so much: of each its head, its clauses and its body.
+sub functions_in {
+    my ($text, $indent) = @_;
+    my %functions;
+    while ($text =~ /^$indent(?:pub(?:\(crate\))? )?(fn (\w+).*?\n)$indent\{\n(.*?\n)$indent\}\n/msg) {
+        my ($head, $name, $body) = ($1, $2, $3);
+        s/^$indent//mg for $head, $body;
+        my ($taken, @clauses) = split /^    (?=ensures|requires)/m, $head;
+        $taken = join ' ', split ' ', $taken;
+        $taken =~ s/\( /(/g;
+        $taken =~ s/, \)/)/g;
+        $functions{$name} = { head => $taken, body => $body, clauses => [map { join ' ', split } @clauses] };
+    }
+    return %functions;
+}
+
+# ---- The names in docs/ARCHITECTURE.md
+
+# Each item of the page (a paragraph, an entry of a list, a row) names files of the crates that it names, or else of any
+# crate. A name that is no file stands somewhere in the sources.
+sub test_architecture {
+    my (%file_of, %word);
+    my $note = sub {
+        my $file = $File::Find::name =~ s{^\./}{}r;
+        $File::Find::prune = 1 if $file =~ m{(?:^|/)(?:\.git|out|must-fail)\z};
+        push @{ $file_of{$_} }, $file for basename($file), basename($file) =~ /(\w+)\.(?:rt|antt)\z/;
+        return if !-f || $file !~ m{^(?:crates|tests|tools|bench|release)/};
+        $word{$_} = 1 for content($_) =~ /\w+/g;
+    };
+    find({ wanted => $note, no_chdir => 1 }, '.');
+    my @crates = map { basename($_) } glob 'crates/*';
+    my ($names, @missing) = (0);
+    for my $item (items_of(content('docs/ARCHITECTURE.md'))) {
+        my %named = map { $_ => 1 } $item =~ /\b(pua\w*)/g;
+        my @near = grep { $named{$_} } @crates;
+        for my $name ($item =~ /`([^`]+)`/g) {
+            $names++;
+            push @missing, $name if !stands($name, \%file_of, \%word, scalar $item =~ /^- \*Proofs/, @near);
+        }
+    }
+    is("@missing", '', 'what ARCHITECTURE names is there');
+    cmp_ok($names, '>', 100, "ARCHITECTURE: $names names");
+    return;
+}
+
+sub items_of {
+    my ($text) = @_;
+    my @items = ('');
+    for (split /\n/, $text) {
+        push @items, '' if /^(?:\s*- |\||#|$)/;
+        $items[-1] .= "$_\n";
+    }
+    return @items;
+}
+
+# Whether what a page names is there, in these crates if it is theirs.
+sub stands {
+    my ($name, $file_of, $word, $in_proofs, @near) = @_;
+    my ($first) = $name =~ /(\S+)/;
+    my $anywhere = $file_of->{$first} || [];
+    my $in_near = @near ? join '|', @near : '\w+';
+    if ($first =~ m{^[\w*.-]+(?:/[\w*.-]+)*/?\z} && $first =~ m{/|\.(?:rt|antt|t|p[lm]|sh|toml|py|rs|md|txt)\z}) {
+        my @folders = (qw(. crates tests tests/data tests/lib tools/faults), map { glob "crates/$_ crates/$_/* crates/$_/*/*" } @near ? @near : '*');
+        return 1 if grep { -e } map { my $folder = $_; map { glob "$folder/$first$_" } '', '.rt', '.antt' } @folders;
+        return grep { !m{^crates/} } @$anywhere;
+    }
+    return grep { m{^crates/(?:$in_near)/} } @$anywhere if $in_proofs && $name =~ /^[A-Z]\w+\z/;
+    return 1 if $name !~ /^[\w:.\$]+\z/;
+    return !grep { !$word->{$_} && !$file_of->{$_} } $name =~ /\w+/g;
+}
+
+# ---- Options
+
+# The options of the program's commands, as each place has them.
+sub test_options {
+    my %manual = synopsis_of('man/pua.1');
+    my %usage = usages_of(content('tests/data/rows.toml') =~ /^\w+ = "pua: usage: (.*)"$/mg);
+    my %readme = usages_of(join ' ', content('README.md') =~ /^    (pua (?:run|objects|why|audit) .*(?:\n {6,}.*)*)/mg);
+    my %all;
+    for my $command (qw(run objects why audit)) {
+        my $help = join ' ', sort grep { $_ ne 'help' } content("tests/data/help/$command") =~ /^ +(?:-\w, )?--([a-z]+)/mg;
+        $all{$_} = 1 for split ' ', $help;
+        is($manual{$command}, $help, "$command: man/pua.1 has the options of help");
+        is($readme{$command}, $help, "$command: README has the options of help") if %readme;
+        my @later = grep { $help =~ /\b$_\b/ } @{ $LEFT_OUT{$command} || [] };
+        is(join(' ', sort split(' ', $usage{$command}), @later), $help, "$command: its usage line has the options of help");
+    }
+    my $all = join ' ', sort keys %all;
+    is(join(' ', sort(section('man/pua.1', 'DESCRIPTION') =~ /^\.It Fl -(\w+)/mg)), $all, 'man/pua.1 tells of each option');
+    my %told = map { $_ => 1 } map { /`--(\w+)/g } content('README.md') =~ /^(\| `--.*?) \|/mg;
+    is(join(' ', sort keys %told), $all, 'README tells of each option') if %told;
+    return if !$has_sources;
+    my ($rows, $specs) = map { join "\n", sort /pua: usage: [^"]*/g } content('tests/data/rows.toml'), content('crates/pua_words/specs/Usages.antt');
+    is($rows, $specs, 'the usage lines are those of the definition');
+    return;
+}
+
+# The options of each command of a page's synopsis.
+sub synopsis_of {
+    my ($page) = @_;
+    my %options;
+    for my $use (split /^\.Nm pua\n/m, section($page, 'SYNOPSIS')) {
+        my ($command) = $use =~ /^\.Cm (\w+)/ or next;
+        $options{$command} = join ' ', sort $use =~ /Fl -(\w+)/g;
+    }
+    return %options;
+}
+
+# The same of lines as `pua COMMAND [--OPTION] ..`.
+sub usages_of {
+    my %options;
+    for my $use (map { split /(?:^|[ ;])(?=pua )/ } @_) {
+        my ($command) = $use =~ /^pua (\w+)/ or next;
+        $options{$command} = join ' ', sort $use =~ /--([a-z]+)/g;
+    }
+    return %options;
+}
+
+# The options of the tools, in their usage line and in their pages.
+sub test_tools {
+    for my $page (glob 'man/pua-*.1') {
+        my ($tool) = $page =~ /pua-(\w+)/;
+        my ($usage) = content("tools/$tool.pl") =~ /usage: \$NAME (.*?)\\n"/;
+        my @own = map { letters($_) } $usage =~ /\[-(\w+(?: \w+)?)\]/g;
+        my @shown = map { letters($_) } section($page, 'SYNOPSIS') =~ /^\.Op Fl (.*)/mg;
+        my @untold = grep { section($page, 'DESCRIPTION') !~ /^\.(?:It )?Fl $_\b/m } map { /(\w)/ } @own;
+        is("@{[sort @shown]}", "@{[sort @own]}", "$page: the synopsis has the options of the tool");
+        is("@untold", '', "$page: each option is told of");
+    }
+    return;
+}
+
+# Options as `kv`, `m FILE` or `m Ar file`: a letter each, with a colon if it takes a value.
+sub letters {
+    my ($letters, $value) = split ' ', shift;
+    return defined $value ? "$letters:" : split //, $letters;
+}
