@@ -1,0 +1,159 @@
+#!/usr/bin/perl
+# Which files a change goes through: perl tools/touched.pl [-l] [-C TOP] [-t TEXT]... WORD...
+#
+# Prints each file in which one of these stands, with how many lines have it, in groups:
+#
+#   WORD   a constructor, a name or a number of the code, as a whole word: not in a comment, an import or a text
+#   TEXT   what stands between quotes there, and as a whole word in tests, tools, pages and examples;
+#          if none is given, each WORD that has letters, in small ones
+#
+# To see what a further one of a kind has to go through, ask for one that is there. For a call, and the number of all:
+#
+#   perl tools/touched.pl Mkdir 14
+#   perl tools/touched.pl -t open-w OpenWrite          # a call whose text is not its name
+#   perl tools/touched.pl RPATH rpath                  # a promise
+#   perl tools/touched.pl ENOTEMPTY                    # an errno
+#   perl tools/touched.pl -t prog Kind Prog Program    # a kind of node
+#
+# -l prints the lines. -C TOP is the top folder of the repository, if it is not that of this file. A file that takes the
+# thing whole, and asks nothing of it, is not found, and need not change; one that tells it by another name is not found
+# either: docs/ARCHITECTURE.md, "Where to change what", says where that is so. The status is 1 where nothing is found.
+use strict;
+use warnings;
+use Cwd qw(abs_path);
+use File::Basename qw(dirname);
+use File::Find qw(find);
+use Getopt::Long qw(:config bundling);
+
+my ($lines, $top, @texts);
+my $USAGE = "usage: touched.pl [-l] [-C TOP] [-t TEXT]... WORD...\n";
+GetOptions('l' => \$lines, 'C=s' => \$top, 't=s' => \@texts) && @ARGV && !grep { !/^\w+\z/ } @ARGV or do {
+    print STDERR $USAGE;
+    exit 2;
+};
+$top = dirname(dirname(abs_path(__FILE__))) if !defined $top;
+chdir $top or die "touched.pl: $top: $!\n";
+
+my @words = @ARGV;
+@texts = map { lc } grep { /[A-Za-z]/ } @words if !@texts;
+push @texts, grep { /^[A-Z0-9]+\z/ && /[A-Z]/ } @words;
+
+# A word stands alone between what is no part of a name, and a text also between what is no part of a call's name.
+my $word = any('(?<!\w)', '(?!\w)', @words);
+my $text = any('(?<![\w-])', '(?![\w-])', @texts);
+my $wanted = qr/$word|$text/;
+
+# The groups in their order. In the first, code is told from texts; in data a number says nothing.
+my @GROUPS = (
+    ['code', qr{^crates/(?!pua_refused|pua_examples)\w+/src/(.*\.rt)\z}],
+    ['definitions', qr{^crates/(?!pua_refused|pua_examples)\w+/specs/(.*\.antt)\z}],
+    ['proofs', qr{^crates/(?!pua_refused|pua_examples)\w+/proofs/(.*\.antt)\z}],
+    ['edits', qr{^crates/\w+/must-fail/(.*)\z}],
+    ['claims and programs', qr{^crates/(?:pua_refused|pua_examples)\w*/(.*\.(?:rt|antt))\z}],
+    ['tests', qr{^tests/(.*)\z}],
+    ['tools', qr{^tools/(.*)\z}],
+    ['bench', qr{^bench/(.*)\z}],
+    ['examples', qr{^examples/[^/]+/(.*)\z}],
+    ['manual pages', qr{^man/(.*)\z}],
+    ['documents', qr{^(?:docs/)?([^/]*\.md)\z}],
+);
+
+my @files;
+find({ wanted => \&note, no_chdir => 1 }, grep { -e } qw(README.md crates tests tools bench examples man docs));
+my %found;
+for my $file (sort @files) {
+    my ($group) = grep { $file =~ $_->[1] } @GROUPS or next;
+    my $whole = content($file);
+    next if $whole !~ $wanted;
+    my @hits = hits_in($file, $whole) or next;
+    push @{ $found{ $group->[0] } }, [$file, $file =~ $group->[1], @hits];
+}
+print_group($_->[0], @{ $found{ $_->[0] } }) for grep { $found{ $_->[0] } } @GROUPS;
+exit !%found;
+
+sub note {
+    if (-d) { $File::Find::prune = 1 if m{/(?:out|\.git|\.rt)\z} }
+    elsif (-f && !m{/\.[^/]*\z}) { push @files, s{^\./}{}r }
+    return;
+}
+
+sub content {
+    my ($name) = @_;
+    open my $in, '<:raw', $name or die "touched.pl: $name: $!\n";
+    local $/;
+    my $all = <$in>;
+    return defined $all ? $all : '';
+}
+
+# A pattern for one of some words between two others; one that is nowhere, if there is none.
+sub any {
+    my ($before, $after, @any) = @_;
+    return qr/(?!)/ if !@any;
+    my $choice = join '|', map { quotemeta } @any;
+    return qr/$before(?:$choice)$after/;
+}
+
+# The numbers of the lines of a file in which a word or a text stands.
+sub hits_in {
+    my ($file, $whole) = @_;
+    my ($code, $quoted) = parts_of($file, $whole);
+    my @code = split /\n/, $code;
+    my @quoted = split /\n/, $quoted;
+    my $last = @code > @quoted ? $#code : $#quoted;
+    return grep {
+        my $number = $_ - 1;
+        grep { defined $_->[0] && $_->[0] =~ $_->[1] } [$code[$number], $word], [$quoted[$number], $text];
+    } 1 .. $last + 1;
+}
+
+# The code of a file and its texts, in the same lines, without comments and imports.
+sub parts_of {
+    my ($file, $whole) = @_;
+    if ($file =~ /\.(?:rt|rs|rattle|edit)\z/) {
+        $whole =~ s{("(?:[^"\\]|\\.)*")|('(?:[^'\\\n]|\\[^\n]+?)')|//[^\n]*}{defined $1 ? $1 : defined $2 ? $2 : ''}gse;
+        $whole =~ s{^([ \t]*(?:pub(?:\([^)]*\))? )?(?:ghost )?use [^;]*;)}{blank($1)}gme;
+    }
+    elsif ($file =~ /\.antt\z/) {
+        $whole =~ s{("(?:[^"\\]|\\.)*")|(?<!\S)--[^\n]*}{defined $1 ? $1 : ''}gse;
+        $whole =~ s{^((?:pub )?use [^\n\{]*(?:\{[^\}]*\})?[^\n]*)}{blank($1)}gme;
+    }
+    elsif ($file =~ /\.(?:pl|pm|t|py|sh)\z/) { $whole =~ s/(?:^|(?<=\s))#[^\n]*//gm }
+    elsif ($file =~ /\.toml\z/)              { $whole =~ s/^#[^\n]*//gm }
+    elsif ($file =~ /\.[1-9]\z/)             { $whole =~ s/^\.\\"[^\n]*//gm }
+    return ('', $whole) if $file !~ /\.(?:rt|rs|rattle|edit|antt|pl|pm|t|py|sh)\z/;
+    return ($whole, $whole) if $file !~ /\.(?:rt|rs|rattle|edit|antt)\z/;
+    my $code = $whole =~ s{("(?:[^"\\]|\\.)*")}{blank($1)}gser;
+    my $quoted = join '', map { /^"/ ? $_ : blank($_) } split /("(?:[^"\\]|\\.)*")/s, $whole;
+    return ($code, $quoted);
+}
+
+sub blank {
+    my ($some) = @_;
+    return "\n" x ($some =~ tr/\n//);
+}
+
+# Prints a group: how much it has, and then its files, those of one folder together.
+sub print_group {
+    my ($name, @found) = @_;
+    my $count = 0;
+    $count += @$_ - 2 for @found;
+    printf "%s: %s, %s\n", $name, counted(scalar @found, 'file'), counted($count, 'line');
+    my (@folders, %in);
+    for (@found) {
+        my ($file, $short, @hits) = @$_;
+        my ($folder) = $file =~ m{^(?:crates/|examples/)?([^/]+)/} ? $1 : '.';
+        push @folders, $folder if !$in{$folder};
+        push @{ $in{$folder} }, $short . ' ' . @hits;
+        next if !$lines;
+        my @all = split /\n/, content($file);
+        print map { "  $file:$_: " . $all[$_ - 1] =~ s/^\s+//r . "\n" } @hits;
+    }
+    return if $lines;
+    print map { "  $_: " . join(', ', @{ $in{$_} }) . "\n" } @folders;
+    return;
+}
+
+sub counted {
+    my ($count, $what) = @_;
+    return $count == 1 ? "1 $what" : "$count ${what}s";
+}
