@@ -3,7 +3,8 @@
 #
 # Prints each file in which one of these stands, with how many lines have it, in groups:
 #
-#   WORD   a constructor, a name or a number of the code, as a whole word: not in a comment, an import or a text
+#   WORD   a constructor, a name or a number of the code, as a whole word: not in a comment, an import or a text. With
+#          its type before it (Action.Link), a constructor counts only where it is this one, by what the file imports
 #   TEXT   what stands between quotes there, and as a whole word in tests, tools, pages and examples;
 #          if none is given, each WORD that has letters, in small ones
 #
@@ -13,7 +14,8 @@
 #   perl tools/touched.pl -t open-w OpenWrite          # a call whose text is not its name
 #   perl tools/touched.pl RPATH rpath                  # a promise
 #   perl tools/touched.pl ENOTEMPTY                    # an errno
-#   perl tools/touched.pl -t prog Kind Prog Program    # a kind of node
+#   perl tools/touched.pl Action.Link                  # a request of scripts
+#   perl tools/touched.pl -t prog Prog Program         # a kind of node
 #
 # -l prints the lines. -C TOP is the top folder of the repository, if it is not that of this file. A file that takes the
 # thing whole, and asks nothing of it, is not found, and need not change; one that tells it by another name is not found
@@ -27,21 +29,22 @@ use Getopt::Long qw(:config bundling);
 
 my ($lines, $top, @texts);
 my $USAGE = "usage: touched.pl [-l] [-C TOP] [-t TEXT]... WORD...\n";
-GetOptions('l' => \$lines, 'C=s' => \$top, 't=s' => \@texts) && @ARGV && !grep { !/^\w+\z/ } @ARGV or do {
+GetOptions('l' => \$lines, 'C=s' => \$top, 't=s' => \@texts) && @ARGV && !grep { !/^\w+(?:\.\w+)?\z/ } @ARGV or do {
     print STDERR $USAGE;
     exit 2;
 };
 $top = dirname(dirname(abs_path(__FILE__))) if !defined $top;
 chdir $top or die "touched.pl: $top: $!\n";
 
-my @words = @ARGV;
+# Each word by its last part, with the types that some have.
+my @words = map { /(\w+)\z/ } @ARGV;
+my %type = map { /(\w+)\.(\w+)/ ? ($2 => $1) : () } @ARGV;
 @texts = map { lc } grep { /[A-Za-z]/ } @words if !@texts;
 push @texts, grep { /^[A-Z0-9]+\z/ && /[A-Z]/ } @words;
 
 # A word stands alone between what is no part of a name, and a text also between what is no part of a call's name.
-my $word = any('(?<!\w)', '(?!\w)', @words);
 my $text = any('(?<![\w-])', '(?![\w-])', @texts);
-my $wanted = qr/$word|$text/;
+my $wanted = any('', '', @words, @texts);
 
 # The groups in their order. In the first, code is told from texts; in data a number says nothing.
 my @GROUPS = (
@@ -73,7 +76,7 @@ exit !%found;
 
 sub note {
     if (-d) { $File::Find::prune = 1 if m{/(?:out|\.git|\.rt)\z} }
-    elsif (-f && !m{/\.[^/]*\z}) { push @files, s{^\./}{}r }
+    elsif (-f && !m{/(?:\.[^/]*|touched\.p?[lt])\z}) { push @files, s{^\./}{}r }
     return;
 }
 
@@ -93,9 +96,29 @@ sub any {
     return qr/$before(?:$choice)$after/;
 }
 
+# A pattern for the words in a file. A constructor without its type counts where it is imported from that type, at once or by
+# the file of a crate's proofs that passes names on.
+sub words_in {
+    my ($file, $whole) = @_;
+    return any('(?<!\w)', '(?!\w)', @words) if !%type || $file !~ /\.(?:rt|antt|edit)\z/;
+    my @alone = grep { !$type{$_} || imports($_, $whole) } @words;
+    my @typed = map { my $word = $_; map { "$type{$word}$_$word" } '::', '.' } grep { $type{$_} } @words;
+    return any('(?<!\w)', '(?!\w)', @alone, @typed);
+}
+
+sub imports {
+    my ($name, $whole) = @_;
+    my $among = qr/\.\{[^\}]*(?<!\w)$name(?!\w)/;
+    return 1 if $whole =~ /\b$type{$name}\.TheVariants$among/;
+    my ($crate) = $whole =~ /\b(\w+)\.proofs\.Common$among/ or return;
+    my $common = "crates/$crate/proofs/Common.antt";
+    return -e $common && content($common) =~ /\b$type{$name}\.TheVariants$among/;
+}
+
 # The numbers of the lines of a file in which a word or a text stands.
 sub hits_in {
     my ($file, $whole) = @_;
+    my $word = words_in($file, $whole);
     my ($code, $quoted) = parts_of($file, $whole);
     my @code = split /\n/, $code;
     my @quoted = split /\n/, $quoted;
