@@ -1,12 +1,12 @@
 #!/usr/bin/perl
-# Which files a change goes through: perl tools/touched.pl [-l] [-C TOP] [-t TEXT]... WORD...
+# Which files a change goes through: perl tools/touched.pl [-l] [-C TOP] [-t TEXT]... [WORD...]
 #
 # Prints each file in which one of these stands, with how many lines have it, in groups:
 #
 #   WORD   a constructor, a name or a number of the code, as a whole word: not in a comment, an import or a text. With
 #          its type before it (Action.Link), a constructor counts only where it is this one, by what the file imports
 #   TEXT   what stands between quotes there, and as a whole word in tests, tools, pages and examples;
-#          if none is given, each WORD that has letters, in small ones
+#          if none is given, each WORD that has letters, in small ones; -t '' is for no text at all
 #
 # To see what a further one of a kind has to go through, ask for one that is there. For a call, and the number of all:
 #
@@ -28,8 +28,8 @@ use File::Find qw(find);
 use Getopt::Long qw(:config bundling);
 
 my ($lines, $top, @texts);
-my $USAGE = "usage: touched.pl [-l] [-C TOP] [-t TEXT]... WORD...\n";
-GetOptions('l' => \$lines, 'C=s' => \$top, 't=s' => \@texts) && @ARGV && !grep { !/^\w+(?:\.\w+)?\z/ } @ARGV or do {
+my $USAGE = "usage: touched.pl [-l] [-C TOP] [-t TEXT]... [WORD...]\n";
+GetOptions('l' => \$lines, 'C=s' => \$top, 't=s' => \@texts) && (@ARGV || @texts) && !grep { !/^\w+(?:\.\w+)?\z/ } @ARGV or do {
     print STDERR $USAGE;
     exit 2;
 };
@@ -39,8 +39,8 @@ chdir $top or die "touched.pl: $top: $!\n";
 # Each word by its last part, with the types that some have.
 my @words = map { /(\w+)\z/ } @ARGV;
 my %type = map { /(\w+)\.(\w+)/ ? ($2 => $1) : () } @ARGV;
-@texts = map { lc } grep { /[A-Za-z]/ } @words if !@texts;
-push @texts, grep { /^[A-Z0-9]+\z/ && /[A-Z]/ } @words;
+if (@texts) { @texts = grep { $_ ne '' } @texts }
+else        { @texts = map { lc, /^[A-Z0-9]+\z/ ? $_ : () } grep { /[A-Za-z]/ } @words }
 
 # A word stands alone between what is no part of a name, and a text also between what is no part of a call's name.
 my $text = any('(?<![\w-])', '(?![\w-])', @texts);
