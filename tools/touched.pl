@@ -4,7 +4,7 @@
 # Prints each file in which one of these stands, with how many lines have it, in groups:
 #
 #   WORD   a constructor, a name or a number of the code, as a whole word: not in a comment, an import or a text. With
-#          its type before it (Action.Link), a constructor counts only where it is this one, by what the file imports
+#          its type before it (Action.Link) a case of an enum counts only where it is this one, by what the file imports
 #   TEXT   what stands between quotes there, and as a whole word in tests, tools, pages and examples;
 #          if none is given, each WORD that has letters, in small ones; -t '' is for no text at all
 #
@@ -36,9 +36,9 @@ GetOptions('l' => \$lines, 'C=s' => \$top, 't=s' => \@texts) && (@ARGV || @texts
 $top = dirname(dirname(abs_path(__FILE__))) if !defined $top;
 chdir $top or die "touched.pl: $top: $!\n";
 
-# Each word by its last part, with the types that some have.
+# Each word by its last part, and those that have a type, with it.
 my @words = map { /(\w+)\z/ } @ARGV;
-my %type = map { /(\w+)\.(\w+)/ ? ($2 => $1) : () } @ARGV;
+my @typed = map { /(\w+)\.(\w+)/ ? [$1, $2] : () } @ARGV;
 if (@texts) { @texts = grep { $_ ne '' } @texts }
 else        { @texts = map { lc, /^[A-Z0-9]+\z/ ? $_ : () } grep { /[A-Za-z]/ } @words }
 
@@ -96,23 +96,23 @@ sub any {
     return qr/$before(?:$choice)$after/;
 }
 
-# A pattern for the words in a file. A constructor without its type counts where it is imported from that type, at once or by
-# the file of a crate's proofs that passes names on.
+# A pattern for the words in a file. The case of an enum counts without its type where the enum is declared, and where it is
+# imported from it, at once or by the file of a crate's proofs that passes names on.
 sub words_in {
     my ($file, $whole) = @_;
-    return any('(?<!\w)', '(?!\w)', @words) if !%type || $file !~ /\.(?:rt|antt|edit)\z/;
-    my @alone = grep { !$type{$_} || imports($_, $whole) } @words;
-    my @typed = map { my $word = $_; map { "$type{$word}$_$word" } '::', '.' } grep { $type{$_} } @words;
-    return any('(?<!\w)', '(?!\w)', @alone, @typed);
+    return any('(?<!\w)', '(?!\w)', @words) if !@typed || $file !~ /\.(?:rt|antt|edit)\z/;
+    my @alone = map { $_->[1] } grep { imports(@$_, $whole) } @typed;
+    my @whole = map { my ($type, $name) = @$_; map { "$type$_$name" } '::', '.' } @typed;
+    return any('(?<!\w)', '(?!\w)', grep({ !/\./ } @ARGV), @alone, @whole);
 }
 
 sub imports {
-    my ($name, $whole) = @_;
+    my ($type, $name, $whole) = @_;
     my $among = qr/\.\{[^\}]*(?<!\w)$name(?!\w)/;
-    return 1 if $whole =~ /\b$type{$name}\.TheVariants$among/;
+    return 1 if $whole =~ /\b$type\.TheVariants$among|\benum $type\b/;
     my ($crate) = $whole =~ /\b(\w+)\.proofs\.Common$among/ or return;
     my $common = "crates/$crate/proofs/Common.antt";
-    return -e $common && content($common) =~ /\b$type{$name}\.TheVariants$among/;
+    return -e $common && content($common) =~ /\b$type\.TheVariants$among/;
 }
 
 # The numbers of the lines of a file in which a word or a text stands.
