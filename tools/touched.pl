@@ -5,7 +5,7 @@
 #
 #   WORD   a constructor, a name or a number of the code, as a whole word: not in a comment, an import or a text. With
 #          its type before it (Action.Link) a case of an enum counts only where it is this one, by what the file imports
-#   TEXT   what stands between quotes there, and as a whole word in tests, tools, pages and examples;
+#   TEXT   what stands between quotes there, or byte by byte, and as a whole word in tests, tools, pages and examples;
 #          if none is given, each WORD that has letters, in small ones; -t '' is for no text at all
 #
 # To see what a further one of a kind has to go through, ask for one that is there. For a call, and the number of all:
@@ -44,7 +44,7 @@ else        { @texts = map { lc, /^[A-Z0-9]+\z/ ? $_ : () } grep { /[A-Za-z]/ } 
 
 # A word stands alone between what is no part of a name, and a text also between what is no part of a call's name.
 my $text = any('(?<![\w-])', '(?![\w-])', @texts);
-my $wanted = any('', '', @words, @texts);
+my $wanted = any('', '', @words, @texts, map { join ', ', map { "b'$_'" } split // } @texts);
 
 # The groups in their order. In the first, code is told from texts; in data a number says nothing.
 my @GROUPS = (
@@ -134,6 +134,7 @@ sub parts_of {
     my ($file, $whole) = @_;
     if ($file =~ /\.(?:rt|rs|rattle|edit)\z/) {
         $whole =~ s{("(?:[^"\\]|\\.)*")|('(?:[^'\\\n]|\\[^\n]+?)')|//[^\n]*}{defined $1 ? $1 : defined $2 ? $2 : ''}gse;
+        $whole =~ s{\[((?:b'[^'\\\n]',?\s*){2,})\]}{'"' . join('', $1 =~ /b'(.)'/g) . '"' . blank($1)}ge;
         $whole =~ s{^([ \t]*(?:pub(?:\([^)]*\))? )?(?:ghost )?use [^;]*;)}{blank($1)}gme;
     }
     elsif ($file =~ /\.antt\z/) {
