@@ -5,7 +5,8 @@
 #
 # - Each block of README.md and docs/ that begins with `$ ` is run, in the folder that its page says, with the program
 #   first on the path, and has to print what the page shows. A line `..` on a page stands for lines that it leaves out.
-#   In docs/EXAMPLES.md each other line that begins with `pua ` is run too, and has to complain of nothing.
+#   In docs/EXAMPLES.md each other line that begins with `pua ` is run too, and has to complain of nothing; what is
+#   quoted there stands in a file of its story.
 # - The EXAMPLES of each manual page are run over the files that man/pua.1 shows. Where such a page shows no output,
 #   the commands only have to complain of nothing.
 # - The code in docs/CALLING.md is that of the proved callers, function by function.
@@ -99,7 +100,7 @@ sub test_pages {
         }
         like(join(' ', split ' ', content($page)), qr/\Q$words\E/, "$page says where its commands are run");
         test_block($folder, $_) for @blocks;
-        test_plain($folder, $page) if $page eq 'docs/EXAMPLES.md';
+        test_stories($folder, $page) if $page eq 'docs/EXAMPLES.md';
     }
     return;
 }
@@ -184,16 +185,21 @@ sub printed_by {
     return map { defined ? $_ : '' } @printed[0 .. $#commands];
 }
 
-# Tests that what a page asks of the program without a `$ ` is answered.
-sub test_plain {
+# Tests what a page of stories shows without a `$ `: a command of the program is answered, and any other line stands in
+# a file of the folders that the heading names.
+sub test_stories {
     my ($folder, $page) = @_;
-    my $number = 0;
+    my ($number, $is_run, @quoted, %stands) = (0, 0);
     for (split /\n/, content($page)) {
         $number++;
-        next if !/^    (pua .*)/;
-        my ($complaint) = printed_by($folder, "$1 2>&1 > /dev/null");
-        is($complaint, '', "$page:$number: $1");
+        if (/^## /) { %stands = map { $_ => 1 } map { split /\n/, content($_) } map { glob "$folder/$_/*" } /`([\w-]+)`/g }
+        $is_run = /^    \$ / || $is_run && /^    /;
+        next if $is_run || !/^    (.+)/;
+        my $shown = $1;
+        if ($shown =~ /^pua /) { is((printed_by($folder, "$shown 2>&1 > /dev/null"))[0], '', "$page:$number: $shown") }
+        elsif (%stands)        { push @quoted, "$number: $shown" if !$stands{$shown} }
     }
+    is("@quoted", '', "$page: what is quoted stands in the files of its story");
     return;
 }
 
