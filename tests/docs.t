@@ -10,7 +10,7 @@
 # - The EXAMPLES of each manual page are run over the files that man/pua.1 shows. Where such a page shows no output,
 #   the commands only have to complain of nothing.
 # - The code in docs/CALLING.md is that of the proved callers, function by function.
-# - Each file and each name in docs/ARCHITECTURE.md is there.
+# - Each path on a page is there, and each file and each name in docs/ARCHITECTURE.md.
 # - Help, usage lines, the manual pages and README have the same options, of the program and of each tool.
 #
 # Where the sources of the program are not there, as in a release, what needs them is left out, and said.
@@ -43,8 +43,8 @@ my %SKIPPED = (
     'perl tools/list.pl' => 'the files of this machine are not asked',
 );
 
-# What ARCHITECTURE may name though it is not there: edits, which are a last resort.
-my %MAY_LACK = ('must-fail/' => 1);
+# What may be named though it is not there: what is built, and edits, which are a last resort.
+my $MAY_LACK = qr{(?:^|/)(?:out|must-fail)(?:/|\z)};
 
 # Options that a usage line leaves out: that of runs and audits is fixed, and these came later (docs/DECISIONS.md).
 my %LEFT_OUT = (run => [qw(rules why)], audit => [qw(rules)]);
@@ -63,6 +63,7 @@ $ENV{PATH} = "$room/bin:$ENV{PATH}";
 my $has_sources = -d 'crates';
 test_pages();
 test_manuals();
+test_paths();
 SKIP: {
     skip 'the sources are not here', 1 if !$has_sources;
     test_calling();
@@ -300,7 +301,22 @@ sub functions_in {
     return %functions;
 }
 
-# ---- The names in docs/ARCHITECTURE.md
+# ---- The names in docs/ARCHITECTURE.md, and paths on any page
+
+# A path below one of these folders is there, on whichever page it stands.
+sub test_paths {
+    my @folders = (qw(docs examples man tests tools), $has_sources ? qw(bench crates release) : ());
+    my $below = join '|', @folders;
+    my ($paths, @missing) = (0);
+    for my $page ('README.md', glob 'docs/*.md') {
+        for my $path (content($page) =~ m{`((?:$below)/[^`\s]*)}g) {
+            $paths++;
+            push @missing, "$page: $path" if $path !~ $MAY_LACK && !grep { -e } map { glob } $path, "$path.rt", "$path.antt";
+        }
+    }
+    is("@missing", '', "the paths on all pages are there: $paths");
+    return;
+}
 
 # Each item of the page (a paragraph, an entry of a list, a row) names files of the crates that it names, or else of any
 # crate. A name that is no file stands somewhere in the sources.
@@ -321,7 +337,7 @@ sub test_architecture {
         my @near = grep { $named{$_} } @crates;
         for my $name ($item =~ /`([^`]+)`/g) {
             $names++;
-            push @missing, $name if !$MAY_LACK{$name} && !stands($name, \%file_of, \%word, scalar $item =~ /^- \*Proofs/, @near);
+            push @missing, $name if $name !~ $MAY_LACK && !stands($name, \%file_of, \%word, scalar $item =~ /^- \*Proofs/, @near);
         }
     }
     is("@missing", '', 'what ARCHITECTURE names is there');
