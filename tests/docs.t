@@ -377,7 +377,7 @@ sub stands {
 sub test_options {
     my %manual = synopsis_of('man/pua.1');
     my %usage = usages_of(content('tests/data/rows.toml') =~ /^\w+ = "pua: usage: (.*)"$/mg);
-    my %readme = usages_of(join ' ', content('README.md') =~ /^    (pua (?:run|objects|why|audit) .*(?:\n {6,}.*)*)/mg);
+    my %readme = usages_of(grep { /\[--/ } content('README.md') =~ /^    (pua \w+ .*(?:\n {6,}.*)*)/mg);
     my %all;
     for my $command (qw(run objects why audit)) {
         my $help = join ' ', sort grep { $_ ne 'help' } content("tests/data/help/$command") =~ /^ +(?:-\w, )?--([a-z]+)/mg;
