@@ -3,17 +3,20 @@
 #
 # What a page shows is what happens, and what it names is there:
 #
-# - Each block of README.md and docs/ that begins with `$ ` is run, in the folder that its page says, with the program
-#   first on the path, and has to print what the page shows. A line `..` on a page stands for lines that it leaves out.
-#   In docs/EXAMPLES.md each other line that begins with `pua ` is run too, and has to complain of nothing; what is
-#   quoted there stands in a file of its story.
-# - The EXAMPLES of each manual page are run over the files that man/pua.1 shows. Where such a page shows no output,
-#   the commands only have to complain of nothing.
+# - Each block of README.md and docs/ that begins with `$ ` is run, in the folder that its page
+#   says, with the program first on the path, and has to print what the page shows. A line `..` on a
+#   page stands for lines that it leaves out. In docs/EXAMPLES.md each other line that begins with
+#   `pua ` is run too, and has to complain of nothing; what is quoted there stands in a file of its
+#   story.
+# - The EXAMPLES of each manual page are run over the files that man/pua.1 shows. Where such a page
+#   shows no output, the commands only have to complain of nothing.
 # - The code in docs/CALLING.md is that of the proved callers, function by function.
 # - Each path on a page is there, and each file and each name in docs/ARCHITECTURE.md.
-# - Help, usage lines, the manual pages and README have the same options, of the program and of each tool.
+# - Help, usage lines, the manual pages and README have the same options, of the program and of each
+#   tool.
 #
-# Where the sources of the program are not there, as in a release, what needs them is left out, and said.
+# Where the sources of the program are not there, as in a release, what needs them is left out, and
+# said.
 use strict;
 use warnings;
 use Cwd qw(abs_path);
@@ -29,7 +32,7 @@ chdir $TOP or die "$TOP: $!\n";
 
 # Where the commands of a page are run, and by which words it says so.
 my %FOLDERS = (
-    'README.md'        => ['.',        'Each block of commands on this page begins in the top folder'],
+    'README.md' => ['.', 'Each block of commands on this page begins in the top folder'],
     'docs/EXAMPLES.md' => ['examples', 'commands below are run in `examples`'],
 );
 
@@ -46,10 +49,12 @@ my %SKIPPED = (
 # What may be named though it is not there: what is built, and edits, which are a last resort.
 my $MAY_LACK = qr{(?:^|/)(?:out|must-fail)(?:/|\z)};
 
-# Options that a usage line leaves out: that of runs and audits is fixed, and these came later (docs/DECISIONS.md).
+# Options that a usage line leaves out: that of runs and audits is fixed, and these came later
+# (docs/DECISIONS.md).
 my %LEFT_OUT = (run => [qw(rules why)], audit => [qw(rules)]);
 
-# A room for what commands write, and a folder in which the program and the tools have the names that pages use.
+# A room for what commands write, and a folder in which the program and the tools have the names
+# that pages use.
 my $room = tempdir(CLEANUP => 1);
 mkdir "$room/$_" or die "$room/$_: $!\n" for qw(bin tmp man);
 symlink $PROGRAM, "$room/bin/pua" or die "$room/bin/pua: $!\n";
@@ -99,14 +104,16 @@ sub test_pages {
             fail("$page has commands, and this test does not know where they are run");
             next;
         }
-        like(join(' ', split ' ', content($page)), qr/\Q$words\E/, "$page says where its commands are run");
+        my $page_says = join ' ', split ' ', content($page);
+        like($page_says, qr/\Q$words\E/, "$page says where its commands are run");
         test_block($folder, $_) for @blocks;
         test_stories($folder, $page) if $page eq 'docs/EXAMPLES.md';
     }
     return;
 }
 
-# The blocks of a page that begin with a command: each with its name, and its commands with what they print.
+# The blocks of a page that begin with a command: each with its name, and its commands with what
+# they print.
 sub blocks_in {
     my ($page) = @_;
     my ($number, $indent, @blocks) = (0);
@@ -125,15 +132,17 @@ sub blocks_in {
     return @blocks;
 }
 
-# The commands in the lines of a block. A command goes on after a line that ends with a bar or a backslash, and up to the
-# end of the text that it takes.
+# The commands in the lines of a block. A command goes on after a line that ends with a bar or a
+# backslash, and up to the end of the text that it takes.
 sub commands_in {
     my (@commands, $end, $goes_on);
     for (@_) {
-        if (!$goes_on && !defined $end && s/^\$ //) { push @commands, { command => '', prints => [] } }
-        elsif (!$goes_on && !defined $end) {
-            push @{ $commands[-1]{prints} }, $_;
-            next;
+        if (!$goes_on && !defined $end) {
+            if (!s/^\$ //) {
+                push @{ $commands[-1]{prints} }, $_;
+                next;
+            }
+            push @commands, { command => '', prints => [] };
         }
         $commands[-1]{command} .= "$_\n";
         if (defined $end) { undef $end if $_ eq $end }
@@ -173,12 +182,14 @@ sub skipped_for {
     return;
 }
 
-# What commands print, one after another in one shell that begins in a folder. What they write to /tmp goes elsewhere.
+# What commands print, one after another in one shell that begins in a folder. What they write to
+# /tmp goes elsewhere.
 sub printed_by {
     my ($folder, @commands) = @_;
     my $mark = '-- that was one command';
     s{(?<![\w./])/tmp/}{$room/tmp/}g for @commands;
-    put("$room/commands", join '', "cd '$folder' || exit\n", map { "$_\necho '$mark'\n" } @commands);
+    my @marked = map { "$_\necho '$mark'\n" } @commands;
+    put("$room/commands", join '', "cd '$folder' || exit\n", @marked);
     system "sh '$room/commands' > '$room/printed' 2>&1 < /dev/null";
     my $printed = content("$room/printed");
     $printed =~ s{\Q$room\E/tmp/}{/tmp/}g;
@@ -186,19 +197,25 @@ sub printed_by {
     return map { defined ? $_ : '' } @printed[0 .. $#commands];
 }
 
-# Tests what a page of stories shows without a `$ `: a command of the program is answered, and any other line stands in
-# a file of the folders that the heading names.
+# Tests what a page of stories shows without a `$ `: a command of the program is answered, and any
+# other line stands in a file of the folders that the heading names.
 sub test_stories {
     my ($folder, $page) = @_;
     my ($number, $is_run, @quoted, %stands) = (0, 0);
     for (split /\n/, content($page)) {
         $number++;
-        if (/^## /) { %stands = map { $_ => 1 } map { split /\n/, content($_) } map { glob "$folder/$_/*" } /`([\w-]+)`/g }
+        if (/^## /) {
+            my @files = map { glob "$folder/$_/*" } /`([\w-]+)`/g;
+            %stands = map { $_ => 1 } map { split /\n/, content($_) } @files;
+        }
         $is_run = /^    \$ / || $is_run && /^    /;
         next if $is_run || !/^    (.+)/;
         my $shown = $1;
-        if ($shown =~ /^pua /) { is((printed_by($folder, "$shown 2>&1 > /dev/null"))[0], '', "$page:$number: $shown") }
-        elsif (%stands)        { push @quoted, "$number: $shown" if !$stands{$shown} }
+        if ($shown =~ /^pua /) {
+            my ($complaint) = printed_by($folder, "$shown 2>&1 > /dev/null");
+            is($complaint, '', "$page:$number: $shown");
+        }
+        elsif (%stands && !$stands{$shown}) { push @quoted, "$number: $shown" }
     }
     is("@quoted", '', "$page: what is quoted stands in the files of its story");
     return;
@@ -206,7 +223,8 @@ sub test_stories {
 
 # ---- Manual pages
 
-# Runs the examples of manual pages, in a folder with the listing and the script that man/pua.1 shows.
+# Runs the examples of manual pages, in a folder with the listing and the script that man/pua.1
+# shows.
 sub test_manuals {
     my %texts = texts_shown('man/pua.1');
     is(join(' ', sort keys %texts), 'listing script', 'man/pua.1 shows a listing and a script');
@@ -216,20 +234,23 @@ sub test_manuals {
     my ($answers) = printed_by("$room/man", 'pua run --rules openbsd listing script');
     put("$room/man/answers", $answers);
     for my $page (sort { length $a <=> length $b or $a cmp $b } glob 'man/*.1') {
-        for my $block (examples_of($page)) {
-            my @commands = commands_in(@$block);
-            for my $command (@commands) {
-                my $name = "$page: " . $command->{command} =~ s/\n.*//sr;
-                SKIP: {
-                    my $skipped = skipped_for($command->{command});
-                    skip "$name: $skipped", 1 if defined $skipped;
-                    my $shown = join '', map { "$_\n" } @{ $command->{prints} };
-                    my ($printed) = printed_by("$room/man",
-                        $shown eq '' ? "{ $command->{command}} 2>&1 > /dev/null" : $command->{command});
-                    is($printed, $shown, $name);
-                }
-            }
-        }
+        test_example($page, $_) for map { commands_in(@$_) } examples_of($page);
+    }
+    return;
+}
+
+# Runs one command of a manual page. Where the page shows no output, only a complaint is wrong.
+sub test_example {
+    my ($page, $example) = @_;
+    my $command = $example->{command};
+    my $name = "$page: " . $command =~ s/\n.*//sr;
+    my $skipped = skipped_for($command);
+    SKIP: {
+        skip "$name: $skipped", 1 if defined $skipped;
+        my $shown = join '', map { "$_\n" } @{ $example->{prints} };
+        $command = "{ $command} 2>&1 > /dev/null" if $shown eq '';
+        my ($printed) = printed_by("$room/man", $command);
+        is($printed, $shown, $name);
     }
     return;
 }
@@ -273,7 +294,8 @@ sub section {
 sub test_calling {
     my %proved = functions_in(content('crates/pua_examples/src/calling.rt'), '');
     my %shown = functions_in(content('docs/CALLING.md'), '    ');
-    is(join(' ', sort keys %shown), join(' ', sort keys %proved), 'CALLING goes through the functions of calling.rt');
+    my ($here, $there) = map { join ' ', sort keys %$_ } \%shown, \%proved;
+    is($here, $there, 'CALLING goes through the functions of calling.rt');
     for my $name (sort keys %shown) {
         my ($here, $there) = ($shown{$name}, $proved{$name});
         next if !$there;
@@ -285,18 +307,21 @@ sub test_calling {
     return;
 }
 
-# The functions in a text whose lines of code are indented by so much: of each its head, its clauses and its body.
+# The functions in a text whose lines of code are indented by so much: of each its head, its clauses
+# and its body.
 sub functions_in {
     my ($text, $indent) = @_;
     my %functions;
-    while ($text =~ /^$indent(?:pub(?:\(crate\))? )?(fn (\w+).*?\n)$indent\{\n(.*?\n)$indent\}\n/msg) {
+    my $fn = qr/^$indent(?:pub(?:\(crate\))? )?(fn (\w+).*?\n)$indent\{\n(.*?\n)$indent\}\n/ms;
+    while ($text =~ /$fn/g) {
         my ($head, $name, $body) = ($1, $2, $3);
         s/^$indent//mg for $head, $body;
         my ($taken, @clauses) = split /^    (?=ensures|requires)/m, $head;
         $taken = join ' ', split ' ', $taken;
         $taken =~ s/\( /(/g;
         $taken =~ s/, \)/)/g;
-        $functions{$name} = { head => $taken, body => $body, clauses => [map { join ' ', split } @clauses] };
+        @clauses = map { join ' ', split } @clauses;
+        $functions{$name} = { head => $taken, body => $body, clauses => \@clauses };
     }
     return %functions;
 }
@@ -311,21 +336,23 @@ sub test_paths {
     for my $page ('README.md', glob 'docs/*.md') {
         for my $path (content($page) =~ m{`((?:$below)/[^`\s]*)}g) {
             $paths++;
-            push @missing, "$page: $path" if $path !~ $MAY_LACK && !grep { -e } map { glob } $path, "$path.rt", "$path.antt";
+            next if $path =~ $MAY_LACK || grep { -e } map { glob } $path, "$path.rt", "$path.antt";
+            push @missing, "$page: $path";
         }
     }
     is("@missing", '', "the paths on all pages are there: $paths");
     return;
 }
 
-# Each item of the page (a paragraph, an entry of a list, a row) names files of the crates that it names, or else of any
-# crate. A name that is no file stands somewhere in the sources.
+# Each item of the page (a paragraph, an entry of a list, a row) names files of the crates that it
+# names, or else of any crate. A name that is no file stands somewhere in the sources.
 sub test_architecture {
     my (%file_of, %word);
     my $note = sub {
         my $file = $File::Find::name =~ s{^\./}{}r;
         $File::Find::prune = 1 if $file =~ m{(?:^|/)(?:\.git|out|must-fail)\z};
-        push @{ $file_of{$_} }, $file for basename($file), basename($file) =~ /(\w+)\.(?:rt|antt)\z/;
+        my $name = basename($file);
+        push @{ $file_of{$_} }, $file for $name, $name =~ /(\w+)\.(?:rt|antt)\z/;
         return if !-f || $file !~ m{^(?:crates|tests|tools|bench|release)/};
         $word{$_} = 1 for content($_) =~ /\w+/g;
     };
@@ -335,9 +362,11 @@ sub test_architecture {
     for my $item (items_of(content('docs/ARCHITECTURE.md'))) {
         my %named = map { $_ => 1 } $item =~ /\b(pua\w*)/g;
         my @near = grep { $named{$_} } @crates;
+        my $in_proofs = $item =~ /^- \*Proofs/;
         for my $name ($item =~ /`([^`]+)`/g) {
             $names++;
-            push @missing, $name if $name !~ $MAY_LACK && !stands($name, \%file_of, \%word, scalar $item =~ /^- \*Proofs/, @near);
+            next if $name =~ $MAY_LACK || stands($name, \%file_of, \%word, $in_proofs, @near);
+            push @missing, $name;
         }
     }
     is("@missing", '', 'what ARCHITECTURE names is there');
@@ -361,9 +390,11 @@ sub stands {
     my ($first) = $name =~ /(\S+)/;
     my $anywhere = $file_of->{$first} || [];
     my $in_near = @near ? join '|', @near : '\w+';
-    if ($first =~ m{^[\w*.-]+(?:/[\w*.-]+)*/?\z} && $first =~ m{/|\.(?:rt|antt|t|p[lm]|sh|toml|py|rs|md|txt)\z}) {
-        my @folders = (qw(. crates tests tests/data tests/lib tools/faults), map { glob "crates/$_ crates/$_/* crates/$_/*/*" } @near ? @near : '*');
-        return 1 if grep { -e } map { my $folder = $_; map { glob "$folder/$first$_" } '', '.rt', '.antt' } @folders;
+    if ($first =~ m{^[\w*./-]+\z} && $first =~ m{/|\.(?:rt|antt|t|p[lm]|sh|toml|py|rs|md|txt)\z}) {
+        my @folders = map { glob "crates/$_ crates/$_/* crates/$_/*/*" } @near ? @near : '*';
+        for my $folder (qw(. crates tests tests/data tests/lib tools/faults), @folders) {
+            return 1 if grep { -e } map { glob "$folder/$first$_" } '', '.rt', '.antt';
+        }
         return grep { !m{^crates/} } @$anywhere;
     }
     return grep { m{^crates/(?:$in_near)/} } @$anywhere if $in_proofs && $name =~ /^[A-Z]\w+\z/;
@@ -377,22 +408,27 @@ sub stands {
 sub test_options {
     my %manual = synopsis_of('man/pua.1');
     my %usage = usages_of(content('tests/data/rows.toml') =~ /^\w+ = "pua: usage: (.*)"$/mg);
-    my %readme = usages_of(grep { /\[--/ } content('README.md') =~ /^    (pua \w+ .*(?:\n {6,}.*)*)/mg);
+    my @shown = content('README.md') =~ /^    (pua \w+ .*(?:\n {6,}.*)*)/mg;
+    my %readme = usages_of(grep { /\[--/ } @shown);
     my %all;
     for my $command (qw(run objects why audit)) {
-        my $help = join ' ', sort grep { $_ ne 'help' } content("tests/data/help/$command") =~ /^ +(?:-\w, )?--([a-z]+)/mg;
+        my @help = content("tests/data/help/$command") =~ /^ +(?:-\w, )?--([a-z]+)/mg;
+        my $help = join ' ', sort grep { $_ ne 'help' } @help;
         $all{$_} = 1 for split ' ', $help;
         is($manual{$command}, $help, "$command: man/pua.1 has the options of help");
         is($readme{$command}, $help, "$command: README has the options of help") if %readme;
         my @later = grep { $help =~ /\b$_\b/ } @{ $LEFT_OUT{$command} || [] };
-        is(join(' ', sort split(' ', $usage{$command}), @later), $help, "$command: its usage line has the options of help");
+        my $usage = join ' ', sort split(' ', $usage{$command}), @later;
+        is($usage, $help, "$command: its usage line has the options of help");
     }
     my $all = join ' ', sort keys %all;
-    is(join(' ', sort(section('man/pua.1', 'DESCRIPTION') =~ /^\.It Fl -(\w+)/mg)), $all, 'man/pua.1 tells of each option');
+    my @told = section('man/pua.1', 'DESCRIPTION') =~ /^\.It Fl -(\w+)/mg;
+    is(join(' ', sort @told), $all, 'man/pua.1 tells of each option');
     my %told = map { $_ => 1 } map { /`--(\w+)/g } content('README.md') =~ /^(\| `--.*?) \|/mg;
     is(join(' ', sort keys %told), $all, 'README tells of each option') if %told;
     return if !$has_sources;
-    my ($rows, $specs) = map { join "\n", sort /pua: usage: [^"]*/g } content('tests/data/rows.toml'), content('crates/pua_words/specs/Usages.antt');
+    my ($rows, $specs) = map { join "\n", sort content($_) =~ /pua: usage: [^"]*/g }
+        'tests/data/rows.toml', 'crates/pua_words/specs/Usages.antt';
     is($rows, $specs, 'the usage lines are those of the definition');
     return;
 }
@@ -425,7 +461,8 @@ sub test_tools {
         my ($usage) = content("tools/$tool.pl") =~ /usage: \$NAME (.*?)\\n"/;
         my @own = map { letters($_) } $usage =~ /\[-(\w+(?: \w+)?)\]/g;
         my @shown = map { letters($_) } section($page, 'SYNOPSIS') =~ /^\.Op Fl (.*)/mg;
-        my @untold = grep { section($page, 'DESCRIPTION') !~ /^\.(?:It )?Fl $_\b/m } map { /(\w)/ } @own;
+        my $told = section($page, 'DESCRIPTION');
+        my @untold = grep { $told !~ /^\.(?:It )?Fl $_\b/m } map { /(\w)/ } @own;
         is("@{[sort @shown]}", "@{[sort @own]}", "$page: the synopsis has the options of the tool");
         is("@untold", '', "$page: each option is told of");
     }

@@ -39,7 +39,8 @@ sub installed {
 }
 
 # Tools that read the sources are for whoever changes them, and are not installed.
-my @tools   = grep { !/\A(?:refused|touched)\z/ } map { m{\Atools/(\w+)\.pl\z} ? $1 : () } glob 'tools/*.pl';
+my @tools   = grep { !/\A(?:refused|touched)\z/ }
+    map { m{\Atools/(\w+)\.pl\z} ? $1 : () } glob 'tools/*.pl';
 my @modules = map { m{\Atools/lib/Pua/(\w+\.pm)\z} ? $1 : () } glob 'tools/lib/Pua/*.pm';
 my %wanted_tools = (
     (map { ("/usr/bin/pua-$_" => '755', "/usr/share/man/man1/pua-$_.1" => '644') } @tools),

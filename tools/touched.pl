@@ -3,12 +3,15 @@
 #
 # Prints each file in which one of these stands, with how many lines have it, in groups:
 #
-#   WORD   a constructor, a name or a number of the code, as a whole word: not in a comment, an import or a text. With
-#          its type before it (Action.Link) a case of an enum counts only where it is this one, by what the file imports
-#   TEXT   what stands between quotes there, or byte by byte, and as a whole word in tests, tools, pages and examples;
-#          if none is given, each WORD that has letters, in small ones; -t '' is for no text at all
+#   WORD   a constructor, a name or a number of the code, as a whole word: not in a comment, an
+#          import or a text. With its type before it (Action.Link) a case of an enum counts only
+#          where it is this one, by what the file imports
+#   TEXT   what stands between quotes there, or byte by byte, and as a whole word in tests, tools,
+#          pages and examples; if none is given, each WORD that has letters, in small ones; -t '' is
+#          for no text at all
 #
-# To see what a further one of a kind has to go through, ask for one that is there. For a call, and the number of all:
+# To see what a further one of a kind has to go through, ask for one that is there. For a call, and
+# the number of all:
 #
 #   perl tools/touched.pl Mkdir 14
 #   perl tools/touched.pl -t open-w OpenWrite          # a call whose text is not its name
@@ -17,9 +20,10 @@
 #   perl tools/touched.pl Action.Link                  # a request of scripts
 #   perl tools/touched.pl -t prog Prog Program         # a kind of node
 #
-# -l prints the lines. -C TOP is the top folder of the repository, if it is not that of this file. A file that takes the
-# thing whole, and asks nothing of it, is not found, and need not change; one that tells it by another name is not found
-# either: docs/ARCHITECTURE.md, "Where to change what", says where that is so. The status is 1 where nothing is found.
+# -l prints the lines. -C TOP is the top folder of the repository, if it is not that of this file. A
+# file that takes the thing whole, and asks nothing of it, is not found, and need not change; one
+# that tells it by another name is not found either: docs/ARCHITECTURE.md, "Where to change what",
+# says where that is so. The status is 1 where nothing is found.
 use strict;
 use warnings;
 use Cwd qw(abs_path);
@@ -29,10 +33,11 @@ use Getopt::Long qw(:config bundling);
 
 my ($lines, $top, @texts);
 my $USAGE = "usage: touched.pl [-l] [-C TOP] [-t TEXT]... [WORD...]\n";
-GetOptions('l' => \$lines, 'C=s' => \$top, 't=s' => \@texts) && (@ARGV || @texts) && !grep { !/^\w+(?:\.\w+)?\z/ } @ARGV or do {
+my $is_read = GetOptions('l' => \$lines, 'C=s' => \$top, 't=s' => \@texts);
+if (!$is_read || !(@ARGV || @texts) || grep { !/^\w+(?:\.\w+)?\z/ } @ARGV) {
     print STDERR $USAGE;
     exit 2;
-};
+}
 $top = dirname(dirname(abs_path(__FILE__))) if !defined $top;
 chdir $top or die "touched.pl: $top: $!\n";
 
@@ -42,7 +47,8 @@ my @typed = map { /(\w+)\.(\w+)/ ? [$1, $2] : () } @ARGV;
 if (@texts) { @texts = grep { $_ ne '' } @texts }
 else        { @texts = map { lc, /^[A-Z0-9]+\z/ ? $_ : () } grep { /[A-Za-z]/ } @words }
 
-# A word stands alone between what is no part of a name, and a text also between what is no part of a call's name.
+# A word stands alone between what is no part of a name, and a text also between what is no part of
+# a call's name.
 my $text = any('(?<![\w-])', '(?![\w-])', @texts);
 my $wanted = any('', '', @words, @texts, map { join ', ', map { "b'$_'" } split // } @texts);
 
@@ -62,7 +68,8 @@ my @GROUPS = (
 );
 
 my @files;
-find({ wanted => \&note, no_chdir => 1 }, grep { -e } qw(README.md crates tests tools bench examples man docs));
+my @tops = grep { -e } qw(README.md crates tests tools bench examples man docs);
+find({ wanted => \&note, no_chdir => 1 }, @tops);
 my %found;
 for my $file (sort @files) {
     my ($group) = grep { $file =~ $_->[1] } @GROUPS or next;
@@ -96,8 +103,9 @@ sub any {
     return qr/$before(?:$choice)$after/;
 }
 
-# A pattern for the words in a file. The case of an enum counts without its type where the enum is declared, and where it is
-# imported from it, at once or by the file of a crate's proofs that passes names on.
+# A pattern for the words in a file. The case of an enum counts without its type where the enum is
+# declared, and where it is imported from it, at once or by the file of a crate's proofs that passes
+# names on.
 sub words_in {
     my ($file, $whole) = @_;
     return any('(?<!\w)', '(?!\w)', @words) if !@typed || $file !~ /\.(?:rt|antt|edit)\z/;
@@ -125,7 +133,8 @@ sub hits_in {
     my $last = @code > @quoted ? $#code : $#quoted;
     return grep {
         my $number = $_ - 1;
-        grep { defined $_->[0] && $_->[0] =~ $_->[1] } [$code[$number], $word], [$quoted[$number], $text];
+        grep { defined $_->[0] && $_->[0] =~ $_->[1] }
+            [$code[$number], $word], [$quoted[$number], $text];
     } 1 .. $last + 1;
 }
 
@@ -133,8 +142,10 @@ sub hits_in {
 sub parts_of {
     my ($file, $whole) = @_;
     if ($file =~ /\.(?:rt|rs|rattle|edit)\z/) {
-        $whole =~ s{("(?:[^"\\]|\\.)*")|('(?:[^'\\\n]|\\[^\n]+?)')|//[^\n]*}{defined $1 ? $1 : defined $2 ? $2 : ''}gse;
-        $whole =~ s{\[((?:b'[^'\\\n]',?\s*){2,})\]}{'"' . join('', $1 =~ /b'(.)'/g) . '"' . blank($1)}ge;
+        my $kept = qr{"(?:[^"\\]|\\.)*"|'(?:[^'\\\n]|\\[^\n]+?)'}s;
+        my $bytes = qr{(?:b'[^'\\\n]',?\s*){2,}};
+        $whole =~ s{($kept)|//[^\n]*}{defined $1 ? $1 : ''}ge;
+        $whole =~ s{\[($bytes)\]}{'"' . join('', $1 =~ /b'(.)'/g) . '"' . blank($1)}ge;
         $whole =~ s{^([ \t]*(?:pub(?:\([^)]*\))? )?(?:ghost )?use [^;]*;)}{blank($1)}gme;
     }
     elsif ($file =~ /\.antt\z/) {
