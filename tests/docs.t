@@ -362,16 +362,38 @@ sub test_architecture {
     for my $item (items_of(content('docs/ARCHITECTURE.md'))) {
         my %named = map { $_ => 1 } $item =~ /\b(pua\w*)/g;
         my @near = grep { $named{$_} } @crates;
-        my $in_proofs = $item =~ /^- \*Proofs/;
+        my $folder = $item =~ /^- \*Proofs/ ? 'proofs' : $item =~ /^\| `pua\w*`: / ? 'specs' : undef;
         for my $name ($item =~ /`([^`]+)`/g) {
             $names++;
-            next if $name =~ $MAY_LACK || stands($name, \%file_of, \%word, $in_proofs, @near);
+            next if $name =~ $MAY_LACK || stands($name, \%file_of, \%word, $folder, @near);
             push @missing, $name;
         }
+        my @files = files_in($item);
+        $names += @files;
+        push @missing, grep { my $file = $_; !grep { -e "crates/$file$_" } '', '.antt' } @files;
     }
     is("@missing", '', 'what ARCHITECTURE names is there');
     cmp_ok($names, '>', 100, "ARCHITECTURE: $names names");
     return;
+}
+
+# The files that an item names with their folder: `pua_a/specs`: `Names` (a remark), `Tree`; or `Names` and `Tree` of
+# `pua_a/specs`.
+sub files_in {
+    my ($item) = @_;
+    my $folder = qr{`(pua_\w+/(?:src|specs|proofs))`};
+    my $name = qr{`[A-Z]\w+`|`[\w/]+\.rt`};
+    my $between = qr{(?:\s\([^)]*\))?(?:,|\sand)?\s};
+    my @files;
+    while ($item =~ /$folder:\s((?:(?:$name)$between?)*)/g) { push @files, [$1, $2] }
+    while ($item =~ /((?:(?:$name)$between)+)of\s$folder/g) { push @files, [$2, $1] }
+    my @names;
+    for (@files) {
+        my ($where, $named) = @$_;
+        $named =~ s/\([^)]*\)//g;
+        push @names, map { "$where/$_" } grep { /\.rt\z/ || $where !~ /src/ } $named =~ /`([^`]+)`/g;
+    }
+    return @names;
 }
 
 sub items_of {
@@ -386,7 +408,7 @@ sub items_of {
 
 # Whether what a page names is there, in these crates if it is theirs.
 sub stands {
-    my ($name, $file_of, $word, $in_proofs, @near) = @_;
+    my ($name, $file_of, $word, $files, @near) = @_;
     my ($first) = $name =~ /(\S+)/;
     my $anywhere = $file_of->{$first} || [];
     my $in_near = @near ? join '|', @near : '\w+';
@@ -397,7 +419,9 @@ sub stands {
         }
         return grep { !m{^crates/} } @$anywhere;
     }
-    return grep { m{^crates/(?:$in_near)/} } @$anywhere if $in_proofs && $name =~ /^[A-Z]\w+\z/;
+    if (defined $files && $name =~ /^[A-Z]\w+\z/) {
+        return grep { m{^crates/(?:$in_near)/$files/} } @$anywhere;
+    }
     return 1 if $name !~ /^[\w:.\$]+\z/;
     return !grep { !$word->{$_} && !$file_of->{$_} } $name =~ /\w+/g;
 }
