@@ -73,6 +73,7 @@ SKIP: {
     skip 'the sources are not here', 1 if !$has_sources;
     test_calling();
     test_architecture();
+    test_claim();
 }
 test_options();
 test_tools();
@@ -374,6 +375,31 @@ sub test_architecture {
     }
     is("@missing", '', 'what ARCHITECTURE names is there');
     cmp_ok($names, '>', 100, "ARCHITECTURE: $names names");
+    return;
+}
+
+# The claim is as long as the page says: so many files, and about so many lines, without imports
+# and blank lines.
+sub test_claim {
+    my ($files, $lines, $why) = (0, 0, 0);
+    my $page = content('docs/ARCHITECTURE.md');
+    while ($page =~ /^\| `(pua_\w+)`: [^|]*\| ([^|]*) \|/mg) {
+        my ($crate, $named) = ($1, $2);
+        $named =~ s/\([^)]*\)//g;
+        while ($named =~ /`([A-Z]\w+)`(?: of `(pua_\w+)`)?/g) {
+            my $text = content('crates/' . ($2 || $crate) . "/specs/$1.antt");
+            $text =~ s/^(?:pub )?use [^\n\{]*(?:\{[^\}]*\})?[^\n]*\n//mg;
+            my $count = () = $text =~ /^.*\S/mg;
+            $files++;
+            $lines += $count;
+            $why += $count if $crate eq 'pua_why';
+        }
+    }
+    my @said = $page =~ /: (\d+) files, some ([\d,]+) lines.*\n.*?; (\d+) of them/;
+    s/,// for @said;
+    is($files, $said[0], 'ARCHITECTURE: the files of the claim');
+    cmp_ok(abs($lines - $said[1]), '<=', 50, "ARCHITECTURE: the lines of the claim, $lines");
+    cmp_ok(abs($why - $said[2]), '<=', 50, "ARCHITECTURE: those for reasons, $why");
     return;
 }
 
