@@ -11,7 +11,8 @@
 # - The EXAMPLES of each manual page are run over the files that man/pua.1 shows. Where such a page
 #   shows no output, the commands only have to complain of nothing.
 # - The code in docs/CALLING.md is that of the proved callers, function by function.
-# - Each path on a page is there, and each file and each name in docs/ARCHITECTURE.md.
+# - Each path on a page is there, each file in docs/ARCHITECTURE.md, and each name there and on the
+#   other pages about the code.
 # - Help, usage lines, the manual pages and README have the same options, of the program and of each
 #   tool.
 #
@@ -375,6 +376,11 @@ sub test_architecture {
     }
     is("@missing", '', 'what ARCHITECTURE names is there');
     cmp_ok($names, '>', 100, "ARCHITECTURE: $names names");
+    for my $page (map { "docs/$_.md" } qw(CALLING DECISIONS DEFINITIONS PROVED)) {
+        my @unknown = grep { !stands($_, \%file_of, \%word) }
+            grep { /^[\w:.]+\z/ } content($page) =~ /`([^`]+)`/g;
+        is("@unknown", '', "what $page names is there");
+    }
     return;
 }
 
