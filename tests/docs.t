@@ -364,7 +364,8 @@ sub test_architecture {
     for my $item (items_of(content('docs/ARCHITECTURE.md'))) {
         my %named = map { $_ => 1 } $item =~ /\b(pua\w*)/g;
         my @near = grep { $named{$_} } @crates;
-        my $folder = $item =~ /^- \*Proofs/ ? 'proofs' : $item =~ /^\| `pua\w*`: / ? 'specs' : undef;
+        my $folder = $item =~ /^- \*Proofs/ ? 'proofs'
+            : $item =~ /^\| `pua\w*`: / ? 'specs' : undef;
         for my $name ($item =~ /`([^`]+)`/g) {
             $names++;
             next if $name =~ $MAY_LACK || stands($name, \%file_of, \%word, $folder, @near);
@@ -409,8 +410,8 @@ sub test_claim {
     return;
 }
 
-# The files that an item names with their folder: `pua_a/specs`: `Names` (a remark), `Tree`; or `Names` and `Tree` of
-# `pua_a/specs`.
+# The files that an item names with their folder: `pua_a/specs`: `Names` (a remark), `Tree`; or
+# `Names` and `Tree` of `pua_a/specs`.
 sub files_in {
     my ($item) = @_;
     my $folder = qr{`(pua_\w+/(?:src|specs|proofs))`};
@@ -423,7 +424,8 @@ sub files_in {
     for (@files) {
         my ($where, $named) = @$_;
         $named =~ s/\([^)]*\)//g;
-        push @names, map { "$where/$_" } grep { /\.rt\z/ || $where !~ /src/ } $named =~ /`([^`]+)`/g;
+        push @names, map { "$where/$_" }
+            grep { /\.rt\z/ || $where !~ /src/ } $named =~ /`([^`]+)`/g;
     }
     return @names;
 }
