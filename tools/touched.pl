@@ -4,7 +4,7 @@
 # Prints each file in which one of these stands, with how many lines have it, in groups:
 #
 #   WORD   a constructor, a name or a number of the code, as a whole word: not in a comment, an
-#          import or a text. With its type before it (Action.Link) a case of an enum counts only
+#          import or a text. With its type before it (Action.Rename) a case of an enum counts only
 #          where it is this one, by what the file imports
 #   TEXT   what stands between quotes there, or byte by byte, and as a whole word in tests, tools,
 #          pages and examples; if none is given, each WORD that has letters, in small ones; -t '' is
@@ -17,7 +17,7 @@
 #   perl tools/touched.pl -t open-w OpenWrite          # a call whose text is not its name
 #   perl tools/touched.pl RPATH rpath                  # a promise
 #   perl tools/touched.pl ENOTEMPTY                    # an errno
-#   perl tools/touched.pl Action.Link                  # a request of scripts
+#   perl tools/touched.pl Action.Rename                # a request of scripts
 #   perl tools/touched.pl -t prog Prog Program         # a kind of node
 #
 # -l prints the lines. -C TOP is the top folder of the repository, if it is not that of this file. A
