@@ -38,8 +38,9 @@ sub installed {
     return \%modes;
 }
 
-# Tools that have a page are installed; the others are for the repository alone.
-my @tools   = map { m{\Aman/pua-(\w+)\.1\z} ? $1 : () } glob 'man/pua-*.1';
+# Tools that read the sources are for whoever changes them, and are not installed.
+my @tools   = grep { !/\A(?:refused|touched)\z/ }
+    map { m{\Atools/(\w+)\.pl\z} ? $1 : () } glob 'tools/*.pl';
 my @modules = map { m{\Atools/lib/Pua/(\w+\.pm)\z} ? $1 : () } glob 'tools/lib/Pua/*.pm';
 my %wanted_tools = (
     (map { ("/usr/bin/pua-$_" => '755', "/usr/share/man/man1/pua-$_.1" => '644') } @tools),

@@ -1,0 +1,194 @@
+#!/usr/bin/perl
+# Which files a change goes through: perl tools/touched.pl [-l] [-C TOP] [-t TEXT]... [WORD...]
+#
+# Prints each file in which one of these stands, with how many lines have it, in groups:
+#
+#   WORD   a constructor, a name or a number of the code, as a whole word: not in a comment, an
+#          import or a text. With its type before it (Action.Rename) a case of an enum counts only
+#          where it is this one, by what the file imports
+#   TEXT   what stands between quotes there, or byte by byte, and as a whole word in tests, tools,
+#          pages and examples; if none is given, each WORD that has letters, in small ones; -t '' is
+#          for no text at all
+#
+# To see what a further one of a kind has to go through, ask for one that is there. For a call, and
+# the number of all:
+#
+#   perl tools/touched.pl Mkdir 14
+#   perl tools/touched.pl -t open-w OpenWrite          # a call whose text is not its name
+#   perl tools/touched.pl RPATH rpath                  # a promise
+#   perl tools/touched.pl ENOTEMPTY                    # an errno
+#   perl tools/touched.pl Action.Rename                # a request of scripts
+#   perl tools/touched.pl -t prog Prog Program         # a kind of node
+#
+# -l prints the lines. -C TOP is the top folder of the repository, if it is not that of this file. A
+# file that takes the thing whole, and asks nothing of it, is not found, and need not change; one
+# that tells it by another name is not found either: docs/ARCHITECTURE.md, "Where to change what",
+# says where that is so. The status is 1 where nothing is found.
+use strict;
+use warnings;
+use Cwd qw(abs_path);
+use File::Basename qw(dirname);
+use File::Find qw(find);
+use Getopt::Long qw(:config bundling);
+
+my ($lines, $top, @texts);
+my $USAGE = "usage: touched.pl [-l] [-C TOP] [-t TEXT]... [WORD...]\n";
+my $is_read = GetOptions('l' => \$lines, 'C=s' => \$top, 't=s' => \@texts);
+if (!$is_read || !(@ARGV || @texts) || grep { !/^\w+(?:\.\w+)?\z/ } @ARGV) {
+    print STDERR $USAGE;
+    exit 2;
+}
+$top = dirname(dirname(abs_path(__FILE__))) if !defined $top;
+chdir $top or die "touched.pl: $top: $!\n";
+
+# Each word by its last part, and those that have a type, with it.
+my @words = map { /(\w+)\z/ } @ARGV;
+my @typed = map { /(\w+)\.(\w+)/ ? [$1, $2] : () } @ARGV;
+if (@texts) { @texts = grep { $_ ne '' } @texts }
+else        { @texts = map { lc, /^[A-Z0-9]+\z/ ? $_ : () } grep { /[A-Za-z]/ } @words }
+
+# A word stands alone between what is no part of a name, and a text also between what is no part of
+# a call's name.
+my $text = any('(?<![\w-])', '(?![\w-])', @texts);
+my $wanted = any('', '', @words, @texts, map { join ', ', map { "b'$_'" } split // } @texts);
+
+# The groups in their order. In the first, code is told from texts; in data a number says nothing.
+my @GROUPS = (
+    ['code', qr{^crates/(?!pua_refused|pua_examples)\w+/src/(.*\.rt)\z}],
+    ['definitions', qr{^crates/(?!pua_refused|pua_examples)\w+/specs/(.*\.antt)\z}],
+    ['proofs', qr{^crates/(?!pua_refused|pua_examples)\w+/proofs/(.*\.antt)\z}],
+    ['edits', qr{^crates/\w+/must-fail/(.*)\z}],
+    ['claims and programs', qr{^crates/(?:pua_refused|pua_examples)\w*/(.*\.(?:rt|antt))\z}],
+    ['tests', qr{^tests/(.*)\z}],
+    ['tools', qr{^tools/(.*)\z}],
+    ['bench', qr{^bench/(.*)\z}],
+    ['examples', qr{^examples/[^/]+/(.*)\z}],
+    ['manual pages', qr{^man/(.*)\z}],
+    ['documents', qr{^(?:docs/)?([^/]*\.md)\z}],
+);
+
+my @files;
+my @tops = grep { -e } qw(README.md crates tests tools bench examples man docs);
+find({ wanted => \&note, no_chdir => 1 }, @tops);
+my %found;
+for my $file (sort @files) {
+    my ($group) = grep { $file =~ $_->[1] } @GROUPS or next;
+    my $whole = content($file);
+    next if $whole !~ $wanted;
+    my @hits = hits_in($file, $whole) or next;
+    push @{ $found{ $group->[0] } }, [$file, $file =~ $group->[1], @hits];
+}
+print_group($_->[0], @{ $found{ $_->[0] } }) for grep { $found{ $_->[0] } } @GROUPS;
+exit !%found;
+
+sub note {
+    if (-d) { $File::Find::prune = 1 if m{/(?:out|\.git|\.rt)\z} }
+    elsif (-f && !m{/(?:\.[^/]*|touched\.p?[lt])\z}) { push @files, s{^\./}{}r }
+    return;
+}
+
+sub content {
+    my ($name) = @_;
+    open my $in, '<:raw', $name or die "touched.pl: $name: $!\n";
+    local $/;
+    my $all = <$in>;
+    return defined $all ? $all : '';
+}
+
+# A pattern for one of some words between two others; one that is nowhere, if there is none.
+sub any {
+    my ($before, $after, @any) = @_;
+    return qr/(?!)/ if !@any;
+    my $choice = join '|', map { quotemeta } @any;
+    return qr/$before(?:$choice)$after/;
+}
+
+# A pattern for the words in a file. The case of an enum counts without its type where the enum is
+# declared, and where it is imported from it, at once or by the file of a crate's proofs that passes
+# names on.
+sub words_in {
+    my ($file, $whole) = @_;
+    return any('(?<!\w)', '(?!\w)', @words) if !@typed || $file !~ /\.(?:rt|antt|edit)\z/;
+    my @alone = map { $_->[1] } grep { imports(@$_, $whole) } @typed;
+    my @whole = map { my ($type, $name) = @$_; map { "$type$_$name" } '::', '.' } @typed;
+    return any('(?<!\w)', '(?!\w)', grep({ !/\./ } @ARGV), @alone, @whole);
+}
+
+sub imports {
+    my ($type, $name, $whole) = @_;
+    my $among = qr/\.\{[^\}]*(?<!\w)$name(?!\w)/;
+    return 1 if $whole =~ /\b$type\.TheVariants$among|\benum $type\b/;
+    my ($crate) = $whole =~ /\b(\w+)\.proofs\.Common$among/ or return;
+    my $common = "crates/$crate/proofs/Common.antt";
+    return -e $common && content($common) =~ /\b$type\.TheVariants$among/;
+}
+
+# The numbers of the lines of a file in which a word or a text stands.
+sub hits_in {
+    my ($file, $whole) = @_;
+    my $word = words_in($file, $whole);
+    my ($code, $quoted) = parts_of($file, $whole);
+    my @code = split /\n/, $code;
+    my @quoted = split /\n/, $quoted;
+    my $last = @code > @quoted ? $#code : $#quoted;
+    return grep {
+        my $number = $_ - 1;
+        grep { defined $_->[0] && $_->[0] =~ $_->[1] }
+            [$code[$number], $word], [$quoted[$number], $text];
+    } 1 .. $last + 1;
+}
+
+# The code of a file and its texts, in the same lines, without comments and imports.
+sub parts_of {
+    my ($file, $whole) = @_;
+    if ($file =~ /\.(?:rt|rs|rattle|edit)\z/) {
+        my $kept = qr{"(?:[^"\\]|\\.)*"|'(?:[^'\\\n]|\\[^\n]+?)'}s;
+        my $bytes = qr{(?:b'[^'\\\n]',?\s*){2,}};
+        $whole =~ s{($kept)|//[^\n]*}{defined $1 ? $1 : ''}ge;
+        $whole =~ s{\[($bytes)\]}{'"' . join('', $1 =~ /b'(.)'/g) . '"' . blank($1)}ge;
+        $whole =~ s{^([ \t]*(?:pub(?:\([^)]*\))? )?(?:ghost )?use [^;]*;)}{blank($1)}gme;
+    }
+    elsif ($file =~ /\.antt\z/) {
+        $whole =~ s{("(?:[^"\\]|\\.)*")|(?<!\S)--[^\n]*}{defined $1 ? $1 : ''}gse;
+        $whole =~ s{^((?:pub )?use [^\n\{]*(?:\{[^\}]*\})?[^\n]*)}{blank($1)}gme;
+    }
+    elsif ($file =~ /\.(?:pl|pm|t|py|sh)\z/) { $whole =~ s/(?:^|(?<=\s))#[^\n]*//gm }
+    elsif ($file =~ /\.toml\z/)              { $whole =~ s/^#[^\n]*//gm }
+    elsif ($file =~ /\.[1-9]\z/)             { $whole =~ s/^\.\\"[^\n]*//gm }
+    return ('', $whole) if $file !~ /\.(?:rt|rs|rattle|edit|antt|pl|pm|t|py|sh)\z/;
+    return ($whole, $whole) if $file !~ /\.(?:rt|rs|rattle|edit|antt)\z/;
+    my $code = $whole =~ s{("(?:[^"\\]|\\.)*")}{blank($1)}gser;
+    my $quoted = join '', map { /^"/ ? $_ : blank($_) } split /("(?:[^"\\]|\\.)*")/s, $whole;
+    return ($code, $quoted);
+}
+
+sub blank {
+    my ($some) = @_;
+    return "\n" x ($some =~ tr/\n//);
+}
+
+# Prints a group: how much it has, and then its files, those of one folder together.
+sub print_group {
+    my ($name, @found) = @_;
+    my $count = 0;
+    $count += @$_ - 2 for @found;
+    printf "%s: %s, %s\n", $name, counted(scalar @found, 'file'), counted($count, 'line');
+    my (@folders, %in);
+    for (@found) {
+        my ($file, $short, @hits) = @$_;
+        my ($folder) = $file =~ m{^(?:crates/|examples/)?([^/]+)/} ? $1 : '.';
+        push @folders, $folder if !$in{$folder};
+        push @{ $in{$folder} }, $short . ' ' . @hits;
+        next if !$lines;
+        my @all = split /\n/, content($file);
+        print map { "  $file:$_: " . $all[$_ - 1] =~ s/^\s+//r . "\n" } @hits;
+    }
+    return if $lines;
+    print map { "  $_: " . join(', ', @{ $in{$_} }) . "\n" } @folders;
+    return;
+}
+
+sub counted {
+    my ($count, $what) = @_;
+    return $count == 1 ? "1 $what" : "$count ${what}s";
+}
