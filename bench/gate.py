@@ -49,9 +49,12 @@ def look(top, seen):
         if not is_below(process, top, parents):
             continue
         try:
-            seen[process] = (name_of(words_of(process)), took[process])
+            words = words_of(process)
         except OSError:
             continue
+        # (one that has ended, and that its parent has not looked at, has no words any more)
+        name = seen[process][0] if words == [""] and process in seen else name_of(words)
+        seen[process] = (name, took[process])
 
 
 def is_below(process, top, parents):
