@@ -133,9 +133,8 @@ fn live_whatever_links_were_used(alloc: Global, steps: Steps, base: State)
     requires table { IsTable steps }
     requires base { IsState steps base }
     requires fits { 3 * length steps.rows.items < 2 ^ 64 }
-    requires letters { steps.letters ≤ 1000 }
 {
-    let most = 4 * steps.letters as u64;
+    let most = (steps.letters as u64).saturating_mul(4);
     let Ok(tables) = Tables::fill(alloc, steps, 2) else {
         return;
     };
