@@ -47,11 +47,10 @@ pub use Rattle.pua_why.specs.Seen.{fact_seen}
 pub use Rattle.pua_why.specs.Since.{came_from, forebear, parent_by, since, Test}
 pub use Rattle.pua_why.specs.Texts.{answer_words, date_of, reason_since, since_text}
 pub use Rattle.pua_since.specs.Changes.{has_changed, has_forked}
-pub use Rattle.pua_since.specs.Concerns.{is_marked, mark_of, TouchesOnly}
+pub use Rattle.pua_since.specs.Concerns.{TouchesOnly}
 pub use Rattle.pua_since.specs.Dates.{AreFactsAt, ArePlacesOf, AreVeilsAt, fact_line, IsFactAt, IsRequestAt, IsVeilAt, veil_seen, veil_told}
 pub use Rattle.pua_since.specs.Dates.{veils_at, with_number}
-pub use Rattle.pua_since.specs.Frames.{DifferAt, has_part, PathFollowsNone}
-pub use Rattle.pua_since.specs.Watched.{AreHanded, AreWatched, forebear_by, fork_seen, forks_done, forks_left, handed_by, is_told, IsHanded}
+pub use Rattle.pua_since.specs.Watched.{AreServed, AreWatched, forebear_by, fork_seen, forks_done, forks_left, is_told}
 pub use Rattle.pua_since.specs.Watched.{IsKeptThrough, IsSameTopic, IsToldOf, IsWatched, kept_in, line_at, made_by}
 pub use Rattle.pua_since.specs.declared.touched.Touched.{Touched}
 pub use Rattle.pua_since.specs.declared.watch.Question.{Question}
