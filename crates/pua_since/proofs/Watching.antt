@@ -122,10 +122,10 @@ module _ (table : CallTable) (w : World) (done : List Asked) (ask : Asked) (left
       IsToldSame table Before Next (Who watch.process) watch.question watch.told → IsWatched table w done (ask ∷ left) watch →
       IsWatched table w (done ++ ask ∷ []) left watch
   stays_spared watch itself same h = settled watch λ past wanted. (
-      same.told (subst (λ process. IsToldOf table Before process watch.question watch.told) (itself (Who watch.process)) (h.told past)),
-      h.line past
-      ∙ ap (λ b. turned_or b (1 + length done) (since Tells table w 1 done (came_from table Before ask (Who watch.process)))) (sym flat),
-    )
+    same.told (subst (λ process. IsToldOf table Before process watch.question watch.told) (itself (Who watch.process)) (h.told past)),
+    h.line past
+        ∙ ap (λ b. turned_or b (1 + length done) (since Tells table w 1 done (came_from table Before ask (Who watch.process)))) (sym flat),
+  )
     where
       Tells : Test
       Tells = is_told table watch.question watch.told
