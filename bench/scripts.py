@@ -1,10 +1,10 @@
 #!/usr/bin/env python3
 """Writes the scripts of the benchmarks into a folder: python3 scripts.py FOLDER
 
-All but `climb`, `descend`, `empty` and the veils have 60,000 lines. `ten` and `through` are for the listing `deep`. `one`, `many`, `looks`, `edits`, `sandbox`, `refused`
-and `refused-300` are for the listing `large` of listings.py, which has 4,000 nodes, `mkdirs` for `folders`, `links` for
-`linked`, `fill` for `wide`, `climb` and `descend` for `tower`. In `one` process 1 makes all calls; in `many` 256 processes
-take turns."""
+All but `refused-1000` (2,000), `denied` (20,001), `climb`, `descend`, `empty` and the veils have 60,000 lines. `ten` and
+`through` are for the listing `deep`. `one`, `many`, `looks`, `edits`, `sandbox`, `denied` and the three `refused` are for the
+listing `large` of listings.py, which has 4,000 nodes, `mkdirs` for `folders`, `links` for `linked`, `fill` for `wide`, `climb`
+and `descend` for `tower`. In `one` process 1 makes all calls; in `many` 256 processes take turns."""
 import sys
 
 LINES = 60_000
@@ -96,13 +96,18 @@ def fill():
     return [f"1 create /dir{turn % 60:03d}/new{turn:05d}" for turn in range(LINES)]
 
 
-def refused(kinds):
+def refused(kinds, lines_in_all=LINES):
     """Every second line is refused by a veil, so many different ones; the others make a file and take it away."""
     lines = ["1 unveil /dir000 r", "1 unveil /dir001 rwc"]
-    for turn in range(LINES // 2 - 1):
+    for turn in range(lines_in_all // 2 - 1):
         edit = "unlink" if turn % 2 else "create"
         lines += [f"1 open-w /dir000/other{turn % kinds}", f"1 {edit} /dir001/new"]
     return lines
+
+
+def denied():
+    """20,000 lines that a veil refuses, all different, and none that changes anything."""
+    return ["1 unveil /dir000 r"] + [f"1 open-w /dir000/other{turn}" for turn in range(20_000)]
 
 
 def climb(times):
@@ -123,7 +128,7 @@ def narrow(path):
 
 made = {"one": one(), "many": many(), "looks": looks(), "edits": edits(), "mkdirs": mkdirs(), "sandbox": sandbox()}
 made |= {"links": links(), "fill": fill(), "climb": climb(CLIMBS), "descend": climb(0), "empty": []}
-made |= {"refused": refused(LINES), "refused-300": refused(300)}
+made |= {"refused": refused(LINES), "refused-300": refused(300), "refused-1000": refused(LINES, 2_000), "denied": denied()}
 made |= {"ten": stats("".join(f"/part{number}" for number in range(10))), "through": stats("/d/l31")}
 made |= {"veil-names": narrow("/d50/file0050"), "veil-dead": narrow("/d99/g"), "veil-etc": narrow("/etc/ssl")}
 made |= {"veil-include": narrow("/usr/include/linux/can"), "veil-large": narrow("/dir030/file030.c")}

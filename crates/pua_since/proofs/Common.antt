@@ -2,13 +2,12 @@
 pub use Rattle.std.proofs.Common.{◌++◌, ◌+◌, ◌<◌, ◌∙◌, ◌∷◌, ◌≡◌, ◌≢◌, ◌≤◌, [], ap, append-nil, append_assoc, arith, Bool, cond, drop, Err}
 pub use Rattle.std.proofs.Common.{false, flat_map, get_or, inl, inr, length, List, map, None, Ok, Option, refl, Result, rules, set, Some}
 pub use Rattle.std.proofs.Common.{string_bytes, subst, suc, sym, take, true, zero, ℕ}
-pub use Rattle.std.proofs.lemmas.Bool.{eqb-true, false≢true, or_parts}
+pub use Rattle.std.proofs.lemmas.Bool.{eqb-true, false≢true}
 pub use Rattle.std.proofs.lemmas.List.{take_all}
 pub use Rattle.std.proofs.lemmas.Option.{slice_get_within}
 pub use Rattle.std.specs.Borrow.{Bor}
 pub use Rattle.std.specs.Cmp.{nat_cmp_total}
 pub use Rattle.std.specs.FinMap.{is_sorted, nat_cmp-IsAntisymmetric, put}
-pub use Rattle.std.specs.List.{list_any, slice_split}
 pub use Rattle.std.specs.Option.{option_eq, option_map_or}
 pub use Rattle.std.specs.Ordering.{nat_cmp}
 pub use Rattle.std.specs.Prelude.{◌&&◌, ◌==◌, ◌⊎◌, if◌then◌else◌, is_some, IsTrue, not, slice_get}
@@ -17,9 +16,7 @@ pub use lib.Pointwise.{bytes_decides}
 pub use Rattle.pua_calls.specs.Calls.{CallTable}
 pub use Rattle.pua_calls.specs.declared.call.Call.{Call}
 pub use Rattle.pua_path.specs.Traces.{PathTrace, trace_of_text}
-unfoldable pub use Rattle.pua_path.specs.Traces.{trace_from}
 pub use Rattle.pua_path.specs.declared.found.Found.{Found}
-pub use Rattle.pua_path.specs.declared.found.Last.{Last}
 pub use Rattle.pua_path.specs.declared.text.Ending.{Ending}
 pub use Rattle.pua_path.specs.declared.traced.PathFault.{PathFault}
 pub use Rattle.pua_policy.specs.History.{History, perms_kept, working_dir}
@@ -40,18 +37,17 @@ pub use Rattle.pua_script.specs.declared.request.Action.{Action}
 pub use Rattle.pua_script.specs.declared.request.Action.TheVariants.{Exit, Fork, Link, Lock, OnPath, Pledge, Rename, Symlink, Unveil}
 pub use Rattle.pua_tree.proofs.ForCallers.{put_elsewhere, put_here}
 pub use Rattle.pua_tree.specs.Names.{same_bytes}
-pub use Rattle.pua_tree.specs.Tree.{is_dir, is_dir_kind, look, Node, Spot, Tree, WellFormed}
+pub use Rattle.pua_tree.specs.Tree.{Spot, Tree}
 pub use Rattle.pua_why.specs.Facts.{Fact, facts_of}
 pub use Rattle.pua_why.specs.Reasons.{Ended, Fault, reason}
 pub use Rattle.pua_why.specs.Seen.{fact_seen}
 pub use Rattle.pua_why.specs.Since.{came_from, forebear, parent_by, since, Test}
 pub use Rattle.pua_why.specs.Texts.{answer_words, date_of, reason_since, since_text}
 pub use Rattle.pua_since.specs.Changes.{has_changed, has_forked}
-pub use Rattle.pua_since.specs.Concerns.{is_marked, mark_of, TouchesOnly}
+pub use Rattle.pua_since.specs.Concerns.{TouchesOnly}
 pub use Rattle.pua_since.specs.Dates.{AreFactsAt, ArePlacesOf, AreVeilsAt, fact_line, IsFactAt, IsRequestAt, IsVeilAt, veil_seen, veil_told}
 pub use Rattle.pua_since.specs.Dates.{veils_at, with_number}
-pub use Rattle.pua_since.specs.Frames.{DifferAt, has_part, PathFollowsNone}
-pub use Rattle.pua_since.specs.Watched.{AreHanded, AreWatched, forebear_by, fork_seen, forks_done, forks_left, handed_by, is_told, IsHanded}
+pub use Rattle.pua_since.specs.Watched.{AreServed, AreWatched, forebear_by, fork_seen, forks_done, forks_left, is_told}
 pub use Rattle.pua_since.specs.Watched.{IsKeptThrough, IsSameTopic, IsToldOf, IsWatched, kept_in, line_at, made_by}
 pub use Rattle.pua_since.specs.declared.touched.Touched.{Touched}
 pub use Rattle.pua_since.specs.declared.watch.Question.{Question}

@@ -155,8 +155,9 @@ pub joined : (table : CallTable) (w : World) (done left : List Asked) (watch : W
 joined table w done left watch ask watched about asked wanted =
     by_dated (reason table (world_after table w done) ask) watch.line
     (since (has_key table ask (reason_key (reason table (world_after table w done) ask))) table w 1 done ask.process) λ dated.
-    let own : watch.asker ≡ ask.process =
-    watched.asker ∙ ap (forebear table (world_after table w done) left) about ∙
+    let asker : ℕ = forebear table (world_after table w done) left watch.process in
+    let own : asker ≡ ask.process =
+    ap (forebear table (world_after table w done) left) about ∙
     stays_itself table left (world_after table w done) ask.process (made_by table (world_after table w done) ask dated) in
-    request_line table w done ask dated watch.question watch.told watch.asker watch.line (watched.told wanted) asked own
+    request_line table w done ask dated watch.question watch.told asker watch.line (watched.told wanted) asked own
     (watched.line wanted)

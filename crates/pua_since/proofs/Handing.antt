@@ -1,57 +1,40 @@
 -- What is kept of all questions holds behind a further request too.
 use Rattle.pua_since.proofs.Common.{◌≡◌, ℕ, zero, suc, ◌<◌, List, [], ◌∷◌, ◌++◌, map, length, true, false, Some, None, Option, refl, sym}
 use Rattle.pua_since.proofs.Common.{ap, subst, ◌∙◌, arith, IsTrue, slice_get, nat_cmp, is_sorted, false≢true, slice_get_within, CallTable}
-use Rattle.pua_since.proofs.Common.{Asked, World, answers_to, apply, world_after, Answer, Okay, Failed, Killed, Gone, Action, OnPath}
-use Rattle.pua_since.proofs.Common.{Symlink, Rename, Link, Pledge, Unveil, Lock, Fork, Exit, has_changed, has_forked, AreHanded, AreWatched}
-use Rattle.pua_since.proofs.Common.{IsHanded, IsWatched, fork_seen, forks_done, forks_left, forebear_by, handed_by, made_by, Question}
-use Rattle.pua_since.proofs.Common.{Watch, Watches, one_request_more}
+use Rattle.pua_since.proofs.Common.{Asked, World, answers_to, apply, world_after, Answer, Okay, Action, Fork, has_changed, has_forked}
+use Rattle.pua_since.proofs.Common.{AreServed, AreWatched, IsWatched, fork_seen, forks_done, forks_left, forebear, forebear_by, made_by}
+use Rattle.pua_since.proofs.Common.{Question, Watch, Watches, one_request_more}
 use Rattle.std.proofs.Common.{◌↔◌}
 use Rattle.std.specs.Prelude.{All, IsSome, max, slice_set}
 use Rattle.std.specs.Option.{option_to_list}
 use Rattle.std.proofs.lemmas.List.{reverse-append}
-use Rattle.std.proofs.lemmas.List.Elements.{All-map, All-push, All-same, All-set, All-weaker, AllWithin-from_all}
+use Rattle.std.proofs.lemmas.List.Elements.{All-push, All-same, All-set, All-weaker, AllWithin-from_all}
 use Rattle.std.proofs.lemmas.Option.{get_or_from_slice_get}
 use Rattle.pua_since.specs.Changes.{LeavesAsIs}
-use Rattle.pua_since.specs.Watched.{IsAbout, IsBegunIn, forks_with, fork_told}
+use Rattle.pua_since.specs.Watched.{IsAbout, IsBegunIn, fork_told}
 use Rattle.pua_since.specs.declared.watches.Fork.{Fork as Made}
 use Rattle.pua_since.proofs.Forks.{forebears_tell}
-use Rattle.pua_since.proofs.Watching.{begun, came_itself, handed_on, not_forked, stays_handed, stays_watched}
+use Rattle.pua_since.proofs.Sparing.{same_told}
+use Rattle.pua_since.proofs.Watching.{begun, came_itself, not_forked, stays_spared}
 
 no_fork : (ask : Asked) (answer : Answer) (more : List (ℕ × ℕ)) → has_forked ask.action answer ≡ false → fork_told ask answer more ≡ more
-no_fork ask (Failed errno) more e = refl
-no_fork ask Killed more e = refl
-no_fork ask Gone more e = refl
-no_fork ask Okay more e = by ask.action e
+no_fork ask answer more = by answer ask.action
   where
-    by : (action : Action) → has_forked action Okay ≡ false → forks_with ask action more ≡ more
-    by (Fork new) e = cc
-    by (OnPath call path) e = refl
-    by (Symlink target path) e = refl
-    by (Rename old new) e = refl
-    by (Link old new) e = refl
-    by (Pledge promises execpromises) e = refl
-    by (Unveil path perms) e = refl
-    by Lock e = refl
-    by Exit e = refl
+    by : (answer : Answer) (action : Action) → has_forked action answer ≡ false →
+        fork_told (record ask { action = action }) answer more ≡ more
+    by Okay (Fork new) e = cc
+    by Okay _ e = refl
+    by _ action e = refl
 
 one_fork : (ask : Asked) (answer : Answer) (more : List (ℕ × ℕ)) → has_forked ask.action answer ≡ true →
     (fork : ℕ × ℕ) × (fork_told ask answer more ≡ fork ∷ more)
-one_fork ask answer more e = by answer ask.action e
+one_fork ask answer more = by answer ask.action
   where
     by : (answer : Answer) (action : Action) → has_forked action answer ≡ true →
         (fork : ℕ × ℕ) × (fork_told (record ask { action = action }) answer more ≡ fork ∷ more)
     by Okay (Fork new) e = ((ask.process, new), refl)
-    by Okay (OnPath call path) e = absurd (false≢true e)
-    by Okay (Symlink target path) e = absurd (false≢true e)
-    by Okay (Rename old new) e = absurd (false≢true e)
-    by Okay (Link old new) e = absurd (false≢true e)
-    by Okay (Pledge promises execpromises) e = absurd (false≢true e)
-    by Okay (Unveil path perms) e = absurd (false≢true e)
-    by Okay Lock e = absurd (false≢true e)
-    by Okay Exit e = absurd (false≢true e)
-    by (Failed errno) action e = absurd (false≢true e)
-    by Killed action e = absurd (false≢true e)
-    by Gone action e = absurd (false≢true e)
+    by Okay _ e = absurd (false≢true e)
+    by _ action e = absurd (false≢true e)
 
 -- a list from which nothing was taken is empty
 pub emptied : (made : Option Made) (n : ℕ) → (IsSome made ↔ (0 < n)) → made ≡ None → n ≡ 0
@@ -88,27 +71,19 @@ module _ (table : CallTable) (w : World) (done : List Asked) (ask : Asked) (left
   Later = forks_done left (answers_to table (apply table (world_after table w done) ask).1 left)
 
   -- no process was made
-  pub stay_handed : has_forked ask.action (apply table Before ask).0 ≡ false → AreHanded table w done ask left s
-  stay_handed none = record {
-    forks = watched.forks ∙ no_fork ask (apply table Before ask).0 Later none;
-    each = All-weaker (IsWatched table w done (ask ∷ left)) (IsHanded table w done ask left)
-        (λ watch. stays_handed table w done ask left watch (λ process. came_itself table Before ask process none)) s.watches.items
-        watched.each;
-  }
+  pub stay_served : has_forked ask.action (apply table Before ask).0 ≡ false → AreServed table w done ask left s
+  stay_served none = record { forks = watched.forks ∙ no_fork ask (apply table Before ask).0 Later none; each = watched.each }
 
   -- one was
-  pub are_handed : (kept : List Made) (made : Option Made) (after : Watches) → has_forked ask.action (apply table Before ask).0 ≡ true
+  pub are_served : (kept : List Made) (made : Option Made) (after : Watches) → has_forked ask.action (apply table Before ask).0 ≡ true
       → s.forks.items ≡ kept ++ option_to_list made → (made ≡ None → length s.forks.items ≡ 0) → after.forks.items ≡ kept →
-      after.watches.items ≡ map (handed_by (made_by kept)) s.watches.items → AreHanded table w done ask left after
-  are_handed kept made after forked is none forks watches =
+      after.watches ≡ s.watches → AreServed table w done ask left after
+  are_served kept made after forked is none forks same =
       let first = one_fork ask (apply table Before ask).0 Later forked in
       let now : made_by kept ≡ Later = popped kept made s.forks.items first.0 Later is none (watched.forks ∙ first.1) in
       record {
         forks = ap made_by forks ∙ now;
-        each = All-same (IsHanded table w done ask left) after.watches.items (map (handed_by (made_by kept)) s.watches.items) watches
-            (All-map (IsHanded table w done ask left) (handed_by (made_by kept)) s.watches.items
-            (All-weaker (IsWatched table w done (ask ∷ left)) (λ watch. IsHanded table w done ask left (handed_by (made_by kept) watch))
-            (λ watch. handed_on table w done ask left (made_by kept) now watch) s.watches.items watched.each));
+        each = subst (λ watches. All (IsWatched table w done (ask ∷ left)) watches.items) (sym same) watched.each;
       }
 
   -- nothing was changed
@@ -117,17 +92,17 @@ module _ (table : CallTable) (w : World) (done : List Asked) (ask : Asked) (left
   stay_watched none same =
       let alone = not_forked ask.action (apply table Before ask).0 none in
       record {
-        forks = watched.forks ∙ no_fork ask (apply table Before ask).0 Later alone
-            ∙ ap (λ v. forks_done left (answers_to table v left)) (sym (one_request_more table w done ask));
+        forks = (stay_served alone).forks ∙ ap (λ v. forks_done left (answers_to table v left)) (sym (one_request_more table w done ask));
         each = All-weaker (IsWatched table w done (ask ∷ left)) (IsWatched table w (done ++ ask ∷ []) left)
-            (λ watch. stays_watched table w done ask left watch same (λ process. came_itself table Before ask process alone))
+            (λ watch. stays_spared table w done ask left watch (λ process. came_itself table Before ask process alone)
+            (same_told table Before Next (forebear table Next left watch.process) watch.question watch.told same))
             s.watches.items watched.each;
       }
 
 -- a question is added at the start
 pub one_added : (table : CallTable) (w : World) (left : List Asked) (s after : Watches) (process asker : ℕ) (question : Question)
     (last : ℕ) (watch : Watch) → AreWatched table w [] left s
-    → asker ≡ forebear_by (forks_left s) process → IsAbout process asker question last watch → IsBegunIn table w asker watch →
+    → asker ≡ forebear_by (forks_left s) process → IsAbout process question last watch → IsBegunIn table w asker watch →
     after.forks ≡ s.forks → after.watches.items ≡ s.watches.items ++ watch ∷ [] → AreWatched table w [] left after
 one_added table w left s after process asker question last watch watched is about at_first forks watches = record {
   forks = ap (λ made. made_by made.items) forks ∙ watched.forks;
@@ -146,11 +121,8 @@ wanted_by_set table w left watches i old new last here is each =
     let was : IsWatched table w [] left old = subst (IsWatched table w [] left) (get_or_from_slice_get watches i old old here)
     (AllWithin-from_all (IsWatched table w [] left) watches each i old (omega arith) within) in
     let longer : IsWatched table w [] left (record old { last = max old.last last }) = record {
-      asker = was.asker;
       told = λ wanted. was.told (omega arith);
       line = λ wanted. was.line (omega arith);
-      plain = λ wanted. was.plain (omega arith);
-      marks = was.marks;
     } in
     All-set (IsWatched table w [] left) watches i new (subst (IsWatched table w [] left) (sym is) longer) each
 

@@ -18,12 +18,6 @@ pub mod Watching
 pub mod Rounds
 pub mod Handing
 pub mod Replays
-pub mod FrameWalks
-pub mod Framed
-pub mod Differing
 pub mod Touching
 pub mod Sparing
 pub mod Serving
-pub mod Parts
-pub mod Marking
-pub mod Tracing

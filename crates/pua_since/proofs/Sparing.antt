@@ -1,8 +1,8 @@
 -- What a question is told stays, where what was touched doesn't concern it.
-use Rattle.pua_since.proofs.Common.{◌≡◌, ℕ, List, Bool, true, false, Some, None, Option, Ok, Err, refl, sym, ap, subst, ◌∙◌, IsTrue, not}
-use Rattle.pua_since.proofs.Common.{◌&&◌, ◌==◌, if◌then◌else◌, option_eq, option_map_or, false≢true, or_parts, same_bytes, CallTable}
-use Rattle.pua_since.proofs.Common.{History, perms_kept, Change, NoChange, CopyAs, World, history_of, Action, Fault, Ended, is_marked}
-use Rattle.pua_since.proofs.Common.{mark_of, IsToldOf, is_told, kept_in, Touched, Question, Told, Watch}
+use Rattle.pua_since.proofs.Common.{◌≡◌, ℕ, false, None, Option, Some, Ok, Err, refl, sym, ap, subst, ◌∙◌, if◌then◌else◌, ◌==◌}
+use Rattle.pua_since.proofs.Common.{option_eq, option_map_or, false≢true, same_bytes, CallTable, Asked, came_from, History, perms_kept}
+use Rattle.pua_since.proofs.Common.{Change, NoChange, CopyAs, World, history_of, Action, Fault, Ended, IsToldOf, is_told, kept_in, Touched}
+use Rattle.pua_since.proofs.Common.{Question, Told}
 use Rattle.std.specs.Prelude.{nat_le}
 use Rattle.pua_policy.specs.History.{is_ended}
 use Rattle.pua_policy.specs.Verdict.{or_fault}
@@ -11,13 +11,10 @@ use Rattle.pua_script.specs.Decide.{AddNode, CutRow, ShiftRow, TieRow, BeginProg
 use Rattle.pua_why.specs.Checked.{reason_checked, checked_by, checks_fault, process_fault}
 use Rattle.pua_why.specs.Keys.{reason_key}
 use Rattle.pua_why.specs.Reasons.{NumberTaken, NoProcessLeft, reason_of, change_or_fault}
-use Rattle.pua_since.specs.Frames.{FollowsNone, IsUntouched}
-use Rattle.pua_since.specs.Concerns.{ChangesOnly, ChangesProcess, ChangesRows, is_bounded, is_concerned, is_named}
-use Rattle.pua_since.specs.Watched.{AreMarked, IsPlain}
-use Rattle.pua_since.specs.declared.touched.Touched.TheVariants.{Nothing, Row, Process, Anything}
+use Rattle.pua_since.specs.Concerns.{ChangesOnly, ChangesProcess, MakesNone, is_concerned}
+use Rattle.pua_since.specs.declared.touched.Touched.TheVariants.{Process, Anything}
 use Rattle.pua_since.specs.declared.watch.Question.TheVariants as asks
 use Rattle.pua_since.specs.declared.watch.Told.TheVariants as tells
-use Rattle.pua_since.proofs.Framed.{rows_spare}
 
 -- two worlds tell the same of a question
 abbrev TellsSame : CallTable → World → World → ℕ → Question → Type 0
@@ -43,23 +40,6 @@ told_same table w v process (asks.Veil place) (tells.Veil perms) same = record {
 }
 told_same table w v process (asks.Request action) (tells.Veil perms) same = record { told = λ is. is; test = refl }
 told_same table w v process (asks.Veil place) (tells.Reason key) same = record { told = λ is. is; test = refl }
-
--- and its paths follow no link there either
-pub record IsSparedIn (table : CallTable) (w v : World) (watch : Watch) : Type 0 where
-  pub same : IsToldSame table w v watch.asker watch.question watch.told
-  pub plain : IsTrue watch.plain → IsPlain table v watch.asker watch.question
-
--- a row of another name
-module _ (table : CallTable) (name : List ℕ) (w v : World) (rows : ChangesRows name w v) (process : ℕ) where
-  row_same : (question : Question) → is_named name question ≡ false → IsPlain table w process question →
-      TellsSame table w v process question × IsPlain table v process question
-  row_same (asks.Request action) unnamed plain =
-      let spared : IsUntouched table w v process action.now =
-      rows_spare table name w v process action.now rows.well rows.differ rows.histories plain.0
-      (record { near = plain.1; unnamed = unnamed }) in
-      (spared.same, (spared.links, plain.1))
-  row_same (asks.Veil place) unnamed plain =
-      (ap (λ histories. kept_in (record v { histories = histories }) process place.now) rows.histories, tt)
 
 -- another process
 module _ (table : CallTable) (w v : World) (own : ℕ) (only : ChangesProcess own w v) (process : ℕ) (other : process == own ≡ false) where
@@ -90,49 +70,20 @@ module _ (table : CallTable) (w v : World) (own : ℕ) (only : ChangesProcess ow
   process_same (asks.Veil place) =
       ap (λ (o : Option History). option_map_or (λ h. perms_kept h place.now) o None) (only.others process other)
 
-  process_plain : (question : Question) → IsPlain table w process question → IsPlain table v process question
-  process_plain (asks.Request action) plain = (
-    subst (λ (o : Option History). FollowsNone table v.tree action.now o) (sym (only.others process other))
-        (subst (λ t. FollowsNone table t action.now (history_of w process)) (sym only.tree) plain.0),
-    plain.1,
-  )
-  process_plain (asks.Veil place) plain = tt
+module _ (table : CallTable) (w v : World) (process : ℕ) (question : Question) (was : Told) where
+  -- where the world is the same
+  pub same_told : v ≡ w → IsToldSame table w v process question was
+  same_told same = subst (λ u. IsToldSame table w u process question was) (sym same) (record { told = λ is. is; test = refl })
 
--- a name that has no mark among those of a question is none of its names
-unnamed_by : (name : List ℕ) (marks : ℕ) (question : Question) → AreMarked marks question →
-    (is_marked marks (mark_of name) && is_named name question) ≡ false → is_named name question ≡ false
-unnamed_by name marks question marked free = by (is_named name question) refl
-  where
-    by : (b : Bool) → is_named name question ≡ b → b ≡ false
-    by false e = refl
-    by true e = absurd (false≢true (sym free ∙ (λ i. marked name e i && e i)))
-
-module _ (table : CallTable) (w v : World) (watch : Watch) (plain : IsTrue watch.plain → IsPlain table w watch.asker watch.question)
-    (marked : AreMarked watch.marks watch.question) where
-  pub spared : (touched : Touched) → ChangesOnly touched w v → is_concerned touched watch ≡ false → IsSparedIn table w v watch
-  spared Nothing changes free =
-      subst (λ u. IsSparedIn table w u watch) (sym changes)
-      (record { same = record { told = λ is. is; test = refl }; plain = plain })
-  spared (Row name mark) changes free =
-      let parts = or_parts (not watch.plain) (is_marked watch.marks mark && is_named name watch.question) free in
-      let is_plain : IsTrue watch.plain = not_not watch.plain parts.0 in
-      let unnamed = unnamed_by name watch.marks watch.question marked
-      (ap (λ m. is_marked watch.marks m && is_named name watch.question) (sym changes.1) ∙ parts.1) in
-      let same = row_same table name w v changes.0 watch.asker watch.question unnamed (plain is_plain) in
-      record { same = told_same table w v watch.asker watch.question watch.told same.0; plain = λ _. same.1 }
-    where
-      not_not : (b : Bool) → not b ≡ false → b ≡ true
-      not_not true e = refl
-      not_not false e = cc
-  spared (Process own) changes free = record {
-    same = told_same table w v watch.asker watch.question watch.told (process_same table w v own changes watch.asker free watch.question);
-    plain = λ is. process_plain table w v own changes watch.asker free watch.question (plain is);
-  }
+  -- where what was touched doesn't concern it
+  pub spared : (touched : Touched) → ChangesOnly touched w v → is_concerned touched process ≡ false →
+      IsToldSame table w v process question was
+  spared (Process own) changes free =
+      told_same table w v process question was (process_same table w v own changes process free question)
   spared Anything changes free = absurd (false≢true (sym free))
 
 -- what may change anything concerns each question
-pub is_bounded_by : (touched : Touched) (watch : Watch) → is_concerned touched watch ≡ false → is_bounded touched ≡ true
-is_bounded_by Nothing watch free = refl
-is_bounded_by (Row name mark) watch free = refl
-is_bounded_by (Process own) watch free = refl
-is_bounded_by Anything watch free = absurd (false≢true (sym free))
+pub itself_by : (touched : Touched) (table : CallTable) (w : World) (ask : Asked) (asker : ℕ) → MakesNone touched table w ask →
+    is_concerned touched asker ≡ false → (process : ℕ) → came_from table w ask process ≡ process
+itself_by (Process own) table w ask asker none free = none
+itself_by Anything table w ask asker none free = absurd (false≢true (sym free))

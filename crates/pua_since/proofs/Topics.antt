@@ -1,5 +1,5 @@
 -- Each question stays at its place.
-use Rattle.pua_since.proofs.Common.{◌≡◌, ℕ, zero, suc, ◌≤◌, List, [], ◌∷◌, ◌++◌, map, Bool, true, false, Some, refl, sym, ap, subst, ◌∙◌}
+use Rattle.pua_since.proofs.Common.{◌≡◌, ℕ, zero, suc, ◌≤◌, List, [], ◌∷◌, ◌++◌, Bool, true, false, Some, refl, sym, ap, subst, ◌∙◌}
 use Rattle.pua_since.proofs.Common.{arith, slice_get, if◌then◌else◌, Question, Watch, IsSameTopic, IsKeptThrough}
 use Rattle.std.specs.Prelude.{slice_set}
 use Rattle.pua_since.specs.Watched.{IsTopicAt}
@@ -54,16 +54,6 @@ kept_by_push (watch ∷ watches) more zero process question lines topic =
 kept_by_push (watch ∷ watches) more (suc place) process question lines topic =
     further watch (watches ++ more ∷ []) place process question lines
     (kept_by_push watches more place process question lines (nearer watch watches place process question lines topic))
-
--- all questions are written anew, and each is the same
-pub kept_by_map : (f : Watch → Watch) → ((watch : Watch) → IsSameTopic watch (f watch)) → (watches : List Watch) →
-    IsKeptThrough watches (map f watches)
-kept_by_map f same [] place process question lines topic = let none = topic.stands in cc
-kept_by_map f same (watch ∷ watches) zero process question lines topic =
-    first_same watch (f watch) watches (map f watches) process question lines (same watch) topic
-kept_by_map f same (watch ∷ watches) (suc place) process question lines topic =
-    further (f watch) (map f watches) place process question lines
-    (kept_by_map f same watches place process question lines (nearer watch watches place process question lines topic))
 
 there_by_set : (watches : List Watch) (i : ℕ) (old new : Watch) → slice_get watches i ≡ Some old →
     slice_get (slice_set watches i new) i ≡ Some new

@@ -1,63 +1,34 @@
 -- A request changes no more than what it touches.
-use Rattle.pua_since.proofs.Common.{◌≡◌, ◌≢◌, ℕ, ◌+◌, List, ◌∷◌, Bool, true, false, cond, length, Some, None, Option, Ok, Err, refl, sym}
-use Rattle.pua_since.proofs.Common.{ap, subst, ◌∙◌, ◌==◌, IsTrue, is_some, not, option_eq, nat_cmp, nat_cmp_total, put, is_sorted}
-use Rattle.pua_since.proofs.Common.{nat_cmp-IsAntisymmetric, false≢true, eqb-true, Tree, Node, WellFormed, is_dir, is_dir_kind, look}
-use Rattle.pua_since.proofs.Common.{put_here, put_elsewhere, Ending, Last, Found, CallTable, History, working_dir, Refusal, Call, Asked}
-use Rattle.pua_since.proofs.Common.{Change, NoChange, change_by, decide, World, Effect, Fails, Kills, Leaves, Copies, apply, history_of}
-use Rattle.pua_since.proofs.Common.{answer_to, left_by, Answer, Action, OnPath, Symlink, Rename, Link, Pledge, Unveil, Lock, Fork, Exit}
-use Rattle.pua_since.proofs.Common.{by_request, has_forked, DifferAt, TouchesOnly, mark_of, Touched}
+use Rattle.pua_since.proofs.Common.{◌≡◌, ◌≢◌, ℕ, ◌∷◌, ◌+◌, Bool, true, false, cond, length, Some, Option, refl, sym, ap, subst, ◌∙◌, ◌==◌}
+use Rattle.pua_since.proofs.Common.{IsTrue, is_some, nat_cmp, nat_cmp_total, is_sorted, nat_cmp-IsAntisymmetric, false≢true}
+use Rattle.pua_since.proofs.Common.{eqb-true, put_here, put_elsewhere, Found, CallTable, History, Refusal, Call, Asked, Change}
+use Rattle.pua_since.proofs.Common.{change_by, decide, World, Effect, Fails, Kills, Leaves, Copies, apply, history_of, answer_to}
+use Rattle.pua_since.proofs.Common.{left_by, Answer, Okay, Action, OnPath, Symlink, Rename, Link, Pledge, Unveil, Lock, Fork, Exit}
+use Rattle.pua_since.proofs.Common.{by_request, has_forked, TouchesOnly}
 use Rattle.std.proofs.Common.{eq-eqb}
-use Rattle.std.specs.Prelude.{Result}
-use Rattle.std.specs.FinMap.Entries.{length-put}
-use Rattle.std.proofs.lemmas.Bool.{and_parts, not-true}
-use Rattle.pua_tree.specs.Edits.{add, tie, cut}
-use Rattle.pua_tree.specs.declared.fault.TreeFault.{TreeFault}
-use Rattle.pua_path.specs.Fits.{FoundFits, spot_named}
-use Rattle.pua_path.specs.Resolution.{resolution_of_text}
-use Rattle.pua_path.specs.declared.text.Ending.TheVariants as ending
-use Rattle.pua_path.specs.declared.found.Found.TheVariants.{Whole, Slot}
-use Rattle.pua_calls.specs.Calls.{ending_of, last_of}
-use Rattle.pua_policy.specs.History.{Ended}
-use Rattle.pua_policy.specs.declared.answer.Refusal.TheVariants as refusals
-use Rattle.pua_calls.specs.declared.call.Call.TheVariants as call
-use Rattle.pua_script.specs.Decide.{adding, removing, tying, going, link_node, plain_node}
-use Rattle.pua_script.specs.Guards.{IsDecided}
-use Rattle.pua_script.specs.Replay.{with_history}
-use Rattle.pua_script.specs.Replay.{change_effect, edit_effect, edited_tree, refusal_effect}
-use Rattle.pua_script.specs.declared.answer.Answer.TheVariants as answers
-use Rattle.pua_script.proofs.ForCallers.{by_decision, decisions_are_guarded, name_fits}
-use Rattle.pua_since.specs.Concerns.{ChangesOnly, ChangesProcess, action_touches, is_bounded, row_by, row_touched}
-use Rattle.pua_since.specs.Concerns.{row_with, touched_by}
-use Rattle.pua_since.specs.declared.touched.Touched.TheVariants.{Nothing, Row, Process, Anything}
-use Rattle.pua_since.proofs.Differing.{adding_differs, cutting_differs, tying_differs}
-use Rattle.pua_since.proofs.Unchanged.{put_there}
-use Rattle.pua_since.proofs.Watching.{came_itself}
 use Rattle.std.specs.Bool.{passes}
+use Rattle.std.specs.FinMap.Entries.{length-put}
+use Rattle.pua_calls.specs.declared.call.Call.TheVariants as call
+use Rattle.pua_policy.specs.History.{Ended}
+use Rattle.pua_policy.specs.declared.answer.Refusal.TheVariants.{Failed, Killed}
+use Rattle.pua_script.specs.Guards.{IsDecided}
+use Rattle.pua_script.specs.Replay.{with_history, change_effect, refusal_effect}
+use Rattle.pua_script.specs.declared.answer.Answer.TheVariants as answers
+use Rattle.pua_script.proofs.ForCallers.{by_decision, by_going, decisions_are_guarded}
+use Rattle.pua_since.specs.Concerns.{ChangesOnly, ChangesProcess, MakesNone, call_is_own, is_own, touched_by, touched_if}
+use Rattle.pua_since.specs.declared.touched.Touched.TheVariants.{Process}
+use Rattle.pua_since.proofs.Watching.{came_itself}
 
--- a tree doesn't differ from itself
-same_trees : (name : List ℕ) (t : Tree) → DifferAt name t t
-same_trees name t = record {
-  looks = λ dir other differs. refl;
-  nodes = λ dir other x differs here. refl;
-  dirs = λ d. refl;
-  aboves = λ d is. refl;
-  climbs = λ d is. refl;
-}
+stays_same : (process : ℕ) (w : World) → ChangesProcess process w w
+stays_same process w = record { tree = refl; others = λ other differs. refl; there = λ other. refl; count = refl }
 
--- the row of what is no directory
-row_there : (t : Tree) (dir : ℕ) (name : List ℕ) (x : ℕ) → FoundFits t (Slot dir name (Some x)) →
-    (look t dir name ≡ Some x) × (is_dir t x ≡ false)
-row_there t dir name x fits =
-    let parts = and_parts (is_dir t dir) _ fits in
-    let row = and_parts (option_eq ◌==◌ (look t dir name) (Some x)) (not (is_dir t x)) parts.1 in
-    (by (look t dir name) row.0, not-true (is_dir t x) row.1)
-  where
-    by : (o : Option ℕ) → option_eq ◌==◌ o (Some x) ≡ true → o ≡ Some x
-    by None e = absurd (false≢true e)
-    by (Some y) e = ap Some (eqb-true y x e)
+-- an effect that leaves the tree, and makes no process
+abbrev IsOwn : World → Effect → Type 0
+IsOwn w (Leaves t after) = t ≡ w.tree
+IsOwn w (Copies new) = ⊥
+IsOwn w _ = Unit {0}
 
-module _ (table : CallTable) (w : World) (process : ℕ) (sorted : IsTrue (is_sorted nat_cmp w.histories)) (well : WellFormed w.tree)
-    (h : History)
+module _ (table : CallTable) (w : World) (process : ℕ) (sorted : IsTrue (is_sorted nat_cmp w.histories)) (h : History)
     (here : history_of w process ≡ Some h) where
   -- another history of the process that asks
   own_change : (after : History) → ChangesProcess process w (with_history w process after)
@@ -81,174 +52,77 @@ module _ (table : CallTable) (w : World) (process : ℕ) (sorted : IsTrue (is_so
           ∙ sym (ap is_some here) ∙ ap (λ q. is_some (history_of w q)) (sym is)
       by other false differs = ap is_some (elsewhere other (λ same. false≢true (sym differs ∙ eq-eqb other process same)))
 
-  -- no change
-  same_histories : put nat_cmp process h w.histories ≡ w.histories
-  same_histories = put_there process h w.histories sorted here
+  by_call : (asked : Call) (object : Found) → call_is_own asked ≡ true → IsOwn w (change_effect w h (change_by table asked object))
+  by_call call.Create object own = absurd (false≢true own)
+  by_call call.Mkdir object own = absurd (false≢true own)
+  by_call call.Rmdir object own = absurd (false≢true own)
+  by_call call.Unlink object own = absurd (false≢true own)
+  by_call call.Chdir object own = by_going (λ c. IsOwn w (change_effect w h c)) refl object (λ dir. refl)
+  by_call _ object own = refl
 
-  -- an effect that is answered `ok` changes no more than this
-  abbrev Does : Touched → Effect → Type 0
-  Does touched (Fails errno) = Unit {0}
-  Does touched Kills = Unit {0}
-  Does touched (Leaves t after) = WellFormed t →
-      ChangesOnly touched w (record { tree = t; histories = put nat_cmp process after w.histories })
-  Does touched (Copies new) = ChangesOnly touched w (with_history w new h)
+  by_action : (action : Action) (c : Change) → IsDecided table w.tree h action c → is_own action ≡ true →
+      IsOwn w (change_effect w h c)
+  by_action (OnPath asked path) c decided own =
+      subst (λ d. IsOwn w (change_effect w h d)) (sym decided.2) (by_call asked decided.0 own)
+  by_action (Pledge promises execpromises) c decided own = subst (λ d. IsOwn w (change_effect w h d)) (sym decided.is) refl
+  by_action (Unveil path perms) c decided own = subst (λ d. IsOwn w (change_effect w h d)) (sym decided.is) refl
+  by_action Lock c decided own = subst (λ d. IsOwn w (change_effect w h d)) (sym decided.1) refl
+  by_action Exit c decided own = subst (λ d. IsOwn w (change_effect w h d)) (sym decided) refl
+  by_action _ c decided own = absurd (false≢true own)
 
-  anything : (e : Effect) → Does Anything e
-  anything (Fails errno) = tt
-  anything Kills = tt
-  anything (Leaves t after) = λ _. tt
-  anything (Copies new) = tt
-
-  nothing : Does Nothing (change_effect w h NoChange)
-  nothing well_then = ap (λ histories. record w { histories = histories }) same_histories
-
-  no_row : (name : List ℕ) → Does (Row name (mark_of name)) (change_effect w h NoChange)
-  no_row name well_then = (record { well = well; differ = same_trees name w.tree; histories = same_histories }, refl)
-
-  adds : (node : Node) → is_dir_kind (Some node.kind) ≡ false → (object : Found) →
-      Does (row_touched (Ok object)) (change_effect w h (adding node object))
-  adds node plain (Whole dir way) = anything (change_effect w h (adding node (Whole dir way)))
-  adds node plain (Slot dir name (Some x)) = no_row name
-  adds node plain (Slot dir name None) = by (add w.tree dir name node) refl
+  -- by what an effect is answered
+  by_effect : (action : Action) (e : Effect) → (is_own action ≡ true → IsOwn w e) →
+      ChangesOnly (touched_by (record { process = process; action = action }) (answer_to e)) w (left_by w process h e)
+  by_effect action (Fails errno) own = stays_same process w
+  by_effect action Kills own = own_change (Ended ∷ h)
+  by_effect action (Leaves t after) own = by (is_own action) own
     where
-      by : (result : Result (ℕ × Tree) TreeFault) → add w.tree dir name node ≡ result →
-          Does (Row name (mark_of name)) (edit_effect h result)
-      by (Err fault) is = tt
-      by (Ok result) is = λ well_then. (
-        record {
-          well = well;
-          differ = adding_differs w.tree well dir name node plain result.0 result.1 is well_then;
-          histories = same_histories;
-        },
-        refl,
-      )
-
-  takes : (object : Found) → FoundFits w.tree object → Does (row_touched (Ok object)) (change_effect w h (removing object))
-  takes (Whole dir way) fits = anything (change_effect w h (removing (Whole dir way)))
-  takes (Slot dir name None) fits = no_row name
-  takes (Slot dir name (Some x)) fits = by (cut w.tree dir name) refl
+      by : (b : Bool) → (b ≡ true → t ≡ w.tree) → ChangesOnly (touched_if b process) w (left_by w process h (Leaves t after))
+      by true same =
+          subst (λ u. ChangesProcess process w (left_by w process h (Leaves u after))) (sym (same refl)) (own_change after)
+      by false same = tt
+  by_effect action (Copies new) own = by (is_own action) own
     where
-      by : (result : Result (ℕ × Tree) TreeFault) → cut w.tree dir name ≡ result → Does (Row name (mark_of name)) (edit_effect h result)
-      by (Err fault) is = tt
-      by (Ok result) is = λ well_then.
-          let row = row_there w.tree dir name x fits in (
-            record {
-              well = well;
-              differ = cutting_differs w.tree well dir name x row.0 row.1 result.0 result.1 is well_then;
-              histories = same_histories;
-            },
-            refl,
-          )
+      by : (b : Bool) → (b ≡ true → ⊥) → ChangesOnly (touched_if b process) w (left_by w process h (Copies new))
+      by true none = absurd (none refl)
+      by false none = tt
 
-  ties : (x : ℕ) (object : Found) → Does (row_touched (Ok object)) (change_effect w h (tying x (spot_named object)))
-  ties x (Whole dir way) = anything (change_effect w h (tying x (spot_named (Whole dir way))))
-  ties x (Slot dir name _) = by (tie w.tree dir name x) refl
-    where
-      by : (result : Result Tree TreeFault) → tie w.tree dir name x ≡ result → Does (Row name (mark_of name)) (edited_tree h result)
-      by (Err fault) is = tt
-      by (Ok after) is = λ well_then. (
-        record {
-          well = well;
-          differ = tying_differs w.tree well dir name x after is well_then;
-          histories = same_histories;
-        },
-        refl,
-      )
-
-  goes : (object : Found) → Does (Process process) (change_effect w h (going object))
-  goes (Whole dir way) = λ _. own_change _
-  goes (Slot dir name _) = λ _. own_change h
-
-  -- what a path names that was found
-  named : (path : List ℕ) (end : Ending) (mode : Last) (object : Found) →
-      resolution_of_text w.tree (working_dir h) end path mode ≡ Ok object →
-      row_by w process path end mode ≡ row_touched (Ok object)
-  named path end mode object found = ap (row_with w.tree path end mode) here ∙ ap row_touched found
-
-  by_call : (asked : Call) (path : List ℕ) (object : Found) →
-      resolution_of_text w.tree (working_dir h) (ending_of asked) path (last_of asked) ≡ Ok object →
-      Does (action_touches table w process (OnPath asked path)) (change_effect w h (change_by table asked object))
-  by_call call.Create path object found =
-      subst (λ touched. Does touched (change_effect w h (change_by table call.Create object)))
-      (sym (named path (ending_of call.Create) (last_of call.Create) object found))
-      (adds (plain_node _) refl object)
-  by_call call.Unlink path object found =
-      subst (λ touched. Does touched (change_effect w h (change_by table call.Unlink object)))
-      (sym (named path (ending_of call.Unlink) (last_of call.Unlink) object found))
-      (takes object (name_fits w.tree well (working_dir h) (ending_of call.Unlink) path (last_of call.Unlink) object found).fits)
-  by_call call.Chdir path object found = goes object
-  by_call call.Exec path object found = λ _. own_change _
-  by_call call.Mkdir path object found = anything (change_effect w h (change_by table call.Mkdir object))
-  by_call call.Rmdir path object found = anything (change_effect w h (change_by table call.Rmdir object))
-  by_call call.Symlink path object found = anything (change_effect w h (change_by table call.Symlink object))
-  by_call _ path object found = nothing
-
-  by_action : (action : Action) (c : Change) → IsDecided table w.tree h action c →
-      Does (action_touches table w process action) (change_effect w h c)
-  by_action (OnPath asked path) c decided =
-      subst (λ d. Does (action_touches table w process (OnPath asked path)) (change_effect w h d)) (sym decided.2)
-      (by_call asked path decided.0 decided.1.found)
-  by_action (Symlink target path) c decided =
-      subst (λ d. Does (action_touches table w process (Symlink target path)) (change_effect w h d)) (sym decided.3)
-      (subst (λ touched. Does touched (change_effect w h (adding (link_node target) decided.0)))
-      (sym (named path (ending_of call.Symlink) (last_of call.Symlink) decided.0 decided.1.found))
-      (adds (link_node target) refl decided.0))
-  by_action (Link old new) c decided =
-      subst (λ d. Does (action_touches table w process (Link old new)) (change_effect w h d)) (sym decided.is)
-      (subst (λ touched. Does touched (change_effect w h (tying decided.node (spot_named decided.new))))
-      (sym (named new ending.Dot table.link.new.last decided.new decided.two.found_new))
-      (ties decided.node decided.new))
-  by_action (Rename old new) c decided = anything (change_effect w h c)
-  by_action (Fork new) c decided = anything (change_effect w h c)
-  by_action (Pledge promises execpromises) c decided =
-      subst (λ d. Does (Process process) (change_effect w h d)) (sym decided.is) (λ _. own_change _)
-  by_action (Unveil path perms) c decided = subst (λ d. Does (Process process) (change_effect w h d)) (sym decided.is) (λ _. own_change _)
-  by_action Lock c decided = subst (λ d. Does (Process process) (change_effect w h d)) (sym decided.1) (λ _. own_change _)
-  by_action Exit c decided = subst (λ d. Does (Process process) (change_effect w h d)) (sym decided) (λ _. own_change _)
-
-  -- by the answer to an effect
-  finish : (action : Action) (e : Effect) → Does (action_touches table w process action) e → WellFormed (left_by w process h e).tree →
-      ChangesOnly (touched_by table w (record { process = process; action = action }) (answer_to e)) w (left_by w process h e)
-  finish action (Fails errno) does well_then = refl
-  finish action Kills does well_then = own_change (Ended ∷ h)
-  finish action (Leaves t after) does well_then = does well_then
-  finish action (Copies new) does well_then = does
-
-  refusing : (action : Action) (r : Refusal) → WellFormed (left_by w process h (refusal_effect r)).tree →
-      ChangesOnly (touched_by table w (record { process = process; action = action }) (answer_to (refusal_effect r))) w
+  by_refusal : (action : Action) (r : Refusal) →
+      ChangesOnly (touched_by (record { process = process; action = action }) (answer_to (refusal_effect r))) w
       (left_by w process h (refusal_effect r))
-  refusing action (refusals.Failed errno) = finish action (Fails errno) tt
-  refusing action refusals.Killed = finish action Kills tt
+  by_refusal action (Failed errno) = stays_same process w
+  by_refusal action Killed = own_change (Ended ∷ h)
 
 -- who each process was stays, where no process was made
-bounded : (table : CallTable) (w : World) (process : ℕ) (action : Action) (answer : Answer) →
-    is_bounded (touched_by table w (record { process = process; action = action }) answer) ≡ true → has_forked action answer ≡ false
-bounded table w process (Fork new) answers.Okay e = absurd (false≢true e)
-bounded table w process (OnPath asked path) answers.Okay e = refl
-bounded table w process (Symlink target path) answers.Okay e = refl
-bounded table w process (Rename old new) answers.Okay e = refl
-bounded table w process (Link old new) answers.Okay e = refl
-bounded table w process (Pledge promises execpromises) answers.Okay e = refl
-bounded table w process (Unveil path perms) answers.Okay e = refl
-bounded table w process Lock answers.Okay e = refl
-bounded table w process Exit answers.Okay e = refl
-bounded table w process action (answers.Failed errno) e = refl
-bounded table w process action answers.Killed e = refl
-bounded table w process action answers.Gone e = refl
-
-pub touches_only : (table : CallTable) (w : World) (ask : Asked) → IsTrue (is_sorted nat_cmp w.histories) → WellFormed w.tree →
-    WellFormed (apply table w ask).1.tree → TouchesOnly table w ask (touched_by table w ask (apply table w ask).0)
-touches_only table w ask sorted well well_then = record {
-  changes = changes well_then;
-  makes_none = λ bound process. came_itself table w ask process (bounded table w ask.process ask.action (apply table w ask).0 bound);
-}
+makes_none : (table : CallTable) (w : World) (ask : Asked) (answer : Answer) → answer ≡ (apply table w ask).0 →
+    MakesNone (touched_by ask answer) table w ask
+makes_none table w ask answer told = by ask.action answer (λ none other. came_itself table w ask other
+    (ap (has_forked ask.action) (sym told) ∙ none))
   where
-    changes : WellFormed (apply table w ask).1.tree → ChangesOnly (touched_by table w ask (apply table w ask).0) w (apply table w ask).1
-    changes =
-        by_request table w ask (λ done. WellFormed done.1.tree → ChangesOnly (touched_by table w ask done.0) w done.1) (λ well_then. refl)
-        λ h here. by_decision w h (λ e. WellFormed (left_by w ask.process h e).tree →
-        ChangesOnly (touched_by table w ask (answer_to e)) w (left_by w ask.process h e))
-        (decide table w.tree h ask.action)
-        (refusing table w ask.process sorted well h here ask.action)
-        (λ c is. finish table w ask.process sorted well h here ask.action (change_effect w h c)
-        (by_action table w ask.process sorted well h here ask.action c (decisions_are_guarded table w.tree h ask.action c is)))
+    by : (action : Action) (answer : Answer) → (has_forked action answer ≡ false → MakesNone (Process ask.process) table w ask) →
+        MakesNone (touched_by (record ask { action = action }) answer) table w ask
+    by (OnPath asked path) Okay itself = own (call_is_own asked)
+      where
+        own : (b : Bool) → MakesNone (touched_if b ask.process) table w ask
+        own true = itself refl
+        own false = tt
+    by (Symlink target path) Okay itself = tt
+    by (Rename old new) Okay itself = tt
+    by (Link old new) Okay itself = tt
+    by (Fork new) Okay itself = tt
+    by _ Okay itself = itself refl
+    by action (answers.Failed errno) itself = itself refl
+    by action answers.Killed itself = itself refl
+    by action answers.Gone itself = itself refl
+
+pub touches_only : (table : CallTable) (w : World) (ask : Asked) → IsTrue (is_sorted nat_cmp w.histories) →
+    TouchesOnly table w ask (touched_by ask (apply table w ask).0)
+touches_only table w ask sorted = record {
+  changes = by_request table w ask (λ done. ChangesOnly (touched_by ask done.0) w done.1) (stays_same ask.process w)
+      λ h here. by_decision w h (λ e. ChangesOnly (touched_by ask (answer_to e)) w (left_by w ask.process h e))
+      (decide table w.tree h ask.action)
+      (by_refusal table w ask.process sorted h here ask.action)
+      (λ c is. by_effect table w ask.process sorted h here ask.action (change_effect w h c)
+      (by_action table w ask.process sorted h here ask.action c (decisions_are_guarded table w.tree h ask.action c is)));
+  makes_none = makes_none table w ask (apply table w ask).0 refl;
+}

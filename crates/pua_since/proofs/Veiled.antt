@@ -71,8 +71,8 @@ veil_at table w done s are place process veil at =
     let watched : IsWatched table w done [] watch =
     at_place (IsWatched table w done []) s.watches.items place watch are.each at.stands.stands in
     ap (λ o. option_map_or (λ (watch : Watch). watch.line) o None) at.stands.stands
-    ∙ veil_line table w done process veil watch.question watch.told watch.asker watch.line (watched.told at.stands.wanted)
-    (ap place_asked at.stands.asks ∙ at.asks) (watched.asker ∙ at.stands.about) (watched.line at.stands.wanted)
+    ∙ veil_line table w done process veil watch.question watch.told watch.process watch.line (watched.told at.stands.wanted)
+    (ap place_asked at.stands.asks ∙ at.asks) at.stands.about (watched.line at.stands.wanted)
 
 pub veils_at : (table : CallTable) (w : World) (done : List Asked) (s : Watches) → AreWatched table w done [] s →
     (veils : List (ℕ × Place)) (places : List ℕ) → AreVeilsAt s.watches.items (length done) veils places

@@ -1,19 +1,18 @@
 -- What is kept of a question holds behind a further request too.
 use Rattle.pua_since.proofs.Common.{◌≡◌, ℕ, ◌+◌, ◌≤◌, List, [], ◌∷◌, ◌++◌, length, Bool, true, false, Some, None, Option, refl, sym, ap}
 use Rattle.pua_since.proofs.Common.{subst, ◌∙◌, arith, ◌==◌, not, ◌&&◌, if◌then◌else◌, option_eq, eqb-true, bytes_decides, same_bytes}
-use Rattle.pua_since.proofs.Common.{CallTable, Asked, World, answers_to, apply, world_after, is_okay, Answer, Okay, Failed, Killed, Gone}
-use Rattle.pua_since.proofs.Common.{Action, OnPath, Symlink, Rename, Link, Pledge, Unveil, Lock, Fork, Exit, Test, parent_by, came_from}
-use Rattle.pua_since.proofs.Common.{forebear, since, has_changed, has_forked, TouchesOnly, IsToldOf, is_told, IsWatched, IsHanded}
-use Rattle.pua_since.proofs.Common.{forks_done, forebear_by, handed_by, Touched, Question, Told, Watch, one_request_more}
+use Rattle.pua_since.proofs.Common.{CallTable, Asked, World, apply, world_after, is_okay, Answer, Okay}
+use Rattle.pua_since.proofs.Common.{Action, Fork, Test, parent_by, came_from}
+use Rattle.pua_since.proofs.Common.{forebear, since, has_changed, has_forked, TouchesOnly, IsToldOf, is_told, IsWatched}
+use Rattle.pua_since.proofs.Common.{Touched, Question, Told, Watch, one_request_more}
 use Rattle.std.proofs.Common.{eq-eqb}
 use Rattle.std.proofs.lemmas.List.{length-append}
 use Rattle.pua_since.specs.Concerns.{is_concerned}
-use Rattle.pua_since.specs.Watched.{IsPlain, is_same_told, IsAbout, IsAskedOnce, IsBegunIn}
+use Rattle.pua_since.specs.Watched.{is_same_told, IsAbout, IsAskedOnce, IsBegunIn}
 use Rattle.pua_since.specs.declared.watch.Question.TheVariants as asks
 use Rattle.pua_since.specs.declared.watch.Told.TheVariants as tells
 use Rattle.pua_since.proofs.Sincing.{turns, turned_or, since_more}
-use Rattle.pua_since.proofs.Forks.{forebears_tell}
-use Rattle.pua_since.proofs.Sparing.{IsSparedIn, is_bounded_by, spared}
+use Rattle.pua_since.proofs.Sparing.{IsToldSame, itself_by, spared}
 use Rattle.std.specs.Cmp.{both_ways}
 
 option_same : (a b : Option ℕ) → option_eq ◌==◌ a b ≡ true → a ≡ b
@@ -73,17 +72,8 @@ came_itself table w ask process = by (apply table w ask).0 ask.action
     by : (answer : Answer) (action : Action) → has_forked action answer ≡ false →
         (if is_okay answer then parent_by action ask.process process else process) ≡ process
     by Okay (Fork new) e = cc
-    by Okay (OnPath call path) e = refl
-    by Okay (Symlink target path) e = refl
-    by Okay (Rename old new) e = refl
-    by Okay (Link old new) e = refl
-    by Okay (Pledge promises execpromises) e = refl
-    by Okay (Unveil path perms) e = refl
-    by Okay Lock e = refl
-    by Okay Exit e = refl
-    by (Failed errno) action e = refl
-    by Killed action e = refl
-    by Gone action e = refl
+    by Okay _ e = refl
+    by _ action e = refl
 
 -- and so does one that can't have changed anything
 pub not_forked : (action : Action) (answer : Answer) → has_changed action answer ≡ false → has_forked action answer ≡ false
@@ -101,159 +91,109 @@ module _ (table : CallTable) (w : World) (done : List Asked) (ask : Asked) (left
   behind_is : world_after table w (done ++ ask ∷ []) ≡ Next
   behind_is = one_request_more table w done ask
 
-  wanted_there : (last : ℕ) → length (done ++ ask ∷ []) ≤ last → length done + 1 ≤ last
-  wanted_there last wanted = omega (arith, wanted, length-append done (ask ∷ []))
+  -- who a process was in the world behind it
+  abbrev Who : ℕ → ℕ
+  Who process = forebear table (apply table (world_after table w done) ask).1 left process
 
-  -- where the request left the world and each process as they were
-  pub stays_watched : (watch : Watch) → Next ≡ Before → ((process : ℕ) → came_from table Before ask process ≡ process) →
-      IsWatched table w done (ask ∷ left) watch → IsWatched table w (done ++ ask ∷ []) left watch
-  stays_watched watch same itself h =
-      let test : Test = is_told table watch.question watch.told in
-      record {
-        asker = h.asker ∙ itself (forebear table Next left watch.process) ∙ ap (λ v. forebear table v left watch.process) (sym behind_is);
-        told = λ wanted. subst (λ v. IsToldOf table v watch.asker watch.question watch.told) (sym (behind_is ∙ same))
-            (h.told (omega (arith, wanted_there watch.last wanted)));
-        line = λ wanted. h.line (omega (arith, wanted_there watch.last wanted))
-            ∙ sym (since_more test table w 1 done ask watch.asker
-            ∙ (λ i. turned_or (flat test i) (1 + length done) (since test table w 1 done (itself watch.asker i))));
-        plain = λ wanted is. subst (λ v. IsPlain table v watch.asker watch.question) (sym (behind_is ∙ same))
-            (h.plain (omega (arith, wanted_there watch.last wanted)) is);
-        marks = h.marks;
-      }
-    where
-      flat : (test : Test) → turns test table Before ask watch.asker ≡ false
-      flat test = (λ i. not (test Before (itself watch.asker i)) && test (same i) watch.asker) ∙ not_true (test Before watch.asker)
-
-  -- where it made no process
-  pub stays_handed : (watch : Watch) → ((process : ℕ) → came_from table Before ask process ≡ process) →
-      IsWatched table w done (ask ∷ left) watch → IsHanded table w done ask left watch
-  stays_handed watch itself h = record {
-    asker = h.asker ∙ itself (forebear table Next left watch.process);
-    told = λ wanted. subst (λ process. IsToldOf table Before process watch.question watch.told) (sym (itself watch.asker)) (h.told wanted);
-    line = λ wanted. h.line wanted ∙ ap (since (is_told table watch.question watch.told) table w 1 done) (sym (itself watch.asker));
-    plain = λ wanted is. subst (λ process. IsPlain table Before process watch.question) (sym (itself watch.asker)) (h.plain wanted is);
-    marks = h.marks;
-  }
-
-  -- where it made one
-  pub handed_on : (forks : List (ℕ × ℕ)) → forks ≡ forks_done left (answers_to table Next left) → (watch : Watch) →
-      IsWatched table w done (ask ∷ left) watch → IsHanded table w done ask left (handed_by forks watch)
-  handed_on forks are watch h =
-      let asker : forebear_by forks watch.process ≡ forebear table Next left watch.process =
-      ap (λ made. forebear_by made watch.process) are ∙ forebears_tell table Next left watch.process in
-      let came : came_from table Before ask (forebear_by forks watch.process) ≡ watch.asker = ap (came_from table Before ask) asker
-      ∙ sym h.asker in
-      record {
-        asker = asker;
-        told = λ wanted. subst (λ process. IsToldOf table Before process watch.question watch.told) (sym came) (h.told wanted);
-        line = λ wanted. h.line wanted ∙ ap (since (is_told table watch.question watch.told) table w 1 done) (sym came);
-        plain = λ wanted is. subst (λ process. IsPlain table Before process watch.question) (sym came) (h.plain wanted is);
-        marks = h.marks;
-      }
-
-  -- where it was spared
-  stays_spared : (watch : Watch) → ((process : ℕ) → came_from table Before ask process ≡ process) →
-      (length done ≤ watch.last → IsSparedIn table Before Next watch) → IsHanded table w done ask left watch →
+  -- a question is watched there by what it is told there, and whether that was told before
+  settled : (watch : Watch) → (length done ≤ watch.last → length done + 1 ≤ watch.last →
+      IsToldOf table Next (Who watch.process) watch.question watch.told
+      × (watch.line ≡ turned_or (turns (is_told table watch.question watch.told) table Before ask (Who watch.process)) (1 + length done)
+      (since (is_told table watch.question watch.told) table w 1 done (came_from table Before ask (Who watch.process))))) →
       IsWatched table w (done ++ ask ∷ []) left watch
-  stays_spared watch itself spares h = record {
-    asker = h.asker ∙ ap (λ v. forebear table v left watch.process) (sym behind_is);
-    told = λ wanted. subst (λ v. IsToldOf table v watch.asker watch.question watch.told) (sym behind_is)
-        ((spares (past wanted)).same.told
-        (subst (λ process. IsToldOf table Before process watch.question watch.told) (itself watch.asker) (h.told (past wanted))));
-    line = λ wanted. h.line (past wanted)
-        ∙ sym (since_more Tells table w 1 done ask watch.asker
-        ∙ ap (λ b. turned_or b (1 + length done) (since Tells table w 1 done (came_from table Before ask watch.asker))) (flat wanted));
-    plain = λ wanted is. subst (λ v. IsPlain table v watch.asker watch.question) (sym behind_is) ((spares (past wanted)).plain is);
-    marks = h.marks;
+  settled watch is = record {
+    told = λ wanted. subst (λ v. IsToldOf table v (forebear table v left watch.process) watch.question watch.told) (sym behind_is)
+        (there wanted).0;
+    line = λ wanted. (there wanted).1 ∙ sym (since_more Tells table w 1 done ask (Who watch.process))
+        ∙ ap (λ v. since Tells table w 1 (done ++ ask ∷ []) (forebear table v left watch.process)) (sym behind_is);
   }
     where
       Tells : Test
       Tells = is_told table watch.question watch.told
 
-      past : length (done ++ ask ∷ []) ≤ watch.last → length done ≤ watch.last
-      past wanted = omega (arith, wanted_there watch.last wanted)
+      there : length (done ++ ask ∷ []) ≤ watch.last → IsToldOf table Next (Who watch.process) watch.question watch.told
+          × (watch.line ≡ turned_or (turns Tells table Before ask (Who watch.process)) (1 + length done)
+          (since Tells table w 1 done (came_from table Before ask (Who watch.process))))
+      there wanted =
+          is (omega (arith, wanted, length-append done (ask ∷ []))) (omega (arith, wanted, length-append done (ask ∷ [])))
 
-      flat : length (done ++ ask ∷ []) ≤ watch.last → turns Tells table Before ask watch.asker ≡ false
-      flat wanted =
-          (λ i. not (Tells Before (itself watch.asker i)) && (spares (past wanted)).same.test i) ∙ not_true (Tells Before watch.asker)
+  -- where it was spared
+  pub stays_spared : (watch : Watch) → ((process : ℕ) → came_from table Before ask process ≡ process) →
+      IsToldSame table Before Next (Who watch.process) watch.question watch.told → IsWatched table w done (ask ∷ left) watch →
+      IsWatched table w (done ++ ask ∷ []) left watch
+  stays_spared watch itself same h = settled watch λ past wanted. (
+    same.told (subst (λ process. IsToldOf table Before process watch.question watch.told) (itself (Who watch.process)) (h.told past)),
+    h.line past
+        ∙ ap (λ b. turned_or b (1 + length done) (since Tells table w 1 done (came_from table Before ask (Who watch.process)))) (sym flat),
+  )
+    where
+      Tells : Test
+      Tells = is_told table watch.question watch.told
+
+      flat : turns Tells table Before ask (Who watch.process) ≡ false
+      flat = (λ i. not (Tells Before (itself (Who watch.process) i)) && same.test i) ∙ not_true (Tells Before (Who watch.process))
 
   -- where it was asked again
-  asked_again : (touched : Touched) (old new : Watch) (line : ℕ) → line ≡ length done + 1 → is_concerned touched old ≡ true →
-      IsHanded table w done ask left old → IsAskedOnce table Next touched line old new → IsWatched table w (done ++ ask ∷ []) left new
-  asked_again touched old new line number concerned h a = subst (IsWatched table w (done ++ ask ∷ []) left) (sym same) record {
-    asker = h.asker ∙ ap (λ v. forebear table v left old.process) (sym behind_is);
-    told = λ wanted. subst (λ v. IsToldOf table v old.asker old.question new.told) (sym behind_is) (a.told (here wanted) concerned);
-    line = λ wanted. a.turned (here wanted) concerned
-        ∙ by (h.told (past wanted)) (h.line (past wanted)) (a.told (here wanted) concerned) (is_same_told new.told old.told) refl
-        ∙ sym (since_more Tells table w 1 done ask old.asker);
-    plain = λ wanted is. subst (λ v. IsPlain table v old.asker old.question) (sym behind_is) (a.plain (here wanted) concerned is);
-    marks = h.marks;
-  }
+  asked_again : (touched : Touched) (old new : Watch) (line : ℕ) → line ≡ length done + 1 → is_concerned touched (Who old.process) ≡ true →
+      IsWatched table w done (ask ∷ left) old → IsAskedOnce table Next (Who old.process) touched line old new →
+      IsWatched table w (done ++ ask ∷ []) left new
+  asked_again touched old new line number concerned h a = subst (IsWatched table w (done ++ ask ∷ []) left) (sym same)
+      (settled (record old { told = new.told; line = new.line }) λ past wanted.
+      let here : line ≤ old.last = omega (arith, number, wanted) in (
+        a.told here concerned,
+        a.turned here concerned ∙ by (h.told past) (h.line past) (a.told here concerned) (is_same_told new.told old.told) refl,
+      ))
     where
       Tells : Test
       Tells = is_told table old.question new.told
 
       Came : ℕ
-      Came = came_from table Before ask old.asker
+      Came = came_from table Before ask (Who old.process)
 
-      same : new ≡ record old { told = new.told; line = new.line; plain = new.plain }
+      same : new ≡ record old { told = new.told; line = new.line }
       same i = record {
         process = a.process_kept i;
-        asker = a.asker_kept i;
         question = a.question_kept i;
         last = a.last_kept i;
         told = new.told;
         line = new.line;
-        plain = new.plain;
-        marks = a.marks_kept i;
       }
 
-      here : length (done ++ ask ∷ []) ≤ old.last → line ≤ old.last
-      here wanted = omega (arith, number, wanted_there old.last wanted)
-
-      past : length (done ++ ask ∷ []) ≤ old.last → length done ≤ old.last
-      past wanted = omega (arith, wanted_there old.last wanted)
-
       by : IsToldOf table Before Came old.question old.told → old.line ≡ since (is_told table old.question old.told) table w 1 done Came →
-          IsToldOf table Next old.asker old.question new.told
+          IsToldOf table Next (Who old.process) old.question new.told
           → (b : Bool) → is_same_told new.told old.told ≡ b →
           (if b then old.line else Some line)
-          ≡ turned_or (turns Tells table Before ask old.asker) (1 + length done) (since Tells table w 1 done Came)
+          ≡ turned_or (turns Tells table Before ask (Who old.process)) (1 + length done) (since Tells table w 1 done Came)
       by was since_then is true e =
           let before : Tells Before Came ≡ true = told_as table Before Came old.question old.told new.told was ∙ e in
           since_then
           ∙ ap (λ told. since (is_told table old.question told) table w 1 done Came) (sym (same_told_is new.told old.told e))
-          ∙ ap (λ b. turned_or (not b && Tells Next old.asker) (1 + length done) (since Tells table w 1 done Came)) (sym before)
+          ∙ ap (λ b. turned_or (not b && Tells Next (Who old.process)) (1 + length done) (since Tells table w 1 done Came)) (sym before)
       by was since_then is false e =
           let before : Tells Before Came ≡ false = told_as table Before Came old.question old.told new.told was ∙ e in
-          let after : Tells Next old.asker ≡ true = told_is table Next old.asker old.question new.told is in
+          let after : Tells Next (Who old.process) ≡ true = told_is table Next (Who old.process) old.question new.told is in
           let number_is : line ≡ 1 + length done = omega (arith, number) in
           ap Some number_is ∙ (λ i. turned_or (not (sym before i) && sym after i) (1 + length done) (since Tells table w 1 done Came))
 
   -- where it was asked again if what was touched may concern it
   pub asked_or_spared : (touched : Touched) → TouchesOnly table Before ask touched → (old new : Watch) (line : ℕ) → line ≡ length done + 1 →
-      IsHanded table w done ask left old → IsAskedOnce table Next touched line old new → IsWatched table w (done ++ ask ∷ []) left new
-  asked_or_spared touched only old new line number h a = by (is_concerned touched old) refl
+      IsWatched table w done (ask ∷ left) old → IsAskedOnce table Next (Who old.process) touched line old new →
+      IsWatched table w (done ++ ask ∷ []) left new
+  asked_or_spared touched only old new line number h a = by (is_concerned touched (Who old.process)) refl
     where
-      by : (b : Bool) → is_concerned touched old ≡ b → IsWatched table w (done ++ ask ∷ []) left new
+      by : (b : Bool) → is_concerned touched (Who old.process) ≡ b → IsWatched table w (done ++ ask ∷ []) left new
       by true concerned = asked_again touched old new line number concerned h a
       by false free =
-          let itself : (process : ℕ) → came_from table Before ask process ≡ process = only.makes_none (is_bounded_by touched old free) in
           subst (IsWatched table w (done ++ ask ∷ []) left) (sym (a.spared free))
-          (stays_spared old itself
-          (λ wanted. spared table Before Next old
-          (λ is. subst (λ process. IsPlain table Before process old.question) (itself old.asker)
-          (h.plain wanted is)) h.marks touched only.changes free)
-          h)
+          (stays_spared old (itself_by touched table Before ask (Who old.process) only.makes_none free)
+          (spared table Before Next (Who old.process) old.question old.told touched only.changes free) h)
 
 -- a question that is asked from the start
 pub begun : (table : CallTable) (w : World) (left : List Asked) (process asker : ℕ) (question : Question) (last : ℕ) (watch : Watch) →
-    asker ≡ forebear table w left process → IsAbout process asker question last watch → IsBegunIn table w asker watch →
+    asker ≡ forebear table w left process → IsAbout process question last watch → IsBegunIn table w asker watch →
     IsWatched table w [] left watch
 begun table w left process asker question last watch is about b = record {
-  asker = about.asker_kept ∙ is ∙ ap (forebear table w left) (sym about.process_kept);
-  told = λ wanted. subst (λ p. IsToldOf table w p watch.question watch.told) (sym about.asker_kept) b.told;
+  told = λ wanted. subst (λ p. IsToldOf table w p watch.question watch.told)
+      (is ∙ ap (forebear table w left) (sym about.process_kept)) b.told;
   line = λ wanted. b.line;
-  plain = λ wanted is. subst (λ p. IsPlain table w p watch.question) (sym about.asker_kept) (b.plain is);
-  marks = b.marks;
 }

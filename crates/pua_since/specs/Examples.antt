@@ -1,7 +1,7 @@
 -- Worked rows: which requests may have changed a world, what they touch of it, and since which lines of a script something is so.
 use Rattle.std.specs.Prelude.{◌≡◌, ℕ, true, false, List, [], ◌∷◌, map, flat_map, Option, Some, None, Result, Ok, codes, refl}
 use Rattle.std.specs.Fmt.{digits}
-use Rattle.pua_tree.specs.Examples.{example_tree, text_of_lines}
+use Rattle.pua_tree.specs.Examples.{text_of_lines}
 use Rattle.pua_tree.specs.Listing.{listing}
 use Rattle.pua_tree.specs.Tree.{Tree}
 use Rattle.pua_tree.specs.declared.fault.ListingFault.{ListingFault}
@@ -9,7 +9,6 @@ use Rattle.pua_path.specs.Traces.{trace_from}
 use Rattle.pua_path.specs.declared.errno.Errno.TheVariants.{EAGAIN, EEXIST}
 use Rattle.pua_calls.specs.Promises.{reading}
 use Rattle.pua_calls.specs.Calls.{standard_table}
-use Rattle.pua_calls.specs.declared.call.Call.{Call}
 use Rattle.pua_calls.specs.declared.call.Call.TheVariants as call
 use Rattle.pua_policy.specs.declared.place.Place.{Place}
 use Rattle.pua_policy.specs.declared.place.Place.TheVariants as place
@@ -32,10 +31,9 @@ use Rattle.pua_why.specs.Texts.{date_of}
 use Rattle.pua_since.specs.Changes.{has_changed, has_forked}
 use Rattle.pua_since.specs.Concerns.{touched_by}
 use Rattle.pua_since.specs.Dates.{veil_date, veil_told}
-use Rattle.pua_since.specs.Frames.{looks_further, names_part}
 use Rattle.pua_since.specs.Watched.{forebear_by, forks_done}
 use Rattle.pua_since.specs.declared.touched.Touched.{Touched}
-use Rattle.pua_since.specs.declared.touched.Touched.TheVariants.{Nothing, Row, Process, Anything}
+use Rattle.pua_since.specs.declared.touched.Touched.TheVariants.{Process, Anything}
 
 abbrev pub stat : List ℕ → Action
 stat path = OnPath call.Stat path
@@ -67,35 +65,20 @@ change_rows = record {
   killed_fork = refl;
 }
 
--- what process 1 touches of the example tree
-abbrev pub touched : Call → List ℕ → Answer → Touched
-touched call path answer =
-    touched_by standard_table (new_world example_tree) (record { process = 1; action = OnPath call path }) answer
+-- what process 1 touches
+abbrev pub touched : Action → Answer → Touched
+touched action answer = touched_by (record { process = 1; action = action }) answer
 
--- what is touched, and whose checks may look at it
 pub record TouchRows : Type 0 where
-  pub file_made : touched call.Create (codes "/tmp/up/new") Okay ≡ Row (codes "new") 46
-  pub dir_made : touched call.Mkdir (codes "/d") Okay ≡ Anything
-  pub moved : touched call.Chdir (codes "/tmp") Okay ≡ Process 1
-  pub killed : touched call.Stat (codes "/") Killed ≡ Process 1
-  pub looked : touched call.Stat (codes "/") Okay ≡ Nothing
-  pub failed : touched call.Mkdir (codes "/etc") (Failed EEXIST) ≡ Nothing
-  pub named : names_part (codes "new") (stat (codes "/etc/new")) ≡ true
-  pub not_named : names_part (codes "new") (stat (codes "/etc/news")) ≡ false
-  pub emptiness : looks_further (OnPath call.Rmdir (codes "/etc")) ≡ true
+  pub file_made : touched (OnPath call.Create (codes "/tmp/new")) Okay ≡ Anything
+  pub dir_made : touched (mkdir (codes "/d")) Okay ≡ Anything
+  pub forked : touched (Fork 2) Okay ≡ Anything
+  pub moved : touched (OnPath call.Chdir (codes "/tmp")) Okay ≡ Process 1
+  pub killed : touched (mkdir (codes "/d")) Killed ≡ Process 1
+  pub failed : touched (mkdir (codes "/etc")) (Failed EEXIST) ≡ Process 1
 
 pub touch_rows : TouchRows
-touch_rows = record {
-  file_made = refl;
-  dir_made = refl;
-  moved = refl;
-  killed = refl;
-  looked = refl;
-  failed = refl;
-  named = refl;
-  not_named = refl;
-  emptiness = refl;
-}
+touch_rows = record { file_made = refl; dir_made = refl; forked = refl; moved = refl; killed = refl; failed = refl }
 
 -- since which lines of a script veils have their letters, each with the number of its process
 abbrev pub dates_over : Result Tree ListingFault → Result (List Asked) ScriptFault → List (ℕ × Place) → List (Option ℕ)

@@ -3,8 +3,6 @@ pub mod Changes
 -- Notes: how questions are kept from line to line, and what is told of them.
 pub mod Watched
 pub mod Dates
--- Notes: which questions a change of the tree can't concern.
-pub mod Frames
 -- What a request touches, and which questions that concerns.
 pub mod Concerns
 -- Worked rows, which hold by computation.

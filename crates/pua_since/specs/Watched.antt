@@ -1,5 +1,5 @@
 -- Questions that are asked of each world of a replay, as the code keeps them.
-use Rattle.std.specs.Prelude.{◌≡◌, ◌≤◌, ⊤, ℕ, Bool, true, false, IsTrue, ◌==◌, if◌then◌else◌, List, [], ◌∷◌, length, map, reverse}
+use Rattle.std.specs.Prelude.{◌≡◌, ◌≤◌, ℕ, Bool, true, false, ◌==◌, if◌then◌else◌, List, [], ◌∷◌, length, map, reverse}
 use Rattle.std.specs.Prelude.{slice_get, Option, Some, None, All}
 use Rattle.std.specs.Option.{option_eq, option_map_or}
 use Rattle.pua_tree.specs.Names.{same_bytes}
@@ -14,9 +14,8 @@ use Rattle.pua_script.specs.declared.request.Action.{Action}
 use Rattle.pua_script.specs.declared.request.Action.TheVariants.{Fork}
 use Rattle.pua_why.specs.Checked.{reason_checked}
 use Rattle.pua_why.specs.Keys.{reason_key}
-use Rattle.pua_why.specs.Since.{Test, came_from, forebear, since}
-use Rattle.pua_since.specs.Frames.{FollowsNoLink, looks_further}
-use Rattle.pua_since.specs.Concerns.{is_concerned, is_marked, is_named, mark_of}
+use Rattle.pua_why.specs.Since.{Test, forebear, since}
+use Rattle.pua_since.specs.Concerns.{is_concerned}
 use Rattle.pua_since.specs.declared.touched.Touched.{Touched}
 use Rattle.pua_since.specs.declared.watch.Question.{Question}
 use Rattle.pua_since.specs.declared.watch.Question.TheVariants as asks
@@ -37,15 +36,6 @@ IsToldOf table w process (asks.Request action) (tells.Reason key) =
 IsToldOf table w process (asks.Veil place) (tells.Veil perms) = perms ≡ kept_in w process place.now
 IsToldOf table w process _ _ = ⊥
 
--- the paths of a question follow no link, and its checks look at no more than they lead through
-abbrev pub IsPlain : CallTable → World → ℕ → Question → Type 0
-IsPlain table w process (asks.Request action) = FollowsNoLink table w process action.now × (looks_further action.now ≡ false)
-IsPlain table w process (asks.Veil place) = ⊤
-
--- the names in the paths of a question have their marks
-abbrev pub AreMarked : ℕ → Question → Type 0
-AreMarked marks question = (name : List ℕ) → is_named name question ≡ true → is_marked marks (mark_of name) ≡ true
-
 -- both tell the same
 abbrev pub is_same_told : Told → Told → Bool
 is_same_told (tells.Reason key) (tells.Reason other) = same_bytes key other
@@ -59,19 +49,16 @@ is_told table (asks.Request action) (tells.Reason key) w process =
 is_told table (asks.Veil place) (tells.Veil perms) w process = option_eq ◌==◌ (kept_in w process place.now) perms
 is_told table _ _ w process = false
 
--- a question about a process, asked by a forebear, whose answer is wanted behind so many lines
-pub record IsAbout (process asker : ℕ) (question : Question) (last : ℕ) (watch : Watch) : Type 0 where
+-- a question about a process, whose answer is wanted behind so many lines
+pub record IsAbout (process : ℕ) (question : Question) (last : ℕ) (watch : Watch) : Type 0 where
   pub process_kept : watch.process ≡ process
-  pub asker_kept : watch.asker ≡ asker
   pub question_kept : watch.question ≡ question
   pub last_kept : watch.last ≡ last
 
--- it was asked of the world in which the replay begins
+-- it was asked of the world in which the replay begins, by who its process was there
 pub record IsBegunIn (table : CallTable) (w : World) (asker : ℕ) (watch : Watch) : Type 0 where
   pub told : IsToldOf table w asker watch.question watch.told
   pub line : watch.line ≡ None
-  pub plain : IsTrue watch.plain → IsPlain table w asker watch.question
-  pub marks : AreMarked watch.marks watch.question
 
 -- the same question about the same process, whose answer is wanted at least as long
 pub record IsSameTopic (old new : Watch) : Type 0 where
@@ -79,39 +66,24 @@ pub record IsSameTopic (old new : Watch) : Type 0 where
   pub question : new.question ≡ old.question
   pub wanted : old.last ≤ new.last
 
--- a question that was asked again behind this line, if its answer is still wanted there and what was touched concerns it
-pub record IsAskedOnce (table : CallTable) (w : World) (touched : Touched) (line : ℕ) (old new : Watch) : Type 0 where
+-- a question that was asked again behind this line, by who its process was there, if its answer is still wanted there and what was
+-- touched concerns it
+pub record IsAskedOnce (table : CallTable) (w : World) (asker : ℕ) (touched : Touched) (line : ℕ) (old new : Watch) : Type 0 where
   pub process_kept : new.process ≡ old.process
-  pub asker_kept : new.asker ≡ old.asker
   pub question_kept : new.question ≡ old.question
   pub last_kept : new.last ≡ old.last
-  pub marks_kept : new.marks ≡ old.marks
-  pub spared : is_concerned touched old ≡ false → new ≡ old
-  pub told : line ≤ old.last → is_concerned touched old ≡ true → IsToldOf table w old.asker old.question new.told
-  pub turned : line ≤ old.last → is_concerned touched old ≡ true →
+  pub spared : is_concerned touched asker ≡ false → new ≡ old
+  pub told : line ≤ old.last → is_concerned touched asker ≡ true → IsToldOf table w asker old.question new.told
+  pub turned : line ≤ old.last → is_concerned touched asker ≡ true →
       new.line ≡ (if is_same_told new.told old.told then old.line else Some line)
-  pub plain : line ≤ old.last → is_concerned touched old ≡ true → IsTrue new.plain → IsPlain table w old.asker old.question
 
--- a question, where some requests were served and others are not yet: who asks, and while its answer is wanted, what is told,
--- since when, and whether that is plain
+-- a question, where some requests were served and others are not yet: while its answer is wanted, what is told, and since when
 pub record IsWatched (table : CallTable) (w : World) (done left : List Asked) (watch : Watch) : Type 0 where
-  pub asker : watch.asker ≡ forebear table (world_after table w done) left watch.process
-  pub told : length done ≤ watch.last → IsToldOf table (world_after table w done) watch.asker watch.question watch.told
-  pub line : length done ≤ watch.last → watch.line ≡ since (is_told table watch.question watch.told) table w 1 done watch.asker
-  pub plain : length done ≤ watch.last → IsTrue watch.plain → IsPlain table (world_after table w done) watch.asker watch.question
-  pub marks : AreMarked watch.marks watch.question
-
--- the same behind a further request, as long as it was not asked again: what is told is what was told before the request
-pub record IsHanded (table : CallTable) (w : World) (done : List Asked) (ask : Asked) (left : List Asked) (watch : Watch) : Type 0 where
-  pub asker : watch.asker ≡ forebear table (apply table (world_after table w done) ask).1 left watch.process
   pub told : length done ≤ watch.last →
-      IsToldOf table (world_after table w done) (came_from table (world_after table w done) ask watch.asker) watch.question watch.told
+      IsToldOf table (world_after table w done) (forebear table (world_after table w done) left watch.process) watch.question watch.told
   pub line : length done ≤ watch.last →
       watch.line ≡ since (is_told table watch.question watch.told) table w 1 done
-      (came_from table (world_after table w done) ask watch.asker)
-  pub plain : length done ≤ watch.last → IsTrue watch.plain →
-      IsPlain table (world_after table w done) (came_from table (world_after table w done) ask watch.asker) watch.question
-  pub marks : AreMarked watch.marks watch.question
+      (forebear table (world_after table w done) left watch.process)
 
 -- the forks that were done
 abbrev pub forks_with : Asked → Action → List (ℕ × ℕ) → List (ℕ × ℕ)
@@ -131,10 +103,6 @@ abbrev pub forebear_by : List (ℕ × ℕ) → ℕ → ℕ
 forebear_by [] process = process
 forebear_by (fork ∷ forks) process = let later : ℕ = forebear_by forks process in if fork.1 == later then fork.0 else later
 
--- a question that is asked from now on by who its process was before these forks
-abbrev pub handed_by : List (ℕ × ℕ) → Watch → Watch
-handed_by forks watch = record watch { asker = forebear_by forks watch.process }
-
 abbrev pub fork_seen : Made → ℕ × ℕ
 fork_seen fork = (fork.parent, fork.child)
 
@@ -150,10 +118,10 @@ pub record AreWatched (table : CallTable) (w : World) (done left : List Asked) (
   pub forks : forks_left s ≡ forks_done left (answers_to table (world_after table w done) left)
   pub each : All (IsWatched table w done left) s.watches.items
 
--- the same behind a further request, as long as no question was asked again
-pub record AreHanded (table : CallTable) (w : World) (done : List Asked) (ask : Asked) (left : List Asked) (s : Watches) : Type 0 where
+-- the same behind a further request, as long as no question was asked again: what is told is what was told before the request
+pub record AreServed (table : CallTable) (w : World) (done : List Asked) (ask : Asked) (left : List Asked) (s : Watches) : Type 0 where
   pub forks : forks_left s ≡ forks_done left (answers_to table (apply table (world_after table w done) ask).1 left)
-  pub each : All (IsHanded table w done ask left) s.watches.items
+  pub each : All (IsWatched table w done (ask ∷ left)) s.watches.items
 
 -- at a place stands this question about this process, and its answer is wanted behind so many lines
 pub record IsTopicAt (watches : List Watch) (place process : ℕ) (question : Question) (lines : ℕ) : Type 0 where

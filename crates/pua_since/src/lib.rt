@@ -7,10 +7,7 @@
 
 mod chain;
 mod change;
-mod concerns;
 mod laws;
-mod marks;
-mod plain;
 mod reason_line;
 mod reason_lines;
 mod touched;

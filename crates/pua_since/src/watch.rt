@@ -1,19 +1,17 @@
 //! A question that is asked of each world of a replay, and since which line it is told the same.
 
-ghost use Rattle.std.specs.Prelude.{◌≡◌, IfOk, IsTrue, OnOk, max};
+ghost use Rattle.std.specs.Prelude.{◌≡◌, IfOk, OnOk, max};
 ghost use Rattle.pua_script.specs.Replay.{World as Replayed};
 ghost use Rattle.pua_script.specs.Worlds.{StandsForWorld};
-ghost use Rattle.pua_since.specs.Concerns.{is_concerned, is_named};
-ghost use Rattle.pua_since.specs.Watched.{AreMarked, IsAbout, IsAskedOnce, IsBegunIn, IsPlain};
+ghost use Rattle.pua_since.specs.Concerns.{is_concerned};
+ghost use Rattle.pua_since.specs.Watched.{IsAbout, IsAskedOnce, IsBegunIn};
 ghost use Rattle.pua_since.specs.Watched.{IsSameTopic, IsToldOf, is_same_told, kept_in};
 
-use crate::concerns::names_part;
 use crate::touched::Touched;
-use crate::{marks, plain};
 use pua_calls::Perms;
 use pua_policy::Place;
 use pua_script::{Action, World};
-use pua_tree::{FileTree, Name, OutOfMemory};
+use pua_tree::{FileTree, OutOfMemory};
 use pua_why::{Key, checked};
 use std::alloc::Global;
 
@@ -38,21 +36,15 @@ pub(crate) enum Told {
 /// A question, what it was told last, and since which line it is told that.
 #[derive(Drop)]
 pub(crate) struct Watch<'a> {
-    /// The process that it is about, where the answer is wanted.
+    /// The process that it is about, where the answer is wanted. In the world that is asked that is
+    /// whoever the process was there: itself, or a forebear.
     process: u32,
-    /// Which process that was in the world that is asked: the same, or a forebear.
-    asker: u32,
     question: Question<'a>,
     /// Behind how many lines the answer is wanted at last.
     last: usize,
     told: Told,
     /// The line since which that is told; None where it was told from the start.
     line: Option<usize>,
-    /// Whether its checks looked at no more than what its paths named without a link, when it was
-    /// asked last.
-    plain: bool,
-    /// The marks of the components of its paths.
-    marks: u64,
 }
 
 impl<'a> Watch<'a> {
@@ -68,19 +60,14 @@ impl<'a> Watch<'a> {
     ) -> Result<Watch<'a>, OutOfMemory>
         ensures begun { IfOk result (λ watch. (w : Replayed) → StandsForWorld world.now w →
             IsBegunIn world.now.table w asker watch) }
-        ensures about { IfOk result (IsAbout process asker question.entry last) }
+        ensures about { IfOk result (IsAbout process question.entry last) }
     {
-        let told = told_of(alloc, world, asker, question)?;
-        let plain = is_plain(alloc, world, asker, question)?;
         Ok(Watch {
             process,
-            asker,
             question,
             last,
-            told,
+            told: told_of(alloc, world, asker, question)?,
             line: None,
-            plain,
-            marks: marks_of(question),
         })
     }
 
@@ -105,65 +92,42 @@ impl<'a> Watch<'a> {
         self.last = self.last.max(last);
     }
 
-    /// Has this process asked from now on.
-    pub(crate) fn hand_to(&mut self, asker: u32)
-        ensures { self.new ≡ record self.old { asker = asker } }
-    {
-        self.asker = asker;
-    }
-
     /// Asks a world again, behind this line, if the answer is still wanted there and what the line
-    /// touched may concern it. The only error is that a growth was refused.
+    /// touched may concern whoever its process was there. The only error is that a growth was refused.
     pub(crate) fn ask<T: FileTree>(
         &mut self,
         alloc: Global,
         world: &World<T>,
-        touched: &Touched,
+        asker: u32,
+        touched: Touched,
         line: usize,
     ) -> Result<(), OutOfMemory>
         ensures asked { OnOk result ((w : Replayed) → StandsForWorld world.now w →
-            IsAskedOnce world.now.table w touched.now line self.old self.new) }
+            IsAskedOnce world.now.table w asker touched line self.old self.new) }
         ensures topic { IsSameTopic self.old self.new }
     {
         if self.last < line {
             return Ok(());
         }
-        if !self.is_concerned(touched) {
+        if !is_concerned(touched, asker) {
             return Ok(());
         }
-        let told = told_of(alloc, world, self.asker, self.question)?;
-        self.plain = is_plain(alloc, world, self.asker, self.question)?;
+        let told = told_of(alloc, world, asker, self.question)?;
         if !told.is_same(&self.told) {
             self.line = Some(line);
         }
         self.told = told;
         Ok(())
     }
-
-    /// Whether what was touched may change what is told of it.
-    fn is_concerned(&self, touched: &Touched) -> bool
-        ensures { result ≡ is_concerned touched.now self.now }
-    {
-        match touched {
-            Touched::Nothing => false,
-            Touched::Row(name, mark) => {
-                !self.plain || marks::is_marked(self.marks, *mark) && self.question.is_named(name)
-            }
-            Touched::Process(process) => self.asker == *process,
-            Touched::Anything => true,
-        }
-    }
 }
 
-impl Question<'_> {
-    /// Whether this name is a component of its paths.
-    fn is_named(self, name: &Name) -> bool
-        ensures { result ≡ is_named name.now self.entry }
-    {
-        match self {
-            Question::Request(action) => names_part(name, action),
-            Question::Veil(_) => false,
-        }
+/// Whether what was touched may change what is told of a question that this process asks.
+fn is_concerned(touched: Touched, asker: u32) -> bool
+    ensures { result ≡ is_concerned touched asker }
+{
+    match touched {
+        Touched::Process(process) => asker == process,
+        Touched::Anything => true,
     }
 }
 
@@ -196,33 +160,6 @@ fn told_of<T: FileTree>(
             Err(error) => Err(error),
         },
         Question::Veil(place) => Ok(Told::Veil(kept_by(world, process, place))),
-    }
-}
-
-/// Whether the paths of a question follow no link, if this process asks it now, and its checks look
-/// at no more than these lead through. The only error is that a growth was refused.
-fn is_plain<T: FileTree>(
-    alloc: Global,
-    world: &World<T>,
-    process: u32,
-    question: Question<'_>,
-) -> Result<bool, OutOfMemory>
-    ensures { IfOk result (λ plain. (w : Replayed) → StandsForWorld world.now w → IsTrue plain →
-        IsPlain world.now.table w process question.entry) }
-{
-    match question {
-        Question::Request(action) => plain::is_plain(alloc, world, process, action),
-        Question::Veil(_) => Ok(true),
-    }
-}
-
-/// The marks of the components of a question's paths.
-fn marks_of(question: Question<'_>) -> u64
-    ensures { AreMarked result question.entry }
-{
-    match question {
-        Question::Request(action) => marks::marks_of(action),
-        Question::Veil(_) => 0,
     }
 }
 

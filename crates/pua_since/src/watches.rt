@@ -7,9 +7,9 @@ ghost use Rattle.pua_script.specs.Requests.{Asked};
 ghost use Rattle.pua_script.specs.Worlds.{StandsForWorld};
 ghost use Rattle.pua_since.specs.Concerns.{TouchesOnly};
 ghost use Rattle.pua_since.specs.declared.watch.Question.{Question as Asking};
-ghost use Rattle.pua_since.specs.Watched.{AreHanded, AreWatched, IsKeptThrough, IsTopicAt};
+ghost use Rattle.pua_since.specs.Watched.{AreServed, AreWatched, IsKeptThrough, IsTopicAt};
 ghost use Rattle.pua_since.specs.Watched.{forebear_by, fork_seen, fork_told, forks_done};
-ghost use Rattle.pua_since.specs.Watched.{forks_left, handed_by, line_at, made_by};
+ghost use Rattle.pua_since.specs.Watched.{forks_left, line_at, made_by};
 
 use crate::change::{has_changed, has_forked};
 use crate::touched::{Touched, touched_by};
@@ -119,16 +119,14 @@ impl<'a> Watches<'a> {
             × (world.new.table ≡ world.old.table)) }
         ensures kept { IsKeptThrough self.old.watches.items self.new.watches.items }
     {
-        world.tree().known();
-        let touched = touched_by(world, request, answer);
         let Ok(_) = world.apply(request) else {
             return Err(OutOfMemory);
         };
         if !has_changed(request.action(), answer) {
             return Ok(());
         }
-        self.hand_on(request.action(), answer);
-        self.ask_again(alloc, world, &touched, line)
+        self.pass_fork(request.action(), answer);
+        self.ask_again(alloc, world, touched_by(request, answer), line)
     }
 
     /// Serves all requests of the replay, which were answered so.
@@ -155,29 +153,18 @@ impl<'a> Watches<'a> {
         Ok(())
     }
 
-    /// Has each question asked behind this action, which was answered so, by who it is about there.
-    fn hand_on(&mut self, action: &Action, answer: Answer)
-        ensures handed { (table : CallTable) (w : Replayed) (done : List Asked) (ask : Asked)
+    /// Passes the fork of an action that was answered so, if it made a process: it is no more to be
+    /// done.
+    fn pass_fork(&mut self, action: &Action, answer: Answer)
+        ensures passed { (table : CallTable) (w : Replayed) (done : List Asked) (ask : Asked)
             (left : List Asked) → ask.action ≡ action.now →
             answer ≡ (apply table (world_after table w done) ask).0 →
             AreWatched table w done (ask ∷ left) self.old →
-            AreHanded table w done ask left self.new }
-        ensures kept { IsKeptThrough self.old.watches.items self.new.watches.items }
+            AreServed table w done ask left self.new }
+        ensures watches { self.new.watches ≡ self.old.watches }
     {
         if has_forked(action, answer) {
             let _ = self.forks.pop();
-            self.find_askers();
-        }
-    }
-
-    /// Finds who asks each question in the world behind the forks that were done.
-    fn find_askers(&mut self)
-        ensures askers { self.new.watches.items
-            ≡ map (handed_by (forks_left self.old)) self.old.watches.items }
-        ensures forks { self.new.forks ≡ self.old.forks }
-    {
-        for watch in self.watches.iter_mut() {
-            watch.hand_to(forebear(&self.forks, watch.process()));
         }
     }
 
@@ -187,20 +174,21 @@ impl<'a> Watches<'a> {
         &mut self,
         alloc: Global,
         world: &World<T>,
-        touched: &Touched,
+        touched: Touched,
         line: usize,
     ) -> Result<(), OutOfMemory>
         ensures asked { OnOk result ((w : Replayed) (done : List Asked) (ask : Asked)
             (left : List Asked) →
             StandsForWorld world.now
             (apply world.now.table (world_after world.now.table w done) ask).1 →
-            TouchesOnly world.now.table (world_after world.now.table w done) ask touched.now →
-            line ≡ length done + 1 → AreHanded world.now.table w done ask left self.old →
+            TouchesOnly world.now.table (world_after world.now.table w done) ask touched →
+            line ≡ length done + 1 → AreServed world.now.table w done ask left self.old →
             AreWatched world.now.table w (done ++ ask ∷ []) left self.new) }
         ensures kept { IsKeptThrough self.old.watches.items self.new.watches.items }
     {
         for watch in self.watches.iter_mut() {
-            watch.ask(alloc, world, touched, line)?;
+            let asker = forebear(&self.forks, watch.process());
+            watch.ask(alloc, world, asker, touched, line)?;
         }
         Ok(())
     }

@@ -1,4 +1,4 @@
-use Rattle.pua_since.proofs.Common.{◌∙◌, sym, subst, WellFormed}
+use Rattle.pua_since.proofs.Common.{◌∙◌, sym}
 use Rattle.std.proofs.lemmas.Result.{on_ok_weaker}
 use Rattle.pua_since.proofs.Handing.{told_stay}
 use Rattle.pua_since.proofs.Serving.{served_watched}
@@ -13,10 +13,9 @@ returns-then-not-has_changed-clause-watched g c = λ w done left stands told num
 pub returns-clause-watched : goal.returns-clause-watched
 returns-clause-watched g c =
     on_ok_weaker c.ask_again.result
-    (served_watched c.args.world.now c.apply.new.self c.args.self.now c.hand_on.new.self c.ask_again.new.self c.args.request.now
+    (served_watched c.args.world.now c.apply.new.self c.args.self.now c.pass_fork.new.self c.ask_again.new.self c.args.request.now
     c.args.answer
-    c.in-Ok.field-0 c.touched_by-touched.result c.args.line c.touched_by-touched.ensures (subst WellFormed c.tree.ensures c.known.ensures)
-    c.in-Ok.ensures.tree c.in-Ok.ensures.served
-    (λ table w done left told watched. c.hand_on.ensures.handed table w done c.args.request.now left
+    c.in-Ok.field-0 c.touched_by.result c.args.line c.touched_by.ensures c.in-Ok.ensures.served
+    (λ table w done left told watched. c.pass_fork.ensures.passed table w done c.args.request.now left
     (sym c.action-2.ensures.action) told watched))
     c.ask_again.ensures.asked
