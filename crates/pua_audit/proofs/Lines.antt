@@ -50,10 +50,6 @@ pub cons-nil : (a : List ℕ) → cons a [] ≡ []
 unfolding cons
 cons-nil a = refl
 
-pub cons-append : (a : List ℕ) (ps qs : List Pair) → cons a (ps ++ qs) ≡ cons a ps ++ cons a qs
-unfolding cons
-cons-append a ps qs = map-append (longer a) ps qs
-
 pub filter-cons : (test : Pair → Bool) (a : List ℕ) (ps : List Pair) → filter test (cons a ps) ≡ cons a (filter (λ p. test (longer a p)) ps)
 unfolding cons
 filter-cons test a ps = filter-map test (longer a) ps
