@@ -9,8 +9,7 @@ use Rattle.pua_steps.proofs.ForCallers.{filter-none}
 -- lists
 
 pub flat_map-cong : {A B : Type 0} (f g : A → List B) → ((x : A) → f x ≡ g x) → (xs : List A) → flat_map f xs ≡ flat_map g xs
-flat_map-cong f g same [] = refl
-flat_map-cong f g same (x ∷ xs) = ap (λ ys. ys ++ flat_map f xs) (same x) ∙ ap (λ ys. g x ++ ys) (flat_map-cong f g same xs)
+flat_map-cong f g same xs = λ i. flat_map (λ x. same x i) xs
 
 flat_map-nil : {A B : Type 0} (xs : List A) → flat_map {A = B} (λ _. []) xs ≡ []
 flat_map-nil [] = refl

@@ -5,12 +5,13 @@ use Rattle.pua_audit.proofs.Common.{cases_lt, eq-eqb, ne_eqb, le-leb, lt-leb, Ca
 use Rattle.pua_audit.proofs.Common.{JudgeState, Stage, shorter, and-false, list_any, same_stage}
 use Rattle.std.proofs.lemmas.Bool.{lt-ltb, le-ltb}
 use Rattle.std.proofs.lemmas.List.Folds.{list_any-append}
-use Rattle.std.proofs.Math.Bool.{or-false}
+use Rattle.std.proofs.Math.Bool.{and-true, or-false}
 use Rattle.pua_audit.proofs.Lines as lines
 use Rattle.pua_audit.proofs.Stages.{on_state, leads, staged, stage_after, stages_of, is_staged, reached_from, reached_none, is_state}
 use Rattle.pua_audit.proofs.Stages.{is_among, one_state, state_of, StagesLive}
-use Rattle.pua_audit.proofs.Tests.{any-and, any-both, any_flat, any_mapped, any-none, any-or, any-same, some}
+use Rattle.pua_audit.proofs.Tests.{any-and, any-both, any_mapped, any-none, any-or, any-same, some}
 use Rattle.pua_audit.proofs.Unique.{any_kept, leads_to}
+use Rattle.pua_steps.proofs.ForCallers.{any_flat}
 
 module _ (w : Judge) (letters : List (List ℕ)) (y : Stage) where
   -- whether a word that the pair's word properly extends leads to the stage
@@ -106,7 +107,7 @@ module _ (w : Judge) (letters : List (List ℕ)) (y : Stage) where
       (b && some (lines.rows w letters l s letters)) ≡ (lives && (b || false))) [
         | true ↦ λ same.
             let less : l ≡ y.left - 1 = omega (arith, e) in
-            (λ i. some (lines.rows w letters (less i) (sym (one_state (state_of y) s same) i) letters)) ∙ sym (and_true lives)
+            (λ i. some (lines.rows w letters (less i) (sym (one_state (state_of y) s same) i) letters)) ∙ sym (and-true lives)
         | false ↦ λ _. sym (and-false lives)
       ] refl
     where
@@ -114,10 +115,6 @@ module _ (w : Judge) (letters : List (List ℕ)) (y : Stage) where
       drop_true true true c = refl
       drop_true true false c = refl
       drop_true false b c = refl
-
-      and_true : (b : Bool) → (b && true) ≡ b
-      and_true true = refl
-      and_true false = refl
 
   not_here : (l : ℕ) (s : JudgeState) → (y.left ≡ suc l → ⊥) → same_stage y (staged (suc l) s) ≡ false
   not_here l s apart = ap (λ b. (y.dir == s.dir) && ((y.links == s.used) && b)) (ne_eqb y.left (suc l) apart) ∙

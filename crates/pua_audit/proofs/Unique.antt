@@ -9,7 +9,7 @@ use Rattle.std.specs.Bool.{Decides}
 use Rattle.pua_audit.specs.Laws.{LiveStatesLive}
 use Rattle.pua_audit.specs.Live.{IsLive}
 use Rattle.pua_audit.proofs.Stages.{is_staged}
-use Rattle.pua_audit.proofs.Tests.{any_flat, passes, passing}
+use Rattle.pua_steps.proofs.ForCallers.{any_flat, passes, passing}
 
 pub one_stage : (a b : Stage) → same_stage a b ≡ true → a ≡ b
 one_stage a b e =
