@@ -1,10 +1,10 @@
 -- The reach, cut by places.
-use Rattle.pua_audit.proofs.Common.{ℕ, zero, suc, ◌≡◌, List, [], ◌∷◌, ◌++◌, Option, Some, None, Bool, true, false, cond, refl, ap, sym, ◌∙◌}
+use Rattle.pua_audit.proofs.Common.{ℕ, zero, suc, ◌≡◌, List, [], ◌∷◌, ◌++◌, Option, Some, None, Bool, refl, ap, sym, ◌∙◌}
 use Rattle.pua_audit.proofs.Common.{map, map-append, flat_map-append, flat_map, filter, WordEnd, Start, Below, Judge, calls, Call}
 use Rattle.pua_audit.proofs.Common.{JudgeState, Word, Pair, words, pairs, reach_along, allowed_at}
 use Rattle.std.proofs.lemmas.List.Elements.{filter-append}
 use Rattle.pua_audit.specs.Judge.{if_some, is_allowed_along}
-use Rattle.pua_steps.proofs.ForCallers.{filter-none}
+use Rattle.pua_steps.proofs.ForCallers.{filter-map, filter-none}
 
 -- lists
 
@@ -24,15 +24,6 @@ pub filter-flat_map : {A B : Type 0} (test : B → Bool) (g : A → List B) (xs 
     filter test (flat_map g xs) ≡ flat_map (λ x. filter test (g x)) xs
 filter-flat_map test g [] = refl
 filter-flat_map test g (x ∷ xs) = filter-append test (g x) (flat_map g xs) ∙ ap (λ ys. filter test (g x) ++ ys) (filter-flat_map test g xs)
-
-pub filter-map : {A B : Type 0} (test : B → Bool) (f : A → B) (xs : List A) → filter test (map f xs) ≡ map f (filter (λ x. test (f x)) xs)
-filter-map test f [] = refl
-filter-map test f (x ∷ xs) =
-    elim (test (f x)) as (λ b. cond b (f x ∷ filter test (map f xs)) (filter test (map f xs))
-    ≡ map f (cond b (x ∷ filter (λ x. test (f x)) xs) (filter (λ x. test (f x)) xs))) [
-      | true ↦ ap (λ ys. f x ∷ ys) (filter-map test f xs)
-      | false ↦ filter-map test f xs
-    ]
 
 -- pairs behind a letter
 

@@ -1,10 +1,10 @@
 -- Lemmas of lists, of no one subject.
 use Rattle.pua_steps.proofs.Common.{◌≡◌, zero, suc, Bool, true, false, cond, ◌||◌, List, [], ◌∷◌, ◌++◌, refl, ap, ◌∙◌, arith, flat_map}
-use Rattle.pua_steps.proofs.Common.{AllByRecursion}
+use Rattle.pua_steps.proofs.Common.{ℕ, ◌<◌, map, length, get_or, AllByRecursion}
 use Rattle.std.specs.List.{filter, list_any}
 use Rattle.std.specs.Prelude.{Contains}
 use Rattle.std.proofs.lemmas.Bool.{or_left, or_right}
-use Rattle.std.proofs.lemmas.List.Elements.{Contains-append_right}
+use Rattle.std.proofs.lemmas.List.Elements.{All-from_recursion, All-get_or, Contains-append_right}
 use Rattle.std.proofs.lemmas.List.Folds.{list_any-append}
 
 -- what follows from a fact of each element
@@ -37,6 +37,18 @@ all_front P (y ∷ xs) x all = let more = all_front P xs x all.1 in ((all.0, mor
 pub all_pushed : {A : Type 0} (P : A → Type 0) (xs : List A) (x : A) → AllByRecursion P xs → P x → AllByRecursion P (xs ++ x ∷ [])
 all_pushed P [] x all one = (one, tt)
 all_pushed P (y ∷ xs) x all one = (all.0, all_pushed P xs x all.1 one)
+
+pub all_at_index : {A : Type 0} (P : A → Type 0) (xs : List A) (d : A) → AllByRecursion P xs → (i : ℕ) → i < length xs → P (get_or xs i d)
+all_at_index P xs d all i h = All-get_or P xs i d h (All-from_recursion P xs all)
+
+pub filter-map : {A B : Type 0} (test : B → Bool) (f : A → B) (xs : List A) → filter test (map f xs) ≡ map f (filter (λ x. test (f x)) xs)
+filter-map test f [] = refl
+filter-map test f (x ∷ xs) =
+    elim (test (f x)) as (λ b. cond b (f x ∷ filter test (map f xs)) (filter test (map f xs))
+    ≡ map f (cond b (x ∷ filter (λ x. test (f x)) xs) (filter (λ x. test (f x)) xs))) [
+      | true ↦ ap (λ ys. f x ∷ ys) (filter-map test f xs)
+      | false ↦ filter-map test f xs
+    ]
 
 -- a test that nothing passes
 pub filter-none : {A : Type 0} (xs : List A) → filter (λ _. false) xs ≡ []

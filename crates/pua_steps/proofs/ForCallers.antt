@@ -7,4 +7,5 @@ pub use Rattle.pua_steps.proofs.Stepping.{all_reached}
 -- sums of the same
 pub use Rattle.pua_steps.proofs.Counting.{total_same}
 -- lemmas of lists
-pub use Rattle.pua_steps.proofs.Base.{all_weaker, all_filtered, all_flat, all_joined, all_front, all_pushed, any_flat, filter-none, passes, passing}
+pub use Rattle.pua_steps.proofs.Base.{all_weaker, all_filtered, all_flat, all_joined, all_front, all_pushed, any_flat, passes, passing}
+pub use Rattle.pua_steps.proofs.Base.{all_at_index, filter-map, filter-none}
