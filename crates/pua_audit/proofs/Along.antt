@@ -16,9 +16,9 @@ use Rattle.pua_policy.specs.History.{working_dir}
 use Rattle.pua_policy.specs.Verdict.{verdict_on, object_named}
 use Rattle.pua_audit.specs.Judge.{base_way, if_some, is_allowed_along}
 use Rattle.pua_audit.proofs.Paths.{IsPiece, IsPath, path_is, length_from_root}
-use Rattle.pua_audit.proofs.Rising.{all_mapped, all_flat, all_of}
+use Rattle.pua_audit.proofs.Rising.{all_mapped, all_of}
 use Rattle.pua_audit.proofs.Fresh.{refused}
-use Rattle.pua_steps.proofs.ForCallers.{all_weaker}
+use Rattle.pua_steps.proofs.ForCallers.{all_flat, all_weaker}
 
 -- one who has ended is allowed nothing
 ended : (t : Tree) (table : CallTable) (h : History) (call : Call) (r : _) → is_ended h ≡ true →

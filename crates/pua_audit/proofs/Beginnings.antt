@@ -1,6 +1,6 @@
 -- What an audit begins with, or the first fault, test by test.
-use Rattle.pua_audit.proofs.Common.{◌≡◌, ℕ, suc, ◌+◌, ◌*◌, ◌≤◌, ◌<◌, List, Bool, length, sym, ap, subst, ◌∙◌, add-one, Result, Ok, Err}
-use Rattle.pua_audit.proofs.Common.{le-leb, lt-leb, ◌>>=◌, Tree, CallTable, History, Scope, candidates_from, longest, Base, AuditFault}
+use Rattle.pua_audit.proofs.Common.{◌≡◌, ℕ, suc, ◌+◌, ◌*◌, ◌≤◌, List, Bool, length, sym, ap, subst, ◌∙◌, add-one, Result, Ok, Err}
+use Rattle.pua_audit.proofs.Common.{le-leb, ◌>>=◌, Tree, CallTable, History, Scope, candidates_from, longest, Base, AuditFault}
 use Rattle.std.specs.Prelude.{Option, nat_le}
 use Rattle.pua_audit.specs.Reach.{alphabet_of}
 use Rattle.pua_audit.specs.Begin.{Beginning, fault_unless, beginning}
@@ -31,10 +31,6 @@ module _ (t : Tree) (table : CallTable) (h : History) (base : Base) (texts : Lis
     bad_candidate fault bad = (λ i. tested (le-leb limit 16 small i) (le-leb (length texts) 1024 few i) (bad i))
 
     module _ (candidates : List (List ℕ)) (read : candidates_from 1 texts ≡ Ok candidates) where
-      pub too_long : 1023 < limit * suc (longest (alphabet_of t candidates)) → beginning t table h base texts limit after ≡ Err TooLong
-      too_long long = (λ i. tested (le-leb limit 16 small i) (le-leb (length texts) 1024 few i) (read i)) ∙
-          ap (ending candidates) (lt-leb _ 1023 long)
-
       pub begun : (letters : List (List ℕ)) → letters ≡ alphabet_of t candidates → limit * suc (longest letters) ≤ 1023 →
           beginning t table h base texts limit after ≡ begun_in (scope_of letters) after
       begun letters same short =

@@ -21,6 +21,7 @@ pub use Rattle.std.specs.Ordering.{eq_by_cmp, is_lt, nat_cmp, ordering_reverse}
 pub use Rattle.std.specs.Prelude.{bytes_eq, Err, filter, filter_map, find, flat_map, IfOk, IfSome, if◌then◌else◌, IsTrue, Ok}
 pub use Rattle.std.specs.Prelude.{option_to_list, Result}
 pub use Rattle.std.specs.Result.{result_ok}
+pub use Rattle.std.specs.Set.{unique_keys}
 pub use Rattle.std.specs.declared.cmp.Ordering.TheVariants.{Equal, Greater, Less}
 pub use Rattle.indexmap.specs.IndexSet.{insert_key}
 pub use Rattle.pua_calls.specs.CallSets.{bit_of, has, keeps_link}
@@ -74,10 +75,10 @@ pub use Rattle.pua_audit.specs.Judge.{base_dir, Below, is_letter, Judge, judge_f
 pub use Rattle.pua_audit.specs.Judge.{WordEnd}
 unfoldable pub use Rattle.pua_audit.specs.Judge.{allowed_at}
 pub use Rattle.pua_audit.specs.Laws.{IsAudited, Rises}
-pub use Rattle.pua_audit.specs.Live.{distinct_stages, live_states, shorter, Stage, stage_after}
+pub use Rattle.pua_audit.specs.Live.{live_states, passed_states, same_stage, shorter, Stage, stage_after}
 unfoldable pub use Rattle.pua_audit.specs.Past.{plain_history}
 pub use Rattle.pua_audit.specs.Reach.{from_root, is_reached, Pair, pair_cmp, pairs, path_of, reach, rest_after, Scope, Word, words}
-pub use Rattle.pua_audit.specs.Ready.{IsSound, judge_in, lent_path, scope_in}
+pub use Rattle.pua_audit.specs.Ready.{judge_in, lent_path, scope_in}
 unfoldable pub use Rattle.pua_audit.specs.Ready.{word_of}
 pub use Rattle.pua_audit.specs.Rows.{AreLiving, AreNumbers, IsEntryFor, IsGrown, IsJudgedRow}
 pub use Rattle.pua_audit.specs.Spots.{AreApartFrom, AreAtLetters, IsApart, IsNamed, IsNowhere, IsUnmarked}

@@ -1,15 +1,16 @@
 -- There are few live states: each is a living directory, a number of links followed, and a number of letters that may still come.
-use Rattle.pua_audit.proofs.Common.{ℕ, zero, suc, ◌*◌, ◌-◌, ◌<◌, ◌≤◌, ◌≡◌, List, [], ◌∷◌, ◌++◌, Option, Some, None, Bool, true, false}
-use Rattle.pua_audit.proofs.Common.{◌||◌, ◌&&◌, not, cond, refl, ap, arith, sym, subst, ◌∙◌, map, length, option_map, inl, inr, cases_eq}
-use Rattle.pua_audit.proofs.Common.{or_left, or_right, length-append, nat_cmp-IsAntisymmetric, nat_cmp, IsTrue, flat_map, filter_map}
-use Rattle.pua_audit.proofs.Common.{result_ok, Tree, is_dir, ◌>>=◌, same_Some, steps, part_of, Errno, Part, is_ended, Pair, Scope, reach}
-use Rattle.pua_audit.proofs.Common.{base_dir, IsAudited, Stage, live_states, shorter, stage_after, and-false}
+use Rattle.pua_audit.proofs.Common.{ℕ, suc, ◌*◌, ◌-◌, ◌<◌, ◌≤◌, ◌≡◌, List, [], ◌∷◌, Option, Some, None, true, false}
+use Rattle.pua_audit.proofs.Common.{◌&&◌, not, cond, refl, ap, arith, sym, subst, ◌∙◌, map, length, length-map, option_map, inl, inr, get_or}
+use Rattle.pua_audit.proofs.Common.{and_parts, false≢true, is_lt, nat_cmp-IsAntisymmetric, nat_cmp, nat_eq, ne_eqb, tied_itself, IsTrue, IsDistinct}
+use Rattle.pua_audit.proofs.Common.{AllByRecursion}
+use Rattle.pua_audit.proofs.Common.{result_ok, Tree, is_dir, ◌>>=◌, same_Some, steps, part_of, Errno, Part, is_ended, Scope}
+use Rattle.pua_audit.proofs.Common.{base_dir, IsAudited, Stage, passed_states, and-false}
 use Rattle.std.proofs.Common.{Result, Ok, Err}
 use Rattle.std.proofs.lemmas.Bool.{cases_Bool}
-use Rattle.std.proofs.lemmas.Map.Made.{length-le_from_is_member}
-use Rattle.std.proofs.lemmas.Map.Views.{Contains-from_any}
-use Rattle.std.specs.Cmp.{Equal-is}
-use Rattle.std.specs.FinMap.{find as find_key}
+use Rattle.std.proofs.Math.Nat.{mul_assoc, mul_comm}
+use Rattle.std.specs.Cmp.{Equal-is, nat_cmp_total}
+use Rattle.std.specs.FinMap.{find as find_key, is_sorted}
+use Rattle.std.specs.FinMap.Entries.{below_all}
 use Rattle.std.specs.Ordering.{is_eq}
 use Rattle.std.specs.Prelude.{is_some}
 use Rattle.pua_tree.specs.Tree.{Node, is_dir_kind, node_at}
@@ -19,112 +20,47 @@ use Rattle.pua_path.specs.Resolution.{step}
 use Rattle.pua_path.proofs.ForCallers.{resolutions_fit}
 use Rattle.pua_audit.specs.Laws.{LiveStatesFew}
 use Rattle.pua_audit.specs.Live.{IsLive}
-use Rattle.pua_audit.proofs.DistinctStages.{one_stage, same_is, same_stage_laws, staged_is, stages_distinct}
-use Rattle.pua_audit.proofs.LiveStagesListed.{live_states_live, staged_itself}
+use Rattle.pua_audit.proofs.Cells.{all_staged, counted, IsCell, summed, summed-le}
 use Rattle.pua_audit.proofs.LiveStates.{live_states_count}
-use Rattle.pua_audit.proofs.Stages.{is_stage, is_staged}
+use Rattle.pua_audit.proofs.Made.{distinct_apart}
+use Rattle.pua_audit.proofs.Stages.{is_staged}
+use Rattle.pua_audit.proofs.Unique.{live_if_passed}
 
--- lists of so many
+-- the numbers of nodes
 
-listed : {A : Type 0} → ℕ → (ℕ → A) → List A
-listed zero f = []
-listed (suc n) f = f n ∷ listed n f
+abbrev numbers : List (ℕ × Node) → List ℕ
+numbers ns = map (λ (n : ℕ × Node). n.0) ns
 
-length-listed : {A : Type 0} (n : ℕ) (f : ℕ → A) → length (listed n f) ≡ n
-unfolding listed
-length-listed zero f = refl
-length-listed (suc n) f = ap suc (length-listed n f)
-
-joined : {A : Type 0} → ℕ → (ℕ → List A) → List A
-joined zero f = []
-joined (suc n) f = f n ++ joined n f
-
-length-joined : {A : Type 0} (n k : ℕ) (f : ℕ → List A) → ((i : ℕ) → length (f i) ≡ k) → length (joined n f) ≡ n * k
-unfolding joined
-length-joined zero k f each = omega arith
-length-joined (suc n) k f each = omega (arith, length-append (f n) (joined n f), each n, length-joined n k f each)
-
--- what is in them
-
-staged_left : (y : Stage) (xs ys : List Stage) → is_staged y xs ≡ true → is_staged y (xs ++ ys) ≡ true
-staged_left y [] ys there = absurd cc
-staged_left y (x ∷ xs) ys there = by (is_stage y x) there (staged_left y xs ys)
-  where
-    by : (b : Bool) → (b || is_staged y xs) ≡ true → (is_staged y xs ≡ true → is_staged y (xs ++ ys) ≡ true) →
-        (b || is_staged y (xs ++ ys)) ≡ true
-    by true h more = refl
-    by false h more = more h
-
-staged_right : (y : Stage) (xs ys : List Stage) → is_staged y ys ≡ true → is_staged y (xs ++ ys) ≡ true
-staged_right y [] ys there = there
-staged_right y (x ∷ xs) ys there = or_right (is_stage y x) (is_staged y (xs ++ ys)) (staged_right y xs ys there)
-
-in_listed : (y : Stage) (n : ℕ) (f : ℕ → Stage) (k : ℕ) → k < n → y ≡ f k → is_staged y (listed n f) ≡ true
-unfolding listed
-in_listed y zero f k low is = absurd (omega (arith, low))
-in_listed y (suc n) f k low is =
-    elim (cases_eq k n) [
-      | inl same ↦ or_left (is_stage y (f n)) (is_staged y (listed n f)) (ap (is_stage y) (sym (is ∙ ap f same)) ∙ staged_itself y)
-      | inr apart ↦ or_right (is_stage y (f n)) (is_staged y (listed n f)) (in_listed y n f k (omega (arith, low, apart)) is)
-    ]
-
-in_joined : (y : Stage) (n : ℕ) (f : ℕ → List Stage) (k : ℕ) → k < n → is_staged y (f k) ≡ true → is_staged y (joined n f) ≡ true
-unfolding joined
-in_joined y zero f k low there = absurd (omega (arith, low))
-in_joined y (suc n) f k low there =
-    elim (cases_eq k n) [
-      | inl same ↦ staged_left y (f n) (joined n f) (subst (λ j. is_staged y (f j) ≡ true) same there)
-      | inr apart ↦ staged_right y (f n) (joined n f) (in_joined y n f k (omega (arith, low, apart)) there)
-    ]
-
--- all that could be live: at each node, each number of links and of letters
-
-abbrev all_at : ℕ → ℕ → List Stage
-all_at limit dir = joined 33 (λ links. listed (suc limit) (λ left. record { dir = dir; links = links; left = left }))
-
-all_in : ℕ → List (ℕ × Node) → List Stage
-all_in limit [] = []
-all_in limit (n ∷ ns) = all_at limit n.0 ++ all_in limit ns
-
-length-all_at : (limit dir : ℕ) → length (all_at limit dir) ≡ 33 * suc limit
-length-all_at limit dir =
-    length-joined 33 (suc limit) (λ links. listed (suc limit) (λ left. record { dir = dir; links = links; left = left }))
-    (λ links. length-listed (suc limit) (λ left. record { dir = dir; links = links; left = left }))
-
-length-all_in : (limit : ℕ) (ns : List (ℕ × Node)) → length (all_in limit ns) ≡ 33 * (length ns * suc limit)
-unfolding all_in
-length-all_in limit [] = omega arith
-length-all_in limit (n ∷ ns) = omega (
-  arith,
-  length-append (all_at limit n.0) (all_in limit ns),
-  length-all_at limit n.0,
-  length-all_in limit ns,
-)
-
-in_all : (y : Stage) (limit : ℕ) (ns : List (ℕ × Node)) → is_some (find_key nat_cmp y.dir ns) ≡ true → y.links < 33 → y.left < suc limit →
-    is_staged y (all_in limit ns) ≡ true
-unfolding all_in
-in_all y limit [] found links left = absurd cc
-in_all y limit (n ∷ ns) found links left =
-    elim (is_eq (nat_cmp y.dir n.0)) as (λ b. is_eq (nat_cmp y.dir n.0) ≡ b →
-    is_some (cond b (Some n.1) (find_key nat_cmp y.dir ns)) ≡ true → is_staged y (all_in limit (n ∷ ns)) ≡ true) [
-      | true ↦ λ same there.
-          let key : y.dir ≡ n.0 = nat_cmp-IsAntisymmetric y.dir n.0 ((Equal-is (nat_cmp y.dir n.0)).0 same) in
-          staged_left y (all_at limit n.0) (all_in limit ns)
-          (in_joined y 33 (λ links. listed (suc limit) (λ left. record { dir = n.0; links = links; left = left })) y.links links
-          (in_listed y (suc limit) (λ left. record { dir = n.0; links = y.links; left = left }) y.left left
-          (λ i. record { dir = key i; links = y.links; left = y.left })))
-      | false ↦ λ other there. staged_right y (all_at limit n.0) (all_in limit ns) (in_all y limit ns there links left)
+place_of : (d : ℕ) (ns : List (ℕ × Node)) → is_some (find_key nat_cmp d ns) ≡ true → (k : ℕ) × (k < length ns) × (d ≡ get_or (numbers ns) k 0)
+place_of d [] found = absurd cc
+place_of d (n ∷ ns) found =
+    elim (is_eq (nat_cmp d n.0)) as (λ b. is_eq (nat_cmp d n.0) ≡ b → is_some (cond b (Some n.1) (find_key nat_cmp d ns)) ≡ true →
+    (k : ℕ) × (k < suc (length ns)) × (d ≡ get_or (numbers (n ∷ ns)) k 0)) [
+      | true ↦ λ same _. (0, omega arith, nat_cmp-IsAntisymmetric d n.0 ((Equal-is (nat_cmp d n.0)).0 same))
+      | false ↦ λ _ there. let at = place_of d ns there in (suc at.0, omega (arith, at.1), at.2)
     ] refl found
 
--- what is live is one of them
+keys_after : (d : ℕ) (ns : List (ℕ × Node)) → below_all nat_cmp d ns ≡ true → AllByRecursion (λ e. nat_eq d e ≡ false) (numbers ns)
+keys_after d [] less = tt
+keys_after d (n ∷ ns) less =
+    let both = and_parts (is_lt (nat_cmp d n.0)) (below_all nat_cmp d ns) less in
+    (ne_eqb d n.0 (λ same. false≢true (sym (ap is_lt (tied_itself nat_cmp_total d)) ∙ ap (λ k. is_lt (nat_cmp d k)) same ∙ both.0)), keys_after d ns both.1)
 
-dir_found : (t : Tree) (d : ℕ) → IsTrue (is_dir t d) → is_some (node_at t d) ≡ true
-dir_found t d lives = by (node_at t d) lives
+keys_distinct : (ns : List (ℕ × Node)) → is_sorted nat_cmp ns ≡ true → IsDistinct nat_eq (numbers ns)
+unfolding IsDistinct
+keys_distinct [] sorted = tt
+keys_distinct (n ∷ ns) sorted =
+    let both = and_parts (below_all nat_cmp n.0 ns) (is_sorted nat_cmp ns) sorted in (keys_after n.0 ns both.0, keys_distinct ns both.1)
+
+-- what is live is at one of them
+
+place_found : (t : Tree) (d : ℕ) → IsTrue (is_dir t d) → (k : ℕ) × (k < length t.nodes) × (d ≡ get_or (numbers t.nodes) k 0)
+place_found t d lives = by (node_at t d) refl lives
   where
-    by : (o : Option Node) → IsTrue (is_dir_kind (option_map (λ n. n.kind) o)) → is_some o ≡ true
-    by None h = absurd cc
-    by (Some n) h = refl
+    by : (o : Option Node) → node_at t d ≡ o → IsTrue (is_dir_kind (option_map (λ n. n.kind) o)) →
+        (k : ℕ) × (k < length t.nodes) × (d ≡ get_or (numbers t.nodes) k 0)
+    by None e h = absurd cc
+    by (Some n) e h = place_of d t.nodes (ap is_some e)
 
 steps_fit : (t : Tree) → ResolutionFits t → (parts : List Part) (at end : ℕ × ℕ) → IsTrue (is_dir t at.0) → at.1 ≤ 32 →
     steps t parts at ≡ Ok end → IsTrue (is_dir t end.0) × (end.1 ≤ 32)
@@ -157,19 +93,34 @@ live_fits s is lives y (pair, word, there, front, leads) = by (steps s.tree (map
         )
     by (Err errno) stands e = absurd cc
 
+at_cell : (s : Scope) (y : Stage) → IsAmong s y → IsCell (numbers s.tree.nodes) (suc s.limit) s.limit 33 y
+at_cell s y is =
+    let at = place_found s.tree y.dir is.0 in record {
+      before = s.limit - y.left;
+      place = at.0;
+      low = omega arith;
+      there = omega (arith, at.1, length-map s.tree.nodes (λ (n : ℕ × Node). n.0));
+      few = is.1.0;
+      dir = at.2;
+      left = omega (arith, is.1.1);
+    }
+
+ordered : (layers : ℕ) (ns : List (ℕ × Node)) → layers * (length (numbers ns) * 33) ≡ 33 * (length ns * layers)
+ordered layers ns =
+    ap (λ n. layers * (n * 33)) (length-map ns (λ (n : ℕ × Node). n.0)) ∙ mul_comm layers (length ns * 33) ∙
+    ap (λ m. m * layers) (mul_comm (length ns) 33) ∙ mul_assoc 33 (length ns) layers
+
 pub few_states : LiveStatesFew
 few_states s is =
     elim (cases_Bool (is_dir s.tree (base_dir s.base s.history))) [
       | inl lives ↦
-          let all : List Stage = all_in s.limit s.tree.nodes in
-          let few = length-le_from_is_member same_stage_laws (live_states s) all
-          (stages_distinct (filter_map (stage_after s) (flat_map (λ (p : Pair). shorter p.0) (reach s))))
-          (λ q there.
-          let fit = live_fits s is lives q
-          (live_states_live.none_else s q (Contains-from_any (λ a b e. one_stage a b (sym (same_is a b) ∙ e)) q (live_states s) there))
-          in
-          staged_is q all ∙ in_all q s.limit s.tree.nodes (dir_found s.tree q.dir fit.0) fit.1.0 fit.1.1) in
-          omega (arith, few, length-all_in s.limit s.tree.nodes)
+          let ns : List ℕ = numbers s.tree.nodes in
+          let many = counted ns (suc s.limit) s.limit 33 (omega arith) (distinct_apart ns (keys_distinct s.tree.nodes is.tree.nodes_in_order))
+          (passed_states s) (all_staged (IsCell ns (suc s.limit) s.limit 33) (passed_states s)
+          (λ y there. at_cell s y (live_fits s is lives y (live_if_passed s y there)))) in
+          subst (λ n. n ≤ 33 * (length s.tree.nodes * suc s.limit)) (sym many)
+          (subst (λ n. summed ns (suc s.limit) s.limit 33 (λ y. is_staged y (passed_states s)) ≤ n) (ordered (suc s.limit) s.tree.nodes)
+          (summed-le ns (suc s.limit) s.limit 33 (λ y. is_staged y (passed_states s))))
       | inr gone ↦
           let none = live_states_count.none s is (ap (λ b. not (is_ended s.history) && b) gone ∙ and-false (not (is_ended s.history))) in
           omega (arith, none)

@@ -1,8 +1,8 @@
 -- What crates above cite of the proofs of this one, beside the definitions and the laws.
 
 -- lists that rise, and facts of each element
-pub use Rattle.pua_steps.proofs.ForCallers.{all_weaker, all_joined}
-pub use Rattle.pua_audit.proofs.Rising.{all_mapped, all_flat, rises_filtered, rises_joined, rises_mapped, rises_flat, distinct_names_rise}
+pub use Rattle.pua_steps.proofs.ForCallers.{all_flat, all_joined, all_weaker}
+pub use Rattle.pua_audit.proofs.Rising.{all_mapped, rises_filtered, rises_joined, rises_mapped, rises_flat, distinct_names_rise}
 -- words and their paths
 pub use Rattle.pua_audit.proofs.Paths.{IsPiece, letter_is_piece, path_is}
 -- fewer pairs that are allowed make a reach that lies within another

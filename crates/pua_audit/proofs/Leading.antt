@@ -7,7 +7,7 @@ use Rattle.std.proofs.Common.{filter}
 use Rattle.pua_audit.specs.Judge as named
 use Rattle.pua_steps.specs.Reached.{states_after, states_behind}
 use Rattle.pua_audit.specs.Graphs.{MasksList}
-use Rattle.pua_audit.proofs.Stages.{on_state, reached_from}
+use Rattle.pua_audit.proofs.Stages.{on_state, reached_from, reached_none}
 use Rattle.pua_audit.proofs.Refined.{map-flat_map, by_places, from_letters, all_pairs}
 use Rattle.pua_audit.proofs.Lines.{flat_map-flat_map, flat_map-cong}
 
@@ -45,17 +45,12 @@ module _ (g : State → List Visit) where
 
 module _ (w : Judge) (letters : List (List ℕ)) (names : List ℕ) (g : State → List Visit) (stands : (s : State) → IsKnown names s →
     HasJudgedVisits w letters names g (IsKnown names) s) where
-  named_none : (n : ℕ) (x : WordEnd) → w.step x ≡ None → reached_from w letters n x ≡ []
-  unfolding reached_from
-  named_none zero x e = ap option_to_list e
-  named_none (suc n) x e = ap (λ o. on_state o [] (λ s. flat_map (λ a. reached_from w letters n (Below s a)) letters)) e
-
   named_led : (n : ℕ) (x : WordEnd) (o : Option State) → w.step x ≡ option_map (named_in names) o → IfSome o (IsKnown names) →
       map (named_in names) (led g n o) ≡ reached_from w letters n x
   unfolding led reached_from
   named_led zero x None step is = sym (ap option_to_list step)
   named_led zero x (Some s) step is = sym (ap option_to_list step)
-  named_led (suc n) x None step is = sym (named_none (suc n) x step)
+  named_led (suc n) x None step is = sym (reached_none w letters (suc n) x step)
   named_led (suc n) x (Some s) step is =
       let right = stands s is in
       let t : named.JudgeState = named_in names s in
@@ -65,7 +60,7 @@ module _ (w : Judge) (letters : List (List ℕ)) (names : List ℕ) (g : State �
       (all_pairs (λ v. IsRight w letters names s v) (λ v. IfSome v.behind (IsKnown names))
       (λ v. reached_from w letters n (Below t (get_or letters v.letter [])) ≡ map (named_in names) (led g n v.behind))
       (λ v a b. sym (named_led n (Below t (get_or letters v.letter [])) v.behind a.behind b)) (g s) right.right right.closed)
-      (λ i low high gone. named_none n (Below t (get_or letters i [])) (right.missing i high gone).behind))
+      (λ i low high gone. reached_none w letters n (Below t (get_or letters i [])) (right.missing i high gone).behind))
       ∙ sym (by_places (λ a. reached_from w letters n (Below t a)) letters [] 0 refl)
       ∙ sym (ap (λ o. on_state o [] (λ s. flat_map (λ a. reached_from w letters n (Below s a)) letters)) step)
 

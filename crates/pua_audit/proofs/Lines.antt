@@ -1,16 +1,15 @@
 -- The reach, cut by places.
-use Rattle.pua_audit.proofs.Common.{ℕ, zero, suc, ◌≡◌, List, [], ◌∷◌, ◌++◌, Option, Some, None, Bool, true, false, cond, refl, ap, sym, ◌∙◌}
+use Rattle.pua_audit.proofs.Common.{ℕ, zero, suc, ◌≡◌, List, [], ◌∷◌, ◌++◌, Option, Some, None, Bool, refl, ap, sym, ◌∙◌}
 use Rattle.pua_audit.proofs.Common.{map, map-append, flat_map-append, flat_map, filter, WordEnd, Start, Below, Judge, calls, Call}
 use Rattle.pua_audit.proofs.Common.{JudgeState, Word, Pair, words, pairs, reach_along, allowed_at}
 use Rattle.std.proofs.lemmas.List.Elements.{filter-append}
 use Rattle.pua_audit.specs.Judge.{if_some, is_allowed_along}
-use Rattle.pua_steps.proofs.ForCallers.{filter-none}
+use Rattle.pua_steps.proofs.ForCallers.{filter-map, filter-none}
 
 -- lists
 
 pub flat_map-cong : {A B : Type 0} (f g : A → List B) → ((x : A) → f x ≡ g x) → (xs : List A) → flat_map f xs ≡ flat_map g xs
-flat_map-cong f g same [] = refl
-flat_map-cong f g same (x ∷ xs) = ap (λ ys. ys ++ flat_map f xs) (same x) ∙ ap (λ ys. g x ++ ys) (flat_map-cong f g same xs)
+flat_map-cong f g same xs = λ i. flat_map (λ x. same x i) xs
 
 flat_map-nil : {A B : Type 0} (xs : List A) → flat_map {A = B} (λ _. []) xs ≡ []
 flat_map-nil [] = refl
@@ -26,15 +25,6 @@ pub filter-flat_map : {A B : Type 0} (test : B → Bool) (g : A → List B) (xs 
 filter-flat_map test g [] = refl
 filter-flat_map test g (x ∷ xs) = filter-append test (g x) (flat_map g xs) ∙ ap (λ ys. filter test (g x) ++ ys) (filter-flat_map test g xs)
 
-pub filter-map : {A B : Type 0} (test : B → Bool) (f : A → B) (xs : List A) → filter test (map f xs) ≡ map f (filter (λ x. test (f x)) xs)
-filter-map test f [] = refl
-filter-map test f (x ∷ xs) =
-    elim (test (f x)) as (λ b. cond b (f x ∷ filter test (map f xs)) (filter test (map f xs))
-    ≡ map f (cond b (x ∷ filter (λ x. test (f x)) xs) (filter (λ x. test (f x)) xs))) [
-      | true ↦ ap (λ ys. f x ∷ ys) (filter-map test f xs)
-      | false ↦ filter-map test f xs
-    ]
-
 -- pairs behind a letter
 
 abbrev pub longer : List ℕ → Pair → Pair
@@ -49,10 +39,6 @@ alone cs = map (λ (c : Call). ([], c)) cs
 pub cons-nil : (a : List ℕ) → cons a [] ≡ []
 unfolding cons
 cons-nil a = refl
-
-pub cons-append : (a : List ℕ) (ps qs : List Pair) → cons a (ps ++ qs) ≡ cons a ps ++ cons a qs
-unfolding cons
-cons-append a ps qs = map-append (longer a) ps qs
 
 pub filter-cons : (test : Pair → Bool) (a : List ℕ) (ps : List Pair) → filter test (cons a ps) ≡ cons a (filter (λ p. test (longer a p)) ps)
 unfolding cons

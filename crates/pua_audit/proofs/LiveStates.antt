@@ -1,16 +1,15 @@
 -- How many states are live, by the reach and by a graph of steps.
 use Rattle.pua_audit.proofs.Common.{ℕ, ◌-◌, ◌≡◌, List, [], ◌∷◌, Option, None, refl, ap, sym, ◌∙◌, map, length, option_map, flat_map}
-use Rattle.pua_audit.proofs.Common.{filter_map, IsTrue, result_ok, Tree, is_dir, ◌>>=◌, part_of, steps, Errno, Word, Pair, Scope, reach}
+use Rattle.pua_audit.proofs.Common.{filter_map, IsTrue, result_ok, Tree, is_dir, ◌>>=◌, part_of, steps, Errno, Word, Pair, Scope}
 use Rattle.pua_audit.proofs.Common.{Start, Below, base_dir, judge_for, reach_along, state_of, IsAudited, Stage, shorter, stage_after}
-use Rattle.pua_audit.proofs.Common.{distinct_stages, live_states, IsKnown, StandsForJudge, AreApart, live_count, State, Visit}
-use Rattle.std.proofs.Common.{Result, Ok, Err}
+use Rattle.pua_audit.proofs.Common.{live_states, passed_states, same_stage, unique_keys, IsKnown, StandsForJudge, AreApart, live_count, State, Visit}
+use Rattle.std.proofs.Common.{Result, Ok, Err, arith}
 use Rattle.pua_path.specs.Resolution.{step}
 use Rattle.pua_steps.specs.Reached.{is_live}
 use Rattle.pua_audit.specs.Graphs.{LiveStatesCount}
 use Rattle.pua_audit.specs.Judge as named
 use Rattle.pua_audit.proofs.Audited.{reaches_along, closed_reaches}
 use Rattle.pua_audit.proofs.Cells.{all_staged, by_cells, cell, counted, IsCell}
-use Rattle.pua_audit.proofs.DistinctStages.{distinct_has, stages_distinct}
 use Rattle.pua_audit.proofs.LiveCells.{told, told_at, told_by_cells}
 use Rattle.pua_audit.proofs.Stages as along
 use Rattle.pua_audit.proofs.Stages.{is_staged}
@@ -55,13 +54,9 @@ module _ (s : Scope) where
       by (Ok at) = refl
       by (Err errno) = refl
 
-  found : List Stage
-  found = filter_map (stage_after s) (flat_map (λ (p : Pair). shorter p.0) (reach s))
-
-  found_along : IsAudited s → IsTrue (is_dir s.tree (base_dir s.base s.history)) →
-      found ≡ along.stages_of (judge_for s) s.limit Start (reach_along (judge_for s) s.alphabet s.limit)
-  unfolding found
-  found_along is lives =
+  passed_along : IsAudited s → IsTrue (is_dir s.tree (base_dir s.base s.history)) →
+      passed_states s ≡ along.stages_of (judge_for s) s.limit Start (reach_along (judge_for s) s.alphabet s.limit)
+  passed_along is lives =
       ap (λ ps. filter_map (stage_after s) (flat_map (λ (p : Pair). shorter p.0) ps)) (reaches_along s is lives)
       ∙ ap (λ f. filter_map f (flat_map (λ (p : Pair). shorter p.0) (reach_along (judge_for s) s.alphabet s.limit)))
       (λ i word. stage_alike word i)
@@ -69,23 +64,22 @@ module _ (s : Scope) where
   module _ (names : List ℕ) (g : State → List Visit) (set : ℕ) (base : Option State) (is : IsAudited s)
       (lives : IsTrue (is_dir s.tree (base_dir s.base s.history)))
       (stands : StandsForJudge (judge_for s) s.alphabet names g set base (IsKnown names)) where
-    told_live : (y : Stage) → is_staged y (distinct_stages found) ≡ told (judge_for s) s.alphabet names g set base stands s.limit y
-    told_live y = distinct_has y found ∙ ap (is_staged y) (found_along is lives) ∙ stages_live (judge_for s) s.alphabet s.limit y
+    told_live : (y : Stage) → is_staged y (passed_states s) ≡ told (judge_for s) s.alphabet names g set base stands s.limit y
+    told_live y = ap (is_staged y) (passed_along is lives) ∙ stages_live (judge_for s) s.alphabet s.limit y
 
     all_counted : AreApart names → length (live_states s) ≡ live_count (λ _. g) (length names) s.limit base s.limit
-    unfolding found
     all_counted apart =
-        counted names s.limit 33 apart (live_states s) (stages_distinct found)
-        (all_staged (IsCell names s.limit 33) (live_states s)
+        counted names s.limit s.limit 33 (omega arith) apart (passed_states s)
+        (all_staged (IsCell names s.limit s.limit 33) (passed_states s)
         (λ y there. told_at (judge_for s) s.alphabet names g set base stands s.limit y (sym (told_live y) ∙ there)))
-        ∙ by_cells names s.limit 33 (λ y. is_staged y (live_states s))
+        ∙ by_cells names s.limit s.limit 33 (λ y. is_staged y (passed_states s))
         (λ n d u. is_live (λ _. g) s.limit base n (record { dir = d; used = u }))
-        (λ n d u low there few. told_live (cell names s.limit 33 n d u) ∙
+        (λ n d u low there few. told_live (cell names s.limit s.limit 33 n d u) ∙
         told_by_cells (judge_for s) s.alphabet names g set base stands apart s.limit n d u low there few)
 
 pub live_states_count : LiveStatesCount
 live_states_count = record {
   counted = λ s names g set base is lives apart stands. all_counted s names g set base is lives stands apart;
-  none = λ s is none. ap (λ ps. length (distinct_stages (filter_map (stage_after s) (flat_map (λ (p : Pair). shorter p.0) ps))))
+  none = λ s is none. ap (λ ps. length (unique_keys same_stage (filter_map (stage_after s) (flat_map (λ (p : Pair). shorter p.0) ps))))
       (closed_reaches s is none);
 }

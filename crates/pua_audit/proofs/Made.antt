@@ -1,7 +1,7 @@
 -- The rows of all directories are a table.
 use Rattle.pua_audit.proofs.Common.{nat_eq, ℕ, ◌<◌, ◌≤◌, ◌≡◌, List, [], ◌∷◌, ◌++◌, ap, arith, sym, ◌∙◌, map, length, get_or, subst, inl}
 use Rattle.pua_audit.proofs.Common.{inr, IfSome, AllByRecursion, cases_eq, cases_lt, eq-eqb, false≢true, map-append, length-append}
-use Rattle.pua_audit.proofs.Common.{length-map, Judge, AreApart, AreNumbers, IsGrown, IsEntryFor, IsJudgedRow, IsTableOf, Entry, Steps}
+use Rattle.pua_audit.proofs.Common.{length-map, Judge, AreApart, IsDistinct, IsGrown, IsEntryFor, IsJudgedRow, IsTableOf, Entry, Steps}
 use Rattle.std.proofs.lemmas.Map.Keys.{apart_from_distinct}
 use Rattle.std.proofs.Math.ListN.{get_or-append}
 use Rattle.std.proofs.Math.Seq.{get_or-append_seam}
@@ -64,12 +64,12 @@ module _ (w : Judge) (letters : List (List ℕ)) (old new : List ℕ) (rows : Li
   ]
 
 -- numbers of which none is there twice are apart
-pub numbers_apart : (ns : List ℕ) → AreNumbers ns → AreApart ns
-numbers_apart ns is i j low_i low_j same = elim (cases_lt i j) [
-  | inl h ↦ absurd (false≢true (sym (apart_from_distinct nat_eq ns i j 0 is.apart h low_j) ∙ eq-eqb (get_or ns i 0) (get_or ns j 0) same))
+pub distinct_apart : (ns : List ℕ) → IsDistinct nat_eq ns → AreApart ns
+distinct_apart ns is i j low_i low_j same = elim (cases_lt i j) [
+  | inl h ↦ absurd (false≢true (sym (apart_from_distinct nat_eq ns i j 0 is h low_j) ∙ eq-eqb (get_or ns i 0) (get_or ns j 0) same))
   | inr h ↦ elim (cases_eq i j) [
     | inl e ↦ e
-    | inr away ↦ absurd (false≢true (sym (apart_from_distinct nat_eq ns j i 0 is.apart (omega (arith, h, away)) low_i) ∙
+    | inr away ↦ absurd (false≢true (sym (apart_from_distinct nat_eq ns j i 0 is (omega (arith, h, away)) low_i) ∙
         eq-eqb (get_or ns j 0) (get_or ns i 0) (sym same)))
   ]
 ]

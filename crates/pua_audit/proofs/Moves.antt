@@ -1,11 +1,7 @@
 -- Words as places of the alphabet.
-use Rattle.pua_audit.proofs.Common.{ℕ, zero, suc, ◌<◌, ◌≡◌, List, [], ◌∷◌, ◌++◌, arith, length, get_or, map-append, length-map}
-use Rattle.pua_audit.proofs.Common.{AllByRecursion, word_of, get_or_read, subst, sym, ap, ◌∙◌}
-
-pub all_at_index : {A : Type 0} (P : A → Type 0) (xs : List A) (d : A) → AllByRecursion P xs → (i : ℕ) → i < length xs → P (get_or xs i d)
-all_at_index P [] d all i h = absurd (omega (arith, h))
-all_at_index P (x ∷ xs) d all zero h = all.0
-all_at_index P (x ∷ xs) d all (suc i) h = all_at_index P xs d all.1 i (omega (arith, h))
+use Rattle.pua_audit.proofs.Common.{ℕ, ◌<◌, ◌≡◌, List, [], ◌∷◌, ◌++◌, length, get_or, map-append, length-map}
+use Rattle.pua_audit.proofs.Common.{word_of, get_or_read, subst, sym, ap, ◌∙◌}
+pub use Rattle.pua_steps.proofs.ForCallers.{all_at_index}
 
 -- a letter that is read where the letters are lent
 pub letter_read : (letters lent : List (List ℕ)) (i : ℕ) (a : List ℕ) → lent ≡ letters → i < length letters → a ≡ get_or lent i a

@@ -1,7 +1,7 @@
 -- Where words have no letter, the empty one is the only one: its calls are the reach, and no state is live.
 use Rattle.pua_audit.proofs.Common.{ℕ, zero, ◌≡◌, List, [], ◌∷◌, ◌++◌, None, Bool, true, false, cond, refl, ap, sym, subst, arith, ◌∙◌}
 use Rattle.pua_audit.proofs.Common.{map, length, flat_map, filter, filter_map, bit_of, calls, Call, has_call, Judge, Start, Pair, Scope}
-use Rattle.pua_audit.proofs.Common.{allowed_at, calls_of, pairs, reach_along, is_reached, shorter, distinct_stages, stage_after}
+use Rattle.pua_audit.proofs.Common.{allowed_at, calls_of, pairs, reach_along, is_reached, shorter, same_stage, unique_keys, stage_after}
 use Rattle.pua_audit.proofs.Common.{live_states, IsKnown, StandsForJudge, pair_in_numbers, pair_in_letters, State, Visit}
 use Rattle.pua_audit.proofs.Leading.{masks_list}
 use Rattle.pua_audit.proofs.Refined.{graphs_reach}
@@ -53,6 +53,6 @@ none_shorter test (c ∷ cs) =
 
 pub none_live : (s : Scope) → s.limit ≡ 0 → length (live_states s) ≡ 0
 none_live s none =
-    ap (λ n. length (distinct_stages (filter_map (stage_after s) (flat_map (λ (p : Pair). shorter p.0)
+    ap (λ n. length (unique_keys same_stage (filter_map (stage_after s) (flat_map (λ (p : Pair). shorter p.0)
     (filter (is_reached s) (pairs s.alphabet n)))))) none
-    ∙ ap (λ ws. length (distinct_stages (filter_map (stage_after s) ws))) (none_shorter (is_reached s) calls)
+    ∙ ap (λ ws. length (unique_keys same_stage (filter_map (stage_after s) ws))) (none_shorter (is_reached s) calls)

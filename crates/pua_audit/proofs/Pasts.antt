@@ -1,7 +1,7 @@
 -- A process that stands for any history stands for the one that is made of what it keeps, and both reach the same.
 use Rattle.pua_audit.proofs.Common.{◌≡◌, ℕ, List, [], ◌∷◌, ◌++◌, map, Bool, true, false, cond, refl, sym, ap, ◌∙◌, subst, append-nil}
 use Rattle.pua_audit.proofs.Common.{append_assoc, false≢true, map-append, filter_map, list_any, is_lt, Tree, CallTable, History, is_allowed}
-use Rattle.pua_audit.proofs.Common.{Place, flat_map, result_ok, steps, part_of, base_dir, Stage, shorter, distinct_stages, live_states}
+use Rattle.pua_audit.proofs.Common.{Place, flat_map, result_ok, steps, part_of, base_dir, Stage, shorter, same_stage, unique_keys, live_states}
 use Rattle.pua_audit.proofs.Common.{Root, Cwd, plain_history, Pair, Scope, path_of, pair_cmp, pairs, is_reached, reach, rest_after, Base}
 use Rattle.std.proofs.Common.{filter}
 use Rattle.std.specs.Prelude.{Option, Some, None, ◌||◌, unwrap_or}
@@ -174,7 +174,7 @@ module _ (t : Tree) (table : CallTable) (base : Base) (alphabet : List (List ℕ
   -- the stages of words that pairs go on from, from a directory
   abbrev staged : ℕ → List Pair → List Stage
   staged dir ps =
-      distinct_stages (filter_map (λ word. option_map (λ (at : ℕ × ℕ). record { dir = at.0; links = at.1; left = limit - length word })
+      unique_keys same_stage (filter_map (λ word. option_map (λ (at : ℕ × ℕ). record { dir = at.0; links = at.1; left = limit - length word })
       (result_ok (steps t (map part_of word) (dir, 0)))) (flat_map (λ (p : Pair). shorter p.0) ps))
 
   same_base : (p : ProcessState) (h k : History) → StandsFor p h → StandsFor p k → (b : Base) → base_dir b h ≡ base_dir b k

@@ -15,7 +15,6 @@ use Rattle.std.specs.Cmp.{alike_right}
 use Rattle.std.specs.FinMap.{slice_cmp-IsAntisymmetric}
 use Rattle.pua_audit.specs.Alphabets.{IsPlaced}
 use Rattle.pua_audit.proofs.Moves.{all_at_index}
-use Rattle.pua_audit.proofs.Rising.{with_name_rises}
 
 pub turned : (a b : List ℕ) (o : Ordering) → name_cmp a b ≡ o → name_cmp b a ≡ ordering_reverse o
 turned a b o e = nat_list_cmp_total.antisymm b a ∙ ap ordering_reverse e
@@ -113,10 +112,6 @@ module _ (letters : List (List ℕ)) (q : List ℕ) (rises : Rises name_cmp lett
 pub distinct_names-append : (xs ys : List (List ℕ)) → distinct_names (xs ++ ys) ≡ with_names xs (distinct_names ys)
 distinct_names-append [] ys = refl
 distinct_names-append (x ∷ xs) ys = ap (with_name x) (distinct_names-append xs ys)
-
-pub with_names_rise : (names others : List (List ℕ)) → Rises name_cmp others → Rises name_cmp (with_names names others)
-with_names_rise [] others rises = rises
-with_names_rise (name ∷ names) others rises = with_name_rises name (with_names names others) (with_names_rise names others rises)
 
 -- names from the last one on, with one name more
 pub one_more : (names : List (Bor (List ℕ))) (name : Bor (List ℕ)) (old now more : List (List ℕ)) →

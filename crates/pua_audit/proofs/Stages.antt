@@ -1,9 +1,9 @@
 -- What a judge says of the states on the way to pairs, and of the states to which words lead.
-use Rattle.std.specs.Prelude.{◌≡◌, ℕ, zero, suc, ◌-◌, Bool, true, false, ◌&&◌, ◌||◌, ◌==◌, nat_lt, nat_le, List, [], ◌∷◌, length, Option}
-use Rattle.pua_audit.proofs.Common.{option_to_list, flat_map, filter_map, Word, Pair, Judge, WordEnd, Start, Below, reach_along, Stage}
-use Rattle.pua_audit.proofs.Common.{shorter, JudgeState}
-use Rattle.std.specs.Prelude.{Some, None, option_map}
+use Rattle.pua_audit.proofs.Common.{◌≡◌, ℕ, zero, suc, ◌-◌, Bool, true, ◌&&◌, ◌==◌, nat_lt, nat_le, List, [], ◌∷◌, length, Option}
+use Rattle.pua_audit.proofs.Common.{Some, None, ap, option_map, option_to_list, flat_map, filter_map, list_any, and_parts, eqb-true, Word}
+use Rattle.pua_audit.proofs.Common.{Pair, Judge, WordEnd, Start, Below, reach_along, Stage, shorter, JudgeState, same_stage}
 use Rattle.pua_audit.proofs.Lines.{rows}
+use Rattle.pua_audit.proofs.Tests.{some}
 
 abbrev pub on_state : {B : Type 0} → Option JudgeState → B → (JudgeState → B) → B
 on_state None none go = none
@@ -24,28 +24,30 @@ stage_after w limit x word = option_map (staged (limit - length word)) (leads w 
 abbrev pub stages_of : Judge → ℕ → WordEnd → List Pair → List Stage
 stages_of w limit x ps = filter_map (stage_after w limit x) (flat_map (λ (p : Pair). shorter p.0) ps)
 
-abbrev pub is_stage : Stage → Stage → Bool
-is_stage a b = (a.dir == b.dir) && ((a.links == b.links) && (a.left == b.left))
-
 abbrev pub is_staged : Stage → List Stage → Bool
-is_staged y [] = false
-is_staged y (x ∷ xs) = is_stage y x || is_staged y xs
+is_staged y xs = list_any (same_stage y) xs
 
 -- the states to which the words of so many letters lead from a place, one for each word
 unfoldable pub reached_from : Judge → List (List ℕ) → ℕ → WordEnd → List JudgeState
 reached_from w letters zero x = option_to_list (w.step x)
 reached_from w letters (suc n) x = on_state (w.step x) [] (λ s. flat_map (λ a. reached_from w letters n (Below s a)) letters)
 
+-- after a place from which no word goes on there is none
+pub reached_none : (w : Judge) (letters : List (List ℕ)) (n : ℕ) (x : WordEnd) → w.step x ≡ None → reached_from w letters n x ≡ []
+unfolding reached_from
+reached_none w letters zero x e = ap option_to_list e
+reached_none w letters (suc n) x e =
+    ap (λ o. on_state o [] (λ s. flat_map (λ a. reached_from w letters n (Below s a)) letters)) e
+
 abbrev pub is_state : JudgeState → JudgeState → Bool
 is_state a b = (a.dir == b.dir) && (a.used == b.used)
 
-abbrev pub is_among : JudgeState → List JudgeState → Bool
-is_among y [] = false
-is_among y (x ∷ xs) = is_state y x || is_among y xs
+pub one_state : (a b : JudgeState) → is_state a b ≡ true → a ≡ b
+one_state a b e = let both = and_parts (a.dir == b.dir) (a.used == b.used) e in
+    λ i. record { dir = eqb-true a.dir b.dir both.0 i; used = eqb-true a.used b.used both.1 i }
 
-abbrev pub some_pair : List Pair → Bool
-some_pair [] = false
-some_pair (p ∷ ps) = true
+abbrev pub is_among : JudgeState → List JudgeState → Bool
+is_among y xs = list_any (is_state y) xs
 
 abbrev pub state_of : Stage → JudgeState
 state_of y = record { dir = y.dir; used = y.links }
@@ -55,5 +57,5 @@ state_of y = record { dir = y.dir; used = y.links }
 abbrev pub StagesLive : Type 0
 StagesLive = (w : Judge) (letters : List (List ℕ)) (limit : ℕ) (y : Stage) →
     is_staged y (stages_of w limit Start (reach_along w letters limit))
-    ≡ ((nat_lt 0 y.left && nat_le y.left limit) && (some_pair (rows w letters (y.left - 1) (state_of y) letters)
+    ≡ ((nat_lt 0 y.left && nat_le y.left limit) && (some (rows w letters (y.left - 1) (state_of y) letters)
     && is_among (state_of y) (reached_from w letters (limit - y.left) Start)))

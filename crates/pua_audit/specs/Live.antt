@@ -1,10 +1,8 @@
 -- The live states, by the reach alone: where words lead from which words of the reach go on.
-use Rattle.std.specs.Prelude.{◌≡◌, ℕ, ◌-◌, List, [], ◌∷◌, map, length, Option, Some, option_map, flat_map, filter_map, Contains}
+use Rattle.std.specs.Prelude.{◌≡◌, ℕ, ◌-◌, ◌==◌, ◌&&◌, Bool, List, [], ◌∷◌, map, length, Option, Some, option_map, flat_map, filter_map}
+use Rattle.std.specs.Prelude.{Contains}
 use Rattle.std.specs.Result.{result_ok}
-use Rattle.std.specs.declared.cmp.Ordering.{Ordering}
-use Rattle.std.specs.Ordering.{nat_cmp}
-use Rattle.std.specs.Cmp.Lexicographic.{slice_cmp}
-use Rattle.std.specs.FinMap.Entries.{by_order}
+use Rattle.std.specs.Set.{unique_keys}
 use Rattle.pua_path.specs.Paths.{part_of}
 use Rattle.pua_path.specs.Laws.{steps}
 use Rattle.pua_audit.specs.Reach.{Word, Pair, Scope, reach}
@@ -32,18 +30,14 @@ abbrev pub IsLive : Scope → Stage → Type 0
 IsLive s stage = (pair : Pair) × (word : Word) × Contains (reach s) pair × Contains (shorter pair.0) word ×
     (stage_after s word ≡ Some stage)
 
--- by the directory, then by the links, then by the letters
-abbrev pub stage_cmp : Stage → Stage → Ordering
-stage_cmp a b = slice_cmp nat_cmp (a.dir ∷ a.links ∷ a.left ∷ []) (b.dir ∷ b.links ∷ b.left ∷ [])
+-- the states on the way to the pairs of the reach, one for each pair and each word that its word properly extends
+abbrev pub passed_states : Scope → List Stage
+passed_states s = filter_map (stage_after s) (flat_map (λ (p : Pair). shorter p.0) (reach s))
 
-abbrev pub with_stage : Stage → List Stage → List Stage
-with_stage a [] = a ∷ []
-with_stage a (b ∷ stages) = by_order (stage_cmp a b) (a ∷ b ∷ stages) (b ∷ stages) (b ∷ with_stage a stages)
-
-abbrev pub distinct_stages : List Stage → List Stage
-distinct_stages [] = []
-distinct_stages (a ∷ stages) = with_stage a (distinct_stages stages)
+-- the same directory, links and letters
+abbrev pub same_stage : Stage → Stage → Bool
+same_stage a b = (a.dir == b.dir) && ((a.links == b.links) && (a.left == b.left))
 
 -- the live states, each once
 abbrev pub live_states : Scope → List Stage
-live_states s = distinct_stages (filter_map (stage_after s) (flat_map (λ (p : Pair). shorter p.0) (reach s)))
+live_states s = unique_keys same_stage (passed_states s)

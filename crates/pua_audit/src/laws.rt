@@ -41,11 +41,11 @@ pub fn walk_laws()
     ensures closed { ClosedReaches }
 {}
 
-/// The list of the live states has just the states that are live, each once, in order. So what
+/// The list of the live states has just the states that are live, each once. So what
 /// `Audit::table_len` answers is the number of live states. They are at most 33 N (L + 1), over a tree
 /// with N nodes and for words of at most L letters: each is a directory, a number of links from 0 to
 /// 32, and a number of letters from 0 to L.
-#[tactic(auto, using(crate::proofs::LiveStagesListed::live_states_live, crate::proofs::FewStates::few_states))]
+#[tactic(auto, using(crate::proofs::Unique::live_states_live, crate::proofs::FewStates::few_states))]
 pub fn live_law()
     ensures exact { LiveStatesLive }
     ensures few { LiveStatesFew }

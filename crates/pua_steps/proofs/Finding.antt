@@ -7,7 +7,8 @@ use Rattle.pua_steps.proofs.Common.{Entry, Steps, Frame, Span, Lists}
 use Rattle.pua_steps.specs.Table.{with_letter}
 use Rattle.pua_steps.specs.declared.live.Live as table
 use Rattle.pua_steps.proofs.Visits.{some_at, all_at, visit_is}
-use Rattle.pua_steps.proofs.Listing.{all_within, drop-drop, list_rises}
+use Rattle.std.proofs.lemmas.List.{drop-drop}
+use Rattle.pua_steps.proofs.Listing.{all_within, list_rises}
 use Rattle.pua_steps.proofs.Splitting.{Cut, cut_at, split_missed, split_found}
 
 abbrev pub no_entry : Entry
@@ -115,7 +116,7 @@ module _ (t : Steps) (v : table.Live) (limit : ℕ) (ls : Lists) (known : IsTabl
   part_known = all_within (λ e. IsEntry t e) ls.entries.items span.place span.end listed.known
 
   part_from : (place q : ℕ) → place ≡ span.place + q → within ls.entries.items place span.end ≡ drop q part
-  part_from place q e = ap (λ n. within ls.entries.items n span.end) e ∙ drop-drop span.place q (take span.end ls.entries.items)
+  part_from place q e = ap (λ n. within ls.entries.items n span.end) e ∙ sym (drop-drop q span.place (take span.end ls.entries.items))
 
   abbrev frame_at : ℕ → Frame
   frame_at place = record { state = s; next = a + 1; place = place; end = span.end }

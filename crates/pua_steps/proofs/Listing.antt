@@ -6,7 +6,7 @@ use Rattle.pua_steps.proofs.Common.{list_of, within, span_of, IsListAt, AreLists
 use Rattle.pua_steps.proofs.Common.{missing_at, Entry, Steps, Span, Lists}
 use Rattle.std.proofs.Math.ListN.{get_or-append}
 use Rattle.std.proofs.Math.Seq.{drop-append_seam}
-use Rattle.std.proofs.lemmas.List.{take-append-le}
+use Rattle.std.proofs.lemmas.List.{take_all, take-append-le}
 use Rattle.pua_steps.specs.Lists.{IsLayer}
 use Rattle.pua_steps.specs.declared.live.Live as table
 use Rattle.pua_steps.proofs.Filling.{at_end}
@@ -27,10 +27,6 @@ longer_at xs ys d i longer h = ap (λ ws. get_or ws i d) longer.parts ∙ get_or
 pub longer_length : {A : Type 0} (xs ys : List A) → IsLonger A xs ys → length xs ≤ length ys
 longer_length xs ys longer = omega (arith, ap length longer.parts, length-append xs longer.more)
 
-take_all : {A : Type 0} (xs : List A) → take (length xs) xs ≡ xs
-take_all [] = refl
-take_all (x ∷ xs) = ap (λ ys. x ∷ ys) (take_all xs)
-
 -- a list stays where it stands
 
 pub list_stays : (es fs : List Entry) (s : Span) (list : List Entry) → IsLonger Entry es fs → IsListAt es s list → IsListAt fs s list
@@ -44,7 +40,7 @@ pub list_last : (es fs list : List Entry) → fs ≡ es ++ list → IsListAt fs 
 list_last es fs list e = record {
   order = omega (arith, ap length e, length-append es list);
   inside = omega arith;
-  same = ap (drop (length es)) (take_all fs ∙ e) ∙ drop-append_seam es list;
+  same = ap (drop (length es)) (take_all (length fs) fs (omega arith) ∙ e) ∙ drop-append_seam es list;
 }
 
 later : (next more : ℕ) (es : List Entry) → next ≤ more → Rising more es → Rising next es
@@ -147,47 +143,6 @@ module _ (t : Steps) (v : table.Live) (left : ℕ) (a b : Lists) (listed : AreLi
           | inr past ↦ (let e : left ≡ l = omega (arith, past, h) in subst (IsLayer t v b) e layer)
         ];
   }
-
--- a part of a list
-
-minus_none : (j : ℕ) → j - 0 ≡ j
-minus_none j = omega arith
-
-minus_both : (i j : ℕ) → suc j - suc i ≡ j - i
-minus_both i j = omega arith
-
-minus_all : (i : ℕ) → 0 - suc i ≡ 0
-minus_all i = omega arith
-
-take_zero : {A : Type 0} (xs : List A) → ◌≡◌ {A = List A} (take 0 xs) []
-take_zero [] = refl
-take_zero (x ∷ xs) = refl
-
-take_none : {A : Type 0} (n : ℕ) → ◌≡◌ {A = List A} (take n []) []
-take_none zero = refl
-take_none (suc n) = refl
-
-pub part_is : {A : Type 0} (xs : List A) (i j : ℕ) → take (j - i) (drop i xs) ≡ drop i (take j xs)
-part_is xs zero j = ap (λ n. take n xs) (minus_none j)
-part_is [] (suc i) zero = take_none (0 - suc i)
-part_is [] (suc i) (suc j) = take_none (suc j - suc i)
-part_is (x ∷ xs) (suc i) zero = ap (λ n. take n (drop i xs)) (minus_all i) ∙ take_zero (drop i xs)
-part_is (x ∷ xs) (suc i) (suc j) = ap (λ n. take n (drop i xs)) (minus_both i j) ∙ part_is xs i j
-
-plus_both : (i j : ℕ) → suc i + j ≡ suc (i + j)
-plus_both i j = omega arith
-
-zero_plus : (j : ℕ) → 0 + j ≡ j
-zero_plus j = omega arith
-
-drop_none : {A : Type 0} (n : ℕ) → ◌≡◌ {A = List A} (drop n []) []
-drop_none zero = refl
-drop_none (suc n) = refl
-
-pub drop-drop : {A : Type 0} (i j : ℕ) (xs : List A) → drop (i + j) xs ≡ drop j (drop i xs)
-drop-drop zero j xs = ap (λ n. drop n xs) (zero_plus j)
-drop-drop (suc i) j [] = drop_none (suc i + j) ∙ sym (drop_none j)
-drop-drop (suc i) j (x ∷ xs) = ap (λ n. drop n (x ∷ xs)) (plus_both i j) ∙ drop-drop i j xs
 
 -- what is said of all entries
 

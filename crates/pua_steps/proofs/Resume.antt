@@ -1,7 +1,7 @@
 -- What comes after a pair, step by step along its word.
 use Rattle.pua_steps.proofs.Common.{ℕ, zero, suc, ◌+◌, ◌-◌, ◌<◌, ◌≤◌, ◌≡◌, List, [], ◌∷◌, ◌++◌, Option, Some, None, Bool, true, false, cond}
-use Rattle.pua_steps.proofs.Common.{nat_lt, ◌==◌, refl, ap, arith, sym, ◌∙◌, length, filter, append_assoc, append-nil, length-append, map}
-use Rattle.pua_steps.proofs.Common.{get_or, map-append, flat_map, IfSome, AllByRecursion, calls_of, Graph, Word, Pair, cons, alone, below}
+use Rattle.pua_steps.proofs.Common.{nat_lt, ◌==◌, refl, ap, arith, sym, ◌∙◌, length, filter, append_assoc, append-nil, length-append}
+use Rattle.pua_steps.proofs.Common.{map-append, flat_map, IfSome, AllByRecursion, calls_of, Graph, Word, Pair, cons, alone, below}
 use Rattle.pua_steps.proofs.Common.{rows, pairs_after, IsSplit, to_give, TrailEvent, Live, pairs_of, under_all, with_calls, deeper}
 use Rattle.pua_steps.proofs.Common.{branches, pending, ahead, State, Visit}
 use Rattle.std.proofs.lemmas.List.Elements.{filter-append, filter_agree}
@@ -19,14 +19,9 @@ use Rattle.pua_steps.proofs.Turns.{nothing_pending}
 use Rattle.pua_steps.proofs.Sets.{no_calls}
 use Rattle.pua_steps.proofs.Filling.{below_none, below_some}
 use Rattle.pua_steps.proofs.Lines.{Prunes, pairs-append, pairs-under, pairs-with_calls, pairs-deeper, pairs-branches}
-use Rattle.pua_steps.proofs.Base.{filter-none}
+use Rattle.pua_steps.proofs.Base.{filter-map, filter-none}
 
 -- lists
-
-pub all_index : (P : ℕ → Type 0) (xs : List ℕ) → AllByRecursion P xs → (i : ℕ) → i < length xs → P (get_or xs i 0)
-all_index P [] all i h = absurd (omega (arith, h))
-all_index P (x ∷ xs) all zero h = all.0
-all_index P (x ∷ xs) all (suc i) h = all_index P xs all.1 i (omega (arith, h))
 
 filter-all : {A : Type 0} (xs : List A) → filter (λ _. true) xs ≡ xs
 filter-all [] = refl
@@ -34,23 +29,11 @@ filter-all (x ∷ xs) = ap (λ ys. x ∷ ys) (filter-all xs)
 
 filter-cons : (test : Pair → Bool) (a : ℕ) (ps : List Pair) → filter test (cons a ps) ≡ cons a (filter (λ p. test (longer a p)) ps)
 unfolding cons
-filter-cons test a [] = refl
-filter-cons test a (p ∷ ps) =
-    elim (test (longer a p)) as (λ b. cond b (longer a p ∷ filter test (map (longer a) ps)) (filter test (map (longer a) ps))
-    ≡ map (longer a) (cond b (p ∷ filter (λ p. test (longer a p)) ps) (filter (λ p. test (longer a p)) ps))) [
-      | true ↦ ap (λ qs. longer a p ∷ qs) (filter-cons test a ps)
-      | false ↦ filter-cons test a ps
-    ]
+filter-cons test a ps = filter-map test (longer a) ps
 
 filter-alone : (test : Pair → Bool) (cs : List ℕ) → filter test (alone cs) ≡ alone (filter (λ c. test ([], c)) cs)
 unfolding alone
-filter-alone test [] = refl
-filter-alone test (c ∷ cs) =
-    elim (test ([], c)) as (λ b. cond b (([], c) ∷ filter test (map (λ (c : ℕ). ([], c)) cs)) (filter test (map (λ (c : ℕ). ([], c)) cs))
-    ≡ map (λ (c : ℕ). ([], c)) (cond b (c ∷ filter (λ c. test ([], c)) cs) (filter (λ c. test ([], c)) cs))) [
-      | true ↦ ap (λ qs. ([], c) ∷ qs) (filter-alone test cs)
-      | false ↦ filter-alone test cs
-    ]
+filter-alone test cs = filter-map test (λ c. ([], c)) cs
 
 cons-nil : (a : ℕ) → cons a [] ≡ []
 unfolding cons

@@ -1,4 +1,5 @@
 -- Sets of calls as lists.
+use Rattle.std.proofs.Math.Bool.{and-false, and-true}
 use Rattle.pua_steps.proofs.Common.{ℕ, zero, suc, ◌+◌, ◌<◌, ◌≤◌, ◌≡◌, [], ◌∷◌, Bool, true, false, cond, ◌==◌, ◌&&◌, nat_lt, refl, ap, arith}
 use Rattle.pua_steps.proofs.Common.{sym, ◌∙◌, filter, inl, inr, bit_at, range_with_len, cases_eq, cases_lt, lt-ltb, le-ltb, has_call}
 use Rattle.pua_steps.proofs.Common.{calls_of}
@@ -79,14 +80,6 @@ unfolding calls_of
 calls_dropped set rest call low high =
     kept_from (has_call set) (λ other. nat_lt call other) (has_call rest) 0 14 (λ i from to. elim (cases_lt call i) [
       | inl h ↦ ap (λ b. b == 1) (high i (omega (arith, to)) h) ∙ sym (ap (λ b. has_call set i && b) (lt-ltb call i h) ∙
-          and_true (has_call set i))
-      | inr h ↦ ap (λ b. b == 1) (low i h) ∙ sym (ap (λ b. has_call set i && b) (le-ltb call i h) ∙ and_false (has_call set i))
+          and-true (has_call set i))
+      | inr h ↦ ap (λ b. b == 1) (low i h) ∙ sym (ap (λ b. has_call set i && b) (le-ltb call i h) ∙ and-false (has_call set i))
     ])
-  where
-    and_true : (b : Bool) → (b && true) ≡ b
-    and_true true = refl
-    and_true false = refl
-
-    and_false : (b : Bool) → (b && false) ≡ false
-    and_false true = refl
-    and_false false = refl

@@ -6,69 +6,21 @@ use Rattle.pua_steps.proofs.Common.{range_with_len, AllByRecursion, bit_at_above
 use Rattle.pua_steps.proofs.Common.{le-leb, lt-leb, below, some_pair, visit_of, missing_visit, gap, visits_from, graph_of, missing_at}
 use Rattle.pua_steps.proofs.Common.{entries_at, IsState, IsTable, IsSized, states_after, has_state, AreSets, lands_some, lands_from, total}
 use Rattle.pua_steps.proofs.Common.{State, Visit, Entry, Steps, or-false}
-use Rattle.std.specs.Prelude.{◌⊎◌}
-use Rattle.std.specs.List.{cons_option}
-use Rattle.std.proofs.lemmas.List.Elements.{filter_map-append}
+use Rattle.std.specs.List.{cons_option, list_any}
+use Rattle.std.proofs.lemmas.List.Elements.{All-contains, All-from_recursion, filter_map-append}
 use Rattle.std.proofs.lemmas.List.{get_or-set_same, get_or-set_other, length-set}
 use Rattle.std.proofs.lemmas.Nat.Bits.{bit_at-zero}
-use Rattle.std.proofs.lemmas.Bool.{cases_order, or_cases, leb-true}
+use Rattle.std.proofs.lemmas.Bool.{cases_order, or_cases, or_left, or_right, leb-true}
 use Rattle.pua_steps.specs.Reached.{states_behind, is_same, is_among, count, is_live, lands}
 use Rattle.pua_steps.specs.declared.live.Live as table
 use Rattle.pua_steps.proofs.Counting.{same_is, Within, layer_ones, total_same, count_same}
 use Rattle.pua_steps.proofs.Closing.{states_stay, bound_at}
-use Rattle.pua_steps.proofs.Base.{all_joined}
+use Rattle.pua_steps.proofs.Base.{all_flat, all_weaker, any_flat, passes, passing}
 use Rattle.std.proofs.Math.Bool.{and_comm, or_assoc}
 use Rattle.std.specs.Cmp.{both_ways}
 
--- lists with a member that passes
-abbrev any : {A : Type 0} → (A → Bool) → List A → Bool
-any f [] = false
-any f (x ∷ xs) = f x || any f xs
-
-abbrev In : {A : Type 0} → A → List A → Type 0
-In x [] = ⊥
-In x (y ∷ ys) = (x ≡ y) ⊎ In x ys
-
-or_left : (a b : Bool) → a ≡ true → (a || b) ≡ true
-or_left true b e = refl
-or_left false b e = absurd cc
-
-or_right : (a b : Bool) → b ≡ true → (a || b) ≡ true
-or_right true b e = refl
-or_right false b e = e
-
-pick : {A : Type 0} (f : A → Bool) (xs : List A) → any f xs ≡ true → (x : A) × (In x xs × (f x ≡ true))
-pick f [] e = absurd cc
-pick f (x ∷ xs) e = elim (or_cases (f x) (any f xs) e) [
-  | inl h ↦ (x, (inl refl, h))
-  | inr h ↦ let more = pick f xs h in (more.0, (inr more.1.0, more.1.1))
-]
-
-put : {A : Type 0} (f : A → Bool) (xs : List A) (x : A) → In x xs → f x ≡ true → any f xs ≡ true
-put f [] x is e = absurd is
-put f (y ∷ ys) x (inl same) e = or_left (f y) (any f ys) (ap f (sym same) ∙ e)
-put f (y ∷ ys) x (inr more) e = or_right (f y) (any f ys) (put f ys x more e)
-
-in_all : {A : Type 0} (P : A → Type 0) (xs : List A) (x : A) → AllByRecursion P xs → In x xs → P x
-in_all P [] x all is = absurd is
-in_all P (y ∷ ys) x all (inl same) = subst P (sym same) all.0
-in_all P (y ∷ ys) x all (inr more) = in_all P ys x all.1 more
-
 same_self : (s : State) → is_same s s ≡ true
 same_self s = rw (eq-eqb s.dir s.dir refl, eq-eqb s.used s.used refl) refl
-
-among_any : (s : State) (xs : List State) → is_among s xs ≡ any (is_same s) xs
-among_any s [] = refl
-among_any s (x ∷ xs) = ap (λ b. is_same s x || b) (among_any s xs)
-
-among_append : (s : State) (xs ys : List State) → is_among s (xs ++ ys) ≡ (is_among s xs || is_among s ys)
-among_append s [] ys = refl
-among_append s (x ∷ xs) ys = ap (λ b. is_same s x || b) (among_append s xs ys) ∙
-    sym (or_assoc (is_same s x) (is_among s xs) (is_among s ys))
-
-among_flat : (s : State) (f : State → List State) (xs : List State) → is_among s (flat_map f xs) ≡ any (λ x. is_among s (f x)) xs
-among_flat s f [] = refl
-among_flat s f (x ∷ xs) = among_append s (f x) (flat_map f xs) ∙ ap (λ b. is_among s (f x) || b) (among_flat s f xs)
 
 -- an entry leads from a number of links to a directory and a number of links
 abbrev leads : Entry → ℕ → ℕ → ℕ → Bool
@@ -116,7 +68,7 @@ visit_leads used e d u low =
         ap (λ b. (d == to) && b) (sym (ne_eqb u (used + e.links) (λ same. omega (arith, same, over, low))))
 
 visits_lead : (letters m used next : ℕ) (es : List Entry) (d u : ℕ) → u ≤ 32 →
-    is_among (record { dir = d; used = u }) (states_behind (visits_from letters m used next es)) ≡ any (λ e. leads e used d u) es
+    is_among (record { dir = d; used = u }) (states_behind (visits_from letters m used next es)) ≡ list_any (λ e. leads e used d u) es
 unfolding visits_from
 visits_lead letters m used next [] d u low = ap (is_among (record { dir = d; used = u })) (gap_states m next (letters - next))
 visits_lead letters m used next (e ∷ es) d u low =
@@ -135,13 +87,9 @@ visits_lead letters m used next (e ∷ es) d u low =
     one (Some s) ss = sym (or_assoc (is_same (record { dir = d; used = u }) s) false (is_among (record { dir = d; used = u }) ss))
 
 graph_leads : (t : Steps) (s : State) (d u : ℕ) → u ≤ 32 →
-    is_among (record { dir = d; used = u }) (states_behind (graph_of t 0 s)) ≡ any (λ e. leads e s.used d u) (entries_at t s.dir)
+    is_among (record { dir = d; used = u }) (states_behind (graph_of t 0 s)) ≡ list_any (λ e. leads e s.used d u) (entries_at t s.dir)
 unfolding graph_of
 graph_leads t s d u low = visits_lead t.letters (missing_at t s.dir) s.used 0 (entries_at t s.dir) d u low
-
-some_any : (es : List Entry) (set d u : ℕ) → lands_some es set d u ≡ any (λ e. lands e set d u) es
-some_any [] set d u = refl
-some_any (e ∷ es) set d u = ap (λ b. lands e set d u || b) (some_any es set d u)
 
 from_pick : (t : Steps) (sets : List ℕ) (n d u : ℕ) → lands_from t sets n d u ≡ true →
     (k : ℕ) × ((k < n) × (lands_some (entries_at t k) (get_or sets k 0) d u ≡ true))
@@ -198,37 +146,35 @@ module _ (t : Steps) (ss : List State) (sets : List ℕ) (are : AreSets (length 
 
   pub stepped : (d u : ℕ) → u ≤ 32 → lands_from t sets (length t.rows.items) d u ≡ is_among (record { dir = d; used = u }) (flat_map f ss)
   stepped d u low =
-      both_ways (lands_from t sets (length t.rows.items) d u) (any (λ s. is_among (record { dir = d; used = u }) (f s)) ss) forth back ∙
-      sym (among_flat (record { dir = d; used = u }) f ss)
+      both_ways (lands_from t sets (length t.rows.items) d u) (list_any (λ s. is_among (record { dir = d; used = u }) (f s)) ss) forth back ∙
+      sym (any_flat (is_same (record { dir = d; used = u })) f ss)
     where
-      forth : lands_from t sets (length t.rows.items) d u ≡ true → any (λ s. is_among (record { dir = d; used = u }) (f s)) ss ≡ true
+      forth : lands_from t sets (length t.rows.items) d u ≡ true → list_any (λ s. is_among (record { dir = d; used = u }) (f s)) ss ≡ true
       forth h =
           let row = from_pick t sets (length t.rows.items) d u h in
-          let one = pick (λ e. lands e (get_or sets row.0 0) d u) (entries_at t row.0)
-          (sym (some_any (entries_at t row.0) (get_or sets row.0 0) d u) ∙ row.1.1) in
-          let from = lands_back one.0 (get_or sets row.0 0) d u one.1.1 in
+          let one = passing (λ e. lands e (get_or sets row.0 0) d u) (entries_at t row.0) row.1.1 in
+          let from = lands_back one.0 (get_or sets row.0 0) d u one.2 in
           let s : State = record { dir = row.0; used = u - one.0.links } in
-          let was : any (is_same s) ss ≡ true = sym (among_any s ss) ∙ sym (are.tells row.0 (u - one.0.links) row.1.0 (omega (arith, low)))
+          let was : list_any (is_same s) ss ≡ true = sym (are.tells row.0 (u - one.0.links) row.1.0 (omega (arith, low)))
           ∙ from.1 in
-          let met = pick (is_same s) ss was in
-          let same : s ≡ met.0 = same_is s met.0 met.1.1 in
+          let met = passing (is_same s) ss was in
+          let same : s ≡ met.0 = same_is s met.0 met.2 in
           let here : is_among (record { dir = d; used = u }) (f s) ≡ true = graph_leads t s d u low ∙
-          put (λ e. leads e s.used d u) (entries_at t s.dir) one.0 one.1.0 from.2 in
-          put (λ s. is_among (record { dir = d; used = u }) (f s)) ss met.0 met.1.0 (ap (λ s. is_among (record { dir = d; used = u }) (f s))
+          passes (λ e. leads e s.used d u) (entries_at t s.dir) one.0 one.1 from.2 in
+          passes (λ s. is_among (record { dir = d; used = u }) (f s)) ss met.0 met.1 (ap (λ s. is_among (record { dir = d; used = u }) (f s))
           (sym same) ∙ here)
 
-      back : any (λ s. is_among (record { dir = d; used = u }) (f s)) ss ≡ true → lands_from t sets (length t.rows.items) d u ≡ true
+      back : list_any (λ s. is_among (record { dir = d; used = u }) (f s)) ss ≡ true → lands_from t sets (length t.rows.items) d u ≡ true
       back h =
-          let met = pick (λ s. is_among (record { dir = d; used = u }) (f s)) ss h in
+          let met = passing (λ s. is_among (record { dir = d; used = u }) (f s)) ss h in
           let s : State = met.0 in
-          let is = in_all (Within (length t.rows.items)) ss s all met.1.0 in
-          let one = pick (λ e. leads e s.used d u) (entries_at t s.dir) (sym (graph_leads t s d u low) ∙ met.1.1) in
-          let bit : (bit_at (get_or sets s.dir 0) s.used == 1) ≡ true = are.tells s.dir s.used is.0 is.1 ∙ among_any s ss ∙
-          put (is_same s) ss s met.1.0 (same_self s) in
+          let is = All-contains (Within (length t.rows.items)) ss s (All-from_recursion (Within (length t.rows.items)) ss all) met.1 in
+          let one = passing (λ e. leads e s.used d u) (entries_at t s.dir) (sym (graph_leads t s d u low) ∙ met.2) in
+          let bit : (bit_at (get_or sets s.dir 0) s.used == 1) ≡ true = are.tells s.dir s.used is.0 is.1 ∙
+          passes (is_same s) ss s met.1 (same_self s) in
           from_put t sets (length t.rows.items) d u s.dir is.0
-          (some_any (entries_at t s.dir) (get_or sets s.dir 0) d u ∙
-          put (λ e. lands e (get_or sets s.dir 0) d u) (entries_at t s.dir) one.0 one.1.0
-          (lands_on one.0 (get_or sets s.dir 0) s.used d u one.1.1 bit))
+          (passes (λ e. lands e (get_or sets s.dir 0) d u) (entries_at t s.dir) one.0 one.1
+          (lands_on one.0 (get_or sets s.dir 0) s.used d u one.2 bit))
 
 pub next_sets : (t : Steps) (ss : List State) (sets next : List ℕ) → AreSets (length t.rows.items) ss sets →
     AllByRecursion (Within (length t.rows.items)) ss → length next ≡ length t.rows.items
@@ -238,23 +184,23 @@ pub next_sets : (t : Steps) (ss : List State) (sets next : List ℕ) → AreSets
 next_sets t ss sets next are all many small tells =
     record { many = many; small = small; tells = λ d u h low. tells d u h low ∙ stepped t ss sets are all d u low }
 
--- all states to which words lead are of the table
-behind_within : (t : Steps) (vs : List Visit) → AllByRecursion (λ v. IfSome v.behind (λ s. IsState t s)) vs →
-    AllByRecursion (Within (length t.rows.items)) (states_behind vs)
-behind_within t [] all = tt
-behind_within t (v ∷ vs) all = by v.behind all.0 (behind_within t vs all.1)
+-- all states to which words lead are among some that steps don't leave
+all_behind : (In : State → Type 0) (vs : List Visit) → AllByRecursion (λ v. IfSome v.behind In) vs → AllByRecursion In (states_behind vs)
+all_behind In [] all = tt
+all_behind In (v ∷ vs) all = by v.behind all.0 (all_behind In vs all.1)
   where
-    by : (o : Option State) → IfSome o (λ s. IsState t s) → AllByRecursion (Within (length t.rows.items)) (states_behind vs) →
-        AllByRecursion (Within (length t.rows.items)) (cons_option o (states_behind vs))
+    by : (o : Option State) → IfSome o In → AllByRecursion In (states_behind vs) → AllByRecursion In (cons_option o (states_behind vs))
     by None h more = more
-    by (Some s) h more = ((h.dir, h.used), more)
+    by (Some s) h more = (h, more)
 
-steps_within : (t : Steps) → IsTable t → (ss : List State) → AllByRecursion (Within (length t.rows.items)) ss →
-    AllByRecursion (Within (length t.rows.items)) (flat_map (λ s. states_behind (graph_of t 0 s)) ss)
-steps_within t known [] all = tt
-steps_within t known (s ∷ ss) all =
-    all_joined (Within (length t.rows.items)) (states_behind (graph_of t 0 s)) (flat_map (λ s. states_behind (graph_of t 0 s)) ss)
-    (behind_within t (graph_of t 0 s) (states_stay t known 0 s (record { dir = all.0.0; used = all.0.1 }))) (steps_within t known ss all.1)
+pub all_reached : (g : State → List Visit) (In : State → Type 0) → ((s : State) → In s → AllByRecursion (λ v. IfSome v.behind In) (g s)) →
+    (n : ℕ) (o : Option State) → IfSome o In → AllByRecursion In (states_after g n o)
+unfolding states_after
+all_reached g In closed zero None is = tt
+all_reached g In closed zero (Some s) is = (is, tt)
+all_reached g In closed (suc n) o is =
+    all_flat In In (λ s. states_behind (g s)) (λ s is. all_behind In (g s) (closed s is)) (states_after g n o)
+    (all_reached g In closed n o is)
 
 pub reached_more : (t : Steps) (n : ℕ) (o : Option State) →
     states_after (graph_of t 0) (n + 1) o ≡ flat_map (λ s. states_behind (graph_of t 0 s)) (states_after (graph_of t 0) n o)
@@ -267,10 +213,9 @@ reached_first t o = refl
 
 pub reached_within : (t : Steps) → IsTable t → (n : ℕ) (o : Option State) → IfSome o (λ s. IsState t s) →
     AllByRecursion (Within (length t.rows.items)) (states_after (graph_of t 0) n o)
-unfolding states_after
-reached_within t known zero None is = tt
-reached_within t known zero (Some s) is = ((is.dir, is.used), tt)
-reached_within t known (suc n) o is = steps_within t known (states_after (graph_of t 0) n o) (reached_within t known n o is)
+reached_within t known n o is =
+    all_weaker (λ s. IsState t s) (Within (length t.rows.items)) (λ s is. (is.dir, is.used)) (states_after (graph_of t 0) n o)
+    (all_reached (graph_of t 0) (λ s. IsState t s) (states_stay t known 0) n o is)
 
 -- the members of the sets below the bounds are the live states
 pub layer_counts : (t : Steps) (v : table.Live) (limit n : ℕ) (o : Option State) (sets : List ℕ) → IsSized t v limit →
@@ -308,9 +253,6 @@ first_bits used u =
       ) (ap (λ b. b == 1) (bit_at_above 1 1 (u - used) (omega arith) (omega (arith, more))))
     ]
 
-no_bit : (u : ℕ) → bit_at 0 u ≡ 0
-no_bit u = bit_at-zero u
-
 pub one_set : (dirs : ℕ) (empty sets : List ℕ) (s : State) (m : ℕ) → length empty ≡ dirs → ((d : ℕ) → get_or empty d 0 ≡ 0) → s.dir < dirs →
     m < 2 ^ 33 → ((u : ℕ) → u ≤ 32 → (bit_at m u == 1) ≡ (nat_le s.used u && (bit_at 1 (u - s.used) == 1)))
     → sets ≡ set empty s.dir m → AreSets dirs (s ∷ []) sets
@@ -327,14 +269,10 @@ one_set dirs empty sets s m many none low small bits stored = record {
         ap (λ x. bit_at x u == 1) (ap (λ xs. get_or xs d 0) stored ∙ ap (λ k. get_or (set empty s.dir m) k 0) (sym e) ∙
         get_or-set_same empty s.dir m 0 (omega (arith, low, many)))
         ∙ bits u high ∙ first_bits s.used u ∙
-        sym (or_none ((d == s.dir) && (u == s.used)) ∙ ap (λ b. b && (u == s.used)) (eq-eqb d s.dir (sym e)))
+        sym (or-false ((d == s.dir) && (u == s.used)) ∙ ap (λ b. b && (u == s.used)) (eq-eqb d s.dir (sym e)))
     | inr apart ↦
         ap (λ x. bit_at x u == 1) (ap (λ xs. get_or xs d 0) stored ∙ get_or-set_other empty s.dir d m 0 (λ e. apart (sym e)) ∙ none d) ∙
-        ap (λ b. b == 1) (no_bit u)
-        ∙ sym (or_none ((d == s.dir) && (u == s.used)) ∙ ap (λ b. b && (u == s.used)) (ne_eqb d s.dir (λ e. apart (sym e))))
+        ap (λ b. b == 1) (bit_at-zero u)
+        ∙ sym (or-false ((d == s.dir) && (u == s.used)) ∙ ap (λ b. b && (u == s.used)) (ne_eqb d s.dir (λ e. apart (sym e))))
   ];
 }
-  where
-    or_none : (b : Bool) → (b || false) ≡ b
-    or_none true = refl
-    or_none false = refl

@@ -1,7 +1,8 @@
 -- The live states: those to which words lead, and from which words with allowed calls go on.
-use Rattle.std.specs.Prelude.{◌≡◌, ◌<◌, ◌≤◌, ◌^◌, ◌+◌, ◌-◌, ℕ, zero, suc, Bool, false, cond, ◌&&◌, ◌||◌, ◌==◌, nat_le, List, [], ◌∷◌}
+use Rattle.std.specs.Prelude.{◌≡◌, ◌<◌, ◌≤◌, ◌^◌, ◌+◌, ◌-◌, ℕ, zero, suc, Bool, false, cond, ◌&&◌, ◌||◌, ◌==◌, nat_le, List}
 use Rattle.std.specs.Prelude.{length, get_or, Option, Some, None, option_to_list, flat_map, filter_map}
 use Rattle.std.specs.Int.{bit_at}
+use Rattle.std.specs.List.{list_any}
 use Rattle.pua_steps.specs.Limits.{most_links, most_bound}
 use Rattle.pua_steps.specs.Graph.{Graph, below, some_pair}
 use Rattle.pua_steps.specs.declared.state.State.{State}
@@ -22,8 +23,7 @@ abbrev pub is_same : State → State → Bool
 is_same a b = (a.dir == b.dir) && (a.used == b.used)
 
 abbrev pub is_among : State → List State → Bool
-is_among s [] = false
-is_among s (x ∷ xs) = is_same s x || is_among s xs
+is_among s xs = list_any (is_same s) xs
 
 -- words of n letters lead to it, and a word with an allowed call goes on from it, within the limit
 abbrev pub is_live : Graph → ℕ → Option State → ℕ → State → Bool
@@ -57,8 +57,7 @@ abbrev pub lands : Entry → ℕ → ℕ → ℕ → Bool
 lands e set d u = elim e.to [ None ↦ false | Some to ↦ (to == d) && (nat_le e.links u && (bit_at set (u - e.links) == 1)) ]
 
 abbrev pub lands_some : List Entry → ℕ → ℕ → ℕ → Bool
-lands_some [] set d u = false
-lands_some (e ∷ es) set d u = lands e set d u || lands_some es set d u
+lands_some es set d u = list_any (λ e. lands e set d u) es
 
 -- the same from the sets of the first directories
 abbrev pub lands_from : Steps → List ℕ → ℕ → ℕ → ℕ → Bool

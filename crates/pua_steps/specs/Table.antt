@@ -1,5 +1,5 @@
 -- The graph that a table of steps is.
-use Rattle.std.specs.Prelude.{◌≡◌, ◌<◌, ◌≤◌, ◌^◌, ℕ, suc, ◌+◌, ◌-◌, Bool, not, ◌&&◌, cond, nat_lt, nat_le, ◌==◌, List, [], ◌∷◌, ◌++◌, map}
+use Rattle.std.specs.Prelude.{◌≡◌, ◌<◌, ◌≤◌, ◌^◌, ℕ, suc, ◌+◌, ◌-◌, Bool, false, not, ◌&&◌, cond, nat_lt, nat_le, ◌==◌, List, [], ◌∷◌, ◌++◌, map}
 use Rattle.std.specs.Prelude.{length, get_or, Option, Some, None, option_map, IfSome, ⊤}
 use Rattle.std.specs.List.{range_with_len, AllByRecursion}
 use Rattle.pua_steps.specs.Limits.{most_links, call_count}
@@ -40,6 +40,11 @@ first_of (e ∷ es) = Some e
 abbrev pub with_letter : ℕ → Option Entry → Option Entry
 with_letter a None = None
 with_letter a (Some e) = cond (e.letter == a) (Some e) None
+
+-- whether there is an entry, and of a letter before this one
+abbrev pub is_before : ℕ → Option Entry → Bool
+is_before a None = false
+is_before a (Some e) = nat_lt e.letter a
 
 -- the letter of an entry, or the number of all letters
 abbrev pub end_of : ℕ → Option Entry → ℕ

@@ -1,7 +1,9 @@
 //! Lists whose letters are counted as they are read. No other module sees the lists and the number of
 //! reads once they are here, and this one has no way to an entry but `read`, which counts it.
 
-ghost use Rattle.std.specs.Prelude.{◌≡◌, ◌<◌, ◌+◌, length, get_or, min, None};
+ghost use Rattle.std.specs.Prelude.{◌≡◌, ◌<◌, ◌+◌, length, get_or, min};
+ghost use Rattle.std.specs.Prelude.{MatchOption};
+ghost use Rattle.std.specs.List.{slice_get};
 ghost use Rattle.pua_steps.specs.Lists.{span_of};
 
 use crate::lists::{Lists, Span};
@@ -44,17 +46,17 @@ impl Counted {
         self.lists.span(left, dir)
     }
 
-    /// The entry at a place among those of all lists: it is counted.
+    /// The entry at a place among those of all lists, which is counted. None behind the last one.
     #[inline]
-    pub(crate) fn read(&mut self, place: usize) -> Entry
-        requires { place < length self.old.lists.entries.items }
+    pub(crate) fn read(&mut self, place: usize) -> Option<Entry>
         ensures lists { self.new.lists ≡ self.old.lists }
-        ensures entry { result ≡ get_or self.old.lists.entries.items place
-            (record { letter = 0; all = 0; kept = 0; links = 0; to = None }) }
-        ensures reads { self.new.reads ≡ min (self.old.reads + 1) 18446744073709551615 }
+        ensures entry { result ≡ slice_get self.old.lists.entries.items place }
+        ensures reads { MatchOption result (self.new.reads ≡ self.old.reads)
+            (λ _. self.new.reads ≡ min (self.old.reads + 1) 18446744073709551615) }
     {
+        let entry = self.lists.entry(place)?;
         self.pass();
-        self.lists.entry(place)
+        Some(entry)
     }
 
     /// Counts a letter, as one is that comes after all entries of a list, for which none is read.

@@ -1,8 +1,8 @@
 //! The entries that a walk reads: of each directory those whose letters may give something.
 
 ghost use Rattle.std.specs.Prelude.{◌≡◌, ◌≤◌, ◌<◌, ◌+◌, ◌*◌, ◌++◌, ◌∷◌, [], ℕ, suc, cond, length};
-ghost use Rattle.std.specs.Prelude.{get_or, None, IfOk, IfSome};
-ghost use Rattle.std.specs.List.{AllByRecursion};
+ghost use Rattle.std.specs.Prelude.{get_or, IfOk, IfSome};
+ghost use Rattle.std.specs.List.{AllByRecursion, slice_get};
 ghost use Rattle.pua_steps.specs.Limits.{most_links};
 ghost use Rattle.pua_steps.specs.Live.{IsSized};
 ghost use Rattle.pua_steps.specs.Lists.{is_useful, list_of, span_of, IsListAt, AreListsOf};
@@ -185,13 +185,11 @@ impl Lists {
         self.spans[self.layers[left] + dir as usize]
     }
 
-    /// The entry at a place among those of all lists. It is not counted: once lists are in a
-    /// `Counted`, that alone comes here.
-    pub(crate) fn entry(&self, place: usize) -> Entry
-        requires { place < length self.now.entries.items }
-        ensures { result ≡ get_or self.now.entries.items place
-            (record { letter = 0; all = 0; kept = 0; links = 0; to = None }) }
+    /// The entry at a place among those of all lists, if there is one. It is not counted: once lists
+    /// are in a `Counted`, that alone comes here.
+    pub(crate) fn entry(&self, place: usize) -> Option<Entry>
+        ensures { result ≡ slice_get self.now.entries.items place }
     {
-        self.entries[place]
+        self.entries.get(place).copied()
     }
 }

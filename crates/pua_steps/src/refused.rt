@@ -11,9 +11,7 @@ use crate::tables::Tables;
 use crate::walk::Walk;
 
 /// An entry of a list that is read is counted.
-fn entry_read_uncounted(counted: &mut Counted, place: usize, end: usize)
-    requires { end ≤ length counted.old.lists.entries.items }
-{
+fn entry_read_uncounted(counted: &mut Counted, place: usize, end: usize) {
     let before = counted.reads();
     let entry = counted.entry(place, end);
     if entry.is_some() && before < u64::MAX && counted.reads() <= before {

@@ -243,18 +243,18 @@ fn stop_of(alloc: Global, error: &Error, words: &[&str]) -> Stop
 {
     match error.kind() {
         ErrorKind::OutOfMemory => Stop::OutOfMemory,
-        ErrorKind::DisplayHelp | ErrorKind::DisplayVersion if asks_about(words) => {
-            display(alloc, error, words)
-        }
+        ErrorKind::DisplayHelp | ErrorKind::DisplayVersion => display(alloc, error, words),
         _ => Stop::Usage(UsageLine::of(words)),
     }
 }
 
-/// The text about the program that the words ask for.
+/// The text about the program, where one of the words asks for it.
 fn display(alloc: Global, error: &Error, words: &[&str]) -> Stop
-    requires { AsksAbout (map (λ word. word.now) words.now) }
     ensures { IsStop (map (λ word. word.now) words.now) result }
 {
+    if !asks_about(words) {
+        return Stop::Usage(UsageLine::of(words));
+    }
     match error.to_string(alloc) {
         Ok(text) if !text.is_empty() => Stop::Display(text),
         Ok(_) => Stop::Usage(UsageLine::of(words)),

@@ -5,7 +5,7 @@ use Rattle.pua_audit.proofs.Common.{IsJudgedRow, IsTableOf, Steps, Terms}
 use Rattle.pua_audit.specs.Bounds.{table_cost}
 use Rattle.pua_audit.proofs.Costs.{next_within, one_row_more, rows_few, rows_within}
 use Rattle.pua_audit.proofs.Moves.{all_at_index}
-use Rattle.pua_audit.proofs.Made.{AreRows, rows_pushed, table_made, numbers_apart}
+use Rattle.pua_audit.proofs.Made.{AreRows, rows_pushed, table_made, distinct_apart}
 use Rattle.pua_steps.specs.declared.steps.Row.{Row}
 use Rattle.pua_audit.proofs.terms.Terms.table.Goals as goal
 
@@ -60,7 +60,7 @@ returns-clause-table g c =
       (
         subst (λ (u : Terms). IsTableOf (judge_in u) u.letters l.dirs.numbers t) c.in_ok-spots.ensures
             (table_made (judge_in a) a.letters l.dirs.numbers t many few whole l.invariant.rows),
-        numbers_apart l.dirs.numbers numbers,
+        distinct_apart l.dirs.numbers numbers.apart,
         l.invariant.some,
         l.invariant.first,
       ),

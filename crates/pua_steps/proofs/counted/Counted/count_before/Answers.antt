@@ -1,7 +1,11 @@
 use Rattle.pua_steps.proofs.Common.{ℕ, zero, suc, ◌≡◌, ◌<◌, ◌≤◌, ◌+◌, ◌-◌, ◌^◌, ◌∙◌, refl, ap, List, length, min, get_or, take}
-use Rattle.pua_steps.proofs.Common.{sym, subst, arith, within, Entry, Lists}
+use Rattle.pua_steps.proofs.Common.{Bool, Some, nat_lt, sym, arith, within, Entry, Span, Lists}
 use Rattle.std.proofs.Common.{◌/◌}
-use Rattle.std.proofs.Common.{pow-suc}
+use Rattle.std.proofs.Common.{ltb-true, pow-suc}
+use Rattle.std.proofs.lemmas.Bool.{ltb-false}
+use Rattle.std.proofs.lemmas.Option.{slice_get-get_or}
+use Rattle.std.specs.List.{slice_get}
+use Rattle.pua_steps.specs.Table.{is_before}
 use Rattle.std.proofs.lemmas.List.{length-take, length-drop, get_or-take, get_or-drop}
 use Rattle.pua_steps.proofs.Finding.{no_entry, upward, before_place, after_place}
 use Rattle.pua_steps.proofs.counted.Counted.count_before.Goals as goal
@@ -22,6 +26,17 @@ span_length es place end order inside = length-drop place (take end es) ∙ ap (
 span_at : (es : List Entry) (place end i : ℕ) → place + i < end → get_or (within es place end) i no_entry ≡ get_or es (place + i) no_entry
 span_at es place end i low = get_or-drop place (take end es) i no_entry ∙ get_or-take end es (place + i) no_entry low
 
+-- whether an entry of a list stands before a letter
+at_middle : (ls old : Lists) (s : Span) (m letter : ℕ) (before : Bool) → before ≡ is_before letter (slice_get ls.entries.items (s.place + m))
+    → ls ≡ old → s.place ≤ s.end → s.end ≤ length old.entries.items → m < length (within old.entries.items s.place s.end)
+    → before ≡ nat_lt (get_or (within old.entries.items s.place s.end) m no_entry).letter letter
+at_middle ls old s m letter before is same order inside low =
+    let es : List Entry = old.entries.items in
+    let there : s.place + m < s.end = omega (arith, low, order, span_length es s.place s.end order inside) in
+    is ∙ ap (λ (l : Lists). is_before letter (slice_get l.entries.items (s.place + m))) same
+    ∙ ap (is_before letter) (slice_get-get_or es (s.place + m) no_entry (omega (arith, there, inside)) ∙
+    ap Some (sym (span_at es s.place s.end m there)))
+
 pub loop-low-init : goal.loop-low-init
 loop-low-init c = record {
   lists = refl;
@@ -41,27 +56,23 @@ loop-low-init c = record {
   halves = (64, (omega (arith, c.requires.inside), omega arith));
 }
 
-pub loop-low-preserved-then-read-letter : goal.loop-low-preserved-then-read-letter
-loop-low-preserved-then-read-letter c =
+pub loop-low-preserved-then-is_before : goal.loop-low-preserved-then-is_before
+loop-low-preserved-then-is_before c =
     let inv = c.loop-low.invariant in
-    let es : List Entry = c.args.self.now.lists.entries.items in
-    let xs : List Entry = within es c.args.span.place c.args.span.end in
-    let many = span_length es c.args.span.place c.args.span.end c.requires.order c.requires.inside in
     let low : ℕ = c.loop-low.low in
     let high : ℕ = c.loop-low.high in
     let m : ℕ = low + (high - low) / 2 in
-    let is : c.read.result ≡ get_or xs m no_entry = c.read.ensures.entry
-    ∙ ap (λ (ls : Lists). get_or ls.entries.items (c.args.span.place + m) no_entry) inv.lists
-    ∙ sym (span_at es c.args.span.place c.args.span.end m (omega (arith, c.loop-low-test.true, inv.few, many))) in
-    let here : (get_or xs m no_entry).letter < c.args.letter =
-    subst (λ (e : Entry). e.letter < c.args.letter) is c.if-read-letter.true in
+    let xs : List Entry = within c.args.self.now.lists.entries.items c.args.span.place c.args.span.end in
+    let is = at_middle _ _ c.args.span m c.args.letter c.is_before.result c.is_before.ensures.before inv.lists c.requires.order
+    c.requires.inside (omega (arith, c.loop-low-test.true, inv.few)) in
+    let here = ltb-true (get_or xs m no_entry).letter c.args.letter (sym is ∙ c.if-is_before.true) in
     let far = inv.halves in
     let half = halved far.0 (high - low) (high - (m + 1)) (omega (arith, c.loop-low-test.true)) far.1.0 (omega (
       arith,
       c.loop-low-test.true,
     )) in
     record {
-      lists = c.read.ensures.lists ∙ inv.lists;
+      lists = c.is_before.ensures.lists ∙ inv.lists;
       order = omega (arith, c.loop-low-test.true);
       few = inv.few;
       below = λ k less. omega (
@@ -70,34 +81,30 @@ loop-low-preserved-then-read-letter c =
         upward 0 xs no_entry c.requires.rises k m (omega (arith, less)) (omega (arith, c.loop-low-test.true, inv.few)),
       );
       above = inv.above;
-      raised = omega (arith, inv.raised, c.read.ensures.reads);
-      halves = (half.0, (half.1.1, omega (arith, half.1.0, far.1.1, c.read.ensures.reads)));
+      raised = omega (arith, inv.raised, c.is_before.ensures.raised);
+      halves = (half.0, (half.1.1, omega (arith, half.1.0, far.1.1, c.is_before.ensures.reads)));
     }
 
 pub loop-low-preserved : goal.loop-low-preserved
 loop-low-preserved c =
     let inv = c.loop-low.invariant in
-    let es : List Entry = c.args.self.now.lists.entries.items in
-    let xs : List Entry = within es c.args.span.place c.args.span.end in
-    let many = span_length es c.args.span.place c.args.span.end c.requires.order c.requires.inside in
     let low : ℕ = c.loop-low.low in
     let high : ℕ = c.loop-low.high in
     let m : ℕ = low + (high - low) / 2 in
-    let is : c.read.result ≡ get_or xs m no_entry = c.read.ensures.entry
-    ∙ ap (λ (ls : Lists). get_or ls.entries.items (c.args.span.place + m) no_entry) inv.lists
-    ∙ sym (span_at es c.args.span.place c.args.span.end m (omega (arith, c.loop-low-test.true, inv.few, many))) in
-    let here : c.args.letter ≤ (get_or xs m no_entry).letter =
-    subst (λ (e : Entry). c.args.letter ≤ e.letter) is (omega (arith, c.if-read-letter.false)) in
+    let xs : List Entry = within c.args.self.now.lists.entries.items c.args.span.place c.args.span.end in
+    let is = at_middle _ _ c.args.span m c.args.letter c.is_before.result c.is_before.ensures.before inv.lists c.requires.order
+    c.requires.inside (omega (arith, c.loop-low-test.true, inv.few)) in
+    let here = ltb-false (get_or xs m no_entry).letter c.args.letter (sym is ∙ c.if-is_before.false) in
     let far = inv.halves in
     let half = halved far.0 (high - low) (m - low) (omega (arith, c.loop-low-test.true)) far.1.0 (omega arith) in
     record {
-      lists = c.read.ensures.lists ∙ inv.lists;
+      lists = c.is_before.ensures.lists ∙ inv.lists;
       order = omega arith;
       few = omega (arith, c.loop-low-test.true, inv.few);
       below = inv.below;
       above = λ k least less. omega (arith, here, upward 0 xs no_entry c.requires.rises m k (omega (arith, least)) less);
-      raised = omega (arith, inv.raised, c.read.ensures.reads);
-      halves = (half.0, (half.1.1, omega (arith, half.1.0, far.1.1, c.read.ensures.reads)));
+      raised = omega (arith, inv.raised, c.is_before.ensures.raised);
+      halves = (half.0, (half.1.1, omega (arith, half.1.0, far.1.1, c.is_before.ensures.reads)));
     }
 
 pub returns-clause-low : goal.returns-clause-low

@@ -4,7 +4,7 @@ use Rattle.pua_steps.proofs.Common.{pairs_of, ahead, rests_of, to_give, Steps, W
 use Rattle.pua_steps.specs.Resuming.{to_give_after}
 use Rattle.pua_steps.proofs.Narrowing.{prunes}
 use Rattle.pua_steps.proofs.Costing.{states_of}
-use Rattle.pua_steps.proofs.Resume.{all_index}
+use Rattle.pua_steps.proofs.Base.{all_at_index}
 use Rattle.pua_steps.proofs.Opened.{below_limit}
 use Rattle.pua_steps.proofs.Resume.{give_start, give_here, give_dead}
 use Rattle.pua_steps.proofs.walk.Walk.go_to.Goals as goal
@@ -66,7 +66,7 @@ descend-requires-clause-short c =
 pub descend-requires-clause-letter : goal.descend-requires-clause-letter
 descend-requires-clause-letter c =
     let a : Walk = c.loop-letter.self in
-    let there = all_index (λ i. i < c.args.self.now.tables.steps.letters) c.args.word.now c.requires.word c.loop-letter.letter-index
+    let there = all_at_index (λ i. i < c.args.self.now.tables.steps.letters) c.args.word.now 0 c.requires.word c.loop-letter.letter-index
     c.loop-letter-test.true in
     subst (λ (t : Steps). get_or c.args.word.now c.loop-letter.letter-index 0 < t.letters) (sym c.loop-letter.invariant.same.steps) there
 
