@@ -30,3 +30,4 @@ pub mod Prospected
 pub mod Named
 pub mod Giving
 pub mod ForCallers
+pub mod RowsTell

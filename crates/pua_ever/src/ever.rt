@@ -206,7 +206,7 @@ impl<'t, T: FileTree> Ever<'t, T> {
 }
 
 /// What a line says that an item is.
-fn kind_of(item: &Item<'_>) -> ObjectKind
+pub(crate) fn kind_of(item: &Item<'_>) -> ObjectKind
     ensures { (t : Tree) (h : History) (about : About) → IsItemOn t h about item.now →
         kind_word result ≡ subject_word t about }
 {

@@ -23,3 +23,5 @@ pub mod Own
 pub mod Listed
 pub mod Nodes
 pub mod Starting
+pub mod HandedDown
+pub mod ListGrows

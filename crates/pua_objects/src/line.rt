@@ -39,7 +39,7 @@ pub fn line_of(process: &Process, table: &CallTable, item: &Item<'_>) -> ObjectL
 }
 
 /// The same, by what was worked out of a process and a table.
-pub(crate) fn allowed_line(allowed: &AllowedCalls, item: &Item<'_>) -> ObjectLine
+pub fn allowed_line(allowed: &AllowedCalls, item: &Item<'_>) -> ObjectLine
     ensures { (process : ProcessState) (table : Rules) (t : Tree) (h : History) (about : About) →
         AreWorkedOut process table allowed.now → StandsFor process h →
         IsItemOn t h about item.now → IsLineOn t table h about result }

@@ -264,7 +264,7 @@ impl<'t> ItemWalk<'t> {
 }
 
 /// What a call is on, of a directory that was found by a name.
-fn directory<T: FileTree>(tree: &T, id: NodeId) -> Object
+pub(crate) fn directory<T: FileTree>(tree: &T, id: NodeId) -> Object
     ensures { (dir : ℕ) (name : List ℕ) →
         result ≡ object_seen (T.content tree.now) (IsDir id (way.Named dir name)) }
 {
@@ -316,14 +316,14 @@ fn outermost(process: &Process) -> Cover
 }
 
 /// Whether it is the kind of a directory.
-fn is_directory(kind: Option<Kind>) -> bool
+pub(crate) fn is_directory(kind: Option<Kind>) -> bool
     ensures { result ≡ is_dir_kind kind }
 {
     matches!(kind, Some(Kind::Dir))
 }
 
 /// What a call is on, of a name under which no directory stands.
-fn object_at(kind: Option<Kind>) -> Object
+pub(crate) fn object_at(kind: Option<Kind>) -> Object
     ensures { (t : Tree) → result ≡ object_seen t (object_of_kind kind) }
 {
     match kind {

@@ -4,9 +4,9 @@ use Rattle.pua_policy.proofs.Common.{Some, None, Place, Dir, History, Pledged, U
 use Rattle.pua_policy.proofs.Common.{veil_at, same_place, and_parts, list_any, Tree, Found, Errno, All, Only, holds, cover, cover_fault}
 use Rattle.pua_policy.proofs.Common.{nearest, is_unveil, places_over}
 use Rattle.std.proofs.Common.{◌++◌, cond}
-use Rattle.std.specs.Prelude.{◌==◌, ◌&&◌, is_none}
+use Rattle.std.specs.Prelude.{◌==◌, ◌&&◌, IfSome, is_none}
 use lib.Pointwise.{bytes_decides}
-use Rattle.std.specs.Map.{lookup}
+use Rattle.std.specs.Map.{lookup, lookup_key}
 use Rattle.indexmap.specs.IndexMap.{insert_entry}
 use Rattle.pua_tree.specs.Names.{same_bytes}
 use Rattle.pua_policy.specs.declared.place.Place.TheVariants.{Slot}
@@ -108,6 +108,16 @@ pub veil_at-lookup : (eq : Place → Place → Bool) → ((a b : Place) → eq a
     lookup (eq place) vs ≡ veil_at vs place
 veil_at-lookup eq same place [] = refl
 veil_at-lookup eq same place (v ∷ vs) = λ i. cond (same place v.0 i) (Some v.1) (veil_at-lookup eq same place vs i)
+
+-- a key that is found so is the place
+pub lookup_key-same : (eq : Place → Place → Bool) → ((a b : Place) → eq a b ≡ same_place a b) → (place : Place) (vs : List (Place × ℕ)) →
+    IfSome (lookup_key (eq place) vs) (λ key. key ≡ place)
+lookup_key-same eq same place [] = tt
+lookup_key-same eq same place (v ∷ vs) =
+    elim (eq place v.0) as (λ b. eq place v.0 ≡ b → IfSome (cond b (Some v.0) (lookup_key (eq place) vs)) (λ key. key ≡ place)) [
+      | true ↦ λ e. sym (same_place_is place v.0 (sym (same place v.0) ∙ e))
+      | false ↦ λ e. lookup_key-same eq same place vs
+    ] refl
 
 -- and inserting by it puts a veil
 pub with_veil-insert_entry : (eq : Place → Place → Bool) → ((a b : Place) → eq a b ≡ same_place a b) →

@@ -52,7 +52,8 @@ impl Model for Process {
 }
 
 ghost use Rattle.std.specs.Prelude.{◌≡◌, ◌≢◌, ◌-◌, [], ◌∷◌, map};
-ghost use Rattle.std.specs.Prelude.{false, Option, Some, None, IfSome, unwrap_or};
+ghost use Rattle.std.specs.Prelude.{false, Option, Some, None, IfSome, option_map, slice_get};
+ghost use Rattle.std.specs.Prelude.{unwrap_or};
 ghost use Rattle.std.specs.Prelude.{Err, IfOk, OnOk, OnErr, IfErr, MatchResult};
 ghost use Rattle.std.specs.List.{list_any};
 ghost use Rattle.pua_calls.specs.Promises.{holds, all_promises, error};
@@ -334,6 +335,19 @@ impl Process {
         ensures history { (h : History) → StandsFor self.now h → result ≡ perms_kept h place.now }
     {
         self.veils.get(place).copied()
+    }
+
+    /// Which of the veils is kept at this very place, by its index in the order of `veils`, and its
+    /// permissions; None where there is none.
+    pub fn own_veil(&self, place: &Place) -> Option<(usize, Perms)>
+        ensures perms { option_map (λ own. own.1) result ≡ veil_at self.now.veils place.now }
+        ensures index { IfSome result (λ own.
+            slice_get self.now.veils own.0 ≡ Some (place.now, own.1)) }
+    {
+        match self.veils.get_full(place) {
+            Some((index, _, perms)) => Some((index, *perms)),
+            None => None,
+        }
     }
 }
 
