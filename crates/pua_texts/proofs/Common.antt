@@ -7,7 +7,7 @@ pub use Rattle.std.proofs.lemmas.List.{drop_more, length-map, map-append, take_m
 pub use Rattle.std.proofs.lemmas.Result.{err_from_is_err_and}
 pub use Rattle.std.specs.Borrow.{Bor}
 pub use Rattle.std.specs.Option.{option_map_or}
-pub use Rattle.std.specs.Prelude.{◌==◌, bit_or, codes, filter, flat_map, if◌then◌else◌, None, Option, reverse, Some}
+pub use Rattle.std.specs.Prelude.{◌==◌, bit_or, codes, filter, flat_map, if◌then◌else◌, None, Option, option_map, reverse, Some}
 pub use Rattle.pua_audit.specs.Reach.{from_root, printed_path, Word}
 pub use Rattle.pua_audit.specs.declared.base.Base.TheVariants.{Root}
 pub use Rattle.pua_calls.specs.CallSets.{calls_in, has}
@@ -28,15 +28,12 @@ pub use Rattle.pua_since.specs.Dates.{veil_date, veils_at}
 pub use Rattle.pua_tree.specs.Spelling.{spelling}
 pub use Rattle.pua_tree.specs.Tree.{is_dir, Tree}
 pub use Rattle.pua_why.specs.Columns.{resting_on}
-unfoldable pub use Rattle.pua_why.specs.Texts.{promises_text}
 pub use Rattle.pua_texts.specs.Blocks.{Passes}
 pub use Rattle.pua_texts.specs.EverLines.{ever_lines}
 pub use Rattle.pua_texts.specs.KeptPaths.{IsKept, KeptPathState}
 pub use Rattle.pua_texts.specs.Lines.{pair_lines, with_end}
-pub use Rattle.pua_texts.specs.Lists.{AreProcessLists, IsListOf, ListState}
 pub use Rattle.pua_texts.specs.ObjectLines.{lists_of, object_lines}
 pub use Rattle.pua_texts.specs.States.{head_lines, names_up, or_equals, path_or_hyphen, place_dir, place_names, veil_lines}
 pub use Rattle.pua_texts.specs.VeilDates.{veil_dates}
 pub use Rattle.pua_texts.specs.WhyLines.{covering_on, Posed, why_lists_of, world_left}
-pub use Rattle.pua_texts.specs.WhyLists.{AreWhyListsOf, covering_behind, IsAmongVeils, IsWhyListOf, text_at, veil_state, veils_behind}
-pub use Rattle.pua_texts.specs.WhyLists.{why_items}
+pub use Rattle.pua_texts.specs.WhyLists.{covering_behind, veils_behind}

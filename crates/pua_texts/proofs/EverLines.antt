@@ -1,14 +1,17 @@
 -- The lines of the list for ever, step by step.
 use Rattle.pua_texts.proofs.Common.{◌≡◌, ℕ, List, [], ◌∷◌, ◌++◌, ◌∙◌, ap, map, sym, subst, codes, Bor, Tree, CallTable, call_name, calls_in}
 use Rattle.pua_texts.proofs.Common.{History, ProcessState, StandsFor, Word, printed_path, Root, kind_word, with_commas, ever_lines_of}
-use Rattle.pua_texts.proofs.Common.{ever_lines, with_end}
+use Rattle.pua_texts.proofs.Common.{None, ever_lines, with_end}
 use Rattle.pua_ever.specs.Ever.{Thing, Stands, Comes, thing_text}
 use Rattle.pua_ever.specs.EverLines.{IsThing, IsEverListed, HasNoEverLine}
 use Rattle.pua_ever.specs.EverState.{Left}
 use Rattle.pua_ever.specs.declared.line.EverLine as given
 use Rattle.pua_ever.specs.declared.line.EverThing.{EverThing}
 use Rattle.pua_ever.specs.declared.line.EverThing.TheVariants as told
+use Rattle.pua_texts.specs.ColumnsState.{ColumnsState, plain}
 use Rattle.pua_texts.specs.EverLines.{kind_of, path_or_new}
+use Rattle.pua_texts.specs.ListLines.{whole_line}
+use Rattle.pua_texts.proofs.ObjectLines.{line_parts}
 
 -- the line of a thing, by what the code gives of it
 abbrev pub text_given : given.EverLine → List (Bor (List ℕ)) → List ℕ
@@ -44,3 +47,13 @@ no_line t u a b p q h left same equal alike stands none =
     subst (λ (v : Tree). ever_lines v (ever_lines_of v b h left) ≡ []) same
     (subst (λ (c : CallTable). ever_lines t (ever_lines_of t c h left) ≡ []) equal
     (ap (ever_lines t) (none h (subst (λ (r : ProcessState). StandsFor r h) (sym alike) stands))))
+
+-- the line as it is written
+pub whole_given : (columns : ColumnsState) (given : given.EverLine) (names : List (Bor (List ℕ))) → columns ≡ plain →
+    whole_line columns (map (λ name. name.now) names)
+    (record { depth = 0; name = None; thing = given.thing; calls = given.calls; resting = 0; veil = None }) ≡ text_given given names
+whole_given columns given names is =
+    (λ j. whole_line (is j) (map (λ name. name.now) names)
+    (record { depth = 0; name = None; thing = given.thing; calls = given.calls; resting = 0; veil = None }))
+    ∙ line_parts (kind_word (kind_of given.thing)) (path_or_new given.thing (map (λ name. name.now) names))
+    (with_commas (map call_name (calls_in given.calls)))

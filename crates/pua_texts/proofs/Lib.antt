@@ -5,14 +5,14 @@ pub mod Pairs
 pub mod Passing
 pub mod Copying
 pub mod ObjectLines
+pub mod ListLines
+pub mod ItemLines
+pub mod OneByOne
 pub mod KeptPaths
 pub mod EverLines
 pub mod States
 pub mod StateLaw
-pub mod Lists
 pub mod Climbing
 pub mod VeilDates
 pub mod WhyColumns
-pub mod WhyItems
-pub mod Keywords
 pub mod ForCallers

@@ -1,15 +1,11 @@
--- The lines of lists, step by step.
-use Rattle.pua_texts.proofs.Common.{◌≡◌, ℕ, ◌+◌, List, [], ◌∷◌, ◌++◌, ◌<◌, ◌≤◌, ◌∙◌, slice_index_or, get_or, subst, refl, sym, ap, map}
+-- The parts of lines: paths, calls, and what is between them.
+use Rattle.pua_texts.proofs.Common.{◌≡◌, ℕ, ◌+◌, List, [], ◌∷◌, ◌++◌, ◌<◌, ◌≤◌, ◌∙◌, slice_index_or, get_or, refl, sym, ap, map}
 use Rattle.pua_texts.proofs.Common.{drop, length, append_assoc, append-nil, Bool, true, false, cond, filter, ◌==◌, drop_more}
-use Rattle.pua_texts.proofs.Common.{drop_of_length-le, spelling, CallTable, call_name, calls, has, calls_in, Call, Stat, History}
-use Rattle.pua_texts.proofs.Common.{ProcessState, StandsFor, Tree, Word, from_root, printed_path, Root, kind_word, with_commas, lines_of}
-use Rattle.pua_texts.proofs.Common.{Bor, with_end, object_lines}
+use Rattle.pua_texts.proofs.Common.{drop_of_length-le, spelling, call_name, calls, has, Call, Stat, Word, from_root, printed_path, Root}
+use Rattle.pua_texts.proofs.Common.{with_commas, Bor, with_end}
 use Rattle.std.proofs.lemmas.Grind.{flat_map-append}
 use Rattle.std.proofs.lemmas.Bool.{true≢false}
 use Rattle.pua_tree.specs.Spelling.{byte_spelling}
-use Rattle.pua_objects.specs.Objects.{Item}
-use Rattle.pua_objects.specs.Ready.{IsLineListed, HasNoLine}
-use Rattle.pua_objects.specs.declared.line.ObjectLine.{ObjectLine}
 
 -- a path from the root goes on with a slash and a spelled name
 pub name_next : (name : List ℕ) (word : Word) → spelling (from_root (name ∷ word)) ≡ (47 ∷ spelling name) ++ spelling (from_root word)
@@ -95,30 +91,3 @@ call_left set before i within own =
 
 pub calls_done : (set : ℕ) (before : List ℕ) (i : ℕ) → length calls ≤ i → calls_left set before i ≡ []
 calls_done set before i past = ap (λ cs. joined before (map call_name (filter (has set) cs))) (drop_of_length-le calls past)
-
--- the line of an object, by what the code gives of it
-abbrev pub text_given : ObjectLine → List (Bor (List ℕ)) → List ℕ
-text_given given names =
-    with_end (kind_word given.kind ++ 32 ∷ printed_path Root (map (λ name. name.now) names) ++ 32
-    ∷ with_commas (map call_name (calls_in given.calls)))
-
--- the line that a list gives stands before those that it has still to give
-pub line_next : (t u : Tree) (a b : CallTable) (p q : ProcessState) (h : History) (old new : List Item) (word : Word) (given : ObjectLine)
-    (names : List (Bor (List ℕ)))
-    → t ≡ u → a ≡ b → p ≡ q → StandsFor q h → IsLineListed t a p old new word given → map (λ name. name.now) names ≡ word
-    → object_lines u (lines_of u b h old) ≡ text_given given names ++ object_lines u (lines_of u b h new)
-line_next t u a b p q h old new word given names same equal alike stands listed is =
-    subst (λ (v : Tree). object_lines v (lines_of v b h old) ≡ text_given given names ++ object_lines v (lines_of v b h new)) same
-    (subst (λ (c : CallTable). object_lines t (lines_of t c h old) ≡ text_given given names ++ object_lines t (lines_of t c h new)) equal
-    (ap (object_lines t) (listed.lines h (subst (λ (r : ProcessState). StandsFor r h) (sym alike) stands))
-    ∙ ap (λ kind. with_end (kind ++ 32 ∷ printed_path Root word ++ 32 ∷ with_commas (map call_name (calls_in given.calls)))
-    ++ object_lines t (lines_of t a h new)) (sym listed.kind)
-    ∙ ap (λ (w : Word). with_end (kind_word given.kind ++ 32 ∷ printed_path Root w ++ 32
-    ∷ with_commas (map call_name (calls_in given.calls))) ++ object_lines t (lines_of t a h new)) (sym is)))
-
-pub no_line : (t u : Tree) (a b : CallTable) (p q : ProcessState) (h : History) (left : List Item) → t ≡ u → a ≡ b → p ≡ q → StandsFor q h →
-    HasNoLine t a p left → object_lines u (lines_of u b h left) ≡ []
-no_line t u a b p q h left same equal alike stands none =
-    subst (λ (v : Tree). object_lines v (lines_of v b h left) ≡ []) same
-    (subst (λ (c : CallTable). object_lines t (lines_of t c h left) ≡ []) equal
-    (ap (object_lines t) (none h (subst (λ (r : ProcessState). StandsFor r h) (sym alike) stands))))

@@ -1,14 +1,17 @@
 -- What a list says of a state, against what the code has of it.
 use Rattle.pua_texts.proofs.Common.{◌≡◌, ℕ, ◌+◌, ◌<◌, ◌≤◌, Bool, true, false, List, [], ◌∷◌, ◌++◌, length, map, drop, slice_index_or}
-use Rattle.pua_texts.proofs.Common.{get_or, refl, sym, ap, ◌∙◌, append_assoc, append-nil, codes, reverse, ◌==◌, if◌then◌else◌, drop_more}
+use Rattle.pua_texts.proofs.Common.{refl, sym, ap, ◌∙◌, append_assoc, codes, reverse, ◌==◌, if◌then◌else◌, drop_more}
 use Rattle.pua_texts.proofs.Common.{drop_of_length-le, Bor, Tree, is_dir, perm_letters, Place, Word, or_equals, path_or_hyphen, place_dir}
 use Rattle.pua_texts.proofs.Common.{place_names, veil_lines}
 use Rattle.std.proofs.Common.{inl, inr, ◌⊎◌, true≢false}
 use Rattle.std.specs.Prelude.{◌↔◌}
-use Rattle.pua_calls.specs.Promises.{holds, unveil}
+use Rattle.pua_calls.specs.Promises.{holds, keywords_of, unveil}
+use Rattle.pua_objects.specs.Objects.{with_commas}
 use Rattle.pua_policy.specs.History.{held_set, is_locked}
 use Rattle.pua_texts.specs.States.{ConfinedIsPrinted, veil_place_text}
-use Rattle.pua_texts.proofs.ObjectLines.{joined, line_parts}
+unfoldable use Rattle.pua_why.specs.Texts.{promises_text}
+use Rattle.pua_why.specs.Texts.{joined_words}
+use Rattle.pua_texts.proofs.ObjectLines.{line_parts}
 
 -- the word by whether the process is locked and holds `unveil`
 abbrev word_by : Bool → Bool → List ℕ
@@ -59,18 +62,16 @@ veil_next t lent veil i stands names within is stood named =
 pub veils_done : (t : Tree) (lent : List (Bor Place × Bor ℕ)) (i : ℕ) → length lent ≤ i → veil_lines t (map shown (drop i lent)) ≡ []
 veils_done t lent i past = ap (λ vs. veil_lines t (map shown vs)) (drop_of_length-le lent past)
 
--- the next name stands before those that are still to come
-pub joined_next : (text before : List ℕ) (names : List (Bor (List ℕ))) (i : ℕ) (d : Bor (List ℕ)) → i < length names
-    → text ++ joined before (map (λ n. n.now) (drop i names)) ≡ (text ++ (before ++ (get_or names i d).now))
-    ++ joined (44 ∷ []) (map (λ n. n.now) (drop (i + 1) names))
-joined_next text before names i d within =
-    ap (λ ns. text ++ joined before (map (λ n. n.now) ns)) (drop_more names i d within)
-    ∙ sym (append_assoc text (before ++ (get_or names i d).now) (joined (44 ∷ []) (map (λ n. n.now) (drop (i + 1) names))))
+-- words with commas between them, as reasons have them
+alike : (names : List (List ℕ)) → joined_words (codes ",") names ≡ with_commas names
+alike [] = refl
+alike (name ∷ []) = refl
+alike (name ∷ other ∷ more) = append_assoc name (44 ∷ []) (joined_words (codes ",") (other ∷ more)) ∙
+    ap (λ t. name ++ 44 ∷ t) (alike (other ∷ more))
 
-pub joined_done : (text before : List ℕ) (names : List (Bor (List ℕ))) (i : ℕ) → length names ≤ i →
-    text ++ joined before (map (λ n. n.now) (drop i names)) ≡ text
-joined_done text before names i past = ap (λ ns. text ++ joined before (map (λ n. n.now) ns)) (drop_of_length-le names past) ∙
-    append-nil text
+pub promises_are : (set : ℕ) → promises_text set ≡ or_equals (with_commas (keywords_of set))
+unfolding promises_text
+promises_are set = ap or_equals (alike (keywords_of set))
 
 -- four lines, one after another
 pub four_lines : (old n0 n1 n2 n3 a b c d : List ℕ) → n0 ≡ old ++ a → n1 ≡ n0 ++ b → n2 ≡ n1 ++ c → n3 ≡ n2 ++ d →

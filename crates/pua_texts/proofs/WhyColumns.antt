@@ -1,95 +1,42 @@
 -- What stands behind lines: veils, and the promises on which calls rest.
-use Rattle.pua_texts.proofs.Common.{◌≡◌, ℕ, suc, ◌+◌, ◌<◌, ◌≤◌, List, [], ◌∷◌, ◌++◌, Bool, true, false, cond, map, drop, take, length}
+use Rattle.pua_texts.proofs.Common.{◌≡◌, ℕ, ◌+◌, ◌<◌, ◌≤◌, List, [], ◌∷◌, ◌++◌, Bool, true, false, cond, map, drop, take, length, flat_map}
 use Rattle.pua_texts.proofs.Common.{get_or, slice_index_or, refl, sym, ap, ◌∙◌, arith, Option, Some, None, filter, bit_or, if◌then◌else◌}
-use Rattle.pua_texts.proofs.Common.{Bor, drop_more, take_more, map-append, length-map, drop_of_length-le, Tree, is_dir, CallTable, calls}
-use Rattle.pua_texts.proofs.Common.{has, History, veils, Call, Stat, Place, SubjectFits, resting_on, IsAmongVeils, covering_behind, text_at}
-use Rattle.pua_texts.proofs.Common.{veils_behind, Posed, covering_on, world_left, veil_dates}
-use Rattle.std.proofs.Common.{zero}
-use Rattle.std.specs.List.{list_any}
+use Rattle.pua_texts.proofs.Common.{append_assoc, Bor, drop_more, take_more, map-append, length-map, drop_of_length-le, Tree, CallTable, calls, codes}
+use Rattle.pua_texts.proofs.Common.{has, History, Call, Stat, Place, resting_on, covering_behind, veils_behind, Posed, world_left, veil_dates}
+use Rattle.std.proofs.Common.{suc, zero}
+use Rattle.std.specs.Prelude.{slice_get}
 use Rattle.std.specs.Int.Bits.{or_zero_r}
 use Rattle.std.proofs.lemmas.List.{get_or-map}
-use Rattle.pua_tree.specs.Tree.{WellFormed, above, climb}
-use Rattle.pua_path.specs.Fits.{FoundFits}
-use Rattle.pua_path.specs.declared.found.Way.TheVariants.{Top}
-use Rattle.pua_path.specs.declared.found.Found.{Found}
-use Rattle.pua_path.specs.declared.found.Found.TheVariants.{Whole}
 use Rattle.pua_calls.specs.Calls.{rule_of}
-use Rattle.pua_policy.specs.History.{perms_kept, same_place, veil_at}
-use Rattle.pua_policy.specs.Laws.{places_over}
-use Rattle.pua_policy.specs.Reasons.{covering, first_kept, kept_or, promising}
-use Rattle.pua_policy.specs.Verdict.{is_unveil}
-use Rattle.pua_policy.specs.declared.place.Place.TheVariants.{Dir}
-use Rattle.pua_policy.specs.declared.reason.Covering.TheVariants.{InView, NoneOver, By}
-use Rattle.pua_policy.proofs.ForCallers.{climb_root, climb_step, same_place_is, veils_are_kept, same_place_turned}
-use Rattle.pua_objects.specs.Objects.{Subject, At, Others}
-use Rattle.pua_why.specs.Columns.{covering_in, let_by}
-use Rattle.pua_texts.specs.WhyLists.{VeilState, found_on, veil_behind, veil_kept}
+use Rattle.pua_policy.specs.History.{has_veil}
+use Rattle.pua_policy.specs.Reasons.{promising}
+use Rattle.pua_policy.specs.declared.reason.Covering.TheVariants.{InView, NoneOver}
+use Rattle.pua_objects.specs.Objects.{Subject, At, Others, Line, line_text}
+use Rattle.pua_why.specs.Columns.{columns, let_by, veil_columns}
 use Rattle.pua_why.specs.Since.{since}
-use Rattle.pua_why.specs.Texts.{has_veil_on}
+use Rattle.pua_why.specs.Texts.{has_veil_on, promises_text}
+use Rattle.pua_texts.specs.ColumnsState.{ColumnsState, columns_of, veil_column}
+use Rattle.pua_objects.specs.Veils.{covering_by, covering_over, veil_there}
+use Rattle.pua_texts.specs.WhyLines.{covering_on, why_line}
+use Rattle.pua_texts.specs.WhyLists.{AreColumnsOf, veil_behind, veil_kept}
 use Rattle.pua_texts.proofs.States.{shown}
 use Rattle.pua_calls.proofs.ForCallers.{or_assoc}
 
--- the first of some places with a veil has one that is kept
-first_among : (h : History) (places : List Place) → IsAmongVeils (veils h) (first_kept (perms_kept h) places)
-first_among h [] = tt
-first_among h (place ∷ places) = by (perms_kept h place) refl (first_among h places)
+-- the columns of a veil are those of what it covers
+pub column_is : (p : Posed) (process : ℕ) (vs : List (Place × ℕ)) (veil : Option ℕ) →
+    veil_column (veils_behind p process vs) (codes " - - -" ++ 10 ∷ []) veil ≡ covering_behind p process (covering_by vs veil)
+column_is p process vs None = by (has_veil vs)
   where
-    by : (o : Option ℕ) → perms_kept h place ≡ o → IsAmongVeils (veils h) (first_kept (perms_kept h) places) →
-        IsAmongVeils (veils h) (kept_or place o (first_kept (perms_kept h) places))
-    by (Some given) is farther = veils_are_kept h place ∙ is
-    by None is farther = farther
-
--- a veil that covers an object is kept
-pub covering_among : (t : Tree) (h : History) (object : Found) → IsAmongVeils (veils h) (covering t h object)
-covering_among t h object = by (list_any is_unveil h)
+    by : (veiled : Bool) → codes " - - -" ++ 10 ∷ [] ≡ covering_behind p process (if veiled then NoneOver else InView)
+    by true = refl
+    by false = refl
+column_is p process vs (Some index) = by vs index
   where
-    by : (veiled : Bool) → IsAmongVeils (veils h) (if veiled then first_kept (perms_kept h) (places_over t object) else InView)
-    by true = first_among h (places_over t object)
-    by false = tt
-
--- a directory itself and those over it are its climb
-module _ (t : Tree) (fits : WellFormed t) (h : History) where
-  first_over : (dir : ℕ) → is_dir t dir ≡ true →
-      first_kept (perms_kept h) (Dir dir ∷ map Dir (climb t (above t dir))) ≡ first_kept (perms_kept h) (map Dir (climb t dir))
-  first_over zero living =
-      ap (λ ds. first_kept (perms_kept h) (Dir 0 ∷ map Dir ds)) (climb_root t) ∙ once (perms_kept h (Dir 0)) ∙
-      ap (λ ds. first_kept (perms_kept h) (map Dir ds)) (sym (climb_root t))
-    where
-      once : (o : Option ℕ) → kept_or (Dir 0) o (kept_or (Dir 0) o NoneOver) ≡ kept_or (Dir 0) o NoneOver
-      once (Some given) = refl
-      once None = refl
-  first_over (suc dir) living = ap (λ ds. first_kept (perms_kept h) (map Dir ds)) (sym (climb_step t fits (suc dir) (λ is. cc) living))
-
-  -- further names are covered as their directory is
-  others_covered : (dir : ℕ) → is_dir t dir ≡ true → covering t h (Whole dir Top) ≡ covering_in t h dir
-  others_covered dir living = ap (λ first. if list_any is_unveil h then first else InView) (first_over dir living)
-
-  pub found_covered : (subject : Subject) → SubjectFits t subject → covering t h (found_on subject) ≡ covering_on t h subject
-  found_covered (At object) fit = refl
-  found_covered (Others dir) fit = others_covered dir fit
-
-pub found_fits : (t : Tree) (subject : Subject) → SubjectFits t subject → FoundFits t (found_on subject)
-found_fits t (At object) fit = fit.0
-found_fits t (Others dir) fit = fit
-
--- a veil that is kept stands among the columns
-pub text_kept : (p : Posed) (process : ℕ) (vs : List (Place × ℕ)) (place : Place) (given : ℕ) → veil_at vs place ≡ Some given →
-    text_at (veils_behind p process vs) place ≡ covering_behind p process (By place given)
-text_kept p process [] place given is = cc
-text_kept p process (v ∷ vs) place given is =
-    ap (λ same. if same then (veil_kept p process v).text else text_at (veils_behind p process vs) place) (same_place_turned v.0 place) ∙
-    by (same_place place v.0) refl (text_kept p process vs place given) is
-  where
-    by : (same : Bool) → same_place place v.0 ≡ same →
-        (veil_at vs place ≡ Some given → text_at (veils_behind p process vs) place ≡ covering_behind p process (By place given)) →
-        (if same then Some v.1 else veil_at vs place) ≡ Some given
-        → (if same then (veil_kept p process v).text else text_at (veils_behind p process vs) place) ≡ covering_behind p process
-        (By place given)
-    by true here farther is =
-        let letters : v.1 ≡ given = cc in
-        let at : place ≡ v.0 = same_place_is place v.0 here in
-        (λ i. covering_behind p process (By (sym at i) (letters i)))
-    by false other farther is = farther is
+    by : (vs : List (Place × ℕ)) (index : ℕ) →
+        get_or (veils_behind p process vs) index (codes " - - -" ++ 10 ∷ []) ≡ covering_behind p process (veil_there (slice_get vs index))
+    by [] index = refl
+    by (v ∷ vs) zero = refl
+    by (v ∷ vs) (suc index) = by vs index
 
 -- the promises on which calls rest, from a place among all calls on
 module _ (table : CallTable) (h : History) (set : ℕ) where
@@ -129,14 +76,13 @@ module _ (table : CallTable) (h : History) (set : ℕ) where
 
 -- the columns of the next veil stand behind those so far
 pub column_next : (p : Posed) (process : ℕ) (lent : List (Bor Place × Bor ℕ)) (veil : Bor Place × Bor ℕ) (i : ℕ) (line : Option ℕ)
-    (lines : List (Option ℕ)) (columns : List VeilState) (column : VeilState)
+    (lines : List (Option ℕ)) (columns : List (List ℕ)) (column : List ℕ)
     → i < length lent → veil ≡ slice_index_or lent i veil → lines ≡ veil_dates p process (map shown lent) → line ≡ get_or lines i None
-    → column ≡ record { place = veil.0.now; text = veil_behind (world_left p).tree veil.0.now veil.1.now line }
+    → column ≡ veil_behind (world_left p).tree veil.0.now veil.1.now line
     → columns ≡ veils_behind p process (map shown (take i lent)) →
     columns ++ column ∷ [] ≡ veils_behind p process (map shown (take (i + 1) lent))
 column_next p process lent veil i line lines columns column within is dated lined told so_far =
-    (λ j. so_far j ++ (told ∙ ap (λ o. record { place = veil.0.now; text = veil_behind (world_left p).tree veil.0.now veil.1.now o })
-    line_is) j ∷ [])
+    (λ j. so_far j ++ (told ∙ ap (veil_behind (world_left p).tree veil.0.now veil.1.now) line_is) j ∷ [])
     ∙ sym (map-append (veil_kept p process) (map shown (take i lent)) (shown veil ∷ []))
     ∙ ap (veils_behind p process) (sym (map-append shown (take i lent) (veil ∷ [])) ∙ ap (λ v. map shown (take i lent ++ v ∷ [])) is ∙
     ap (map shown) (sym (take_more lent i veil within)))
@@ -149,3 +95,32 @@ column_next p process lent veil i line lines columns column within is dated line
         lined ∙ ap (λ ls. get_or ls i None) dated
         ∙ get_or-map date (map shown lent) i (shown veil) None (omega (arith, within, length-map lent shown))
         ∙ ap date (get_or-map shown lent i veil (shown veil) within ∙ ap shown (sym is))
+
+-- what stands behind a line with reasons
+abbrev pub behind : Posed → ℕ → History → Line → List ℕ
+behind p process h line =
+    columns p.table p.world p.asks process h line.calls (covering_on (world_left p).tree h line.subject) ++ 10 ∷ []
+
+-- the column of the promises of some calls and that of a veil stand behind a line
+pub behind_is : (p : Posed) (process : ℕ) (h : History) (vs : List (Place × ℕ)) (cs : ColumnsState) (line : Line) (resting number : ℕ)
+    (veil : Option ℕ) → AreColumnsOf p process vs cs → get_or cs.resting number [] ≡ 32 ∷ promises_text resting
+    → resting ≡ resting_on p.table h line.calls → covering_by vs veil ≡ covering_on (world_left p).tree h line.subject
+    → columns_of cs number veil ≡ behind p process h line
+behind_is p process h vs cs line resting number veil are is rests covers =
+    (λ j. (is ∙ ap (λ set. 32 ∷ promises_text set) rests) j ++ veil_column (are.veils j) (are.unveiled j) veil)
+    ∙ ap (λ t. (32 ∷ promises_text (resting_on p.table h line.calls)) ++ t) (column_is p process vs veil ∙
+    ap (covering_behind p process) covers)
+    ∙ sym (append_assoc (32 ∷ promises_text (resting_on p.table h line.calls))
+    (32 ∷ veil_columns p.table p.world p.asks process (covering_on (world_left p).tree h line.subject)) (10 ∷ []))
+
+-- and so the lines are those with reasons
+pub lines_behind : (p : Posed) (process : ℕ) (h : History) (lines : List Line) →
+    flat_map (λ line. line_text (world_left p).tree line ++ behind p process h line) lines ≡ flat_map (why_line p process h) lines
+lines_behind p process h lines = λ i.
+    flat_map (λ line. sym (append_assoc (line_text (world_left p).tree line) (columns p.table p.world p.asks process h line.calls
+    (covering_on (world_left p).tree h line.subject)) (10 ∷ [])) i) lines
+
+-- what covers a subject is so by both definitions
+pub covering_alike : (t : Tree) (h : History) (subject : Subject) → covering_over t h subject ≡ covering_on t h subject
+covering_alike t h (At found) = refl
+covering_alike t h (Others dir) = refl

@@ -4,8 +4,10 @@ pub mod States
 pub mod ObjectLines
 pub mod EverLines
 pub mod WhyLines
--- Notes: what the code has begun, what a writing leaves, and what is put at once.
+-- Notes: what the code has of lists, what a writing leaves, and what is put at once.
 pub mod Lists
+pub mod ColumnsState
+pub mod ListLines
 pub mod EverLists
 pub mod VeilDates
 pub mod WhyLists

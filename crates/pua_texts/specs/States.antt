@@ -12,12 +12,9 @@ use Rattle.pua_script.specs.Laws.{IsConfined}
 use Rattle.pua_audit.specs.Reach.{Word, printed_path}
 use Rattle.pua_audit.specs.declared.base.Base.TheVariants.{Root}
 use Rattle.pua_objects.specs.Objects.{with_commas}
-use Rattle.pua_texts.specs.Lines.{with_end}
-
 -- a text, or `=` where it is empty
-abbrev pub or_equals : List ℕ → List ℕ
-or_equals [] = codes "="
-or_equals (b ∷ more) = b ∷ more
+pub use Rattle.pua_why.specs.Texts.{or_equals}
+use Rattle.pua_texts.specs.Lines.{with_end}
 
 -- the keywords of promises, in their order; `-` where no pledge gave any
 abbrev pub pledged_text : Option ℕ → List ℕ

@@ -1,22 +1,22 @@
 //! The calls of a line as they are printed, kept from line to line.
 
-ghost use Rattle.std.specs.Prelude.{◌≡◌, ◌++◌, ◌∷◌, [], map};
+ghost use Rattle.std.specs.Prelude.{◌≡◌, ◌<◌, ◌≤◌, ◌+◌, ◌++◌, ◌∷◌, [], if◌then◌else◌, length, map};
 ghost use Rattle.pua_calls.specs.Calls.{call_name};
 ghost use Rattle.pua_calls.specs.CallSets.{calls_in};
 ghost use Rattle.pua_objects.specs.Objects.{with_commas};
 ghost use Rattle.pua_texts.specs.Blocks.{PassesOn};
 
-use crate::block::Block;
-use crate::object_line::add_names;
-use pua_calls::Calls;
+use crate::block::{BLOCK, Block, MOST_LINE};
+use crate::line::{MOST_CALL_NAME, add_call};
+use pua_calls::{Call, Calls};
 use pua_io::{PutFault, Sink};
-use pua_objects::{ObjectKind, ObjectLine};
+use pua_objects::ObjectKind;
 use pua_tree::OutOfMemory;
 use std::alloc::Global;
 use std::marker::Model;
 
-/// The names of some calls with commas between them, and LF. A line that has the calls of the line
-/// before does not spell them again. Contracts see the calls.
+/// The names of some calls with commas between them. A line that has the calls of the line before does
+/// not spell them again. Contracts see the calls.
 #[derive(Drop)]
 struct CallsText {
     calls: Calls,
@@ -24,7 +24,7 @@ struct CallsText {
 }
 
 impl Model for CallsText {
-    ghost use Rattle.std.specs.Prelude.{◌≡◌, ◌≤◌, ◌++◌, ◌∷◌, [], ℕ, length, map};
+    ghost use Rattle.std.specs.Prelude.{◌≡◌, ◌≤◌, ℕ, length, map};
     ghost use Rattle.pua_calls.specs.Calls.{call_name};
     ghost use Rattle.pua_calls.specs.CallSets.{calls_in};
     ghost use Rattle.pua_objects.specs.Objects.{with_commas};
@@ -33,15 +33,14 @@ impl Model for CallsText {
 
     ghost view = { λ a. a.calls };
 
-    ghost invariant = { λ a. (a.text ≡ with_commas (map call_name (calls_in a.calls)) ++ 10 ∷ [])
+    ghost invariant = { λ a. (a.text ≡ with_commas (map call_name (calls_in a.calls)))
         × (length a.text ≤ 4108) };
 }
 
 impl CallsText {
     /// The text of no calls. The only error is that its room was refused.
     fn new(alloc: Global) -> Result<CallsText, OutOfMemory> {
-        let mut text = Block::new(alloc)?;
-        text.push(b"\n");
+        let text = Block::new(alloc)?;
         Ok(CallsText {
             calls: Calls::NONE,
             text,
@@ -55,12 +54,11 @@ impl CallsText {
         if calls != self.calls {
             self.text.truncate(0);
             add_names(&mut self.text, calls);
-            self.text.push(b"\n");
             self.calls = calls;
         }
     }
 
-    /// Adds the names of these calls with commas between them, and LF.
+    /// Adds the names of these calls with commas between them.
     fn add_to<S: Sink>(
         &mut self,
         block: &mut Block,
@@ -68,7 +66,7 @@ impl CallsText {
         sink: &mut S,
     ) -> Result<(), PutFault>
         ensures { PassesOn S.written S.failed
-            (with_commas (map call_name (calls_in calls)) ++ 10 ∷ [])
+            (with_commas (map call_name (calls_in calls)))
             result block.old block.new sink.old sink.new }
     {
         self.keep(calls);
@@ -92,21 +90,49 @@ impl CallsTexts {
         Ok(CallsTexts { things, others })
     }
 
-    /// Adds the names of the calls of a line with commas between them, and LF.
-    pub(crate) fn add_calls_of<S: Sink>(
+    /// Adds the names of the calls of a line about such a thing with commas between them.
+    pub(crate) fn add_calls<S: Sink>(
         &mut self,
         block: &mut Block,
-        line: ObjectLine,
+        kind: ObjectKind,
+        calls: Calls,
         sink: &mut S,
     ) -> Result<(), PutFault>
         ensures { PassesOn S.written S.failed
-            (with_commas (map call_name (calls_in line.calls)) ++ 10 ∷ [])
+            (with_commas (map call_name (calls_in calls)))
             result block.old block.new sink.old sink.new }
     {
-        if line.kind == ObjectKind::Other {
-            self.others.add_to(block, line.calls, sink)
+        if kind == ObjectKind::Other {
+            self.others.add_to(block, calls, sink)
         } else {
-            self.things.add_to(block, line.calls, sink)
+            self.things.add_to(block, calls, sink)
         }
     }
+}
+
+/// Adds the names of calls with commas between them to a block that has room for a line.
+fn add_names(block: &mut Block, calls: Calls)
+    requires { length block.old + MOST_LINE ≤ BLOCK }
+    ensures names { block.new ≡ block.old ++ with_commas (map call_name (calls_in calls)) }
+    ensures short { length block.new < length block.old + MOST_LINE }
+{
+    let mut is_first = true;
+    for call in Call::ALL {
+        if calls.contains(call) {
+            add_next(block, is_first, call);
+            is_first = false;
+        }
+    }
+}
+
+/// Adds the name of a call, with a comma before it unless it is the first of its line.
+fn add_next(block: &mut Block, is_first: bool, call: Call)
+    requires { length block.old + (MOST_CALL_NAME + 1) ≤ BLOCK }
+    ensures name { block.new ≡ block.old ++ ((if is_first then [] else 44 ∷ []) ++ call_name call) }
+    ensures short { length block.new ≤ length block.old + (MOST_CALL_NAME + 1) }
+{
+    if !is_first {
+        block.push(b",");
+    }
+    add_call(block, call);
 }

@@ -1,9 +1,10 @@
 //! The list for ever of a process: its heading, its state, and what it can ever touch.
 
-ghost use Rattle.std.specs.Prelude.{◌++◌, ℕ, codes};
+ghost use Rattle.std.specs.Prelude.{◌≡◌, ◌++◌, ℕ, codes};
 ghost use Rattle.pua_calls.specs.Calls.{CallTable as Rules};
 ghost use Rattle.pua_policy.specs.History.{History, StandsFor};
 ghost use Rattle.pua_texts.specs.Blocks.{PassesOn};
+ghost use Rattle.pua_texts.specs.ColumnsState.{plain};
 ghost use Rattle.pua_texts.specs.EverLists.{IsEverOf};
 ghost use Rattle.pua_texts.specs.EverLines.{ever_list};
 ghost use Rattle.pua_texts.specs.Lists.{IsHeadOf};
@@ -11,6 +12,7 @@ ghost use Rattle.pua_texts.specs.Tells.{TellsTo};
 
 use crate::block::Block;
 use crate::calls_text::CallsTexts;
+use crate::columns::Columns;
 use crate::ever_line::add_ever;
 use crate::fault::TextFault;
 use crate::kept_path::KeptPath;
@@ -42,6 +44,7 @@ pub fn write_ever<T: FileTree, S: Sink>(
 {
     let head = ProcessHead::begin(alloc, "ever", number, process)?;
     let mut places = Places::new(alloc, tree)?;
+    let columns = Columns::plain(alloc);
     let mut path = KeptPath::new(alloc)?;
     let mut texts = CallsTexts::new(alloc)?;
     let mut block = Block::new(alloc)?;
@@ -50,6 +53,7 @@ pub fn write_ever<T: FileTree, S: Sink>(
         front,
         &head,
         ever,
+        &columns,
         &mut places,
         &mut path,
         &mut texts,
@@ -64,11 +68,13 @@ fn add_list<'t, T: FileTree, S: Sink>(
     front: &str,
     head: &ProcessHead<'t>,
     ever: &mut Ever<'_, T>,
+    columns: &Columns,
     places: &mut Places<'t, T>,
     path: &mut KeptPath,
     texts: &mut CallsTexts,
     sink: &mut S,
 ) -> Result<(), PutFault>
+    requires plain { columns.now ≡ plain }
     ensures { (table : Rules) (process : ℕ) (h : History) →
         IsHeadOf (codes "ever") process h head.now →
         IsEverOf table places.old.tree h ever.old →
@@ -78,5 +84,5 @@ fn add_list<'t, T: FileTree, S: Sink>(
 {
     block.add_text(front.as_bytes(), sink)?;
     head.add_to(block, places, sink)?;
-    add_ever(block, ever, path, texts, sink)
+    add_ever(block, ever, columns, path, texts, sink)
 }

@@ -81,7 +81,7 @@ impl KeptPath {
     }
 
     /// Keeps no more than so many names.
-    fn cut(&mut self, count: usize)
+    pub(crate) fn cut(&mut self, count: usize)
         ensures { (old new : Word) → IsKept old self.old → count ≤ length new →
             take count old ≡ take count new → IsKept new self.new }
     {
@@ -92,7 +92,7 @@ impl KeptPath {
     }
 
     /// Keeps as many further names of the path as there is room for.
-    fn extend(&mut self, word: &[&Name])
+    pub(crate) fn extend(&mut self, word: &[&Name])
         ensures { IsKept (map (λ name. name.now) word.now) self.old →
             IsKept (map (λ name. name.now) word.now) self.new }
     {

@@ -1,21 +1,23 @@
-//! The lists of processes, written one after another.
+//! The lists of the objects of processes.
 
-ghost use Rattle.std.specs.Prelude.{◌≡◌, ◌++◌, ℕ, List, IfOk};
-ghost use Rattle.pua_calls.specs.Calls.{CallTable as Rules};
+ghost use Rattle.std.specs.Prelude.{◌≡◌, ◌++◌, IfOk};
+ghost use Rattle.pua_policy.specs.History.{History, StandsFor};
 ghost use Rattle.pua_script.specs.Replay.{World as Replayed};
 ghost use Rattle.pua_script.specs.Worlds.{StandsForWorld};
-ghost use Rattle.pua_texts.specs.Blocks.{PassesOn};
-ghost use Rattle.pua_texts.specs.Lists.{AreProcessLists};
-ghost use Rattle.pua_texts.specs.ObjectLines.{lists_of};
+ghost use Rattle.pua_texts.specs.ListLines.{list_text, lists_text};
+ghost use Rattle.pua_texts.specs.ObjectLines.{lists_of, process_list};
 ghost use Rattle.pua_texts.specs.Tells.{TellsTo};
 
-use crate::block::Block;
-use crate::calls_text::CallsTexts;
+use crate::columns::Columns;
 use crate::fault::TextFault;
-use crate::kept_path::KeptPath;
-use crate::places::Places;
+use crate::lists::write_all;
+use crate::object_lines::object_lines;
+use crate::process_head::ProcessHead;
 use crate::process_list::ProcessList;
-use pua_io::{PutFault, Sink};
+use pua_calls::CallTable;
+use pua_io::Sink;
+use pua_objects::list_items;
+use pua_policy::Process;
 use pua_script::World;
 use pua_tree::{FileTree, OutOfMemory};
 use std::alloc::Global;
@@ -36,38 +38,24 @@ pub fn write_lists<T: FileTree, S: Sink>(
         result sink.old sink.new }
 {
     let mut lists = begin_lists(alloc, world, numbers)?;
-    let mut places = Places::new(alloc, world.tree())?;
-    let mut path = KeptPath::new(alloc)?;
-    let mut texts = CallsTexts::new(alloc)?;
-    let mut block = Block::new(alloc)?;
-    let added = add_lists(
-        &mut block,
-        front,
-        &mut lists,
-        &mut places,
-        &mut path,
-        &mut texts,
-        sink,
-    );
-    block.finish(added, sink)
+    write_all(alloc, world.tree(), front, &mut lists, sink)
 }
 
-/// Begins the list of each of these processes that was ever made. The only error is that a growth was
-/// refused.
+/// The list of each of these processes that was ever made. The only error is that a growth was refused.
 fn begin_lists<'t, T: FileTree>(
     alloc: Global,
     world: &'t World<T>,
     numbers: &[u32],
-) -> Result<VecDeque<ProcessList<'t, T>>, OutOfMemory>
+) -> Result<VecDeque<ProcessList<'t>>, OutOfMemory>
     ensures { IfOk result (λ lists. (w : Replayed) → StandsForWorld world.now w →
-        AreProcessLists world.now.table w numbers.now lists.items) }
+        lists_text w.tree lists.items ≡ lists_of world.now.table w numbers.now) }
 {
     let mut lists = VecDeque::new(alloc);
     for number in numbers {
         let Some(process) = world.process(*number) else {
             continue;
         };
-        let list = ProcessList::begin(alloc, world.tree(), world.table(), *number, process)?;
+        let list = begin_list(alloc, world.tree(), world.table(), *number, process)?;
         let Ok(()) = lists.push_back(list) else {
             return Err(OutOfMemory);
         };
@@ -75,25 +63,20 @@ fn begin_lists<'t, T: FileTree>(
     Ok(lists)
 }
 
-/// Adds the front of a text to a block, and then lists, one after another.
-fn add_lists<'t, T: FileTree, S: Sink>(
-    block: &mut Block,
-    front: &str,
-    lists: &mut VecDeque<ProcessList<'t, T>>,
-    places: &mut Places<'t, T>,
-    path: &mut KeptPath,
-    texts: &mut CallsTexts,
-    sink: &mut S,
-) -> Result<(), PutFault>
-    ensures { (table : Rules) (w : Replayed) (numbers : List ℕ) → places.old.tree ≡ w.tree →
-        AreProcessLists table w numbers lists.old.items →
-        PassesOn S.written S.failed
-        (front.now ++ lists_of table w numbers)
-        result block.old block.new sink.old sink.new }
+/// The list of a process with this number. The only error is that a growth was refused.
+fn begin_list<'t, T: FileTree>(
+    alloc: Global,
+    tree: &'t T,
+    table: &CallTable,
+    number: u32,
+    process: &'t Process,
+) -> Result<ProcessList<'t>, OutOfMemory>
+    ensures { IfOk result (λ list. (h : History) → StandsFor process.now h →
+        list_text (T.content tree.now) list
+        ≡ process_list table.now (T.content tree.now) number h) }
 {
-    block.add_text(front.as_bytes(), sink)?;
-    while let Some(mut list) = lists.pop_front() {
-        list.add_to(block, places, path, texts, sink)?;
-    }
-    Ok(())
+    let head = ProcessHead::begin(alloc, "objects", number, process)?;
+    let items = list_items(alloc, tree, process)?;
+    let lines = object_lines(alloc, process, table, items.as_slice())?;
+    ProcessList::new(alloc, head, lines, Columns::plain(alloc))
 }

@@ -1,14 +1,15 @@
 //! What stands before the lines of a list: its heading, and the state of its process.
 
-ghost use Rattle.std.specs.Prelude.{◌≡◌, ◌++◌, [], ℕ, List, IfOk, map};
+ghost use Rattle.std.specs.Prelude.{◌≡◌, IfOk, map};
 ghost use Rattle.pua_policy.specs.History.{History, StandsFor};
 ghost use Rattle.pua_texts.specs.Blocks.{PassesOn};
+ghost use Rattle.pua_texts.specs.ListLines.{head_text};
 ghost use Rattle.pua_texts.specs.Lists.{IsHeadOf};
-ghost use Rattle.pua_texts.specs.States.{head_lines, living_veils};
+ghost use Rattle.pua_texts.specs.States.{living_veils};
 
 use crate::block::Block;
 use crate::places::Places;
-use crate::state::head_text;
+use crate::state::state_text;
 use crate::veil_line::add_veils;
 use pua_calls::Perms;
 use pua_io::{PutFault, Sink};
@@ -48,7 +49,7 @@ impl<'t> ProcessHead<'t> {
         ensures { IfOk result (λ head. (h : History) → StandsFor process.now h →
             IsHeadOf title.now number h head) }
     {
-        let Ok(text) = head_text(alloc, title, number, process) else {
+        let Ok(text) = state_text(alloc, title, number, process) else {
             return Err(OutOfMemory);
         };
         let veils = veils_of_living(alloc, process)?;
@@ -62,10 +63,7 @@ impl<'t> ProcessHead<'t> {
         places: &mut Places<'t, T>,
         sink: &mut S,
     ) -> Result<(), PutFault>
-        ensures head { (title : List ℕ) (process : ℕ) (h : History) →
-            IsHeadOf title process h self.now →
-            PassesOn S.written S.failed
-            (head_lines places.old.tree title process h)
+        ensures head { PassesOn S.written S.failed (head_text places.old.tree self.now)
             result block.old block.new sink.old sink.new }
         ensures tree { places.new.tree ≡ places.old.tree }
     {

@@ -1,21 +1,20 @@
 //! The heading of a list, and what it says of the state of its process before the veils.
 
-ghost use Rattle.std.specs.Prelude.{◌≡◌, ◌++◌, ◌∷◌, [], if◌then◌else◌, IfOk, OnOk, map};
-ghost use Rattle.std.specs.Prelude.{string_bytes};
+ghost use Rattle.std.specs.Prelude.{◌≡◌, ◌++◌, IfOk, OnOk, string_bytes};
 ghost use Rattle.pua_policy.specs.History.{History, StandsFor};
-ghost use Rattle.pua_objects.specs.Objects.{with_commas};
-ghost use Rattle.pua_texts.specs.States.{heading_line, living_lines, or_equals, own_lines};
+ghost use Rattle.pua_texts.specs.States.{heading_line, living_lines, own_lines};
 ghost use Rattle.pua_texts.specs.States.{pledged_text, unveil_word};
 ghost use Rattle.pua_texts.specs.Lines.{with_end};
 
 use pua_calls::Promises;
 use pua_policy::Process;
+use pua_why::push_promises;
 use std::alloc::{AllocError, Global};
 use std::fmt::Write;
 
 /// The heading of a list with this title, of the process with this number, and the lines of its state
 /// before those of its veils. The only error is that a growth was refused.
-pub(crate) fn head_text(
+pub(crate) fn state_text(
     alloc: Global,
     title: &str,
     number: u32,
@@ -91,42 +90,7 @@ fn spelled_promises(alloc: Global, promises: Option<Promises>) -> Result<String,
     let Some(promises) = promises else {
         return String::from_str(alloc, "-");
     };
-    let Ok(names) = promises.names(alloc) else {
-        return Err(AllocError);
-    };
-    let text = joined(alloc, names.as_slice())?;
-    String::from_str(alloc, shown(text.as_str()))
-}
-
-/// A text, or `=` where it is empty.
-fn shown(text: &str) -> &str
-    ensures { result.now ≡ or_equals text.now }
-{
-    if text.is_empty() { "=" } else { text }
-}
-
-/// Names with commas between them.
-#[tactic(auto, using(crate::proofs::ObjectLines::joined_is))]
-fn joined(alloc: Global, names: &[&str]) -> Result<String, AllocError>
-    ensures { IfOk result (λ text. string_bytes text
-        ≡ with_commas (map (λ name. name.now) names.now)) }
-{
     let mut text = String::new(alloc);
-    let mut is_first = true;
-    for name in names {
-        push_next(&mut text, is_first, name)?;
-        is_first = false;
-    }
+    push_promises(alloc, &mut text, promises)?;
     Ok(text)
-}
-
-/// Adds a name, with a comma before it unless it is the first.
-fn push_next(text: &mut String, is_first: bool, name: &str) -> Result<(), AllocError>
-    ensures { OnOk result (string_bytes text.new ≡ string_bytes text.old
-        ++ ((if is_first then [] else 44 ∷ []) ++ name.now)) }
-{
-    if !is_first {
-        text.push_str(",")?;
-    }
-    text.push_str(name)
 }

@@ -1,17 +1,18 @@
 //! The lines of veils, written in blocks.
 
-ghost use Rattle.std.specs.Prelude.{◌≡◌, ◌≤◌, ◌++◌, ◌∷◌, [], codes, length, map};
+ghost use Rattle.std.specs.Prelude.{◌≡◌, ◌++◌, ◌∷◌, [], codes, map};
 ghost use Rattle.pua_calls.specs.Promises.{perm_letters};
 ghost use Rattle.pua_texts.specs.Blocks.{PassesOn};
 ghost use Rattle.pua_texts.specs.States.{or_equals, path_or_hyphen, veil_lines};
 
 use crate::block::Block;
-use crate::object_line::add_path;
+use crate::list_line::add_path;
 use crate::places::Places;
 use pua_calls::Perms;
 use pua_io::{PutFault, Sink};
 use pua_policy::Place;
 use pua_tree::{FileTree, Name};
+use pua_why::letters;
 
 /// Adds a line for each veil.
 pub(crate) fn add_veils<'t, T: FileTree, S: Sink>(
@@ -76,16 +77,7 @@ fn add_letters<S: Sink>(block: &mut Block, perms: Perms, sink: &mut S) -> Result
         result block.old block.new sink.old sink.new }
 {
     block.make_room(sink)?;
-    block.push(shown_letters(perms).as_bytes());
+    block.push(letters(perms).as_bytes());
     block.push(b"\n");
     Ok(())
-}
-
-/// The letters of a veil, or `=` where it has none.
-pub(crate) fn shown_letters(perms: Perms) -> &'static str
-    ensures letters { result.now ≡ or_equals (perm_letters perms) }
-    ensures short { length result.now ≤ 4 }
-{
-    let letters = perms.letters();
-    if letters.is_empty() { "=" } else { letters }
 }

@@ -1,21 +1,24 @@
-//! The lists of processes with reasons, written one after another.
+//! The lists of the objects of processes with reasons.
 
-ghost use Rattle.std.specs.Prelude.{◌≡◌, ◌++◌, ℕ, List, Option, IfOk, OnOk};
+ghost use Rattle.std.specs.Prelude.{◌≡◌, ◌++◌, ℕ, List, Option, IfOk};
 ghost use Rattle.std.specs.Prelude.{flat_map, length, map};
 ghost use Rattle.pua_policy.specs.History.{History, StandsFor};
 ghost use Rattle.pua_script.specs.Worlds.{StandsForWorld};
-ghost use Rattle.pua_texts.specs.Blocks.{PassesOn};
 ghost use Rattle.pua_since.specs.Dates.{veil_date, veils_at};
+ghost use Rattle.pua_texts.specs.ListLines.{list_text, lists_text};
 ghost use Rattle.pua_texts.specs.VeilDates.{veil_dates};
-ghost use Rattle.pua_texts.specs.WhyLists.{AreWhyListsOf, IsPushed};
-ghost use Rattle.pua_texts.specs.WhyLines.{Posed as Asking, why_lists_of, world_left};
+ghost use Rattle.pua_texts.specs.WhyLines.{Posed as Asking, why_list, why_lists_of, world_left};
 ghost use Rattle.pua_texts.specs.Tells.{TellsTo};
 
-use crate::block::Block;
 use crate::fault::TextFault;
-use crate::places::Places;
-use crate::why_list::WhyList;
-use pua_io::{PutFault, Sink};
+use crate::lists::write_all;
+use crate::object_lines::why_lines;
+use crate::process_head::ProcessHead;
+use crate::process_list::ProcessList;
+use crate::veil_columns::veil_columns;
+use pua_calls::CallTable;
+use pua_io::Sink;
+use pua_objects::list_items;
 use pua_policy::Process;
 use pua_script::World;
 use pua_tree::{FileTree, OutOfMemory};
@@ -41,24 +44,21 @@ pub fn write_why_lists<T: FileTree, S: Sink>(
         result sink.old sink.new }
 {
     let mut lists = begin_lists(alloc, world, numbers, lines)?;
-    let mut places = Places::new(alloc, world.tree())?;
-    let mut block = Block::new(alloc)?;
-    let added = add_lists(&mut block, front, &mut lists, &mut places, sink);
-    block.finish(added, sink)
+    write_all(alloc, world.tree(), front, &mut lists, sink)
 }
 
-/// Begins the list of each of these processes that was ever made, whose veils are so since these lines.
-/// The only error is that a growth was refused.
+/// The list of each of these processes that was ever made, whose veils are so since these lines. The
+/// only error is that a growth was refused.
 fn begin_lists<'t, T: FileTree>(
     alloc: Global,
     world: &'t World<T>,
     numbers: &[u32],
     lines: &[Option<usize>],
-) -> Result<VecDeque<WhyList<'t, T>>, OutOfMemory>
+) -> Result<VecDeque<ProcessList<'t>>, OutOfMemory>
     ensures { IfOk result (λ lists. (p : Asking) → StandsForWorld world.now (world_left p) →
         world.now.table ≡ p.table → lines.now
         ≡ map (veil_date p.table p.world p.asks) (flat_map (veils_at world.now) numbers.now) →
-        AreWhyListsOf p numbers.now lists.items) }
+        lists_text (world_left p).tree lists.items ≡ why_lists_of p numbers.now) }
 {
     let mut lists = VecDeque::new(alloc);
     let mut left = lines;
@@ -67,7 +67,10 @@ fn begin_lists<'t, T: FileTree>(
             continue;
         };
         let (own, more) = split_lines(alloc, process, left)?;
-        push_list(alloc, world, *number, process, own, &mut lists)?;
+        let list = begin_list(alloc, world.tree(), world.table(), *number, process, own)?;
+        let Ok(()) = lists.push_back(list) else {
+            return Err(OutOfMemory);
+        };
         left = more;
     }
     Ok(lists)
@@ -88,45 +91,25 @@ fn split_lines<'l>(
     Ok(left.split_at(places.len().min(left.len())))
 }
 
-/// Begins the list of a process with this number, whose veils are so since these lines, behind other
-/// lists. The only error is that a growth was refused.
-fn push_list<'t, T: FileTree>(
+/// The list of a process with this number, whose veils are so since these lines. The only error is that
+/// a growth was refused.
+fn begin_list<'t, T: FileTree>(
     alloc: Global,
-    world: &'t World<T>,
+    tree: &'t T,
+    table: &CallTable,
     number: u32,
     process: &'t Process,
     lines: &[Option<usize>],
-    lists: &mut VecDeque<WhyList<'t, T>>,
-) -> Result<(), OutOfMemory>
-    ensures { OnOk result ((p : Asking) (h : History) → StandsForWorld world.now (world_left p) →
-        world.now.table ≡ p.table → StandsFor process.now h →
+) -> Result<ProcessList<'t>, OutOfMemory>
+    ensures { IfOk result (λ list. (p : Asking) (h : History) →
+        T.content tree.now ≡ (world_left p).tree → table.now ≡ p.table →
+        StandsFor process.now h →
         lines.now ≡ veil_dates p number process.now.veils →
-        IsPushed p number h lists.old.items lists.new.items) }
+        list_text (world_left p).tree list ≡ why_list p number h) }
 {
-    let list = WhyList::begin(alloc, world.tree(), world.table(), number, process, lines)?;
-    let Ok(()) = lists.push_back(list) else {
-        return Err(OutOfMemory);
-    };
-    Ok(())
-}
-
-/// Adds the front of a text to a block, and then lists, one after another.
-fn add_lists<'t, T: FileTree, S: Sink>(
-    block: &mut Block,
-    front: &str,
-    lists: &mut VecDeque<WhyList<'t, T>>,
-    places: &mut Places<'t, T>,
-    sink: &mut S,
-) -> Result<(), PutFault>
-    ensures { (p : Asking) (numbers : List ℕ) → places.old.tree ≡ (world_left p).tree →
-        AreWhyListsOf p numbers lists.old.items →
-        PassesOn S.written S.failed
-        (front.now ++ why_lists_of p numbers)
-        result block.old block.new sink.old sink.new }
-{
-    block.add_text(front.as_bytes(), sink)?;
-    while let Some(mut list) = lists.pop_front() {
-        list.add_to(block, places, sink)?;
-    }
-    Ok(())
+    let head = ProcessHead::begin(alloc, "objects", number, process)?;
+    let items = list_items(alloc, tree, process)?;
+    let mut columns = veil_columns(alloc, tree, process, lines)?;
+    let lines = why_lines(alloc, process, table, items.as_slice(), &mut columns)?;
+    ProcessList::new(alloc, head, lines, columns)
 }

@@ -19,6 +19,6 @@ pub use laws::{
 };
 pub use passed::facts;
 pub use reasons::{checked, reason};
-pub use texts::{push_fact, push_reason, push_since};
+pub use texts::{letters, push_fact, push_place, push_promises, push_reason, push_since};
 pub use told::{Fact, Fault, Reason, Side};
 pub use tree_paths::TreePaths;

@@ -1,7 +1,7 @@
 //! Reasons and facts as they are written.
 
-ghost use Rattle.std.specs.Prelude.{◌≡◌, ◌++◌, ◌∷◌, [], codes, if◌then◌else◌, IfOk, OnOk, map};
-ghost use Rattle.std.specs.Prelude.{string_bytes};
+ghost use Rattle.std.specs.Prelude.{◌≡◌, ◌≤◌, ◌++◌, ◌∷◌, [], codes, if◌then◌else◌, IfOk, OnOk, map};
+ghost use Rattle.std.specs.Prelude.{length, string_bytes};
 ghost use Rattle.pua_tree.specs.Tree.{Tree};
 ghost use Rattle.pua_calls.specs.Promises.{lacking};
 ghost use Rattle.pua_path.specs.declared.traced.PathFault.TheVariants as faults;
@@ -147,8 +147,9 @@ fn push_no(alloc: Global, text: &mut String, lacks: Promises) -> Result<(), Allo
     push_promises(alloc, text, lacks)
 }
 
-/// Adds the keywords of promises with commas between them, and `=` for none.
-fn push_promises(alloc: Global, text: &mut String, promises: Promises) -> Result<(), AllocError>
+/// Adds the keywords of promises with commas between them, and `=` for none. The only error is that a
+/// growth was refused.
+pub fn push_promises(alloc: Global, text: &mut String, promises: Promises) -> Result<(), AllocError>
     ensures { OnOk result (string_bytes text.new
         ≡ string_bytes text.old ++ promises_text promises) }
 {
@@ -186,10 +187,12 @@ fn push_next(text: &mut String, is_first: bool, name: &str) -> Result<(), AllocE
 }
 
 /// The letters of permissions, and `=` for none.
-fn letters(perms: Perms) -> &'static str
-    ensures { result.now ≡ letters_text perms }
+pub fn letters(perms: Perms) -> &'static str
+    ensures letters { result.now ≡ letters_text perms }
+    ensures short { length result.now ≤ 4 }
 {
-    shown(perms.letters())
+    let letters = perms.letters();
+    if letters.is_empty() { "=" } else { letters }
 }
 
 /// A text, or `=` where it is empty.
@@ -235,8 +238,12 @@ pub(crate) fn push_veil(
     push_place(text, paths, place)
 }
 
-/// Adds where a place is.
-fn push_place(text: &mut String, paths: &mut TreePaths<'_>, place: &Place) -> Result<(), AllocError>
+/// Adds where a place is. The only error is that a growth was refused.
+pub fn push_place(
+    text: &mut String,
+    paths: &mut TreePaths<'_>,
+    place: &Place,
+) -> Result<(), AllocError>
     ensures text { OnOk result ((t : Tree) → paths.old.rows ≡ t.rows →
         string_bytes text.new ≡ string_bytes text.old ++ place_text t place.now) }
     ensures rows { paths.new.rows ≡ paths.old.rows }

@@ -1,8 +1,8 @@
-use Rattle.pua_texts.proofs.Common.{[], Ok, refl, sym, subst, ap, ◌∙◌, take, err_from_is_err_and, History, StandsFor, ever_lines_of}
-use Rattle.pua_texts.proofs.Common.{ever_lines, Word, KeptPathState, IsKept}
+use Rattle.pua_texts.proofs.Common.{[], List, ℕ, Ok, Err, refl, sym, subst, ap, ◌∙◌, take, err_from_is_err_and, History, StandsFor, ever_lines_of}
+use Rattle.pua_texts.proofs.Common.{ever_lines, Word, KeptPathState, IsKept, Passes}
 use Rattle.pua_texts.proofs.KeptPaths.{nothing_kept}
 use Rattle.pua_texts.proofs.Passing.{passes_none, passing_none, passing_more, passing_fails, passing_last}
-use Rattle.pua_texts.proofs.EverLines.{text_given, line_next, no_line}
+use Rattle.pua_texts.proofs.EverLines.{text_given, line_next, no_line, whole_given}
 use Rattle.pua_texts.proofs.ever_line.add_ever.Goals as goal
 
 pub loop-line-init : goal.loop-line-init
@@ -37,14 +37,17 @@ loop-line-preserved g c =
       process = c.next_line.ensures.of.1 ∙ c.loop-line.invariant.process;
       table = c.next_line.ensures.of.2 ∙ c.loop-line.invariant.table;
       kept = subst (λ (w : Word). IsKept w c.go_to.new.self) c.word-word.ensures kept;
-      lines = λ h stands. passing_more (all h) (left h) given (more h) c.args.block.now c.loop-line.block c.add_thing.new.block
-          (g.S.Sink.written c.args.sink.now) (g.S.Sink.written c.loop-line.sink) (g.S.Sink.written c.add_thing.new.sink)
-          (g.S.Sink.failed c.args.sink.now) (g.S.Sink.failed c.loop-line.sink) (g.S.Sink.failed c.add_thing.new.sink)
-          (c.loop-line.invariant.lines h stands) (next h stands) c.in_ok-add_thing.ensures;
+      lines = λ h stands. passing_more (all h) (left h) given (more h) c.args.block.now c.loop-line.block c.add_line.new.block
+          (g.S.Sink.written c.args.sink.now) (g.S.Sink.written c.loop-line.sink) (g.S.Sink.written c.add_line.new.sink)
+          (g.S.Sink.failed c.args.sink.now) (g.S.Sink.failed c.loop-line.sink) (g.S.Sink.failed c.add_line.new.sink)
+          (c.loop-line.invariant.lines h stands) (next h stands)
+          (subst (λ (text : List ℕ). Passes text (Ok tt) c.loop-line.block c.add_line.new.block (g.S.Sink.written c.loop-line.sink)
+          (g.S.Sink.written c.add_line.new.sink) (g.S.Sink.failed c.loop-line.sink) (g.S.Sink.failed c.add_line.new.sink))
+          (whole_given c.args.columns.now c.in-Some.line c.word-word.result.now c.requires.plain) c.in_ok-add_line.ensures);
     }
 
-pub returns-in_err-add_thing : goal.returns-in_err-add_thing
-returns-in_err-add_thing g c =
+pub returns-in_err-add_line : goal.returns-in_err-add_line
+returns-in_err-add_line g c =
     let t = c.args.list.now.tree in
     let all = λ (h : History). ever_lines t (ever_lines_of t c.args.list.now.table h c.args.list.now.left) in
     let left = λ (h : History). ever_lines t (ever_lines_of t c.args.list.now.table h c.loop-line.list.left) in
@@ -57,9 +60,12 @@ returns-in_err-add_thing g c =
     in
     let p = err_from_is_err_and c.from_residual.result c.from_residual.ensures.1 in
     rw p.1 (λ h stands. passing_fails (all h) (left h) given (more h) c.args.block.now c.loop-line.block [] [] p.0
-    (g.S.Sink.written c.args.sink.now) (g.S.Sink.written c.loop-line.sink) (g.S.Sink.written c.add_thing.new.sink)
-    (g.S.Sink.failed c.args.sink.now) (g.S.Sink.failed c.loop-line.sink) (g.S.Sink.failed c.add_thing.new.sink)
-    (c.loop-line.invariant.lines h stands) (next h stands) c.in_err-add_thing.ensures)
+    (g.S.Sink.written c.args.sink.now) (g.S.Sink.written c.loop-line.sink) (g.S.Sink.written c.add_line.new.sink)
+    (g.S.Sink.failed c.args.sink.now) (g.S.Sink.failed c.loop-line.sink) (g.S.Sink.failed c.add_line.new.sink)
+    (c.loop-line.invariant.lines h stands) (next h stands)
+    (subst (λ (text : List ℕ). Passes text (Err p.0) c.loop-line.block [] (g.S.Sink.written c.loop-line.sink)
+    (g.S.Sink.written c.add_line.new.sink) (g.S.Sink.failed c.loop-line.sink) (g.S.Sink.failed c.add_line.new.sink))
+    (whole_given c.args.columns.now c.in-Some.line c.word-word.result.now c.requires.plain) c.in_err-add_line.ensures))
 
 pub returns : goal.returns
 returns g c =
@@ -76,8 +82,8 @@ returns g c =
     c.in_default.ensures.line.0)
     (passes_none c.loop-line.block (g.S.Sink.written c.loop-line.sink) (g.S.Sink.failed c.loop-line.sink))
 
-pub add_thing-requires : goal.add_thing-requires
-add_thing-requires g c =
+pub add_line-requires : goal.add_line-requires
+add_line-requires g c =
     let same = ap (λ n. take n c.loop-line.list.word) c.shared.ensures ∙ sym c.next_line.ensures.shared ∙
     ap (λ n. take n c.next_line.new.self.word) (sym c.shared.ensures) ∙ ap (take c.shared.result) (sym c.word-word.ensures) in
     let kept = c.go_to.ensures c.loop-line.list.word c.loop-line.invariant.kept same in

@@ -2,6 +2,7 @@ use Rattle.pua_texts.proofs.Common.{List, ℕ, [], Ok, Err, ap, subst, ◌∙◌
 use Rattle.pua_texts.proofs.Common.{ever_lines, head_lines}
 use Rattle.pua_ever.specs.Ever.{ever}
 use Rattle.pua_texts.specs.EverLines.{ever_list}
+use Rattle.pua_texts.proofs.OneByOne.{head_is}
 use Rattle.pua_texts.proofs.Passing.{passes_then, passes_front}
 use Rattle.pua_texts.proofs.ever_list.add_list.Goals as goal
 
@@ -29,7 +30,9 @@ returns-in_err-add_to g c =
     (passes_front (head_lines t (codes "ever") process h) (ever_lines t (ever t table h)) c.add_text.new.self [] [] p.0
     (g.S.Sink.written c.add_text.new.sink) (g.S.Sink.written c.add_to.new.sink) (g.S.Sink.failed c.add_text.new.sink)
     (g.S.Sink.failed c.add_to.new.sink)
-    (c.in_err-add_to.ensures.head (codes "ever") process h headed)))
+    (subst (λ (text : List ℕ). Passes text (Err p.0) c.add_text.new.self [] (g.S.Sink.written c.add_text.new.sink)
+    (g.S.Sink.written c.add_to.new.sink) (g.S.Sink.failed c.add_text.new.sink) (g.S.Sink.failed c.add_to.new.sink))
+    (head_is t (codes "ever") process h c.args.head.now headed) c.in_err-add_to.ensures.head)))
 
 pub returns : goal.returns
 returns g c = λ table process h headed is.
@@ -46,7 +49,9 @@ returns g c = λ table process h headed is.
     c.add_ever.new.block c.add_ever.result
     (g.S.Sink.written c.add_text.new.sink) (g.S.Sink.written c.add_to.new.sink) (g.S.Sink.written c.add_ever.new.sink)
     (g.S.Sink.failed c.add_text.new.sink) (g.S.Sink.failed c.add_to.new.sink) (g.S.Sink.failed c.add_ever.new.sink)
-    (c.in_ok-add_to.ensures.head (codes "ever") process h headed)
+    (subst (λ (text : List ℕ). Passes text (Ok tt) c.add_text.new.self c.add_to.new.block (g.S.Sink.written c.add_text.new.sink)
+    (g.S.Sink.written c.add_to.new.sink) (g.S.Sink.failed c.add_text.new.sink) (g.S.Sink.failed c.add_to.new.sink))
+    (head_is t (codes "ever") process h c.args.head.now headed) c.in_ok-add_to.ensures.head)
     (subst (λ (text : List ℕ). Passes text c.add_ever.result c.add_to.new.block c.add_ever.new.block (g.S.Sink.written c.add_to.new.sink)
     (g.S.Sink.written c.add_ever.new.sink) (g.S.Sink.failed c.add_to.new.sink) (g.S.Sink.failed c.add_ever.new.sink)) listed
     (c.add_ever.ensures h is.stands)))

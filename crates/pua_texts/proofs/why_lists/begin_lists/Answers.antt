@@ -1,9 +1,8 @@
-use Rattle.pua_texts.proofs.Common.{◌≡◌, List, ℕ, ◌+◌, ◌++◌, ◌∷◌, [], drop, get_or, map, sym, subst, take, take_all, arith, flat_map}
-use Rattle.pua_texts.proofs.Common.{take_more, history_of, veil_date, veils_at, veil_dates, AreWhyListsOf, IsWhyListOf, world_left}
-use Rattle.std.proofs.Common.{Option}
-use Rattle.pua_texts.specs.WhyLists.{WhyListState}
+use Rattle.pua_texts.proofs.Common.{◌≡◌, List, ℕ, ◌+◌, ◌++◌, drop, get_or, map, sym, ap, ◌∙◌, take_all, arith, flat_map, Option}
+use Rattle.pua_texts.proofs.Common.{history_of, veil_date, veils_at, veil_dates, why_lists_of, world_left}
 use Rattle.pua_script.proofs.ForCallers.{is_made, none_made}
-use Rattle.pua_texts.proofs.Lists.{one_more, none_more}
+use Rattle.pua_texts.specs.WhyLines.{why_list}
+use Rattle.pua_texts.proofs.OneByOne.{one_more, none_more}
 use Rattle.pua_texts.proofs.VeilDates.{length_dates, none_dated, some_dated}
 use Rattle.pua_texts.proofs.why_lists.begin_lists.Goals as goal
 
@@ -13,9 +12,8 @@ loop-number-preserved-in_default g c = λ p stands ruled dated.
     let i = c.loop-number.number-index in
     let now = c.loop-number.invariant p stands ruled dated in (
       none_dated p c.args.world.now numbers i _ c.loop-number-test.true c.loop-number.left.now (sym c.in_default.ensures.state) now.0,
-      subst (λ (ns : List ℕ). AreWhyListsOf p ns c.loop-number.lists.items) (sym (take_more numbers i _ c.loop-number-test.true))
-          (none_more (history_of (world_left p)) (IsWhyListOf p) (take i numbers) c.loop-number.lists.items _ now.1
-          (none_made (history_of (world_left p) _) (c.in_default.ensures.history (world_left p) stands))),
+      none_more (history_of (world_left p)) (why_list p) (world_left p).tree numbers i _ c.loop-number-test.true c.loop-number.lists.items
+          now.1 (none_made (history_of (world_left p) _) (c.in_default.ensures.history (world_left p) stands)),
     )
 
 pub loop-number-preserved : goal.loop-number-preserved
@@ -33,16 +31,13 @@ loop-number-preserved g c = λ p stands ruled dated.
     some_dated p c.args.world.now numbers i _ c.loop-number-test.true left process made.history (sym c.in-Some.ensures.state) made.is
     made.stands now.0 in
     let split = c.in_ok-own.ensures own rest (length_dates p number process.veils) is in
-    let pushed = c.in_ok-push_list.ensures p made.history stands ruled made.stands split.0 in (
+    let listed = c.in_ok-list.ensures p made.history (c.tree.ensures ∙ stands.tree) (c.table.ensures ∙ ruled) made.stands split.0 in (
       split.1,
-      subst (λ (lists : List WhyListState). AreWhyListsOf p (take (i + 1) numbers) lists) (sym pushed.items)
-          (subst (λ (ns : List ℕ). AreWhyListsOf p ns (c.loop-number.lists.items ++ pushed.list ∷ []))
-          (sym (take_more numbers i _ c.loop-number-test.true))
-          (one_more (history_of (world_left p)) (IsWhyListOf p) (take i numbers) c.loop-number.lists.items _ made.history pushed.list now.1
-          made.is pushed.is)),
+      one_more (history_of (world_left p)) (why_list p) (world_left p).tree numbers i _ c.loop-number-test.true c.loop-number.lists.items
+          c.push_back.new.self.items c.in_ok-list.list made.history now.1 made.is c.in-Ok.ensures.items listed,
     )
 
 pub returns : goal.returns
 returns g c = λ p stands ruled dated.
-    subst (λ (ns : List ℕ). AreWhyListsOf p ns c.loop-number.lists.items) (take_all c.loop-number.number-index c.args.numbers.now
-    (omega (arith, c.loop-number-test.false))) (c.loop-number.invariant p stands ruled dated).1
+    (c.loop-number.invariant p stands ruled dated).1 ∙
+    ap (why_lists_of p) (take_all c.loop-number.number-index c.args.numbers.now (omega (arith, c.loop-number-test.false)))

@@ -1,0 +1,27 @@
+use Rattle.pua_texts.proofs.Common.{◌≡◌, ◌∷◌, ◌++◌, ◌+◌, [], sym, subst, refl, drop, arith, None, List}
+use Rattle.pua_texts.specs.ColumnsState.{plain}
+use Rattle.pua_objects.specs.ListItems.{items_told}
+use Rattle.pua_texts.specs.ListLines.{last_word, lines_text}
+use Rattle.pua_texts.specs.declared.list_line.ListLine.{ListLine}
+use Rattle.pua_texts.proofs.ItemLines.{told, told_all, told_at, told_more}
+use Rattle.pua_texts.proofs.object_lines.object_lines.Goals as goal
+
+pub loop-item-preserved : goal.loop-item-preserved
+loop-item-preserved c = λ t h stands all.
+    let table = c.args.table.now in
+    let items = c.args.items.now in
+    let i = c.loop-item.item-index in
+    let item = c.item-item.result in
+    let here = told_at t c.args.process.now items item i c.loop-item-test.true c.item-item.is all in
+    subst (λ (lines : List ListLine). lines_text plain [] lines ++ told t table h (λ line. 10 ∷ [])
+    (items_told t (last_word [] lines) (drop (i + 1) items)) ≡ told t table h (λ line. 10 ∷ []) (items_told t [] items))
+    (sym c.in-Ok.ensures.items)
+    (told_more t table h (λ line. 10 ∷ []) plain items item i c.loop-item-test.true c.item-item.is c.name.result c.name.ensures
+    c.allowed_line-line.result
+    (c.allowed_line-line.ensures c.args.process.now table t h _ c.new-allowed.ensures stands (here.tells h stands)) 0 None c.loop-item.lines.items _ (λ word. refl)
+    (c.loop-item.invariant t h stands all))
+
+pub returns : goal.returns
+returns c = λ t h stands all.
+    told_all t c.args.table.now h (λ line. 10 ∷ []) plain c.args.items.now c.loop-item.item-index c.loop-item.lines.items _
+    (omega (arith, c.loop-item-test.false)) (c.loop-item.invariant t h stands all)

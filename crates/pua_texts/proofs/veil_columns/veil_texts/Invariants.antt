@@ -1,0 +1,13 @@
+use Rattle.pua_texts.proofs.Common.{◌≡◌, ℕ, map, take, string_bytes, veil_dates, veils_behind, Posed, world_left}
+use Rattle.std.specs.Prelude.{vec_len}
+use Rattle.pua_texts.proofs.States.{shown}
+use Rattle.pua_texts.proofs.veil_columns.veil_texts.Given as goal
+
+-- the columns so far are those of the veils so far
+abbrev pub invariant-loop-veil : goal.invariant-loop-veil
+invariant-loop-veil l = record {
+  rows : l.paths.rows ≡ l.fn.paths.rows;
+  count : vec_len l.texts ≡ l.veil-index;
+  texts : (p : Posed) (number : ℕ) → l.fn.paths.rows ≡ (world_left p).tree.rows → l.lines ≡ veil_dates p number (map shown l.veils) →
+      map string_bytes l.texts.items ≡ veils_behind p number (map shown (take l.veil-index l.veils));
+}

@@ -1,0 +1,68 @@
+//! Lists, written one after another.
+
+ghost use Rattle.std.specs.Prelude.{◌++◌};
+ghost use Rattle.pua_texts.specs.Blocks.{PassesOn};
+ghost use Rattle.pua_texts.specs.ListLines.{lists_text};
+ghost use Rattle.pua_texts.specs.Tells.{TellsTo};
+
+use crate::block::Block;
+use crate::calls_text::CallsTexts;
+use crate::fault::TextFault;
+use crate::kept_path::KeptPath;
+use crate::places::Places;
+use crate::process_list::ProcessList;
+use pua_io::{PutFault, Sink};
+use pua_tree::FileTree;
+use std::alloc::Global;
+use std::collections::VecDeque;
+
+/// Writes the front of a text, and then these lists, one after another. `OutOfMemory` where a growth
+/// was refused, before anything is written. `Write` only where a put failed in this call, after a front
+/// of the text.
+pub(crate) fn write_all<'t, T: FileTree, S: Sink>(
+    alloc: Global,
+    tree: &'t T,
+    front: &str,
+    lists: &mut VecDeque<ProcessList<'t>>,
+    sink: &mut S,
+) -> Result<(), TextFault>
+    ensures { TellsTo S.written S.failed
+        (front.now ++ lists_text (T.content tree.now) lists.old.items)
+        result sink.old sink.new }
+{
+    let mut places = Places::new(alloc, tree)?;
+    let mut path = KeptPath::new(alloc)?;
+    let mut texts = CallsTexts::new(alloc)?;
+    let mut block = Block::new(alloc)?;
+    let added = add_lists(
+        &mut block,
+        front,
+        lists,
+        &mut places,
+        &mut path,
+        &mut texts,
+        sink,
+    );
+    block.finish(added, sink)
+}
+
+/// Adds the front of a text to a block, and then lists, one after another.
+fn add_lists<'t, T: FileTree, S: Sink>(
+    block: &mut Block,
+    front: &str,
+    lists: &mut VecDeque<ProcessList<'t>>,
+    places: &mut Places<'t, T>,
+    path: &mut KeptPath,
+    texts: &mut CallsTexts,
+    sink: &mut S,
+) -> Result<(), PutFault>
+    ensures { PassesOn S.written S.failed
+        (front.now ++ lists_text places.old.tree lists.old.items)
+        result block.old block.new sink.old sink.new }
+{
+    block.add_text(front.as_bytes(), sink)?;
+    while let Some(mut list) = lists.pop_front() {
+        list.add_to(block, places, path, texts, sink)?;
+    }
+    Ok(())
+}
