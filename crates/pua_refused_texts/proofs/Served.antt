@@ -1,11 +1,10 @@
 -- What is answered by a text of a table that is no TOML.
 use Rattle.std.proofs.Common.{◌≡◌, ◌≢◌, ℕ, List, Option, Some, Result, Ok, Err, true, refl, sym, ◌∙◌}
-use Rattle.std.specs.Prelude.{OnOk}
 use Rattle.std.specs.Result.{is_ok}
-use Rattle.pua_io.specs.Sinks.{Adds}
 use Rattle.pua_calls.specs.TableTexts.{table_of}
 use Rattle.pua_calls.specs.declared.table.read.TableFault.TheVariants.{BadToml}
 use Rattle.pua_tree.specs.declared.fault.ListingFault.{ListingFault}
+use Rattle.pua_tool.specs.Answers.{Answers}
 use Rattle.pua_tool.specs.Texts.{by_profile, replay_of, run_text}
 use Rattle.pua_tool.specs.declared.fault.ToolFault.{ToolFault}
 use Rattle.pua_tool.specs.declared.fault.ToolFault.TheVariants.{Listing, OutOfMemory, Table, Write}
@@ -16,10 +15,10 @@ unfolding replay_of
 bad_table text tree script bad = rw bad refl
 
 -- such a text is not written
-pub not_served : (result : Result (Unit {0}) ToolFault) (answer : Result (List ℕ) ToolFault) (old new : Option (List ℕ)) →
-    OnOk result ((text : List ℕ) × (answer ≡ Ok text) × Adds text old new) → is_ok result ≡ true → answer ≡ Err (Table BadToml) → ⊥
-not_served (Ok done) answer old new whole ok bad = let clash = sym whole.1 ∙ bad in cc
-not_served (Err fault) answer old new whole ok bad = cc
+pub not_served : (result : Result (Unit {0}) ToolFault) (answer : Result (List ℕ) ToolFault) (old new : Option (List ℕ)) (before after : ℕ) →
+    Answers answer result old new before after → is_ok result ≡ true → answer ≡ Err (Table BadToml) → ⊥
+not_served (Ok done) answer old new before after answered ok bad = let clash = sym answered.is ∙ bad in cc
+not_served (Err fault) answer old new before after answered ok bad = cc
 
 -- nor is the listing refused
 pub not_listed : (answer : Result (List ℕ) ToolFault) (fault : ToolFault) (refusal : ListingFault) →

@@ -16,7 +16,8 @@ pub use Rattle.pua_texts.specs.Tells.{Tells}
 pub use Rattle.pua_tree.specs.Listing.{listing}
 pub use Rattle.pua_tree.specs.Steps.{◌>>=◌}
 pub use Rattle.pua_tree.specs.Tree.{Tree}
-pub use Rattle.pua_tool.specs.EverTexts.{Answers, unless_reason}
+pub use Rattle.pua_tool.specs.Answers.{Answers, AnswersTo}
+pub use Rattle.pua_tool.specs.EverTexts.{unless_reason}
 pub use Rattle.pua_tool.specs.Texts.{as_audit, as_listing, as_script, choice_of, Chosen, Replayed, table_by}
 unfoldable pub use Rattle.pua_tool.specs.Texts.{replay_of}
 pub use Rattle.pua_tool.specs.declared.fault.ToolFault.{ToolFault}

@@ -4,8 +4,7 @@ pub mod Tables
 pub mod Futures
 pub mod Alike
 pub mod ObjectTexts
-pub mod EverTexts
-pub mod AuditTexts
+pub mod TextAnswers
 pub mod Written
 pub mod Stops
 pub mod Ends

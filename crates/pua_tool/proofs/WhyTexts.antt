@@ -1,6 +1,6 @@
 -- The texts with reasons, step by step.
-use Rattle.pua_tool.proofs.Common.{◌≡◌, ℕ, List, ◌∷◌, ◌++◌, ◌∙◌, map, sym, subst, ap, Option, Result, flat_map, Tree, listing, ◌>>=◌}
-use Rattle.pua_tool.proofs.Common.{CallTable, Asked, script, World, new_world, world_after, StandsForWorld, Answers, Chosen, as_listing}
+use Rattle.pua_tool.proofs.Common.{◌≡◌, ℕ, List, ◌∷◌, ◌++◌, ◌∙◌, map, sym, subst, ap, Result, flat_map, Tree, listing, ◌>>=◌}
+use Rattle.pua_tool.proofs.Common.{CallTable, Asked, script, World, new_world, world_after, StandsForWorld, Chosen, as_listing}
 use Rattle.pua_tool.proofs.Common.{as_script, table_by, ToolFault}
 use Rattle.std.proofs.Common.{◌+◌, ◌<◌, ◌≤◌, get_or, drop, length, append-nil}
 use Rattle.std.proofs.Common.{append_assoc}
@@ -8,14 +8,10 @@ use Rattle.std.specs.Prelude.{Ok, Err}
 use Rattle.std.specs.Borrow.{Bor}
 use Rattle.std.proofs.lemmas.List.{drop_more}
 use Rattle.std.proofs.Math.ListN.{drop_of_length-le}
-use Rattle.pua_script.specs.Scripts.{request_of}
 use Rattle.pua_script.specs.Worlds.{WorldState}
 use Rattle.pua_script.specs.declared.fault.ScriptFault.{ScriptFault}
-use Rattle.pua_words.specs.declared.command.Processes.{Processes}
 use Rattle.pua_texts.specs.WhyLines.{Posed}
-use Rattle.pua_tool.specs.WhyTexts.{as_request, chain_lines, objects_why_text, posed_script, reason_lines, request_line, run_why_text}
-use Rattle.pua_tool.specs.WhyTexts.{why_lists_asked, why_text}
-use Rattle.pua_tool.proofs.EverTexts.{answers_told}
+use Rattle.pua_tool.specs.WhyTexts.{posed_script}
 use Rattle.pua_tool.proofs.Replays.{left_by_same}
 
 -- what is read of a script without a fault
@@ -62,69 +58,6 @@ module _ (choice : Chosen) (tree_bytes script_bytes : List ℕ) where
       → posed_script choice tree_bytes script_bytes ≡ Err fault
   unfolding posed_script
   script_refuses table t fault b l s = λ i. b i >>= λ table. l i >>= λ t. asked table t (s i)
-
-  -- what refuses a run comes first
-  pub run_refuses : (fault : ToolFault) → posed_script choice tree_bytes script_bytes ≡ Err fault →
-      run_why_text choice tree_bytes script_bytes ≡ Err fault
-  run_refuses fault is = λ i. is i >>= λ p. Ok (reason_lines p)
-
-  -- the lines of a run that is told are the answer
-  pub run_told : (p : Posed) (r : Result (Unit {0}) ToolFault) (a b : Option (List ℕ)) (n m : ℕ) →
-      posed_script choice tree_bytes script_bytes ≡ Ok p
-      → Answers (Ok (reason_lines p)) r a b n m → Answers (run_why_text choice tree_bytes script_bytes) r a b n m
-  run_told p r a b n m is =
-      answers_told (run_why_text choice tree_bytes script_bytes) (reason_lines p) r a b n m (λ i. is i >>= λ p. Ok (reason_lines p))
-
-  module _ (process : ℕ) (fields : List (List ℕ)) where
-    abbrev request : Result Asked ToolFault
-    request = as_request (request_of 1 (request_line process fields))
-
-    abbrev told_by : Posed → Result Asked ToolFault → Result (List ℕ) ToolFault
-    told_by p read = read >>= λ ask. Ok (chain_lines p ask)
-
-    -- what refuses the script comes first
-    pub why_refuses : (fault : ToolFault) → posed_script choice tree_bytes script_bytes ≡ Err fault →
-        why_text choice tree_bytes script_bytes process fields ≡ Err fault
-    unfolding why_text
-    why_refuses fault is = λ i. is i >>= λ p. told_by p request
-
-    -- what refuses the request comes where the script is not refused
-    pub request_refuses : (p : Posed) (fault : ToolFault) → posed_script choice tree_bytes script_bytes ≡ Ok p →
-        as_request (request_of 1 (request_line process fields)) ≡ Err fault
-        → why_text choice tree_bytes script_bytes process fields ≡ Err fault
-    unfolding why_text
-    request_refuses p fault is r = (λ i. is i >>= λ p. told_by p request) ∙ (λ i. told_by p (r i))
-
-    why_is : (p : Posed) (ask : Asked) → posed_script choice tree_bytes script_bytes ≡ Ok p →
-        as_request (request_of 1 (request_line process fields)) ≡ Ok ask
-        → why_text choice tree_bytes script_bytes process fields ≡ Ok (chain_lines p ask)
-    unfolding why_text
-    why_is p ask is r = (λ i. is i >>= λ p. told_by p request) ∙ (λ i. told_by p (r i))
-
-    -- the chain that is told is the answer
-    pub why_told : (p : Posed) (ask : Asked) (r : Result (Unit {0}) ToolFault) (a b : Option (List ℕ)) (n m : ℕ)
-        → posed_script choice tree_bytes script_bytes ≡ Ok p → as_request (request_of 1 (request_line process fields)) ≡ Ok ask
-        → Answers (Ok (chain_lines p ask)) r a b n m → Answers (why_text choice tree_bytes script_bytes process fields) r a b n m
-    why_told p ask r a b n m is read =
-        answers_told (why_text choice tree_bytes script_bytes process fields) (chain_lines p ask) r a b n m (why_is p ask is read)
-
-  module _ (which : Processes) where
-    -- what refuses the script comes first
-    pub objects_refuse : (fault : ToolFault) → posed_script choice tree_bytes script_bytes ≡ Err fault →
-        objects_why_text choice tree_bytes script_bytes which ≡ Err fault
-    unfolding objects_why_text
-    objects_refuse fault is = λ i. is i >>= λ p. why_lists_asked p which
-
-    objects_are : (p : Posed) → posed_script choice tree_bytes script_bytes ≡ Ok p →
-        objects_why_text choice tree_bytes script_bytes which ≡ why_lists_asked p which
-    unfolding objects_why_text
-    objects_are p is = λ i. is i >>= λ p. why_lists_asked p which
-
-    -- the lists that are asked for are the answer
-    pub objects_answer : (p : Posed) (r : Result (Unit {0}) ToolFault) (a b : Option (List ℕ)) (n m : ℕ) →
-        posed_script choice tree_bytes script_bytes ≡ Ok p
-        → Answers (why_lists_asked p which) r a b n m → Answers (objects_why_text choice tree_bytes script_bytes which) r a b n m
-    objects_answer p r a b n m is = subst (λ (answer : Result (List ℕ) ToolFault). Answers answer r a b n m) (sym (objects_are p is))
 
 -- what a line has still to come from a field on: a blank and the field, for each
 abbrev pub fields_left : List (Bor (List ℕ)) → ℕ → List ℕ

@@ -1,7 +1,7 @@
 -- What a list for ever that was written says of the future.
-use Rattle.pua_tool.proofs.Common.{◌≡◌, ◌∙◌, ℕ, List, [], ◌++◌, ap, refl, sym, Err, Ok, Option, Some, None, CallTable, Tree, Asked, World}
+use Rattle.pua_tool.proofs.Common.{◌≡◌, ◌∙◌, ℕ, List, ◌++◌, ap, refl, sym, Err, Ok, Option, Some, None, CallTable, Tree, Asked, World}
 use Rattle.pua_tool.proofs.Common.{History, history_of, new_world, answers_to, world_after, answer_lines, listing, script, Chosen, Replayed}
-use Rattle.pua_tool.proofs.Common.{table_by, as_listing, as_script, unless_reason, ToolFault}
+use Rattle.pua_tool.proofs.Common.{Result, table_by, as_listing, as_script, replay_of, unless_reason, ToolFault}
 use Rattle.std.proofs.Common.{◌⊎◌, inl, inr, true}
 use Rattle.std.specs.Prelude.{ok_or}
 use Rattle.pua_tree.specs.Steps.{◌>>=◌}
@@ -16,8 +16,21 @@ use Rattle.pua_tool.specs.EverTexts.{ever_after, ever_fault, ever_text}
 use Rattle.pua_tool.specs.Forever.{EverAsWritten, IsEverWritten, IsForeseenBehind}
 use Rattle.pua_tool.specs.declared.fault.ToolFault.TheVariants.{NoProcess}
 use Rattle.pua_tool.proofs.Replays.{replayed_is}
-use Rattle.pua_tool.proofs.EverTexts.{ever_is, after_made, after_by}
 use Rattle.pua_tool.proofs.Tables.{tables_need_no_error}
+
+-- what comes after the replay, by the history of the process
+abbrev after_by : Replayed → ℕ → History → Result (List ℕ) ToolFault
+after_by done process h =
+    unless_reason process (refusal done.table h) (answer_lines 1 done.answers ++ ever_list done.table done.world.tree process h)
+
+after_made : (done : Replayed) (process : ℕ) (h : History) → history_of done.world process ≡ Some h →
+    ever_after done process ≡ after_by done process h
+after_made done process h is = ap (λ made. ok_or made NoProcess >>= after_by done process) is
+
+ever_is : (choice : Chosen) (tree_bytes script_bytes : List ℕ) (process : ℕ) (done : Replayed) →
+    replay_of choice tree_bytes script_bytes ≡ Ok done → ever_text choice tree_bytes script_bytes process ≡ ever_after done process
+unfolding ever_text
+ever_is choice tree_bytes script_bytes process done r = λ i. r i >>= λ done. ever_after done process
 
 module _ (choice : Chosen) (tree_bytes script_bytes : List ℕ) (table : CallTable) (t : Tree) (first : List Asked) (process : ℕ)
     (text : List ℕ) (given : table_by choice ≡ Ok table) (read : listing tree_bytes ≡ Ok t) (scripted : script script_bytes ≡ Ok first)

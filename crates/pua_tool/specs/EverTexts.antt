@@ -1,15 +1,14 @@
 -- The text of the list for ever of a process, and what refuses it.
-use Rattle.std.specs.Prelude.{◌≡◌, ◌≢◌, ℕ, List, ◌++◌, Option, Some, None, Result, Ok, Err, ok_or}
+use Rattle.std.specs.Prelude.{ℕ, List, ◌++◌, Option, Some, None, Result, Ok, Err, ok_or}
 use Rattle.pua_tree.specs.Steps.{◌>>=◌}
 use Rattle.pua_script.specs.Replay.{history_of}
 use Rattle.pua_ever.specs.Refusals.{refusal}
 use Rattle.pua_ever.specs.declared.refusal.Refusal.{Refusal}
 use Rattle.pua_ever.specs.declared.refusal.Refusal.TheVariants as refused
-use Rattle.pua_io.specs.Sinks.{Adds, AddsFront, HasFailed}
 use Rattle.pua_tool.specs.Texts.{Chosen, Replayed, replay_of}
 use Rattle.pua_texts.specs.Lines.{answer_lines}
 use Rattle.pua_tool.specs.declared.fault.ToolFault.{ToolFault}
-use Rattle.pua_tool.specs.declared.fault.ToolFault.TheVariants.{NoProcess, Write, OutOfMemory, CanUnveil, LacksC, RenameLacksC, LinkLacksC}
+use Rattle.pua_tool.specs.declared.fault.ToolFault.TheVariants.{NoProcess, CanUnveil, LacksC, RenameLacksC, LinkLacksC}
 use Rattle.pua_texts.specs.EverLines.{ever_list}
 
 -- why there is no list for ever of the process with this number
@@ -34,21 +33,3 @@ ever_after done process =
 -- the script's, a process never made, or a reason for no list
 unfoldable pub ever_text : Chosen → List ℕ → List ℕ → ℕ → Result (List ℕ) ToolFault
 ever_text choice tree_bytes script_bytes process = replay_of choice tree_bytes script_bytes >>= λ done. ever_after done process
-
--- what a fault leaves: of a put that failed a front of the text; every other fault comes before anything is written,
--- and is the answer unless memory was refused
-pub record IsUnanswered (answer : Result (List ℕ) ToolFault) (fault : ToolFault) (old new : Option (List ℕ)) (before after : ℕ) : Type 0
-  where
-    pub write : fault ≡ Write → (text : List ℕ) × (answer ≡ Ok text) × AddsFront text old new × HasFailed before after
-    pub refused : fault ≢ Write → fault ≢ OutOfMemory → answer ≡ Err fault
-    pub unwritten : fault ≢ Write → new ≡ old
-
--- what the telling of an answer leaves
-abbrev pub Answers : Result (List ℕ) ToolFault → Result (Unit {0}) ToolFault → Option (List ℕ) → Option (List ℕ) → ℕ → ℕ → Type 0
-Answers answer (Ok done) old new before after = (text : List ℕ) × (answer ≡ Ok text) × Adds text old new × (after ≡ before)
-Answers answer (Err fault) old new before after = IsUnanswered answer fault old new before after
-
--- the same, of a sink of which this is known
-abbrev pub AnswersTo : {A : Type 0} → (A → Option (List ℕ)) → (A → ℕ) → Result (List ℕ) ToolFault → Result (Unit {0}) ToolFault → A → A →
-    Type 0
-AnswersTo written failed answer r a b = Answers answer r (written a) (written b) (failed a) (failed b)

@@ -10,7 +10,7 @@ use Rattle.pua_audit.specs.declared.base.Base.TheVariants.{Root, Cwd}
 use Rattle.pua_audit.specs.declared.fault.AuditFault.TheVariants.{BadResume}
 use Rattle.pua_why.specs.Texts.{promises_text}
 use Rattle.pua_words.specs.declared.command.Processes.TheVariants.{One, All}
-use Rattle.pua_tool.specs.Texts.{Wanted, by_standard, replay_of, audit_start, run_text, audit_text}
+use Rattle.pua_tool.specs.Texts.{Wanted, by_standard, replay_of, run_text, audit_text}
 use Rattle.pua_tool.specs.ObjectTexts.{objects_text}
 use Rattle.pua_tool.specs.EverTexts.{ever_text}
 use Rattle.pua_tool.specs.WhyTexts.{objects_why_text, posed_script, run_why_text, why_text}
@@ -118,7 +118,7 @@ pub record TextRows : Type 0 where
   pub bad_resume : audit_text by_standard root_listing [] (record plain_job { after = Some (codes "stat:/nope") }) ≡ Err (Audit BadResume)
 
 pub text_rows : TextRows
-unfolding digits replay_of audit_start objects_text ever_text
+unfolding digits replay_of audit_text objects_text ever_text
 text_rows = record {
   run = refl;
   run_of_no_lines = refl;

@@ -3,6 +3,7 @@ pub mod Texts
 pub mod ObjectTexts
 pub mod EverTexts
 pub mod WhyTexts
+pub mod Answers
 pub mod Statuses
 pub mod Told
 pub mod Performed

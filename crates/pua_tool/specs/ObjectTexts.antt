@@ -28,7 +28,4 @@ lists_asked done which = numbers_asked done.world which >>= λ numbers. Ok (obje
 -- the lists of processes at the end of a script over a listing, or the first fault: the table's, the listing's, the
 -- script's, or a process never made
 unfoldable pub objects_text : Chosen → List ℕ → List ℕ → Processes → Result (List ℕ) ToolFault
-objects_text choice tree_bytes script_bytes which = do
-  done ← replay_of choice tree_bytes script_bytes
-  numbers ← numbers_asked done.world which
-  Ok (objects_after done.table done.answers done.world numbers)
+objects_text choice tree_bytes script_bytes which = replay_of choice tree_bytes script_bytes >>= λ done. lists_asked done which

@@ -122,37 +122,22 @@ run_text choice tree_bytes script_bytes = do
   done ← replay_of choice tree_bytes script_bytes
   Ok (answer_lines 1 done.answers)
 
--- a replay, and the audit that begins where it ends
-pub record BegunAudit : Type 0 where
-  pub answers : List Answer
-  pub beginning : Beginning
-
 -- where the audit begins that is asked for, of a process with this history over a tree
 abbrev pub beginning_of : Tree → CallTable → History → Wanted → Result Beginning AuditFault
 beginning_of t table h wanted = beginning t table h wanted.base wanted.candidates wanted.limit wanted.after
 
+-- the front, and a line for each pair that is still to come
+abbrev pub pairs_after : Wanted → List Answer → Beginning → List ℕ
+pairs_after wanted answers b = front_of wanted.after wanted.process answers ++ pair_lines b.scope.base (still_to_come b)
+
 -- the audit of a process where a replay ends, or why there is none: a process never made, or what no audit begins with
-abbrev pub begun_after : Replayed → Wanted → Result BegunAudit ToolFault
-begun_after done wanted = do
-  h ← ok_or (history_of done.world wanted.process) NoProcess
-  b ← as_audit (beginning_of done.world.tree done.table h wanted)
-  Ok (record { answers = done.answers; beginning = b })
+abbrev pub audit_after : Replayed → Wanted → Result (List ℕ) ToolFault
+audit_after done wanted =
+    ok_or (history_of done.world wanted.process) NoProcess
+    >>= λ h. as_audit (beginning_of done.world.tree done.table h wanted)
+    >>= λ b. Ok (pairs_after wanted done.answers b)
 
 -- the audit of a process at the end of a script over a listing, or the first fault: the table's, the listing's, the
 -- script's, a process never made, or what no audit begins with
-unfoldable pub audit_start : Chosen → List ℕ → List ℕ → Wanted → Result BegunAudit ToolFault
-audit_start choice tree_bytes script_bytes wanted = do
-  done ← replay_of choice tree_bytes script_bytes
-  begun_after done wanted
-
--- the front, and a line for each pair that is still to come
-abbrev pub text_of : Wanted → BegunAudit → List ℕ
-text_of wanted b = front_of wanted.after wanted.process b.answers ++ pair_lines b.beginning.scope.base (still_to_come b.beginning)
-
--- the text of an audit where a replay ends, or why there is none
-abbrev pub audit_after : Replayed → Wanted → Result (List ℕ) ToolFault
-audit_after done wanted = begun_after done wanted >>= λ b. Ok (text_of wanted b)
-
--- the whole text of an audit, or what refuses it
-abbrev pub audit_text : Chosen → List ℕ → List ℕ → Wanted → Result (List ℕ) ToolFault
-audit_text choice tree_bytes script_bytes wanted = audit_start choice tree_bytes script_bytes wanted >>= λ b. Ok (text_of wanted b)
+unfoldable pub audit_text : Chosen → List ℕ → List ℕ → Wanted → Result (List ℕ) ToolFault
+audit_text choice tree_bytes script_bytes wanted = replay_of choice tree_bytes script_bytes >>= λ done. audit_after done wanted

@@ -57,7 +57,4 @@ why_lists_asked p which = numbers_asked (world_left p) which >>= λ numbers. Ok 
 -- the lists with reasons at the end of a script over a listing, or the first fault: the table's, the listing's, the
 -- script's, or a process never made
 unfoldable pub objects_why_text : Chosen → List ℕ → List ℕ → Processes → Result (List ℕ) ToolFault
-objects_why_text choice tree_bytes script_bytes which = do
-  p ← posed_script choice tree_bytes script_bytes
-  numbers ← numbers_asked (world_left p) which
-  Ok (reason_lines p ++ why_lists_of p numbers)
+objects_why_text choice tree_bytes script_bytes which = posed_script choice tree_bytes script_bytes >>= λ p. why_lists_asked p which

@@ -1,14 +1,13 @@
 //! The text of an audit.
 
-ghost use Rattle.std.specs.Prelude.{◌≡◌, ◌≢◌, ℕ, List, Ok, Err, IfOk, IfErr, OnOk};
+ghost use Rattle.std.specs.Prelude.{◌≡◌, ◌≢◌, Ok, Err, IfOk, IfErr};
 ghost use Rattle.pua_policy.specs.History.{History, StandsFor};
 ghost use Rattle.pua_audit.specs.Begin.{Beginning, still_to_come};
 ghost use Rattle.pua_calls.specs.declared.rules.Rules.TheVariants as rule;
 ghost use Rattle.pua_tool.specs.Begun.{IsReplay};
-ghost use Rattle.pua_tool.specs.EverTexts.{AnswersTo};
+ghost use Rattle.pua_tool.specs.Answers.{AnswersTo};
 ghost use Rattle.pua_tool.specs.Texts.{Replayed, as_audit, audit_after, audit_text};
 ghost use Rattle.pua_tool.specs.Texts.{beginning_of, by_job, wants_of};
-ghost use Rattle.pua_io.specs.Sinks.{Adds, AddsFront, HasFailed};
 
 use crate::fault::ToolFault;
 use crate::job::Job;
@@ -31,23 +30,9 @@ pub fn audit_to<S: Sink>(
     job: &Job<'_>,
     sink: &mut S,
 ) -> Result<(), ToolFault>
-    ensures whole { OnOk result ((text : List ℕ)
-        × (audit_text (by_job rule.Profile job.now) tree_bytes.now script_bytes.now
-        (wants_of job.now)
-        ≡ Ok text) × Adds text (S.written sink.old) (S.written sink.new)) }
-    ensures unfailed { OnOk result (S.failed sink.new ≡ S.failed sink.old) }
-    ensures write { result ≡ Err ToolFault.Write → (text : List ℕ)
-        × (audit_text (by_job rule.Profile job.now) tree_bytes.now script_bytes.now
-        (wants_of job.now)
-        ≡ Ok text)
-        × AddsFront text (S.written sink.old) (S.written sink.new)
-        × HasFailed (S.failed sink.old) (S.failed sink.new) }
-    ensures refused { IfErr result (λ fault. fault ≢ ToolFault.Write →
-        fault ≢ ToolFault.OutOfMemory →
-        (audit_text (by_job rule.Profile job.now) tree_bytes.now script_bytes.now (wants_of job.now)
-        ≡ Err fault)) }
-    ensures unwritten { IfErr result (λ fault. fault ≢ ToolFault.Write →
-        S.written sink.new ≡ S.written sink.old) }
+    ensures text { AnswersTo S.written S.failed
+        (audit_text (by_job rule.Profile job.now) tree_bytes.now script_bytes.now
+        (wants_of job.now)) result sink.old sink.new }
 {
     audit_by(alloc, tree_bytes, script_bytes, Rules::Profile, job, sink)
 }
@@ -62,6 +47,7 @@ pub fn audit_to<S: Sink>(
 /// The first that holds of `Table`, `Listing`, `Script`, `NoProcess` and `Audit` is answered before anything
 /// is written. So is `OutOfMemory`, wherever a growth was refused. `Write` is answered only where a
 /// put failed in this call, and a front of the text is then written.
+#[tactic(auto, unfolding(crate::specs::Texts::audit_text))]
 pub fn audit_by<S: Sink>(
     alloc: Global,
     tree_bytes: &[u8],
@@ -70,21 +56,9 @@ pub fn audit_by<S: Sink>(
     job: &Job<'_>,
     sink: &mut S,
 ) -> Result<(), ToolFault>
-    ensures whole { OnOk result ((text : List ℕ)
-        × (audit_text (by_job rules job.now) tree_bytes.now script_bytes.now (wants_of job.now)
-        ≡ Ok text) × Adds text (S.written sink.old) (S.written sink.new)) }
-    ensures unfailed { OnOk result (S.failed sink.new ≡ S.failed sink.old) }
-    ensures write { result ≡ Err ToolFault.Write → (text : List ℕ)
-        × (audit_text (by_job rules job.now) tree_bytes.now script_bytes.now (wants_of job.now)
-        ≡ Ok text)
-        × AddsFront text (S.written sink.old) (S.written sink.new)
-        × HasFailed (S.failed sink.old) (S.failed sink.new) }
-    ensures refused { IfErr result (λ fault. fault ≢ ToolFault.Write →
-        fault ≢ ToolFault.OutOfMemory →
-        (audit_text (by_job rules job.now) tree_bytes.now script_bytes.now (wants_of job.now)
-        ≡ Err fault)) }
-    ensures unwritten { IfErr result (λ fault. fault ≢ ToolFault.Write →
-        S.written sink.new ≡ S.written sink.old) }
+    ensures text { AnswersTo S.written S.failed
+        (audit_text (by_job rules job.now) tree_bytes.now script_bytes.now (wants_of job.now))
+        result sink.old sink.new }
 {
     let choice = TableChoice {
         rules,

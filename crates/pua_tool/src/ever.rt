@@ -1,10 +1,9 @@
 //! The text of the list for ever of a process.
 
-ghost use Rattle.std.specs.Prelude.{◌≡◌, ◌≢◌, ℕ, List, Ok, Err, IfErr, OnOk};
 ghost use Rattle.pua_tool.specs.Begun.{IsReplay};
-ghost use Rattle.pua_tool.specs.EverTexts.{AnswersTo, ever_after, ever_text};
+ghost use Rattle.pua_tool.specs.Answers.{AnswersTo};
+ghost use Rattle.pua_tool.specs.EverTexts.{ever_after, ever_text};
 ghost use Rattle.pua_tool.specs.Texts.{Replayed, choice_of};
-ghost use Rattle.pua_io.specs.Sinks.{Adds, AddsFront, HasFailed};
 
 use crate::ever_fault::fault_of;
 use crate::fault::ToolFault;
@@ -30,6 +29,7 @@ use std::alloc::Global;
 /// `RenameLacksC` and `LinkLacksC` is answered before anything is written. So is `OutOfMemory`,
 /// wherever a growth was refused. `Write` is answered only where a put failed in this call, and a
 /// front of the text is then written. Of a process that has ended there is a list, without a line.
+#[tactic(auto, unfolding(crate::specs::EverTexts::ever_text))]
 pub fn ever_to<S: Sink>(
     alloc: Global,
     tree_bytes: &[u8],
@@ -38,19 +38,9 @@ pub fn ever_to<S: Sink>(
     process: u32,
     sink: &mut S,
 ) -> Result<(), ToolFault>
-    ensures whole { OnOk result ((text : List ℕ)
-        × (ever_text (choice_of table.entry) tree_bytes.now script_bytes.now process ≡ Ok text)
-        × Adds text (S.written sink.old) (S.written sink.new)) }
-    ensures unfailed { OnOk result (S.failed sink.new ≡ S.failed sink.old) }
-    ensures write { result ≡ Err ToolFault.Write → (text : List ℕ)
-        × (ever_text (choice_of table.entry) tree_bytes.now script_bytes.now process ≡ Ok text)
-        × AddsFront text (S.written sink.old) (S.written sink.new)
-        × HasFailed (S.failed sink.old) (S.failed sink.new) }
-    ensures refused { IfErr result (λ fault. fault ≢ ToolFault.Write →
-        fault ≢ ToolFault.OutOfMemory →
-        (ever_text (choice_of table.entry) tree_bytes.now script_bytes.now process ≡ Err fault)) }
-    ensures unwritten { IfErr result (λ fault. fault ≢ ToolFault.Write →
-        S.written sink.new ≡ S.written sink.old) }
+    ensures text { AnswersTo S.written S.failed
+        (ever_text (choice_of table.entry) tree_bytes.now script_bytes.now process)
+        result sink.old sink.new }
 {
     let replay = replay_script(alloc, tree_bytes, script_bytes, table)?;
     let written = list_to(alloc, &replay, process, sink);

@@ -1,16 +1,14 @@
 //! The text of the lists of processes.
 
 ghost use Rattle.std.specs.Prelude.{◌≡◌, ◌≢◌, ℕ, List, Option, Ok, Err, IfOk, IfErr};
-ghost use Rattle.std.specs.Prelude.{OnOk};
 ghost use Rattle.pua_script.specs.Replay.{World as Replayed};
 ghost use Rattle.pua_script.specs.Worlds.{StandsForWorld};
 ghost use Rattle.pua_words.specs.declared.command.Processes.TheVariants as which;
 ghost use Rattle.pua_tool.specs.ObjectTexts.{lists_asked, numbers_asked, objects_text};
 ghost use Rattle.pua_texts.specs.Tells.{Tells};
 ghost use Rattle.pua_tool.specs.Begun.{IsReplay};
-ghost use Rattle.pua_tool.specs.EverTexts.{Answers, AnswersTo};
+ghost use Rattle.pua_tool.specs.Answers.{Answers, AnswersTo};
 ghost use Rattle.pua_tool.specs.Texts.{Replayed as Served, choice_of};
-ghost use Rattle.pua_io.specs.Sinks.{Adds, AddsFront, HasFailed};
 
 use crate::fault::ToolFault;
 use crate::script::{Replay, replay_script};
@@ -40,6 +38,7 @@ use std::alloc::Global;
 /// The first that holds of `Table`, `Listing`, `Script` and `NoProcess` is answered before anything is
 /// written. So is `OutOfMemory`, wherever a growth was refused. `Write` is answered only where a put
 /// failed in this call, and a front of the text is then written.
+#[tactic(auto, unfolding(crate::specs::ObjectTexts::objects_text))]
 pub fn objects_to<S: Sink>(
     alloc: Global,
     tree_bytes: &[u8],
@@ -48,20 +47,9 @@ pub fn objects_to<S: Sink>(
     processes: Processes,
     sink: &mut S,
 ) -> Result<(), ToolFault>
-    ensures whole { OnOk result ((text : List ℕ)
-        × (objects_text (choice_of table.entry) tree_bytes.now script_bytes.now processes
-        ≡ Ok text) × Adds text (S.written sink.old) (S.written sink.new)) }
-    ensures unfailed { OnOk result (S.failed sink.new ≡ S.failed sink.old) }
-    ensures write { result ≡ Err ToolFault.Write → (text : List ℕ)
-        × (objects_text (choice_of table.entry) tree_bytes.now script_bytes.now processes ≡ Ok text)
-        × AddsFront text (S.written sink.old) (S.written sink.new)
-        × HasFailed (S.failed sink.old) (S.failed sink.new) }
-    ensures refused { IfErr result (λ fault. fault ≢ ToolFault.Write →
-        fault ≢ ToolFault.OutOfMemory →
-        (objects_text (choice_of table.entry) tree_bytes.now script_bytes.now processes
-        ≡ Err fault)) }
-    ensures unwritten { IfErr result (λ fault. fault ≢ ToolFault.Write →
-        S.written sink.new ≡ S.written sink.old) }
+    ensures text { AnswersTo S.written S.failed
+        (objects_text (choice_of table.entry) tree_bytes.now script_bytes.now processes)
+        result sink.old sink.new }
 {
     let replay = replay_script(alloc, tree_bytes, script_bytes, table)?;
     let written = asked_to(alloc, &replay, processes, sink);

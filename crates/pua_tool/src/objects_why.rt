@@ -1,14 +1,13 @@
 //! The text of the lists of processes with reasons.
 
-ghost use Rattle.std.specs.Prelude.{◌≡◌, ◌≢◌, ◌++◌, ℕ, List, Ok, Err, IfErr, OnOk};
+ghost use Rattle.std.specs.Prelude.{◌≡◌, ◌++◌, Ok};
 ghost use Rattle.pua_script.specs.Scripts.{script};
 ghost use Rattle.pua_tool.specs.Texts.{choice_of};
 ghost use Rattle.pua_tool.specs.PosedScripts.{IsPosed};
 ghost use Rattle.pua_texts.specs.Tells.{TellsTo};
 ghost use Rattle.pua_texts.specs.WhyLines.{Posed as Asking, why_lists_of};
-ghost use Rattle.pua_tool.specs.EverTexts.{AnswersTo};
+ghost use Rattle.pua_tool.specs.Answers.{AnswersTo};
 ghost use Rattle.pua_tool.specs.WhyTexts.{objects_why_text, reason_lines, why_lists_asked};
-ghost use Rattle.pua_io.specs.Sinks.{Adds, AddsFront, HasFailed};
 
 use crate::fault::ToolFault;
 use crate::objects::{numbers_of, told};
@@ -29,6 +28,7 @@ use std::alloc::Global;
 /// The first that holds of `Table`, `Listing`, `Script` and `NoProcess` is answered before anything is
 /// written. So is `OutOfMemory`, wherever a growth was refused. `Write` is answered only where a put
 /// failed in this call, and a front of the text is then written.
+#[tactic(auto, unfolding(crate::specs::WhyTexts::objects_why_text))]
 pub fn objects_why_to<S: Sink>(
     alloc: Global,
     tree_bytes: &[u8],
@@ -37,21 +37,9 @@ pub fn objects_why_to<S: Sink>(
     processes: Processes,
     sink: &mut S,
 ) -> Result<(), ToolFault>
-    ensures whole { OnOk result ((text : List ℕ)
-        × (objects_why_text (choice_of table.entry) tree_bytes.now script_bytes.now processes
-        ≡ Ok text) × Adds text (S.written sink.old) (S.written sink.new)) }
-    ensures unfailed { OnOk result (S.failed sink.new ≡ S.failed sink.old) }
-    ensures write { result ≡ Err ToolFault.Write → (text : List ℕ)
-        × (objects_why_text (choice_of table.entry) tree_bytes.now script_bytes.now processes
-        ≡ Ok text)
-        × AddsFront text (S.written sink.old) (S.written sink.new)
-        × HasFailed (S.failed sink.old) (S.failed sink.new) }
-    ensures refused { IfErr result (λ fault. fault ≢ ToolFault.Write →
-        fault ≢ ToolFault.OutOfMemory →
-        (objects_why_text (choice_of table.entry) tree_bytes.now script_bytes.now processes
-        ≡ Err fault)) }
-    ensures unwritten { IfErr result (λ fault. fault ≢ ToolFault.Write →
-        S.written sink.new ≡ S.written sink.old) }
+    ensures text { AnswersTo S.written S.failed
+        (objects_why_text (choice_of table.entry) tree_bytes.now script_bytes.now processes)
+        result sink.old sink.new }
 {
     let mut posed = pose(alloc, tree_bytes, script_bytes, table)?;
     let written = write_asked(alloc, script_bytes, &mut posed, processes, sink);

@@ -1,8 +1,8 @@
 //! The text of a run.
 
-ghost use Rattle.std.specs.Prelude.{◌≡◌, ◌≢◌, ℕ, List, Ok, Err, IfErr, IfOk, OnOk, string_bytes};
+ghost use Rattle.std.specs.Prelude.{◌≡◌, ◌≢◌, Ok, Err, IfErr, IfOk, string_bytes};
+ghost use Rattle.pua_tool.specs.Answers.{AnswersTo};
 ghost use Rattle.pua_tool.specs.Texts.{by_profile, choice_of, given_bytes, run_text};
-ghost use Rattle.pua_io.specs.Sinks.{Adds, AddsFront, HasFailed};
 
 use crate::fault::ToolFault;
 use crate::objects::put_text;
@@ -22,21 +22,9 @@ pub fn run_to<S: Sink>(
     table: Option<&[u8]>,
     sink: &mut S,
 ) -> Result<(), ToolFault>
-    ensures whole { OnOk result ((text : List ℕ)
-        × (run_text (by_profile (given_bytes table.entry)) tree_bytes.now script_bytes.now
-        ≡ Ok text) × Adds text (S.written sink.old) (S.written sink.new)) }
-    ensures unfailed { OnOk result (S.failed sink.new ≡ S.failed sink.old) }
-    ensures write { result ≡ Err ToolFault.Write → (text : List ℕ)
-        × (run_text (by_profile (given_bytes table.entry)) tree_bytes.now script_bytes.now
-        ≡ Ok text)
-        × AddsFront text (S.written sink.old) (S.written sink.new)
-        × HasFailed (S.failed sink.old) (S.failed sink.new) }
-    ensures refused { IfErr result (λ fault. fault ≢ ToolFault.Write →
-        fault ≢ ToolFault.OutOfMemory →
-        (run_text (by_profile (given_bytes table.entry)) tree_bytes.now script_bytes.now
-        ≡ Err fault)) }
-    ensures unwritten { IfErr result (λ fault. fault ≢ ToolFault.Write →
-        S.written sink.new ≡ S.written sink.old) }
+    ensures text { AnswersTo S.written S.failed
+        (run_text (by_profile (given_bytes table.entry)) tree_bytes.now script_bytes.now)
+        result sink.old sink.new }
 {
     let choice = TableChoice {
         rules: Rules::Profile,
@@ -59,19 +47,9 @@ pub fn run_by<S: Sink>(
     table: TableChoice<'_>,
     sink: &mut S,
 ) -> Result<(), ToolFault>
-    ensures whole { OnOk result ((text : List ℕ)
-        × (run_text (choice_of table.entry) tree_bytes.now script_bytes.now ≡ Ok text)
-        × Adds text (S.written sink.old) (S.written sink.new)) }
-    ensures unfailed { OnOk result (S.failed sink.new ≡ S.failed sink.old) }
-    ensures write { result ≡ Err ToolFault.Write → (text : List ℕ)
-        × (run_text (choice_of table.entry) tree_bytes.now script_bytes.now ≡ Ok text)
-        × AddsFront text (S.written sink.old) (S.written sink.new)
-        × HasFailed (S.failed sink.old) (S.failed sink.new) }
-    ensures refused { IfErr result (λ fault. fault ≢ ToolFault.Write →
-        fault ≢ ToolFault.OutOfMemory →
-        (run_text (choice_of table.entry) tree_bytes.now script_bytes.now ≡ Err fault)) }
-    ensures unwritten { IfErr result (λ fault. fault ≢ ToolFault.Write →
-        S.written sink.new ≡ S.written sink.old) }
+    ensures text { AnswersTo S.written S.failed
+        (run_text (choice_of table.entry) tree_bytes.now script_bytes.now)
+        result sink.old sink.new }
 {
     let text = text_of(alloc, tree_bytes, script_bytes, table)?;
     put_text(text.as_str(), sink)

@@ -1,12 +1,12 @@
 //! What a command asks for, done: its inputs are taken, and its text is written.
 
-ghost use Rattle.std.specs.Prelude.{◌≡◌, ◌≢◌, ◌≤◌, ◌⊎◌, ℕ, List, Ok, Err, OnOk, IfOk, IfErr};
+ghost use Rattle.std.specs.Prelude.{◌≡◌, ◌≢◌, ◌≤◌, ◌⊎◌, OnOk, IfOk, IfErr};
 ghost use Rattle.std.specs.Prelude.{option_map};
 ghost use Rattle.pua_io.specs.Held.{Holds};
+ghost use Rattle.pua_tool.specs.Answers.{AnswersTo};
 ghost use Rattle.pua_tool.specs.Performed.{HoldsTable, IsCutShort, IsDone, IsRefused, IsStopped};
 ghost use Rattle.pua_tool.specs.Performed.{IsTableUnheld, IsUnheld, IsUntaken, LacksInput};
 ghost use Rattle.pua_tool.specs.Performed.{text_asked};
-ghost use Rattle.pua_io.specs.Sinks.{Adds, AddsFront, HasFailed};
 ghost use Rattle.pua_tool.specs.Statuses.{fault_status};
 ghost use Rattle.pua_tool.specs.Texts.{given_bytes};
 ghost use Rattle.pua_tool.specs.Told.{IsFaultTold};
@@ -163,33 +163,10 @@ fn write_text<O: Sink>(
     text: &Text<'_>,
     out: &mut O,
 ) -> Result<(), ToolFault>
-    ensures whole { OnOk result ((t : List ℕ)
-        × (text_asked text.now (record {
-          rules = rules;
-          rows = option_map
-              (λ bytes. bytes.items) taken.now.table;
-        }) taken.now.tree.items taken.now.script.items ≡ Ok t)
-        × Adds t (O.written out.old) (O.written out.new)) }
-    ensures unfailed { OnOk result (O.failed out.new ≡ O.failed out.old) }
-    ensures write { result ≡ Err ToolFault.Write →
-        (t : List ℕ)
-        × (text_asked text.now (record {
-          rules = rules;
-          rows = option_map
-              (λ bytes. bytes.items) taken.now.table;
-        }) taken.now.tree.items taken.now.script.items ≡ Ok t)
-        × AddsFront t (O.written out.old) (O.written out.new)
-        × HasFailed (O.failed out.old) (O.failed out.new) }
-    ensures refused { IfErr result (λ fault.
-        fault ≢ ToolFault.Write → fault ≢ ToolFault.OutOfMemory →
-        text_asked text.now (record {
-          rules = rules;
-          rows = option_map
-              (λ bytes. bytes.items) taken.now.table;
-        }) taken.now.tree.items taken.now.script.items
-        ≡ Err fault) }
-    ensures unwritten { IfErr result (λ fault.
-        fault ≢ ToolFault.Write → O.written out.new ≡ O.written out.old) }
+    ensures { AnswersTo O.written O.failed (text_asked text.now (record {
+      rules = rules;
+      rows = option_map (λ bytes. bytes.items) taken.now.table;
+    }) taken.now.tree.items taken.now.script.items) result out.old out.new }
 {
     let (tree, script) = (taken.tree.as_slice(), taken.script.as_slice());
     let rows = taken.table.as_ref().map(|bytes| bytes.as_slice());

@@ -1,15 +1,15 @@
 //! The text of what decides one request.
 
-ghost use Rattle.std.specs.Prelude.{◌≡◌, ◌≢◌, ◌++◌, ◌∷◌, ℕ, List, Ok, Err, IfErr, IfOk, OnOk, map};
+ghost use Rattle.std.specs.Prelude.{◌≡◌, ◌≢◌, ◌++◌, ◌∷◌, Ok, Err, IfErr, IfOk, OnOk, map};
 ghost use Rattle.std.specs.Prelude.{string_bytes};
 ghost use Rattle.pua_script.specs.Requests.{Asked};
 ghost use Rattle.pua_script.specs.Scripts.{request_of};
 ghost use Rattle.pua_tool.specs.PosedScripts.{IsPosed};
+ghost use Rattle.pua_tool.specs.Answers.{AnswersTo};
 ghost use Rattle.pua_tool.specs.Texts.{choice_of};
 ghost use Rattle.pua_texts.specs.WhyLines.{Posed as Asking};
 ghost use Rattle.pua_tool.specs.WhyTexts.{as_request, chain_lines, request_line};
 ghost use Rattle.pua_tool.specs.WhyTexts.{why_text};
-ghost use Rattle.pua_io.specs.Sinks.{Adds, AddsFront, HasFailed};
 
 use crate::fault::ToolFault;
 use crate::objects::put_text;
@@ -31,6 +31,7 @@ use std::fmt::Write;
 /// The first that holds of `Table`, `Listing`, `Script` and `Request` is answered before anything is
 /// written. So is `OutOfMemory`, wherever a growth was refused. `Write` is answered only where a put
 /// failed in this call, and a front of the text is then written.
+#[tactic(auto, unfolding(crate::specs::WhyTexts::why_text))]
 pub fn why_to<S: Sink>(
     alloc: Global,
     tree_bytes: &[u8],
@@ -40,22 +41,9 @@ pub fn why_to<S: Sink>(
     fields: &[&[u8]],
     sink: &mut S,
 ) -> Result<(), ToolFault>
-    ensures whole { OnOk result ((text : List ℕ)
-        × (why_text (choice_of table.entry) tree_bytes.now script_bytes.now process
-        (map (λ field. field.now) fields.now) ≡ Ok text)
-        × Adds text (S.written sink.old) (S.written sink.new)) }
-    ensures unfailed { OnOk result (S.failed sink.new ≡ S.failed sink.old) }
-    ensures write { result ≡ Err ToolFault.Write → (text : List ℕ)
-        × (why_text (choice_of table.entry) tree_bytes.now script_bytes.now process
-        (map (λ field. field.now) fields.now) ≡ Ok text)
-        × AddsFront text (S.written sink.old) (S.written sink.new)
-        × HasFailed (S.failed sink.old) (S.failed sink.new) }
-    ensures refused { IfErr result (λ fault. fault ≢ ToolFault.Write →
-        fault ≢ ToolFault.OutOfMemory →
+    ensures text { AnswersTo S.written S.failed
         (why_text (choice_of table.entry) tree_bytes.now script_bytes.now process
-        (map (λ field. field.now) fields.now) ≡ Err fault)) }
-    ensures unwritten { IfErr result (λ fault. fault ≢ ToolFault.Write →
-        S.written sink.new ≡ S.written sink.old) }
+        (map (λ field. field.now) fields.now)) result sink.old sink.new }
 {
     let mut posed = pose(alloc, tree_bytes, script_bytes, table)?;
     let text = asked_text(alloc, &mut posed, process, fields);

@@ -1,11 +1,12 @@
-use Rattle.pua_tool.proofs.Common.{◌≡◌, ℕ, List, ◌++◌, ap, sym, subst, ◌∙◌, None, Tree, history_of, answer_lines, Tells, unless_reason}
-use Rattle.pua_tool.proofs.Common.{is_made}
+use Rattle.pua_tool.proofs.Common.{◌≡◌, ℕ, List, ◌++◌, Err, ap, sym, subst, ◌∙◌, None, Tree, History, history_of, answer_lines, Tells}
+use Rattle.pua_tool.proofs.Common.{unless_reason, is_made}
+use Rattle.std.specs.Prelude.{ok_or}
 use Rattle.pua_policy.specs.History.{ProcessState, StandsFor}
 use Rattle.pua_ever.specs.Refusals.{refusal}
 use Rattle.pua_texts.specs.EverLists.{IsEverOf}
 use Rattle.pua_texts.specs.EverLines.{ever_list}
-use Rattle.pua_tool.specs.EverTexts.{ever_after}
-use Rattle.pua_tool.proofs.EverTexts.{after_made, unrefused, answers_refused, answers_told}
+use Rattle.pua_tool.specs.declared.fault.ToolFault.TheVariants.{NoProcess}
+use Rattle.pua_tool.proofs.TextAnswers.{answers_refused, answers_told, next_answers}
 use Rattle.pua_tool.proofs.ever.list_to.Goals as goal
 
 pub returns-in-Err : goal.returns-in-Err
@@ -14,13 +15,15 @@ returns-in-Err g c = λ done replay.
     let n : ℕ = c.args.number in
     let made = is_made c.in-Some.process.now (history_of done.world n) (c.in-Some.ensures.history done.world replay.stands) in
     let h = made.history in
-    let text = answer_lines 1 done.answers ++ ever_list done.table done.world.tree n h in
-    answers_refused (ever_after done n) fault (g.S.Sink.written c.args.sink.now) (g.S.Sink.failed c.args.sink.now)
+    let text = λ (h : History). answer_lines 1 done.answers ++ ever_list done.table done.world.tree n h in
+    next_answers g.S.Sink.written g.S.Sink.failed (ok_or (history_of done.world n) NoProcess)
+    (λ h. unless_reason n (refusal done.table h) (text h)) h (Err fault) c.args.sink.now c.args.sink.now
+    (ap (λ made. ok_or made NoProcess) made.is)
+    (answers_refused g.S.Sink.written g.S.Sink.failed (unless_reason n (refusal done.table h) (text h)) fault c.args.sink.now
     c.fault_of.ensures.unwritten
-    (λ other. after_made done n h made.is
-    ∙ ap (λ reason. unless_reason n reason text) ((λ i. refusal (sym (c.table.ensures ∙ replay.table) i) h) ∙
+    (λ other. ap (λ reason. unless_reason n reason (text h)) ((λ i. refusal (sym (c.table.ensures ∙ replay.table) i) h) ∙
     c.in-Err.ensures.refused h made.stands)
-    ∙ c.fault_of.ensures.told text other)
+    ∙ c.fault_of.ensures.told (text h) other))
 
 pub returns : goal.returns
 returns g c = λ done replay.
@@ -32,8 +35,8 @@ returns g c = λ done replay.
     let front : c.as_str.result.now ≡ answer_lines 1 done.answers = c.as_str.ensures.value ∙ c.in-Ok-answer_text.ensures ∙
     ap (answer_lines 1) (c.as_slice.ensures.value ∙ replay.answers) in
     let listed : refusal done.table h ≡ None = (λ i. refusal (sym ruled i) h) ∙ c.in-Ok.ensures.refused h made.stands in
-    let text = answer_lines 1 done.answers ++ ever_list done.table done.world.tree n h in
-    let written : Tells text c.write_ever.result (g.S.Sink.written c.args.sink.now) (g.S.Sink.written c.write_ever.new.sink)
+    let text = λ (h : History). answer_lines 1 done.answers ++ ever_list done.table done.world.tree n h in
+    let written : Tells (text h) c.write_ever.result (g.S.Sink.written c.args.sink.now) (g.S.Sink.written c.write_ever.new.sink)
     (g.S.Sink.failed c.args.sink.now) (g.S.Sink.failed c.write_ever.new.sink) =
     subst (λ (text : List ℕ). Tells text c.write_ever.result (g.S.Sink.written c.args.sink.now) (g.S.Sink.written c.write_ever.new.sink)
     (g.S.Sink.failed c.args.sink.now) (g.S.Sink.failed c.write_ever.new.sink))
@@ -45,8 +48,10 @@ returns g c = λ done replay.
       stands = subst (λ (p : ProcessState). StandsFor p h) (sym c.in-Ok.ensures.of.1) made.stands;
       left = c.in-Ok.ensures.lines h made.stands;
     }))) in
-    answers_told (ever_after done n) text c.told.result (g.S.Sink.written c.args.sink.now) (g.S.Sink.written c.write_ever.new.sink)
-    (g.S.Sink.failed c.args.sink.now) (g.S.Sink.failed c.write_ever.new.sink)
-    (after_made done n h made.is ∙ unrefused n h done listed)
-    (c.told.ensures text (g.S.Sink.written c.args.sink.now) (g.S.Sink.written c.write_ever.new.sink) (g.S.Sink.failed c.args.sink.now)
-    (g.S.Sink.failed c.write_ever.new.sink) written)
+    next_answers g.S.Sink.written g.S.Sink.failed (ok_or (history_of done.world n) NoProcess)
+    (λ h. unless_reason n (refusal done.table h) (text h)) h c.told.result c.args.sink.now c.write_ever.new.sink
+    (ap (λ made. ok_or made NoProcess) made.is)
+    (answers_told g.S.Sink.written g.S.Sink.failed (unless_reason n (refusal done.table h) (text h)) (text h) c.told.result c.args.sink.now
+    c.write_ever.new.sink (ap (λ reason. unless_reason n reason (text h)) listed)
+    (c.told.ensures (text h) (g.S.Sink.written c.args.sink.now) (g.S.Sink.written c.write_ever.new.sink) (g.S.Sink.failed c.args.sink.now)
+    (g.S.Sink.failed c.write_ever.new.sink) written))

@@ -1,17 +1,15 @@
-use Rattle.pua_tool.proofs.Common.{◌≡◌, Ok, List, ℕ, ap, ◌∙◌, err_from_is_err_and, ◌>>=◌, answer_lines, Tells}
-use Rattle.pua_tool.specs.ObjectTexts.{lists_asked, objects_after}
-use Rattle.pua_tool.proofs.EverTexts.{answers_refused, answers_told}
+use Rattle.pua_tool.proofs.Common.{◌≡◌, Ok, List, ℕ, ap, ◌∙◌, err_from_is_err_and, answer_lines, Tells}
+use Rattle.pua_tool.specs.ObjectTexts.{numbers_asked, objects_after}
+use Rattle.pua_tool.proofs.TextAnswers.{first_refuses, next_answers}
 use Rattle.pua_tool.proofs.ObjectTexts.{told_as}
 use Rattle.pua_tool.proofs.objects.asked_to.Goals as goal
 
 pub returns-in_err-numbers : goal.returns-in_err-numbers
 returns-in_err-numbers g c =
-    let fault = c.in_err-numbers.field-0.0 in
     let p = err_from_is_err_and c.from_residual.result c.from_residual.ensures.1 in
-    rw (p.1, p.2) (λ done replay. answers_refused (lists_asked done c.args.processes) fault (g.S.Sink.written c.args.sink.now)
-    (g.S.Sink.failed c.args.sink.now) c.in_err-numbers.ensures.unwritten
-    (λ other. λ i. c.in_err-numbers.ensures.refused other done.world replay.stands i >>= λ numbers. Ok
-    (objects_after done.table done.answers done.world numbers)))
+    rw (p.1, p.2) (λ done replay. first_refuses g.S.Sink.written g.S.Sink.failed (numbers_asked done.world c.args.processes)
+    (λ numbers. Ok (objects_after done.table done.answers done.world numbers)) c.in_err-numbers.field-0.0 c.args.sink.now
+    c.in_err-numbers.ensures.unwritten (λ other. c.in_err-numbers.ensures.refused other done.world replay.stands))
 
 pub returns : goal.returns
 returns g c = λ done replay.
@@ -25,7 +23,7 @@ returns g c = λ done replay.
     let written : Tells (objects_after done.table done.answers done.world numbers) c.write_lists.result a b n m =
     told_as c.as_str.result.now (answer_lines 1 done.answers) _ done.table done.world c.as_slice-2.result.now numbers c.write_lists.result a
     b n m front replay.table c.as_slice-2.ensures.value (c.write_lists.ensures done.world replay.stands) in
-    answers_told (lists_asked done c.args.processes) (objects_after done.table done.answers done.world numbers) c.told.result a b n m
-    (λ i. c.in_ok-numbers.ensures.asked done.world replay.stands i >>= λ numbers. Ok
-    (objects_after done.table done.answers done.world numbers))
+    next_answers g.S.Sink.written g.S.Sink.failed (numbers_asked done.world c.args.processes)
+    (λ numbers. Ok (objects_after done.table done.answers done.world numbers)) numbers c.told.result c.args.sink.now c.write_lists.new.sink
+    (c.in_ok-numbers.ensures.asked done.world replay.stands)
     (c.told.ensures (objects_after done.table done.answers done.world numbers) a b n m written)

@@ -1,5 +1,5 @@
 use Rattle.pua_tool.proofs.Common.{List, ℕ, subst, Adds, AddsFront}
-use Rattle.pua_tool.proofs.EverTexts.{all_told, front_told}
+use Rattle.pua_tool.proofs.TextAnswers.{all_told, front_told}
 use Rattle.pua_tool.proofs.objects.put_text.Goals as goal
 
 pub returns-in_default : goal.returns-in_default

@@ -2,7 +2,7 @@ use Rattle.pua_tool.proofs.Common.{◌≡◌, subst}
 use Rattle.pua_texts.specs.Tells.{IsUntold}
 use Rattle.pua_texts.specs.declared.fault.TextFault.{TextFault}
 use Rattle.pua_texts.specs.declared.fault.TextFault.TheVariants.{OutOfMemory, Write}
-use Rattle.pua_tool.proofs.EverTexts.{all_told, front_told, none_told}
+use Rattle.pua_tool.proofs.TextAnswers.{all_told, front_told, none_told}
 use Rattle.pua_tool.proofs.objects.told.Goals as goal
 
 pub returns-in-Ok : goal.returns-in-Ok
