@@ -29,4 +29,5 @@ pub mod Lined
 pub mod Prospected
 pub mod Named
 pub mod Giving
+pub mod Holding
 pub mod ForCallers

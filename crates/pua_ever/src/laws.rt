@@ -6,6 +6,7 @@ ghost use Rattle.pua_ever.specs.Laws.{EverWithExecs};
 ghost use Rattle.pua_ever.specs.Laws.{NowWithinEver};
 ghost use Rattle.pua_ever.specs.Laws.{NewPlacesStand, ReplaysKeepPlaces, RulesEditByC};
 ghost use Rattle.pua_ever.specs.Laws.{StartsForeseen, WithoutExec};
+ghost use Rattle.pua_ever.specs.ThroughExamples.{ThroughRows};
 
 /// Whatever a process that can put no veil any more and what it forks ask for, as long as nobody else
 /// changes the tree and no exec of theirs succeeds: if a call of one of them is then allowed on what a path
@@ -56,4 +57,10 @@ pub fn moving_examples()
 #[tactic(auto, using(crate::specs::Examples::started_rows))]
 pub fn program_examples()
     ensures { StartedRows }
+{}
+
+/// Examples of what can ever be touched through execs.
+#[tactic(auto, using(crate::specs::ThroughExamples::through_rows))]
+pub fn through_examples()
+    ensures { ThroughRows }
 {}
