@@ -30,4 +30,6 @@ pub mod Prospected
 pub mod Named
 pub mod Giving
 pub mod Holding
+pub mod Through
+pub mod Lasts
 pub mod ForCallers
