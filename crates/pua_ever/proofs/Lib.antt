@@ -32,4 +32,5 @@ pub mod Giving
 pub mod Holding
 pub mod Through
 pub mod Lasts
+pub mod Chosen
 pub mod ForCallers
