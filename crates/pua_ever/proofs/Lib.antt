@@ -31,6 +31,7 @@ pub mod Named
 pub mod Giving
 pub mod Holding
 pub mod Through
+pub mod Narrowed
 pub mod Lasts
 pub mod Chosen
 pub mod ForCallers

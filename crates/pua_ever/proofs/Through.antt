@@ -100,6 +100,32 @@ last_tree : (table : CallTable) (w : World) (asks : List Asked) → TreesAlong t
 last_tree table w [] trees = first_tree table w [] trees
 last_tree table w (ask ∷ asks) trees = last_tree table (apply table w ask).1 asks trees.1
 
+module _ (table : CallTable) (sound : NoCallNeedsError table) (now : History) (given : ℕ) where
+  -- a call that is allowed is promised by one of the two sets
+  one_of : (h : History) → IsAlong table now given h → (c : Call) → may_any h (rule_of table c).alternatives ≡ Yes →
+      is_promised_by_one table now given c ≡ true
+  one_of h k c may =
+      let some = may_holds h (rule_of table c).alternatives may in
+      elim k.promises [
+        | inl own ↦ or_left (is_promised_by table (held_set now) c) _
+            (any_within (held_set h) (held_set now) own.0 (rule_of table c).alternatives (sound.calls c) some)
+        | inr later ↦ or_right (is_promised_by table (held_set now) c) _
+            (any_within (held_set h) given later.0 (rule_of table c).alternatives (sound.calls c) some)
+      ]
+
+  yes : (m : May) (v : Verdict) → is_allowed (if_promised m v) ≡ true → m ≡ Yes
+  yes Yes v e = refl
+  yes Enosys v e = cc
+  yes Death v e = cc
+
+  pub promised_by_one : (h : History) → IsAlong table now given h → (t : Tree) (c : Call) (r : Result Found Errno) →
+      verdict_of t table h c r ≡ Allowed → is_promised_by_one table now given c ≡ true
+  promised_by_one h k t c r e = one_of h k c (promised r e)
+    where
+      promised : (r : Result Found Errno) → verdict_of t table h c r ≡ Allowed → may_any h (rule_of table c).alternatives ≡ Yes
+      promised (Ok object) e = yes (may_any h (rule_of table c).alternatives) _ (ap is_allowed e)
+      promised (Err errno) e = yes (may_any h (rule_of table c).alternatives) _ (ap is_allowed e)
+
 module _ (table : CallTable) (sound : NoCallNeedsError table) (needs : EditsNeedC table) (now : History) (given : ℕ)
     (bounded : is_bounded table given ≡ true) where
   abbrev both : History
@@ -125,31 +151,6 @@ module _ (table : CallTable) (sound : NoCallNeedsError table) (needs : EditsNeed
     none_looser asks (apply table w ask).1 (family_then table w ask members) (along_then table sound now given bounded w ask members are),
   )
 
-  -- a call that is allowed is promised by one of the two sets
-  one_of : (h : History) → IsAlong table now given h → (c : Call) → may_any h (rule_of table c).alternatives ≡ Yes →
-      is_promised_by_one table now given c ≡ true
-  one_of h k c may =
-      let some = may_holds h (rule_of table c).alternatives may in
-      elim k.promises [
-        | inl own ↦ or_left (is_promised_by table (held_set now) c) _
-            (any_within (held_set h) (held_set now) own.0 (rule_of table c).alternatives (sound.calls c) some)
-        | inr later ↦ or_right (is_promised_by table (held_set now) c) _
-            (any_within (held_set h) given later.0 (rule_of table c).alternatives (sound.calls c) some)
-      ]
-
-  yes : (m : May) (v : Verdict) → is_allowed (if_promised m v) ≡ true → m ≡ Yes
-  yes Yes v e = refl
-  yes Enosys v e = cc
-  yes Death v e = cc
-
-  promised_by_one : (h : History) → IsAlong table now given h → (t : Tree) (c : Call) (r : Result Found Errno) →
-      verdict_of t table h c r ≡ Allowed → is_promised_by_one table now given c ≡ true
-  promised_by_one h k t c r e = one_of h k c (promised r e)
-    where
-      promised : (r : Result Found Errno) → verdict_of t table h c r ≡ Allowed → may_any h (rule_of table c).alternatives ≡ Yes
-      promised (Ok object) e = yes (may_any h (rule_of table c).alternatives) _ (ap is_allowed e)
-      promised (Err errno) e = yes (may_any h (rule_of table c).alternatives) _ (ap is_allowed e)
-
   -- what was made was made by a call that one of the two lets through
   module _ (t0 : Tree) (well0 : WellFormed t0) where
     abbrev MadeByOne : Tree → Type 0
@@ -166,7 +167,7 @@ module _ (table : CallTable) (sound : NoCallNeedsError table) (needs : EditsNeed
       | inr born ↦ (
         born.made,
         born.kinds,
-        one_of h k (maker born.made) (yes (may_any h (rule_of table (maker born.made)).alternatives) _ born.makes.allowed),
+        one_of table sound now given h k (maker born.made) (yes table sound now given (may_any h (rule_of table (maker born.made)).alternatives) _ born.makes.allowed),
       )
     ]
 
@@ -321,7 +322,7 @@ module _ (table : CallTable) (sound : NoCallNeedsError table) (needs : EditsNeed
               let named = resolution_of_text after from (ending_of c) text (last_of c) in
               let seen = wide.2 from c text e in
               let same : last.0 ≡ wide.0 = same_Some last.0 wide.0 (sym last.1 ∙ wide.1) in
-              let one = promised_by_one last.0 last.2 after c named (ap (λ h. verdict_of after table h c named) same ∙ e) in
+              let one = promised_by_one table sound now given last.0 last.2 after c named (ap (λ h. verdict_of after table h c named) same ∙ e) in
               in_list w.tree after c named one seen (comes_too seen.line.thing seen.object (fits_named from c text seen.object seen.names)
               seen.about),
         )
@@ -338,9 +339,9 @@ module _ (table : CallTable) (sound : NoCallNeedsError table) (needs : EditsNeed
               let seen = wide.2 from text dir name x named kinds e in
               let same : last.0 ≡ wide.0 = same_Some last.0 wide.0 (sym last.1 ∙ wide.1) in
               let may : may_any last.0 (rule_of table call.Exec).alternatives ≡ Yes =
-              yes (may_any last.0 (rule_of table call.Exec).alternatives) _
+              yes table sound now given (may_any last.0 (rule_of table call.Exec).alternatives) _
               (ap (λ h. is_allowed (covered_verdict after table h call.Exec (cover after h object) IsProg)) same ∙ ap is_allowed e) in
-              start_in_list w.tree after object (one_of last.0 last.2 call.Exec may) seen
+              start_in_list w.tree after object (one_of table sound now given last.0 last.2 call.Exec may) seen
               (comes_too seen.thing object (fits_named from call.Exec text object named) seen.about),
         )
 

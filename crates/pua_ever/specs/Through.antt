@@ -3,10 +3,12 @@
 -- family holds promises that the process held, or that it handed down, and the list is that of a process that held
 -- both: what the one can move, the other can read.
 use Rattle.std.specs.Prelude.{◌≡◌, ◌⊎◌, ℕ, Bool, true, false, not, ◌&&◌, ◌||◌, if◌then◌else◌, List, [], ◌∷◌, map, filter, Option, Some, None}
-use Rattle.std.specs.Prelude.{Ok, IsTrue, IsFalse}
+use Rattle.std.specs.Prelude.{Result, Ok, IsTrue, IsFalse}
 use Rattle.std.specs.List.{list_any, Contains}
 use Rattle.pua_tree.specs.Tree.{Tree, WellFormed}
 use Rattle.pua_tree.specs.Listing.{listing}
+use Rattle.pua_path.specs.declared.errno.Errno.{Errno}
+use Rattle.pua_path.specs.declared.found.Found.{Found}
 use Rattle.pua_calls.specs.Promises.{holds, unveil}
 use Rattle.pua_calls.specs.Tables.{NamesNoError}
 use Rattle.pua_calls.specs.Calls.{CallTable, rule_of}
@@ -15,14 +17,15 @@ use Rattle.pua_calls.specs.declared.call.Call.TheVariants as call
 use Rattle.pua_calls.specs.declared.rules.ExecPromises.{ExecPromises}
 use Rattle.pua_calls.specs.declared.rules.ExecPromises.TheVariants.{Unset, Stay}
 use Rattle.pua_policy.specs.History.{History, held_set, held_for_exec, is_locked, is_ended, with_both}
-use Rattle.pua_policy.specs.Verdict.{is_unveil}
+use Rattle.pua_policy.specs.Verdict.{is_unveil, verdict_of}
+use Rattle.pua_policy.specs.declared.answer.Verdict.TheVariants.{Allowed}
 use Rattle.pua_script.specs.Bytes.{are_in_bytes}
 use Rattle.pua_script.specs.Scripts.{script}
 use Rattle.pua_script.specs.Requests.{Asked}
 use Rattle.pua_script.specs.Replay.{World, new_world, history_of, world_after}
 use Rattle.pua_script.specs.Family.{family, is_member, HasHistoryOf}
 use Rattle.pua_script.specs.Tightening.{NoCallNeedsError}
-use Rattle.pua_script.specs.Confinement.{TreesAlong}
+use Rattle.pua_script.specs.Confinement.{TakingNeedsC, TreesAlong, UncoveredStay}
 use Rattle.pua_objects.specs.Objects.{Line, objects}
 use Rattle.pua_ever.specs.Ever.{maker, Thing, Stands, Comes, EverLine, is_exec_call, ever, has_ever_calls}
 use Rattle.pua_ever.specs.Laws.{EditsNeedC, VeilsStand, MembersEdit, ForeseesIn, ForeseesStartsIn, IsWithinLines}
@@ -120,6 +123,24 @@ FamiliesGoAlong =
 abbrev pub GoAlong : CallTable → World → History → ℕ → List ℕ → Type 0
 GoAlong table w now given members =
     (member : ℕ) → IsTrue (is_member members member) → HasHistoryOf w member (IsAlong table now given)
+
+-- over any tree what is allowed to a member then is allowed to who holds both sets, and one of the two lets it through
+abbrev pub FamiliesNarrowThrough : Type 0
+FamiliesNarrowThrough =
+    (table : CallTable) → NoCallNeedsError table → (w : World) (asks : List Asked) (process : ℕ) (now : History) (given : ℕ) →
+    history_of w process ≡ Some now → bound_of table now ≡ Some given →
+    (member : ℕ) → IsTrue (is_member (family table w asks (process ∷ [])) member) →
+    HasHistoryOf (world_after table w asks) member (λ h. (t : Tree) (call : Call) (named : Result Found Errno) →
+    verdict_of t table h call named ≡ Allowed →
+    (verdict_of t table (with_both now given) call named ≡ Allowed) × IsTrue (is_promised_by_one table now given call))
+
+-- and what the process can't touch with `c` stays, whatever they ask for and whatever they start
+abbrev pub FamiliesConfineThrough : Type 0
+FamiliesConfineThrough =
+    (table : CallTable) → NoCallNeedsError table → TakingNeedsC table →
+    (w : World) (asks : List Asked) (process : ℕ) (now : History) (given : ℕ) →
+    history_of w process ≡ Some now → bound_of table now ≡ Some given → TreesAlong table w asks →
+    MembersEdit table w asks (process ∷ []) → UncoveredStay now w.tree (world_after table w asks).tree
 
 -- whatever they ask for, execs too, and others that leaves the tree as it is: each call that is then allowed to a member
 -- has its line. Each list of requests begins with its own shorter ones, so this is of every moment on the way

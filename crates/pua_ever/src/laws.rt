@@ -7,7 +7,8 @@ ghost use Rattle.pua_ever.specs.Laws.{NowWithinEver};
 ghost use Rattle.pua_ever.specs.Laws.{NewPlacesStand, ReplaysKeepPlaces, RulesEditByC};
 ghost use Rattle.pua_ever.specs.Laws.{StartsForeseen, WithoutExec};
 ghost use Rattle.pua_ever.specs.Through.{EverLasts, EverLastsAfterRead, EverThroughExecs};
-ghost use Rattle.pua_ever.specs.Through.{FamiliesGoAlong, NowWithinLasting, StartsThroughExecs};
+ghost use Rattle.pua_ever.specs.Through.{FamiliesConfineThrough, FamiliesGoAlong};
+ghost use Rattle.pua_ever.specs.Through.{FamiliesNarrowThrough, NowWithinLasting, StartsThroughExecs};
 ghost use Rattle.pua_ever.specs.ThroughExamples.{ThroughRows};
 
 /// Whatever a process that can put no veil any more and what it forks ask for, as long as nobody else
@@ -68,6 +69,8 @@ pub fn program_examples()
 /// The list of the objects of now lies within it.
 pub fn through_law()
     ensures along { FamiliesGoAlong }
+    ensures narrows { FamiliesNarrowThrough }
+    ensures confines { FamiliesConfineThrough }
     ensures through { EverThroughExecs }
     ensures starts { StartsThroughExecs }
     ensures lasts { EverLasts }
