@@ -8,7 +8,8 @@ use Rattle.pua_path.specs.Resolution.{resolution_of_text}
 use Rattle.pua_calls.specs.Calls.{ending_of, last_of}
 use Rattle.pua_script.specs.Family.{family, HasHistoryOf}
 use Rattle.pua_script.proofs.ForCallers.{begins, at_all}
-use Rattle.pua_ever.specs.Laws.{EverBeside, EverComplete, EverOfMany, EverWithExecs, Foresees, MembersEdit, NoExecLoosens, StartsForeseen}
+use Rattle.pua_ever.specs.Laws.{ActsWithin, EverBeside, EverComplete, EverOfMany, EverWithExecs, Foresees, ForeseesStarts, MembersEdit}
+use Rattle.pua_ever.specs.Laws.{NoExecLoosens, StartsForeseen}
 use Rattle.pua_ever.proofs.Common.{◌∙◌, sym, cover, cover_fault, Found, is_yes, may_any, May, named_within_text, object_fault, resolutions_fit}
 use Rattle.pua_ever.proofs.Common.{rule_of, Slot}
 use Rattle.pua_calls.specs.declared.call.Call.TheVariants as call
@@ -23,7 +24,7 @@ use Rattle.pua_ever.proofs.Ending.{foreseen, parts_of}
 use Rattle.pua_ever.proofs.Starting.{start_foreseen}
 
 -- who asks alone edits alone
-edits_alone : (table : CallTable) (asks : List Asked) (w : World) (members : List ℕ) → members_alone table w asks members ≡ true →
+pub edits_alone : (table : CallTable) (asks : List Asked) (w : World) (members : List ℕ) → members_alone table w asks members ≡ true →
     MembersEdit table w asks members
 edits_alone table [] w members alone = tt
 edits_alone table (ask ∷ asks) w members alone =
@@ -31,7 +32,7 @@ edits_alone table (ask ∷ asks) w members alone =
     (inl parts.0, edits_alone table asks (apply table w ask).1 (family_then table w ask members) parts.1)
 
 -- of any members within a history
-complete_within : (table : CallTable) → NoCallNeedsError table → EditsNeedC table →
+pub complete_within : (table : CallTable) → NoCallNeedsError table → EditsNeedC table →
     (w : World) (asks : List Asked) (members : List ℕ) (now : History) →
     Members w members now false → VeilsStand w.tree now → TreesAlong table w asks → NoExecLoosens table now w asks members →
     MembersEdit table w asks members →
@@ -72,12 +73,14 @@ ever_complete table sound needs w asks process now here confined stand trees non
     beside_one table sound needs w asks process now here confined stand trees none (edits_alone table asks w (process ∷ []) alone) member
     belongs
 
+all_within : (w : World) (members : List ℕ) (now : History) → ActsWithin w now members → Members w members now false
+all_within w members now acts m belongs =
+    let one = acts m belongs in
+    (one.0, one.1, record { within = record { tightens = one.2.0; ended = one.2.1 }; dir = λ e. absurd (false≢true e) })
+
 pub ever_with_execs : EverWithExecs
 ever_with_execs table sound needs w asks members now acts stand trees none edit member belongs =
-    complete_within table sound needs w asks members now
-    (λ m belongs. let one = acts m belongs in
-    (one.0, one.1, record { within = record { tightens = one.2.0; ended = one.2.1 }; dir = λ e. absurd (false≢true e) }))
-    stand trees none edit member belongs
+    complete_within table sound needs w asks members now (all_within w members now acts) stand trees none edit member belongs
 
 pub ever_beside : EverBeside
 ever_beside table sound needs w asks members now acts stand trees none edit member belongs =
@@ -92,11 +95,14 @@ yes_is may.Yes e = refl
 yes_is may.Enosys e = absurd (false≢true e)
 yes_is may.Death e = absurd (false≢true e)
 
-pub starts_foreseen : StartsForeseen
-starts_foreseen table sound needs w asks members now acts stand trees none edit member belongs =
-    let are : Members w members now false = λ m belongs. let one = acts m belongs in
-    (one.0, one.1, record { within = record { tightens = one.2.0; ended = one.2.1 }; dir = λ e. absurd (false≢true e) }) in
-    let loosens = none_loosens table now asks w members none in
+-- of any members within a history
+pub starts_within : (table : CallTable) → NoCallNeedsError table → EditsNeedC table →
+    (w : World) (asks : List Asked) (members : List ℕ) (now : History) →
+    Members w members now false → VeilsStand w.tree now → TreesAlong table w asks → NoExecLoosens table now w asks members →
+    MembersEdit table w asks members →
+    (member : ℕ) → is_member (family table w asks members) member ≡ true →
+    HasHistoryOf (world_after table w asks) member (ForeseesStarts w.tree table now (world_after table w asks).tree)
+starts_within table sound needs w asks members now are stand trees loosens edit member belongs =
     let well = first_tree table w asks trees in
     let u = (world_after table w asks).tree in
     let k = stays_along table sound needs w.tree now well stand asks w members are loosens edit trees (at_first table w.tree now well stand)
@@ -125,3 +131,8 @@ starts_foreseen table sound needs w asks members now acts stand trees none edit 
     by : {u t : Tree} (b : Bool) → may_edit table now ≡ b → (may_edit table now ≡ false → u ≡ t) → (may_edit table now ≡ true) ⊎ (u ≡ t)
     by true is same = inl is
     by false is same = inr (same is)
+
+pub starts_foreseen : StartsForeseen
+starts_foreseen table sound needs w asks members now acts stand trees none edit member belongs =
+    starts_within table sound needs w asks members now (all_within w members now acts) stand trees
+    (none_loosens table now asks w members none) edit member belongs

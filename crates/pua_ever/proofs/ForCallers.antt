@@ -5,3 +5,5 @@ pub use Rattle.pua_ever.proofs.KeptVeils.{among_kept_at}
 -- a list for ever behind what is read, and where nothing refuses it
 pub use Rattle.pua_ever.proofs.Standing.{ever_after_read}
 pub use Rattle.pua_ever.proofs.Refused.{unrefused_table, unrefused_history}
+-- the list that holds longest, by who holds both sets
+pub use Rattle.pua_ever.proofs.Chosen.{through_lines, lasting_unbounded, lasting_alone, lasting_through, locked_same, unrefused_both}

@@ -29,5 +29,10 @@ pub mod Lined
 pub mod Prospected
 pub mod Named
 pub mod Giving
+pub mod Holding
+pub mod Through
+pub mod Narrowed
+pub mod Lasts
+pub mod Chosen
 pub mod ForCallers
 pub mod RowsTell

@@ -3,7 +3,7 @@ use Rattle.pua_ever.proofs.Common.{◌≡◌, ◌⊎◌, ℕ, List, [], ◌∷�
 use Rattle.pua_ever.proofs.Common.{false≢true, and_parts, and_from, Tree, WellFormed, CallTable, History, working_dir, verdict_of}
 use Rattle.pua_ever.proofs.Common.{is_allowed, if_promised, allowed_unless, or_fault, allowed_is, Asked, World, apply, history_of, Change}
 use Rattle.pua_ever.proofs.Common.{IsDecided, Action, OnPath, Symlink, Rename, Link, Pledge, Unveil, Lock, Fork, Exit, is_member, is_exec}
-use Rattle.pua_ever.proofs.Common.{is_done, none_done, members_alone, family_then, NoCallNeedsError, TreesAlong, IsWithin, verdicts_within}
+use Rattle.pua_ever.proofs.Common.{is_done, none_done, family_then, NoCallNeedsError, TreesAlong, IsWithin, verdicts_within}
 use Rattle.pua_ever.proofs.Common.{Members, members_then, first_tree, may_edit, EditsNeedC, VeilsStand}
 use Rattle.pua_policy.specs.Verdict.{object_named}
 use Rattle.pua_calls.specs.declared.call.Call.TheVariants as call
@@ -16,7 +16,9 @@ use Rattle.pua_script.proofs.ForCallers.{by_living, by_decision, decisions_are_g
 use Rattle.pua_script.specs.Family.{is_okay}
 use Rattle.pua_script.proofs.ForCallers.{begins, by_other, at_all}
 use Rattle.pua_script.proofs.ForCallers.{each_spares}
-use Rattle.pua_ever.specs.Laws.{NoLineHasExec, WithoutExec}
+use Rattle.pua_script.specs.Laws.{IsConfined}
+use Rattle.pua_ever.specs.Laws.{MembersEdit, NoLineHasExec, WithoutExec}
+use Rattle.pua_ever.proofs.Complete.{edits_alone}
 use Rattle.pua_ever.proofs.Growing.{takes, requests_grow}
 use Rattle.pua_ever.proofs.Origins.{Stays, at_first}
 use Rattle.pua_ever.proofs.Stepping.{stays_then}
@@ -101,27 +103,43 @@ module _ (table : CallTable) (sound : NoCallNeedsError table) (needs : EditsNeed
       by true edits = inl edits
       by false lacks = inr (unedited table w ask h here (still_unable table sound now h within lacks) ∙ same)
 
-  none_along : (asks : List Asked) (w : World) (members : List ℕ) → Members w members now false →
-      members_alone table w asks members ≡ true → TreesAlong table w asks
-      → Stays table t0 now well0 stand w.tree → (may_edit table now ≡ true) ⊎ (w.tree ≡ t0) → none_done is_exec table w asks members ≡ true
-  none_along [] w members are alone trees k edit = refl
-  none_along (ask ∷ asks) w members are alone trees k edit =
-      let asked = and_parts (is_member members ask.process) _ alone in
-      let asker = are ask.process asked.0 in
+  none_along : (asks : List Asked) (w : World) (members : List ℕ) → Members w members now false → MembersEdit table w asks members →
+      TreesAlong table w asks → Stays table t0 now well0 stand w.tree → (may_edit table now ≡ true) ⊎ (w.tree ≡ t0) →
+      none_done is_exec table w asks members ≡ true
+  none_along [] w members are edits trees k edit = refl
+  none_along (ask ∷ asks) w members are edits trees k edit =
       let after = (apply table w ask).1 in
       let first = none_now w ask members are k edit in
-      let well = first_tree table after asks trees.1 in
-      let spared = by_other asker.0 now asker.2.within.tightens.unveils w.tree after.tree
-      (each_spares table (takes table needs) w ask asker.0 trees.0 well asker.1) in
-      let grown = grown_within table sound now asker.0 asker.2.within w.tree trees.0 after.tree
-      (requests_grow table needs w ask asker.0 trees.0 asker.1) in
+      let then = later edits.0 in
       and_from (not (is_done is_exec table w ask members)) _ (ap not first)
-      (none_along asks after (family_then table w ask members) (members_then table now w ask members false are first) asked.1 trees.1
-      (stays_then table t0 now well0 stand w.tree after.tree k well grown spared) (edit_then w ask asker.0 asker.1 asker.2.within edit))
+      (none_along asks after (family_then table w ask members) (members_then table now w ask members false are first) edits.1 trees.1
+      then.0 then.1)
+    where
+      later : (is_member members ask.process ≡ true) ⊎ ((apply table w ask).1.tree ≡ w.tree) →
+          Stays table t0 now well0 stand (apply table w ask).1.tree × ((may_edit table now ≡ true) ⊎ ((apply table w ask).1.tree ≡ t0))
+      later (inl belongs) =
+          let asker = are ask.process belongs in
+          let after = (apply table w ask).1 in
+          let well = first_tree table after asks trees.1 in
+          let spared = by_other asker.0 now asker.2.within.tightens.unveils w.tree after.tree
+          (each_spares table (takes table needs) w ask asker.0 trees.0 well asker.1) in
+          let grown = grown_within table sound now asker.0 asker.2.within w.tree trees.0 after.tree
+          (requests_grow table needs w ask asker.0 trees.0 asker.1) in
+          (stays_then table t0 now well0 stand w.tree after.tree k well grown spared, edit_then w ask asker.0 asker.1 asker.2.within edit)
+      later (inr same) =
+          (subst (Stays table t0 now well0 stand) (sym same) k, elim edit [ inl may ↦ inl may | inr is ↦ inr (same ∙ is) ])
+
+-- whoever else asks, if that leaves the tree
+pub without_exec_beside : (table : CallTable) → NoCallNeedsError table → EditsNeedC table →
+    (w : World) (asks : List Asked) (process : ℕ) (now : History) →
+    history_of w process ≡ Some now → IsConfined now → VeilsStand w.tree now → TreesAlong table w asks →
+    MembersEdit table w asks (process ∷ []) → NoLineHasExec w.tree table now → none_done is_exec table w asks (process ∷ []) ≡ true
+without_exec_beside table sound needs w asks process now here confined stand trees edits never =
+    let well = first_tree table w asks trees in
+    none_along table sound needs w.tree now well stand never asks w (process ∷ [])
+    (at_all w (process ∷ []) now (begins table now w process here confined)) edits trees (at_first table w.tree now well stand)
+    (inr refl)
 
 pub without_exec : WithoutExec
 without_exec table sound needs w asks process now here confined stand trees alone never =
-    let well = first_tree table w asks trees in
-    none_along table sound needs w.tree now well stand never asks w (process ∷ [])
-    (at_all w (process ∷ []) now (begins table now w process here confined)) alone trees (at_first table w.tree now well stand)
-    (inr refl)
+    without_exec_beside table sound needs w asks process now here confined stand trees (edits_alone table asks w (process ∷ []) alone) never

@@ -36,7 +36,7 @@ use Rattle.pua_ever.proofs.Covers.{living_dir, below_next}
 use Rattle.pua_ever.proofs.Complete.{beside_one, ever_complete}
 
 -- no veil comes by an event that is none, nor by leaving out pledges
-kept_after : (h : History) (at : Place) → perms_kept (filter (λ event. not (is_pledge event)) h) at ≡ perms_kept h at
+pub kept_after : (h : History) (at : Place) → perms_kept (filter (λ event. not (is_pledge event)) h) at ≡ perms_kept h at
 kept_after [] at = refl
 kept_after (Pledged p e ∷ h) at = kept_after h at
 kept_after (Unveiled place perms ∷ h) at = ap (cond (same_place place at) (Some perms)) (kept_after h at)

@@ -78,23 +78,29 @@ pub data IsLineOf (t later : Tree) (h : History) : Thing → Found → Type 0 wh
   of_new_others : {dir : ℕ} {name : List ℕ} →
       t.next ≤ dir → IsLineOf t later h (Comes NewOthers) (Slot dir name None)
 
--- what a path named has a line, and the line has the call
-pub record IsForeseen (t : Tree) (table : CallTable) (h : History)
+-- what a path named has a line in a list, and the line has the call
+pub record IsForeseenIn (lines : List EverLine) (t : Tree) (h : History)
     (later : Tree) (call : Call) (named : Result Found Errno) : Type 0 where
   pub object : Found
   pub names : named ≡ Ok object
   pub line : EverLine
-  pub listed : Contains (ever t table h) line
+  pub listed : Contains lines line
   pub about : IsLineOf t later h line.thing object
   pub allows : Contains line.calls call
 
+abbrev pub IsForeseen : Tree → CallTable → History → Tree → Call → Result Found Errno → Type 0
+IsForeseen t table h later call named = IsForeseenIn (ever t table h) t h later call named
+
 -- over a later tree: whatever path is spelled, of whatever length, from whatever directory, if a call is
 -- allowed on it by a history, the line of what it names has the call
-abbrev pub Foresees : Tree → CallTable → History → Tree → History → Type 0
-Foresees t table now later last =
+abbrev pub ForeseesIn : List EverLine → Tree → CallTable → History → Tree → History → Type 0
+ForeseesIn lines t table now later last =
     (from : ℕ) (call : Call) (text : List ℕ) →
     let named = resolution_of_text later from (ending_of call) text (last_of call) in
-    verdict_of later table last call named ≡ Allowed → IsForeseen t table now later call named
+    verdict_of later table last call named ≡ Allowed → IsForeseenIn lines t now later call named
+
+abbrev pub Foresees : Tree → CallTable → History → Tree → History → Type 0
+Foresees t table now later last = ForeseesIn (ever t table now) t table now later last
 
 -- a process that can put no veil any more, and what it forks from now on: whatever they alone ask for, as
 -- long as no exec of a member is answered ok, each call that is then allowed to a member has its line now.
@@ -127,21 +133,27 @@ WithoutExec =
 -- over a later tree: whatever path names a file on which exec would be allowed by a history, were it a program. It has a
 -- line: that of a file of then has exec where it has a call by which the file can come to be a program, and that of a new
 -- file has it in any case
-pub record IsStartForeseen (t : Tree) (table : CallTable) (h : History) (later : Tree) (object : Found) : Type 0 where
+pub record IsStartForeseenIn (lines : List EverLine) (t : Tree) (h : History) (later : Tree) (object : Found) : Type 0 where
   pub thing : Thing
   pub about : IsLineOf t later h thing object
-  pub turned : (line : EverLine) → Contains (ever t table h) line → line.thing ≡ thing →
+  pub turned : (line : EverLine) → Contains lines line → line.thing ≡ thing →
       (turning : Call) → Contains turning_calls turning → Contains line.calls turning → Contains line.calls call.Exec
   pub made : thing ≡ Comes NewFile →
-      (line : EverLine) × Contains (ever t table h) line × (line.thing ≡ Comes NewFile) × Contains line.calls call.Exec
+      (line : EverLine) × Contains lines line × (line.thing ≡ Comes NewFile) × Contains line.calls call.Exec
 
-abbrev pub ForeseesStarts : Tree → CallTable → History → Tree → History → Type 0
-ForeseesStarts t table now later last =
+abbrev pub IsStartForeseen : Tree → CallTable → History → Tree → Found → Type 0
+IsStartForeseen t table h later object = IsStartForeseenIn (ever t table h) t h later object
+
+abbrev pub ForeseesStartsIn : List EverLine → Tree → CallTable → History → Tree → History → Type 0
+ForeseesStartsIn lines t table now later last =
     (from : ℕ) (text : List ℕ) (dir : ℕ) (name : List ℕ) (node : ℕ) →
     resolution_of_text later from (ending_of call.Exec) text (last_of call.Exec) ≡ Ok (Slot dir name (Some node)) →
     kind_at later node ≡ Some kind.File →
     covered_verdict later table last call.Exec (cover later last (Slot dir name (Some node))) IsProg ≡ Allowed →
-    IsStartForeseen t table now later (Slot dir name (Some node))
+    IsStartForeseenIn lines t now later (Slot dir name (Some node))
+
+abbrev pub ForeseesStarts : Tree → CallTable → History → Tree → History → Type 0
+ForeseesStarts t table now later last = ForeseesStartsIn (ever t table now) t table now later last
 
 -- several processes that act together: each has the veils of a history, no promise beyond it but `error`,
 -- and is ended where that is. Such are a process and those that it forked before now, if none has put a
@@ -257,13 +269,16 @@ EverAfterRead =
     let after = world_after table w asks in
     HasHistoryOf after member (Foresees w.tree table now after.tree)
 
--- a line of now has one that is for ever: by the same names, about the same thing, with all of its calls
-pub record IsWithinEver (t : Tree) (table : CallTable) (h : History) (line : Line) : Type 0 where
+-- a line of now has one in a list: by the same names, about the same thing, with all of its calls
+pub record IsWithinLines (lines : List EverLine) (line : Line) : Type 0 where
   pub later : EverLine
-  pub listed : Contains (ever t table h) later
+  pub listed : Contains lines later
   pub word : later.word ≡ line.word
   pub about : later.thing ≡ Stands line.subject
   pub allows : (call : Call) → Contains line.calls call → Contains later.calls call
+
+abbrev pub IsWithinEver : Tree → CallTable → History → Line → Type 0
+IsWithinEver t table h line = IsWithinLines (ever t table h) line
 
 -- so the list of the objects of now lies within the list for ever, by any table and any history
 abbrev pub NowWithinEver : Type 0

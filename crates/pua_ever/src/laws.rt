@@ -6,6 +6,10 @@ ghost use Rattle.pua_ever.specs.Laws.{EverWithExecs};
 ghost use Rattle.pua_ever.specs.Laws.{NowWithinEver};
 ghost use Rattle.pua_ever.specs.Laws.{NewPlacesStand, ReplaysKeepPlaces, RulesEditByC};
 ghost use Rattle.pua_ever.specs.Laws.{StartsForeseen, WithoutExec};
+ghost use Rattle.pua_ever.specs.Through.{EverLasts, EverLastsAfterRead, EverThroughExecs};
+ghost use Rattle.pua_ever.specs.Through.{FamiliesConfineThrough, FamiliesGoAlong};
+ghost use Rattle.pua_ever.specs.Through.{FamiliesNarrowThrough, NowWithinLasting, StartsThroughExecs};
+ghost use Rattle.pua_ever.specs.ThroughExamples.{ThroughRows};
 
 /// Whatever a process that can put no veil any more and what it forks ask for, as long as nobody else
 /// changes the tree and no exec of theirs succeeds: if a call of one of them is then allowed on what a path
@@ -56,4 +60,26 @@ pub fn moving_examples()
 #[tactic(auto, using(crate::specs::Examples::started_rows))]
 pub fn program_examples()
     ensures { StartedRows }
+{}
+
+/// The same through execs, where all that is started is bounded by the execpromises: each of the family
+/// holds what the process held, or what it handed down, under the same veils, and each call that is then
+/// allowed to one of them has its line in the list of the beginning. So it is of several processes that act
+/// together, of files that are made programs, and behind a listing and a script as a command reads them.
+/// The list of the objects of now lies within it.
+pub fn through_law()
+    ensures along { FamiliesGoAlong }
+    ensures narrows { FamiliesNarrowThrough }
+    ensures confines { FamiliesConfineThrough }
+    ensures through { EverThroughExecs }
+    ensures starts { StartsThroughExecs }
+    ensures lasts { EverLasts }
+    ensures read { EverLastsAfterRead }
+    ensures now { NowWithinLasting }
+{}
+
+/// Examples of what can ever be touched through execs.
+#[tactic(auto, using(crate::specs::ThroughExamples::through_rows))]
+pub fn through_examples()
+    ensures { ThroughRows }
 {}

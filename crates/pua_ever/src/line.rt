@@ -1,6 +1,15 @@
 //! A line of the list for ever.
 
-use pua_calls::Calls;
+ghost use Rattle.std.specs.Prelude.{◌≡◌, Bool};
+ghost use Rattle.pua_tree.specs.Tree.{Tree};
+ghost use Rattle.pua_audit.specs.Reach.{Word};
+ghost use Rattle.pua_calls.specs.CallSets.{has};
+ghost use Rattle.pua_calls.specs.declared.call.Call.{Call as AnyCall};
+ghost use Rattle.pua_ever.specs.Ever.{Thing};
+ghost use Rattle.pua_ever.specs.EverLines.{IsThing, line_with};
+ghost use Rattle.pua_ever.specs.Through.{can_come as comes_by, let_through as let_through_by};
+
+use pua_calls::{Call, Calls};
 use pua_objects::ObjectKind;
 
 /// What a line is about.
@@ -12,6 +21,31 @@ pub enum EverThing {
     Comes(ObjectKind),
 }
 
+impl EverThing {
+    /// Whether it stands or could stand now, or is made by one of these calls.
+    fn can_come(self, passes: Calls) -> bool
+        ensures { (t : Tree) (about : Thing) → IsThing t about self →
+            result ≡ comes_by (has passes) about }
+    {
+        match self {
+            EverThing::Stands(_) => true,
+            EverThing::Comes(kind) => passes.contains(maker_of(kind)),
+        }
+    }
+}
+
+/// The call by which such a thing is made.
+fn maker_of(kind: ObjectKind) -> Call
+    ensures { (t : Tree) (about : Thing) (passes : AnyCall → Bool) →
+        IsThing t about (EverThing.Comes kind) → comes_by passes about ≡ passes result }
+{
+    match kind {
+        ObjectKind::File => Call::Create,
+        ObjectKind::Link => Call::Symlink,
+        _ => Call::Mkdir,
+    }
+}
+
 /// A line of the list, but for the names that lead there.
 #[derive(Clone, Copy, PartialEq, Eq)]
 pub struct EverLine {
@@ -19,4 +53,25 @@ pub struct EverLine {
     pub thing: EverThing,
     /// The calls that can ever be allowed on it.
     pub calls: Calls,
+}
+
+impl EverLine {
+    /// The line with those of its calls that are let through: none on what is made by a call that
+    /// isn't.
+    pub fn let_through(self, passes: Calls) -> EverLine
+        ensures thing { result.thing ≡ self.thing }
+        ensures line { (t : Tree) (word : Word) (about : Thing) → IsThing t about self.thing →
+            line_with word about result
+            ≡ let_through_by (has passes) (line_with word about self) }
+    {
+        let calls = if self.thing.can_come(passes) {
+            self.calls.intersection(passes)
+        } else {
+            Calls::NONE
+        };
+        EverLine {
+            thing: self.thing,
+            calls,
+        }
+    }
 }

@@ -6,6 +6,8 @@ pub use Rattle.pua_policy.proofs.Climbs.{climb_step, length-climb_step}
 pub use Rattle.pua_policy.proofs.Standing.{processes_decide, kept_by, cover_by, unveil_fault_by}
 -- and is what is left of a history, after each event and after an exec
 pub use Rattle.pua_policy.proofs.Histories.{keeps, stands, state_after, state_more, state_by_exec, state_exec}
+-- what leaving out the pledges leaves of it
+pub use Rattle.pua_policy.proofs.Exec.{no_promises, same_veils, same_end}
 -- no event brings back a promise but `error`
 pub use Rattle.pua_policy.proofs.Narrowing.{held_never_grows}
 -- what both of two sets have, the second has, and what a set holds, a set that holds it holds

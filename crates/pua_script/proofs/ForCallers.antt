@@ -10,8 +10,8 @@ pub use Rattle.pua_script.proofs.KeepTrees.{replays_keep_trees}
 pub use Rattle.pua_script.proofs.InBytes.{replays_keep_byte_trees, listings_list_byte_trees, scripts_ask_in_bytes}
 -- the rules that a command names are tables that the laws speak of
 pub use Rattle.pua_script.proofs.Served.{rules_narrow}
--- what requests of others leave
-pub use Rattle.pua_script.proofs.Others.{others_leave, others_leave_always}
+-- what requests of others leave, and what a fork copies
+pub use Rattle.pua_script.proofs.Others.{others_leave, others_leave_always, forks_copy}
 -- a history within another: the same covers, and no more is allowed
 pub use Rattle.pua_script.proofs.Allowing.{IsWithin, same_cover, may_yes, verdicts_within}
 -- the members of a family, one request after another

@@ -87,3 +87,19 @@ fn fork_loses_lock(alloc: Global) {
         unreachable!()
     }
 }
+
+/// A process that holds both sets holds what was handed down too.
+fn handed_down_forgotten(alloc: Global) {
+    let Ok(mut process) = Process::new(alloc) else {
+        return;
+    };
+    let Ok(()) = process.pledge(Some(Promises::RPATH), None) else {
+        unreachable!()
+    };
+    let Ok(both) = process.with_both(alloc, Promises::CPATH) else {
+        return;
+    };
+    if both.may(Promises::CPATH) != May::Yes {
+        unreachable!()
+    }
+}

@@ -1,0 +1,139 @@
+-- Worked rows on what can ever be touched through execs.
+use Rattle.std.specs.Prelude.{◌≡◌, ◌+◌, ℕ, List, [], ◌∷◌, map, Some, None, codes, refl}
+use Rattle.pua_tree.specs.Tree.{Tree, Node}
+use Rattle.pua_tree.specs.declared.node.Kind.TheVariants.{Dir, File, Prog}
+use Rattle.pua_calls.specs.Promises.{rpath, wpath, cpath, exec, proc, unveil, reading, writing, executing, creating}
+use Rattle.pua_calls.specs.Calls.{CallTable, standard_table, openbsd_table}
+use Rattle.pua_policy.specs.History.{History, Pledged, Unveiled, Locked, new_history}
+use Rattle.pua_policy.specs.declared.place.Place.TheVariants as place
+use Rattle.pua_ever.specs.Ever.{ever, ever_line_text}
+use Rattle.pua_ever.specs.Through.{ever_lasting}
+
+abbrev directory : Node
+directory = record { kind = Dir; target = None }
+
+abbrev file : Node
+file = record { kind = File; target = None }
+
+abbrev program : Node
+program = record { kind = Prog; target = None }
+
+-- `/in` has c, `/out` has rc, and the program `/p` the letters
+abbrev pub started_tree : Tree
+started_tree = record {
+  rows = ((0, codes "in"), 1) ∷ ((0, codes "out"), 2) ∷ ((0, codes "p"), 4) ∷ ((1, codes "s"), 3) ∷ [];
+  nodes = (0, directory) ∷ (1, directory) ∷ (2, directory) ∷ (3, file) ∷ (4, program) ∷ [];
+  next = 5;
+}
+
+abbrev pub starting : ℕ → ℕ → ℕ → History
+starting letters held given =
+    Pledged (Some held) (Some given)
+    ∷ Locked
+    ∷ Unveiled (place.Slot 0 (codes "p")) letters
+    ∷ Unveiled (place.Dir 2) (reading + creating)
+    ∷ Unveiled (place.Dir 1) creating
+    ∷ new_history
+
+-- who reads, and starts what moves
+abbrev pub reads : History
+reads = starting executing (rpath + exec + proc) cpath
+
+abbrev pub lines_now : CallTable → History → List (List ℕ)
+lines_now table h = map (ever_line_text started_tree) (ever started_tree table h)
+
+abbrev pub lines_lasting : CallTable → History → List (List ℕ)
+lines_lasting table h = map (ever_line_text started_tree) (ever_lasting started_tree table h)
+
+abbrev pub alone : List (List ℕ)
+alone = codes "dir /out stat,lstat,open-r,chdir" ∷ codes "prog /p exec" ∷ []
+
+abbrev pub together : List (List ℕ)
+together =
+    codes "dir /in rmdir"
+    ∷ codes "other /in mkdir,symlink"
+    ∷ codes "file /in/s stat,lstat,open-r,unlink"
+    ∷ codes "dir /out stat,lstat,open-r,rmdir,chdir"
+    ∷ codes "other /out mkdir,symlink"
+    ∷ codes "prog /p exec"
+    ∷ codes "dir new stat,lstat,open-r,rmdir,chdir"
+    ∷ codes "other new mkdir,symlink"
+    ∷ codes "link new lstat,readlink,unlink"
+    ∷ []
+
+-- by OpenBSD's rules rename asks `r` of the old name, so nothing is moved out of `/in`
+abbrev pub together_by_openbsd : List (List ℕ)
+together_by_openbsd =
+    codes "dir /in rmdir"
+    ∷ codes "other /in mkdir,symlink"
+    ∷ codes "file /in/s unlink"
+    ∷ codes "dir /out stat,lstat,open-r,rmdir,chdir"
+    ∷ codes "other /out mkdir,symlink"
+    ∷ codes "prog /p exec"
+    ∷ codes "dir new stat,lstat,open-r,rmdir,chdir"
+    ∷ codes "other new mkdir,symlink"
+    ∷ codes "link new lstat,readlink,unlink"
+    ∷ []
+
+-- who can write no program, and starts what can: `/out` has rwxc
+abbrev pub writes : History
+writes =
+    Pledged (Some (rpath + exec + proc)) (Some (wpath + cpath))
+    ∷ Locked
+    ∷ Unveiled (place.Slot 0 (codes "p")) executing
+    ∷ Unveiled (place.Dir 2) (reading + writing + executing + creating)
+    ∷ new_history
+
+-- who can put no veil, and isn't locked
+abbrev pub unlocked : ℕ → History
+unlocked given =
+    Pledged (Some (rpath + exec + proc)) (Some given)
+    ∷ Unveiled (place.Slot 0 (codes "p")) executing
+    ∷ Unveiled (place.Dir 2) (reading + creating)
+    ∷ Unveiled (place.Dir 1) creating
+    ∷ new_history
+
+pub record ThroughRows : Type 0 where
+  -- by itself it can move nothing
+  pub reads_alone : lines_now standard_table reads ≡ alone
+  -- what it starts moves `/in/s` to `/out`, and it reads it there, which neither does by itself
+  pub reads_and_moves : lines_lasting standard_table reads ≡ together
+  -- where nothing can be started, the list is that of the process itself
+  pub none_to_start : lines_lasting standard_table (starting reading (rpath + exec + proc) cpath) ≡
+      codes "dir /out stat,lstat,open-r,chdir" ∷ codes "prog /p stat,lstat,open-r" ∷ []
+  -- a program that can start another is bounded where its execpromises stay
+  pub starts_again : lines_lasting openbsd_table (starting executing (rpath + exec + proc) (cpath + exec)) ≡ together_by_openbsd
+  pub starts_again_unset : lines_lasting standard_table (starting executing (rpath + exec + proc) (cpath + exec)) ≡ alone
+  -- nothing is bounded without execpromises
+  pub nothing_given : lines_lasting openbsd_table (Pledged (Some (rpath + exec + proc)) None ∷ Locked ∷
+      Unveiled (place.Slot 0 (codes "p")) executing ∷ Unveiled (place.Dir 2) (reading + creating) ∷ Unveiled (place.Dir 1) creating ∷
+      new_history) ≡ alone
+  -- nor where a program that is started can put veils
+  pub unveils_later : lines_lasting standard_table (unlocked (cpath + unveil)) ≡ alone
+  pub unveils_never : lines_lasting standard_table (unlocked cpath) ≡ together
+  -- create needs two promises, of which each has one: none of them makes a file
+  pub two_halves : lines_lasting standard_table (starting executing (rpath + wpath + exec + proc) cpath) ≡ together
+  -- what it starts writes a file, which it can start then, once its mode lets it
+  pub starts_what_is_made : lines_lasting standard_table writes ≡
+      codes "dir /out stat,lstat,open-r,rmdir,chdir"
+      ∷ codes "other /out create,mkdir,symlink"
+      ∷ codes "prog /p exec"
+      ∷ codes "dir new stat,lstat,open-r,rmdir,chdir"
+      ∷ codes "other new create,mkdir,symlink"
+      ∷ codes "file new stat,lstat,open-r,open-w,create,unlink,exec"
+      ∷ codes "link new lstat,readlink,unlink"
+      ∷ []
+
+pub through_rows : ThroughRows
+through_rows = record {
+  reads_alone = refl;
+  reads_and_moves = refl;
+  none_to_start = refl;
+  starts_again = refl;
+  starts_again_unset = refl;
+  nothing_given = refl;
+  unveils_later = refl;
+  unveils_never = refl;
+  two_halves = refl;
+  starts_what_is_made = refl;
+}
