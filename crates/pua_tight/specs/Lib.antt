@@ -1,0 +1,8 @@
+-- The claim, in reading order.
+pub mod Tight
+pub mod Texts
+pub mod Narrower
+-- What is proved of it.
+pub mod Laws
+-- Worked rows, which hold by computation.
+pub mod Examples

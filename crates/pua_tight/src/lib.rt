@@ -1,0 +1,6 @@
+//! A script without the promises and letters that none of its answers needs.
+#![tactic(auto)]
+
+mod laws;
+
+pub use laws::{tight_examples};
