@@ -1,3 +1,5 @@
 pub mod Sets
 pub mod Histories
 pub mod Decided
+pub mod Worlds
+pub mod Listed

@@ -1,10 +1,24 @@
 //! Laws and worked examples of tightened scripts, each the contract of a function that does nothing.
 
 ghost use Rattle.pua_tight.specs.Examples.{TightRows, WrittenRows};
+ghost use Rattle.pua_tight.specs.Laws.{FuturesAreWithin, RequestKeepsWithin, ScriptsKeepWithin};
+ghost use Rattle.pua_tight.specs.Laws.{WithinAllowsNoMore, WithinGrantsNoMore, WithinListsNoMore};
 
 /// Examples of scripts with the tightened ones, and of the bytes that are written of them.
 #[tactic(auto, using(crate::specs::Examples::tight_rows, crate::specs::Examples::written_rows))]
 pub fn tight_examples()
     ensures requests { TightRows }
     ensures texts { WrittenRows }
+{}
+
+/// A script that is another one but for keywords of pledges and letters of unveils that were left
+/// out, and is answered as it line by line, leaves the same tree and the same processes, each of
+/// which may do nothing more: over any tree, on any path, now or after whatever is granted later.
+pub fn narrower_law()
+    ensures step { RequestKeepsWithin }
+    ensures scripts { ScriptsKeepWithin }
+    ensures allows { WithinAllowsNoMore }
+    ensures lists { WithinListsNoMore }
+    ensures grants { WithinGrantsNoMore }
+    ensures futures { FuturesAreWithin }
 {}
