@@ -2,4 +2,5 @@ pub mod Sets
 pub mod Histories
 pub mod Decided
 pub mod Worlds
+pub mod Tightened
 pub mod Listed

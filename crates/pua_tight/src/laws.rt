@@ -3,6 +3,7 @@
 ghost use Rattle.pua_tight.specs.Examples.{TightRows, WrittenRows};
 ghost use Rattle.pua_tight.specs.Laws.{FuturesAreWithin, RequestKeepsWithin, ScriptsKeepWithin};
 ghost use Rattle.pua_tight.specs.Laws.{WithinAllowsNoMore, WithinGrantsNoMore, WithinListsNoMore};
+ghost use Rattle.pua_tight.specs.Laws.{TightensScripts};
 
 /// Examples of scripts with the tightened ones, and of the bytes that are written of them.
 #[tactic(auto, using(crate::specs::Examples::tight_rows, crate::specs::Examples::written_rows))]
@@ -21,4 +22,10 @@ pub fn narrower_law()
     ensures lists { WithinListsNoMore }
     ensures grants { WithinGrantsNoMore }
     ensures futures { FuturesAreWithin }
+{}
+
+/// A tightened script is the given one but for what was left out, is answered as it line by line, and
+/// leaves the same tree and the same processes, each of which may do nothing more.
+pub fn tight_law()
+    ensures { TightensScripts }
 {}
