@@ -3,4 +3,7 @@ pub mod Histories
 pub mod Decided
 pub mod Worlds
 pub mod Tightened
+pub mod Rare
+pub mod Between
+pub mod Less
 pub mod Listed
