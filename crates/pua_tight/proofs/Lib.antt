@@ -6,4 +6,5 @@ pub mod Tightened
 pub mod Rare
 pub mod Between
 pub mod Less
+pub mod Minimal
 pub mod Listed

@@ -3,7 +3,7 @@
 ghost use Rattle.pua_tight.specs.Examples.{TightRows, WrittenRows};
 ghost use Rattle.pua_tight.specs.Laws.{FuturesAreWithin, RequestKeepsWithin, ScriptsKeepWithin};
 ghost use Rattle.pua_tight.specs.Laws.{WithinAllowsNoMore, WithinGrantsNoMore, WithinListsNoMore};
-ghost use Rattle.pua_tight.specs.Laws.{TightensScripts};
+ghost use Rattle.pua_tight.specs.Laws.{TightensScripts, TightIsMinimal};
 
 /// Examples of scripts with the tightened ones, and of the bytes that are written of them.
 #[tactic(auto, using(crate::specs::Examples::tight_rows, crate::specs::Examples::written_rows))]
@@ -28,4 +28,10 @@ pub fn narrower_law()
 /// leaves the same tree and the same processes, each of which may do nothing more.
 pub fn tight_law()
     ensures { TightensScripts }
+{}
+
+/// Without any one keyword or letter more that may be left out, some line is answered otherwise: one
+/// pass, from the last line to the first, leaves nothing to a second.
+pub fn minimal_law()
+    ensures { TightIsMinimal }
 {}

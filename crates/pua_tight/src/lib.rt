@@ -3,4 +3,4 @@
 
 mod laws;
 
-pub use laws::{narrower_law, tight_examples, tight_law};
+pub use laws::{minimal_law, narrower_law, tight_examples, tight_law};
