@@ -8,3 +8,7 @@ pub mod Between
 pub mod Less
 pub mod Minimal
 pub mod Listed
+pub mod Three
+pub mod Agree
+pub mod Rules
+pub mod Pieces
