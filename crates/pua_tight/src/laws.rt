@@ -3,7 +3,8 @@
 ghost use Rattle.pua_tight.specs.Examples.{TightRows, WrittenRows};
 ghost use Rattle.pua_tight.specs.Laws.{FuturesAreWithin, RequestKeepsWithin, ScriptsKeepWithin};
 ghost use Rattle.pua_tight.specs.Laws.{WithinAllowsNoMore, WithinGrantsNoMore, WithinListsNoMore};
-ghost use Rattle.pua_tight.specs.Laws.{TightensScripts, TightIsMinimal};
+ghost use Rattle.pua_tight.specs.Laws.{TightensScripts, TightIsMinimal, RulesRestOnOne};
+ghost use Rattle.pua_tight.specs.Laws.{ScriptsAreTightened, TightIsLeast};
 
 /// Examples of scripts with the tightened ones, and of the bytes that are written of them.
 #[tactic(auto, using(crate::specs::Examples::tight_rows, crate::specs::Examples::written_rows))]
@@ -34,4 +35,13 @@ pub fn tight_law()
 /// pass, from the last line to the first, leaves nothing to a second.
 pub fn minimal_law()
     ensures { TightIsMinimal }
+{}
+
+/// By a table whose calls each rest on one set of promises, as by the rules of the profile and by
+/// OpenBSD's, nothing else that may be left out of the given script, so that it is answered as
+/// before, leaves less than the tightened one has.
+pub fn least_law()
+    ensures least { TightIsLeast }
+    ensures rules { RulesRestOnOne }
+    ensures lines { ScriptsAreTightened }
 {}
