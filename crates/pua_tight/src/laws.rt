@@ -1,10 +1,11 @@
 //! Laws and worked examples of tightened scripts, each the contract of a function that does nothing.
 
 ghost use Rattle.pua_tight.specs.Examples.{TightRows, WrittenRows};
+ghost use Rattle.pua_tight.specs.Laws.{RulesRestOnOne, ScriptsAreTightened};
 ghost use Rattle.pua_tight.specs.Laws.{FuturesAreWithin, RequestKeepsWithin, ScriptsKeepWithin};
+ghost use Rattle.pua_tight.specs.Laws.{TightensScripts, TightIsLeast, TightIsMinimal};
+ghost use Rattle.pua_tight.specs.Laws.{TextsAreRead, TightTextsAreRead};
 ghost use Rattle.pua_tight.specs.Laws.{WithinAllowsNoMore, WithinGrantsNoMore, WithinListsNoMore};
-ghost use Rattle.pua_tight.specs.Laws.{TightensScripts, TightIsMinimal, RulesRestOnOne};
-ghost use Rattle.pua_tight.specs.Laws.{ScriptsAreTightened, TightIsLeast};
 
 /// Examples of scripts with the tightened ones, and of the bytes that are written of them.
 #[tactic(auto, using(crate::specs::Examples::tight_rows, crate::specs::Examples::written_rows))]
@@ -44,4 +45,12 @@ pub fn least_law()
     ensures least { TightIsLeast }
     ensures rules { RulesRestOnOne }
     ensures lines { ScriptsAreTightened }
+{}
+
+/// What is written of a tightened script is read as the tightened requests, so that these laws are of
+/// its bytes: whatever keywords and letters requests are given without, the bytes without them are a
+/// script of these requests.
+pub fn text_law()
+    ensures written { TextsAreRead }
+    ensures tight { TightTextsAreRead }
 {}
