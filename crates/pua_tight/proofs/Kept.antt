@@ -15,6 +15,13 @@ use Rattle.pua_path.specs.declared.errno.Errno.{Errno}
 use Rattle.pua_path.specs.declared.errno.Errno.TheVariants.{EINVAL}
 use Rattle.pua_calls.specs.Promises.{holds, keywords, rows_from, promise_of, letter_of, union_of, union_or_fault}
 use Rattle.pua_tight.specs.Texts.{stays_in}
+use Rattle.pua_tight.specs.Left.{stays_as_read}
+use Rattle.pua_calls.specs.Promises.{promises_of}
+use Rattle.std.proofs.lemmas.Bool.{not_from_false}
+use Rattle.std.proofs.Common.{append_assoc, take, get_or, ◌+◌, length}
+use Rattle.std.proofs.lemmas.List.{take-map, map-append}
+use Rattle.std.proofs.Math.Seq.{take-suc}
+use Rattle.std.specs.Int.Bits.{or_zero_r}
 
 -- one member alone
 abbrev pub IsSingle : ℕ → Type 0
@@ -182,3 +189,50 @@ module _ (c : ℕ) where
   cut_joined w (v ∷ ws) e =
       let both = and_parts (free w) (list_all free (v ∷ ws)) e in
       cut_first w (join_with_byte c (v ∷ ws)) both.0 ∙ ap (λ l. w ∷ l) (cut_joined v ws both.1)
+
+-- a word without a comma stays as it would as a list of its own
+stays_same : (set : ℕ) (word : List ℕ) → free 44 word ≡ true → stays_as_read set (promises_of word) ≡ stays_in set (promise_of word)
+stays_same set [] e = eq-eqb _ _ (and_zero_r set)
+stays_same set (b ∷ more) e =
+    ap (λ ws. stays_as_read set (union_of (map promise_of ws))) (cut_alone 44 (b ∷ more) e) ∙ by (promise_of (b ∷ more))
+  where
+    by : (o : Option ℕ) → stays_as_read set (union_of (o ∷ [])) ≡ stays_in set o
+    by None = refl
+    by (Some bit) = ap (holds set) (or_zero_r bit)
+
+pub same_left : (set : ℕ) (words : List (List ℕ)) → list_all (free 44) words ≡ true →
+    filter (λ word. stays_as_read set (promises_of word)) words ≡ filter (λ word. stays_in set (promise_of word)) words
+same_left set [] e = refl
+same_left set (w ∷ words) e =
+    let both = and_parts (free 44 w) (list_all (free 44) words) e in
+    ap (λ b. cond b (w ∷ filter (λ word. stays_as_read set (promises_of word)) words)
+    (filter (λ word. stays_as_read set (promises_of word)) words)) (stays_same set w both.0)
+    ∙ ap (λ ws. cond (stays_in set (promise_of w)) (w ∷ ws) ws) (same_left set words both.1)
+
+-- no piece between commas has one
+pub pieces_free : (c : ℕ) (xs : List ℕ) → list_all (free c) (cut c xs) ≡ true
+pieces_free c xs = pieces_pass c (λ x. true) (λ x. not (x == c)) (λ x any apart. not_from_false (x == c) apart) xs (any_byte xs)
+  where
+    any_byte : (xs : List ℕ) → list_all (λ x. true) xs ≡ true
+    any_byte [] = refl
+    any_byte (x ∷ xs) = any_byte xs
+
+-- one word more, joined to those before it
+pub joined_more : (c : ℕ) (w : List ℕ) (ws : List (List ℕ)) (v : List ℕ) →
+    join_with_byte c (w ∷ ws ++ v ∷ []) ≡ join_with_byte c (w ∷ ws) ++ c ∷ v
+joined_more c w [] v = refl
+joined_more c w (x ∷ ws) v =
+    ap (λ l. w ++ c ∷ l) (joined_more c x ws v) ∙ sym (append_assoc w (c ∷ join_with_byte c (x ∷ ws)) (c ∷ v))
+
+pub joined_next : {X : Type 0} (f : X → List ℕ) (c i : ℕ) (words : List X) (first : X) (more : List X) (d : X) (old pushed new : List ℕ) →
+    words ≡ first ∷ more → i < length more → old ≡ join_with_byte c (take (i + 1) (map f words)) → pushed ≡ old ++ c ∷ [] →
+    new ≡ pushed ++ f (get_or more i d) → new ≡ join_with_byte c (take (i + 1 + 1) (map f words))
+joined_next f c i words first more d old pushed new are less was push is =
+    let one : i + 1 ≡ suc i = omega arith in
+    let two : i + 1 + 1 ≡ suc (suc i) = omega arith in
+    is ∙ ap (λ l. l ++ f (get_or more i d)) (push ∙ ap (λ l. l ++ c ∷ []) (was ∙ (λ j. join_with_byte c (take (one j) (map f (are j))))))
+    ∙ append_assoc (join_with_byte c (f first ∷ take i (map f more))) (c ∷ []) (f (get_or more i d))
+    ∙ sym (joined_more c (f first) (take i (map f more)) (f (get_or more i d)))
+    ∙ ap (λ l. join_with_byte c (f first ∷ l)) (ap (λ l. l ++ f (get_or more i d) ∷ []) (take-map f i more)
+    ∙ sym (map-append f (take i more) (get_or more i d ∷ [])) ∙ ap (map f) (sym (take-suc more i d less)) ∙ sym (take-map f (suc i) more))
+    ∙ sym (λ j. join_with_byte c (take (two j) (map f (are j))))

@@ -1,5 +1,5 @@
 -- Worked rows: a listing, a script, and the tightened one.
-use Rattle.std.specs.Prelude.{◌≡◌, ℕ, List, [], ◌∷◌, ◌++◌, Option, Some, None, Result, Ok, Err, codes, refl}
+use Rattle.std.specs.Prelude.{◌≡◌, ℕ, List, [], ◌∷◌, ◌++◌, Option, Some, None, option_map, Result, Ok, Err, codes, refl}
 use Rattle.std.specs.Result.{result_ok}
 use Rattle.pua_tree.specs.Examples.{text_of_lines}
 use Rattle.pua_tree.specs.Listing.{listing}
@@ -11,8 +11,10 @@ use Rattle.pua_script.specs.Requests.{Asked}
 use Rattle.pua_script.specs.Scripts.{script}
 use Rattle.pua_script.specs.Replay.{new_world}
 use Rattle.pua_script.specs.declared.fault.ScriptFault.{ScriptFault}
-use Rattle.pua_tight.specs.Tight.{lines_of, tight}
-use Rattle.pua_tight.specs.Texts.{tight_text}
+use Rattle.pua_calls.specs.Promises.{wpath, writing}
+use Rattle.pua_tight.specs.Tight.{Piece, InPromises, InExecpromises, InVeil, lines_of, tight}
+use Rattle.pua_tight.specs.Laws.{leave_out}
+use Rattle.pua_tight.specs.Texts.{thinned_text, tight_text}
 
 abbrev pub tight_by : CallTable → Result Tree ListingFault → Result (List Asked) ScriptFault → Result (List Asked) ScriptFault
 tight_by table (Ok t) (Ok asked) = Ok (tight table (new_world t) (lines_of table (new_world t) asked))
@@ -78,3 +80,18 @@ written_rows = record {
   ends_stay = refl;
   spelling_stays = refl;
 }
+
+-- the bytes of a script without a piece of the line at an index
+abbrev pub bytes_without : ℕ → Piece → List ℕ → Option (List ℕ)
+bytes_without index piece bytes = option_map (λ asks. thinned_text (leave_out index piece asks) bytes) (result_ok (script bytes))
+
+pub record WithoutRows : Type 0 where
+  pub letter : bytes_without 0 (InVeil writing) (text_of_lines (codes "1 unveil /etc rw" ∷ codes "1 unveil /tmp rw" ∷ []))
+      ≡ Some (text_of_lines (codes "1 unveil /etc r" ∷ codes "1 unveil /tmp rw" ∷ []))
+  pub promise : bytes_without 1 (InPromises wpath) (text_of_lines (codes "1 stat /etc" ∷ codes "1 pledge wpath,rpath wpath" ∷ []))
+      ≡ Some (text_of_lines (codes "1 stat /etc" ∷ codes "1 pledge rpath wpath" ∷ []))
+  pub execpromise : bytes_without 0 (InExecpromises wpath) (text_of_lines (codes "1 pledge wpath,rpath wpath" ∷ []))
+      ≡ Some (text_of_lines (codes "1 pledge wpath,rpath =" ∷ []))
+
+pub without_rows : WithoutRows
+without_rows = record { letter = refl; promise = refl; execpromise = refl }

@@ -16,12 +16,8 @@ use Rattle.pua_script.specs.declared.request.Given.{Given}
 use Rattle.pua_script.specs.declared.request.Given.TheVariants.{Good}
 use Rattle.pua_script.specs.declared.request.Action.{Action}
 use Rattle.pua_script.specs.declared.request.Action.TheVariants.{Pledge, Unveil}
-
--- what may be left out of a line: a keyword of one of the arguments of a pledge, or a letter of an unveil, by its bit
-pub data Piece : Type 0 where
-  InPromises : ℕ → Piece
-  InExecpromises : ℕ → Piece
-  InVeil : ℕ → Piece
+pub use Rattle.pua_tight.specs.declared.piece.Piece.{Piece}
+pub use Rattle.pua_tight.specs.declared.piece.Piece.TheVariants.{InPromises, InExecpromises, InVeil}
 
 -- the argument without it; an unknown one, or NULL, has none
 abbrev pub given_without : ℕ → Given → Given
