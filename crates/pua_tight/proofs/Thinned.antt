@@ -1,6 +1,6 @@
 -- A line whose argument is spelled with fewer words is read as the request that has less.
-use Rattle.std.proofs.Common.{◌≡◌, ◌≢◌, ℕ, List, [], ◌∷◌, refl, sym, ap, ◌∙◌, subst, true, false, not, ◌&&◌, map, length, arith}
-use Rattle.std.proofs.lemmas.Bool.{true≢false, and_parts, and_from, not_from_false, lt-ltb}
+use Rattle.std.proofs.Common.{◌≡◌, ◌≢◌, ℕ, List, [], ◌∷◌, refl, sym, ap, ◌∙◌, subst, true, false, ◌&&◌, map, length, arith}
+use Rattle.std.proofs.lemmas.Bool.{true≢false, and_parts, and_from, lt-ltb}
 use Rattle.std.specs.List.{list_all, list_any, join_with_byte}
 use Rattle.std.specs.Prelude.{Option, Some, None, Ok, codes, decimal, filter, nat_lt, ◌==◌}
 use Rattle.pua_tree.proofs.ForCallers.{Err≢Ok, same_Ok, fields_cons, fields_one, is_visible}
@@ -20,7 +20,7 @@ use Rattle.pua_tight.specs.Narrower.{GivenWithin, given_none, given_unknown, giv
 use Rattle.pua_tight.proofs.Sets.{holds_self}
 use Rattle.pua_tight.proofs.Tightened.{given_self}
 use Rattle.pua_tight.proofs.Kept.{promise_single, letter_single, left_named, left_within, none_within, all_left, none_left, cut, free}
-use Rattle.pua_tight.proofs.Kept.{pieces_pass, joined_pass, cut_joined}
+use Rattle.pua_tight.proofs.Kept.{pieces_free, pieces_pass, joined_pass, cut_joined}
 
 -- a list whose words are none of them empty
 words_named : (field : List ℕ) → has_empty_word field ≡ false → promises_of field ≡ union_of (map promise_of (cut 44 field))
@@ -44,11 +44,7 @@ module _ (set : ℕ) (field : List ℕ) where
 
   free_words : list_all (free 44) words ≡ true
   free_words = all_left (λ word. stays_in set (promise_of word)) (free 44) (cut 44 field)
-      (pieces_pass 44 (λ x. true) (λ x. not (x == 44)) (λ x any apart. not_from_false _ apart) field (any_byte field))
-    where
-      any_byte : (xs : List ℕ) → list_all (λ x. true) xs ≡ true
-      any_byte [] = refl
-      any_byte (x ∷ xs) = any_byte xs
+      (pieces_free 44 field)
 
   given_words : (ws : List (List ℕ)) → words ≡ ws → list_any (λ word. length word == 0) words ≡ false →
       union_of (map promise_of words) ≡ Ok set → SpellsGiven (or_equals (join_with_byte 44 ws)) (Good set)

@@ -22,7 +22,7 @@ use Rattle.pua_tight.specs.Texts.{line_text, ended_text, lines_text, thinned_tex
 use Rattle.pua_tight.specs.Tight.{tight, lines_of}
 use Rattle.pua_tight.specs.Narrower.{ActionWithin, AskWithin, AsksWithin, no_asks, asks}
 use Rattle.pua_tight.specs.Laws.{TextsAreRead, TightTextsAreRead}
-use Rattle.pua_tight.proofs.Kept.{cut, free, pieces_pass, joined_pass, cut_joined}
+use Rattle.pua_tight.proofs.Kept.{cut, free, joined_pass, cut_joined, pieces_free}
 use Rattle.pua_tight.proofs.Thinned.{field_bytes, with_action, thin_line_read}
 use Rattle.pua_tight.proofs.Tightened.{tightens}
 use Rattle.pua_tight.proofs.Pieces.{scripts_are_tightened}
@@ -190,19 +190,12 @@ joined_again line parts (x ∷ xs) clean = cut_joined 10 (ended_text x.action li
 pub texts_are_read : TextsAreRead
 texts_are_read bytes ys xs read within = by (cut 10 bytes) refl
   where
-    any_byte : (bs : List ℕ) → list_all (λ x. true) bs ≡ true
-    any_byte [] = refl
-    any_byte (x ∷ bs) = any_byte bs
-
-    clean : list_all (free 10) (cut 10 bytes) ≡ true
-    clean = pieces_pass 10 (λ x. true) (λ x. not (x == 10)) (λ x any apart. not_from_false (x == 10) apart) bytes (any_byte bytes)
-
     by : (parts : List (List ℕ)) → cut 10 bytes ≡ parts → script (thinned_text xs bytes) ≡ Ok xs
     by [] are = absurd (omega (arith, ap length are, length-slice_split (λ b. b == 10) bytes))
     by (line ∷ parts) are =
         let is = (scripts_are_read bytes ys).0 read in
         let thin : LinesThin xs (line ∷ parts) =
-        lines_thin (line ∷ parts) within (ap (list_all (free 10)) (sym are) ∙ clean)
+        lines_thin (line ∷ parts) within (ap (list_all (free 10)) (sym are) ∙ pieces_free 10 bytes)
         (subst (λ ps. SpellRequests (lines_of_parts ps) ys) are is.1) in
         let text : List ℕ = thinned_text xs bytes in
         let lines_are : lines text ≡ lines_of_parts (lines_text xs (line ∷ parts)) =

@@ -4,6 +4,7 @@ pub mod Texts
 pub mod Narrower
 -- What is proved of it.
 pub mod Laws
+pub mod Trials
 -- What the code's fields say.
 pub mod Left
 -- Worked rows, which hold by computation.

@@ -5,6 +5,7 @@ ghost use Rattle.pua_tight.specs.Laws.{RulesRestOnOne, ScriptsAreTightened};
 ghost use Rattle.pua_tight.specs.Laws.{FuturesAreWithin, RequestKeepsWithin, ScriptsKeepWithin};
 ghost use Rattle.pua_tight.specs.Laws.{TightensScripts, TightIsLeast, TightIsMinimal};
 ghost use Rattle.pua_tight.specs.Laws.{TextsAreRead, TightTextsAreRead};
+ghost use Rattle.pua_tight.specs.Trials.{TriedOneByOne};
 ghost use Rattle.pua_tight.specs.Laws.{WithinAllowsNoMore, WithinGrantsNoMore, WithinListsNoMore};
 
 /// Examples of scripts with the tightened ones, and of the bytes that are written of them.
@@ -28,9 +29,11 @@ pub fn narrower_law()
 {}
 
 /// A tightened script is the given one but for what was left out, is answered as it line by line, and
-/// leaves the same tree and the same processes, each of which may do nothing more.
+/// leaves the same tree and the same processes, each of which may do nothing more. It is what trials
+/// leave, one after another, each of the whole script that those before it left.
 pub fn tight_law()
-    ensures { TightensScripts }
+    ensures tightens { TightensScripts }
+    ensures trials { TriedOneByOne }
 {}
 
 /// Without any one keyword or letter more that may be left out, some line is answered otherwise: one
