@@ -31,3 +31,5 @@ pub use Rattle.pua_script.proofs.Guarding.{decisions_are_guarded, first_none, se
 pub use Rattle.pua_script.proofs.RequestRoom.{requests_lack}
 -- the world after one request more
 pub use Rattle.pua_script.proofs.Composition.{one_request_more}
+-- a script is read exactly as the requests that its lines spell
+pub use Rattle.pua_script.proofs.Grammar.{scripts_are_read}

@@ -1,0 +1,288 @@
+-- What is granted to one that asks is granted to one that is refused less, and is the same change.
+use Rattle.std.proofs.Common.{◌≡◌, ℕ, List, [], ◌∷◌, refl, sym, ap, ◌∙◌, Bool, true, false, cond, ◌||◌, ◌&&◌, subst, length}
+use Rattle.std.proofs.lemmas.Bool.{false≢true}
+use Rattle.std.specs.Prelude.{Option, Some, None, Result, Ok, Err, option_map, nat_le}
+use Rattle.pua_tree.specs.Tree.{Tree}
+use Rattle.pua_path.specs.Paths.{path_fault}
+use Rattle.pua_path.specs.Resolution.{resolution_of_text}
+use Rattle.pua_path.specs.Fits.{node_named}
+use Rattle.pua_path.specs.declared.errno.Errno.{Errno}
+use Rattle.pua_path.specs.declared.errno.Errno.TheVariants.{EPERM}
+use Rattle.pua_path.specs.declared.found.Found.{Found}
+use Rattle.pua_path.specs.declared.found.Last.{Last}
+use Rattle.pua_path.specs.declared.found.Last.TheVariants.{Followed}
+use Rattle.pua_path.specs.declared.text.Ending.{Ending}
+use Rattle.pua_path.specs.declared.text.Ending.TheVariants as ending
+use Rattle.pua_calls.specs.Calls.{CallTable, PairRule, rule_of, last_of, ending_of}
+use Rattle.pua_calls.specs.Promises.{holds, proc, unveil, error}
+use Rattle.pua_calls.specs.declared.call.Call.{Call}
+use Rattle.pua_calls.specs.declared.call.Call.TheVariants as call
+use Rattle.pua_policy.specs.History.{History, Event, Unveiled, Pledged, state_of, working_dir, may_any, is_locked, place_fault}
+use Rattle.pua_policy.specs.History.{pledge_fault_on, is_within, unveil_fault, perms_kept, veils, most_places, held_set, pledged_set, held_for_exec}
+use Rattle.pua_policy.specs.Misfits.{misfit}
+use Rattle.pua_policy.specs.Verdict.{or_fault, object_of, place_of, refusal_of}
+use Rattle.pua_policy.specs.declared.place.Place.{Place}
+use Rattle.pua_policy.specs.declared.answer.May.{May}
+use Rattle.pua_policy.specs.declared.answer.May.TheVariants as may
+use Rattle.pua_policy.specs.declared.answer.Refusal.{Refusal}
+use Rattle.pua_policy.specs.declared.answer.UnveilFault.TheVariants.{NotPermitted, TooManyPlaces}
+use Rattle.pua_script.specs.Decide.{Change, AddEvent, Decision, Asking, Side, Sole, Old, New, refusals, asker_of, decide, decide_by, call_by}
+use Rattle.pua_script.specs.Decide.{object_by, symlink_by, pair_by, objects_by, covers_by, rename_by, link_by, veil_by, veiling_by}
+use Rattle.pua_script.specs.Decide.{pledge_by, pledging_by, unless_refused, unless_failed, on_named, change_by, adding, link_node, fault_if}
+use Rattle.pua_script.specs.Decide.{is_unknown, given_set, unveil_errno}
+use Rattle.pua_script.specs.declared.request.Given.{Given}
+use Rattle.pua_script.specs.declared.request.Action.{Action}
+use Rattle.pua_script.specs.declared.request.Action.TheVariants.{OnPath, Symlink, Rename, Link, Pledge, Unveil, Lock, Fork, Exit}
+use Rattle.pua_tight.specs.Narrower.{SetWithin, unset, within, EventWithin, pledged, unveiled, HistoryWithin, GivenWithin, given_none, given_less, given_unknown}
+use Rattle.pua_tight.specs.Narrower.{ActionWithin, as_given, less_pledged, less_unveiled}
+use Rattle.pua_policy.proofs.ForCallers.{holds_through}
+use Rattle.pua_tight.proofs.Sets.{asked_within}
+use Rattle.pua_tight.proofs.Histories.{pledged_within, exec_within, held_within, kept_within, locked_alike, dir_alike, veils_within, as_many}
+use Rattle.pua_tight.proofs.Histories.{cover_within, fault_within, may_within}
+
+-- each check that the first passes the second passes, and paths name the same to both
+pub record Easier (a b : Asking) : Type 0 where
+  pub promises : (sets : List ℕ) → a.promises sets ≡ None → b.promises sets ≡ None
+  pub path : (side : Side) (t : Tree) (end : Ending) (text : List ℕ) (last : Last) → a.path side t end text last ≡ b.path side t end text last
+  pub cover : (side : Side) (t : Tree) (object : Found) (perms : ℕ) → a.cover side t object perms ≡ None → b.cover side t object perms ≡ None
+  pub beyond : (p e : Option ℕ) → a.beyond p e ≡ None → b.beyond p e ≡ None
+  pub locked : a.locked ≡ None → b.locked ≡ None
+  pub place : (place : Place) (perms : ℕ) → a.place place perms ≡ None → b.place place perms ≡ None
+
+pub or_less : (a b m : Option Errno) → (a ≡ None → b ≡ None) → or_fault a m ≡ None → or_fault b m ≡ None
+or_less None b m less e = ap (λ x. or_fault x m) (less refl) ∙ e
+or_less (Some x) b m less e = cc
+
+or_both : (a b c d : Option Errno) → (a ≡ None → b ≡ None) → (c ≡ None → d ≡ None) → or_fault a c ≡ None → or_fault b d ≡ None
+or_both None b c d less other e = ap (λ x. or_fault x d) (less refl) ∙ other e
+or_both (Some x) b c d less other e = cc
+
+module _ (c : Change) where
+  past_refused : (o p : Option Refusal) (f g : Decision) → (o ≡ None → p ≡ None) → (f ≡ Ok c → g ≡ Ok c) →
+      unless_refused o f ≡ Ok c → unless_refused p g ≡ Ok c
+  past_refused None p f g less further e = ap (λ x. unless_refused x g) (less refl) ∙ further e
+  past_refused (Some r) p f g less further e = cc
+
+  past_failed : (o p : Option Errno) (f g : Decision) → (o ≡ None → p ≡ None) → (f ≡ Ok c → g ≡ Ok c) →
+      unless_failed refusals.failed o f ≡ Ok c → unless_failed refusals.failed p g ≡ Ok c
+  past_failed None p f g less further e = ap (λ x. unless_failed refusals.failed x g) (less refl) ∙ further e
+  past_failed (Some r) p f g less further e = cc
+
+  past_named : (r s : Result Found Errno) (f g : Found → Decision) → r ≡ s → ((x : Found) → f x ≡ Ok c → g x ≡ Ok c) →
+      on_named refusals.failed r f ≡ Ok c → on_named refusals.failed s g ≡ Ok c
+  past_named (Ok x) s f g same further e = ap (λ s. on_named refusals.failed s g) (sym same) ∙ further x e
+  past_named (Err errno) s f g same further e = cc
+
+module _ (table : CallTable) (t : Tree) (a b : Asking) (easier : Easier a b) (c : Change) where
+  abbrev checked : Asking → Call → (Found → Decision) → Found → Decision
+  checked asker call f object = unless_failed refusals.failed (or_fault (asker.cover Sole t object (rule_of table call).perms)
+      (option_map (refusals.misfit Sole object) (misfit t call (object_of t object)))) (f object)
+
+  object_more : (call : Call) (path : List ℕ) (f : Found → Decision) →
+      object_by refusals table t a call path f ≡ Ok c → object_by refusals table t b call path f ≡ Ok c
+  object_more call path f = past_named c (a.path Sole t (ending_of call) path (last_of call))
+      (b.path Sole t (ending_of call) path (last_of call)) (checked a call f) (checked b call f)
+      (easier.path Sole t (ending_of call) path (last_of call))
+      (λ x. past_failed c (or_fault (a.cover Sole t x (rule_of table call).perms)
+      (option_map (refusals.misfit Sole x) (misfit t call (object_of t x))))
+      (or_fault (b.cover Sole t x (rule_of table call).perms) (option_map (refusals.misfit Sole x) (misfit t call (object_of t x))))
+      (f x) (f x) (or_less _ _ (option_map (refusals.misfit Sole x) (misfit t call (object_of t x)))
+      (easier.cover Sole t x (rule_of table call).perms)) (λ e. e))
+
+  call_more : (call : Call) (path : List ℕ) → call_by refusals table t a call path ≡ Ok c → call_by refusals table t b call path ≡ Ok c
+  call_more call path = past_refused c (a.promises (rule_of table call).alternatives) (b.promises (rule_of table call).alternatives)
+      (object_by refusals table t a call path (λ object. Ok (change_by table call object)))
+      (object_by refusals table t b call path (λ object. Ok (change_by table call object)))
+      (easier.promises (rule_of table call).alternatives) (object_more call path (λ object. Ok (change_by table call object)))
+
+  symlink_more : (target path : List ℕ) → symlink_by refusals table t a target path ≡ Ok c → symlink_by refusals table t b target path ≡ Ok c
+  symlink_more target path = past_refused c (a.promises (rule_of table call.Symlink).alternatives)
+      (b.promises (rule_of table call.Symlink).alternatives)
+      (unless_failed refusals.failed (path_fault target) (object_by refusals table t a call.Symlink path (λ object. Ok (adding (link_node target) object))))
+      (unless_failed refusals.failed (path_fault target) (object_by refusals table t b call.Symlink path (λ object. Ok (adding (link_node target) object))))
+      (easier.promises (rule_of table call.Symlink).alternatives)
+      (past_failed c (path_fault target) (path_fault target)
+      (object_by refusals table t a call.Symlink path (λ object. Ok (adding (link_node target) object)))
+      (object_by refusals table t b call.Symlink path (λ object. Ok (adding (link_node target) object)))
+      (λ e. e) (object_more call.Symlink path (λ object. Ok (adding (link_node target) object))))
+
+  pair_more : (pair : PairRule) (end : Ending) (old new : List ℕ) (f : Found → Found → Decision) →
+      pair_by refusals pair t a end old new f ≡ Ok c → pair_by refusals pair t b end old new f ≡ Ok c
+  pair_more pair end old new f =
+      past_refused c (a.promises pair.old.needs.alternatives) (b.promises pair.old.needs.alternatives)
+      (unless_refused (a.promises pair.new.needs.alternatives) (objects_by refusals pair t a end old new f))
+      (unless_refused (b.promises pair.new.needs.alternatives) (objects_by refusals pair t b end old new f))
+      (easier.promises pair.old.needs.alternatives)
+      (past_refused c (a.promises pair.new.needs.alternatives) (b.promises pair.new.needs.alternatives)
+      (objects_by refusals pair t a end old new f) (objects_by refusals pair t b end old new f)
+      (easier.promises pair.new.needs.alternatives)
+      (past_named c (a.path Old t end old pair.old.last) (b.path Old t end old pair.old.last) (second a) (second b)
+      (easier.path Old t end old pair.old.last)
+      (λ x. past_named c (a.path New t end new pair.new.last) (b.path New t end new pair.new.last) (third a x) (third b x)
+      (easier.path New t end new pair.new.last)
+      (λ y. past_failed c (covers_by pair t a x y) (covers_by pair t b x y) (f x y) (f x y)
+      (or_both (a.cover Old t x pair.old.needs.perms) (b.cover Old t x pair.old.needs.perms)
+      (a.cover New t y pair.new.needs.perms) (b.cover New t y pair.new.needs.perms)
+      (easier.cover Old t x pair.old.needs.perms) (easier.cover New t y pair.new.needs.perms)) (λ e. e)))))
+    where
+      third : Asking → Found → Found → Decision
+      third asker x y = unless_failed refusals.failed (covers_by pair t asker x y) (f x y)
+
+      second : Asking → Found → Decision
+      second asker x = on_named refusals.failed (asker.path New t end new pair.new.last) (third asker x)
+
+  veil_more : (path : List ℕ) (perms : Option ℕ) → veil_by refusals t a path perms ≡ Ok c → veil_by refusals t b path perms ≡ Ok c
+  veil_more path None e = e
+  veil_more path (Some perms) e = past_named c (a.path Sole t ending.Dot path Followed) (b.path Sole t ending.Dot path Followed)
+      (λ object. veiling_by refusals a (place_of object) perms) (λ object. veiling_by refusals b (place_of object) perms)
+      (easier.path Sole t ending.Dot path Followed)
+      (λ x. past_failed c (a.place (place_of x) perms) (b.place (place_of x) perms) (Ok (AddEvent (Unveiled (place_of x) perms)))
+      (Ok (AddEvent (Unveiled (place_of x) perms))) (easier.place (place_of x) perms) (λ e. e)) e
+
+  pub granted_more : (action : Action) → decide_by refusals table t a action ≡ Ok c → decide_by refusals table t b action ≡ Ok c
+  granted_more (OnPath call path) = call_more call path
+  granted_more (Symlink target path) = symlink_more target path
+  granted_more (Rename old new) = pair_more table.rename ending.Dropped old new (λ x y. rename_by refusals t x y (node_named x))
+  granted_more (Link old new) = pair_more table.link ending.Dot old new (λ x y. link_by refusals x y (node_named x))
+  granted_more (Pledge p e) = past_failed c (fault_if (is_unknown p || is_unknown e) (refusals.unknown_promise (cond (is_unknown p) false true)))
+      (fault_if (is_unknown p || is_unknown e) (refusals.unknown_promise (cond (is_unknown p) false true)))
+      (pledging_by refusals a (given_set p) (given_set e)) (pledging_by refusals b (given_set p) (given_set e)) (λ e. e)
+      (past_failed c (a.beyond (given_set p) (given_set e)) (b.beyond (given_set p) (given_set e))
+      (Ok (AddEvent (Pledged (given_set p) (given_set e)))) (Ok (AddEvent (Pledged (given_set p) (given_set e))))
+      (easier.beyond (given_set p) (given_set e)) (λ e. e))
+  granted_more (Unveil path perms) = past_refused c (a.promises (unveil ∷ [])) (b.promises (unveil ∷ []))
+      (unless_failed refusals.failed a.locked (veil_by refusals t a path perms))
+      (unless_failed refusals.failed b.locked (veil_by refusals t b path perms)) (easier.promises (unveil ∷ []))
+      (past_failed c a.locked b.locked (veil_by refusals t a path perms) (veil_by refusals t b path perms) easier.locked (veil_more path perms))
+  granted_more Lock = past_refused c (a.promises (unveil ∷ [])) (b.promises (unveil ∷ [])) _ _ (easier.promises (unveil ∷ [])) (λ e. e)
+  granted_more (Fork new) = past_refused c (a.promises (proc ∷ [])) (b.promises (proc ∷ [])) _ _ (easier.promises (proc ∷ [])) (λ e. e)
+  granted_more Exit = λ e. e
+
+-- one that passes every check, in a directory
+abbrev pub free : ℕ → Asking
+free dir = record {
+  promises = λ sets. None;
+  path = λ side t end text last. resolution_of_text t dir end text last;
+  cover = λ side t object perms. None;
+  beyond = λ p e. None;
+  locked = None;
+  place = λ place perms. None;
+}
+
+freer : (h : History) → Easier (asker_of h) (free (working_dir h))
+freer h = record {
+  promises = λ sets e. refl;
+  path = λ side t end text last. refl;
+  cover = λ side t object perms e. refl;
+  beyond = λ p e is. refl;
+  locked = λ e. refl;
+  place = λ place perms e. refl;
+}
+
+-- what is granted is what it would be without checks
+pub freely : (table : CallTable) (t : Tree) (h : History) (action : Action) (c : Change) → decide table t h action ≡ Ok c →
+    decide_by refusals table t (free (working_dir h)) action ≡ Ok c
+freely table t h action c = granted_more table t (asker_of h) (free (working_dir h)) (freer h) c action
+
+may_from : (m : May) → refusal_of m ≡ None → m ≡ may.Yes
+may_from may.Yes e = refl
+may_from may.Enosys e = cc
+may_from may.Death e = cc
+
+either : (a b c d : Bool) → (a ≡ true → b ≡ true) → (c ≡ true → d ≡ true) → (a || c) ≡ true → (b || d) ≡ true
+either true b c d first other e = ap (λ b. b || d) (first refl)
+either false true c d first other e = refl
+either false false c d first other e = other e
+
+each : (a b c d : Bool) → (a ≡ true → b ≡ true) → (c ≡ true → d ≡ true) → (a && c) ≡ true → (b && d) ≡ true
+each true b c d first other e = ap (λ b. b && d) (first refl) ∙ other e
+each false b c d first other e = absurd (false≢true e)
+
+none_if : (x : Bool) → cond {A = Option Errno} x None (Some EPERM) ≡ None → x ≡ true
+none_if true e = refl
+none_if false e = cc
+
+placed : {p q : Option ℕ} → SetWithin p q → (n m perms : ℕ) → n ≡ m → unveil_errno (place_fault p n perms) ≡ None →
+    unveil_errno (place_fault q m perms) ≡ None
+placed unset n m perms same e = ap (λ n. unveil_errno (cond (nat_le most_places n) (Some TooManyPlaces) None)) (sym same) ∙ e
+placed (within {a = a} {b = b} less) n m perms same e =
+    ap (λ x. unveil_errno (cond x None (Some NotPermitted))) (holds_through b a perms less (held (holds a perms) e))
+  where
+    held : (x : Bool) → unveil_errno (cond x None (Some NotPermitted)) ≡ None → x ≡ true
+    held true e = refl
+    held false e = cc
+
+module _ (h k : History) (w : HistoryWithin h k) where
+  beyond_less : (p e : Option ℕ) → pledge_fault_on (state_of h) p e ≡ None → pledge_fault_on (state_of k) p e ≡ None
+  beyond_less p e is = ap (λ x. cond x None (Some EPERM)) (either (holds (held_set h) error) (holds (held_set k) error)
+      (is_within p (pledged_set h) && is_within e (held_for_exec h)) (is_within p (pledged_set k) && is_within e (held_for_exec k))
+      (λ has. holds_through (held_set k) (held_set h) error (held_within w) has)
+      (each (is_within p (pledged_set h)) (is_within p (pledged_set k)) (is_within e (held_for_exec h)) (is_within e (held_for_exec k))
+      (asked_within p (pledged_within w)) (asked_within e (exec_within w)))
+      (none_if (holds (held_set h) error || (is_within p (pledged_set h) && is_within e (held_for_exec h))) is))
+
+  place_less : (place : Place) (perms : ℕ) → unveil_errno (unveil_fault h place perms) ≡ None → unveil_errno (unveil_fault k place perms) ≡ None
+  place_less place perms = by (is_locked h) (is_locked k) (locked_alike w)
+    where
+      by : (x y : Bool) → x ≡ y →
+          unveil_errno (cond x (Some NotPermitted) (place_fault (perms_kept h place) (length (veils h)) perms)) ≡ None →
+          unveil_errno (cond y (Some NotPermitted) (place_fault (perms_kept k place) (length (veils k)) perms)) ≡ None
+      by true y same e = cc
+      by false true same e = absurd (false≢true same)
+      by false false same e = placed (kept_within w place) (length (veils h)) (length (veils k)) perms (as_many (veils_within w)) e
+
+  pub easier : Easier (asker_of h) (asker_of k)
+  easier = record {
+    promises = λ sets e. ap refusal_of (may_within h k w sets (may_from (may_any h sets) e));
+    path = λ side t end text last. ap (λ d. resolution_of_text t d end text last) (dir_alike w);
+    cover = λ side t object perms. fault_within (cover_within h k w t object) perms;
+    beyond = beyond_less;
+    locked = λ e. ap (λ x. fault_if x EPERM) (sym (locked_alike w)) ∙ e;
+    place = place_less;
+  }
+
+-- one change, or events of which the first is within the other
+pub data ChangeWithin : Change → Change → Type 0 where
+  alike : {c : Change} → ChangeWithin c c
+  gives : {e f : Event} → EventWithin e f → ChangeWithin (AddEvent e) (AddEvent f)
+
+abbrev Granted : Change → Decision
+Granted c = Ok c
+
+is_ok : (c d : Change) → Granted c ≡ Granted d → c ≡ d
+is_ok c d e = cc
+
+by_ok : (x y c d : Change) → ChangeWithin x y → Granted x ≡ Granted c → Granted y ≡ Granted d → ChangeWithin c d
+by_ok x y c d w e f = subst (λ z. ChangeWithin z d) (is_ok x c e) (subst (ChangeWithin x) (is_ok y d f) w)
+
+module _ (table : CallTable) (t : Tree) (h k : History) (w : HistoryWithin h k) (c d : Change) where
+  veil_within : (path : List ℕ) (a b : ℕ) → holds b a ≡ true → (r : Result Found Errno) →
+      on_named refusals.failed r (λ object. Granted (AddEvent (Unveiled (place_of object) a))) ≡ Ok c →
+      on_named refusals.failed r (λ object. Granted (AddEvent (Unveiled (place_of object) b))) ≡ Ok d → ChangeWithin c d
+  veil_within path a b less (Ok object) e f =
+      by_ok (AddEvent (Unveiled (place_of object) a)) (AddEvent (Unveiled (place_of object) b)) c d (gives (unveiled less)) e f
+  veil_within path a b less (Err errno) e f = cc
+
+  pledge_within : {p q x y : Given} → GivenWithin p q → GivenWithin x y → pledge_by refusals (free (working_dir h)) p x ≡ Ok c →
+      pledge_by refusals (free (working_dir k)) q y ≡ Ok d → ChangeWithin c d
+  pledge_within given_none given_none e f = by_ok _ _ c d (gives (pledged unset unset)) e f
+  pledge_within (given_less less) given_none e f = by_ok _ _ c d (gives (pledged (within less) unset)) e f
+  pledge_within given_none (given_less less) e f = by_ok _ _ c d (gives (pledged unset (within less))) e f
+  pledge_within (given_less less) (given_less other) e f = by_ok _ _ c d (gives (pledged (within less) (within other))) e f
+  pledge_within given_unknown other e f = cc
+  pledge_within given_none given_unknown e f = cc
+  pledge_within (given_less less) given_unknown e f = cc
+
+  pub change_within : {x y : Action} → ActionWithin x y → decide table t h x ≡ Ok c → decide table t k y ≡ Ok d → ChangeWithin c d
+  change_within (as_given {action = action}) e f =
+      let here : decide_by refusals table t (free (working_dir h)) action ≡ Ok c = freely table t h action c e in
+      let there : decide_by refusals table t (free (working_dir k)) action ≡ Ok d = freely table t k action d f in
+      subst (ChangeWithin c) (is_ok c d (sym here ∙ ap (λ dir. decide_by refusals table t (free dir) action) (dir_alike w) ∙ there)) alike
+  change_within (less_pledged {p = p} {q = q} {e = x} {f = y} first second) e f =
+      pledge_within first second (freely table t h (Pledge p x) c e) (freely table t k (Pledge q y) d f)
+  change_within (less_unveiled {path = path} {a = a} {b = b} less) e f =
+      veil_within path a b less (resolution_of_text t (working_dir k) ending.Dot path Followed)
+      (ap (λ dir. on_named refusals.failed (resolution_of_text t dir ending.Dot path Followed)
+      (λ object. Granted (AddEvent (Unveiled (place_of object) a)))) (sym (dir_alike w))
+      ∙ freely table t h (Unveil path (Some a)) c e)
+      (freely table t k (Unveil path (Some b)) d f)

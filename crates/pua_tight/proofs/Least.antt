@@ -1,0 +1,436 @@
+-- By a table whose calls each rest on one set of promises nothing that is answered as before has less than the tightened script.
+use Rattle.std.proofs.Common.{◌≡◌, ◌≢◌, ℕ, List, [], ◌∷◌, ◌++◌, refl, sym, ap, ◌∙◌, Bool, true, false, cond, subst, min, ◌+◌, ◌%◌, ◌<◌, arith, append_assoc, inl, inr, ◌⊎◌}
+use Rattle.std.proofs.lemmas.Bool.{false≢true, eqb-true, eq-eqb}
+use Rattle.std.proofs.lemmas.Nat.Bits.{bit_at_and, bit_at-lt, bit_at-zero, same_from_bits}
+use Rattle.std.specs.Int.{bit_at}
+use Rattle.std.specs.Prelude.{Some, None, IsTrue, bit_and, ◌==◌}
+use Rattle.pua_calls.specs.Promises.{holds, lacking, error}
+use Rattle.pua_calls.specs.Calls.{CallTable}
+use Rattle.pua_script.specs.Requests.{Asked}
+use Rattle.pua_script.specs.Replay.{World, apply, answers_to, world_after}
+use Rattle.pua_script.specs.declared.answer.Answer.{Answer}
+use Rattle.pua_script.specs.declared.answer.Answer.TheVariants as answer
+use Rattle.pua_script.specs.declared.request.Given.{Given}
+use Rattle.pua_script.specs.declared.request.Given.TheVariants.{Null, Good, Unknown}
+use Rattle.pua_script.specs.declared.request.Action.{Action}
+use Rattle.pua_script.specs.declared.request.Action.TheVariants.{Pledge, Unveil}
+use Rattle.pua_script.proofs.ForCallers.{one_request_more}
+use Rattle.pua_policy.specs.History.{History}
+use Rattle.pua_tight.specs.Narrower.{GivenWithin, given_none, given_less, given_unknown, ActionWithin, as_given, less_pledged, less_unveiled, AskWithin}
+use Rattle.pua_tight.specs.Narrower.{AsksWithin, no_asks, asks}
+use Rattle.pua_tight.specs.Tight.{Piece, InPromises, InExecpromises, InVeil, given_without, action_without, without, Line, asks_of, same_answers}
+use Rattle.pua_tight.specs.Tight.{try_piece, thin_line, thin}
+use Rattle.pua_tight.specs.Laws.{IsPieceOf, AreOkay, without_all, LeavesOut, RestsOnOne, bit_of, AreSpareable, TightIsLeast}
+use Rattle.pua_tight.proofs.Sets.{holds_self}
+use Rattle.pua_tight.proofs.Tightened.{has_lacking, without_within, action_twice, world_self, tried_same, line_within, thin_same}
+use Rattle.pua_tight.proofs.Less.{lack_at, ask_mono, is_without, lacks_down, lacks_left, okay_less}
+use Rattle.pua_tight.proofs.Minimal.{heads, tails, compose, asks_self, prefix, same_self}
+use Rattle.pua_tight.proofs.Three.{last_two, history_three}
+use Rattle.pua_tight.proofs.ThreeWorlds.{HistoriesThree, three_nobody, three_somebody, WorldThree, GivenThree, null_three, unknown_three, good_three}
+use Rattle.pua_tight.proofs.ThreeWorlds.{ActionThree, same_three, pledge_three, unveil_three, step_three, agree_three}
+
+-- `error` in a pledge's arguments
+abbrev given_error : Given → Bool
+given_error (Good set) = holds set error
+given_error _ = false
+
+abbrev errors : Action → Bool × Bool
+errors (Pledge p e) = (given_error p, given_error e)
+errors _ = (false, false)
+
+apart_bit : (s t e : ℕ) → s < 2 → t < 2 → e < 2 → min t e ≡ 0 → min ((s + min s t) % 2) e ≡ min s e
+apart_bit s t e p q r f = omega arith
+
+error_stays : (bit set : ℕ) → bit_and bit error ≡ 0 → holds (lacking bit set) error ≡ holds set error
+error_stays bit set apart = ap (λ n. n == error) (same_from_bits _ _ (λ i.
+    let at : min (bit_at bit i) (bit_at error i) ≡ 0 = sym (bit_at_and bit error i) ∙ ap (λ n. bit_at n i) apart ∙ bit_at-zero i in
+    bit_at_and (lacking bit set) error i ∙ ap (λ x. min x (bit_at error i)) (lack_at bit set i)
+    ∙ apart_bit (bit_at set i) (bit_at bit i) (bit_at error i) (bit_at-lt set i) (bit_at-lt bit i) (bit_at-lt error i) at
+    ∙ sym (bit_at_and set error i)))
+
+given_stays : (bit : ℕ) (g : Given) → bit_and bit error ≡ 0 → given_error (given_without bit g) ≡ given_error g
+given_stays bit Null apart = refl
+given_stays bit (Good set) apart = error_stays bit set apart
+given_stays bit Unknown apart = refl
+
+errors_stay : (piece : Piece) (a : Action) → bit_and (bit_of piece) error ≡ 0 → errors (action_without piece a) ≡ errors a
+errors_stay (InPromises bit) (Pledge p e) apart = ap (λ x. (x, given_error e)) (given_stays bit p apart)
+errors_stay (InExecpromises bit) (Pledge p e) apart = ap (λ x. (given_error p, x)) (given_stays bit e apart)
+errors_stay (InVeil bit) (Pledge p e) apart = refl
+errors_stay (InVeil bit) (Unveil path perms) apart = refl
+errors_stay (InPromises bit) _ apart = refl
+errors_stay (InExecpromises bit) _ apart = refl
+errors_stay (InVeil bit) _ apart = refl
+
+-- a request that has less, and `error` where the other has it
+record AskLess (y x : Asked) : Type 0 where
+  process : y.process ≡ x.process
+  action : ActionWithin y.action x.action
+  errs : errors y.action ≡ errors x.action
+
+data AsksLess : List Asked → List Asked → Type 0 where
+  less_none : AsksLess [] []
+  less_more : {y x : Asked} {ys xs : List Asked} → AskLess y x → AsksLess ys xs → AsksLess (y ∷ ys) (x ∷ xs)
+
+forget : {ys xs : List Asked} → AsksLess ys xs → AsksWithin ys xs
+forget less_none = no_asks
+forget (less_more one rest) = asks (record { process = one.process; action = one.action }) (forget rest)
+
+all_without : (pieces : List Piece) (x : Asked) → ((piece : Piece) → IsPieceOf pieces piece → bit_and (bit_of piece) error ≡ 0) →
+    AskLess (without_all pieces x) x
+all_without [] x apart = record { process = refl; action = as_given; errs = refl }
+all_without (piece ∷ pieces) x apart =
+    let rest = all_without pieces (without piece x) (λ p among. apart p (inr among)) in
+    record {
+      process = rest.process;
+      action = action_twice rest.action (without_within piece x.action);
+      errs = rest.errs ∙ errors_stay piece x.action (apart piece (inl refl));
+    }
+
+-- a piece that was left out is out
+stays_out : (piece : Piece) (pieces : List Piece) (x : Asked) → IsPieceOf pieces piece →
+    action_without piece (without_all pieces x).action ≡ (without_all pieces x).action
+stays_out piece [] x among = absurd among
+stays_out piece (other ∷ pieces) x (inr among) = stays_out piece pieces (without other x) among
+stays_out piece (other ∷ pieces) x (inl is) =
+    subst (λ p. action_without p (without_all pieces (without other x)).action ≡ (without_all pieces (without other x)).action) is
+    (lacks_down other (within_all pieces (without other x)) (lacks_left other x.action))
+  where
+    within_all : (more : List Piece) (z : Asked) → ActionWithin (without_all more z).action z.action
+    within_all [] z = as_given
+    within_all (p ∷ more) z = action_twice (within_all more (without p z)) (without_within p z.action)
+
+-- what has none of some pieces is within what is left without them
+within_left : (pieces : List Piece) (x z : Asked) → AskWithin x z → ((piece : Piece) → IsPieceOf pieces piece → without piece x ≡ x) →
+    AskWithin x (without_all pieces z)
+within_left [] x z lies out = lies
+within_left (piece ∷ pieces) x z lies out =
+    within_left pieces x (without piece z)
+    (subst (λ v. AskWithin v (without piece z)) (out piece (inl refl)) (ask_mono piece x z lies)) (λ p among. out p (inr among))
+
+-- whether a request has a piece can be told
+decide_given : (bit : ℕ) (g : Given) → (given_without bit g ≡ g) ⊎ (given_without bit g ≢ g)
+decide_given bit Null = inl refl
+decide_given bit Unknown = inl refl
+decide_given bit (Good set) = by (lacking bit set == set) refl
+  where
+    set_in : Given → ℕ
+    set_in (Good s) = s
+    set_in _ = 0
+
+    by : (b : Bool) → (lacking bit set == set) ≡ b → (given_without bit (Good set) ≡ Good set) ⊎ (given_without bit (Good set) ≢ Good set)
+    by true e = inl (ap Good (eqb-true _ _ e))
+    by false e = inr (λ same. let is : lacking bit set ≡ set = cc in false≢true (sym e ∙ eq-eqb _ _ is))
+
+abbrev first_in : Action → Given
+first_in (Pledge p e) = p
+first_in _ = Null
+
+abbrev second_in : Action → Given
+second_in (Pledge p e) = e
+second_in _ = Null
+
+abbrev letters_in : Action → ℕ
+letters_in (Unveil path (Some perms)) = perms
+letters_in _ = 0
+
+decide_action : (piece : Piece) (a : Action) → (action_without piece a ≡ a) ⊎ (action_without piece a ≢ a)
+decide_action (InPromises bit) (Pledge p e) = by (decide_given bit p)
+  where
+    by : (given_without bit p ≡ p) ⊎ (given_without bit p ≢ p) → (Pledge (given_without bit p) e ≡ Pledge p e) ⊎ (Pledge (given_without bit p) e ≢ Pledge p e)
+    by (inl is) = inl (ap (λ g. Pledge g e) is)
+    by (inr other) = inr (λ same. other (ap first_in same))
+decide_action (InExecpromises bit) (Pledge p e) = by (decide_given bit e)
+  where
+    by : (given_without bit e ≡ e) ⊎ (given_without bit e ≢ e) → (Pledge p (given_without bit e) ≡ Pledge p e) ⊎ (Pledge p (given_without bit e) ≢ Pledge p e)
+    by (inl is) = inl (ap (λ g. Pledge p g) is)
+    by (inr other) = inr (λ same. other (ap second_in same))
+decide_action (InVeil bit) (Unveil path (Some perms)) = by (lacking bit perms == perms) refl
+  where
+    by : (b : Bool) → (lacking bit perms == perms) ≡ b →
+        (Unveil path (Some (lacking bit perms)) ≡ Unveil path (Some perms)) ⊎ (Unveil path (Some (lacking bit perms)) ≢ Unveil path (Some perms))
+    by true e = inl (ap (λ s. Unveil path (Some s)) (eqb-true _ _ e))
+    by false e = inr (λ same. false≢true (sym e ∙ eq-eqb _ _ (ap letters_in same)))
+decide_action (InVeil bit) (Unveil path None) = inl refl
+decide_action (InVeil bit) (Pledge p e) = inl refl
+decide_action (InPromises bit) _ = inl refl
+decide_action (InExecpromises bit) _ = inl refl
+decide_action (InVeil bit) _ = inl refl
+
+-- kinds of three requests
+given_front : {p q : Given} → GivenWithin p q → given_error p ≡ given_error q → GivenThree p q q
+given_front given_none e = null_three
+given_front given_unknown e = unknown_three
+given_front (given_less {a = a} {b = b} less) e = good_three (holds_self b) (last_two a b) e
+
+front_three : {y x : Action} → ActionWithin y x → errors y ≡ errors x → ActionThree y x x
+front_three as_given e = same_three
+front_three (less_pledged p f) e = pledge_three (given_front p (ap (λ z. z.0) e)) (given_front f (ap (λ z. z.1) e))
+front_three (less_unveiled {a = a} {b = b} less) e = unveil_three (holds_self b) (last_two a b)
+
+given_back : {p q : Given} → GivenWithin p q → given_error p ≡ given_error q → GivenThree q p p
+given_back given_none e = null_three
+given_back given_unknown e = unknown_three
+given_back (given_less {a = a} {b = b} less) e = good_three (holds_self a) (last_two b a) (sym e)
+
+back_three : {y x : Action} → ActionWithin y x → errors y ≡ errors x → ActionThree x y y
+back_three as_given e = same_three
+back_three (less_pledged p f) e = pledge_three (given_back p (ap (λ z. z.0) e)) (given_back f (ap (λ z. z.1) e))
+back_three (less_unveiled {a = a} {b = b} less) e = unveil_three (holds_self a) (last_two b a)
+
+left_bit : (a c t : ℕ) → a < 2 → c < 2 → t < 2 → (a + min a t) % 2 ≡ a → min ((c + min c t) % 2) (min c a) ≡ min c a
+left_bit a c t p q r e = omega arith
+
+pub left_has : (bit a c : ℕ) → lacking bit a ≡ a → holds (lacking bit c) (bit_and c a) ≡ true
+left_has bit a c out = eq-eqb _ _ (same_from_bits _ _ (λ i.
+    let at : (bit_at a i + min (bit_at a i) (bit_at bit i)) % 2 ≡ bit_at a i = sym (lack_at bit a i) ∙ ap (λ n. bit_at n i) out in
+    bit_at_and (lacking bit c) (bit_and c a) i ∙ ap (λ x. min x (bit_at (bit_and c a) i)) (lack_at bit c i)
+    ∙ ap (min ((bit_at c i + min (bit_at c i) (bit_at bit i)) % 2)) (bit_at_and c a i)
+    ∙ left_bit (bit_at a i) (bit_at c i) (bit_at bit i) (bit_at-lt a i) (bit_at-lt c i) (bit_at-lt bit i) at ∙ sym (bit_at_and c a i)))
+
+-- of one line: what the other script has of it, what is tried, and what it was before
+given_tried : (bit : ℕ) {p q r : Given} → GivenWithin p r → GivenWithin q r → given_error p ≡ given_error q → given_without bit p ≡ p →
+    GivenThree p (given_without bit q) q
+given_tried bit given_none given_none e out = null_three
+given_tried bit given_unknown given_unknown e out = unknown_three
+given_tried bit (given_less {a = a} less) (given_less {a = c} other) e out =
+    good_three (has_lacking bit c) (left_has bit a c (ap set_in out)) e
+  where
+    set_in : Given → ℕ
+    set_in (Good s) = s
+    set_in _ = 0
+
+given_beside : {p q r : Given} → GivenWithin p r → GivenWithin q r → given_error p ≡ given_error q → GivenThree p q q
+given_beside given_none given_none e = null_three
+given_beside given_unknown given_unknown e = unknown_three
+given_beside (given_less {a = a} less) (given_less {a = c} other) e = good_three (holds_self c) (last_two a c) e
+
+-- a request within a pledge is a pledge, and one within an unveil of letters such an unveil
+record IsPledge (y : Action) (q f : Given) : Type 0 where
+  p : Given
+  e : Given
+  is : y ≡ Pledge p e
+  first : GivenWithin p q
+  second : GivenWithin e f
+
+given_own : (g : Given) → GivenWithin g g
+given_own Null = given_none
+given_own (Good set) = given_less (holds_self set)
+given_own Unknown = given_unknown
+
+Wanted : Action → Action → Type 0
+Wanted y (Pledge q f) = IsPledge y q f
+Wanted y (Unveil path (Some b)) = (a : ℕ) × (y ≡ Unveil path (Some a)) × IsTrue (holds b a)
+Wanted y x = y ≡ x
+
+wanted_self : (x : Action) → Wanted x x
+unfolding Wanted
+wanted_self (Pledge q f) = record { p = q; e = f; is = refl; first = given_own q; second = given_own f }
+wanted_self (Unveil path (Some b)) = (b, refl, holds_self b)
+wanted_self (Unveil path None) = refl
+wanted_self _ = refl
+
+wanted : {y x : Action} → ActionWithin y x → Wanted y x
+unfolding Wanted
+wanted (as_given {action = action}) = wanted_self action
+wanted (less_pledged {p = p} {e = e} first second) = record { p = p; e = e; is = refl; first = first; second = second }
+wanted (less_unveiled {a = a} less) = (a, refl, less)
+
+pledge_tried : (piece : Piece) {p q r e f g : Given} → GivenWithin p r → GivenWithin q r → GivenWithin e g → GivenWithin f g →
+    errors (Pledge p e) ≡ errors (Pledge q f) → action_without piece (Pledge p e) ≡ Pledge p e →
+    ActionThree (Pledge p e) (action_without piece (Pledge q f)) (Pledge q f)
+pledge_tried (InPromises bit) a b c d same out =
+    pledge_three (given_tried bit a b (ap (λ z. z.0) same) (ap first_in out)) (given_beside c d (ap (λ z. z.1) same))
+pledge_tried (InExecpromises bit) a b c d same out =
+    pledge_three (given_beside a b (ap (λ z. z.0) same)) (given_tried bit c d (ap (λ z. z.1) same) (ap second_in out))
+pledge_tried (InVeil bit) a b c d same out = pledge_three (given_beside a b (ap (λ z. z.0) same)) (given_beside c d (ap (λ z. z.1) same))
+
+veil_tried : (piece : Piece) (path : List ℕ) (a c : ℕ) → action_without piece (Unveil path (Some a)) ≡ Unveil path (Some a) →
+    ActionThree (Unveil path (Some a)) (action_without piece (Unveil path (Some c))) (Unveil path (Some c))
+veil_tried (InVeil bit) path a c out = unveil_three (has_lacking bit c) (left_has bit a c (ap letters_in out))
+veil_tried (InPromises bit) path a c out = unveil_three (holds_self c) (last_two a c)
+veil_tried (InExecpromises bit) path a c out = unveil_three (holds_self c) (last_two a c)
+
+-- any other request has no pieces
+unchanged : (piece : Piece) (x y z : Action) → ((bit : ℕ) → action_without (InPromises bit) x ≡ x) →
+    ((bit : ℕ) → action_without (InExecpromises bit) x ≡ x) → ((bit : ℕ) → action_without (InVeil bit) x ≡ x) → y ≡ x → z ≡ x →
+    ActionThree y (action_without piece z) z
+unchanged piece x y z a b c is it = subst (λ v. ActionThree v (action_without piece z) z) (sym is)
+    (subst (λ v. ActionThree x (action_without piece v) v) (sym it) (subst (λ v. ActionThree x v x) (sym (plain piece)) same_three))
+  where
+    plain : (p : Piece) → action_without p x ≡ x
+    plain (InPromises bit) = a bit
+    plain (InExecpromises bit) = b bit
+    plain (InVeil bit) = c bit
+
+tried : (piece : Piece) (y z x : Action) → ActionWithin y x → ActionWithin z x → errors y ≡ errors z → action_without piece y ≡ y →
+    ActionThree y (action_without piece z) z
+unfolding Wanted
+tried piece y z (Pledge q f) ly lz same out =
+    let a = wanted ly in
+    let b = wanted lz in
+    subst (λ v. ActionThree v (action_without piece z) z) (sym a.is)
+    (subst (λ v. ActionThree (Pledge a.p a.e) (action_without piece v) v) (sym b.is)
+    (pledge_tried piece a.first b.first a.second b.second (ap errors (sym a.is) ∙ same ∙ ap errors b.is)
+    (subst (λ v. action_without piece v ≡ v) a.is out)))
+tried piece y z (Unveil path (Some s)) ly lz same out =
+    let a = wanted ly in
+    let b = wanted lz in
+    subst (λ v. ActionThree v (action_without piece z) z) (sym a.1)
+    (subst (λ v. ActionThree (Unveil path (Some a.0)) (action_without piece v) v) (sym b.1)
+    (veil_tried piece path a.0 b.0 (subst (λ v. action_without piece v ≡ v) a.1 out)))
+tried piece y z (Unveil path None) ly lz same out =
+    unchanged piece (Unveil path None) y z (λ bit. refl) (λ bit. refl) (λ bit. refl) (wanted ly) (wanted lz)
+tried piece y z x ly lz same out = unchanged piece x y z (λ bit. refl) (λ bit. refl) (λ bit. refl) (wanted ly) (wanted lz)
+
+-- a script that has less
+all_agree : (table : CallTable) → RestsOnOne table → (a b c : World) → WorldThree a b c → {ys xs : List Asked} → AsksLess ys xs →
+    answers_to table a xs ≡ answers_to table c ys → answers_to table b ys ≡ answers_to table c ys
+all_agree table one a b c w less_none e = refl
+all_agree table one a b c w (less_more {y = y} {x = x} {ys = ys} {xs = xs} less rest) e =
+    let outer : (apply table a x).0 ≡ (apply table c y).0 = heads _ _ _ _ e in
+    let inner : (apply table b y).0 ≡ (apply table c y).0 = agree_three table one a b c w x y less.process less.action outer in
+    let next : WorldThree (apply table a x).1 (apply table b y).1 (apply table c y).1 =
+    step_three table a b c w x y y less.process less.process (back_three less.action less.errs) (outer ∙ sym inner) inner in
+    ap (λ v. v ∷ answers_to table (apply table b y).1 ys) inner
+    ∙ ap (λ v. (apply table c y).0 ∷ v) (all_agree table one (apply table a x).1 (apply table b y).1 (apply table c y).1 next rest (tails _ _ _ _ e))
+
+histories_three : (hs : List (ℕ × History)) → HistoriesThree hs hs hs
+histories_three [] = three_nobody
+histories_three (one ∷ hs) = three_somebody (history_three one.1) (histories_three hs)
+
+module _ (table : CallTable) (one : RestsOnOne table) (w : World) (want : List Answer) where
+  module _ (before after : List Asked) where
+    line_errors : (ask : Asked) (pieces : List Piece) → ((piece : Piece) → IsPieceOf pieces piece → bit_and (bit_of piece) error ≡ 0) →
+        errors (thin_line table w want before after ask pieces).action ≡ errors ask.action
+    line_errors ask [] apart = refl
+    line_errors ask (piece ∷ pieces) apart =
+        line_errors (try_piece table w want before after ask (without piece ask)) pieces (λ p among. apart p (inr among))
+        ∙ by (same_answers (answers_to table w (before ++ without piece ask ∷ after)) want)
+      where
+        by : (b : Bool) → errors (cond {A = Asked} b (without piece ask) ask).action ≡ errors ask.action
+        by true = errors_stay piece ask.action (apart piece (inl refl))
+        by false = refl
+
+    -- when a piece that is left was tried
+    record Tried (start : Asked) (piece : Piece) (x : Asked) : Type 0 where
+      ask : Asked
+      below : AskLess ask start
+      good : answers_to table w (before ++ ask ∷ after) ≡ want
+      bad : same_answers (answers_to table w (before ++ without piece ask ∷ after)) want ≡ false
+
+    abbrev ends : Asked → List Piece → Asked
+    ends ask pieces = thin_line table w want before after ask pieces
+
+    try_less : (ask : Asked) (piece : Piece) → bit_and (bit_of piece) error ≡ 0 →
+        AskLess (try_piece table w want before after ask (without piece ask)) ask
+    try_less ask piece apart = by (same_answers (answers_to table w (before ++ without piece ask ∷ after)) want)
+      where
+        by : (b : Bool) → AskLess (cond b (without piece ask) ask) ask
+        by true = record { process = refl; action = without_within piece ask.action; errs = errors_stay piece ask.action apart }
+        by false = record { process = refl; action = as_given; errs = refl }
+
+    search_trial : (start ask : Asked) (pieces : List Piece) (piece : Piece) → AskLess ask start → IsPieceOf pieces piece →
+        answers_to table w (before ++ ask ∷ after) ≡ want → ((p : Piece) → IsPieceOf pieces p → bit_and (bit_of p) error ≡ 0) →
+        without piece (ends ask pieces) ≢ ends ask pieces → Tried start piece (ends ask pieces)
+    search_trial start ask [] piece below among good apart left = absurd among
+    search_trial start ask (other ∷ pieces) piece below (inr among) good apart left =
+        let less : AskLess (try_piece table w want before after ask (without other ask)) ask = try_less ask other (apart other (inl refl)) in
+        search_trial start (try_piece table w want before after ask (without other ask)) pieces piece
+        (record { process = less.process ∙ below.process; action = action_twice less.action below.action; errs = less.errs ∙ below.errs }) among
+        (tried_same table w want before after ask other good) (λ p a. apart p (inr a)) left
+    search_trial start ask (other ∷ pieces) piece below (inl is) good apart left =
+        subst (λ p. without p (ends ask (other ∷ pieces)) ≢ ends ask (other ∷ pieces) → Tried start p (ends ask (other ∷ pieces))) is
+        (by (same_answers (answers_to table w (before ++ without other ask ∷ after)) want) refl) left
+      where
+        by : (b : Bool) → same_answers (answers_to table w (before ++ without other ask ∷ after)) want ≡ b →
+            without other (ends (cond b (without other ask) ask) pieces) ≢ ends (cond b (without other ask) ask) pieces →
+            Tried start other (ends (cond b (without other ask) ask) pieces)
+        by true told left = absurd (left (is_without other (ends (without other ask) pieces) ask
+            (line_within table w want before after (without other ask) pieces)))
+        by false told left = record { ask = ask; below = below; good = good; bad = told }
+
+    abbrev over : World
+    over = world_after table w before
+
+    -- what the other script left out of a line is left out of it
+    refute : (a : World) (line : Line) (y : Asked) (ys : List Asked) → WorldThree a over over → answers_to table w (before ++ line.ask ∷ after) ≡ want →
+        AskLess y line.ask → (piece : Piece) → IsPieceOf line.pieces piece → action_without piece y.action ≡ y.action →
+        ((p : Piece) → IsPieceOf line.pieces p → bit_and (bit_of p) error ≡ 0) → (apply table over line.ask).0 ≡ answer.Okay →
+        (apply table a y).0 ≡ (apply table over line.ask).0 → AsksLess after ys →
+        answers_to table (apply table a y).1 ys ≡ answers_to table (apply table over line.ask).1 after →
+        without piece (ends line.ask line.pieces) ≢ ends line.ask line.pieces → ⊥
+    refute a line y ys three start less piece among out apart okay head rest tail left =
+        let found : Tried line.ask piece (ends line.ask line.pieces) = search_trial line.ask line.ask line.pieces piece
+        (record { process = refl; action = as_given; errs = refl }) among start apart left in
+        let ask : Asked = found.ask in
+        let alike = prefix table (asks_self before) w w (world_self w) (ask ∷ after) (line.ask ∷ after) (found.good ∙ sym start) in
+        let okay_ask : (apply table over ask).0 ≡ answer.Okay = heads _ _ _ _ alike.1 ∙ okay in
+        let okay_mid : (apply table over (without piece ask)).0 ≡ answer.Okay = okay_less table over (without piece ask) ask
+        (record { process = refl; action = without_within piece ask.action }) okay_ask in
+        let same_process : ask.process ≡ y.process = found.below.process ∙ sym less.process in
+        let worlds : WorldThree (apply table a y).1 (apply table over (without piece ask)).1 (apply table over ask).1 =
+        step_three table a over over three y (without piece ask) ask same_process same_process
+        (tried piece y.action ask.action line.ask.action less.action found.below.action (less.errs ∙ sym found.below.errs) out)
+        (head ∙ okay ∙ sym okay_mid) (okay_mid ∙ sym okay_ask) in
+        let both : answers_to table (apply table over (without piece ask)).1 after ≡ answers_to table (apply table over ask).1 after =
+        all_agree table one (apply table a y).1 (apply table over (without piece ask)).1 (apply table over ask).1 worlds rest
+        (tail ∙ sym (tails _ _ _ _ alike.1)) in
+        let from_line : answers_to table over (without piece ask ∷ after) ≡ answers_to table over (ask ∷ after) =
+        ap (λ v. v ∷ answers_to table (apply table over (without piece ask)).1 after) (okay_mid ∙ sym okay_ask)
+        ∙ ap (λ v. (apply table over ask).0 ∷ v) both in
+        let whole : answers_to table w (before ++ without piece ask ∷ after) ≡ want =
+        compose table w before (without piece ask ∷ after) ∙ ap (λ v. answers_to table w before ++ v) from_line
+        ∙ sym (compose table w before (ask ∷ after)) ∙ found.good in
+        false≢true (sym found.bad ∙ ap (λ v. same_answers v want) whole ∙ same_self want)
+
+  least_from : (before : List Asked) (a : World) (lines : List Line) (less : List Asked) →
+      WorldThree a (world_after table w before) (world_after table w before) → answers_to table w (before ++ asks_of lines) ≡ want →
+      LeavesOut less lines → AreSpareable lines → AreOkay table (world_after table w before) lines →
+      answers_to table a less ≡ answers_to table (world_after table w before) (asks_of lines) → AsksLess (thin table w want before lines) less
+  least_from before a [] [] three good out spare okay e = less_none
+  least_from before a [] (y ∷ ys) three good out spare okay e = absurd out
+  least_from before a (line ∷ lines) [] three good out spare okay e = absurd out
+  least_from before a (line ∷ lines) (y ∷ ys) three good out spare okay e =
+      let base : World = world_after table w before in
+      let after : List Asked = thin table w want (before ++ line.ask ∷ []) lines in
+      let pieces : List Piece = out.0.0 in
+      let less : AskLess y line.ask = subst (λ v. AskLess v line.ask) (sym out.0.2)
+      (all_without pieces line.ask (λ p among. spare.0 p (out.0.1 p among))) in
+      let head : (apply table a y).0 ≡ (apply table base line.ask).0 = heads _ _ _ _ e in
+      let next : WorldThree (apply table a y).1 (apply table base line.ask).1 (apply table base line.ask).1 =
+      step_three table a base base three y line.ask line.ask (sym less.process) (sym less.process) (front_three less.action less.errs) head refl in
+      let is : world_after table w (before ++ line.ask ∷ []) ≡ (apply table base line.ask).1 = one_request_more table w before line.ask in
+      let rest : AsksLess after ys = least_from (before ++ line.ask ∷ []) (apply table a y).1 lines ys
+      (subst (λ u. WorldThree (apply table a y).1 u u) (sym is) next)
+      (ap (answers_to table w) (append_assoc before (line.ask ∷ []) (asks_of lines)) ∙ good) out.1 spare.1
+      (subst (λ u. AreOkay table u lines) (sym is) okay.1) (tails _ _ _ _ e ∙ ap (λ u. answers_to table u (asks_of lines)) (sym is)) in
+      let start : answers_to table w (before ++ line.ask ∷ after) ≡ want =
+      ap (answers_to table w) (sym (append_assoc before (line.ask ∷ []) after))
+      ∙ thin_same table w want (before ++ line.ask ∷ []) lines
+      (ap (answers_to table w) (append_assoc before (line.ask ∷ []) (asks_of lines)) ∙ good) in
+      let alike = prefix table (asks_self before) w w (world_self w) (line.ask ∷ after) (line.ask ∷ asks_of lines) (start ∙ sym good) in
+      let tail : answers_to table (apply table a y).1 ys ≡ answers_to table (apply table base line.ask).1 after =
+      tails _ _ _ _ e ∙ sym (tails _ _ _ _ alike.1) in
+      let x : Asked = thin_line table w want before after line.ask line.pieces in
+      let in_line : AskWithin x line.ask = line_within table w want before after line.ask line.pieces in
+      let lack : (p : Piece) → IsPieceOf pieces p → without p x ≡ x = λ p among. lacks p x (decide_action p x.action)
+      (refute before after a line y ys three start less p (out.0.1 p among)
+      (subst (λ v. action_without p v.action ≡ v.action) (sym out.0.2) (stays_out p pieces line.ask among)) spare.0
+      (okay.0 p (out.0.1 p among)) head rest tail) in
+      let in_less : AskWithin x y = subst (AskWithin x) (sym out.0.2) (within_left pieces x line.ask in_line lack) in
+      less_more (record {
+        process = in_less.process;
+        action = in_less.action;
+        errs = line_errors before after line.ask line.pieces spare.0 ∙ sym less.errs;
+      }) rest
+    where
+      lacks : (p : Piece) (x : Asked) → (action_without p x.action ≡ x.action) ⊎ (action_without p x.action ≢ x.action) →
+          (without p x ≢ x → ⊥) → without p x ≡ x
+      lacks p x (inl is) never = ap (λ a. record { process = x.process; action = a }) is
+      lacks p x (inr other) never = absurd (never (λ same. other (ap (λ v. v.action) same)))
+
+pub tight_is_least : TightIsLeast
+tight_is_least table w lines less one okay spare out e =
+    forget (least_from table one w (answers_to table w (asks_of lines)) [] w lines less
+    (record { first = refl; last = refl; histories = histories_three w.histories }) refl out spare okay e)

@@ -1,0 +1,120 @@
+-- The lines of requests of which one has less, one after another.
+use Rattle.std.proofs.Common.{◌≡◌, ◌≢◌, ℕ, zero, suc, List, [], ◌∷◌, ◌++◌, ◌+◌, ◌<◌, ◌≤◌, ◌∙◌, refl, sym, ap, map, length, take, get_or, arith, append_assoc, inl, inr, ◌⊎◌, subst}
+use Rattle.std.proofs.Math.Seq.{take-suc}
+use Rattle.std.proofs.lemmas.List.{length-map, take_all}
+use Rattle.std.specs.List.{join_with_byte}
+use Rattle.std.specs.Prelude.{Option, Some, None, slice_get}
+use Rattle.pua_tree.proofs.ForCallers.{same_Some, None≢Some, Some≢None}
+use Rattle.pua_script.specs.Requests.{Asked}
+use Rattle.pua_tight.specs.Tight.{Piece, action_without}
+use Rattle.pua_tight.specs.Texts.{ended_text, lines_text}
+use Rattle.pua_tight.specs.Laws.{leave_out}
+use Rattle.pua_tight.specs.Left.{action_left, nth_text}
+use Rattle.pua_tight.proofs.Kept.{joined_more}
+
+pub past_all : (index : ℕ) (piece : Piece) (asks : List Asked) (place : ℕ) (line : List ℕ) → slice_get asks place ≡ None →
+    nth_text (leave_out index piece asks) place line ≡ line
+past_all index piece [] place line e = refl
+past_all zero piece (ask ∷ asks) zero line e = absurd (Some≢None ask e)
+past_all zero piece (ask ∷ asks) (suc place) line e = plain asks place e
+  where
+    plain : (asks : List Asked) (place : ℕ) → slice_get asks place ≡ None → nth_text asks place line ≡ line
+    plain [] place e = refl
+    plain (ask ∷ asks) zero e = absurd (Some≢None ask e)
+    plain (ask ∷ asks) (suc place) e = plain asks place e
+past_all (suc index) piece (ask ∷ asks) zero line e = absurd (Some≢None ask e)
+past_all (suc index) piece (ask ∷ asks) (suc place) line e = past_all index piece asks place line e
+
+nth_plain : (asks : List Asked) (place : ℕ) (line : List ℕ) (ask : Asked) → slice_get asks place ≡ Some ask →
+    nth_text asks place line ≡ ended_text ask.action line
+nth_plain [] place line ask e = absurd (None≢Some ask e)
+nth_plain (other ∷ asks) zero line ask e = ap (λ a. ended_text a.action line) (same_Some other ask e)
+nth_plain (other ∷ asks) (suc place) line ask e = nth_plain asks place line ask e
+
+pub nth_here : (index : ℕ) (piece : Piece) (asks : List Asked) (line : List ℕ) (ask : Asked) → slice_get asks index ≡ Some ask →
+    nth_text (leave_out index piece asks) index line ≡ ended_text (action_without piece ask.action) line
+nth_here index piece [] line ask e = absurd (None≢Some ask e)
+nth_here zero piece (other ∷ asks) line ask e = ap (λ a. ended_text (action_without piece a.action) line) (same_Some other ask e)
+nth_here (suc index) piece (other ∷ asks) line ask e = nth_here index piece asks line ask e
+
+pub nth_elsewhere : (index : ℕ) (piece : Piece) (asks : List Asked) (place : ℕ) (line : List ℕ) (ask : Asked) → place ≢ index →
+    slice_get asks place ≡ Some ask → nth_text (leave_out index piece asks) place line ≡ ended_text ask.action line
+nth_elsewhere index piece [] place line ask apart e = absurd (None≢Some ask e)
+nth_elsewhere zero piece (other ∷ asks) zero line ask apart e = absurd (apart refl)
+nth_elsewhere zero piece (other ∷ asks) (suc place) line ask apart e = nth_plain asks place line ask e
+nth_elsewhere (suc index) piece (other ∷ asks) zero line ask apart e = ap (λ a. ended_text a.action line) (same_Some other ask e)
+nth_elsewhere (suc index) piece (other ∷ asks) (suc place) line ask apart e = nth_elsewhere index piece asks place line ask (λ is. apart (ap suc is)) e
+
+-- the line at a place among all
+pub text_at : (asks : List Asked) (lines : List (List ℕ)) (place : ℕ) → place < length lines →
+    get_or (lines_text asks lines) place [] ≡ nth_text asks place (get_or lines place [])
+text_at asks [] place less = absurd (omega (arith, less))
+text_at [] (line ∷ lines) place less = refl
+text_at (ask ∷ asks) (line ∷ lines) zero less = refl
+text_at (ask ∷ asks) (line ∷ lines) (suc place) less = text_at asks lines place (omega (arith, less))
+
+pub as_many_texts : (asks : List Asked) (lines : List (List ℕ)) → length (lines_text asks lines) ≡ length lines
+as_many_texts asks [] = no_lines asks
+  where
+    no_lines : (asks : List Asked) → length (lines_text asks []) ≡ 0
+    no_lines [] = refl
+    no_lines (ask ∷ asks) = refl
+as_many_texts [] (line ∷ lines) = refl
+as_many_texts (ask ∷ asks) (line ∷ lines) = ap suc (as_many_texts asks lines)
+
+-- the text so far, with a byte before each line but the first
+abbrev pub before_next : ℕ → ℕ → List ℕ → List ℕ
+before_next c zero text = text
+before_next c (suc place) text = text ++ c ∷ []
+
+pub text_next : (c place : ℕ) (texts : List (List ℕ)) → place < length texts →
+    before_next c place (join_with_byte c (take place texts)) ++ get_or texts place [] ≡ join_with_byte c (take (place + 1) texts)
+text_next c place [] less = absurd (omega (arith, less))
+text_next c zero (w ∷ texts) less = refl
+text_next c (suc place) (w ∷ texts) less =
+    let last : suc (suc place) ≡ suc place + 1 = omega arith in
+    append_assoc (join_with_byte c (w ∷ take place texts)) (c ∷ []) (get_or texts place [])
+    ∙ sym (joined_more c w (take place texts) (get_or texts place []))
+    ∙ ap (λ l. join_with_byte c (w ∷ l)) (sym (take-suc texts place [] (omega (arith, less))))
+    ∙ ap (λ n. join_with_byte c (take n (w ∷ texts))) last
+
+-- what is read of a request's line at its place
+pub by_place : (index : ℕ) (piece : Piece) (asks : List Asked) (place : ℕ) (line : List ℕ) (ask : Asked) (left : Option Piece) →
+    slice_get asks place ≡ Some ask → ((place ≡ index) × (left ≡ Some piece)) ⊎ ((place ≢ index) × (left ≡ None)) →
+    nth_text (leave_out index piece asks) place line ≡ ended_text (action_left left ask.action) line
+by_place index piece asks place line ask left e (inl is) =
+    ap (λ n. nth_text (leave_out index piece asks) n line) is.0
+    ∙ nth_here index piece asks line ask (ap (slice_get asks) (sym is.0) ∙ e)
+    ∙ ap (λ o. ended_text (action_left o ask.action) line) (sym is.1)
+by_place index piece asks place line ask left e (inr is) =
+    nth_elsewhere index piece asks place line ask is.0 e ∙ ap (λ o. ended_text (action_left o ask.action) line) (sym is.1)
+
+nth_mapped : {X : Type 0} (f : X → List ℕ) (items : List X) (place : ℕ) (d : X) → place < length items →
+    get_or (map f items) place [] ≡ f (get_or items place d)
+nth_mapped f [] place d less = absurd (omega (arith, less))
+nth_mapped f (x ∷ items) zero d less = refl
+nth_mapped f (x ∷ items) (suc place) d less = nth_mapped f items place d (omega (arith, less))
+
+module _ {X : Type 0} (f : X → List ℕ) (items : List X) (asks : List Asked) (place : ℕ) where
+  pub text_step : (d : X) (old mid line new : List ℕ) → place < length items →
+      old ≡ join_with_byte 10 (take place (lines_text asks (map f items))) →
+      ((0 < place) × (mid ≡ old ++ 10 ∷ [])) ⊎ ((place ≤ 0) × (mid ≡ old)) → line ≡ nth_text asks place (f (get_or items place d)) →
+      new ≡ mid ++ line → new ≡ join_with_byte 10 (take (place + 1) (lines_text asks (map f items)))
+  text_step d old mid line new less was either at is =
+      is ∙ (λ j. (before place either j) ++ (at j))
+      ∙ (λ j. before_next 10 place (was j) ++ nth_text asks place (sym (nth_mapped f items place d less) j))
+      ∙ ap (λ l. before_next 10 place (join_with_byte 10 (take place (lines_text asks (map f items)))) ++ l)
+      (sym (text_at asks (map f items) place (subst (λ n. place < n) (sym (length-map items f)) less)))
+      ∙ text_next 10 place (lines_text asks (map f items))
+      (subst (λ n. place < n) (sym (as_many_texts asks (map f items) ∙ length-map items f)) less)
+    where
+      before : (place : ℕ) → ((0 < place) × (mid ≡ old ++ 10 ∷ [])) ⊎ ((place ≤ 0) × (mid ≡ old)) → mid ≡ before_next 10 place old
+      before zero (inl some) = absurd (omega (arith, some.0))
+      before (suc n) (inl some) = some.1
+      before zero (inr none) = none.1
+      before (suc n) (inr none) = absurd (omega (arith, none.0))
+
+  pub text_done : length items ≤ place →
+      join_with_byte 10 (take place (lines_text asks (map f items))) ≡ join_with_byte 10 (lines_text asks (map f items))
+  text_done past = ap (join_with_byte 10) (take_all place (lines_text asks (map f items))
+      (omega (arith, past, as_many_texts asks (map f items), length-map items f)))

@@ -1,0 +1,343 @@
+-- What one pass leaves, none of it can be left out.
+use Rattle.std.proofs.Common.{◌≡◌, ◌≢◌, ℕ, zero, suc, List, [], ◌∷◌, ◌++◌, refl, sym, ap, ◌∙◌, Bool, true, false, cond, subst}
+use Rattle.std.proofs.Common.{append_assoc, inl, inr}
+use Rattle.std.proofs.lemmas.Bool.{true≢false, false≢true, eq-eqb}
+use Rattle.std.specs.Prelude.{Option, Some, None, Result, Ok, Err, is_some, nat_le, length, ◌||◌}
+use Rattle.pua_tree.specs.Tree.{Tree}
+use Rattle.pua_tree.specs.Edits.{add, tie, cut, shift}
+use Rattle.pua_tree.specs.declared.fault.TreeFault.{TreeFault}
+use Rattle.pua_path.specs.Paths.{path_fault}
+use Rattle.pua_path.specs.Fits.{node_named}
+use Rattle.pua_path.specs.declared.errno.Errno.{Errno}
+use Rattle.pua_path.specs.declared.errno.Errno.TheVariants.{ENOSPC, EAGAIN, EPERM, EINVAL}
+use Rattle.pua_path.specs.declared.text.Ending.TheVariants as ending
+use Rattle.pua_calls.specs.Promises.{unveil, proc}
+use Rattle.pua_calls.specs.Calls.{CallTable, rule_of}
+use Rattle.pua_calls.specs.declared.call.Call.TheVariants as call
+use Rattle.pua_policy.specs.History.{History, may_any, is_ended, is_locked}
+use Rattle.pua_policy.specs.Verdict.{refusal_of}
+use Rattle.pua_policy.specs.declared.answer.May.{May}
+use Rattle.pua_policy.specs.declared.answer.May.TheVariants as may
+use Rattle.pua_policy.specs.declared.answer.Refusal.{Refusal}
+use Rattle.pua_policy.specs.declared.answer.Refusal.TheVariants as refusal
+use Rattle.pua_script.specs.Limits.{most_processes}
+use Rattle.pua_script.specs.Requests.{Asked}
+use Rattle.pua_script.specs.Family.{is_okay}
+use Rattle.pua_script.specs.Decide.{Change, NoChange, AddNode, CutRow, ShiftRow, TieRow, BeginProgram, AddEvent, CopyAs, Decision, decide}
+use Rattle.pua_script.specs.Decide.{refusals, unless_refused, unless_failed, change_by, adding, link_node, rename_by}
+use Rattle.pua_script.specs.Decide.{link_by, fault_if, is_unknown}
+use Rattle.pua_script.specs.Replay.{World, history_of, Fails, Copies, edit_effect, edited_tree, change_effect, refusal_effect}
+use Rattle.pua_script.specs.Replay.{come_of, answer_to, do_decided, answer_and_world, apply, answers_to, world_after}
+use Rattle.pua_script.specs.declared.answer.Answer.{Answer}
+use Rattle.pua_script.specs.declared.answer.Answer.TheVariants as answer
+use Rattle.pua_script.specs.declared.request.Action.{Action}
+use Rattle.pua_script.specs.declared.request.Action.TheVariants.{OnPath, Symlink, Rename, Link, Pledge, Unveil, Lock, Fork, Exit}
+use Rattle.pua_tight.specs.Narrower.{HistoryWithin, HistoriesWithin, WorldWithin, as_given, AskWithin, AsksWithin, no_asks, asks}
+use Rattle.pua_tight.proofs.Histories.{ended_alike}
+use Rattle.pua_tight.proofs.Decided.{easier, granted_more}
+use Rattle.pua_tight.proofs.Rare.{is_rare, rare, checked_plain, path_plain, locked_plain, unknown_plain, object_plain, objects_plain}
+use Rattle.pua_tight.proofs.Rare.{rename_plain, link_plain, veiling_plain}
+use Rattle.pua_tight.proofs.Between.{between}
+use Rattle.pua_tight.specs.Tight.{Piece, Line, asks_of, without, answer_number, same_answers, try_piece, thin_line, thin}
+use Rattle.pua_tight.specs.Laws.{IsPieceOf, MayLeaveOut, AreOkay, leave_out, TightIsMinimal}
+use Rattle.pua_tight.proofs.Tightened.{without_within, world_self, tried_same, line_within, thin_same}
+use Rattle.pua_tight.proofs.Less.{ask_mono, is_without, okay_less}
+use Rattle.pua_script.proofs.ForCallers.{one_request_more}
+use Rattle.std.specs.Prelude.{◌==◌, ◌&&◌}
+use Rattle.pua_tight.proofs.Worlds.{answered_alike, FoundWithin, never, made, found_within, alike_within, request_keeps}
+
+-- want of room
+abbrev pub is_full : Errno → Bool
+is_full ENOSPC = true
+is_full EAGAIN = true
+is_full _ = false
+
+abbrev pub full : Decision → Bool
+full (Err (refusal.Failed errno)) = is_full errno
+full _ = false
+
+abbrev full_answer : Answer → Bool
+full_answer (answer.Failed errno) = is_full errno
+full_answer _ = false
+
+rarely : (errno : Errno) → is_rare errno ≡ false → is_full errno ≡ false
+rarely ENOSPC e = e
+rarely EAGAIN e = e
+rarely _ e = refl
+
+not_full : (d : Decision) → rare d ≡ false → full d ≡ false
+not_full (Ok c) e = refl
+not_full (Err refusal.Killed) e = refl
+not_full (Err (refusal.Failed errno)) e = rarely errno e
+
+promise_full : (m : May) (d : Decision) → full d ≡ false → full (unless_refused (refusal_of m) d) ≡ false
+promise_full may.Yes d e = e
+promise_full may.Enosys d e = refl
+promise_full may.Death d e = refl
+
+beyond_plain : (b : Bool) (c : Change) → rare (unless_failed refusals.failed (cond b None (Some EPERM)) (Ok c)) ≡ false
+beyond_plain true c = refl
+beyond_plain false c = refl
+
+-- no refusal is want of room
+pub decide_full : (table : CallTable) (t : Tree) (h : History) (action : Action) → full (decide table t h action) ≡ false
+decide_full table t h (OnPath c path) = promise_full (may_any h (rule_of table c).alternatives) _
+    (not_full _ (object_plain table t h c path (change_by table c)))
+decide_full table t h (Symlink target path) = promise_full (may_any h (rule_of table call.Symlink).alternatives) _
+    (not_full _ (checked_plain (path_fault target) _ (path_plain target) (object_plain table t h call.Symlink path (adding (link_node target)))))
+decide_full table t h (Rename old new) = promise_full (may_any h table.rename.old.needs.alternatives) _
+    (promise_full (may_any h table.rename.new.needs.alternatives) _
+    (not_full _ (objects_plain table.rename t h ending.Dropped old new (λ x y. rename_by refusals t x y (node_named x))
+    (λ x y. rename_plain t x y (node_named x)))))
+decide_full table t h (Link old new) = promise_full (may_any h table.link.old.needs.alternatives) _
+    (promise_full (may_any h table.link.new.needs.alternatives) _
+    (not_full _ (objects_plain table.link t h ending.Dot old new (λ x y. link_by refusals x y (node_named x)) (λ x y. link_plain x y (node_named x)))))
+decide_full table t h (Pledge p e) = not_full _ (checked_plain (fault_if (is_unknown p || is_unknown e) EINVAL) _
+    (unknown_plain (is_unknown p || is_unknown e)) (beyond_plain _ _))
+decide_full table t h (Unveil path perms) = promise_full (may_any h (unveil ∷ [])) _
+    (not_full _ (checked_plain (fault_if (is_locked h) EPERM) _ (locked_plain (is_locked h)) (veiling_plain t h path perms)))
+decide_full table t h Lock = promise_full (may_any h (unveil ∷ [])) _ refl
+decide_full table t h (Fork new) = promise_full (may_any h (proc ∷ [])) _ refl
+decide_full table t h Exit = refl
+
+okay_not : {A : Type 0} (r : Refusal) → answer.Okay ≡ answer_to (refusal_effect r) → A
+okay_not (refusal.Failed errno) e = absurd (true≢false (ap is_okay e))
+okay_not refusal.Killed e = absurd (true≢false (ap is_okay e))
+
+failed_is : (errno : Errno) (r : Refusal) → is_full errno ≡ true → answer.Failed errno ≡ answer_to (refusal_effect r) → full (Err r) ≡ true
+failed_is errno (refusal.Failed other) is e = sym (ap full_answer e) ∙ is
+failed_is errno refusal.Killed is e = absurd (true≢false (sym is ∙ ap full_answer e))
+
+-- a change that fails is want of room
+module _ (w : World) (h : History) (r : Refusal) where
+  edit_full : (x : Result (ℕ × Tree) TreeFault) → answer_to (edit_effect h x) ≡ answer_to (refusal_effect r) → full (Err r) ≡ true
+  edit_full (Ok result) e = okay_not r e
+  edit_full (Err fault) e = failed_is ENOSPC r refl e
+
+  tree_full : (x : Result Tree TreeFault) → answer_to (edited_tree h x) ≡ answer_to (refusal_effect r) → full (Err r) ≡ true
+  tree_full (Ok u) e = okay_not r e
+  tree_full (Err fault) e = failed_is ENOSPC r refl e
+
+  fork_full : (new : ℕ) (b : Bool) → answer_to (cond b (Fails EAGAIN) (Copies new)) ≡ answer_to (refusal_effect r) → full (Err r) ≡ true
+  fork_full new true e = failed_is EAGAIN r refl e
+  fork_full new false e = okay_not r e
+
+  pub change_full : (c : Change) → answer_to (change_effect w h c) ≡ answer_to (refusal_effect r) → full (Err r) ≡ true
+  change_full NoChange e = okay_not r e
+  change_full (AddNode spot node) e = edit_full (add w.tree spot.0 spot.1 node) e
+  change_full (CutRow spot) e = edit_full (cut w.tree spot.0 spot.1) e
+  change_full (ShiftRow old new) e = tree_full (shift w.tree old.0 old.1 new.0 new.1) e
+  change_full (TieRow spot x) e = tree_full (tie w.tree spot.0 spot.1 x) e
+  change_full (BeginProgram left) e = okay_not r e
+  change_full (AddEvent event) e = okay_not r e
+  change_full (CopyAs new) e = fork_full new (is_some (history_of w new) || nat_le most_processes (length w.histories)) e
+
+pub same_refusal : (r s : Refusal) → answer_to (refusal_effect r) ≡ answer_to (refusal_effect s) → r ≡ s
+same_refusal (refusal.Failed x) (refusal.Failed y) e = cc
+same_refusal (refusal.Failed x) refusal.Killed e = cc
+same_refusal refusal.Killed (refusal.Failed y) e = cc
+same_refusal refusal.Killed refusal.Killed e = refl
+
+module _ (table : CallTable) (t : Tree) (hs ms ks : List (ℕ × History)) (low : HistoriesWithin hs ms) (high : HistoriesWithin ms ks) where
+  abbrev lo : World
+  lo = record { tree = t; histories = hs }
+
+  abbrev mid : World
+  mid = record { tree = t; histories = ms }
+
+  abbrev hi : World
+  hi = record { tree = t; histories = ks }
+
+  module _ (g h k : History) (v : HistoryWithin g h) (w : HistoryWithin h k) (action : Action) where
+    decided_between : answer_to (come_of lo g (decide table t g action)) ≡ answer_to (come_of hi k (decide table t k action)) →
+        answer_to (come_of mid h (decide table t h action)) ≡ answer_to (come_of lo g (decide table t g action))
+    decided_between = by (decide table t g action) (decide table t k action) refl refl
+      where
+        by : (d f : Decision) → decide table t g action ≡ d → decide table t k action ≡ f →
+            answer_to (come_of lo g d) ≡ answer_to (come_of hi k f) →
+            answer_to (come_of mid h (decide table t h action)) ≡ answer_to (come_of lo g d)
+        by (Ok c) f p q e = ap (λ d. answer_to (come_of mid h d)) (granted_more table t _ _ (easier g h v) c action p)
+            ∙ sym (answered_alike (alike_within t hs ms low g h v c))
+        by (Err r) (Ok c) p q e =
+            absurd (true≢false (sym (change_full hi k r c (sym e)) ∙ ap full (sym p) ∙ decide_full table t g action))
+        by (Err r) (Err s) p q e = ap (λ d. answer_to (come_of mid h d))
+            (between table t g h k v w action r p (q ∙ ap (λ x. Err x) (sym (same_refusal r s e))))
+
+    served_between : (n : ℕ) (a b c : Bool) → a ≡ b → b ≡ c →
+        (cond {A = Answer × World} a (answer.Gone, lo) (do_decided lo n g (decide table t g action))).0
+        ≡ (cond {A = Answer × World} c (answer.Gone, hi) (do_decided hi n k (decide table t k action))).0 →
+        (cond {A = Answer × World} b (answer.Gone, mid) (do_decided mid n h (decide table t h action))).0
+        ≡ (cond {A = Answer × World} a (answer.Gone, lo) (do_decided lo n g (decide table t g action))).0
+    served_between n true true c p q e = refl
+    served_between n true false c p q e = absurd (true≢false p)
+    served_between n false true c p q e = absurd (false≢true p)
+    served_between n false false true p q e = absurd (false≢true q)
+    served_between n false false false p q e = decided_between e
+
+  found_between : (ask : Asked) {o p q : Option History} → FoundWithin o p → FoundWithin p q →
+      (answer_and_world table lo ask o).0 ≡ (answer_and_world table hi ask q).0 →
+      (answer_and_world table mid ask p).0 ≡ (answer_and_world table lo ask o).0
+  found_between ask never never e = refl
+  found_between ask (made {h = g} {k = h} v) (made {k = k} w) e =
+      served_between g h k v w ask.action ask.process (is_ended g) (is_ended h) (is_ended k) (ended_alike v) (ended_alike w) e
+
+-- one request
+request_between : (table : CallTable) (lo mid hi : World) → WorldWithin lo mid → WorldWithin mid hi → (ask : Asked) →
+    (apply table lo ask).0 ≡ (apply table hi ask).0 → (apply table mid ask).0 ≡ (apply table lo ask).0
+request_between table lo mid hi low high ask =
+    subst (λ u. Goal (record { tree = u; histories = mid.histories }) hi) low.tree
+    (subst (λ u. Goal (record { tree = lo.tree; histories = mid.histories }) (record { tree = u; histories = hi.histories })) (low.tree ∙ high.tree)
+    (found_between table lo.tree lo.histories mid.histories hi.histories low.histories high.histories ask
+    (found_within low.histories ask.process) (found_within high.histories ask.process)))
+  where
+    Goal : World → World → Type 0
+    Goal m h = (apply table lo ask).0 ≡ (apply table h ask).0 → (apply table m ask).0 ≡ (apply table lo ask).0
+
+pub heads : (a b : Answer) (rest last : List Answer) → (a ∷ rest) ≡ (b ∷ last) → a ≡ b
+heads a b rest last e = cc
+
+pub tails : (a b : Answer) (rest last : List Answer) → (a ∷ rest) ≡ (b ∷ last) → rest ≡ last
+tails a b rest last e = cc
+
+given_self : (ask : Asked) → AskWithin ask ask
+given_self ask = record { process = refl; action = as_given }
+
+-- a script
+pub scripts_between : (table : CallTable) (lo mid hi : World) → WorldWithin lo mid → WorldWithin mid hi → (xs : List Asked) →
+    answers_to table lo xs ≡ answers_to table hi xs → answers_to table mid xs ≡ answers_to table lo xs
+scripts_between table _ _ _ low high [] e = refl
+scripts_between table lo mid hi low high (x ∷ xs) e =
+    let outer : (apply table lo x).0 ≡ (apply table hi x).0 = heads _ _ _ _ e in
+    let inner : (apply table mid x).0 ≡ (apply table lo x).0 = request_between table lo mid hi low high x outer in
+    let rest = scripts_between table (apply table lo x).1 (apply table mid x).1 (apply table hi x).1
+    (request_keeps table lo mid x x low (given_self x) (sym inner))
+    (request_keeps table mid hi x x high (given_self x) (inner ∙ outer)) xs (tails _ _ _ _ e) in
+    ap (λ a. a ∷ answers_to table (apply table mid x).1 xs) inner ∙ ap (λ l. (apply table lo x).0 ∷ l) rest
+
+-- two scripts from a common front on
+pub asks_self : (xs : List Asked) → AsksWithin xs xs
+asks_self [] = no_asks
+asks_self (x ∷ xs) = asks (given_self x) (asks_self xs)
+
+pub prefix : (table : CallTable) {xs ys : List Asked} → AsksWithin xs ys → (low high : World) → WorldWithin low high → (more rest : List Asked) →
+    answers_to table low (xs ++ more) ≡ answers_to table high (ys ++ rest) →
+    WorldWithin (world_after table low xs) (world_after table high ys)
+    × (answers_to table (world_after table low xs) more ≡ answers_to table (world_after table high ys) rest)
+prefix table no_asks low high w more rest e = (w, e)
+prefix table (asks {x = x} {y = y} lies further) low high w more rest e =
+    prefix table further (apply table low x).1 (apply table high y).1 (request_keeps table low high x y w lies (heads _ _ _ _ e)) more rest
+    (tails _ _ _ _ e)
+
+pub compose : (table : CallTable) (w : World) (xs ys : List Asked) →
+    answers_to table w (xs ++ ys) ≡ answers_to table w xs ++ answers_to table (world_after table w xs) ys
+compose table w [] ys = refl
+compose table w (x ∷ xs) ys = ap (λ l. (apply table w x).0 ∷ l) (compose table (apply table w x).1 xs ys)
+
+within_more : {xs ys : List Asked} → AsksWithin xs ys → (x y : Asked) → AskWithin x y → AsksWithin (xs ++ x ∷ []) (ys ++ y ∷ [])
+within_more no_asks x y lies = asks lies no_asks
+within_more (asks first rest) x y lies = asks first (within_more rest x y lies)
+
+number_self : (n : ℕ) → (n == n) ≡ true
+number_self n = eq-eqb n n refl
+
+pub same_self : (xs : List Answer) → same_answers xs xs ≡ true
+same_self [] = refl
+same_self (x ∷ xs) = ap (λ b. b && same_answers xs xs) (number_self (answer_number x)) ∙ same_self xs
+
+module _ (table : CallTable) (w : World) (want : List Answer) where
+  module _ (before after : List Asked) where
+    abbrev pub trial : Asked → List Answer
+    trial ask = answers_to table w (before ++ ask ∷ after)
+
+    -- when a piece that is left was tried
+    pub record Traced (piece : Piece) (x : Asked) : Type 0 where
+      pub ask : Asked
+      pub lies : AskWithin x ask
+      pub good : trial ask ≡ want
+      pub bad : same_answers (trial (without piece ask)) want ≡ false
+
+    abbrev pub ends : Asked → List Piece → Asked
+    ends ask pieces = thin_line table w want before after ask pieces
+
+    pub trace : (ask : Asked) (pieces : List Piece) (piece : Piece) → IsPieceOf pieces piece → trial ask ≡ want →
+        without piece (ends ask pieces) ≢ ends ask pieces → Traced piece (ends ask pieces)
+    trace ask [] piece among good left = absurd among
+    trace ask (other ∷ pieces) piece (inr among) good left =
+        trace (try_piece table w want before after ask (without other ask)) pieces piece among
+        (tried_same table w want before after ask other good) left
+    trace ask (other ∷ pieces) piece (inl is) good left =
+        subst (λ p. without p (ends ask (other ∷ pieces)) ≢ ends ask (other ∷ pieces) → Traced p (ends ask (other ∷ pieces))) is
+        (by (same_answers (trial (without other ask)) want) refl) left
+      where
+        by : (b : Bool) → same_answers (trial (without other ask)) want ≡ b →
+            without other (ends (cond b (without other ask) ask) pieces) ≢ ends (cond b (without other ask) ask) pieces →
+            Traced other (ends (cond b (without other ask) ask) pieces)
+        by true told left = absurd (left (is_without other (ends (without other ask) pieces) ask
+            (line_within table w want before after (without other ask) pieces)))
+        by false told left =
+            record { ask = ask; lies = line_within table w want before after ask pieces; good = good; bad = told }
+
+    -- so it can't be left out of what is left
+    module _ (done : List Asked) (front : AsksWithin done before) (piece : Piece) (x : Asked) (traced : Traced piece x)
+        (okay : (apply table (world_after table w before) traced.ask).0 ≡ answer.Okay) where
+      abbrev under : World
+      under = world_after table w done
+
+      abbrev over : World
+      over = world_after table w before
+
+      last_step : answers_to table w (done ++ without piece x ∷ after) ≡ want → ⊥
+      last_step e =
+          let ask : Asked = traced.ask in
+          let pre = prefix table front w w (world_self w) (without piece x ∷ after) (ask ∷ after) (e ∙ sym traced.good) in
+          let first : (apply table under (without piece x)).0 ≡ (apply table over ask).0 = heads _ _ _ _ pre.1 in
+          let rest : answers_to table (apply table under (without piece x)).1 after ≡ answers_to table (apply table over ask).1 after =
+          tails _ _ _ _ pre.1 in
+          let thinner : AskWithin (without piece ask) ask = record { process = refl; action = without_within piece ask.action } in
+          let okay_mid : (apply table over (without piece ask)).0 ≡ answer.Okay = okay_less table over (without piece ask) ask thinner okay in
+          let high : WorldWithin (apply table over (without piece ask)).1 (apply table over ask).1 =
+          request_keeps table over over (without piece ask) ask (world_self over) thinner (okay_mid ∙ sym okay) in
+          let low : WorldWithin (apply table under (without piece x)).1 (apply table over (without piece ask)).1 =
+          request_keeps table under over (without piece x) (without piece ask) pre.0 (ask_mono piece x ask traced.lies)
+          (first ∙ okay ∙ sym okay_mid) in
+          let between_all : answers_to table (apply table over (without piece ask)).1 after
+          ≡ answers_to table (apply table under (without piece x)).1 after =
+          scripts_between table (apply table under (without piece x)).1 (apply table over (without piece ask)).1 (apply table over ask).1
+          low high after rest in
+          let from_line : answers_to table over (without piece ask ∷ after) ≡ answers_to table over (ask ∷ after) =
+          ap (λ a. a ∷ answers_to table (apply table over (without piece ask)).1 after) (okay_mid ∙ sym okay)
+          ∙ ap (λ l. (apply table over ask).0 ∷ l) (between_all ∙ rest) in
+          let whole : trial (without piece ask) ≡ want =
+          compose table w before (without piece ask ∷ after) ∙ ap (λ l. answers_to table w before ++ l) from_line
+          ∙ sym (compose table w before (ask ∷ after)) ∙ traced.good in
+          false≢true (sym traced.bad ∙ ap (λ l. same_answers l want) whole ∙ same_self want)
+
+  least_from : (before done : List Asked) (lines : List Line) (index : ℕ) (piece : Piece) → AsksWithin done before →
+      answers_to table w (before ++ asks_of lines) ≡ want → AreOkay table (world_after table w before) lines → MayLeaveOut lines index piece →
+      leave_out index piece (thin table w want before lines) ≢ thin table w want before lines →
+      answers_to table w (done ++ leave_out index piece (thin table w want before lines)) ≡ want → ⊥
+  least_from before done [] index piece front good okay among left e = among
+  least_from before done (line ∷ lines) zero piece front good okay among left e =
+      let after : List Asked = thin table w want (before ++ line.ask ∷ []) lines in
+      let start : answers_to table w (before ++ line.ask ∷ after) ≡ want =
+      ap (answers_to table w) (sym (append_assoc before (line.ask ∷ []) after))
+      ∙ thin_same table w want (before ++ line.ask ∷ []) lines
+      (ap (answers_to table w) (append_assoc before (line.ask ∷ []) (asks_of lines)) ∙ good) in
+      let x : Asked = thin_line table w want before after line.ask line.pieces in
+      let traced : Traced before after piece x =
+      trace before after line.ask line.pieces piece among start (λ same. left (ap (λ z. z ∷ after) same)) in
+      let alike = prefix table (asks_self before) w w (world_self w) (traced.ask ∷ after) (line.ask ∷ after) (traced.good ∙ sym start) in
+      last_step before after done front piece x traced (heads _ _ _ _ alike.1 ∙ okay.0 piece among) e
+  least_from before done (line ∷ lines) (suc index) piece front good okay among left e =
+      let after : List Asked = thin table w want (before ++ line.ask ∷ []) lines in
+      let x : Asked = thin_line table w want before after line.ask line.pieces in
+      least_from (before ++ line.ask ∷ []) (done ++ x ∷ []) lines index piece
+      (within_more front x line.ask (line_within table w want before after line.ask line.pieces))
+      (ap (answers_to table w) (append_assoc before (line.ask ∷ []) (asks_of lines)) ∙ good)
+      (subst (λ u. AreOkay table u lines) (sym (one_request_more table w before line.ask)) okay.1) among
+      (λ same. left (ap (λ l. x ∷ l) same))
+      (ap (answers_to table w) (append_assoc done (x ∷ []) (leave_out index piece after)) ∙ e)
+
+pub tight_is_minimal : TightIsMinimal
+tight_is_minimal table w lines index piece okay among left e =
+    least_from table w (answers_to table w (asks_of lines)) [] [] lines index piece no_asks refl okay among left e

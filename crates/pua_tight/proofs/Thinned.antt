@@ -1,0 +1,213 @@
+-- A line whose argument is spelled with fewer words is read as the request that has less.
+use Rattle.std.proofs.Common.{◌≡◌, ◌≢◌, ℕ, List, [], ◌∷◌, refl, sym, ap, ◌∙◌, subst, true, false, ◌&&◌, map, length, arith}
+use Rattle.std.proofs.lemmas.Bool.{true≢false, and_parts, and_from, lt-ltb}
+use Rattle.std.specs.List.{list_all, list_any, join_with_byte}
+use Rattle.std.specs.Prelude.{Option, Some, None, Ok, codes, decimal, filter, nat_lt, ◌==◌}
+use Rattle.pua_tree.proofs.ForCallers.{Err≢Ok, same_Ok, fields_cons, fields_one, is_visible}
+use Rattle.pua_tree.specs.Spelling.{fields, is_field}
+use Rattle.pua_path.specs.declared.errno.Errno.TheVariants.{EINVAL}
+use Rattle.pua_calls.specs.Promises.{holds, promise_of, promises_of, letter_of, union_of}
+use Rattle.pua_script.specs.Requests.{Asked}
+use Rattle.pua_script.specs.Scripts.{has_empty_word}
+use Rattle.pua_script.specs.ScriptGrammar.{SpellsGiven, nothing, known, SpellsPerms, no_letter, letters}
+use Rattle.pua_script.specs.ScriptGrammar.{SpellsAction, on_path, symlink, rename, link, pledge, unveil, lock, fork, exit, SpellsRequest}
+use Rattle.pua_script.specs.declared.request.Given.{Given}
+use Rattle.pua_script.specs.declared.request.Given.TheVariants.{Null, Good, Unknown}
+use Rattle.pua_script.specs.declared.request.Action.{Action}
+use Rattle.pua_script.specs.declared.request.Action.TheVariants.{Pledge, Unveil}
+use Rattle.pua_tight.specs.Texts.{stays_in, or_equals, given_text, perms_text, fields_text, line_text}
+use Rattle.pua_tight.specs.Narrower.{GivenWithin, given_none, given_unknown, given_less, ActionWithin, as_given, less_pledged, less_unveiled}
+use Rattle.pua_tight.proofs.Sets.{holds_self}
+use Rattle.pua_tight.proofs.Tightened.{given_self}
+use Rattle.pua_tight.proofs.Kept.{promise_single, letter_single, left_named, left_within, none_within, all_left, none_left, cut, free}
+use Rattle.pua_tight.proofs.Kept.{pieces_free, pieces_pass, joined_pass, cut_joined}
+
+-- a list whose words are none of them empty
+words_named : (field : List ℕ) → has_empty_word field ≡ false → promises_of field ≡ union_of (map promise_of (cut 44 field))
+words_named [] e = absurd (true≢false e)
+words_named (b ∷ more) e = refl
+
+words_stand : (field : List ℕ) → has_empty_word field ≡ false → or_equals field ≡ field
+words_stand [] e = absurd (true≢false e)
+words_stand (b ∷ more) e = refl
+
+-- a text that is one unknown word names no set
+no_word : (word field : List ℕ) (words : List (List ℕ)) (set : ℕ) → cut 44 field ≡ words → map promise_of (cut 44 word) ≡ None ∷ [] →
+    union_of (map promise_of words) ≡ Ok set → field ≢ word
+no_word word field words set are none e is =
+    Err≢Ok EINVAL set (sym (ap union_of none) ∙ ap (λ f. union_of (map promise_of (cut 44 f))) (sym is)
+    ∙ ap (λ ws. union_of (map promise_of ws)) are ∙ e)
+
+module _ (set : ℕ) (field : List ℕ) where
+  abbrev words : List (List ℕ)
+  words = filter (λ word. stays_in set (promise_of word)) (cut 44 field)
+
+  free_words : list_all (free 44) words ≡ true
+  free_words = all_left (λ word. stays_in set (promise_of word)) (free 44) (cut 44 field)
+      (pieces_free 44 field)
+
+  given_words : (ws : List (List ℕ)) → words ≡ ws → list_any (λ word. length word == 0) words ≡ false →
+      union_of (map promise_of words) ≡ Ok set → SpellsGiven (or_equals (join_with_byte 44 ws)) (Good set)
+  given_words [] are none named =
+      subst (λ s. SpellsGiven (codes "=") (Good s)) (same_Ok 0 set (ap (λ ws. union_of (map promise_of ws)) (sym are) ∙ named)) (nothing refl)
+  given_words (w ∷ ws) are none named =
+      let text : List ℕ = join_with_byte 44 (w ∷ ws) in
+      let pieces : cut 44 text ≡ w ∷ ws = cut_joined 44 w ws (ap (list_all (free 44)) (sym are) ∙ free_words) in
+      let names : union_of (map promise_of (w ∷ ws)) ≡ Ok set = ap (λ ws. union_of (map promise_of ws)) (sym are) ∙ named in
+      let full : has_empty_word text ≡ false =
+      ap (list_any (λ word. length word == 0)) pieces ∙ ap (list_any (λ word. length word == 0)) (sym are) ∙ none in
+      subst (λ f. SpellsGiven f (Good set)) (sym (words_stand text full))
+      (known (record {
+        no_dash = no_word (codes "-") text (w ∷ ws) set pieces refl names;
+        no_equals = no_word (codes "=") text (w ∷ ws) set pieces refl names;
+        words = full;
+      }) (words_named text full ∙ ap (λ ws. union_of (map promise_of ws)) pieces ∙ names))
+
+thin_given : {p q : Given} (field : List ℕ) → GivenWithin p q → SpellsGiven field q → SpellsGiven (given_text p field) p
+thin_given field given_none spells = spells
+thin_given field given_unknown spells = spells
+thin_given field (given_less {a = a} {b = b} less) spells = by b less spells
+  where
+    by : (b : ℕ) → holds b a ≡ true → SpellsGiven field (Good b) → SpellsGiven (given_text (Good a) field) (Good a)
+    by _ less (nothing is) =
+        subst (λ s. SpellsGiven (given_text (Good a) field) (Good s)) (sym (none_within a less)) (nothing (ap (given_text (Good a)) is))
+    by b less (known list named) =
+        given_words a field (words a field) refl
+        (none_left (λ word. stays_in a (promise_of word)) (λ word. length word == 0) (cut 44 field) list.words)
+        (left_named promise_of promise_single a (cut 44 field) b (sym (words_named field list.words) ∙ named) ∙ ap Ok (left_within a b less))
+
+thin_perms : (a b : ℕ) (field : List ℕ) → holds b a ≡ true → SpellsPerms field (Some b) → SpellsPerms (perms_text (Some a) field) (Some a)
+thin_perms a b field less spells = by b less spells
+  where
+    named : (fs : List ℕ) → union_of (map letter_of fs) ≡ Ok a → SpellsPerms (or_equals fs) (Some a)
+    named [] e = subst (λ s. SpellsPerms (codes "=") (Some s)) (same_Ok 0 a e) (no_letter refl)
+    named (c ∷ cs) e = letters (λ is. Err≢Ok EINVAL a (ap (λ f. union_of (map letter_of f)) (sym is) ∙ e)) e
+
+    by : (b : ℕ) → holds b a ≡ true → SpellsPerms field (Some b) → SpellsPerms (perms_text (Some a) field) (Some a)
+    by _ less (no_letter is) =
+        subst (λ s. SpellsPerms (perms_text (Some a) field) (Some s)) (sym (none_within a less)) (no_letter (ap (perms_text (Some a)) is))
+    by b less (letters apart is) =
+        named (filter (λ c. stays_in a (letter_of c)) field)
+        (left_named letter_of letter_single a field b is ∙ ap Ok (left_within a b less))
+
+-- letters are no `-`
+no_null : (field : List ℕ) (set : ℕ) → SpellsPerms field (Some set) → field ≢ codes "-"
+no_null field _ (no_letter is) e = true≢false (ap (λ f. list_any (λ b. b == 61) f) (sym is ∙ e))
+no_null field set (letters apart is) e = Err≢Ok EINVAL set (ap (λ f. union_of (map letter_of f)) (sym e) ∙ is)
+
+-- bytes of a field
+or_field : (text : List ℕ) → list_all is_visible text ≡ true → is_field (or_equals text) ≡ true
+or_field [] e = refl
+or_field (b ∷ more) e =
+    and_from (nat_lt 0 (length (b ∷ more))) (list_all is_visible (b ∷ more)) (lt-ltb 0 (length (b ∷ more)) (omega arith)) e
+
+pub field_bytes : (text : List ℕ) → is_field text ≡ true → list_all is_visible text ≡ true
+field_bytes text e = (and_parts (nat_lt 0 (length text)) (list_all is_visible text) e).1
+
+given_field : (p : Given) (field : List ℕ) → is_field field ≡ true → is_field (given_text p field) ≡ true
+given_field Null field e = e
+given_field Unknown field e = e
+given_field (Good set) field e =
+    or_field (join_with_byte 44 (words set field))
+    (joined_pass 44 is_visible refl (words set field)
+    (all_left (λ word. stays_in set (promise_of word)) (list_all is_visible) (cut 44 field)
+    (pieces_pass 44 is_visible is_visible (λ x seen apart. seen) field (field_bytes field e))))
+
+perms_field : (p : Option ℕ) (field : List ℕ) → is_field field ≡ true → is_field (perms_text p field) ≡ true
+perms_field None field e = e
+perms_field (Some set) field e =
+    or_field (filter (λ c. stays_in set (letter_of c)) field)
+    (all_left (λ c. stays_in set (letter_of c)) is_visible field (field_bytes field e))
+
+-- the fields of a line that has less
+pub record ThinFields (action : Action) (process : List ℕ) (more : List (List ℕ)) : Type 0 where
+  pub after : List (List ℕ)
+  pub are : fields_text action (process ∷ more) ≡ process ∷ after
+  pub visible : list_all is_field (process ∷ after) ≡ true
+  pub spells : SpellsAction after action
+
+module _ (process : List ℕ) where
+  as_they_are : {action : Action} (more : List (List ℕ)) → fields_text action (process ∷ more) ≡ process ∷ more →
+      list_all is_field (process ∷ more) ≡ true → SpellsAction more action → ThinFields action process more
+  as_they_are more are visible spells = record { after = more; are = are; visible = visible; spells = spells }
+
+  pledge_fields : (word a b : List ℕ) {p q e f : Given} → GivenWithin p q → GivenWithin e f → word ≡ codes "pledge" →
+      list_all is_field (process ∷ word ∷ a ∷ b ∷ []) ≡ true → SpellsGiven a q → SpellsGiven b f →
+      ThinFields (Pledge p e) process (word ∷ a ∷ b ∷ [])
+  pledge_fields word a b {p = p} {e = e} first second is visible x y =
+      let one = and_parts (is_field process) (is_field word && (is_field a && (is_field b && true))) visible in
+      let two = and_parts (is_field word) (is_field a && (is_field b && true)) one.1 in
+      let three = and_parts (is_field a) (is_field b && true) two.1 in
+      let four = and_parts (is_field b) true three.1 in
+      record {
+        after = word ∷ given_text p a ∷ given_text e b ∷ [];
+        are = refl;
+        visible = and_from (is_field process) _ one.0 (and_from (is_field word) _ two.0 (and_from (is_field (given_text p a)) _
+            (given_field p a three.0) (and_from (is_field (given_text e b)) true (given_field e b four.0) refl)));
+        spells = pledge is (thin_given a first x) (thin_given b second y);
+      }
+
+  unveil_fields : (word a b path : List ℕ) (s t : ℕ) → holds t s ≡ true → word ≡ codes "unveil" → a ≢ codes "-" →
+      list_all is_field (process ∷ word ∷ a ∷ b ∷ []) ≡ true → SpellsAction (word ∷ a ∷ b ∷ []) (Unveil path (Some t)) →
+      ThinFields (Unveil path (Some s)) process (word ∷ a ∷ b ∷ [])
+  unveil_fields word a b path s t less is apart visible (unveil named no_a no_b first second) =
+      let one = and_parts (is_field process) (is_field word && (is_field a && (is_field b && true))) visible in
+      let two = and_parts (is_field word) (is_field a && (is_field b && true)) one.1 in
+      let three = and_parts (is_field a) (is_field b && true) two.1 in
+      let four = and_parts (is_field b) true three.1 in
+      let thinner : SpellsPerms (perms_text (Some s) b) (Some s) = thin_perms s t b less second in
+      record {
+        after = word ∷ a ∷ perms_text (Some s) b ∷ [];
+        are = refl;
+        visible = and_from (is_field process) _ one.0 (and_from (is_field word) _ two.0 (and_from (is_field a) _ three.0
+            (and_from (is_field (perms_text (Some s) b)) true (perms_field (Some s) b four.0) refl)));
+        spells = unveil named no_a (no_null (perms_text (Some s) b) s thinner) first thinner;
+      }
+
+  pub thin_fields : {action less : Action} (more : List (List ℕ)) → ActionWithin less action → list_all is_field (process ∷ more) ≡ true →
+      SpellsAction more action → ThinFields less process more
+  thin_fields more (less_pledged first second) visible (pledge {word = word} {a = a} {b = b} is x y) =
+      pledge_fields word a b first second is visible x y
+  thin_fields more (less_unveiled {path = path} {a = s} {b = t} less) visible (unveil {word = word} {a = a} {b = b} named no_a no_b x y) =
+      unveil_fields word a b path s t less named no_a visible (unveil named no_a no_b x y)
+  thin_fields more as_given visible (pledge {word = word} {a = a} {b = b} {promises = p} {execpromises = e} is x y) =
+      pledge_fields word a b (given_self p) (given_self e) is visible x y
+  thin_fields more as_given visible (unveil {word = word} {a = a} {b = b} {path = path} {perms = Some s} named no_a no_b x y) =
+      unveil_fields word a b path s s (holds_self s) named no_a visible (unveil named no_a no_b x y)
+  thin_fields more as_given visible (unveil {perms = None} named no_a no_b x y) =
+      as_they_are more refl visible (unveil named no_a no_b x y)
+  thin_fields more as_given visible (on_path other named x) = as_they_are more refl visible (on_path other named x)
+  thin_fields more as_given visible (symlink named x y) = as_they_are more refl visible (symlink named x y)
+  thin_fields more as_given visible (rename named x y) = as_they_are more refl visible (rename named x y)
+  thin_fields more as_given visible (link named x y) = as_they_are more refl visible (link named x y)
+  thin_fields more as_given visible (lock named x y) = as_they_are more refl visible (lock named x y)
+  thin_fields more as_given visible (fork named x low high) = as_they_are more refl visible (fork named x low high)
+  thin_fields more as_given visible (exit named) = as_they_are more refl visible (exit named)
+
+-- fields with spaces between them are the fields of the line
+fields_of_joined : (w : List ℕ) (ws : List (List ℕ)) → list_all is_field (w ∷ ws) ≡ true → fields (join_with_byte 32 (w ∷ ws)) ≡ w ∷ ws
+fields_of_joined w [] e = fields_one w (field_bytes w (and_parts (is_field w) true e).0)
+fields_of_joined w (v ∷ ws) e =
+    let both = and_parts (is_field w) (list_all is_field (v ∷ ws)) e in
+    fields_cons w (join_with_byte 32 (v ∷ ws)) (field_bytes w both.0) ∙ ap (λ l. w ∷ l) (fields_of_joined v ws both.1)
+
+abbrev pub with_action : Asked → Action → Asked
+with_action ask action = record { process = ask.process; action = action }
+
+pub thin_line_read : (line : List ℕ) (ask : Asked) (less : Action) → SpellsRequest line ask → ActionWithin less ask.action →
+    SpellsRequest (line_text less line) (with_action ask less)
+thin_line_read line ask less spells within =
+    let thin : ThinFields less (decimal ask.process) spells.more =
+    thin_fields (decimal ask.process) spells.more within (ap (list_all is_field) (sym spells.split) ∙ spells.visible) spells.spells in
+    let text : line_text less line ≡ join_with_byte 32 (decimal ask.process ∷ thin.after) =
+    ap (λ fs. join_with_byte 32 (fields_text less fs)) spells.split ∙ ap (join_with_byte 32) thin.are in
+    let split : fields (line_text less line) ≡ decimal ask.process ∷ thin.after =
+    ap fields text ∙ fields_of_joined (decimal ask.process) thin.after thin.visible in
+    record {
+      visible = ap (list_all is_field) split ∙ thin.visible;
+      more = thin.after;
+      split = split;
+      low = spells.low;
+      high = spells.high;
+      spells = thin.spells;
+    }

@@ -1,0 +1,154 @@
+-- What a thinned script that is answered as the given one leaves to its processes.
+use Rattle.std.specs.Prelude.{Ok, ◌≡◌, ◌≢◌, ℕ, zero, suc, List, [], ◌∷◌, map, bit_and, length, IsTrue, ◌⊎◌}
+use Rattle.pua_tree.specs.Tree.{Tree}
+use Rattle.pua_calls.specs.Calls.{CallTable, rule_of, table_by_rules}
+use Rattle.pua_calls.specs.declared.rules.Rules.{Rules}
+use Rattle.pua_calls.specs.Promises.{error}
+use Rattle.pua_calls.specs.declared.call.Call.{Call}
+use Rattle.pua_policy.specs.History.{History}
+use Rattle.std.specs.List.{Contains}
+use Rattle.pua_objects.specs.Objects as objects
+use Rattle.pua_policy.specs.Verdict.{verdict_on, is_allowed}
+use Rattle.pua_script.specs.Requests.{Asked}
+use Rattle.pua_script.specs.Replay.{World, new_world, apply, answers_to, world_after}
+use Rattle.pua_script.specs.declared.answer.Answer.TheVariants.{Okay}
+use Rattle.pua_tight.specs.Narrower.{WorldWithin, HistoryWithin, AskWithin, AsksWithin}
+use Rattle.pua_script.specs.Scripts.{script}
+use Rattle.pua_tight.specs.Texts.{thinned_text, tight_text}
+use Rattle.pua_tight.specs.Tight.{Piece, InPromises, InExecpromises, InVeil, Line, asks_of, lines_of, without, tight}
+
+-- one request that is answered alike in both worlds leaves the one within the other
+abbrev pub RequestKeepsWithin : Type 0
+RequestKeepsWithin = (table : CallTable) (tight given : World) (x y : Asked) → WorldWithin tight given → AskWithin x y →
+    (apply table tight x).0 ≡ (apply table given y).0 → WorldWithin (apply table tight x).1 (apply table given y).1
+
+-- so does a script that is answered alike
+abbrev pub ScriptsKeepWithin : Type 0
+ScriptsKeepWithin = (table : CallTable) (tight given : World) (xs ys : List Asked) → WorldWithin tight given → AsksWithin xs ys →
+    answers_to table tight xs ≡ answers_to table given ys → WorldWithin (world_after table tight xs) (world_after table given ys)
+
+-- a call that is allowed by a history is allowed by one that it lies within: over each tree, on each path
+abbrev pub WithinAllowsNoMore : Type 0
+WithinAllowsNoMore = (table : CallTable) (tight given : History) → HistoryWithin tight given → (t : Tree) (call : Call) (text : List ℕ) →
+    IsTrue (is_allowed (verdict_on t table tight call text)) → IsTrue (is_allowed (verdict_on t table given call text))
+
+-- a line of one list of objects has one in the other: by the same names, about the same thing, with all of its calls
+pub record IsListed (t : Tree) (table : CallTable) (h : History) (line : objects.Line) : Type 0 where
+  pub other : objects.Line
+  pub listed : Contains (objects.objects t table h) other
+  pub word : other.word ≡ line.word
+  pub subject : other.subject ≡ line.subject
+  pub calls : (call : Call) → Contains line.calls call → Contains other.calls call
+
+abbrev pub WithinListsNoMore : Type 0
+WithinListsNoMore = (table : CallTable) (tight given : History) → HistoryWithin tight given → (t : Tree) (line : objects.Line) →
+    Contains (objects.objects t table tight) line → IsListed t table given line
+
+-- whatever is asked next and is granted in the one world is granted in the other, and leaves them so: also unveil, pledge, fork,
+-- rename, link and exec
+abbrev pub WithinGrantsNoMore : Type 0
+WithinGrantsNoMore = (table : CallTable) (tight given : World) (ask : Asked) → WorldWithin tight given →
+    (apply table tight ask).0 ≡ Okay →
+    ((apply table given ask).0 ≡ Okay) × WorldWithin (apply table tight ask).1 (apply table given ask).1
+
+-- so whatever its processes, and those that they fork, come to do later, each of it granted, those of the given world can do
+abbrev pub FuturesAreWithin : Type 0
+FuturesAreWithin = (table : CallTable) (tight given : World) (later : List Asked) → WorldWithin tight given →
+    answers_to table tight later ≡ map (λ ask. Okay) later →
+    (answers_to table given later ≡ map (λ ask. Okay) later) × WorldWithin (world_after table tight later) (world_after table given later)
+
+-- a tightened script is the given one but for what was left out, is answered as it, and leaves a world within the given one's
+pub record IsTightened (table : CallTable) (w : World) (lines : List Line) : Type 0 where
+  pub within : AsksWithin (tight table w lines) (asks_of lines)
+  pub same : answers_to table w (tight table w lines) ≡ answers_to table w (asks_of lines)
+  pub narrower : WorldWithin (world_after table w (tight table w lines)) (world_after table w (asks_of lines))
+
+abbrev pub TightensScripts : Type 0
+TightensScripts = (table : CallTable) (w : World) (lines : List Line) → IsTightened table w lines
+
+-- a piece may be left out of the line at this index
+abbrev pub IsPieceOf : List Piece → Piece → Type 0
+IsPieceOf [] piece = ⊥
+IsPieceOf (other ∷ pieces) piece = (other ≡ piece) ⊎ IsPieceOf pieces piece
+
+abbrev pub MayLeaveOut : List Line → ℕ → Piece → Type 0
+MayLeaveOut [] index piece = ⊥
+MayLeaveOut (line ∷ lines) zero piece = IsPieceOf line.pieces piece
+MayLeaveOut (line ∷ lines) (suc index) piece = MayLeaveOut lines index piece
+
+-- requests that are those of lines without some of their pieces
+abbrev pub without_all : List Piece → Asked → Asked
+without_all [] ask = ask
+without_all (piece ∷ pieces) ask = without_all pieces (without piece ask)
+
+abbrev pub LeavesOut : List Asked → List Line → Type 0
+LeavesOut [] [] = Unit {0}
+LeavesOut (ask ∷ asks) (line ∷ lines) =
+    ((pieces : List Piece) × ((piece : Piece) → IsPieceOf pieces piece → IsPieceOf line.pieces piece) × (ask ≡ without_all pieces line.ask))
+    × LeavesOut asks lines
+LeavesOut [] (line ∷ lines) = ⊥
+LeavesOut (ask ∷ asks) [] = ⊥
+
+-- only of lines that are answered ok something may be left out
+abbrev pub AreOkay : CallTable → World → List Line → Type 0
+AreOkay table w [] = Unit {0}
+AreOkay table w (line ∷ lines) =
+    ((piece : Piece) → IsPieceOf line.pieces piece → (apply table w line.ask).0 ≡ Okay) × AreOkay table (apply table w line.ask).1 lines
+
+-- a script without a piece of the line at this index
+abbrev pub leave_out : ℕ → Piece → List Asked → List Asked
+leave_out index piece [] = []
+leave_out zero piece (ask ∷ more) = without piece ask ∷ more
+leave_out (suc index) piece (ask ∷ more) = ask ∷ leave_out index piece more
+
+-- without any one piece more that may be left out and is left, some line is answered otherwise
+abbrev pub TightIsMinimal : Type 0
+TightIsMinimal = (table : CallTable) (w : World) (lines : List Line) (index : ℕ) (piece : Piece) → AreOkay table w lines →
+    MayLeaveOut lines index piece → leave_out index piece (tight table w lines) ≢ tight table w lines →
+    answers_to table w (leave_out index piece (tight table w lines)) ≢ answers_to table w (asks_of lines)
+
+-- each call rests on one set of promises, as by the rules of the profile and by OpenBSD's
+pub record RestsOnOne (table : CallTable) : Type 0 where
+  pub calls : (call : Call) → length (rule_of table call).alternatives ≡ 1
+  pub rename : (length table.rename.old.needs.alternatives ≡ 1) × (length table.rename.new.needs.alternatives ≡ 1)
+  pub link : (length table.link.old.needs.alternatives ≡ 1) × (length table.link.new.needs.alternatives ≡ 1)
+
+-- `error` is none of what may be left out
+abbrev pub bit_of : Piece → ℕ
+bit_of (InPromises bit) = bit
+bit_of (InExecpromises bit) = bit
+bit_of (InVeil bit) = bit
+
+abbrev pub AreSpareable : List Line → Type 0
+AreSpareable [] = Unit {0}
+AreSpareable (line ∷ lines) = ((piece : Piece) → IsPieceOf line.pieces piece → bit_and (bit_of piece) error ≡ 0) × AreSpareable lines
+
+-- by such a table it is the least of all: whatever else is left out of the given script, as long as it is answered as before, has
+-- all that the tightened one has
+abbrev pub TightIsLeast : Type 0
+TightIsLeast = (table : CallTable) (w : World) (lines : List Line) (less : List Asked) → RestsOnOne table → AreOkay table w lines →
+    AreSpareable lines → LeavesOut less lines → answers_to table w less ≡ answers_to table w (asks_of lines) →
+    AsksWithin (tight table w lines) less
+
+-- so it is by the rules that a command names
+abbrev pub RulesRestOnOne : Type 0
+RulesRestOnOne = (rules : Rules) → RestsOnOne (table_by_rules rules)
+
+-- what may be left out of a script's requests meets what these laws ask of lines
+pub record IsScriptOfLines (table : CallTable) (w : World) (more : List Asked) : Type 0 where
+  pub asks : asks_of (lines_of table w more) ≡ more
+  pub okay : AreOkay table w (lines_of table w more)
+  pub spare : AreSpareable (lines_of table w more)
+
+abbrev pub ScriptsAreTightened : Type 0
+ScriptsAreTightened = (table : CallTable) (w : World) (more : List Asked) → IsScriptOfLines table w more
+
+-- the bytes that are written for requests that have less than those that were read are a script of these
+abbrev pub TextsAreRead : Type 0
+TextsAreRead = (bytes : List ℕ) (given less : List Asked) → script bytes ≡ Ok given → AsksWithin less given →
+    script (thinned_text less bytes) ≡ Ok less
+
+-- so the text of a tightened script is a script of the tightened requests, of which all that stands above is proved
+abbrev pub TightTextsAreRead : Type 0
+TightTextsAreRead = (table : CallTable) (t : Tree) (bytes text : List ℕ) → tight_text table t bytes ≡ Ok text →
+    (given : List Asked) × (script bytes ≡ Ok given) × (script text ≡ Ok (tight table (new_world t) (lines_of table (new_world t) given)))

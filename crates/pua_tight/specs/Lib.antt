@@ -1,0 +1,11 @@
+-- The claim, in reading order.
+pub mod Tight
+pub mod Texts
+pub mod Narrower
+-- What is proved of it.
+pub mod Laws
+pub mod Trials
+-- What the code's fields say.
+pub mod Left
+-- Worked rows, which hold by computation.
+pub mod Examples

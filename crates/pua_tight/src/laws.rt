@@ -1,0 +1,60 @@
+//! Laws and worked examples of tightened scripts, each the contract of a function that does nothing.
+
+ghost use Rattle.pua_tight.specs.Examples.{TightRows, WithoutRows, WrittenRows};
+ghost use Rattle.pua_tight.specs.Laws.{RulesRestOnOne, ScriptsAreTightened};
+ghost use Rattle.pua_tight.specs.Laws.{FuturesAreWithin, RequestKeepsWithin, ScriptsKeepWithin};
+ghost use Rattle.pua_tight.specs.Laws.{TightensScripts, TightIsLeast, TightIsMinimal};
+ghost use Rattle.pua_tight.specs.Laws.{TextsAreRead, TightTextsAreRead};
+ghost use Rattle.pua_tight.specs.Trials.{TriedOneByOne};
+ghost use Rattle.pua_tight.specs.Laws.{WithinAllowsNoMore, WithinGrantsNoMore, WithinListsNoMore};
+
+/// Examples of scripts with the tightened ones, and of the bytes that are written of them.
+#[tactic(auto, using(crate::specs::Examples::tight_rows, crate::specs::Examples::written_rows, crate::specs::Examples::without_rows))]
+pub fn tight_examples()
+    ensures requests { TightRows }
+    ensures texts { WrittenRows }
+    ensures without { WithoutRows }
+{}
+
+/// A script that is another one but for keywords of pledges and letters of unveils that were left
+/// out, and is answered as it line by line, leaves the same tree and the same processes, each of
+/// which may do nothing more: over any tree, on any path, now or after whatever is granted later.
+pub fn narrower_law()
+    ensures step { RequestKeepsWithin }
+    ensures scripts { ScriptsKeepWithin }
+    ensures allows { WithinAllowsNoMore }
+    ensures lists { WithinListsNoMore }
+    ensures grants { WithinGrantsNoMore }
+    ensures futures { FuturesAreWithin }
+{}
+
+/// A tightened script is the given one but for what was left out, is answered as it line by line, and
+/// leaves the same tree and the same processes, each of which may do nothing more. It is what trials
+/// leave, one after another, each of the whole script that those before it left.
+pub fn tight_law()
+    ensures tightens { TightensScripts }
+    ensures trials { TriedOneByOne }
+{}
+
+/// Without any one keyword or letter more that may be left out, some line is answered otherwise: one
+/// pass, from the last line to the first, leaves nothing to a second.
+pub fn minimal_law()
+    ensures { TightIsMinimal }
+{}
+
+/// By a table whose calls each rest on one set of promises, as by the rules of the profile and by
+/// OpenBSD's, nothing else that may be left out of the given script, so that it is answered as
+/// before, leaves less than the tightened one has.
+pub fn least_law()
+    ensures least { TightIsLeast }
+    ensures rules { RulesRestOnOne }
+    ensures lines { ScriptsAreTightened }
+{}
+
+/// What is written of a tightened script is read as the tightened requests, so that these laws are of
+/// its bytes: whatever keywords and letters requests are given without, the bytes without them are a
+/// script of these requests.
+pub fn text_law()
+    ensures written { TextsAreRead }
+    ensures tight { TightTextsAreRead }
+{}
