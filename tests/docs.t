@@ -34,6 +34,7 @@ chdir $TOP or die "$TOP: $!\n";
 # Where the commands of a page are run, and by which words it says so.
 my %FOLDERS = (
     'README.md' => ['.', 'Each block of commands on this page begins in the top folder'],
+    'docs/GUIDE.md' => ['.', 'Each block of commands begins in the top folder'],
     'docs/EXAMPLES.md' => ['examples', 'commands below are run in `examples`'],
 );
 
