@@ -5,16 +5,10 @@ use Rattle.pua_calls.specs.Calls.{CallTable}
 use Rattle.pua_policy.specs.History.{History, StandsFor}
 use Rattle.pua_policy.specs.declared.place.Place.{Place}
 use Rattle.pua_script.specs.Replay.{World, history_of}
-use Rattle.pua_audit.specs.Reach.{Word}
 use Rattle.pua_objects.specs.Objects.{objects}
 use Rattle.pua_objects.specs.ObjectsState.{ObjectsState}
 use Rattle.pua_objects.specs.Ready.{lines_of}
 use Rattle.pua_texts.specs.States.{heading_line, own_lines, living_veils}
-
--- the tree in which places are looked for, and the names that lead to the one that was found last
-pub record PlacesState : Type 0 where
-  pub tree : Tree
-  pub names : Word
 
 -- the heading of a list with the first lines of the state, and the veils
 pub record HeadState : Type 0 where

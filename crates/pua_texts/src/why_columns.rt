@@ -7,7 +7,6 @@ ghost use Rattle.pua_calls.specs.CallSets.{calls_in};
 ghost use Rattle.pua_policy.specs.History.{History, StandsFor, veils};
 ghost use Rattle.pua_policy.specs.Reasons.{promising};
 ghost use Rattle.pua_policy.specs.declared.place.Place.{Place as Kept};
-ghost use Rattle.pua_tree.specs.Tree.{Tree};
 ghost use Rattle.pua_objects.specs.Items.{IsItemOn, SubjectFits, subject_given};
 ghost use Rattle.pua_objects.specs.Lines.{IsLineOn};
 ghost use Rattle.pua_objects.specs.Objects.{Subject as About};
@@ -155,14 +154,14 @@ fn columns_in<T: FileTree>(
 }
 
 /// The columns of these veils, in their order, which are so since these lines.
-fn columns_of(
+fn columns_of<T: FileTree>(
     alloc: Global,
-    paths: &mut TreePaths<'_>,
+    paths: &mut TreePaths<'_, T>,
     veils: &[(&Place, &Perms)],
     lines: &[Option<usize>],
 ) -> Result<Vec<VeilColumns>, OutOfMemory>
     ensures { IfOk result (λ columns. (p : Asking) (number : ℕ) →
-        paths.old.rows ≡ (world_left p).tree.rows →
+        paths.old.tree ≡ (world_left p).tree →
         lines.now ≡ veil_dates p number (map (λ veil. (veil.0.now, veil.1.now)) veils.now) →
         map veil_state columns.items
         ≡ veils_behind p number (map (λ veil. (veil.0.now, veil.1.now)) veils.now)) }
@@ -190,19 +189,18 @@ fn line_at(lines: &[Option<usize>], index: usize) -> Option<usize>
 }
 
 /// The columns of a veil that is so since this line.
-fn column_of(
+fn column_of<T: FileTree>(
     alloc: Global,
-    paths: &mut TreePaths<'_>,
+    paths: &mut TreePaths<'_, T>,
     place: &Place,
     perms: Perms,
     line: Option<usize>,
 ) -> Result<VeilColumns, OutOfMemory>
-    ensures column { IfOk result (λ column. (t : Tree) → paths.old.rows ≡ t.rows →
-        veil_state column ≡ record {
-          place = place.now;
-          text = veil_behind t place.now perms line;
-        }) }
-    ensures rows { paths.new.rows ≡ paths.old.rows }
+    ensures column { IfOk result (λ column. veil_state column ≡ record {
+      place = place.now;
+      text = veil_behind paths.old.tree place.now perms line;
+    }) }
+    ensures tree { paths.new.tree ≡ paths.old.tree }
 {
     let Ok(text) = veil_text(alloc, paths, place, perms, line) else {
         return Err(OutOfMemory);
@@ -212,16 +210,16 @@ fn column_of(
 }
 
 /// A blank, where a veil is, its letters, since which line it has them, and LF.
-fn veil_text(
+fn veil_text<T: FileTree>(
     alloc: Global,
-    paths: &mut TreePaths<'_>,
+    paths: &mut TreePaths<'_, T>,
     place: &Place,
     perms: Perms,
     line: Option<usize>,
 ) -> Result<String, AllocError>
-    ensures text { IfOk result (λ text. (t : Tree) → paths.old.rows ≡ t.rows →
-        string_bytes text ≡ veil_behind t place.now perms line) }
-    ensures rows { paths.new.rows ≡ paths.old.rows }
+    ensures text { IfOk result (λ text.
+        string_bytes text ≡ veil_behind paths.old.tree place.now perms line) }
+    ensures tree { paths.new.tree ≡ paths.old.tree }
 {
     let mut text = String::from_str(alloc, " ")?;
     push_place(&mut text, paths, place)?;
@@ -240,10 +238,14 @@ fn push_letters(text: &mut String, perms: Perms, line: Option<usize>) -> Result<
 }
 
 /// Adds where a place is to a text.
-fn push_place(text: &mut String, paths: &mut TreePaths<'_>, place: &Place) -> Result<(), AllocError>
-    ensures text { OnOk result ((t : Tree) → paths.old.rows ≡ t.rows →
-        string_bytes text.new ≡ string_bytes text.old ++ place_text t place.now) }
-    ensures rows { paths.new.rows ≡ paths.old.rows }
+fn push_place<T: FileTree>(
+    text: &mut String,
+    paths: &mut TreePaths<'_, T>,
+    place: &Place,
+) -> Result<(), AllocError>
+    ensures text { OnOk result (string_bytes text.new
+        ≡ string_bytes text.old ++ place_text paths.old.tree place.now) }
+    ensures tree { paths.new.tree ≡ paths.old.tree }
 {
     match place {
         Place::Dir(dir) => paths.push_dir(text, *dir),
