@@ -1,7 +1,7 @@
 //! Where things can come that are moved or made, by the veils of a process.
 
 ghost use Rattle.std.specs.Prelude.{◌≡◌, ◌<◌, ◌≤◌, ◌++◌, ◌∷◌, [], ℕ, Some, None, true, not, ◌==◌};
-ghost use Rattle.std.specs.Prelude.{IfOk, IsTrue, filter_map, map, get_or, length};
+ghost use Rattle.std.specs.Prelude.{IfOk, filter_map, map, get_or, length};
 ghost use Rattle.std.specs.Prelude.{if◌then◌else◌};
 ghost use Rattle.std.specs.List.{list_any};
 ghost use Rattle.pua_tree.specs.Tree.{above, is_dir as lives_as_dir, look as node_at_name};
@@ -9,7 +9,7 @@ ghost use Rattle.pua_policy.specs.History.{History, StandsFor, has_veil};
 ghost use Rattle.pua_script.specs.Confinement.{has_c as cover_has_c, object_in};
 ghost use Rattle.pua_objects.specs.Objects.{cover_in as cover_of_others};
 ghost use Rattle.pua_ever.specs.Ever.{row_cover as cover_of_row, is_free as can_be_free, can_empty};
-ghost use Rattle.pua_ever.specs.Ever.{is_below as stands_below, dir_covers, name_covers};
+ghost use Rattle.pua_ever.specs.Ever.{dir_covers, name_covers};
 ghost use Rattle.pua_ever.specs.Ever.{open_covers};
 ghost use Rattle.pua_ever.specs.Openings.{opening as opening_of, is_barred as barred_by};
 ghost use Rattle.pua_ever.specs.Openings.{dir_opening as dir_opening_of};
@@ -462,28 +462,7 @@ fn cover_of_dir<T: FileTree>(tree: &T, process: &Process, dir: NodeId) -> Cover
 fn is_outside<T: FileTree>(tree: &T, dir: NodeId, other: NodeId) -> bool
     ensures { result ≡ stands_outside (T.content tree.now) other dir }
 {
-    is_dir(tree, dir) && !is_below(tree, dir, other)
-}
-
-/// Whether a directory is this node, or stands below it.
-fn is_below<T: FileTree>(tree: &T, dir: NodeId, node: NodeId) -> bool
-    requires { IsTrue (lives_as_dir (T.content tree.now) dir) }
-    ensures { result ≡ stands_below (T.content tree.now) node dir }
-{
-    tree.known();
-    let mut at = dir;
-    loop {
-        if at == node {
-            return true;
-        }
-        if at == NodeId::ROOT {
-            return false;
-        }
-        let Some(above) = tree.parent(at) else {
-            return false;
-        };
-        at = above;
-    }
+    is_dir(tree, dir) && !tree.is_within(dir, other)
 }
 
 /// Whether a number is that of a living directory.

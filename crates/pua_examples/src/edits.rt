@@ -164,5 +164,6 @@ fn is_same<S: FileTree, T: FileTree>(one: &S, other: &T, node: NodeId, names: &[
     one.kind(node) == other.kind(node)
         && one.target(node) == other.target(node)
         && one.parent(node) == other.parent(node)
+        && one.spot_of(node) == other.spot_of(node)
         && one.is_empty(node) == other.is_empty(node)
 }

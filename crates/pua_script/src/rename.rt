@@ -1,8 +1,6 @@
 //! A rename: what is wrong with what its two paths name, and the row that moves.
 
-ghost use Rattle.std.specs.Prelude.{◌≡◌, ℕ, ◌==◌, Ok, IfOk, IsTrue};
-ghost use Rattle.std.specs.List.{list_any};
-ghost use Rattle.pua_tree.specs.Tree.{is_dir, climb};
+ghost use Rattle.std.specs.Prelude.{◌≡◌, ℕ, Ok, IfOk};
 ghost use Rattle.pua_tree.specs.Edits.{is_same_node};
 ghost use Rattle.pua_path.specs.Fits.{StandsAsNamed, spot_named, node_named};
 ghost use Rattle.pua_path.specs.Walks.{found_seen};
@@ -168,31 +166,10 @@ fn inside_fault<T: FileTree>(tree: &T, node: NodeId, to: &LentFound<'_>) -> Opti
     let Some(spot) = spot_named(to) else {
         return None;
     };
-    if tree.kind(node) == Some(Kind::Dir) && is_within(tree, spot.dir, node) {
+    if tree.kind(node) == Some(Kind::Dir) && tree.is_within(spot.dir, node) {
         return Some(Errno::EINVAL);
     }
     None
-}
-
-/// Whether a living directory is this node, or stands beneath it.
-fn is_within<T: FileTree>(tree: &T, dir: NodeId, node: NodeId) -> bool
-    ensures { IsTrue (is_dir (T.content tree.now) dir) →
-        result ≡ list_any (λ d. d == node) (climb (T.content tree.now) dir) }
-{
-    tree.known();
-    let mut at = dir;
-    loop {
-        if at == node {
-            return true;
-        }
-        if at == NodeId::ROOT {
-            return false;
-        }
-        let Some(above) = tree.parent(at) else {
-            return false;
-        };
-        at = above;
-    }
 }
 
 /// A directory is not put in the place of anything else, nothing else in the place of a directory,

@@ -52,7 +52,7 @@ fn push_words<T: FileTree>(
     ensures { OnOk result (string_bytes text.new ≡ string_bytes text.old
         ++ spaced_words (reason_text world.now.tree (reason_seen reason.now))) }
 {
-    // These have no path, and a script may have many: the rows of the tree are not gathered for them.
+    // These have no path, and a script may have many: no room for names is taken for them.
     match reason {
         Reason::NeverMade => return text.push_str(" never made"),
         Reason::Ended => return text.push_str(" ended"),

@@ -33,7 +33,7 @@ pub use Rattle.pua_texts.specs.EverLines.{ever_lines}
 pub use Rattle.pua_texts.specs.KeptPaths.{IsKept, KeptPathState}
 pub use Rattle.pua_texts.specs.Lines.{pair_lines, with_end}
 pub use Rattle.pua_texts.specs.ObjectLines.{lists_of, object_lines}
-pub use Rattle.pua_texts.specs.States.{head_lines, names_up, or_equals, path_or_hyphen, place_dir, place_names, veil_lines}
+pub use Rattle.pua_texts.specs.States.{head_lines, or_equals, path_or_hyphen, place_dir, place_names, veil_lines}
 pub use Rattle.pua_texts.specs.VeilDates.{veil_dates}
 pub use Rattle.pua_texts.specs.WhyLines.{covering_on, Posed, why_lists_of, world_left}
 pub use Rattle.pua_texts.specs.WhyLists.{covering_behind, veils_behind}

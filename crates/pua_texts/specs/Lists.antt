@@ -3,13 +3,7 @@ use Rattle.std.specs.Prelude.{◌≡◌, ℕ, List, ◌++◌}
 use Rattle.pua_tree.specs.Tree.{Tree}
 use Rattle.pua_policy.specs.History.{History}
 use Rattle.pua_policy.specs.declared.place.Place.{Place}
-use Rattle.pua_audit.specs.Reach.{Word}
 use Rattle.pua_texts.specs.States.{heading_line, own_lines, living_veils}
-
--- the tree in which places are looked for, and the names that lead to the one that was found last
-pub record PlacesState : Type 0 where
-  pub tree : Tree
-  pub names : Word
 
 -- the heading of a list with the first lines of the state, and the veils
 pub record HeadState : Type 0 where

@@ -1,9 +1,8 @@
 -- What a list says of the state of a process: its promises, whether it may put veils, and its veils with where their places stand.
-use Rattle.std.specs.Prelude.{◌↔◌, ◌⊎◌, ◌≡◌, ℕ, zero, suc, Bool, true, false, map, if◌then◌else◌, List, [], ◌∷◌, ◌++◌, flat_map, length, reverse, Option}
+use Rattle.std.specs.Prelude.{◌↔◌, ◌⊎◌, ◌≡◌, ℕ, Bool, true, false, map, if◌then◌else◌, List, [], ◌∷◌, ◌++◌, flat_map, reverse, Option}
 use Rattle.std.specs.Prelude.{Some, None, codes, decimal}
 use Rattle.std.specs.List.{Contains}
-use Rattle.std.specs.Option.{option_map_or}
-use Rattle.pua_tree.specs.Tree.{Tree, is_dir, spot_of}
+use Rattle.pua_tree.specs.Tree.{Tree, is_dir}
 use Rattle.pua_calls.specs.Promises.{holds, unveil, keyword_rows, keywords_of, perm_letters}
 use Rattle.pua_policy.specs.History.{History, held_set, held_for_exec, is_ended, is_locked, pledged_set, veils}
 use Rattle.pua_policy.specs.declared.place.Place.{Place}
@@ -12,9 +11,10 @@ use Rattle.pua_script.specs.Laws.{IsConfined}
 use Rattle.pua_audit.specs.Reach.{Word, printed_path}
 use Rattle.pua_audit.specs.declared.base.Base.TheVariants.{Root}
 use Rattle.pua_objects.specs.Objects.{with_commas}
+use Rattle.pua_why.specs.Texts.{dir_names}
+use Rattle.pua_texts.specs.Lines.{with_end}
 -- a text, or `=` where it is empty
 pub use Rattle.pua_why.specs.Texts.{or_equals}
-use Rattle.pua_texts.specs.Lines.{with_end}
 
 -- the keywords of promises, in their order; `-` where no pledge gave any
 abbrev pub pledged_text : Option ℕ → List ℕ
@@ -42,14 +42,9 @@ living_veils h = if is_ended h then [] else veils h
 abbrev pub heading_line : List ℕ → ℕ → List ℕ
 heading_line title process = with_end (title ++ 32 ∷ decimal process)
 
--- the names of a directory and of those above it, up to the root, which stands in no row; at most so many
-abbrev pub names_up : ℕ → Tree → ℕ → Word
-names_up zero t dir = []
-names_up (suc n) t dir = option_map_or (λ spot. spot.1 ∷ names_up n t spot.0) (spot_of t dir) []
-
--- no directory stands deeper than there are rows
+-- the names of a directory and of those above it, up to the root
 abbrev pub names_over : Tree → ℕ → Word
-names_over t dir = names_up (length t.rows) t dir
+names_over t dir = reverse (dir_names t dir)
 
 -- the directory of a place
 abbrev pub place_dir : Place → ℕ

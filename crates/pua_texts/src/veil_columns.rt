@@ -2,7 +2,6 @@
 
 ghost use Rattle.std.specs.Prelude.{◌≡◌, ◌++◌, ◌∷◌, [], ℕ, Option, None, IfOk, OnOk, decimal, map};
 ghost use Rattle.std.specs.Prelude.{slice_index_or, string_bytes, unwrap_or};
-ghost use Rattle.pua_tree.specs.Tree.{Tree};
 ghost use Rattle.pua_why.specs.Texts.{letters_text, place_text};
 ghost use Rattle.pua_texts.specs.VeilDates.{veil_dates};
 ghost use Rattle.pua_texts.specs.WhyLists.{AreColumnsOf, veil_behind, veils_behind};
@@ -36,14 +35,14 @@ pub(crate) fn veil_columns<T: FileTree>(
 }
 
 /// The columns of these veils, in their order, which are so since these lines.
-fn veil_texts(
+fn veil_texts<T: FileTree>(
     alloc: Global,
-    paths: &mut TreePaths<'_>,
+    paths: &mut TreePaths<'_, T>,
     veils: &[(&Place, &Perms)],
     lines: &[Option<usize>],
 ) -> Result<Vec<String>, OutOfMemory>
     ensures { IfOk result (λ texts. (p : Asking) (number : ℕ) →
-        paths.old.rows ≡ (world_left p).tree.rows →
+        paths.old.tree ≡ (world_left p).tree →
         lines.now ≡ veil_dates p number (map (λ veil. (veil.0.now, veil.1.now)) veils.now) →
         map string_bytes texts.items
         ≡ veils_behind p number (map (λ veil. (veil.0.now, veil.1.now)) veils.now)) }
@@ -73,16 +72,16 @@ fn line_at(lines: &[Option<usize>], index: usize) -> Option<usize>
 }
 
 /// A blank, where a veil is, its letters, since which line it has them, and LF.
-fn veil_text(
+fn veil_text<T: FileTree>(
     alloc: Global,
-    paths: &mut TreePaths<'_>,
+    paths: &mut TreePaths<'_, T>,
     place: &Place,
     perms: Perms,
     line: Option<usize>,
 ) -> Result<String, AllocError>
-    ensures text { IfOk result (λ text. (t : Tree) → paths.old.rows ≡ t.rows →
-        string_bytes text ≡ veil_behind t place.now perms line) }
-    ensures rows { paths.new.rows ≡ paths.old.rows }
+    ensures text { IfOk result (λ text.
+        string_bytes text ≡ veil_behind paths.old.tree place.now perms line) }
+    ensures tree { paths.new.tree ≡ paths.old.tree }
 {
     let mut text = String::from_str(alloc, " ")?;
     push_place(&mut text, paths, place)?;

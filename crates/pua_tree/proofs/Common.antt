@@ -25,7 +25,7 @@ pub use Rattle.slab.specs.Slab.{Slab}
 pub use lib.Pointwise.{bytes_decides}
 pub use Rattle.pua_tree.specs.Edits.{with_row, with_row_moved, without_row, without_unnamed}
 pub use Rattle.pua_tree.specs.Grammar.{entries_fit, entry_fits, made_fits}
-pub use Rattle.pua_tree.specs.LentRows.{lent_entry}
+pub use Rattle.pua_tree.specs.LentRows.{lent_entry, lent_spot}
 pub use Rattle.pua_tree.specs.Lines.{line_read}
 pub use Rattle.pua_tree.specs.ListTree.{held_tree, node_entry, row_entry}
 pub use Rattle.pua_tree.specs.Listing.{Entry, entry_of, hard_node_in, is_earlier_dir, is_earlier_other, is_taken, last_number}

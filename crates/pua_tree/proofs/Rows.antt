@@ -1,9 +1,9 @@
 -- What rows in order say of a directory and of a node.
 use Rattle.pua_tree.proofs.Common.{◌≡◌, ◌<◌, ◌≤◌, ℕ, zero, suc, List, [], ◌∷◌, ◌++◌, length, get_or, map, Option, Some, None, Result, Ok}
-use Rattle.pua_tree.proofs.Common.{Err, Bool, true, false, not, cond, ◌&&◌, ◌||◌, ◌==◌, ◌≢◌, T, unwrap_or, option_map, refl, sym, ap, ◌∙◌}
-use Rattle.pua_tree.proofs.Common.{inl, inr, arith, reverse, list_all, list_any, Less, Equal, Greater, nat_cmp, ordering_then, is_sorted}
+use Rattle.pua_tree.proofs.Common.{Err, true, false, cond, ◌||◌, ◌==◌, ◌≢◌, option_map, refl, sym, ap, ◌∙◌}
+use Rattle.pua_tree.proofs.Common.{inl, inr, arith, reverse, list_any, Less, Equal, Greater, nat_cmp, ordering_then, is_sorted}
 use Rattle.pua_tree.proofs.Common.{nat_cmp-IsAntisymmetric, map-append, reverse-append, by_order, Spot, Tree, distinct_names, spot_cmp}
-use Rattle.pua_tree.proofs.Common.{name_cmp, above, is_dir, is_living, row_fits, is_name, row_entry, lent_entry, ListRow, passes}
+use Rattle.pua_tree.proofs.Common.{name_cmp, row_entry, lent_entry, ListRow, passes}
 use Rattle.std.proofs.Common.{IsTrue, find}
 use Rattle.std.proofs.Common.{is_ok, Bor}
 use Rattle.std.specs.List.Sorted.{IsNonDecreasingBy, IsBinarySearchResult, IsSearchInRange}
@@ -16,7 +16,7 @@ use Rattle.pua_tree.specs.Tree.{with_name, spot_of}
 use Rattle.pua_tree.specs.declared.tree.LentRow.{LentRow}
 use Rattle.pua_tree.proofs.Base.{find-map}
 use Rattle.pua_tree.proofs.Content.{spots_total}
-use Rattle.pua_tree.proofs.Places.{left, right, rises}
+use Rattle.pua_tree.proofs.Places.{rises}
 
 -- of two spots in order the later is of no lower directory
 pub not_lower : (a b : Spot) → spot_cmp a b ≡ Less → a.0 ≤ b.0
@@ -72,38 +72,17 @@ any_row rows d (Err i) h bound p =
       | inr more ↦ let other : nat_cmp (get_or rows k row).dir d ≡ Greater = parts.1 k row more lt in grind (arith, nat_tests)
     ]))
 
-found_row : (rows : List ListRow) (x : ℕ) →
-    option_map (λ spot. spot.0) (option_map (λ row. row.0) (find (λ row. row.1 == x) (map row_entry rows))) ≡ option_map (λ row. row.dir)
-    (find (λ row. row.node == x) rows)
-found_row [] x = refl
-found_row (r ∷ rows) x =
+-- the spot of the first row of a number
+pub row_spot : (rows : List ListRow) (x : ℕ) → option_map (λ row. (row_entry row).0) (find (λ row. row.node == x) rows)
+    ≡ option_map (λ row. row.0) (find (λ row. row.1 == x) (map row_entry rows))
+row_spot [] x = refl
+row_spot (r ∷ rows) x =
     elim (r.node == x) as
-    (λ b. option_map (λ spot. spot.0)
-    (option_map (λ row. row.0) (cond b (Some (row_entry r)) (find (λ row. row.1 == x) (map row_entry rows)))) ≡ option_map (λ row. row.dir)
-    (cond b (Some r) (find (λ row. row.node == x) rows))) [
+    (λ b. option_map (λ row. (row_entry row).0) (cond b (Some r) (find (λ row. row.node == x) rows))
+    ≡ option_map (λ row. row.0) (cond b (Some (row_entry r)) (find (λ row. row.1 == x) (map row_entry rows)))) [
       | true ↦ refl
-      | false ↦ found_row rows x
+      | false ↦ row_spot rows x
     ]
-
-fourth : (a b c d : Bool) → T (a && (b && (c && d))) → T d
-fourth a b c d h = right c d (right b (c && d) (right a (b && (c && d)) h))
-
-denied : (b : Bool) → T (not b) → b ≡ false
-denied true h = absurd h
-denied false h = refl
-
-root_missing : (t : Tree) (rows : List ListRow) → T (list_all (row_fits t) (map row_entry rows)) → find (λ row. row.node == 0) rows ≡ None
-root_missing t [] h = refl
-root_missing t (r ∷ rows) h =
-    let fits : T (row_fits t (row_entry r)) = left (row_fits t (row_entry r)) (list_all (row_fits t) (map row_entry rows)) h in
-    let here : (r.node == 0) ≡ false = denied _ (fourth (is_dir t r.dir) (is_name r.name) (is_living t r.node) _ fits) in
-    rw here (root_missing t rows (right (row_fits t (row_entry r)) (list_all (row_fits t) (map row_entry rows)) h))
-
--- the directory above is that of the first row of the number
-pub above_row : (t : Tree) (rows : List ListRow) (d : ℕ) → t.rows ≡ map row_entry rows → IsTrue (list_all (row_fits t) t.rows) →
-    unwrap_or (option_map (λ row. row.dir) (find (λ row. row.node == d) rows)) 0 ≡ above t d
-above_row t rows zero e h = ap (λ o. unwrap_or (option_map (λ row. row.dir) o) 0) (root_missing t rows (passes _ (rw e at h)))
-above_row t rows (suc d) e h = rw e (ap (λ o. unwrap_or o 0) (sym (found_row rows (suc d))))
 
 pub with_name_is : (n : List ℕ) (ns : List (List ℕ)) → insert_key name_cmp ns n ≡ with_name n ns
 with_name_is n [] = refl

@@ -1,40 +1,30 @@
 -- A tree in slots, looked up by what each node knows of how it stands.
-use Rattle.pua_tree.proofs.Common.{◌≡◌, ℕ, true, false, not, ◌&&◌, ◌||◌, ◌==◌, cond, List, [], ◌∷◌, Option, Some, None, option_map}
-use Rattle.pua_tree.proofs.Common.{refl, sym, ap, ◌∙◌, eqb, eqb-true, option_and_then, list_any, list_all, eqb-false}
-use Rattle.pua_tree.proofs.Common.{false≢true, sum_by-zero, Tree, WellFormed, kind_at, is_dir, is_dir_kind, above, node_in}
+use Rattle.pua_tree.proofs.Common.{◌≡◌, ℕ, true, false, not, ◌&&◌, ◌||◌, ◌==◌, ◌≢◌, cond, List, [], ◌∷◌, Option, Some, None, option_map}
+use Rattle.pua_tree.proofs.Common.{refl, sym, ap, ◌∙◌, eqb, option_and_then, list_any, list_all}
+use Rattle.pua_tree.proofs.Common.{false≢true, sum_by-zero, Tree, WellFormed, kind_at, is_dir, is_dir_kind, node_in}
 use Rattle.pua_tree.proofs.Common.{made_of, held_rows, held_in_slots, AreConsistent, Dir, Slots, SlotNode}
 use Rattle.pua_tree.specs.Tree as tree
-use Rattle.pua_tree.specs.Tree.{target_at, parent, is_empty, has_no_row}
+use Rattle.pua_tree.specs.Tree.{target_at, spot_of, dir_spot, is_empty, has_no_row}
 use Rattle.pua_tree.specs.Tree.{found_at}
 use Rattle.pua_tree.specs.Slots.{row_in, standing_of_dir}
 use Rattle.pua_tree.specs.declared.slots.Stance.{Stance}
+use Rattle.pua_tree.specs.declared.spot.Spot.{Spot}
 use Rattle.pua_tree.proofs.Common.{unwrap_or}
 use Rattle.pua_tree.specs.declared.slots.RowNode.{RowNode}
 use Rattle.pua_tree.proofs.Common.{IsSome}
 use Rattle.pua_tree.proofs.SlabEdits.{living_in, row_living}
 use Rattle.pua_tree.proofs.SlotsHold.{node_of_row, nodes_found, rows_found}
-use Rattle.pua_tree.proofs.Sound.{sound_from, row_of, dir_kind}
+use Rattle.pua_tree.proofs.Sound.{sound_from, row_of, spot_stands, dir_kind}
 
-dir_node : (o : Option SlotNode) → is_dir_kind (option_map (λ n. n.kind) (option_map made_of o)) ≡ true →
-    (n : SlotNode) × (o ≡ Some n) × (n.kind ≡ Dir)
-dir_node None e = absurd (false≢true e)
-dir_node (Some n) e = (n, refl, dir_kind n.kind e)
-
--- a living directory has a node
-pub dir_in : (s : Slots) (next d : ℕ) → is_dir (held_in_slots s next) d ≡ true → (n : SlotNode) × (node_in s d ≡ Some n) × (n.kind ≡ Dir)
-dir_in s next d h = dir_node (node_in s d) (ap (λ (o : Option tree.Node). is_dir_kind (option_map (λ n. n.kind) o)) (sym (nodes_found s d))
-    ∙ h)
-
--- which knows the directory above it
-pub above_known : (s : Slots) (next d : ℕ) (n : SlotNode) → WellFormed (held_in_slots s next) → AreConsistent s →
-    is_dir (held_in_slots s next) d ≡ true → node_in s d ≡ Some n → n.kind ≡ Dir → above (held_in_slots s next) d ≡ n.standing.above
-above_known s next d n w kept dir here kind =
-    elim (d == 0) as (λ b. (d == 0) ≡ b → above (held_in_slots s next) d ≡ n.standing.above) [
-      | true ↦ λ t. ap (above (held_in_slots s next)) (eqb-true d 0 t) ∙
-          sym (kept.standing.above_root n (ap (node_in s) (sym (eqb-true d 0 t)) ∙ here))
-      | false ↦ λ t. (let r = row_of (held_in_slots s next) (sound_from (held_in_slots s next) w) d dir (eqb-false d 0 t) in
-          r.2 ∙ sym (kept.standing.dir_above r.0 d n r.1 here kind))
-    ] refl
+-- a directory knows its spot
+spot_known : (s : Slots) (next d : ℕ) (n : SlotNode) → WellFormed (held_in_slots s next) → AreConsistent s →
+    is_dir (held_in_slots s next) d ≡ true → d ≢ 0 → node_in s d ≡ Some n → n.kind ≡ Dir →
+    spot_of (held_in_slots s next) d ≡ Some (n.standing.spot.dir, n.standing.spot.name)
+spot_known s next d n w kept dir below here kind =
+    let sound = sound_from (held_in_slots s next) w in
+    let row = row_of (held_in_slots s next) sound d dir below in
+    spot_stands (held_in_slots s next) sound d row.0 dir below row.1
+    ∙ ap (λ (k : Spot). Some (k.dir, k.name)) (sym (kept.standing.dir_spot row.0 d n row.1 here kind))
 
 no_row_counted : (rows : List (tree.Spot × ℕ)) (d : ℕ) →
     list_all (λ row. eqb (cond (row.0.0 == d) 1 0) 0) rows ≡ not (list_any (λ row. row.0.0 == d) rows)
@@ -93,14 +83,6 @@ target_known s next x = fused (node_in s x) ∙ ap (λ (o : Option tree.Node). o
     fused None = refl
     fused (Some n) = refl
 
-pub parent_known : (s : Slots) (next d : ℕ) → WellFormed (held_in_slots s next) → AreConsistent s → is_dir (held_in_slots s next) d ≡ true →
-    option_map (λ (n : SlotNode). n.standing.above) (node_in s d) ≡ parent (held_in_slots s next) d
-parent_known s next d w kept dir =
-    let n = dir_in s next d dir in
-    ap (λ (o : Option SlotNode). option_map (λ (m : SlotNode). m.standing.above) o) n.1
-    ∙ ap Some (sym (above_known s next d n.0 w kept dir n.1 n.2))
-    ∙ sym (ap (λ b. cond b (Some (above (held_in_slots s next) d)) None) dir)
-
 -- a directory's own slot answers the same
 module _ (s : Slots) (next d : ℕ) (w : WellFormed (held_in_slots s next)) (kept : AreConsistent s) where
   abbrev held : Tree
@@ -109,23 +91,25 @@ module _ (s : Slots) (next d : ℕ) (w : WellFormed (held_in_slots s next)) (kep
   dir_by : (o : Option SlotNode) → node_in s d ≡ o → is_dir held d ≡ is_dir_kind (option_map (λ (n : SlotNode). n.kind) o)
   dir_by o e = ap is_dir_kind (sym (kind_known s next d) ∙ ap (λ (o : Option SlotNode). option_map (λ n. n.kind) o) e)
 
-  pub above_of_dir : option_map (λ (st : Stance). st.above) (option_and_then standing_of_dir (node_in s d)) ≡ parent held d
-  above_of_dir = by (node_in s d) refl
+  pub spot_of_dir : (standing : Option Stance) → d ≢ 0 → standing ≡ option_and_then standing_of_dir (node_in s d) →
+      option_map (λ (st : Stance). (st.spot.dir, st.spot.name)) standing ≡ dir_spot held d
+  spot_of_dir standing below is = ap (option_map (λ (st : Stance). (st.spot.dir, st.spot.name))) is ∙ by (node_in s d) refl
     where
       by : (o : Option SlotNode) → node_in s d ≡ o →
-          option_map (λ (st : Stance). st.above) (option_and_then standing_of_dir o) ≡ parent held d
-      by None e = sym (ap (λ b. cond b (Some (above held d)) None) (dir_by None e))
+          option_map (λ (st : Stance). (st.spot.dir, st.spot.name)) (option_and_then standing_of_dir o) ≡ dir_spot held d
+      by None e = sym (ap (λ b. cond b (spot_of held d) None) (dir_by None e))
       by (Some n) e =
           elim (is_dir_kind (Some n.kind)) as (λ b. is_dir_kind (Some n.kind) ≡ b →
-          option_map (λ (st : Stance). st.above) (cond b (Some n.standing) None) ≡ parent held d) [
-            | true ↦ λ k. sym (ap (λ (o : Option SlotNode). option_map (λ m. m.standing.above) o) e) ∙
-                parent_known s next d w kept (dir_by (Some n) e ∙ k)
-            | false ↦ λ k. sym (ap (λ b. cond b (Some (above held d)) None) (dir_by (Some n) e ∙ k))
+          option_map (λ (st : Stance). (st.spot.dir, st.spot.name)) (cond b (Some n.standing) None) ≡ dir_spot held d) [
+            | true ↦ λ k. (let dir = dir_by (Some n) e ∙ k in
+                sym (ap (λ b. cond b (spot_of held d) None) dir ∙ spot_known s next d n w kept dir below e (dir_kind n.kind k)))
+            | false ↦ λ k. sym (ap (λ b. cond b (spot_of held d) None) (dir_by (Some n) e ∙ k))
           ] refl
 
-  pub bare_of_dir : unwrap_or (option_map (λ (st : Stance). st.rows == 0) (option_and_then standing_of_dir (node_in s d))) false
-      ≡ is_empty held d
-  bare_of_dir = by (node_in s d) refl
+  pub bare_of_dir : (standing : Option Stance) → standing ≡ option_and_then standing_of_dir (node_in s d) →
+      unwrap_or (option_map (λ (st : Stance). st.rows == 0) standing) false ≡ is_empty held d
+  bare_of_dir standing is = ap (λ (o : Option Stance). unwrap_or (option_map (λ (st : Stance). st.rows == 0) o) false) is ∙
+      by (node_in s d) refl
     where
       by : (o : Option SlotNode) → node_in s d ≡ o →
           unwrap_or (option_map (λ (st : Stance). st.rows == 0) (option_and_then standing_of_dir o)) false ≡ is_empty held d

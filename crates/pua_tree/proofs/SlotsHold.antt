@@ -7,7 +7,7 @@ use Rattle.pua_tree.proofs.Common.{row_at, node_in, made_of, in_order, with_entr
 use Rattle.indexmap.specs.IndexMap.{UpdatesBy}
 use Rattle.slab.specs.Slab.{get as slot_get}
 use Rattle.pua_tree.specs.Tree as tree
-use Rattle.pua_tree.specs.Slots.{row_in}
+use Rattle.pua_tree.specs.Slots.{key_at, row_in}
 use Rattle.pua_tree.specs.declared.spot.Spot.{Spot}
 use Rattle.pua_tree.specs.declared.slots.RowNode.{RowNode}
 use Rattle.pua_tree.specs.contracts.spot.SpotPartialEq.TheImpl.{ghosts as spot_ghosts}
@@ -15,9 +15,6 @@ use Rattle.pua_tree.specs.contracts.node.NodeIdPartialEq.TheImpl.{ghosts as numb
 use Rattle.pua_tree.proofs.Content.{spots_total, exact_spots}
 use Rattle.pua_tree.proofs.Tallies.{without_at}
 use Rattle.pua_tree.proofs.InOrder.{sorted_in_order}
-
-abbrev pub key_at : tree.Spot → Spot
-key_at at = record { dir = at.0; name = at.1 }
 
 -- keys are equal where their spots tie
 pub same_key : (a b : tree.Spot) → spot_ghosts.eq (key_at a) (key_at b) ≡ is_eq (spot_cmp a b)

@@ -3,7 +3,7 @@ use Rattle.pua_tree.proofs.Common.{◌≡◌, ◌≢◌, ℕ, ◌+◌, ◌-◌, 
 use Rattle.pua_tree.proofs.Common.{option_map, refl, sym, ap, ◌∙◌, arith, inl, inr, eqb-true, eq-eqb, IfSome, is_eq, find, put, where_key}
 use Rattle.pua_tree.proofs.Common.{spot_cmp, node_in, made_of, held_rows, held_nodes, rows_in, names_of, AreConsistent, Dir, Slots}
 use Rattle.pua_tree.proofs.Common.{SlotNode, subst, Kind}
-use Rattle.std.proofs.Common.{ne_eqb, BuildHasherDefault, FoldHasher}
+use Rattle.std.proofs.Common.{BuildHasherDefault, FoldHasher}
 use Rattle.std.proofs.lemmas.List.Sums.{count_by-le-length}
 use Rattle.indexmap.specs.IndexMap.{IndexMap, UpdatesBy}
 use Rattle.pua_tree.specs.Tree as tree
@@ -12,14 +12,14 @@ use Rattle.pua_tree.specs.Slots.{row_lost, name_gained, name_lost, Restands, May
 use Rattle.pua_tree.specs.declared.slots.Stance.{Stance}
 use Rattle.pua_tree.specs.declared.slots.RowNode.{RowNode}
 use Rattle.pua_tree.specs.declared.spot.Spot.{Spot}
-use Rattle.pua_tree.specs.Slots.{row_in}
+use Rattle.pua_tree.specs.Slots.{key_at, row_in}
 use Rattle.std.specs.Prelude.{Bool}
 use Rattle.pua_tree.specs.contracts.spot.SpotPartialEq.TheImpl.{ghosts as spot_ghosts}
 use Rattle.pua_tree.proofs.Base.{mapped, same_Some, Some≢None}
 use Rattle.pua_tree.proofs.Content.{spots_total, exact_spots}
 use Rattle.pua_tree.proofs.Tallies.{tally_counts, tally_found, same_or_other, put_here, put_elsewhere, without_here, without_elsewhere}
 use Rattle.pua_tree.proofs.InOrder.{counted-put, counted-without}
-use Rattle.pua_tree.proofs.SlotsHold.{key_at, rows_found, rows_sorted, rows_put, rows_taken, nodes_same}
+use Rattle.pua_tree.proofs.SlotsHold.{rows_found, rows_sorted, rows_put, rows_taken, nodes_same}
 
 pub each : {X : Type 0} {P : X → Type 0} (o : Option X) → ((x : X) → o ≡ Some x → P x) → IfSome o P
 each None f = tt
@@ -86,18 +86,18 @@ module _ (old more : Slots) (at : tree.Spot) (x : ℕ) (kept : AreConsistent old
 module _ (old more mid : Slots) (at : tree.Spot) (x : ℕ) (enters : MayEnter old at x) (small : length (held_rows old) < 2 ^ 63)
     (row_more : IsFiled old → IfSome (node_in old at.0) (λ node. node.standing.rows < 2 ^ 63) → Restands old more (row_gained at.0))
     (name_more : IsFiled more → IfSome (node_in more x) (λ node. node.standing.names < 2 ^ 63) →
-    Restands more mid (name_gained at.0 x)) where
+    Restands more mid (name_gained (key_at at) x)) where
   abbrev before_put : AreConsistent old
   before_put = enters.kept
 
   abbrev gained_row : Restands old more (row_gained at.0)
   gained_row = row_more before_put.filed (few_rows old more at x before_put small)
 
-  abbrev gained_name : Restands more mid (name_gained at.0 x)
+  abbrev gained_name : Restands more mid (name_gained (key_at at) x)
   gained_name = name_more gained_row.filed (few_names old more at x before_put small gained_row)
 
   pub nodes_after_put : held_nodes mid ≡ held_nodes old
-  nodes_after_put = nodes_same old mid (made_alike old more mid (row_gained at.0) (name_gained at.0 x) gained_row gained_name)
+  nodes_after_put = nodes_same old mid (made_alike old more mid (row_gained at.0) (name_gained (key_at at) x) gained_row gained_name)
 
   module _ (kind : Kind) (rows : IndexMap Spot RowNode (BuildHasherDefault FoldHasher)) (same_rows : mid.rows ≡ old.rows)
       (updates : UpdatesBy spot_ghosts.eq (spot_ghosts.eq (key_at at)) mid.rows rows (Some (record { node = x; kind = kind }))) where
@@ -115,8 +115,8 @@ module _ (old more mid : Slots) (at : tree.Spot) (x : ℕ) (enters : MayEnter ol
 
     stood : (y : ℕ) (m : SlotNode) → node_in new y ≡ Some m →
         (n : SlotNode) × (node_in old y ≡ Some n)
-        × (changed old more mid (row_gained at.0) (name_gained at.0 x) gained_row gained_name y n ≡ m)
-    stood = was old more mid (row_gained at.0) (name_gained at.0 x) gained_row gained_name
+        × (changed old more mid (row_gained at.0) (name_gained (key_at at) x) gained_row gained_name y n ≡ m)
+    stood = was old more mid (row_gained at.0) (name_gained (key_at at) x) gained_row gained_name
 
     pub kept_after_put : ((n : SlotNode) → node_in more x ≡ Some n → n.kind ≡ kind) → AreConsistent new
     kept_after_put kind_is = record {
@@ -132,22 +132,19 @@ module _ (old more mid : Slots) (at : tree.Spot) (x : ℕ) (enters : MayEnter ol
             ∙ ap (λ r. r + one_at x y) (before_put.standing.names_counted y w.0 w.1)
             ∙ sym (counted-put spot_cmp spots_total exact_spots (λ row. row.1 == y) at x (held_rows old) none_there)
             ∙ sym (ap (λ rows. names_of rows y) rows_after_put));
-        dir_above = λ spot y m f e d. (let w = stood y m e in
+        dir_spot = λ spot y m f e d. (let w = stood y m e in
             let found : find spot_cmp spot (put spot_cmp at x (held_rows old)) ≡ Some y = ap (find spot_cmp spot) (sym rows_after_put) ∙
             f in
-            let above : m.standing.above ≡ cond (x == y) at.0 w.0.standing.above = sym (ap (λ (n : SlotNode). n.standing.above) w.2) in
+            let now : m.standing.spot ≡ cond (x == y) (key_at at) w.0.standing.spot = sym (ap (λ (n : SlotNode). n.standing.spot) w.2) in
             let kind : w.0.kind ≡ Dir = ap (λ (n : SlotNode). n.kind) w.2 ∙ d in
             elim (same_or_other spot_cmp spots_total exact_spots spot at) [
               | inl s ↦ (let here : x ≡ y = same_Some x y (sym (put_here spot_cmp spots_total exact_spots at x (held_rows old)) ∙
                   ap (λ q. find spot_cmp q (put spot_cmp at x (held_rows old))) (sym s.0) ∙ found) in
-                  above ∙ ap (λ t. cond t at.0 w.0.standing.above) (eq-eqb x y here) ∙ ap (λ (q : tree.Spot). q.0) (sym s.0))
+                  now ∙ ap (λ t. cond t (key_at at) w.0.standing.spot) (eq-eqb x y here) ∙ ap key_at (sym s.0))
               | inr s ↦ (let row : find spot_cmp spot (held_rows old) ≡ Some y =
                   sym (put_elsewhere spot_cmp spots_total exact_spots spot at x (held_rows old) s.0) ∙ found in
-                  above ∙ elsewhere spot y w.0 kind w.1 row)
+                  now ∙ elsewhere spot y w.0 kind w.1 row)
             ]);
-        above_root = λ m e. (let w = stood 0 m e in
-            sym (ap (λ (n : SlotNode). n.standing.above) w.2) ∙ ap (λ t. cond t at.0 w.0.standing.above) (ne_eqb x 0 enters.may.not_root) ∙
-            before_put.standing.above_root w.0 w.1);
       };
       kinds = λ q row m r e. (let w = stood row.node m e in
           sym (ap (λ (n : SlotNode). n.kind) w.2) ∙
@@ -155,13 +152,13 @@ module _ (old more mid : Slots) (at : tree.Spot) (x : ℕ) (enters : MayEnter ol
     }
       where
         elsewhere : (spot : tree.Spot) (y : ℕ) (n : SlotNode) → n.kind ≡ Dir → node_in old y ≡ Some n →
-            find spot_cmp spot (held_rows old) ≡ Some y → cond (x == y) at.0 n.standing.above ≡ spot.0
+            find spot_cmp spot (held_rows old) ≡ Some y → cond (x == y) (key_at at) n.standing.spot ≡ key_at spot
         elsewhere spot y n kind e row =
-            elim (x == y) as (λ b. (x == y) ≡ b → cond b at.0 n.standing.above ≡ spot.0) [
+            elim (x == y) as (λ b. (x == y) ≡ b → cond b (key_at at) n.standing.spot ≡ key_at spot) [
               | true ↦ λ t. (let here : x ≡ y = eqb-true x y t in
                   absurd (named (held_rows old) spot y row (ap (names_of (held_rows old)) (sym here) ∙
                   enters.may.dir_once n (ap (node_in old) here ∙ e) kind)))
-              | false ↦ λ _. before_put.standing.dir_above spot y n row e kind
+              | false ↦ λ _. before_put.standing.dir_spot spot y n row e kind
             ] refl
 
         said : (q : tree.Spot) (row : RowNode) (n : SlotNode) → node_in old row.node ≡ Some n → (here : Bool) →
@@ -241,11 +238,9 @@ module _ (old more new : Slots) (rows : IndexMap Spot RowNode (BuildHasherDefaul
           ∙ fewer w.0.standing.names (names_of (held_rows old) y) _ (one_at x y) (before_take.standing.names_counted y w.0 w.1)
           (one_name_fewer y)
           ∙ sym (ap (λ rows. names_of rows y) rows_after_take));
-      dir_above = λ spot y m f e d. (let w = left y m e in
-          sym (ap (λ (n : SlotNode). n.standing.above) w.2)
-          ∙ before_take.standing.dir_above spot y w.0 (row_was spot y f) w.1 (ap (λ (n : SlotNode). n.kind) w.2 ∙ d));
-      above_root = λ m e. (let w = left 0 m e in
-          sym (ap (λ (n : SlotNode). n.standing.above) w.2) ∙ before_take.standing.above_root w.0 w.1);
+      dir_spot = λ spot y m f e d. (let w = left y m e in
+          sym (ap (λ (n : SlotNode). n.standing.spot) w.2)
+          ∙ before_take.standing.dir_spot spot y w.0 (row_was spot y f) w.1 (ap (λ (n : SlotNode). n.kind) w.2 ∙ d));
     };
     kinds = λ q row m r e. (let w = left row.node m e in
         sym (ap (λ (n : SlotNode). n.kind) w.2) ∙

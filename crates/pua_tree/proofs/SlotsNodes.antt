@@ -5,11 +5,11 @@ use Rattle.pua_tree.proofs.Common.{node_in, held_rows, rows_in, names_of, AreCon
 use Rattle.std.proofs.Common.{ne_eqb}
 use Rattle.slab.specs.Slab.{get as slot_get, slab_len, Updates}
 use Rattle.std.specs.Option.{OnSome}
-use Rattle.pua_tree.specs.Slots.{IsFiled}
+use Rattle.pua_tree.specs.Slots.{key_at, IsFiled}
 use Rattle.pua_tree.proofs.Base.{same_Some, None≢Some}
 use Rattle.pua_tree.specs.contracts.spot.SpotPartialEq.TheImpl.{ghosts as spot_ghosts}
 use Rattle.pua_tree.proofs.Common.{lookup}
-use Rattle.pua_tree.proofs.SlotsHold.{key_at, node_of_row, rows_found, rows_by_entries}
+use Rattle.pua_tree.proofs.SlotsHold.{node_of_row, rows_found, rows_by_entries}
 use Rattle.pua_tree.proofs.SlotsKeep.{named, rows_by, row_by}
 
 -- what is found alike is kept alike
@@ -20,8 +20,7 @@ kept_alike old new entries found filed kept = let rows = rows_by_entries new old
   standing = record {
     rows_counted = λ x n e. kept.standing.rows_counted x n (sym (found x) ∙ e) ∙ ap (λ r. rows_in r x) (sym rows);
     names_counted = λ x n e. kept.standing.names_counted x n (sym (found x) ∙ e) ∙ ap (λ r. names_of r x) (sym rows);
-    dir_above = λ at x n f e d. kept.standing.dir_above at x n (ap (find spot_cmp at) (sym rows) ∙ f) (sym (found x) ∙ e) d;
-    above_root = λ n e. kept.standing.above_root n (sym (found 0) ∙ e);
+    dir_spot = λ at x n f e d. kept.standing.dir_spot at x n (ap (find spot_cmp at) (sym rows) ∙ f) (sym (found x) ∙ e) d;
   };
   kinds = λ at row n r e. kept.kinds at row n (ap (lookup (spot_ghosts.eq (key_at at))) entries ∙ r) (sym (found row.node) ∙ e);
 }
@@ -95,8 +94,8 @@ module _ (old new : Slots) (x slot : ℕ) (node : SlotNode) (f : IsFiled old) (f
   }
 
   pub kept_added : AreConsistent old → new.rows ≡ old.rows → rows_in (held_rows old) x ≡ 0 → names_of (held_rows old) x ≡ 0
-      → node.standing.rows ≡ 0 → node.standing.names ≡ 0 → node.standing.above ≡ 0 → AreConsistent new
-  kept_added kept same no_rows no_names zero_rows zero_names zero_above = let rows = rows_by new old same in record {
+      → node.standing.rows ≡ 0 → node.standing.names ≡ 0 → AreConsistent new
+  kept_added kept same no_rows no_names zero_rows zero_names = let rows = rows_by new old same in record {
     filed = filed_added;
     standing = record {
       rows_counted = λ q n e. by q n e (λ m. m.standing.rows ≡ rows_in (held_rows new) q) (λ t. zero_rows ∙
@@ -105,10 +104,9 @@ module _ (old new : Slots) (x slot : ℕ) (node : SlotNode) (f : IsFiled old) (f
       names_counted = λ q n e. by q n e (λ m. m.standing.names ≡ names_of (held_rows new) q) (λ t. zero_names ∙
           sym (ap (names_of (held_rows new)) t ∙ ap (λ r. names_of r x) rows ∙ no_names)) (λ w. kept.standing.names_counted q n w ∙
           ap (λ r. names_of r q) (sym rows));
-      dir_above = λ at q n g e d. (let row : find spot_cmp at (held_rows old) ≡ Some q = ap (find spot_cmp at) (sym rows) ∙ g in
-          by q n e (λ m. m.standing.above ≡ at.0) (λ t. absurd (named (held_rows old) at q row (ap (names_of (held_rows old)) t ∙
-          no_names))) (λ w. kept.standing.dir_above at q n row w d));
-      above_root = λ n e. by 0 n e (λ m. m.standing.above ≡ 0) (λ t. zero_above) (λ w. kept.standing.above_root n w);
+      dir_spot = λ at q n g e d. (let row : find spot_cmp at (held_rows old) ≡ Some q = ap (find spot_cmp at) (sym rows) ∙ g in
+          by q n e (λ m. m.standing.spot ≡ key_at at) (λ t. absurd (named (held_rows old) at q row (ap (names_of (held_rows old)) t ∙
+          no_names))) (λ w. kept.standing.dir_spot at q n row w d));
     };
     kinds = λ at row n r e. (let row_was = sym (row_by new old same at) ∙ r in
         by row.node n e (λ m. m.kind ≡ row.kind) (λ t. absurd (named (held_rows old) at row.node (rows_found old at ∙
@@ -169,8 +167,7 @@ kept_dropped old new x kept same found filed = let rows = rows_by new old same i
   standing = record {
     rows_counted = λ q n e. kept.standing.rows_counted q n (was q n e) ∙ ap (λ r. rows_in r q) (sym rows);
     names_counted = λ q n e. kept.standing.names_counted q n (was q n e) ∙ ap (λ r. names_of r q) (sym rows);
-    dir_above = λ at q n g e d. kept.standing.dir_above at q n (ap (find spot_cmp at) (sym rows) ∙ g) (was q n e) d;
-    above_root = λ n e. kept.standing.above_root n (was 0 n e);
+    dir_spot = λ at q n g e d. kept.standing.dir_spot at q n (ap (find spot_cmp at) (sym rows) ∙ g) (was q n e) d;
   };
   kinds = λ at row n r e. kept.kinds at row n (sym (row_by new old same at) ∙ r) (was row.node n e);
 }

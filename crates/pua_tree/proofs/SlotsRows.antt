@@ -16,6 +16,7 @@ use Rattle.std.proofs.lemmas.List.{length-map}
 use lib.ListN.{get_or}
 use Rattle.indexmap.specs.IndexMap.{IsUnique}
 use Rattle.pua_tree.specs.Tree as tree
+use Rattle.pua_tree.specs.Slots.{key_at}
 use Rattle.pua_tree.specs.declared.spot.Spot.{Spot}
 use Rattle.pua_tree.specs.declared.slots.RowNode.{RowNode}
 use Rattle.pua_tree.specs.declared.tree.LentRow.{LentRow}
@@ -23,7 +24,7 @@ use Rattle.pua_tree.specs.contracts.spot.SpotPartialEq.TheImpl.{ghosts as spot_g
 use Rattle.pua_tree.specs.contracts.tree.LentRowOrd.TheImpl.{ghosts as lent_ghosts}
 use Rattle.pua_tree.proofs.Base.{Some≢None}
 use Rattle.pua_tree.proofs.Content.{spots_total, exact_spots}
-use Rattle.pua_tree.proofs.SlotsHold.{key_at, node_of_row, node_of_one, same_tie, turned_key, rows_found_in, rows_sorted}
+use Rattle.pua_tree.proofs.SlotsHold.{node_of_row, node_of_one, same_tie, turned_key, rows_found_in, rows_sorted}
 
 module _ {K X : Type 0} (R : K → K → Ordering) (o : IsTotalOrder R) (exact : (x y : K) → R x y ≡ Equal → x ≡ y) where
   find_is : (q : K) (es : List (K × X)) → find R q es ≡ lookup (eq_by_cmp R q) es

@@ -1,17 +1,18 @@
 -- A well-formed tree by its look-ups, and climbing by the number of steps to the root.
 use Rattle.pua_tree.proofs.Common.{◌≡◌, ◌≢◌, ℕ, zero, suc, ◌+◌, ◌≤◌, ◌<◌, true, false, ◌||◌, cond, T, List, length, Option, Some, None}
-use Rattle.pua_tree.proofs.Common.{option_map, unwrap_or, is_some, ◌==◌, refl, sym, ap, subst, ◌∙◌, arith, inl, inr, eqb-true, eq-eqb}
+use Rattle.pua_tree.proofs.Common.{option_map, unwrap_or, is_some, ◌==◌, Bool, [], ◌∷◌, refl, sym, ap, subst, ◌∙◌, arith, inl, inr}
+use Rattle.pua_tree.proofs.Common.{eqb-true, eq-eqb, eqb-false}
 use Rattle.pua_tree.proofs.Common.{option_and_then, passes, list_any, nat_cmp, nat_cmp_total, is_sorted, nat_cmp-IsAntisymmetric}
 use Rattle.pua_tree.proofs.Common.{is_sorted-where_key, and_parts, and_from, or_cases, false≢true, not-true, is_name, Node, Spot, Tree}
 use Rattle.pua_tree.proofs.Common.{WellFormed, spot_cmp, kind_at, look, is_dir, is_dir_kind, is_living, above, climb_within, row_fits}
 use Rattle.pua_tree.proofs.Common.{target_fits, Kind, Dir, File, Prog, Link}
 use Rattle.std.proofs.Common.{leb-true}
-use Rattle.std.proofs.Common.{le-leb, ltb-true, lt-ltb}
+use Rattle.std.proofs.Common.{le-leb, ltb-true, lt-ltb, find}
 use Rattle.std.specs.FinMap.{find as find_key}
 use Rattle.std.specs.FinMap.Entries.{length_without}
 use Rattle.std.proofs.lemmas.Bool.{or_from, or_left, or_right}
 use Rattle.pua_tree.specs.Tree.{node_at, found_at}
-use Rattle.pua_tree.specs.Tree.{rows_of, node_fits, rows_fit_kind}
+use Rattle.pua_tree.specs.Tree.{spot_of, dir_spot, parent, rows_of, node_fits, rows_fit_kind}
 use Rattle.pua_tree.proofs.Base.{holds, mapped, None≢Some}
 use Rattle.pua_tree.proofs.Content.{spots_total, exact_spots}
 use Rattle.pua_tree.proofs.Tallies.{tally, tally_counts, without, without_elsewhere, all_found, all_from_found, found_from_tally, only_key}
@@ -43,6 +44,21 @@ above_is t zero s n l f = absurd (n refl)
 above_is t (suc d) s n l f =
     ap (λ (o : Option Spot). unwrap_or (option_map (λ spot. spot.0) o) 0) (only_key spot_cmp spots_total exact_spots (λ y. y == suc d) s
     (suc d) t.rows l f (eq-eqb (suc d) (suc d) refl))
+
+-- and is that of its spot
+pub above_spot : (t : Tree) (d : ℕ) → d ≢ 0 → above t d ≡ unwrap_or (option_map (λ spot. spot.0) (spot_of t d)) 0
+above_spot t zero n = absurd (n refl)
+above_spot t (suc d) n = refl
+
+-- a node without rows has no spot
+no_spot : (x : ℕ) (rows : List (Spot × ℕ)) → tally (λ y. y == x) rows ≡ 0 → option_map (λ row. row.0) (find (λ row. row.1 == x) rows) ≡ None
+no_spot x [] none = refl
+no_spot x (row ∷ rows) none =
+    elim (row.1 == x) as (λ b. cond b 1 0 + tally (λ y. y == x) rows ≡ 0 →
+    option_map (λ r. r.0) (cond b (Some row) (find (λ r. r.1 == x) rows)) ≡ None) [
+      | true ↦ λ some. absurd (omega arith)
+      | false ↦ λ later. no_spot x rows (omega (arith, later))
+    ] none
 
 -- the number of steps is one
 pub same_steps : (t : Tree) (j k d : ℕ) → Reaches t j d → Reaches t k d → j ≡ k
@@ -107,6 +123,10 @@ one_fewer : (d : ℕ) (es : List (ℕ × Node)) → T (is_sorted nat_cmp es) →
     1 + length (others d es) ≡ length es
 one_fewer d es h here = ap (λ b. cond b 1 0 + length (others d es)) (sym here) ∙ length_without nat_cmp nat_cmp_total d es h
 
+where_dir : (b : Bool) (o : Option Spot) (s : Spot) → cond b o None ≡ Some s → (b ≡ true) × (o ≡ Some s)
+where_dir true o s e = (refl, e)
+where_dir false o s e = absurd (None≢Some s e)
+
 module _ (t : Tree) (f : Sound t) where
   -- what a row says
   pub row_says : (s : Spot) (x : ℕ) → InRow t s x → (is_dir t s.0 ≡ true) × (is_name s.1 ≡ true) × (is_living t x ≡ true) × (x ≢ 0)
@@ -119,6 +139,39 @@ module _ (t : Tree) (f : Sound t) where
       let g = found_from_tally spot_cmp spots_total exact_spots (λ y. y == d) t.rows f.rows_sorted (omega arith) in
       let e : InRow t g.0 d = g.2 ∙ ap Some (eqb-true g.1 d g.3) in
       (g.0, e, above_is t d g.0 n l e)
+
+  -- its spot is that of the row
+  pub spot_stands : (d : ℕ) (s : Spot) → is_dir t d ≡ true → d ≢ 0 → InRow t s d → spot_of t d ≡ Some s
+  spot_stands d s h n e = only_key spot_cmp spots_total exact_spots (λ y. y == d) s d t.rows (f.once d h n) e (eq-eqb d d refl)
+
+  -- the root has none
+  pub root_spot : dir_spot t 0 ≡ None
+  root_spot = ap (λ b. cond b (spot_of t 0) None) f.root ∙ no_spot 0 t.rows f.unnamed_root
+
+  -- a directory without one is the root
+  pub no_spot_root : (d : ℕ) → is_dir t d ≡ true → dir_spot t d ≡ None → d ≡ 0
+  no_spot_root d h none = elim (d == 0) as (λ b. (d == 0) ≡ b → d ≡ 0) [
+    | true ↦ λ e. eqb-true d 0 e
+    | false ↦ λ e. (let row = row_of d h (eqb-false d 0 e) in
+        absurd (None≢Some row.0 (sym none ∙ ap (λ b. cond b (spot_of t d) None) h ∙ spot_stands d row.0 h (eqb-false d 0 e) row.1)))
+  ] refl
+
+  -- and one that has one is no root, and stands in its directory
+  pub spot_says : (d : ℕ) (s : Spot) → dir_spot t d ≡ Some s → (is_dir t d ≡ true) × (d ≢ 0) × (above t d ≡ s.0)
+  spot_says d s e =
+      let living = where_dir (is_dir t d) (spot_of t d) s e in
+      let below = λ (z : d ≡ 0). None≢Some s (sym root_spot ∙ ap (dir_spot t) (sym z) ∙ e) in
+      (living.0, below, above_spot t d below ∙ ap (λ (o : Option Spot). unwrap_or (option_map (λ spot. spot.0) o) 0) living.1)
+
+  -- its parent is the directory of its spot
+  pub parent_by_spot : (d : ℕ) (o : Option Spot) → d ≢ 0 → o ≡ dir_spot t d → option_map (λ (s : Spot). s.0) o ≡ parent t d
+  parent_by_spot d o n e =
+      ap (option_map (λ (s : Spot). s.0)) e ∙ elim (is_dir t d) as (λ b. is_dir t d ≡ b →
+      option_map (λ (s : Spot). s.0) (cond b (spot_of t d) None) ≡ cond b (Some (above t d)) None) [
+        | true ↦ λ h. (let row = row_of d h n in
+            ap (option_map (λ (s : Spot). s.0)) (spot_stands d row.0 h n row.1) ∙ ap Some (sym row.2))
+        | false ↦ λ _. refl
+      ] refl
 
   -- above a directory stands one
   pub above_dir : (d : ℕ) → is_dir t d ≡ true → d ≢ 0 → is_dir t (above t d) ≡ true

@@ -10,6 +10,7 @@ use Rattle.slab.specs.Slab.{get as slot_get, slab_len, HasRoomFor}
 use Rattle.pua_tree.specs.Tree as tree
 use Rattle.pua_tree.specs.Tree.{spot_cmp}
 use Rattle.pua_tree.specs.declared.node.Kind.TheVariants.{Dir}
+use Rattle.pua_tree.specs.declared.spot.Spot.{Spot}
 use Rattle.pua_tree.specs.declared.slots.Slots.{Slots}
 use Rattle.pua_tree.specs.declared.slots.SlotNode.{SlotNode}
 use Rattle.pua_tree.specs.declared.slots.RowNode.{RowNode}
@@ -20,9 +21,13 @@ use Rattle.pua_tree.specs.contracts.node.NodeIdPartialEq.TheImpl.{ghosts as numb
 abbrev pub made_of : SlotNode → tree.Node
 made_of node = record { kind = node.kind; target = option_map (λ target. target.items) node.target }
 
+-- a spot as the key of a row
+abbrev pub key_at : tree.Spot → Spot
+key_at at = record { dir = at.0; name = at.1 }
+
 -- what stands in the row at a spot, and the node there
 abbrev pub row_in : Slots → tree.Spot → Option RowNode
-row_in s at = get spot_ghosts.eq s.rows (record { dir = at.0; name = at.1 })
+row_in s at = get spot_ghosts.eq s.rows (key_at at)
 
 abbrev pub row_at : Slots → tree.Spot → Option ℕ
 row_at s at = option_map (λ row. row.node) (row_in s at)
@@ -68,13 +73,12 @@ pub record IsFiled (s : Slots) : Type 0 where
   pub apart : (x y slot : ℕ) → slot_of s x ≡ Some slot → slot_of s y ≡ Some slot → x ≡ y
   pub no_other : slab_len s.nodes ≡ index_map_len s.numbers
 
--- each node knows how it stands in the rows
+-- each node knows how it stands in the rows, and a directory at which spot
 pub record StandsIn (rows : List (tree.Spot × ℕ)) (s : Slots) : Type 0 where
   pub rows_counted : (x : ℕ) (node : SlotNode) → node_in s x ≡ Some node → node.standing.rows ≡ rows_in rows x
   pub names_counted : (x : ℕ) (node : SlotNode) → node_in s x ≡ Some node → node.standing.names ≡ names_of rows x
-  pub dir_above : (at : tree.Spot) (x : ℕ) (node : SlotNode) → find_key spot_cmp at rows ≡ Some x → node_in s x ≡ Some node →
-      node.kind ≡ Dir → node.standing.above ≡ at.0
-  pub above_root : (node : SlotNode) → node_in s 0 ≡ Some node → node.standing.above ≡ 0
+  pub dir_spot : (at : tree.Spot) (x : ℕ) (node : SlotNode) → find_key spot_cmp at rows ≡ Some x → node_in s x ≡ Some node →
+      node.kind ≡ Dir → node.standing.spot ≡ key_at at
 
 -- each row says what its node is
 abbrev pub RowsSayKinds : Slots → Type 0
@@ -110,10 +114,10 @@ row_gained dir x standing = record standing { rows = standing.rows + one_at dir 
 abbrev pub row_lost : ℕ → ℕ → Stance → Stance
 row_lost dir x standing = record standing { rows = standing.rows - one_at dir x }
 
--- one name more of a node, in a directory, or one name fewer
-abbrev pub name_gained : ℕ → ℕ → ℕ → Stance → Stance
-name_gained dir node x standing =
-    record standing { names = standing.names + one_at node x; above = if node == x then dir else standing.above }
+-- one name more of a node, at a spot, or one name fewer
+abbrev pub name_gained : Spot → ℕ → ℕ → Stance → Stance
+name_gained spot node x standing =
+    record standing { names = standing.names + one_at node x; spot = if node == x then spot else standing.spot }
 
 abbrev pub name_lost : ℕ → ℕ → Stance → Stance
 name_lost node x standing = record standing { names = standing.names - one_at node x }

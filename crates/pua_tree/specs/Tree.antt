@@ -67,6 +67,10 @@ found_at t dir name = option_and_then (λ x. option_map (λ kind. (x, kind)) (ki
 abbrev pub spot_of : Tree → ℕ → Option Spot
 spot_of t x = option_map (λ row. row.0) (find (λ row. row.1 == x) t.rows)
 
+-- the spot of a directory; the root has none, and what is no living directory has none
+abbrev pub dir_spot : Tree → ℕ → Option Spot
+dir_spot t d = if is_dir t d then spot_of t d else None
+
 -- the directory above a directory; the root is above itself
 abbrev pub above : Tree → ℕ → ℕ
 above t zero = zero
@@ -84,6 +88,10 @@ climb_within (suc n) t (suc d) = suc d ∷ climb_within n t (above t (suc d))
 
 abbrev pub climb : Tree → ℕ → List ℕ
 climb t d = climb_within (length t.nodes) t d
+
+-- a living directory is this one, or stands beneath it
+abbrev pub is_within : Tree → ℕ → ℕ → Bool
+is_within t d outer = is_dir t d && list_any (λ e. e == outer) (climb t d)
 
 -- a living directory in which no row stands
 abbrev pub has_no_row : Tree → ℕ → Bool

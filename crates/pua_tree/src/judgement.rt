@@ -6,13 +6,14 @@ use crate::gathered::Standing;
 use crate::name::{LentName, Name};
 use crate::node::{Kind, NodeId};
 use crate::spot::Spot;
-use crate::tree::{MOST_NAMES, NUMBER_END};
+use crate::tree::{LentSpot, MOST_NAMES, NUMBER_END};
 
 /// What a judgement asks of a tree. The edits of `FileTree` are judged by these answers, so it is no
 /// part of `FileTree`.
 pub(crate) trait Judged {
-    ghost use Rattle.std.specs.Prelude.{◌≡◌, ◌<◌, ◌^◌, length};
-    ghost use Rattle.pua_tree.specs.Tree.{Tree, WellFormed, kind_at, look, found_at, parent};
+    ghost use Rattle.std.specs.Prelude.{◌≡◌, ◌<◌, ◌^◌, length, option_map};
+    ghost use Rattle.pua_tree.specs.LentRows.{lent_spot};
+    ghost use Rattle.pua_tree.specs.Tree.{Tree, WellFormed, kind_at, look, found_at, dir_spot};
     ghost use Rattle.pua_tree.specs.Tree.{is_empty};
 
     /// What the tree holds.
@@ -34,9 +35,9 @@ pub(crate) trait Judged {
     fn found(&self, spot: &Spot) -> Option<(NodeId, Kind)>
         ensures { result ≡ found_at (held self.now) spot.now.dir spot.now.name };
 
-    /// The directory above a living directory.
-    fn dir_above(&self, dir: NodeId) -> Option<NodeId>
-        ensures { result ≡ parent (held self.now) dir };
+    /// The spot of a living directory but the root.
+    fn dir_spot(&self, dir: NodeId) -> Option<LentSpot<'_>>
+        ensures { option_map lent_spot result ≡ dir_spot (held self.now) dir };
 
     /// Whether this is a living directory without rows.
     fn is_bare(&self, dir: NodeId) -> bool
@@ -58,10 +59,9 @@ pub(crate) trait Judged {
 
 ghost use Rattle.std.specs.Prelude.{◌≡◌, ◌≢◌, ◌<◌, Some, None, Ok, Err, IsTrue, IfOk, IfSome, OnOk};
 ghost use Rattle.std.specs.Prelude.{MatchResult, MatchOption, ◌==◌, false, IfErr, is_ok, option_map};
-ghost use Rattle.std.specs.List.{list_any};
 ghost use Rattle.pua_tree.specs.Limits.{number_end};
 ghost use Rattle.pua_tree.specs.Names.{is_name};
-ghost use Rattle.pua_tree.specs.Tree.{Node, is_dir, kind_at, look, found_at, climb};
+ghost use Rattle.pua_tree.specs.Tree.{Node, is_dir, kind_at, look, found_at, parent, is_within};
 ghost use Rattle.pua_tree.specs.Edits.{add, tie, cut, shift, is_full_dir, is_full_dir_there};
 ghost use Rattle.pua_tree.specs.Edits.{has_name_room, has_room};
 ghost use Rattle.pua_tree.specs.Reading.{follows, row_follows, node_follows, entry_at};
@@ -95,6 +95,20 @@ pub(crate) fn find_named<T: Judged>(
     };
     spot.name.overwrite(name);
     tree.found(&spot)
+}
+
+/// The directory above a directory, and the root above itself.
+pub(crate) fn parent<T: Judged>(tree: &T, dir: NodeId) -> Option<NodeId>
+    ensures { result ≡ parent (T.held tree.now) dir }
+{
+    tree.is_tree();
+    if dir == NodeId::ROOT {
+        return Some(dir);
+    }
+    match tree.dir_spot(dir) {
+        Some(spot) => Some(spot.dir),
+        None => None,
+    }
 }
 
 /// Whether a node may be added under this name, or else the first fault.
@@ -334,21 +348,23 @@ fn has_room<T: Judged>(tree: &T) -> bool
     has_name_room(tree) && tree.next_number() < NUMBER_END
 }
 
-/// Whether the directory is this node, or stands beneath it.
-fn is_within<T: Judged>(tree: &T, dir: NodeId, node: NodeId) -> bool
-    requires { IsTrue (is_dir (T.held tree.now) dir) }
-    ensures { result ≡ list_any (λ d. d == node) (climb (T.held tree.now) dir) }
+/// Whether this is a living directory, and the outer one or beneath it.
+pub(crate) fn is_within<T: Judged>(tree: &T, dir: NodeId, outer: NodeId) -> bool
+    ensures { result ≡ is_within (T.held tree.now) dir outer }
 {
     tree.is_tree();
+    if !is_dir(tree, dir) {
+        return false;
+    }
     let mut at = dir;
     for _ in 0..tree.node_count() {
-        if at == node {
+        if at == outer {
             return true;
         }
-        if at == NodeId::ROOT {
+        let Some(spot) = tree.dir_spot(at) else {
             return false;
-        }
-        at = tree.dir_above(at).unwrap_or(NodeId::ROOT);
+        };
+        at = spot.dir;
     }
-    at == node
+    at == outer
 }

@@ -32,4 +32,4 @@ pub use name::{LentName, Name};
 pub use node::{Kind, NodeId};
 pub use slab_tree::SlabTree;
 pub use spelling::{SpelledByte, are_plain, byte_spelling, unspelled};
-pub use tree::{FileTree, LentRow, MOST_NAMES, NUMBER_END};
+pub use tree::{FileTree, LentRow, LentSpot, MOST_NAMES, NUMBER_END};

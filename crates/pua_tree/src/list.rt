@@ -7,7 +7,7 @@ use crate::list_edits::{copied_target, push_made, put_row, reserve_one, take_row
 use crate::name::{LentName, Name};
 use crate::node::{Kind, NodeId};
 use crate::spot::Spot;
-use crate::tree::{FileTree, LentRow};
+use crate::tree::{FileTree, LentRow, LentSpot};
 use std::alloc::{AllocError, Global};
 use std::cmp::Ordering;
 use std::collections::BTreeSet;
@@ -50,12 +50,12 @@ impl Model for ListTree {
 }
 
 ghost use Rattle.std.specs.Prelude.{ℕ, ◌≡◌, ◌<◌, ◌≤◌, Some, None, IsTrue, IfOk, IfErr, ◌==◌};
-ghost use Rattle.std.specs.Prelude.{unwrap_or, find, length, map, option_map};
+ghost use Rattle.std.specs.Prelude.{find, length, map, option_map};
 ghost use Rattle.std.specs.List.{HoldsAt, insert, list_any};
 ghost use Rattle.std.specs.Ordering.{nat_cmp};
 ghost use Rattle.std.specs.FinMap.{is_sorted, find as find_key, put};
 ghost use Rattle.pua_tree.specs.Tree.{spot_cmp, is_dir, distinct_names};
-ghost use Rattle.pua_tree.specs.LentRows.{lent_entry};
+ghost use Rattle.pua_tree.specs.LentRows.{lent_entry, lent_spot};
 ghost use Rattle.pua_tree.specs.ListTree.{row_entry, node_entry, made_of_list_node, held_tree};
 
 impl FileTree for ListTree {
@@ -83,7 +83,15 @@ impl FileTree for ListTree {
     }
 
     fn parent(&self, dir: NodeId) -> Option<NodeId> {
-        self.dir_above(dir)
+        judgement::parent(self, dir)
+    }
+
+    fn spot_of(&self, dir: NodeId) -> Option<LentSpot<'_>> {
+        self.dir_spot(dir)
+    }
+
+    fn is_within(&self, dir: NodeId, outer: NodeId) -> bool {
+        judgement::is_within(self, dir, outer)
     }
 
     fn target(&self, id: NodeId) -> Option<&[u8]> {
@@ -98,6 +106,10 @@ impl FileTree for ListTree {
 
     fn is_empty(&self, dir: NodeId) -> bool {
         self.is_bare(dir)
+    }
+
+    fn row_count(&self) -> usize {
+        self.rows.len()
     }
 
     #[tactic(auto, using(crate::proofs::Rows::entry_names))]
@@ -237,9 +249,9 @@ impl Judged for ListTree {
     }
 
     /// Goes over the rows once, since they are not in the order of their nodes.
-    fn dir_above(&self, dir: NodeId) -> Option<NodeId> {
+    fn dir_spot(&self, dir: NodeId) -> Option<LentSpot<'_>> {
         if self.is_dir(dir) {
-            Some(dir_above(&self.rows, dir))
+            spot_of(&self.rows, dir)
         } else {
             None
         }
@@ -328,14 +340,18 @@ fn has_row(rows: &[ListRow], dir: NodeId) -> bool
     rows.binary_search_by_key(&dir, |row| row.dir).is_ok()
 }
 
-/// The directory in which this node stands, and the root where it stands in none.
-fn dir_above(rows: &[ListRow], node: NodeId) -> NodeId
-    ensures { result ≡ unwrap_or
-        (option_map (λ row. row.dir) (find (λ row. row.node == node) rows.now)) 0 }
+/// The spot of the first row in which this node stands.
+fn spot_of(rows: &[ListRow], node: NodeId) -> Option<LentSpot<'_>>
+    ensures { option_map lent_spot result
+        ≡ option_map (λ row. (row_entry row).0) (find (λ row. row.node == node) rows.now) }
 {
-    rows.iter()
-        .find(|row| row.node == node)
-        .map_or(NodeId::ROOT, |row| row.dir)
+    match rows.iter().find(|row| row.node == node) {
+        Some(row) => Some(LentSpot {
+            dir: row.dir,
+            name: &row.name,
+        }),
+        None => None,
+    }
 }
 
 /// The names in the rows: each once, in the order of their bytes.

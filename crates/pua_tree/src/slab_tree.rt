@@ -8,7 +8,7 @@ use crate::name::{LentName, Name};
 use crate::node::{Kind, NodeId};
 use crate::slots::Slots;
 use crate::spot::Spot;
-use crate::tree::{FileTree, LentRow};
+use crate::tree::{FileTree, LentRow, LentSpot};
 use std::alloc::Global;
 use std::marker::Model;
 
@@ -58,7 +58,15 @@ impl FileTree for SlabTree {
     }
 
     fn parent(&self, dir: NodeId) -> Option<NodeId> {
-        self.dir_above(dir)
+        judgement::parent(self, dir)
+    }
+
+    fn spot_of(&self, dir: NodeId) -> Option<LentSpot<'_>> {
+        self.dir_spot(dir)
+    }
+
+    fn is_within(&self, dir: NodeId, outer: NodeId) -> bool {
+        judgement::is_within(self, dir, outer)
     }
 
     fn target(&self, id: NodeId) -> Option<&[u8]> {
@@ -67,6 +75,10 @@ impl FileTree for SlabTree {
 
     fn is_empty(&self, dir: NodeId) -> bool {
         self.is_bare(dir)
+    }
+
+    fn row_count(&self) -> usize {
+        self.slots.row_count()
     }
 
     fn names(&self, alloc: Global) -> Result<Vec<Name>, TreeFault> {
@@ -182,9 +194,13 @@ impl Judged for SlabTree {
         }
     }
 
-    fn dir_above(&self, dir: NodeId) -> Option<NodeId> {
+    fn dir_spot(&self, dir: NodeId) -> Option<LentSpot<'_>> {
+        self.is_tree();
+        if dir == NodeId::ROOT {
+            return None;
+        }
         match self.slots.directory(dir) {
-            Some(standing) => Some(standing.above),
+            Some(standing) => Some(standing.spot.lent()),
             None => None,
         }
     }

@@ -18,11 +18,11 @@ pub(crate) struct SlotNode {
     pub(crate) standing: Stance,
 }
 
-/// How a node stands in the tree: in which directory it came to stand last, how many rows a
-/// directory has, and how many names the node has.
+/// How a node stands in the tree: the spot to which it came last, which is that of a directory but
+/// the root, how many rows a directory has, and how many names the node has.
 #[derive(Clone, Copy)]
 pub(crate) struct Stance {
-    pub(crate) above: NodeId,
+    pub(crate) spot: Spot,
     pub(crate) rows: usize,
     pub(crate) names: usize,
 }
@@ -113,12 +113,12 @@ impl Slots {
     }
 
     /// How the directory of this number stands, and None for what is no living directory.
-    pub(crate) fn directory(&self, id: NodeId) -> Option<Stance>
-        ensures { result ≡ option_and_then standing_of_dir (node_in self.now id) }
+    pub(crate) fn directory(&self, id: NodeId) -> Option<&Stance>
+        ensures { option_copied result ≡ option_and_then standing_of_dir (node_in self.now id) }
     {
         match self.node(id) {
             Some(node) => match node.kind {
-                Kind::Dir => Some(node.standing),
+                Kind::Dir => Some(&node.standing),
                 _ => None,
             },
             None => None,
@@ -154,19 +154,19 @@ impl Slots {
         }
     }
 
-    /// Counts a further name of the node in this slot, which is in this directory, and answers what
-    /// the node is.
-    fn gain_name(&mut self, slot: Option<usize>, dir: NodeId) -> Option<Kind>
+    /// Counts a further name of the node in this slot, which is at this spot, and answers what the
+    /// node is.
+    fn gain_name(&mut self, slot: Option<usize>, spot: &Spot) -> Option<Kind>
         ensures rows { self.new.rows ≡ self.old.rows }
         ensures restands { (node : ℕ) → slot ≡ slot_of self.old node → IsFiled self.old →
             IfSome (node_in self.old node) (λ node. node.standing.names < 2 ^ 63) →
-            Restands self.old self.new (name_gained dir node) }
+            Restands self.old self.new (name_gained spot.now node) }
         ensures kind { (node : ℕ) → slot ≡ slot_of self.old node →
             result ≡ option_map (λ node. node.kind) (node_in self.old node) }
     {
         let node = self.nodes.get_mut(slot?)?;
         node.standing.names = node.standing.names.wrapping_add(1);
-        node.standing.above = dir;
+        node.standing.spot = *spot;
         Some(node.kind)
     }
 
@@ -274,7 +274,7 @@ impl Slots {
         prove!(count < usize::MAX);
         self.gain_row(above);
         // A row of a node that is none may say anything.
-        let kind = self.gain_name(slot, spot.dir).unwrap_or(Kind::File);
+        let kind = self.gain_name(slot, spot).unwrap_or(Kind::File);
         let row = RowNode { node, kind };
         let _ = self.rows.insert(*spot, row);
     }
@@ -349,8 +349,12 @@ impl Slots {
         ensures slot { HasNodeRoom self.old → AreConsistent self.old → IsNew self.old id →
             result ≡ slot_of self.new id }
     {
+        let nowhere = Spot {
+            dir: NodeId::ROOT,
+            name: Name::any(),
+        };
         let standing = Stance {
-            above: NodeId::ROOT,
+            spot: nowhere,
             rows: 0,
             names: 0,
         };

@@ -20,14 +20,22 @@ pub struct LentRow<'t> {
     pub node: NodeId,
 }
 
+/// Where a directory stands, as a tree lends it: the directory above it, and its name there.
+#[derive(Clone, Copy, PartialEq, Eq)]
+pub struct LentSpot<'t> {
+    pub dir: NodeId,
+    pub name: &'t Name,
+}
+
 /// A tree of files: rows that give a node a name in a directory, the living nodes with their kinds
 /// and targets, and a number above each of them.
 pub trait FileTree {
     ghost use Rattle.std.specs.Prelude.{◌≡◌, Ok, Err, IsTrue, IfOk, IfErr, OnErr, MatchResult};
-    ghost use Rattle.std.specs.Prelude.{option_copied, map};
-    ghost use Rattle.pua_tree.specs.LentRows.{lent_entry};
+    ghost use Rattle.std.specs.Prelude.{option_copied, option_map, map, length, ◌<◌, ◌^◌};
+    ghost use Rattle.pua_tree.specs.LentRows.{lent_entry, lent_spot};
     ghost use Rattle.pua_tree.specs.Tree.{Tree, WellFormed, kind_at, look, found_at, parent};
-    ghost use Rattle.pua_tree.specs.Tree.{target_at, target_fits, is_empty, names};
+    ghost use Rattle.pua_tree.specs.Tree.{dir_spot, is_within, target_at, target_fits, is_empty};
+    ghost use Rattle.pua_tree.specs.Tree.{names};
     ghost use Rattle.pua_tree.specs.Edits.{Refuses, add, tie, cut, shift};
 
     /// What the tree holds.
@@ -59,6 +67,15 @@ pub trait FileTree {
     fn parent(&self, dir: NodeId) -> Option<NodeId>
         ensures { result ≡ parent (content self.now) dir };
 
+    /// The directory in which a directory stands, and its name there: None for the root, and for
+    /// what is no living directory.
+    fn spot_of(&self, dir: NodeId) -> Option<LentSpot<'_>>
+        ensures { option_map lent_spot result ≡ dir_spot (content self.now) dir };
+
+    /// Whether this is a living directory, and the outer one or beneath it.
+    fn is_within(&self, dir: NodeId, outer: NodeId) -> bool
+        ensures { result ≡ is_within (content self.now) dir outer };
+
     /// The target of a living link, and None for any other number.
     fn target(&self, id: NodeId) -> Option<&[u8]>
         ensures { option_copied result ≡ target_at (content self.now) id };
@@ -66,6 +83,11 @@ pub trait FileTree {
     /// Whether this is a living directory without rows.
     fn is_empty(&self, dir: NodeId) -> bool
         ensures { result ≡ is_empty (content self.now) dir };
+
+    /// How many rows there are.
+    fn row_count(&self) -> usize
+        ensures count { result ≡ length (content self.now).rows }
+        ensures small { result < 2 ^ 63 };
 
     /// All names in rows: each once, in the order of their bytes. The only fault is
     /// `TreeFault::OutOfMemory`.

@@ -4,7 +4,7 @@ use Rattle.std.specs.Prelude.{codes, decimal, unwrap_or}
 use Rattle.pua_tree.specs.Limits.{most_name}
 use Rattle.pua_tree.specs.Names.{same_bytes}
 use Rattle.pua_tree.specs.Spelling.{spelling}
-use Rattle.pua_tree.specs.Tree.{Tree, Spot, spot_of, look, target_at}
+use Rattle.pua_tree.specs.Tree.{Tree, Spot, dir_spot, look, target_at}
 use Rattle.pua_path.specs.Limits.{most_links, most_path}
 use Rattle.pua_path.specs.declared.found.Found.{Found}
 use Rattle.pua_path.specs.declared.found.Found.TheVariants.{Whole, Slot}
@@ -59,11 +59,10 @@ abbrev pub names_to_spot : Option Spot → (ℕ → List (List ℕ)) → List (L
 names_to_spot None names = []
 names_to_spot (Some spot) names = names spot.0 ++ spot.1 ∷ []
 
--- the names that lead from the root to a directory, at most so many
+-- the names that lead from the root, which has no spot, to a directory; at most so many
 abbrev pub names_to : ℕ → Tree → ℕ → List (List ℕ)
 names_to zero t dir = []
-names_to (suc n) t zero = []
-names_to (suc n) t (suc d) = names_to_spot (spot_of t (suc d)) (names_to n t)
+names_to (suc n) t dir = names_to_spot (dir_spot t dir) (names_to n t)
 
 -- a slash and a name, for each
 abbrev pub slashed_names : List (List ℕ) → List ℕ

@@ -1,8 +1,8 @@
 -- What the paths of a tree keep.
 use Rattle.std.specs.Prelude.{ℕ, List}
-use Rattle.pua_tree.specs.Tree.{Spot}
+use Rattle.pua_tree.specs.Tree.{Tree}
 
--- the rows of the tree, and the names that lead to the directory that was looked for last
+-- the tree, and the names that lead to what was looked for last
 pub record PathsState : Type 0 where
-  pub rows : List (Spot × ℕ)
+  pub tree : Tree
   pub names : List (List ℕ)

@@ -1,9 +1,8 @@
 //! The checks of requests with two paths, in their order.
 
-ghost use Rattle.std.specs.Prelude.{◌≡◌, ◌==◌, ℕ, IfOk, IsTrue, option_map};
-ghost use Rattle.std.specs.List.{list_any};
+ghost use Rattle.std.specs.Prelude.{◌≡◌, ℕ, IfOk, IsTrue, option_map};
 ghost use Rattle.pua_tree.specs.Edits.{is_inside, is_same_node};
-ghost use Rattle.pua_tree.specs.Tree.{climb, is_dir};
+ghost use Rattle.pua_tree.specs.Tree.{is_dir};
 ghost use Rattle.pua_path.specs.Fits.{FoundFits, StandsAsNamed, node_named, spot_named};
 ghost use Rattle.pua_path.specs.declared.found.Found as founds;
 ghost use Rattle.pua_path.specs.declared.text.Ending.TheVariants as endings;
@@ -245,28 +244,7 @@ fn is_inside<T: FileTree>(tree: &T, node: NodeId, dir: NodeId) -> bool
     ensures { IsTrue (is_dir (T.content tree.now) dir) →
         result ≡ is_inside (T.content tree.now) node dir }
 {
-    tree.kind(node) == Some(Kind::Dir) && is_within(tree, dir, node)
-}
-
-/// Whether a directory is this node, or stands beneath it.
-fn is_within<T: FileTree>(tree: &T, dir: NodeId, node: NodeId) -> bool
-    ensures { IsTrue (is_dir (T.content tree.now) dir) →
-        result ≡ list_any (λ d. d == node) (climb (T.content tree.now) dir) }
-{
-    tree.known();
-    let mut at = dir;
-    loop {
-        if at == node {
-            return true;
-        }
-        if at == NodeId::ROOT {
-            return false;
-        }
-        let Some(above) = tree.parent(at) else {
-            return false;
-        };
-        at = above;
-    }
+    tree.kind(node) == Some(Kind::Dir) && tree.is_within(dir, node)
 }
 
 /// A directory is not put in the place of anything else, nothing else in the place of a directory,

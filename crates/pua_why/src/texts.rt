@@ -2,7 +2,6 @@
 
 ghost use Rattle.std.specs.Prelude.{◌≡◌, ◌≤◌, ◌++◌, ◌∷◌, [], codes, if◌then◌else◌, IfOk, OnOk, map};
 ghost use Rattle.std.specs.Prelude.{length, string_bytes};
-ghost use Rattle.pua_tree.specs.Tree.{Tree};
 ghost use Rattle.pua_calls.specs.Promises.{lacking};
 ghost use Rattle.pua_path.specs.declared.traced.PathFault.TheVariants as faults;
 ghost use Rattle.pua_script.specs.Decide.{New};
@@ -27,15 +26,15 @@ use std::fmt::Write;
 
 /// Adds the words of a reason to a text: what is granted has none. Paths are those of the tree as it
 /// stands where the reason holds. The only error is that a growth was refused.
-pub fn push_reason(
+pub fn push_reason<T: FileTree>(
     alloc: Global,
     text: &mut String,
-    paths: &mut TreePaths<'_>,
+    paths: &mut TreePaths<'_, T>,
     reason: &Reason<'_>,
 ) -> Result<(), AllocError>
-    ensures text { OnOk result ((t : Tree) → paths.old.rows ≡ t.rows →
-        string_bytes text.new ≡ string_bytes text.old ++ reason_text t (reason_seen reason.now)) }
-    ensures rows { paths.new.rows ≡ paths.old.rows }
+    ensures text { OnOk result (string_bytes text.new
+        ≡ string_bytes text.old ++ reason_text paths.old.tree (reason_seen reason.now)) }
+    ensures tree { paths.new.tree ≡ paths.old.tree }
 {
     match reason {
         Reason::NeverMade => text.push_str("never made"),
@@ -46,15 +45,15 @@ pub fn push_reason(
 }
 
 /// Adds the words of a fault to a text.
-fn push_fault(
+fn push_fault<T: FileTree>(
     alloc: Global,
     text: &mut String,
-    paths: &mut TreePaths<'_>,
+    paths: &mut TreePaths<'_, T>,
     fault: &Fault<'_>,
 ) -> Result<(), AllocError>
-    ensures text { OnOk result ((t : Tree) → paths.old.rows ≡ t.rows →
-        string_bytes text.new ≡ string_bytes text.old ++ fault_text t (fault_seen fault.now)) }
-    ensures rows { paths.new.rows ≡ paths.old.rows }
+    ensures text { OnOk result (string_bytes text.new
+        ≡ string_bytes text.old ++ fault_text paths.old.tree (fault_seen fault.now)) }
+    ensures tree { paths.new.tree ≡ paths.old.tree }
 {
     match *fault {
         Fault::Ends => text.push_str("ended"),
@@ -203,17 +202,17 @@ fn shown(text: &str) -> &str
 }
 
 /// Adds which letters a veil lacks.
-fn push_letters(
+fn push_letters<T: FileTree>(
     text: &mut String,
-    paths: &mut TreePaths<'_>,
+    paths: &mut TreePaths<'_, T>,
     place: &Place,
     given: Perms,
     lacks: Perms,
 ) -> Result<(), AllocError>
-    ensures text { OnOk result ((t : Tree) → paths.old.rows ≡ t.rows →
-        string_bytes text.new ≡ string_bytes text.old ++ (codes "no " ++ letters_text lacks
-        ++ codes " in " ++ veil_text t place.now given)) }
-    ensures rows { paths.new.rows ≡ paths.old.rows }
+    ensures text { OnOk result (string_bytes text.new
+        ≡ string_bytes text.old ++ (codes "no " ++ letters_text lacks ++ codes " in "
+        ++ veil_text paths.old.tree place.now given)) }
+    ensures tree { paths.new.tree ≡ paths.old.tree }
 {
     text.push_str("no ")?;
     text.push_str(letters(lacks))?;
@@ -222,15 +221,15 @@ fn push_letters(
 }
 
 /// Adds a veil: its letters, and where it is kept.
-pub(crate) fn push_veil(
+pub(crate) fn push_veil<T: FileTree>(
     text: &mut String,
-    paths: &mut TreePaths<'_>,
+    paths: &mut TreePaths<'_, T>,
     place: &Place,
     given: Perms,
 ) -> Result<(), AllocError>
-    ensures text { OnOk result ((t : Tree) → paths.old.rows ≡ t.rows →
-        string_bytes text.new ≡ string_bytes text.old ++ veil_text t place.now given) }
-    ensures rows { paths.new.rows ≡ paths.old.rows }
+    ensures text { OnOk result (string_bytes text.new
+        ≡ string_bytes text.old ++ veil_text paths.old.tree place.now given) }
+    ensures tree { paths.new.tree ≡ paths.old.tree }
 {
     text.push_str("veil ")?;
     text.push_str(letters(given))?;
@@ -239,14 +238,14 @@ pub(crate) fn push_veil(
 }
 
 /// Adds where a place is. The only error is that a growth was refused.
-pub fn push_place(
+pub fn push_place<T: FileTree>(
     text: &mut String,
-    paths: &mut TreePaths<'_>,
+    paths: &mut TreePaths<'_, T>,
     place: &Place,
 ) -> Result<(), AllocError>
-    ensures text { OnOk result ((t : Tree) → paths.old.rows ≡ t.rows →
-        string_bytes text.new ≡ string_bytes text.old ++ place_text t place.now) }
-    ensures rows { paths.new.rows ≡ paths.old.rows }
+    ensures text { OnOk result (string_bytes text.new
+        ≡ string_bytes text.old ++ place_text paths.old.tree place.now) }
+    ensures tree { paths.new.tree ≡ paths.old.tree }
 {
     match place {
         Place::Dir(dir) => paths.push_dir(text, *dir),
@@ -255,14 +254,14 @@ pub fn push_place(
 }
 
 /// Adds where something was found.
-pub(crate) fn push_found(
+pub(crate) fn push_found<T: FileTree>(
     text: &mut String,
-    paths: &mut TreePaths<'_>,
+    paths: &mut TreePaths<'_, T>,
     found: &Found,
 ) -> Result<(), AllocError>
-    ensures text { OnOk result ((t : Tree) → paths.old.rows ≡ t.rows →
-        string_bytes text.new ≡ string_bytes text.old ++ found_text t found.now) }
-    ensures rows { paths.new.rows ≡ paths.old.rows }
+    ensures text { OnOk result (string_bytes text.new
+        ≡ string_bytes text.old ++ found_text paths.old.tree found.now) }
+    ensures tree { paths.new.tree ≡ paths.old.tree }
 {
     match found {
         Found::Whole { dir, .. } => paths.push_dir(text, *dir),
@@ -295,16 +294,15 @@ fn push_target(text: &mut String, fault: TextFault) -> Result<(), AllocError>
 }
 
 /// Adds why a path names nothing.
-fn push_bad_path(
+fn push_bad_path<T: FileTree>(
     text: &mut String,
-    paths: &mut TreePaths<'_>,
+    paths: &mut TreePaths<'_, T>,
     side: Side,
     fault: &PathFault,
 ) -> Result<(), AllocError>
-    ensures text { OnOk result ((t : Tree) → paths.old.rows ≡ t.rows →
-        string_bytes text.new ≡ string_bytes text.old
-        ++ (side_text (side_seen side) ++ path_fault_text t fault.now)) }
-    ensures rows { paths.new.rows ≡ paths.old.rows }
+    ensures text { OnOk result (string_bytes text.new ≡ string_bytes text.old
+        ++ (side_text (side_seen side) ++ path_fault_text paths.old.tree fault.now)) }
+    ensures tree { paths.new.tree ≡ paths.old.tree }
 {
     text.push_str(side_word(side))?;
     match fault {
@@ -324,11 +322,14 @@ fn push_text_fault(text: &mut String, fault: TextFault) -> Result<(), AllocError
 }
 
 /// Adds where a path leads no further.
-fn push_stop(text: &mut String, paths: &mut TreePaths<'_>, stop: &Stop) -> Result<(), AllocError>
-    ensures text { OnOk result ((t : Tree) → paths.old.rows ≡ t.rows →
-        string_bytes text.new
-        ≡ string_bytes text.old ++ path_fault_text t (faults.Stops stop.now)) }
-    ensures rows { paths.new.rows ≡ paths.old.rows }
+fn push_stop<T: FileTree>(
+    text: &mut String,
+    paths: &mut TreePaths<'_, T>,
+    stop: &Stop,
+) -> Result<(), AllocError>
+    ensures text { OnOk result (string_bytes text.new
+        ≡ string_bytes text.old ++ path_fault_text paths.old.tree (faults.Stops stop.now)) }
+    ensures tree { paths.new.tree ≡ paths.old.tree }
 {
     match stop {
         Stop::NoEntry(spot) => push_at(text, paths, spot, " is missing"),
@@ -338,31 +339,31 @@ fn push_stop(text: &mut String, paths: &mut TreePaths<'_>, stop: &Stop) -> Resul
 }
 
 /// Adds what is so of a name in a directory.
-fn push_at(
+fn push_at<T: FileTree>(
     text: &mut String,
-    paths: &mut TreePaths<'_>,
+    paths: &mut TreePaths<'_, T>,
     spot: &Spot,
     words: &str,
 ) -> Result<(), AllocError>
-    ensures text { OnOk result ((t : Tree) → paths.old.rows ≡ t.rows →
-        string_bytes text.new ≡ string_bytes text.old ++ (spot_text t spot.now ++ words.now)) }
-    ensures rows { paths.new.rows ≡ paths.old.rows }
+    ensures text { OnOk result (string_bytes text.new
+        ≡ string_bytes text.old ++ (spot_text paths.old.tree spot.now ++ words.now)) }
+    ensures tree { paths.new.tree ≡ paths.old.tree }
 {
     paths.push_spot(text, spot.0, &spot.1)?;
     text.push_str(words)
 }
 
 /// Adds that no veil covers what a path named.
-fn push_uncovered(
+fn push_uncovered<T: FileTree>(
     text: &mut String,
-    paths: &mut TreePaths<'_>,
+    paths: &mut TreePaths<'_, T>,
     side: Side,
     found: &Found,
 ) -> Result<(), AllocError>
-    ensures text { OnOk result ((t : Tree) → paths.old.rows ≡ t.rows →
-        string_bytes text.new ≡ string_bytes text.old ++ (side_text (side_seen side)
-        ++ codes "no veil on " ++ found_text t found.now ++ codes " or above")) }
-    ensures rows { paths.new.rows ≡ paths.old.rows }
+    ensures text { OnOk result (string_bytes text.new
+        ≡ string_bytes text.old ++ (side_text (side_seen side)
+        ++ codes "no veil on " ++ found_text paths.old.tree found.now ++ codes " or above")) }
+    ensures tree { paths.new.tree ≡ paths.old.tree }
 {
     text.push_str(side_word(side))?;
     text.push_str("no veil on ")?;
@@ -371,33 +372,31 @@ fn push_uncovered(
 }
 
 /// Adds what is wrong with what a path named.
-fn push_unfit(
+fn push_unfit<T: FileTree>(
     text: &mut String,
-    paths: &mut TreePaths<'_>,
+    paths: &mut TreePaths<'_, T>,
     side: Side,
     found: &Found,
     misfit: Misfit,
 ) -> Result<(), AllocError>
-    ensures text { OnOk result ((t : Tree) → paths.old.rows ≡ t.rows →
-        string_bytes text.new ≡ string_bytes text.old
-        ++ (side_text (side_seen side) ++ misfit_text (found_text t found.now) misfit)) }
-    ensures rows { paths.new.rows ≡ paths.old.rows }
+    ensures text { OnOk result (string_bytes text.new ≡ string_bytes text.old
+        ++ (side_text (side_seen side) ++ misfit_text (found_text paths.old.tree found.now) misfit)) }
+    ensures tree { paths.new.tree ≡ paths.old.tree }
 {
     text.push_str(side_word(side))?;
     push_misfit(text, paths, found, misfit)
 }
 
 /// Adds what is wrong with what was found.
-fn push_misfit(
+fn push_misfit<T: FileTree>(
     text: &mut String,
-    paths: &mut TreePaths<'_>,
+    paths: &mut TreePaths<'_, T>,
     found: &Found,
     misfit: Misfit,
 ) -> Result<(), AllocError>
-    ensures text { OnOk result ((t : Tree) → paths.old.rows ≡ t.rows →
-        string_bytes text.new
-        ≡ string_bytes text.old ++ misfit_text (found_text t found.now) misfit) }
-    ensures rows { paths.new.rows ≡ paths.old.rows }
+    ensures text { OnOk result (string_bytes text.new
+        ≡ string_bytes text.old ++ misfit_text (found_text paths.old.tree found.now) misfit) }
+    ensures tree { paths.new.tree ≡ paths.old.tree }
 {
     match misfit {
         Misfit::Missing => push_so(text, paths, found, " is missing"),
@@ -415,32 +414,31 @@ fn push_misfit(
 }
 
 /// Adds where something was found, and what is so of it.
-fn push_so(
+fn push_so<T: FileTree>(
     text: &mut String,
-    paths: &mut TreePaths<'_>,
+    paths: &mut TreePaths<'_, T>,
     found: &Found,
     words: &str,
 ) -> Result<(), AllocError>
-    ensures text { OnOk result ((t : Tree) → paths.old.rows ≡ t.rows →
-        string_bytes text.new
-        ≡ string_bytes text.old ++ (found_text t found.now ++ words.now)) }
-    ensures rows { paths.new.rows ≡ paths.old.rows }
+    ensures text { OnOk result (string_bytes text.new
+        ≡ string_bytes text.old ++ (found_text paths.old.tree found.now ++ words.now)) }
+    ensures tree { paths.new.tree ≡ paths.old.tree }
 {
     push_found(text, paths, found)?;
     text.push_str(words)
 }
 
 /// Adds that the new name is inside of what the old path named.
-fn push_inside(
+fn push_inside<T: FileTree>(
     text: &mut String,
-    paths: &mut TreePaths<'_>,
+    paths: &mut TreePaths<'_, T>,
     old: &Found,
     new: &Found,
 ) -> Result<(), AllocError>
-    ensures text { OnOk result ((t : Tree) → paths.old.rows ≡ t.rows →
-        string_bytes text.new ≡ string_bytes text.old ++ (side_text New
-        ++ found_text t new.now ++ codes " is inside " ++ found_text t old.now)) }
-    ensures rows { paths.new.rows ≡ paths.old.rows }
+    ensures text { OnOk result (string_bytes text.new ≡ string_bytes text.old ++ (side_text New
+        ++ found_text paths.old.tree new.now ++ codes " is inside "
+        ++ found_text paths.old.tree old.now)) }
+    ensures tree { paths.new.tree ≡ paths.old.tree }
 {
     text.push_str("new: ")?;
     push_found(text, paths, new)?;
@@ -483,15 +481,15 @@ fn push_asks(
 pub fn push_fact<T: FileTree>(
     alloc: Global,
     text: &mut String,
-    paths: &mut TreePaths<'_>,
+    paths: &mut TreePaths<'_, T>,
     tree: &T,
     fact: &Fact,
     line: Option<usize>,
 ) -> Result<(), AllocError>
-    ensures text { OnOk result (paths.old.rows ≡ (T.content tree.now).rows →
+    ensures text { OnOk result (paths.old.tree ≡ T.content tree.now →
         string_bytes text.new ≡ string_bytes text.old
         ++ fact_dated (T.content tree.now) line (fact_seen fact.now)) }
-    ensures rows { paths.new.rows ≡ paths.old.rows }
+    ensures tree { paths.new.tree ≡ paths.old.tree }
 {
     match fact {
         Fact::Needs(set) => push_needs(alloc, text, *set),
@@ -523,16 +521,16 @@ fn push_needs(alloc: Global, text: &mut String, set: Promises) -> Result<(), All
 /// Adds a link, and where it leads.
 fn push_link<T: FileTree>(
     text: &mut String,
-    paths: &mut TreePaths<'_>,
+    paths: &mut TreePaths<'_, T>,
     tree: &T,
     side: Side,
     spot: &Spot,
 ) -> Result<(), AllocError>
-    ensures text { OnOk result (paths.old.rows ≡ (T.content tree.now).rows →
+    ensures text { OnOk result (paths.old.tree ≡ T.content tree.now →
         string_bytes text.new ≡ string_bytes text.old ++ (side_text (side_seen side)
         ++ codes "link " ++ spot_text (T.content tree.now) spot.now ++ codes " to "
         ++ target_text (T.content tree.now) spot.now)) }
-    ensures rows { paths.new.rows ≡ paths.old.rows }
+    ensures tree { paths.new.tree ≡ paths.old.tree }
 {
     text.push_str(side_word(side))?;
     text.push_str("link ")?;
@@ -556,16 +554,16 @@ fn push_led<T: FileTree>(text: &mut String, tree: &T, spot: &Spot) -> Result<(),
 /// Adds what a path names.
 fn push_named<T: FileTree>(
     text: &mut String,
-    paths: &mut TreePaths<'_>,
+    paths: &mut TreePaths<'_, T>,
     tree: &T,
     side: Side,
     found: &Found,
 ) -> Result<(), AllocError>
-    ensures text { OnOk result (paths.old.rows ≡ (T.content tree.now).rows →
+    ensures text { OnOk result (paths.old.tree ≡ T.content tree.now →
         string_bytes text.new ≡ string_bytes text.old ++ (side_text (side_seen side)
         ++ codes "names " ++ kind_text (object_of (T.content tree.now) found.now)
         ++ 32 ∷ found_text (T.content tree.now) found.now)) }
-    ensures rows { paths.new.rows ≡ paths.old.rows }
+    ensures tree { paths.new.tree ≡ paths.old.tree }
 {
     text.push_str(side_word(side))?;
     text.push_str("names ")?;
@@ -591,17 +589,16 @@ fn kind_word<T: FileTree>(tree: &T, found: &Found) -> &'static str
 }
 
 /// Adds what covers an object.
-fn push_covering(
+fn push_covering<T: FileTree>(
     text: &mut String,
-    paths: &mut TreePaths<'_>,
+    paths: &mut TreePaths<'_, T>,
     side: Side,
     over: &Covering,
     line: Option<usize>,
 ) -> Result<(), AllocError>
-    ensures text { OnOk result ((t : Tree) → paths.old.rows ≡ t.rows →
-        string_bytes text.new ≡ string_bytes text.old
-        ++ (side_text (side_seen side) ++ covering_dated t line over.now)) }
-    ensures rows { paths.new.rows ≡ paths.old.rows }
+    ensures text { OnOk result (string_bytes text.new ≡ string_bytes text.old
+        ++ (side_text (side_seen side) ++ covering_dated paths.old.tree line over.now)) }
+    ensures tree { paths.new.tree ≡ paths.old.tree }
 {
     text.push_str(side_word(side))?;
     match over {

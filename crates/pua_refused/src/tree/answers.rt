@@ -109,6 +109,39 @@ fn parent_of_a_file(alloc: Global) {
     }
 }
 
+/// A directory stands at the spot of its own row, and not at that of another one.
+fn spot_of_the_directory_above(alloc: Global) {
+    let Ok(tree) = read_listing(alloc, b"tree 1\n0 dir\n1 dir 0 a\n2 dir 1 b\n") else {
+        return;
+    };
+    let Some(spot) = tree.spot_of(NodeId::new(2)) else {
+        unreachable!()
+    };
+    if spot.dir != NodeId::new(1) || spot.name.bytes() != b"b".as_slice() {
+        unreachable!()
+    }
+}
+
+/// A directory is beneath those above its parent too.
+fn beneath_its_parent_alone(alloc: Global) {
+    let Ok(tree) = read_listing(alloc, b"tree 1\n0 dir\n1 dir 0 a\n2 dir 1 b\n") else {
+        return;
+    };
+    if !tree.is_within(NodeId::new(2), NodeId::ROOT) {
+        unreachable!()
+    }
+}
+
+/// A name is a row, and the root has none.
+fn root_counted_as_row(alloc: Global) {
+    let Ok(tree) = read_listing(alloc, b"tree 1\n0 dir\n1 file 0 a\n") else {
+        return;
+    };
+    if tree.row_count() != 1 {
+        unreachable!()
+    }
+}
+
 /// Rows come by the bytes of their names.
 fn slab_rows_in_falling_order(alloc: Global) {
     let Ok(tree) = read_listing_slab(alloc, b"tree 1\n0 dir\n1 file 0 b\n2 file 0 a\n") else {

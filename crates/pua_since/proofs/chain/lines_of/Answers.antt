@@ -10,7 +10,7 @@ loop-fact-init g c =
     let facts : iter_rest c.into_iter-fact-iterator.result.a ≡ c.args.passed.now = cc in
     let lines : iter_rest c.into_iter-fact-iterator.result.b ≡ c.args.dates.now.facts.items = cc in
     record {
-      rows = c.in-Ok.ensures ∙ (λ i. (c.tree.ensures i).rows);
+      tree = c.in-Ok.ensures ∙ c.tree.ensures;
       told = sym (λ i. c.new-text.ensures.bytes i ++ flat_map with_end (dated_lines c.args.world.now.tree (map fact_seen (facts i))
           (lines i)));
     }
@@ -23,13 +23,13 @@ loop-fact-preserved g c =
       c.in-Some.line,
     ) c.in-Some.is c.next.ensures.steps in
     record {
-      rows = c.push_fact.ensures.rows ∙ c.loop-fact.invariant.rows;
+      tree = c.push_fact.ensures.tree ∙ c.loop-fact.invariant.tree;
       told = one_line t (fact_seen c.in-Some.fact.now) c.in-Some.line.now (map fact_seen (iter_rest c.next.new.self.a))
           (iter_rest c.next.new.self.b) _
           (string_bytes c.loop-fact.text) (string_bytes c.push_fact.new.text) (string_bytes c.push_str.new.self)
           (c.loop-fact.invariant.told ∙
           (λ i. string_bytes c.loop-fact.text ++ flat_map with_end (dated_lines t (map fact_seen (rest.0 i)) (rest.1 i))))
-          (c.in_ok-push_fact.ensures.text (c.loop-fact.invariant.rows ∙ sym (λ i. (c.tree-in-loop-fact.ensures i).rows))
+          (c.in_ok-push_fact.ensures.text (c.loop-fact.invariant.tree ∙ sym c.tree-in-loop-fact.ensures)
           ∙ (λ i. string_bytes c.loop-fact.text ++ fact_dated (c.tree-in-loop-fact.ensures i) c.in-Some.line.now
           (fact_seen c.in-Some.fact.now)))
           c.in_ok-push_str.ensures.bytes;

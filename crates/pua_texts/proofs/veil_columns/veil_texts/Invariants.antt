@@ -5,9 +5,9 @@ use Rattle.pua_texts.proofs.veil_columns.veil_texts.Given as goal
 
 -- the columns so far are those of the veils so far
 abbrev pub invariant-loop-veil : goal.invariant-loop-veil
-invariant-loop-veil l = record {
-  rows : l.paths.rows ≡ l.fn.paths.rows;
+invariant-loop-veil g l = record {
+  tree : l.paths.tree ≡ l.fn.paths.tree;
   count : vec_len l.texts ≡ l.veil-index;
-  texts : (p : Posed) (number : ℕ) → l.fn.paths.rows ≡ (world_left p).tree.rows → l.lines ≡ veil_dates p number (map shown l.veils) →
+  texts : (p : Posed) (number : ℕ) → l.fn.paths.tree ≡ (world_left p).tree → l.lines ≡ veil_dates p number (map shown l.veils) →
       map string_bytes l.texts.items ≡ veils_behind p number (map shown (take l.veil-index l.veils));
 }

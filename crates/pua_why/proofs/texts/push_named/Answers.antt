@@ -16,5 +16,5 @@ returns-clause-text g c =
     on_ok_weaker c.push_found.result
     (λ found is. then_more old _ _ ((side ++ codes "names ") ++ kind) (codes " " ++ found_text t c.args.found.now) named
     (then_more (string_bytes c.push_str-3.new.self) _ _ (codes " ") (found_text t c.args.found.now) c.in_ok-push_str-4.ensures.bytes
-    (found t is)))
+    (found ∙ ap (λ u. string_bytes c.push_str-4.new.self ++ found_text u c.args.found.now) is)))
     c.push_found.ensures.text

@@ -21,15 +21,15 @@ link_told t old spot stop is =
     ∙ ap (λ s. old ++ path_fault_text t (Stops s)) (sym is)
 
 pub returns-in-LinkBeyond-clause-text : goal.returns-in-LinkBeyond-clause-text
-returns-in-LinkBeyond-clause-text c =
-    on_ok_weaker c.push_at-in-LinkBeyond.result (λ so t is. so t is ∙
-    link_told t _ _ _ c.in-LinkBeyond.is) c.push_at-in-LinkBeyond.ensures.text
+returns-in-LinkBeyond-clause-text g c =
+    on_ok_weaker c.push_at-in-LinkBeyond.result (λ so. so ∙
+    link_told c.args.paths.now.tree _ _ _ c.in-LinkBeyond.is) c.push_at-in-LinkBeyond.ensures.text
 
 pub returns-in-NoEntry-clause-text : goal.returns-in-NoEntry-clause-text
-returns-in-NoEntry-clause-text c = on_ok_weaker c.push_at.result (λ so t is. so t is ∙
-    ap (λ stop. string_bytes c.args.text.now ++ path_fault_text t (Stops stop)) (sym c.in-NoEntry.is)) c.push_at.ensures.text
+returns-in-NoEntry-clause-text g c = on_ok_weaker c.push_at.result (λ so. so ∙
+    ap (λ stop. string_bytes c.args.text.now ++ path_fault_text c.args.paths.now.tree (Stops stop)) (sym c.in-NoEntry.is)) c.push_at.ensures.text
 
 pub returns-in-NoDirectory-clause-text : goal.returns-in-NoDirectory-clause-text
-returns-in-NoDirectory-clause-text c = on_ok_weaker c.push_at-in-NoDirectory.result (λ so t is. so t is ∙
-    ap (λ stop. string_bytes c.args.text.now ++ path_fault_text t (Stops stop)) (sym c.in-NoDirectory.is))
+returns-in-NoDirectory-clause-text g c = on_ok_weaker c.push_at-in-NoDirectory.result (λ so. so ∙
+    ap (λ stop. string_bytes c.args.text.now ++ path_fault_text c.args.paths.now.tree (Stops stop)) (sym c.in-NoDirectory.is))
     c.push_at-in-NoDirectory.ensures.text

@@ -11,7 +11,7 @@ abbrev after : goal.After-insert-2 → Slots
 after c = record c.args.self.now { numbers = c.insert-2.new.self; nodes = c.insert.new.self }
 
 abbrev node : goal.After-insert-2 → SlotNode
-node c = record { kind = c.args.kind; target = c.args.target; standing = record { above = 0; rows = 0; names = 0 } }
+node c = record { kind = c.args.kind; target = c.args.target; standing = record { spot = record { dir = 0; name = c.any.result }; rows = 0; names = 0 } }
 
 -- with room, the number has the slot
 numbered : (c : goal.After-insert-2) → HasNodeRoom c.args.self.now → IsNew c.args.self.now c.args.id
@@ -28,7 +28,7 @@ pub returns-clause-kept : goal.returns-clause-kept
 returns-clause-kept c room kept new_id =
     let had = numbered c room new_id in
     kept_added c.args.self.now (after c) c.args.id c.in-Ok.slot (node c) kept.filed new_id.no_slot had.0 c.in-Ok.ensures.was_vacant
-    c.in-Ok.ensures.updates c.in-Ok.ensures.len had.1 kept refl new_id.no_rows new_id.no_names refl refl refl
+    c.in-Ok.ensures.updates c.in-Ok.ensures.len had.1 kept refl new_id.no_rows new_id.no_names refl refl
 
 pub returns-clause-nodes : goal.returns-clause-nodes
 returns-clause-nodes c room kept new_id =

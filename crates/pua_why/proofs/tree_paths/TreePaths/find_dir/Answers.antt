@@ -1,0 +1,13 @@
+use Rattle.pua_why.proofs.Common.{◌++◌, append-nil, map, ap, ◌∙◌, dir_names}
+use Rattle.std.specs.Prelude.{reverse}
+use Rattle.pua_why.proofs.Paths.{found_names}
+use Rattle.pua_why.specs.TreePaths.{PathsState}
+use Rattle.pua_why.proofs.tree_paths.TreePaths.find_dir.Goals as goal
+
+pub returns-clause-names : goal.returns-clause-names
+returns-clause-names g c =
+    let names = dir_names (g.T.FileTree.content c.self.inside.tree.now) c.args.dir in
+    found_names c.climb.new.names.items c.reverse.new.self.items names
+    (c.climb.ensures.names ∙ ap (λ ns. names ++ reverse (map (λ name. name.now) ns)) c.clear.ensures.items ∙ append-nil names)
+    c.reverse.ensures.items
+    ∙ ap (λ (s : PathsState). dir_names s.tree c.args.dir) c.self.view_is
