@@ -68,7 +68,7 @@ pub fn list_items<'t, T: FileTree>(
     let rows = tree.rows(alloc)?;
     let spots = spots(alloc, &rows, process)?;
     let mut entered = Vec::new(alloc);
-    let mut items = Vec::new(alloc);
+    let mut items = Vec::with_capacity(alloc, spots.len())?;
     enter_root(process, &mut entered, &mut items)?;
     while let Some(inner) = entered.pop() {
         go_on(tree, process, &spots, &inner, &mut entered, &mut items)?;

@@ -38,7 +38,7 @@ pub(crate) fn object_lines<'t>(
         ≡ object_lines t (lines_of t table.now h (items_told t [] items.now))) }
 {
     let allowed = AllowedCalls::new(process, table);
-    let mut lines = Vec::new(alloc);
+    let mut lines = Vec::with_capacity(alloc, items.len())?;
     for item in items {
         let line = allowed_line(&allowed, &item.item);
         let Ok(()) = lines.push(ListLine {
@@ -72,7 +72,7 @@ pub(crate) fn why_lines<'t>(
         (lines_of (world_left p).tree p.table h (items_told (world_left p).tree [] items.now))) }
 {
     let allowed = AllowedCalls::new(process, table);
-    let mut lines = Vec::new(alloc);
+    let mut lines = Vec::with_capacity(alloc, items.len())?;
     for item in items {
         let line = allowed_line(&allowed, &item.item);
         let resting = columns.number_of(alloc, resting_on(process, table, line.calls))?;

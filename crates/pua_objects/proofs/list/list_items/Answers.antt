@@ -10,7 +10,7 @@ pub loop-inner-init : goal.loop-inner-init
 loop-inner-init g c =
     let t = g.T.FileTree.content c.args.tree.now in
     record {
-      listing = c.in_ok-enter_root.ensures c.new-entered.ensures.items c.new-items.ensures.items t (map spot_now c.in_ok-spots.spots.items)
+      listing = c.in_ok-enter_root.ensures c.new-entered.ensures.items c.in_ok-items.ensures.items t (map spot_now c.in_ok-spots.spots.items)
           c.known.ensures (c.in_ok-spots.ensures.spots t (ap (map lent_entry) c.deref.ensures.value ∙ c.in_ok-rows.ensures));
     }
 
