@@ -8,6 +8,8 @@ archive=$(ls "$here"/out/pua-*.tar.gz)
 name=$(basename "$archive" .tar.gz)
 room=$(mktemp -d)
 trap 'rm -rf "$room"' EXIT
+# Tests that root runs as nobody have to find the program in it.
+chmod 755 "$room"
 
 # Builds and tries the program by the compiler that is named. The first one's objects are kept.
 try() {
