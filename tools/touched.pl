@@ -10,10 +10,9 @@
 #          pages and examples; if none is given, each WORD that has letters, in small ones; -t '' is
 #          for no text at all
 #
-# To see what a further one of a kind has to go through, ask for one that is there. For a call, and
-# the number of all:
+# To see what a further one of a kind has to go through, ask for one that is there:
 #
-#   perl tools/touched.pl Mkdir 14
+#   perl tools/touched.pl Mkdir                        # a call
 #   perl tools/touched.pl -t open-w OpenWrite          # a call whose text is not its name
 #   perl tools/touched.pl RPATH rpath                  # a promise
 #   perl tools/touched.pl ENOTEMPTY                    # an errno

@@ -1,8 +1,7 @@
 -- Pairs by places of the alphabet and numbers of calls: they come in the order of their letters' bytes.
 use Rattle.pua_audit.proofs.Common.{ℕ, ◌+◌, ◌<◌, ◌≡◌, List, [], ◌∷◌, Option, Some, None, Bool, true, false, cond, refl, ap, arith, sym, ◌∙◌}
 use Rattle.pua_audit.proofs.Common.{length, map, get_or, option_map, inl, inr, IfSome, cases_lt, tied_itself, nat_list_cmp_total}
-use Rattle.pua_audit.proofs.Common.{AllByRecursion, nat_cmp, is_lt, Less, Equal, Greater, name_cmp, bit_of, Call, Stat, Lstat, Readlink}
-use Rattle.pua_audit.proofs.Common.{OpenRead, OpenWrite, OpenBoth, Create, Mkdir, Rmdir, Unlink, Symlink, Chmod, Chdir, Exec, pairs_at}
+use Rattle.pua_audit.proofs.Common.{AllByRecursion, nat_cmp, is_lt, Less, Equal, Greater, name_cmp, bit_of, call_count, Call, Stat, pairs_at}
 use Rattle.pua_audit.proofs.Common.{pair_in_numbers, pair_in_letters, Rises, Word, Pair, Scope, pair_cmp, reach, rest_after, word_of}
 use Rattle.pua_audit.proofs.Common.{AreLetters, IsPair}
 use Rattle.std.proofs.Common.{filter}
@@ -22,19 +21,7 @@ use Rattle.pua_steps.specs.Order as order
 
 number_of : (c : Call) → call_number c ≡ bit_of c + 1
 number_of Stat = refl
-number_of Lstat = refl
-number_of Readlink = refl
-number_of OpenRead = refl
-number_of OpenWrite = refl
-number_of OpenBoth = refl
-number_of Create = refl
-number_of Mkdir = refl
-number_of Rmdir = refl
-number_of Unlink = refl
-number_of Symlink = refl
-number_of Chmod = refl
-number_of Chdir = refl
-number_of Exec = refl
+number_of _ = refl
 
 -- numbers in the same order compare alike
 nat_alike : (a b c d : ℕ) → (a < b → c < d) → (a ≡ b → c ≡ d) → (b < a → d < c) → nat_cmp a b ≡ nat_cmp c d
@@ -47,7 +34,7 @@ nat_alike a b c d less same more =
       ]
     ]
 
-calls_alike : (c : Call) (n : ℕ) → n < 14 → nat_cmp (call_number c) (call_number (call_at n)) ≡ nat_cmp (bit_of c) n
+calls_alike : (c : Call) (n : ℕ) → n < call_count → nat_cmp (call_number c) (call_number (call_at n)) ≡ nat_cmp (bit_of c) n
 calls_alike c n low =
     let first : call_number c ≡ bit_of c + 1 = number_of c in
     let second : call_number (call_at n) ≡ n + 1 = number_of (call_at n) ∙ ap (λ m. m + 1) (bit_of_call_at n low) in

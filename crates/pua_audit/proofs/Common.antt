@@ -27,8 +27,7 @@ pub use Rattle.indexmap.specs.IndexSet.{insert_key}
 pub use Rattle.pua_calls.specs.CallSets.{bit_of, has, keeps_link}
 pub use Rattle.pua_calls.specs.Calls.{calls, CallTable, last_of, rule_of}
 pub use Rattle.pua_calls.specs.declared.call.Call.{Call}
-pub use Rattle.pua_calls.specs.declared.call.Call.TheVariants.{Chdir, Chmod, Create, Exec, Lstat, Mkdir, OpenBoth, OpenRead, OpenWrite}
-pub use Rattle.pua_calls.specs.declared.call.Call.TheVariants.{Readlink, Rmdir, Stat, Symlink, Unlink}
+pub use Rattle.pua_calls.specs.declared.call.Call.TheVariants.{Rmdir, Stat}
 pub use Rattle.pua_path.specs.Bounds.{part_cost}
 pub use Rattle.pua_path.specs.Fits.{FoundsFit, StandsAsNamed}
 pub use Rattle.pua_path.specs.Laws.{steps}

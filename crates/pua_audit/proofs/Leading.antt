@@ -1,7 +1,7 @@
 -- Words lead to the same states on the graph and in the world.
 use Rattle.pua_audit.proofs.Common.{ℕ, zero, suc, ◌≡◌, List, [], ◌∷◌, ◌++◌, Option, Some, None, Bool, true, false, cond, refl, ap, arith}
 use Rattle.pua_audit.proofs.Common.{sym, ◌∙◌, map, length, get_or, option_map, flat_map, option_to_list, IfSome, range_with_len}
-use Rattle.pua_audit.proofs.Common.{cons_option, calls, bit_of, Call, Judge, WordEnd, Start, Below, has_call, calls_of, State, Visit}
+use Rattle.pua_audit.proofs.Common.{cons_option, calls, bit_of, Call, Judge, WordEnd, Start, Below, has_call, calls_of, call_count, State, Visit}
 use Rattle.pua_audit.proofs.Common.{named_in, IsRight, HasJudgedVisits, IsKnown, StandsForJudge}
 use Rattle.std.proofs.Common.{filter}
 use Rattle.pua_audit.specs.Judge as named
@@ -84,7 +84,8 @@ map_filter f mask bits (c ∷ cs) =
           ap (λ b. cond b (bit_of c ∷ filter (has_call mask) (map bit_of cs)) (filter (has_call mask) (map bit_of cs))) (sym (bits c ∙ e))
     ] refl
 
-all_places : map bit_of calls ≡ range_with_len 0 14
+-- the table of steps has as many calls as there are
+all_places : map bit_of calls ≡ range_with_len 0 call_count
 all_places = refl
 
 pub masks_list : MasksList

@@ -3,8 +3,7 @@ use Rattle.pua_audit.proofs.Common.{◌≡◌, ◌≢◌, ℕ, ◌+◌, ◌<◌,
 use Rattle.pua_audit.proofs.Common.{map, get_or, take, drop, refl, sym, ap, subst, ◌∙◌, inl, inr, arith, append-nil, codes, find, IsTrue}
 use Rattle.pua_audit.proofs.Common.{AllByRecursion, list_all, list_any, slice_split, and_parts, or_right, cases_lt, false≢true}
 use Rattle.pua_audit.proofs.Common.{flat_map-append, bytes_eq-Decides, same_bytes, is_plain, spelling, is_byte, same_Some, other_word}
-use Rattle.pua_audit.proofs.Common.{calls, Call, Stat, Lstat, Readlink, OpenRead, OpenWrite, OpenBoth, Create, Mkdir, Rmdir, Unlink}
-use Rattle.pua_audit.proofs.Common.{Symlink, Chmod, Chdir, Exec, Word, Pair, Scope, from_root, word_of_pieces, word_of_path, word_within}
+use Rattle.pua_audit.proofs.Common.{calls, Call, Stat, Word, Pair, Scope, from_root, word_of_pieces, word_of_path, word_within}
 use Rattle.pua_audit.proofs.Common.{is_letter, Base, Root, Cwd}
 use Rattle.std.proofs.Common.{◌/◌, ◌%◌}
 use Rattle.std.proofs.Common.{leb-true}
@@ -225,19 +224,7 @@ module _ (alphabet : List (List ℕ)) (letters : IsTrue (list_all is_letter alph
 
 call_read : (c : Call) → (list_any colon (call_name c) ≡ false) × (call_named (call_name c) ≡ Some c)
 call_read Stat = (refl, refl)
-call_read Lstat = (refl, refl)
-call_read Readlink = (refl, refl)
-call_read OpenRead = (refl, refl)
-call_read OpenWrite = (refl, refl)
-call_read OpenBoth = (refl, refl)
-call_read Create = (refl, refl)
-call_read Mkdir = (refl, refl)
-call_read Rmdir = (refl, refl)
-call_read Unlink = (refl, refl)
-call_read Symlink = (refl, refl)
-call_read Chmod = (refl, refl)
-call_read Chdir = (refl, refl)
-call_read Exec = (refl, refl)
+call_read _ = (refl, refl)
 
 -- a text cut at its first colon
 

@@ -2,8 +2,7 @@
 use Rattle.pua_audit.proofs.Common.{◌≡◌, ℕ, zero, suc, List, [], ◌∷◌, ◌++◌, map, length, Bool, not, ◌&&◌, cond, refl, ap, ◌∙◌, Result, Ok}
 use Rattle.pua_audit.proofs.Common.{Err, filter, list_any, ◌>>=◌, Tree, is_dir, above, is_absolute, Errno, Ending, Part, Last, Found, Whole}
 use Rattle.pua_audit.proofs.Common.{Slot, CallTable, rule_of, last_of, History, perms_kept, may_any, IsMissing, cover, verdict_of}
-use Rattle.pua_audit.proofs.Common.{is_allowed, Call, Stat, Lstat, Readlink, OpenRead, OpenWrite, OpenBoth, Create, Mkdir, Rmdir, Unlink}
-use Rattle.pua_audit.proofs.Common.{Symlink, Chmod, Chdir, Exec, Scope, is_reached, pairs, reach, path_of}
+use Rattle.pua_audit.proofs.Common.{is_allowed, Call, Rmdir, Scope, is_reached, pairs, reach, path_of}
 use Rattle.std.specs.Prelude.{Option, Some, None}
 use Rattle.pua_tree.specs.Tree.{look, climb_within}
 use Rattle.pua_path.specs.Paths.{parts_of, path_fault}
@@ -109,79 +108,19 @@ module _ (t : Tree) (n : ℕ) where
   same_object (Slot dir name (Some y)) = refl
 
   same_fault : (c : Call) (o : Object) → object_fault v c o ≡ object_fault t c o
-  same_fault Stat (IsDir dir w) = refl
-  same_fault Stat IsFile = refl
-  same_fault Stat IsProg = refl
-  same_fault Stat IsLink = refl
-  same_fault Stat IsMissing = refl
-  same_fault Lstat (IsDir dir w) = refl
-  same_fault Lstat IsFile = refl
-  same_fault Lstat IsProg = refl
-  same_fault Lstat IsLink = refl
-  same_fault Lstat IsMissing = refl
-  same_fault Readlink (IsDir dir w) = refl
-  same_fault Readlink IsFile = refl
-  same_fault Readlink IsProg = refl
-  same_fault Readlink IsLink = refl
-  same_fault Readlink IsMissing = refl
-  same_fault OpenRead (IsDir dir w) = refl
-  same_fault OpenRead IsFile = refl
-  same_fault OpenRead IsProg = refl
-  same_fault OpenRead IsLink = refl
-  same_fault OpenRead IsMissing = refl
-  same_fault OpenWrite (IsDir dir w) = refl
-  same_fault OpenWrite IsFile = refl
-  same_fault OpenWrite IsProg = refl
-  same_fault OpenWrite IsLink = refl
-  same_fault OpenWrite IsMissing = refl
-  same_fault OpenBoth (IsDir dir w) = refl
-  same_fault OpenBoth IsFile = refl
-  same_fault OpenBoth IsProg = refl
-  same_fault OpenBoth IsLink = refl
-  same_fault OpenBoth IsMissing = refl
-  same_fault Create (IsDir dir w) = refl
-  same_fault Create IsFile = refl
-  same_fault Create IsProg = refl
-  same_fault Create IsLink = refl
-  same_fault Create IsMissing = refl
-  same_fault Mkdir (IsDir dir w) = refl
-  same_fault Mkdir IsFile = refl
-  same_fault Mkdir IsProg = refl
-  same_fault Mkdir IsLink = refl
-  same_fault Mkdir IsMissing = refl
   same_fault Rmdir (IsDir dir way.Dot) = refl
   same_fault Rmdir (IsDir dir way.DotDot) = refl
   same_fault Rmdir (IsDir dir way.Top) = refl
   same_fault Rmdir (IsDir dir (way.Named parent name)) = refl
+  same_fault _ (IsDir dir w) = refl
   same_fault Rmdir IsFile = refl
+  same_fault _ IsFile = refl
   same_fault Rmdir IsProg = refl
+  same_fault _ IsProg = refl
   same_fault Rmdir IsLink = refl
+  same_fault _ IsLink = refl
   same_fault Rmdir IsMissing = refl
-  same_fault Unlink (IsDir dir w) = refl
-  same_fault Unlink IsFile = refl
-  same_fault Unlink IsProg = refl
-  same_fault Unlink IsLink = refl
-  same_fault Unlink IsMissing = refl
-  same_fault Symlink (IsDir dir w) = refl
-  same_fault Symlink IsFile = refl
-  same_fault Symlink IsProg = refl
-  same_fault Symlink IsLink = refl
-  same_fault Symlink IsMissing = refl
-  same_fault Chmod (IsDir dir w) = refl
-  same_fault Chmod IsFile = refl
-  same_fault Chmod IsProg = refl
-  same_fault Chmod IsLink = refl
-  same_fault Chmod IsMissing = refl
-  same_fault Chdir (IsDir dir w) = refl
-  same_fault Chdir IsFile = refl
-  same_fault Chdir IsProg = refl
-  same_fault Chdir IsLink = refl
-  same_fault Chdir IsMissing = refl
-  same_fault Exec (IsDir dir w) = refl
-  same_fault Exec IsFile = refl
-  same_fault Exec IsProg = refl
-  same_fault Exec IsLink = refl
-  same_fault Exec IsMissing = refl
+  same_fault _ IsMissing = refl
 
   same_verdict : (table : CallTable) (h : History) (c : Call) (r : Result Found Errno) → verdict_of v table h c r ≡ verdict_of t table h c r
   same_verdict table h c (Ok x) =

@@ -1,16 +1,15 @@
 -- A letter by its sets of calls.
 use Rattle.pua_audit.proofs.Common.{ℕ, zero, suc, ◌+◌, ◌<◌, ◌^◌, ◌≡◌, List, Bool, true, false, not, ◌&&◌, ◌||◌, ◌==◌, nat_le, cond, refl}
 use Rattle.pua_audit.proofs.Common.{ap, arith, sym, ◌∙◌, Result, Ok, Err, Tree, most_links, part_of, follow, last, Errno, Found, Last}
-use Rattle.pua_audit.proofs.Common.{Followed, Kept, Part, CallTable, bit_of, has, keeps_link, History, Call, Stat, Lstat, Readlink}
-use Rattle.pua_audit.proofs.Common.{OpenRead, OpenWrite, OpenBoth, Create, Mkdir, Rmdir, Unlink, Symlink, Chmod, Chdir, Exec, judge_of}
-use Rattle.pua_audit.proofs.Common.{links_of, found_of, leads_to, allowed_near, allowed_far, IsLetter, Base}
+use Rattle.pua_audit.proofs.Common.{Followed, Kept, Part, CallTable, bit_of, has, keeps_link, History, Call, Stat, judge_of}
+use Rattle.pua_audit.proofs.Common.{call_count, calls, get_or, links_of, found_of, leads_to, allowed_near, allowed_far, IsLetter, Base}
 use Rattle.std.specs.Int.{bit_at}
 use Rattle.std.specs.Prelude.{is_ok}
 use Rattle.std.proofs.lemmas.Nat.Bits.{bit_at-lt, bit_at-zero, same_from_bits_below}
 use Rattle.pua_path.proofs.ForCallers.{unlinked_alike}
 use Rattle.pua_calls.specs.CallSets.{is_kept}
 use Rattle.pua_audit.proofs.Fresh.{entries_stand}
-use Rattle.pua_calls.proofs.ForCallers.{has_none}
+use Rattle.pua_calls.proofs.ForCallers.{bit_of_call_at, has_none}
 
 -- a letter that is followed once, by the sets of its calls
 pub letter_told : (t : Tree) (table : CallTable) (base : Base) (h : History) (dir : ℕ) (letter : List ℕ) (all kept : ℕ)
@@ -65,33 +64,15 @@ zero_of zero low e = refl
 zero_of (suc zero) low e = absurd cc
 zero_of (suc (suc b)) low e = absurd (omega (arith, low))
 
-no_bit : (set : ℕ) → ((call : Call) → has set call ≡ false) → (i : ℕ) → i < 14 → bit_at set i ≡ 0
-no_bit set none i low = at i low
-  where
-    of : (call : Call) → bit_at set (bit_of call) ≡ 0
-    of call = zero_of (bit_at set (bit_of call)) (bit_at-lt set (bit_of call)) (none call)
+no_bit : (set : ℕ) → ((call : Call) → has set call ≡ false) → (i : ℕ) → i < call_count → bit_at set i ≡ 0
+no_bit set none i low =
+    let here : bit_of (get_or calls i Stat) ≡ i = bit_of_call_at i low in
+    zero_of (bit_at set i) (bit_at-lt set i) (ap (λ n. bit_at set n == 1) (sym here) ∙ none (get_or calls i Stat))
 
-    at : (i : ℕ) → i < 14 → bit_at set i ≡ 0
-    at zero low = of Stat
-    at (suc zero) low = of Lstat
-    at (suc (suc zero)) low = of Readlink
-    at (suc (suc (suc zero))) low = of OpenRead
-    at (suc (suc (suc (suc zero)))) low = of OpenWrite
-    at (suc (suc (suc (suc (suc zero))))) low = of OpenBoth
-    at (suc (suc (suc (suc (suc (suc zero)))))) low = of Create
-    at (suc (suc (suc (suc (suc (suc (suc zero))))))) low = of Mkdir
-    at (suc (suc (suc (suc (suc (suc (suc (suc zero)))))))) low = of Rmdir
-    at (suc (suc (suc (suc (suc (suc (suc (suc (suc zero))))))))) low = of Unlink
-    at (suc (suc (suc (suc (suc (suc (suc (suc (suc (suc zero)))))))))) low = of Symlink
-    at (suc (suc (suc (suc (suc (suc (suc (suc (suc (suc (suc zero))))))))))) low = of Chmod
-    at (suc (suc (suc (suc (suc (suc (suc (suc (suc (suc (suc (suc zero)))))))))))) low = of Chdir
-    at (suc (suc (suc (suc (suc (suc (suc (suc (suc (suc (suc (suc (suc zero))))))))))))) low = of Exec
-    at (suc (suc (suc (suc (suc (suc (suc (suc (suc (suc (suc (suc (suc (suc i)))))))))))))) low = absurd (omega (arith, low))
-
-pub no_calls : (set : ℕ) → set < 2 ^ 14 → ((call : Call) → has set call ≡ false) → set ≡ 0
-no_calls set fits none = same_from_bits_below 14 set 0 fits (omega arith) (λ i low. no_bit set none i low ∙ sym (bit_at-zero i))
+pub no_calls : (set : ℕ) → set < 2 ^ call_count → ((call : Call) → has set call ≡ false) → set ≡ 0
+no_calls set fits none = same_from_bits_below call_count set 0 fits (omega arith) (λ i low. no_bit set none i low ∙ sym (bit_at-zero i))
 
 -- the calls that a set keeps are none where it has none
-pub kept_none : (all kept : ℕ) → kept < 2 ^ 14 → ((call : Call) → has kept call ≡ (has all call && keeps_link call)) → all ≡ 0 → kept ≡ 0
+pub kept_none : (all kept : ℕ) → kept < 2 ^ call_count → ((call : Call) → has kept call ≡ (has all call && keeps_link call)) → all ≡ 0 → kept ≡ 0
 kept_none all kept fits is none = no_calls kept fits (λ call. is call ∙ ap (λ n. has n call && keeps_link call) none ∙
     ap (λ b. b && keeps_link call) (has_none call))

@@ -1,6 +1,7 @@
 pub mod Common
 pub mod Sets
 pub mod CallBits
+pub mod NoError
 pub mod Rows
 pub mod TableTexts
 pub mod TableExamples

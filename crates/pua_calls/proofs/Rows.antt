@@ -3,12 +3,13 @@ use Rattle.pua_calls.proofs.Common.{◌≡◌, ℕ, ◌<◌, List, length, get_o
 use Rattle.std.proofs.lemmas.List.{same_lists, get_or-map}
 use Rattle.pua_calls.specs.Calls.{standard_pair, standard_rule, standard_table}
 use Rattle.pua_calls.specs.declared.rules.ExecPromises.TheVariants.{Unset}
+use Rattle.pua_calls.proofs.CallBits.{call_count}
 
 -- rules that are each call's standard one are those of the standard table
-pub is_standard : (rows : List Rule) → length rows ≡ 14 →
-    ((i : ℕ) (e : Rule) → i < 14 → get_or rows i e ≡ standard_rule (get_or calls i Stat)) → rows ≡ standard_table.rules
+pub is_standard : (rows : List Rule) → length rows ≡ call_count →
+    ((i : ℕ) (e : Rule) → i < call_count → get_or rows i e ≡ standard_rule (get_or calls i Stat)) → rows ≡ standard_table.rules
 is_standard rows long each = same_lists rows standard_table.rules long (λ i d below.
-    let in_calls : i < 14 = omega (arith, below, long) in
+    let in_calls : i < call_count = omega (arith, below, long) in
     each i d in_calls ∙ sym (get_or-map standard_rule calls i Stat d in_calls))
 
 -- and with those of rename and of link they are that table

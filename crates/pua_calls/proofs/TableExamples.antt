@@ -1,9 +1,11 @@
 -- The worked examples of tables, by computing each text.
-use Rattle.pua_calls.proofs.Common.{refl}
+use Rattle.pua_calls.proofs.Common.{refl, calls}
 use Rattle.std.proofs.Common.{lit<}
 use Rattle.std.specs.Str.{chars, is_utf8}
 use Rattle.toml.proofs.OnLiterals.{toml_on_literals}
+use Rattle.pua_calls.specs.Calls.{openbsd_table, rule_of}
 use Rattle.pua_calls.specs.TableExamples.{TableRows, OpenbsdRows}
+use Rattle.pua_calls.proofs.NoError.{each_needs_none, openbsd_needs_no_error}
 
 pub table_rows : TableRows
 unfolding toml_on_literals chars is_utf8
@@ -39,37 +41,7 @@ unfolding toml_on_literals chars is_utf8
 openbsd_rows = record {
   kept = record {
     fourteen = refl;
-    rules = (
-      ((lit< tt, refl), tt),
-      (
-        ((lit< tt, refl), tt),
-        (
-          ((lit< tt, refl), tt),
-          (
-            ((lit< tt, refl), tt),
-            (
-              ((lit< tt, refl), tt),
-              (
-                ((lit< tt, refl), tt),
-                (
-                  ((lit< tt, refl), tt),
-                  (
-                    ((lit< tt, refl), tt),
-                    (
-                      ((lit< tt, refl), tt),
-                      (
-                        ((lit< tt, refl), tt),
-                        (((lit< tt, refl), tt), (((lit< tt, refl), tt), (((lit< tt, refl), tt), (((lit< tt, refl), tt), tt)))),
-                      ),
-                    ),
-                  ),
-                ),
-              ),
-            ),
-          ),
-        ),
-      ),
-    );
+    rules = each_needs_none (rule_of openbsd_table) openbsd_needs_no_error calls;
     rename = (((lit< tt, refl), tt), ((lit< tt, refl), tt));
     link = (((lit< tt, refl), tt), ((lit< tt, refl), tt));
   };

@@ -5,20 +5,8 @@ use Rattle.pua_ever.specs.Ever.{is_exec_call}
 
 -- a call is exec, or another one
 pub exec_or_other : (c : Call) → (c ≡ call.Exec) ⊎ ((c ≢ call.Exec) × (is_exec_call c ≡ false))
-exec_or_other call.Stat = inr (λ e. false≢true (ap is_exec_call e), refl)
-exec_or_other call.Lstat = inr (λ e. false≢true (ap is_exec_call e), refl)
-exec_or_other call.Readlink = inr (λ e. false≢true (ap is_exec_call e), refl)
-exec_or_other call.OpenRead = inr (λ e. false≢true (ap is_exec_call e), refl)
-exec_or_other call.OpenWrite = inr (λ e. false≢true (ap is_exec_call e), refl)
-exec_or_other call.OpenBoth = inr (λ e. false≢true (ap is_exec_call e), refl)
-exec_or_other call.Create = inr (λ e. false≢true (ap is_exec_call e), refl)
-exec_or_other call.Mkdir = inr (λ e. false≢true (ap is_exec_call e), refl)
-exec_or_other call.Rmdir = inr (λ e. false≢true (ap is_exec_call e), refl)
-exec_or_other call.Unlink = inr (λ e. false≢true (ap is_exec_call e), refl)
-exec_or_other call.Symlink = inr (λ e. false≢true (ap is_exec_call e), refl)
-exec_or_other call.Chmod = inr (λ e. false≢true (ap is_exec_call e), refl)
-exec_or_other call.Chdir = inr (λ e. false≢true (ap is_exec_call e), refl)
 exec_or_other call.Exec = inl refl
+exec_or_other _ = inr (λ e. false≢true (ap is_exec_call e), refl)
 
 -- where a set hasn't exec, no call starts by it
 pub none_starts : (c : Call) (set : ℕ) → has set call.Exec ≡ false → (is_exec_call c && has set c) ≡ false

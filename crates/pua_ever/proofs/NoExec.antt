@@ -38,19 +38,7 @@ execs_by table w h (OnPath call.Exec path) c d is =
     let judged : verdict_of w.tree table h call.Exec (Ok d.0) ≡ verdicts.Allowed =
     (λ i. if_promised (one.promised i) (allowed_unless (or_fault (one.covered i) (one.fitting i)))) in
     record { path = path; allowed = subst (λ r. verdict_of w.tree table h call.Exec r ≡ verdicts.Allowed) (sym one.found) judged }
-execs_by table w h (OnPath call.Stat path) c d is = absurd (false≢true is)
-execs_by table w h (OnPath call.Lstat path) c d is = absurd (false≢true is)
-execs_by table w h (OnPath call.Readlink path) c d is = absurd (false≢true is)
-execs_by table w h (OnPath call.OpenRead path) c d is = absurd (false≢true is)
-execs_by table w h (OnPath call.OpenWrite path) c d is = absurd (false≢true is)
-execs_by table w h (OnPath call.OpenBoth path) c d is = absurd (false≢true is)
-execs_by table w h (OnPath call.Create path) c d is = absurd (false≢true is)
-execs_by table w h (OnPath call.Mkdir path) c d is = absurd (false≢true is)
-execs_by table w h (OnPath call.Rmdir path) c d is = absurd (false≢true is)
-execs_by table w h (OnPath call.Unlink path) c d is = absurd (false≢true is)
-execs_by table w h (OnPath call.Symlink path) c d is = absurd (false≢true is)
-execs_by table w h (OnPath call.Chmod path) c d is = absurd (false≢true is)
-execs_by table w h (OnPath call.Chdir path) c d is = absurd (false≢true is)
+execs_by table w h (OnPath _ path) c d is = absurd (false≢true is)
 execs_by table w h (Symlink target path) c d is = absurd (false≢true is)
 execs_by table w h (Rename old new) c d is = absurd (false≢true is)
 execs_by table w h (Link old new) c d is = absurd (false≢true is)

@@ -26,20 +26,8 @@ last false = refl
 
 -- but for rmdir it is the same whether a directory can be removed
 rmdir_alone : (c : Call) → (c ≡ call.Rmdir) ⊎ (object_fault empty_tree c removable_dir ≡ object_fault empty_tree c lasting_dir)
-rmdir_alone call.Stat = inr refl
-rmdir_alone call.Lstat = inr refl
-rmdir_alone call.Readlink = inr refl
-rmdir_alone call.OpenRead = inr refl
-rmdir_alone call.OpenWrite = inr refl
-rmdir_alone call.OpenBoth = inr refl
-rmdir_alone call.Create = inr refl
-rmdir_alone call.Mkdir = inr refl
 rmdir_alone call.Rmdir = inl refl
-rmdir_alone call.Unlink = inr refl
-rmdir_alone call.Symlink = inr refl
-rmdir_alone call.Chmod = inr refl
-rmdir_alone call.Chdir = inr refl
-rmdir_alone call.Exec = inr refl
+rmdir_alone _ = inr refl
 
 module _ (table : CallTable) (needs : EditsNeedC table) (h : History) where
   abbrev passes : Cover → Object → Call → Bool

@@ -1,5 +1,5 @@
 -- Each object on which a call is allowed has a line with the call.
-use Rattle.pua_objects.proofs.Common.{◌≡◌, ℕ, List, [], ◌∷◌, Bool, true, length, arith, refl, sym, ap, ◌∙◌, inl, inr, map, ◌&&◌, Option}
+use Rattle.pua_objects.proofs.Common.{◌≡◌, ℕ, List, [], ◌∷◌, Bool, true, length, arith, refl, sym, ap, ◌∙◌, map, ◌&&◌, Option}
 use Rattle.pua_objects.proofs.Common.{Some, None, Ok, Err, Tree, WellFormed, is_dir, sound_from, FoundFits, path_fault, Last, Way, Found}
 use Rattle.pua_objects.proofs.Common.{Whole, Slot, CallTable, calls, rule_of, last_of, History, veils, verdict, if_promised, is_allowed}
 use Rattle.pua_objects.proofs.Common.{Call, Allowed, Line, line_of, has_calls, items, calls_on, is_named_by, subject_verdict, subject_of}
@@ -10,10 +10,11 @@ use Rattle.pua_path.specs.Fits.{IsOf}
 use Rattle.pua_path.specs.declared.errno.Errno.{Errno}
 use Rattle.pua_path.specs.declared.text.Ending.{Ending}
 use Rattle.pua_calls.specs.Calls.{ending_of}
+use Rattle.pua_calls.specs.CallSets.{bit_of}
+use Rattle.pua_calls.specs.declared.call.Call.TheVariants.{Stat}
+use Rattle.pua_calls.proofs.ForCallers.{bit_below, call_at_bit}
 use Rattle.pua_policy.specs.History.{may_any, working_dir}
 use Rattle.pua_policy.specs.Verdict.{verdict_of}
-use Rattle.pua_calls.specs.declared.call.Call.TheVariants.{Stat, Lstat, Readlink, OpenRead, OpenWrite, OpenBoth, Create, Mkdir, Rmdir}
-use Rattle.pua_calls.specs.declared.call.Call.TheVariants.{Unlink, Symlink, Chmod, Chdir, Exec}
 use Rattle.pua_policy.specs.declared.answer.May.{May}
 use Rattle.pua_policy.specs.declared.answer.May.TheVariants as may
 use Rattle.pua_policy.specs.declared.answer.Verdict.{Verdict}
@@ -22,25 +23,12 @@ use Rattle.pua_path.proofs.ForCallers.{resolutions_fit}
 use Rattle.pua_audit.specs.Reach.{path_of, pairs, reach, is_reached}
 use Rattle.pua_objects.specs.Objects.{objects}
 use Rattle.pua_objects.specs.Laws.{IsListed, Complete, ReachIsListed}
-use Rattle.pua_objects.proofs.Among.{Among, among_map, among_filter, filter_among, contained, among_contained}
+use Rattle.pua_objects.proofs.Among.{Among, among_at, among_map, among_filter, filter_among, contained, among_contained}
 use Rattle.pua_objects.proofs.Judged.{told}
 use Rattle.pua_objects.proofs.Listing.{has_item}
 
 pub one_of_calls : (call : Call) → Among calls call
-one_of_calls Stat = inl refl
-one_of_calls Lstat = inr (inl refl)
-one_of_calls Readlink = inr (inr (inl refl))
-one_of_calls OpenRead = inr (inr (inr (inl refl)))
-one_of_calls OpenWrite = inr (inr (inr (inr (inl refl))))
-one_of_calls OpenBoth = inr (inr (inr (inr (inr (inl refl)))))
-one_of_calls Create = inr (inr (inr (inr (inr (inr (inl refl))))))
-one_of_calls Mkdir = inr (inr (inr (inr (inr (inr (inr (inl refl)))))))
-one_of_calls Rmdir = inr (inr (inr (inr (inr (inr (inr (inr (inl refl))))))))
-one_of_calls Unlink = inr (inr (inr (inr (inr (inr (inr (inr (inr (inl refl)))))))))
-one_of_calls Symlink = inr (inr (inr (inr (inr (inr (inr (inr (inr (inr (inl refl))))))))))
-one_of_calls Chmod = inr (inr (inr (inr (inr (inr (inr (inr (inr (inr (inr (inl refl)))))))))))
-one_of_calls Chdir = inr (inr (inr (inr (inr (inr (inr (inr (inr (inr (inr (inr (inl refl))))))))))))
-one_of_calls Exec = inr (inr (inr (inr (inr (inr (inr (inr (inr (inr (inr (inr (inr (inl refl)))))))))))))
+one_of_calls call = among_at calls (bit_of call) Stat call (bit_below call) (call_at_bit call)
 
 pub some_of : {X : Type 0} (xs : List X) (x : X) → Among xs x → nat_lt 0 (length xs) ≡ true
 some_of [] x a = absurd a

@@ -13,8 +13,7 @@ use Rattle.pua_path.specs.declared.found.Way.TheVariants.{Dot, DotDot}
 use Rattle.pua_calls.specs.CallSets.{is_kept}
 use Rattle.pua_policy.specs.History.{may_any}
 use Rattle.pua_policy.specs.Verdict.{IsMissing, object_fault, or_fault, cover, cover_fault, nearest, is_unveil, allowed_unless}
-use Rattle.pua_calls.specs.declared.call.Call.TheVariants.{Stat, Lstat, Readlink, OpenRead, OpenWrite, OpenBoth, Create, Mkdir, Rmdir}
-use Rattle.pua_calls.specs.declared.call.Call.TheVariants.{Unlink, Symlink, Chmod, Chdir, Exec}
+use Rattle.pua_calls.specs.declared.call.Call.TheVariants.{Rmdir}
 use Rattle.pua_policy.specs.declared.answer.May.{May}
 use Rattle.pua_policy.specs.declared.answer.May.TheVariants as may
 use Rattle.pua_policy.specs.declared.answer.Verdict.{Verdict}
@@ -61,20 +60,8 @@ module _ (t : Tree) (sound : Sound t) where
     -- however a directory was named, what is allowed on it is allowed on it by its own name
     pub by_own_way : (call : Call) (dir : ℕ) (way : Way) → is_dir t dir ≡ true → StandsAsNamed t (Whole dir way) →
         whole_verdict call dir way ≡ Allowed → whole_verdict call dir (own_way t dir) ≡ Allowed
-    by_own_way Stat dir way living fits e = e
-    by_own_way Lstat dir way living fits e = e
-    by_own_way Readlink dir way living fits e = e
-    by_own_way OpenRead dir way living fits e = e
-    by_own_way OpenWrite dir way living fits e = e
-    by_own_way OpenBoth dir way living fits e = e
-    by_own_way Create dir way living fits e = e
-    by_own_way Mkdir dir way living fits e = e
     by_own_way Rmdir dir way living fits e = removed dir way living fits e
-    by_own_way Unlink dir way living fits e = e
-    by_own_way Symlink dir way living fits e = e
-    by_own_way Chmod dir way living fits e = e
-    by_own_way Chdir dir way living fits e = e
-    by_own_way Exec dir way living fits e = e
+    by_own_way _ dir way living fits e = e
 
     -- a missing name without a veil of its own has the cover of the further names
     pub cover_of_others : (dir : ℕ) (name : List ℕ) → perms_kept h (place.Slot dir name) ≡ None →

@@ -1,13 +1,50 @@
 -- What is told of an object is so.
-use Rattle.pua_policy.proofs.Common.{◌≡◌, Bool, true, false, refl, if◌then◌else◌}
-use Rattle.std.proofs.Common.{Some, None}
-use Rattle.std.specs.Prelude.{IfSome}
-use Rattle.pua_tree.specs.Tree.{is_empty}
+use Rattle.pua_policy.proofs.Common.{◌≡◌, Call, Bool, true, false, refl, if◌then◌else◌, Option, Some, None}
+use Rattle.std.specs.Prelude.{IfSome, is_some}
+use Rattle.pua_tree.specs.Tree.{Tree, is_empty}
 use Rattle.pua_path.specs.declared.found.Way.TheVariants as way
-use Rattle.pua_policy.specs.Misfits.{IsDir, IsFile, IsProg, IsLink, IsMissing}
 use Rattle.pua_calls.specs.declared.call.Call.TheVariants as call
-use Rattle.pua_policy.specs.declared.reason.Misfit.TheVariants.{IsNotEmpty}
+use Rattle.pua_policy.specs.Misfits.{Object, IsDir, IsFile, IsProg, IsLink, IsMissing, misfit}
+use Rattle.pua_policy.specs.declared.reason.Misfit.{Misfit}
+use Rattle.pua_policy.specs.declared.reason.Misfit.TheVariants.{Missing, Exists, IsDirectory, IsNoFile, IsNoDirectory, IsNoLink}
+use Rattle.pua_policy.specs.declared.reason.Misfit.TheVariants.{IsNoProgram, IsNotEmpty}
 use Rattle.pua_policy.specs.ReasonLaws.{MisfitHolds, MisfitsHold}
+
+module _ (t : Tree) where
+  -- what is so by an object's kind alone
+  abbrev by_kind : (object : Object) (m : Misfit) → Option (MisfitHolds t object m)
+  by_kind IsMissing Missing = Some refl
+  by_kind IsMissing _ = None
+  by_kind _ Exists = Some tt
+  by_kind (IsDir dir way) IsDirectory = Some tt
+  by_kind (IsDir dir way) IsNoFile = Some tt
+  by_kind (IsDir dir way) IsNoLink = Some (tt, λ e. cc)
+  by_kind (IsDir dir way) IsNoProgram = Some (tt, λ e. cc)
+  by_kind (IsDir dir way) _ = None
+  by_kind _ IsNoDirectory = Some (tt, λ x. x)
+  by_kind IsFile IsNoLink = Some (tt, λ e. cc)
+  by_kind IsProg IsNoLink = Some (tt, λ e. cc)
+  by_kind IsFile IsNoProgram = Some (tt, λ e. cc)
+  by_kind IsLink IsNoProgram = Some (tt, λ e. cc)
+  by_kind _ _ = None
+
+  abbrev is_by_kind : Object → Option Misfit → Bool
+  is_by_kind object None = true
+  is_by_kind object (Some m) = is_some (by_kind object m)
+
+  known : (object : Object) (m : Option Misfit) → is_by_kind object m ≡ true → IfSome m (MisfitHolds t object)
+  known object None is = tt
+  known object (Some m) is = by (by_kind object m) is
+    where
+      by : (told : Option (MisfitHolds t object m)) → is_some told ≡ true → MisfitHolds t object m
+      by (Some so) e = so
+      by None e = cc
+
+  -- what is told of all but directories is
+  others : (c : Call) → (is_by_kind IsFile (misfit t c IsFile) ≡ true) × (is_by_kind IsProg (misfit t c IsProg) ≡ true) ×
+      (is_by_kind IsLink (misfit t c IsLink) ≡ true) × (is_by_kind IsMissing (misfit t c IsMissing) ≡ true)
+  others call.Stat = (refl, refl, refl, refl)
+  others _ = (refl, refl, refl, refl)
 
 pub misfits_hold : MisfitsHold
 misfits_hold t call.Rmdir (IsDir dir way.Dot) = (dir, refl)
@@ -18,72 +55,8 @@ misfits_hold t call.Rmdir (IsDir dir (way.Named parent name)) = by (is_empty t d
     by : (v : Bool) → is_empty t dir ≡ v → IfSome (if v then None else Some IsNotEmpty) (MisfitHolds t (IsDir dir (way.Named parent name)))
     by true e = tt
     by false e = (dir, parent, name, refl, e)
-misfits_hold t call.Stat (IsDir dir way) = tt
-misfits_hold t call.Stat IsFile = tt
-misfits_hold t call.Stat IsProg = tt
-misfits_hold t call.Stat IsLink = tt
-misfits_hold t call.Stat IsMissing = refl
-misfits_hold t call.Lstat (IsDir dir way) = tt
-misfits_hold t call.Lstat IsFile = tt
-misfits_hold t call.Lstat IsProg = tt
-misfits_hold t call.Lstat IsLink = tt
-misfits_hold t call.Lstat IsMissing = refl
-misfits_hold t call.Readlink (IsDir dir way) = (tt, λ e. cc)
-misfits_hold t call.Readlink IsFile = (tt, λ e. cc)
-misfits_hold t call.Readlink IsProg = (tt, λ e. cc)
-misfits_hold t call.Readlink IsLink = tt
-misfits_hold t call.Readlink IsMissing = refl
-misfits_hold t call.OpenRead (IsDir dir way) = tt
-misfits_hold t call.OpenRead IsFile = tt
-misfits_hold t call.OpenRead IsProg = tt
-misfits_hold t call.OpenRead IsLink = tt
-misfits_hold t call.OpenRead IsMissing = refl
-misfits_hold t call.OpenWrite (IsDir dir way) = tt
-misfits_hold t call.OpenWrite IsFile = tt
-misfits_hold t call.OpenWrite IsProg = tt
-misfits_hold t call.OpenWrite IsLink = tt
-misfits_hold t call.OpenWrite IsMissing = refl
-misfits_hold t call.OpenBoth (IsDir dir way) = tt
-misfits_hold t call.OpenBoth IsFile = tt
-misfits_hold t call.OpenBoth IsProg = tt
-misfits_hold t call.OpenBoth IsLink = tt
-misfits_hold t call.OpenBoth IsMissing = refl
-misfits_hold t call.Create (IsDir dir way) = tt
-misfits_hold t call.Create IsFile = tt
-misfits_hold t call.Create IsProg = tt
-misfits_hold t call.Create IsLink = tt
-misfits_hold t call.Create IsMissing = tt
-misfits_hold t call.Mkdir (IsDir dir way) = tt
-misfits_hold t call.Mkdir IsFile = tt
-misfits_hold t call.Mkdir IsProg = tt
-misfits_hold t call.Mkdir IsLink = tt
-misfits_hold t call.Mkdir IsMissing = tt
-misfits_hold t call.Rmdir IsFile = (tt, λ x. x)
-misfits_hold t call.Rmdir IsProg = (tt, λ x. x)
-misfits_hold t call.Rmdir IsLink = (tt, λ x. x)
-misfits_hold t call.Rmdir IsMissing = refl
-misfits_hold t call.Unlink (IsDir dir way) = tt
-misfits_hold t call.Unlink IsFile = tt
-misfits_hold t call.Unlink IsProg = tt
-misfits_hold t call.Unlink IsLink = tt
-misfits_hold t call.Unlink IsMissing = refl
-misfits_hold t call.Symlink (IsDir dir way) = tt
-misfits_hold t call.Symlink IsFile = tt
-misfits_hold t call.Symlink IsProg = tt
-misfits_hold t call.Symlink IsLink = tt
-misfits_hold t call.Symlink IsMissing = tt
-misfits_hold t call.Chmod (IsDir dir way) = tt
-misfits_hold t call.Chmod IsFile = tt
-misfits_hold t call.Chmod IsProg = tt
-misfits_hold t call.Chmod IsLink = tt
-misfits_hold t call.Chmod IsMissing = refl
-misfits_hold t call.Chdir (IsDir dir way) = tt
-misfits_hold t call.Chdir IsFile = (tt, λ x. x)
-misfits_hold t call.Chdir IsProg = (tt, λ x. x)
-misfits_hold t call.Chdir IsLink = (tt, λ x. x)
-misfits_hold t call.Chdir IsMissing = refl
-misfits_hold t call.Exec (IsDir dir way) = (tt, λ e. cc)
-misfits_hold t call.Exec IsFile = (tt, λ e. cc)
-misfits_hold t call.Exec IsProg = tt
-misfits_hold t call.Exec IsLink = (tt, λ e. cc)
-misfits_hold t call.Exec IsMissing = refl
+misfits_hold t c (IsDir dir way) = known t (IsDir dir way) (misfit t c (IsDir dir way)) refl
+misfits_hold t c IsFile = known t IsFile (misfit t c IsFile) (others t c).0
+misfits_hold t c IsProg = known t IsProg (misfit t c IsProg) (others t c).1
+misfits_hold t c IsLink = known t IsLink (misfit t c IsLink) (others t c).2
+misfits_hold t c IsMissing = known t IsMissing (misfit t c IsMissing) (others t c).3

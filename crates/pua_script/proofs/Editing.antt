@@ -8,37 +8,16 @@ use Rattle.pua_script.specs.Judged.{edit_by, is_edit}
 -- the change is one of the spot and of what stands there
 pub edits_by : (table : CallTable) (c : Call) (object : Found) → is_edit c ≡ true →
     edit_by c (spot_named object) (node_named object) ≡ change_by table c object
-edits_by table call.Stat object is = absurd (false≢true is)
-edits_by table call.Lstat object is = absurd (false≢true is)
-edits_by table call.Readlink object is = absurd (false≢true is)
-edits_by table call.OpenRead object is = absurd (false≢true is)
-edits_by table call.OpenWrite object is = absurd (false≢true is)
-edits_by table call.OpenBoth object is = absurd (false≢true is)
 edits_by table call.Create object is = refl
 edits_by table call.Mkdir object is = refl
 edits_by table call.Rmdir object is = refl
 edits_by table call.Unlink object is = refl
-edits_by table call.Symlink object is = absurd (false≢true is)
-edits_by table call.Chmod object is = absurd (false≢true is)
-edits_by table call.Chdir object is = absurd (false≢true is)
-edits_by table call.Exec object is = absurd (false≢true is)
+edits_by table _ object is = absurd (false≢true is)
 
 -- and none where no spot was named
 pub nowhere : (c : Call) (there : Option ℕ) → edit_by c None there ≡ NoChange
-nowhere call.Stat there = refl
-nowhere call.Lstat there = refl
-nowhere call.Readlink there = refl
-nowhere call.OpenRead there = refl
-nowhere call.OpenWrite there = refl
-nowhere call.OpenBoth there = refl
 nowhere call.Create there = refl
-nowhere call.Mkdir there = refl
-nowhere call.Rmdir there = refl
-nowhere call.Unlink there = refl
-nowhere call.Symlink there = refl
-nowhere call.Chmod there = refl
-nowhere call.Chdir there = refl
-nowhere call.Exec there = refl
+nowhere _ there = refl
 
 -- what changes at the spot that was named, its name copied
 module _ (change : Option Spot → Option ℕ → Change) (object : Found) where

@@ -109,20 +109,8 @@ call_read : (word : List ℕ) (c : Call) → call_named word ≡ Some c → word
 call_read word c e = sym (same_word (call_name c) word (first_passes (λ d. same_bytes (call_name d) word) calls c e))
 
 form_of_call : (c : Call) (a : List ℕ) → is_symlink c ≡ false → form_of (call_name c) (a ∷ []) ≡ Some (PathForm c a)
-form_of_call call.Stat a other = refl
-form_of_call call.Lstat a other = refl
-form_of_call call.Readlink a other = refl
-form_of_call call.OpenRead a other = refl
-form_of_call call.OpenWrite a other = refl
-form_of_call call.OpenBoth a other = refl
-form_of_call call.Create a other = refl
-form_of_call call.Mkdir a other = refl
-form_of_call call.Rmdir a other = refl
-form_of_call call.Unlink a other = refl
 form_of_call call.Symlink a other = absurd (true≢false other)
-form_of_call call.Chmod a other = refl
-form_of_call call.Chdir a other = refl
-form_of_call call.Exec a other = refl
+form_of_call _ a other = refl
 
 -- what a form asks for
 module _ (n : ℕ) where

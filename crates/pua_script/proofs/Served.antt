@@ -1,17 +1,13 @@
 -- What a world's requests leave, by the worlds of the replay for which it stands.
 use Rattle.pua_script.proofs.Common.{◌≡◌, ℕ, ◌+◌, ◌<◌, List, [], ◌∷◌, ◌++◌, length, take, refl, sym, ap, subst, ◌∙◌, lit<, option_map}
-use Rattle.pua_script.proofs.Common.{Result, Ok, Err, WellFormed, PairRule, CallTable, rule_of, Call, History, Asked}
+use Rattle.pua_script.proofs.Common.{Result, Ok, Err, WellFormed, PairRule, CallTable, History, Asked}
 use Rattle.pua_script.proofs.Common.{World, apply, world_after, WorldState, StandsForWorld, HasHistoryOf}
 use Rattle.pua_script.proofs.Common.{UncoveredStay, AreDone, Answer, state_of, stands as stands_for}
 use Rattle.std.proofs.Common.{get_or, add-one}
 use Rattle.std.proofs.Math.Seq.{take-suc}
 use Rattle.std.specs.Prelude.{IfOk, OnErr, MatchResult}
-use Rattle.pua_calls.proofs.ForCallers.{texts_need_no_error, texts_keep_pairs}
-use Rattle.pua_calls.specs.Calls.{standard_table, openbsd_table}
-use Rattle.pua_calls.specs.Tables.{NeedsNoError}
+use Rattle.pua_calls.proofs.ForCallers.{standard_needs_no_error, openbsd_needs_no_error, texts_need_no_error, texts_keep_pairs}
 use Rattle.pua_calls.specs.declared.rules.Rules.TheVariants.{Profile, Openbsd}
-use Rattle.pua_calls.specs.declared.call.Call.TheVariants.{Stat, Lstat, Readlink, OpenRead, OpenWrite, OpenBoth, Create, Mkdir, Rmdir}
-use Rattle.pua_calls.specs.declared.call.Call.TheVariants.{Unlink, Symlink, Chmod, Chdir, Exec}
 use Rattle.pua_script.specs.Worlds.{IsServed, AreServed}
 use Rattle.pua_script.specs.Tightening.{IsNarrowedBy, EndsWithin}
 use Rattle.pua_script.specs.Confinement.{NeedsC, NamesCpath, TreesAlong}
@@ -23,42 +19,10 @@ use Rattle.pua_script.proofs.Families.{families_narrow}
 use Rattle.pua_script.proofs.Confined.{families_confine}
 use Rattle.pua_script.proofs.Serving.{served_more}
 
-standard_error : (call : Call) → NeedsNoError (rule_of standard_table call)
-standard_error Stat = ((lit< tt, refl), tt)
-standard_error Lstat = ((lit< tt, refl), tt)
-standard_error Readlink = ((lit< tt, refl), tt)
-standard_error OpenRead = ((lit< tt, refl), tt)
-standard_error OpenWrite = ((lit< tt, refl), tt)
-standard_error OpenBoth = ((lit< tt, refl), tt)
-standard_error Create = ((lit< tt, refl), tt)
-standard_error Mkdir = ((lit< tt, refl), tt)
-standard_error Rmdir = ((lit< tt, refl), tt)
-standard_error Unlink = ((lit< tt, refl), tt)
-standard_error Symlink = ((lit< tt, refl), tt)
-standard_error Chmod = ((lit< tt, refl), tt)
-standard_error Chdir = ((lit< tt, refl), tt)
-standard_error Exec = ((lit< tt, refl), tt)
-
-openbsd_error : (call : Call) → NeedsNoError (rule_of openbsd_table call)
-openbsd_error Stat = ((lit< tt, refl), tt)
-openbsd_error Lstat = ((lit< tt, refl), tt)
-openbsd_error Readlink = ((lit< tt, refl), tt)
-openbsd_error OpenRead = ((lit< tt, refl), tt)
-openbsd_error OpenWrite = ((lit< tt, refl), tt)
-openbsd_error OpenBoth = ((lit< tt, refl), tt)
-openbsd_error Create = ((lit< tt, refl), tt)
-openbsd_error Mkdir = ((lit< tt, refl), tt)
-openbsd_error Rmdir = ((lit< tt, refl), tt)
-openbsd_error Unlink = ((lit< tt, refl), tt)
-openbsd_error Symlink = ((lit< tt, refl), tt)
-openbsd_error Chmod = ((lit< tt, refl), tt)
-openbsd_error Chdir = ((lit< tt, refl), tt)
-openbsd_error Exec = ((lit< tt, refl), tt)
-
 pub rules_narrow : RulesNarrow
 rules_narrow Profile = record {
   error = record {
-    calls = standard_error;
+    calls = standard_needs_no_error;
     rename = (((lit< tt, refl), tt), ((lit< tt, refl), tt));
     link = (((lit< tt, refl), tt), ((lit< tt, refl), tt));
   };
@@ -75,7 +39,7 @@ rules_narrow Profile = record {
 }
 rules_narrow Openbsd = record {
   error = record {
-    calls = openbsd_error;
+    calls = openbsd_needs_no_error;
     rename = (((lit< tt, refl), tt), ((lit< tt, refl), tt));
     link = (((lit< tt, refl), tt), ((lit< tt, refl), tt));
   };

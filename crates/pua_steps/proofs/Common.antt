@@ -17,6 +17,7 @@ pub use Rattle.pua_steps.specs.Calls.{has_call}
 unfoldable pub use Rattle.pua_steps.specs.Calls.{calls_of}
 pub use Rattle.pua_steps.specs.Graph.{Graph, Pair, some_pair, Word}
 unfoldable pub use Rattle.pua_steps.specs.Graph.{alone, below, cons, rows}
+pub use Rattle.pua_steps.specs.Limits.{call_count}
 pub use Rattle.pua_steps.specs.Lists.{AreListsOf, is_useful, IsListAt, IsLonger, IsOpen, span_of, within}
 unfoldable pub use Rattle.pua_steps.specs.Lists.{list_of, narrow_of, rest_of}
 pub use Rattle.pua_steps.specs.Live.{bound_of, entrance, IsBound, IsSized}

@@ -1,12 +1,12 @@
 -- A walk that has gone to the word with one letter more.
-use Rattle.pua_steps.proofs.Common.{ℕ, ◌+◌, ◌-◌, ◌<◌, ◌≤◌, ◌≡◌, ◌^◌, List, [], ◌∷◌, ◌++◌, true, ap, arith, sym, ◌∙◌, length, subst}
+use Rattle.pua_steps.proofs.Common.{call_count, ℕ, ◌+◌, ◌-◌, ◌<◌, ◌≤◌, ◌≡◌, ◌^◌, List, [], ◌∷◌, ◌++◌, true, ap, arith, sym, ◌∙◌, length, subst}
 use Rattle.pua_steps.proofs.Common.{vec_capacity, length_push, IfSome, IsTable, IsState, AreListsOf, IsOpen, IsSized, live_of, AreOpen}
 use Rattle.pua_steps.proofs.Common.{IsReady, Frame, Steps, Lists, Walk}
 use Rattle.pua_steps.specs.declared.live.Live as table
 use Rattle.pua_steps.proofs.Base.{all_pushed}
 
 pub entered_ready : (t : Steps) (v : table.Live) (ls : Lists) (limit : ℕ) (word : List ℕ) (front : List Frame) (f : Frame) (letter : ℕ)
-    (b : Walk) → IsTable t → IsSized t v limit → AreListsOf t v limit ls → AreOpen t ls front → IsOpen t ls f → b.calls < 2 ^ 14
+    (b : Walk) → IsTable t → IsSized t v limit → AreListsOf t v limit ls → AreOpen t ls front → IsOpen t ls f → b.calls < 2 ^ call_count
     → IfSome b.behind (λ s. IsState t s × (live_of v (limit - length word - 1) s ≡ true)) → length front ≡ length word → length word < limit
     → b.tables.steps ≡ t → b.tables.live ≡ v → b.tables.counted.lists ≡ ls → b.limit ≡ limit → limit ≤ vec_capacity b.word →
     limit ≤ vec_capacity b.frames → b.word.items ≡ word ++ letter ∷ [] → b.frames.items ≡ front ++ f ∷ [] → b.unchanged ≤ length word →

@@ -1,5 +1,5 @@
 -- Bounds that tell of live states, letter by letter.
-use Rattle.pua_steps.proofs.Common.{ℕ, zero, suc, ◌+◌, ◌-◌, ◌*◌, ◌<◌, ◌≤◌, ◌≡◌, max, List, [], ◌∷◌, ◌++◌, Option, Some, None, Bool, true}
+use Rattle.pua_steps.proofs.Common.{call_count, ℕ, zero, suc, ◌+◌, ◌-◌, ◌*◌, ◌<◌, ◌≤◌, ◌≡◌, max, List, [], ◌∷◌, ◌++◌, Option, Some, None, Bool, true}
 use Rattle.pua_steps.proofs.Common.{false, cond, not, ◌||◌, ◌==◌, nat_lt, nat_le, refl, ap, arith, sym, ◌∙◌, length, get_or, option_map}
 use Rattle.pua_steps.proofs.Common.{◌^◌, suc-mul, mul-le-mul_right, length-append, inl, inr, subst, IfSome, range_with_len, bit_at_above}
 use Rattle.pua_steps.proofs.Common.{cases_lt, cases_eq, cases_Bool, eqb-true, le-leb, lt-leb, lt-ltb, le-ltb, and_parts, w16, has_call}
@@ -49,24 +49,24 @@ unfolding alone
 some_alone [] = refl
 some_alone (c ∷ cs) = refl
 
-pub some_of : (m : ℕ) → m < 2 ^ 14 → some_pair (alone (calls_of m)) ≡ not (m == 0)
+pub some_of : (m : ℕ) → m < 2 ^ call_count → some_pair (alone (calls_of m)) ≡ not (m == 0)
 unfolding calls_of
 some_of m fits =
     elim (cases_Bool (m == 0)) [
       | inl e ↦
           let none : m ≡ 0 = eqb-true m 0 e in
-          ap (λ k. some_pair (alone (filter (has_call k) (range_with_len 0 14)))) none ∙ some_alone [] ∙ ap (λ k. not (k == 0)) (sym none)
+          ap (λ k. some_pair (alone (filter (has_call k) (range_with_len 0 call_count)))) none ∙ some_alone [] ∙ ap (λ k. not (k == 0)) (sym none)
       | inr e ↦
           let more : 0 < m = elim (cases_eq m 0) [ inl none ↦ absurd (eqb-false m 0 e none) | inr some ↦ omega (arith, some) ] in
           let low = bit_at-trailing_zeros w16 m more (omega (arith, fits)) in
           let t : ℕ = trailing_zeros w16 m in
-          let within : t < 14 = elim (cases_lt t 14) [
+          let within : t < call_count = elim (cases_lt t call_count) [
             | inl h ↦ h
-            | inr h ↦ (let bad : 1 ≡ 0 = sym low.1 ∙ bit_at_above m 14 t fits h in
+            | inr h ↦ (let bad : 1 ≡ 0 = sym low.1 ∙ bit_at_above m call_count t fits h in
                 absurd (omega (arith, bad)))
           ] in
-          some_alone (filter (has_call m) (range_with_len 0 14)) ∙
-          kept_in (has_call m) t 0 14 (omega arith) (omega (arith, within)) (ap (λ b. b == 1) low.1) ∙ ap not (sym e)
+          some_alone (filter (has_call m) (range_with_len 0 call_count)) ∙
+          kept_in (has_call m) t 0 call_count (omega arith) (omega (arith, within)) (ap (λ b. b == 1) low.1) ∙ ap not (sym e)
     ]
 
 module _ (g : Graph) where
@@ -97,14 +97,14 @@ module _ (g : Graph) where
   rows_none l = refl
 
   -- by the calls, and by the state after
-  gives_by : (l : ℕ) (v : Visit) (b : Bool) → v.calls < 2 ^ 14 → some_pair (below g l v.behind) ≡ b → gives l v ≡ (not (v.calls == 0) || b)
+  gives_by : (l : ℕ) (v : Visit) (b : Bool) → v.calls < 2 ^ call_count → some_pair (below g l v.behind) ≡ b → gives l v ≡ (not (v.calls == 0) || b)
   gives_by l v b fits behind =
       some_append (alone (calls_of v.calls)) (below g l v.behind) ∙ ap (λ x. x || some_pair (below g l v.behind)) (some_of v.calls fits) ∙
       ap (λ x. not (v.calls == 0) || x) behind
 
   module _ (bounds : List ℕ) (dirs l : ℕ) (cells : (d : ℕ) → d < dirs → IsBound g l d (get_or bounds (l * dirs + d) 0)) where
     -- with few links: the calls where the letter's links are followed, or the state after
-    near : (u : ℕ) (e : Entry) → e.all < 2 ^ 14 → (e.all ≡ 0 → e.kept ≡ 0) → IfSome e.to (λ d. d < dirs) → e.links ≤ 32 → u ≤ 32 →
+    near : (u : ℕ) (e : Entry) → e.all < 2 ^ call_count → (e.all ≡ 0 → e.kept ≡ 0) → IfSome e.to (λ d. d < dirs) → e.links ≤ 32 → u ≤ 32 →
         u + e.links ≤ 32
         → (not (e.all == 0) || some_pair (below g l (option_map (λ to. record { dir = to; used = u + e.links }) e.to)))
         ≡ nat_lt u (bound_of bounds dirs l e)
@@ -183,7 +183,7 @@ module _ (g : Graph) where
         few true (Some d) h = omega (arith, (cells d h).most)
         few false (Some d) h = omega (arith, (cells d h).most)
 
-    module _ (letters m u next : ℕ) (fits : m < 2 ^ 14) where
+    module _ (letters m u next : ℕ) (fits : m < 2 ^ call_count) where
       abbrev left : List Entry → Bool
       left es = some_pair (rows g l (visits_from letters m u next es))
 

@@ -1,5 +1,5 @@
 -- The frame and the visit that a search for a letter finds.
-use Rattle.pua_steps.proofs.Common.{ℕ, zero, suc, ◌+◌, ◌<◌, ◌≤◌, ◌≡◌, List, [], ◌∷◌, Option, Some, None, cond, ◌==◌, refl, ap, arith, sym}
+use Rattle.pua_steps.proofs.Common.{call_count, ℕ, zero, suc, ◌+◌, ◌<◌, ◌≤◌, ◌≡◌, List, [], ◌∷◌, Option, Some, None, cond, ◌==◌, refl, ap, arith, sym}
 use Rattle.pua_steps.proofs.Common.{◌∙◌, length, take, drop, get_or, inl, inr, subst, ◌^◌, cases_Bool, cases_eq, eq-eqb, eqb-true, IfSome}
 use Rattle.pua_steps.proofs.Common.{AllByRecursion, IsSplit, IsTable, IsState, IsVisit, IsEntry, Rising, visit_of, missing_visit, first_of}
 use Rattle.pua_steps.proofs.Common.{visits_from, missing_at, AreListsOf, IsOpen, within, span_of, list_of, narrow_of, rest_of, State, Visit}
@@ -150,7 +150,7 @@ module _ (t : Steps) (v : table.Live) (limit : ℕ) (ls : Lists) (known : IsTabl
           pub missed_visit : IsVisit t (record { letter = a; calls = m; behind = None })
           missed_visit = record {
             letter = within_all;
-            calls = subst (λ k. k < 2 ^ 14) (sym here) (known s.dir is.dir).missing;
+            calls = subst (λ k. k < 2 ^ call_count) (sym here) (known s.dir is.dir).missing;
             behind = tt;
           }
 

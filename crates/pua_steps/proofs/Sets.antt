@@ -1,6 +1,6 @@
 -- Sets of calls as lists.
 use Rattle.std.proofs.Math.Bool.{and-false, and-true}
-use Rattle.pua_steps.proofs.Common.{ℕ, zero, suc, ◌+◌, ◌<◌, ◌≤◌, ◌≡◌, [], ◌∷◌, Bool, true, false, cond, ◌==◌, ◌&&◌, nat_lt, refl, ap, arith}
+use Rattle.pua_steps.proofs.Common.{call_count, ℕ, zero, suc, ◌+◌, ◌<◌, ◌≤◌, ◌≡◌, [], ◌∷◌, Bool, true, false, cond, ◌==◌, ◌&&◌, nat_lt, refl, ap, arith}
 use Rattle.pua_steps.proofs.Common.{sym, ◌∙◌, filter, inl, inr, bit_at, range_with_len, cases_eq, cases_lt, lt-ltb, le-ltb, has_call}
 use Rattle.pua_steps.proofs.Common.{calls_of}
 use Rattle.std.specs.Prelude.{◌≢◌, ◌*◌, ◌/◌, ◌%◌, ◌^◌}
@@ -38,25 +38,25 @@ module _ (f g : ℕ → Bool) where
             ∙ ap (λ b. t ∷ cond b (k ∷ filter g (range_with_len (k + 1) n)) (filter g (range_with_len (k + 1) n))) (sym none)
       ]
 
-pub first_taken : (set rest call : ℕ) → call < 14 → bit_at set call ≡ 1 → ((i : ℕ) → i < call → bit_at set i ≡ 0) → bit_at rest call ≡ 0 →
+pub first_taken : (set rest call : ℕ) → call < call_count → bit_at set call ≡ 1 → ((i : ℕ) → i < call → bit_at set i ≡ 0) → bit_at rest call ≡ 0 →
     ((i : ℕ) → i < 16 → i ≢ call → bit_at rest i ≡ bit_at set i)
     → calls_of set ≡ call ∷ calls_of rest
 unfolding calls_of
 first_taken set rest call within here before gone others =
-    first_from (has_call set) (has_call rest) call 0 14 (omega arith) (omega (arith, within)) (λ i less. ap (λ b. b == 1) (before i less))
+    first_from (has_call set) (has_call rest) call 0 call_count (omega arith) (omega (arith, within)) (λ i less. ap (λ b. b == 1) (before i less))
     (ap (λ b. b == 1) here) (ap (λ b. b == 1) gone)
     (λ i low other. ap (λ b. b == 1) (others i (omega (arith, low)) other))
 
 -- no bit but those of calls counts
-pub low_calls : (set : ℕ) → calls_of (set % 16384) ≡ calls_of set
+pub low_calls : (set : ℕ) → calls_of (set % (2 ^ call_count)) ≡ calls_of set
 unfolding calls_of
-low_calls set = same_from (has_call (set % 16384)) (has_call set) 0 14 (λ i low high. ap (λ b. b == 1) (sym (bit_low i (omega (arith, high)))))
+low_calls set = same_from (has_call (set % (2 ^ call_count))) (has_call set) 0 call_count (λ i low high. ap (λ b. b == 1) (sym (bit_low i (omega (arith, high)))))
   where
-    whole : set / 16384 * 2 ^ 14 + set % 16384 ≡ set
+    whole : set / (2 ^ call_count) * 2 ^ call_count + set % (2 ^ call_count) ≡ set
     whole = omega arith
 
-    bit_low : (i : ℕ) → i < 14 → bit_at (set % 16384) i ≡ bit_at set i
-    bit_low i low = sym (bit_at_cat_low (set / 16384) 14 (set % 16384) i low) ∙ ap (λ n. bit_at n i) whole
+    bit_low : (i : ℕ) → i < call_count → bit_at (set % (2 ^ call_count)) i ≡ bit_at set i
+    bit_low i low = sym (bit_at_cat_low (set / (2 ^ call_count)) call_count (set % (2 ^ call_count)) i low) ∙ ap (λ n. bit_at n i) whole
 
 pub no_calls : calls_of 0 ≡ []
 unfolding calls_of
@@ -78,7 +78,7 @@ pub calls_dropped : (set rest call : ℕ) → ((i : ℕ) → i ≤ call → bit_
     ((i : ℕ) → i < 16 → call < i → bit_at rest i ≡ bit_at set i) → calls_of rest ≡ filter (λ other. nat_lt call other) (calls_of set)
 unfolding calls_of
 calls_dropped set rest call low high =
-    kept_from (has_call set) (λ other. nat_lt call other) (has_call rest) 0 14 (λ i from to. elim (cases_lt call i) [
+    kept_from (has_call set) (λ other. nat_lt call other) (has_call rest) 0 call_count (λ i from to. elim (cases_lt call i) [
       | inl h ↦ ap (λ b. b == 1) (high i (omega (arith, to)) h) ∙ sym (ap (λ b. has_call set i && b) (lt-ltb call i h) ∙
           and-true (has_call set i))
       | inr h ↦ ap (λ b. b == 1) (low i h) ∙ sym (ap (λ b. has_call set i && b) (le-ltb call i h) ∙ and-false (has_call set i))

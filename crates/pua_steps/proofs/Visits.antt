@@ -1,5 +1,5 @@
 -- The letters of an open state, one after another.
-use Rattle.pua_steps.proofs.Common.{ℕ, zero, suc, ◌+◌, ◌-◌, ◌<◌, ◌≤◌, ◌≡◌, List, [], ◌∷◌, ◌++◌, Bool, true, false, not, cond, nat_lt}
+use Rattle.pua_steps.proofs.Common.{call_count, ℕ, zero, suc, ◌+◌, ◌-◌, ◌<◌, ◌≤◌, ◌≡◌, List, [], ◌∷◌, ◌++◌, Bool, true, false, not, cond, nat_lt}
 use Rattle.pua_steps.proofs.Common.{nat_le, ◌==◌, refl, ap, arith, sym, ◌∙◌, length, map, drop, get_or, Some, None, Option, option_map, inl}
 use Rattle.pua_steps.proofs.Common.{inr, subst, ◌^◌, IfSome, range_with_len, AllByRecursion, and_parts, cases_Bool, entries_at, missing_at}
 use Rattle.pua_steps.proofs.Common.{visit_of, missing_visit, gap, has_gap, end_of, first_of, visits_from, IsEntry, IsVisit, IsState, Rising}
@@ -120,7 +120,7 @@ visit_is t used e is low =
     leads (Some d) h fits = record { dir = h; used = fits }
 
 -- a letter without an entry that comes next
-pub gap_is : (t : Steps) (m next : ℕ) (es : List Entry) → m < 2 ^ 14 → AllByRecursion (λ e. IsEntry t e) es →
+pub gap_is : (t : Steps) (m next : ℕ) (es : List Entry) → m < 2 ^ call_count → AllByRecursion (λ e. IsEntry t e) es →
     has_gap m next (end_of t.letters (first_of es)) ≡ true → IsVisit t (missing_visit m next)
 gap_is t m next es fits all some =
     let less : next < end_of t.letters (first_of es) =

@@ -1,5 +1,5 @@
 -- The pairs that a table of steps gives are of its letters and of calls that there are.
-use Rattle.pua_steps.proofs.Common.{ℕ, zero, suc, ◌+◌, ◌-◌, ◌<◌, ◌≤◌, List, [], ◌∷◌, ◌++◌, Option, Some, None, Bool, true, false, cond}
+use Rattle.pua_steps.proofs.Common.{call_count, ℕ, zero, suc, ◌+◌, ◌-◌, ◌<◌, ◌≤◌, List, [], ◌∷◌, ◌++◌, Option, Some, None, Bool, true, false, cond}
 use Rattle.pua_steps.proofs.Common.{◌==◌, arith, map, filter, IfSome, range_with_len, AllByRecursion, has_call, calls_of, Pair, cons, alone}
 use Rattle.pua_steps.proofs.Common.{below, visit_of, missing_visit, gap, visits_from, graph_of, missing_at, entries_at, IsEntry, IsState}
 use Rattle.pua_steps.proofs.Common.{IsTable, State, Visit, Entry, Steps}
@@ -22,12 +22,12 @@ kept_below most test (c ∷ cs) all =
       | false ↦ kept_below most test cs all.1
     ]
 
-calls_below : (set : ℕ) → AllByRecursion (λ c. c < 14) (calls_of set)
+calls_below : (set : ℕ) → AllByRecursion (λ c. c < call_count) (calls_of set)
 unfolding calls_of
-calls_below set = kept_below 14 (has_call set) (range_with_len 0 14) (range_below 14 0 14 (omega arith))
+calls_below set = kept_below call_count (has_call set) (range_with_len 0 call_count) (range_below call_count 0 call_count (omega arith))
 
 module _ (letters : ℕ) where
-  alone_within : (cs : List ℕ) → AllByRecursion (λ c. c < 14) cs → AllByRecursion (λ p. IsPair letters p) (alone cs)
+  alone_within : (cs : List ℕ) → AllByRecursion (λ c. c < call_count) cs → AllByRecursion (λ p. IsPair letters p) (alone cs)
   unfolding alone
   alone_within [] all = tt
   alone_within (c ∷ cs) all = (record { word = tt; call = all.0 }, alone_within cs all.1)

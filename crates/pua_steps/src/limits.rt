@@ -1,4 +1,7 @@
-//! The limit of links on a path of a table of steps.
+//! The limits of a table of steps.
 
 /// The most symbolic links that are followed on one path, after which it is ELOOP.
 pub(crate) const MOST_LINKS: u8 = 32;
+
+/// How many calls there are.
+pub(crate) const CALL_COUNT: u8 = 14;

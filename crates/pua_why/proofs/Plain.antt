@@ -46,20 +46,12 @@ module _ (w : World) where
   plain_tying x (Some spot) = refl
 
   plain_change : (table : CallTable) (c : Call) (object : Found) → Plain (change_by table c object)
-  plain_change table call.Stat object = refl
-  plain_change table call.Lstat object = refl
-  plain_change table call.Readlink object = refl
-  plain_change table call.OpenRead object = refl
-  plain_change table call.OpenWrite object = refl
-  plain_change table call.OpenBoth object = refl
   plain_change table call.Create object = plain_placing _ (spot_named object) (node_named object)
   plain_change table call.Mkdir object = plain_placing _ (spot_named object) (node_named object)
   plain_change table call.Rmdir object = plain_cutting (spot_named object) (node_named object)
   plain_change table call.Unlink object = plain_cutting (spot_named object) (node_named object)
-  plain_change table call.Symlink object = refl
-  plain_change table call.Chmod object = refl
   plain_change table call.Chdir object = plain_going object
-  plain_change table call.Exec object = refl
+  plain_change table _ object = refl
 
   is_plain : (change other : Change) → change ≡ other → Plain other → Plain change
   is_plain change other is plain = ap (process_fault w) is ∙ plain

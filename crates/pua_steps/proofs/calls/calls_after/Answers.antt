@@ -1,4 +1,4 @@
-use Rattle.pua_steps.proofs.Common.{◌≡◌, ◌+◌, ◌<◌, refl, arith, ◌∙◌, subst, inl, inr, cases_lt, bit_at}
+use Rattle.pua_steps.proofs.Common.{call_count, ◌≡◌, ◌+◌, ◌<◌, refl, arith, ◌∙◌, subst, inl, inr, cases_lt, bit_at}
 use Rattle.pua_steps.proofs.Sets.{calls_dropped}
 use Rattle.pua_steps.proofs.calls.calls_after.Goals as goal
 
@@ -8,7 +8,7 @@ loop-other-init c = record { small = omega arith; gone = λ i h. absurd (omega (
 pub loop-other-preserved : goal.loop-other-preserved
 loop-other-preserved c =
     let inv = c.loop-other.invariant in
-    let within : c.loop-other.other < 14 = omega (arith, c.loop-other-test.true, c.requires.call) in
+    let within : c.loop-other.other < call_count = omega (arith, c.loop-other-test.true, c.requires.call) in
     record {
       small = omega (arith, c.without-rest.ensures.within, inv.small);
       gone = λ i h. elim (cases_lt i c.loop-other.other) [

@@ -3,13 +3,13 @@ use Rattle.std.proofs.Common.{◌-◌, ◌%◌}
 use Rattle.std.proofs.lemmas.Nat.Bits.{bit_at_set_same, bit_at_set_other}
 use mir.Syntax.{w16}
 use Rattle.pua_calls.specs.CallSets.{bit_of}
-use Rattle.pua_calls.proofs.CallBits.{bit_below, same_bit, single_below}
+use Rattle.pua_calls.proofs.CallBits.{bit_below, call_count, same_bit, single_below}
 use Rattle.pua_calls.proofs.calls.Calls.with.Goals as goal
 
 pub invariant_of-result : goal.invariant_of-result
 invariant_of-result c =
     let bit : bit_of c.args.call ≡ c.number.result - 1 = ap (λ n. n - 1) (sym c.number.ensures) in
-    or_lt 14 _ _ c.self.invariant (subst (λ n. 1 * 2 ^ n % 65536 < 2 ^ 14) bit (single_below c.args.call))
+    or_lt call_count _ _ c.self.invariant (subst (λ n. 1 * 2 ^ n % 65536 < 2 ^ call_count) bit (single_below c.args.call))
 
 pub returns-clause-here : goal.returns-clause-here
 returns-clause-here c =

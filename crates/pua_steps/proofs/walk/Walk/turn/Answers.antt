@@ -1,4 +1,4 @@
-use Rattle.pua_steps.proofs.Common.{◌<◌, ◌^◌, ℕ, List, true, ◌≡◌, ◌+◌, ◌-◌, ◌≤◌, length, take, set, vec_capacity, [], ◌∷◌, ◌++◌, refl, sym}
+use Rattle.pua_steps.proofs.Common.{call_count, ◌<◌, ◌^◌, ℕ, List, true, ◌≡◌, ◌+◌, ◌-◌, ◌≤◌, length, take, set, vec_capacity, [], ◌∷◌, ◌++◌, refl, sym}
 use Rattle.pua_steps.proofs.Common.{arith, ◌∙◌, ap, subst, length_push, common_steps, IfSome, option_to_list, IsState, IsOpen, narrow_of}
 use Rattle.pua_steps.proofs.Common.{rest_of, live_of, calls_of, ahead, pending, IsCounted, looks, AreOpen, rests_of, Frame, Steps, Lists}
 use Rattle.pua_steps.proofs.Entering.{entered_ready}
@@ -192,7 +192,7 @@ returns-in-Some-clause-ready c =
     inv.sound.table inv.sound.sized inv.sound.listed
     (all_front (λ f. IsOpen a.tables.steps a.tables.counted.lists f) front f (subst (AreOpen a.tables.steps a.tables.counted.lists) split inv.states)).0
     c.next_visit.ensures.open
-    (subst (λ n. n < 2 ^ 14) (sym c.go_by.ensures.calls) given.calls) stands even short (c.go_by.ensures.steps ∙
+    (subst (λ n. n < 2 ^ call_count) (sym c.go_by.ensures.calls) given.calls) stands even short (c.go_by.ensures.steps ∙
     c.next_visit.ensures.steps) (c.go_by.ensures.live ∙ c.next_visit.ensures.live) (c.go_by.ensures.lists ∙
     c.next_visit.ensures.lists) c.go_by.ensures.limit
     (omega (arith, inv.sound.room.words, c.go_by.ensures.room)) (subst (λ v. a.limit ≤ vec_capacity v) (sym c.go_by.ensures.frames)
