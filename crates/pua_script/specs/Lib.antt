@@ -17,7 +17,8 @@ pub mod ErrorTables
 pub mod Futures
 -- Worked rows, which hold by computation.
 pub mod Examples
--- Notes: what a reader of lines adds, for which worlds of the replay a world of the code stands, and what it decides.
+-- Notes: what a reader of lines adds, a request with other arguments, for which worlds of the replay a world of the code stands, and what it decides.
 pub mod Added
+pub mod Regiven
 pub mod Worlds
 pub mod Judged

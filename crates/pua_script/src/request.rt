@@ -107,6 +107,7 @@ impl PathBytes {
 
 impl Request {
     ghost use Rattle.pua_script.specs.Requests.{Asked, is_asked, is_askable};
+    ghost use Rattle.pua_script.specs.Regiven.{with_lists, with_perms};
     ghost use Rattle.pua_script.specs.Added.{IsActionAdded};
 
     /// The number of the process that asks.
@@ -123,6 +124,26 @@ impl Request {
         ensures asked { IsTrue (is_asked self.now) }
     {
         &self.action
+    }
+
+    /// Gives a pledge these arguments in the place of its own. Any other request stays as it is.
+    pub fn set_lists(&mut self, promises: Given, execpromises: Given)
+        ensures { self.new ≡ with_lists promises execpromises self.old }
+    {
+        if let Action::Pledge(first, second) = &mut self.action {
+            *first = promises;
+            *second = execpromises;
+        }
+    }
+
+    /// Gives an unveil of a path these permissions in the place of its own, None for a letter that is
+    /// unknown. Any other request stays as it is.
+    pub fn set_perms(&mut self, perms: Option<Perms>)
+        ensures { self.new ≡ with_perms perms self.old }
+    {
+        if let Action::Unveil(_, kept) = &mut self.action {
+            *kept = perms;
+        }
     }
 
     /// Adds what this process asks for to some requests. `OutOfMemory` is its only error.

@@ -33,6 +33,13 @@ impl Script {
     {
         self.requests.as_slice()
     }
+
+    /// The requests, as a vector of one's own.
+    pub fn into_requests(self) -> Vec<Request>
+        ensures { result.items ≡ self }
+    {
+        self.requests
+    }
 }
 
 /// Reads a script: one request a line, 60,000 lines at most. A line ends in LF or CRLF; the last

@@ -1,6 +1,7 @@
 //! Of scripts and of the requests that they have.
 
-use pua_script::{Action, read_script};
+use pua_calls::{Perms, Promises};
+use pua_script::{Action, Given, read_request, read_script};
 use std::alloc::Global;
 
 /// A line that has no request is a fault of the script.
@@ -17,6 +18,44 @@ fn no_requests(alloc: Global) {
         return;
     };
     if script.requests().is_empty() {
+        unreachable!()
+    }
+}
+
+/// So have the requests that it gives away.
+fn no_requests_given_away(alloc: Global) {
+    let Ok(script) = read_script(alloc, b"1 exit\n") else {
+        return;
+    };
+    if script.into_requests().is_empty() {
+        unreachable!()
+    }
+}
+
+/// A pledge that is given other promises has them.
+fn lists_stay(alloc: Global) {
+    let Ok(mut request) = read_request(alloc, 1, b"1 pledge rpath -") else {
+        return;
+    };
+    request.set_lists(Given::Good(Promises::NONE), Given::Null);
+    let Action::Pledge(Given::Good(promises), _) = request.action() else {
+        unreachable!()
+    };
+    if *promises != Promises::NONE {
+        unreachable!()
+    }
+}
+
+/// An unveil that is given other permissions has them.
+fn perms_stay(alloc: Global) {
+    let Ok(mut request) = read_request(alloc, 1, b"1 unveil / r") else {
+        return;
+    };
+    request.set_perms(Some(Perms::NONE));
+    let Action::Unveil(_, Some(perms)) = request.action() else {
+        unreachable!()
+    };
+    if *perms != Perms::NONE {
         unreachable!()
     }
 }
