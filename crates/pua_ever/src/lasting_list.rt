@@ -31,6 +31,7 @@ pub enum ExecBound {
 }
 
 /// The list for ever that holds longest.
+#[derive(Drop)]
 pub struct LastingList<'t> {
     /// Its rows, of which some may have no calls.
     pub rows: Vec<EverRow<'t>>,
