@@ -1,7 +1,8 @@
 #!/usr/bin/perl
 # Tests of `pua objects --ever` over random worlds by a fixed seed: perl tests/ever.t [PROGRAM]
 # In each world process 1 can put no veil any more. What it can touch now lies within what it can ever touch; and so
-# does what it and what it forks can touch behind random requests of theirs, short of an exec that succeeds. Things
+# does what it and what it forks can touch behind random requests of theirs: short of an exec that succeeds where what
+# is started isn't bounded, and else whatever is started. Things
 # are followed through renames by a model (Model.pm) of which the same is requested. The list for ever is that of a
 # plain model, too (EverModel.pm), so it isn't too long; and what can have no such list is refused.
 use strict;
@@ -36,6 +37,9 @@ my @PLEDGES = (
     ('1 pledge stdio,rpath,wpath,cpath,fattr,exec,proc -') x 3, '1 pledge rpath,wpath,cpath,exec,proc -',
     '1 pledge rpath,cpath,proc,error -', '1 pledge wpath,cpath,proc -', '1 pledge rpath,wpath,fattr,proc -',
     '1 pledge rpath,wpath,cpath -', '1 pledge exec,rpath -', '1 pledge = -',
+    ('1 pledge stdio,rpath,proc,exec stdio,rpath,wpath,cpath') x 3, '1 pledge rpath,proc,exec wpath,cpath,exec,proc',
+    '1 pledge rpath,wpath,cpath,exec,proc rpath,exec', '1 pledge exec,proc rpath,wpath,cpath,fattr',
+    '1 pledge rpath,cpath,exec wpath,cpath', '1 pledge rpath,exec,proc rpath,cpath,unveil',
 );
 
 # What its veils give.
@@ -48,17 +52,19 @@ my @RULES = qw(profile profile openbsd table);
 my @NEED_C = qw(rmdir unlink create mkdir symlink);
 
 my $worlds = Worlds->new($SEED);
-my %counts = map { $_ => 0 } qw(lists answers calls met execs tries plays);
+my %counts = map { $_ => 0 } qw(lists answers calls met execs bounded tries plays);
 
 for my $number (1 .. $WORLDS) {
     my $world = world($number);
     ok(!is_told($world, beyond_now($world)), "world $number: what can be touched now is in the list for ever");
+    is(exec_word($world), exec_wanted($world), "world $number: whether what is started is bounded");
     ok(!is_told($world, not_modelled($world)), "world $number: the list for ever is that of the model");
     ok(!is_told($world, beyond_ever($world)), "world $number: it has what can be touched in $PLAYS futures");
     ok(!$world->{stray}, "world $number: no exec succeeds where it has none");
 }
 note("$counts{lists} lists and $counts{answers} answers in $counts{plays} futures within lists for ever, of which ",
-    "$counts{met} calls of $counts{calls} were met; $counts{execs} futures ended by an exec, and ",
+    "$counts{met} calls of $counts{calls} were met; $counts{execs} futures ended by an exec, $counts{bounded} execs ",
+    'were bounded, and ',
     "$counts{tries} failed where the list has none");
 refusals();
 done_testing();
@@ -179,12 +185,23 @@ sub beyond_now {
     return;
 }
 
+# What the list for ever says of execs, and what the model does: nothing where no line has one.
+sub exec_word { return (Lists::state_of($_[0]{ever}, 'exec'))[0] }
+
+sub exec_wanted {
+    my ($world) = @_;
+    return if !grep { EverModel::has_exec($_) } EverModel::lines($world->{model}, 1);
+    return EverModel::bound($world->{model}, 1) ? 'bounded' : 'open';
+}
+
+sub is_bounded { my $word = exec_word($_[0]); return defined $word && $word eq 'bounded' }
+
 # The lists for ever of these two and those of the model, if they differ.
 sub not_modelled {
     my ($world) = @_;
     for my $process (1, $CHILD) {
         my @lines  = map { $_->{text} } @{ ever_of($world, $process)->{lines} };
-        my @wanted = EverModel::lines($world->{model}, $process);
+        my @wanted = EverModel::lasting($world->{model}, $process);
         return join "\n", "process $process:", @lines, 'and by the model:', @wanted if "@lines" ne "@wanted";
     }
     return;
@@ -195,7 +212,8 @@ sub not_modelled {
 sub beyond_ever {
     my ($world) = @_;
     my $first = $world->{files}{script};
-    my %holds = map { $_ => Lists::holds($world->{now}, $_) } qw(proc exec);
+    my %holds = map { $_ => Lists::holds($world->{now}, $_) || Lists::hands_down($world->{now}, $_) } qw(proc exec);
+    $holds{bounded} = is_bounded($world);
     for (1 .. $PLAYS) {
         $world->{files}{script} = $first;
         my $futures = Futures->new($worlds, $world->{foreseen}->every, \%holds, 10);
@@ -248,7 +266,7 @@ sub asked_behind {
     return lists_of(asked($world, 'objects', '--process', 'all'));
 }
 
-# The fault of a request and its answer. An exec that succeeds isn't served by the model.
+# The fault of a request and its answer. An exec by which a future ends isn't served by the model.
 sub beyond_answer {
     my ($world, $play, $line, $answer) = @_;
     my ($asker, $call, @words) = split / /, $line;
@@ -274,9 +292,9 @@ sub beyond_okay {
 
 sub note_exec {
     my ($world, $play) = @_;
-    $play->{has_exec} = 1;
-    $counts{execs}++;
     $world->{stray} = 1 if !$world->{foreseen}->every->{exec};
+    $counts{ is_bounded($world) ? 'bounded' : 'execs' }++;
+    $play->{has_exec} = 1 if !is_bounded($world);
     return;
 }
 
@@ -296,14 +314,16 @@ sub beyond_lists {
     return;
 }
 
-# A member of the family keeps the veils of process 1, as far as letters go, and gets no promise but error.
+# A member of the family keeps the veils of process 1, as far as letters go, and gets no promise but error, and those
+# that were handed down.
 sub beyond_state {
     my ($first, $list) = @_;
     return if !Lists::is_alive($list);
     return "can put veils again" if !Lists::is_confined($list);
     return "has other veils" if "@{ [ letters($first) ] }" ne "@{ [ letters($list) ] }";
     my ($promises) = Lists::state_of($list, 'promises');
-    my @more = grep { $_ ne 'error' && $_ ne '=' && !Lists::holds($first, $_) } split /,/, $promises;
+    my @more = grep { $_ ne 'error' && $_ ne '=' && !Lists::holds($first, $_) && !Lists::hands_down($first, $_) }
+        split /,/, $promises;
     return @more ? "has further promises: @more" : undef;
 }
 

@@ -1,4 +1,5 @@
-# A plain model of the list for ever, written from "All that can ever be touched" in docs/DEFINITIONS.md. It asks a
+# A plain model of the list for ever, written from "All that can ever be touched" and "The same through execs" in
+# docs/DEFINITIONS.md. It asks a
 # world of Model.pm. A cover is a text of letters, or undef where no veil covers.
 package EverModel;
 use strict;
@@ -36,6 +37,51 @@ sub lines {
     $ever->{renames} = $ever->_promises('old name of rename') && $ever->_promises('new name of rename');
     $ever->_find_covers;
     return ($ever->_lines_in(0), map { $ever->_new_line($_) } @NEW);
+}
+
+# The lines of the list that holds longest: of the process alone where none has exec, or what is started isn't bounded;
+# else through execs.
+sub lasting {
+    my ($model, $number) = @_;
+    my @alone = lines($model, $number);
+    my $given = bound($model, $number);
+    return $given && grep({ has_exec($_) } @alone) ? _through($model, $number, $given) : @alone;
+}
+
+# The execpromises by which all that a process starts is bounded; nothing where it isn't.
+sub bound {
+    my ($model, $number) = @_;
+    my $process = $model->{processes}{$number};
+    return if !$process->{execpromises};
+    my $started = { promises => $process->{execpromises} };
+    return if !$model->{openbsd} && _lets($model, $started, 'exec');
+    return if !$process->{locked} && grep { Model::_holds($_, 'unveil') } $process, $started;
+    return $process->{execpromises};
+}
+
+sub has_exec { return $_[0] =~ /[ ,]exec\z/ }
+
+# The lines of a process that holds both sets, with the calls that one of the two lets through.
+sub _through {
+    my ($model, $number, $given) = @_;
+    my $process = $model->{processes}{$number};
+    my $held = $process->{promises};
+    my $both = $held && { map { $_ => 1 } grep { $held->{$_} || $given->{$_} } keys %$held, keys %$given };
+    my %passes;
+    for my $call (@Model::CALLS) {
+        $passes{$call} = grep { _lets($model, $_, $call) } $process, { promises => $given };
+    }
+    local $model->{processes}{$number} = { %$process, promises => $both, execpromises => undef };
+    return map { _let_through($_, \%passes) } lines($model, $number);
+}
+
+# What is left of a line: nothing of what is made by a call that isn't let through.
+sub _let_through {
+    my ($line, $passes) = @_;
+    my ($kind, $path, $calls) = split / /, $line;
+    return () if $path eq 'new' && grep { $_->{kind} eq $kind && !$passes->{ $_->{call} } } @NEW;
+    my @left = grep { $passes->{$_} } split /,/, $calls;
+    return @left ? "$kind $path " . join(',', @left) : ();
 }
 
 # --- Covers ---
@@ -160,10 +206,13 @@ sub _can_link {
 
 # --- Lines ---
 
-sub _promises {
-    my ($ever, $call) = @_;
-    for my $set (@{ $ever->{model}{needs}{$call}[0] }) {
-        return 1 if !grep { !Model::_holds($ever->{process}, $_) } split /,/, $set;
+sub _promises { return _lets($_[0]{model}, $_[0]{process}, $_[1]) }
+
+# Whether what a process holds lets a call through.
+sub _lets {
+    my ($model, $process, $call) = @_;
+    for my $set (@{ $model->{needs}{$call}[0] }) {
+        return 1 if !grep { !Model::_holds($process, $_) } split /,/, $set;
     }
     return 0;
 }

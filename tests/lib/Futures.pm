@@ -12,15 +12,15 @@ my @EDITS = (
 my @LOOKS = qw(stat lstat readlink open-r open-w open-rw chmod chdir chdir chdir);
 
 # Draws from a generator of worlds. %$calls has each call that can ever be allowed on something: others are drawn
-# seldom, since a process mostly ends by them. %$holds says whether the processes hold proc and exec; whoever can't
-# execute anything tries it more often, for nothing comes of it. The first child that is forked has the number
-# $child.
+# seldom, since a process mostly ends by them. %$holds says whether the processes hold proc and exec, and whether what
+# is started is bounded; whoever can't execute anything, or goes on then, tries it more often. The first child that is
+# forked has the number $child.
 sub new {
     my ($class, $worlds, $calls, $holds, $child) = @_;
     my %may = map { $_ => 1 } keys %$calls;
     $may{rename} = $may{link} = 1 if grep { $may{$_} } qw(create mkdir rmdir unlink symlink);
     return bless {
-        worlds => $worlds, holds => $holds, child => $child, exec_in => $may{exec} ? 4 : 1,
+        worlds => $worlds, holds => $holds, child => $child, exec_in => $may{exec} && !$holds->{bounded} ? 4 : 1,
         edits  => [ grep { $may{$_} } @EDITS ],
         looks  => [ grep { $may{$_} } @LOOKS ],
     }, $class;

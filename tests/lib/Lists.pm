@@ -24,7 +24,7 @@ sub lists_of {
             next;
         }
         $list->{text} .= "$line\n";
-        if ($kind =~ /\A(?:process|promises|execpromises|unveil|veil)\z/) {
+        if ($kind =~ /\A(?:process|promises|execpromises|unveil|exec|veil)\z/) {
             push @{ $list->{state} }, \@words;
             next;
         }
@@ -52,12 +52,20 @@ sub is_confined {
     return !defined $unveil || $unveil ne 'open';
 }
 
-# Whether the process holds a promise.
+# Whether the process holds a promise; and whether it hands one down.
 sub holds {
     my ($list, $promise) = @_;
     my ($promises) = state_of($list, 'promises');
-    return defined $promises && ($promises eq '-' || ",$promises," =~ /,\Q$promise\E,/) ? 1 : 0;
+    return defined $promises && ($promises eq '-' || _names($promises, $promise)) ? 1 : 0;
 }
+
+sub hands_down {
+    my ($list, $promise) = @_;
+    my ($promises) = state_of($list, 'execpromises');
+    return defined $promises && _names($promises, $promise) ? 1 : 0;
+}
+
+sub _names { return ",$_[0]," =~ /,\Q$_[1]\E,/ }
 
 # The calls of each line of a list, by its kind and path.
 sub calls_at {

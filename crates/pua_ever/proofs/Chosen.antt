@@ -6,7 +6,8 @@ use Rattle.pua_policy.specs.History.{Locked, with_both}
 use Rattle.pua_ever.specs.Refusals.{refusal, can_unveil, lacks_c, changing_calls, table_refusal}
 use Rattle.pua_ever.specs.declared.refusal.Refusal.{Refusal}
 use Rattle.pua_ever.specs.declared.refusal.Refusal.TheVariants.{CanUnveil}
-use Rattle.pua_ever.specs.Through.{is_promised_by_one, only_through, ever_through, has_exec, bound_of, ever_lasting}
+use Rattle.pua_ever.specs.Through.{is_promised_by_one, only_through, ever_through, has_exec, bound_of, ever_lasting, execs_of}
+use Rattle.pua_ever.specs.declared.lasting_list.ExecBound.TheVariants.{Never, Bounded, Open}
 
 -- the lines of who holds both sets, with the calls that one lets through, are the list through execs
 pub through_lines : (t : Tree) (table : CallTable) (h : History) (given set : ℕ) →
@@ -25,6 +26,26 @@ lasting_alone t table h given e none = rw (e, none) refl
 pub lasting_through : (t : Tree) (table : CallTable) (h : History) (given : ℕ) → bound_of table h ≡ Some given →
     has_exec (ever t table h) ≡ true → ever_lasting t table h ≡ ever_through t table h given
 lasting_through t table h given e some = rw (e, some) refl
+
+pub lasting_unstarted : (t : Tree) (table : CallTable) (h : History) → has_exec (ever t table h) ≡ false →
+    ever_lasting t table h ≡ ever t table h
+lasting_unstarted t table h none = by (bound_of table h) refl
+  where
+    by : (o : Option ℕ) → bound_of table h ≡ o → ever_lasting t table h ≡ ever t table h
+    by None is = lasting_unbounded t table h is
+    by (Some given) is = lasting_alone t table h given is none
+
+-- what the list says of execs
+pub starts_never : (t : Tree) (table : CallTable) (h : History) → has_exec (ever t table h) ≡ false → execs_of t table h ≡ Never
+starts_never t table h none = rw none refl
+
+pub starts_open : (t : Tree) (table : CallTable) (h : History) → has_exec (ever t table h) ≡ true → bound_of table h ≡ None →
+    execs_of t table h ≡ Open
+starts_open t table h some e = rw (some, e) refl
+
+pub starts_bounded : (t : Tree) (table : CallTable) (h : History) (given : ℕ) → has_exec (ever t table h) ≡ true →
+    bound_of table h ≡ Some given → execs_of t table h ≡ Bounded
+starts_bounded t table h given some e = rw (some, e) refl
 
 -- who holds both may be locked as well: the lines are the same, and nothing refuses them that doesn't refuse those of the process
 pub locked_same : (t : Tree) (table : CallTable) (h : History) → ever t table (Locked ∷ h) ≡ ever t table h

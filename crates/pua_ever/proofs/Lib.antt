@@ -36,3 +36,4 @@ pub mod Lasts
 pub mod Chosen
 pub mod ForCallers
 pub mod RowsTell
+pub mod RowsLast

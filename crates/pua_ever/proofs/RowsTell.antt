@@ -22,14 +22,14 @@ use Rattle.pua_ever.specs.declared.made.Made.{Made}
 use Rattle.pua_ever.specs.declared.made.Made.TheVariants as made
 use Rattle.pua_ever.proofs.Lined.{lines_cons, now_lines, made_lines, freed_name, freed_lines}
 
-last_row_more : (before : Word) (rows : List EverRow) (row : EverRow) →
+pub last_row_more : (before : Word) (rows : List EverRow) (row : EverRow) →
     last_row_word before (rows ++ row ∷ []) ≡ word_of_row (last_row_word before rows) row
 last_row_more before [] row = refl
 last_row_more before (r ∷ rows) row = last_row_more (word_of_row before r) rows row
 
 module _ (t : Tree) where
   -- a row more tells the first of the rest
-  told_more : (before : Word) (rows : List EverRow) (row : EverRow) (about : Thing) (lines rest : List EverLine) → IsThing t about row.line.thing →
+  pub told_more : (before : Word) (rows : List EverRow) (row : EverRow) (about : Thing) (lines rest : List EverLine) → IsThing t about row.line.thing →
       AreEverTold t before rows lines (filter has_ever_calls (line_with (word_of_row (last_row_word before rows) row) about row.line ∷ []) ++ rest) →
       AreEverTold t before (rows ++ row ∷ []) lines rest
   told_more before [] row about lines rest is told = (about, rest, is, told, refl)

@@ -354,7 +354,7 @@ starts_through_execs table sound needs w asks members now given bounded are stan
     starts_all table sound needs now given bounded w asks stand trees members are edits member belongs
 
 -- where no line has exec the list is that of the process itself
-no_line : (t : Tree) (table : CallTable) (h : History) → has_exec (ever t table h) ≡ false → NoLineHasExec t table h
+pub no_line : (t : Tree) (table : CallTable) (h : History) → has_exec (ever t table h) ≡ false → NoLineHasExec t table h
 no_line t table h none line listed has =
     false≢true (sym none ∙ any_among (λ l. list_any is_exec_call l.calls) (ever t table h) line
     (among_contained (ever t table h) line listed)

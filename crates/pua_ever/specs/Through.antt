@@ -28,6 +28,8 @@ use Rattle.pua_script.specs.Tightening.{NoCallNeedsError}
 use Rattle.pua_script.specs.Confinement.{TakingNeedsC, TreesAlong, UncoveredStay}
 use Rattle.pua_objects.specs.Objects.{Line, objects}
 use Rattle.pua_ever.specs.Ever.{maker, Thing, Stands, Comes, EverLine, is_exec_call, ever, has_ever_calls}
+use Rattle.pua_ever.specs.declared.lasting_list.ExecBound.{ExecBound}
+use Rattle.pua_ever.specs.declared.lasting_list.ExecBound.TheVariants.{Never, Bounded, Open}
 use Rattle.pua_ever.specs.Laws.{EditsNeedC, VeilsStand, MembersEdit, ForeseesIn, ForeseesStartsIn, IsWithinLines}
 
 -- one of the two sets lets a call through
@@ -84,6 +86,14 @@ ever_lasting t table h = by (bound_of table h)
     by : Option ℕ → List EverLine
     by None = ever t table h
     by (Some given) = if has_exec (ever t table h) then ever_through t table h given else ever t table h
+
+-- what it says of execs: nothing where no line of the process itself has one; else whether what is started is bounded
+abbrev pub execs_of : Tree → CallTable → History → ExecBound
+execs_of t table h = if has_exec (ever t table h) then by (bound_of table h) else Never
+  where
+    by : Option ℕ → ExecBound
+    by None = Open
+    by (Some given) = Bounded
 
 -- The laws.
 

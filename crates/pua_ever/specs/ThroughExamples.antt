@@ -7,7 +7,8 @@ use Rattle.pua_calls.specs.Calls.{CallTable, standard_table, openbsd_table}
 use Rattle.pua_policy.specs.History.{History, Pledged, Unveiled, Locked, new_history}
 use Rattle.pua_policy.specs.declared.place.Place.TheVariants as place
 use Rattle.pua_ever.specs.Ever.{ever, ever_line_text}
-use Rattle.pua_ever.specs.Through.{ever_lasting}
+use Rattle.pua_ever.specs.Through.{ever_lasting, execs_of}
+use Rattle.pua_ever.specs.declared.lasting_list.ExecBound.TheVariants as told
 
 abbrev directory : Node
 directory = record { kind = Dir; target = None }
@@ -123,6 +124,10 @@ pub record ThroughRows : Type 0 where
       ∷ codes "file new stat,lstat,open-r,open-w,create,unlink,exec"
       ∷ codes "link new lstat,readlink,unlink"
       ∷ []
+  -- what lists say of execs
+  pub told_bounded : execs_of started_tree standard_table reads ≡ told.Bounded
+  pub told_open : execs_of started_tree standard_table (starting executing (rpath + exec + proc) (cpath + exec)) ≡ told.Open
+  pub told_never : execs_of started_tree standard_table (starting reading (rpath + exec + proc) cpath) ≡ told.Never
 
 pub through_rows : ThroughRows
 through_rows = record {
@@ -136,4 +141,7 @@ through_rows = record {
   unveils_never = refl;
   two_halves = refl;
   starts_what_is_made = refl;
+  told_bounded = refl;
+  told_open = refl;
+  told_never = refl;
 }

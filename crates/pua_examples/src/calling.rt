@@ -24,8 +24,8 @@ ghost use Rattle.pua_examples.specs.Calling.{NeverStarts, first_fault};
 use pua_audit::{Audit, AuditFault, Base};
 use pua_calls::needs::ending;
 use pua_calls::{Call, CallTable};
-use pua_ever::{Ever, EverFault, ever_law};
-use pua_objects::{Objects, completeness_law};
+use pua_ever::{EverFault, ever_law, list_ever};
+use pua_objects::{completeness_law, line_of, list_items};
 use pua_path::{Counted, Ending, Errno, Found, Last, PathText, resolve};
 use pua_policy::judge::verdict_of;
 use pua_policy::{Process, Verdict};
@@ -179,8 +179,13 @@ pub(crate) fn can_touch<T: FileTree>(
 {
     completeness_law();
     tree.known();
-    let mut list = Objects::begin(alloc, tree, process, table)?;
-    Ok(list.next_line().is_some())
+    let items = list_items(alloc, tree, process)?;
+    for item in &items {
+        if !line_of(process, table, &item.item).calls.is_empty() {
+            return Ok(true);
+        }
+    }
+    Ok(false)
 }
 
 /// Whether a process that can put no veil any more, or what it forks, can ever start a program by
@@ -199,13 +204,8 @@ pub(crate) fn can_ever_start<T: FileTree>(
 {
     ever_law();
     table.known();
-    let mut list = Ever::begin(alloc, tree, process, table)?;
-    while let Some(line) = list.next_line() {
-        if line.calls.contains(Call::Exec) {
-            return Ok(true);
-        }
-    }
-    Ok(false)
+    let rows = list_ever(alloc, tree, process, table)?;
+    Ok(rows.iter().any(|row| row.line.calls.contains(Call::Exec)))
 }
 
 /// The text of `pua objects` for a process or for all, in memory with room for so many bytes. The error

@@ -7,7 +7,6 @@
 
 mod audit;
 mod io;
-mod lists;
 mod steps;
 mod texts;
 mod tool;

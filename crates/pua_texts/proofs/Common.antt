@@ -15,7 +15,6 @@ pub use Rattle.pua_calls.specs.Calls.{call_name, calls, CallTable}
 pub use Rattle.pua_calls.specs.Promises.{perm_letters}
 pub use Rattle.pua_calls.specs.declared.call.Call.{Call}
 pub use Rattle.pua_calls.specs.declared.call.Call.TheVariants.{Stat}
-pub use Rattle.pua_ever.specs.EverLines.{ever_lines_of}
 pub use Rattle.pua_io.specs.declared.sink.PutFault.{PutFault}
 pub use Rattle.pua_objects.specs.Items.{subject_given, SubjectFits}
 pub use Rattle.pua_objects.specs.Lines.{kind_word}

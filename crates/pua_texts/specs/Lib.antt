@@ -8,7 +8,6 @@ pub mod WhyLines
 pub mod Lists
 pub mod ColumnsState
 pub mod ListLines
-pub mod EverLists
 pub mod VeilDates
 pub mod WhyLists
 pub mod Tells

@@ -1,88 +1,87 @@
 //! The list for ever of a process: its heading, its state, and what it can ever touch.
 
-ghost use Rattle.std.specs.Prelude.{◌≡◌, ◌++◌, ℕ, codes};
+ghost use Rattle.std.specs.Prelude.{◌≡◌, ◌++◌, [], IfOk, List};
 ghost use Rattle.pua_calls.specs.Calls.{CallTable as Rules};
+ghost use Rattle.pua_tree.specs.Tree.{Tree};
 ghost use Rattle.pua_policy.specs.History.{History, StandsFor};
-ghost use Rattle.pua_texts.specs.Blocks.{PassesOn};
+ghost use Rattle.pua_ever.specs.Ever.{EverLine as Told};
 ghost use Rattle.pua_texts.specs.ColumnsState.{plain};
-ghost use Rattle.pua_texts.specs.EverLists.{IsEverOf};
-ghost use Rattle.pua_texts.specs.EverLines.{ever_list};
-ghost use Rattle.pua_texts.specs.Lists.{IsHeadOf};
+ghost use Rattle.pua_ever.specs.EverList.{AreEverTold};
+ghost use Rattle.pua_ever.specs.LastingList.{IsLasting};
+ghost use Rattle.pua_texts.specs.EverLines.{ever_lines, ever_list, exec_line};
+ghost use Rattle.pua_texts.specs.ListLines.{lines_text};
 ghost use Rattle.pua_texts.specs.Tells.{TellsTo};
 
-use crate::block::Block;
-use crate::calls_text::CallsTexts;
 use crate::columns::Columns;
-use crate::ever_line::add_ever;
 use crate::fault::TextFault;
-use crate::kept_path::KeptPath;
-use crate::places::Places;
+use crate::list_line::ListLine;
+use crate::lists::write_all;
 use crate::process_head::ProcessHead;
-use pua_ever::Ever;
-use pua_io::{PutFault, Sink};
+use crate::process_list::ProcessList;
+use pua_ever::{EverRow, ExecBound, LastingList};
+use pua_io::Sink;
 use pua_policy::Process;
-use pua_tree::FileTree;
+use pua_tree::{FileTree, OutOfMemory};
 use std::alloc::Global;
+use std::collections::VecDeque;
 
-/// Writes the front of a text, and then the list for ever of the process with this number, of which
-/// these lines are to come. `OutOfMemory` where a growth was refused, before anything is written.
-/// `Write` only where a put failed in this call, after a front of the text.
-pub fn write_ever<T: FileTree, S: Sink>(
+/// Writes the front of a text, and then this list, which is that of the process with this number.
+/// `OutOfMemory` where a growth was refused, before anything is written. `Write` only where a put
+/// failed in this call, after a front of the text.
+pub fn write_ever<'t, T: FileTree, S: Sink>(
     alloc: Global,
-    tree: &T,
+    tree: &'t T,
     number: u32,
-    process: &Process,
-    ever: &mut Ever<'_, T>,
+    process: &'t Process,
+    list: &LastingList<'t>,
     front: &str,
     sink: &mut S,
 ) -> Result<(), TextFault>
     ensures { (table : Rules) (h : History) → StandsFor process.now h →
-        IsEverOf table (T.content tree.now) h ever.old →
+        IsLasting (T.content tree.now) table h list.now →
         TellsTo S.written S.failed
         (front.now ++ ever_list table (T.content tree.now) number h)
         result sink.old sink.new }
 {
-    let head = ProcessHead::begin(alloc, "ever", number, process)?;
-    let mut places = Places::new(alloc, tree)?;
-    let columns = Columns::plain(alloc);
-    let mut path = KeptPath::new(alloc)?;
-    let mut texts = CallsTexts::new(alloc)?;
-    let mut block = Block::new(alloc)?;
-    let added = add_list(
-        &mut block,
-        front,
-        &head,
-        ever,
-        &columns,
-        &mut places,
-        &mut path,
-        &mut texts,
-        sink,
-    );
-    block.finish(added, sink)
+    let mut head = ProcessHead::begin(alloc, "ever", number, process)?;
+    head.add_line(exec_line(list.execs))?;
+    let lines = ever_lines(alloc, list.rows.as_slice())?;
+    let list = ProcessList::new(alloc, head, lines, Columns::plain(alloc))?;
+    let mut lists = VecDeque::new(alloc);
+    let Ok(()) = lists.push_back(list) else {
+        return Err(TextFault::OutOfMemory);
+    };
+    write_all(alloc, tree, front, &mut lists, sink)
 }
 
-/// Adds the front of a text to a block, and then a list for ever with this heading and these lines.
-fn add_list<'t, T: FileTree, S: Sink>(
-    block: &mut Block,
-    front: &str,
-    head: &ProcessHead<'t>,
-    ever: &mut Ever<'_, T>,
-    columns: &Columns,
-    places: &mut Places<'t, T>,
-    path: &mut KeptPath,
-    texts: &mut CallsTexts,
-    sink: &mut S,
-) -> Result<(), PutFault>
-    requires plain { columns.now ≡ plain }
-    ensures { (table : Rules) (process : ℕ) (h : History) →
-        IsHeadOf (codes "ever") process h head.now →
-        IsEverOf table places.old.tree h ever.old →
-        PassesOn S.written S.failed
-        (front.now ++ ever_list table places.old.tree process h)
-        result block.old block.new sink.old sink.new }
+/// What a list says of execs: a line, or nothing.
+fn exec_line(execs: ExecBound) -> &'static str
+    ensures { result.now ≡ exec_line execs }
 {
-    block.add_text(front.as_bytes(), sink)?;
-    head.add_to(block, places, sink)?;
-    add_ever(block, ever, columns, path, texts, sink)
+    match execs {
+        ExecBound::Never => "",
+        ExecBound::Bounded => "exec bounded\n",
+        ExecBound::Open => "exec open\n",
+    }
+}
+
+/// The lines of these rows. The only error is that a growth was refused.
+fn ever_lines<'t>(alloc: Global, rows: &[EverRow<'t>]) -> Result<Vec<ListLine<'t>>, OutOfMemory>
+    ensures { IfOk result (λ lines. (t : Tree) (told : List Told) →
+        AreEverTold t [] rows.now told [] → lines_text plain [] lines.items ≡ ever_lines t told) }
+{
+    let mut lines = Vec::new(alloc);
+    for row in rows {
+        let Ok(()) = lines.push(ListLine {
+            depth: row.depth,
+            name: row.name,
+            thing: row.line.thing,
+            calls: row.line.calls,
+            resting: 0,
+            veil: None,
+        }) else {
+            return Err(OutOfMemory);
+        };
+    }
+    Ok(lines)
 }

@@ -70,16 +70,6 @@ impl KeptPath {
         self.starts.clear();
     }
 
-    /// Goes on to a path that shares at least so many first names with the one that is kept.
-    pub(crate) fn go_to(&mut self, word: &[&Name], shared: usize)
-        ensures { (old : Word) → IsKept old self.old →
-            take shared old ≡ take shared (map (λ name. name.now) word.now) →
-            IsKept (map (λ name. name.now) word.now) self.new }
-    {
-        self.cut(shared.min(word.len()));
-        self.extend(word);
-    }
-
     /// Keeps no more than so many names.
     pub(crate) fn cut(&mut self, count: usize)
         ensures { (old new : Word) → IsKept old self.old → count ≤ length new →

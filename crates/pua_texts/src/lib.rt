@@ -9,7 +9,6 @@ mod block;
 mod calls_text;
 mod columns;
 mod copies;
-mod ever_line;
 mod ever_list;
 mod fault;
 mod kept_path;

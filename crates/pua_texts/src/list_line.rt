@@ -129,7 +129,7 @@ fn push_name<'t>(word: &mut Vec<&'t Name>, name: Option<&'t Name>)
 
 /// Adds the line of something that stands at the end of these names, the first of which are kept, or
 /// is still to be made.
-pub(crate) fn add_line<S: Sink>(
+fn add_line<S: Sink>(
     block: &mut Block,
     line: &ListLine<'_>,
     columns: &Columns,

@@ -1,6 +1,6 @@
 //! What stands before the lines of a list: its heading, and the state of its process.
 
-ghost use Rattle.std.specs.Prelude.{◌≡◌, IfOk, map};
+ghost use Rattle.std.specs.Prelude.{◌≡◌, ◌++◌, IfOk, OnOk, map};
 ghost use Rattle.pua_policy.specs.History.{History, StandsFor};
 ghost use Rattle.pua_texts.specs.Blocks.{PassesOn};
 ghost use Rattle.pua_texts.specs.ListLines.{head_text};
@@ -54,6 +54,19 @@ impl<'t> ProcessHead<'t> {
         };
         let veils = veils_of_living(alloc, process)?;
         Ok(ProcessHead { text, veils })
+    }
+
+    /// Adds a line to the state, before the veils. The only error is that a growth was refused.
+    pub(crate) fn add_line(&mut self, line: &str) -> Result<(), OutOfMemory>
+        ensures { OnOk result (self.new ≡ record {
+          text = self.old.text ++ line.now;
+          veils = self.old.veils;
+        }) }
+    {
+        let Ok(()) = self.text.push_str(line) else {
+            return Err(OutOfMemory);
+        };
+        Ok(())
     }
 
     /// Adds the heading and the state to a block.

@@ -1,16 +1,20 @@
 -- What a list for ever that was written says of the future.
-use Rattle.pua_tool.proofs.Common.{◌≡◌, ◌∙◌, ℕ, List, ◌++◌, ap, refl, sym, Err, Ok, Option, Some, None, CallTable, Tree, Asked, World}
+use Rattle.pua_tool.proofs.Common.{◌≡◌, ◌≢◌, ◌∙◌, ◌∷◌, [], ℕ, List, ◌++◌, ap, refl, sym, subst, Err, Ok, Option, Some, None, CallTable, Tree, Asked, World}
 use Rattle.pua_tool.proofs.Common.{History, history_of, new_world, answers_to, world_after, answer_lines, listing, script, Chosen, Replayed}
 use Rattle.pua_tool.proofs.Common.{Result, table_by, as_listing, as_script, replay_of, unless_reason, ToolFault}
 use Rattle.std.proofs.Common.{◌⊎◌, inl, inr, true}
-use Rattle.std.specs.Prelude.{ok_or}
+use Rattle.std.specs.Prelude.{IsTrue, ok_or}
 use Rattle.pua_tree.specs.Steps.{◌>>=◌}
 use Rattle.pua_tree.proofs.ForCallers.{same_Ok, Err≢Ok}
 use Rattle.pua_policy.specs.History.{is_ended}
+use Rattle.pua_script.specs.Bytes.{are_in_bytes}
+use Rattle.pua_script.specs.Family.{family, is_member, is_exec, none_done, HasHistoryOf}
 use Rattle.pua_script.specs.Laws.{IsConfined}
 use Rattle.pua_ever.specs.Refusals.{refusal}
 use Rattle.pua_ever.specs.declared.refusal.Refusal.{Refusal}
-use Rattle.pua_ever.proofs.ForCallers.{ever_after_read, unrefused_table, unrefused_history}
+use Rattle.pua_ever.proofs.ForCallers.{ever_after_read, ever_lasts_after_read, lasting_unbounded, unrefused_table, unrefused_history}
+use Rattle.pua_ever.specs.Laws.{ForeseesIn, MembersEdit}
+use Rattle.pua_ever.specs.Through.{bound_of, ever_lasting}
 use Rattle.pua_texts.specs.EverLines.{ever_list}
 use Rattle.pua_tool.specs.EverTexts.{ever_after, ever_fault, ever_text}
 use Rattle.pua_tool.specs.Forever.{EverAsWritten, IsEverWritten, IsForeseenBehind}
@@ -59,9 +63,22 @@ module _ (choice : Chosen) (tree_bytes script_bytes : List ℕ) (table : CallTab
   foreseen_behind : (h : History) → history_of w process ≡ Some h → refusal table h ≡ None → IsConfined h ⊎ (is_ended h ≡ true) →
       IsForeseenBehind table w process h ⊎ (is_ended h ≡ true)
   foreseen_behind h here none (inl confined) =
-      inl (λ asks bytes alone edit member belongs.
-      ever_after_read table (tables_need_no_error choice table given) (unrefused_table table h none) tree_bytes script_bytes t first asks
-      read scripted bytes process h here confined alone edit member belongs)
+      inl (λ asks bytes held edit member belongs. by asks bytes edit member belongs (bound_of table h) refl held)
+    where
+      by : (asks : List Asked) → IsTrue (are_in_bytes asks) → MembersEdit table w asks (process ∷ []) → (member : ℕ) →
+          IsTrue (is_member (family table w asks (process ∷ [])) member) → (bound : Option ℕ) → bound_of table h ≡ bound →
+          (bound_of table h ≢ None) ⊎ IsTrue (none_done is_exec table w asks (process ∷ [])) →
+          HasHistoryOf (world_after table w asks) member
+          (ForeseesIn (ever_lasting w.tree table h) w.tree table h (world_after table w asks).tree)
+      by asks bytes edit member belongs None is (inl bounded) = absurd (bounded is)
+      by asks bytes edit member belongs None is (inr alone) =
+          subst (λ lines. HasHistoryOf (world_after table w asks) member (ForeseesIn lines w.tree table h (world_after table w asks).tree))
+          (sym (lasting_unbounded w.tree table h is))
+          (ever_after_read table (tables_need_no_error choice table given) (unrefused_table table h none) tree_bytes script_bytes t first
+          asks read scripted bytes process h here confined alone edit member belongs)
+      by asks bytes edit member belongs (Some handed) is held =
+          ever_lasts_after_read table (tables_need_no_error choice table given) (unrefused_table table h none) tree_bytes script_bytes t
+          first asks read scripted bytes process h handed here is edit member belongs
   foreseen_behind h here none (inr ended) = inr ended
 
   written : IsEverWritten table t first process text

@@ -1,5 +1,5 @@
 -- What the list for ever that a command writes says of the future.
-use Rattle.std.specs.Prelude.{◌≡◌, ◌⊎◌, ℕ, true, List, [], ◌∷◌, ◌++◌, Some, Ok, IsTrue}
+use Rattle.std.specs.Prelude.{◌≡◌, ◌≢◌, ◌⊎◌, ℕ, true, List, [], ◌∷◌, ◌++◌, None, Some, Ok, IsTrue}
 use Rattle.pua_tree.specs.Tree.{Tree}
 use Rattle.pua_tree.specs.Listing.{listing}
 use Rattle.pua_calls.specs.Calls.{CallTable}
@@ -9,20 +9,21 @@ use Rattle.pua_script.specs.Scripts.{script}
 use Rattle.pua_script.specs.Replay.{World, new_world, history_of, answers_to, world_after}
 use Rattle.pua_script.specs.Bytes.{are_in_bytes}
 use Rattle.pua_script.specs.Family.{family, is_member, is_exec, none_done, HasHistoryOf}
-use Rattle.pua_ever.specs.Laws.{Foresees, MembersEdit}
+use Rattle.pua_ever.specs.Laws.{ForeseesIn, MembersEdit}
+use Rattle.pua_ever.specs.Through.{bound_of, ever_lasting}
 use Rattle.pua_texts.specs.Lines.{answer_lines}
 use Rattle.pua_texts.specs.EverLines.{ever_list}
 use Rattle.pua_tool.specs.Texts.{Chosen, table_by}
 use Rattle.pua_tool.specs.EverTexts.{ever_text}
 
--- whatever is asked behind a world, in bytes, as long as nobody but a process and its family changes the tree and no exec of a
--- member is answered ok: each call that is then allowed to a member has its line
+-- whatever is asked behind a world, in bytes, as long as nobody but a process and its family changes the tree, and all that they
+-- start is bounded or no exec of a member is answered ok: each call that is then allowed to a member has its line
 abbrev pub IsForeseenBehind : CallTable → World → ℕ → History → Type 0
 IsForeseenBehind table w process now = (asks : List Asked) → IsTrue (are_in_bytes asks) →
-    IsTrue (none_done is_exec table w asks (process ∷ [])) → MembersEdit table w asks (process ∷ []) →
+    (bound_of table now ≢ None) ⊎ IsTrue (none_done is_exec table w asks (process ∷ [])) → MembersEdit table w asks (process ∷ []) →
     (member : ℕ) → IsTrue (is_member (family table w asks (process ∷ [])) member) →
     let after = world_after table w asks in
-    HasHistoryOf after member (Foresees w.tree table now after.tree)
+    HasHistoryOf after member (ForeseesIn (ever_lasting w.tree table now) w.tree table now after.tree)
 
 -- the text is the answers and the list of the process, and the list is complete; or the process has ended
 pub record IsEverWritten (table : CallTable) (t : Tree) (first : List Asked) (process : ℕ) (text : List ℕ) : Type 0 where

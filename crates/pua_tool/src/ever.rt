@@ -10,7 +10,7 @@ use crate::fault::ToolFault;
 use crate::objects::told;
 use crate::script::{Replay, replay_script};
 use crate::table::TableChoice;
-use pua_ever::Ever;
+use pua_ever::{both_of, list_lasting};
 use pua_io::Sink;
 use pua_texts::{answer_text, write_ever};
 use std::alloc::Global;
@@ -19,8 +19,11 @@ use std::alloc::Global;
 /// answered, then `ever P`, the lines of the state of the process where the script ends, as
 /// [`objects_to`](crate::objects_to) has them, and a line `KIND PATH CALLS` for each thing that stands
 /// or could stand now on which a call can ever be allowed by what the process and all that it forks do
-/// themselves, as long as no exec of theirs succeeds; in the end a line `KIND new CALLS` for what they
-/// can make: `dir`, `other` for the further names of such a directory, `file` and `link`. The calls of
+/// themselves; in the end a line `KIND new CALLS` for what they can make: `dir`, `other` for the further
+/// names of such a directory, `file` and `link`. Where a line has `exec`, a line of the state before
+/// those of the veils says what becomes of the list when a program is started: `exec bounded`, where
+/// what is started has the veils, and no more than the execpromises, and the list has what it can touch
+/// too; or `exec open`, and the list holds until an exec of theirs succeeds. The calls of
 /// a line are all that can ever be allowed on the thing, wherever it is moved. After a line of what
 /// stands at a name with a veil of its own, and can be taken away, stands a line of the missing name.
 /// What a call needs is said by the table of calls that is chosen.
@@ -63,20 +66,17 @@ fn list_to<S: Sink>(
     let Some(process) = world.process(number) else {
         return Err(ToolFault::NoProcess);
     };
-    let mut ever = match Ever::begin(alloc, world.tree(), process, world.table()) {
-        Ok(ever) => ever,
+    let (tree, table) = (world.tree(), world.table());
+    let Ok(both) = both_of(alloc, process, table) else {
+        return Err(ToolFault::OutOfMemory);
+    };
+    let list = match list_lasting(alloc, tree, process, both.as_ref(), table) {
+        Ok(list) => list,
         Err(fault) => return Err(fault_of(number, fault)),
     };
     let Ok(front) = answer_text(alloc, replay.answers.as_slice()) else {
         return Err(ToolFault::OutOfMemory);
     };
-    told(write_ever(
-        alloc,
-        world.tree(),
-        number,
-        process,
-        &mut ever,
-        front.as_str(),
-        sink,
-    ))
+    let front = front.as_str();
+    told(write_ever(alloc, tree, number, process, &list, front, sink))
 }

@@ -187,10 +187,12 @@ with commas between them. With `--process all` the lists of all processes that
 were ever made come one after another.
 
 With `--ever` the heading is `ever P`, and a line has all calls that can ever be
-allowed on a thing, whatever process P and what it forks do, as long as no exec
-of theirs succeeds: on what stands at PATH now, wherever it is moved, and in the
-end on what they can make: `dir new`, `other new` (the names in such a
-directory), `file new` and `link new`. Where no line has exec, none can succeed.
+allowed on a thing, whatever process P and what it forks do: on what stands at
+PATH now, wherever it is moved, and in the end on what they can make: `dir new`,
+`other new` (the names in such a directory), `file new` and `link new`. Where no
+line has exec, no exec of theirs can succeed. Where one has, the state has `exec
+bounded`, and what they start is in the list, whatever it does; or `exec open`,
+and the list holds until an exec succeeds.
 It is a list of one process, which can put no veil any more.
 
 With `--why` an answer that is not ok has its reason, as of `pua run --why`, and

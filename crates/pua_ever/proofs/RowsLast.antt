@@ -1,0 +1,118 @@
+-- Rows of the list that holds longest: whether one has exec, and what is let through.
+use Rattle.pua_ever.proofs.Common.{◌≡◌, ℕ, Bool, true, false, ◌||◌, ◌&&◌, ◌<◌, ◌≤◌, List, [], ◌∷◌, ◌++◌, length, cond, refl, sym, ap, subst, ◌∙◌}
+use Rattle.pua_ever.proofs.Common.{arith, inl, inr, false≢true, filter, map, nat_lt, list_any, Tree, calls, has, Call, Word, EverLine, has_ever_calls}
+use Rattle.std.proofs.Common.{◌+◌, drop, drop_of_length-le, slice_index_or}
+use Rattle.std.proofs.lemmas.Bool.{lt-ltb}
+use Rattle.std.proofs.lemmas.List.{drop_more}
+use Rattle.std.proofs.lemmas.Map.Views.{any-filter_same}
+use Rattle.pua_calls.specs.CallSets.{calls_in}
+use Rattle.pua_calls.specs.declared.call.Call.TheVariants as call
+use Rattle.pua_ever.specs.Ever.{Thing, is_exec_call}
+use Rattle.pua_ever.specs.EverLines.{IsThing, line_with}
+use Rattle.pua_ever.specs.EverList.{AreEverTold, last_row_word, word_of_row}
+use Rattle.pua_ever.specs.Through.{has_exec, let_through, only_through}
+use Rattle.pua_ever.specs.declared.line.EverLine as given
+use Rattle.pua_ever.specs.declared.list.EverRow.{EverRow}
+use Rattle.pua_ever.proofs.ExecCalls.{exec_or_other}
+use Rattle.pua_ever.proofs.RowsTell.{last_row_more, told_more}
+
+-- ---- exec
+
+is_exec_of : (set : ℕ) (c : Call) → is_exec_call c ≡ true → has set c ≡ has set call.Exec
+is_exec_of set c starts = elim (exec_or_other c) [
+  | inl is ↦ ap (has set) is
+  | inr other ↦ absurd (false≢true (sym other.1 ∙ starts))
+]
+
+and_true : (b : Bool) → (b && true) ≡ b
+and_true true = refl
+and_true false = refl
+
+or_false : (b : Bool) → (b || false) ≡ b
+or_false true = refl
+or_false false = refl
+
+exec_in : (set : ℕ) → list_any is_exec_call (calls_in set) ≡ has set call.Exec
+exec_in set = any-filter_same is_exec_call (has set) (has set call.Exec) (is_exec_of set) calls ∙ and_true (has set call.Exec)
+
+-- a line that has no calls is left out, and has no exec
+exec_first : (word : Word) (about : Thing) (cs : List Call) (more : List EverLine) →
+    has_exec (filter has_ever_calls (record { word = word; thing = about; calls = cs } ∷ []) ++ more) ≡ (list_any is_exec_call cs || has_exec more)
+exec_first word about [] more = refl
+exec_first word about (c ∷ cs) more =
+    ap (λ b. has_exec (cond b (record { word = word; thing = about; calls = c ∷ cs } ∷ []) [] ++ more)) (lt-ltb 0 (length (c ∷ cs)) (omega arith))
+
+abbrev pub starts : EverRow → Bool
+starts row = has row.line.calls call.Exec
+
+module _ (t : Tree) where
+  -- a row has exec where a line has
+  pub exec_told : (before : Word) (rows : List EverRow) (lines : List EverLine) → AreEverTold t before rows lines [] →
+      list_any starts rows ≡ has_exec lines
+  exec_told before [] lines told = ap has_exec (sym told)
+  exec_told before (row ∷ rows) lines told =
+      let word = word_of_row before row in
+      (λ i. sym (exec_in row.line.calls) i || exec_told word rows told.1 told.4 i)
+      ∙ sym (exec_first word told.0 (calls_in row.line.calls) told.1)
+      ∙ ap has_exec (sym told.3)
+
+  -- ---- what is let through
+
+  module _ (passes : ℕ) where
+    through_first : (word : Word) (about : Thing) (cs : List Call) (more : List EverLine) →
+        let line : EverLine = record { word = word; thing = about; calls = cs } in
+        only_through (has passes) (filter has_ever_calls (line ∷ []) ++ more)
+        ≡ filter has_ever_calls (let_through (has passes) line ∷ []) ++ only_through (has passes) more
+    through_first word about [] more = refl
+    through_first word about (c ∷ cs) more =
+        let line : EverLine = record { word = word; thing = about; calls = c ∷ cs } in
+        ap (λ b. only_through (has passes) (cond b (line ∷ []) [] ++ more)) (lt-ltb 0 (length (c ∷ cs)) (omega arith))
+        ∙ by (has_ever_calls (let_through (has passes) line)) (let_through (has passes) line)
+      where
+        by : (b : Bool) (line : EverLine) → cond b (line ∷ only_through (has passes) more) (only_through (has passes) more)
+            ≡ cond b (line ∷ []) [] ++ only_through (has passes) more
+        by true line = refl
+        by false line = refl
+
+    -- the rows so far tell what is let through of the lines before the rest
+    pub record Through (lines : List EverLine) (left new : List EverRow) : Type 0 where
+      pub rest : List EverLine
+      pub coming : AreEverTold t (last_row_word [] new) left rest []
+      pub told : AreEverTold t [] new (only_through (has passes) lines) (only_through (has passes) rest)
+
+    abbrev IsLet : given.EverLine → given.EverLine → Type 0
+    IsLet line through = (u : Tree) (word : Word) (about : Thing) → IsThing u about line.thing →
+        line_with word about through ≡ let_through (has passes) (line_with word about line)
+
+    next : (lines : List EverLine) (row : EverRow) (left new : List EverRow) (line : given.EverLine) → line.thing ≡ row.line.thing →
+        IsLet row.line line → Through lines (row ∷ left) new →
+        Through lines left (new ++ record { depth = row.depth; name = row.name; line = line } ∷ [])
+    next lines row left new line same is so_far =
+        let through : EverRow = record { depth = row.depth; name = row.name; line = line } in
+        let word = word_of_row (last_row_word [] new) row in
+        let about = so_far.coming.0 in
+        let more = so_far.coming.1 in
+        record {
+          rest = more;
+          coming = subst (λ w. AreEverTold t w left more []) (sym (last_row_more [] new through)) so_far.coming.4;
+          told = told_more t [] new through about (only_through (has passes) lines) (only_through (has passes) more)
+              (subst (IsThing t about) (sym same) so_far.coming.2)
+              (subst (AreEverTold t [] new (only_through (has passes) lines))
+              (ap (only_through (has passes)) so_far.coming.3
+              ∙ through_first word about (calls_in row.line.calls) more
+              ∙ ap (λ l. filter has_ever_calls (l ∷ []) ++ only_through (has passes) more) (sym (is t word about so_far.coming.2)))
+              so_far.told);
+        }
+
+    pub through_more : (rows : List EverRow) (row : EverRow) (i : ℕ) → i < length rows → row ≡ slice_index_or rows i row →
+        (line : given.EverLine) → line.thing ≡ row.line.thing → IsLet row.line line → (lines : List EverLine) (new : List EverRow) →
+        Through lines (drop i rows) new → Through lines (drop (i + 1) rows) (new ++ record { depth = row.depth; name = row.name; line = line } ∷ [])
+    through_more rows row i within here line same is lines new so_far =
+        next lines row (drop (i + 1) rows) new line same is (subst (λ left. Through lines left new)
+        (drop_more rows i row within ∙ ap (λ r. r ∷ drop (i + 1) rows) (sym here)) so_far)
+
+    pub all_through : (rows : List EverRow) (i : ℕ) → length rows ≤ i → (lines : List EverLine) (new : List EverRow) →
+        Through lines (drop i rows) new → AreEverTold t [] new (only_through (has passes) lines) []
+    all_through rows i past lines new so_far =
+        subst (λ rest. AreEverTold t [] new (only_through (has passes) lines) (only_through (has passes) rest))
+        (subst (λ left. AreEverTold t (last_row_word [] new) left so_far.rest []) (drop_of_length-le rows past) so_far.coming) so_far.told

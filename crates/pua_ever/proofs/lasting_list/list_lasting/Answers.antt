@@ -1,0 +1,74 @@
+use Rattle.pua_ever.proofs.Common.{◌≡◌, [], true, false, sym, subst, ◌∙◌, ever}
+use Rattle.std.proofs.lemmas.Result.{err_from_is_err_and}
+use Rattle.std.specs.Option.{option_copied}
+use Rattle.pua_ever.specs.EverList.{AreEverTold}
+use Rattle.pua_ever.specs.LastingList.{IsBothOf}
+use Rattle.pua_ever.specs.Through.{has_exec}
+use Rattle.pua_ever.proofs.Chosen.{lasting_through, lasting_unbounded, lasting_unstarted, starts_bounded, starts_never, starts_open}
+use Rattle.pua_ever.proofs.lasting_list.list_lasting.Goals as goal
+
+pub returns-then-not-some_exec-clause-list : goal.returns-then-not-some_exec-clause-list
+returns-then-not-some_exec-clause-list g c = λ h stands whose.
+    let t = g.T.FileTree.content c.args.tree.now in
+    let table = c.args.table.now in
+    let told = c.in_ok-rows.ensures.rows h stands in
+    let none : has_exec (ever t table h) ≡ false =
+    sym (c.some_exec.ensures t (ever t table h) (subst (λ rows. AreEverTold t [] rows (ever t table h) []) (sym c.as_slice.ensures.value) told))
+    ∙ c.if-not-some_exec.true in
+    record {
+      rows = subst (λ lines. AreEverTold t [] c.in_ok-rows.rows.items lines []) (sym (lasting_unstarted t table h none)) told;
+      execs = sym (starts_never t table h none);
+    }
+
+pub returns-in_default-clause-list : goal.returns-in_default-clause-list
+returns-in_default-clause-list g c = λ h stands whose.
+    let t = g.T.FileTree.content c.args.tree.now in
+    let table = c.args.table.now in
+    let told = c.in_ok-rows.ensures.rows h stands in
+    let unbound = subst (λ o. IsBothOf table h (option_copied o)) c.in_default.is whose in
+    let some : has_exec (ever t table h) ≡ true =
+    sym (c.some_exec.ensures t (ever t table h) (subst (λ rows. AreEverTold t [] rows (ever t table h) []) (sym c.as_slice.ensures.value) told))
+    ∙ c.if-not-some_exec.false in
+    record {
+      rows = subst (λ lines. AreEverTold t [] c.in_ok-rows.rows.items lines []) (sym (lasting_unbounded t table h unbound)) told;
+      execs = sym (starts_open t table h some unbound);
+    }
+
+pub returns-clause-list : goal.returns-clause-list
+returns-clause-list g c = λ h stands whose.
+    let t = g.T.FileTree.content c.args.tree.now in
+    let table = c.args.table.now in
+    let told = c.in_ok-rows.ensures.rows h stands in
+    let here = subst (λ o. IsBothOf table h (option_copied o)) c.in-Some.is whose in
+    let some : has_exec (ever t table h) ≡ true =
+    sym (c.some_exec.ensures t (ever t table h) (subst (λ rows. AreEverTold t [] rows (ever t table h) []) (sym c.as_slice.ensures.value) told))
+    ∙ c.if-not-some_exec.false in
+    record {
+      rows = subst (λ lines. AreEverTold t [] c.in_ok-through.through.items lines [])
+          (sym (lasting_through t table h here.given here.bound some)) (c.in_ok-through.ensures.rows h here);
+      execs = sym (starts_bounded t table h here.given some here.bound);
+    }
+
+-- ---- what refuses the list
+
+pub returns-in_err-rows-clause-refused : goal.returns-in_err-rows-clause-refused
+returns-in_err-rows-clause-refused g c =
+    let p = err_from_is_err_and c.from_residual.result c.from_residual.ensures.1 in
+    rw (p.1, p.2) (λ h stands whose. c.in_err-rows.ensures.refused h stands)
+
+pub returns-then-not-some_exec-clause-refused : goal.returns-then-not-some_exec-clause-refused
+returns-then-not-some_exec-clause-refused g c = λ h stands whose. c.in_ok-rows.ensures.refused h stands
+
+pub returns-in_default-clause-refused : goal.returns-in_default-clause-refused
+returns-in_default-clause-refused g c = λ h stands whose. c.in_ok-rows.ensures.refused h stands
+
+pub returns-in_err-through-clause-refused : goal.returns-in_err-through-clause-refused
+returns-in_err-through-clause-refused g c =
+    let p = err_from_is_err_and c.from_residual-in_err-through.result c.from_residual-in_err-through.ensures.1 in
+    rw (p.1, p.2) (λ h stands whose.
+    let here = subst (λ o. IsBothOf c.args.table.now h (option_copied o)) c.in-Some.is whose in
+    let none = c.in_ok-rows.ensures.refused h stands in
+    none ∙ sym (c.in_err-through.ensures.unrefused h here none))
+
+pub returns-clause-refused : goal.returns-clause-refused
+returns-clause-refused g c = λ h stands whose. c.in_ok-rows.ensures.refused h stands
