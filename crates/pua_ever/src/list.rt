@@ -16,10 +16,10 @@ ghost use Rattle.pua_objects.specs.ListItems.{AreNear, IsToldIn};
 ghost use Rattle.pua_objects.specs.Objects.{Subject as About, subject_word};
 ghost use Rattle.pua_objects.specs.declared.list.ListItem.{ListItem as Listed};
 ghost use Rattle.pua_ever.specs.Ever.{Comes, can_make, ever, is_new_allowed, may_edit, own_spot};
-ghost use Rattle.pua_ever.specs.EverLines.{IsThing};
+ghost use Rattle.pua_ever.specs.EverLines.{IsThing, new_of};
 ghost use Rattle.pua_ever.specs.EverList.{AreEverTold, AreRowsBut, IsRowAt, IsStandsRow};
-ghost use Rattle.pua_ever.specs.EverReady.{AreOnFreed, IsProspects, new_of};
 ghost use Rattle.pua_ever.specs.Laws.{EditsNeedC};
+ghost use Rattle.pua_ever.specs.Prospects.{AreOnFreed, IsProspects};
 ghost use Rattle.pua_ever.specs.Refusals.{refusal as refusal_of, refusal_in};
 
 use crate::fault::EverFault;
