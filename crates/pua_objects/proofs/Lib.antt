@@ -17,7 +17,6 @@ pub mod Lined
 pub mod Ranges
 pub mod Framed
 pub mod Leaving
-pub mod Entering
 pub mod Unveiled
 pub mod Own
 pub mod Listed
