@@ -1,4 +1,4 @@
-//! What a call is on, by what stands there, and the fields of a walk.
+//! What a call is on, by what stands there.
 
 ghost use Rattle.std.specs.Prelude.{◌≡◌, ℕ, List};
 ghost use Rattle.pua_tree.specs.Tree.{Tree, is_dir_kind};
@@ -6,21 +6,8 @@ ghost use Rattle.pua_path.specs.declared.found.Way.TheVariants as way;
 ghost use Rattle.pua_policy.specs.Objects.{object_seen};
 ghost use Rattle.pua_policy.specs.Verdict.{IsDir, object_of_kind};
 
-use crate::open_dir::{Coming, OpenDir};
 use pua_policy::Object;
-use pua_tree::{FileTree, Kind, Name, NodeId};
-
-/// A walk through a tree. It takes no memory but what was reserved.
-#[derive(Drop)]
-pub(crate) struct ItemWalk<'t> {
-    /// The names under which something stands or is veiled, each with its directory, in order.
-    pub(crate) spots: Vec<(NodeId, &'t Name)>,
-    /// The directories that are entered, from the root on.
-    pub(crate) dirs: Vec<OpenDir>,
-    /// The names that lead to the innermost directory, or to what stands in it.
-    pub(crate) word: Vec<&'t Name>,
-    pub(crate) coming: Coming,
-}
+use pua_tree::{FileTree, Kind, NodeId};
 
 /// What a call is on, of a directory that was found by a name.
 pub(crate) fn directory<T: FileTree>(tree: &T, id: NodeId) -> Object
