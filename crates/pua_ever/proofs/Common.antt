@@ -62,7 +62,7 @@ pub use Rattle.pua_ever.specs.Ever.{file_covers, has_c_outside, has_ever_calls, 
 pub use Rattle.pua_ever.specs.Ever.{is_named_way, is_yes, lasting_dir, maker, may_edit, name_covers, New, new_line, NewDir, NewFile}
 pub use Rattle.pua_ever.specs.Ever.{NewLink, NewOthers, own_spot, removable_dir, row_cover, some_dir_moves, Stands, subjects_of}
 pub use Rattle.pua_ever.specs.Ever.{can_move, may_rename, open_covers}
-pub use Rattle.pua_ever.specs.EverLines.{ever_lines_of}
-pub use Rattle.pua_ever.specs.EverReady.{AreOnFreed, both_of, made_left}
+pub use Rattle.pua_ever.specs.EverLines.{both_of, ever_lines_of, made_left}
 pub use Rattle.pua_ever.specs.Laws.{EditsNeedC, VeilsStand}
 pub use Rattle.pua_ever.specs.Openings.{dir_opening, entrance_cover, HaveSame, held_dir, name_opening, opened_dir}
+pub use Rattle.pua_ever.specs.Prospects.{AreOnFreed}

@@ -28,7 +28,6 @@ pub mod Refused
 pub mod Lined
 pub mod Prospected
 pub mod Named
-pub mod Giving
 pub mod Holding
 pub mod Through
 pub mod Narrowed

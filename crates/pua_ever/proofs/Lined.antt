@@ -1,16 +1,14 @@
 -- The lines of what is to come, one after another.
-use Rattle.pua_ever.proofs.Common.{ℕ, ◌≡◌, ◌≢◌, List, [], ◌∷◌, ◌++◌, Bool, true, false, cond, length, map, refl, sym, ap, subst, ◌∙◌, arith}
-use Rattle.pua_ever.proofs.Common.{Option, Some, None, ◌&&◌, filter, flat_map, nat_lt, Tree, Spot, Slot, CallTable, calls, has, History}
-use Rattle.pua_ever.proofs.Common.{ProcessState, StandsFor, veils, Call, Word, Subject, At, Item, items, New, Stands, Comes, EverLine}
-use Rattle.pua_ever.proofs.Common.{may_edit, can_make, own_spot, subjects_of, is_ever_allowed, all_new, ever_line, new_line, has_ever_calls}
-use Rattle.pua_ever.proofs.Common.{ever, ever_lines_of, both_of, made_left, AreOnFreed}
-use Rattle.std.proofs.lemmas.Bool.{lt-ltb}
+use Rattle.pua_ever.proofs.Common.{ℕ, ◌≡◌, List, [], ◌∷◌, ◌++◌, Bool, true, false, cond, map, refl, sym, ap, ◌∙◌, Option, Some, None}
+use Rattle.pua_ever.proofs.Common.{◌&&◌, filter, flat_map, Tree, Spot, Slot, CallTable, calls, has, History, veils, Call, Word, Subject}
+use Rattle.pua_ever.proofs.Common.{At, Item, items, New, Stands, Comes, EverLine, may_edit, can_make, own_spot, subjects_of}
+use Rattle.pua_ever.proofs.Common.{is_ever_allowed, all_new, ever_line, new_line, has_ever_calls, ever, ever_lines_of, both_of, made_left}
+use Rattle.pua_ever.proofs.Common.{AreOnFreed}
 use Rattle.std.proofs.lemmas.List.Elements.{filter-append}
 use Rattle.pua_calls.specs.CallSets.{calls_in}
 use Rattle.pua_ever.specs.Ever.{Thing, can_be_freed, freed_at, names_to_free}
 use Rattle.pua_ever.specs.Ever.{is_new_allowed}
-use Rattle.pua_ever.specs.EverLines.{lines_about, line_with}
-use Rattle.pua_ever.specs.EverState.{Left, Now, Freed, Coming}
+use Rattle.pua_ever.specs.EverLines.{Left, Now, Freed, Coming, lines_about, line_with}
 use Rattle.pua_ever.specs.declared.line.EverLine as given
 use Rattle.pua_ever.specs.declared.made.Made.TheVariants as made
 
@@ -92,26 +90,3 @@ module _ (t : Tree) (table : CallTable) (h : History) where
           ≡ filter has_ever_calls (line_with word (Stands (freed_name o)) line ∷ [])
       by None are = no_line (Stands (freed_name None)) (same_calls line.calls _ (are.none refl))
       by (Some spot) are = at spot (can_be_freed t table h spot) (are.some spot refl)
-
--- a line without calls is left out, and one with calls stays
-pub left_out : (word : Word) (thing : Thing) (line : given.EverLine) → calls_in line.calls ≡ [] →
-    filter has_ever_calls (line_with word thing line ∷ []) ≡ []
-left_out word thing line none = ap (λ cs. filter has_ever_calls (record { word = word; thing = thing; calls = cs } ∷ [])) none
-
-pub kept_in : (word : Word) (thing : Thing) (line : given.EverLine) → calls_in line.calls ≢ [] →
-    filter has_ever_calls (line_with word thing line ∷ []) ≡ line_with word thing line ∷ []
-kept_in word thing line some = ap (λ b. cond b (line_with word thing line ∷ []) []) (some_calls (calls_in line.calls) some)
-  where
-    some_calls : (cs : List Call) → cs ≢ [] → nat_lt 0 (length cs) ≡ true
-    some_calls [] some = absurd (some refl)
-    some_calls (c ∷ cs) some = lt-ltb 0 (length (c ∷ cs)) (omega arith)
-
--- the lines of a tree, a table and a process are those of the same ones
-pub lines_moved : (t u : Tree) (a b : CallTable) (p q : ProcessState) → u ≡ t → b ≡ a → q ≡ p →
-    (old new : List Left) (first : List EverLine)
-    → ((h : History) → StandsFor q h → ever_lines_of u b h old ≡ first ++ ever_lines_of u b h new)
-    → (h : History) → StandsFor p h → ever_lines_of t a h old ≡ first ++ ever_lines_of t a h new
-lines_moved t u a b p q tree table process old new first lines h stands =
-    (λ i. ever_lines_of (sym tree i) (sym table i) h old)
-    ∙ lines h (subst (λ (x : ProcessState). StandsFor x h) (sym process) stands)
-    ∙ (λ i. first ++ ever_lines_of (tree i) (table i) h new)

@@ -15,7 +15,7 @@ use Rattle.pua_objects.specs.declared.item.Item as given
 use Rattle.pua_objects.specs.declared.item.Subject as about
 use Rattle.pua_objects.specs.declared.item.Subject.TheVariants as subject
 use Rattle.pua_ever.specs.Ever.{can_allow, named_covers, can_be_freed}
-use Rattle.pua_ever.specs.EverReady.{kind_allowed, own_given}
+use Rattle.pua_ever.specs.Prospects.{kind_allowed, own_given}
 use Rattle.pua_ever.proofs.Prospected.{last}
 use Rattle.std.proofs.Math.Bool.{or-true}
 use Rattle.pua_calls.proofs.ForCallers.{has_none}

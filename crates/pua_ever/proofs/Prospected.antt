@@ -15,7 +15,7 @@ use Rattle.pua_policy.specs.declared.object.Object as seen
 use Rattle.pua_policy.specs.declared.object.Object.TheVariants as see
 use Rattle.pua_script.proofs.ForCallers.{c_from_cover}
 use Rattle.pua_ever.specs.Ever.{can_allow, ever_covers}
-use Rattle.pua_ever.specs.EverReady.{IsProspects}
+use Rattle.pua_ever.specs.Prospects.{IsProspects}
 use Rattle.pua_ever.specs.declared.prospects.Prospects.{Prospects}
 use Rattle.pua_ever.proofs.KindFaults.{dir_as}
 use Rattle.std.proofs.Math.Bool.{or-true}

@@ -12,10 +12,8 @@ use Rattle.pua_objects.specs.ListItems.{AreNear, items_told, last_name, last_wor
 use Rattle.pua_objects.specs.declared.kind.ObjectKind.TheVariants as kind
 use Rattle.pua_objects.specs.declared.list.ListItem.{ListItem}
 use Rattle.pua_ever.specs.Ever.{Thing, is_new_allowed}
-use Rattle.pua_ever.specs.EverLines.{IsThing, line_with, lines_about}
+use Rattle.pua_ever.specs.EverLines.{Left, Now, Freed, Coming, IsThing, line_with, lines_about, new_of}
 use Rattle.pua_ever.specs.EverList.{AreEverTold, AreRowsBut, AreRowsSoFar, IsRowAt, IsStandsRow, last_row_word, word_of_row}
-use Rattle.pua_ever.specs.EverReady.{new_of}
-use Rattle.pua_ever.specs.EverState.{Left, Now, Freed, Coming}
 use Rattle.pua_ever.specs.declared.line.EverThing.TheVariants as told
 use Rattle.pua_ever.specs.declared.list.EverRow.{EverRow}
 use Rattle.pua_ever.specs.declared.made.Made.{Made}

@@ -1,17 +1,45 @@
--- The lines of the code beside those of the definition, one after another.
-use Rattle.std.specs.Prelude.{◌≡◌, List, [], ◌∷◌, map, filter, flat_map, Option, MatchOption}
+-- What the lines are about, in order, and the lines of the code beside those of the definition.
+use Rattle.std.specs.Prelude.{◌≡◌, List, [], ◌∷◌, map, filter, flat_map, Option, Some, None}
 use Rattle.pua_tree.specs.Tree.{Tree}
 use Rattle.pua_calls.specs.Calls.{CallTable}
 use Rattle.pua_calls.specs.CallSets.{calls_in}
-use Rattle.pua_policy.specs.History.{History, ProcessState, StandsFor}
+use Rattle.pua_policy.specs.History.{History}
 use Rattle.pua_audit.specs.Reach.{Word}
-use Rattle.pua_objects.specs.Objects.{subject_word}
+use Rattle.pua_objects.specs.Objects.{Item, subject_word}
 use Rattle.pua_objects.specs.Lines.{kind_word}
-use Rattle.pua_ever.specs.Ever.{Thing, Stands, Comes, EverLine, new_word, names_to_free, ever_line, new_line, has_ever_calls}
-use Rattle.pua_ever.specs.EverState.{Left, Now, Freed, Coming}
+use Rattle.pua_ever.specs.Ever.{Thing, Stands, Comes, EverLine, New, NewDir, NewOthers, NewFile, NewLink, new_word, names_to_free}
+use Rattle.pua_ever.specs.Ever.{ever_line, new_line, has_ever_calls}
 use Rattle.pua_ever.specs.declared.line.EverLine as given
 use Rattle.pua_ever.specs.declared.line.EverThing.{EverThing}
 use Rattle.pua_ever.specs.declared.line.EverThing.TheVariants as told
+use Rattle.pua_ever.specs.declared.made.Made.{Made}
+use Rattle.pua_ever.specs.declared.made.Made.TheVariants as made
+
+-- what a line may still be about: what stands or could stand now, the name at which that stands, or what
+-- can be made
+pub data Left : Type 0 where
+  Now : Item → Left
+  Freed : Item → Left
+  Coming : New → Left
+
+-- an item, and the name at which it stands
+abbrev pub both_of : Item → List Left
+both_of item = Now item ∷ Freed item ∷ []
+
+-- what can be made, as the definition has it
+abbrev pub new_of : Made → New
+new_of made.Dir = NewDir
+new_of made.Others = NewOthers
+new_of made.File = NewFile
+new_of made.Link = NewLink
+
+-- and what comes after it, in the order of the lines
+abbrev pub made_left : Option Made → List Left
+made_left None = []
+made_left (Some made.Dir) = Coming NewDir ∷ Coming NewOthers ∷ Coming NewFile ∷ Coming NewLink ∷ []
+made_left (Some made.Others) = Coming NewOthers ∷ Coming NewFile ∷ Coming NewLink ∷ []
+made_left (Some made.File) = Coming NewFile ∷ Coming NewLink ∷ []
+made_left (Some made.Link) = Coming NewLink ∷ []
 
 -- the lines of what is to come, but for those without calls
 abbrev pub lines_about : Tree → CallTable → History → Left → List EverLine
@@ -31,21 +59,3 @@ IsThing t _ _ = ⊥
 
 abbrev pub line_with : Word → Thing → given.EverLine → EverLine
 line_with word thing line = record { word = word; thing = thing; calls = calls_in line.calls }
-
--- the first of the lines is given, and the others stay
-pub record IsEverListed (t : Tree) (table : CallTable) (process : ProcessState) (old new : List Left)
-    (word : Word) (given : given.EverLine) : Type 0 where
-  pub about : Thing
-  pub thing : IsThing t about given.thing
-  pub lines : (h : History) → StandsFor process h →
-      ever_lines_of t table h old ≡ line_with word about given ∷ ever_lines_of t table h new
-
-abbrev pub HasNoEverLine : Tree → CallTable → ProcessState → List Left → Type 0
-HasNoEverLine t table process left = (h : History) → StandsFor process h → ever_lines_of t table h left ≡ []
-
--- None where there is none
-abbrev pub IsNextEverListed : Tree → CallTable → ProcessState → List Left → Option given.EverLine → Word →
-    List Left → Type 0
-IsNextEverListed t table process old result word new =
-    MatchOption result (HasNoEverLine t table process old × HasNoEverLine t table process new)
-    (IsEverListed t table process old new word)

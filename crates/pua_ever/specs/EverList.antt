@@ -10,8 +10,7 @@ use Rattle.pua_objects.specs.Items.{subject_given}
 use Rattle.pua_objects.specs.ListItems.{items_told, last_name, last_word, with_name}
 use Rattle.pua_objects.specs.declared.list.ListItem.{ListItem}
 use Rattle.pua_ever.specs.Ever.{Thing, EverLine, Stands, has_ever_calls, is_ever_allowed}
-use Rattle.pua_ever.specs.EverLines.{IsThing, ever_lines_of, line_with}
-use Rattle.pua_ever.specs.EverReady.{both_of, made_left}
+use Rattle.pua_ever.specs.EverLines.{IsThing, both_of, ever_lines_of, line_with, made_left}
 use Rattle.pua_ever.specs.declared.made.Made.{Made}
 use Rattle.pua_ever.specs.declared.made.Made.TheVariants as made
 use Rattle.pua_ever.specs.declared.list.EverRow.{EverRow}

@@ -9,26 +9,27 @@ ghost use Rattle.pua_calls.specs.CallSets.{has};
 ghost use Rattle.pua_calls.specs.declared.call.Call.{Call as AnyCall};
 ghost use Rattle.pua_policy.specs.History.{History, StandsFor, is_ended};
 ghost use Rattle.pua_script.specs.Laws.{IsConfined};
-ghost use Rattle.pua_objects.specs.Items.{subject_given};
+ghost use Rattle.pua_objects.specs.Items.{IsItemOn, subject_given};
 ghost use Rattle.pua_objects.specs.Laws.{HasPlaces};
+ghost use Rattle.pua_objects.specs.Lines.{kind_word};
 ghost use Rattle.pua_objects.specs.ListItems.{AreNear, IsToldIn};
+ghost use Rattle.pua_objects.specs.Objects.{Subject as About, subject_word};
 ghost use Rattle.pua_objects.specs.declared.list.ListItem.{ListItem as Listed};
 ghost use Rattle.pua_ever.specs.Ever.{Comes, can_make, ever, is_new_allowed, may_edit, own_spot};
-ghost use Rattle.pua_ever.specs.EverLines.{IsThing};
+ghost use Rattle.pua_ever.specs.EverLines.{IsThing, new_of};
 ghost use Rattle.pua_ever.specs.EverList.{AreEverTold, AreRowsBut, IsRowAt, IsStandsRow};
-ghost use Rattle.pua_ever.specs.EverReady.{AreOnFreed, IsProspects, new_of};
 ghost use Rattle.pua_ever.specs.Laws.{EditsNeedC};
+ghost use Rattle.pua_ever.specs.Prospects.{AreOnFreed, IsProspects};
 ghost use Rattle.pua_ever.specs.Refusals.{refusal as refusal_of, refusal_in};
 
-use crate::ever::kind_of;
 use crate::fault::EverFault;
 use crate::line::{EverLine, EverThing};
 use crate::made::Made;
 use crate::prospects::{Prospects, find_prospects};
 use crate::refusal::why_refused;
 use pua_calls::CallTable;
-use pua_objects::{ListItem, ObjectKind, list_items};
-use pua_policy::Process;
+use pua_objects::{Item, ListItem, ObjectKind, Subject, list_items};
+use pua_policy::{Object, Process};
 use pua_tree::{FileTree, Name};
 use std::alloc::{AllocError, Global};
 
@@ -46,9 +47,12 @@ pub struct EverRow<'t> {
 }
 
 /// Lists what a process, and what it forks, can ever touch in a tree by their own doing, as long as
-/// no exec of theirs succeeds, in the order of `Ever`. Where `why_refused` has a reason, that is the
-/// fault. Else the process can put no veil any more or has ended, and the only fault is that a growth
-/// was refused. Each veil that is not at a directory is at a name.
+/// no exec of theirs succeeds. What stands or could stand now comes in the order of `list_items`, each
+/// followed by the name at which it stands, as a missing one: that has calls if it has a veil of its
+/// own and can come to be free. Last comes what can be made: a directory, its names, a file and a link.
+/// Where `why_refused` has a reason, that is the fault. Else the process can put no veil any more or
+/// has ended, and the only fault is that a growth was refused. Each veil that is not at a directory is
+/// at a name. The veils are asked as by `find_movable`.
 pub fn list_ever<'t, T: FileTree>(
     alloc: Global,
     tree: &'t T,
@@ -193,5 +197,22 @@ fn made_row<'t>(prospects: &Prospects, made: Made) -> EverRow<'t>
             thing: EverThing::Comes(made.kind()),
             calls: prospects.calls_on_made(made),
         },
+    }
+}
+
+/// What a line says that an item is.
+fn kind_of(item: &Item<'_>) -> ObjectKind
+    ensures { (t : Tree) (h : History) (about : About) → IsItemOn t h about item.now →
+        kind_word result ≡ subject_word t about }
+{
+    if let Subject::Others(_) = item.subject {
+        return ObjectKind::Other;
+    }
+    match item.object {
+        Object::Missing => ObjectKind::Missing,
+        Object::File => ObjectKind::File,
+        Object::Program => ObjectKind::Prog,
+        Object::Link => ObjectKind::Link,
+        Object::Directory | Object::Removable => ObjectKind::Dir,
     }
 }

@@ -1,11 +1,10 @@
 //! What can be made.
 
-ghost use Rattle.std.specs.Prelude.{◌≡◌, ◌∷◌, [], Some};
-ghost use Rattle.pua_audit.specs.Reach.{Word};
+ghost use Rattle.std.specs.Prelude.{◌≡◌, ◌∷◌, Some};
 ghost use Rattle.pua_objects.specs.Lines.{kind_word};
 ghost use Rattle.pua_ever.specs.Ever.{maker as maker_of, new_word};
-ghost use Rattle.pua_ever.specs.EverReady.{new_of, made_left, made_word};
-ghost use Rattle.pua_ever.specs.EverState as left;
+ghost use Rattle.pua_ever.specs.EverLines as left;
+ghost use Rattle.pua_ever.specs.EverLines.{made_left, new_of};
 
 use pua_calls::Call;
 use pua_objects::ObjectKind;
@@ -23,8 +22,7 @@ pub(crate) enum Made {
 impl Made {
     /// The next one, in the order of the lines.
     pub(crate) fn after(self) -> Option<Made>
-        ensures left { made_left (Some self) ≡ left.Coming (new_of self) ∷ made_left result }
-        ensures word { (word : Word) → made_word result word ≡ [] }
+        ensures { made_left (Some self) ≡ left.Coming (new_of self) ∷ made_left result }
     {
         match self {
             Made::Dir => Some(Made::Others),

@@ -23,9 +23,10 @@ ghost use Rattle.pua_ever.specs.Ever.{is_named_way, own_spot};
 ghost use Rattle.pua_ever.specs.Ever.{may_link as links_files, can_link as gives_names};
 ghost use Rattle.pua_ever.specs.Ever.{can_move as moves};
 ghost use Rattle.pua_ever.specs.Ever.{named_covers};
-ghost use Rattle.pua_ever.specs.EverReady.{IsProspects, AreOnFreed, new_of, own_given};
-ghost use Rattle.pua_ever.specs.EverReady.{kind_allowed, kind_covers};
+ghost use Rattle.pua_ever.specs.EverLines.{new_of};
 ghost use Rattle.pua_ever.specs.Laws.{EditsNeedC};
+ghost use Rattle.pua_ever.specs.Prospects.{IsProspects, AreOnFreed, own_given};
+ghost use Rattle.pua_ever.specs.Prospects.{kind_allowed, kind_covers};
 
 use crate::made::Made;
 use crate::movable::{Movable, calls_by_object};

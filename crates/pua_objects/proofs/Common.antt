@@ -1,6 +1,6 @@
 -- What many proofs of this crate name, from where it stands.
 pub use Rattle.std.proofs.Common.{◌++◌, ◌+◌, ◌-◌, ◌<◌, ◌==◌, ◌∙◌, ◌∷◌, ◌≡◌, ◌≢◌, ◌≤◌, [], ap, append-nil, arith, Bool, Bor, cond, drop}
-pub use Rattle.std.proofs.Common.{false, inl, inr, length, List, map, refl, rules, subst, suc, sym, take, true, vec_capacity, zero, ℕ}
+pub use Rattle.std.proofs.Common.{false, inl, inr, length, List, map, refl, rules, subst, suc, sym, take, true, zero, ℕ}
 pub use Rattle.std.proofs.lemmas.Bool.{and_parts, eq-eqb, eqb-true}
 pub use Rattle.std.proofs.lemmas.List.{length-map, length-reverse}
 pub use Rattle.std.specs.List.{AllByRecursion, list_all, list_any}
@@ -32,13 +32,8 @@ pub use Rattle.pua_tree.proofs.ForCallers.{climb_ends, exact_spots, row_says, So
 pub use Rattle.pua_tree.specs.Tree.{is_dir, look, name_cmp, Spot, spot_cmp, Tree, WellFormed}
 pub use Rattle.pua_tree.specs.declared.node.Kind.{Kind}
 pub use Rattle.pua_objects.specs.Items.{IsItemOn}
-pub use Rattle.pua_objects.specs.Laws.{own_or}
 pub use Rattle.pua_objects.specs.Objects.{At, calls_on, cover_in, entries, has_calls, is_named_by, Item, items, items_at, items_below, Line}
 pub use Rattle.pua_objects.specs.Objects.{line_of, name_at, names_in, Others, Subject, subject_of, subject_verdict, veiled_in}
-pub use Rattle.pua_objects.specs.Ready.{AreOpenDirs, dir_with_next, dirs_in, frames_at, IsItemReady, IsOpenDir, lines_of, names_left}
-pub use Rattle.pua_objects.specs.Ready.{own_items, spots_in, word_in}
+pub use Rattle.pua_objects.specs.Lines.{lines_of}
 pub use Rattle.pua_objects.specs.Spots.{AreAtNames, AreInOrder, AreSpots, names_at, spot_now, veil_spot}
 pub use Rattle.pua_objects.specs.Walk.{IsBelow, items_to_come, others_item}
-pub use Rattle.pua_objects.specs.declared.open_dir.Coming.TheVariants.{Names, Root}
-pub use Rattle.pua_objects.specs.declared.open_dir.OpenDir.{OpenDir}
-pub use Rattle.pua_objects.specs.declared.walk.ItemWalk.{ItemWalk}

@@ -14,8 +14,8 @@ pub use Rattle.pua_objects.proofs.Judged.{named_by_row}
 pub use Rattle.pua_objects.proofs.Completeness.{one_of_calls, some_of, failed, allowed_is, named_within_text}
 -- the word of what was found
 pub use Rattle.pua_objects.proofs.Lined.{word_seen}
--- a front of a word stays from line to line
-pub use Rattle.pua_objects.proofs.Fronts.{less_same, stays_shared}
+-- words that have a front in common have each shorter one
+pub use Rattle.pua_objects.proofs.Fronts.{less_same}
 -- the items of a list as a vector, one after another, and the lines of items, of which those without calls are left out
 pub use Rattle.pua_objects.proofs.ListGrows.{told_append, last_append}
 pub use Rattle.pua_objects.proofs.Listed.{left_out, kept_in}

@@ -15,13 +15,6 @@ pub mod Distinct
 pub mod Entries
 pub mod Lined
 pub mod Ranges
-pub mod Framed
-pub mod Leaving
-pub mod Entering
-pub mod Unveiled
-pub mod Own
 pub mod Listed
-pub mod Nodes
-pub mod Starting
 pub mod HandedDown
 pub mod ListGrows

@@ -1,11 +1,10 @@
 -- Lines of what is to come, one after another.
-use Rattle.pua_objects.proofs.Common.{◌≡◌, ◌≢◌, List, [], ◌∷◌, Bool, true, false, cond, length, refl, sym, ap, subst, ◌∙◌, arith, filter}
-use Rattle.pua_objects.proofs.Common.{nat_lt, Tree, CallTable, calls, History, ProcessState, StandsFor, Call, Word, Subject, Item, Line}
-use Rattle.pua_objects.proofs.Common.{line_of, has_calls, calls_on, IsItemOn, lines_of}
+use Rattle.pua_objects.proofs.Common.{◌≡◌, ◌≢◌, List, [], ◌∷◌, Bool, true, false, cond, length, refl, sym, ap, ◌∙◌, arith, filter}
+use Rattle.pua_objects.proofs.Common.{nat_lt, Tree, CallTable, calls, History, Call, Word, Subject, Item, Line}
+use Rattle.pua_objects.proofs.Common.{line_of, has_calls, calls_on, lines_of}
 use Rattle.std.proofs.lemmas.Bool.{lt-ltb}
 use Rattle.pua_calls.specs.CallSets.{calls_in}
 use Rattle.pua_objects.specs.Lines.{IsLineOn}
-use Rattle.pua_objects.specs.declared.item.Item as given
 use Rattle.pua_objects.specs.declared.line.ObjectLine.{ObjectLine}
 
 module _ (t : Tree) (table : CallTable) (h : History) (subject : Subject) (given : ObjectLine) (on : IsLineOn t table h subject given) where
@@ -37,14 +36,3 @@ module _ (t : Tree) (table : CallTable) (h : History) (subject : Subject) (given
         some_calls : (cs : List Call) → cs ≢ [] → nat_lt 0 (length cs) ≡ true
         some_calls [] some = absurd (some refl)
         some_calls (c ∷ cs) some = lt-ltb 0 (length (c ∷ cs)) (omega arith)
-
--- the line of an item that tells what it is about, over a tree, a process and a table that are the same
-module _ (t u : Tree) (p q : ProcessState) (table other : CallTable) (same_tree : u ≡ t) (same_process : q ≡ p) (same_table : other ≡ table)
-    (subject : Subject) (item : given.Item) (line : ObjectLine) where
-  pub told_lined : ((h : History) → StandsFor q h → IsItemOn u h subject item) →
-      ((h : History) → StandsFor q h → IsItemOn u h subject item → IsLineOn u other h subject line) → (h : History) → StandsFor p h →
-      IsLineOn t table h subject line
-  told_lined tells lines h stands =
-      let here = subst (λ (x : ProcessState). StandsFor x h) (sym same_process) stands in
-      subst (λ (x : Tree). IsLineOn x table h subject line) same_tree (subst (λ (x : CallTable). IsLineOn u x h subject line) same_table
-      (lines h here (tells h here)))

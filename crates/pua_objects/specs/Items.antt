@@ -1,17 +1,16 @@
 -- An item of the code, beside the definition's.
-use Rattle.std.specs.Prelude.{◌≡◌, ◌-◌, List, [], ◌∷◌, length, take, Option, MatchOption, IsTrue}
+use Rattle.std.specs.Prelude.{◌≡◌, IsTrue}
 use Rattle.pua_tree.specs.Tree.{Tree, look, is_dir}
 use Rattle.pua_path.specs.Fits.{FoundFits, StandsAsNamed}
 use Rattle.pua_path.specs.declared.found.Way.TheVariants.{Named, Top}
 use Rattle.pua_path.specs.declared.found.Found.TheVariants.{Whole, Slot}
-use Rattle.pua_policy.specs.History.{History, ProcessState, StandsFor}
+use Rattle.pua_policy.specs.History.{History}
 use Rattle.pua_policy.specs.Objects.{object_seen}
 use Rattle.pua_policy.specs.Verdict.{object_of, cover}
 use Rattle.pua_policy.specs.declared.answer.Cover.{Cover}
 use Rattle.pua_policy.specs.declared.object.Object as seen
 use Rattle.pua_policy.specs.declared.object.Object.TheVariants as see
-use Rattle.pua_audit.specs.Reach.{Word}
-use Rattle.pua_objects.specs.Objects.{Item, Subject, At, Others, cover_in}
+use Rattle.pua_objects.specs.Objects.{Subject, At, Others, cover_in}
 use Rattle.pua_objects.specs.declared.item.Item as given
 use Rattle.pua_objects.specs.declared.item.Subject as told
 use Rattle.pua_objects.specs.declared.item.Subject.TheVariants as about
@@ -42,18 +41,3 @@ pub record IsItemOn (t : Tree) (h : History) (thing : Subject) (item : given.Ite
 abbrev pub SubjectFits : Tree → Subject → Type 0
 SubjectFits t (At found) = FoundFits t found × StandsAsNamed t found
 SubjectFits t (Others dir) = IsTrue (is_dir t dir)
-
--- an item is the first that is to come, and the others stay to come
-pub record IsFirst (t : Tree) (process : ProcessState) (old : List Item) (word : Word) (new : List Item) (item : given.Item) : Type 0 where
-  pub subject : Subject
-  pub left : old ≡ record { word = word; subject = subject } ∷ new
-  pub fits : SubjectFits t subject
-  pub tells : (h : History) → StandsFor process h → IsItemOn t h subject item
-
--- None where nothing is left
-abbrev pub IsNext : Tree → ProcessState → List Item → Option given.Item → Word → List Item → Type 0
-IsNext t process old result word new = MatchOption result ((old ≡ []) × (new ≡ [])) (IsFirst t process old word new)
-
--- a list is as it was but for its last element
-abbrev pub IsNear : {A : Type 0} → List A → List A → Type 0
-IsNear old new = take (length new - 1) new ≡ take (length new - 1) old

@@ -1,5 +1,5 @@
 -- A line of the code, beside the definition's.
-use Rattle.std.specs.Prelude.{◌≡◌, List, ℕ, ◌&&◌, codes}
+use Rattle.std.specs.Prelude.{◌≡◌, List, ℕ, ◌&&◌, codes, filter, map}
 use Rattle.pua_tree.specs.Tree.{Tree}
 use Rattle.pua_calls.specs.Calls.{CallTable}
 use Rattle.pua_calls.specs.CallSets.{has}
@@ -11,7 +11,7 @@ use Rattle.pua_policy.specs.declared.answer.Cover.{Cover}
 use Rattle.pua_calls.specs.declared.call.Call.{Call}
 use Rattle.pua_policy.specs.declared.object.Object as seen
 use Rattle.pua_policy.specs.declared.object.Object.TheVariants as see
-use Rattle.pua_objects.specs.Objects.{Subject, subject_word, subject_verdict, is_named_by}
+use Rattle.pua_objects.specs.Objects.{Subject, Item, Line, line_of, has_calls, subject_word, subject_verdict, is_named_by}
 use Rattle.pua_objects.specs.declared.kind.ObjectKind.{ObjectKind}
 use Rattle.pua_objects.specs.declared.kind.ObjectKind.TheVariants as kind
 use Rattle.pua_objects.specs.declared.line.ObjectLine.{ObjectLine}
@@ -43,3 +43,7 @@ AreAllowed t table h left object set = (judged : Judged) → object ≡ object_s
 pub record IsLineOn (t : Tree) (table : CallTable) (h : History) (subject : Subject) (line : ObjectLine) : Type 0 where
   pub kind : kind_word line.kind ≡ subject_word t subject
   pub calls : (call : Call) → has line.calls call ≡ (is_named_by t call subject && is_allowed (subject_verdict t table h call subject))
+
+-- the lines of items, but for those without calls
+abbrev pub lines_of : Tree → CallTable → History → List Item → List Line
+lines_of t table h items = filter has_calls (map (line_of t table h) items)

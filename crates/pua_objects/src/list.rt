@@ -16,8 +16,8 @@ ghost use Rattle.pua_objects.specs.declared.list.Entered.{Entered as Inner};
 
 use crate::item::{Item, Subject};
 use crate::over::{Over, outermost, over_dir, over_name};
+use crate::seen::{directory, is_directory, object_at};
 use crate::spots::spots;
-use crate::walk::{directory, is_directory, object_at};
 use pua_policy::{Object, Process};
 use pua_tree::{FileTree, Name, NodeId, OutOfMemory};
 use std::alloc::{AllocError, Global};

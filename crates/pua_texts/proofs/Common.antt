@@ -17,9 +17,8 @@ pub use Rattle.pua_calls.specs.declared.call.Call.{Call}
 pub use Rattle.pua_calls.specs.declared.call.Call.TheVariants.{Stat}
 pub use Rattle.pua_io.specs.declared.sink.PutFault.{PutFault}
 pub use Rattle.pua_objects.specs.Items.{subject_given, SubjectFits}
-pub use Rattle.pua_objects.specs.Lines.{kind_word}
+pub use Rattle.pua_objects.specs.Lines.{kind_word, lines_of}
 pub use Rattle.pua_objects.specs.Objects.{items, with_commas}
-pub use Rattle.pua_objects.specs.Ready.{lines_of}
 pub use Rattle.pua_policy.specs.History.{History, ProcessState, StandsFor, veils}
 pub use Rattle.pua_policy.specs.declared.place.Place.{Place}
 pub use Rattle.pua_script.specs.Replay.{history_of}

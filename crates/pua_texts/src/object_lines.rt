@@ -7,7 +7,7 @@ ghost use Rattle.pua_calls.specs.CallSets.{calls_in};
 ghost use Rattle.pua_policy.specs.History.{History, StandsFor};
 ghost use Rattle.pua_policy.specs.Reasons.{promising};
 ghost use Rattle.pua_tree.specs.Tree.{Tree};
-ghost use Rattle.pua_objects.specs.Ready.{lines_of};
+ghost use Rattle.pua_objects.specs.Lines.{lines_of};
 ghost use Rattle.pua_why.specs.Columns.{let_by, resting_on};
 ghost use Rattle.pua_texts.specs.ColumnsState.{plain};
 ghost use Rattle.pua_objects.specs.ListItems.{IsToldIn, items_told};

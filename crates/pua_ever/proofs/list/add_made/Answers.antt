@@ -8,6 +8,6 @@ loop-coming-preserved c = record {
   told = λ t table h items found so_far.
       made_told t table h items c.loop-coming.rows.items c.push.new.self.items c.made_row.result c.in-Some.made c.after-coming.result
       c.made_row.ensures.at.0 c.made_row.ensures.at.1 (c.made_row.ensures.thing t) (c.made_row.ensures.calls t table h found)
-      c.after-coming.ensures.left c.in-Ok.ensures.items
+      c.after-coming.ensures c.in-Ok.ensures.items
       (subst (AreRowsBut t table h items c.loop-coming.rows.items) c.in-Some.is (c.loop-coming.invariant.told t table h items found so_far));
 }

@@ -1,7 +1,7 @@
 use Rattle.pua_ever.proofs.Common.{Some, List, Tree, CallTable, History, length, made_left}
 use Rattle.pua_objects.specs.declared.list.ListItem.{ListItem}
 use Rattle.pua_ever.specs.EverList.{AreRowsBut}
-use Rattle.pua_ever.specs.EverReady.{IsProspects}
+use Rattle.pua_ever.specs.Prospects.{IsProspects}
 use Rattle.pua_ever.specs.declared.made.Made.TheVariants as made
 use Rattle.pua_ever.proofs.list.add_made.Given as goal
 

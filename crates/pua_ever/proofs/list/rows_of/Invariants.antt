@@ -3,7 +3,7 @@ use Rattle.std.proofs.Common.{drop}
 use Rattle.std.specs.List.{AllByRecursion}
 use Rattle.pua_objects.specs.ListItems.{AreNear, IsToldIn}
 use Rattle.pua_ever.specs.EverList.{AreRowsSoFar}
-use Rattle.pua_ever.specs.EverReady.{IsProspects}
+use Rattle.pua_ever.specs.Prospects.{IsProspects}
 use Rattle.pua_ever.proofs.list.rows_of.Given as goal
 
 abbrev pub invariant-loop-item : goal.invariant-loop-item

@@ -1,8 +1,7 @@
-use Rattle.pua_objects.proofs.Common.{◌∷◌, List, ℕ, Bor, map, ap, subst, ◌∙◌, arith, reverse, spot_now, AreSpots}
-use Rattle.std.proofs.lemmas.List.{nil_from_length}
+use Rattle.pua_objects.proofs.Common.{◌∷◌, [], List, ℕ, Bor, map, ap, subst, ◌∙◌, arith, reverse, spot_now, AreSpots}
+use Rattle.std.proofs.lemmas.List.{nil_from_length, reverse-append}
 use Rattle.pua_objects.specs.Listing.{IsListing}
 use Rattle.pua_tree.specs.LentRows.{lent_entry}
-use Rattle.pua_objects.proofs.Framed.{reverse_more}
 use Rattle.pua_objects.proofs.ListGrows.{listed_all, listed_short, one_shorter}
 use Rattle.pua_objects.proofs.list.list_items.Goals as goal
 
@@ -28,7 +27,7 @@ loop-inner-preserved g c =
       listing = subst Goes c.deref-in-Some.ensures.value c.in_ok-go_on.ensures.listing
           (c.in_ok-spots.ensures.spots t (ap (map lent_entry) c.deref.ensures.value ∙ c.in_ok-rows.ensures))
           (subst (λ es. IsListing t p (map spot_now c.in_ok-spots.spots.items) es so_far)
-          (ap reverse c.in-Some.ensures.items ∙ reverse_more around inner) c.loop-inner.invariant.listing);
+          (ap reverse c.in-Some.ensures.items ∙ reverse-append around (inner ∷ [])) c.loop-inner.invariant.listing);
     }
 
 pub loop-inner-smaller : goal.loop-inner-smaller

@@ -1,6 +1,6 @@
 use Rattle.pua_ever.proofs.Common.{◌≡◌, Some, None, empty_tree, has, object_seen, object_of_kind, rules, tests}
 use Rattle.pua_ever.specs.Ever.{can_allow}
-use Rattle.pua_ever.specs.EverReady.{kind_covers}
+use Rattle.pua_ever.specs.Prospects.{kind_covers}
 use Rattle.pua_ever.proofs.prospects.Prospects.on_plain.Goals as goal
 
 pub returns : goal.returns

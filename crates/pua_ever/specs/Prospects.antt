@@ -1,0 +1,58 @@
+-- What is found before the first line, and the calls that it decides.
+use Rattle.std.specs.Prelude.{◌≡◌, ℕ, Bool, true, false, not, ◌&&◌, ◌||◌, if◌then◌else◌, is_some, List, [], ◌∷◌}
+use Rattle.std.specs.Prelude.{◌==◌, Option, Some, None}
+use Rattle.std.specs.List.{list_any}
+use Rattle.pua_tree.specs.Tree.{Tree, Spot, is_dir}
+use Rattle.pua_tree.specs.declared.node.Kind.{Kind}
+use Rattle.pua_path.specs.Fits.{is_link_kind}
+use Rattle.pua_path.specs.declared.found.Found.TheVariants.{Slot}
+use Rattle.pua_calls.specs.Calls.{CallTable}
+use Rattle.pua_calls.specs.CallSets.{has, keeps_link}
+use Rattle.pua_policy.specs.History.{History}
+use Rattle.pua_policy.specs.Verdict.{object_of_kind}
+use Rattle.pua_policy.specs.declared.answer.Cover.{Cover}
+use Rattle.pua_calls.specs.declared.call.Call.{Call}
+use Rattle.pua_policy.specs.declared.object.Object as seen
+use Rattle.pua_policy.specs.declared.object.Object.TheVariants as see
+use Rattle.pua_script.specs.Confinement.{has_c}
+use Rattle.pua_objects.specs.Objects.{At, cover_in}
+use Rattle.pua_objects.specs.declared.item.Subject as about
+use Rattle.pua_objects.specs.declared.item.Subject.TheVariants as subject
+use Rattle.pua_ever.specs.Ever.{can_empty, may_edit, may_link, named_covers}
+use Rattle.pua_ever.specs.Ever.{can_allow, is_ever_allowed, can_be_freed}
+use Rattle.pua_ever.specs.Movable.{IsMovable}
+use Rattle.pua_ever.specs.declared.prospects.Prospects.{Prospects}
+
+-- what was found for the lines is so by this history
+pub record IsProspects (t : Tree) (table : CallTable) (h : History) (found : Prospects) : Type 0 where
+  pub edits : found.may_edit ≡ may_edit table h
+  pub links : found.may_link ≡ may_link table h
+  pub movable : IsMovable t table h found.movable
+  pub held : (dir : ℕ) → is_dir t dir ≡ true → has_c (cover_in t h dir) ≡ true →
+      can_empty t h dir ≡ not (list_any (λ other. other == dir) found.held.items)
+
+-- the calls on the name at which a thing stands, once that is taken away
+pub record AreOnFreed (t : Tree) (table : CallTable) (h : History) (at : Option Spot) (calls : ℕ) : Type 0 where
+  pub none : at ≡ None → (call : Call) → has calls call ≡ false
+  pub some : (spot : Spot) → at ≡ Some spot → (call : Call) →
+      has calls call
+      ≡ (can_be_freed t table h spot && is_ever_allowed t table h (At (Slot spot.0 spot.1 None)) call)
+
+-- the name at which an item stands
+abbrev pub own_given : about.Subject → seen.Object → Option Spot
+own_given (subject.Dir id dir name) object = Some (dir, name.now)
+own_given (subject.Name dir name) object = by object
+  where
+    by : seen.Object → Option Spot
+    by see.Missing = None
+    by _ = Some (dir, name.now)
+own_given _ object = None
+
+-- the calls on an object of a kind at a name, by what covers it now
+abbrev pub kind_covers : Tree → CallTable → History → Cover → Option Kind → List Cover
+kind_covers t table h now kind = if is_some kind then named_covers t table h kind now else now ∷ []
+
+abbrev pub kind_allowed : Tree → CallTable → History → Cover → Option Kind → Call → Bool
+kind_allowed t table h now kind call =
+    (keeps_link call || not (is_link_kind kind))
+    && can_allow table h (kind_covers t table h now kind) (object_of_kind kind) call
