@@ -2,6 +2,7 @@
 use Rattle.std.specs.Prelude.{ℕ, List, ◌++◌, flat_map, codes}
 use Rattle.pua_tree.specs.Tree.{Tree}
 use Rattle.pua_calls.specs.Calls.{CallTable}
+use Rattle.pua_calls.specs.declared.rules.Rules.{Rules}
 use Rattle.pua_policy.specs.History.{History}
 use Rattle.pua_audit.specs.Reach.{Word, printed_path}
 use Rattle.pua_audit.specs.declared.base.Base.TheVariants.{Root}
@@ -11,6 +12,8 @@ use Rattle.pua_ever.specs.declared.line.EverThing.TheVariants.{Stands, Comes}
 use Rattle.pua_objects.specs.declared.kind.ObjectKind.{ObjectKind}
 use Rattle.pua_texts.specs.States.{head_lines}
 use Rattle.pua_texts.specs.Lines.{with_end}
+use Rattle.pua_texts.specs.declared.state.Heading.{Heading}
+use Rattle.pua_texts.specs.declared.state.Span.TheVariants.{Ever}
 
 abbrev pub ever_lines : Tree → List EverLine → List ℕ
 ever_lines t lines = flat_map (λ line. with_end (line_text t line)) lines
@@ -25,6 +28,10 @@ abbrev pub path_or_new : EverThing → Word → List ℕ
 path_or_new (Stands kind) word = printed_path Root word
 path_or_new (Comes kind) word = codes "new"
 
+-- the heading of a list for ever
+abbrev pub heading_ever : Rules → ℕ → Heading
+heading_ever rules process = record { span = Ever; rules = rules; number = process }
+
 -- the list for ever of a process: its heading, its state, and a line for each thing that it and what it forks can ever touch
-abbrev pub ever_list : CallTable → Tree → ℕ → History → List ℕ
-ever_list table t process h = head_lines t (codes "ever") process h ++ ever_lines t (ever t table h)
+abbrev pub ever_list : Rules → CallTable → Tree → ℕ → History → List ℕ
+ever_list rules table t process h = head_lines t (heading_ever rules process) h ++ ever_lines t (ever t table h)

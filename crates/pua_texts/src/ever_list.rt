@@ -1,12 +1,13 @@
 //! The list for ever of a process: its heading, its state, and what it can ever touch.
 
-ghost use Rattle.std.specs.Prelude.{◌≡◌, ◌++◌, ℕ, codes};
-ghost use Rattle.pua_calls.specs.Calls.{CallTable as Rules};
+ghost use Rattle.std.specs.Prelude.{◌≡◌, ◌++◌, ℕ};
+ghost use Rattle.pua_calls.specs.Calls.{CallTable};
+ghost use Rattle.pua_calls.specs.declared.rules.Rules.{Rules};
 ghost use Rattle.pua_policy.specs.History.{History, StandsFor};
 ghost use Rattle.pua_texts.specs.Blocks.{PassesOn};
 ghost use Rattle.pua_texts.specs.ColumnsState.{plain};
 ghost use Rattle.pua_texts.specs.EverLists.{IsEverOf};
-ghost use Rattle.pua_texts.specs.EverLines.{ever_list};
+ghost use Rattle.pua_texts.specs.EverLines.{ever_list, heading_ever};
 ghost use Rattle.pua_texts.specs.Lists.{IsHeadOf};
 ghost use Rattle.pua_texts.specs.Tells.{TellsTo};
 
@@ -18,6 +19,8 @@ use crate::fault::TextFault;
 use crate::kept_path::KeptPath;
 use crate::places::Places;
 use crate::process_head::ProcessHead;
+use crate::state::{Heading, Span};
+use pua_calls::Rules;
 use pua_ever::Ever;
 use pua_io::{PutFault, Sink};
 use pua_policy::Process;
@@ -25,24 +28,31 @@ use pua_tree::FileTree;
 use std::alloc::Global;
 
 /// Writes the front of a text, and then the list for ever of the process with this number, of which
-/// these lines are to come. `OutOfMemory` where a growth was refused, before anything is written.
-/// `Write` only where a put failed in this call, after a front of the text.
+/// these lines are to come; its state says whose rules the table of calls is by. `OutOfMemory` where a
+/// growth was refused, before anything is written. `Write` only where a put failed in this call, after a
+/// front of the text.
 pub fn write_ever<T: FileTree, S: Sink>(
     alloc: Global,
     tree: &T,
+    rules: Rules,
     number: u32,
     process: &Process,
     ever: &mut Ever<'_, T>,
     front: &str,
     sink: &mut S,
 ) -> Result<(), TextFault>
-    ensures { (table : Rules) (h : History) → StandsFor process.now h →
+    ensures { (table : CallTable) (h : History) → StandsFor process.now h →
         IsEverOf table (T.content tree.now) h ever.old →
         TellsTo S.written S.failed
-        (front.now ++ ever_list table (T.content tree.now) number h)
+        (front.now ++ ever_list rules table (T.content tree.now) number h)
         result sink.old sink.new }
 {
-    let head = ProcessHead::begin(alloc, "ever", number, process)?;
+    let heading = Heading {
+        span: Span::Ever,
+        rules,
+        number,
+    };
+    let head = ProcessHead::begin(alloc, heading, process)?;
     let mut places = Places::new(alloc, tree)?;
     let columns = Columns::plain(alloc);
     let mut path = KeptPath::new(alloc)?;
@@ -75,11 +85,11 @@ fn add_list<'t, T: FileTree, S: Sink>(
     sink: &mut S,
 ) -> Result<(), PutFault>
     requires plain { columns.now ≡ plain }
-    ensures { (table : Rules) (process : ℕ) (h : History) →
-        IsHeadOf (codes "ever") process h head.now →
+    ensures { (rules : Rules) (table : CallTable) (process : ℕ) (h : History) →
+        IsHeadOf (heading_ever rules process) h head.now →
         IsEverOf table places.old.tree h ever.old →
         PassesOn S.written S.failed
-        (front.now ++ ever_list table places.old.tree process h)
+        (front.now ++ ever_list rules table places.old.tree process h)
         result block.old block.new sink.old sink.new }
 {
     block.add_text(front.as_bytes(), sink)?;

@@ -9,7 +9,7 @@ ghost use Rattle.pua_texts.specs.States.{living_veils};
 
 use crate::block::Block;
 use crate::places::Places;
-use crate::state::state_text;
+use crate::state::{Heading, state_text};
 use crate::veil_line::add_veils;
 use pua_calls::Perms;
 use pua_io::{PutFault, Sink};
@@ -38,18 +38,17 @@ impl<'t> Model for ProcessHead<'t> {
 }
 
 impl<'t> ProcessHead<'t> {
-    /// What stands before the lines of a list with this title, of the process with this number. The
-    /// only error is that a growth was refused.
+    /// What stands before the lines of a list with this heading, of this process. The only error is
+    /// that a growth was refused.
     pub(crate) fn begin(
         alloc: Global,
-        title: &str,
-        number: u32,
+        heading: Heading,
         process: &'t Process,
     ) -> Result<ProcessHead<'t>, OutOfMemory>
         ensures { IfOk result (λ head. (h : History) → StandsFor process.now h →
-            IsHeadOf title.now number h head) }
+            IsHeadOf heading h head) }
     {
-        let Ok(text) = state_text(alloc, title, number, process) else {
+        let Ok(text) = state_text(alloc, heading, process) else {
             return Err(OutOfMemory);
         };
         let veils = veils_of_living(alloc, process)?;
