@@ -56,6 +56,15 @@ two_directories = text_of_lines (codes "tree 1" ∷ codes "0 dir" ∷ codes "1 d
 abbrev pub veiling_in_turn : List ℕ
 veiling_in_turn = text_of_lines (codes "1 unveil /d r" ∷ codes "1 fork 2" ∷ codes "2 unveil /e r" ∷ [])
 
+abbrev pub opening_past_veils : List ℕ
+opening_past_veils = text_of_lines (codes "1 unveil / =" ∷ codes "1 pledge stdio,dns -" ∷ [])
+
+abbrev pub opening_by_veils : List ℕ
+opening_by_veils = text_of_lines (codes "1 pledge tty,tmppath,getpw -" ∷ [])
+
+abbrev pub locking : List ℕ
+locking = text_of_lines (codes "1 unveil / =" ∷ codes "1 unveil - -" ∷ [])
+
 abbrev pub by_openbsd : Chosen
 by_openbsd = record by_standard { rules = Openbsd }
 
@@ -113,6 +122,30 @@ pub record TextRows : Type 0 where
   pub ever : ever_text by_standard root_listing pairing 7
       ≡ Ok (text_of_lines (codes "1 ok" ∷ codes "2 ok" ∷ codes "3 ok" ∷ codes "ever 7" ∷ codes "process alive" ∷ codes "promises ="
       ∷ codes "execpromises -" ∷ codes "unveil given-up" ∷ codes "no veils" ∷ []))
+  pub opened_past_veils : objects_text by_openbsd root_listing opening_past_veils (One 1)
+      ≡ Ok (text_of_lines (codes "1 ok" ∷ codes "2 ok" ∷ codes "objects 1" ∷ codes "process alive" ∷ codes "rules openbsd"
+      ∷ codes "promises dns,stdio" ∷ codes "execpromises -" ∷ codes "unveil given-up"
+      ∷ codes "opening /etc/resolv.conf stat,open-r" ∷ codes "opening /etc/hosts open-r" ∷ codes "opening /etc/services open-r"
+      ∷ codes "opening /etc/protocols open-r" ∷ codes "opening /dev/null open-r,open-w,open-rw"
+      ∷ codes "opening /etc/localtime stat,open-r" ∷ codes "opening /usr/share/zoneinfo/ open-r" ∷ codes "veil / =" ∷ []))
+  pub opened_by_veils : objects_text by_openbsd root_listing opening_by_veils (One 1)
+      ≡ Ok (text_of_lines (codes "1 ok" ∷ codes "objects 1" ∷ codes "process alive" ∷ codes "rules openbsd"
+      ∷ codes "promises getpw,tmppath,tty" ∷ codes "execpromises -" ∷ codes "unveil given-up"
+      ∷ codes "opening /etc/pwd.db open-r" ∷ codes "opening /etc/group open-r" ∷ codes "opening /etc/netid open-r"
+      ∷ codes "opening /var/run/ypbind.lock stat,open-r" ∷ codes "opening /var/yp/binding/ open-r"
+      ∷ codes "opening /tmp/ create,unlink veils" ∷ codes "opening /dev/tty open-r,open-w,open-rw veils" ∷ codes "no veils" ∷ []))
+  pub unopened : objects_text by_openbsd root_listing locking (One 1)
+      ≡ Ok (text_of_lines (codes "1 ok" ∷ codes "2 ok" ∷ codes "objects 1" ∷ codes "process alive" ∷ codes "rules openbsd"
+      ∷ codes "promises -" ∷ codes "execpromises -" ∷ codes "unveil locked" ∷ codes "veil / =" ∷ []))
+  pub ever_opened : ever_text by_openbsd root_listing locking 1
+      ≡ Ok (text_of_lines (codes "1 ok" ∷ codes "2 ok" ∷ codes "ever 1" ∷ codes "process alive" ∷ codes "rules openbsd"
+      ∷ codes "promises -" ∷ codes "execpromises -" ∷ codes "unveil locked"
+      ∷ codes "opening /etc/resolv.conf stat,open-r" ∷ codes "opening /etc/hosts open-r" ∷ codes "opening /etc/services open-r"
+      ∷ codes "opening /etc/protocols open-r" ∷ codes "opening /etc/pwd.db open-r" ∷ codes "opening /etc/group open-r"
+      ∷ codes "opening /etc/netid open-r" ∷ codes "opening /var/run/ypbind.lock stat,open-r" ∷ codes "opening /var/yp/binding/ open-r"
+      ∷ codes "opening /dev/null open-r,open-w,open-rw" ∷ codes "opening /etc/localtime stat,open-r"
+      ∷ codes "opening /usr/share/zoneinfo/ open-r" ∷ codes "opening /tmp/ create,unlink veils"
+      ∷ codes "opening /dev/tty open-r,open-w,open-rw veils" ∷ codes "veil / =" ∷ []))
   pub never_listed : objects_text by_standard root_listing [] (One 2) ≡ Err NoProcess
   pub bad_listing : audit_text by_standard (text_of_lines (codes "tree 1" ∷ codes "0 dir" ∷ codes "1 dir 0" ∷ [])) (codes "1") plain_job
       ≡ Err (Listing (BadLine 3))
@@ -142,6 +175,10 @@ text_rows = record {
   all_objects = refl;
   beyond_link = refl;
   ever = refl;
+  opened_past_veils = refl;
+  opened_by_veils = refl;
+  unopened = refl;
+  ever_opened = refl;
   never_listed = refl;
   bad_listing = refl;
   bad_script = refl;
