@@ -1,4 +1,4 @@
-use Rattle.pua_texts.proofs.Common.{◌≡◌, ◌++◌, List, ℕ, ap, ◌∙◌, string_bytes, codes, with_end}
+use Rattle.pua_texts.proofs.Common.{◌≡◌, ◌++◌, ap, ◌∙◌, string_bytes, codes, with_end}
 use Rattle.pua_policy.specs.History.{held_for_exec, pledged_set}
 use Rattle.pua_texts.specs.States.{openings_told, pledged_text, rules_line, unveil_word, unveiled_line}
 use Rattle.pua_texts.proofs.Outcomes.{on_ok}
