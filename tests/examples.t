@@ -9,6 +9,7 @@ use strict;
 use warnings;
 use FindBin qw($Bin);
 use lib "$Bin/lib";
+use Openings qw(by_openbsd);
 use Tables qw(content);
 use Test::More;
 use Worlds qw(answer_in program_in);
@@ -16,7 +17,7 @@ use Worlds qw(answer_in program_in);
 my $PROGRAM = program_in(@ARGV);
 my $EXAMPLES = "$Bin/../examples";
 
-# The files by which OpenBSD's rules give another list of objects.
+# The files by which OpenBSD's rules give other objects. Where there is none, the state alone tells of these rules.
 my %BY_OPENBSD = (aliases => 'openbsd-output');
 
 # The words by which a text is asked for.
@@ -53,8 +54,9 @@ sub test_example {
     }
     my @objects = words_in("$folder/objects-command");
     is_told([@objects, '--why'], content("$folder/objects-why-output"), '', 0, "$example, with reasons");
-    my $output = $BY_OPENBSD{$example} || 'objects-output';
-    is_told([@objects, '--rules', 'openbsd'], content("$folder/$output"), '', 0, "$example, by OpenBSD's rules");
+    my $other = $BY_OPENBSD{$example};
+    my $output = defined $other ? content("$folder/$other") : by_openbsd(content("$folder/objects-output"));
+    is_told([@objects, '--rules', 'openbsd'], $output, '', 0, "$example, by OpenBSD's rules");
     return;
 }
 

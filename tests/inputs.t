@@ -75,7 +75,7 @@ my %CALLS = (
 );
 
 # Its state.
-my $STATE = "objects 1\nprocess alive\npromises -\nexecpromises -\nunveil open\n";
+my $STATE = "objects 1\nprocess alive\npromises -\nexecpromises -\nunveil open\nno veils\n";
 
 # The files that the program finds: these, and the text that is tried.
 my %files  = %BESIDE;

@@ -28,6 +28,7 @@ BEGIN {
     unshift @INC, map { ($here || './') . $_ } '../share/pua/perl', 'lib';
 }
 use Getopt::Long qw(:config posix_default no_ignore_case bundling);
+use Pua::Calls qw(%BY_VEILS %OPENINGS);
 use Pua::Lists qw(@COLUMNS columns has_promise held_of holds lines_of lists_of manifest_of
     state_of);
 
@@ -37,13 +38,7 @@ my $MOST_NAMED = 5;    # paths that a line names
 my @ABOUT_PATHS = qw(rpath wpath cpath dpath tmppath exec fattr chown unix);    # promises
 my @NETWORK     = qw(inet mcast dns bpf pf route wroute vmm);
 
-# What promises open by themselves. A list by OpenBSD's rules has it; for any other it is said
-# here.
-my %OPENINGS = (
-    dns   => ['/etc/resolv.conf', '/etc/hosts', '/etc/services', '/etc/protocols'],
-    getpw => ['/etc/pwd.db', '/etc/group', '/etc/netid'],
-);
-my %BY_STDIO = map { $_ => 1 } qw(/dev/null /etc/localtime /usr/share/zoneinfo/);
+my %BY_STDIO = map { $_ => 1 } @{ $OPENINGS{stdio} };
 
 # The first of some things, and how many more there are.
 sub some {
@@ -82,7 +77,7 @@ sub about_programs {
 sub about_sockets {
     my ($list, $state) = @_;
     return if !holds($state, 'unix');
-    if ($state->{by_openbsd}) {
+    if ($state->{sockets}) {
         my @connects = paths_with($list, 'connect');
         my @binds = paths_with($list, 'bind');
         return ((@connects ? 'connects, if these are sockets, to ' . some(@connects) : ()),
@@ -99,11 +94,11 @@ sub about_sockets {
     );
 }
 
-# What is to be said of files that promises open.
+# What is to be said of files that promises open. A list by OpenBSD's rules has them.
 sub about_openings {
     my ($state) = @_;
     my @paths = map { $_->[0] } grep { @$_ == 2 } @{ $state->{openings} };    # others ask veils
-    my @promises = grep { has_promise($state, $_) } sort keys %OPENINGS;
+    my @promises = grep { has_promise($state, $_) && !$BY_VEILS{$_} } sort keys %OPENINGS;
     @paths = map { @{ $OPENINGS{$_} } } @promises if !@paths;
     @paths = grep { !$BY_STDIO{$_} } @paths;
     return @paths ? 'opens past the veils ' . some(@paths) : ();

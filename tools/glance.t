@@ -149,19 +149,19 @@ process 6: veils 0, locked; read 0, written 0, executed 0, made 0, removed 0
     no veils at all: it touches what is not listed too
     connects to each socket, and binds sockets anywhere: no line shows it
 process 7: veils 0, locked; read 0, written 0, executed 0, made 0, removed 0
-    opens past the veils /etc/pwd.db, /etc/group, /etc/netid
+    opens past the veils /etc/pwd.db, /etc/group, /etc/netid, /var/run/ypbind.lock, /var/yp/binding/
 process 8: veils 0, given-up; read 0, written 0, executed 0, made 0, removed 0
 OUT
 
-# A list by OpenBSD's rules, with what such lists are to have, and lists for ever.
+# A list by OpenBSD's rules, with calls on sockets that such lists are to have; one that has none; and lists for ever.
 tells('openings and sockets that have lines', <<'END', split /\n/, <<'OUT');
 1 ok
 objects 1
 process alive
+rules openbsd
 promises dns,stdio,unix
 execpromises -
 unveil locked
-rules openbsd
 opening /etc/resolv.conf stat,open-r
 opening /etc/hosts open-r
 opening /dev/null open-r,open-w,open-rw
@@ -173,11 +173,14 @@ other /run bind
 missing /run/ctl bind
 objects 2
 process alive
+rules openbsd
 promises stdio,unix
 execpromises -
-no veils
 unveil locked
-rules openbsd
+opening /dev/null open-r,open-w,open-rw
+opening /etc/localtime stat,open-r
+opening /usr/share/zoneinfo/ open-r
+no veils
 END
 answers: ok 1
 process 1: veils 1, locked; read 0, written 1, executed 0, made 2, removed 0
@@ -187,6 +190,7 @@ process 1: veils 1, locked; read 0, written 1, executed 0, made 2, removed 0
     opens past the veils /etc/resolv.conf, /etc/hosts
 process 2: veils 0, locked; read 0, written 0, executed 0, made 0, removed 0
     no veils at all: it touches what is not listed too
+    connects to each socket, and binds sockets anywhere: no line shows it
 OUT
 
 tells('lists for ever', <<'END', split /\n/, <<'OUT');

@@ -7,10 +7,10 @@
 # standard input if it is left out. What is written is one HTML file, without scripts, that loads
 # nothing. For each list of OBJECTS, of which `--process all` prints several, it has the state of
 # the process, if there are lines about it, and the tree: beside each name what can be read,
-# written, executed, made and removed there, and the veil whose place stands there now. A
-# directory is folded where nothing below it can be touched and no veil stands, and so are more
-# than four such names beside others. An open-rw stands in two columns, a create of what is there
-# among what is written, and a connect too.
+# written, executed, made and removed there, the veil whose place stands there now, and what a
+# promise opens there by itself. A directory is folded where nothing below it can be touched and
+# no veil stands, and so are more than four such names beside others. An open-rw stands in two
+# columns, a create of what is there among what is written, and a connect too.
 #
 # EVER is a list for ever of a process whose list of now is in OBJECTS: it follows that one, and
 # what it has more is marked. What MANIFEST has, as list.pl -m writes it, is marked as not listed.
@@ -205,7 +205,7 @@ sub says {
     return 'no veil hides it' if $line =~ /\Aopening \S+ \S+\z/;
     return 'unix: no line shows that it can connect to each socket where a veil has w, '
         . 'and bind one where a veil has c'
-        if $line =~ /\Apromises / && !$state->{by_openbsd} && $state->{promises}
+        if $line =~ /\Apromises / && !$state->{sockets} && $state->{promises}
             && $state->{promises}{unix};
     return '';
 }

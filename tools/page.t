@@ -154,8 +154,10 @@ my @site = ('1 dir 0 www', '2 dir 1 site', '3 file 2 index', '4 file 1 key', '5 
     is($says->('promises stdio', 'execpromises stdio', @veil), '', 'execpromises are set');
     my $sockets = 'unix: no line shows that it can connect to each socket where a veil has w, and bind one where a veil has c';
     is($says->('promises stdio,unix', 'execpromises stdio', @veil), $sockets, 'sockets without lines');
-    is($says->('promises stdio,unix', 'execpromises stdio', 'rules openbsd', 'opening /etc/hosts open-r', 'opening /tmp/ create veils', @veil),
-        'as OpenBSD&#39;s kernel is known to answer; no veil hides it', 'sockets with lines, and openings');
+    is($says->('rules openbsd', 'promises stdio,unix', 'execpromises stdio', 'opening /etc/hosts open-r', 'opening /tmp/ create veils', @veil),
+        "as OpenBSD&#39;s kernel is known to answer; $sockets; no veil hides it", 'openings, and sockets without lines');
+    is($says->('rules openbsd', 'promises stdio,unix', 'execpromises stdio', @veil, 'file /www/s connect'),
+        'as OpenBSD&#39;s kernel is known to answer', 'sockets with lines');
     is($says->('promises stdio', 'execpromises stdio', 'no veils', 'unveil locked', 'exec bounded'),
         'it can touch what is not listed too; programs that are started keep the veils, and hold the execpromises at most',
         'what is told of veils and programs stands there once');
@@ -289,14 +291,13 @@ my @site = ('1 dir 0 www', '2 dir 1 site', '3 file 2 index', '4 file 1 key', '5 
 }
 
 # Each story that pua is tested with: each line about an object is a row with something in it, each other
-# line stands above, and each veil whose place is there stands in the tree too.
-for my $output (glob "$TOOLS/../examples/*/{objects,all}-output") {
+# line stands above, and each opening and each veil whose place is there stands in the tree too.
+for my $output (glob "$TOOLS/../examples/*/{objects,all,openbsd}-output") {
     my ($story, $text) = (dirname($output), content($output));
     my ($status, $page, $err) = page("$story/listing", $output);
     my @counts = map { my $pattern = $_; scalar(() = $page =~ /$pattern/g) } 'class="row">', '<li>', '<b class="veil">';
-    my @lines = map { my $pattern = $_; scalar(() = $text =~ /$pattern/mg) } '^(?!veil )[a-z]+ /',
-        '^(?:process|promises|execpromises|unveil|veil) ', '^veil /';
-    $lines[1] += grep { /^process alive$/m && !/^veil /m } split /^(?=objects )/m, $text;    # it has a line of its own
+    my @lines = map { my $pattern = $_; scalar(() = $text =~ /$pattern/mg) } '^(?!veil |opening )[a-z]+ /',
+        '^(?:process|rules|promises|execpromises|unveil|opening|no|veil) ', '^(?:veil|opening) /';
     is("$status $err@counts", "0 @lines", 'objects, states and veils: ' . ($output =~ m{([^/]*/[^/]*)\z})[0]);
 }
 done_testing;

@@ -62,7 +62,7 @@ BEGIN {
 }
 use Getopt::Long qw(:config posix_default no_ignore_case bundling);
 use Pua::Calls qw(%ABOUT %BITS %CALLS %FLAGS_AT %FROM %FURTHER $HERE %LIKE @MODES %NEEDS %OPENINGS
-    descriptor flags flags_of_open is_null promises);
+    descriptor flags flags_of_open is_null opens promises);
 use Pua::Kdump;
 use Pua::Process qw($START moved plain tidy);
 use Pua::Reports qw($WRONG $MATTERS $REST spelled);
@@ -333,11 +333,8 @@ sub opening {
     return if !$needs || !$has->{promises} || $call->{answer} eq 'killed';
     my $is_hidden = $call->{answer} =~ /\A(?:ENOENT|EACCES)\z/;
     return if $has->holds(@$needs) && (!$has->{veiled} || $is_hidden);
-    for my $promise (sort keys %OPENINGS) {
-        return $promise
-            if $has->{promises}{$promise} && $call->{paths}[0] =~ $OPENINGS{$promise};
-    }
-    return;
+    my ($path) = @{ $call->{paths} };
+    return (grep { $has->{promises}{$_} && opens($_, $path) } sort keys %OPENINGS)[0];
 }
 
 # Whether it is ld.so that opens, for a program that was started.

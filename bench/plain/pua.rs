@@ -1402,6 +1402,9 @@ fn state(out: &mut Vec<u8>, tree: &Tree, process: &Process) {
         out.extend_from_slice(&place_path(tree, place));
         let _ = writeln!(out, " {}", if letters.is_empty() { "=" } else { &letters });
     }
+    if process.places.is_empty() {
+        out.extend_from_slice(b"no veils\n");
+    }
 }
 
 /// A set of promises as a script has it.

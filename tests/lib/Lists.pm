@@ -24,7 +24,7 @@ sub lists_of {
             next;
         }
         $list->{text} .= "$line\n";
-        if ($kind =~ /\A(?:process|promises|execpromises|unveil|exec|veil)\z/) {
+        if ($kind =~ /\A(?:process|rules|promises|execpromises|unveil|exec|opening|no|veil)\z/) {
             push @{ $list->{state} }, \@words;
             next;
         }

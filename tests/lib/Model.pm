@@ -9,6 +9,7 @@ package Model;
 use strict;
 use warnings;
 use parent qw(Tree);
+use Openings qw(openings_of);
 use Tree qw(spelled text_fault unspelled);
 
 my $MOST_VEILS     = 128;
@@ -460,16 +461,20 @@ sub tried {
     return @lines;
 }
 
-# The lines of a process's state.
+# The lines of a process's state in a list of now.
 sub state {
     my ($model, $number) = @_;
     my $process = $model->{processes}{$number};
     return "process ended\n" if $process->{ended};
+    my @rules = $model->{openbsd} ? "rules openbsd\n" : ();
+    my $held = $process->{promises} || {};
+    my @openings = $model->{openbsd} ? openings_of(grep { $held->{$_} } keys %$held) : ();
     my @sets = map { "$_ " . _shown($process->{$_}) . "\n" } qw(promises execpromises);
     my $unveil = $process->{locked} ? 'locked' : _holds($process, 'unveil') ? 'open' : 'given-up';
     my @veils = map { "veil " . $model->_shown_place($_) . ' ' . ($process->{letters}{$_} || '=') . "\n" }
         @{ $process->{veils} };
-    return join '', "process alive\n", @sets, "unveil $unveil\n", @veils;
+    @veils = ("no veils\n") if !@veils;
+    return join '', "process alive\n", @rules, @sets, "unveil $unveil\n", @openings, @veils;
 }
 
 sub _shown {

@@ -10,6 +10,7 @@ pub mod ItemLines
 pub mod OneByOne
 pub mod KeptPaths
 pub mod EverLines
+pub mod OpeningLines
 pub mod States
 pub mod StateLaw
 pub mod Climbing

@@ -4,11 +4,12 @@ use Rattle.pua_texts.proofs.Common.{Option, Some, None, flat_map, option_map_or,
 use Rattle.std.proofs.lemmas.Grind.{flat_map-append}
 use Rattle.pua_texts.specs.Lists.{HeadState, IsHeadOf}
 use Rattle.pua_texts.specs.ListLines.{ListState, head_text, list_text, lists_text}
+use Rattle.pua_texts.specs.declared.state.Heading.{Heading}
 
 -- what stands before the lines of a list is its heading and the state of its process
-pub head_is : (t : Tree) (title : List ℕ) (process : ℕ) (h : History) (head : HeadState) → IsHeadOf title process h head →
-    head_text t head ≡ head_lines t title process h
-head_is t title process h head is = (λ i. is.text i ++ veil_lines t (is.veils i))
+pub head_is : (t : Tree) (heading : Heading) (h : History) (head : HeadState) → IsHeadOf heading h head →
+    head_text t head ≡ head_lines t heading h
+head_is t heading h head is = (λ i. is.text i ++ veil_lines t (is.veils i))
 
 -- lists, one after another, of those of some numbers whose process was made
 module _ (made : ℕ → Option History) (text : ℕ → History → List ℕ) (t : Tree) where

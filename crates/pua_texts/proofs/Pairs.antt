@@ -7,6 +7,7 @@ use Rattle.std.proofs.lemmas.Bool.{and_parts}
 use Rattle.std.proofs.lemmas.List.Filters.{length-filter_both}
 use Rattle.std.proofs.lemmas.List.FromFn.{length-range_with_len}
 use Rattle.pua_steps.specs.Calls.{calls_of, has_call}
+use Rattle.pua_steps.specs.Limits.{call_count}
 use Rattle.pua_tree.specs.Spelling.{is_plain, byte_spelling}
 use Rattle.pua_audit.specs.Coming.{call_at, calls_at, with_word}
 use Rattle.pua_audit.specs.Reach.{Pair, path_of}
@@ -28,15 +29,15 @@ line_ends front path name = append_assoc front path (with_end (32 ∷ name)) ∙
     ap (λ r. front ++ r) (sym (append_assoc path (32 ∷ name) (10 ∷ [])))
 
 -- a set has no more calls than there are
-pub few_calls : (set : ℕ) → length (calls_at set) ≤ 14
+pub few_calls : (set : ℕ) → length (calls_at set) ≤ call_count
 unfolding calls_of
 few_calls set =
     omega (
       arith,
       length-map (calls_of set) call_at,
       length-filter_both (has_call set) (λ call. not (has_call set call)) (λ _. refl)
-          (range_with_len 0 14),
-      length-range_with_len 0 14,
+          (range_with_len 0 call_count),
+      length-range_with_len 0 call_count,
     )
 
 -- bytes that stand for themselves are their own spelling

@@ -49,11 +49,11 @@ tells (Some set) = (
 )
 
 pub state_is_printed : StateIsPrinted
-state_is_printed h living = record {
+state_is_printed head h living = record {
   promises = pledged_text (pledged_set h);
   for_exec = pledged_text (held_for_exec h);
   unveils = unveil_word h;
-  lines = ap (λ ended. if ended then with_end (codes "process ended") else living_lines h) living;
+  lines = ap (λ ended. if ended then with_end (codes "process ended") else living_lines head h) living;
   held = tells (pledged_set h);
   held_for_exec = tells (held_for_exec h);
   confined = confined_is_printed h;

@@ -73,10 +73,6 @@ pub promises_are : (set : ℕ) → promises_text set ≡ or_equals (with_commas 
 unfolding promises_text
 promises_are set = ap or_equals (alike (keywords_of set))
 
--- four lines, one after another
-pub four_lines : (old n0 n1 n2 n3 a b c d : List ℕ) → n0 ≡ old ++ a → n1 ≡ n0 ++ b → n2 ≡ n1 ++ c → n3 ≡ n2 ++ d →
-    n3 ≡ old ++ (((a ++ b) ++ c) ++ d)
-four_lines old n0 n1 n2 n3 a b c d first second third fourth =
-    fourth
-    ∙ ap (λ t. t ++ d) (third ∙ ap (λ t. t ++ c) (second ∙ ap (λ t. t ++ b) first ∙ append_assoc old a b) ∙ append_assoc old (a ++ b) c)
-    ∙ append_assoc old ((a ++ b) ++ c) d
+-- one more text behind others
+pub text_more : (old a b text new : List ℕ) → text ≡ old ++ a → new ≡ text ++ b → new ≡ old ++ (a ++ b)
+text_more old a b text new so_far next = next ∙ ap (λ t. t ++ b) so_far ∙ append_assoc old a b

@@ -4,13 +4,14 @@ use Rattle.pua_tree.specs.Tree.{Tree}
 use Rattle.pua_policy.specs.History.{History}
 use Rattle.pua_policy.specs.declared.place.Place.{Place}
 use Rattle.pua_texts.specs.States.{heading_line, own_lines, living_veils}
+use Rattle.pua_texts.specs.declared.state.Heading.{Heading}
 
 -- the heading of a list with the first lines of the state, and the veils
 pub record HeadState : Type 0 where
   pub text : List ℕ
   pub veils : List (Place × ℕ)
 
--- the heading and the state of a process with this number and history
-pub record IsHeadOf (title : List ℕ) (process : ℕ) (h : History) (head : HeadState) : Type 0 where
-  pub text : head.text ≡ heading_line title process ++ own_lines h
+-- the heading and the state of a process with this history
+pub record IsHeadOf (heading : Heading) (h : History) (head : HeadState) : Type 0 where
+  pub text : head.text ≡ heading_line heading ++ own_lines heading h
   pub veils : head.veils ≡ living_veils h

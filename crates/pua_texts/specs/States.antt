@@ -1,18 +1,27 @@
--- What a list says of the state of a process: its promises, whether it may put veils, and its veils with where their places stand.
+-- What a list says of the state of a process: by which rules, its promises, whether it may put veils, what promises open by
+-- themselves, and its veils with where their places stand.
 use Rattle.std.specs.Prelude.{◌↔◌, ◌⊎◌, ◌≡◌, ℕ, Bool, true, false, map, if◌then◌else◌, List, [], ◌∷◌, ◌++◌, flat_map, reverse, Option}
-use Rattle.std.specs.Prelude.{Some, None, codes, decimal}
+use Rattle.std.specs.Prelude.{Some, None, codes, decimal, unwrap_or, bit_or}
 use Rattle.std.specs.List.{Contains}
 use Rattle.pua_tree.specs.Tree.{Tree, is_dir}
-use Rattle.pua_calls.specs.Promises.{holds, unveil, keyword_rows, keywords_of, perm_letters}
-use Rattle.pua_policy.specs.History.{History, held_set, held_for_exec, is_ended, is_locked, pledged_set, veils}
+use Rattle.pua_calls.specs.Promises.{holds, unveil, keyword_rows, keywords_of, no_promises, perm_letters}
+use Rattle.pua_calls.specs.declared.rules.Rules.{Rules}
+use Rattle.pua_calls.specs.declared.rules.Rules.TheVariants.{Profile, Openbsd}
+use Rattle.pua_policy.specs.History.{History, has_veil, held_set, held_for_exec, is_ended, is_locked, pledged_set, veils}
 use Rattle.pua_policy.specs.declared.place.Place.{Place}
 use Rattle.pua_policy.specs.declared.place.Place.TheVariants.{Dir, Slot}
 use Rattle.pua_script.specs.Laws.{IsConfined}
 use Rattle.pua_audit.specs.Reach.{Word, printed_path}
 use Rattle.pua_audit.specs.declared.base.Base.TheVariants.{Root}
 use Rattle.pua_objects.specs.Objects.{with_commas}
+use Rattle.pua_ever.specs.declared.lasting_list.ExecBound.{ExecBound}
+use Rattle.pua_ever.specs.declared.lasting_list.ExecBound.TheVariants.{Never, Bounded, Open}
 use Rattle.pua_why.specs.Texts.{dir_names}
 use Rattle.pua_texts.specs.Lines.{with_end}
+use Rattle.pua_texts.specs.Openings.{opening_lines}
+use Rattle.pua_texts.specs.declared.state.Heading.{Heading}
+use Rattle.pua_texts.specs.declared.state.Span.{Span}
+use Rattle.pua_texts.specs.declared.state.Span.TheVariants.{Now, Ever}
 -- a text, or `=` where it is empty
 pub use Rattle.pua_why.specs.Texts.{or_equals}
 
@@ -25,22 +34,60 @@ pledged_text (Some promises) = or_equals (with_commas (keywords_of promises))
 abbrev pub unveil_word : History → List ℕ
 unveil_word h = if is_locked h then codes "locked" else (if holds (held_set h) unveil then codes "open" else codes "given-up")
 
+-- whose rules they are; those of the profile have no line
+abbrev pub rules_line : Rules → List ℕ
+rules_line Profile = []
+rules_line Openbsd = with_end (codes "rules openbsd")
+
+-- what a list for ever says of execs: nothing where none can ever succeed
+abbrev pub exec_line : ExecBound → List ℕ
+exec_line Never = []
+exec_line Bounded = with_end (codes "exec bounded")
+exec_line Open = with_end (codes "exec open")
+
+abbrev pub execs_told : Span → List ℕ
+execs_told Now = []
+execs_told (Ever execs) = exec_line execs
+
+-- the promises by which something is opened: those that were pledged; and at some time each one that can still be, also by
+-- what is started, where the list has what that can touch
+abbrev pub opening_set : Span → History → ℕ
+opening_set Now h = unwrap_or (pledged_set h) no_promises
+opening_set (Ever Never) h = held_set h
+opening_set (Ever Bounded) h = bit_or (held_set h) (unwrap_or (held_for_exec h) no_promises)
+opening_set (Ever Open) h = held_set h
+
+-- what promises open by themselves, which the profile knows nothing of
+abbrev pub openings_told : Rules → Span → History → List ℕ
+openings_told Profile span h = []
+openings_told Openbsd span h = opening_lines (keywords_of (opening_set span h))
+
+-- that there is none, where a process keeps no veil
+abbrev pub unveiled_line : History → List ℕ
+unveiled_line h = if has_veil (veils h) then [] else with_end (codes "no veils")
+
 -- the lines of a living process before those of its veils
-abbrev pub living_lines : History → List ℕ
-living_lines h = with_end (codes "process alive") ++ with_end (codes "promises " ++ pledged_text (pledged_set h))
+abbrev pub living_lines : Heading → History → List ℕ
+living_lines head h = with_end (codes "process alive") ++ rules_line head.rules
+    ++ with_end (codes "promises " ++ pledged_text (pledged_set h))
     ++ with_end (codes "execpromises " ++ pledged_text (held_for_exec h)) ++ with_end (codes "unveil " ++ unveil_word h)
+    ++ execs_told head.span ++ openings_told head.rules head.span h ++ unveiled_line h
 
 -- an ended process has one line
-abbrev pub own_lines : History → List ℕ
-own_lines h = if is_ended h then with_end (codes "process ended") else living_lines h
+abbrev pub own_lines : Heading → History → List ℕ
+own_lines head h = if is_ended h then with_end (codes "process ended") else living_lines head h
 
 -- the veils that a living process keeps, in the order in which their places were first kept
 abbrev pub living_veils : History → List (Place × ℕ)
 living_veils h = if is_ended h then [] else veils h
 
+abbrev pub title_of : Span → List ℕ
+title_of Now = codes "objects"
+title_of (Ever execs) = codes "ever"
+
 -- the heading of a list, by what it is a list of and the number of its process
-abbrev pub heading_line : List ℕ → ℕ → List ℕ
-heading_line title process = with_end (title ++ 32 ∷ decimal process)
+abbrev pub heading_line : Heading → List ℕ
+heading_line head = with_end (title_of head.span ++ 32 ∷ decimal head.number)
 
 -- the names of a directory and of those above it, up to the root
 abbrev pub names_over : Tree → ℕ → Word
@@ -74,8 +121,8 @@ abbrev pub veil_lines : Tree → List (Place × ℕ) → List ℕ
 veil_lines t vs = flat_map (veil_line t) vs
 
 -- what stands before the lines of a list: its heading, and the state of its process
-abbrev pub head_lines : Tree → List ℕ → ℕ → History → List ℕ
-head_lines t title process h = (heading_line title process ++ own_lines h) ++ veil_lines t (living_veils h)
+abbrev pub head_lines : Tree → Heading → History → List ℕ
+head_lines t head h = (heading_line head ++ own_lines head h) ++ veil_lines t (living_veils h)
 
 -- the laws: a process that can put no veil any more prints `locked` or `given-up`, and only such a one does
 abbrev pub ConfinedIsPrinted : Type 0
@@ -89,19 +136,20 @@ TellsPromises (Some set) text = (rows : List (List ℕ × ℕ)) × (text ≡ or_
     ((row : List ℕ × ℕ) → Contains rows row ↔ (Contains keyword_rows row × (holds set row.1 ≡ true)))
 
 -- the lines of a living process before those of its veils, and what their words say
-pub record TellsState (h : History) (text : List ℕ) : Type 0 where
+pub record TellsState (head : Heading) (h : History) (text : List ℕ) : Type 0 where
   pub promises : List ℕ
   pub for_exec : List ℕ
   pub unveils : List ℕ
-  pub lines : text ≡ with_end (codes "process alive") ++ with_end (codes "promises " ++ promises)
+  pub lines : text ≡ with_end (codes "process alive") ++ rules_line head.rules ++ with_end (codes "promises " ++ promises)
       ++ with_end (codes "execpromises " ++ for_exec) ++ with_end (codes "unveil " ++ unveils)
+      ++ execs_told head.span ++ openings_told head.rules head.span h ++ unveiled_line h
   pub held : TellsPromises (pledged_set h) promises
   pub held_for_exec : TellsPromises (held_for_exec h) for_exec
   pub confined : IsConfined h ↔ ((unveils ≡ codes "locked") ⊎ (unveils ≡ codes "given-up"))
 
 -- so do the lines that are printed of a process that has not ended
 abbrev pub StateIsPrinted : Type 0
-StateIsPrinted = (h : History) → is_ended h ≡ false → TellsState h (own_lines h)
+StateIsPrinted = (head : Heading) (h : History) → is_ended h ≡ false → TellsState head h (own_lines head h)
 
 -- each veil that such a process keeps has its line, with where its place stands and its letters
 abbrev pub VeilsArePrinted : Type 0

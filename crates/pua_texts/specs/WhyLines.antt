@@ -1,8 +1,9 @@
 -- The list of a process with reasons, and those of several.
-use Rattle.std.specs.Prelude.{ℕ, List, [], ◌++◌, flat_map, codes}
+use Rattle.std.specs.Prelude.{ℕ, List, [], ◌++◌, flat_map}
 use Rattle.std.specs.Option.{option_map_or}
 use Rattle.pua_tree.specs.Tree.{Tree}
 use Rattle.pua_calls.specs.Calls.{CallTable}
+use Rattle.pua_calls.specs.declared.rules.Rules.{Rules}
 use Rattle.pua_policy.specs.History.{History}
 use Rattle.pua_policy.specs.Reasons.{covering}
 use Rattle.pua_policy.specs.declared.reason.Covering.{Covering}
@@ -12,6 +13,8 @@ use Rattle.pua_objects.specs.Objects.{Line, Subject, At, Others, line_text, obje
 use Rattle.pua_why.specs.Columns.{columns, covering_in}
 use Rattle.pua_texts.specs.States.{head_lines}
 use Rattle.pua_texts.specs.Lines.{with_end}
+use Rattle.pua_texts.specs.ObjectLines.{heading_now}
+use Rattle.pua_texts.specs.declared.state.Heading.{Heading}
 
 -- the table of calls, the world before a script, and its requests
 pub record Posed : Type 0 where
@@ -34,13 +37,13 @@ why_line p process h line =
     (covering_on (world_left p).tree h line.subject))
 
 -- the list of a process with reasons: its heading, its state, and a line for each object on which its history allows a call
-abbrev pub why_list : Posed → ℕ → History → List ℕ
-why_list p process h =
-    head_lines (world_left p).tree (codes "objects") process h ++ flat_map (why_line p process h) (objects (world_left p).tree p.table h)
+abbrev pub why_list : Heading → Posed → History → List ℕ
+why_list head p h =
+    head_lines (world_left p).tree head h ++ flat_map (why_line p head.number h) (objects (world_left p).tree p.table h)
 
 -- a number that was never made has no list
-abbrev pub why_list_of : Posed → ℕ → List ℕ
-why_list_of p process = option_map_or (why_list p process) (history_of (world_left p) process) []
+abbrev pub why_list_of : Rules → Posed → ℕ → List ℕ
+why_list_of rules p process = option_map_or (why_list (heading_now rules process) p) (history_of (world_left p) process) []
 
-abbrev pub why_lists_of : Posed → List ℕ → List ℕ
-why_lists_of p numbers = flat_map (why_list_of p) numbers
+abbrev pub why_lists_of : Rules → Posed → List ℕ → List ℕ
+why_lists_of rules p numbers = flat_map (why_list_of rules p) numbers

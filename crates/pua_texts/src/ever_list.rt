@@ -1,14 +1,14 @@
 //! The list for ever of a process: its heading, its state, and what it can ever touch.
 
 ghost use Rattle.std.specs.Prelude.{◌≡◌, ◌++◌, [], IfOk, List};
-ghost use Rattle.pua_calls.specs.Calls.{CallTable as Rules};
+ghost use Rattle.pua_calls.specs.Calls.{CallTable};
 ghost use Rattle.pua_tree.specs.Tree.{Tree};
 ghost use Rattle.pua_policy.specs.History.{History, StandsFor};
 ghost use Rattle.pua_ever.specs.Ever.{EverLine as Told};
 ghost use Rattle.pua_texts.specs.ColumnsState.{plain};
 ghost use Rattle.pua_ever.specs.EverList.{AreEverTold};
 ghost use Rattle.pua_ever.specs.LastingList.{IsLasting};
-ghost use Rattle.pua_texts.specs.EverLines.{ever_lines, ever_list, exec_line};
+ghost use Rattle.pua_texts.specs.EverLines.{ever_lines, ever_list};
 ghost use Rattle.pua_texts.specs.ListLines.{lines_text};
 ghost use Rattle.pua_texts.specs.Tells.{TellsTo};
 
@@ -18,33 +18,41 @@ use crate::list_line::ListLine;
 use crate::lists::write_all;
 use crate::process_head::ProcessHead;
 use crate::process_list::ProcessList;
-use pua_ever::{EverRow, ExecBound, LastingList};
+use crate::state::{Heading, Span};
+use pua_calls::Rules;
+use pua_ever::{EverRow, LastingList};
 use pua_io::Sink;
 use pua_policy::Process;
 use pua_tree::{FileTree, OutOfMemory};
 use std::alloc::Global;
 use std::collections::VecDeque;
 
-/// Writes the front of a text, and then this list, which is that of the process with this number.
+/// Writes the front of a text, and then this list, which is that of the process with this number; its
+/// state says whose rules the table of calls is by.
 /// `OutOfMemory` where a growth was refused, before anything is written. `Write` only where a put
 /// failed in this call, after a front of the text.
 pub fn write_ever<'t, T: FileTree, S: Sink>(
     alloc: Global,
     tree: &'t T,
+    rules: Rules,
     number: u32,
     process: &'t Process,
     list: &LastingList<'t>,
     front: &str,
     sink: &mut S,
 ) -> Result<(), TextFault>
-    ensures { (table : Rules) (h : History) → StandsFor process.now h →
+    ensures { (table : CallTable) (h : History) → StandsFor process.now h →
         IsLasting (T.content tree.now) table h list.now →
         TellsTo S.written S.failed
-        (front.now ++ ever_list table (T.content tree.now) number h)
+        (front.now ++ ever_list rules table (T.content tree.now) number h)
         result sink.old sink.new }
 {
-    let mut head = ProcessHead::begin(alloc, "ever", number, process)?;
-    head.add_line(exec_line(list.execs))?;
+    let heading = Heading {
+        span: Span::Ever(list.execs),
+        rules,
+        number,
+    };
+    let head = ProcessHead::begin(alloc, heading, process)?;
     let lines = ever_lines(alloc, list.rows.as_slice())?;
     let list = ProcessList::new(alloc, head, lines, Columns::plain(alloc))?;
     let mut lists = VecDeque::new(alloc);
@@ -52,17 +60,6 @@ pub fn write_ever<'t, T: FileTree, S: Sink>(
         return Err(TextFault::OutOfMemory);
     };
     write_all(alloc, tree, front, &mut lists, sink)
-}
-
-/// What a list says of execs: a line, or nothing.
-fn exec_line(execs: ExecBound) -> &'static str
-    ensures { result.now ≡ exec_line execs }
-{
-    match execs {
-        ExecBound::Never => "",
-        ExecBound::Bounded => "exec bounded\n",
-        ExecBound::Open => "exec open\n",
-    }
 }
 
 /// The lines of these rows. The only error is that a growth was refused.

@@ -2,7 +2,8 @@
 
 ghost use Rattle.pua_texts.specs.States.{ConfinedIsPrinted, StateIsPrinted, VeilsArePrinted};
 
-/// The state of a process that has not ended has four lines and one for each of its veils. The line
+/// The state of a process that has not ended has four lines, the line `rules openbsd` by those rules and
+/// then one for each opening of its promises, and one for each of its veils or `no veils`. The line
 /// `promises` has the keyword of each promise that was given and not given up, and no other keyword,
 /// or `-` where none were ever given; so has `execpromises` of those for an exec. A process that is
 /// locked or doesn't hold `unveil`, and so can put no veil any more, has the line `unveil locked` or

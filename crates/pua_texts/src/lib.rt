@@ -18,6 +18,7 @@ mod list_line;
 mod lists;
 mod object_lines;
 mod object_lists;
+mod openings;
 mod places;
 mod process_head;
 mod process_list;

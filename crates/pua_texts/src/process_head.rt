@@ -1,6 +1,6 @@
 //! What stands before the lines of a list: its heading, and the state of its process.
 
-ghost use Rattle.std.specs.Prelude.{◌≡◌, ◌++◌, IfOk, OnOk, map};
+ghost use Rattle.std.specs.Prelude.{◌≡◌, ◌++◌, IfOk, map};
 ghost use Rattle.pua_policy.specs.History.{History, StandsFor};
 ghost use Rattle.pua_texts.specs.Blocks.{PassesOn};
 ghost use Rattle.pua_texts.specs.ListLines.{head_text};
@@ -9,7 +9,7 @@ ghost use Rattle.pua_texts.specs.States.{living_veils};
 
 use crate::block::Block;
 use crate::places::Places;
-use crate::state::state_text;
+use crate::state::{Heading, state_text};
 use crate::veil_line::add_veils;
 use pua_calls::Perms;
 use pua_io::{PutFault, Sink};
@@ -38,35 +38,21 @@ impl<'t> Model for ProcessHead<'t> {
 }
 
 impl<'t> ProcessHead<'t> {
-    /// What stands before the lines of a list with this title, of the process with this number. The
-    /// only error is that a growth was refused.
+    /// What stands before the lines of a list with this heading, of this process. The only error is
+    /// that a growth was refused.
     pub(crate) fn begin(
         alloc: Global,
-        title: &str,
-        number: u32,
+        heading: Heading,
         process: &'t Process,
     ) -> Result<ProcessHead<'t>, OutOfMemory>
         ensures { IfOk result (λ head. (h : History) → StandsFor process.now h →
-            IsHeadOf title.now number h head) }
+            IsHeadOf heading h head) }
     {
-        let Ok(text) = state_text(alloc, title, number, process) else {
+        let Ok(text) = state_text(alloc, heading, process) else {
             return Err(OutOfMemory);
         };
         let veils = veils_of_living(alloc, process)?;
         Ok(ProcessHead { text, veils })
-    }
-
-    /// Adds a line to the state, before the veils. The only error is that a growth was refused.
-    pub(crate) fn add_line(&mut self, line: &str) -> Result<(), OutOfMemory>
-        ensures { OnOk result (self.new ≡ record {
-          text = self.old.text ++ line.now;
-          veils = self.old.veils;
-        }) }
-    {
-        let Ok(()) = self.text.push_str(line) else {
-            return Err(OutOfMemory);
-        };
-        Ok(())
     }
 
     /// Adds the heading and the state to a block.

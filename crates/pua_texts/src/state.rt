@@ -2,62 +2,170 @@
 
 ghost use Rattle.std.specs.Prelude.{◌≡◌, ◌++◌, IfOk, OnOk, string_bytes};
 ghost use Rattle.pua_policy.specs.History.{History, StandsFor};
-ghost use Rattle.pua_texts.specs.States.{heading_line, living_lines, own_lines};
-ghost use Rattle.pua_texts.specs.States.{pledged_text, unveil_word};
+ghost use Rattle.pua_texts.specs.States.{execs_told, heading_line, living_lines, opening_set};
+ghost use Rattle.pua_texts.specs.States.{openings_told, own_lines, pledged_text, rules_line, title_of};
+ghost use Rattle.pua_texts.specs.States.{unveil_word, unveiled_line};
 ghost use Rattle.pua_texts.specs.Lines.{with_end};
 
-use pua_calls::Promises;
+use crate::openings::push_openings;
+use pua_calls::{Promises, Rules};
+use pua_ever::ExecBound;
 use pua_policy::Process;
 use pua_why::push_promises;
 use std::alloc::{AllocError, Global};
 use std::fmt::Write;
 
-/// The heading of a list with this title, of the process with this number, and the lines of its state
-/// before those of its veils. The only error is that a growth was refused.
+/// What a list is of.
+#[derive(Clone, Copy)]
+pub(crate) enum Span {
+    /// What is allowed now.
+    Now,
+    /// What can ever be, and what becomes of the list at an exec.
+    Ever(ExecBound),
+}
+
+/// What is told of a list beside the state of its process.
+#[derive(Clone, Copy)]
+pub(crate) struct Heading {
+    pub(crate) span: Span,
+    /// Whose rules the table of calls is by, whatever rows a text puts into it.
+    pub(crate) rules: Rules,
+    /// The number of the process.
+    pub(crate) number: u32,
+}
+
+/// The heading of a list, and the lines of the state of its process before those of its veils. The only
+/// error is that a growth was refused.
 pub(crate) fn state_text(
     alloc: Global,
-    title: &str,
-    number: u32,
+    heading: Heading,
     process: &Process,
 ) -> Result<String, AllocError>
     ensures { IfOk result (λ text. (h : History) → StandsFor process.now h →
-        string_bytes text ≡ heading_line title.now number ++ own_lines h) }
+        string_bytes text ≡ heading_line heading ++ own_lines heading h) }
 {
-    let mut text = heading(alloc, title, number)?;
-    push_own(alloc, &mut text, process)?;
+    let mut text = heading_text(alloc, heading)?;
+    push_own(alloc, &mut text, heading, process)?;
     Ok(text)
 }
 
-fn heading(alloc: Global, title: &str, number: u32) -> Result<String, AllocError>
-    ensures { IfOk result (λ text. string_bytes text ≡ heading_line title.now number) }
+fn heading_text(alloc: Global, heading: Heading) -> Result<String, AllocError>
+    ensures { IfOk result (λ text. string_bytes text ≡ heading_line heading) }
 {
+    let title = title(heading.span);
     let mut text = String::new(alloc);
-    writeln!(text, "{title} {number}")?;
+    writeln!(text, "{title} {}", heading.number)?;
     Ok(text)
+}
+
+fn title(span: Span) -> &'static str
+    ensures { result.now ≡ title_of span }
+{
+    match span {
+        Span::Now => "objects",
+        Span::Ever(_execs) => "ever",
+    }
 }
 
 /// Adds the lines of a state before those of the veils: an ended process has one.
-fn push_own(alloc: Global, text: &mut String, process: &Process) -> Result<(), AllocError>
+fn push_own(
+    alloc: Global,
+    text: &mut String,
+    heading: Heading,
+    process: &Process,
+) -> Result<(), AllocError>
     ensures { OnOk result ((h : History) → StandsFor process.now h →
-        string_bytes text.new ≡ string_bytes text.old ++ own_lines h) }
+        string_bytes text.new ≡ string_bytes text.old ++ own_lines heading h) }
 {
     if process.ended() {
         return push_line(text, "process ", "ended");
     }
-    push_living(alloc, text, process)
+    push_living(alloc, text, heading, process)
 }
 
 /// Adds the lines of a living process.
-fn push_living(alloc: Global, text: &mut String, process: &Process) -> Result<(), AllocError>
+fn push_living(
+    alloc: Global,
+    text: &mut String,
+    heading: Heading,
+    process: &Process,
+) -> Result<(), AllocError>
     ensures { OnOk result ((h : History) → StandsFor process.now h →
-        string_bytes text.new ≡ string_bytes text.old ++ living_lines h) }
+        string_bytes text.new ≡ string_bytes text.old ++ living_lines heading h) }
 {
     let promises = spelled_promises(alloc, process.promises())?;
     let execpromises = spelled_promises(alloc, process.execpromises())?;
     push_line(text, "process ", "alive")?;
+    push_rules(text, heading.rules)?;
     push_line(text, "promises ", promises.as_str())?;
     push_line(text, "execpromises ", execpromises.as_str())?;
-    push_line(text, "unveil ", unveil_state(process))
+    push_line(text, "unveil ", unveil_state(process))?;
+    push_execs(text, heading.span)?;
+    push_opened(alloc, text, heading, process)?;
+    push_unveiled(text, process)
+}
+
+/// Adds whose rules they are; those of the profile have no line.
+fn push_rules(text: &mut String, rules: Rules) -> Result<(), AllocError>
+    ensures { OnOk result (string_bytes text.new ≡ string_bytes text.old ++ rules_line rules) }
+{
+    match rules {
+        Rules::Profile => Ok(()),
+        Rules::Openbsd => push_line(text, "rules ", "openbsd"),
+    }
+}
+
+/// Adds what becomes of a list for ever at an exec, where one can succeed.
+fn push_execs(text: &mut String, span: Span) -> Result<(), AllocError>
+    ensures { OnOk result (string_bytes text.new ≡ string_bytes text.old ++ execs_told span) }
+{
+    match span {
+        Span::Now | Span::Ever(ExecBound::Never) => Ok(()),
+        Span::Ever(ExecBound::Bounded) => push_line(text, "exec ", "bounded"),
+        Span::Ever(ExecBound::Open) => push_line(text, "exec ", "open"),
+    }
+}
+
+/// Adds what promises open by themselves, of which the profile knows nothing.
+fn push_opened(
+    alloc: Global,
+    text: &mut String,
+    heading: Heading,
+    process: &Process,
+) -> Result<(), AllocError>
+    ensures { OnOk result ((h : History) → StandsFor process.now h → string_bytes text.new
+        ≡ string_bytes text.old ++ openings_told heading.rules heading.span h) }
+{
+    match heading.rules {
+        Rules::Profile => Ok(()),
+        Rules::Openbsd => push_openings(alloc, text, opening_promises(heading.span, process)),
+    }
+}
+
+/// The promises by which something is opened: those that were pledged; and at some time each one that
+/// can still be, also by what is started, where the list has what that can touch.
+fn opening_promises(span: Span, process: &Process) -> Promises
+    ensures { (h : History) → StandsFor process.now h → result ≡ opening_set span h }
+{
+    match span {
+        Span::Now => process.promises().unwrap_or(Promises::NONE),
+        Span::Ever(ExecBound::Never | ExecBound::Open) => process.held(),
+        Span::Ever(ExecBound::Bounded) => {
+            let given = process.execpromises().unwrap_or(Promises::NONE);
+            process.held().union(given)
+        }
+    }
+}
+
+/// Adds that there are no veils, where the process keeps none.
+fn push_unveiled(text: &mut String, process: &Process) -> Result<(), AllocError>
+    ensures { OnOk result ((h : History) → StandsFor process.now h →
+        string_bytes text.new ≡ string_bytes text.old ++ unveiled_line h) }
+{
+    if process.is_veiled() {
+        return Ok(());
+    }
+    push_line(text, "no ", "veils")
 }
 
 /// Adds a line of a label and a value.

@@ -15,8 +15,9 @@ use crate::lists::write_all;
 use crate::object_lines::why_lines;
 use crate::process_head::ProcessHead;
 use crate::process_list::ProcessList;
+use crate::state::{Heading, Span};
 use crate::veil_columns::veil_columns;
-use pua_calls::CallTable;
+use pua_calls::{CallTable, Rules};
 use pua_io::Sink;
 use pua_objects::list_items;
 use pua_policy::Process;
@@ -26,12 +27,13 @@ use std::alloc::Global;
 use std::collections::VecDeque;
 
 /// Writes the front of a text, and then the lists of these processes with reasons, one after another,
-/// of which those are left out that were never made, where their veils are so since these lines.
-/// `OutOfMemory` where a growth was refused, before anything is written. `Write` only where a put failed
-/// in this call, after a front of the text.
+/// of which those are left out that were never made, where their veils are so since these lines; their
+/// states say whose rules the table of calls is by. `OutOfMemory` where a growth was refused, before
+/// anything is written. `Write` only where a put failed in this call, after a front of the text.
 pub fn write_why_lists<T: FileTree, S: Sink>(
     alloc: Global,
     world: &World<T>,
+    rules: Rules,
     numbers: &[u32],
     lines: &[Option<usize>],
     front: &str,
@@ -40,10 +42,10 @@ pub fn write_why_lists<T: FileTree, S: Sink>(
     ensures { (p : Asking) → StandsForWorld world.now (world_left p) →
         world.now.table ≡ p.table → lines.now
         ≡ map (veil_date p.table p.world p.asks) (flat_map (veils_at world.now) numbers.now) →
-        TellsTo S.written S.failed (front.now ++ why_lists_of p numbers.now)
+        TellsTo S.written S.failed (front.now ++ why_lists_of rules p numbers.now)
         result sink.old sink.new }
 {
-    let mut lists = begin_lists(alloc, world, numbers, lines)?;
+    let mut lists = begin_lists(alloc, world, rules, numbers, lines)?;
     write_all(alloc, world.tree(), front, &mut lists, sink)
 }
 
@@ -52,13 +54,14 @@ pub fn write_why_lists<T: FileTree, S: Sink>(
 fn begin_lists<'t, T: FileTree>(
     alloc: Global,
     world: &'t World<T>,
+    rules: Rules,
     numbers: &[u32],
     lines: &[Option<usize>],
 ) -> Result<VecDeque<ProcessList<'t>>, OutOfMemory>
     ensures { IfOk result (λ lists. (p : Asking) → StandsForWorld world.now (world_left p) →
         world.now.table ≡ p.table → lines.now
         ≡ map (veil_date p.table p.world p.asks) (flat_map (veils_at world.now) numbers.now) →
-        lists_text (world_left p).tree lists.items ≡ why_lists_of p numbers.now) }
+        lists_text (world_left p).tree lists.items ≡ why_lists_of rules p numbers.now) }
 {
     let mut lists = VecDeque::new(alloc);
     let mut left = lines;
@@ -67,7 +70,12 @@ fn begin_lists<'t, T: FileTree>(
             continue;
         };
         let (own, more) = split_lines(alloc, process, left)?;
-        let list = begin_list(alloc, world.tree(), world.table(), *number, process, own)?;
+        let heading = Heading {
+            span: Span::Now,
+            rules,
+            number: *number,
+        };
+        let list = begin_list(alloc, world.tree(), world.table(), heading, process, own)?;
         let Ok(()) = lists.push_back(list) else {
             return Err(OutOfMemory);
         };
@@ -91,23 +99,23 @@ fn split_lines<'l>(
     Ok(left.split_at(places.len().min(left.len())))
 }
 
-/// The list of a process with this number, whose veils are so since these lines. The only error is that
+/// The list of a process with this heading, whose veils are so since these lines. The only error is that
 /// a growth was refused.
 fn begin_list<'t, T: FileTree>(
     alloc: Global,
     tree: &'t T,
     table: &CallTable,
-    number: u32,
+    heading: Heading,
     process: &'t Process,
     lines: &[Option<usize>],
 ) -> Result<ProcessList<'t>, OutOfMemory>
     ensures { IfOk result (λ list. (p : Asking) (h : History) →
         T.content tree.now ≡ (world_left p).tree → table.now ≡ p.table →
         StandsFor process.now h →
-        lines.now ≡ veil_dates p number process.now.veils →
-        list_text (world_left p).tree list ≡ why_list p number h) }
+        lines.now ≡ veil_dates p heading.number process.now.veils →
+        list_text (world_left p).tree list ≡ why_list heading p h) }
 {
-    let head = ProcessHead::begin(alloc, "objects", number, process)?;
+    let head = ProcessHead::begin(alloc, heading, process)?;
     let items = list_items(alloc, tree, process)?;
     let mut columns = veil_columns(alloc, tree, process, lines)?;
     let lines = why_lines(alloc, process, table, items.as_slice(), &mut columns)?;

@@ -6,6 +6,7 @@ use Rattle.std.proofs.Common.{◌⊎◌, inl, inr, true}
 use Rattle.std.specs.Prelude.{IsTrue, ok_or}
 use Rattle.pua_tree.specs.Steps.{◌>>=◌}
 use Rattle.pua_tree.proofs.ForCallers.{same_Ok, Err≢Ok}
+use Rattle.pua_calls.specs.declared.rules.Rules.{Rules}
 use Rattle.pua_policy.specs.History.{is_ended}
 use Rattle.pua_script.specs.Bytes.{are_in_bytes}
 use Rattle.pua_script.specs.Family.{family, is_member, is_exec, none_done, HasHistoryOf}
@@ -23,18 +24,18 @@ use Rattle.pua_tool.proofs.Replays.{replayed_is}
 use Rattle.pua_tool.proofs.Tables.{tables_need_no_error}
 
 -- what comes after the replay, by the history of the process
-abbrev after_by : Replayed → ℕ → History → Result (List ℕ) ToolFault
-after_by done process h =
-    unless_reason process (refusal done.table h) (answer_lines 1 done.answers ++ ever_list done.table done.world.tree process h)
+abbrev after_by : Rules → Replayed → ℕ → History → Result (List ℕ) ToolFault
+after_by rules done process h =
+    unless_reason process (refusal done.table h) (answer_lines 1 done.answers ++ ever_list rules done.table done.world.tree process h)
 
-after_made : (done : Replayed) (process : ℕ) (h : History) → history_of done.world process ≡ Some h →
-    ever_after done process ≡ after_by done process h
-after_made done process h is = ap (λ made. ok_or made NoProcess >>= after_by done process) is
+after_made : (rules : Rules) (done : Replayed) (process : ℕ) (h : History) → history_of done.world process ≡ Some h →
+    ever_after rules done process ≡ after_by rules done process h
+after_made rules done process h is = ap (λ made. ok_or made NoProcess >>= after_by rules done process) is
 
 ever_is : (choice : Chosen) (tree_bytes script_bytes : List ℕ) (process : ℕ) (done : Replayed) →
-    replay_of choice tree_bytes script_bytes ≡ Ok done → ever_text choice tree_bytes script_bytes process ≡ ever_after done process
+    replay_of choice tree_bytes script_bytes ≡ Ok done → ever_text choice tree_bytes script_bytes process ≡ ever_after choice.rules done process
 unfolding ever_text
-ever_is choice tree_bytes script_bytes process done r = λ i. r i >>= λ done. ever_after done process
+ever_is choice tree_bytes script_bytes process done r = λ i. r i >>= λ done. ever_after choice.rules done process
 
 module _ (choice : Chosen) (tree_bytes script_bytes : List ℕ) (table : CallTable) (t : Tree) (first : List Asked) (process : ℕ)
     (text : List ℕ) (given : table_by choice ≡ Ok table) (read : listing tree_bytes ≡ Ok t) (scripted : script script_bytes ≡ Ok first)
@@ -45,16 +46,16 @@ module _ (choice : Chosen) (tree_bytes script_bytes : List ℕ) (table : CallTab
   abbrev done : Replayed
   done = record { table = table; answers = answers_to table (new_world t) first; world = w }
 
-  after : ever_after done process ≡ Ok text
+  after : ever_after choice.rules done process ≡ Ok text
   after = sym (ever_is choice tree_bytes script_bytes process done
       (replayed_is choice tree_bytes script_bytes table t first given (ap as_listing read) (ap as_script scripted))) ∙ told
 
   never : history_of w process ≡ None → ⊥
   never is = Err≢Ok NoProcess text
-      (sym (ap (λ made. ok_or made NoProcess >>= after_by done process) is) ∙ after)
+      (sym (ap (λ made. ok_or made NoProcess >>= after_by choice.rules done process) is) ∙ after)
 
   abbrev whole : History → List ℕ
-  whole h = answer_lines 1 done.answers ++ ever_list table w.tree process h
+  whole h = answer_lines 1 done.answers ++ ever_list choice.rules table w.tree process h
 
   unless_told : (h : History) (o : Option Refusal) → unless_reason process o (whole h) ≡ Ok text → (o ≡ None) × (text ≡ whole h)
   unless_told h None e = (refl, sym (same_Ok (whole h) text e))
@@ -81,13 +82,13 @@ module _ (choice : Chosen) (tree_bytes script_bytes : List ℕ) (table : CallTab
           first asks read scripted bytes process h handed here is edit member belongs
   foreseen_behind h here none (inr ended) = inr ended
 
-  written : IsEverWritten table t first process text
+  written : IsEverWritten choice.rules table t first process text
   written = by (history_of w process) refl
     where
-      by : (made : Option History) → history_of w process ≡ made → IsEverWritten table t first process text
+      by : (made : Option History) → history_of w process ≡ made → IsEverWritten choice.rules table t first process text
       by None is = absurd (never is)
       by (Some h) is =
-          let parts = unless_told h (refusal table h) (sym (after_made done process h is) ∙ after) in
+          let parts = unless_told h (refusal table h) (sym (after_made choice.rules done process h is) ∙ after) in
           record {
             now = h;
             here = is;

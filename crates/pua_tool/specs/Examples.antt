@@ -10,7 +10,7 @@ use Rattle.pua_audit.specs.declared.base.Base.TheVariants.{Root, Cwd}
 use Rattle.pua_audit.specs.declared.fault.AuditFault.TheVariants.{BadResume}
 use Rattle.pua_why.specs.Texts.{promises_text}
 use Rattle.pua_words.specs.declared.command.Processes.TheVariants.{One, All}
-use Rattle.pua_tool.specs.Texts.{Wanted, by_standard, replay_of, run_text, audit_text}
+use Rattle.pua_tool.specs.Texts.{Chosen, Wanted, by_standard, replay_of, run_text, audit_text}
 use Rattle.pua_tool.specs.ObjectTexts.{objects_text}
 use Rattle.pua_tool.specs.EverTexts.{ever_text}
 use Rattle.pua_tool.specs.WhyTexts.{objects_why_text, posed_script, run_why_text, why_text}
@@ -56,6 +56,18 @@ two_directories = text_of_lines (codes "tree 1" ∷ codes "0 dir" ∷ codes "1 d
 abbrev pub veiling_in_turn : List ℕ
 veiling_in_turn = text_of_lines (codes "1 unveil /d r" ∷ codes "1 fork 2" ∷ codes "2 unveil /e r" ∷ [])
 
+abbrev pub opening_past_veils : List ℕ
+opening_past_veils = text_of_lines (codes "1 unveil / =" ∷ codes "1 pledge stdio,dns -" ∷ [])
+
+abbrev pub opening_by_veils : List ℕ
+opening_by_veils = text_of_lines (codes "1 pledge tty,tmppath,getpw -" ∷ [])
+
+abbrev pub locking : List ℕ
+locking = text_of_lines (codes "1 unveil / =" ∷ codes "1 unveil - -" ∷ [])
+
+abbrev pub by_openbsd : Chosen
+by_openbsd = record by_standard { rules = Openbsd }
+
 abbrev pub plain_job : Wanted
 plain_job = record { limit = 2; process = 1; base = Root; after = None; candidates = codes "a" ∷ [] }
 
@@ -63,7 +75,7 @@ pub record TextRows : Type 0 where
   pub run : run_text by_standard root_listing ending ≡ Ok (text_of_lines (codes "1 ok" ∷ codes "2 killed" ∷ codes "3 gone" ∷ []))
   pub run_of_no_lines : run_text by_standard root_listing [] ≡ Ok []
   pub run_by_standard : run_text by_standard root_listing changing ≡ Ok (text_of_lines (codes "1 ok" ∷ codes "2 ok" ∷ []))
-  pub run_by_openbsd : run_text (record by_standard { rules = Openbsd }) root_listing changing
+  pub run_by_openbsd : run_text by_openbsd root_listing changing
       ≡ Ok (text_of_lines (codes "1 ok" ∷ codes "2 killed" ∷ []))
   pub audit : audit_text by_standard root_listing creating_alone plain_job
       ≡ Ok (text_of_lines (codes "1 ok" ∷ codes "reach 1" ∷ codes "/../a mkdir" ∷ codes "/../a symlink" ∷ codes "/a mkdir"
@@ -89,7 +101,7 @@ pub record TextRows : Type 0 where
       ∷ codes "/.. stat" ∷ codes "/.. lstat" ∷ codes "/.. open-r" ∷ codes "/.. chdir" ∷ []))
   pub objects : objects_text by_standard root_listing creating_alone (One 1)
       ≡ Ok (text_of_lines (codes "1 ok" ∷ codes "objects 1" ∷ codes "process alive" ∷ codes "promises cpath,stdio" ∷ codes "execpromises -"
-      ∷ codes "unveil given-up" ∷ codes "other / mkdir,symlink" ∷ []))
+      ∷ codes "unveil given-up" ∷ codes "no veils" ∷ codes "other / mkdir,symlink" ∷ []))
   pub ended_objects : objects_text by_standard root_listing ending (One 1)
       ≡ Ok (text_of_lines (codes "1 ok" ∷ codes "2 killed" ∷ codes "3 gone" ∷ codes "objects 1" ∷ codes "process ended" ∷ []))
   pub veiled_objects : objects_text by_standard root_listing veiling_script (One 1)
@@ -102,14 +114,38 @@ pub record TextRows : Type 0 where
       ∷ codes "execpromises -" ∷ codes "unveil open" ∷ codes "veil - rc" ∷ []))
   pub all_objects : objects_text by_standard root_listing pairing All
       ≡ Ok (text_of_lines (codes "1 ok" ∷ codes "2 ok" ∷ codes "3 ok" ∷ codes "objects 1" ∷ codes "process ended" ∷ codes "objects 7"
-      ∷ codes "process alive" ∷ codes "promises =" ∷ codes "execpromises -" ∷ codes "unveil given-up" ∷ []))
+      ∷ codes "process alive" ∷ codes "promises =" ∷ codes "execpromises -" ∷ codes "unveil given-up" ∷ codes "no veils" ∷ []))
   pub beyond_link : objects_text by_standard link_and_file reading_alone (One 1)
       ≡ Ok (text_of_lines (codes "1 ok" ∷ codes "objects 1" ∷ codes "process alive" ∷ codes "promises rpath,stdio" ∷ codes "execpromises -"
-      ∷ codes "unveil given-up" ∷ codes "dir / stat,lstat,open-r,chdir" ∷ codes "link /a lstat,readlink" ∷ codes "file /b stat,lstat,open-r"
-      ∷ []))
+      ∷ codes "unveil given-up" ∷ codes "no veils" ∷ codes "dir / stat,lstat,open-r,chdir" ∷ codes "link /a lstat,readlink"
+      ∷ codes "file /b stat,lstat,open-r" ∷ []))
   pub ever : ever_text by_standard root_listing pairing 7
       ≡ Ok (text_of_lines (codes "1 ok" ∷ codes "2 ok" ∷ codes "3 ok" ∷ codes "ever 7" ∷ codes "process alive" ∷ codes "promises ="
-      ∷ codes "execpromises -" ∷ codes "unveil given-up" ∷ []))
+      ∷ codes "execpromises -" ∷ codes "unveil given-up" ∷ codes "no veils" ∷ []))
+  pub opened_past_veils : objects_text by_openbsd root_listing opening_past_veils (One 1)
+      ≡ Ok (text_of_lines (codes "1 ok" ∷ codes "2 ok" ∷ codes "objects 1" ∷ codes "process alive" ∷ codes "rules openbsd"
+      ∷ codes "promises dns,stdio" ∷ codes "execpromises -" ∷ codes "unveil given-up"
+      ∷ codes "opening /etc/resolv.conf stat,open-r" ∷ codes "opening /etc/hosts open-r" ∷ codes "opening /etc/services open-r"
+      ∷ codes "opening /etc/protocols open-r" ∷ codes "opening /dev/null open-r,open-w,open-rw"
+      ∷ codes "opening /etc/localtime stat,open-r" ∷ codes "opening /usr/share/zoneinfo/ open-r" ∷ codes "veil / =" ∷ []))
+  pub opened_by_veils : objects_text by_openbsd root_listing opening_by_veils (One 1)
+      ≡ Ok (text_of_lines (codes "1 ok" ∷ codes "objects 1" ∷ codes "process alive" ∷ codes "rules openbsd"
+      ∷ codes "promises getpw,tmppath,tty" ∷ codes "execpromises -" ∷ codes "unveil given-up"
+      ∷ codes "opening /etc/pwd.db open-r" ∷ codes "opening /etc/group open-r" ∷ codes "opening /etc/netid open-r"
+      ∷ codes "opening /var/run/ypbind.lock stat,open-r" ∷ codes "opening /var/yp/binding/ open-r"
+      ∷ codes "opening /tmp/ create,unlink veils" ∷ codes "opening /dev/tty open-r,open-w,open-rw veils" ∷ codes "no veils" ∷ []))
+  pub unopened : objects_text by_openbsd root_listing locking (One 1)
+      ≡ Ok (text_of_lines (codes "1 ok" ∷ codes "2 ok" ∷ codes "objects 1" ∷ codes "process alive" ∷ codes "rules openbsd"
+      ∷ codes "promises -" ∷ codes "execpromises -" ∷ codes "unveil locked" ∷ codes "veil / =" ∷ []))
+  pub ever_opened : ever_text by_openbsd root_listing locking 1
+      ≡ Ok (text_of_lines (codes "1 ok" ∷ codes "2 ok" ∷ codes "ever 1" ∷ codes "process alive" ∷ codes "rules openbsd"
+      ∷ codes "promises -" ∷ codes "execpromises -" ∷ codes "unveil locked"
+      ∷ codes "opening /etc/resolv.conf stat,open-r" ∷ codes "opening /etc/hosts open-r" ∷ codes "opening /etc/services open-r"
+      ∷ codes "opening /etc/protocols open-r" ∷ codes "opening /etc/pwd.db open-r" ∷ codes "opening /etc/group open-r"
+      ∷ codes "opening /etc/netid open-r" ∷ codes "opening /var/run/ypbind.lock stat,open-r" ∷ codes "opening /var/yp/binding/ open-r"
+      ∷ codes "opening /dev/null open-r,open-w,open-rw" ∷ codes "opening /etc/localtime stat,open-r"
+      ∷ codes "opening /usr/share/zoneinfo/ open-r" ∷ codes "opening /tmp/ create,unlink veils"
+      ∷ codes "opening /dev/tty open-r,open-w,open-rw veils" ∷ codes "veil / =" ∷ []))
   pub never_listed : objects_text by_standard root_listing [] (One 2) ≡ Err NoProcess
   pub bad_listing : audit_text by_standard (text_of_lines (codes "tree 1" ∷ codes "0 dir" ∷ codes "1 dir 0" ∷ [])) (codes "1") plain_job
       ≡ Err (Listing (BadLine 3))
@@ -139,6 +175,10 @@ text_rows = record {
   all_objects = refl;
   beyond_link = refl;
   ever = refl;
+  opened_past_veils = refl;
+  opened_by_veils = refl;
+  unopened = refl;
+  ever_opened = refl;
   never_listed = refl;
   bad_listing = refl;
   bad_script = refl;
@@ -148,7 +188,7 @@ text_rows = record {
 
 -- texts with reasons
 pub record ReasonTextRows : Type 0 where
-  pub run_by_openbsd : run_why_text (record by_standard { rules = Openbsd }) root_listing changing
+  pub run_by_openbsd : run_why_text by_openbsd root_listing changing
       ≡ Ok (text_of_lines (codes "1 ok" ∷ codes "2 killed no rpath since line 1" ∷ []))
   pub another_process : why_text by_standard root_listing pairing 7 (codes "stat" ∷ codes "/" ∷ [])
       ≡ Ok (text_of_lines (codes "killed no rpath since line 2" ∷ []))

@@ -3,6 +3,7 @@ use Rattle.std.specs.Prelude.{◌≡◌, ◌≢◌, ◌⊎◌, ℕ, true, List, 
 use Rattle.pua_tree.specs.Tree.{Tree}
 use Rattle.pua_tree.specs.Listing.{listing}
 use Rattle.pua_calls.specs.Calls.{CallTable}
+use Rattle.pua_calls.specs.declared.rules.Rules.{Rules}
 use Rattle.pua_policy.specs.History.{History, is_ended}
 use Rattle.pua_script.specs.Requests.{Asked}
 use Rattle.pua_script.specs.Scripts.{script}
@@ -26,15 +27,15 @@ IsForeseenBehind table w process now = (asks : List Asked) → IsTrue (are_in_by
     HasHistoryOf after member (ForeseesIn (ever_lasting w.tree table now) w.tree table now after.tree)
 
 -- the text is the answers and the list of the process, and the list is complete; or the process has ended
-pub record IsEverWritten (table : CallTable) (t : Tree) (first : List Asked) (process : ℕ) (text : List ℕ) : Type 0 where
+pub record IsEverWritten (rules : Rules) (table : CallTable) (t : Tree) (first : List Asked) (process : ℕ) (text : List ℕ) : Type 0 where
   pub now : History
   pub here : history_of (world_after table (new_world t) first) process ≡ Some now
   pub is_text : text ≡ answer_lines 1 (answers_to table (new_world t) first)
-      ++ ever_list table (world_after table (new_world t) first).tree process now
+      ++ ever_list rules table (world_after table (new_world t) first).tree process now
   pub complete : IsForeseenBehind table (world_after table (new_world t) first) process now ⊎ (is_ended now ≡ true)
 
 abbrev pub EverAsWritten : Type 0
 EverAsWritten = (choice : Chosen) (tree_bytes script_bytes : List ℕ) (table : CallTable) (t : Tree) (first : List Asked)
     (process : ℕ) (text : List ℕ) →
     table_by choice ≡ Ok table → listing tree_bytes ≡ Ok t → script script_bytes ≡ Ok first →
-    ever_text choice tree_bytes script_bytes process ≡ Ok text → IsEverWritten table t first process text
+    ever_text choice tree_bytes script_bytes process ≡ Ok text → IsEverWritten choice.rules table t first process text

@@ -2,6 +2,7 @@
 use Rattle.std.specs.Prelude.{ℕ, List, [], ◌∷◌, ◌++◌, map, option_map, Result, Ok, ok_or}
 use Rattle.pua_tree.specs.Steps.{◌>>=◌}
 use Rattle.pua_calls.specs.Calls.{CallTable}
+use Rattle.pua_calls.specs.declared.rules.Rules.{Rules}
 use Rattle.pua_script.specs.Replay.{World, history_of}
 use Rattle.pua_script.specs.declared.answer.Answer.{Answer}
 use Rattle.pua_words.specs.declared.command.Processes.{Processes}
@@ -18,14 +19,15 @@ numbers_asked w (One process) = ok_or (option_map (λ h. process ∷ []) (histor
 numbers_asked w All = Ok (map (λ made. made.0) w.histories)
 
 -- the answers, and then the lists
-abbrev pub objects_after : CallTable → List Answer → World → List ℕ → List ℕ
-objects_after table answers w numbers = answer_lines 1 answers ++ lists_of table w numbers
+abbrev pub objects_after : Rules → CallTable → List Answer → World → List ℕ → List ℕ
+objects_after rules table answers w numbers = answer_lines 1 answers ++ lists_of rules table w numbers
 
 -- the answers, and then the lists of the processes that are asked for, or why there are none
-abbrev pub lists_asked : Replayed → Processes → Result (List ℕ) ToolFault
-lists_asked done which = numbers_asked done.world which >>= λ numbers. Ok (objects_after done.table done.answers done.world numbers)
+abbrev pub lists_asked : Rules → Replayed → Processes → Result (List ℕ) ToolFault
+lists_asked rules done which =
+    numbers_asked done.world which >>= λ numbers. Ok (objects_after rules done.table done.answers done.world numbers)
 
 -- the lists of processes at the end of a script over a listing, or the first fault: the table's, the listing's, the
 -- script's, or a process never made
 unfoldable pub objects_text : Chosen → List ℕ → List ℕ → Processes → Result (List ℕ) ToolFault
-objects_text choice tree_bytes script_bytes which = replay_of choice tree_bytes script_bytes >>= λ done. lists_asked done which
+objects_text choice tree_bytes script_bytes which = replay_of choice tree_bytes script_bytes >>= λ done. lists_asked choice.rules done which

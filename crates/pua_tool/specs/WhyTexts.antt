@@ -2,6 +2,7 @@
 use Rattle.std.specs.Prelude.{ℕ, List, [], ◌∷◌, ◌++◌, flat_map, Result, Ok, Err, decimal}
 use Rattle.pua_tree.specs.Listing.{listing}
 use Rattle.pua_tree.specs.Steps.{◌>>=◌}
+use Rattle.pua_calls.specs.declared.rules.Rules.{Rules}
 use Rattle.pua_script.specs.Requests.{Asked}
 use Rattle.pua_script.specs.Scripts.{script, request_of}
 use Rattle.pua_script.specs.Replay.{new_world}
@@ -51,10 +52,11 @@ why_text choice tree_bytes script_bytes process fields = do
   Ok (chain_lines p ask)
 
 -- the lines of a script with reasons, and the lists of the processes that are asked for, or why there are none
-abbrev pub why_lists_asked : Posed → Processes → Result (List ℕ) ToolFault
-why_lists_asked p which = numbers_asked (world_left p) which >>= λ numbers. Ok (reason_lines p ++ why_lists_of p numbers)
+abbrev pub why_lists_asked : Rules → Posed → Processes → Result (List ℕ) ToolFault
+why_lists_asked rules p which = numbers_asked (world_left p) which >>= λ numbers. Ok (reason_lines p ++ why_lists_of rules p numbers)
 
 -- the lists with reasons at the end of a script over a listing, or the first fault: the table's, the listing's, the
 -- script's, or a process never made
 unfoldable pub objects_why_text : Chosen → List ℕ → List ℕ → Processes → Result (List ℕ) ToolFault
-objects_why_text choice tree_bytes script_bytes which = posed_script choice tree_bytes script_bytes >>= λ p. why_lists_asked p which
+objects_why_text choice tree_bytes script_bytes which =
+    posed_script choice tree_bytes script_bytes >>= λ p. why_lists_asked choice.rules p which

@@ -10,6 +10,7 @@ use crate::fault::ToolFault;
 use crate::objects::told;
 use crate::script::{Replay, replay_script};
 use crate::table::TableChoice;
+use pua_calls::Rules;
 use pua_ever::{both_of, list_lasting};
 use pua_io::Sink;
 use pua_texts::{answer_text, write_ever};
@@ -17,7 +18,8 @@ use std::alloc::Global;
 
 /// Writes the list for ever of a process: for each line of the script its number and what it was
 /// answered, then `ever P`, the lines of the state of the process where the script ends, as
-/// [`objects_to`](crate::objects_to) has them, and a line `KIND PATH CALLS` for each thing that stands
+/// [`objects_to`](crate::objects_to) has them, but that a process which never pledged has each opening;
+/// and a line `KIND PATH CALLS` for each thing that stands
 /// or could stand now on which a call can ever be allowed by what the process and all that it forks do
 /// themselves; in the end a line `KIND new CALLS` for what they can make: `dir`, `other` for the further
 /// names of such a directory, `file` and `link`. Where a line has `exec`, a line of the state before
@@ -46,7 +48,7 @@ pub fn ever_to<S: Sink>(
         result sink.old sink.new }
 {
     let replay = replay_script(alloc, tree_bytes, script_bytes, table)?;
-    let written = list_to(alloc, &replay, process, sink);
+    let written = list_to(alloc, &replay, table.rules, process, sink);
     replay.release();
     written
 }
@@ -56,11 +58,12 @@ pub fn ever_to<S: Sink>(
 fn list_to<S: Sink>(
     alloc: Global,
     replay: &Replay,
+    rules: Rules,
     number: u32,
     sink: &mut S,
 ) -> Result<(), ToolFault>
     ensures { (done : Replayed) → IsReplay replay.now done →
-        AnswersTo S.written S.failed (ever_after done number) result sink.old sink.new }
+        AnswersTo S.written S.failed (ever_after rules done number) result sink.old sink.new }
 {
     let world = &replay.world;
     let Some(process) = world.process(number) else {
@@ -78,5 +81,5 @@ fn list_to<S: Sink>(
         return Err(ToolFault::OutOfMemory);
     };
     let front = front.as_str();
-    told(write_ever(alloc, tree, number, process, &list, front, sink))
+    told(write_ever(alloc, tree, rules, number, process, &list, front, sink))
 }

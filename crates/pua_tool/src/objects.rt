@@ -13,6 +13,7 @@ ghost use Rattle.pua_tool.specs.Texts.{Replayed as Served, choice_of};
 use crate::fault::ToolFault;
 use crate::script::{Replay, replay_script};
 use crate::table::TableChoice;
+use pua_calls::Rules;
 use pua_io::{Sink, put_all};
 use pua_script::World;
 use pua_texts::{TextFault, answer_text, write_lists};
@@ -28,12 +29,14 @@ use std::alloc::Global;
 /// and may have any length.
 ///
 /// The state of a process that has ended is `process ended`, and it has no objects. Otherwise it is
-/// `process alive`; `promises` and `execpromises` with the keywords, `=` for none, and `-` where no
-/// pledge gave any; `unveil` with `locked`, with `given-up` where it isn't locked and lacks the promise
-/// `unveil`, or with `open`; and for each veil that is kept, in the order in which their places were
-/// first kept, `veil PATH LETTERS`: where its place stands now, `-` where its directory was removed,
-/// and its letters, `=` for none. What a call needs is said by the table of calls that is
-/// chosen.
+/// `process alive`; `rules openbsd` where the rules that are chosen are those; `promises` and
+/// `execpromises` with the keywords, `=` for none, and `-` where no pledge gave any; `unveil` with
+/// `locked`, with `given-up` where it isn't locked and lacks the promise `unveil`, or with `open`; by
+/// OpenBSD's rules `opening PATH CALLS` for each path that a promise opens by itself, with `veils`
+/// behind it where the veils are asked for it; and for each veil that is kept, in the order in which
+/// their places were first kept, `veil PATH LETTERS`: where its place stands now, `-` where its
+/// directory was removed, and its letters, `=` for none; or `no veils`. What a call needs is said by the
+/// table of calls that is chosen.
 ///
 /// The first that holds of `Table`, `Listing`, `Script` and `NoProcess` is answered before anything is
 /// written. So is `OutOfMemory`, wherever a growth was refused. `Write` is answered only where a put
@@ -52,7 +55,7 @@ pub fn objects_to<S: Sink>(
         result sink.old sink.new }
 {
     let replay = replay_script(alloc, tree_bytes, script_bytes, table)?;
-    let written = asked_to(alloc, &replay, processes, sink);
+    let written = asked_to(alloc, &replay, table.rules, processes, sink);
     replay.release();
     written
 }
@@ -62,11 +65,12 @@ pub fn objects_to<S: Sink>(
 fn asked_to<S: Sink>(
     alloc: Global,
     replay: &Replay,
+    rules: Rules,
     processes: Processes,
     sink: &mut S,
 ) -> Result<(), ToolFault>
     ensures { (done : Served) → IsReplay replay.now done →
-        AnswersTo S.written S.failed (lists_asked done processes) result sink.old sink.new }
+        AnswersTo S.written S.failed (lists_asked rules done processes) result sink.old sink.new }
 {
     let numbers = numbers_of(alloc, &replay.world, processes)?;
     let Ok(front) = answer_text(alloc, replay.answers.as_slice()) else {
@@ -75,6 +79,7 @@ fn asked_to<S: Sink>(
     told(write_lists(
         alloc,
         &replay.world,
+        rules,
         numbers.as_slice(),
         front.as_str(),
         sink,

@@ -13,6 +13,7 @@ use crate::fault::ToolFault;
 use crate::objects::{numbers_of, told};
 use crate::posed::{Posed, pose};
 use crate::table::TableChoice;
+use pua_calls::Rules;
 use pua_io::Sink;
 use pua_since::{dated_text, veils_of};
 use pua_texts::{TextFault, write_why_lists};
@@ -42,7 +43,14 @@ pub fn objects_why_to<S: Sink>(
         result sink.old sink.new }
 {
     let mut posed = pose(alloc, tree_bytes, script_bytes, table)?;
-    let written = write_asked(alloc, script_bytes, &mut posed, processes, sink);
+    let written = write_asked(
+        alloc,
+        script_bytes,
+        &mut posed,
+        table.rules,
+        processes,
+        sink,
+    );
     posed.release();
     written
 }
@@ -53,14 +61,16 @@ fn write_asked<S: Sink>(
     alloc: Global,
     script_bytes: &[u8],
     posed: &mut Posed,
+    rules: Rules,
     processes: Processes,
     sink: &mut S,
 ) -> Result<(), ToolFault>
     ensures { (p : Asking) → script script_bytes.now ≡ Ok p.asks → IsPosed posed.old p →
-        AnswersTo S.written S.failed (why_lists_asked p processes) result sink.old sink.new }
+        AnswersTo S.written S.failed (why_lists_asked rules p processes) result sink.old sink.new }
 {
     let numbers = numbers_of(alloc, &posed.after, processes)?;
-    told(write_all(alloc, script_bytes, posed, numbers.as_slice(), sink))
+    let numbers = numbers.as_slice();
+    told(write_all(alloc, script_bytes, posed, rules, numbers, sink))
 }
 
 /// Writes the lines of a script with reasons, and then the lists of these processes. `OutOfMemory` where
@@ -70,11 +80,12 @@ fn write_all<S: Sink>(
     alloc: Global,
     script_bytes: &[u8],
     posed: &mut Posed,
+    rules: Rules,
     numbers: &[u32],
     sink: &mut S,
 ) -> Result<(), TextFault>
     ensures { (p : Asking) → script script_bytes.now ≡ Ok p.asks → IsPosed posed.old p →
-        TellsTo S.written S.failed (reason_lines p ++ why_lists_of p numbers.now)
+        TellsTo S.written S.failed (reason_lines p ++ why_lists_of rules p numbers.now)
         result sink.old sink.new }
 {
     let (requests, answers) = (posed.script.requests(), posed.answers.as_slice());
@@ -89,5 +100,5 @@ fn write_all<S: Sink>(
         veils,
     )?;
     let (front, lines) = (front.as_str(), lines.as_slice());
-    write_why_lists(alloc, &posed.after, numbers, lines, front, sink)
+    write_why_lists(alloc, &posed.after, rules, numbers, lines, front, sink)
 }

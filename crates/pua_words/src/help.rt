@@ -174,12 +174,18 @@ pub(crate) const OBJECTS_OUTPUT: &str = with_calls_and_faults!(
     "\
 Prints what `pua run` prints, then `objects P`, then the state of process P:
   process alive       or `process ended`, which has no further line
+  rules openbsd       with `--rules openbsd`
   promises LIST       - where none were ever pledged, = for none
   execpromises LIST   the same of those of the program that it starts
   unveil locked       or given-up, where it lacks the promise `unveil`; or open:
                       it may put further veils, and the list holds for now alone
+  opening PATH CALLS  with `--rules openbsd`: what a promise opens by itself, of
+                      which no line of an object tells. No veil hides it, unless
+                      `veils` stands behind it. With a slash at the end of PATH
+                      it is each path below
   veil PATH LETTERS   a line for each veil, = for no letters; PATH is where its
                       place stands now, - where the directory was removed
+  no veils            where it has none: it touches what is not listed too
 Then `KIND PATH CALLS` for each object on which a call is allowed. KIND is dir,
 file, prog or link; missing, a name that is not there but has a veil of its own;
 or other, all further names of the directory PATH. The calls stand in one order,

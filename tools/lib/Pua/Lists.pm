@@ -76,7 +76,7 @@ sub promises_of {
 # What the lines of a list's state say: whether the process has `ended`; its `promises` and
 # `execpromises`, undef where there are none; `unveil` (locked, given-up or open); its `veils`,
 # each with path and letters; its `openings`, each with path, calls and `veils` where these are
-# asked; and whether it is told `by_openbsd`, with calls on sockets.
+# asked; and whether the list has `sockets`, with calls on them.
 sub state_of {
     my ($list) = @_;
     my %state = (veils => [], openings => []);
@@ -87,10 +87,8 @@ sub state_of {
         elsif ($word =~ /\A(?:unveil|exec)\z/)    { $state{$word} = $rest[0] }
         elsif ($word eq 'veil' && @rest == 2)     { push @{ $state{veils} }, \@rest }
         elsif ($word eq 'opening')                { push @{ $state{openings} }, \@rest }
-        elsif ($line eq 'rules openbsd')          { $state{by_openbsd} = 1 }
     }
-    $state{by_openbsd} ||= @{ $state{openings} }
-        || grep { $_->[2] =~ /\b(?:connect|bind)\b/ } @{ $list->{objects} };
+    $state{sockets} = grep { $_->[2] =~ /\b(?:connect|bind)\b/ } @{ $list->{objects} };
     return \%state;
 }
 

@@ -1,5 +1,6 @@
 use Rattle.pua_texts.proofs.Common.{◌≤◌, ◌+◌, ◌++◌, ◌∷◌, [], ℕ, List, get_or, sym, ap, ◌∙◌, append_assoc, append-nil, arith, if◌then◌else◌}
 use Rattle.pua_texts.proofs.Common.{call_name, calls, Stat}
+use Rattle.pua_calls.proofs.ForCallers.{call_count}
 use Rattle.pua_texts.proofs.ObjectLines.{calls_left, calls_all, call_taken, call_left, calls_done}
 use Rattle.pua_texts.proofs.calls_text.add_names.Goals.{then-contains, else-contains}
 use Rattle.pua_texts.proofs.calls_text.add_names.Goals as goal
@@ -31,7 +32,7 @@ returns-clause-names c =
     let set : ℕ = c.args.calls in
     let i : ℕ = c.loop-call.call-index in
     let before : List ℕ = if c.loop-call.is_first then [] else 44 ∷ [] in
-    let past : 14 ≤ i = omega (arith, c.loop-call-test.false) in
+    let past : call_count ≤ i = omega (arith, c.loop-call-test.false) in
     sym (append-nil c.loop-call.block)
     ∙ ap (λ t. c.loop-call.block ++ t) (sym (calls_done set before i past))
     ∙ c.loop-call.invariant.names

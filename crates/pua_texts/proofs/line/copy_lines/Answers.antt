@@ -1,6 +1,7 @@
 use Rattle.std.proofs.Common.{◌∷◌, ◌+◌, ◌≤◌, List, suc, length, sym, subst, arith}
 use Rattle.std.specs.Prelude.{◌*◌}
 use Rattle.std.proofs.Math.Nat.{mul-le-mul_right, suc-mul}
+use Rattle.pua_calls.proofs.ForCallers.{call_count}
 use Rattle.pua_audit.specs.Coming.{calls_at}
 use Rattle.pua_calls.specs.declared.call.Call.{Call}
 use Rattle.pua_texts.specs.Copied.{Copied}
@@ -17,7 +18,7 @@ calls-init c =
       room = λ fits. omega (
         arith,
         fits,
-        mul-le-mul_right {m = many} {n = 15} (length path + 16)
+        mul-le-mul_right {m = many} {n = suc call_count} (length path + 16)
             (omega (arith, few_calls c.later_calls-later.result)),
       );
       lines = λ _ new e. subst (λ (later : List Call). Copied c.args.buffer.now new c.args.at
@@ -29,9 +30,9 @@ calls-preserved c =
     let path = c.args.lines.path.now in
     let width = length path + 16 in
     let left = suc (length (calls_at c.take_first.new.self)) in
-    let room : c.args.at + 15 * width ≤ length c.args.buffer.now → c.calls.end + suc left * width ≤ length c.calls.buffer =
+    let room : c.args.at + suc call_count * width ≤ length c.args.buffer.now → c.calls.end + suc left * width ≤ length c.calls.buffer =
     rw c.in-Some.ensures at c.calls.invariant.room in
-    let fits : c.args.at + 15 * width ≤ length c.args.buffer.now → c.calls.end + width ≤ length c.calls.buffer =
+    let fits : c.args.at + suc call_count * width ≤ length c.args.buffer.now → c.calls.end + width ≤ length c.calls.buffer =
     λ all. omega (arith, room all, suc-mul left width) in
     record {
       room = λ all. omega (

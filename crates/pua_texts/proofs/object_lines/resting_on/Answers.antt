@@ -1,5 +1,6 @@
 use Rattle.pua_texts.proofs.Common.{◌+◌, ◌≤◌, ap, sym, ◌∙◌, drop, arith, bit_or, filter, calls, has}
 use Rattle.pua_texts.proofs.Common.{resting_on}
+use Rattle.pua_calls.proofs.ForCallers.{call_count}
 use Rattle.pua_texts.proofs.WhyColumns.{rest_done, rest_passed, rest_taken}
 use Rattle.pua_texts.proofs.object_lines.resting_on.Goals.{then-contains, else-contains}
 use Rattle.pua_texts.proofs.object_lines.resting_on.Goals as goal
@@ -23,5 +24,5 @@ loop-call-preserved c =
 pub returns : goal.returns
 returns c = λ h stands.
     let i = c.loop-call.call-index in
-    let past : 14 ≤ i = omega (arith, c.loop-call-test.false) in
+    let past : call_count ≤ i = omega (arith, c.loop-call-test.false) in
     sym (rest_done c.args.table.now h c.args.calls c.loop-call.resting i past) ∙ c.loop-call.invariant h stands

@@ -1,4 +1,4 @@
-use Rattle.pua_texts.proofs.Common.{◌++◌, [], List, ap, sym, subst, ◌∙◌, codes, items, lines_of, object_lines, Tree}
+use Rattle.pua_texts.proofs.Common.{◌++◌, [], List, ap, sym, subst, ◌∙◌, items, lines_of, object_lines, Tree}
 use Rattle.std.specs.List.{AllByRecursion}
 use Rattle.pua_objects.specs.ListItems.{IsToldIn, items_told}
 use Rattle.pua_objects.specs.declared.list.ListItem.{ListItem}
@@ -16,5 +16,5 @@ returns g c = if_ok c.new.result (λ list is h stands.
     let listed = ap (items_told t []) c.as_slice.ensures.value ∙ c.in_ok-items.ensures.items ∙ ap (items t) stands.veils in
     let lines = ap (λ (s : ColumnsState). lines_text s [] c.in_ok-lines.lines.items) c.plain.ensures ∙ c.in_ok-lines.ensures t h stands told ∙
     ap (λ its. object_lines t (lines_of t c.args.table.now h its)) listed in
-    ap (list_text t) is ∙ (λ j. head_is t (codes "objects") c.args.number h c.in_ok-head.head (c.in_ok-head.ensures h stands) j ++ lines j))
+    ap (list_text t) is ∙ (λ j. head_is t c.args.heading h c.in_ok-head.head (c.in_ok-head.ensures h stands) j ++ lines j))
     c.new.ensures

@@ -7,4 +7,4 @@ use Rattle.pua_texts.proofs.object_lists.begin_lists.Given as goal
 -- the lists so far are those of the numbers so far
 abbrev pub invariant-loop-number : goal.invariant-loop-number
 invariant-loop-number g l = (w : World) → StandsForWorld l.fn.world w →
-    lists_text w.tree l.lists.items ≡ lists_of l.fn.world.table w (take l.number-index l.numbers)
+    lists_text w.tree l.lists.items ≡ lists_of l.fn.rules l.fn.world.table w (take l.number-index l.numbers)

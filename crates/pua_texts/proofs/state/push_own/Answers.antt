@@ -5,10 +5,10 @@ use Rattle.pua_texts.proofs.state.push_own.Goals as goal
 
 pub returns-then-ended : goal.returns-then-ended
 returns-then-ended c = on_ok c.push_line.result (λ line h stands.
-    line ∙ ap (λ b. string_bytes c.args.text.now ++ (if b then with_end (codes "process ended") else living_lines h))
+    line ∙ ap (λ b. string_bytes c.args.text.now ++ (if b then with_end (codes "process ended") else living_lines c.args.heading h))
     (sym c.if-ended.true ∙ c.ended.ensures.history h stands)) c.push_line.ensures
 
 pub returns : goal.returns
 returns c = on_ok c.push_living.result (λ lines h stands.
-    lines h stands ∙ ap (λ b. string_bytes c.args.text.now ++ (if b then with_end (codes "process ended") else living_lines h))
+    lines h stands ∙ ap (λ b. string_bytes c.args.text.now ++ (if b then with_end (codes "process ended") else living_lines c.args.heading h))
     (sym c.if-ended.false ∙ c.ended.ensures.history h stands)) c.push_living.ensures

@@ -3,4 +3,4 @@ use Rattle.pua_texts.specs.States.{own_lines}
 use Rattle.pua_texts.proofs.state.state_text.Goals as goal
 
 pub returns : goal.returns
-returns c = λ h stands. c.in_ok-push_own.ensures h stands ∙ ap (λ t. t ++ own_lines h) c.in_ok-text.ensures
+returns c = λ h stands. c.in_ok-push_own.ensures h stands ∙ ap (λ t. t ++ own_lines c.args.heading h) c.in_ok-text.ensures

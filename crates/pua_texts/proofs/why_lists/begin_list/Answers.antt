@@ -1,4 +1,4 @@
-use Rattle.pua_texts.proofs.Common.{◌++◌, [], List, ap, sym, subst, ◌∙◌, codes, flat_map, items, lines_of, Tree, world_left}
+use Rattle.pua_texts.proofs.Common.{◌++◌, [], List, ap, sym, subst, ◌∙◌, flat_map, items, lines_of, Tree, world_left}
 use Rattle.std.specs.List.{AllByRecursion}
 use Rattle.pua_objects.specs.ListItems.{IsToldIn, items_told}
 use Rattle.pua_objects.specs.declared.list.ListItem.{ListItem}
@@ -17,7 +17,7 @@ returns g c = if_ok c.new.result (λ list is p h same ruled stands dated.
     (sym c.as_slice.ensures.value) c.in_ok-items.ensures.told) in
     let listed = ap (items_told t []) c.as_slice.ensures.value ∙ (λ j. items_told (sym same j) [] c.in_ok-items.items.items)
     ∙ c.in_ok-items.ensures.items ∙ (λ j. items (same j) (stands.veils j)) in
-    let lines = c.in_ok-lines.ensures p c.args.number h stands ruled told (c.in_ok-columns.ensures p c.args.number same dated) ∙
-    ap (λ its. flat_map (why_line p c.args.number h) (lines_of t p.table h its)) listed in
-    ap (list_text t) is ∙ (λ j. head_is t (codes "objects") c.args.number h c.in_ok-head.head (c.in_ok-head.ensures h stands) j ++ lines j))
+    let lines = c.in_ok-lines.ensures p c.args.heading.number h stands ruled told (c.in_ok-columns.ensures p c.args.heading.number same dated) ∙
+    ap (λ its. flat_map (why_line p c.args.heading.number h) (lines_of t p.table h its)) listed in
+    ap (list_text t) is ∙ (λ j. head_is t c.args.heading h c.in_ok-head.head (c.in_ok-head.ensures h stands) j ++ lines j))
     c.new.ensures

@@ -1,6 +1,7 @@
 use Rattle.pua_texts.proofs.Common.{◌≡◌, List, ℕ, ◌+◌, ◌++◌, drop, get_or, map, sym, ap, ◌∙◌, take_all, arith, flat_map, Option}
 use Rattle.pua_texts.proofs.Common.{history_of, veil_date, veils_at, veil_dates, why_lists_of, world_left}
 use Rattle.pua_script.proofs.ForCallers.{is_made, none_made}
+use Rattle.pua_texts.specs.ObjectLines.{heading_now}
 use Rattle.pua_texts.specs.WhyLines.{why_list}
 use Rattle.pua_texts.proofs.OneByOne.{one_more, none_more}
 use Rattle.pua_texts.proofs.VeilDates.{length_dates, none_dated, some_dated}
@@ -12,7 +13,7 @@ loop-number-preserved-in_default g c = λ p stands ruled dated.
     let i = c.loop-number.number-index in
     let now = c.loop-number.invariant p stands ruled dated in (
       none_dated p c.args.world.now numbers i _ c.loop-number-test.true c.loop-number.left.now (sym c.in_default.ensures.state) now.0,
-      none_more (history_of (world_left p)) (why_list p) (world_left p).tree numbers i _ c.loop-number-test.true c.loop-number.lists.items
+      none_more (history_of (world_left p)) (λ process. why_list (heading_now c.args.rules process) p) (world_left p).tree numbers i _ c.loop-number-test.true c.loop-number.lists.items
           now.1 (none_made (history_of (world_left p) _) (c.in_default.ensures.history (world_left p) stands)),
     )
 
@@ -33,11 +34,11 @@ loop-number-preserved g c = λ p stands ruled dated.
     let split = c.in_ok-own.ensures own rest (length_dates p number process.veils) is in
     let listed = c.in_ok-list.ensures p made.history (c.tree.ensures ∙ stands.tree) (c.table.ensures ∙ ruled) made.stands split.0 in (
       split.1,
-      one_more (history_of (world_left p)) (why_list p) (world_left p).tree numbers i _ c.loop-number-test.true c.loop-number.lists.items
+      one_more (history_of (world_left p)) (λ process. why_list (heading_now c.args.rules process) p) (world_left p).tree numbers i _ c.loop-number-test.true c.loop-number.lists.items
           c.push_back.new.self.items c.in_ok-list.list made.history now.1 made.is c.in-Ok.ensures.items listed,
     )
 
 pub returns : goal.returns
 returns g c = λ p stands ruled dated.
     (c.loop-number.invariant p stands ruled dated).1 ∙
-    ap (why_lists_of p) (take_all c.loop-number.number-index c.args.numbers.now (omega (arith, c.loop-number-test.false)))
+    ap (why_lists_of c.args.rules p) (take_all c.loop-number.number-index c.args.numbers.now (omega (arith, c.loop-number-test.false)))

@@ -8,4 +8,4 @@ abbrev pub invariant-loop-number : goal.invariant-loop-number
 invariant-loop-number g l = (p : Posed) → StandsForWorld l.fn.world (world_left p) → l.fn.world.table ≡ p.table →
     l.fn.lines ≡ map (veil_date p.table p.world p.asks) (flat_map (veils_at l.fn.world) l.numbers) →
     (l.left ≡ map (veil_date p.table p.world p.asks) (flat_map (veils_at l.fn.world) (drop l.number-index l.numbers))) ×
-    (lists_text (world_left p).tree l.lists.items ≡ why_lists_of p (take l.number-index l.numbers))
+    (lists_text (world_left p).tree l.lists.items ≡ why_lists_of l.fn.rules p (take l.number-index l.numbers))

@@ -8,7 +8,7 @@ pub returns-in_err-numbers : goal.returns-in_err-numbers
 returns-in_err-numbers g c =
     let p = err_from_is_err_and c.from_residual.result c.from_residual.ensures.1 in
     rw (p.1, p.2) (λ done replay. first_refuses g.S.Sink.written g.S.Sink.failed (numbers_asked done.world c.args.processes)
-    (λ numbers. Ok (objects_after done.table done.answers done.world numbers)) c.in_err-numbers.field-0.0 c.args.sink.now
+    (λ numbers. Ok (objects_after c.args.rules done.table done.answers done.world numbers)) c.in_err-numbers.field-0.0 c.args.sink.now
     c.in_err-numbers.ensures.unwritten (λ other. c.in_err-numbers.ensures.refused other done.world replay.stands))
 
 pub returns : goal.returns
@@ -20,10 +20,10 @@ returns g c = λ done replay.
     let m = g.S.Sink.failed c.write_lists.new.sink in
     let front : c.as_str.result.now ≡ answer_lines 1 done.answers = c.as_str.ensures.value ∙ c.in-Ok.ensures ∙
     ap (answer_lines 1) (c.as_slice.ensures.value ∙ replay.answers) in
-    let written : Tells (objects_after done.table done.answers done.world numbers) c.write_lists.result a b n m =
-    told_as c.as_str.result.now (answer_lines 1 done.answers) _ done.table done.world c.as_slice-2.result.now numbers c.write_lists.result a
+    let written : Tells (objects_after c.args.rules done.table done.answers done.world numbers) c.write_lists.result a b n m =
+    told_as c.as_str.result.now (answer_lines 1 done.answers) c.args.rules _ done.table done.world c.as_slice-2.result.now numbers c.write_lists.result a
     b n m front replay.table c.as_slice-2.ensures.value (c.write_lists.ensures done.world replay.stands) in
     next_answers g.S.Sink.written g.S.Sink.failed (numbers_asked done.world c.args.processes)
-    (λ numbers. Ok (objects_after done.table done.answers done.world numbers)) numbers c.told.result c.args.sink.now c.write_lists.new.sink
+    (λ numbers. Ok (objects_after c.args.rules done.table done.answers done.world numbers)) numbers c.told.result c.args.sink.now c.write_lists.new.sink
     (c.in_ok-numbers.ensures.asked done.world replay.stands)
-    (c.told.ensures (objects_after done.table done.answers done.world numbers) a b n m written)
+    (c.told.ensures (objects_after c.args.rules done.table done.answers done.world numbers) a b n m written)

@@ -1,0 +1,39 @@
+-- The lines of openings, one after another.
+use Rattle.pua_texts.proofs.Common.{◌≡◌, ℕ, ◌+◌, ◌<◌, ◌≤◌, List, ◌++◌, map, flat_map, drop, length, sym, ap, ◌∙◌, append_assoc, append-nil}
+use Rattle.pua_texts.proofs.Common.{get_or, drop_more, drop_of_length-le, Bor}
+use Rattle.pua_texts.specs.declared.openings.Opening.{Opening}
+use Rattle.pua_texts.specs.Openings.{line_if, opened_by, opening_lines}
+
+-- a row of the table as the code has it
+abbrev pub row_of : Opening → List ℕ × List ℕ
+row_of row = (row.promise.now, row.told.now)
+
+-- the lines of the rows that are still to come
+abbrev pub still_of : List ℕ → List Opening → ℕ → List ℕ
+still_of keyword rows i = flat_map (line_if keyword) (map row_of (drop i rows))
+
+-- the next row comes
+pub row_next : (keyword text : List ℕ) (rows : List Opening) (i : ℕ) (d : Opening) → i < length rows →
+    text ++ still_of keyword rows i ≡ (text ++ line_if keyword (row_of (get_or rows i d))) ++ still_of keyword rows (i + 1)
+row_next keyword text rows i d within =
+    ap (λ left. text ++ flat_map (line_if keyword) (map row_of left)) (drop_more rows i d within)
+    ∙ sym (append_assoc text (line_if keyword (row_of (get_or rows i d))) (still_of keyword rows (i + 1)))
+
+pub rows_done : (keyword text : List ℕ) (rows : List Opening) (i : ℕ) → length rows ≤ i → text ++ still_of keyword rows i ≡ text
+rows_done keyword text rows i past =
+    ap (λ left. text ++ flat_map (line_if keyword) (map row_of left)) (drop_of_length-le rows past) ∙ append-nil text
+
+-- those of the promises that are still to come
+abbrev pub still_open : List (Bor (List ℕ)) → ℕ → List ℕ
+still_open keywords i = opening_lines (map (λ keyword. keyword.now) (drop i keywords))
+
+-- the next promise comes
+pub keyword_next : (text : List ℕ) (keywords : List (Bor (List ℕ))) (i : ℕ) (d : Bor (List ℕ)) → i < length keywords →
+    text ++ still_open keywords i ≡ (text ++ opened_by (get_or keywords i d).now) ++ still_open keywords (i + 1)
+keyword_next text keywords i d within =
+    ap (λ left. text ++ opening_lines (map (λ keyword. keyword.now) left)) (drop_more keywords i d within)
+    ∙ sym (append_assoc text (opened_by (get_or keywords i d).now) (still_open keywords (i + 1)))
+
+pub keywords_done : (text : List ℕ) (keywords : List (Bor (List ℕ))) (i : ℕ) → length keywords ≤ i → text ++ still_open keywords i ≡ text
+keywords_done text keywords i past =
+    ap (λ left. text ++ opening_lines (map (λ keyword. keyword.now) left)) (drop_of_length-le keywords past) ∙ append-nil text

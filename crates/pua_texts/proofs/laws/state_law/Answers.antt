@@ -1,0 +1,5 @@
+use Rattle.pua_texts.proofs.StateLaw.{state_is_printed}
+use Rattle.pua_texts.proofs.laws.state_law.Goals as goal
+
+pub returns-clause-state : goal.returns-clause-state
+returns-clause-state c = state_is_printed
