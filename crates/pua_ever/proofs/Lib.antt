@@ -29,6 +29,7 @@ pub mod Lined
 pub mod Prospected
 pub mod Named
 pub mod Giving
+pub mod Keeping
 pub mod Holding
 pub mod Through
 pub mod Narrowed
