@@ -34,6 +34,7 @@ pub mod Holding
 pub mod Through
 pub mod Narrowed
 pub mod Lasts
+pub mod Together
 pub mod Chosen
 pub mod ForCallers
 pub mod RowsTell
