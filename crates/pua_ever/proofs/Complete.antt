@@ -73,7 +73,7 @@ ever_complete table sound needs w asks process now here confined stand trees non
     beside_one table sound needs w asks process now here confined stand trees none (edits_alone table asks w (process ∷ []) alone) member
     belongs
 
-all_within : (w : World) (members : List ℕ) (now : History) → ActsWithin w now members → Members w members now false
+pub all_within : (w : World) (members : List ℕ) (now : History) → ActsWithin w now members → Members w members now false
 all_within w members now acts m belongs =
     let one = acts m belongs in
     (one.0, one.1, record { within = record { tightens = one.2.0; ended = one.2.1 }; dir = λ e. absurd (false≢true e) })

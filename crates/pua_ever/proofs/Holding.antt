@@ -1,21 +1,16 @@
 -- What a process that can put no veil any more holds at any time, and whatever it forks and starts, where what is started
 -- is bounded by the execpromises.
-use Rattle.pua_ever.proofs.Common.{◌≡◌, ◌⊎◌, ℕ, List, [], ◌∷◌, Bool, true, false, cond, refl, sym, ap, subst, ◌∙◌, inl, inr}
-use Rattle.pua_ever.proofs.Common.{Some, None, Option, same_Some, not, ◌&&◌, ◌||◌, ◌==◌, Ok, Err, Result, filter, list_any, is_some, nat_le, length, nat_cmp}
-use Rattle.pua_ever.proofs.Common.{nat_cmp_total, nat_cmp-IsAntisymmetric, false≢true, or_left, or_right, eqb-true, eq-eqb}
-use Rattle.pua_ever.proofs.Common.{Tree, CallTable, rule_of, Call, History, may_any, is_unveil, Found, Asked, World, apply}
-use Rattle.pua_ever.proofs.Common.{world_after, history_of, Change, change_by, change_effect, CopyAs, Copies, Fails, IsDecided, Action}
-use Rattle.pua_ever.proofs.Common.{OnPath, Symlink, Rename, Link, Pledge, Unveil, Lock, Fork, Exit, is_member, family_then, by_going}
-use Rattle.pua_ever.proofs.Common.{most_processes, EAGAIN, NoCallNeedsError}
+use Rattle.pua_ever.proofs.Common.{◌≡◌, ◌⊎◌, ℕ, List, [], ◌∷◌, Bool, true, false, cond, refl, sym, ap, ◌∙◌, inl, inr}
+use Rattle.pua_ever.proofs.Common.{Some, None, Option, same_Some, not, ◌&&◌, ◌||◌, filter, list_any}
+use Rattle.pua_ever.proofs.Common.{false≢true, or_left, or_right}
+use Rattle.pua_ever.proofs.Common.{CallTable, rule_of, History, may_any, is_unveil, Asked, World, apply}
+use Rattle.pua_ever.proofs.Common.{world_after, history_of}
+use Rattle.pua_ever.proofs.Common.{is_member, family_then}
+use Rattle.pua_ever.proofs.Common.{NoCallNeedsError}
 use Rattle.std.proofs.Common.{lit<}
 use Rattle.std.proofs.lemmas.Bool.{false_from_ne_true, true≢false}
-use Rattle.std.specs.FinMap.{put, find as find_key}
 use Rattle.std.specs.List.{AllByRecursion}
 use Rattle.std.specs.Prelude.{bit_and, unwrap_or, ◌-◌}
-use Rattle.pua_tree.specs.Edits.{add, cut, shift, tie}
-use Rattle.pua_tree.specs.declared.fault.TreeFault.{TreeFault}
-use Rattle.pua_tree.proofs.ForCallers.{same_or_other, put_here, put_elsewhere}
-use Rattle.pua_path.specs.Fits.{spot_named, node_named}
 use Rattle.pua_calls.specs.Promises.{holds, unveil, error, all_promises}
 use Rattle.pua_calls.specs.Tables.{NamesNoError}
 use Rattle.pua_calls.specs.declared.rules.ExecPromises.{ExecPromises}
@@ -25,19 +20,11 @@ use Rattle.pua_policy.specs.History.{Event, Pledged, Unveiled, Locked, Moved, En
 use Rattle.pua_policy.specs.History.{has_error, after_exec, meet, state_of}
 use Rattle.pua_policy.specs.declared.answer.May.TheVariants.{Yes, Enosys, Death}
 use Rattle.pua_policy.proofs.ForCallers.{held_never_grows, second_holds, state_by_exec, state_exec}
-use Rattle.pua_script.specs.Decide.{NoChange, AddNode, CutRow, ShiftRow, TieRow, BeginProgram, AddEvent, decide, link_node}
-use Rattle.pua_script.specs.Family.{is_okay, with_child, family, HasHistoryOf}
+use Rattle.pua_script.specs.Family.{family, HasHistoryOf}
 use Rattle.pua_script.specs.Laws.{IsConfined}
-use Rattle.pua_script.specs.Replay.{Effect, Kills, Leaves, refusal_effect, come_of, edit_effect, edited_tree, left_by}
-use Rattle.pua_script.specs.Worlds.{history_left}
-use Rattle.pua_script.specs.declared.answer.Answer.{Answer}
-use Rattle.pua_script.specs.declared.answer.Answer.TheVariants.{Okay, Failed as IsFailed, Killed as IsKilled, Gone}
-use Rattle.pua_policy.specs.declared.answer.Refusal.{Refusal}
-use Rattle.pua_policy.specs.declared.answer.Refusal.TheVariants.{Failed, Killed}
-use Rattle.pua_script.proofs.ForCallers.{by_living, by_decision, decisions_are_guarded, by_placing, by_cutting, by_tying, by_moves, others_leave}
-use Rattle.pua_script.proofs.ForCallers.{forks_copy}
-use Rattle.pua_ever.specs.Through.{AreWithin, HandsDown, IsAlong, FamiliesGoAlong, is_promised_by, is_bounded, stays}
-use Rattle.pua_ever.specs.Through.{is_confined_through, bound_of, GoAlong}
+use Rattle.pua_ever.specs.Through.{AreWithin, HandsDown, HoldsOne, IsAlong, GoesAlong, FamiliesGoAlong, is_promised_by, is_bounded}
+use Rattle.pua_ever.specs.Through.{stays, is_confined_through, bound_of, GoAlong}
+use Rattle.pua_ever.proofs.Keeping.{Keeps, Are, alone_are, own_kept, then_kept, after_kept}
 
 -- an event that is no unveil leaves the unveils
 unveils_more : (event : Event) (h : History) → is_unveil event ≡ false → filter is_unveil (event ∷ h) ≡ filter is_unveil h
@@ -110,26 +97,67 @@ may_holds h sets = by (is_ended h) (list_any (holds (held_set h)) sets) (has_err
     by false false true e = cc
     by false false false e = cc
 
+-- what it is to be confined through execs, in parts
+pub lock_parts : {l : Bool} (a b c : Bool) → l ≡ a → {u v : Bool} → u ≡ b → v ≡ c → (a || (not b && not c)) ≡ true →
+    (l ≡ true) ⊎ ((u ≡ false) × (v ≡ false))
+lock_parts true b c locked lacks lacks_too e = inl locked
+lock_parts false false false locked lacks lacks_too e = inr (lacks, lacks_too)
+lock_parts false true c locked lacks lacks_too e = absurd (false≢true e)
+lock_parts false false true locked lacks lacks_too e = absurd (false≢true e)
+
 module _ (table : CallTable) (sound : NoCallNeedsError table) (now : History) (given : ℕ) (bounded : is_bounded table given ≡ true) where
   abbrev Along : History → Type 0
   Along h = IsAlong table now given h
 
+  abbrev Goes : History → Type 0
+  Goes h = GoesAlong table now given h
+
+  pub goes : (h : History) → Along h → Goes h
+  goes h k = record { unveils = k.unveils; lock = k.lock; ended = k.ended; promises = inl k.promises }
+
+  abbrev LockOf : History → Type 0
+  LockOf h = (is_locked h ≡ true) ⊎ ((holds (held_set now) unveil ≡ false) × (holds given unveil ≡ false))
+
+  lock_more : (event : Event) (h : History) → LockOf h → LockOf (event ∷ h)
+  lock_more event h lock = elim lock [ inl locked ↦ inl (locked_more event h locked) | inr lacking ↦ inr lacking ]
+
+  holds_more : (event : Event) (h : History) → HoldsOne table now given h → HoldsOne table now given (event ∷ h)
+  holds_more event h one = elim one [
+    | inl own ↦ inl (within_more event h (held_set now) own.0, hands_more event h given own.1)
+    | inr later ↦ inr (
+      within_more event h given later.0,
+      elim later.1 [ inl hands ↦ inl (hands_more event h given hands) | inr none ↦ inr none ],
+    )
+  ]
+
+  -- who can start nothing never can
+  starts_none : (event : Event) (h : History) → is_promised_by table (held_set h) call.Exec ≡ false →
+      is_promised_by table (held_set (event ∷ h)) call.Exec ≡ false
+  starts_none event h none = false_from_ne_true _ (λ starts. false≢true (sym none ∙
+      any_within (held_set (event ∷ h)) (held_set h) (within_more event h (held_set h) (λ set fine holding. holding))
+      (rule_of table call.Exec).alternatives (sound.calls call.Exec) starts))
+
   along_more : (event : Event) (h : History) → is_unveil event ≡ false → Along h → Along (event ∷ h)
   along_more event h is k = record {
     unveils = unveils_more event h is ∙ k.unveils;
-    lock = elim k.lock [ inl locked ↦ inl (locked_more event h locked) | inr lacking ↦ inr lacking ];
+    lock = lock_more event h k.lock;
+    ended = λ lives. k.ended (lives_before event h lives);
+    promises = holds_more event h k.promises;
+  }
+
+  goes_more : (event : Event) (h : History) → is_unveil event ≡ false → Goes h → Goes (event ∷ h)
+  goes_more event h is k = record {
+    unveils = unveils_more event h is ∙ k.unveils;
+    lock = lock_more event h k.lock;
     ended = λ lives. k.ended (lives_before event h lives);
     promises = elim k.promises [
-      | inl own ↦ inl (within_more event h (held_set now) own.0, hands_more event h given own.1)
-      | inr later ↦ inr (
-        within_more event h given later.0,
-        elim later.1 [ inl hands ↦ inl (hands_more event h given hands) | inr none ↦ inr none ],
-      )
+      | inl one ↦ inl (holds_more event h one)
+      | inr none ↦ inr (within_more event h (held_set now) none.0, starts_none event h none.1)
     ];
   }
 
   -- who hands promises down starts a program that holds them
-  module _ (h : History) (k : Along h) (hands : HandsDown h given) where
+  module _ (h : History) (k : Goes h) (hands : HandsDown h given) where
     started : (left : ExecPromises) → state_of (after_exec left h) ≡ state_by_exec left (Some hands.left) (state_of h)
     started left = state_exec left h ∙ ap (λ o. state_by_exec left o (state_of h)) hands.set
 
@@ -158,9 +186,9 @@ module _ (table : CallTable) (sound : NoCallNeedsError table) (now : History) (g
       promises = inr (held_then table.execpromises, hands_then table.execpromises refl);
     }
 
-  along_program : (h : History) → Along h → may_any h (rule_of table call.Exec).alternatives ≡ Yes →
+  started_by_one : (h : History) → Goes h → HoldsOne table now given h → may_any h (rule_of table call.Exec).alternatives ≡ Yes →
       Along (after_exec table.execpromises h)
-  along_program h k may = elim k.promises [
+  started_by_one h k one may = elim one [
     | inl own ↦ along_started h k own.1
     | inr later ↦ elim later.1 [
       | inl hands ↦ along_started h k hands
@@ -169,189 +197,71 @@ module _ (table : CallTable) (sound : NoCallNeedsError table) (now : History) (g
     ]
   ]
 
-  -- who is along can put no veil
-  pub lacks_unveil : (h : History) → Along h → IsConfined h
+  goes_program : (h : History) → Goes h → may_any h (rule_of table call.Exec).alternatives ≡ Yes → Goes (after_exec table.execpromises h)
+  goes_program h k may = elim k.promises [
+    | inl one ↦ goes (after_exec table.execpromises h) (started_by_one h k one may)
+    | inr none ↦ absurd (false≢true (sym none.1 ∙ may_holds h (rule_of table call.Exec).alternatives may))
+  ]
+
+  -- who goes along can put no veil
+  pub lacks_unveil : (h : History) → Goes h → IsConfined h
   lacks_unveil h k = elim k.lock [
     | inl locked ↦ inl locked
     | inr lacking ↦ inr (false_from_ne_true _ (λ holding. elim k.promises [
-      | inl own ↦ false≢true (sym lacking.0 ∙ own.0 unveil (lit< tt, refl) holding)
-      | inr later ↦ false≢true (sym lacking.1 ∙ later.0 unveil (lit< tt, refl) holding)
+      | inl one ↦ elim one [
+        | inl own ↦ false≢true (sym lacking.0 ∙ own.0 unveil (lit< tt, refl) holding)
+        | inr later ↦ false≢true (sym lacking.1 ∙ later.0 unveil (lit< tt, refl) holding)
+      ]
+      | inr none ↦ false≢true (sym lacking.0 ∙ none.0 unveil (lit< tt, refl) holding)
     ]))
   ]
 
-  no_unveil : (h : History) → Along h → may_any h (unveil ∷ []) ≡ Yes → is_locked h ≡ false → ⊥
+  no_unveil : (h : History) → Goes h → may_any h (unveil ∷ []) ≡ Yes → is_locked h ≡ false → ⊥
   no_unveil h k may unlocked = elim (lacks_unveil h k) [
     | inl locked ↦ true≢false (sym locked ∙ unlocked)
     | inr lacking ↦ false≢true (sym (ap (λ b. b || false) lacking) ∙ may_holds h (unveil ∷ []) may)
   ]
 
-  module _ (w : World) (h : History) (k : Along h) where
-    -- a change leaves its process such a history
-    abbrev Kept : Change → Type 0
-    Kept (AddEvent event) = Along (event ∷ h)
-    Kept (BeginProgram left) = Along (after_exec left h)
-    Kept _ = Unit {0}
+  keeps_along : Keeps table Along
+  keeps_along = record {
+    more = along_more;
+    program = λ h k may. started_by_one h (goes h k) k.promises may;
+    veils = λ h k. no_unveil h (goes h k);
+  }
 
-    kept_call : (c : Call) (x : Found) → may_any h (rule_of table c).alternatives ≡ Yes → Kept (change_by table c x)
-    kept_call call.Create x may = by_placing Kept tt _ (spot_named x) (node_named x) (λ s is. tt)
-    kept_call call.Mkdir x may = by_placing Kept tt _ (spot_named x) (node_named x) (λ s is. tt)
-    kept_call call.Rmdir x may = by_cutting Kept tt (spot_named x) (node_named x) (λ s is. tt)
-    kept_call call.Unlink x may = by_cutting Kept tt (spot_named x) (node_named x) (λ s is. tt)
-    kept_call call.Chdir x may = by_going Kept tt x (λ dir. along_more (Moved dir) h refl k)
-    kept_call call.Exec x may = along_program h k may
-    kept_call _ x may = tt
-
-    kept_by : (action : Action) (c : Change) → IsDecided table w.tree h action c → Kept c
-    kept_by (OnPath asked path) c d = subst Kept (sym d.2) (kept_call asked d.0 d.1.promised)
-    kept_by (Symlink target path) c d =
-        subst Kept (sym d.3) (by_placing Kept tt (link_node target) (spot_named d.0) (node_named d.0) (λ s is. tt))
-    kept_by (Rename old new) c d = by_moves Kept tt w.tree d.old d.new d.node c d.moves (λ s r is is_new. tt)
-    kept_by (Link old new) c d = subst Kept (sym d.is) (by_tying Kept tt d.node (spot_named d.new) (λ s is. tt))
-    kept_by (Pledge p x) c d = subst Kept (sym d.is) (along_more _ h refl k)
-    kept_by (Unveil path perms) c d = absurd (no_unveil h k d.promised d.unlocked)
-    kept_by Lock c d = subst Kept (sym d.1) (along_more Locked h refl k)
-    kept_by (Fork new) c d = subst Kept (sym d.1) tt
-    kept_by Exit c d = subst Kept (sym d) (along_more Ended h refl k)
-
-    by_edited : (r : Result (ℕ × Tree) TreeFault) → Along (history_left h (edit_effect h r))
-    by_edited (Ok result) = k
-    by_edited (Err fault) = k
-
-    by_edited_tree : (r : Result Tree TreeFault) → Along (history_left h (edited_tree h r))
-    by_edited_tree (Ok result) = k
-    by_edited_tree (Err fault) = k
-
-    kept_made : (c : Change) → Kept c → Along (history_left h (change_effect w h c))
-    kept_made NoChange kept = k
-    kept_made (AddNode s node) kept = by_edited (add w.tree s.0 s.1 node)
-    kept_made (CutRow s) kept = by_edited (cut w.tree s.0 s.1)
-    kept_made (ShiftRow s r) kept = by_edited_tree (shift w.tree s.0 s.1 r.0 r.1)
-    kept_made (TieRow s x) kept = by_edited_tree (tie w.tree s.0 s.1 x)
-    kept_made (BeginProgram left) kept = kept
-    kept_made (AddEvent event) kept = kept
-    kept_made (CopyAs new) kept = by (is_some (history_of w new) || nat_le most_processes (length w.histories))
-      where
-        by : (full : Bool) → Along (history_left h (cond full (Fails EAGAIN) (Copies new)))
-        by true = k
-        by false = k
-
-    kept_decided : (action : Action) → Along (history_left h (come_of w h (decide table w.tree h action)))
-    kept_decided action = by_decision w h (λ e. Along (history_left h e)) (decide table w.tree h action) refusing
-        (λ c decided. kept_made c (kept_by action c (decisions_are_guarded table w.tree h action c decided)))
-      where
-        refusing : (r : Refusal) → Along (history_left h (refusal_effect r))
-        refusing (Failed errno) = k
-        refusing Killed = along_more Ended h refl k
+  keeps_going : Keeps table Goes
+  keeps_going = record { more = goes_more; program = goes_program; veils = no_unveil }
 
   -- the members
-  is_okay_only : (a : Answer) → is_okay a ≡ true → a ≡ Okay
-  is_okay_only Okay e = refl
-  is_okay_only (IsFailed errno) e = absurd (false≢true e)
-  is_okay_only IsKilled e = absurd (false≢true e)
-  is_okay_only Gone e = absurd (false≢true e)
+  pub own : (w : World) (ask : Asked) (members : List ℕ) → GoAlong table w now given members → is_member members ask.process ≡ true →
+      HasHistoryOf (apply table w ask).1 ask.process Goes
+  own w ask members are = own_kept table Goes keeps_going w ask members are
 
-  child_or_old : (action : Action) (members : List ℕ) (m : ℕ) (P : Type 0) → is_member (with_child action members) m ≡ true
-      → (is_member members m ≡ true → P) → ((new : ℕ) → action ≡ Fork new → new ≡ m → P) → P
-  child_or_old (Fork new) members m P belongs old child = by (new == m) refl belongs
-    where
-      by : (b : Bool) → (new == m) ≡ b → (b || is_member members m) ≡ true → P
-      by true e belongs = child new refl (eqb-true new m e)
-      by false e belongs = old belongs
-  child_or_old _ members m P belongs old child = old belongs
-
-  module _ (w : World) (ask : Asked) (members : List ℕ) (are : GoAlong table w now given members) where
-    abbrev then : World
-    then = (apply table w ask).1
-
-    -- what an effect leaves the one that asked
-    left : (h : History) (e : Effect) → Along (history_left h e) → Along h → history_of w ask.process ≡ Some h →
-        HasHistoryOf (left_by w ask.process h e) ask.process (IsAlong table now given)
-    left h (Fails errno) after k here = (h, here, k)
-    left h Kills after k here =
-        (Ended ∷ h, put_here nat_cmp nat_cmp_total nat_cmp-IsAntisymmetric ask.process (Ended ∷ h) w.histories, after)
-    left h (Leaves u g) after k here = (g, put_here nat_cmp nat_cmp_total nat_cmp-IsAntisymmetric ask.process g w.histories, after)
-    left h (Copies new) after k here = (h, by, k)
-      where
-        by : find_key nat_cmp ask.process (put nat_cmp new h w.histories) ≡ Some h
-        by = elim (same_or_other nat_cmp nat_cmp_total nat_cmp-IsAntisymmetric ask.process new) [
-          | inl same ↦ ap (λ p. find_key nat_cmp p (put nat_cmp new h w.histories)) same.0 ∙
-              put_here nat_cmp nat_cmp_total nat_cmp-IsAntisymmetric new h w.histories
-          | inr other ↦ put_elsewhere nat_cmp nat_cmp_total nat_cmp-IsAntisymmetric ask.process new h w.histories other.0 ∙ here
-        ]
-
-    pub own : is_member members ask.process ≡ true → HasHistoryOf then ask.process (IsAlong table now given)
-    own belongs =
-        let before = are ask.process belongs in
-        by_living table w ask before.0 before.1 (λ done. HasHistoryOf done.1 ask.process (IsAlong table now given))
-        (before.0, before.1, before.2)
-        (left before.0 (come_of w before.0 (decide table w.tree before.0 ask.action)) (kept_decided w before.0 before.2 ask.action)
-        before.2 before.1)
-
-    old_member : (m : ℕ) → is_member members m ≡ true → HasHistoryOf then m (IsAlong table now given)
-    old_member m belongs = by (ask.process == m) refl
-      where
-        by : (b : Bool) → (ask.process == m) ≡ b → HasHistoryOf then m (IsAlong table now given)
-        by true e =
-            let is : ask.process ≡ m = eqb-true ask.process m e in
-            subst (λ p. HasHistoryOf then p (IsAlong table now given)) is (own (ap (is_member members) is ∙ belongs))
-        by false e =
-            let before = are m belongs in
-            (before.0, others_leave table w ask m before.0 before.1 (λ same. false≢true (sym e ∙ eq-eqb ask.process m same)), before.2)
-
-    child : (new : ℕ) → ask.action ≡ Fork new → is_member members ask.process ≡ true → is_okay (apply table w ask).0 ≡ true →
-        HasHistoryOf then new (IsAlong table now given)
-    child new forks belongs okay =
-        let before = are ask.process belongs in
-        let same : (record { process = ask.process; action = Fork new }) ≡ ask =
-        λ i. record { process = ask.process; action = sym forks i } in
-        let copied = forks_copy table w ask.process new before.0 before.1 (ap (λ a. (apply table w a).0) same ∙
-        is_okay_only (apply table w ask).0 okay) in
-        (before.0, sym (ap (λ a. history_of (apply table w a).1 new) same) ∙ copied, before.2)
-
-    pub along_then : GoAlong table then now given (family_then table w ask members)
-    along_then m = by (is_member members ask.process) (is_okay (apply table w ask).0) refl refl
-      where
-        by : (a b : Bool) → is_member members ask.process ≡ a → is_okay (apply table w ask).0 ≡ b →
-            is_member (cond (a && b) (with_child ask.action members) members) m ≡ true →
-            HasHistoryOf then m (IsAlong table now given)
-        by false b asks told belongs = old_member m belongs
-        by true false asks told belongs = old_member m belongs
-        by true true asks told belongs =
-            child_or_old ask.action members m (HasHistoryOf then m (IsAlong table now given)) belongs (old_member m)
-            (λ new forks is. subst (λ n. HasHistoryOf then n (IsAlong table now given)) is (child new forks asks told))
+  pub along_then : (w : World) (ask : Asked) (members : List ℕ) → GoAlong table w now given members →
+      GoAlong table (apply table w ask).1 now given (family_then table w ask members)
+  along_then w ask members are = then_kept table Goes keeps_going w ask members are
 
   pub along_after : (asks : List Asked) (w : World) (members : List ℕ) → GoAlong table w now given members →
       GoAlong table (world_after table w asks) now given (family table w asks members)
-  along_after [] w members are = are
-  along_after (ask ∷ asks) w members are =
-      along_after asks (apply table w ask).1 (family_then table w ask members) (along_then w ask members are)
+  along_after asks w members are = after_kept table Goes keeps_going asks w members are
 
   -- at the beginning the process is the only member
-  pub along_now : held_for_exec now ≡ Some given → is_confined_through now given ≡ true → IsAlong table now given now
+  pub along_now : held_for_exec now ≡ Some given → is_confined_through now given ≡ true → Along now
   along_now set confined = record {
     unveils = refl;
-    lock = lock (is_locked now) (holds (held_set now) unveil) (holds given unveil) refl refl refl confined;
+    lock = lock_parts (is_locked now) (holds (held_set now) unveil) (holds given unveil) refl refl refl confined;
     ended = λ lives. lives;
     promises = inl (λ set fine holding. holding, record { left = given; set = set; within = λ set fine holding. holding });
   }
-    where
-      lock : (a b c : Bool) → is_locked now ≡ a → holds (held_set now) unveil ≡ b → holds given unveil ≡ c →
-          (a || (not b && not c)) ≡ true →
-          (is_locked now ≡ true) ⊎ ((holds (held_set now) unveil ≡ false) × (holds given unveil ≡ false))
-      lock true b c locked lacks lacks_too e = inl locked
-      lock false false false locked lacks lacks_too e = inr (lacks, lacks_too)
-      lock false true c locked lacks lacks_too e = absurd (false≢true e)
-      lock false false true locked lacks lacks_too e = absurd (false≢true e)
 
   pub along_first : (w : World) (process : ℕ) → history_of w process ≡ Some now → held_for_exec now ≡ Some given →
       is_confined_through now given ≡ true → GoAlong table w now given (process ∷ [])
-  along_first w process here set confined m belongs =
-      let is : process ≡ m = eqb-true process m (alone (process == m) belongs) in
-      (now, sym (ap (history_of w) is) ∙ here, along_now set confined)
-    where
-      alone : (b : Bool) → (b || false) ≡ true → b ≡ true
-      alone true e = refl
-      alone false e = e
+  along_first w process here set confined = alone_are Goes w process now here (goes now (along_now set confined))
+
+  pub family_along : (asks : List Asked) (w : World) (process : ℕ) → history_of w process ≡ Some now → held_for_exec now ≡ Some given →
+      is_confined_through now given ≡ true → Are Along (world_after table w asks) (family table w asks (process ∷ []))
+  family_along asks w process here set confined =
+      after_kept table Along keeps_along asks w (process ∷ []) (alone_are Along w process now here (along_now set confined))
 
 -- what the bound says of the execpromises
 pub record Bound (table : CallTable) (now : History) (given : ℕ) : Type 0 where
@@ -381,5 +291,4 @@ bound_parts table now given bound = by (held_for_exec now) refl
 pub families_go_along : FamiliesGoAlong
 families_go_along table sound w asks process now given here bound =
     let parts = bound_parts table now given bound in
-    along_after table sound now given parts.bounded asks w (process ∷ [])
-    (along_first table sound now given parts.bounded w process here parts.set parts.confined)
+    family_along table sound now given parts.bounded asks w process here parts.set parts.confined

@@ -23,7 +23,7 @@ use Rattle.pua_ever.specs.Through.{is_promised_by, is_promised_by_one, can_come,
 use Rattle.pua_ever.specs.Through.{is_confined_through, EverLastsAfterRead, NowWithinLasting}
 use Rattle.pua_ever.proofs.Now.{now_within_ever}
 use Rattle.pua_ever.proofs.Standing.{kept_after, replays_keep_places, new_places}
-use Rattle.pua_ever.proofs.Holding.{along_now, may_holds}
+use Rattle.pua_ever.proofs.Holding.{goes, along_now, may_holds}
 use Rattle.pua_ever.proofs.Through.{within_both, ever_lasts}
 
 pub ever_lasts_after_read : EverLastsAfterRead
@@ -159,7 +159,7 @@ now_within_lasting t table sound h well line there = by (held_for_exec h) refl
     chosen given set false true true bounded confined = plain
     chosen given set true true true bounded confined =
         within_through t well table sound h given
-        (within_both h given table sound bounded h (along_now table sound h given bounded set confined)) line (among_contained _ line there)
+        (within_both h given table sound bounded h (goes table sound h given bounded h (along_now table sound h given bounded set confined))) line (among_contained _ line there)
 
     by : (o : Option ℕ) → held_for_exec h ≡ o → IsWithinLines (ever_lasting t table h) line
     by None set = rw set plain

@@ -28,10 +28,12 @@ pub mod Refused
 pub mod Lined
 pub mod Prospected
 pub mod Named
+pub mod Keeping
 pub mod Holding
 pub mod Through
 pub mod Narrowed
 pub mod Lasts
+pub mod Together
 pub mod Chosen
 pub mod ForCallers
 pub mod RowsTell

@@ -7,20 +7,21 @@ use Rattle.pua_script.specs.Confinement.{TakingNeedsC}
 use Rattle.pua_script.proofs.ForCallers.{each_spares, spared_twice, by_other}
 use Rattle.pua_ever.specs.Laws.{MembersEdit}
 use Rattle.pua_ever.specs.Through.{FamiliesNarrowThrough, FamiliesConfineThrough, GoAlong, is_bounded}
-use Rattle.pua_ever.proofs.Holding.{along_first, along_then, bound_parts, families_go_along}
+use Rattle.pua_ever.proofs.Holding.{goes, along_first, along_then, bound_parts, families_go_along}
 use Rattle.pua_ever.proofs.Through.{within_both, promised_by_one}
 
 pub families_narrow_through : FamiliesNarrowThrough
 families_narrow_through table sound w asks process now given here bound member belongs =
     let parts = bound_parts table now given bound in
-    let last = families_go_along table sound w asks process now given here bound member belongs in (
+    let last = families_go_along table sound w asks process now given here bound member belongs in
+    let along = goes table sound now given parts.bounded last.0 last.2 in (
       last.0,
       last.1,
       λ t c named e. (
         allowed_is (verdict_of t table (with_both now given) c named)
-            (verdicts_within (with_both now given) last.0 (within_both now given table sound parts.bounded last.0 last.2) table sound t c named
+            (verdicts_within (with_both now given) last.0 (within_both now given table sound parts.bounded last.0 along) table sound t c named
             (ap is_allowed e)),
-        promised_by_one table sound now given last.0 last.2 t c named e,
+        promised_by_one table sound now given last.0 along t c named e,
       ),
     )
 

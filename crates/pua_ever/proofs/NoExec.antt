@@ -91,7 +91,7 @@ module _ (table : CallTable) (sound : NoCallNeedsError table) (needs : EditsNeed
       by true edits = inl edits
       by false lacks = inr (unedited table w ask h here (still_unable table sound now h within lacks) ∙ same)
 
-  none_along : (asks : List Asked) (w : World) (members : List ℕ) → Members w members now false → MembersEdit table w asks members →
+  pub none_along : (asks : List Asked) (w : World) (members : List ℕ) → Members w members now false → MembersEdit table w asks members →
       TreesAlong table w asks → Stays table t0 now well0 stand w.tree → (may_edit table now ≡ true) ⊎ (w.tree ≡ t0) →
       none_done is_exec table w asks members ≡ true
   none_along [] w members are edits trees k edit = refl

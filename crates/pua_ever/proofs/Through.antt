@@ -33,7 +33,7 @@ use Rattle.pua_ever.specs.Laws.{IsForeseen, IsForeseenIn, IsStartForeseen, IsSta
 use Rattle.pua_ever.specs.Laws.{of_row, of_name, of_others, of_new_dir, of_new_file, of_new_link, of_new_others, MembersEdit, NoExecLoosens}
 use Rattle.pua_ever.specs.Laws.{NoLineHasExec}
 use Rattle.pua_ever.specs.Through.{is_promised_by, is_promised_by_one, can_come, let_through, ever_through, has_exec}
-use Rattle.pua_ever.specs.Through.{is_bounded, IsAlong, GoAlong, EverThroughExecs, StartsThroughExecs, EverLasts}
+use Rattle.pua_ever.specs.Through.{is_bounded, AreWithin, GoesAlong, GoAlong, EverThroughExecs, StartsThroughExecs, EverLasts}
 use Rattle.pua_ever.proofs.Grown.{Grown, new_kind}
 use Rattle.pua_ever.proofs.Covers.{living_dir, below_next}
 use Rattle.pua_ever.proofs.Growing.{requests_grow}
@@ -41,18 +41,18 @@ use Rattle.pua_ever.proofs.Standing.{kept_after}
 use Rattle.pua_ever.proofs.Complete.{complete_within, starts_within, beside_one}
 use Rattle.pua_ever.proofs.NoExec.{without_exec_beside}
 use Rattle.pua_ever.proofs.Ways.{any_among}
-use Rattle.pua_ever.proofs.Holding.{unveils_kept, any_within, may_holds, lacks_unveil, own, along_then, along_after, along_now, along_first}
+use Rattle.pua_ever.proofs.Holding.{unveils_kept, any_within, may_holds, goes, lacks_unveil, own, along_then, along_after, along_now, along_first}
 use Rattle.pua_ever.proofs.Holding.{bound_parts}
 
 -- both sets hold what the one holds, and what the other holds
-first_of : (a b : ℕ) → holds (bit_or a b) a ≡ true
+pub first_of : (a b : ℕ) → holds (bit_or a b) a ≡ true
 first_of a b = eq-eqb _ _ (same_from_bits _ _ (λ i.
     bit_at_and (bit_or a b) a i ∙ ap (λ x. min x (bit_at a i)) (bit_at_or a b i) ∙ least (bit_at a i) (bit_at b i)))
   where
     least : (x y : ℕ) → min (max x y) x ≡ x
     least x y = omega arith
 
-second_of : (a b : ℕ) → holds (bit_or a b) b ≡ true
+pub second_of : (a b : ℕ) → holds (bit_or a b) b ≡ true
 second_of a b = eq-eqb _ _ (same_from_bits _ _ (λ i.
     bit_at_and (bit_or a b) b i ∙ ap (λ x. min x (bit_at b i)) (bit_at_or a b i) ∙ least (bit_at a i) (bit_at b i)))
   where
@@ -63,18 +63,24 @@ module _ (now : History) (given : ℕ) where
   abbrev wide : History
   wide = with_both now given
 
-  held_both : held_set wide ≡ bit_or (held_set now) given
+  pub held_both : held_set wide ≡ bit_or (held_set now) given
   held_both = ap (λ l. unwrap_or (Some (meet (bit_or (held_set now) given) (common l))) (all_promises - error)) (no_promises now)
 
-  -- who is along is within who holds both
+  by_first : (set : ℕ) → holds (held_set now) set ≡ true → holds (bit_or (held_set now) given) set ≡ true
+  by_first set holding = holds_through (bit_or (held_set now) given) (held_set now) set (first_of (held_set now) given) holding
+
+  -- who goes along is within who holds both
   pub within_both : (table : CallTable) (sound : NoCallNeedsError table) (bounded : is_bounded table given ≡ true) (h : History) →
-      IsAlong table now given h → IsWithin wide h
+      GoesAlong table now given h → IsWithin wide h
   within_both table sound bounded h k = record {
     tightens = record {
       unveils = k.unveils ∙ sym (unveils_kept now);
       promises = λ set fine holding. ap (λ s. holds s set) held_both ∙ elim k.promises [
-        | inl own ↦ holds_through (bit_or (held_set now) given) (held_set now) set (first_of (held_set now) given) (own.0 set fine holding)
-        | inr later ↦ holds_through (bit_or (held_set now) given) given set (second_of (held_set now) given) (later.0 set fine holding)
+        | inl one ↦ elim one [
+          | inl own ↦ by_first set (own.0 set fine holding)
+          | inr later ↦ holds_through (bit_or (held_set now) given) given set (second_of (held_set now) given) (later.0 set fine holding)
+        ]
+        | inr none ↦ by_first set (none.0 set fine holding)
       ];
       confined = lacks_unveil table sound now given bounded h k;
     };
@@ -102,15 +108,19 @@ last_tree table w (ask ∷ asks) trees = last_tree table (apply table w ask).1 a
 
 module _ (table : CallTable) (sound : NoCallNeedsError table) (now : History) (given : ℕ) where
   -- a call that is allowed is promised by one of the two sets
-  one_of : (h : History) → IsAlong table now given h → (c : Call) → may_any h (rule_of table c).alternatives ≡ Yes →
+  one_of : (h : History) → GoesAlong table now given h → (c : Call) → may_any h (rule_of table c).alternatives ≡ Yes →
       is_promised_by_one table now given c ≡ true
   one_of h k c may =
       let some = may_holds h (rule_of table c).alternatives may in
+      let by_held = λ (within : AreWithin (held_set h) (held_set now)). or_left (is_promised_by table (held_set now) c) _
+      (any_within (held_set h) (held_set now) within (rule_of table c).alternatives (sound.calls c) some) in
       elim k.promises [
-        | inl own ↦ or_left (is_promised_by table (held_set now) c) _
-            (any_within (held_set h) (held_set now) own.0 (rule_of table c).alternatives (sound.calls c) some)
-        | inr later ↦ or_right (is_promised_by table (held_set now) c) _
-            (any_within (held_set h) given later.0 (rule_of table c).alternatives (sound.calls c) some)
+        | inl one ↦ elim one [
+          | inl own ↦ by_held own.0
+          | inr later ↦ or_right (is_promised_by table (held_set now) c) _
+              (any_within (held_set h) given later.0 (rule_of table c).alternatives (sound.calls c) some)
+        ]
+        | inr none ↦ by_held none.0
       ]
 
   yes : (m : May) (v : Verdict) → is_allowed (if_promised m v) ≡ true → m ≡ Yes
@@ -118,7 +128,7 @@ module _ (table : CallTable) (sound : NoCallNeedsError table) (now : History) (g
   yes Enosys v e = cc
   yes Death v e = cc
 
-  pub promised_by_one : (h : History) → IsAlong table now given h → (t : Tree) (c : Call) (r : Result Found Errno) →
+  pub promised_by_one : (h : History) → GoesAlong table now given h → (t : Tree) (c : Call) (r : Result Found Errno) →
       verdict_of t table h c r ≡ Allowed → is_promised_by_one table now given c ≡ true
   promised_by_one h k t c r e = one_of h k c (promised r e)
     where
@@ -160,7 +170,7 @@ module _ (table : CallTable) (sound : NoCallNeedsError table) (needs : EditsNeed
     made_first : MadeByOne t0
     made_first x from lives = let below = below_next t0 now well0 x lives in absurd (omega arith)
 
-    made_then : (t u : Tree) (h : History) → IsAlong table now given h → Grown table t h u → MadeByOne t → MadeByOne u
+    made_then : (t u : Tree) (h : History) → GoesAlong table now given h → Grown table t h u → MadeByOne t → MadeByOne u
     made_then t u h k grown made x from lives = elim (grown.nodes x lives) [
       | inl same ↦ (let before = made x from (ap is_some (sym same) ∙ lives) in
           (before.0, ap (option_map (λ n. n.kind)) same ∙ before.1, before.2))
@@ -292,7 +302,7 @@ module _ (table : CallTable) (sound : NoCallNeedsError table) (needs : EditsNeed
     abbrev after : Tree
     after = (world_after table w asks).tree
 
-    last : HasHistoryOf (world_after table w asks) member (IsAlong table now given)
+    last : HasHistoryOf (world_after table w asks) member (GoesAlong table now given)
     last = along_after table sound now given bounded asks w members are member belongs
 
     well_after : WellFormed after
@@ -373,7 +383,7 @@ ever_lasts table sound needs w asks process now given here bound stand trees edi
         (along_first table sound now given parts.bounded w process here parts.set parts.confined) edits member belongs
     by false is =
         let parts = bound_parts table now given bound in
-        let was = lacks_unveil table sound now given parts.bounded now
-        (along_now table sound now given parts.bounded parts.set parts.confined) in
+        let was = lacks_unveil table sound now given parts.bounded now (goes table sound now given parts.bounded now
+        (along_now table sound now given parts.bounded parts.set parts.confined)) in
         let none = without_exec_beside table sound needs w asks process now here was stand trees edits (no_line w.tree table now is) in
         beside_one table sound needs w asks process now here was stand trees none edits member belongs

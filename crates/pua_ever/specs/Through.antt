@@ -128,11 +128,18 @@ FamiliesGoAlong =
     (member : ℕ) → IsTrue (is_member (family table w asks (process ∷ [])) member) →
     HasHistoryOf (world_after table w asks) member (IsAlong table now given)
 
--- several processes that act together, each of which is along already: such are a process and those that it forked and
+-- the same of one that may also hold what the process held and hand down anything, if it can start nothing
+pub record GoesAlong (table : CallTable) (now : History) (given : ℕ) (h : History) : Type 0 where
+  pub unveils : filter is_unveil h ≡ filter is_unveil now
+  pub lock : IsTrue (is_locked h) ⊎ (IsFalse (holds (held_set now) unveil) × IsFalse (holds given unveil))
+  pub ended : is_ended h ≡ false → is_ended now ≡ false
+  pub promises : HoldsOne table now given h ⊎ (AreWithin (held_set h) (held_set now) × IsFalse (is_promised_by table (held_set h) call.Exec))
+
+-- several processes that act together, each of which goes along already: such are a process and those that it forked and
 -- started before now, if none has put a veil since
 abbrev pub GoAlong : CallTable → World → History → ℕ → List ℕ → Type 0
 GoAlong table w now given members =
-    (member : ℕ) → IsTrue (is_member members member) → HasHistoryOf w member (IsAlong table now given)
+    (member : ℕ) → IsTrue (is_member members member) → HasHistoryOf w member (GoesAlong table now given)
 
 -- over any tree what is allowed to a member then is allowed to who holds both sets, and one of the two lets it through
 abbrev pub FamiliesNarrowThrough : Type 0

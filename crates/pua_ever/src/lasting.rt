@@ -81,7 +81,7 @@ fn is_confined(process: &Process, given: Promises) -> bool
 }
 
 /// Whether a set of promises lets a call through.
-fn is_promised(table: &CallTable, set: Promises, call: Call) -> bool
+pub(crate) fn is_promised(table: &CallTable, set: Promises, call: Call) -> bool
     ensures { result ≡ is_promised_by table.now set call }
 {
     table

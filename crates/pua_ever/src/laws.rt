@@ -10,6 +10,8 @@ ghost use Rattle.pua_ever.specs.Through.{EverLasts, EverLastsAfterRead, EverThro
 ghost use Rattle.pua_ever.specs.Through.{FamiliesConfineThrough, FamiliesGoAlong};
 ghost use Rattle.pua_ever.specs.Through.{FamiliesNarrowThrough, NowWithinLasting, StartsThroughExecs};
 ghost use Rattle.pua_ever.specs.ThroughExamples.{ThroughRows};
+ghost use Rattle.pua_ever.specs.Together.{EverTogether, TogetherAfterRead, TogetherLasts};
+ghost use Rattle.pua_ever.specs.TogetherExamples.{TogetherRows};
 
 /// Whatever a process that can put no veil any more and what it forks ask for, as long as nobody else
 /// changes the tree and no exec of theirs succeeds: if a call of one of them is then allowed on what a path
@@ -82,4 +84,20 @@ pub fn through_law()
 #[tactic(auto, using(crate::specs::ThroughExamples::through_rows))]
 pub fn through_examples()
     ensures { ThroughRows }
+{}
+
+/// Several processes that put the same unveils, and can put no more: whatever they and what they fork ask
+/// for, as long as nobody else changes the tree and no exec of theirs succeeds, each call that is then
+/// allowed to one of them has its line in the list of the one that stands for all of them. So it is through
+/// execs, where all that they start is bounded, and behind a listing and a script as a command reads them.
+pub fn together_law()
+    ensures together { EverTogether }
+    ensures lasts { TogetherLasts }
+    ensures read { TogetherAfterRead }
+{}
+
+/// Examples of what several processes can ever touch together.
+#[tactic(auto, using(crate::specs::TogetherExamples::together_rows))]
+pub fn together_examples()
+    ensures { TogetherRows }
 {}
