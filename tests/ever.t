@@ -2,9 +2,9 @@
 # Tests of `pua objects --ever` over random worlds by a fixed seed: perl tests/ever.t [PROGRAM]
 # In each world process 1 can put no veil any more. What it can touch now lies within what it can ever touch; and so
 # does what it and what it forks can touch behind random requests of theirs: short of an exec that succeeds where what
-# is started isn't bounded, and else whatever is started. Things
-# are followed through renames by a model (Model.pm) of which the same is requested. The list for ever is that of a
-# plain model, too (EverModel.pm), so it isn't too long; and what can have no such list is refused.
+# is started isn't bounded, and else whatever is started, so that a future goes on. Things are followed through renames
+# by a model (Model.pm) of which the same is requested. The list for ever is that of a plain model, too (EverModel.pm),
+# so it isn't too long; and what can have no such list is refused.
 use strict;
 use warnings;
 use FindBin qw($Bin);
@@ -52,7 +52,7 @@ my @RULES = qw(profile profile openbsd table);
 my @NEED_C = qw(rmdir unlink create mkdir symlink);
 
 my $worlds = Worlds->new($SEED);
-my %counts = map { $_ => 0 } qw(lists answers calls met execs bounded tries plays);
+my %counts = map { $_ => 0 } qw(lists answers calls met execs bounded started tries plays);
 
 for my $number (1 .. $WORLDS) {
     my $world = world($number);
@@ -63,26 +63,32 @@ for my $number (1 .. $WORLDS) {
     ok(!$world->{stray}, "world $number: no exec succeeds where it has none");
 }
 note("$counts{lists} lists and $counts{answers} answers in $counts{plays} futures within lists for ever, of which ",
-    "$counts{met} calls of $counts{calls} were met; $counts{execs} futures ended by an exec, $counts{bounded} execs ",
-    'were bounded, and ',
-    "$counts{tries} failed where the list has none");
+    "$counts{met} calls of $counts{calls} were met; $counts{execs} futures ended by an exec, $counts{started} went on ",
+    "through $counts{bounded} that were bounded, and $counts{tries} failed where the list has none");
 refusals();
 done_testing();
 
 # A world with its lists: one in which, by the model, process 1 lives and can put no veil any more. In three of four
-# it can edit the tree.
+# it can edit the tree, and in every fifth it can start something, and what is started is bounded.
 sub world {
     my ($number) = @_;
     while (1) {
         my $world = drawn($RULES[ $number % @RULES ]);
         next if $world->{model}->state(1) !~ /^unveil (?:locked|given-up)$/m;
-        next if $number % 4 && !grep { / new / } EverModel::lines($world->{model}, 1);
+        next if $number % 4 && !grep { / new / } EverModel::lasting($world->{model}, 1);
+        next if $number % 5 == 0 && !is_started($world->{model});
         $world->{lists}    = lists_of(asked($world, 'objects', '--process', 'all'))->{lists};
         $world->{now}      = $world->{lists}{1};
         $world->{ever}     = ever_of($world, 1);
         $world->{foreseen} = Foreseen->new($world->{model}, $world->{ever});
         return $world;
     }
+}
+
+# Whether process 1 can start something now, and all that it starts is bounded.
+sub is_started {
+    my ($model) = @_;
+    return EverModel::bound($model, 1) && grep { /^prog .*exec/ } EverModel::lines($model, 1);
 }
 
 # The list for ever of a process, which is asked for once.
@@ -293,8 +299,11 @@ sub beyond_okay {
 sub note_exec {
     my ($world, $play) = @_;
     $world->{stray} = 1 if !$world->{foreseen}->every->{exec};
-    $counts{ is_bounded($world) ? 'bounded' : 'execs' }++;
+    $counts{execs}++ if !is_bounded($world);
     $play->{has_exec} = 1 if !is_bounded($world);
+    return if !is_bounded($world);
+    $counts{bounded}++;
+    $counts{started}++ if !$play->{goes_on}++;
     return;
 }
 

@@ -1,6 +1,5 @@
 # A plain model of the list for ever, written from "All that can ever be touched" and "The same through execs" in
-# docs/DEFINITIONS.md. It asks a
-# world of Model.pm. A cover is a text of letters, or undef where no veil covers.
+# docs/DEFINITIONS.md. It asks a world of Model.pm. A cover is a text of letters, or undef where no veil covers.
 package EverModel;
 use strict;
 use warnings;
@@ -54,7 +53,7 @@ sub bound {
     my $process = $model->{processes}{$number};
     return if !$process->{execpromises};
     my $started = { promises => $process->{execpromises} };
-    return if !$model->{openbsd} && _lets($model, $started, 'exec');
+    return if !$model->{openbsd} && lets($model, $started, 'exec');
     return if !$process->{locked} && grep { Model::_holds($_, 'unveil') } $process, $started;
     return $process->{execpromises};
 }
@@ -69,7 +68,7 @@ sub _through {
     my $both = $held && { map { $_ => 1 } grep { $held->{$_} || $given->{$_} } keys %$held, keys %$given };
     my %passes;
     for my $call (@Model::CALLS) {
-        $passes{$call} = grep { _lets($model, $_, $call) } $process, { promises => $given };
+        $passes{$call} = grep { lets($model, $_, $call) } $process, { promises => $given };
     }
     local $model->{processes}{$number} = { %$process, promises => $both, execpromises => undef };
     return map { _let_through($_, \%passes) } lines($model, $number);
@@ -206,10 +205,10 @@ sub _can_link {
 
 # --- Lines ---
 
-sub _promises { return _lets($_[0]{model}, $_[0]{process}, $_[1]) }
+sub _promises { return lets($_[0]{model}, $_[0]{process}, $_[1]) }
 
 # Whether what a process holds lets a call through.
-sub _lets {
+sub lets {
     my ($model, $process, $call) = @_;
     for my $set (@{ $model->{needs}{$call}[0] }) {
         return 1 if !grep { !Model::_holds($process, $_) } split /,/, $set;

@@ -3,6 +3,7 @@
 package Futures;
 use strict;
 use warnings;
+use EverModel;
 use Lists;
 use Things;
 
@@ -33,7 +34,10 @@ sub lines {
     my $calls = Lists::calls_at($list);
     my @rows  = map { { %$_, is_open => Lists::gives_c($calls, $_) } } Things::rows($model);
     local $futures->{rows} = \@rows;
+    local $futures->{model} = $model;
     local $futures->{free} = [ map { $_->{path} } grep { $_->{kind} eq 'missing' } @{ $list->{lines} } ];
+    my @runs = grep { grep { $_ eq 'exec' } @{ $_->{calls} } } @{ $list->{lines} };
+    local $futures->{programs} = [ map { $_->{path} } @runs ];
     return map { $futures->_line($futures->{worlds}->pick(@askers)) } 1 .. $count;
 }
 
@@ -43,10 +47,22 @@ sub _line {
     my $way = $worlds->number(24);
     return $worlds->requests(1, $asker) if $way == 0;
     return "$asker fork " . $futures->{child}++ . "\n" if $way == 1 && $holds->{proc};
-    return "$asker exec " . $futures->_old('prog') . "\n"
+    return "$asker exec " . $futures->_program . "\n"
         if $way == 2 && $holds->{exec} && $worlds->number($futures->{exec_in}) == 0;
+    return "$asker exec " . $futures->_program . "\n" if $way == 3 && $holds->{bounded};
     my $list = $way < 5 || !@{ $futures->{edits} } ? $futures->{looks} : $futures->{edits};
-    return "$asker " . $futures->_request(@$list ? $worlds->pick(@$list) : 'stat') . "\n";
+    my @calls = grep { $futures->_may($asker, $_) } @$list;
+    return "$asker " . $futures->_request(@calls ? $worlds->pick(@calls) : 'stat') . "\n";
+}
+
+# Whether who asks is let through by its promises. Where what is started is bounded, one holds what another lacks, and
+# ends by a call that only the other may do; else all of a family hold the same, as long as none gives up more.
+sub _may {
+    my ($futures, $asker, $call) = @_;
+    return 1 if !$futures->{holds}{bounded};
+    my $model = $futures->{model};
+    my @parts = $call =~ /\A(?:rename|link)\z/ ? ("old name of $call", "new name of $call") : $call;
+    return !grep { !EverModel::lets($model, $model->{processes}{$asker}, $_) } @parts;
 }
 
 sub _request {
@@ -68,6 +84,14 @@ sub _old {
     my @open = grep { $_->{is_open} } $futures->_rows(@kinds);
     return $worlds->path if $worlds->number(12) == 0;
     return @open && $worlds->number(4) ? $worlds->pick(@open)->{path} : $futures->_any(@kinds);
+}
+
+# The path of a program; where what is started is bounded, mostly of one that can be started.
+sub _program {
+    my ($futures) = @_;
+    my ($worlds, @programs) = ($futures->{worlds}, @{ $futures->{programs} });
+    return $futures->_old('prog') if !$futures->{holds}{bounded} || !@programs || $worlds->number(4) == 0;
+    return $worlds->pick(@programs);
 }
 
 # The same, where it need not be one that can be edited.
