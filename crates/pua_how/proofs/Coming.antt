@@ -1,0 +1,218 @@
+-- What no line has never comes, and what has a way has a line.
+use Rattle.std.proofs.Common.{◌≡◌, ℕ, true, false, Bool, List, [], ◌∷◌, ◌++◌, refl, sym, ap, subst, ◌∙◌, cond, Some}
+use Rattle.std.proofs.lemmas.Bool.{and_from, eq-eqb, or_right}
+use Rattle.std.specs.Prelude.{◌&&◌, ◌||◌, ◌==◌, not, Ok, Err, Result, filter}
+use Rattle.std.specs.List.{AllByRecursion}
+use Rattle.pua_tree.specs.Tree.{Tree}
+use Rattle.pua_tree.proofs.ForCallers.{None≢Some}
+use Rattle.pua_path.specs.Resolution.{resolution_of_text}
+use Rattle.pua_path.specs.declared.errno.Errno.{Errno}
+use Rattle.pua_path.specs.declared.found.Found.{Found}
+use Rattle.pua_calls.specs.Calls.{CallTable, ending_of, last_of}
+use Rattle.pua_calls.specs.declared.call.Call.{Call}
+use Rattle.pua_calls.specs.declared.call.Call.TheVariants as call
+use Rattle.pua_policy.specs.History.{History, Pledged, Unveiled, Locked, Moved, Ended, perms_kept, working_dir, same_place}
+use Rattle.pua_policy.specs.Verdict.{is_unveil, or_fault, allowed_unless, if_promised, verdict, verdict_of}
+use Rattle.pua_policy.specs.Verdict.{object_named}
+use Rattle.pua_policy.specs.declared.place.Place.{Place}
+use Rattle.pua_policy.specs.declared.answer.Refusal.TheVariants as refusals
+use Rattle.pua_policy.specs.declared.answer.Verdict.TheVariants.{Allowed}
+use Rattle.pua_script.specs.Requests.{Asked}
+use Rattle.pua_script.specs.Decide.{Change, Decision, decide}
+use Rattle.pua_script.specs.Guards.{IsDecided, OnOne}
+use Rattle.pua_script.specs.Replay.{World, history_of, apply, world_after, answers_to, do_decided}
+use Rattle.pua_script.specs.Family.{family, family_then, none_done, members_alone, is_done, is_member, is_exec, is_okay, with_child, HasHistoryOf}
+use Rattle.pua_script.specs.Tightening.{EndsWithin}
+use Rattle.pua_script.specs.declared.request.Action.{Action}
+use Rattle.pua_script.specs.declared.request.Action.TheVariants.{OnPath, Symlink, Rename, Link, Pledge, Unveil, Lock, Fork, Exit}
+use Rattle.pua_script.specs.declared.answer.Answer.TheVariants.{Okay}
+use Rattle.pua_script.proofs.ForCallers.{by_request, decisions_are_guarded, families_narrow}
+use Rattle.pua_ever.specs.Laws.{EverComplete, Foresees, IsForeseen}
+use Rattle.pua_how.specs.Targets.{is_of}
+use Rattle.pua_how.specs.Ways.{call_of}
+use Rattle.pua_how.specs.Laws.{NeverComes, WaysAreListed}
+use Rattle.pua_how.proofs.Listing.{line_about, same_veils_same}
+
+same_ok : (a b : Found) → ◌≡◌ {A = Result Found Errno} (Ok a) (Ok b) → a ≡ b
+same_ok a b e = cc
+
+same_some : {A : Type 0} (a b : A) → Some a ≡ Some b → a ≡ b
+same_some a b e = cc
+
+-- what is kept is kept by the unveils alone
+kept_by_unveils : (h : History) (at : Place) → perms_kept h at ≡ perms_kept (filter is_unveil h) at
+kept_by_unveils [] at = refl
+kept_by_unveils (Unveiled other perms ∷ h) at = ap (cond (same_place other at) (Some perms)) (kept_by_unveils h at)
+kept_by_unveils (Pledged p e ∷ h) at = kept_by_unveils h at
+kept_by_unveils (Locked ∷ h) at = kept_by_unveils h at
+kept_by_unveils (Moved d ∷ h) at = kept_by_unveils h at
+kept_by_unveils (Ended ∷ h) at = kept_by_unveils h at
+
+same_kept : (a b : History) → filter is_unveil a ≡ filter is_unveil b → (at : Place) → perms_kept a at ≡ perms_kept b at
+same_kept a b e at = kept_by_unveils a at ∙ ap (λ h. perms_kept h at) e ∙ sym (kept_by_unveils b at)
+
+pub never_comes : EverComplete → NeverComes
+never_comes complete table sound needs w asks process now here confined stand trees none alone asked call given unlisted member belongs =
+    let last = complete table sound needs w asks process now here confined stand trees none alone member belongs in (
+      last.0,
+      last.1,
+      λ from text object named same allowed.
+          let u = (world_after table w asks).tree in
+          let foreseen : IsForeseen w.tree table now u call (resolution_of_text u from (ending_of call) text (last_of call)) =
+          last.2 from call text (ap (verdict_of u table last.0 call) named ∙ allowed) in
+          let is : foreseen.object ≡ object = same_ok foreseen.object object (sym foreseen.names ∙ named) in
+          unlisted (record {
+            line = foreseen.line;
+            listed = foreseen.listed;
+            about = line_about w.tree u now asked given foreseen.line.thing foreseen.object foreseen.about
+                (ap (is_of now asked) is ∙ same);
+            allows = foreseen.allows;
+          }),
+    )
+
+-- a request that was answered `ok` was decided
+pub record IsDone (table : CallTable) (w : World) (ask : Asked) : Type 0 where
+  pub history : History
+  pub here : history_of w ask.process ≡ Some history
+  pub change : Change
+  pub decided : decide table w.tree history ask.action ≡ Ok change
+
+done_by : (table : CallTable) (w : World) (ask : Asked) → (apply table w ask).0 ≡ Okay → IsDone table w ask
+done_by table w ask =
+    by_request table w ask (λ done. done.0 ≡ Okay → IsDone table w ask) (λ gone. cc)
+    (λ h here. by h here (decide table w.tree h ask.action) refl)
+  where
+    by : (h : History) → history_of w ask.process ≡ Some h → (d : Decision) → decide table w.tree h ask.action ≡ d →
+        (do_decided w ask.process h d).0 ≡ Okay → IsDone table w ask
+    by h here (Ok change) is told = record { history = h; here = here; change = change; decided = is }
+    by h here (Err (refusals.Failed errno)) is told = cc
+    by h here (Err refusals.Killed) is told = cc
+
+-- so a call on what a path names was allowed on it
+pub record IsAllowedOn (table : CallTable) (t : Tree) (h : History) (call : Call) (text : List ℕ) : Type 0 where
+  pub object : Found
+  pub named : object_named t h call text ≡ Ok object
+  pub allowed : verdict t table h call object ≡ Allowed
+
+on_one : (table : CallTable) (t : Tree) (h : History) (call : Call) (text : List ℕ) (object : Found) →
+    OnOne table t h call text object → IsAllowedOn table t h call text
+on_one table t h call text object one = record {
+  object = object;
+  named = one.found;
+  allowed = λ i. if_promised (one.promised i) (allowed_unless (or_fault (one.covered i) (one.fitting i)));
+}
+
+allowed_on : (table : CallTable) (t : Tree) (h : History) (action : Action) (change : Change) (asked : Call) (text : List ℕ) →
+    IsDecided table t h action change → call_of action ≡ Some (asked, text) → IsAllowedOn table t h asked text
+allowed_on table t h (OnPath other path) _ asked text decided e =
+    subst (λ (two : Call × List ℕ). IsAllowedOn table t h two.0 two.1) (same_some (other, path) (asked, text) e)
+    (on_one table t h other path decided.0 decided.1)
+allowed_on table t h (Symlink target path) _ asked text decided e =
+    subst (λ (two : Call × List ℕ). IsAllowedOn table t h two.0 two.1) (same_some (call.Symlink, path) (asked, text) e)
+    (on_one table t h call.Symlink path decided.0 decided.1)
+allowed_on table t h (Rename old new) _ asked text decided e = absurd (None≢Some (asked, text) e)
+allowed_on table t h (Link old new) _ asked text decided e = absurd (None≢Some (asked, text) e)
+allowed_on table t h (Pledge promises execpromises) _ asked text decided e = absurd (None≢Some (asked, text) e)
+allowed_on table t h (Unveil path perms) _ asked text decided e = absurd (None≢Some (asked, text) e)
+allowed_on table t h Lock _ asked text decided e = absurd (None≢Some (asked, text) e)
+allowed_on table t h (Fork new) _ asked text decided e = absurd (None≢Some (asked, text) e)
+allowed_on table t h Exit _ asked text decided e = absurd (None≢Some (asked, text) e)
+
+-- requests of one process alone are of its family, and do what it does
+module _ (table : CallTable) (process : ℕ) where
+  child_more : (action : Action) (members : List ℕ) → is_member members process ≡ true → is_member (with_child action members) process ≡ true
+  child_more (Fork new) members e = or_right (new == process) (is_member members process) e
+  child_more (OnPath call path) members e = e
+  child_more (Symlink target path) members e = e
+  child_more (Rename old new) members e = e
+  child_more (Link old new) members e = e
+  child_more (Pledge promises execpromises) members e = e
+  child_more (Unveil path perms) members e = e
+  child_more Lock members e = e
+  child_more Exit members e = e
+
+  then_member : (w : World) (ask : Asked) (members : List ℕ) → is_member members process ≡ true →
+      is_member (family_then table w ask members) process ≡ true
+  then_member w ask members e = by (is_member members ask.process && is_okay (apply table w ask).0)
+    where
+      by : (b : Bool) → is_member (cond b (with_child ask.action members) members) process ≡ true
+      by true = child_more ask.action members e
+      by false = e
+
+  own_alone : (asks : List Asked) (w : World) (members : List ℕ) → is_member members process ≡ true →
+      AllByRecursion (λ ask. ask.process ≡ process) asks → members_alone table w asks members ≡ true
+  own_alone [] w members e own = refl
+  own_alone (ask ∷ asks) w members e own =
+      and_from (is_member members ask.process) _ (ap (is_member members) own.0 ∙ e)
+      (own_alone asks (apply table w ask).1 (family_then table w ask members) (then_member w ask members e) own.1)
+
+  own_quiet : (asks : List Asked) (w : World) (members : List ℕ) → AllByRecursion (λ ask. is_exec ask.action ≡ false) asks →
+      none_done is_exec table w asks members ≡ true
+  own_quiet [] w members quiet = refl
+  own_quiet (ask ∷ asks) w members quiet =
+      and_from (not (is_done is_exec table w ask members)) _ (none (is_member members ask.process) (is_exec ask.action) _ quiet.0)
+      (own_quiet asks (apply table w ask).1 (family_then table w ask members) quiet.1)
+    where
+      none : (a b c : Bool) → b ≡ false → not (a && (b && c)) ≡ true
+      none true b c e = ap (λ x. not (x && c)) e
+      none false b c e = refl
+
+  own_member : (asks : List Asked) (w : World) (members : List ℕ) → is_member members process ≡ true →
+      is_member (family table w asks members) process ≡ true
+  own_member [] w members e = e
+  own_member (ask ∷ asks) w members e =
+      own_member asks (apply table w ask).1 (family_then table w ask members) (then_member w ask members e)
+
+all_front : {A : Type 0} (P : A → Type 0) (xs ys : List A) → AllByRecursion P (xs ++ ys) → AllByRecursion P xs
+all_front P [] ys all = tt
+all_front P (x ∷ xs) ys all = (all.0, all_front P xs ys all.1)
+
+last_of_all : {A : Type 0} (P : A → Type 0) (xs : List A) (x : A) → AllByRecursion P (xs ++ x ∷ []) → P x
+last_of_all P [] x all = all.0
+last_of_all P (y ∷ xs) x all = last_of_all P xs x all.1
+
+last_told : (table : CallTable) (asks : List Asked) (ask : Asked) (w : World) →
+    AllByRecursion (λ answer. answer ≡ Okay) (answers_to table w (asks ++ ask ∷ [])) → (apply table (world_after table w asks) ask).0 ≡ Okay
+last_told table [] ask w all = all.0
+last_told table (other ∷ asks) ask w all = last_told table asks ask (apply table w other).1 all.1
+
+pub ways_are_listed : EverComplete → WaysAreListed
+ways_are_listed complete table sound needs w process now here confined stand asked call given asks way trees =
+    let own = subst (AllByRecursion (λ ask. ask.process ≡ process)) way.parts way.own in
+    let front = all_front (λ ask. ask.process ≡ process) way.first (way.last ∷ []) own in
+    let whose : way.last.process ≡ process = last_of_all (λ ask. ask.process ≡ process) way.first way.last own in
+    let alone = own_alone table process way.first w (process ∷ []) begins front in
+    let none = own_quiet table process way.first w (process ∷ []) way.quiet in
+    let belongs = own_member table process way.first w (process ∷ []) begins in
+    let before = world_after table w way.first in
+    let last = complete table sound needs w way.first process now here confined stand trees none alone process belongs in
+    let narrow : HasHistoryOf before process (EndsWithin table w way.first process now) =
+    families_narrow table w way.first process now here confined none process belongs in
+    let told = last_told table way.first way.last w
+    (subst (λ all. AllByRecursion (λ answer. answer ≡ Okay) (answers_to table w all)) way.parts way.granted) in
+    let done = done_by table before way.last told in
+    let h = way.reaches.history in
+    let done_is : done.history ≡ h =
+    same_some done.history h (sym done.here ∙ ap (history_of before) whose ∙ way.reaches.kept) in
+    let last_is : last.0 ≡ h = same_some last.0 h (sym last.1 ∙ way.reaches.kept) in
+    let narrow_is : narrow.0 ≡ h = same_some narrow.0 h (sym narrow.1 ∙ way.reaches.kept) in
+    let allowed : IsAllowedOn table before.tree h call way.text =
+    subst (λ g. IsAllowedOn table before.tree g call way.text) done_is
+    (allowed_on table before.tree done.history way.last.action done.change call way.text
+    (decisions_are_guarded table before.tree done.history way.last.action done.change done.decided) way.called) in
+    let foresees : Foresees w.tree table now before.tree h = subst (Foresees w.tree table now before.tree) last_is last.2 in
+    let foreseen : IsForeseen w.tree table now before.tree call (object_named before.tree h call way.text) =
+    foresees (working_dir h) call way.text (ap (verdict_of before.tree table h call) allowed.named ∙ allowed.allowed) in
+    let is : foreseen.object ≡ way.reaches.object =
+    same_ok foreseen.object way.reaches.object (sym foreseen.names ∙ way.reaches.named) in
+    let veils = same_kept now h (sym (subst (λ g. filter is_unveil g ≡ filter is_unveil now) narrow_is narrow.2.tightens.unveils)) in
+    record {
+      line = foreseen.line;
+      listed = foreseen.listed;
+      about = line_about w.tree before.tree now asked given foreseen.line.thing foreseen.object foreseen.about
+          (ap (is_of now asked) is ∙ same_veils_same now h veils asked way.reaches.object ∙ way.reaches.asked);
+      allows = foreseen.allows;
+    }
+  where
+    begins : is_member (process ∷ []) process ≡ true
+    begins = ap (λ b. b || false) (eq-eqb process process refl)

@@ -1,0 +1,120 @@
+-- Worked rows on what is asked about, and on ways to it.
+use Rattle.std.specs.Prelude.{◌≡◌, ◌+◌, true, false, [], ◌∷◌, Some, None, codes, refl}
+use Rattle.pua_tree.specs.Tree.{Tree, Node}
+use Rattle.pua_tree.specs.declared.node.Kind.TheVariants.{Dir, File}
+use Rattle.pua_path.specs.declared.found.Found.TheVariants.{Whole, Slot}
+use Rattle.pua_path.specs.declared.found.Way.TheVariants.{DotDot}
+use Rattle.pua_calls.specs.Promises.{rpath, wpath, cpath, reading, writing, creating}
+use Rattle.pua_calls.specs.Calls.{standard_table, openbsd_table}
+use Rattle.pua_calls.specs.declared.call.Call.TheVariants as call
+use Rattle.pua_policy.specs.History.{History, Pledged, Unveiled, Locked, new_history}
+use Rattle.pua_policy.specs.declared.place.Place.TheVariants as place
+use Rattle.pua_script.specs.Requests.{Asked}
+use Rattle.pua_script.specs.Replay.{World}
+use Rattle.pua_script.specs.declared.request.Action.{Action}
+use Rattle.pua_script.specs.declared.request.Action.TheVariants.{OnPath, Link}
+use Rattle.pua_how.specs.Targets.{is_of}
+use Rattle.pua_how.specs.Ways.{IsWay}
+use Rattle.pua_how.specs.declared.target.Target.TheVariants as target
+
+abbrev directory : Node
+directory = record { kind = Dir; target = None }
+
+abbrev file : Node
+file = record { kind = File; target = None }
+
+-- `/etc/conf` may be read, and `/run/pid` read, written and replaced
+abbrev pub pid_tree : Tree
+pid_tree = record {
+  rows = ((0, codes "etc"), 1) ∷ ((0, codes "run"), 3) ∷ ((1, codes "conf"), 2) ∷ ((3, codes "pid"), 4) ∷ [];
+  nodes = (0, directory) ∷ (1, directory) ∷ (2, file) ∷ (3, directory) ∷ (4, file) ∷ [];
+  next = 5;
+}
+
+abbrev pub pid_history : History
+pid_history =
+    Pledged (Some (rpath + wpath + cpath)) None ∷ Locked
+    ∷ Unveiled (place.Slot 3 (codes "pid")) (reading + writing + creating)
+    ∷ Unveiled (place.Slot 1 (codes "conf")) reading
+    ∷ new_history
+
+-- what a path named is what is asked about: a node by whichever name, a missing name by its veil or as a further one
+pub record OfRows : Type 0 where
+  pub by_another_name : is_of pid_history (target.Node 2) (Slot 3 (codes "new") (Some 2)) ≡ true
+  pub another_node : is_of pid_history (target.Node 2) (Slot 1 (codes "conf") (Some 5)) ≡ false
+  pub dir_by_dots : is_of pid_history (target.Directory 1) (Whole 1 DotDot) ≡ true
+  pub not_above : is_of pid_history (target.Directory 1) (Whole 0 DotDot) ≡ false
+  pub veiled : is_of pid_history (target.Name 3 (codes "pid")) (Slot 3 (codes "pid") None) ≡ true
+  pub taken : is_of pid_history (target.Name 3 (codes "pid")) (Slot 3 (codes "pid") (Some 4)) ≡ false
+  pub further : is_of pid_history (target.Others 3) (Slot 3 (codes "x") None) ≡ true
+  pub veiled_is_no_further : is_of pid_history (target.Others 3) (Slot 3 (codes "pid") None) ≡ false
+
+pub of_rows : OfRows
+of_rows = record {
+  by_another_name = refl;
+  another_node = refl;
+  dir_by_dots = refl;
+  not_above = refl;
+  veiled = refl;
+  taken = refl;
+  further = refl;
+  veiled_is_no_further = refl;
+}
+
+abbrev pub pid_world : World
+pid_world = record { tree = pid_tree; histories = (1, pid_history) ∷ [] }
+
+abbrev one : Action → Asked
+one action = record { process = 1; action = action }
+
+-- ways: by OpenBSD's rules a file that may only be read comes to a name that may be written; a name is freed
+pub record WayRows : Type 0 where
+  pub linked : IsWay openbsd_table pid_world 1 call.OpenWrite (target.Node 2)
+      (one (OnPath call.Unlink (codes "/run/pid")) ∷ one (Link (codes "/etc/conf") (codes "/run/pid"))
+      ∷ one (OnPath call.OpenWrite (codes "/run/pid")) ∷ [])
+  pub freed : IsWay standard_table pid_world 1 call.Create (target.Name 3 (codes "pid"))
+      (one (OnPath call.Unlink (codes "/run/pid")) ∷ one (OnPath call.Create (codes "/run/pid")) ∷ [])
+  pub at_once : IsWay standard_table pid_world 1 call.OpenRead (target.Node 2) (one (OnPath call.OpenRead (codes "/etc/conf")) ∷ [])
+
+pub way_rows : WayRows
+way_rows = record {
+  linked = record {
+    first = one (OnPath call.Unlink (codes "/run/pid")) ∷ one (Link (codes "/etc/conf") (codes "/run/pid")) ∷ [];
+    last = one (OnPath call.OpenWrite (codes "/run/pid"));
+    parts = refl;
+    own = (refl, (refl, (refl, tt)));
+    granted = (refl, (refl, (refl, tt)));
+    quiet = (refl, (refl, tt));
+    text = codes "/run/pid";
+    called = refl;
+    reaches = record {
+      history = pid_history;
+      kept = refl;
+      object = Slot 3 (codes "pid") (Some 2);
+      named = refl;
+      asked = refl;
+    };
+  };
+  freed = record {
+    first = one (OnPath call.Unlink (codes "/run/pid")) ∷ [];
+    last = one (OnPath call.Create (codes "/run/pid"));
+    parts = refl;
+    own = (refl, (refl, tt));
+    granted = (refl, (refl, tt));
+    quiet = (refl, tt);
+    text = codes "/run/pid";
+    called = refl;
+    reaches = record { history = pid_history; kept = refl; object = Slot 3 (codes "pid") None; named = refl; asked = refl };
+  };
+  at_once = record {
+    first = [];
+    last = one (OnPath call.OpenRead (codes "/etc/conf"));
+    parts = refl;
+    own = (refl, tt);
+    granted = (refl, tt);
+    quiet = tt;
+    text = codes "/etc/conf";
+    called = refl;
+    reaches = record { history = pid_history; kept = refl; object = Slot 1 (codes "conf") (Some 2); named = refl; asked = refl };
+  };
+}

@@ -1,0 +1,44 @@
+-- What is true of ways, and of what no line of the list for ever has.
+use Rattle.std.specs.Prelude.{◌≡◌, ℕ, [], ◌∷◌, List, true, Some, Ok, IsTrue}
+use Rattle.pua_path.specs.Resolution.{resolution_of_text}
+use Rattle.pua_path.specs.declared.found.Found.{Found}
+use Rattle.pua_calls.specs.Calls.{CallTable, ending_of, last_of}
+use Rattle.pua_calls.specs.declared.call.Call.{Call}
+use Rattle.pua_policy.specs.History.{History}
+use Rattle.pua_policy.specs.Verdict.{verdict}
+use Rattle.pua_policy.specs.declared.answer.Verdict.TheVariants.{Allowed}
+use Rattle.pua_script.specs.Requests.{Asked}
+use Rattle.pua_script.specs.Replay.{World, history_of, world_after}
+use Rattle.pua_script.specs.Laws.{IsConfined}
+use Rattle.pua_script.specs.Family.{family, none_done, members_alone, is_member, is_exec, HasHistoryOf}
+use Rattle.pua_script.specs.Tightening.{NoCallNeedsError}
+use Rattle.pua_script.specs.Confinement.{TreesAlong}
+use Rattle.pua_ever.specs.Ever.{ever}
+use Rattle.pua_ever.specs.Laws.{EditsNeedC, VeilsStand}
+use Rattle.pua_how.specs.Targets.{IsGiven, IsListed, is_of}
+use Rattle.pua_how.specs.Ways.{IsWay}
+use Rattle.pua_how.specs.declared.target.Target.{Target}
+
+-- a call that no line about a thing has: whatever the process and what it forks alone ask for, as long as no exec of theirs
+-- is answered `ok`, it is then allowed to none of them on anything that is this thing, by whatever path from wherever
+abbrev pub NeverComes : Type 0
+NeverComes =
+    (table : CallTable) → NoCallNeedsError table → EditsNeedC table →
+    (w : World) (asks : List Asked) (process : ℕ) (now : History) →
+    history_of w process ≡ Some now → IsConfined now → VeilsStand w.tree now → TreesAlong table w asks →
+    IsTrue (none_done is_exec table w asks (process ∷ [])) →
+    IsTrue (members_alone table w asks (process ∷ [])) →
+    (asked : Target) (call : Call) → IsGiven w.tree asked → (IsListed (ever w.tree table now) asked call → ⊥) →
+    (member : ℕ) → IsTrue (is_member (family table w asks (process ∷ [])) member) →
+    let after = world_after table w asks in
+    HasHistoryOf after member (λ last. (from : ℕ) (text : List ℕ) (object : Found) →
+    resolution_of_text after.tree from (ending_of call) text (last_of call) ≡ Ok object → is_of now asked object ≡ true →
+    verdict after.tree table last call object ≡ Allowed → ⊥)
+
+-- and where there is a way, a line about the thing has the call
+abbrev pub WaysAreListed : Type 0
+WaysAreListed =
+    (table : CallTable) → NoCallNeedsError table → EditsNeedC table →
+    (w : World) (process : ℕ) (now : History) → history_of w process ≡ Some now → IsConfined now → VeilsStand w.tree now →
+    (asked : Target) (call : Call) → IsGiven w.tree asked → (asks : List Asked) (way : IsWay table w process call asked asks) →
+    TreesAlong table w way.first → IsListed (ever w.tree table now) asked call

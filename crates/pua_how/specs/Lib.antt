@@ -1,0 +1,7 @@
+-- The claim, in reading order: what is asked about, and what a way to it is.
+pub mod Targets
+pub mod Ways
+-- What is proved of these.
+pub mod Laws
+-- Worked rows, which hold by computation.
+pub mod Examples

@@ -1,0 +1,8 @@
+//! Ways to what a process can ever touch: requests that are served one after another, up to a call.
+#![tactic(auto)]
+
+mod laws;
+mod target;
+
+pub use laws::{how_examples, how_law};
+pub use target::Target;
