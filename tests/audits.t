@@ -115,7 +115,7 @@ sub test_lists {
     my ($process, %lines);
     for (split /\n/, $text) {
         $process = $1 if /\Aobjects (\d+)\z/;
-        push @{ $lines{$process} }, $_ if m{\A[a-z]+ /\S* [a-z,-]+\z} && !/\Aveil /;
+        push @{ $lines{$process} }, $_ if m{\A[a-z]+ /\S* [a-z,-]+\z} && !/\A(?:veil|opening) /;
     }
     $count{states}  += @processes;
     $count{objects} += @$_ for values %lines;

@@ -35,9 +35,11 @@ loop-item-preserved g c =
       told = told.1;
       left = λ h stands.
           let so_far = c.loop-item.invariant.left h stands in
-          let on = c.line_of.ensures t h (subject_given t item.item.subject) stands (told.0.tells h stands) in
-          (word_after so_far.0 item, so_far.1 ∙ ap (λ xs. lines_of t table h (items_told t so_far.0 xs)) next
-          ∙ passed t table h so_far.0 item left c.line_of.result on (c.is_empty.ensures.0 c.if-not-is_empty.false));
+          let on = c.line_of.ensures t h (subject_given t item.item.subject) stands (told.0.tells h stands) in (
+            word_after so_far.0 item,
+            so_far.1 ∙ ap (λ xs. lines_of t table h (items_told t so_far.0 xs)) next
+                ∙ passed t table h so_far.0 item left c.line_of.result on (c.is_empty.ensures.0 c.if-not-is_empty.false),
+          );
     }
 
 pub returns-then-not-is_empty-clause-touched : goal.returns-then-not-is_empty-clause-touched
