@@ -12,33 +12,9 @@ rules_rest Profile = record { calls = by; rename = (refl, refl); link = (refl, r
   where
     by : (c : Call) → length (rule_of standard_table c).alternatives ≡ 1
     by call.Stat = refl
-    by call.Lstat = refl
-    by call.Readlink = refl
-    by call.OpenRead = refl
-    by call.OpenWrite = refl
-    by call.OpenBoth = refl
-    by call.Create = refl
-    by call.Mkdir = refl
-    by call.Rmdir = refl
-    by call.Unlink = refl
-    by call.Symlink = refl
-    by call.Chmod = refl
-    by call.Chdir = refl
-    by call.Exec = refl
+    by _ = refl
 rules_rest Openbsd = record { calls = by; rename = (refl, refl); link = (refl, refl) }
   where
     by : (c : Call) → length (rule_of openbsd_table c).alternatives ≡ 1
     by call.Stat = refl
-    by call.Lstat = refl
-    by call.Readlink = refl
-    by call.OpenRead = refl
-    by call.OpenWrite = refl
-    by call.OpenBoth = refl
-    by call.Create = refl
-    by call.Mkdir = refl
-    by call.Rmdir = refl
-    by call.Unlink = refl
-    by call.Symlink = refl
-    by call.Chmod = refl
-    by call.Chdir = refl
-    by call.Exec = refl
+    by _ = refl
