@@ -1,5 +1,5 @@
 -- What a list for ever that was written says of the future.
-use Rattle.pua_tool.proofs.Common.{◌≡◌, ◌≢◌, ◌∙◌, ◌∷◌, [], ℕ, List, ◌++◌, ap, refl, sym, subst, Err, Ok, Option, Some, None, CallTable, Tree, Asked, World}
+use Rattle.pua_tool.proofs.Common.{◌≡◌, ◌≢◌, ◌∙◌, ◌∷◌, [], ℕ, List, ◌++◌, ap, refl, sym, subst, Ok, Option, Some, None, CallTable, Tree, Asked, World}
 use Rattle.pua_tool.proofs.Common.{History, history_of, new_world, answers_to, world_after, answer_lines, listing, script, Chosen, Replayed}
 use Rattle.pua_tool.proofs.Common.{Result, table_by, as_listing, as_script, replay_of, unless_reason, ToolFault}
 use Rattle.std.proofs.Common.{◌⊎◌, inl, inr, true}

@@ -48,7 +48,6 @@ pub fn confined()
 /// Where there is a text of a list for ever, it is the answers and the list of the process, which is complete: whatever is
 /// asked behind the script, as long as nobody else changes the tree, and all that the family starts is bounded or no exec of
 /// theirs succeeds.
-#[tactic(auto, using(crate::proofs::Written::ever_as_written))]
 pub fn ever_text_law()
     ensures { EverAsWritten }
 {}

@@ -23,5 +23,5 @@ returns g c = λ q read is.
     (λ numbers. Ok (reason_lines q ++ why_lists_of c.args.rules q numbers)) numbers c.told.result c.args.sink.now c.write_all.new.sink
     (c.in_ok-numbers.ensures.asked (world_left q) is.after)
     (c.told.ensures (reason_lines q ++ why_lists_of c.args.rules q numbers) a b n m
-    (subst (λ (lent : List ℕ). Tells (reason_lines q ++ why_lists_of c.args.rules q lent) c.write_all.result a b n m) c.as_slice.ensures.value
+    (subst (λ (lent : List ℕ). Tells (reason_lines q ++ why_lists_of c.args.rules q lent) c.write_all.result a b n m) c.as_slice-numbers.ensures.value
     (c.write_all.ensures q read is)))

@@ -1,0 +1,5 @@
+use Rattle.pua_tool.proofs.Written.{ever_as_written}
+use Rattle.pua_tool.proofs.laws.ever_text_law.Goals as goal
+
+pub returns : goal.returns
+returns c = ever_as_written
