@@ -15,7 +15,7 @@ use Rattle.pua_objects.specs.Items.{subject_given}
 use Rattle.pua_objects.specs.Laws.{Complete}
 use Rattle.pua_objects.specs.Lines.{IsLineOn}
 use Rattle.pua_objects.specs.ListItems.{items_told, word_after}
-use Rattle.pua_objects.specs.Ready.{lines_of}
+use Rattle.pua_objects.specs.Lines.{lines_of}
 use Rattle.pua_objects.specs.declared.line.ObjectLine.{ObjectLine}
 use Rattle.pua_objects.specs.declared.list.ListItem.{ListItem}
 

@@ -1,13 +1,12 @@
 use Rattle.pua_examples.proofs.Common.{◌≡◌}
-use Rattle.std.proofs.Common.{◌+◌, ◌∙◌, ◌∷◌, ◌≤◌, ◌≢◌, [], ap, arith, drop, drop_of_length-le, length, List, subst, sym}
+use Rattle.std.proofs.Common.{◌+◌, ◌∙◌, ◌∷◌, [], ap, arith, drop, drop_of_length-le, List, subst, sym}
 use Rattle.std.proofs.lemmas.Bool.Decides.{not_from_Decides}
 use Rattle.std.proofs.lemmas.List.{drop_more}
 use Rattle.std.specs.List.{AllByRecursion}
-use Rattle.pua_calls.specs.CallSets.{calls_in}
 use Rattle.pua_objects.specs.Items.{subject_given}
 use Rattle.pua_objects.specs.ListItems.{IsToldIn, items_told, word_after}
-use Rattle.pua_objects.specs.Objects.{items, objects}
-use Rattle.pua_objects.specs.Ready.{lines_of}
+use Rattle.pua_objects.specs.Objects.{items}
+use Rattle.pua_objects.specs.Lines.{lines_of}
 use Rattle.pua_objects.specs.declared.list.ListItem.{ListItem}
 use Rattle.pua_examples.proofs.Nowhere.{met, nowhere, passed}
 use Rattle.pua_examples.proofs.calling.can_touch.Goals as goal
@@ -16,16 +15,21 @@ pub loop-item-init : goal.loop-item-init
 loop-item-init g c =
     let t = g.T.FileTree.content c.args.tree.now in
     let table = c.args.table.now in
+    let all = sym c.deref-item-items.ensures.value in
     record {
-      told = c.in_ok-items.ensures.told;
-      left = λ h stands. ([], sym (ap (lines_of t table h) (c.in_ok-items.ensures.items ∙ ap (items t) stands.veils)));
+      told = subst (AllByRecursion (IsToldIn t c.args.process.now)) all c.in_ok-items.ensures.told;
+      left = λ h stands. (
+        [],
+        sym (ap (λ xs. lines_of t table h (items_told t [] xs)) (sym all)
+            ∙ ap (lines_of t table h) (c.in_ok-items.ensures.items ∙ ap (items t) stands.veils)),
+      );
     }
 
 pub loop-item-preserved : goal.loop-item-preserved
 loop-item-preserved g c =
     let t = g.T.FileTree.content c.args.tree.now in
     let table = c.args.table.now in
-    let all = c.loop-item.items.items in
+    let all = c.deref-item-items.result.now in
     let i = c.loop-item.item-index in
     let item : ListItem = c.item-item.result in
     let left : List ListItem = drop (i + 1) all in
@@ -46,7 +50,7 @@ pub returns-then-not-is_empty-clause-touched : goal.returns-then-not-is_empty-cl
 returns-then-not-is_empty-clause-touched g c = λ touches h stands none.
     let t = g.T.FileTree.content c.args.tree.now in
     let table = c.args.table.now in
-    let all = c.loop-item.items.items in
+    let all = c.deref-item-items.result.now in
     let i = c.loop-item.item-index in
     let item : ListItem = c.item-item.result in
     let left : List ListItem = drop (i + 1) all in
@@ -62,7 +66,7 @@ pub returns-clause-nowhere : goal.returns-clause-nowhere
 returns-clause-nowhere g c = λ none h stands.
     let t = g.T.FileTree.content c.args.tree.now in
     let table = c.args.table.now in
-    let all = c.loop-item.items.items in
+    let all = c.deref-item-items.result.now in
     let so_far = c.loop-item.invariant.left h stands in
     nowhere c.completeness_law.ensures.complete t table h c.known.ensures (so_far.1
     ∙ ap (λ xs. lines_of t table h (items_told t so_far.0 xs)) (drop_of_length-le all (omega (arith, c.loop-item-test.false))))
