@@ -1,49 +1,25 @@
--- The lines of requests of which one has less, one after another.
-use Rattle.std.proofs.Common.{◌≡◌, ◌≢◌, ℕ, zero, suc, List, [], ◌∷◌, ◌++◌, ◌+◌, ◌<◌, ◌≤◌, ◌∙◌, refl, sym, ap, map, length, take, get_or, arith, append_assoc, inl, inr, ◌⊎◌, subst}
+-- The lines of requests, one after another.
+use Rattle.std.proofs.Common.{◌≡◌, ℕ, zero, suc, List, [], ◌∷◌, ◌++◌, ◌+◌, ◌<◌, ◌≤◌, ◌∙◌, refl, sym, ap, map, length, take, get_or, arith, append_assoc, inl, inr, ◌⊎◌, subst}
 use Rattle.std.proofs.Math.Seq.{take-suc}
 use Rattle.std.proofs.lemmas.List.{length-map, take_all}
 use Rattle.std.specs.List.{join_with_byte}
-use Rattle.std.specs.Prelude.{Option, Some, None, slice_get}
+use Rattle.std.specs.Prelude.{Some, None, slice_get}
 use Rattle.pua_tree.proofs.ForCallers.{same_Some, None≢Some, Some≢None}
 use Rattle.pua_script.specs.Requests.{Asked}
-use Rattle.pua_tight.specs.Tight.{Piece, action_without}
 use Rattle.pua_tight.specs.Texts.{ended_text, lines_text}
-use Rattle.pua_tight.specs.Laws.{leave_out}
-use Rattle.pua_tight.specs.Left.{action_left, nth_text}
+use Rattle.pua_tight.specs.Left.{nth_text}
 use Rattle.pua_tight.proofs.Kept.{joined_more}
 
-pub past_all : (index : ℕ) (piece : Piece) (asks : List Asked) (place : ℕ) (line : List ℕ) → slice_get asks place ≡ None →
-    nth_text (leave_out index piece asks) place line ≡ line
-past_all index piece [] place line e = refl
-past_all zero piece (ask ∷ asks) zero line e = absurd (Some≢None ask e)
-past_all zero piece (ask ∷ asks) (suc place) line e = plain asks place e
-  where
-    plain : (asks : List Asked) (place : ℕ) → slice_get asks place ≡ None → nth_text asks place line ≡ line
-    plain [] place e = refl
-    plain (ask ∷ asks) zero e = absurd (Some≢None ask e)
-    plain (ask ∷ asks) (suc place) e = plain asks place e
-past_all (suc index) piece (ask ∷ asks) zero line e = absurd (Some≢None ask e)
-past_all (suc index) piece (ask ∷ asks) (suc place) line e = past_all index piece asks place line e
+pub nth_past : (asks : List Asked) (place : ℕ) (line : List ℕ) → slice_get asks place ≡ None → nth_text asks place line ≡ line
+nth_past [] place line e = refl
+nth_past (ask ∷ asks) zero line e = absurd (Some≢None ask e)
+nth_past (ask ∷ asks) (suc place) line e = nth_past asks place line e
 
-nth_plain : (asks : List Asked) (place : ℕ) (line : List ℕ) (ask : Asked) → slice_get asks place ≡ Some ask →
+pub nth_plain : (asks : List Asked) (place : ℕ) (line : List ℕ) (ask : Asked) → slice_get asks place ≡ Some ask →
     nth_text asks place line ≡ ended_text ask.action line
 nth_plain [] place line ask e = absurd (None≢Some ask e)
 nth_plain (other ∷ asks) zero line ask e = ap (λ a. ended_text a.action line) (same_Some other ask e)
 nth_plain (other ∷ asks) (suc place) line ask e = nth_plain asks place line ask e
-
-pub nth_here : (index : ℕ) (piece : Piece) (asks : List Asked) (line : List ℕ) (ask : Asked) → slice_get asks index ≡ Some ask →
-    nth_text (leave_out index piece asks) index line ≡ ended_text (action_without piece ask.action) line
-nth_here index piece [] line ask e = absurd (None≢Some ask e)
-nth_here zero piece (other ∷ asks) line ask e = ap (λ a. ended_text (action_without piece a.action) line) (same_Some other ask e)
-nth_here (suc index) piece (other ∷ asks) line ask e = nth_here index piece asks line ask e
-
-pub nth_elsewhere : (index : ℕ) (piece : Piece) (asks : List Asked) (place : ℕ) (line : List ℕ) (ask : Asked) → place ≢ index →
-    slice_get asks place ≡ Some ask → nth_text (leave_out index piece asks) place line ≡ ended_text ask.action line
-nth_elsewhere index piece [] place line ask apart e = absurd (None≢Some ask e)
-nth_elsewhere zero piece (other ∷ asks) zero line ask apart e = absurd (apart refl)
-nth_elsewhere zero piece (other ∷ asks) (suc place) line ask apart e = nth_plain asks place line ask e
-nth_elsewhere (suc index) piece (other ∷ asks) zero line ask apart e = ap (λ a. ended_text a.action line) (same_Some other ask e)
-nth_elsewhere (suc index) piece (other ∷ asks) (suc place) line ask apart e = nth_elsewhere index piece asks place line ask (λ is. apart (ap suc is)) e
 
 -- the line at a place among all
 pub text_at : (asks : List Asked) (lines : List (List ℕ)) (place : ℕ) → place < length lines →
@@ -77,17 +53,6 @@ text_next c (suc place) (w ∷ texts) less =
     ∙ sym (joined_more c w (take place texts) (get_or texts place []))
     ∙ ap (λ l. join_with_byte c (w ∷ l)) (sym (take-suc texts place [] (omega (arith, less))))
     ∙ ap (λ n. join_with_byte c (take n (w ∷ texts))) last
-
--- what is read of a request's line at its place
-pub by_place : (index : ℕ) (piece : Piece) (asks : List Asked) (place : ℕ) (line : List ℕ) (ask : Asked) (left : Option Piece) →
-    slice_get asks place ≡ Some ask → ((place ≡ index) × (left ≡ Some piece)) ⊎ ((place ≢ index) × (left ≡ None)) →
-    nth_text (leave_out index piece asks) place line ≡ ended_text (action_left left ask.action) line
-by_place index piece asks place line ask left e (inl is) =
-    ap (λ n. nth_text (leave_out index piece asks) n line) is.0
-    ∙ nth_here index piece asks line ask (ap (slice_get asks) (sym is.0) ∙ e)
-    ∙ ap (λ o. ended_text (action_left o ask.action) line) (sym is.1)
-by_place index piece asks place line ask left e (inr is) =
-    nth_elsewhere index piece asks place line ask is.0 e ∙ ap (λ o. ended_text (action_left o ask.action) line) (sym is.1)
 
 nth_mapped : {X : Type 0} (f : X → List ℕ) (items : List X) (place : ℕ) (d : X) → place < length items →
     get_or (map f items) place [] ≡ f (get_or items place d)

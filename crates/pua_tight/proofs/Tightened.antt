@@ -101,11 +101,14 @@ back (Failed ENAMETOOLONG) = refl
 back (Failed ENOTEMPTY) = refl
 back (Failed ENOSYS) = refl
 
+pub same_number : (a b : Answer) → answer_number a ≡ answer_number b → a ≡ b
+same_number a b e = sym (back a) ∙ ap answer_from e ∙ back b
+
 pub same_sound : (xs ys : List Answer) → same_answers xs ys ≡ true → xs ≡ ys
 same_sound [] [] e = refl
 same_sound (x ∷ xs) (y ∷ ys) e =
     let both = and_parts (answer_number x == answer_number y) (same_answers xs ys) e in
-    let first : x ≡ y = sym (back x) ∙ ap answer_from (eqb-true _ _ both.0) ∙ back y in
+    let first : x ≡ y = same_number x y (eqb-true _ _ both.0) in
     ap (λ z. z ∷ xs) first ∙ ap (λ zs. y ∷ zs) (same_sound xs ys both.1)
 same_sound [] (y ∷ ys) e = absurd (false≢true e)
 same_sound (x ∷ xs) [] e = absurd (false≢true e)

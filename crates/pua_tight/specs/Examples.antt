@@ -1,55 +1,43 @@
--- Worked rows: a listing, a script, and the tightened one.
-use Rattle.std.specs.Prelude.{◌≡◌, ℕ, List, [], ◌∷◌, ◌++◌, Option, Some, None, option_map, Result, Ok, Err, codes, refl}
+-- Worked rows: a listing, a script, and what is written of it.
+use Rattle.std.specs.Prelude.{◌≡◌, ℕ, List, [], ◌∷◌, ◌++◌, Option, Some, None, option_map, Err, codes, refl}
 use Rattle.std.specs.Result.{result_ok}
 use Rattle.pua_tree.specs.Examples.{text_of_lines}
-use Rattle.pua_tree.specs.Listing.{listing}
-use Rattle.pua_tree.specs.Tree.{Tree}
-use Rattle.pua_tree.specs.declared.fault.ListingFault.{ListingFault}
+use Rattle.pua_tree.specs.declared.fault.ListingFault.TheVariants.{BadHeader}
 use Rattle.pua_calls.specs.Calls.{CallTable, standard_table, openbsd_table}
+use Rattle.pua_calls.specs.Promises.{exec, rpath, wpath, reading, writing}
 use Rattle.pua_script.specs.Examples.{example}
-use Rattle.pua_script.specs.Requests.{Asked}
 use Rattle.pua_script.specs.Scripts.{script}
-use Rattle.pua_script.specs.Replay.{new_world}
-use Rattle.pua_script.specs.declared.fault.ScriptFault.{ScriptFault}
-use Rattle.pua_calls.specs.Promises.{wpath, writing}
-use Rattle.pua_tight.specs.Tight.{Piece, InPromises, InExecpromises, InVeil, lines_of, tight}
+use Rattle.pua_script.specs.declared.fault.ScriptFault.TheVariants.{BadCall}
+use Rattle.pua_tight.specs.declared.fault.TightFault.TheVariants.{Listing, Script}
+use Rattle.pua_tight.specs.Tight.{Piece, InPromises, InExecpromises, InVeil}
 use Rattle.pua_tight.specs.Laws.{leave_out}
-use Rattle.pua_tight.specs.Texts.{thinned_text, tight_text}
-
-abbrev pub tight_by : CallTable → Result Tree ListingFault → Result (List Asked) ScriptFault → Result (List Asked) ScriptFault
-tight_by table (Ok t) (Ok asked) = Ok (tight table (new_world t) (lines_of table (new_world t) asked))
-tight_by table _ other = other
-
-abbrev pub read_script : List (List ℕ) → Result (List Asked) ScriptFault
-read_script lines = script (text_of_lines lines)
-
-abbrev pub tightened : CallTable → List (List ℕ) → Result (List Asked) ScriptFault
-tightened table lines = tight_by table (listing (text_of_lines example)) (read_script lines)
-
-abbrev pub text_by : CallTable → Result Tree ListingFault → List ℕ → Option (List ℕ)
-text_by table (Ok t) bytes = result_ok (tight_text table t bytes)
-text_by table (Err fault) bytes = None
+use Rattle.pua_tight.specs.Texts.{thinned_text, text_over}
+use Rattle.pua_tight.specs.Uses.{WordUse, uses_over}
 
 -- what is written of a script over the example tree
-abbrev pub written : List ℕ → Option (List ℕ)
-written bytes = text_by standard_table (listing (text_of_lines example)) bytes
+abbrev pub written_by : CallTable → List ℕ → Option (List ℕ)
+written_by table bytes = result_ok (text_over table (text_of_lines example) bytes)
 
+abbrev pub written : List ℕ → Option (List ℕ)
+written bytes = written_by standard_table bytes
+
+-- which words go
 pub record TightRows : Type 0 where
-  pub promise : tightened standard_table (codes "1 pledge stdio,rpath,wpath -" ∷ codes "1 open-r /etc/passwd" ∷ [])
-      ≡ read_script (codes "1 pledge stdio,rpath -" ∷ codes "1 open-r /etc/passwd" ∷ [])
-  pub error_stays : tightened standard_table (codes "1 pledge stdio,rpath,wpath,error -" ∷ codes "1 mkdir /a" ∷ [])
-      ≡ read_script (codes "1 pledge stdio,error -" ∷ codes "1 mkdir /a" ∷ [])
-  pub later_first : tightened standard_table (codes "1 unveil /etc rwxc" ∷ codes "1 unveil /etc rw" ∷ codes "1 open-r /etc/passwd" ∷ [])
-      ≡ read_script (codes "1 unveil /etc r" ∷ codes "1 unveil /etc r" ∷ codes "1 open-r /etc/passwd" ∷ [])
-  pub refused_stays : tightened standard_table (codes "1 pledge stdio,rpath -" ∷ codes "1 pledge rpath,wpath -" ∷ codes "1 stat /etc" ∷ [])
-      ≡ read_script (codes "1 pledge stdio,rpath -" ∷ codes "1 pledge rpath,wpath -" ∷ codes "1 stat /etc" ∷ [])
-  pub execpromises : tightened standard_table (codes "1 pledge rpath,exec rpath,wpath" ∷ codes "1 exec /tmp/sh" ∷ codes "1 stat /etc" ∷ [])
-      ≡ read_script (codes "1 pledge exec rpath" ∷ codes "1 exec /tmp/sh" ∷ codes "1 stat /etc" ∷ [])
-  pub child : tightened standard_table (codes "1 pledge rpath,wpath,proc -" ∷ codes "1 fork 2" ∷ codes "1 pledge rpath -"
-      ∷ codes "2 open-w /etc/passwd" ∷ [])
-      ≡ read_script (codes "1 pledge wpath,proc -" ∷ codes "1 fork 2" ∷ codes "1 pledge = -" ∷ codes "2 open-w /etc/passwd" ∷ [])
-  pub chmod : tightened openbsd_table (codes "1 pledge rpath,wpath,fattr -" ∷ codes "1 chmod /etc/passwd" ∷ [])
-      ≡ read_script (codes "1 pledge rpath,fattr -" ∷ codes "1 chmod /etc/passwd" ∷ [])
+  pub promise : written (text_of_lines (codes "1 pledge stdio,rpath,wpath -" ∷ codes "1 open-r /etc/passwd" ∷ []))
+      ≡ Some (text_of_lines (codes "1 pledge stdio,rpath -" ∷ codes "1 open-r /etc/passwd" ∷ []))
+  pub error_stays : written (text_of_lines (codes "1 pledge rpath,wpath,error -" ∷ codes "1 stat /etc" ∷ []))
+      ≡ Some (text_of_lines (codes "1 pledge rpath,error -" ∷ codes "1 stat /etc" ∷ []))
+  pub later_first : written (text_of_lines (codes "1 unveil /etc rwxc" ∷ codes "1 unveil /etc rw" ∷ codes "1 open-r /etc/passwd" ∷ []))
+      ≡ Some (text_of_lines (codes "1 unveil /etc r" ∷ codes "1 unveil /etc r" ∷ codes "1 open-r /etc/passwd" ∷ []))
+  pub refused_stays : written (text_of_lines (codes "1 pledge stdio,rpath -" ∷ codes "1 pledge rpath,wpath -" ∷ codes "1 stat /etc" ∷ []))
+      ≡ Some (text_of_lines (codes "1 pledge stdio,rpath -" ∷ codes "1 pledge rpath,wpath -" ∷ codes "1 stat /etc" ∷ []))
+  pub execpromises : written (text_of_lines (codes "1 pledge rpath,exec rpath,wpath" ∷ codes "1 exec /tmp/sh" ∷ codes "1 stat /etc" ∷ []))
+      ≡ Some (text_of_lines (codes "1 pledge exec rpath" ∷ codes "1 exec /tmp/sh" ∷ codes "1 stat /etc" ∷ []))
+  pub child : written (text_of_lines (codes "1 pledge rpath,wpath,proc -" ∷ codes "1 fork 2" ∷ codes "1 pledge rpath -"
+      ∷ codes "2 open-w /etc/passwd" ∷ []))
+      ≡ Some (text_of_lines (codes "1 pledge wpath,proc -" ∷ codes "1 fork 2" ∷ codes "1 pledge = -" ∷ codes "2 open-w /etc/passwd" ∷ []))
+  pub chmod : written_by openbsd_table (text_of_lines (codes "1 pledge rpath,wpath,fattr -" ∷ codes "1 chmod /etc/passwd" ∷ []))
+      ≡ Some (text_of_lines (codes "1 pledge rpath,fattr -" ∷ codes "1 chmod /etc/passwd" ∷ []))
 
 pub tight_rows : TightRows
 tight_rows = record {
@@ -62,7 +50,7 @@ tight_rows = record {
   chmod = refl;
 }
 
--- the bytes that are written
+-- how the bytes are written of what is left, and which fault comes first
 pub record WrittenRows : Type 0 where
   pub nothing_left : written (text_of_lines (codes "1 unveil /tmp rwc" ∷ codes "1 pledge cpath,wpath fattr" ∷ []))
       ≡ Some (text_of_lines (codes "1 unveil /tmp =" ∷ codes "1 pledge = =" ∷ []))
@@ -72,6 +60,8 @@ pub record WrittenRows : Type 0 where
       ≡ Some (codes "1 unveil /etc r" ++ 13 ∷ 10 ∷ codes "1 unveil - -" ++ 10 ∷ codes "1 stat /etc")
   pub spelling_stays : written (text_of_lines (codes "1 unveil /a\\040b rw" ∷ codes "1 pledge nothing -" ∷ []))
       ≡ Some (text_of_lines (codes "1 unveil /a\\040b =" ∷ codes "1 pledge nothing -" ∷ []))
+  pub bad_listing : text_over standard_table (codes "tree 3") (codes "1 say") ≡ Err (Listing BadHeader)
+  pub bad_script : text_over standard_table (text_of_lines example) (codes "1 say") ≡ Err (Script (BadCall 1))
 
 pub written_rows : WrittenRows
 written_rows = record {
@@ -79,6 +69,8 @@ written_rows = record {
   repeats_go = refl;
   ends_stay = refl;
   spelling_stays = refl;
+  bad_listing = refl;
+  bad_script = refl;
 }
 
 -- the bytes of a script without a piece of the line at an index
@@ -95,3 +87,22 @@ pub record WithoutRows : Type 0 where
 
 pub without_rows : WithoutRows
 without_rows = record { letter = refl; promise = refl; execpromise = refl }
+
+-- what the words of a script over the example tree are needed for
+abbrev pub used : List ℕ → Option (List WordUse)
+used bytes = result_ok (uses_over standard_table (text_of_lines example) bytes)
+
+abbrev pub word : ℕ → Piece → Option ℕ → WordUse
+word line piece needed_by = record { line = line; piece = piece; needed_by = needed_by }
+
+pub record UseRows : Type 0 where
+  pub first_line : used (text_of_lines (codes "1 unveil /etc wr" ∷ codes "1 stat /tmp" ∷ codes "1 stat /etc" ∷ codes "1 open-r /etc/passwd" ∷ []))
+      ≡ Some (word 0 (InVeil reading) (Some 2) ∷ word 0 (InVeil writing) None ∷ [])
+  pub own_line : used (text_of_lines (codes "1 pledge rpath -" ∷ codes "1 pledge rpath -" ∷ codes "1 stat /etc" ∷ []))
+      ≡ Some (word 0 (InPromises rpath) (Some 1) ∷ word 1 (InPromises rpath) (Some 2) ∷ [])
+  pub execpromises : used (text_of_lines (codes "1 pledge rpath,exec wpath,rpath" ∷ codes "1 exec /tmp/sh" ∷ codes "1 stat /etc" ∷ []))
+      ≡ Some (word 0 (InPromises exec) (Some 1) ∷ word 0 (InPromises rpath) None ∷ word 0 (InExecpromises rpath) (Some 2)
+      ∷ word 0 (InExecpromises wpath) None ∷ [])
+
+pub use_rows : UseRows
+use_rows = record { first_line = refl; own_line = refl; execpromises = refl }

@@ -5,6 +5,8 @@ pub mod Narrower
 -- What is proved of it.
 pub mod Laws
 pub mod Trials
+-- A claim too: it rests on `leave_out` of Laws and on Trials.
+pub mod Uses
 -- What the code's fields say.
 pub mod Left
 -- Worked rows, which hold by computation.

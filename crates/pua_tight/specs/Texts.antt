@@ -1,6 +1,6 @@
 -- The bytes of a tightened script: those of the given one, but for the words of lists that were left out. A line keeps its end,
 -- and an argument of which nothing is left is spelled `=`.
-use Rattle.std.specs.Prelude.{ℕ, ◌==◌, Bool, true, List, [], ◌∷◌, ◌++◌, filter, length, drop, codes, Option, Some, None, Result, Ok}
+use Rattle.std.specs.Prelude.{ℕ, ◌==◌, Bool, true, List, [], ◌∷◌, ◌++◌, filter, length, drop, codes, Option, Some, None, Result, Ok, Err}
 use Rattle.std.specs.List.{slice_split, join_with_byte}
 use Rattle.std.specs.Str.Lines.{strip_carriage_return}
 use Rattle.pua_tree.specs.Tree.{Tree}
@@ -16,6 +16,10 @@ use Rattle.pua_script.specs.declared.request.Given.TheVariants.{Good}
 use Rattle.pua_script.specs.declared.request.Action.{Action}
 use Rattle.pua_script.specs.declared.request.Action.TheVariants.{Pledge, Unveil}
 use Rattle.pua_script.specs.declared.fault.ScriptFault.{ScriptFault}
+use Rattle.pua_tree.specs.declared.fault.ListingFault.{ListingFault}
+use Rattle.pua_tree.specs.Listing.{listing}
+use Rattle.pua_tight.specs.declared.fault.TightFault.{TightFault}
+use Rattle.pua_tight.specs.declared.fault.TightFault.TheVariants.{Listing, Script}
 use Rattle.pua_tight.specs.Tight.{tight, lines_of}
 
 -- a word stays unless it names a member that the set lacks
@@ -61,6 +65,22 @@ lines_text asks lines = lines
 abbrev pub thinned_text : List Asked → List ℕ → List ℕ
 thinned_text asks bytes = join_with_byte 10 (lines_text asks (slice_split (λ b. b == 10) bytes))
 
+-- the requests of a script over a tree, tightened by a table
+abbrev pub tightened : CallTable → Tree → List Asked → List Asked
+tightened table t asks = tight table (new_world t) (lines_of table (new_world t) asks)
+
 -- the bytes of a script over a tree, tightened by a table; or the script's fault
 abbrev pub tight_text : CallTable → Tree → List ℕ → Result (List ℕ) ScriptFault
-tight_text table t bytes = script bytes >>= λ asks. Ok (thinned_text (tight table (new_world t) (lines_of table (new_world t) asks)) bytes)
+tight_text table t bytes = script bytes >>= λ asks. Ok (thinned_text (tightened table t asks) bytes)
+
+abbrev pub as_listing : Result Tree ListingFault → Result Tree TightFault
+as_listing (Ok t) = Ok t
+as_listing (Err fault) = Err (Listing fault)
+
+abbrev pub as_script : {A : Type 0} → Result A ScriptFault → Result A TightFault
+as_script (Ok x) = Ok x
+as_script (Err fault) = Err (Script fault)
+
+-- the bytes over the tree of a listing, or the first fault: the listing's, or the script's
+abbrev pub text_over : CallTable → List ℕ → List ℕ → Result (List ℕ) TightFault
+text_over table tree_bytes script_bytes = as_listing (listing tree_bytes) >>= λ t. as_script (tight_text table t script_bytes)

@@ -4,13 +4,9 @@ use Rattle.pua_calls.specs.Calls.{CallTable}
 use Rattle.pua_script.specs.Requests.{Asked}
 use Rattle.pua_script.specs.Replay.{World, answers_to}
 use Rattle.pua_script.specs.declared.answer.Answer.{Answer}
-use Rattle.pua_tight.specs.Tight.{Piece, Line, asks_of, same_answers, tight}
+use Rattle.pua_tight.specs.Tight.{Line, asks_of, same_answers, tight}
 use Rattle.pua_tight.specs.Laws.{leave_out}
-
--- a piece of the line at an index
-pub record Trial : Type 0 where
-  pub line : ℕ
-  pub piece : Piece
+pub use Rattle.pua_tight.specs.declared.trial.Trial.{Trial}
 
 -- the pieces of lines of which the first has this index: the last line's first
 abbrev pub trials_from : ℕ → List Line → List Trial

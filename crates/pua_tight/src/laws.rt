@@ -1,6 +1,6 @@
 //! Laws and worked examples of tightened scripts, each the contract of a function that does nothing.
 
-ghost use Rattle.pua_tight.specs.Examples.{TightRows, WithoutRows, WrittenRows};
+ghost use Rattle.pua_tight.specs.Examples.{TightRows, UseRows, WithoutRows, WrittenRows};
 ghost use Rattle.pua_tight.specs.Laws.{RulesRestOnOne, ScriptsAreTightened};
 ghost use Rattle.pua_tight.specs.Laws.{FuturesAreWithin, RequestKeepsWithin, ScriptsKeepWithin};
 ghost use Rattle.pua_tight.specs.Laws.{TightensScripts, TightIsLeast, TightIsMinimal};
@@ -8,12 +8,14 @@ ghost use Rattle.pua_tight.specs.Laws.{TextsAreRead, TightTextsAreRead};
 ghost use Rattle.pua_tight.specs.Trials.{TriedOneByOne};
 ghost use Rattle.pua_tight.specs.Laws.{WithinAllowsNoMore, WithinGrantsNoMore, WithinListsNoMore};
 
-/// Examples of scripts with the tightened ones, and of the bytes that are written of them.
-#[tactic(auto, using(crate::specs::Examples::tight_rows, crate::specs::Examples::written_rows, crate::specs::Examples::without_rows))]
+/// Examples of scripts with the tightened ones, of the bytes that are written of them, and of what their
+/// words are needed for.
+#[tactic(auto, using(crate::specs::Examples::tight_rows, crate::specs::Examples::written_rows, crate::specs::Examples::without_rows, crate::specs::Examples::use_rows))]
 pub fn tight_examples()
-    ensures requests { TightRows }
+    ensures words { TightRows }
     ensures texts { WrittenRows }
     ensures without { WithoutRows }
+    ensures uses { UseRows }
 {}
 
 /// A script that is another one but for keywords of pledges and letters of unveils that were left

@@ -1,30 +1,23 @@
 //! One line of a script without what is left out of it.
 
-ghost use Rattle.std.specs.Prelude.{◌≡◌, ◌==◌, map, option_copied, IfOk};
+ghost use Rattle.std.specs.Prelude.{◌≡◌, ◌==◌, map, IfOk};
 ghost use Rattle.std.specs.List.{join_with_byte, slice_split};
 ghost use Rattle.std.specs.Str.Lines.{strip_carriage_return};
-ghost use Rattle.pua_script.specs.declared.request.Action.TheVariants.{Pledge, Unveil};
+ghost use Rattle.pua_script.specs.declared.request.Action.TheVariants.{Pledge};
 ghost use Rattle.pua_tight.specs.Texts.{ended_text, fields_text, line_text};
-ghost use Rattle.pua_tight.specs.Left.{action_left, veil_fields};
+ghost use Rattle.pua_tight.specs.Left.{veil_fields};
 
-use crate::piece::{Piece, lists_left, veil_left};
 use crate::words::{given_left, joined, perms_left};
 use pua_calls::Perms;
 use pua_script::{Action, Given};
 use std::alloc::{AllocError, Global};
 
-/// The line of a request, without a piece if there is one. What ends it stays.
-pub(crate) fn line_left(
-    alloc: Global,
-    action: &Action,
-    left_out: Option<&Piece>,
-    line: &[u8],
-) -> Result<Vec<u8>, AllocError>
-    ensures { IfOk result (λ text. text.items
-        ≡ ended_text (action_left (option_copied left_out.entry) action.now) line.now) }
+/// The line of a request, with the words that it has of those that stand there. What ends it stays.
+pub(crate) fn line_left(alloc: Global, action: &Action, line: &[u8]) -> Result<Vec<u8>, AllocError>
+    ensures { IfOk result (λ text. text.items ≡ ended_text action.now line.now) }
 {
     let bare = bare_line(line);
-    let mut text = bare_left(alloc, action, left_out, bare)?;
+    let mut text = bare_left(alloc, action, bare)?;
     text.extend_from_slice(&line[bare.len()..])?;
     Ok(text)
 }
@@ -40,23 +33,15 @@ fn bare_line(line: &[u8]) -> &[u8]
 }
 
 /// The line of a request without its end.
-fn bare_left(
-    alloc: Global,
-    action: &Action,
-    left_out: Option<&Piece>,
-    line: &[u8],
-) -> Result<Vec<u8>, AllocError>
-    ensures { IfOk result (λ text. text.items ≡ line_text (action_left (option_copied left_out.entry) action.now) line.now) }
+fn bare_left(alloc: Global, action: &Action, line: &[u8]) -> Result<Vec<u8>, AllocError>
+    ensures { IfOk result (λ text. text.items ≡ line_text action.now line.now) }
 {
     let fields = fields_of(alloc, line)?;
     match action {
         Action::Pledge(promises, execpromises) => {
-            let (promises, execpromises) = lists_left(left_out, *promises, *execpromises);
-            pledge_left(alloc, promises, execpromises, fields.as_slice())
+            pledge_left(alloc, *promises, *execpromises, fields.as_slice())
         }
-        Action::Unveil(_, perms) => {
-            unveil_left(alloc, veil_left(left_out, *perms), fields.as_slice())
-        }
+        Action::Unveil(_, perms) => unveil_left(alloc, *perms, fields.as_slice()),
         _ => joined(alloc, fields.as_slice(), b' '),
     }
 }

@@ -3,26 +3,21 @@
 ghost use Rattle.std.specs.Prelude.{◌≡◌, ◌==◌, map, IfOk};
 ghost use Rattle.std.specs.List.{slice_split};
 ghost use Rattle.pua_tight.specs.Texts.{thinned_text};
-ghost use Rattle.pua_tight.specs.Laws.{leave_out};
 ghost use Rattle.pua_tight.specs.Left.{nth_text};
 
 use crate::line::line_left;
-use crate::piece::Piece;
 use crate::words::copied;
 use pua_script::Request;
 use std::alloc::{AllocError, Global};
 
-/// The bytes of a script with fewer keywords and letters: those of the lines' requests, without this
-/// piece of the line at this index, if there is such a line. The only error is a refused growth.
-pub fn text_without(
+/// The bytes of a script whose lines have these requests, each with the words that it has of those that
+/// stand there.
+pub(crate) fn thinned_text(
     alloc: Global,
-    bytes: &[u8],
     requests: &[Request],
-    index: usize,
-    piece: &Piece,
+    bytes: &[u8],
 ) -> Result<Vec<u8>, AllocError>
-    ensures { IfOk result (λ text. text.items
-        ≡ thinned_text (leave_out index piece.now requests.now) bytes.now) }
+    ensures { IfOk result (λ text. text.items ≡ thinned_text requests.now bytes.now) }
 {
     let lines = lines_of(alloc, bytes)?;
     let mut text = Vec::new(alloc);
@@ -30,7 +25,7 @@ pub fn text_without(
         if place > 0 {
             text.push(b'\n')?;
         }
-        let line = nth_left(alloc, requests, index, piece, place, line)?;
+        let line = nth_left(alloc, requests, place, line)?;
         text.extend_from_slice(line.as_slice())?;
     }
     Ok(text)
@@ -44,21 +39,17 @@ fn lines_of<'a>(alloc: Global, bytes: &'a [u8]) -> Result<Vec<&'a [u8]>, AllocEr
     bytes.split(|byte| *byte == b'\n').collect(alloc)
 }
 
-/// The line at a place, as its request has it, without the piece if it is of this line.
+/// The line at a place, as its request has it, if there is one.
 fn nth_left(
     alloc: Global,
     requests: &[Request],
-    index: usize,
-    piece: &Piece,
     place: usize,
     line: &[u8],
 ) -> Result<Vec<u8>, AllocError>
-    ensures { IfOk result (λ text. text.items
-        ≡ nth_text (leave_out index piece.now requests.now) place line.now) }
+    ensures { IfOk result (λ text. text.items ≡ nth_text requests.now place line.now) }
 {
-    let Some(request) = requests.get(place) else {
-        return copied(alloc, line);
-    };
-    let left_out = if place == index { Some(piece) } else { None };
-    line_left(alloc, request.action(), left_out, line)
+    match requests.get(place) {
+        Some(request) => line_left(alloc, request.action(), line),
+        None => copied(alloc, line),
+    }
 }

@@ -1,0 +1,137 @@
+-- Answers of a world, one after another, and the first that is another one than is wanted.
+use Rattle.std.proofs.Common.{◌≡◌, ℕ, zero, suc, List, [], ◌∷◌, ◌+◌, ◌<◌, ◌≤◌, ◌∙◌, refl, sym, ap, cond, length, drop, get_or, arith, Bool, true, false}
+use Rattle.std.proofs.Common.{◌≢◌}
+use Rattle.std.proofs.lemmas.Bool.{eq-eqb, ne_eqb}
+use Rattle.std.proofs.lemmas.Option.{none-some, same_Some, slice_get-get_or}
+use Rattle.std.specs.Prelude.{Option, Some, None, option_map, slice_get, ◌==◌, ◌&&◌, is_none}
+use Rattle.pua_script.specs.Requests.{Asked}
+use Rattle.pua_script.specs.Replay.{World, apply, answers_to}
+use Rattle.pua_script.specs.Worlds.{WorldState, StandsForWorld, IsServed}
+use Rattle.pua_script.specs.declared.answer.Answer.{Answer}
+use Rattle.pua_script.specs.declared.answer.Answer.TheVariants.{Okay}
+use Rattle.pua_tight.specs.Tight.{answer_number, same_answers}
+use Rattle.pua_tight.specs.Uses.{first_other}
+use Rattle.pua_tight.proofs.Tightened.{same_number}
+
+-- answers are the same where there is no first other one
+pub same_by_first : (xs ys : List Answer) → same_answers xs ys ≡ is_none (first_other xs ys)
+same_by_first [] [] = refl
+same_by_first [] (y ∷ ys) = refl
+same_by_first (x ∷ xs) [] = refl
+same_by_first (x ∷ xs) (y ∷ ys) =
+    by (answer_number x == answer_number y) (first_other xs ys) (same_by_first xs ys)
+  where
+    by : (b : Bool) (o : Option ℕ) → same_answers xs ys ≡ is_none o → (b && same_answers xs ys) ≡ is_none (cond b (option_map suc o) (Some 0))
+    by true None e = e
+    by true (Some n) e = e
+    by false o e = refl
+
+-- the index in lists of which so many were gone by
+abbrev pub first_from : ℕ → List Answer → List Answer → Option ℕ
+first_from gone xs ys = option_map (λ n. gone + n) (first_other xs ys)
+
+from_none : (o : Option ℕ) → option_map (λ n. 0 + n) o ≡ o
+from_none None = refl
+from_none (Some n) = let e : 0 + n ≡ n = omega arith in ap Some e
+
+further : (gone : ℕ) (o : Option ℕ) → option_map (λ n. gone + n) (option_map suc o) ≡ option_map (λ n. (gone + 1) + n) o
+further gone None = refl
+further gone (Some n) = let e : gone + suc n ≡ (gone + 1) + n = omega arith in ap Some e
+
+-- what is left of a list from an index on
+pub dropped : {X : Type 0} (xs : List X) (index : ℕ) (x : X) → slice_get xs index ≡ Some x → drop index xs ≡ x ∷ drop (index + 1) xs
+dropped {X = X} xs index x e = let last : suc index ≡ index + 1 = omega arith in by xs index e ∙ ap (λ n. x ∷ drop n xs) last
+  where
+    by : (xs : List X) (index : ℕ) → slice_get xs index ≡ Some x → drop index xs ≡ x ∷ drop (suc index) xs
+    by [] index e = absurd (none-some x e)
+    by (y ∷ xs) zero e = ap (λ y. y ∷ xs) (same_Some y x e)
+    by (y ∷ xs) (suc index) e = by xs index e
+
+pub gone_by : {X : Type 0} (xs : List X) (index : ℕ) → length xs ≤ index → drop index xs ≡ []
+gone_by [] zero past = refl
+gone_by [] (suc index) past = refl
+gone_by (x ∷ xs) zero past = absurd (omega (arith, past))
+gone_by (x ∷ xs) (suc index) past = gone_by xs index (omega (arith, past))
+
+-- of requests so many were served in a world and answered as is wanted, and left it so
+abbrev pub IsServedTo : WorldState → List Asked → List Answer → ℕ → WorldState → Type 0
+IsServedTo before asks wanted index now = (w : World) → StandsForWorld before w →
+    (v : World) × StandsForWorld now v × (now.table ≡ before.table)
+    × (first_other (answers_to before.table w asks) wanted ≡ first_from index (answers_to before.table v (drop index asks)) (drop index wanted))
+
+pub none_served : (before : WorldState) (asks : List Asked) (wanted : List Answer) → IsServedTo before asks wanted 0 before
+none_served before asks wanted w stands =
+    (w, stands, refl, sym (from_none (first_other (answers_to before.table w asks) wanted)))
+
+module _ (before now after : WorldState) (asks : List Asked) (wanted : List Answer) (index : ℕ) (ask : Asked) (answer : Answer)
+    (there : slice_get asks index ≡ Some ask) (served : IsServed now ask answer after) (so_far : IsServedTo before asks wanted index now) where
+  -- one more was answered
+  one_more : (w : World) → StandsForWorld before w →
+      (v : World) × StandsForWorld after v × (after.table ≡ before.table)
+      × (first_other (answers_to before.table w asks) wanted
+      ≡ first_from index (answer ∷ answers_to before.table v (drop (index + 1) asks)) (drop index wanted))
+  one_more w stands =
+      let at = so_far w stands in
+      let done = served at.0 at.1 in
+      let left : World = (apply now.table at.0 ask).1 in (
+        left,
+        done.1,
+        done.2 ∙ at.2,
+        at.3
+            ∙ ap (λ l. first_from index (answers_to before.table at.0 l) (drop index wanted)) (dropped asks index ask there)
+            ∙ (λ j. first_from index ((apply (sym at.2 j) at.0 ask).0 ∷ answers_to before.table (apply (sym at.2 j) at.0 ask).1 (drop (index + 1) asks))
+            (drop index wanted))
+            ∙ ap (λ a. first_from index (a ∷ answers_to before.table left (drop (index + 1) asks)) (drop index wanted)) (sym done.0),
+      )
+
+  pub goes_on : (b : Answer) → slice_get wanted index ≡ Some b → b ≡ answer → IsServedTo before asks wanted (index + 1) after
+  goes_on b wants same w stands =
+      let at = one_more w stands in
+      let more : List Answer = answers_to before.table at.0 (drop (index + 1) asks) in
+      let rest : List Answer = drop (index + 1) wanted in (
+        at.0,
+        at.1,
+        at.2,
+        at.3 ∙ ap (first_from index (answer ∷ more)) (dropped wanted index b wants)
+            ∙ ap (λ x. option_map (λ n. index + n) (cond x (option_map suc (first_other more rest)) (Some 0)))
+            (eq-eqb (answer_number answer) (answer_number b) (ap answer_number (sym same)))
+            ∙ further index (first_other more rest),
+      )
+
+  here : index + 0 ≡ index
+  here = omega arith
+
+  pub stops : (b : Answer) → slice_get wanted index ≡ Some b → b ≢ answer → (w : World) → StandsForWorld before w →
+      Some index ≡ first_other (answers_to before.table w asks) wanted
+  stops b wants other w stands =
+      let at = one_more w stands in
+      let more : List Answer = answers_to before.table at.0 (drop (index + 1) asks) in
+      let rest : List Answer = drop (index + 1) wanted in
+      sym (at.3 ∙ ap (first_from index (answer ∷ more)) (dropped wanted index b wants)
+      ∙ ap (λ x. option_map (λ n. index + n) (cond x (option_map suc (first_other more rest)) (Some 0)))
+      (ne_eqb (answer_number answer) (answer_number b) (λ e. other (sym (same_number answer b e))))
+      ∙ ap Some here)
+
+  pub stops_beyond : length wanted ≤ index → (w : World) → StandsForWorld before w →
+      Some index ≡ first_other (answers_to before.table w asks) wanted
+  stops_beyond past w stands =
+      let at = one_more w stands in
+      let more : List Answer = answers_to before.table at.0 (drop (index + 1) asks) in
+      sym (at.3 ∙ ap (first_from index (answer ∷ more)) (gone_by wanted index past) ∙ ap Some here)
+
+-- all were served
+module _ (before now : WorldState) (asks : List Asked) (wanted : List Answer) (index : ℕ) (so_far : IsServedTo before asks wanted index now)
+    (past : length asks ≤ index) (w : World) (stands : StandsForWorld before w) where
+  at_end : first_other (answers_to before.table w asks) wanted ≡ first_from index [] (drop index wanted)
+  at_end =
+      let at = so_far w stands in
+      at.3 ∙ ap (λ l. first_from index (answers_to before.table at.0 l) (drop index wanted)) (gone_by asks index past)
+
+  pub all_wanted : length wanted ≤ index → None ≡ first_other (answers_to before.table w asks) wanted
+  all_wanted few = sym (at_end ∙ ap (first_from index []) (gone_by wanted index few))
+
+  pub more_wanted : index < length wanted → Some index ≡ first_other (answers_to before.table w asks) wanted
+  more_wanted less =
+      let none : index + 0 ≡ index = omega arith in
+      let first : Answer = get_or wanted index Okay in
+      sym (at_end ∙ ap (first_from index []) (dropped wanted index first (slice_get-get_or wanted index Okay less)) ∙ ap Some none)

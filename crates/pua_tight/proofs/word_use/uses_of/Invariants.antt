@@ -1,0 +1,15 @@
+use Rattle.std.proofs.Common.{◌≡◌, map, take}
+use Rattle.std.specs.Prelude.{Ok}
+use Rattle.pua_tree.specs.Tree.{Tree}
+use Rattle.pua_tree.specs.Listing.{listing}
+use Rattle.pua_script.specs.Replay.{new_world}
+use Rattle.pua_tight.specs.Uses.{use_by}
+use Rattle.pua_tight.proofs.word_use.uses_of.Given as goal
+
+-- what the words so far are needed for
+abbrev pub invariant-loop-word : goal.invariant-loop-word
+invariant-loop-word l = record {
+  kept : l.requests.items ≡ l.fn.requests.items;
+  told : (t : Tree) → listing l.wanted.tree_bytes.now ≡ Ok t →
+      l.uses.items ≡ map (use_by l.wanted.table.now (new_world t) l.wanted.answers.items l.fn.requests.items) (take l.word-index l.words);
+}

@@ -1,0 +1,50 @@
+//! The promises that some call asks for.
+
+ghost use Rattle.std.specs.Prelude.{◌≡◌, bit_or, flat_map};
+ghost use Rattle.pua_calls.specs.Calls.{calls, rule_of};
+ghost use Rattle.pua_tight.specs.Tight.{all_asked, asked_for, union};
+
+use pua_calls::{Call, CallTable, Promises};
+
+/// The promises that some call asks for by a table, but `error`.
+pub(crate) fn asked_for(table: &CallTable) -> Promises
+    ensures { result ≡ asked_for table.now }
+{
+    all_asked(table).without(Promises::ERROR)
+}
+
+/// The promises that some call asks for, by its path, or as rename, link, fork or unveil.
+fn all_asked(table: &CallTable) -> Promises
+    ensures { result ≡ all_asked table.now }
+{
+    let rename = table.rename();
+    let link = table.link();
+    let asked = called(table);
+    let asked = with_sets(link.new_name().alternatives(), asked);
+    let asked = with_sets(link.old_name().alternatives(), asked);
+    let asked = with_sets(rename.new_name().alternatives(), asked);
+    let asked = with_sets(rename.old_name().alternatives(), asked);
+    Promises::PROC.union(Promises::UNVEIL.union(asked))
+}
+
+/// Those for which some call with one path asks.
+fn called(table: &CallTable) -> Promises
+    ensures { result ≡ union (flat_map (λ call. (rule_of table.now call).alternatives) calls) }
+{
+    let mut asked = Promises::NONE;
+    for call in Call::ALL {
+        asked = with_sets(table.alternatives(call), asked);
+    }
+    asked
+}
+
+/// The promises of sets, and others.
+fn with_sets(sets: &[Promises], others: Promises) -> Promises
+    ensures { result ≡ bit_or (union sets.now) others }
+{
+    let mut asked = others;
+    for set in sets {
+        asked = asked.union(*set);
+    }
+    asked
+}

@@ -1,0 +1,98 @@
+//! A script without the words that none of its answers needs.
+
+ghost use Rattle.std.specs.Prelude.{◌≡◌, ◌≢◌, Err, IfOk, IfErr, Ok};
+ghost use Rattle.pua_tree.specs.Tree.{Tree};
+ghost use Rattle.pua_tree.specs.Listing.{listing};
+ghost use Rattle.pua_script.specs.Replay.{answers_to, new_world};
+ghost use Rattle.pua_script.specs.Scripts.{script as script_of};
+ghost use Rattle.pua_tight.specs.Texts.{as_listing, as_script, text_over, tightened};
+ghost use Rattle.pua_tight.specs.Left.{IsFaultOf, IsGiven};
+
+use crate::asked::asked_for;
+use crate::fault::TightFault;
+use crate::text::thinned_text;
+use crate::trial::{trials_of, try_all};
+use crate::wanted::{Wanted, begun};
+use pua_calls::CallTable;
+use pua_script::{Request, Script, ScriptFault, read_script};
+use std::alloc::{AllocError, Global};
+
+/// The bytes of a script without the promises and letters that none of its answers needs, where it is
+/// served over the tree of a listing by a table. From the last line to the first, and in a line in the
+/// order of keywords and of the letters r, w, x, c, each is left out without which every line is answered
+/// as before; of lines that are answered ok alone, and of promises those that some call asks for, but
+/// `error`. All other bytes stay, and where nothing is left of an argument it is `=`.
+///
+/// The first that holds of `Listing` and `Script` is answered; `OutOfMemory` where a growth was refused.
+pub fn tight_text(
+    alloc: Global,
+    tree_bytes: &[u8],
+    script_bytes: &[u8],
+    table: &CallTable,
+) -> Result<Vec<u8>, TightFault>
+    ensures done { IfOk result (λ text.
+        text_over table.now tree_bytes.now script_bytes.now ≡ Ok text.items) }
+    ensures refused { IfErr result (λ fault. fault ≢ TightFault.OutOfMemory →
+        (text_over table.now tree_bytes.now script_bytes.now ≡ Err fault)) }
+{
+    let (wanted, mut requests) = begin(alloc, tree_bytes, script_bytes, table)?;
+    tighten(&wanted, &mut requests)?;
+    match thinned_text(alloc, requests.as_slice(), script_bytes) {
+        Ok(text) => Ok(text),
+        Err(AllocError) => Err(TightFault::OutOfMemory),
+    }
+}
+
+/// A script's requests, and what they are answered over the tree of a listing.
+pub(crate) fn begin<'a>(
+    alloc: Global,
+    tree_bytes: &'a [u8],
+    script_bytes: &[u8],
+    table: &'a CallTable,
+) -> Result<(Wanted<'a>, Vec<Request>), TightFault>
+    ensures tree { IfOk result (λ given. given.0.tree_bytes.now ≡ tree_bytes.now) }
+    ensures table { IfOk result (λ given. given.0.table.now ≡ table.now) }
+    ensures given { IfOk result (λ given. IsGiven table.now tree_bytes.now script_bytes.now
+        given.0.answers.items given.1.items) }
+    ensures refused { IfErr result (λ fault. fault ≢ TightFault.OutOfMemory →
+        IsFaultOf tree_bytes.now script_bytes.now fault) }
+{
+    let world = begun(alloc, tree_bytes, table)?;
+    let script = read_requests(alloc, script_bytes)?;
+    let wanted = Wanted::of(alloc, world, tree_bytes, table, &script)?;
+    Ok((wanted, script.into_requests()))
+}
+
+/// Leaves out of requests what none of their answers needs.
+pub(crate) fn tighten(wanted: &Wanted<'_>, requests: &mut Vec<Request>) -> Result<(), TightFault>
+    ensures done { IfOk result (λ _. (t : Tree) → listing wanted.now.tree_bytes.now ≡ Ok t →
+        wanted.now.answers.items
+        ≡ answers_to wanted.now.table.now (new_world t) requests.old.items →
+        requests.new.items ≡ tightened wanted.now.table.now t requests.old.items) }
+    ensures refused { IfErr result (λ fault. fault ≢ TightFault.OutOfMemory →
+        (as_listing (listing wanted.now.tree_bytes.now) ≡ Err fault)) }
+{
+    let asked = asked_for(wanted.table);
+    match trials_of(
+        wanted.alloc,
+        asked,
+        requests.as_slice(),
+        wanted.answers.as_slice(),
+    ) {
+        Ok(trials) => try_all(wanted, trials.as_slice(), requests),
+        Err(AllocError) => Err(TightFault::OutOfMemory),
+    }
+}
+
+/// The requests of a script.
+fn read_requests(alloc: Global, bytes: &[u8]) -> Result<Script, TightFault>
+    ensures read { IfOk result (λ script. script_of bytes.now ≡ Ok script) }
+    ensures refused { IfErr result (λ fault. fault ≢ TightFault.OutOfMemory →
+        (as_script (script_of bytes.now) ≡ Err fault)) }
+{
+    match read_script(alloc, bytes) {
+        Ok(script) => Ok(script),
+        Err(ScriptFault::OutOfMemory) => Err(TightFault::OutOfMemory),
+        Err(fault) => Err(TightFault::Script(fault)),
+    }
+}

@@ -1,0 +1,126 @@
+//! Trials: a script without a word, where all of it is then answered as before.
+
+ghost use Rattle.std.specs.Prelude.{◌≡◌, ◌≢◌, ◌++◌, map, Err, IfOk, IfErr, Ok};
+ghost use Rattle.pua_tree.specs.Tree.{Tree};
+ghost use Rattle.pua_tree.specs.Listing.{listing};
+ghost use Rattle.pua_script.specs.Replay.{answers_to, new_world};
+ghost use Rattle.pua_tight.specs.Texts.{as_listing};
+ghost use Rattle.pua_tight.specs.Laws.{leave_out};
+ghost use Rattle.pua_tight.specs.Trials.{all_tried, trials_from};
+ghost use Rattle.pua_tight.specs.Uses.{first_other};
+ghost use Rattle.pua_tight.specs.Left.{lines_by, put_back_at};
+
+use crate::arguments::Arguments;
+use crate::fault::TightFault;
+use crate::line_pieces::line_pieces;
+use crate::piece::Piece;
+use crate::wanted::Wanted;
+use pua_calls::Promises;
+use pua_script::{Answer, Request};
+use std::alloc::{AllocError, Global};
+
+/// A piece of the line at an index.
+#[derive(Clone, Copy)]
+pub(crate) struct Trial {
+    pub(crate) line: usize,
+    pub(crate) piece: Piece,
+}
+
+/// What may be left out of a script's requests, the last line's first, where some call asks for these
+/// promises: nothing of a line that was not answered ok.
+pub(crate) fn trials_of(
+    alloc: Global,
+    asked: Promises,
+    requests: &[Request],
+    answers: &[Answer],
+) -> Result<Vec<Trial>, AllocError>
+    ensures { IfOk result (λ trials. trials.items
+        ≡ trials_from 0 (lines_by asked requests.now answers.now)) }
+{
+    let mut trials = Vec::new(alloc);
+    for line in (0..requests.len()).rev() {
+        let pieces = line_pieces(alloc, asked, &requests[line], answers.get(line))?;
+        add_trials(&mut trials, line, pieces.as_slice())?;
+    }
+    Ok(trials)
+}
+
+/// Adds the pieces of the line at an index.
+pub(crate) fn add_trials(
+    trials: &mut Vec<Trial>,
+    line: usize,
+    pieces: &[Piece],
+) -> Result<(), AllocError>
+    ensures { IfOk result (λ _. trials.new.items ≡ trials.old.items
+        ++ map (λ piece. record { line = line; piece = piece }) pieces.now) }
+{
+    for piece in pieces {
+        let piece = *piece;
+        trials.push(Trial { line, piece })?;
+    }
+    Ok(())
+}
+
+/// Leaves out of a script one piece after another, where all of it is then answered as is wanted.
+pub(crate) fn try_all(
+    wanted: &Wanted<'_>,
+    trials: &[Trial],
+    requests: &mut Vec<Request>,
+) -> Result<(), TightFault>
+    ensures tried { IfOk result (λ _. (t : Tree) → listing wanted.now.tree_bytes.now ≡ Ok t →
+        requests.new.items ≡ all_tried wanted.now.table.now (new_world t) wanted.now.answers.items
+        trials.now requests.old.items) }
+    ensures refused { IfErr result (λ fault. fault ≢ TightFault.OutOfMemory →
+        (as_listing (listing wanted.now.tree_bytes.now) ≡ Err fault)) }
+{
+    for trial in trials {
+        if other_without(wanted, trial, requests)?.is_none() {
+            leave_out(trial, requests);
+        }
+    }
+    Ok(())
+}
+
+/// The index of the first request that is answered otherwise than is wanted, where this piece is left out
+/// of a script, if there is one. The requests are as before, unless an error is answered.
+pub(crate) fn other_without(
+    wanted: &Wanted<'_>,
+    trial: &Trial,
+    requests: &mut Vec<Request>,
+) -> Result<Option<usize>, TightFault>
+    ensures other { IfOk result (λ other. (t : Tree) → listing wanted.now.tree_bytes.now ≡ Ok t →
+        other ≡ first_other (answers_to wanted.now.table.now (new_world t)
+        (leave_out trial.now.line trial.now.piece requests.old.items)) wanted.now.answers.items) }
+    ensures kept { IfOk result (λ _. requests.new.items ≡ requests.old.items) }
+    ensures refused { IfErr result (λ fault. fault ≢ TightFault.OutOfMemory →
+        (as_listing (listing wanted.now.tree_bytes.now) ≡ Err fault)) }
+{
+    let kept = leave_out(trial, requests);
+    let other = wanted.first_other(requests.as_slice())?;
+    put_back(trial.line, kept, requests);
+    Ok(other)
+}
+
+/// Leaves a piece out of a script, and answers what the arguments of its line were.
+fn leave_out(trial: &Trial, requests: &mut Vec<Request>) -> Arguments
+    ensures left { requests.new.items
+        ≡ leave_out trial.now.line trial.now.piece requests.old.items }
+    ensures back { put_back_at trial.now.line result requests.new.items ≡ requests.old.items }
+{
+    let Some(request) = requests.get_mut(trial.line) else {
+        return Arguments::Others;
+    };
+    let kept = Arguments::of(request);
+    let less = kept.without(&trial.piece);
+    less.give(request);
+    kept
+}
+
+/// Gives the line at an index other arguments, if it is of their kind.
+fn put_back(line: usize, arguments: Arguments, requests: &mut Vec<Request>)
+    ensures { requests.new.items ≡ put_back_at line arguments requests.old.items }
+{
+    if let Some(request) = requests.get_mut(line) {
+        arguments.give(request);
+    }
+}
