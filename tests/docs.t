@@ -11,8 +11,9 @@
 # - The EXAMPLES of each manual page are run over the files that man/pua.1 shows. Where such a page
 #   shows no output, the commands only have to complain of nothing.
 # - The code in docs/CALLING.md is that of the proved callers, function by function.
-# - Each path on a page is there, each file in docs/ARCHITECTURE.md, and each name there and on the
-#   other pages about the code.
+# - Each path on a page is there, each link, and each heading of another page that it cites; each
+#   file in docs/ARCHITECTURE.md, and each name there and on the other pages about the code. README
+#   has at most 180 lines.
 # - Help, usage lines, the manual pages and README have the same options, of the program and of each
 #   tool.
 #
@@ -71,6 +72,7 @@ my $has_sources = -d 'crates';
 test_pages();
 test_manuals();
 test_paths();
+test_links();
 SKIP: {
     skip 'the sources are not here', 1 if !$has_sources;
     test_calling();
@@ -344,6 +346,32 @@ sub test_paths {
         }
     }
     is("@missing", '', "the paths on all pages are there: $paths");
+    return;
+}
+
+# A link leads to a file that is there, and what a page cites of another one is a heading there, or
+# begins a paragraph or a row in bold.
+sub test_links {
+    my @pages = ('README.md', glob 'docs/*.md');
+    my ($cited, @missing) = (0);
+    for my $page (@pages) {
+        my $text = join ' ', split ' ', content($page);
+        for my $link ($text =~ /\]\(([^)#:\s]+)\)/g) {
+            next if !$has_sources && $link =~ m{^(?:bench|crates|release)/};
+            push @missing, "$page: $link" if !-e dirname($page) . "/$link";
+        }
+        my @cites = $text =~ /`(docs\/\w+\.md)`(?:,| says, under| \() ?"([^"]+)"/g;
+        my @words = $text =~ /"([^"]+)" in `(docs\/\w+\.md)`/g;
+        push @cites, reverse splice @words, 0, 2 while @words;
+        while (my ($there, $heading) = splice @cites, 0, 2) {
+            $cited++;
+            next if -e $there && content($there) =~ /^(?:#+ |(?:\| )?\*\*)(?:\d+\. )?\Q$heading\E/m;
+            push @missing, "$page: $there, $heading";
+        }
+    }
+    is("@missing", '', "links lead somewhere, and headings that are cited are there: $cited");
+    my $lines = () = content('README.md') =~ /\n/g;
+    cmp_ok($lines, '<=', 180, "README is one page: $lines lines");
     return;
 }
 
