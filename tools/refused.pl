@@ -11,8 +11,9 @@
 #   test FILE WORD          a test that has this word: for what no contract can refuse
 #   but REASON              nothing, and why: for a function that has no wrong body
 #
-# Each public function of a library that is no law has a line. What isn't so is said on standard error, and the status
-# is 1 then; else the last line says how many there are of each.
+# Each public function of a library that is no law has a line; a library of what the examples run has none, since it is a
+# test itself. What isn't so is said on standard error, and the status is 1 then; else the last line says how many there are
+# of each.
 use strict;
 use warnings;
 
@@ -27,9 +28,13 @@ my $TABLE = 'tests/data/refused';
 my @CLAIM_CRATES = qw(pua_refused pua_refused_texts);
 my $CLAIM_MODULE = qr{/refused(?:\.rt|/)};
 
+# Libraries of tests.
+my @TEST_CRATES = qw(pua_examples_trees);
+
 my @crates = crate_names();
 my %is_claims = map { $_ => 1 } @CLAIM_CRATES;
-my %function = map { $_->{path} => $_ } map { public_functions($_) } grep { -e "crates/$_/src/lib.rt" && !$is_claims{$_} } @crates;
+my %is_test = map { $_ => 1 } @CLAIM_CRATES, @TEST_CRATES;
+my %function = map { $_->{path} => $_ } map { public_functions($_) } grep { -e "crates/$_/src/lib.rt" && !$is_test{$_} } @crates;
 my %claim = map { claims_of($_) } @crates;
 my %row = map { rows_of($_) } @crates;
 my %edit = map { edits_of($_) } @crates;

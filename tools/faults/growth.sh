@@ -1,7 +1,7 @@
 #!/bin/sh
 # Each growth of memory refused in turn to calls that are then made once more: sh growth.sh
-# It first builds the program that makes the calls, of what lies in growth/ and of some files of the crate
-# pua_examples, in a new folder with a copy of the crates. (The gate doesn't prove it: what it shows when it is run is
+# It first builds the program that makes the calls, of what lies in growth/ and of some files of the crates
+# pua_examples and pua_examples_trees, in a new folder with a copy of the crates. (The gate doesn't prove it: what it shows when it is run is
 # what contracts say already, over the real allocator.) Then its growth number N is refused, for N from 1 until a run
 # meets no refusal. A run has to end as it must after the second call, or, where the growth was refused
 # to something else than these calls, with a fault. A line is printed for each run that ends otherwise, then
@@ -15,12 +15,12 @@ trap 'rm -rf "$copy"' EXIT
 # The crates, and in the place of pua_examples what is of no account for the calls left out.
 (cd "$top" && tar -cf - --exclude=out HANDLES crates.txt crates) | (cd "$copy" && tar -xf -) || exit 2
 crate=$copy/crates/pua_examples
-kept='src/hostile/audited.rt src/hostile/called.rt src/hostile/dripping.rt src/listed.rt src/told.rt src/trees.rt src/worlds.rt
-    proofs/hostile proofs/Common.antt'
 mv "$crate" "$copy/whole"
 mkdir -p "$crate/src/hostile" "$crate/src/growth" "$crate/proofs"
-for part in $kept; do cp -R "$copy/whole/$part" "$crate/$part"; done
-echo 'pub mod Common' > "$crate/proofs/Lib.antt"
+cp "$copy/whole/src/hostile/called.rt" "$copy/whole/src/hostile/dripping.rt" "$crate/src/hostile"
+for part in audited listed told trees worlds; do cp "$copy/crates/pua_examples_trees/src/$part.rt" "$crate/src"; done
+cp -R "$copy/crates/pua_examples_trees/proofs/audited" "$crate/proofs"
+sed -i 's/pua_examples_trees\.proofs/pua_examples.proofs/' "$crate"/proofs/audited/*/*/*.antt
 (cd "$faults/growth" && find . -name '*.rattle') | while read -r part; do
     cp "$faults/growth/$part" "$crate/src/${part%.rattle}.rt"
 done

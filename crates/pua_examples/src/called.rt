@@ -1,9 +1,9 @@
 //! The functions of `calling`, over a small site.
 
 use crate::calling::{Served, ask, can_ever_start, can_touch, is_reached, list, read, replay};
-use crate::told::tell_expected;
 use anyhow::Result;
 use pua_calls::{Call, CallTable};
+use pua_examples_trees::told::tell_expected;
 use pua_path::Errno;
 use pua_policy::{Process, Verdict};
 use pua_script::Answer;

@@ -1,11 +1,11 @@
 //! Sinks that break at each of their puts, and readers that fail at each of their reads.
 
-use crate::hostile::LISTING;
 use crate::hostile::called::{audit_done, command_done};
 use crate::hostile::dripping::{DrippingReader, DrippingSink};
-use crate::told::{count, wrong_unless};
 use anyhow::Result;
 use pua_audit::Base;
+use pua_examples_trees::LISTING;
+use pua_examples_trees::told::{count, wrong_unless};
 use pua_tool::{
     DEVICE, DONE, InputFault, Job, MemoryInputs, MemorySink, ReadSource, Sink, ToolFault,
     read_bytes,

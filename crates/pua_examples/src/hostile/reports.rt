@@ -3,8 +3,8 @@
 
 use crate::hostile::called::command_done;
 use crate::hostile::dripping::DrippingSink;
-use crate::told::{count, tell_unless};
 use anyhow::Result;
+use pua_examples_trees::told::{count, tell_unless};
 use pua_tool::{DEVICE, DONE, MemoryInputs, MemorySink, REFUSED};
 use std::alloc::Global;
 

@@ -1,5 +1,5 @@
 use Rattle.std.proofs.Common.{◌≡◌, length}
-use Rattle.pua_examples.proofs.hostile.audited.TreeAudit.lines.Given as goal
+use Rattle.pua_examples_trees.proofs.audited.TreeAudit.lines.Given as goal
 
 -- the audit stays one of the probe's tree
 abbrev pub invariant-loop-line : goal.invariant-loop-line

@@ -4,12 +4,12 @@
 use anyhow::Result;
 
 /// Prints what became of something.
-pub(crate) fn tell(rt: &HostRuntime, what: &str, word: &str) -> Result<()> {
+pub fn tell(rt: &HostRuntime, what: &str, word: &str) -> Result<()> {
     Ok(println!(rt; "{what}: {word}")?)
 }
 
 /// Prints whether something is as expected.
-pub(crate) fn tell_expected(rt: &HostRuntime, what: &str, holds: bool) -> Result<()> {
+pub fn tell_expected(rt: &HostRuntime, what: &str, holds: bool) -> Result<()> {
     let word = if holds {
         "as expected"
     } else {
@@ -19,17 +19,12 @@ pub(crate) fn tell_expected(rt: &HostRuntime, what: &str, holds: bool) -> Result
 }
 
 /// Prints how many there were of something.
-pub(crate) fn count(rt: &HostRuntime, what: &str, number: usize, of: &str) -> Result<()> {
+pub fn count(rt: &HostRuntime, what: &str, number: usize, of: &str) -> Result<()> {
     Ok(println!(rt; "{what}: {number} {of}")?)
 }
 
 /// Prints what became of something, unless it is as it has to be. It fails where that can't be told.
-pub(crate) fn tell_unless(
-    rt: &HostRuntime,
-    holds: Result<bool>,
-    what: &str,
-    word: &str,
-) -> Result<()> {
+pub fn tell_unless(rt: &HostRuntime, holds: Result<bool>, what: &str, word: &str) -> Result<()> {
     if holds? {
         return Ok(());
     }
@@ -38,7 +33,7 @@ pub(crate) fn tell_unless(
 
 /// Prints that the case of a number is not as it has to be, unless it is. It fails where that can't
 /// be told.
-pub(crate) fn wrong_unless(
+pub fn wrong_unless(
     rt: &HostRuntime,
     holds: Result<bool>,
     what: &str,

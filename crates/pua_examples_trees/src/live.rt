@@ -1,8 +1,8 @@
 //! Live states of audits, and looks and reads in numbers, by direct calls over both kinds of tree.
 
 use self::AuditSize::{First, Whole};
-use crate::hostile::LISTING;
-use crate::hostile::audited::{Taken, TreeAudit};
+use crate::LISTING;
+use crate::audited::{Taken, TreeAudit};
 use crate::told::{count, wrong_unless};
 use crate::trees::ListedTree;
 use crate::worlds::run_over;
