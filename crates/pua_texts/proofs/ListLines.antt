@@ -9,20 +9,15 @@ use Rattle.pua_objects.specs.Lines.{kind_word}
 use Rattle.pua_texts.specs.ColumnsState.{ColumnsState, veil_column}
 use Rattle.pua_texts.specs.EverLines.{kind_of, path_or_new}
 use Rattle.pua_objects.specs.ListItems.{with_name}
-use Rattle.pua_texts.specs.ListLines.{last_word, lines_text, text_at, unless_none, word_after}
+use Rattle.pua_texts.specs.ListLines.{NamedState, last_word, lines_text, text_at, unless_none, word_after}
 use Rattle.pua_texts.specs.declared.list_line.ListLine.{ListLine}
 
 -- the line that comes next stands before the others
-pub line_next : (columns : ColumnsState) (before : Word) (lines : List ListLine) (line : ListLine) (i : ℕ) → i < length lines →
-    line ≡ slice_index_or lines i line
-    → lines_text columns before (drop i lines) ≡ text_at columns (word_after before line) line
-    ++ lines_text columns (word_after before line) (drop (i + 1) lines)
-line_next columns before lines line i within is =
-    ap (lines_text columns before) (drop_more lines i line within ∙ ap (λ l. l ∷ drop (i + 1) lines) (sym is))
-
-pub lines_done : (columns : ColumnsState) (before : Word) (lines : List ListLine) (i : ℕ) → length lines ≤ i →
-    lines_text columns before (drop i lines) ≡ []
-lines_done columns before lines i past = ap (lines_text columns before) (drop_of_length-le lines past)
+pub line_next : (columns : ColumnsState) (old new : NamedState) (line : ListLine) → old.left ≡ line ∷ new.left →
+    new.word ≡ word_after old.word line
+    → lines_text columns old.word old.left ≡ text_at columns new.word line ++ lines_text columns new.word new.left
+line_next columns old new line left word =
+    ap (lines_text columns old.word) left ∙ ap (λ (w : Word). text_at columns w line ++ lines_text columns w new.left) (sym word)
 
 -- a line with calls is one
 pub is_line : (calls : List Call) (text : List ℕ) → calls ≢ [] → text ≡ unless_none calls text

@@ -27,6 +27,10 @@ pub path_done : (names : List (Bor (List ℕ))) (i : ℕ) → length names ≤ i
 path_done names i past = ap (λ ns. spelling (from_root (map (λ n. n.now) ns)) ++ 32 ∷ []) (drop_of_length-le names past)
 
 -- a path with names is printed as they are spelled, behind a slash each
+pub word_printed : (word : Word) → (length word == 0) ≡ false → spelling (from_root word) ++ 32 ∷ [] ≡ printed_path Root word ++ 32 ∷ []
+word_printed [] some = absurd (true≢false some)
+word_printed (name ∷ word) some = refl
+
 pub path_printed : (names : List (Bor (List ℕ))) → (length names == 0) ≡ false →
     path_left names 0 ≡ printed_path Root (map (λ name. name.now) names) ++ 32 ∷ []
 path_printed [] some = absurd (true≢false some)

@@ -42,6 +42,11 @@ lines_text columns before [] = []
 lines_text columns before (line ∷ lines) =
     text_at columns (word_after before line) line ++ lines_text columns (word_after before line) lines
 
+-- the names that lead to what the last line so far is about, and the lines that are still to come
+pub record NamedState : Type 0 where
+  pub word : Word
+  pub left : List ListLine
+
 -- a list: what stands before its lines, the lines, and what stands behind them
 pub record ListState : Type 0 where
   pub head : HeadState

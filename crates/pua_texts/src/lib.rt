@@ -16,6 +16,7 @@ mod laws;
 mod line;
 mod list_line;
 mod lists;
+mod named_lines;
 mod object_lines;
 mod object_lists;
 mod openings;

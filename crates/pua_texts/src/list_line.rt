@@ -1,22 +1,19 @@
 //! The lines of a list, added to a block one after another.
 
-ghost use Rattle.std.specs.Prelude.{◌≡◌, ◌<◌, ◌≤◌, ◌+◌, ◌++◌, ◌∷◌, [], length, map, option_map};
-ghost use Rattle.std.specs.Prelude.{vec_capacity, vec_len};
+ghost use Rattle.std.specs.Prelude.{◌≡◌, ◌≤◌, ◌++◌, ◌∷◌, [], length, map};
 ghost use Rattle.pua_audit.specs.Reach.{from_root, printed_path};
 ghost use Rattle.pua_audit.specs.declared.base.Base.TheVariants as base;
 ghost use Rattle.pua_objects.specs.Lines.{kind_word};
 ghost use Rattle.pua_tree.specs.Spelling.{spelling};
 ghost use Rattle.pua_texts.specs.Blocks.{PassesOn};
 ghost use Rattle.pua_texts.specs.EverLines.{kind_of, path_or_new};
-ghost use Rattle.pua_texts.specs.KeptPaths.{IsKept};
-ghost use Rattle.pua_texts.specs.ListLines.{lines_text, text_at, whole_line, word_after};
-ghost use Rattle.pua_objects.specs.ListItems.{with_name};
+ghost use Rattle.pua_texts.specs.ListLines.{lines_text, text_at, whole_line};
 
 use crate::block::{Block, MOST_LINE};
 use crate::calls_text::CallsTexts;
 use crate::columns::Columns;
-use crate::kept_path::KeptPath;
 use crate::line::add_printed;
+use crate::named_lines::NamedLines;
 use pua_calls::Calls;
 use pua_ever::EverThing;
 use pua_io::{PutFault, Sink};
@@ -41,111 +38,77 @@ pub(crate) struct ListLine<'t> {
     pub(crate) veil: Option<usize>,
 }
 
+impl<'t> ListLine<'t> {
+    /// The same line.
+    pub(crate) fn same(&self) -> ListLine<'t>
+        ensures { result ≡ self.now }
+    {
+        ListLine {
+            depth: self.depth,
+            name: self.name,
+            thing: self.thing,
+            calls: self.calls,
+            resting: self.resting,
+            veil: self.veil,
+        }
+    }
+}
+
 /// Adds lines. A block is put where the next part of a line might not fit, and its memory is used
 /// again, so a path may be as long as it is. What a path shares with that of the line before is not
 /// spelled again.
-pub(crate) fn add_lines<'t, S: Sink>(
+pub(crate) fn add_lines<S: Sink>(
     block: &mut Block,
-    lines: &[ListLine<'t>],
+    lines: &mut NamedLines<'_>,
     columns: &Columns,
-    word: &mut Vec<&'t Name>,
-    path: &mut KeptPath,
     texts: &mut CallsTexts,
     sink: &mut S,
 ) -> Result<(), PutFault>
-    requires room { length lines.now ≤ vec_capacity word.old }
-    ensures lines { PassesOn S.written S.failed
-        (lines_text columns.now [] lines.now)
+    ensures { PassesOn S.written S.failed
+        (lines_text columns.now lines.old.word lines.old.left)
         result block.old block.new sink.old sink.new }
-    ensures room { vec_capacity word.new ≡ vec_capacity word.old }
 {
-    word.clear();
-    path.clear();
-    for line in lines {
-        add_next(block, line, columns, word, path, texts, sink)?;
+    while let Some(line) = lines.next_line() {
+        add_last(block, &line, lines, columns, texts, sink)?;
     }
     Ok(())
 }
 
-/// Goes on to the names of a line, and adds it, if it has calls.
-fn add_next<'t, S: Sink>(
+/// Adds the line that came last, if it has calls.
+fn add_last<S: Sink>(
     block: &mut Block,
-    line: &ListLine<'t>,
+    line: &ListLine<'_>,
+    lines: &mut NamedLines<'_>,
     columns: &Columns,
-    word: &mut Vec<&'t Name>,
-    path: &mut KeptPath,
     texts: &mut CallsTexts,
     sink: &mut S,
 ) -> Result<(), PutFault>
-    requires room { vec_len word.old < vec_capacity word.old }
-    requires kept { IsKept (map (λ name. name.now) word.old.items) path.old }
-    ensures word { map (λ name. name.now) word.new.items
-        ≡ word_after (map (λ name. name.now) word.old.items) line.now }
-    ensures room { vec_capacity word.new ≡ vec_capacity word.old }
-    ensures short { vec_len word.new ≤ vec_len word.old + 1 }
-    ensures kept { IsKept (map (λ name. name.now) word.new.items) path.new }
-    ensures line { PassesOn S.written S.failed
-        (text_at columns.now (word_after (map (λ name. name.now) word.old.items) line.now)
-        line.now)
+    ensures lines { lines.new ≡ lines.old }
+    ensures line { PassesOn S.written S.failed (text_at columns.now lines.old.word line.now)
         result block.old block.new sink.old sink.new }
 {
-    go_on(line, word, path);
     if line.calls.is_empty() {
         return Ok(());
     }
-    path.extend(word.as_slice());
-    add_line(block, line, columns, path, word.as_slice(), texts, sink)
+    lines.keep_path();
+    add_line(block, line, lines, columns, texts, sink)
 }
 
-/// Goes on to the names that lead to what a line is about. Of the path stays what they share with
-/// those before.
-fn go_on<'t>(line: &ListLine<'t>, word: &mut Vec<&'t Name>, path: &mut KeptPath)
-    requires room { vec_len word.old < vec_capacity word.old }
-    requires kept { IsKept (map (λ name. name.now) word.old.items) path.old }
-    ensures word { map (λ name. name.now) word.new.items
-        ≡ word_after (map (λ name. name.now) word.old.items) line.now }
-    ensures room { vec_capacity word.new ≡ vec_capacity word.old }
-    ensures short { vec_len word.new ≤ vec_len word.old + 1 }
-    ensures kept { IsKept (map (λ name. name.now) word.new.items) path.new }
-{
-    word.truncate(line.depth);
-    path.cut(word.len());
-    push_name(word, line.name);
-}
-
-/// Adds a name, if there is one.
-fn push_name<'t>(word: &mut Vec<&'t Name>, name: Option<&'t Name>)
-    requires room { vec_len word.old < vec_capacity word.old }
-    ensures word { map (λ name. name.now) word.new.items
-        ≡ with_name (map (λ name. name.now) word.old.items) (option_map (λ name. name.now)
-        name.entry) }
-    ensures room { vec_capacity word.new ≡ vec_capacity word.old }
-    ensures short { vec_len word.new ≤ vec_len word.old + 1 }
-{
-    if let Some(name) = name {
-        word.push_reserved(name);
-    }
-}
-
-/// Adds the line of something that stands at the end of these names, the first of which are kept, or
-/// is still to be made.
+/// Adds the line that came last, about what stands at the end of these names, or is still to be made.
 fn add_line<S: Sink>(
     block: &mut Block,
     line: &ListLine<'_>,
+    lines: &NamedLines<'_>,
     columns: &Columns,
-    path: &KeptPath,
-    word: &[&Name],
     texts: &mut CallsTexts,
     sink: &mut S,
 ) -> Result<(), PutFault>
-    requires kept { IsKept (map (λ name. name.now) word.now) path.now }
-    ensures { PassesOn S.written S.failed
-        (whole_line columns.now (map (λ name. name.now) word.now) line.now)
+    ensures { PassesOn S.written S.failed (whole_line columns.now lines.now.word line.now)
         result block.old block.new sink.old sink.new }
 {
     let kind = kind_in(line.thing);
     block.add(kind_bytes(kind), sink)?;
-    add_place(block, line.thing, path, word, sink)?;
+    add_place(block, line.thing, lines, sink)?;
     texts.add_calls(block, kind, line.calls, sink)?;
     columns.add_to(block, line.resting, line.veil, sink)
 }
@@ -178,39 +141,33 @@ fn kind_bytes(kind: ObjectKind) -> &'static [u8]
 fn add_place<S: Sink>(
     block: &mut Block,
     thing: EverThing,
-    path: &KeptPath,
-    word: &[&Name],
+    lines: &NamedLines<'_>,
     sink: &mut S,
 ) -> Result<(), PutFault>
-    requires kept { IsKept (map (λ name. name.now) word.now) path.now }
-    ensures { PassesOn S.written S.failed
-        (path_or_new thing (map (λ name. name.now) word.now) ++ 32 ∷ [])
+    ensures { PassesOn S.written S.failed (path_or_new thing lines.now.word ++ 32 ∷ [])
         result block.old block.new sink.old sink.new }
 {
     match thing {
-        EverThing::Stands(_) => add_kept_path(block, path, word, sink),
+        EverThing::Stands(_) => add_kept_path(block, lines, sink),
         EverThing::Comes(_) => block.add(b"new ", sink),
     }
 }
 
-/// Adds the path that leads by these names from the root, as it is printed, and a blank. The first of
-/// the names are kept.
+/// Adds the path to what the last line is about as it is printed, and a blank.
 fn add_kept_path<S: Sink>(
     block: &mut Block,
-    path: &KeptPath,
-    word: &[&Name],
+    lines: &NamedLines<'_>,
     sink: &mut S,
 ) -> Result<(), PutFault>
-    requires kept { IsKept (map (λ name. name.now) word.now) path.now }
-    ensures { PassesOn S.written S.failed
-        (printed_path base.Root (map (λ name. name.now) word.now) ++ 32 ∷ [])
+    ensures { PassesOn S.written S.failed (printed_path base.Root lines.now.word ++ 32 ∷ [])
         result block.old block.new sink.old sink.new }
 {
-    if word.is_empty() {
+    if lines.are_at_root() {
         return block.add(b"/ ", sink);
     }
-    block.add_all(path.text(), sink)?;
-    add_rest(block, &word[path.len()..], sink)
+    let (first, rest) = lines.path();
+    block.add_all(first, sink)?;
+    add_rest(block, rest, sink)
 }
 
 /// Adds the path that leads by these names from the root, as it is printed, and a blank.

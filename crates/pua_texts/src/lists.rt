@@ -8,7 +8,7 @@ ghost use Rattle.pua_texts.specs.Tells.{TellsTo};
 use crate::block::Block;
 use crate::calls_text::CallsTexts;
 use crate::fault::TextFault;
-use crate::kept_path::KeptPath;
+use crate::named_lines::NamedLines;
 use crate::places::Places;
 use crate::process_list::ProcessList;
 use pua_io::{PutFault, Sink};
@@ -31,7 +31,7 @@ pub(crate) fn write_all<'t, T: FileTree, S: Sink>(
         result sink.old sink.new }
 {
     let mut places = Places::new(alloc, tree)?;
-    let mut path = KeptPath::new(alloc)?;
+    let mut lines = NamedLines::new(alloc)?;
     let mut texts = CallsTexts::new(alloc)?;
     let mut block = Block::new(alloc)?;
     let added = add_lists(
@@ -39,7 +39,7 @@ pub(crate) fn write_all<'t, T: FileTree, S: Sink>(
         front,
         lists,
         &mut places,
-        &mut path,
+        &mut lines,
         &mut texts,
         sink,
     );
@@ -52,7 +52,7 @@ fn add_lists<'t, T: FileTree, S: Sink>(
     front: &str,
     lists: &mut VecDeque<ProcessList<'t>>,
     places: &mut Places<'t, T>,
-    path: &mut KeptPath,
+    lines: &mut NamedLines<'t>,
     texts: &mut CallsTexts,
     sink: &mut S,
 ) -> Result<(), PutFault>
@@ -61,8 +61,8 @@ fn add_lists<'t, T: FileTree, S: Sink>(
         result block.old block.new sink.old sink.new }
 {
     block.add_text(front.as_bytes(), sink)?;
-    while let Some(mut list) = lists.pop_front() {
-        list.add_to(block, places, path, texts, sink)?;
+    while let Some(list) = lists.pop_front() {
+        list.add_to(block, places, lines, texts, sink)?;
     }
     Ok(())
 }

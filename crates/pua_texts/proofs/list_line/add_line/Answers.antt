@@ -9,7 +9,7 @@ pub returns-in_err-add : goal.returns-in_err-add
 returns-in_err-add g c =
     let line = c.args.line.now in
     let k = kind_word (kind_of line.thing) ++ 32 ∷ [] in
-    let w = path_or_new line.thing (map (λ name. name.now) c.args.word.now) ++ 32 ∷ [] in
+    let w = path_or_new line.thing c.args.lines.now.word ++ 32 ∷ [] in
     let names = with_commas (map call_name (calls_in line.calls)) in
     let end = columns_of c.args.columns.now line.resting line.veil in
     let p = err_from_is_err_and c.from_residual.result c.from_residual.ensures.1 in
@@ -22,7 +22,7 @@ pub returns-in_err-add_place : goal.returns-in_err-add_place
 returns-in_err-add_place g c =
     let line = c.args.line.now in
     let k = kind_word (kind_of line.thing) ++ 32 ∷ [] in
-    let w = path_or_new line.thing (map (λ name. name.now) c.args.word.now) ++ 32 ∷ [] in
+    let w = path_or_new line.thing c.args.lines.now.word ++ 32 ∷ [] in
     let names = with_commas (map call_name (calls_in line.calls)) in
     let end = columns_of c.args.columns.now line.resting line.veil in
     let p = err_from_is_err_and c.from_residual-in_err-add_place.result c.from_residual-in_err-add_place.ensures.1 in
@@ -36,7 +36,7 @@ pub returns-in_err-add_calls : goal.returns-in_err-add_calls
 returns-in_err-add_calls g c =
     let line = c.args.line.now in
     let k = kind_word (kind_of line.thing) ++ 32 ∷ [] in
-    let w = path_or_new line.thing (map (λ name. name.now) c.args.word.now) ++ 32 ∷ [] in
+    let w = path_or_new line.thing c.args.lines.now.word ++ 32 ∷ [] in
     let names = with_commas (map call_name (calls_in line.calls)) in
     let end = columns_of c.args.columns.now line.resting line.veil in
     let p = err_from_is_err_and c.from_residual-in_err-add_calls.result c.from_residual-in_err-add_calls.ensures.1 in
@@ -51,7 +51,7 @@ pub returns : goal.returns
 returns g c =
     let line = c.args.line.now in
     let k = kind_word (kind_of line.thing) ++ 32 ∷ [] in
-    let w = path_or_new line.thing (map (λ name. name.now) c.args.word.now) ++ 32 ∷ [] in
+    let w = path_or_new line.thing c.args.lines.now.word ++ 32 ∷ [] in
     let names = with_commas (map call_name (calls_in line.calls)) in
     let end = columns_of c.args.columns.now line.resting line.veil in
     let kind = c.kind_bytes.ensures.bytes ∙ ap (λ kind. kind_word kind ++ 32 ∷ []) c.kind_in-kind.ensures in

@@ -1,10 +1,10 @@
-use Rattle.pua_texts.proofs.Common.{◌≡◌, [], List, ℕ, ap, subst, ◌∙◌, map, calls_in, Passes, Word}
+use Rattle.pua_texts.proofs.Common.{◌≡◌, [], List, ℕ, ap, subst, ◌∙◌, calls_in, Passes}
 use Rattle.std.proofs.Common.{◌≢◌}
 use Rattle.std.proofs.lemmas.Bool.Decides.{not_from_Decides}
-use Rattle.pua_texts.specs.ListLines.{whole_line}
+use Rattle.pua_texts.specs.ListLines.{NamedState, whole_line}
 use Rattle.pua_texts.proofs.ListLines.{is_line}
 use Rattle.pua_texts.proofs.Passing.{passes_none}
-use Rattle.pua_texts.proofs.list_line.add_next.Goals as goal
+use Rattle.pua_texts.proofs.list_line.add_last.Goals as goal
 
 pub returns-then-is_empty-clause-line : goal.returns-then-is_empty-clause-line
 returns-then-is_empty-clause-line g c =
@@ -15,9 +15,7 @@ pub returns-clause-line : goal.returns-clause-line
 returns-clause-line g c =
     let line = c.args.line.now in
     let some : calls_in line.calls ≢ [] = not_from_Decides c.is_empty.result c.is_empty.ensures c.if-is_empty.false in
-    let word = map (λ name. name.now) c.go_on.new.word.items in
-    let given = ap (map (λ name. name.now)) c.as_slice-2.ensures.value in
     subst (λ (text : List ℕ). Passes text c.add_line.result c.args.block.now c.add_line.new.block (g.S.Sink.written c.args.sink.now)
     (g.S.Sink.written c.add_line.new.sink) (g.S.Sink.failed c.args.sink.now) (g.S.Sink.failed c.add_line.new.sink))
-    (ap (λ (w : Word). whole_line c.args.columns.now w line) (given ∙ c.go_on.ensures.word)
-    ∙ is_line (calls_in line.calls) _ some) c.add_line.ensures
+    (ap (λ (s : NamedState). whole_line c.args.columns.now s.word line) c.keep_path.ensures ∙ is_line (calls_in line.calls) _ some)
+    c.add_line.ensures
