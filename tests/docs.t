@@ -514,7 +514,7 @@ sub test_options {
     my %told = map { $_ => 1 } map { /`--(\w+)/g } content('README.md') =~ /^(\| `--.*?) \|/mg;
     is(join(' ', sort keys %told), $all, 'README tells of each option') if %told;
     return if !$has_sources;
-    my ($rows, $specs) = map { join "\n", sort content($_) =~ /pua: usage: [^"]*/g }
+    my ($rows, $specs) = map { join "\n", sort { $a cmp $b } content($_) =~ /pua: usage: [^"]*/g }
         'tests/data/rows.toml', 'crates/pua_words/specs/Usages.antt';
     is($rows, $specs, 'the usage lines are those of the definition');
     return;
