@@ -25,7 +25,7 @@ pub struct WordUse {
     /// The index of its line, the first line's 0.
     pub line: usize,
     /// The word.
-    pub piece: Piece,
+    pub word: Piece,
     /// The index of the first line that is answered otherwise, where it is left out of the tightened
     /// script; None where none is, since the tightened script doesn't have it.
     pub needed_by: Option<usize>,
@@ -95,7 +95,7 @@ fn uses_of(
         let needed_by = other_without(wanted, word, requests)?;
         let word = WordUse {
             line: word.line,
-            piece: word.piece,
+            word: word.piece,
             needed_by,
         };
         let Ok(()) = uses.push(word) else {
