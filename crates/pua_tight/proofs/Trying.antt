@@ -33,6 +33,7 @@ use Rattle.pua_tight.proofs.Asking.{one_more}
 use Rattle.pua_tight.proofs.OneByOne.{tried_one_by_one}
 use Rattle.pua_tight.proofs.Pieces.{scripts_are_tightened}
 use Rattle.pua_tight.proofs.Served.{same_by_first, dropped, gone_by}
+use Rattle.pua_tight.proofs.Tightened.{tightens}
 
 -- the lines of a script by what it was answered
 pub lines_told : (table : CallTable) (w : World) (asks : List Asked) → lines_by (asked_for table) asks (answers_to table w asks) ≡ lines_of table w asks
@@ -153,6 +154,33 @@ given_back piece ask = by piece ask.action
     by (InPromises bit) Exit = refl
     by (InExecpromises bit) Exit = refl
     by (InVeil bit) Exit = refl
+
+given_kept : (ask : Asked) → with_arguments (arguments_of ask.action) ask ≡ ask
+given_kept ask = by ask.action
+  where
+    by : (action : Action) →
+        with_arguments (arguments_of action) (record { process = ask.process; action = action }) ≡ record { process = ask.process; action = action }
+    by (Pledge p e) = refl
+    by (Unveil path perms) = refl
+    by (OnPath call path) = refl
+    by (Symlink target path) = refl
+    by (Rename old new) = refl
+    by (Link old new) = refl
+    by Lock = refl
+    by (Fork new) = refl
+    by Exit = refl
+
+-- a piece that a line doesn't have
+pub nothing_left : (asks : List Asked) (index : ℕ) (piece : Piece) (ask : Asked) → slice_get asks index ≡ Some ask →
+    arguments_left piece (arguments_of ask.action) ≡ arguments_of ask.action → leave_out index piece asks ≡ asks
+nothing_left asks index piece ask there same =
+    by asks index there (sym (given_left piece ask) ∙ ap (λ a. with_arguments a ask) same ∙ given_kept ask)
+  where
+    by : (asks : List Asked) (index : ℕ) → slice_get asks index ≡ Some ask → without piece ask ≡ ask → leave_out index piece asks ≡ asks
+    by [] index e kept = refl
+    by (first ∷ asks) zero e kept =
+        ap (λ a. a ∷ asks) (ap (without piece) (same_Some first ask e) ∙ kept ∙ sym (same_Some first ask e))
+    by (first ∷ asks) (suc index) e kept = ap (λ l. first ∷ l) (by asks index e kept)
 
 -- what one trial leaves, by the first line that is answered otherwise
 pub tried_by : (table : CallTable) (w : World) (want : List Answer) (trial : Trial) (asks : List Asked) →
@@ -356,7 +384,8 @@ module _ (table own_table : CallTable) (tree_bytes own_bytes script_bytes : List
 
   -- what its words are needed for
   pub uses_made : (words : List Trial) (told : List WordUse) → words ≡ words_from 0 (lines_by (asked_for table) asks answers) →
-      ((t : Tree) → listing own_bytes ≡ Ok t → told ≡ map (use_by own_table (new_world t) answers left) words) →
+      ((t : Tree) → listing own_bytes ≡ Ok t → answers_to own_table (new_world t) left ≡ answers →
+      told ≡ map (use_by own_table (new_world t) answers left) words) →
       uses_over table tree_bytes script_bytes ≡ Ok told
   uses_made words told are is =
       let w : World = new_world given.tree in
@@ -365,8 +394,10 @@ module _ (table own_table : CallTable) (tree_bytes own_bytes script_bytes : List
       let all : words ≡ words_from 0 lines =
       are ∙ ap (λ l. words_from 0 (lines_by (asked_for table) asks l)) given.told ∙ ap (words_from 0) (lines_told table w asks) in
       let wanted : answers ≡ answers_to table w (asks_of lines) = given.told ∙ ap (answers_to table w) (sym own) in
+      let same : answers_to own_table w left ≡ answers =
+      (λ j. answers_to (same_table j) w (is_tight j)) ∙ (tightens table w lines).same ∙ sym wanted in
       made_of (λ t asks. uses table (new_world t) (lines_of table (new_world t) asks)) tree_bytes script_bytes given.tree asks given.listed given.read
-      ∙ ap Ok (sym (is given.tree own_listed ∙ ap (λ t. map (use_by t w answers left) words) same_table
+      ∙ ap Ok (sym (is given.tree own_listed same ∙ ap (λ t. map (use_by t w answers left) words) same_table
       ∙ ap (λ l. map (use_by table w answers left) l) all
       ∙ ap (λ l. map (use_by table w l left) (words_from 0 lines)) wanted
       ∙ ap (λ l. map (use_by table w (answers_to table w (asks_of lines)) l) (words_from 0 lines)) is_tight))

@@ -77,7 +77,7 @@ fn words_of(
     Ok(words)
 }
 
-/// What words are needed for, of a tightened script.
+/// What words are needed for, of a tightened script, which is answered as is wanted.
 fn uses_of(
     alloc: Global,
     wanted: &Wanted<'_>,
@@ -85,6 +85,8 @@ fn uses_of(
     requests: &mut Vec<Request>,
 ) -> Result<Vec<WordUse>, TightFault>
     ensures done { IfOk result (λ uses. (t : Tree) → listing wanted.now.tree_bytes.now ≡ Ok t →
+        answers_to wanted.now.table.now (new_world t) requests.old.items
+        ≡ wanted.now.answers.items →
         uses.items ≡ map (use_by wanted.now.table.now (new_world t) wanted.now.answers.items
         requests.old.items) words.now) }
     ensures refused { IfErr result (λ fault. fault ≢ TightFault.OutOfMemory →
