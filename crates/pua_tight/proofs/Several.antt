@@ -1,5 +1,5 @@
 -- A script that is answered as before without several words is answered as before without each of them.
-use Rattle.std.proofs.Common.{◌≡◌, ℕ, zero, suc, List, [], ◌∷◌, ◌++◌, ◌+◌, ◌<◌, ◌≤◌, ◌∙◌, refl, sym, ap, Bool, true, false, cond, length, map, take, drop}
+use Rattle.std.proofs.Common.{◌≡◌, ℕ, zero, suc, List, [], ◌∷◌, ◌++◌, ◌+◌, ◌<◌, ◌≤◌, ◌∙◌, refl, sym, ap, Bool, true, false, cond, length, take, drop}
 use Rattle.std.proofs.Common.{arith, min, get_or, subst}
 use Rattle.std.proofs.Common.{inl, inr, ◌⊎◌}
 use Rattle.std.proofs.Math.Nat.{eq-or-lt_of_le}
@@ -17,7 +17,7 @@ use Rattle.pua_tight.specs.Narrower.{AskWithin, WorldWithin}
 use Rattle.pua_tight.specs.Tight.{Piece, InVeil, Line, asked_for, asks_of, lines_of, same_answers, without}
 use Rattle.pua_tight.specs.Laws.{IsPieceOf, AreOkay, leave_out}
 use Rattle.pua_tight.specs.Left.{lines_by, put_back_at}
-use Rattle.pua_tight.specs.Trials.{Trial, trials_from, tried, all_tried}
+use Rattle.pua_tight.specs.Trials.{Trial, trials_from, all_tried}
 use Rattle.pua_tight.specs.Several.{AreDone, AreUpTo, Descend, IsToTry, all_back, all_left}
 use Rattle.pua_tight.specs.declared.together.Kept.{Kept}
 use Rattle.pua_tight.proofs.Asking.{again, one_more}

@@ -1,4 +1,4 @@
-use Rattle.std.proofs.Common.{◌≡◌, ◌-◌, ◌≤◌, length, take, drop, arith, List}
+use Rattle.std.proofs.Common.{◌≡◌, ◌-◌, length, take, drop, arith, List}
 use Rattle.std.proofs.lemmas.List.{length-drop, length-take, take_all}
 use Rattle.pua_script.specs.Replay.{new_world}
 use Rattle.pua_tight.specs.Trials.{Trial}
