@@ -1,10 +1,10 @@
 #!/usr/bin/env python3
 """Writes the scripts of the benchmarks into a folder: python3 scripts.py FOLDER
 
-All but `refused-1000` (2,000), `denied` (20,001), `climb`, `descend`, `empty` and the veils have 60,000 lines. `ten` and
-`through` are for the listing `deep`. `one`, `many`, `looks`, `edits`, `sandbox`, `denied` and the three `refused` are for the
-listing `large` of listings.py, which has 4,000 nodes, `mkdirs` for `folders`, `links` for `linked`, `fill` for `wide`, `climb`
-and `descend` for `tower`. In `one` process 1 makes all calls; in `many` 256 processes take turns."""
+All but `refused-1000` (2,000), `denied` (20,001), `climb`, `descend`, `empty`, the veils, and those of words (4,000) and of
+sixty (20,000) have 60,000 lines. `ten` and `through` are for the listing `deep`. `one`, `many`, `looks`, `edits`, `sandbox`,
+`denied`, the three `refused`, and those of words and of sixty are for the listing `large` of listings.py, which has 4,000 nodes,
+`mkdirs` for `folders`, `links` for `linked`, `fill` for `wide`, `climb` and `descend` for `tower`. In `one` process 1 makes all calls; in `many` 256 processes take turns."""
 import sys
 
 LINES = 60_000
@@ -126,6 +126,25 @@ def narrow(path):
     return [f"1 unveil {path} r", "1 unveil - -"]
 
 
+def veiled(count, far):
+    """Files with three letters each that are needed: by the next two lines, or behind all veils."""
+    files = [f"/dir{turn % 61:03d}/file{turn // 61:03d}.c" for turn in range(count)]
+    askers = [1 + turn // 121 for turn in range(count)]
+    forks = [f"1 fork {number}" for number in range(2, askers[-1] + 1)]
+    veils = [[f"{asker} unveil {file} rwc"] for asker, file in zip(askers, files)]
+    needs = [[f"{asker} open-rw {file}", f"{asker} unlink {file}"] for asker, file in zip(askers, files)]
+    turns = veils + needs if far else [veil + need for veil, need in zip(veils, needs)]
+    return forks + [line for turn in turns for line in turn]
+
+
+def sixty(needed):
+    """20,000 lines of which the first give 60 letters, and the last need all of them, or none."""
+    lines = veiled(20, True)
+    made = calls()
+    middle = [f"2 {next(made)}" for _ in range(20_000 - len(lines) - 1)]
+    return ["1 fork 2"] + lines[:20] + middle + (lines[20:] if needed else middle[:40])
+
+
 made = {"one": one(), "many": many(), "looks": looks(), "edits": edits(), "mkdirs": mkdirs(), "sandbox": sandbox()}
 made |= {"links": links(), "fill": fill(), "climb": climb(CLIMBS), "descend": climb(0), "empty": []}
 made |= {"refused": refused(LINES), "refused-300": refused(300), "refused-1000": refused(LINES, 2_000), "denied": denied()}
@@ -133,5 +152,7 @@ made |= {"ten": stats("".join(f"/part{number}" for number in range(10))), "throu
 made |= {"veil-names": narrow("/d50/file0050"), "veil-dead": narrow("/d99/g"), "veil-etc": narrow("/etc/ssl")}
 made |= {"veil-include": narrow("/usr/include/linux/can"), "veil-large": narrow("/dir030/file030.c")}
 made |= {"veil-tower": narrow("/")}
+made |= {"words-near": veiled(1_330, False), "words-far": veiled(1_330, True), "words-spare": ["1 pledge stdio,rpath -"] * 4_000}
+made |= {"sixty-needed": sixty(True), "sixty-spare": sixty(False)}
 for name, lines in made.items():
     write(name, lines)

@@ -498,7 +498,7 @@ sub test_options {
     my @shown = content('README.md') =~ /^    (pua \w+ .*(?:\n {6,}.*)*)/mg;
     my %readme = usages_of(grep { /\[--/ } @shown);
     my %all;
-    for my $command (qw(run objects why audit)) {
+    for my $command (qw(run objects why tight audit)) {
         my @help = content("tests/data/help/$command") =~ /^ +(?:-\w, )?--([a-z]+)/mg;
         my $help = join ' ', sort grep { $_ ne 'help' } @help;
         $all{$_} = 1 for split ' ', $help;
@@ -514,7 +514,7 @@ sub test_options {
     my %told = map { $_ => 1 } map { /`--(\w+)/g } content('README.md') =~ /^(\| `--.*?) \|/mg;
     is(join(' ', sort keys %told), $all, 'README tells of each option') if %told;
     return if !$has_sources;
-    my ($rows, $specs) = map { join "\n", sort content($_) =~ /pua: usage: [^"]*/g }
+    my ($rows, $specs) = map { join "\n", sort { $a cmp $b } content($_) =~ /pua: usage: [^"]*/g }
         'tests/data/rows.toml', 'crates/pua_words/specs/Usages.antt';
     is($rows, $specs, 'the usage lines are those of the definition');
     return;

@@ -27,6 +27,7 @@ my %HELP = (
     audit   => ['audit -h', 'audit --help'],
     objects => ['objects --help'],
     why     => ['why --help'],
+    tight   => ['tight --help', 'help tight'],
 );
 my $VERSION = "pua 0.1.0\nrattle-kit-13f logic dac8208d650f15bf\n";
 

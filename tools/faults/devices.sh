@@ -10,6 +10,7 @@ cd "$room" || exit 2
 printf 'tree 1\n0 dir\n' > tree
 : > script
 printf '1 stat /\n' > asks
+printf '1 unveil / r\n' > veils
 truncate -s 67108864 longest
 truncate -s 67108865 longer
 wrong=0
@@ -82,7 +83,8 @@ expect 'a long file' 1 'pua: script: line 20001: bad line'
 mkfifo pipe unread
 # (an output that is open and that nobody reads)
 exec 3<> unread 4> unread 3>&-
-for words in 'audit --limit 0 tree asks' 'objects --process all tree asks' 'run tree asks' --help --version; do
+for words in 'audit --limit 0 tree asks' 'objects --process all tree asks' 'run tree asks' 'tight tree asks' 'tight --why tree veils' \
+    --help --version; do
     "$program" $words > /dev/full 2> told
     status=$?
     expect "a full device: $words" 3 'pua: cannot write'

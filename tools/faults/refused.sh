@@ -94,12 +94,17 @@ sweep 'objects, and places that are gone' 0 objects tree gone
 sweep 'for ever' 0 objects --ever tree one
 sweep 'for ever, and what can be moved' 0 objects --ever --process 2 twice moves
 sweep 'for ever, and places that are gone' 0 objects --ever tree gone
+sweep 'a tightened script' 0 tight tree gone
+sweep 'a tightened script of a file with two names' 0 tight twice moves
+sweep 'what words are needed by' 0 tight --why tree gone
+sweep 'a tightened script by a table' 0 tight --table calls tree makes
 sweep 'a run by a table' 0 run --table calls tree veils
 sweep 'an audit by a table' 0 audit --limit 3 --table calls tree one
 sweep 'objects by a table' 0 objects --table calls tree one
 sweep 'help' 0 --help
 sweep 'help of an audit' 0 audit --help
 sweep 'help of objects' 0 objects --help
+sweep 'help of a tightened script' 0 tight --help
 sweep 'the version' 0 --version
 sweep 'no words' 2
 sweep 'words of no command' 2 audit --limit x tree one
@@ -108,6 +113,7 @@ sweep 'a table with a bad row' 1 run --table nested tree none
 sweep 'a listing that is cut' 1 run cut none
 sweep 'a further name of no node' 1 run lost none
 sweep 'a list with an empty word' 1 run tree list
+sweep 'a tightened list with an empty word' 1 tight tree list
 sweep 'a process that can still unveil' 1 objects --ever tree none
 sweep 'a table by which nothing stays' 1 objects --ever --table stays tree one
 sweep 'no such process' 1 audit --limit 1 --process 9 tree none

@@ -11,3 +11,17 @@ pub use Rattle.pua_ever.proofs.RowsLast.{exec_told}
 pub use Rattle.pua_ever.proofs.Through.{no_line}
 -- the list that holds longest, by who holds both sets
 pub use Rattle.pua_ever.proofs.Chosen.{through_lines, lasting_unbounded, lasting_alone, lasting_through, locked_same, unrefused_both}
+-- what an item is about stands in its tree, what covers that now is among the covers under which it can come, and which others are
+pub use Rattle.pua_ever.proofs.Now.{StandsNow, items_stand, dir_cover, file_cover}
+pub use Rattle.pua_ever.proofs.Ending.{named_moved, named_linked}
+-- a directory is allowed what one is of which more can be asked
+pub use Rattle.pua_ever.proofs.KindFaults.{dir_alike}
+-- what some element passes
+pub use Rattle.pua_ever.proofs.Ways.{any_among, any_found}
+-- who holds both sets: what it holds, and what leaving out pledges leaves of its veils
+pub use Rattle.pua_ever.proofs.Through.{first_of, second_of, held_both, within_both}
+pub use Rattle.pua_ever.proofs.Lasts.{any_too}
+pub use Rattle.pua_ever.proofs.Standing.{kept_after}
+pub use Rattle.pua_ever.proofs.Holding.{goes, along_now, may_holds, bound_parts}
+-- and which list is the one that holds longest
+pub use Rattle.pua_ever.proofs.Chosen.{lasting_unstarted}

@@ -39,7 +39,7 @@ ever_lasts_after_read table sound needs tree_bytes script_bytes t first asks lis
     (replays_keep_trees table w asks left bytes) edits member belongs
 
 -- leaving out pledges leaves a veil
-any_too : (h : History) → list_any is_unveil (filter (λ event. not (is_pledge event)) h) ≡ list_any is_unveil h
+pub any_too : (h : History) → list_any is_unveil (filter (λ event. not (is_pledge event)) h) ≡ list_any is_unveil h
 any_too [] = refl
 any_too (Pledged p e ∷ h) = any_too h
 any_too (Unveiled place perms ∷ h) = refl

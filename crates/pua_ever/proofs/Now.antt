@@ -30,7 +30,7 @@ use Rattle.pua_ever.proofs.Prospected.{empty_can}
 
 module _ (t : Tree) (h : History) where
   -- what an item is about stands in the tree
-  abbrev StandsNow : Subject → Type 0
+  abbrev pub StandsNow : Subject → Type 0
   StandsNow (At (Whole dir way)) = is_dir t dir ≡ true
   StandsNow (At (Slot dir name (Some x))) = (look t dir name ≡ Some x) × (is_dir t x ≡ false)
   StandsNow (At (Slot dir name None)) = Unit {0}
@@ -39,7 +39,7 @@ module _ (t : Tree) (h : History) where
   abbrev ItemStands : Item → Type 0
   ItemStands item = StandsNow item.subject
 
-  items_stand : (depth dir : ℕ) (way : Way) (word : Word) → is_dir t dir ≡ true → (item : Item) →
+  pub items_stand : (depth dir : ℕ) (way : Way) (word : Word) → is_dir t dir ≡ true → (item : Item) →
       Among (items_below depth t (veils h) dir way word) item → ItemStands item
   items_stand zero dir way word living item a = absurd a
   items_stand (suc depth) dir way word living item (inl e) = subst ItemStands e living
@@ -66,14 +66,14 @@ module _ (t : Tree) (h : History) where
       by more name None row (inr a) = absurd a
       by more name (Some x) row a = at more name x row (is_dir t x) refl a
 
-  module _ (well : WellFormed t) (table : CallTable) (c : Call) where
+  module _ (well : WellFormed t) (table : CallTable) where
     -- what covers a thing now is among its covers
-    dir_cover : (dir : ℕ) → is_dir t dir ≡ true → Among (covers_of_dir t table h dir) (cover_in t h dir)
+    pub dir_cover : (dir : ℕ) → is_dir t dir ≡ true → Among (covers_of_dir t table h dir) (cover_in t h dir)
     dir_cover dir is = ever_first (is_none (perms_kept h (place.Dir dir)) && can_move table h (cover_in t h dir)) (cover_in t h dir)
         (dir_covers t h)
         (λ both. way_by_c t h dir is (moved_has_c table h (cover_in t h dir) (and_parts (is_none (perms_kept h (place.Dir dir))) _ both).1))
 
-    file_cover : (dir : ℕ) (name : List ℕ) (x : ℕ) → look t dir name ≡ Some x → is_dir t x ≡ false →
+    pub file_cover : (dir : ℕ) (name : List ℕ) (x : ℕ) → look t dir name ≡ Some x → is_dir t x ≡ false →
         Among (covers_of t table h (At (Slot dir name (Some x)))) (cover t h (Slot dir name (Some x)))
     file_cover dir name x row other =
         named_first t table h (kind_at t x) left (λ can. by (perms_kept h (place.Slot dir name)) refl (moved_has_c table h left can))
@@ -101,6 +101,7 @@ module _ (t : Tree) (h : History) where
             subst (Among (file_covers t table h)) (sym same)
             (file_by_open t h table (cover_in t h dir) (open_by t h dir living with_c))
 
+  module _ (well : WellFormed t) (table : CallTable) (c : Call) where
     -- a directory that can be removed now is empty now
     abbrev empties : ℕ → Way → Bool
     empties dir way = is_named_way way && (can_empty t h dir && (may_edit table h || not (list_any (λ row. row.0.0 == dir) t.rows)))
@@ -127,14 +128,14 @@ module _ (t : Tree) (h : History) where
         parts.covered in
         let empty : c ≡ call.Rmdir → empties dir way ≡ true =
         λ rmdir. removed dir way (ap (λ x. object_fault t x (IsDir dir way)) (sym rmdir) ∙ parts.kind) in
-        under_one table t h (covers_of_dir t table h dir) (dir_as (empties dir way)) c (cover_in t h dir) (dir_cover dir is) parts.may
+        under_one table t h (covers_of_dir t table h dir) (dir_as (empties dir way)) c (cover_in t h dir) (dir_cover well table dir is) parts.may
         covered (dir_alike t c dir way (empties dir way) empty parts.kind)
     allowed_still (At (Slot dir name (Some x))) found e =
         let left = cover t h (Slot dir name (Some x)) in
         let parts = parts_of (may_any h (rule_of table c).alternatives) (cover_fault left (rule_of table c).perms)
         (object_fault t c (object_of_kind (kind_at t x))) (allowed_is _ e) in
         under_one table t h (covers_of t table h (At (Slot dir name (Some x)))) (object_of_kind (kind_at t x)) c left
-        (file_cover dir name x found.0 found.1) parts.may parts.covered (sym (plain_alike t c (kind_at t x)) ∙ parts.kind)
+        (file_cover well table dir name x found.0 found.1) parts.may parts.covered (sym (plain_alike t c (kind_at t x)) ∙ parts.kind)
     allowed_still (At (Slot dir name None)) found e =
         let left = cover t h (Slot dir name None) in
         let parts = parts_of (may_any h (rule_of table c).alternatives) (cover_fault left (rule_of table c).perms)
@@ -143,7 +144,7 @@ module _ (t : Tree) (h : History) where
     allowed_still (Others dir) is e =
         let parts = parts_of (may_any h (rule_of table c).alternatives) (cover_fault (cover_in t h dir) (rule_of table c).perms)
         (object_fault t c IsMissing) (allowed_is _ e) in
-        under_one table t h (covers_of_dir t table h dir) IsMissing c (cover_in t h dir) (dir_cover dir is) parts.may parts.covered
+        under_one table t h (covers_of_dir t table h dir) IsMissing c (cover_in t h dir) (dir_cover well table dir is) parts.may parts.covered
         (sym (plain_alike t c None) ∙ parts.kind)
 
     -- so a call of now is one for ever

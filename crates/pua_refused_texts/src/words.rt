@@ -50,6 +50,13 @@ fn why_line_for_objects() {
     }
 }
 
+/// To ask for a script with fewer rights has a line of its own.
+fn program_line_for_tight(alloc: Global) {
+    if let Err(Stop::Usage(UsageLine::Program)) = read_words(alloc, &["tight"]) {
+        unreachable!()
+    }
+}
+
 /// No words have the line of the program.
 fn objects_line_for_no_words(alloc: Global) {
     if let Err(Stop::Usage(UsageLine::Objects)) = read_words(alloc, &[]) {

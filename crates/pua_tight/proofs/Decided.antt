@@ -53,7 +53,7 @@ pub or_less : (a b m : Option Errno) → (a ≡ None → b ≡ None) → or_faul
 or_less None b m less e = ap (λ x. or_fault x m) (less refl) ∙ e
 or_less (Some x) b m less e = cc
 
-or_both : (a b c d : Option Errno) → (a ≡ None → b ≡ None) → (c ≡ None → d ≡ None) → or_fault a c ≡ None → or_fault b d ≡ None
+pub or_both : (a b c d : Option Errno) → (a ≡ None → b ≡ None) → (c ≡ None → d ≡ None) → or_fault a c ≡ None → or_fault b d ≡ None
 or_both None b c d less other e = ap (λ x. or_fault x d) (less refl) ∙ other e
 or_both (Some x) b c d less other e = cc
 

@@ -44,11 +44,11 @@ module _ (t : Tree) (vs ws : List (Place × ℕ)) (less : VeilsWithin vs ws) whe
       ∷ record { word = word; subject = Others dir }
       ∷ flat_map (λ name. items_at t (λ d y z. below_alike depth d y z i) dir word name (look t dir name)) (entries_alike dir i)
 
-  items_alike : items t vs ≡ items t ws
+  pub items_alike : items t vs ≡ items t ws
   items_alike = below_alike (length t.nodes) 0 Top []
 
 module _ (table : CallTable) (h k : History) (w : HistoryWithin h k) (t : Tree) where
-  in_within : (dir : ℕ) → CoverWithin (cover_in t h dir) (cover_in t k dir)
+  pub in_within : (dir : ℕ) → CoverWithin (cover_in t h dir) (cover_in t k dir)
   in_within dir = by (list_any is_unveil h) (list_any is_unveil k) (veiled_alike w) (dirs_within h k w (climb t dir))
     where
       by : (x y : Bool) {c d : Cover} → x ≡ y → CoverWithin c d → CoverWithin (cond x c All) (cond y d All)

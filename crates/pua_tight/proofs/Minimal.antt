@@ -32,7 +32,7 @@ use Rattle.pua_script.specs.declared.answer.Answer.{Answer}
 use Rattle.pua_script.specs.declared.answer.Answer.TheVariants as answer
 use Rattle.pua_script.specs.declared.request.Action.{Action}
 use Rattle.pua_script.specs.declared.request.Action.TheVariants.{OnPath, Symlink, Rename, Link, Pledge, Unveil, Lock, Fork, Exit}
-use Rattle.pua_tight.specs.Narrower.{HistoryWithin, HistoriesWithin, WorldWithin, as_given, AskWithin, AsksWithin, no_asks, asks}
+use Rattle.pua_tight.specs.Narrower.{HistoryWithin, HistoriesWithin, WorldWithin, AskWithin, AsksWithin, no_asks, asks}
 use Rattle.pua_tight.proofs.Histories.{ended_alike}
 use Rattle.pua_tight.proofs.Decided.{easier, granted_more}
 use Rattle.pua_tight.proofs.Rare.{is_rare, rare, checked_plain, path_plain, locked_plain, unknown_plain, object_plain, objects_plain}
@@ -40,11 +40,11 @@ use Rattle.pua_tight.proofs.Rare.{rename_plain, link_plain, veiling_plain}
 use Rattle.pua_tight.proofs.Between.{between}
 use Rattle.pua_tight.specs.Tight.{Piece, Line, asks_of, without, answer_number, same_answers, try_piece, thin_line, thin}
 use Rattle.pua_tight.specs.Laws.{IsPieceOf, MayLeaveOut, AreOkay, leave_out, TightIsMinimal}
-use Rattle.pua_tight.proofs.Tightened.{without_within, world_self, tried_same, line_within, thin_same}
+use Rattle.pua_tight.proofs.Tightened.{ask_less, ask_self, world_self, tried_same, line_within, thin_same}
 use Rattle.pua_tight.proofs.Less.{ask_mono, is_without, okay_less}
 use Rattle.pua_script.proofs.ForCallers.{one_request_more}
 use Rattle.std.specs.Prelude.{◌==◌, ◌&&◌}
-use Rattle.pua_tight.proofs.Worlds.{answered_alike, FoundWithin, never, made, found_within, alike_within, request_keeps}
+use Rattle.pua_tight.proofs.Worlds.{heads, tails, answered_alike, FoundWithin, never, made, found_within, alike_within, request_keeps}
 
 -- want of room
 abbrev pub is_full : Errno → Bool
@@ -193,15 +193,6 @@ request_between table lo mid hi low high ask =
     Goal : World → World → Type 0
     Goal m h = (apply table lo ask).0 ≡ (apply table h ask).0 → (apply table m ask).0 ≡ (apply table lo ask).0
 
-pub heads : (a b : Answer) (rest last : List Answer) → (a ∷ rest) ≡ (b ∷ last) → a ≡ b
-heads a b rest last e = cc
-
-pub tails : (a b : Answer) (rest last : List Answer) → (a ∷ rest) ≡ (b ∷ last) → rest ≡ last
-tails a b rest last e = cc
-
-given_self : (ask : Asked) → AskWithin ask ask
-given_self ask = record { process = refl; action = as_given }
-
 -- a script
 pub scripts_between : (table : CallTable) (lo mid hi : World) → WorldWithin lo mid → WorldWithin mid hi → (xs : List Asked) →
     answers_to table lo xs ≡ answers_to table hi xs → answers_to table mid xs ≡ answers_to table lo xs
@@ -210,14 +201,14 @@ scripts_between table lo mid hi low high (x ∷ xs) e =
     let outer : (apply table lo x).0 ≡ (apply table hi x).0 = heads _ _ _ _ e in
     let inner : (apply table mid x).0 ≡ (apply table lo x).0 = request_between table lo mid hi low high x outer in
     let rest = scripts_between table (apply table lo x).1 (apply table mid x).1 (apply table hi x).1
-    (request_keeps table lo mid x x low (given_self x) (sym inner))
-    (request_keeps table mid hi x x high (given_self x) (inner ∙ outer)) xs (tails _ _ _ _ e) in
+    (request_keeps table lo mid x x low (ask_self x) (sym inner))
+    (request_keeps table mid hi x x high (ask_self x) (inner ∙ outer)) xs (tails _ _ _ _ e) in
     ap (λ a. a ∷ answers_to table (apply table mid x).1 xs) inner ∙ ap (λ l. (apply table lo x).0 ∷ l) rest
 
 -- two scripts from a common front on
 pub asks_self : (xs : List Asked) → AsksWithin xs xs
 asks_self [] = no_asks
-asks_self (x ∷ xs) = asks (given_self x) (asks_self xs)
+asks_self (x ∷ xs) = asks (ask_self x) (asks_self xs)
 
 pub prefix : (table : CallTable) {xs ys : List Asked} → AsksWithin xs ys → (low high : World) → WorldWithin low high → (more rest : List Asked) →
     answers_to table low (xs ++ more) ≡ answers_to table high (ys ++ rest) →
@@ -232,6 +223,23 @@ pub compose : (table : CallTable) (w : World) (xs ys : List Asked) →
     answers_to table w (xs ++ ys) ≡ answers_to table w xs ++ answers_to table (world_after table w xs) ys
 compose table w [] ys = refl
 compose table w (x ∷ xs) ys = ap (λ l. (apply table w x).0 ∷ l) (compose table (apply table w x).1 xs ys)
+
+-- a request that is answered ok, between one with less and one with more
+pub middle_kept : (table : CallTable) (under over : World) → WorldWithin under over → (x less ask : Asked) → AskWithin x less → AskWithin less ask →
+    (apply table over ask).0 ≡ answer.Okay → (after : List Asked) → answers_to table under (x ∷ after) ≡ answers_to table over (ask ∷ after) →
+    answers_to table over (less ∷ after) ≡ answers_to table over (ask ∷ after)
+middle_kept table under over w x less ask lies thinner okay after e =
+    let first : (apply table under x).0 ≡ (apply table over ask).0 = heads _ _ _ _ e in
+    let rest : answers_to table (apply table under x).1 after ≡ answers_to table (apply table over ask).1 after = tails _ _ _ _ e in
+    let okay_mid : (apply table over less).0 ≡ answer.Okay = okay_less table over less ask thinner okay in
+    let high : WorldWithin (apply table over less).1 (apply table over ask).1 =
+    request_keeps table over over less ask (world_self over) thinner (okay_mid ∙ sym okay) in
+    let low : WorldWithin (apply table under x).1 (apply table over less).1 =
+    request_keeps table under over x less w lies (first ∙ okay ∙ sym okay_mid) in
+    let between_all : answers_to table (apply table over less).1 after ≡ answers_to table (apply table under x).1 after =
+    scripts_between table (apply table under x).1 (apply table over less).1 (apply table over ask).1 low high after rest in
+    ap (λ a. a ∷ answers_to table (apply table over less).1 after) (okay_mid ∙ sym okay)
+    ∙ ap (λ l. (apply table over ask).0 ∷ l) (between_all ∙ rest)
 
 within_more : {xs ys : List Asked} → AsksWithin xs ys → (x y : Asked) → AskWithin x y → AsksWithin (xs ++ x ∷ []) (ys ++ y ∷ [])
 within_more no_asks x y lies = asks lies no_asks
@@ -290,23 +298,9 @@ module _ (table : CallTable) (w : World) (want : List Answer) where
       last_step e =
           let ask : Asked = traced.ask in
           let pre = prefix table front w w (world_self w) (without piece x ∷ after) (ask ∷ after) (e ∙ sym traced.good) in
-          let first : (apply table under (without piece x)).0 ≡ (apply table over ask).0 = heads _ _ _ _ pre.1 in
-          let rest : answers_to table (apply table under (without piece x)).1 after ≡ answers_to table (apply table over ask).1 after =
-          tails _ _ _ _ pre.1 in
-          let thinner : AskWithin (without piece ask) ask = record { process = refl; action = without_within piece ask.action } in
-          let okay_mid : (apply table over (without piece ask)).0 ≡ answer.Okay = okay_less table over (without piece ask) ask thinner okay in
-          let high : WorldWithin (apply table over (without piece ask)).1 (apply table over ask).1 =
-          request_keeps table over over (without piece ask) ask (world_self over) thinner (okay_mid ∙ sym okay) in
-          let low : WorldWithin (apply table under (without piece x)).1 (apply table over (without piece ask)).1 =
-          request_keeps table under over (without piece x) (without piece ask) pre.0 (ask_mono piece x ask traced.lies)
-          (first ∙ okay ∙ sym okay_mid) in
-          let between_all : answers_to table (apply table over (without piece ask)).1 after
-          ≡ answers_to table (apply table under (without piece x)).1 after =
-          scripts_between table (apply table under (without piece x)).1 (apply table over (without piece ask)).1 (apply table over ask).1
-          low high after rest in
           let from_line : answers_to table over (without piece ask ∷ after) ≡ answers_to table over (ask ∷ after) =
-          ap (λ a. a ∷ answers_to table (apply table over (without piece ask)).1 after) (okay_mid ∙ sym okay)
-          ∙ ap (λ l. (apply table over ask).0 ∷ l) (between_all ∙ rest) in
+          middle_kept table under over pre.0 (without piece x) (without piece ask) ask (ask_mono piece x ask traced.lies)
+          (ask_less piece ask) okay after pre.1 in
           let whole : trial (without piece ask) ≡ want =
           compose table w before (without piece ask ∷ after) ∙ ap (λ l. answers_to table w before ++ l) from_line
           ∙ sym (compose table w before (ask ∷ after)) ∙ traced.good in

@@ -37,7 +37,7 @@ module _ (table : CallTable) (w : World) (want : List Answer) where
       ap (all_tried table w want (of_line (length before) pieces)) (one_tried before after ask piece)
       ∙ line_tried before after (try_piece table w want before after ask (without piece ask)) pieces
 
-  in_two : (xs ys : List Trial) (asks : List Asked) →
+  pub in_two : (xs ys : List Trial) (asks : List Asked) →
       all_tried table w want (xs ++ ys) asks ≡ all_tried table w want ys (all_tried table w want xs asks)
   in_two [] ys asks = refl
   in_two (x ∷ xs) ys asks = in_two xs ys (tried table w want x asks)

@@ -26,6 +26,13 @@ same_by_first (x ∷ xs) (y ∷ ys) =
     by true (Some n) e = e
     by false o e = refl
 
+-- nothing is another one than itself
+pub first_self : (xs : List Answer) → first_other xs xs ≡ None
+first_self [] = refl
+first_self (x ∷ xs) =
+    ap (λ b. cond b (option_map suc (first_other xs xs)) (Some 0)) (eq-eqb (answer_number x) (answer_number x) refl)
+    ∙ ap (option_map suc) (first_self xs)
+
 -- the index in lists of which so many were gone by
 abbrev pub first_from : ℕ → List Answer → List Answer → Option ℕ
 first_from gone xs ys = option_map (λ n. gone + n) (first_other xs ys)

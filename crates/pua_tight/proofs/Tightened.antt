@@ -70,6 +70,15 @@ action_twice first as_given = first
 action_twice (less_pledged p e) (less_pledged q f) = less_pledged (given_twice p q) (given_twice e f)
 action_twice (less_unveiled {a = a} {b = b} less) (less_unveiled {b = c} other) = less_unveiled (holds_through c b a other less)
 
+pub ask_self : (ask : Asked) → AskWithin ask ask
+ask_self ask = record { process = refl; action = as_given }
+
+pub ask_less : (piece : Piece) (ask : Asked) → AskWithin (without piece ask) ask
+ask_less piece ask = record { process = refl; action = without_within piece ask.action }
+
+pub ask_twice : {x y z : Asked} → AskWithin x y → AskWithin y z → AskWithin x z
+ask_twice first other = record { process = first.process ∙ other.process; action = action_twice first.action other.action }
+
 -- numbers tell answers apart
 errno_from : ℕ → Errno
 errno_from n =
@@ -134,8 +143,8 @@ module _ (table : CallTable) (w : World) (want : List Answer) where
     tried_within ask piece = by (same_answers (answered (without piece ask)) want)
       where
         by : (b : Bool) → AskWithin (cond b (without piece ask) ask) ask
-        by true = record { process = refl; action = without_within piece ask.action }
-        by false = record { process = refl; action = as_given }
+        by true = ask_less piece ask
+        by false = ask_self ask
 
     pub tried_same : (ask : Asked) (piece : Piece) → answered ask ≡ want →
         answered (try_piece table w want before after ask (without piece ask)) ≡ want
@@ -146,12 +155,9 @@ module _ (table : CallTable) (w : World) (want : List Answer) where
         by false is = same
 
     pub line_within : (ask : Asked) (pieces : List Piece) → AskWithin (thin_line table w want before after ask pieces) ask
-    line_within ask [] = record { process = refl; action = as_given }
+    line_within ask [] = ask_self ask
     line_within ask (piece ∷ pieces) =
-        let less : Asked = try_piece table w want before after ask (without piece ask) in
-        let further = line_within less pieces in
-        let first = tried_within ask piece in
-        record { process = further.process ∙ first.process; action = action_twice further.action first.action }
+        ask_twice (line_within (try_piece table w want before after ask (without piece ask)) pieces) (tried_within ask piece)
 
     pub line_same : (ask : Asked) (pieces : List Piece) → answered ask ≡ want → answered (thin_line table w want before after ask pieces) ≡ want
     line_same ask [] same = same

@@ -1,11 +1,11 @@
 -- Trials in code are those of the definition.
-use Rattle.std.proofs.Common.{◌≡◌, ◌≢◌, ℕ, zero, suc, List, [], ◌∷◌, ◌++◌, ◌+◌, ◌-◌, ◌<◌, ◌≤◌, ◌∙◌, refl, sym, ap, cond, length, map, take, drop, arith}
-use Rattle.std.proofs.Common.{true, false, append_assoc, append-nil, inl, inr}
+use Rattle.std.proofs.Common.{◌≡◌, ℕ, zero, suc, List, [], ◌∷◌, ◌++◌, ◌+◌, ◌<◌, ◌≤◌, ◌∙◌, refl, sym, ap, length, map, take, drop, arith}
+use Rattle.std.proofs.Common.{append_assoc, append-nil}
 use Rattle.std.proofs.Common.{get_or, set}
 use Rattle.std.proofs.lemmas.List.{map-append, take_all}
 use Rattle.std.proofs.lemmas.Bool.{ltb-false, ltb-true}
 use Rattle.std.proofs.lemmas.Option.{none-some, same_Some, slice_get_past, slice_get-get_or}
-use Rattle.std.specs.Prelude.{Option, Some, None, Result, Ok, Err, slice_get, is_none, option_copied, ◌⊎◌}
+use Rattle.std.specs.Prelude.{Option, Some, None, Result, Ok, Err, slice_get, option_copied}
 use Rattle.std.specs.Slice.{IsItemAt}
 use Rattle.std.specs.Borrow.{Bor}
 use Rattle.pua_tree.specs.Tree.{Tree}
@@ -23,16 +23,17 @@ use Rattle.pua_script.specs.declared.request.Action.{Action}
 use Rattle.pua_script.specs.declared.request.Action.TheVariants.{OnPath, Symlink, Rename, Link, Pledge, Unveil, Lock, Fork, Exit}
 use Rattle.pua_tight.specs.declared.fault.TightFault.{TightFault}
 use Rattle.pua_tight.specs.declared.arguments.Arguments.{Arguments}
-use Rattle.pua_tight.specs.Tight.{Piece, InPromises, InExecpromises, InVeil, Line, without, asked_for, asks_of, lines_of, tight}
+use Rattle.pua_tight.specs.Tight.{Piece, InPromises, InExecpromises, InVeil, Line, without, asked_for, asks_of, lines_of}
 use Rattle.pua_tight.specs.Laws.{leave_out}
 use Rattle.pua_tight.specs.Left.{arguments_of, arguments_left, with_arguments, put_back_at, pieces_by, lines_by, IsGiven, IsFaultOf}
 use Rattle.pua_tight.specs.Texts.{as_listing, as_script, text_over, thinned_text, tightened}
-use Rattle.pua_tight.specs.Trials.{Trial, trials_from, tried, all_tried}
-use Rattle.pua_tight.specs.Uses.{WordUse, first_other, use_by, uses, uses_over, words_from}
+use Rattle.pua_tight.specs.Trials.{Trial, trials_from, all_tried}
+use Rattle.pua_tight.specs.Uses.{WordUse, use_by, uses, uses_over, words_from}
 use Rattle.pua_tight.proofs.Asking.{one_more}
 use Rattle.pua_tight.proofs.OneByOne.{tried_one_by_one}
 use Rattle.pua_tight.proofs.Pieces.{scripts_are_tightened}
-use Rattle.pua_tight.proofs.Served.{same_by_first, dropped, gone_by}
+use Rattle.pua_tight.proofs.Served.{dropped, gone_by}
+use Rattle.pua_tight.proofs.Tightened.{tightens}
 
 -- the lines of a script by what it was answered
 pub lines_told : (table : CallTable) (w : World) (asks : List Asked) → lines_by (asked_for table) asks (answers_to table w asks) ≡ lines_of table w asks
@@ -154,28 +155,32 @@ given_back piece ask = by piece ask.action
     by (InExecpromises bit) Exit = refl
     by (InVeil bit) Exit = refl
 
--- what one trial leaves, by the first line that is answered otherwise
-pub tried_by : (table : CallTable) (w : World) (want : List Answer) (trial : Trial) (asks : List Asked) →
-    tried table w want trial asks
-    ≡ cond (is_none (first_other (answers_to table w (leave_out trial.line trial.piece asks)) want)) (leave_out trial.line trial.piece asks) asks
-tried_by table w want trial asks =
-    ap (λ b. cond b (leave_out trial.line trial.piece asks) asks)
-    (same_by_first (answers_to table w (leave_out trial.line trial.piece asks)) want)
+given_kept : (ask : Asked) → with_arguments (arguments_of ask.action) ask ≡ ask
+given_kept ask = by ask.action
+  where
+    by : (action : Action) →
+        with_arguments (arguments_of action) (record { process = ask.process; action = action }) ≡ record { process = ask.process; action = action }
+    by (Pledge p e) = refl
+    by (Unveil path perms) = refl
+    by (OnPath call path) = refl
+    by (Symlink target path) = refl
+    by (Rename old new) = refl
+    by (Link old new) = refl
+    by Lock = refl
+    by (Fork new) = refl
+    by Exit = refl
 
--- one trial more
-pub trials_next : (table : CallTable) (w : World) (want : List Answer) (trials : List Trial) (given now left : List Asked) (index : ℕ)
-    (trial : Trial) → slice_get trials index ≡ Some trial →
-    all_tried table w want (drop index trials) now ≡ all_tried table w want trials given → left ≡ tried table w want trial now →
-    all_tried table w want (drop (index + 1) trials) left ≡ all_tried table w want trials given
-trials_next table w want trials given now left index trial e so_far is =
-    ap (all_tried table w want (drop (index + 1) trials)) is
-    ∙ ap (λ l. all_tried table w want l now) (sym (dropped trials index trial e)) ∙ so_far
-
-pub trials_done : (table : CallTable) (w : World) (want : List Answer) (trials : List Trial) (given now : List Asked) (index : ℕ) →
-    length trials ≤ index → all_tried table w want (drop index trials) now ≡ all_tried table w want trials given →
-    now ≡ all_tried table w want trials given
-trials_done table w want trials given now index past so_far =
-    ap (λ l. all_tried table w want l now) (sym (gone_by trials index past)) ∙ so_far
+-- a piece that a line doesn't have
+pub nothing_left : (asks : List Asked) (index : ℕ) (piece : Piece) (ask : Asked) → slice_get asks index ≡ Some ask →
+    arguments_left piece (arguments_of ask.action) ≡ arguments_of ask.action → leave_out index piece asks ≡ asks
+nothing_left asks index piece ask there same =
+    by asks index there (sym (given_left piece ask) ∙ ap (λ a. with_arguments a ask) same ∙ given_kept ask)
+  where
+    by : (asks : List Asked) (index : ℕ) → slice_get asks index ≡ Some ask → without piece ask ≡ ask → leave_out index piece asks ≡ asks
+    by [] index e kept = refl
+    by (first ∷ asks) zero e kept =
+        ap (λ a. a ∷ asks) (ap (without piece) (same_Some first ask e) ∙ kept ∙ sym (same_Some first ask e))
+    by (first ∷ asks) (suc index) e kept = ap (λ l. first ∷ l) (by asks index e kept)
 
 -- all trials tighten a script
 pub tightens_all : (table : CallTable) (t : Tree) (answers : List Answer) (trials : List Trial) (asks left : List Asked) →
@@ -323,19 +328,6 @@ pub words_all : (asked : ℕ) (asks : List Asked) (answers : List Answer) (index
 words_all asked asks answers index words past so_far =
     words_done (lines_by asked asks answers) index words (omega (arith, past, as_many_lines asked asks answers)) so_far
 
--- one trial in code leaves what the definition leaves
-pub trial_done : (table : CallTable) (w : World) (want : List Answer) (trial : Trial) (now kept left : List Asked) (other : Option ℕ) →
-    other ≡ first_other (answers_to table w (leave_out trial.line trial.piece now)) want → kept ≡ now →
-    ((is_none other ≡ true) × (left ≡ leave_out trial.line trial.piece kept)) ⊎ ((is_none other ≡ false) × (left ≡ kept)) →
-    left ≡ tried table w want trial now
-trial_done table w want trial now kept left other is same (inl done) =
-    done.1 ∙ ap (leave_out trial.line trial.piece) same
-    ∙ ap (λ b. cond b (leave_out trial.line trial.piece now) now) (sym (ap is_none (sym is) ∙ done.0))
-    ∙ sym (tried_by table w want trial now)
-trial_done table w want trial now kept left other is same (inr done) =
-    done.1 ∙ same ∙ ap (λ b. cond b (leave_out trial.line trial.piece now) now) (sym (ap is_none (sym is) ∙ done.0))
-    ∙ sym (tried_by table w want trial now)
-
 -- a script was tightened by a table and over a listing that are those that were given
 module _ (table own_table : CallTable) (tree_bytes own_bytes script_bytes : List ℕ) (answers : List Answer) (asks left : List Asked)
     (same_table : own_table ≡ table) (same_bytes : own_bytes ≡ tree_bytes) (given : IsGiven table tree_bytes script_bytes answers asks)
@@ -356,7 +348,8 @@ module _ (table own_table : CallTable) (tree_bytes own_bytes script_bytes : List
 
   -- what its words are needed for
   pub uses_made : (words : List Trial) (told : List WordUse) → words ≡ words_from 0 (lines_by (asked_for table) asks answers) →
-      ((t : Tree) → listing own_bytes ≡ Ok t → told ≡ map (use_by own_table (new_world t) answers left) words) →
+      ((t : Tree) → listing own_bytes ≡ Ok t → answers_to own_table (new_world t) left ≡ answers →
+      told ≡ map (use_by own_table (new_world t) answers left) words) →
       uses_over table tree_bytes script_bytes ≡ Ok told
   uses_made words told are is =
       let w : World = new_world given.tree in
@@ -365,8 +358,10 @@ module _ (table own_table : CallTable) (tree_bytes own_bytes script_bytes : List
       let all : words ≡ words_from 0 lines =
       are ∙ ap (λ l. words_from 0 (lines_by (asked_for table) asks l)) given.told ∙ ap (words_from 0) (lines_told table w asks) in
       let wanted : answers ≡ answers_to table w (asks_of lines) = given.told ∙ ap (answers_to table w) (sym own) in
+      let same : answers_to own_table w left ≡ answers =
+      (λ j. answers_to (same_table j) w (is_tight j)) ∙ (tightens table w lines).same ∙ sym wanted in
       made_of (λ t asks. uses table (new_world t) (lines_of table (new_world t) asks)) tree_bytes script_bytes given.tree asks given.listed given.read
-      ∙ ap Ok (sym (is given.tree own_listed ∙ ap (λ t. map (use_by t w answers left) words) same_table
+      ∙ ap Ok (sym (is given.tree own_listed same ∙ ap (λ t. map (use_by t w answers left) words) same_table
       ∙ ap (λ l. map (use_by table w answers left) l) all
       ∙ ap (λ l. map (use_by table w l left) (words_from 0 lines)) wanted
       ∙ ap (λ l. map (use_by table w (answers_to table w (asks_of lines)) l) (words_from 0 lines)) is_tight))

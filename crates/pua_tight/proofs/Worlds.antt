@@ -268,17 +268,18 @@ grants_no_more table tight given ask w =
     Granted b = (apply table tight ask).0 ≡ Okay →
         ((apply table b ask).0 ≡ Okay) × WorldWithin (apply table tight ask).1 (apply table b ask).1
 
+-- equal answers, one after another
+pub heads : (a b : Answer) (rest last : List Answer) → (a ∷ rest) ≡ (b ∷ last) → a ≡ b
+heads a b rest last e = cc
+
+pub tails : (a b : Answer) (rest last : List Answer) → (a ∷ rest) ≡ (b ∷ last) → rest ≡ last
+tails a b rest last e = cc
+
 pub scripts_keep : ScriptsKeepWithin
 scripts_keep table tight given _ _ w no_asks same = w
 scripts_keep table tight given _ _ w (asks {x = x} {y = y} {xs = xs} {ys = ys} first rest) same =
     scripts_keep table (apply table tight x).1 (apply table given y).1 xs ys (request_keeps table tight given x y w first (heads _ _ _ _ same))
     rest (tails _ _ _ _ same)
-  where
-    heads : (a b : Answer) (rest last : List Answer) → (a ∷ rest) ≡ (b ∷ last) → a ≡ b
-    heads a b rest last e = cc
-
-    tails : (a b : Answer) (rest last : List Answer) → (a ∷ rest) ≡ (b ∷ last) → rest ≡ last
-    tails a b rest last e = cc
 
 pub futures_within : FuturesAreWithin
 futures_within table tight given [] w all = (refl, w)
@@ -286,12 +287,6 @@ futures_within table tight given (x ∷ xs) w all =
     let one = grants_no_more table tight given x w (heads _ _ _ _ all) in
     let rest = futures_within table (apply table tight x).1 (apply table given x).1 xs one.1 (tails _ _ _ _ all) in
     (ap (λ a. a ∷ answers_to table (apply table given x).1 xs) one.0 ∙ ap (λ l. Okay ∷ l) rest.0, rest.1)
-  where
-    heads : (a b : Answer) (rest last : List Answer) → (a ∷ rest) ≡ (b ∷ last) → a ≡ b
-    heads a b rest last e = cc
-
-    tails : (a b : Answer) (rest last : List Answer) → (a ∷ rest) ≡ (b ∷ last) → rest ≡ last
-    tails a b rest last e = cc
 
 pub parts : (m : May) (o : Option Errno) → is_allowed (if_promised m (allowed_unless o)) ≡ true → (m ≡ may.Yes) × (o ≡ None)
 parts may.Yes None e = (refl, refl)

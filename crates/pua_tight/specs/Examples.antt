@@ -93,7 +93,7 @@ abbrev pub used : List ℕ → Option (List WordUse)
 used bytes = result_ok (uses_over standard_table (text_of_lines example) bytes)
 
 abbrev pub word : ℕ → Piece → Option ℕ → WordUse
-word line piece needed_by = record { line = line; piece = piece; needed_by = needed_by }
+word line piece needed_by = record { line = line; word = piece; needed_by = needed_by }
 
 pub record UseRows : Type 0 where
   pub first_line : used (text_of_lines (codes "1 unveil /etc wr" ∷ codes "1 stat /tmp" ∷ codes "1 stat /etc" ∷ codes "1 open-r /etc/passwd" ∷ []))

@@ -1,13 +1,16 @@
 -- What a thinned script that is answered as the given one leaves to its processes.
-use Rattle.std.specs.Prelude.{Ok, ◌≡◌, ◌≢◌, ℕ, zero, suc, List, [], ◌∷◌, map, bit_and, length, IsTrue, ◌⊎◌}
-use Rattle.pua_tree.specs.Tree.{Tree}
+use Rattle.std.specs.Prelude.{None, Ok, ◌≡◌, ◌≢◌, ℕ, zero, suc, List, [], ◌∷◌, map, bit_and, length, IsTrue, ◌⊎◌}
+use Rattle.pua_tree.specs.Tree.{Tree, WellFormed}
 use Rattle.pua_calls.specs.Calls.{CallTable, rule_of, table_by_rules}
 use Rattle.pua_calls.specs.declared.rules.Rules.{Rules}
 use Rattle.pua_calls.specs.Promises.{error}
 use Rattle.pua_calls.specs.declared.call.Call.{Call}
 use Rattle.pua_policy.specs.History.{History}
 use Rattle.std.specs.List.{Contains}
+use Rattle.pua_calls.specs.Tables.{NoCallNeedsError}
 use Rattle.pua_objects.specs.Objects as objects
+use Rattle.pua_ever.specs.Ever.{EverLine, ever}
+use Rattle.pua_ever.specs.Through.{bound_of, ever_lasting}
 use Rattle.pua_policy.specs.Verdict.{verdict_on, is_allowed}
 use Rattle.pua_script.specs.Requests.{Asked}
 use Rattle.pua_script.specs.Replay.{World, new_world, apply, answers_to, world_after}
@@ -43,6 +46,24 @@ pub record IsListed (t : Tree) (table : CallTable) (h : History) (line : objects
 abbrev pub WithinListsNoMore : Type 0
 WithinListsNoMore = (table : CallTable) (tight given : History) → HistoryWithin tight given → (t : Tree) (line : objects.Line) →
     Contains (objects.objects t table tight) line → IsListed t table given line
+
+-- so of the list for ever of one's own doing: by the same names, about the same thing, with all of its calls
+pub record IsListedForEver (lines : List EverLine) (line : EverLine) : Type 0 where
+  pub other : EverLine
+  pub listed : Contains lines other
+  pub word : other.word ≡ line.word
+  pub thing : other.thing ≡ line.thing
+  pub calls : (call : Call) → Contains line.calls call → Contains other.calls call
+
+abbrev pub WithinListsNoMoreForEver : Type 0
+WithinListsNoMoreForEver = (table : CallTable) (tight given : History) → HistoryWithin tight given → (t : Tree) → WellFormed t →
+    (line : EverLine) → Contains (ever t table tight) line → IsListedForEver (ever t table given) line
+
+-- and of the list that holds longest, unless what is started is bounded in the inner one alone, which then has what that can touch too
+abbrev pub WithinLastsNoMore : Type 0
+WithinLastsNoMore = (table : CallTable) → NoCallNeedsError table → (tight given : History) → HistoryWithin tight given →
+    (t : Tree) → WellFormed t → (bound_of table given ≡ None → bound_of table tight ≡ None) →
+    (line : EverLine) → Contains (ever_lasting t table tight) line → IsListedForEver (ever_lasting t table given) line
 
 -- whatever is asked next and is granted in the one world is granted in the other, and leaves them so: also unveil, pledge, fork,
 -- rename, link and exec

@@ -9,5 +9,6 @@ pub mod Trials
 pub mod Uses
 -- What the code's fields say.
 pub mod Left
+pub mod Several
 -- Worked rows, which hold by computation.
 pub mod Examples

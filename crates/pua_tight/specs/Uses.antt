@@ -30,7 +30,7 @@ words_from index (line ∷ lines) = map (λ piece. record { line = index; piece 
 abbrev pub use_by : CallTable → World → List Answer → List Asked → Trial → WordUse
 use_by table w want asks word = record {
   line = word.line;
-  piece = word.piece;
+  word = word.piece;
   needed_by = first_other (answers_to table w (leave_out word.line word.piece asks)) want;
 }
 

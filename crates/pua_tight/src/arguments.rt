@@ -1,6 +1,6 @@
 //! The arguments of a request, as far as words may be left out of them.
 
-ghost use Rattle.std.specs.Prelude.{◌≡◌};
+ghost use Rattle.std.specs.Prelude.{◌≡◌, IsFalse};
 ghost use Rattle.pua_tight.specs.Tight.{given_without as given_left};
 ghost use Rattle.pua_tight.specs.Left.{arguments_of, arguments_left, with_arguments};
 
@@ -49,6 +49,22 @@ impl Arguments {
         }
     }
 
+    /// Whether they have a piece. Without one that they don't have they are as they were.
+    pub(crate) fn have(&self, piece: &Piece) -> bool
+        ensures { IsFalse result → arguments_left piece.now self.now ≡ self.now }
+    {
+        match (self, piece) {
+            (Arguments::Lists(promises, _), Piece::InPromises(bit)) => given_has(*promises, *bit),
+            (Arguments::Lists(_, execpromises), Piece::InExecpromises(bit)) => {
+                given_has(*execpromises, *bit)
+            }
+            (Arguments::Letters(Some(perms)), Piece::InVeil(bit)) => {
+                perms.without(*bit).bits() != perms.bits()
+            }
+            _ => false,
+        }
+    }
+
     /// Gives them to a request, if it is of their kind.
     pub(crate) fn give(&self, request: &mut Request)
         ensures { request.new ≡ with_arguments self.now request.old }
@@ -68,5 +84,15 @@ fn given_without(given: Given, bit: Promises) -> Given
     match given {
         Given::Good(set) => Given::Good(set.without(bit)),
         _ => given,
+    }
+}
+
+/// Whether an argument of pledge has a keyword.
+fn given_has(given: Given, bit: Promises) -> bool
+    ensures { IsFalse result → given_left bit given ≡ given }
+{
+    match given {
+        Given::Good(set) => set.without(bit).bits() != set.bits(),
+        _ => false,
     }
 }

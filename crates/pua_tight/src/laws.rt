@@ -7,6 +7,7 @@ ghost use Rattle.pua_tight.specs.Laws.{TightensScripts, TightIsLeast, TightIsMin
 ghost use Rattle.pua_tight.specs.Laws.{TextsAreRead, TightTextsAreRead};
 ghost use Rattle.pua_tight.specs.Trials.{TriedOneByOne};
 ghost use Rattle.pua_tight.specs.Laws.{WithinAllowsNoMore, WithinGrantsNoMore, WithinListsNoMore};
+ghost use Rattle.pua_tight.specs.Laws.{WithinLastsNoMore, WithinListsNoMoreForEver};
 
 /// Examples of scripts with the tightened ones, of the bytes that are written of them, and of what their
 /// words are needed for.
@@ -26,6 +27,8 @@ pub fn narrower_law()
     ensures scripts { ScriptsKeepWithin }
     ensures allows { WithinAllowsNoMore }
     ensures lists { WithinListsNoMore }
+    ensures ever { WithinListsNoMoreForEver }
+    ensures lasting { WithinLastsNoMore }
     ensures grants { WithinGrantsNoMore }
     ensures futures { FuturesAreWithin }
 {}

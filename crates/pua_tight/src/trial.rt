@@ -1,12 +1,12 @@
 //! Trials: a script without a word, where all of it is then answered as before.
 
-ghost use Rattle.std.specs.Prelude.{◌≡◌, ◌≢◌, ◌++◌, map, Err, IfOk, IfErr, Ok};
+ghost use Rattle.std.specs.Prelude.{◌≡◌, ◌≢◌, ◌++◌, map, Err, IfOk, IfErr, IsFalse, Ok};
 ghost use Rattle.pua_tree.specs.Tree.{Tree};
 ghost use Rattle.pua_tree.specs.Listing.{listing};
 ghost use Rattle.pua_script.specs.Replay.{answers_to, new_world};
 ghost use Rattle.pua_tight.specs.Texts.{as_listing};
 ghost use Rattle.pua_tight.specs.Laws.{leave_out};
-ghost use Rattle.pua_tight.specs.Trials.{all_tried, trials_from};
+ghost use Rattle.pua_tight.specs.Trials.{trials_from};
 ghost use Rattle.pua_tight.specs.Uses.{first_other};
 ghost use Rattle.pua_tight.specs.Left.{lines_by, put_back_at};
 
@@ -61,48 +61,45 @@ pub(crate) fn add_trials(
     Ok(())
 }
 
-/// Leaves out of a script one piece after another, where all of it is then answered as is wanted.
-pub(crate) fn try_all(
-    wanted: &Wanted<'_>,
-    trials: &[Trial],
-    requests: &mut Vec<Request>,
-) -> Result<(), TightFault>
-    ensures tried { IfOk result (λ _. (t : Tree) → listing wanted.now.tree_bytes.now ≡ Ok t →
-        requests.new.items ≡ all_tried wanted.now.table.now (new_world t) wanted.now.answers.items
-        trials.now requests.old.items) }
-    ensures refused { IfErr result (λ fault. fault ≢ TightFault.OutOfMemory →
-        (as_listing (listing wanted.now.tree_bytes.now) ≡ Err fault)) }
-{
-    for trial in trials {
-        if other_without(wanted, trial, requests)?.is_none() {
-            leave_out(trial, requests);
-        }
-    }
-    Ok(())
-}
-
 /// The index of the first request that is answered otherwise than is wanted, where this piece is left out
-/// of a script, if there is one. The requests are as before, unless an error is answered.
+/// of a script that is answered as is wanted, if there is one. The requests are as before, unless an error
+/// is answered.
 pub(crate) fn other_without(
     wanted: &Wanted<'_>,
     trial: &Trial,
     requests: &mut Vec<Request>,
 ) -> Result<Option<usize>, TightFault>
     ensures other { IfOk result (λ other. (t : Tree) → listing wanted.now.tree_bytes.now ≡ Ok t →
+        answers_to wanted.now.table.now (new_world t) requests.old.items
+        ≡ wanted.now.answers.items →
         other ≡ first_other (answers_to wanted.now.table.now (new_world t)
         (leave_out trial.now.line trial.now.piece requests.old.items)) wanted.now.answers.items) }
     ensures kept { IfOk result (λ _. requests.new.items ≡ requests.old.items) }
     ensures refused { IfErr result (λ fault. fault ≢ TightFault.OutOfMemory →
         (as_listing (listing wanted.now.tree_bytes.now) ≡ Err fault)) }
 {
+    if !has_piece(trial, requests.as_slice()) {
+        return Ok(None);
+    }
     let kept = leave_out(trial, requests);
     let other = wanted.first_other(requests.as_slice())?;
     put_back(trial.line, kept, requests);
     Ok(other)
 }
 
+/// Whether a script has a piece.
+fn has_piece(trial: &Trial, requests: &[Request]) -> bool
+    ensures { IsFalse result →
+        leave_out trial.now.line trial.now.piece requests.now ≡ requests.now }
+{
+    match requests.get(trial.line) {
+        Some(request) => Arguments::of(request).have(&trial.piece),
+        None => false,
+    }
+}
+
 /// Leaves a piece out of a script, and answers what the arguments of its line were.
-fn leave_out(trial: &Trial, requests: &mut Vec<Request>) -> Arguments
+pub(crate) fn leave_out(trial: &Trial, requests: &mut Vec<Request>) -> Arguments
     ensures left { requests.new.items
         ≡ leave_out trial.now.line trial.now.piece requests.old.items }
     ensures back { put_back_at trial.now.line result requests.new.items ≡ requests.old.items }
@@ -117,7 +114,7 @@ fn leave_out(trial: &Trial, requests: &mut Vec<Request>) -> Arguments
 }
 
 /// Gives the line at an index other arguments, if it is of their kind.
-fn put_back(line: usize, arguments: Arguments, requests: &mut Vec<Request>)
+pub(crate) fn put_back(line: usize, arguments: Arguments, requests: &mut Vec<Request>)
     ensures { requests.new.items ≡ put_back_at line arguments requests.old.items }
 {
     if let Some(request) = requests.get_mut(line) {

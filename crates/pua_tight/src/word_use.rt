@@ -25,7 +25,7 @@ pub struct WordUse {
     /// The index of its line, the first line's 0.
     pub line: usize,
     /// The word.
-    pub piece: Piece,
+    pub word: Piece,
     /// The index of the first line that is answered otherwise, where it is left out of the tightened
     /// script; None where none is, since the tightened script doesn't have it.
     pub needed_by: Option<usize>,
@@ -77,7 +77,7 @@ fn words_of(
     Ok(words)
 }
 
-/// What words are needed for, of a tightened script.
+/// What words are needed for, of a tightened script, which is answered as is wanted.
 fn uses_of(
     alloc: Global,
     wanted: &Wanted<'_>,
@@ -85,6 +85,8 @@ fn uses_of(
     requests: &mut Vec<Request>,
 ) -> Result<Vec<WordUse>, TightFault>
     ensures done { IfOk result (λ uses. (t : Tree) → listing wanted.now.tree_bytes.now ≡ Ok t →
+        answers_to wanted.now.table.now (new_world t) requests.old.items
+        ≡ wanted.now.answers.items →
         uses.items ≡ map (use_by wanted.now.table.now (new_world t) wanted.now.answers.items
         requests.old.items) words.now) }
     ensures refused { IfErr result (λ fault. fault ≢ TightFault.OutOfMemory →
@@ -95,7 +97,7 @@ fn uses_of(
         let needed_by = other_without(wanted, word, requests)?;
         let word = WordUse {
             line: word.line,
-            piece: word.piece,
+            word: word.piece,
             needed_by,
         };
         let Ok(()) = uses.push(word) else {

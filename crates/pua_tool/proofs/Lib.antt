@@ -9,3 +9,5 @@ pub mod Written
 pub mod Stops
 pub mod Ends
 pub mod WhyTexts
+pub mod TightTexts
+pub mod Fewest

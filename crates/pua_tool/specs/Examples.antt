@@ -14,6 +14,7 @@ use Rattle.pua_tool.specs.Texts.{Chosen, Wanted, by_standard, replay_of, run_tex
 use Rattle.pua_tool.specs.ObjectTexts.{objects_text}
 use Rattle.pua_tool.specs.EverTexts.{ever_text}
 use Rattle.pua_tool.specs.WhyTexts.{objects_why_text, posed_script, run_why_text, why_text}
+use Rattle.pua_tool.specs.TightTexts.{tight_text, tight_why_text, words_by}
 use Rattle.pua_tool.specs.declared.fault.ToolFault.TheVariants.{Listing, Script, NoProcess, Audit}
 
 abbrev pub root_listing : List ℕ
@@ -185,6 +186,27 @@ text_rows = record {
   never_made = refl;
   bad_resume = refl;
 }
+
+abbrev pub roomy : List ℕ
+roomy = text_of_lines (codes "1 unveil / rw" ∷ codes "1 pledge fattr,rpath fattr" ∷ codes "1 stat /" ∷ [])
+
+-- texts of tightened scripts, and of what their words are needed by
+pub record TightTextRows : Type 0 where
+  pub tightened : tight_text by_standard root_listing roomy
+      ≡ Ok (text_of_lines (codes "1 unveil / r" ∷ codes "1 pledge rpath =" ∷ codes "1 stat /" ∷ []))
+  pub by_openbsd : tight_text (record by_standard { rules = Openbsd }) root_listing
+      (text_of_lines (codes "1 pledge fattr,rpath -" ∷ codes "1 chmod /" ∷ []))
+      ≡ Ok (text_of_lines (codes "1 pledge fattr,rpath -" ∷ codes "1 chmod /" ∷ []))
+  pub needed : tight_why_text by_standard root_listing roomy
+      ≡ Ok (text_of_lines (codes "1 veil r needed by 3" ∷ codes "1 veil w spare" ∷ codes "2 promises fattr spare"
+      ∷ codes "2 promises rpath needed by 3" ∷ codes "2 execpromises fattr spare" ∷ []))
+  pub bad_script : tight_text by_standard root_listing (codes "1 stat") ≡ Err (Script (BadCall 1))
+  pub bad_listing : tight_why_text by_standard (text_of_lines (codes "tree 1" ∷ codes "0 dir" ∷ codes "1 dir 0" ∷ [])) (codes "1")
+      ≡ Err (Listing (BadLine 3))
+
+pub tight_text_rows : TightTextRows
+unfolding digits promises_text tight_text words_by
+tight_text_rows = record { tightened = refl; by_openbsd = refl; needed = refl; bad_script = refl; bad_listing = refl }
 
 -- texts with reasons
 pub record ReasonTextRows : Type 0 where

@@ -3,6 +3,7 @@ pub mod Texts
 pub mod ObjectTexts
 pub mod EverTexts
 pub mod WhyTexts
+pub mod TightTexts
 pub mod Answers
 pub mod Statuses
 pub mod Told
@@ -11,6 +12,7 @@ pub mod Performed
 pub mod Futures
 pub mod Alike
 pub mod Forever
+pub mod Fewest
 -- Worked rows, which hold by computation.
 pub mod Examples
 -- Notes: what the code has begun.

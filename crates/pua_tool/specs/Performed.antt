@@ -6,7 +6,7 @@ use Rattle.pua_words.specs.Commands.{AsksSoundly}
 use Rattle.pua_words.specs.Usages.{AsksAbout}
 use Rattle.pua_words.specs.declared.command.Command.{Command}
 use Rattle.pua_words.specs.declared.command.Text.{Text}
-use Rattle.pua_words.specs.declared.command.Text.TheVariants.{Run, RunWhy, Why, Audit, Objects, ObjectsWhy, Ever}
+use Rattle.pua_words.specs.declared.command.Text.TheVariants.{Run, RunWhy, Why, Audit, Objects, ObjectsWhy, Ever, Tight, TightWhy}
 use Rattle.pua_tool.specs.declared.fault.ToolFault.{ToolFault}
 use Rattle.pua_tool.specs.declared.fault.ToolFault.TheVariants.{Write, OutOfMemory}
 use Rattle.pua_tool.specs.declared.outcome.CommandFault.{CommandFault}
@@ -19,6 +19,7 @@ use Rattle.pua_tool.specs.Texts.{Chosen, given_bytes, run_text, audit_text, want
 use Rattle.pua_tool.specs.ObjectTexts.{objects_text}
 use Rattle.pua_tool.specs.EverTexts.{ever_text}
 use Rattle.pua_tool.specs.WhyTexts.{objects_why_text, run_why_text, why_text}
+use Rattle.pua_tool.specs.TightTexts.{tight_text, tight_why_text}
 
 -- the text that is asked for, of a table, a listing and a script, or what refuses it
 abbrev pub text_asked : Text → Chosen → List ℕ → List ℕ → Result (List ℕ) ToolFault
@@ -29,6 +30,8 @@ text_asked (Audit words) choice tree script = audit_text choice tree script (wan
 text_asked (Objects words) choice tree script = objects_text choice tree script words.processes
 text_asked (ObjectsWhy words) choice tree script = objects_why_text choice tree script words.processes
 text_asked (Ever words) choice tree script = ever_text choice tree script words.process
+text_asked Tight choice tree script = tight_text choice tree script
+text_asked TightWhy choice tree script = tight_why_text choice tree script
 
 -- the table's bytes are held under its name, or no table is named and there are none
 abbrev pub HoldsTable : Held → Option (Bor (List ℕ)) → Option (List ℕ) → Type 0

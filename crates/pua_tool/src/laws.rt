@@ -3,7 +3,8 @@
 
 ghost use Rattle.std.specs.Prelude.{◌≡◌};
 ghost use Rattle.pua_tool.specs.Alike.{AnswersAlike, LinesAlike};
-ghost use Rattle.pua_tool.specs.Examples.{ReasonTextRows, TextRows};
+ghost use Rattle.pua_tool.specs.Examples.{ReasonTextRows, TextRows, TightTextRows};
+ghost use Rattle.pua_tool.specs.Fewest.{TightAsWritten};
 ghost use Rattle.pua_tool.specs.Forever.{EverAsWritten};
 ghost use Rattle.pua_tool.specs.Futures.{Confinement, ConfinementAsRead, Narrowing};
 ghost use Rattle.pua_tool.specs.Futures.{NarrowingAsRead, NarrowingNow};
@@ -13,10 +14,11 @@ ghost use Rattle.pua_script.specs.Tightening.{OthersLeave, OthersLeaveAlways};
 use pua_tree::FileTree;
 
 /// Examples of whole texts, and of what refuses them.
-#[tactic(auto, using(crate::specs::Examples::text_rows, crate::specs::Examples::reason_text_rows))]
+#[tactic(auto, using(crate::specs::Examples::text_rows, crate::specs::Examples::reason_text_rows, crate::specs::Examples::tight_text_rows))]
 pub fn text_examples()
     ensures texts { TextRows }
     ensures reasons { ReasonTextRows }
+    ensures tightened { TightTextRows }
 {}
 
 /// Narrowing ("Every future of a locked process" in docs/DEFINITIONS.md): over each tree the later
@@ -50,6 +52,14 @@ pub fn confined()
 /// theirs succeeds.
 pub fn ever_text_law()
     ensures { EverAsWritten }
+{}
+
+/// Where there is a text of a tightened script, it is a script again, the given one but for words that were left out: its run has
+/// the same text, each process may do no more, and without any one word more some line is answered otherwise. By the rules
+/// alone, without a table's rows, whatever else is left out so that all is answered as before has all that it has.
+#[tactic(auto, using(crate::proofs::Fewest::tight_as_written))]
+pub fn tight_text_law()
+    ensures { TightAsWritten }
 {}
 
 /// Over any two trees of the same content, however each is kept, a script is answered the same by a

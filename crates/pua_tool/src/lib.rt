@@ -1,5 +1,5 @@
-//! Whole texts of runs, of audits and of lists of objects, of now and for ever, or what refuses them,
-//! and the whole program as a function over its inputs.
+//! Whole texts of runs, of audits, of lists of objects, of now and for ever, and of tightened scripts,
+//! or what refuses them, and the whole program as a function over its inputs.
 #![tactic(auto)]
 
 mod audit;
@@ -19,6 +19,8 @@ mod script;
 mod service;
 mod status;
 mod table;
+mod tight;
+mod tight_why;
 mod why;
 
 pub use audit::{audit_by, audit_to};
@@ -26,7 +28,7 @@ pub use cli::{command, program};
 pub use ever::ever_to;
 pub use fault::ToolFault;
 pub use job::Job;
-pub use laws::{confined, ever_text_law, narrowing, text_examples, trees_alike};
+pub use laws::{confined, ever_text_law, narrowing, text_examples, tight_text_law, trees_alike};
 pub use objects::objects_to;
 pub use objects_why::objects_why_to;
 pub use pua_io::{
@@ -42,4 +44,6 @@ pub use run_why::run_why_to;
 pub use service::perform;
 pub use status::{DEVICE, DONE, MEMORY, REFUSED, USAGE};
 pub use table::TableChoice;
+pub use tight::tight_to;
+pub use tight_why::tight_why_to;
 pub use why::why_to;

@@ -145,7 +145,14 @@ pub(crate) fn told(written: Result<(), TextFault>) -> Result<(), ToolFault>
 pub(crate) fn put_text<S: Sink>(text: &str, sink: &mut S) -> Result<(), ToolFault>
     ensures { AnswersTo S.written S.failed (Ok text.now) result sink.old sink.new }
 {
-    let Ok(()) = put_all(sink, text.as_bytes()) else {
+    put_bytes(text.as_bytes(), sink)
+}
+
+/// Puts the bytes of a text, as the tool reports it.
+pub(crate) fn put_bytes<S: Sink>(bytes: &[u8], sink: &mut S) -> Result<(), ToolFault>
+    ensures { AnswersTo S.written S.failed (Ok bytes.now) result sink.old sink.new }
+{
+    let Ok(()) = put_all(sink, bytes) else {
         return Err(ToolFault::Write);
     };
     Ok(())

@@ -23,16 +23,18 @@ use crate::run::run_by;
 use crate::run_why::run_why_to;
 use crate::status::{DEVICE, DONE, MEMORY, REFUSED, USAGE};
 use crate::table::TableChoice;
+use crate::tight::tight_to;
+use crate::tight_why::tight_why_to;
 use crate::why::why_to;
 use pua_calls::Rules;
 use pua_io::{InputFault, Inputs, Sink};
 use pua_words::{Command, Text};
 use std::alloc::Global;
 
-/// Does what a command asks for: the text of a run, of an audit or of a list of objects, of now or for
-/// ever, goes to `out`, and of a fault one line goes to `err`, which is dropped where it can't be written. The
-/// inputs are taken, first the tree's, then the script's, then the table's where one is named, before
-/// any of them is read as a listing, a script or a table.
+/// Does what a command asks for: the text of a run, of an audit, of a list of objects, of now or for
+/// ever, or of a tightened script goes to `out`, and of a fault one line goes to `err`, which is dropped
+/// where it can't be written. The inputs are taken, first the tree's, then the script's, then the
+/// table's where one is named, before any of them is read as a listing, a script or a table.
 ///
 /// It answers the status. [`DONE`]: the text that is asked for, of the bytes that the inputs hold
 /// under the command's names, was written, and nothing to `err`. [`REFUSED`]: these bytes, or
@@ -184,5 +186,7 @@ fn write_text<O: Sink>(
             objects_why_to(alloc, tree, script, table, words.processes, out)
         }
         Text::Ever(words) => ever_to(alloc, tree, script, table, words.process, out),
+        Text::Tight => tight_to(alloc, tree, script, table, out),
+        Text::TightWhy => tight_why_to(alloc, tree, script, table, out),
     }
 }

@@ -2,7 +2,7 @@
 use Rattle.std.specs.Prelude.{ℕ, ◌≡◌, ◌≤◌, ⊤, Bool, true, false, List, Option, Some, None, codes}
 use Rattle.std.specs.Str.Parse.{digits_value, without_leading_plus}
 use Rattle.pua_words.specs.declared.command.Text.{Text}
-use Rattle.pua_words.specs.declared.command.Text.TheVariants.{Run, RunWhy, Why, Audit, Objects, ObjectsWhy, Ever}
+use Rattle.pua_words.specs.declared.command.Text.TheVariants.{Run, RunWhy, Why, Audit, Objects, ObjectsWhy, Ever, Tight, TightWhy}
 use Rattle.pua_words.specs.declared.command.Processes.{Processes}
 use Rattle.pua_words.specs.declared.command.Processes.TheVariants.{One, All}
 use Rattle.pua_words.specs.declared.words.TheConstants.{MOST_NUMBER}
@@ -32,11 +32,18 @@ AsksSoundly (Audit words) = IsProcessNumber words.process
 AsksSoundly (Objects words) = MayBeAsked words.processes
 AsksSoundly (ObjectsWhy words) = MayBeAsked words.processes
 AsksSoundly (Ever words) = IsProcessNumber words.process
+AsksSoundly Tight = ⊤
+AsksSoundly TightWhy = ⊤
 
 -- the text of a run that is asked for, with reasons or without
 abbrev pub run_asked : Bool → Text
 run_asked false = Run
 run_asked true = RunWhy
+
+-- the script without what none of its answers needs, or what each word of it is needed by
+abbrev pub tight_asked : Bool → Text
+tight_asked false = Tight
+tight_asked true = TightWhy
 
 -- the list that is asked for of these processes, of now or for ever, with reasons or without; all have no list for ever
 -- together, and a list for ever has no reasons

@@ -36,6 +36,10 @@ pub enum Text<'a> {
     ObjectsWhy(ObjectWords),
     /// The same as a run's, and then all that a process and what it forks can ever touch.
     Ever(EverWords),
+    /// The script, without the promises and letters that none of its answers needs.
+    Tight,
+    /// What each promise and letter of the script is needed by.
+    TightWhy,
 }
 
 /// What an audit is asked for, besides its inputs.

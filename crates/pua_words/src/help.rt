@@ -12,6 +12,10 @@ pub(crate) const OBJECTS_USAGE: &str =
 pub(crate) const WHY_USAGE: &str =
     "pua: usage: pua why [--process P] [--rules profile|openbsd] [--table FILE] TREE SCRIPT CALL [ARG...]";
 
+/// How a script is asked for without what none of its answers needs, in one line.
+pub(crate) const TIGHT_USAGE: &str =
+    "pua: usage: pua tight [--why] [--rules profile|openbsd] [--table FILE] TREE SCRIPT";
+
 pub(crate) const PUA: &str =
     "Lists what a pledged and unveiled process may still do to a file tree";
 
@@ -21,6 +25,8 @@ pub(crate) const OBJECTS: &str =
     "Serves a script, then lists each object and the calls still allowed";
 
 pub(crate) const WHY: &str = "Serves a script, then says what decides one more call";
+
+pub(crate) const TIGHT: &str = "Writes a script without the rights that its answers do not need";
 
 pub(crate) const AUDIT: &str = "Serves a script, then lists each path and call still allowed";
 
@@ -43,6 +49,8 @@ pub(crate) const EVER: &str = "List all that it and what it forks can ever touch
 pub(crate) const RUN_WHY: &str = "Say why, behind each answer that is not ok";
 
 pub(crate) const OBJECTS_WHY: &str = "Say by which promises, and by which veil";
+
+pub(crate) const TIGHT_WHY: &str = "Say by which line each promise and letter is needed";
 
 pub(crate) const CALL: &str = "The call, spelled as in SCRIPT";
 
@@ -168,6 +176,28 @@ Example: pua why --process 2 TREE SCRIPT rename /tmp/new /etc/passwd",
     "
   request: line 1: ..  CALL and what is behind it are no line of SCRIPT: one of
                        the faults above"
+);
+
+pub(crate) const TIGHT_OUTPUT: &str = with_calls_and_faults!(
+    "\
+Prints SCRIPT without each promise, execpromise and letter of a veil that none
+of its answers needs: what is printed is answered as SCRIPT is, line by line,
+and without any one more of them some line is not. All else stays as it stands:
+`error`, promises that no call asks for (as stdio), lines that are not answered
+ok, places of veils and the order; = stands where nothing is left of a list.
+
+With `--why` it prints a line for each of them instead, by the lines of SCRIPT:
+  N promises WORD needed by M  of what is left: without it line M would be
+                               answered otherwise, and no line before it
+  N promises WORD spare        it is left out
+The same with `execpromises` for the second argument of pledge, and with `veil`
+and a letter for unveil.
+
+It knows the calls of SCRIPT and no others: what only a call needs that SCRIPT
+lacks, as an open that comes now and then, or connect(2), is left out too.
+
+Example: pua tight TREE SCRIPT | diff SCRIPT -",
+    ""
 );
 
 pub(crate) const OBJECTS_OUTPUT: &str = with_calls_and_faults!(

@@ -14,6 +14,8 @@ pub enum UsageLine {
     Objects,
     /// How it is asked why a request is answered as it is.
     Why,
+    /// How a script is asked for without what none of its answers needs.
+    Tight,
 }
 
 impl UsageLine {
@@ -25,6 +27,7 @@ impl UsageLine {
         match words.first() {
             Some(first) if *first == "objects" => UsageLine::Objects,
             Some(first) if *first == "why" => UsageLine::Why,
+            Some(first) if *first == "tight" => UsageLine::Tight,
             _ => UsageLine::Program,
         }
     }
@@ -37,6 +40,7 @@ impl UsageLine {
             UsageLine::Program => help::PROGRAM_USAGE,
             UsageLine::Objects => help::OBJECTS_USAGE,
             UsageLine::Why => help::WHY_USAGE,
+            UsageLine::Tight => help::TIGHT_USAGE,
         }
     }
 }

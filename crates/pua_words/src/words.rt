@@ -4,7 +4,7 @@ ghost use Rattle.std.specs.Prelude.{◌≡◌, ◌↔◌, IfErr, IfOk, IfSome, S
 ghost use Rattle.std.specs.Prelude.{true};
 ghost use Rattle.clap.specs.Matches.{first_value, found_of};
 ghost use Rattle.pua_words.specs.Commands.{MayBeAsked, AsksSoundly, IsProcessNumber, IsTextOf};
-ghost use Rattle.pua_words.specs.Commands.{list_asked, run_asked};
+ghost use Rattle.pua_words.specs.Commands.{list_asked, run_asked, tight_asked};
 ghost use Rattle.pua_words.specs.Usages.{AsksAbout, IsStop, is_about};
 
 use crate::command::{AuditWords, Command, EverWords, ObjectWords, Processes, Text, WhyWords};
@@ -84,6 +84,7 @@ fn read_text<'a>(
         "run" => Some(run_of(found.get_flag("why"))),
         "objects" => read_objects(found),
         "why" => read_why(alloc, found)?.map(Text::Why),
+        "tight" => Some(tight_of(found.get_flag("why"))),
         _ => read_audit(alloc, found)?.map(Text::Audit),
     })
 }
@@ -95,6 +96,7 @@ fn pua_command<'a>(alloc: Global) -> Built<'a> {
     let pua = with_command(program(alloc), run_command(alloc));
     let pua = with_command(pua, objects_command(alloc));
     let pua = with_command(pua, why_command(alloc));
+    let pua = with_command(pua, tight_command(alloc));
     with_command(pua, audit_command(alloc))
 }
 
@@ -131,6 +133,12 @@ fn why_command<'a>(alloc: Global) -> Built<'a> {
         operand(alloc, "call", "CALL", help::CALL).required(true),
     );
     with(why, operands(alloc, "arguments", "ARG", help::ARGUMENTS))
+}
+
+fn tight_command<'a>(alloc: Global) -> Built<'a> {
+    let tight = command(alloc, "tight", help::TIGHT, help::TIGHT_OUTPUT);
+    let tight = with(tight, flag(alloc, "why", help::TIGHT_WHY));
+    with_inputs(alloc, tight)
 }
 
 fn audit_command<'a>(alloc: Global) -> Built<'a> {
@@ -311,6 +319,14 @@ fn run_of<'a>(why: bool) -> Text<'a>
     ensures sound { AsksSoundly result }
 {
     if why { Text::RunWhy } else { Text::Run }
+}
+
+/// The script without what none of its answers needs, or what each word of it is needed by.
+fn tight_of<'a>(why: bool) -> Text<'a>
+    ensures asked { result ≡ tight_asked why }
+    ensures sound { AsksSoundly result }
+{
+    if why { Text::TightWhy } else { Text::Tight }
 }
 
 /// The list of objects that the words ask for, of now or for ever. None where they name no process,

@@ -1,14 +1,20 @@
-use Rattle.std.proofs.Common.{◌∙◌}
+use Rattle.std.proofs.Common.{◌≡◌, ◌∙◌}
 use Rattle.std.proofs.lemmas.Result.{IfOk-weaker}
 use Rattle.pua_tight.specs.Left.{lines_by}
 use Rattle.pua_tight.specs.Trials.{trials_from}
+use Rattle.pua_tight.specs.Tight.{asked_for}
+use Rattle.pua_tight.proofs.Several.{to_try}
 use Rattle.pua_tight.proofs.Trying.{tightens_all}
 use Rattle.pua_tight.proofs.tighten.tighten.Goals as goal
 
 pub returns-in-Ok-clause-done : goal.returns-in-Ok-clause-done
 returns-in-Ok-clause-done c =
+    let table = c.args.wanted.now.table.now in
+    let answers = c.args.wanted.now.answers.items in
+    let trials = c.as_slice-in-Ok.result.now in
+    let are : trials ≡ trials_from 0 (lines_by (asked_for table) c.args.requests.now.items answers) =
+    c.as_slice-in-Ok.ensures.value ∙ c.in-Ok.ensures
+    ∙ (λ j. trials_from 0 (lines_by (c.asked_for-asked.ensures j) (c.as_slice.ensures.value j) (c.as_slice-2.ensures.value j))) in
     IfOk-weaker c.try_all.result _ _ (λ x done t listed told.
-    tightens_all c.args.wanted.now.table.now t c.args.wanted.now.answers.items c.as_slice-in-Ok.result.now c.args.requests.now.items
-    c.try_all.new.requests.items told (c.as_slice-in-Ok.ensures.value ∙ c.in-Ok.ensures
-    ∙ (λ j. trials_from 0 (lines_by (c.asked_for-asked.ensures j) (c.as_slice.ensures.value j) (c.as_slice-2.ensures.value j))))
-    (done t listed)) c.try_all.ensures.tried
+    tightens_all table t answers trials c.args.requests.now.items c.try_all.new.requests.items told are
+    (done t listed (to_try table t answers trials c.args.requests.now.items told are))) c.try_all.ensures.tried

@@ -1,19 +1,7 @@
-use Rattle.pua_tool.proofs.Common.{List, ℕ, subst, Adds, AddsFront}
-use Rattle.pua_tool.proofs.TextAnswers.{all_told, front_told}
+use Rattle.pua_tool.proofs.Common.{Ok, List, ℕ, subst, AnswersTo}
 use Rattle.pua_tool.proofs.objects.put_text.Goals as goal
 
-pub returns-in_default : goal.returns-in_default
-returns-in_default g c =
-    front_told c.args.text.now (g.S.Sink.written c.args.sink.now) (g.S.Sink.written c.put_all.new.sink) (g.S.Sink.failed c.args.sink.now)
-    (g.S.Sink.failed c.put_all.new.sink)
-    (subst (λ (b : List ℕ). AddsFront b (g.S.Sink.written c.args.sink.now) (g.S.Sink.written c.put_all.new.sink)) c.as_bytes.ensures.value
-    c.in_default.ensures.front)
-    c.in_default.ensures.failed
-
 pub returns : goal.returns
-returns g c =
-    all_told c.args.text.now (g.S.Sink.written c.args.sink.now) (g.S.Sink.written c.put_all.new.sink) (g.S.Sink.failed c.args.sink.now)
-    (g.S.Sink.failed c.put_all.new.sink)
-    (subst (λ (b : List ℕ). Adds b (g.S.Sink.written c.args.sink.now) (g.S.Sink.written c.put_all.new.sink)) c.as_bytes.ensures.value
-    c.in-Ok.ensures.whole)
-    c.in-Ok.ensures.unfailed
+returns g c = subst
+    (λ (b : List ℕ). AnswersTo g.S.Sink.written g.S.Sink.failed (Ok b) c.put_bytes.result c.args.sink.now c.put_bytes.new.sink)
+    c.as_bytes.ensures.value c.put_bytes.ensures

@@ -1,0 +1,252 @@
+-- Under which covers a thing can ever come, by a history and by one that it lies within.
+use Rattle.std.proofs.Common.{◌≡◌, ℕ, List, [], ◌∷◌, ◌++◌, refl, sym, ap, ◌∙◌, Bool, true, false, ◌&&◌, ◌||◌, map, subst, inl, inr}
+use Rattle.std.proofs.lemmas.Bool.{and_parts, and_from, or_right}
+use Rattle.std.specs.List.{list_any, list_all}
+use Rattle.std.specs.Prelude.{Option, Some, None, not, ◌==◌, filter, is_none, if◌then◌else◌}
+use Rattle.pua_tree.specs.Tree.{Tree, Spot, look, is_dir}
+use Rattle.pua_path.specs.declared.errno.Errno.{Errno}
+use Rattle.pua_path.specs.declared.found.Found.{Found}
+use Rattle.pua_calls.specs.Calls.{CallTable, rule_of}
+use Rattle.pua_calls.specs.Promises.{holds, creating}
+use Rattle.pua_calls.specs.declared.call.Call.{Call}
+use Rattle.pua_policy.specs.History.{History, perms_kept, veils, may_any}
+use Rattle.pua_policy.specs.Verdict.{cover, cover_fault}
+use Rattle.pua_policy.specs.declared.answer.Cover.{Cover}
+use Rattle.pua_policy.specs.declared.answer.Cover.TheVariants.{Only}
+use Rattle.pua_policy.specs.declared.answer.May.{May}
+use Rattle.pua_policy.specs.declared.answer.May.TheVariants as may
+use Rattle.pua_policy.specs.declared.place.Place.{Place}
+use Rattle.pua_policy.specs.declared.place.Place.TheVariants as place
+use Rattle.pua_policy.proofs.ForCallers.{holds_through}
+use Rattle.pua_script.specs.Confinement.{has_c, object_in}
+use Rattle.pua_objects.specs.Objects.{cover_in}
+use Rattle.pua_objects.proofs.ForCallers.{Among, among_left, among_right, among_either, among_map, map_among, among_filter, filter_among}
+use Rattle.pua_objects.proofs.ForCallers.{filter_map_among, among_filter_map}
+use Rattle.pua_ever.specs.Ever.{row_cover, is_free, can_empty, opens_at, opens_outside, has_c_outside, directories, gives_way}
+use Rattle.pua_ever.specs.Ever.{is_way_in, dir_covers, veil_cover_at, name_covers, open_covers, is_yes, may_edit, edit_calls, may_rename}
+use Rattle.pua_ever.specs.Ever.{can_move, some_dir_moves, file_covers, may_link}
+use Rattle.pua_ever.proofs.ForCallers.{any_among, any_found}
+use Rattle.pua_tight.specs.Narrower.{SetWithin, HistoryWithin}
+use Rattle.pua_tight.proofs.Histories.{VeilsWithin, no_veils, veils_too, veils_within, CoverWithin, all, nothing, only, cover_within, fault_within}
+use Rattle.pua_tight.proofs.Histories.{kept_within, may_within}
+use Rattle.pua_tight.proofs.Listed.{in_within}
+
+-- what holds of one of two, of both, of some and of all, where what is asked is asked of more
+pub or_more : (a b c d : Bool) → (a ≡ true → c ≡ true) → (b ≡ true → d ≡ true) → (a || b) ≡ true → (c || d) ≡ true
+or_more true b c d first second e = ap (λ x. x || d) (first refl)
+or_more false b c d first second e = or_right c d (second e)
+
+pub and_more : (a b c d : Bool) → (a ≡ true → c ≡ true) → (b ≡ true → d ≡ true) → (a && b) ≡ true → (c && d) ≡ true
+and_more a b c d first second e = let both = and_parts a b e in and_from c d (first both.0) (second both.1)
+
+pub any_more : {X : Type 0} (f g : X → Bool) → ((x : X) → f x ≡ true → g x ≡ true) → (xs : List X) → list_any f xs ≡ true →
+    list_any g xs ≡ true
+any_more f g more [] e = e
+any_more f g more (x ∷ xs) e = or_more (f x) (list_any f xs) (g x) (list_any g xs) (more x) (any_more f g more xs) e
+
+pub all_more : {X : Type 0} (f g : X → Bool) → ((x : X) → f x ≡ true → g x ≡ true) → (xs : List X) → list_all f xs ≡ true →
+    list_all g xs ≡ true
+all_more f g more [] e = e
+all_more f g more (x ∷ xs) e = and_more (f x) (list_all f xs) (g x) (list_all g xs) (more x) (all_more f g more xs) e
+
+-- of veils at the same places
+any_veil : (f g : Place → ℕ → Bool) → ((p : Place) (a b : ℕ) → holds b a ≡ true → f p a ≡ true → g p b ≡ true) →
+    {vs ws : List (Place × ℕ)} → VeilsWithin vs ws → list_any (λ veil. f veil.0 veil.1) vs ≡ true → list_any (λ veil. g veil.0 veil.1) ws ≡ true
+any_veil f g more no_veils e = e
+any_veil f g more (veils_too {p = p} {a = a} {b = b} {vs = vs} {ws = ws} less rest) e =
+    or_more (f p a) (list_any (λ veil. f veil.0 veil.1) vs) (g p b) (list_any (λ veil. g veil.0 veil.1) ws) (more p a b less)
+    (any_veil f g more rest) e
+
+veil_there : {vs ws : List (Place × ℕ)} → VeilsWithin vs ws → (veil : Place × ℕ) → Among vs veil →
+    (b : ℕ) × Among ws (veil.0, b) × (holds b veil.1 ≡ true)
+veil_there no_veils veil a = absurd a
+veil_there (veils_too {p = p} {b = b} {ws = ws} less rest) veil (inl same) =
+    subst (λ (v : Place × ℕ). (c : ℕ) × Among ((p, b) ∷ ws) (v.0, c) × (holds c v.1 ≡ true)) same (b, inl refl, less)
+veil_there (veils_too less rest) veil (inr a) = let there = veil_there rest veil a in (there.0, inr there.1, there.2)
+
+-- each cover of one list lies within one of the other
+abbrev pub CoversWithin : List Cover → List Cover → Type 0
+CoversWithin xs ys = (c : Cover) → Among xs c → (d : Cover) × Among ys d × CoverWithin c d
+
+pub both_lists : (cs bs xs ys : List Cover) → CoversWithin cs xs → CoversWithin bs ys → CoversWithin (cs ++ bs) (xs ++ ys)
+both_lists cs bs xs ys first second c a = elim (among_either cs bs c a) [
+  | inl b ↦ (let there = first c b in (there.0, among_left xs ys there.0 there.1, there.2))
+  | inr b ↦ (let there = second c b in (there.0, among_right xs ys there.0 there.1, there.2))
+]
+
+pub if_both : (b d : Bool) (xs ys : List Cover) → (b ≡ true → d ≡ true) → CoversWithin xs ys →
+    CoversWithin (if b then xs else []) (if d then ys else [])
+if_both true true xs ys more less c a = less c a
+if_both true false xs ys more less c a = let never : false ≡ true = more refl in cc
+if_both false d xs ys more less c a = absurd a
+
+pub c_within : {c d : Cover} → CoverWithin c d → has_c c ≡ true → has_c d ≡ true
+c_within all e = refl
+c_within nothing e = e
+c_within (only {a = a} {b = b} less) e = holds_through b a creating less e
+
+yes_is : (m : May) → is_yes m ≡ true → m ≡ may.Yes
+yes_is may.Yes e = refl
+yes_is may.Enosys e = cc
+yes_is may.Death e = cc
+
+pub none_is : (o : Option Errno) → is_none o ≡ true → o ≡ None
+none_is None e = refl
+none_is (Some errno) e = cc
+
+-- a history to which another one is no harder: its promises let through what those of the other do, it was given veils where the other
+-- was, and each of its covers has the letters of the other's
+pub record Eases (table : CallTable) (h k : History) : Type 0 where
+  pub calls : (call : Call) → may_any h (rule_of table call).alternatives ≡ may.Yes → may_any k (rule_of table call).alternatives ≡ may.Yes
+  pub rename_old : may_any h table.rename.old.needs.alternatives ≡ may.Yes → may_any k table.rename.old.needs.alternatives ≡ may.Yes
+  pub rename_new : may_any h table.rename.new.needs.alternatives ≡ may.Yes → may_any k table.rename.new.needs.alternatives ≡ may.Yes
+  pub link_old : may_any h table.link.old.needs.alternatives ≡ may.Yes → may_any k table.link.old.needs.alternatives ≡ may.Yes
+  pub link_new : may_any h table.link.new.needs.alternatives ≡ may.Yes → may_any k table.link.new.needs.alternatives ≡ may.Yes
+  pub kept : (at : Place) → SetWithin (perms_kept h at) (perms_kept k at)
+  pub veiled : VeilsWithin (veils h) (veils k)
+  pub covers : (t : Tree) (object : Found) → CoverWithin (cover t h object) (cover t k object)
+  pub dirs : (t : Tree) (dir : ℕ) → CoverWithin (cover_in t h dir) (cover_in t k dir)
+
+pub eases : (table : CallTable) (h k : History) → HistoryWithin h k → Eases table h k
+eases table h k w = record {
+  calls = λ call. may_within h k w (rule_of table call).alternatives;
+  rename_old = may_within h k w table.rename.old.needs.alternatives;
+  rename_new = may_within h k w table.rename.new.needs.alternatives;
+  link_old = may_within h k w table.link.old.needs.alternatives;
+  link_new = may_within h k w table.link.new.needs.alternatives;
+  kept = kept_within w;
+  veiled = veils_within w;
+  covers = cover_within h k w;
+  dirs = in_within table h k w;
+}
+
+yes_more : (m n : May) → (m ≡ may.Yes → n ≡ may.Yes) → is_yes m ≡ true → is_yes n ≡ true
+yes_more m n more e = ap is_yes (more (yes_is m e))
+
+pub uncovered_more : {c d : Cover} → CoverWithin c d → (perms : ℕ) → is_none (cover_fault c perms) ≡ true →
+    is_none (cover_fault d perms) ≡ true
+uncovered_more {c} less perms e = ap is_none (fault_within less perms (none_is (cover_fault c perms) e))
+
+module _ (table : CallTable) (h k : History) (w : Eases table h k) where
+  pub edits_more : may_edit table h ≡ true → may_edit table k ≡ true
+  edits_more e =
+      or_more _ _ _ _ (yes_more _ _ w.rename_new)
+      (or_more _ _ _ _ (yes_more _ _ w.link_new)
+      (any_more _ _ (λ edit. yes_more _ _ (w.calls edit)) edit_calls)) e
+
+  renames_more : may_rename table h ≡ true → may_rename table k ≡ true
+  renames_more e = and_more _ _ _ _ (yes_more _ _ w.rename_old) (yes_more _ _ w.rename_new) e
+
+  pub links_more : may_link table h ≡ true → may_link table k ≡ true
+  links_more e = and_more _ _ _ _ (yes_more _ _ w.link_old) (yes_more _ _ w.link_new) e
+
+  pub moves_more : {c d : Cover} → CoverWithin c d → can_move table h c ≡ true → can_move table k d ≡ true
+  moves_more less e = and_more _ _ _ _ renames_more
+      (and_more _ _ _ _ (c_within less) (uncovered_more less table.rename.old.needs.perms)) e
+
+  module _ (t : Tree) where
+    in_dir : (dir : ℕ) → CoverWithin (cover_in t h dir) (cover_in t k dir)
+    in_dir dir = w.dirs t dir
+
+    abbrev free_by : History → Spot → Option ℕ → Bool
+    free_by g spot None = true
+    free_by g spot (Some x) = has_c (row_cover t g spot x)
+
+    free_is : (g : History) (spot : Spot) (o : Option ℕ) → look t spot.0 spot.1 ≡ o → is_free t g spot ≡ free_by g spot o
+    free_is g spot None at = rw at refl
+    free_is g spot (Some x) at = rw at refl
+
+    pub free_more : (spot : Spot) → is_free t h spot ≡ true → is_free t k spot ≡ true
+    free_more spot e = by (look t spot.0 spot.1) refl
+      where
+        by : (o : Option ℕ) → look t spot.0 spot.1 ≡ o → is_free t k spot ≡ true
+        by None at = free_is k spot None at
+        by (Some x) at = free_is k spot (Some x) at ∙ c_within (w.covers t (object_in t spot x))
+            (sym (free_is h spot (Some x) at) ∙ e)
+
+    pub empties_more : (dir : ℕ) → can_empty t h dir ≡ true → can_empty t k dir ≡ true
+    empties_more dir e = all_more (λ row. not (row.0.0 == dir) || has_c (row_cover t h row.0 row.1))
+        (λ row. not (row.0.0 == dir) || has_c (row_cover t k row.0 row.1))
+        (λ row. or_more _ _ _ _ (λ other. other) (c_within (w.covers t (object_in t row.0 row.1)))) t.rows e
+
+    opens_more : (dir : ℕ) (p : Place) (a b : ℕ) → holds b a ≡ true → opens_at t h dir p a ≡ true → opens_at t k dir p b ≡ true
+    opens_more dir (place.Slot other name) a b less e =
+        and_more _ _ _ _ (λ here. here) (and_more _ _ _ _ (c_within (only less)) (free_more (other, name))) e
+    opens_more dir (place.Dir other) a b less e = e
+
+    outside_more : (inner : ℕ) (p : Place) (a b : ℕ) → holds b a ≡ true → opens_outside t inner p a ≡ true → opens_outside t inner p b ≡ true
+    outside_more inner (place.Slot dir name) a b less e =
+        and_more _ _ _ _ (λ here. here) (and_more _ _ _ _ (λ here. here) (c_within (only less))) e
+    outside_more inner (place.Dir dir) a b less e = e
+
+    c_outside_more : (inner : ℕ) → has_c_outside t h inner ≡ true → has_c_outside t k inner ≡ true
+    c_outside_more inner e = or_more _ _ _ _
+        (any_more _ _ (λ dir. and_more _ _ _ _ (λ here. here) (c_within (in_dir dir))) (directories t))
+        (any_veil (opens_outside t inner) (opens_outside t inner) (outside_more inner) w.veiled) e
+
+    gives_more : (dir : ℕ) (row : Spot × ℕ) → gives_way t h dir row ≡ true → gives_way t k dir row ≡ true
+    gives_more dir row e = and_more _ _ _ _ (λ here. here)
+        (and_more _ _ _ _ (λ here. here)
+        (and_more _ _ _ _ (c_within (in_dir row.1)) (and_more _ _ _ _ (empties_more row.1) (c_outside_more row.1)))) e
+
+    way_more : (dir : ℕ) → is_way_in t h dir ≡ true → is_way_in t k dir ≡ true
+    way_more dir e = or_more _ _ _ _ (c_within (in_dir dir))
+        (or_more _ _ _ _ (any_veil (opens_at t h dir) (opens_at t k dir) (opens_more dir) w.veiled)
+        (any_more _ _ (gives_more dir) t.rows)) e
+
+    pub dirs_more : CoversWithin (dir_covers t h) (dir_covers t k)
+    dirs_more c a =
+        let from = map_among (cover_in t h) (filter (is_way_in t h) (directories t)) c a in
+        let way = filter_among (is_way_in t h) (directories t) from.0 from.1 in (
+          cover_in t k from.0,
+          among_map (cover_in t k) (filter (is_way_in t k) (directories t)) from.0
+              (among_filter (is_way_in t k) (directories t) from.0 (way_more from.0 way.1) way.0),
+          subst (λ (x : Cover). CoverWithin x (cover_in t k from.0)) from.2 (in_dir from.0),
+        )
+
+    pub opens_all_more : CoversWithin (open_covers t h) (open_covers t k)
+    opens_all_more c a =
+        let has = filter_among has_c (map (cover_in t h) (directories t)) c a in
+        let from = map_among (cover_in t h) (directories t) c has.0 in
+        let less : CoverWithin c (cover_in t k from.0) =
+        subst (λ (x : Cover). CoverWithin x (cover_in t k from.0)) from.2 (in_dir from.0) in (
+          cover_in t k from.0,
+          among_filter has_c (map (cover_in t k) (directories t)) (cover_in t k from.0) (c_within less has.1)
+              (among_map (cover_in t k) (directories t) from.0 from.1),
+          less,
+        )
+
+    cover_at_more : (p : Place) (a b : ℕ) → holds b a ≡ true → (c : Cover) → veil_cover_at t h p a ≡ Some c →
+        (d : Cover) × (veil_cover_at t k p b ≡ Some d) × CoverWithin c d
+    cover_at_more (place.Dir dir) a b less c e = cc
+    cover_at_more (place.Slot dir name) a b less c e = by (is_dir t dir && (has_c (Only a) && is_free t h (dir, name))) refl e
+      where
+        by : (x : Bool) → (is_dir t dir && (has_c (Only a) && is_free t h (dir, name))) ≡ x → (if x then Some (Only a) else None) ≡ Some c →
+            (d : Cover) × (veil_cover_at t k (place.Slot dir name) b ≡ Some d) × CoverWithin c d
+        by true is e =
+            let same : Only a ≡ c = cc in
+            let there = and_more _ _ (is_dir t dir) (has_c (Only b) && is_free t k (dir, name)) (λ here. here)
+            (and_more _ _ _ _ (c_within (only less)) (free_more (dir, name))) is in (
+              Only b,
+              ap (λ (x : Bool). if x then Some (Only b) else None) there,
+              subst (λ (x : Cover). CoverWithin x (Only b)) same (only less),
+            )
+        by false is e = cc
+
+    pub names_more : CoversWithin (name_covers t h) (name_covers t k)
+    names_more c a =
+        let from = filter_map_among (λ veil. veil_cover_at t h veil.0 veil.1) (veils h) c a in
+        let there = veil_there w.veiled from.0 from.1 in
+        let more = cover_at_more from.0.0 from.0.1 there.0 there.2 c from.2 in
+        (more.0, among_filter_map (λ veil. veil_cover_at t k veil.0 veil.1) (veils k) (from.0.0, there.0) more.0 there.1 more.1, more.2)
+
+    some_more : some_dir_moves t table h ≡ true → some_dir_moves t table k ≡ true
+    some_more e =
+        let one = any_found (can_move table h) (open_covers t h) e in
+        let other = opens_all_more one.0 one.1 in
+        any_among (can_move table k) (open_covers t k) other.0 other.1 (moves_more other.2 one.2)
+
+    pub files_more : CoversWithin (file_covers t table h) (file_covers t table k)
+    files_more = both_lists (name_covers t h) _ (name_covers t k) _ names_more
+        (both_lists (open_covers t h) _ (open_covers t k) _ opens_all_more
+        (if_both (some_dir_moves t table h) (some_dir_moves t table k) (dir_covers t h) (dir_covers t k) some_more dirs_more))

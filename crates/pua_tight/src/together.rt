@@ -1,0 +1,129 @@
+//! Trials of several words at once: what a script is answered as before without all of, it is answered
+//! as before without each.
+
+ghost use Rattle.std.specs.Prelude.{◌≡◌, ◌≢◌, ◌≤◌, ◌<◌, Err, IfOk, IfErr, Ok, if◌then◌else◌, length};
+ghost use Rattle.pua_script.specs.Replay.{World as ReplayWorld, answers_to, new_world};
+ghost use Rattle.pua_tree.specs.Tree.{Tree};
+ghost use Rattle.pua_tree.specs.Listing.{listing};
+ghost use Rattle.pua_tight.specs.Tight.{same_answers};
+ghost use Rattle.pua_tight.specs.Texts.{as_listing};
+ghost use Rattle.pua_tight.specs.Several.{AreDone, IsToTry, all_back, all_left};
+ghost use Rattle.pua_tight.specs.Trials.{all_tried};
+
+use crate::arguments::Arguments;
+use crate::fault::TightFault;
+use crate::trial::{Trial, leave_out, put_back};
+use crate::wanted::Wanted;
+use pua_script::Request;
+use std::alloc::{AllocError, Global};
+
+/// The arguments that a line had.
+#[derive(Clone, Copy)]
+pub(crate) struct Kept {
+    pub(crate) line: usize,
+    pub(crate) arguments: Arguments,
+}
+
+/// Leaves out of a script one piece after another, where all of it is then answered as is wanted: the
+/// last line's first, of lines that are answered ok.
+pub(crate) fn try_all(
+    wanted: &Wanted<'_>,
+    trials: &[Trial],
+    requests: &mut Vec<Request>,
+) -> Result<(), TightFault>
+    ensures tried { IfOk result (λ _. (t : Tree) → listing wanted.now.tree_bytes.now ≡ Ok t →
+        IsToTry wanted.now.table.now (new_world t) wanted.now.answers.items trials.now
+        requests.old.items → requests.new.items ≡ all_tried wanted.now.table.now (new_world t)
+        wanted.now.answers.items trials.now requests.old.items) }
+    ensures refused { IfErr result (λ fault. fault ≢ TightFault.OutOfMemory →
+        (as_listing (listing wanted.now.tree_bytes.now) ≡ Err fault)) }
+{
+    let mut done = 0;
+    while done < trials.len() {
+        done += try_front(wanted, &trials[done..], requests)?;
+    }
+    Ok(())
+}
+
+/// Tries the first pieces, up to the first that can't be left out, and answers how many were tried. Of
+/// those that can, it tries at most twice as many at once as it has left out.
+fn try_front(
+    wanted: &Wanted<'_>,
+    trials: &[Trial],
+    requests: &mut Vec<Request>,
+) -> Result<usize, TightFault>
+    ensures done { IfOk result (λ done. (t : Tree) → listing wanted.now.tree_bytes.now ≡ Ok t →
+        IsToTry wanted.now.table.now (new_world t) wanted.now.answers.items trials.now
+        requests.old.items → AreDone wanted.now.table.now (new_world t) wanted.now.answers.items
+        trials.now done requests.old.items requests.new.items) }
+    ensures some { IfOk result (λ done. 0 < length trials.now → 0 < done) }
+    ensures within { IfOk result (λ done. done ≤ length trials.now) }
+    ensures refused { IfErr result (λ fault. fault ≢ TightFault.OutOfMemory →
+        (as_listing (listing wanted.now.tree_bytes.now) ≡ Err fault)) }
+{
+    let mut spare = 0;
+    let mut most = trials.len();
+    while spare < most {
+        let more = 1 + spare.min((most - spare - 1) / 2);
+        if try_together(wanted, &trials[spare..spare + more], requests)? {
+            spare += more;
+        } else {
+            most = spare + more - 1;
+        }
+    }
+    Ok(trials.len().min(spare + 1))
+}
+
+/// Leaves pieces out of a script, if all of it is then answered as is wanted, and answers whether.
+fn try_together(
+    wanted: &Wanted<'_>,
+    trials: &[Trial],
+    requests: &mut Vec<Request>,
+) -> Result<bool, TightFault>
+    ensures told { IfOk result (λ spare. (t : Tree) → listing wanted.now.tree_bytes.now ≡ Ok t →
+        spare ≡ same_answers (answers_to wanted.now.table.now (new_world t)
+        (all_left trials.now requests.old.items)) wanted.now.answers.items) }
+    ensures left { IfOk result (λ spare. requests.new.items
+        ≡ (if spare then all_left trials.now requests.old.items else requests.old.items)) }
+    ensures refused { IfErr result (λ fault. fault ≢ TightFault.OutOfMemory →
+        (as_listing (listing wanted.now.tree_bytes.now) ≡ Err fault)) }
+{
+    let Ok(kept) = leave_all(wanted.alloc, trials, requests) else {
+        return Err(TightFault::OutOfMemory);
+    };
+    if wanted.first_other(requests.as_slice())?.is_none() {
+        return Ok(true);
+    }
+    put_all_back(kept.as_slice(), requests);
+    Ok(false)
+}
+
+/// Leaves pieces out of a script, and answers what the arguments of their lines were.
+fn leave_all(
+    alloc: Global,
+    trials: &[Trial],
+    requests: &mut Vec<Request>,
+) -> Result<Vec<Kept>, AllocError>
+    ensures left { IfOk result (λ _. requests.new.items
+        ≡ all_left trials.now requests.old.items) }
+    ensures back { IfOk result (λ kept. all_back kept.items requests.new.items
+        ≡ requests.old.items) }
+{
+    let mut kept = Vec::new(alloc);
+    for trial in trials {
+        let line = trial.line;
+        let arguments = leave_out(trial, requests);
+        kept.push(Kept { line, arguments })?;
+    }
+    Ok(kept)
+}
+
+/// Gives lines the arguments that were kept, the last ones first.
+fn put_all_back(kept: &[Kept], requests: &mut Vec<Request>)
+    ensures { requests.new.items ≡ all_back kept.now requests.old.items }
+{
+    for index in (0..kept.len()).rev() {
+        let kept = kept[index];
+        put_back(kept.line, kept.arguments, requests);
+    }
+}

@@ -1,0 +1,127 @@
+-- What a tightened script that was written is.
+use Rattle.pua_tool.proofs.Common.{◌≡◌, ◌≢◌, ◌∙◌, ℕ, List, ap, map, refl, sym, subst, Err, Ok, Option, Some, None, Result, ◌>>=◌, Tree, listing}
+use Rattle.pua_tool.proofs.Common.{CallTable, Asked, script, World, new_world, answers_to, world_after, answer_lines, Chosen, Replayed}
+use Rattle.pua_tool.proofs.Common.{replay_of, table_by, as_listing, as_script, ToolFault, History}
+use Rattle.std.specs.Prelude.{is_some}
+use Rattle.pua_tree.proofs.ForCallers.{same_Ok}
+use Rattle.pua_calls.specs.Calls.{table_by_rules}
+use Rattle.pua_script.specs.declared.answer.Answer.TheVariants.{Okay}
+use Rattle.pua_script.specs.declared.fault.ScriptFault.{ScriptFault}
+use Rattle.pua_tight.specs.Narrower.{AsksWithin, HistoryWithin, WorldWithin}
+use Rattle.pua_tight.specs.Tight.{Line, lines_of, tight}
+use Rattle.pua_tight.specs.Texts as texts
+use Rattle.pua_tight.specs.Laws.{IsTightened, IsScriptOfLines, LeavesOut, MayLeaveOut, RestsOnOne, leave_out}
+use Rattle.pua_tight.proofs.ForCallers.{tightens, scripts_are_tightened, tight_is_minimal, tight_is_least, rules_rest, tight_texts_are_read}
+use Rattle.pua_tight.proofs.ForCallers.{FoundWithin, never, made, found_within, allows_no_more, futures_within, ended_alike, lists_no_more}
+use Rattle.pua_tool.specs.Texts.{run_text}
+use Rattle.pua_tool.specs.TightTexts.{as_tight, tight_text}
+use Rattle.pua_tool.specs.Fewest.{MayDoNoMore, LeavesNoMore, IsTightWritten, TightAsWritten}
+use Rattle.pua_tool.proofs.Replays.{replayed_is}
+
+-- a process whose events lie within those of another
+may_do_no_more : (table : CallTable) → (less given : History) → HistoryWithin less given →
+    MayDoNoMore table less given
+may_do_no_more table less given inside = record {
+  ended = ended_alike inside;
+  calls = allows_no_more table less given inside;
+  listed = lists_no_more table less given inside;
+}
+
+-- what two worlds have of one number, where one lies within the other
+made_alike : {o p : Option History} → FoundWithin o p → is_some o ≡ is_some p
+made_alike never = refl
+made_alike (made inside) = refl
+
+both_within : {o p : Option History} → FoundWithin o p → (h k : History) → o ≡ Some h → p ≡ Some k → HistoryWithin h k
+both_within never h k here there = cc
+both_within (made {h = g} {k = l} inside) h k here there =
+    let inner : g ≡ h = cc in
+    let outer : l ≡ k = cc in
+    subst (λ (events : History). HistoryWithin events k) inner (subst (HistoryWithin g) outer inside)
+
+leaves_no_more : (table : CallTable) → (less given : World) → WorldWithin less given →
+    LeavesNoMore table less given
+leaves_no_more table less given inside = record {
+  tree = inside.tree;
+  made = λ process. made_alike (found_within inside.histories process);
+  processes = λ process h k here there.
+      may_do_no_more table h k (both_within (found_within inside.histories process) h k here there);
+}
+
+-- a text of a script without a fault
+text_is : (read : Result (List ℕ) ScriptFault) (text : List ℕ) → as_tight (texts.as_script read) ≡ Ok text → read ≡ Ok text
+text_is (Ok other) text is = let same : other ≡ text = cc in ap Ok same
+text_is (Err fault) text is = cc
+
+-- the table of the rules alone
+rules_alone : (choice : Chosen) (table : CallTable) → table_by choice ≡ Ok table → choice.rows ≡ None → table_by_rules choice.rules ≡ table
+rules_alone choice table chosen none = same_Ok (table_by_rules choice.rules) table
+    (sym (ap (λ (rows : Option (List ℕ)). table_by (record { rules = choice.rules; rows = rows })) none) ∙ chosen)
+
+module _ (choice : Chosen) (tree_bytes script_bytes : List ℕ) (table : CallTable) (t : Tree) (given : List Asked) (text : List ℕ)
+    (chosen : table_by choice ≡ Ok table) (listed : listing tree_bytes ≡ Ok t) (scripted : script script_bytes ≡ Ok given)
+    (told : tight_text choice tree_bytes script_bytes ≡ Ok text) where
+  abbrev w : World
+  w = new_world t
+
+  abbrev lines : List Line
+  lines = lines_of table w given
+
+  abbrev left : List Asked
+  left = tight table w lines
+
+  is_tight : IsTightened table w lines
+  is_tight = tightens table w lines
+
+  is_script : IsScriptOfLines table w given
+  is_script = scripts_are_tightened table w given
+
+  over : as_tight (texts.text_over table tree_bytes script_bytes) ≡ Ok text
+  unfolding tight_text
+  over = (λ i. sym chosen i >>= λ table. as_tight (texts.text_over table tree_bytes script_bytes)) ∙ told
+
+  written : texts.tight_text table t script_bytes ≡ Ok text
+  written = text_is (texts.tight_text table t script_bytes) text
+      ((λ i. as_tight (texts.as_listing (sym listed i) >>= λ t. texts.as_script (texts.tight_text table t script_bytes))) ∙ over)
+
+  read : script text ≡ Ok left
+  read =
+      let parts = tight_texts_are_read table t script_bytes text written in
+      let same : parts.0 ≡ given = same_Ok parts.0 given (sym parts.1 ∙ scripted) in
+      parts.2 ∙ (λ i. Ok (tight table w (lines_of table w (same i))))
+
+  same_answers : answers_to table w left ≡ answers_to table w given
+  same_answers = is_tight.same ∙ ap (answers_to table w) is_script.asks
+
+  run_is : (bytes : List ℕ) (asks : List Asked) → script bytes ≡ Ok asks →
+      run_text choice tree_bytes bytes ≡ Ok (answer_lines 1 (answers_to table w asks))
+  run_is bytes asks is =
+      let replayed = replayed_is choice tree_bytes bytes table t asks chosen (ap as_listing listed) (ap as_script is) in
+      λ i. replayed i >>= λ done. Ok (answer_lines 1 done.answers)
+
+  inner : WorldWithin (world_after table w left) (world_after table w given)
+  inner = subst (λ (asks : List Asked). WorldWithin (world_after table w left) (world_after table w asks)) is_script.asks is_tight.narrower
+
+  tight_written : IsTightWritten choice tree_bytes script_bytes table t given text
+  tight_written = record {
+    left = left;
+    read = read;
+    within = subst (λ (asks : List Asked). AsksWithin left asks) is_script.asks is_tight.within;
+    same = run_is text left read ∙ ap (λ answers. Ok (answer_lines 1 answers)) same_answers ∙ sym (run_is script_bytes given scripted);
+    narrower = leaves_no_more table (world_after table w left) (world_after table w given) inner;
+    futures = λ later granted.
+        let behind = futures_within table (world_after table w left) (world_after table w given) later inner granted in (
+          behind.0,
+          leaves_no_more table (world_after table (world_after table w left) later)
+              (world_after table (world_after table w given) later) behind.1,
+        );
+    minimal = λ index piece may some alike.
+        tight_is_minimal table w lines index piece is_script.okay may some (alike ∙ ap (answers_to table w) (sym is_script.asks));
+    least = λ none less leaves alike.
+        tight_is_least table w lines less (subst RestsOnOne (rules_alone choice table chosen none) (rules_rest choice.rules)) is_script.okay
+        is_script.spare leaves (alike ∙ ap (answers_to table w) (sym is_script.asks));
+  }
+
+pub tight_as_written : TightAsWritten
+tight_as_written choice tree_bytes script_bytes table t given text chosen listed scripted told =
+    tight_written choice tree_bytes script_bytes table t given text chosen listed scripted told

@@ -1,0 +1,64 @@
+-- What the tightened script is that a command writes.
+use Rattle.std.specs.Prelude.{◌≡◌, ◌≢◌, ℕ, List, map, Some, None, Ok, is_some, IsTrue}
+use Rattle.std.specs.List.{Contains}
+use Rattle.pua_tree.specs.Tree.{Tree}
+use Rattle.pua_tree.specs.Listing.{listing}
+use Rattle.pua_calls.specs.Calls.{CallTable}
+use Rattle.pua_calls.specs.declared.call.Call.{Call}
+use Rattle.pua_policy.specs.History.{History, is_ended}
+use Rattle.pua_policy.specs.Verdict.{verdict_on, is_allowed}
+use Rattle.pua_script.specs.Requests.{Asked}
+use Rattle.pua_script.specs.Scripts.{script}
+use Rattle.pua_script.specs.Replay.{World, new_world, history_of, answers_to, world_after}
+use Rattle.pua_script.specs.declared.answer.Answer.TheVariants.{Okay}
+use Rattle.pua_objects.specs.Objects.{Line, objects}
+use Rattle.pua_tight.specs.declared.piece.Piece.{Piece}
+use Rattle.pua_tight.specs.Tight.{lines_of}
+use Rattle.pua_tight.specs.Narrower.{AsksWithin}
+use Rattle.pua_tight.specs.Laws.{IsListed, LeavesOut, MayLeaveOut, leave_out}
+use Rattle.pua_tool.specs.Texts.{Chosen, run_text, table_by}
+use Rattle.pua_tool.specs.TightTexts.{tight_text}
+
+-- a process has ended where another has, and whatever is allowed to it is allowed to the other: over each tree each call on each
+-- path, and of its list of objects each line with all of its calls
+pub record MayDoNoMore (table : CallTable) (less given : History) : Type 0 where
+  pub ended : is_ended less ≡ is_ended given
+  pub calls : (t : Tree) (call : Call) (text : List ℕ) → IsTrue (is_allowed (verdict_on t table less call text)) →
+      IsTrue (is_allowed (verdict_on t table given call text))
+  pub listed : (t : Tree) (line : Line) → Contains (objects t table less) line → IsListed t table given line
+
+-- one tree, and the same processes, each of which may do no more
+pub record LeavesNoMore (table : CallTable) (less given : World) : Type 0 where
+  pub tree : less.tree ≡ given.tree
+  pub made : (process : ℕ) → is_some (history_of less process) ≡ is_some (history_of given process)
+  pub processes : (process : ℕ) (h k : History) → history_of less process ≡ Some h → history_of given process ≡ Some k →
+      MayDoNoMore table h k
+
+pub record IsTightWritten (choice : Chosen) (tree_bytes script_bytes : List ℕ) (table : CallTable) (t : Tree) (given : List Asked)
+    (text : List ℕ) : Type 0 where
+  -- it is a script, of the given requests but for words that were left out
+  pub left : List Asked
+  pub read : script text ≡ Ok left
+  pub within : AsksWithin left given
+  -- its run has the same text
+  pub same : run_text choice tree_bytes text ≡ run_text choice tree_bytes script_bytes
+  -- each process may do no more where it ends,
+  pub narrower : LeavesNoMore table (world_after table (new_world t) left) (world_after table (new_world t) given)
+  -- nor after whatever is asked then, as long as all of it is granted, which it then is behind the given script too
+  pub futures : (later : List Asked) →
+      answers_to table (world_after table (new_world t) left) later ≡ map (λ ask. Okay) later →
+      (answers_to table (world_after table (new_world t) given) later ≡ map (λ ask. Okay) later)
+      × LeavesNoMore table (world_after table (world_after table (new_world t) left) later)
+      (world_after table (world_after table (new_world t) given) later)
+  -- without a word more that may be left out, some line is answered otherwise
+  pub minimal : (index : ℕ) (piece : Piece) → MayLeaveOut (lines_of table (new_world t) given) index piece →
+      leave_out index piece left ≢ left →
+      answers_to table (new_world t) (leave_out index piece left) ≢ answers_to table (new_world t) given
+  -- by the rules alone, whatever else is left out so that all is answered as before has all that it has
+  pub least : choice.rows ≡ None → (less : List Asked) → LeavesOut less (lines_of table (new_world t) given) →
+      answers_to table (new_world t) less ≡ answers_to table (new_world t) given → AsksWithin left less
+
+abbrev pub TightAsWritten : Type 0
+TightAsWritten = (choice : Chosen) (tree_bytes script_bytes : List ℕ) (table : CallTable) (t : Tree) (given : List Asked) (text : List ℕ) →
+    table_by choice ≡ Ok table → listing tree_bytes ≡ Ok t → script script_bytes ≡ Ok given →
+    tight_text choice tree_bytes script_bytes ≡ Ok text → IsTightWritten choice tree_bytes script_bytes table t given text

@@ -1,0 +1,71 @@
+//! The text of a tightened script.
+
+ghost use Rattle.std.specs.Prelude.{◌≡◌, ◌≢◌, Err, IfErr, IfOk, Ok};
+ghost use Rattle.pua_tool.specs.Answers.{AnswersTo};
+ghost use Rattle.pua_tool.specs.Texts.{choice_of};
+ghost use Rattle.pua_tool.specs.TightTexts.{tight_fault, tight_text};
+
+use crate::fault::ToolFault;
+use crate::objects::put_bytes;
+use crate::script::read_table;
+use crate::table::TableChoice;
+use pua_io::Sink;
+use pua_tight::TightFault;
+use std::alloc::Global;
+
+/// Writes a script without the promises and letters that none of its answers needs. From the last line to
+/// the first, and in a line in the order of keywords and of the letters r, w, x, c, each is left out
+/// without which every line is answered as before; of lines that are answered `ok` alone, and of promises
+/// those that some call asks for, but `error`. All other bytes of the script stay, and where nothing is
+/// left of an argument it is `=`. What a call needs is said by the table of calls that is chosen.
+///
+/// The first that holds of `Table`, `Listing` and `Script` is answered before anything is written. So is
+/// `OutOfMemory`, wherever a growth was refused. `Write` is answered only where a put failed in this
+/// call, and a front of the text is then written.
+pub fn tight_to<S: Sink>(
+    alloc: Global,
+    tree_bytes: &[u8],
+    script_bytes: &[u8],
+    table: TableChoice<'_>,
+    sink: &mut S,
+) -> Result<(), ToolFault>
+    ensures text { AnswersTo S.written S.failed
+        (tight_text (choice_of table.entry) tree_bytes.now script_bytes.now)
+        result sink.old sink.new }
+{
+    let text = text_of(alloc, tree_bytes, script_bytes, table)?;
+    put_bytes(text.as_slice(), sink)
+}
+
+/// The tightened script, or the first fault: the table's, the listing's, or the script's. `OutOfMemory`
+/// where a growth was refused.
+fn text_of(
+    alloc: Global,
+    tree_bytes: &[u8],
+    script_bytes: &[u8],
+    table: TableChoice<'_>,
+) -> Result<Vec<u8>, ToolFault>
+    ensures done { IfOk result (λ text. tight_text (choice_of table.entry) tree_bytes.now
+        script_bytes.now ≡ Ok text.items) }
+    ensures refused { IfErr result (λ fault. fault ≢ ToolFault.OutOfMemory →
+        (tight_text (choice_of table.entry) tree_bytes.now script_bytes.now ≡ Err fault)) }
+    ensures unwritten { IfErr result (λ fault. fault ≢ ToolFault.Write) }
+{
+    let table = read_table(alloc, table)?;
+    match pua_tight::tight_text(alloc, tree_bytes, script_bytes, &table) {
+        Ok(text) => Ok(text),
+        Err(fault) => Err(of_tight(fault)),
+    }
+}
+
+/// Why a script was not tightened, as the tool reports it.
+pub(crate) fn of_tight(fault: TightFault) -> ToolFault
+    ensures told { result ≡ tight_fault fault }
+    ensures unwritten { result ≢ ToolFault.Write }
+{
+    match fault {
+        TightFault::Listing(fault) => ToolFault::Listing(fault),
+        TightFault::Script(fault) => ToolFault::Script(fault),
+        TightFault::OutOfMemory => ToolFault::OutOfMemory,
+    }
+}
