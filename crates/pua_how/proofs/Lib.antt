@@ -1,2 +1,3 @@
+mod Lived
 mod Listing
 mod Coming

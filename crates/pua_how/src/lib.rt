@@ -4,5 +4,5 @@
 mod laws;
 mod target;
 
-pub use laws::{how_examples, how_law};
+pub use laws::{how_examples, how_law, listed_examples};
 pub use target::Target;
