@@ -1,9 +1,9 @@
 -- What no line has never comes, and what has a way has a line.
 use Rattle.std.proofs.Common.{◌≡◌, ℕ, true, false, Bool, List, [], ◌∷◌, ◌++◌, refl, sym, ap, subst, ◌∙◌, cond, Some}
-use Rattle.std.proofs.lemmas.Bool.{and_from, eq-eqb, or_right}
+use Rattle.std.proofs.lemmas.Bool.{and_from, eq-eqb, false≢true, or_right}
 use Rattle.std.specs.Prelude.{◌&&◌, ◌||◌, ◌==◌, not, Ok, Err, Result, filter}
-use Rattle.std.specs.List.{AllByRecursion}
-use Rattle.pua_tree.specs.Tree.{Tree}
+use Rattle.std.specs.List.{AllByRecursion, Contains}
+use Rattle.pua_tree.specs.Tree.{Tree, WellFormed}
 use Rattle.pua_tree.proofs.ForCallers.{None≢Some}
 use Rattle.pua_path.specs.Resolution.{resolution_of_text}
 use Rattle.pua_path.specs.declared.errno.Errno.{Errno}
@@ -26,12 +26,16 @@ use Rattle.pua_script.specs.Tightening.{EndsWithin}
 use Rattle.pua_script.specs.declared.request.Action.{Action}
 use Rattle.pua_script.specs.declared.request.Action.TheVariants.{OnPath, Symlink, Rename, Link, Pledge, Unveil, Lock, Fork, Exit}
 use Rattle.pua_script.specs.declared.answer.Answer.TheVariants.{Okay}
-use Rattle.pua_script.proofs.ForCallers.{by_request, decisions_are_guarded, families_narrow}
-use Rattle.pua_ever.specs.Laws.{EverComplete, Foresees, IsForeseen}
-use Rattle.pua_how.specs.Targets.{is_of}
+use Rattle.pua_script.proofs.ForCallers.{by_request, decisions_are_guarded, families_narrow, first_tree}
+use Rattle.pua_ever.specs.Laws.{EverComplete, Foresees, ForeseesIn, IsForeseen, IsForeseenIn}
+use Rattle.pua_ever.specs.Through.{EverLasts, ever_lasting}
+use Rattle.pua_how.specs.Targets.{IsGiven, is_listed, is_of}
+use Rattle.pua_how.specs.declared.target.Target.{Target}
 use Rattle.pua_how.specs.Ways.{call_of}
-use Rattle.pua_how.specs.Laws.{NeverComes, WaysAreListed}
-use Rattle.pua_how.proofs.Listing.{line_about, same_veils_same}
+use Rattle.pua_how.specs.Laws.{NeverComes, NeverComesThrough, WaysAreListed}
+use Rattle.pua_how.proofs.Listing.{line_about, listed_by, same_veils_same}
+use Rattle.pua_how.proofs.Lived.{LivesThing, lasting_lives, listed_lives}
+use Rattle.pua_ever.specs.Ever.{EverLine, ever}
 
 same_ok : (a b : Found) → ◌≡◌ {A = Result Found Errno} (Ok a) (Ok b) → a ≡ b
 same_ok a b e = cc
@@ -51,23 +55,38 @@ kept_by_unveils (Ended ∷ h) at = kept_by_unveils h at
 same_kept : (a b : History) → filter is_unveil a ≡ filter is_unveil b → (at : Place) → perms_kept a at ≡ perms_kept b at
 same_kept a b e at = kept_by_unveils a at ∙ ap (λ h. perms_kept h at) e ∙ sym (kept_by_unveils b at)
 
+-- what no line has is not allowed where each call that is allowed has its line
+unforeseen : (lines : List EverLine) (t u : Tree) (table : CallTable) (now last : History) → WellFormed t →
+    ((line : EverLine) → Contains lines line → LivesThing t line.thing) → ForeseesIn lines t table now u last →
+    (asked : Target) (call : Call) → IsGiven t asked → is_listed lines asked call ≡ false →
+    (from : ℕ) (text : List ℕ) (object : Found) → resolution_of_text u from (ending_of call) text (last_of call) ≡ Ok object →
+    is_of u now asked object ≡ true → verdict u table last call object ≡ Allowed → ⊥
+unforeseen lines t u table now last well live foresees asked call given unlisted from text object named same allowed =
+    let foreseen : IsForeseenIn lines t now u call (resolution_of_text u from (ending_of call) text (last_of call)) =
+    foresees from call text (ap (verdict_of u table last call) named ∙ allowed) in
+    let is : foreseen.object ≡ object = same_ok foreseen.object object (sym foreseen.names ∙ named) in
+    false≢true (sym unlisted ∙ listed_by lines asked call foreseen.line foreseen.listed
+    (line_about t u now well asked given foreseen.line.thing (live foreseen.line foreseen.listed)
+    foreseen.object foreseen.about (ap (is_of u now asked) is ∙ same)) foreseen.allows)
+
 pub never_comes : EverComplete → NeverComes
 never_comes complete table sound needs w asks process now here confined stand trees none alone asked call given unlisted member belongs =
-    let last = complete table sound needs w asks process now here confined stand trees none alone member belongs in (
+    let last = complete table sound needs w asks process now here confined stand trees none alone member belongs in
+    let well = first_tree table w asks trees in (
       last.0,
       last.1,
-      λ from text object named same allowed.
-          let u = (world_after table w asks).tree in
-          let foreseen : IsForeseen w.tree table now u call (resolution_of_text u from (ending_of call) text (last_of call)) =
-          last.2 from call text (ap (verdict_of u table last.0 call) named ∙ allowed) in
-          let is : foreseen.object ≡ object = same_ok foreseen.object object (sym foreseen.names ∙ named) in
-          unlisted (record {
-            line = foreseen.line;
-            listed = foreseen.listed;
-            about = line_about w.tree u now asked given foreseen.line.thing foreseen.object foreseen.about
-                (ap (is_of now asked) is ∙ same);
-            allows = foreseen.allows;
-          }),
+      unforeseen (ever w.tree table now) w.tree (world_after table w asks).tree table now last.0 well (listed_lives w.tree now well table)
+          last.2 asked call given unlisted,
+    )
+
+pub never_comes_through : EverLasts → NeverComesThrough
+never_comes_through lasts table sound needs w asks process now bound here bounded stand trees edit asked call given unlisted member belongs =
+    let last = lasts table sound needs w asks process now bound here bounded stand trees edit member belongs in
+    let well = first_tree table w asks trees in (
+      last.0,
+      last.1,
+      unforeseen (ever_lasting w.tree table now) w.tree (world_after table w asks).tree table now last.0 well
+          (lasting_lives w.tree table now well) last.2 asked call given unlisted,
     )
 
 -- a request that was answered `ok` was decided
@@ -206,13 +225,12 @@ ways_are_listed complete table sound needs w process now here confined stand ask
     let is : foreseen.object ≡ way.reaches.object =
     same_ok foreseen.object way.reaches.object (sym foreseen.names ∙ way.reaches.named) in
     let veils = same_kept now h (sym (subst (λ g. filter is_unveil g ≡ filter is_unveil now) narrow_is narrow.2.tightens.unveils)) in
-    record {
-      line = foreseen.line;
-      listed = foreseen.listed;
-      about = line_about w.tree before.tree now asked given foreseen.line.thing foreseen.object foreseen.about
-          (ap (is_of now asked) is ∙ same_veils_same now h veils asked way.reaches.object ∙ way.reaches.asked);
-      allows = foreseen.allows;
-    }
+    let well = first_tree table w way.first trees in
+    listed_by (ever w.tree table now) asked call foreseen.line foreseen.listed
+    (line_about w.tree before.tree now well asked given foreseen.line.thing (listed_lives w.tree now well table foreseen.line foreseen.listed)
+    foreseen.object foreseen.about
+    (ap (is_of before.tree now asked) is ∙ same_veils_same before.tree now h veils asked way.reaches.object ∙ way.reaches.asked))
+    foreseen.allows
   where
     begins : is_member (process ∷ []) process ≡ true
     begins = ap (λ b. b || false) (eq-eqb process process refl)

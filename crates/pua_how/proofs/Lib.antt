@@ -1,2 +1,4 @@
+mod Lived
 mod Listing
 mod Coming
+mod Granting

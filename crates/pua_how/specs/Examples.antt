@@ -1,5 +1,5 @@
 -- Worked rows on what is asked about, and on ways to it.
-use Rattle.std.specs.Prelude.{◌≡◌, ◌+◌, true, false, [], ◌∷◌, Some, None, codes, refl}
+use Rattle.std.specs.Prelude.{◌≡◌, ◌+◌, ℕ, true, false, [], ◌∷◌, Some, None, codes, refl}
 use Rattle.pua_tree.specs.Tree.{Tree, Node}
 use Rattle.pua_tree.specs.declared.node.Kind.TheVariants.{Dir, File}
 use Rattle.pua_path.specs.declared.found.Found.TheVariants.{Whole, Slot}
@@ -11,10 +11,14 @@ use Rattle.pua_policy.specs.History.{History, Pledged, Unveiled, Locked, new_his
 use Rattle.pua_policy.specs.declared.place.Place.TheVariants as place
 use Rattle.pua_script.specs.Requests.{Asked}
 use Rattle.pua_script.specs.Replay.{World}
+use Rattle.pua_path.specs.declared.errno.Errno.TheVariants.{EACCES}
+use Rattle.pua_script.specs.declared.answer.Answer.TheVariants.{Failed, Okay}
 use Rattle.pua_script.specs.declared.request.Action.{Action}
 use Rattle.pua_script.specs.declared.request.Action.TheVariants.{OnPath, Link}
-use Rattle.pua_how.specs.Targets.{is_of}
+use Rattle.pua_ever.specs.Through.{ever_lasting}
+use Rattle.pua_how.specs.Targets.{is_listed, is_of}
 use Rattle.pua_how.specs.Ways.{IsWay}
+use Rattle.pua_how.specs.declared.target.Target.{Target}
 use Rattle.pua_how.specs.declared.target.Target.TheVariants as target
 
 abbrev directory : Node
@@ -31,6 +35,14 @@ pid_tree = record {
   next = 5;
 }
 
+-- the same once `/run/pid` was made anew
+abbrev pub made_tree : Tree
+made_tree = record {
+  rows = ((0, codes "etc"), 1) ∷ ((0, codes "run"), 3) ∷ ((1, codes "conf"), 2) ∷ ((3, codes "pid"), 5) ∷ [];
+  nodes = (0, directory) ∷ (1, directory) ∷ (2, file) ∷ (3, directory) ∷ (5, file) ∷ [];
+  next = 6;
+}
+
 abbrev pub pid_history : History
 pid_history =
     Pledged (Some (rpath + wpath + cpath)) None ∷ Locked
@@ -40,14 +52,18 @@ pid_history =
 
 -- what a path named is what is asked about: a node by whichever name, a missing name by its veil or as a further one
 pub record OfRows : Type 0 where
-  pub by_another_name : is_of pid_history (target.Node 2) (Slot 3 (codes "new") (Some 2)) ≡ true
-  pub another_node : is_of pid_history (target.Node 2) (Slot 1 (codes "conf") (Some 5)) ≡ false
-  pub dir_by_dots : is_of pid_history (target.Directory 1) (Whole 1 DotDot) ≡ true
-  pub not_above : is_of pid_history (target.Directory 1) (Whole 0 DotDot) ≡ false
-  pub veiled : is_of pid_history (target.Name 3 (codes "pid")) (Slot 3 (codes "pid") None) ≡ true
-  pub taken : is_of pid_history (target.Name 3 (codes "pid")) (Slot 3 (codes "pid") (Some 4)) ≡ false
-  pub further : is_of pid_history (target.Others 3) (Slot 3 (codes "x") None) ≡ true
-  pub veiled_is_no_further : is_of pid_history (target.Others 3) (Slot 3 (codes "pid") None) ≡ false
+  pub by_another_name : is_of pid_tree pid_history (target.Node 2) (Slot 3 (codes "new") (Some 2)) ≡ true
+  pub another_node : is_of pid_tree pid_history (target.Node 2) (Slot 1 (codes "conf") (Some 5)) ≡ false
+  pub dir_by_dots : is_of pid_tree pid_history (target.Directory 1) (Whole 1 DotDot) ≡ true
+  pub not_above : is_of pid_tree pid_history (target.Directory 1) (Whole 0 DotDot) ≡ false
+  pub veiled : is_of pid_tree pid_history (target.Name 3 (codes "pid")) (Slot 3 (codes "pid") None) ≡ true
+  pub taken : is_of pid_tree pid_history (target.Name 3 (codes "pid")) (Slot 3 (codes "pid") (Some 4)) ≡ false
+  pub further : is_of pid_tree pid_history (target.Others 3) (Slot 3 (codes "x") None) ≡ true
+  pub veiled_is_no_further : is_of pid_tree pid_history (target.Others 3) (Slot 3 (codes "pid") None) ≡ false
+  pub made_before : is_of pid_tree pid_history (target.NewDirectory 4) (Whole 3 DotDot) ≡ false
+  pub made_file : is_of made_tree pid_history (target.NewFile 4) (Slot 3 (codes "pid") (Some 5)) ≡ true
+  pub made_no_link : is_of made_tree pid_history (target.NewLink 4) (Slot 3 (codes "pid") (Some 5)) ≡ false
+  pub made_later : is_of made_tree pid_history (target.NewFile 4) (Slot 1 (codes "conf") (Some 2)) ≡ false
 
 pub of_rows : OfRows
 of_rows = record {
@@ -59,6 +75,10 @@ of_rows = record {
   taken = refl;
   further = refl;
   veiled_is_no_further = refl;
+  made_before = refl;
+  made_file = refl;
+  made_no_link = refl;
+  made_later = refl;
 }
 
 abbrev pub pid_world : World
@@ -75,6 +95,15 @@ pub record WayRows : Type 0 where
   pub freed : IsWay standard_table pid_world 1 call.Create (target.Name 3 (codes "pid"))
       (one (OnPath call.Unlink (codes "/run/pid")) ∷ one (OnPath call.Create (codes "/run/pid")) ∷ [])
   pub at_once : IsWay standard_table pid_world 1 call.OpenRead (target.Node 2) (one (OnPath call.OpenRead (codes "/etc/conf")) ∷ [])
+  -- no way is a request that is refused, or another process's
+  pub refused : IsWay standard_table pid_world 1 call.OpenWrite (target.Node 2) (one (OnPath call.OpenWrite (codes "/etc/conf")) ∷ []) → ⊥
+  pub of_another : (target : Target) → IsWay standard_table pid_world 2 call.OpenRead target (one (OnPath call.OpenRead (codes "/etc/conf")) ∷ []) → ⊥
+
+no_answer : Failed EACCES ≡ Okay → ⊥
+no_answer e = cc
+
+no_process : ◌≡◌ {A = ℕ} 1 2 → ⊥
+no_process e = cc
 
 pub way_rows : WayRows
 way_rows = record {
@@ -117,4 +146,17 @@ way_rows = record {
     called = refl;
     reaches = record { history = pid_history; kept = refl; object = Slot 1 (codes "conf") (Some 2); named = refl; asked = refl };
   };
+  refused = λ way. no_answer way.granted.0;
+  of_another = λ target way. no_process way.own.0;
 }
+
+-- lines of the list for ever about it that have a call: by OpenBSD's rules the file can come to be written, by a further name, and
+-- by the standard ones it can't; a name with a veil can come to be free
+pub record ListedRows : Type 0 where
+  pub by_link : is_listed (ever_lasting pid_tree openbsd_table pid_history) (target.Node 2) call.OpenWrite ≡ true
+  pub without_link : is_listed (ever_lasting pid_tree standard_table pid_history) (target.Node 2) call.OpenWrite ≡ false
+  pub of_the_name : is_listed (ever_lasting pid_tree standard_table pid_history) (target.Name 3 (codes "pid")) call.Create ≡ true
+  pub of_no_name : is_listed (ever_lasting pid_tree standard_table pid_history) (target.Others 3) call.Create ≡ false
+
+pub listed_rows : ListedRows
+listed_rows = record { by_link = refl; without_link = refl; of_the_name = refl; of_no_name = refl }

@@ -1,5 +1,5 @@
 -- What is true of ways, and of what no line of the list for ever has.
-use Rattle.std.specs.Prelude.{◌≡◌, ℕ, [], ◌∷◌, List, true, Some, Ok, IsTrue}
+use Rattle.std.specs.Prelude.{◌≡◌, ℕ, [], ◌∷◌, List, true, Some, Ok, IsTrue, IsFalse}
 use Rattle.pua_path.specs.Resolution.{resolution_of_text}
 use Rattle.pua_path.specs.declared.found.Found.{Found}
 use Rattle.pua_calls.specs.Calls.{CallTable, ending_of, last_of}
@@ -14,8 +14,9 @@ use Rattle.pua_script.specs.Family.{family, none_done, members_alone, is_member,
 use Rattle.pua_script.specs.Tightening.{NoCallNeedsError}
 use Rattle.pua_script.specs.Confinement.{TreesAlong}
 use Rattle.pua_ever.specs.Ever.{ever}
-use Rattle.pua_ever.specs.Laws.{EditsNeedC, VeilsStand}
-use Rattle.pua_how.specs.Targets.{IsGiven, IsListed, is_of}
+use Rattle.pua_ever.specs.Laws.{EditsNeedC, VeilsStand, MembersEdit}
+use Rattle.pua_ever.specs.Through.{bound_of, ever_lasting}
+use Rattle.pua_how.specs.Targets.{IsGiven, is_listed, is_of}
 use Rattle.pua_how.specs.Ways.{IsWay}
 use Rattle.pua_how.specs.declared.target.Target.{Target}
 
@@ -28,11 +29,11 @@ NeverComes =
     history_of w process ≡ Some now → IsConfined now → VeilsStand w.tree now → TreesAlong table w asks →
     IsTrue (none_done is_exec table w asks (process ∷ [])) →
     IsTrue (members_alone table w asks (process ∷ [])) →
-    (asked : Target) (call : Call) → IsGiven w.tree asked → (IsListed (ever w.tree table now) asked call → ⊥) →
+    (asked : Target) (call : Call) → IsGiven w.tree asked → IsFalse (is_listed (ever w.tree table now) asked call) →
     (member : ℕ) → IsTrue (is_member (family table w asks (process ∷ [])) member) →
     let after = world_after table w asks in
     HasHistoryOf after member (λ last. (from : ℕ) (text : List ℕ) (object : Found) →
-    resolution_of_text after.tree from (ending_of call) text (last_of call) ≡ Ok object → is_of now asked object ≡ true →
+    resolution_of_text after.tree from (ending_of call) text (last_of call) ≡ Ok object → is_of after.tree now asked object ≡ true →
     verdict after.tree table last call object ≡ Allowed → ⊥)
 
 -- and where there is a way, a line about the thing has the call
@@ -41,4 +42,19 @@ WaysAreListed =
     (table : CallTable) → NoCallNeedsError table → EditsNeedC table →
     (w : World) (process : ℕ) (now : History) → history_of w process ≡ Some now → IsConfined now → VeilsStand w.tree now →
     (asked : Target) (call : Call) → IsGiven w.tree asked → (asks : List Asked) (way : IsWay table w process call asked asks) →
-    TreesAlong table w way.first → IsListed (ever w.tree table now) asked call
+    TreesAlong table w way.first → IsTrue (is_listed (ever w.tree table now) asked call)
+
+-- the same of the list that holds longest, through execs, where all that is started is bounded, and whatever others do that leaves
+-- the tree as it is
+abbrev pub NeverComesThrough : Type 0
+NeverComesThrough =
+    (table : CallTable) → NoCallNeedsError table → EditsNeedC table →
+    (w : World) (asks : List Asked) (process : ℕ) (now : History) (given : ℕ) →
+    history_of w process ≡ Some now → bound_of table now ≡ Some given → VeilsStand w.tree now → TreesAlong table w asks →
+    MembersEdit table w asks (process ∷ []) →
+    (asked : Target) (call : Call) → IsGiven w.tree asked → IsFalse (is_listed (ever_lasting w.tree table now) asked call) →
+    (member : ℕ) → IsTrue (is_member (family table w asks (process ∷ [])) member) →
+    let after = world_after table w asks in
+    HasHistoryOf after member (λ last. (from : ℕ) (text : List ℕ) (object : Found) →
+    resolution_of_text after.tree from (ending_of call) text (last_of call) ≡ Ok object → is_of after.tree now asked object ≡ true →
+    verdict after.tree table last call object ≡ Allowed → ⊥)

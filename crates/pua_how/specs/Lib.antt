@@ -5,3 +5,5 @@ pub mod Ways
 pub mod Laws
 -- Worked rows, which hold by computation.
 pub mod Examples
+-- Notes: what contracts see of the lines that were served.
+pub mod Served

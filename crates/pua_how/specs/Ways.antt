@@ -28,7 +28,7 @@ pub record Reaches (w : World) (process : ℕ) (call : Call) (target : Target) (
   pub kept : history_of w process ≡ Some history
   pub object : Found
   pub named : object_named w.tree history call text ≡ Ok object
-  pub asked : is_of history target object ≡ true
+  pub asked : is_of w.tree history target object ≡ true
 
 -- requests of one process, each answered `ok`, of which no exec comes before the last; the last one is the call, on a path
 -- that names what is asked about in the world before it

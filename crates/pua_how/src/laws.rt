@@ -1,19 +1,21 @@
 //! Laws and worked examples, each the contract of a function that does nothing.
 
-ghost use Rattle.pua_how.specs.Examples.{OfRows, WayRows};
-ghost use Rattle.pua_how.specs.Laws.{NeverComes, WaysAreListed};
+ghost use Rattle.pua_how.specs.Examples.{ListedRows, OfRows, WayRows};
+ghost use Rattle.pua_how.specs.Laws.{NeverComes, NeverComesThrough, WaysAreListed};
 
-use pua_ever::ever_law;
+use pua_ever::{ever_law, through_law};
 
 /// Whatever a process that can put no veil any more and what it forks ask for, as long as nobody else
 /// changes the tree and no exec of theirs succeeds: a call that no line of the list for ever about a thing
-/// has is then allowed to none of them on that thing. And a call to which there is a way has a line
-/// there.
+/// has is then allowed to none of them on that thing. So it is through execs, where all that they start is
+/// bounded, of the list that holds longest. And a call to which there is a way has a line there.
 pub fn how_law()
     ensures never { NeverComes }
+    ensures through { NeverComesThrough }
     ensures listed { WaysAreListed }
 {
-    ever_law()
+    ever_law();
+    through_law();
 }
 
 /// Examples of what is asked about, and of ways.
@@ -21,4 +23,10 @@ pub fn how_law()
 pub fn how_examples()
     ensures of { OfRows }
     ensures ways { WayRows }
+{}
+
+/// Examples of what the list for ever has of something.
+#[tactic(auto, using(crate::specs::Examples::listed_rows))]
+pub fn listed_examples()
+    ensures { ListedRows }
 {}

@@ -2,7 +2,13 @@
 #![tactic(auto)]
 
 mod laws;
+mod line;
+mod serve;
+mod step;
 mod target;
 
-pub use laws::{how_examples, how_law};
+pub use laws::{how_examples, how_law, listed_examples};
+pub use line::WayLine;
+pub use serve::serve_way;
+pub use step::{At, Dir, Step};
 pub use target::Target;

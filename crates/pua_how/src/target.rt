@@ -1,12 +1,15 @@
 //! What is asked about.
 
-ghost use Rattle.std.specs.Prelude.{◌≡◌};
+ghost use Rattle.std.specs.Prelude.{◌≡◌, ℕ, List, Some, None, nat_lt};
+ghost use Rattle.pua_tree.specs.Tree.{Tree};
+ghost use Rattle.pua_path.specs.declared.found.Found.TheVariants as found;
+ghost use Rattle.pua_path.specs.declared.found.Way.{Way};
 ghost use Rattle.pua_policy.specs.History.{History, StandsFor};
 ghost use Rattle.pua_how.specs.Targets.{is_of};
 
 use pua_path::Found;
 use pua_policy::{Place, Process};
-use pua_tree::{Name, NodeId};
+use pua_tree::{FileTree, Kind, Name, NodeId};
 
 /// A thing that is asked about.
 #[derive(Clone, Copy)]
@@ -19,43 +22,84 @@ pub enum Target {
     Node(NodeId),
     /// A name in a directory that has a veil of its own, while nothing stands there.
     Name(NodeId, Name),
+    /// A directory that is made: its number is above this one, the last of those that live before.
+    /// So it is of the three below.
+    NewDirectory(NodeId),
+    /// The further names of a directory that is made.
+    NewOthers(NodeId),
+    /// A file that is made.
+    NewFile(NodeId),
+    /// A link that is made.
+    NewLink(NodeId),
 }
 
 impl Target {
-    /// Whether this is what a path named, by the veils of a process.
-    pub fn is(&self, process: &Process, found: &Found) -> bool
-        ensures { (h : History) → StandsFor process.now h → result ≡ is_of h self.now found.now }
+    /// Whether this is what a path named in a tree, by the veils of a process.
+    pub fn is<T: FileTree>(&self, tree: &T, process: &Process, found: &Found) -> bool
+        ensures { (h : History) → StandsFor process.now h →
+            result ≡ is_of (T.content tree.now) h self.now found.now }
     {
-        match (self, found) {
-            (Target::Directory(asked), Found::Whole { dir, .. }) => dir == asked,
-            (
-                Target::Others(asked),
-                Found::Slot {
-                    dir,
-                    name,
-                    node: None,
-                },
-            ) => { dir == asked && process.kept(&Place::Slot(*dir, *name)).is_none() }
-            (
-                Target::Node(asked),
-                Found::Slot {
-                    node: Some(node),
-                    ..
-                },
-            ) => node == asked,
-            (
-                Target::Name(asked, asked_name),
-                Found::Slot {
-                    dir,
-                    name,
-                    node: None,
-                },
-            ) => {
-                dir == asked
-                    && name == asked_name
-                    && process.kept(&Place::Slot(*dir, *name)).is_some()
-            }
+        match found {
+            Found::Whole { dir, .. } => self.is_directory(*dir),
+            Found::Slot {
+                node: Some(node),
+                ..
+            } => self.is_node(tree, *node),
+            Found::Slot {
+                dir,
+                name,
+                node: None,
+            } => self.is_missing(process, *dir, name),
+        }
+    }
+
+    /// Whether it is this directory.
+    fn is_directory(&self, dir: NodeId) -> bool
+        ensures { (t : Tree) (h : History) (way : Way) →
+            result ≡ is_of t h self.now (found.Whole dir way) }
+    {
+        match self {
+            Target::Directory(asked) => dir == *asked,
+            Target::NewDirectory(last) => is_new(*last, dir),
             _ => false,
         }
     }
+
+    /// Whether it is this file, program or link.
+    fn is_node<T: FileTree>(&self, tree: &T, node: NodeId) -> bool
+        ensures { (h : History) (dir : ℕ) (name : List ℕ) →
+            result ≡ is_of (T.content tree.now) h self.now (found.Slot dir name (Some node)) }
+    {
+        match self {
+            Target::Node(asked) => node == *asked,
+            Target::NewFile(last) => is_new(*last, node)
+                && matches!(tree.kind(node), Some(Kind::File)),
+            Target::NewLink(last) => is_new(*last, node)
+                && matches!(tree.kind(node), Some(Kind::Link)),
+            _ => false,
+        }
+    }
+
+    /// Whether it is this name, at which nothing stands.
+    fn is_missing(&self, process: &Process, dir: NodeId, name: &Name) -> bool
+        ensures { (t : Tree) (h : History) → StandsFor process.now h →
+            result ≡ is_of t h self.now (found.Slot dir name.now None) }
+    {
+        let kept = process.kept(&Place::Slot(dir, *name));
+        match self {
+            Target::Others(asked) => dir == *asked && kept.is_none(),
+            Target::Name(asked, asked_name) => {
+                dir == *asked && name == asked_name && kept.is_some()
+            }
+            Target::NewOthers(last) => is_new(*last, dir) && kept.is_none(),
+            _ => false,
+        }
+    }
+}
+
+/// Whether a number is above the last one before.
+fn is_new(last: NodeId, number: NodeId) -> bool
+    ensures { result ≡ nat_lt last number }
+{
+    last.number() < number.number()
 }

@@ -1,8 +1,11 @@
-use Rattle.pua_how.proofs.Coming.{never_comes, ways_are_listed}
+use Rattle.pua_how.proofs.Coming.{never_comes, never_comes_through, ways_are_listed}
 use Rattle.pua_how.proofs.laws.how_law.Goals as goal
 
 pub returns-clause-never : goal.returns-clause-never
 returns-clause-never c = never_comes c.ever_law.ensures.complete
+
+pub returns-clause-through : goal.returns-clause-through
+returns-clause-through c = never_comes_through c.through_law.ensures.lasts
 
 pub returns-clause-listed : goal.returns-clause-listed
 returns-clause-listed c = ways_are_listed c.ever_law.ensures.complete

@@ -1,0 +1,41 @@
+-- What contracts see of the lines of a way that were served so far.
+use Rattle.std.specs.Prelude.{◌≡◌, ℕ, true, false, List, map, Some, Ok, Option, IfSome, string_bytes}
+use Rattle.std.specs.List.{AllByRecursion}
+use Rattle.pua_calls.specs.declared.call.Call.{Call}
+use Rattle.pua_script.specs.Requests.{Asked}
+use Rattle.pua_script.specs.Replay.{World, answers_to, world_after}
+use Rattle.pua_script.specs.Scripts.{request_of}
+use Rattle.pua_script.specs.Family.{is_exec}
+use Rattle.pua_script.specs.Worlds.{WorldState, StandsForWorld}
+use Rattle.pua_script.specs.declared.answer.Answer.TheVariants.{Okay}
+use Rattle.pua_how.specs.Ways.{Reaches, IsWay, call_of}
+use Rattle.pua_how.specs.declared.line.WayLine.{WayLine}
+use Rattle.pua_how.specs.declared.target.Target.{Target}
+
+-- the text is a line of a script, of this process
+pub record IsLine (process : ℕ) (line : WayLine) : Type 0 where
+  pub read : request_of 1 (string_bytes line.text) ≡ Ok line.request
+  pub own : line.request.process ≡ process
+
+-- the requests of lines
+abbrev pub asks_of : List WayLine → List Asked
+asks_of lines = map (λ line. line.request) lines
+
+-- these lines of a process were served, each was answered `ok`, and none is an exec
+pub record AreGranted (before : WorldState) (process : ℕ) (lines : List WayLine) (after : WorldState) : Type 0 where
+  pub are : AllByRecursion (IsLine process) lines
+  pub quiet : AllByRecursion (λ line. is_exec line.request.action ≡ false) lines
+  pub told : (w : World) → StandsForWorld before w → AllByRecursion (λ answer. answer ≡ Okay) (answers_to before.table w (asks_of lines))
+  pub left : (w : World) → StandsForWorld before w → StandsForWorld after (world_after before.table w (asks_of lines))
+  pub table : (w : World) → StandsForWorld before w → after.table ≡ before.table
+
+-- the last line is the call, on what is asked about
+pub record IsCall (before : WorldState) (process : ℕ) (call : Call) (target : Target) (ask : Asked) : Type 0 where
+  pub text : List ℕ
+  pub called : call_of ask.action ≡ Some (call, text)
+  pub reaches : (w : World) → StandsForWorld before w → Reaches w process call target text
+
+-- lines that are a way in each world for which this one stands
+pub record AreWay (before : WorldState) (process : ℕ) (call : Call) (target : Target) (lines : List WayLine) : Type 0 where
+  pub are : AllByRecursion (IsLine process) lines
+  pub way : (w : World) → StandsForWorld before w → IsWay before.table w process call target (asks_of lines)

@@ -1,0 +1,199 @@
+//! Serving the steps of a plan, up to the call that is asked for.
+
+ghost use Rattle.std.specs.Prelude.{◌≡◌, ◌==◌, IfOk, IfSome, option_map, true};
+ghost use Rattle.pua_calls.specs.Calls.{call_number};
+ghost use Rattle.pua_path.specs.Resolution.{resolution_of_text};
+ghost use Rattle.pua_how.specs.Served.{AreGranted, AreWay, IsCall};
+ghost use Rattle.pua_how.specs.Ways.{Reaches, call_of as asked_for};
+ghost use Rattle.pua_script.specs.Family.{is_exec as is_an_exec};
+ghost use Rattle.pua_script.specs.Replay.{World as Replayed};
+ghost use Rattle.pua_script.specs.Worlds.{IsServed, StandsForWorld, WorldState};
+
+use crate::line::{WayLine, line_of, made_by};
+use crate::step::Step;
+use crate::target::Target;
+use pua_calls::Call;
+use pua_calls::needs::ending;
+use pua_path::{Counted, Ending, Errno, Found, Last, PathText, resolve};
+use pua_script::{Action, Answer, PathBytes, Request, World, WorldFault};
+use pua_tree::{FileTree, NodeId, OutOfMemory};
+use std::alloc::Global;
+
+/// What was served so far: the lines, and the directory that one of them made last; the root, if none did.
+#[derive(Drop)]
+struct Served {
+    lines: Vec<WayLine>,
+    made: NodeId,
+}
+
+/// Serves the steps of a plan for a process: a way to a call on what is asked about, if each of them is
+/// answered `ok`, none but the last is an exec, and the last is that call, on a path that names what is
+/// asked about when it is served. None where it is not, and the world then has served some of the
+/// steps. The only error is that a growth was refused.
+pub fn serve_way<T: FileTree>(
+    alloc: Global,
+    world: &mut World<T>,
+    process: u32,
+    call: Call,
+    target: &Target,
+    steps: &[Step],
+) -> Result<Option<Vec<WayLine>>, OutOfMemory>
+    ensures { IfOk result (λ served. IfSome served
+        (λ lines. AreWay world.old process call target.now lines.items)) }
+{
+    let Some((last, first)) = steps.split_last() else {
+        return Ok(None);
+    };
+    match serve_first(alloc, world, process, first)? {
+        Some(served) => serve_last(alloc, world, process, call, target, last, served),
+        None => Ok(None),
+    }
+}
+
+/// Serves the last step, behind those that were served.
+fn serve_last<T: FileTree>(
+    alloc: Global,
+    world: &mut World<T>,
+    process: u32,
+    call: Call,
+    target: &Target,
+    step: &Step,
+    served: Served,
+) -> Result<Option<Vec<WayLine>>, OutOfMemory>
+    ensures { (before : WorldState) → AreGranted before process served.lines.items world.old →
+        IfOk result (λ found. IfSome found
+        (λ lines. AreWay before process call target.now lines.items)) }
+{
+    let line = line_of(alloc, world.tree(), process, step, served.made)?;
+    let Some(line) = line else {
+        return Ok(None);
+    };
+    if !is_asked(world, process, call, target, &line.request) {
+        return Ok(None);
+    }
+    let Answer::Okay = answered(world, &line.request)? else {
+        return Ok(None);
+    };
+    let mut lines = served.lines;
+    lines.push(line)?;
+    Ok(Some(lines))
+}
+
+/// Serves the steps before the last one.
+fn serve_first<T: FileTree>(
+    alloc: Global,
+    world: &mut World<T>,
+    process: u32,
+    steps: &[Step],
+) -> Result<Option<Served>, OutOfMemory>
+    ensures { IfOk result (λ served. IfSome served
+        (λ served. AreGranted world.old process served.lines.items world.new)) }
+{
+    let mut lines = Vec::new(alloc);
+    let mut made = NodeId::ROOT;
+    for step in steps {
+        let line = line_of(alloc, world.tree(), process, step, made)?;
+        let Some(line) = line else {
+            return Ok(None);
+        };
+        if is_exec(&line.request) {
+            return Ok(None);
+        }
+        let Answer::Okay = answered(world, &line.request)? else {
+            return Ok(None);
+        };
+        made = made_by(world.tree(), step, made);
+        lines.push(line)?;
+    }
+    Ok(Some(Served { lines, made }))
+}
+
+/// Whether a request is an exec.
+fn is_exec(request: &Request) -> bool
+    ensures { result ≡ is_an_exec request.now.action }
+{
+    matches!(request.action(), Action::OnPath(Call::Exec, _))
+}
+
+/// Serves a request, and answers it. The only error is that a growth was refused.
+fn answered<T: FileTree>(world: &mut World<T>, request: &Request) -> Result<Answer, OutOfMemory>
+    ensures { IfOk result (λ answer. IsServed world.old request.now answer world.new) }
+{
+    match world.apply(request) {
+        Ok(answer) => Ok(answer),
+        Err(WorldFault::OutOfMemory) => Err(OutOfMemory),
+    }
+}
+
+/// Whether a request is the call, on a path that names what is asked about to the process.
+fn is_asked<T: FileTree>(
+    world: &World<T>,
+    number: u32,
+    call: Call,
+    target: &Target,
+    request: &Request,
+) -> bool
+    ensures { result ≡ true → IsCall world.now number call target.now request.now }
+{
+    let Some((asked, path)) = call_of(request.action()) else {
+        return false;
+    };
+    if !is_same(asked, call) {
+        return false;
+    }
+    reaches(world, number, call, target, path)
+}
+
+/// Whether two calls are the same.
+fn is_same(one: Call, other: Call) -> bool
+    ensures { result ≡ (call_number one == call_number other) }
+{
+    one.number() == other.number()
+}
+
+/// The call that an action asks for, and its path, if it has one path.
+fn call_of(action: &Action) -> Option<(Call, &PathBytes)>
+    ensures { option_map (λ asked. (asked.0, asked.1.now)) result ≡ asked_for action.now }
+{
+    match action {
+        Action::OnPath(call, path) => Some((*call, path)),
+        Action::Symlink(_, path) => Some((Call::Symlink, path)),
+        _ => None,
+    }
+}
+
+/// Whether a path names what is asked about to a process.
+fn reaches<T: FileTree>(
+    world: &World<T>,
+    number: u32,
+    call: Call,
+    target: &Target,
+    path: &PathBytes,
+) -> bool
+    ensures { result ≡ true → (w : Replayed) → StandsForWorld world.now w →
+        Reaches w number call target.now path.now }
+{
+    let Some(process) = world.process(number) else {
+        return false;
+    };
+    let mut probe = Counted::new(world.tree());
+    let (from, text) = (process.dir(), path.bytes());
+    match named(&mut probe, from, text, ending(call), call.last()) {
+        Ok(found) => target.is(world.tree(), process, &found),
+        Err(_errno) => false,
+    }
+}
+
+/// What a path names from a directory.
+fn named<T: FileTree>(
+    probe: &mut Counted<'_, T>,
+    from: NodeId,
+    path: &[u8],
+    ending: Ending,
+    last: Last,
+) -> Result<Found, Errno>
+    ensures { result ≡ resolution_of_text probe.old.tree from ending path.now last }
+{
+    let text = PathText::read(path, ending)?;
+    resolve(probe, from, &text, last)
+}
