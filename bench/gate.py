@@ -22,11 +22,11 @@ def words_of(process):
         return file.read().decode(errors="replace").split("\0")
 
 
-def parent_and_seconds(process):
-    """The parent of a process, and its own seconds of the processor."""
+def state_of(process):
+    """The parent of a process, its own seconds of the processor, and when it was started (numbers are used again)."""
     with open(f"/proc/{process}/stat") as file:
         fields = file.read().rpartition(")")[2].split()
-    return int(fields[1]), (int(fields[11]) + int(fields[12])) / TICKS
+    return int(fields[1]), (int(fields[11]) + int(fields[12])) / TICKS, fields[19]
 
 
 def name_of(words):
@@ -38,11 +38,11 @@ def name_of(words):
 
 def look(top, seen):
     """Notes for each process below one what it counts for and how many seconds it took so far."""
-    parents, took = {}, {}
+    parents, took, started = {}, {}, {}
     for entry in os.listdir("/proc"):
         if entry.isdigit():
             try:
-                parents[int(entry)], took[int(entry)] = parent_and_seconds(entry)
+                parents[int(entry)], took[int(entry)], started[int(entry)] = state_of(entry)
             except (OSError, ValueError, IndexError):
                 continue
     for process in took:
@@ -53,8 +53,9 @@ def look(top, seen):
         except OSError:
             continue
         # (one that has ended, and that its parent has not looked at, has no words any more)
-        name = seen[process][0] if words == [""] and process in seen else name_of(words)
-        seen[process] = (name, took[process])
+        key = (process, started[process])
+        name = seen[key][0] if words == [""] and key in seen else name_of(words)
+        seen[key] = (name, took[process])
 
 
 def is_below(process, top, parents):
