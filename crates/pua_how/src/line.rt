@@ -10,16 +10,18 @@ use pua_tree::{FileTree, NodeId, OutOfMemory};
 use pua_why::TreePaths;
 use std::alloc::{AllocError, Global};
 
-/// A line of a way, as a script has it but for its end, and what it asks for.
+/// A line of a way, and what it asks for.
 #[derive(Drop)]
 pub struct WayLine {
+    /// The line as a script has it, without the LF at its end.
     pub text: String,
+    /// The request as which it is read.
     pub request: Request,
 }
 
-/// The line of a step of a process, by where directories stand in a tree, and by which one was made last;
-/// the root, if none was. None where the text is no
-/// line of that process: a path may be too long. The only error is that a growth was refused.
+/// The line of a step of a process, by where directories stand in a tree, and by which one was made
+/// last; the root, if none was. None where the text is no line of that process: a path may be too long.
+/// The only error is that a growth was refused.
 pub(crate) fn line_of<T: FileTree>(
     alloc: Global,
     tree: &T,

@@ -26,10 +26,11 @@ struct Served {
     made: NodeId,
 }
 
-/// Serves the steps of a plan for a process: a way to a call on what is asked about, if each of them is
-/// answered `ok`, none but the last is an exec, and the last is that call, on a path that names what is
-/// asked about when it is served. None where it is not, and the world then has served some of the
-/// steps. The only error is that a growth was refused.
+/// Serves the steps of a plan for the process of a number: a way to a call on what is asked about, if
+/// each of them is answered `ok`, none but the last is an exec, and the last is that call, on a path that
+/// names what is asked about when it is served. None where it is not, and where there are no steps. After
+/// None, and after the error that a growth was refused, the world has served some of the steps or none.
+/// What is answered `ok` is this profile's, as a script's lines are (`World::apply`).
 pub fn serve_way<T: FileTree>(
     alloc: Global,
     world: &mut World<T>,
