@@ -36,6 +36,9 @@ pub enum Text<'a> {
     ObjectsWhy(ObjectWords),
     /// The same as a run's, and then all that a process and what it forks can ever touch.
     Ever(EverWords),
+    /// The same as a run's, and then all that several processes and what they fork can ever touch
+    /// together.
+    Together(TogetherWords),
     /// The script, without the promises and letters that none of its answers needs.
     Tight,
     /// What each promise and letter of the script is needed by.
@@ -87,4 +90,20 @@ pub struct ObjectWords {
 pub struct EverWords {
     /// The number of the process, 1 to 999,999 where the words of the command line named it.
     pub process: u32,
+}
+
+/// Of which processes together a list for ever is asked.
+#[derive(Drop)]
+pub enum Members {
+    /// Those of these numbers, each 1 to 999,999 where the words of the command line named them.
+    Named(Vec<u32>),
+    /// All that were ever made, in the order of their numbers.
+    All,
+}
+
+/// What a list for ever of several processes together is asked for, besides its inputs.
+#[derive(Drop)]
+pub struct TogetherWords {
+    /// The processes.
+    pub members: Members,
 }

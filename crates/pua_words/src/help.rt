@@ -229,7 +229,10 @@ PATH now, wherever it is moved, and in the end on what they can make: `dir new`,
 line has exec, no exec of theirs can succeed. Where one has, the state has `exec
 bounded`, and what they start is in the list, whatever it does; or `exec open`,
 and the list holds until an exec succeeds.
-It is a list of one process, which can put no veil any more.
+It is a list of one process, which can put no veil any more. With `--process
+1,2,..` or `--process all` it is one list of what several can ever touch
+together; those of them that live need the same veils. Then the heading is
+`ever 1,2`, and a state has the number in its first line: `process 2 ended`.
 
 With `--why` an answer that is not ok has its reason, as of `pua run --why`, and
 behind CALLS a line has `PROMISES PLACE LETTERS LINE`: the promises by which
@@ -244,7 +247,9 @@ Example: pua objects --process all TREE SCRIPT",
                        `--ever` is for a process that is locked, or without the
                        promise `unveil`
   table: CALL: no c    `--ever` is for a table by which rmdir, unlink, create,
-                       mkdir, symlink, rename and link all need the letter c"
+                       mkdir, symlink, rename and link all need the letter c
+  processes P and Q have other veils
+                       `--ever` of several is for processes of the same veils"
 );
 
 pub(crate) const AUDIT_OUTPUT: &str = with_calls_and_faults!(

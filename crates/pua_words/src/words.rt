@@ -3,11 +3,14 @@
 ghost use Rattle.std.specs.Prelude.{◌≡◌, ◌↔◌, IfErr, IfOk, IfSome, Some, codes, map, option_map};
 ghost use Rattle.std.specs.Prelude.{true};
 ghost use Rattle.clap.specs.Matches.{first_value, found_of};
-ghost use Rattle.pua_words.specs.Commands.{MayBeAsked, AsksSoundly, IsProcessNumber, IsTextOf};
+ghost use Rattle.std.specs.List.{All};
+ghost use Rattle.pua_words.specs.Commands.{AreIn, AsksSoundly, IsProcessNumber, IsTextOf, MayBeAsked};
 ghost use Rattle.pua_words.specs.Commands.{list_asked, run_asked, tight_asked};
 ghost use Rattle.pua_words.specs.Usages.{AsksAbout, IsStop, is_about};
 
-use crate::command::{AuditWords, Command, EverWords, ObjectWords, Processes, Text, WhyWords};
+use crate::command::{
+    AuditWords, Command, EverWords, Members, ObjectWords, Processes, Text, TogetherWords, WhyWords,
+};
 use crate::help;
 use crate::usage::UsageLine;
 use crate::version::VERSION;
@@ -15,6 +18,7 @@ use clap::error::ErrorKind;
 use clap::{Arg, ArgAction, ArgMatches, Error, value_parser};
 use pua_audit::Base;
 use pua_calls::Rules;
+use pua_tree::number_within;
 use std::alloc::{AllocError, Global};
 
 /// The greatest number that a process has.
@@ -82,7 +86,7 @@ fn read_text<'a>(
 {
     Ok(match name {
         "run" => Some(run_of(found.get_flag("why"))),
-        "objects" => read_objects(found),
+        "objects" => read_objects(alloc, found)?,
         "why" => read_why(alloc, found)?.map(Text::Why),
         "tight" => Some(tight_of(found.get_flag("why"))),
         _ => read_audit(alloc, found)?.map(Text::Audit),
@@ -330,19 +334,28 @@ fn tight_of<'a>(why: bool) -> Text<'a>
 }
 
 /// The list of objects that the words ask for, of now or for ever. None where they name no process,
-/// and where a list for ever is asked of all or with reasons.
-fn read_objects<'a>(found: &ArgMatches<'a>) -> Option<Text<'a>>
-    ensures { IfSome result AsksSoundly }
+/// and where a list for ever is asked for with reasons, or one of now of several numbers.
+fn read_objects<'a>(alloc: Global, found: &ArgMatches<'a>) -> Result<Option<Text<'a>>, AllocError>
+    ensures { IfOk result (λ text. IfSome text AsksSoundly) }
 {
-    list_of(
-        found.get_flag("ever"),
-        found.get_flag("why"),
-        read_processes(found.get_str("process"))?,
-    )
+    let ever = found.get_flag("ever");
+    let why = found.get_flag("why");
+    let process = found.get_str("process");
+    if let Some(processes) = read_processes(process) {
+        return Ok(list_of(ever, why, processes));
+    }
+    if !ever || why {
+        return Ok(None);
+    }
+    let Some(numbers) = read_numbers(alloc, process)? else {
+        return Ok(None);
+    };
+    let members = Members::Named(numbers);
+    Ok(Some(Text::Together(TogetherWords { members })))
 }
 
 /// The list of these processes, of now or for ever, with reasons or without. None for a list for ever
-/// of all, since there is one of each alone, and for one with reasons.
+/// with reasons.
 fn list_of<'a>(ever: bool, why: bool, processes: Processes) -> Option<Text<'a>>
     ensures asked { result ≡ list_asked ever why processes }
     ensures sound { MayBeAsked processes → IfSome result AsksSoundly }
@@ -351,8 +364,31 @@ fn list_of<'a>(ever: bool, why: bool, processes: Processes) -> Option<Text<'a>>
         (false, false, processes) => Some(Text::Objects(ObjectWords { processes })),
         (false, true, processes) => Some(Text::ObjectsWhy(ObjectWords { processes })),
         (true, false, Processes::One(process)) => Some(Text::Ever(EverWords { process })),
-        (true, false, Processes::All) | (true, true, _) => None,
+        (true, false, Processes::All) => Some(Text::Together(TogetherWords {
+            members: Members::All,
+        })),
+        (true, true, _) => None,
     }
+}
+
+/// The numbers of processes that a text has with commas between them; None for any other text.
+fn read_numbers(alloc: Global, text: Option<&str>) -> Result<Option<Vec<u32>>, AllocError>
+    ensures sound { IfOk result (λ numbers. IfSome numbers (λ numbers.
+        All IsProcessNumber numbers.items)) }
+    ensures text { IfOk result (λ numbers. IfSome numbers (λ numbers.
+        AreIn (option_map (λ s. s.now) text.entry) numbers.items)) }
+{
+    let Some(text) = text else {
+        return Ok(None);
+    };
+    let mut numbers = Vec::new(alloc);
+    for field in text.as_bytes().split(|byte| *byte == b',') {
+        let Some(number) = number_within(1, MOST_NUMBER, field) else {
+            return Ok(None);
+        };
+        numbers.push(number)?;
+    }
+    Ok(Some(numbers))
 }
 
 /// The process of a number, or all; None for any other text.
