@@ -2,6 +2,7 @@
 pub mod Texts
 pub mod ObjectTexts
 pub mod EverTexts
+pub mod TogetherTexts
 pub mod WhyTexts
 pub mod TightTexts
 pub mod Answers

@@ -6,7 +6,7 @@ use Rattle.pua_words.specs.Commands.{AsksSoundly}
 use Rattle.pua_words.specs.Usages.{AsksAbout}
 use Rattle.pua_words.specs.declared.command.Command.{Command}
 use Rattle.pua_words.specs.declared.command.Text.{Text}
-use Rattle.pua_words.specs.declared.command.Text.TheVariants.{Run, RunWhy, Why, Audit, Objects, ObjectsWhy, Ever, Tight, TightWhy}
+use Rattle.pua_words.specs.declared.command.Text.TheVariants.{Run, RunWhy, Why, Audit, Objects, ObjectsWhy, Ever, Together, Tight, TightWhy}
 use Rattle.pua_tool.specs.declared.fault.ToolFault.{ToolFault}
 use Rattle.pua_tool.specs.declared.fault.ToolFault.TheVariants.{Write, OutOfMemory}
 use Rattle.pua_tool.specs.declared.outcome.CommandFault.{CommandFault}
@@ -18,6 +18,7 @@ use Rattle.pua_tool.specs.Statuses.{status_of}
 use Rattle.pua_tool.specs.Texts.{Chosen, given_bytes, run_text, audit_text, wanted_by}
 use Rattle.pua_tool.specs.ObjectTexts.{objects_text}
 use Rattle.pua_tool.specs.EverTexts.{ever_text}
+use Rattle.pua_tool.specs.TogetherTexts.{together_text}
 use Rattle.pua_tool.specs.WhyTexts.{objects_why_text, run_why_text, why_text}
 use Rattle.pua_tool.specs.TightTexts.{tight_text, tight_why_text}
 
@@ -30,6 +31,7 @@ text_asked (Audit words) choice tree script = audit_text choice tree script (wan
 text_asked (Objects words) choice tree script = objects_text choice tree script words.processes
 text_asked (ObjectsWhy words) choice tree script = objects_why_text choice tree script words.processes
 text_asked (Ever words) choice tree script = ever_text choice tree script words.process
+text_asked (Together words) choice tree script = together_text choice tree script words.members
 text_asked Tight choice tree script = tight_text choice tree script
 text_asked TightWhy choice tree script = tight_why_text choice tree script
 

@@ -61,6 +61,10 @@ pub enum ToolFault {
     /// The same of link(2), by its new name.
     #[error("pua: table: link: no c")]
     LinkLacksC,
+    /// There is no list of what the processes with these numbers can ever touch together: the second
+    /// has a veil on another place than the first, or other letters at one.
+    #[error("pua: processes {0} and {1} have other veils")]
+    OtherVeils(u32, u32),
 }
 
 impl ToolFault {

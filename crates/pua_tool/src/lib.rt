@@ -2,6 +2,7 @@
 //! or what refuses them, and the whole program as a function over its inputs.
 #![tactic(auto)]
 
+mod acting;
 mod audit;
 mod cli;
 mod ever;
@@ -21,6 +22,7 @@ mod status;
 mod table;
 mod tight;
 mod tight_why;
+mod together;
 mod why;
 
 pub use audit::{audit_by, audit_to};
@@ -37,7 +39,8 @@ pub use pua_io::{
 };
 pub use pua_texts::state_law;
 pub use pua_words::{
-    AuditWords, Command, EverWords, ObjectWords, Processes, Text, UsageLine, WhyWords,
+    AuditWords, Command, EverWords, Members, ObjectWords, Processes, Text, TogetherWords,
+    UsageLine, WhyWords,
 };
 pub use run::{run_by, run_to};
 pub use run_why::run_why_to;
@@ -46,4 +49,5 @@ pub use status::{DEVICE, DONE, MEMORY, REFUSED, USAGE};
 pub use table::TableChoice;
 pub use tight::tight_to;
 pub use tight_why::tight_why_to;
+pub use together::together_to;
 pub use why::why_to;

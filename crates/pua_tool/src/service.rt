@@ -25,6 +25,7 @@ use crate::status::{DEVICE, DONE, MEMORY, REFUSED, USAGE};
 use crate::table::TableChoice;
 use crate::tight::tight_to;
 use crate::tight_why::tight_why_to;
+use crate::together::together_to;
 use crate::why::why_to;
 use pua_calls::Rules;
 use pua_io::{InputFault, Inputs, Sink};
@@ -186,6 +187,7 @@ fn write_text<O: Sink>(
             objects_why_to(alloc, tree, script, table, words.processes, out)
         }
         Text::Ever(words) => ever_to(alloc, tree, script, table, words.process, out),
+        Text::Together(words) => together_to(alloc, tree, script, table, &words.members, out),
         Text::Tight => tight_to(alloc, tree, script, table, out),
         Text::TightWhy => tight_why_to(alloc, tree, script, table, out),
     }
