@@ -2,3 +2,4 @@ mod Lived
 mod Listing
 mod Coming
 mod Granting
+mod Meaning

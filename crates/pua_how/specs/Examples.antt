@@ -15,7 +15,9 @@ use Rattle.pua_path.specs.declared.errno.Errno.TheVariants.{EACCES}
 use Rattle.pua_script.specs.declared.answer.Answer.TheVariants.{Failed, Okay}
 use Rattle.pua_script.specs.declared.request.Action.{Action}
 use Rattle.pua_script.specs.declared.request.Action.TheVariants.{OnPath, Link}
+use Rattle.pua_objects.specs.declared.kind.ObjectKind.TheVariants as kind
 use Rattle.pua_ever.specs.Through.{ever_lasting}
+use Rattle.pua_how.specs.Asking.{Standing, Making, asking_of, targets_of}
 use Rattle.pua_how.specs.Targets.{is_listed, is_of}
 use Rattle.pua_how.specs.Ways.{IsWay}
 use Rattle.pua_how.specs.declared.target.Target.{Target}
@@ -160,3 +162,36 @@ pub record ListedRows : Type 0 where
 
 pub listed_rows : ListedRows
 listed_rows = record { by_link = refl; without_link = refl; of_the_name = refl; of_no_name = refl }
+
+-- what paths ask about
+pub record AskedRows : Type 0 where
+  pub root : asking_of (codes "/") ≡ Some (Standing [])
+  pub names : asking_of (codes "/etc/conf") ≡ Some (Standing (codes "etc" ∷ codes "conf" ∷ []))
+  pub made : asking_of (codes "new") ≡ Some Making
+  pub relative : asking_of (codes "etc") ≡ None
+  pub dots : asking_of (codes "/etc/../etc") ≡ None
+  pub slash_behind : asking_of (codes "/etc/") ≡ None
+  pub nothing : asking_of [] ≡ None
+  pub directory : targets_of pid_tree pid_history 4 (Standing (codes "run" ∷ [])) None ≡ target.Directory 3 ∷ target.Others 3 ∷ []
+  pub veiled_file : targets_of pid_tree pid_history 4 (Standing (codes "run" ∷ codes "pid" ∷ [])) None
+      ≡ target.Node 4 ∷ target.Name 3 (codes "pid") ∷ []
+  pub of_kind : targets_of pid_tree pid_history 4 (Standing (codes "run" ∷ codes "pid" ∷ [])) (Some kind.Missing)
+      ≡ target.Name 3 (codes "pid") ∷ []
+  pub further : targets_of pid_tree pid_history 4 (Standing (codes "run" ∷ codes "x" ∷ [])) None ≡ target.Others 3 ∷ []
+  pub behind_a_file : targets_of pid_tree pid_history 4 (Standing (codes "etc" ∷ codes "conf" ∷ codes "x" ∷ [])) None ≡ []
+
+pub asked_rows : AskedRows
+asked_rows = record {
+  root = refl;
+  names = refl;
+  made = refl;
+  relative = refl;
+  dots = refl;
+  slash_behind = refl;
+  nothing = refl;
+  directory = refl;
+  veiled_file = refl;
+  of_kind = refl;
+  further = refl;
+  behind_a_file = refl;
+}

@@ -1,12 +1,14 @@
 //! Ways to what a process can ever touch: requests that are served one after another, up to a call.
 #![tactic(auto)]
 
+mod asking;
 mod laws;
 mod line;
 mod serve;
 mod step;
 mod target;
 
+pub use asking::{Asking, Meant, find_meant};
 pub use laws::{how_examples, how_law, listed_examples};
 pub use line::WayLine;
 pub use serve::serve_way;
