@@ -2,4 +2,5 @@ mod Lived
 mod Listing
 mod Coming
 mod Granting
+mod Outlooking
 mod Meaning

@@ -6,6 +6,7 @@ pub mod Asking
 pub mod Laws
 -- Worked rows, which hold by computation.
 pub mod Examples
--- Notes: what contracts see of the lines that were served, and of a question.
+-- Notes: what contracts see of the lines that were served, of what a list for ever has, and of a question.
 pub mod Served
+pub mod Outlooks
 pub mod Asked
