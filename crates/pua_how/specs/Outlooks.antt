@@ -15,11 +15,12 @@ use Rattle.pua_objects.specs.declared.item.Subject.TheVariants as subject
 use Rattle.pua_objects.specs.declared.list.ListItem.{ListItem}
 use Rattle.pua_ever.specs.Ever.{EverLine, Stands, Comes, New, all_new, ever, can_be_freed, can_make, is_ever_allowed, is_new_allowed, may_edit, own_spot}
 use Rattle.pua_ever.specs.Both.{IsBoth}
-use Rattle.pua_ever.specs.Through.{ever_through}
+use Rattle.pua_ever.specs.Through.{ever_lasting, ever_through, execs_of}
 use Rattle.pua_ever.specs.declared.lasting.Both.{Both}
 use Rattle.pua_ever.specs.declared.made.Made.{Made}
 use Rattle.pua_ever.specs.declared.made.Made.TheVariants as made
-use Rattle.pua_how.specs.Targets.{is_about}
+use Rattle.pua_how.specs.Targets.{is_about, is_listed}
+use Rattle.pua_how.specs.declared.outlook.Outlook.{Outlook}
 use Rattle.pua_how.specs.declared.target.Target.{Target}
 use Rattle.pua_how.specs.declared.target.Target.TheVariants as target
 
@@ -72,3 +73,8 @@ comes_by passes _ = true
 abbrev pub AreLinesOf : Tree → CallTable → History → Option Both → List EverLine → Type 0
 AreLinesOf t table h None lines = lines ≡ ever t table h
 AreLinesOf t table h (Some both) lines = (is : IsBoth table h both) × (lines ≡ ever_through t table h is.given)
+
+-- what the list that holds longest has of some things
+pub record IsOutlook (t : Tree) (table : CallTable) (h : History) (things : List Target) (call : Call) (found : Outlook) : Type 0 where
+  pub listed : found.listed ≡ list_any (λ asked. is_listed (ever_lasting t table h) asked call) things
+  pub execs : found.execs ≡ execs_of t table h

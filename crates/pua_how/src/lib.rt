@@ -4,6 +4,7 @@
 mod asking;
 mod laws;
 mod line;
+mod outlook;
 mod serve;
 mod step;
 mod target;
@@ -11,6 +12,7 @@ mod target;
 pub use asking::{Asking, Meant, find_meant};
 pub use laws::{how_examples, how_law, listed_examples};
 pub use line::WayLine;
+pub use outlook::{Outlook, find_outlook};
 pub use serve::serve_way;
 pub use step::{At, Dir, Step};
 pub use target::Target;
