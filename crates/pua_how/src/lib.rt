@@ -5,6 +5,7 @@ mod asking;
 mod laws;
 mod line;
 mod outlook;
+mod plan;
 mod serve;
 mod step;
 mod target;
