@@ -9,6 +9,7 @@ mod plan;
 mod serve;
 mod step;
 mod target;
+mod way;
 
 pub use asking::{Asking, Meant, find_meant};
 pub use laws::{how_examples, how_law, listed_examples};
@@ -17,3 +18,4 @@ pub use outlook::{Outlook, find_outlook};
 pub use serve::serve_way;
 pub use step::{At, Dir, Step};
 pub use target::Target;
+pub use way::{BestPlans, Plan, find_plans};
