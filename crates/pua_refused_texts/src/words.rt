@@ -70,6 +70,25 @@ fn program_line_for_tight(alloc: Global) {
     }
 }
 
+/// To ask for a way has a line of its own.
+fn program_line_for_how(alloc: Global) {
+    if let Err(Stop::Usage(UsageLine::Program)) = read_words(alloc, &["how"]) {
+        unreachable!()
+    }
+}
+
+/// No process has the number 0, nor one of which a way is asked for.
+fn process_0_has_a_way(alloc: Global, words: &[&str]) {
+    let Ok(command) = read_words(alloc, words) else {
+        return;
+    };
+    if let Text::How(words) = command.text
+        && words.process == 0
+    {
+        unreachable!()
+    }
+}
+
 /// No words have the line of the program.
 fn objects_line_for_no_words(alloc: Global) {
     if let Err(Stop::Usage(UsageLine::Objects)) = read_words(alloc, &[]) {

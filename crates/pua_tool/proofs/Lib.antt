@@ -9,6 +9,7 @@ pub mod Written
 pub mod Stops
 pub mod Ends
 pub mod WhyTexts
+pub mod HowTexts
 pub mod ActingNext
 pub mod TogetherTexts
 pub mod TightTexts

@@ -1,7 +1,8 @@
 -- Worked examples of whole texts.
-use Rattle.std.specs.Prelude.{◌≡◌, ℕ, List, [], ◌∷◌, None, Some, Ok, Err, codes, refl}
+use Rattle.std.specs.Prelude.{◌≡◌, ℕ, List, [], ◌∷◌, None, Some, Result, Ok, Err, codes, refl}
 use Rattle.std.specs.Fmt.{digits}
 use Rattle.pua_tree.specs.Examples.{text_of_lines}
+use Rattle.pua_tree.specs.Steps.{◌>>=◌}
 use Rattle.pua_tree.specs.declared.fault.ListingFault.TheVariants.{BadLine}
 use Rattle.pua_path.specs.Traces.{trace_from}
 use Rattle.pua_calls.specs.declared.rules.Rules.TheVariants.{Openbsd}
@@ -15,9 +16,11 @@ use Rattle.pua_tool.specs.Texts.{Chosen, Wanted, by_standard, replay_of, run_tex
 use Rattle.pua_tool.specs.ObjectTexts.{objects_text}
 use Rattle.pua_tool.specs.EverTexts.{ever_text}
 use Rattle.pua_tool.specs.TogetherTexts.{together_text}
+use Rattle.pua_tool.specs.HowTexts.{question_of, way_text}
 use Rattle.pua_tool.specs.WhyTexts.{objects_why_text, posed_script, run_why_text, why_text}
 use Rattle.pua_tool.specs.TightTexts.{tight_text, tight_why_text, words_by}
-use Rattle.pua_tool.specs.declared.fault.ToolFault.TheVariants.{Listing, Script, NoProcess, Audit, OtherVeils}
+use Rattle.pua_tool.specs.declared.fault.ToolFault.{ToolFault}
+use Rattle.pua_tool.specs.declared.fault.ToolFault.TheVariants.{Listing, Script, NoProcess, Audit, CanUnveil, OtherVeils, HowCall, HowPath, HowThing}
 
 abbrev pub root_listing : List ℕ
 root_listing = text_of_lines (codes "tree 1" ∷ codes "0 dir" ∷ [])
@@ -241,3 +244,22 @@ pub record ReasonTextRows : Type 0 where
 pub reason_text_rows : ReasonTextRows
 unfolding digits trace_from promises_text posed_script why_text objects_why_text
 reason_text_rows = record { run_by_openbsd = refl; another_process = refl; dated_veils = refl }
+
+-- what is said where no way is found, and what refuses the question
+abbrev pub without_way : List ℕ → List ℕ → List ℕ → List ℕ → Result (List ℕ) ToolFault
+without_way tree_bytes script_bytes call path =
+    replay_of by_standard tree_bytes script_bytes
+    >>= λ done. question_of done (record { process = 1; call = call; path = path; kind = None }) 0
+    >>= λ q. Ok (way_text done q None)
+
+pub record HowTextRows : Type 0 where
+  pub never : without_way root_listing locking (codes "stat") (codes "/") ≡ Ok (text_of_lines (codes "never" ∷ []))
+  pub unfound : without_way root_listing veiling_script (codes "stat") (codes "/d") ≡ Ok (text_of_lines (codes "no way found" ∷ []))
+  pub can_unveil : without_way root_listing [] (codes "stat") (codes "/") ≡ Err (CanUnveil 1)
+  pub bad_call : without_way root_listing locking (codes "rename") (codes "/..") ≡ Err HowCall
+  pub bad_path : without_way root_listing locking (codes "stat") (codes "/..") ≡ Err HowPath
+  pub no_thing : without_way root_listing locking (codes "stat") (codes "/a/b") ≡ Err HowThing
+
+pub how_text_rows : HowTextRows
+unfolding replay_of
+how_text_rows = record { never = refl; unfound = refl; can_unveil = refl; bad_call = refl; bad_path = refl; no_thing = refl }

@@ -65,6 +65,16 @@ pub enum ToolFault {
     /// has a veil on another place than the first, or other letters at one.
     #[error("pua: processes {0} and {1} have other veils")]
     OtherVeils(u32, u32),
+    /// What a way is asked for is none of the calls on one path.
+    #[error("pua: how: bad call")]
+    HowCall,
+    /// Where it is to lead is no path as a list for ever prints it.
+    #[error("pua: how: bad path")]
+    HowPath,
+    /// A name before the last one of the path is no directory's, or nothing there is of the kind that was
+    /// asked for.
+    #[error("pua: how: no such thing")]
+    HowThing,
 }
 
 impl ToolFault {

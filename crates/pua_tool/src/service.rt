@@ -1,12 +1,12 @@
 //! What a command asks for, done: its inputs are taken, and its text is written.
 
-ghost use Rattle.std.specs.Prelude.{◌≡◌, ◌≢◌, ◌≤◌, ◌⊎◌, OnOk, IfOk, IfErr};
+ghost use Rattle.std.specs.Prelude.{◌≡◌, ◌≢◌, ◌≤◌, ◌⊎◌, ℕ, List, Result, OnOk, IfOk, IfErr};
 ghost use Rattle.std.specs.Prelude.{option_map};
 ghost use Rattle.pua_io.specs.Held.{Holds};
 ghost use Rattle.pua_tool.specs.Answers.{AnswersTo};
 ghost use Rattle.pua_tool.specs.Performed.{HoldsTable, IsCutShort, IsDone, IsRefused, IsStopped};
 ghost use Rattle.pua_tool.specs.Performed.{IsTableUnheld, IsUnheld, IsUntaken, LacksInput};
-ghost use Rattle.pua_tool.specs.Performed.{text_asked};
+ghost use Rattle.pua_tool.specs.Performed.{IsTextAsked};
 ghost use Rattle.pua_tool.specs.Statuses.{fault_status};
 ghost use Rattle.pua_tool.specs.Texts.{given_bytes};
 ghost use Rattle.pua_tool.specs.Told.{IsFaultTold};
@@ -15,6 +15,7 @@ ghost use Rattle.pua_tool.specs.declared.outcome.CommandFault.{CommandFault};
 use crate::audit::audit_by;
 use crate::ever::ever_to;
 use crate::fault::ToolFault;
+use crate::how::how_to;
 use crate::job::job_of;
 use crate::objects::objects_to;
 use crate::objects_why::objects_why_to;
@@ -166,10 +167,11 @@ fn write_text<O: Sink>(
     text: &Text<'_>,
     out: &mut O,
 ) -> Result<(), ToolFault>
-    ensures { AnswersTo O.written O.failed (text_asked text.now (record {
+    ensures { (answer : Result (List ℕ) ToolFault) × IsTextAsked text.now (record {
       rules = rules;
       rows = option_map (λ bytes. bytes.items) taken.now.table;
-    }) taken.now.tree.items taken.now.script.items) result out.old out.new }
+    }) taken.now.tree.items taken.now.script.items answer
+        × AnswersTo O.written O.failed answer result out.old out.new }
 {
     let (tree, script) = (taken.tree.as_slice(), taken.script.as_slice());
     let rows = taken.table.as_ref().map(|bytes| bytes.as_slice());
@@ -188,6 +190,7 @@ fn write_text<O: Sink>(
         }
         Text::Ever(words) => ever_to(alloc, tree, script, table, words.process, out),
         Text::Together(words) => together_to(alloc, tree, script, table, &words.members, out),
+        Text::How(words) => how_to(alloc, tree, script, table, words, out),
         Text::Tight => tight_to(alloc, tree, script, table, out),
         Text::TightWhy => tight_why_to(alloc, tree, script, table, out),
     }

@@ -3,7 +3,8 @@ use Rattle.std.specs.Prelude.{ℕ, ◌≡◌, ◌≤◌, ◌==◌, ⊤, Bool, tr
 use Rattle.std.specs.List.{All, slice_split}
 use Rattle.std.specs.Str.Parse.{digits_value, without_leading_plus}
 use Rattle.pua_words.specs.declared.command.Text.{Text}
-use Rattle.pua_words.specs.declared.command.Text.TheVariants.{Run, RunWhy, Why, Audit, Objects, ObjectsWhy, Ever, Together, Tight, TightWhy}
+use Rattle.pua_words.specs.declared.command.Text.TheVariants.{Run, RunWhy, Why, Audit, Objects, ObjectsWhy, Ever, Together}
+use Rattle.pua_words.specs.declared.command.Text.TheVariants.{Tight, TightWhy, How}
 use Rattle.pua_words.specs.declared.command.Members.{Members}
 use Rattle.pua_words.specs.declared.command.Members.TheVariants.{Named}
 use Rattle.pua_words.specs.declared.command.Members.TheVariants as members
@@ -38,8 +39,8 @@ abbrev pub AreIn : Option (List ℕ) → List ℕ → Type 0
 AreIn None numbers = ⊥
 AreIn (Some text) numbers = map (number_within 1 MOST_NUMBER) (slice_split (λ b. b == 44) text) ≡ map Some numbers
 
--- an audit is asked of a process that may have been made, and so is a list for ever, of each of several too, a single
--- request, and a list of objects, unless these are asked of all
+-- an audit is asked of a process that may have been made, and so is a list for ever, of each of several too, a way, a
+-- single request, and a list of objects, unless these are asked of all
 abbrev pub AsksSoundly : Text → Type 0
 AsksSoundly Run = ⊤
 AsksSoundly RunWhy = ⊤
@@ -51,6 +52,7 @@ AsksSoundly (Ever words) = IsProcessNumber words.process
 AsksSoundly (Together words) = MayBeMembers words.members
 AsksSoundly Tight = ⊤
 AsksSoundly TightWhy = ⊤
+AsksSoundly (How words) = IsProcessNumber words.process
 
 -- the text of a run that is asked for, with reasons or without
 abbrev pub run_asked : Bool → Text

@@ -9,7 +9,8 @@ mod version;
 mod words;
 
 pub use command::{
-    AuditWords, Command, EverWords, Members, ObjectWords, Processes, Text, TogetherWords, WhyWords,
+    AuditWords, Command, EverWords, HowWords, Members, ObjectWords, Processes, Text, TogetherWords,
+    WhyWords,
 };
 pub use usage::UsageLine;
 pub use words::{Stop, read_words};

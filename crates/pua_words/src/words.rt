@@ -4,12 +4,14 @@ ghost use Rattle.std.specs.Prelude.{◌≡◌, ◌↔◌, IfErr, IfOk, IfSome, S
 ghost use Rattle.std.specs.Prelude.{true};
 ghost use Rattle.clap.specs.Matches.{first_value, found_of};
 ghost use Rattle.std.specs.List.{All};
+ghost use Rattle.pua_objects.specs.Lines.{kind_word};
 ghost use Rattle.pua_words.specs.Commands.{AreIn, AsksSoundly, IsProcessNumber, IsTextOf, MayBeAsked};
 ghost use Rattle.pua_words.specs.Commands.{list_asked, run_asked, tight_asked};
 ghost use Rattle.pua_words.specs.Usages.{AsksAbout, IsStop, is_about};
 
 use crate::command::{
-    AuditWords, Command, EverWords, Members, ObjectWords, Processes, Text, TogetherWords, WhyWords,
+    AuditWords, Command, EverWords, HowWords, Members, ObjectWords, Processes, Text, TogetherWords,
+    WhyWords,
 };
 use crate::help;
 use crate::usage::UsageLine;
@@ -18,6 +20,7 @@ use clap::error::ErrorKind;
 use clap::{Arg, ArgAction, ArgMatches, Error, value_parser};
 use pua_audit::Base;
 use pua_calls::Rules;
+use pua_objects::ObjectKind;
 use pua_tree::number_within;
 use std::alloc::{AllocError, Global};
 
@@ -89,6 +92,7 @@ fn read_text<'a>(
         "objects" => read_objects(alloc, found)?,
         "why" => read_why(alloc, found)?.map(Text::Why),
         "tight" => Some(tight_of(found.get_flag("why"))),
+        "how" => read_how(found).map(Text::How),
         _ => read_audit(alloc, found)?.map(Text::Audit),
     })
 }
@@ -101,6 +105,7 @@ fn pua_command<'a>(alloc: Global) -> Built<'a> {
     let pua = with_command(pua, objects_command(alloc));
     let pua = with_command(pua, why_command(alloc));
     let pua = with_command(pua, tight_command(alloc));
+    let pua = with_command(pua, how_command(alloc));
     with_command(pua, audit_command(alloc))
 }
 
@@ -143,6 +148,20 @@ fn tight_command<'a>(alloc: Global) -> Built<'a> {
     let tight = command(alloc, "tight", help::TIGHT, help::TIGHT_OUTPUT);
     let tight = with(tight, flag(alloc, "why", help::TIGHT_WHY));
     with_inputs(alloc, tight)
+}
+
+fn how_command<'a>(alloc: Global) -> Built<'a> {
+    let how = command(alloc, "how", help::HOW, help::HOW_OUTPUT);
+    let how = with_inputs(alloc, with(how, process(alloc)));
+    let how = with(
+        how,
+        operand(alloc, "call", "CALL", help::HOW_CALL).required(true),
+    );
+    let how = with(
+        how,
+        operand(alloc, "path", "PATH", help::HOW_PATH).required(true),
+    );
+    with(how, kind(alloc))
 }
 
 fn audit_command<'a>(alloc: Global) -> Built<'a> {
@@ -247,6 +266,12 @@ fn rules<'a>(alloc: Global) -> Arg<'a> {
         .hide_possible_values(true)
         .default_value("profile")
         .value_parser(["profile", "openbsd"].as_slice())
+}
+
+fn kind<'a>(alloc: Global) -> Arg<'a> {
+    operand(alloc, "kind", "KIND", help::HOW_KIND)
+        .hide_possible_values(true)
+        .value_parser(["dir", "file", "prog", "link", "missing", "other"].as_slice())
 }
 
 /// What an error of `clap` over these words asks for: a text about the program, or nothing.
@@ -446,6 +471,44 @@ fn read_why<'a>(alloc: Global, found: &ArgMatches<'a>) -> Result<Option<WhyWords
         fields.push(argument.as_bytes())?;
     }
     Ok(Some(WhyWords { process, fields }))
+}
+
+/// The call to which a way is asked for, and on what.
+fn read_how<'a>(found: &ArgMatches<'a>) -> Option<HowWords<'a>>
+    ensures process { IfSome result (λ words. IsProcessNumber words.process) }
+    ensures call { IfSome result (λ words.
+        Some words.call.now ≡ first_value (found_of found.now) (codes "call")) }
+    ensures path { IfSome result (λ words.
+        Some words.path.now ≡ first_value (found_of found.now) (codes "path")) }
+    ensures kind { IfSome result (λ words. option_map kind_word words.kind
+        ≡ first_value (found_of found.now) (codes "kind")) }
+{
+    let kind = match found.get_str("kind") {
+        Some(text) => Some(read_kind(text)?),
+        None => None,
+    };
+    Some(HowWords {
+        process: read_process(found)?,
+        call: found.get_str("call")?.as_bytes(),
+        path: found.get_str("path")?.as_bytes(),
+        kind,
+    })
+}
+
+/// The kind of this name, as a list's line has it; None for any other text.
+fn read_kind(text: &str) -> Option<ObjectKind>
+    ensures named { IfSome result (λ kind. kind_word kind ≡ text.now) }
+    ensures each { (kind : ObjectKind) → kind_word kind ≡ text.now → result ≡ Some kind }
+{
+    match text {
+        "dir" => Some(ObjectKind::Dir),
+        "file" => Some(ObjectKind::File),
+        "prog" => Some(ObjectKind::Prog),
+        "link" => Some(ObjectKind::Link),
+        "missing" => Some(ObjectKind::Missing),
+        "other" => Some(ObjectKind::Other),
+        _ => None,
+    }
 }
 
 /// The number of the process. clap has judged it by the same range, but no contract says what clap

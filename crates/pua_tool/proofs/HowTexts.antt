@@ -1,0 +1,119 @@
+-- The text of a way, step by step.
+use Rattle.pua_tool.proofs.Common.{◌≡◌, ℕ, List, [], ◌∷◌, ◌∙◌, map, refl, sym, subst, ap, Result, ◌>>=◌, Option, Some, None, Ok, Err, History}
+use Rattle.pua_tool.proofs.Common.{history_of, Chosen, Replayed, replay_of, ToolFault, with_end, flat_map}
+use Rattle.std.proofs.Common.{Bool}
+use Rattle.std.specs.Prelude.{string_bytes, ok_or}
+use Rattle.std.specs.List.{AllByRecursion, Contains}
+use Rattle.pua_tree.proofs.ForCallers.{same_Ok}
+use Rattle.pua_calls.specs.Calls.{call_named}
+use Rattle.pua_calls.specs.declared.call.Call.{Call}
+use Rattle.pua_ever.specs.Refusals.{refusal}
+use Rattle.pua_ever.specs.Through.{execs_of}
+use Rattle.pua_ever.specs.declared.lasting_list.ExecBound.{ExecBound}
+use Rattle.pua_ever.specs.declared.refusal.Refusal.{Refusal}
+use Rattle.pua_script.specs.Scripts.{request_of}
+use Rattle.pua_how.specs.Served.{IsLine, asks_of}
+use Rattle.pua_how.specs.declared.line.WayLine.{WayLine}
+use Rattle.pua_how.specs.declared.target.Target.{Target}
+use Rattle.pua_tool.specs.EverTexts.{ever_fault}
+use Rattle.pua_tool.specs.HowTexts.{HowWanted, IsFoundFor, IsHowAfter, IsHowAsked, IsHowText, IsWayTo, Question, may_come, question_of}
+use Rattle.pua_tool.specs.HowTexts.{things_asked, told_without, way_text}
+use Rattle.pua_tool.specs.Questions.{AreWayTo, IsQuestion, text_told, texts_of}
+use Rattle.pua_tool.specs.declared.fault.ToolFault.TheVariants.{NoProcess, HowCall}
+use Rattle.pua_tool.specs.declared.how.Question as given
+
+module _ (done : Replayed) (wanted : HowWanted) (last : ℕ) where
+  pub question_made : (h : History) (call : Call) (things : List Target) → history_of done.world wanted.process ≡ Some h →
+      refusal done.table h ≡ None → call_named wanted.call ≡ Some call → things_asked done.world.tree h wanted last ≡ Ok things →
+      question_of done wanted last ≡ Ok (record { history = h; call = call; things = things })
+  question_made h call things here none read asked = rw here (rw none (rw read (rw asked refl)))
+
+  -- ---- the first fault
+
+  pub no_process : history_of done.world wanted.process ≡ None → question_of done wanted last ≡ Err NoProcess
+  no_process here = rw here refl
+
+  pub no_list : (h : History) (reason : Refusal) → history_of done.world wanted.process ≡ Some h → refusal done.table h ≡ Some reason →
+      question_of done wanted last ≡ Err (ever_fault wanted.process reason)
+  no_list h reason here some = rw here (rw some refl)
+
+  pub no_call : (h : History) → history_of done.world wanted.process ≡ Some h → refusal done.table h ≡ None → call_named wanted.call ≡ None →
+      question_of done wanted last ≡ Err HowCall
+  no_call h here none unread = rw here (rw none (rw unread refl))
+
+  pub no_thing : (h : History) (call : Call) (fault : ToolFault) → history_of done.world wanted.process ≡ Some h →
+      refusal done.table h ≡ None → call_named wanted.call ≡ Some call → things_asked done.world.tree h wanted last ≡ Err fault →
+      question_of done wanted last ≡ Err fault
+  no_thing h call fault here none read asked = rw here (rw none (rw read (rw asked refl)))
+
+  pub fault_asked : (fault : ToolFault) → question_of done wanted last ≡ Err fault → IsHowAsked done wanted (Err fault)
+  fault_asked fault refused = record {
+    last = last;
+    found = None;
+    sound = λ q is. tt;
+    is = sym (ap (λ (r : Result Question ToolFault). r >>= λ q. Ok (way_text done q None)) refused);
+  }
+
+-- ---- behind the replay
+
+module _ (choice : Chosen) (tree_bytes script_bytes : List ℕ) (wanted : HowWanted) where
+  pub after_done : (done : Replayed) (answer : Result (List ℕ) ToolFault) → replay_of choice tree_bytes script_bytes ≡ Ok done →
+      IsHowAsked done wanted answer → IsHowText choice tree_bytes script_bytes wanted answer
+  after_done done answer is asked = subst (λ (r : Result Replayed ToolFault). IsHowAfter r wanted answer) (sym is) asked
+
+  pub after_refused : (fault : ToolFault) → replay_of choice tree_bytes script_bytes ≡ Err fault →
+      IsHowText choice tree_bytes script_bytes wanted (Err fault)
+  after_refused fault is = subst (λ (r : Result Replayed ToolFault). IsHowAfter r wanted (Err fault)) (sym is) refl
+
+  -- some answer is one
+  pub some_answer : (answer : Result (List ℕ) ToolFault) × IsHowText choice tree_bytes script_bytes wanted answer
+  some_answer = by (replay_of choice tree_bytes script_bytes)
+    where
+      by : (r : Result Replayed ToolFault) → (answer : Result (List ℕ) ToolFault) × IsHowAfter r wanted answer
+      by (Ok done) = (
+        question_of done wanted 0 >>= λ q. Ok (way_text done q None),
+        record { last = 0; found = None; sound = λ q is. tt; is = refl },
+      )
+      by (Err fault) = (Err fault, refl)
+
+-- ---- the lines of a way
+
+read_all : (process : ℕ) (lines : List WayLine) → AllByRecursion (IsLine process) lines →
+    map (request_of 1) (map (λ line. string_bytes line.text) lines) ≡ map Ok (asks_of lines)
+read_all process [] all = refl
+read_all process (line ∷ lines) all = λ i. all.0.read i ∷ read_all process lines all.1 i
+
+module _ (done : Replayed) (wanted : HowWanted) (q : given.Question) (is : IsQuestion done wanted q) where
+  abbrev there : Question
+  there = record { history = is.history; call = q.call; things = q.meant.targets.items }
+
+  found_for : (found : Option (List WayLine)) → ((lines : List WayLine) → found ≡ Some lines → AreWayTo done wanted.process q lines) →
+      IsFoundFor done wanted.process is.last there (texts_of found)
+  found_for None way = tt
+  found_for (Some lines) way =
+      let to = way lines refl in
+      record {
+        above = is.above;
+        thing = to.thing;
+        meant = to.meant;
+        asks = asks_of lines;
+        read = read_all wanted.process lines to.are;
+        way = to.way;
+      }
+
+  text_is : (texts : Option (List (List ℕ))) → text_told q.outlook texts ≡ way_text done there texts
+  text_is None = λ i. with_end (told_without (is.outlook.listed i) (is.outlook.execs i))
+  text_is (Some texts) = refl
+
+  pub told_asked : (found : Option (List WayLine)) → ((lines : List WayLine) → found ≡ Some lines → AreWayTo done wanted.process q lines) →
+      (bytes : List ℕ) → bytes ≡ text_told q.outlook (texts_of found) → IsHowAsked done wanted (Ok bytes)
+  told_asked found way bytes told = record {
+    last = is.last;
+    found = texts_of found;
+    sound = λ other asked.
+        subst (λ (x : Question). IsFoundFor done wanted.process is.last x (texts_of found)) (same_Ok there other (sym is.asked ∙ asked))
+        (found_for found way);
+    is =
+        ap Ok (told ∙ text_is (texts_of found))
+        ∙ sym (ap (λ (r : Result Question ToolFault). r >>= λ x. Ok (way_text done x (texts_of found))) is.asked);
+  }
