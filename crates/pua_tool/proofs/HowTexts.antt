@@ -1,26 +1,44 @@
 -- The text of a way, step by step.
-use Rattle.pua_tool.proofs.Common.{◌≡◌, ℕ, List, [], ◌∷◌, ◌∙◌, map, refl, sym, subst, ap, Result, ◌>>=◌, Option, Some, None, Ok, Err, History}
-use Rattle.pua_tool.proofs.Common.{history_of, Chosen, Replayed, replay_of, ToolFault, with_end, flat_map}
-use Rattle.std.proofs.Common.{Bool}
+use Rattle.pua_tool.proofs.Common.{◌≡◌, ◌≢◌, ℕ, List, [], ◌∷◌, ◌∙◌, map, refl, sym, subst, ap, Result, ◌>>=◌, Option, Some, None, Ok, Err}
+use Rattle.pua_tool.proofs.Common.{History, Tree, CallTable, history_of, StandsForWorld, Chosen, Replayed, replay_of, ToolFault, OutOfMemory, Write}
+use Rattle.pua_tool.proofs.Common.{with_end, flat_map, AnswersTo}
+use Rattle.std.proofs.Common.{◌⊎◌, inl, inr}
 use Rattle.std.specs.Prelude.{string_bytes, ok_or}
 use Rattle.std.specs.List.{AllByRecursion, Contains}
 use Rattle.pua_tree.proofs.ForCallers.{same_Ok}
 use Rattle.pua_calls.specs.Calls.{call_named}
 use Rattle.pua_calls.specs.declared.call.Call.{Call}
 use Rattle.pua_ever.specs.Refusals.{refusal}
-use Rattle.pua_ever.specs.Through.{execs_of}
-use Rattle.pua_ever.specs.declared.lasting_list.ExecBound.{ExecBound}
 use Rattle.pua_ever.specs.declared.refusal.Refusal.{Refusal}
 use Rattle.pua_script.specs.Scripts.{request_of}
-use Rattle.pua_how.specs.Served.{IsLine, asks_of}
+use Rattle.pua_script.specs.Worlds.{WorldState}
+use Rattle.pua_how.specs.Asking.{Asking, asking_of, targets_of}
+use Rattle.pua_how.specs.Outlooks.{IsOutlook}
+use Rattle.pua_how.specs.Served.{AreWay, IsLine, asks_of}
+use Rattle.pua_how.specs.Ways.{IsWay}
 use Rattle.pua_how.specs.declared.line.WayLine.{WayLine}
 use Rattle.pua_how.specs.declared.target.Target.{Target}
 use Rattle.pua_tool.specs.EverTexts.{ever_fault}
-use Rattle.pua_tool.specs.HowTexts.{HowWanted, IsFoundFor, IsHowAfter, IsHowAsked, IsHowText, IsWayTo, Question, may_come, question_of}
+use Rattle.pua_tool.specs.HowTexts.{HowWanted, IsFoundFor, IsHowAfter, IsHowAsked, IsHowText, Question, question_of}
 use Rattle.pua_tool.specs.HowTexts.{things_asked, told_without, way_text}
-use Rattle.pua_tool.specs.Questions.{AreWayTo, IsQuestion, text_told, texts_of}
-use Rattle.pua_tool.specs.declared.fault.ToolFault.TheVariants.{NoProcess, HowCall}
+use Rattle.pua_tool.specs.Questions.{AreMeant, AreWayTo, IsQuestion, text_told, texts_of}
+use Rattle.pua_tool.specs.declared.fault.ToolFault.TheVariants.{NoProcess, HowCall, HowPath, HowThing}
 use Rattle.pua_tool.specs.declared.how.Question as given
+use Rattle.pua_tool.proofs.TextAnswers.{answers_refused}
+
+-- ---- what may be meant
+
+module _ (t : Tree) (h : History) (wanted : HowWanted) (last : ℕ) where
+  pub bad_path : asking_of wanted.path ≡ None → things_asked t h wanted last ≡ Err HowPath
+  bad_path unread = rw unread refl
+
+  pub none_meant : (asking : Asking) → asking_of wanted.path ≡ Some asking → [] ≡ targets_of t h last asking wanted.kind →
+      things_asked t h wanted last ≡ Err HowThing
+  none_meant asking read none = rw read (rw (← none) refl)
+
+  pub some_meant : (asking : Asking) (thing : Target) (more : List Target) → asking_of wanted.path ≡ Some asking →
+      thing ∷ more ≡ targets_of t h last asking wanted.kind → things_asked t h wanted last ≡ Ok (thing ∷ more)
+  some_meant asking thing more read are = rw read (rw (← are) refl)
 
 module _ (done : Replayed) (wanted : HowWanted) (last : ℕ) where
   pub question_made : (h : History) (call : Call) (things : List Target) → history_of done.world wanted.process ≡ Some h →
@@ -117,3 +135,58 @@ module _ (done : Replayed) (wanted : HowWanted) (q : given.Question) (is : IsQue
         ap Ok (told ∙ text_is (texts_of found))
         ∙ sym (ap (λ (r : Result Question ToolFault). r >>= λ x. Ok (way_text done x (texts_of found))) is.asked);
   }
+
+-- ---- what the code keeps of a question
+
+module _ (done : Replayed) (wanted : HowWanted) (q : given.Question) (h : History) (t : Tree) (table : CallTable) where
+  abbrev things : List Target
+  things = q.meant.targets.items
+
+  pub question_is : t ≡ done.world.tree → table ≡ done.table → history_of done.world wanted.process ≡ Some h → refusal table h ≡ None →
+      call_named wanted.call ≡ Some q.call → AreMeant t h wanted things → IsOutlook t table h things q.call q.outlook →
+      IsQuestion done wanted q
+  question_is at ruled here none read meant outlook =
+      let are = subst (λ (t : Tree). AreMeant t h wanted things) at meant in
+      record {
+        last = are.last;
+        above = are.above;
+        history = h;
+        asked = question_made done wanted are.last h q.call things here (subst (λ (table : CallTable). refusal table h ≡ None) ruled none) read
+            are.are;
+        outlook = subst (λ (table : CallTable). IsOutlook done.world.tree table h things q.call q.outlook) ruled
+            (subst (λ (t : Tree). IsOutlook t table h things q.call q.outlook) at outlook);
+      }
+
+-- a way in a world behind the script is one in that of the replay
+pub way_behind : (done : Replayed) (before : WorldState) (process : ℕ) (q : given.Question) (lines : List WayLine) (thing : Target) →
+    before.table ≡ done.table → StandsForWorld before done.world → Contains q.meant.targets.items thing →
+    AreWay before process q.call thing lines → AreWayTo done process q lines
+way_behind done before process q lines thing ruled stands meant way = record {
+  thing = thing;
+  meant = meant;
+  are = way.are;
+  way = subst (λ (table : CallTable). IsWay table done.world process q.call thing (asks_of lines)) ruled (way.way done.world stands);
+}
+
+-- ---- what is told
+
+memory_or_other : (fault : ToolFault) → (fault ≡ OutOfMemory) ⊎ (fault ≢ OutOfMemory)
+memory_or_other OutOfMemory = inl refl
+memory_or_other fault = inr (λ same. cc)
+
+module _ {A : Type 0} (written : A → Option (List ℕ)) (failed : A → ℕ) (choice : Chosen) (tree_bytes script_bytes : List ℕ)
+    (wanted : HowWanted) where
+  -- a fault before anything is written: the first one, or some answer where there was no memory
+  pub fault_told : (fault : ToolFault) (s : A) → fault ≢ Write →
+      (fault ≢ OutOfMemory → IsHowText choice tree_bytes script_bytes wanted (Err fault)) →
+      (answer : Result (List ℕ) ToolFault) × IsHowText choice tree_bytes script_bytes wanted answer
+      × AnswersTo written failed answer (Err fault) s s
+  fault_told fault s unwritten refused = by (memory_or_other fault)
+    where
+      by : (fault ≡ OutOfMemory) ⊎ (fault ≢ OutOfMemory) →
+          (answer : Result (List ℕ) ToolFault) × IsHowText choice tree_bytes script_bytes wanted answer
+          × AnswersTo written failed answer (Err fault) s s
+      by (inl memory) =
+          let some = some_answer choice tree_bytes script_bytes wanted in
+          (some.0, some.1, answers_refused written failed some.0 fault s unwritten (λ other. absurd (other memory)))
+      by (inr other) = (Err fault, refused other, answers_refused written failed (Err fault) fault s unwritten (λ again. refl))

@@ -310,7 +310,7 @@ fn push_lines(text: &mut String, lines: &[WayLine]) -> Result<(), AllocError>
 
 /// The line of what is said where there is no way.
 fn without(listed: bool, execs: ExecBound) -> &'static str
-    ensures { string_bytes result ≡ with_end (told_without listed execs) }
+    ensures { result.now ≡ with_end (told_without listed execs) }
 {
     match (listed, execs) {
         (true, _) => "no way found\n",
