@@ -1,11 +1,12 @@
 -- The text of a way, step by step.
 use Rattle.pua_tool.proofs.Common.{◌≡◌, ◌≢◌, ℕ, List, [], ◌∷◌, ◌∙◌, map, refl, sym, subst, ap, Result, ◌>>=◌, Option, Some, None, Ok, Err}
 use Rattle.pua_tool.proofs.Common.{History, Tree, CallTable, history_of, StandsForWorld, Chosen, Replayed, replay_of, ToolFault, OutOfMemory, Write}
-use Rattle.pua_tool.proofs.Common.{with_end, flat_map, AnswersTo}
-use Rattle.std.proofs.Common.{◌⊎◌, inl, inr}
-use Rattle.std.specs.Prelude.{string_bytes, ok_or}
+use Rattle.pua_tool.proofs.Common.{with_end, flat_map, arith, AnswersTo}
+use Rattle.std.proofs.Common.{◌⊎◌, inl, inr, length}
+use Rattle.std.specs.Prelude.{string_bytes, ok_or, option_copied, option_map, IfSome}
+use Rattle.std.specs.Borrow.{Bor}
 use Rattle.std.specs.List.{AllByRecursion, Contains}
-use Rattle.pua_tree.proofs.ForCallers.{same_Ok}
+use Rattle.pua_tree.proofs.ForCallers.{None≢Some, same_Ok, same_Some}
 use Rattle.pua_calls.specs.Calls.{call_named}
 use Rattle.pua_calls.specs.declared.call.Call.{Call}
 use Rattle.pua_ever.specs.Refusals.{refusal}
@@ -20,7 +21,7 @@ use Rattle.pua_how.specs.declared.line.WayLine.{WayLine}
 use Rattle.pua_how.specs.declared.target.Target.{Target}
 use Rattle.pua_tool.specs.EverTexts.{ever_fault}
 use Rattle.pua_tool.specs.HowTexts.{HowWanted, IsFoundFor, IsHowAfter, IsHowAsked, IsHowText, Question, question_of}
-use Rattle.pua_tool.specs.HowTexts.{things_asked, told_without, way_text}
+use Rattle.pua_tool.specs.HowTexts.{some_thing, things_asked, told_without, way_text}
 use Rattle.pua_tool.specs.Questions.{AreMeant, AreWayTo, IsQuestion, text_told, texts_of}
 use Rattle.pua_tool.specs.declared.fault.ToolFault.TheVariants.{NoProcess, HowCall, HowPath, HowThing}
 use Rattle.pua_tool.specs.declared.how.Question as given
@@ -29,16 +30,27 @@ use Rattle.pua_tool.proofs.TextAnswers.{answers_refused}
 -- ---- what may be meant
 
 module _ (t : Tree) (h : History) (wanted : HowWanted) (last : ℕ) where
+  abbrev of_asking : Option Asking → Result (List Target) ToolFault
+  of_asking asking = ok_or asking HowPath >>= λ asking. some_thing (targets_of t h last asking wanted.kind)
+
   pub bad_path : asking_of wanted.path ≡ None → things_asked t h wanted last ≡ Err HowPath
-  bad_path unread = rw unread refl
+  bad_path unread = ap of_asking unread
 
-  pub none_meant : (asking : Asking) → asking_of wanted.path ≡ Some asking → [] ≡ targets_of t h last asking wanted.kind →
-      things_asked t h wanted last ≡ Err HowThing
-  none_meant asking read none = rw read (rw (← none) refl)
+  module _ (asking : Asking) (things : List Target) (read : asking_of wanted.path ≡ Some asking)
+      (are : things ≡ targets_of t h last asking wanted.kind) where
+    pub none_meant : length things ≡ 0 → things_asked t h wanted last ≡ Err HowThing
+    none_meant none = ap of_asking read ∙ ap some_thing (sym are) ∙ by things none
+      where
+        by : (things : List Target) → length things ≡ 0 → some_thing things ≡ Err HowThing
+        by [] none = refl
+        by (thing ∷ more) none = absurd (omega (arith, none))
 
-  pub some_meant : (asking : Asking) (thing : Target) (more : List Target) → asking_of wanted.path ≡ Some asking →
-      thing ∷ more ≡ targets_of t h last asking wanted.kind → things_asked t h wanted last ≡ Ok (thing ∷ more)
-  some_meant asking thing more read are = rw read (rw (← are) refl)
+    pub some_meant : length things ≢ 0 → things_asked t h wanted last ≡ Ok things
+    some_meant some = ap of_asking read ∙ ap some_thing (sym are) ∙ by things some
+      where
+        by : (things : List Target) → length things ≢ 0 → some_thing things ≡ Ok things
+        by [] some = absurd (some refl)
+        by (thing ∷ more) some = refl
 
 module _ (done : Replayed) (wanted : HowWanted) (last : ℕ) where
   pub question_made : (h : History) (call : Call) (things : List Target) → history_of done.world wanted.process ≡ Some h →
@@ -190,3 +202,32 @@ module _ {A : Type 0} (written : A → Option (List ℕ)) (failed : A → ℕ) (
           let some = some_answer choice tree_bytes script_bytes wanted in
           (some.0, some.1, answers_refused written failed some.0 fault s unwritten (λ other. absurd (other memory)))
       by (inr other) = (Err fault, refused other, answers_refused written failed (Err fault) fault s unwritten (λ again. refl))
+
+-- ---- what was found
+
+module _ {V : Type 0} (items : V → List WayLine) (choice : Chosen) (tree_bytes script_bytes : List ℕ) (process : ℕ) (q : given.Question) where
+  -- lines that are a way behind the script, whatever it left
+  abbrev pub AreFound : V → Type 0
+  AreFound v = (done : Replayed) → replay_of choice tree_bytes script_bytes ≡ Ok done → AreWayTo done process q (items v)
+
+  -- what a plan came to in a world behind the script
+  pub served_found : (done : Replayed) (before : WorldState) → replay_of choice tree_bytes script_bytes ≡ Ok done → before.table ≡ done.table →
+      StandsForWorld before done.world → (found : Option V) →
+      IfSome found (λ v. (thing : Target) × Contains q.meant.targets.items thing × AreWay before process q.call thing (items v)) →
+      IfSome found AreFound
+  served_found done before is ruled stands None way = tt
+  served_found done before is ruled stands (Some v) way = λ other again.
+      subst (λ (d : Replayed). AreWayTo d process q (items v)) (same_Ok done other (sym is ∙ again))
+      (way_behind done before process q (items v) way.0 ruled stands way.1 way.2)
+
+  pub found_ways : (found : Option V) → IfSome found AreFound → (done : Replayed) → replay_of choice tree_bytes script_bytes ≡ Ok done →
+      (lines : List WayLine) → option_map items found ≡ Some lines → AreWayTo done process q lines
+  found_ways None ways done is lines same = absurd (None≢Some lines same)
+  found_ways (Some v) ways done is lines same =
+      subst (λ (ls : List WayLine). AreWayTo done process q ls) (same_Some (items v) lines same) (ways done is)
+
+-- what is lent of something is as it is
+pub lent_items : {V : Type 0} (items : V → List WayLine) (lent : Option (Bor V)) →
+    option_map (λ v. items v.now) lent ≡ option_map items (option_copied lent)
+lent_items items None = refl
+lent_items items (Some v) = refl
