@@ -6,7 +6,7 @@ pub(crate) const PROGRAM_USAGE: &str =
 
 /// How a list of objects is asked for, of now or for ever, in one line.
 pub(crate) const OBJECTS_USAGE: &str =
-    "pua: usage: pua objects [--ever|--why] [--process P|all] [--rules profile|openbsd] [--table FILE] TREE SCRIPT";
+    "pua: usage: pua objects [--ever|--why] [--process P,...|all] [--rules profile|openbsd] [--table FILE] TREE SCRIPT";
 
 /// How it is asked why a request is answered as it is, in one line.
 pub(crate) const WHY_USAGE: &str =
@@ -223,7 +223,7 @@ doing, on what stands at PATH then, wherever it is moved. It prints one of:
   never before an exec  the same, until they start a program; behind `exec open`
   no way found          a line has CALL on it, and there may be a way or none
 This is so as long as nobody else changes the tree. To exec a file that they can
-write or make no way is found: in a script no file becomes a program.
+write or make, no way is found: in a script no file becomes a program.
 PATH is as `pua objects --ever` prints it, and no link on it is followed; or it
 is `new`, for what can be made. A file is meant by all of its names; a name with
 nothing there is one of the `other` names of its directory, or `missing` with a

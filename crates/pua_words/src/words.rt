@@ -2,8 +2,8 @@
 
 ghost use Rattle.std.specs.Prelude.{◌≡◌, ◌↔◌, IfErr, IfOk, IfSome, Some, codes, map, option_map};
 ghost use Rattle.std.specs.Prelude.{true};
-ghost use Rattle.clap.specs.Matches.{first_value, found_of};
 ghost use Rattle.std.specs.List.{All};
+ghost use Rattle.clap.specs.Matches.{first_value, found_of};
 ghost use Rattle.pua_objects.specs.Lines.{kind_word};
 ghost use Rattle.pua_words.specs.Commands.{AreIn, AsksSoundly, IsProcessNumber, IsTextOf, MayBeAsked};
 ghost use Rattle.pua_words.specs.Commands.{list_asked, run_asked, tight_asked};
@@ -251,7 +251,7 @@ fn process<'a>(alloc: Global) -> Arg<'a> {
 }
 
 fn processes<'a>(alloc: Global) -> Arg<'a> {
-    option(alloc, "process", "P|all", help::PROCESSES).default_value("1")
+    option(alloc, "process", "P,...|all", help::PROCESSES).default_value("1")
 }
 
 fn base<'a>(alloc: Global) -> Arg<'a> {
