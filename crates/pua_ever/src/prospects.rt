@@ -249,12 +249,7 @@ impl Prospects {
 
     /// The calls on the name at which an item stands, if it has a veil of its own and the item can
     /// be taken away; else none.
-    pub fn calls_on_freed(
-        &self,
-        process: &Process,
-        table: &CallTable,
-        item: &Item<'_>,
-    ) -> Calls
+    pub fn calls_on_freed(&self, process: &Process, table: &CallTable, item: &Item<'_>) -> Calls
         ensures { (t : Tree) (h : History) (about : About) → WellFormed t →
             StandsFor process.now h →
             IsProspects t table.now h self.now → SubjectFits t about → IsItemOn t h about item.now →
