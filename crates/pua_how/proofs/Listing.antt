@@ -17,7 +17,6 @@ use Rattle.pua_calls.specs.declared.call.Call.{Call}
 use Rattle.pua_policy.specs.History.{History, perms_kept}
 use Rattle.pua_policy.specs.declared.place.Place.{Place}
 use Rattle.pua_policy.specs.declared.place.Place.TheVariants as place
-use Rattle.pua_objects.specs.Objects.{Others}
 use Rattle.pua_objects.proofs.ForCallers.{Among, among_contained}
 use Rattle.pua_ever.specs.Ever.{EverLine, Thing}
 use Rattle.pua_ever.specs.Laws.{IsLineOf, of_dir, of_row, of_name, of_others, of_new_dir, of_new_file, of_new_link, of_new_others}

@@ -18,7 +18,7 @@ use Rattle.pua_policy.specs.History.{History, veils}
 use Rattle.pua_audit.specs.Reach.{Word}
 use Rattle.pua_objects.specs.Items.{subject_given}
 use Rattle.pua_objects.specs.ListItems.{items_told, word_after}
-use Rattle.pua_objects.specs.Objects.{Subject, At, Item, Others, items}
+use Rattle.pua_objects.specs.Objects.{Subject, At, Item, items}
 use Rattle.pua_objects.specs.declared.item.Subject as told
 use Rattle.pua_objects.specs.declared.item.Subject.TheVariants as subject
 use Rattle.pua_objects.specs.declared.list.ListItem.{ListItem}
