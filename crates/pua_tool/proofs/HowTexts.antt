@@ -1,7 +1,7 @@
 -- The text of a way, step by step.
 use Rattle.pua_tool.proofs.Common.{◌≡◌, ◌≢◌, ℕ, List, [], ◌∷◌, ◌∙◌, map, refl, sym, subst, ap, Result, ◌>>=◌, Option, Some, None, Ok, Err}
 use Rattle.pua_tool.proofs.Common.{History, Tree, CallTable, history_of, StandsForWorld, Chosen, Replayed, replay_of, ToolFault, OutOfMemory, Write}
-use Rattle.pua_tool.proofs.Common.{with_end, flat_map, arith, AnswersTo}
+use Rattle.pua_tool.proofs.Common.{with_end, arith, AnswersTo}
 use Rattle.std.proofs.Common.{◌⊎◌, inl, inr, length}
 use Rattle.std.specs.Prelude.{string_bytes, ok_or, option_copied, option_map, IfSome}
 use Rattle.std.specs.Borrow.{Bor}
@@ -155,9 +155,9 @@ module _ (done : Replayed) (wanted : HowWanted) (q : given.Question) (h : Histor
   things = q.meant.targets.items
 
   pub question_is : t ≡ done.world.tree → table ≡ done.table → history_of done.world wanted.process ≡ Some h → refusal table h ≡ None →
-      call_named wanted.call ≡ Some q.call → AreMeant t h wanted things → IsOutlook t table h things q.call q.outlook →
-      IsQuestion done wanted q
-  question_is at ruled here none read meant outlook =
+      call_named wanted.call ≡ Some q.call → AreMeant t h wanted things → (asked : List Target) → asked ≡ things →
+      IsOutlook t table h asked q.call q.outlook → IsQuestion done wanted q
+  question_is at ruled here none read meant asked all outlook =
       let are = subst (λ (t : Tree). AreMeant t h wanted things) at meant in
       record {
         last = are.last;
@@ -166,7 +166,8 @@ module _ (done : Replayed) (wanted : HowWanted) (q : given.Question) (h : Histor
         asked = question_made done wanted are.last h q.call things here (subst (λ (table : CallTable). refusal table h ≡ None) ruled none) read
             are.are;
         outlook = subst (λ (table : CallTable). IsOutlook done.world.tree table h things q.call q.outlook) ruled
-            (subst (λ (t : Tree). IsOutlook t table h things q.call q.outlook) at outlook);
+            (subst (λ (t : Tree). IsOutlook t table h things q.call q.outlook) at
+            (subst (λ (asked : List Target). IsOutlook t table h asked q.call q.outlook) all outlook));
       }
 
 -- a way in a world behind the script is one in that of the replay
