@@ -12,19 +12,19 @@ ghost use Rattle.pua_tool.specs.HowTexts.{way_wanted};
 ghost use Rattle.pua_tool.specs.Questions.{AreMeant, AreWayTo, IsQuestion, text_told, texts_of};
 ghost use Rattle.pua_tool.specs.Texts.{Replayed, choice_of, replay_of};
 
-use crate::ever_fault::fault_of;
+use crate::ever_fault::reason_of;
 use crate::fault::ToolFault;
 use crate::objects::put_text;
 use crate::script::{Replay, replay_script};
 use crate::table::TableChoice;
 use pua_calls::{Call, CallTable};
-use pua_ever::{EverFault, ExecBound, both_of, why_refused};
+use pua_ever::{ExecBound, both_of, why_refused};
 use pua_how::{
     Asking, BestPlans, Meant, Outlook, Plan, Target, WayLine, find_meant, find_outlook, find_plans,
 };
 use pua_io::Sink;
 use pua_policy::Process;
-use pua_tree::{FileTree, OutOfMemory};
+use pua_tree::FileTree;
 use pua_words::HowWords;
 use std::alloc::{AllocError, Global};
 
@@ -127,24 +127,25 @@ fn asked_of(alloc: Global, replay: &Replay, words: &HowWords<'_>) -> Result<Ques
     let Some(process) = world.process(words.process) else {
         return Err(ToolFault::NoProcess);
     };
-    if let Some(reason) = why_refused(process, world.table()) {
-        return Err(fault_of(words.process, EverFault::Refused(reason)));
+    let (tree, table) = (world.tree(), world.table());
+    if let Some(reason) = why_refused(process, table) {
+        return Err(reason_of(words.process, reason));
     }
     let Some(call) = Call::read(words.call) else {
         return Err(ToolFault::HowCall);
     };
-    let meant = meant_by(alloc, world.tree(), process, words)?;
+    let meant = meant_by(alloc, tree, process, words)?;
     let things = meant.targets.as_slice();
-    let outlook = outlook_of(alloc, world.tree(), process, world.table(), things, call)?;
-    match find_plans(alloc, world.tree(), process, world.table(), call, &meant) {
-        Ok(plans) => Ok(Question {
-            call,
-            meant,
-            outlook,
-            plans,
-        }),
-        Err(OutOfMemory) => Err(ToolFault::OutOfMemory),
-    }
+    let outlook = outlook_of(alloc, tree, process, table, things, call)?;
+    let Ok(plans) = find_plans(alloc, tree, process, table, call, &meant) else {
+        return Err(ToolFault::OutOfMemory);
+    };
+    Ok(Question {
+        call,
+        meant,
+        outlook,
+        plans,
+    })
 }
 
 /// All that may be meant, if something is.
@@ -167,11 +168,13 @@ fn meant_by<T: FileTree>(
     let Some(asking) = asking else {
         return Err(ToolFault::HowPath);
     };
-    match find_meant(alloc, tree, process, &asking, words.kind) {
-        Ok(meant) if meant.targets.is_empty() => Err(ToolFault::HowThing),
-        Ok(meant) => Ok(meant),
-        Err(OutOfMemory) => Err(ToolFault::OutOfMemory),
+    let Ok(meant) = find_meant(alloc, tree, process, &asking, words.kind) else {
+        return Err(ToolFault::OutOfMemory);
+    };
+    if meant.targets.is_empty() {
+        return Err(ToolFault::HowThing);
     }
+    Ok(meant)
 }
 
 /// What the list for ever says of it. `OutOfMemory` where a growth was refused.
@@ -191,10 +194,10 @@ fn outlook_of<T: FileTree>(
     let Ok(both) = both_of(alloc, process, table) else {
         return Err(ToolFault::OutOfMemory);
     };
-    match find_outlook(alloc, tree, process, both.as_ref(), table, things, call) {
-        Ok(outlook) => Ok(outlook),
-        Err(_) => Err(ToolFault::OutOfMemory),
-    }
+    let Ok(outlook) = find_outlook(alloc, tree, process, both.as_ref(), table, things, call) else {
+        return Err(ToolFault::OutOfMemory);
+    };
+    Ok(outlook)
 }
 
 /// A way to what is asked about, if one of the plans is one; none is served where no line of the list for
@@ -273,10 +276,10 @@ fn serve(
         &question.meant,
     );
     replay.release();
-    match served {
-        Ok(found) => Ok(found),
-        Err(OutOfMemory) => Err(ToolFault::OutOfMemory),
-    }
+    let Ok(found) = served else {
+        return Err(ToolFault::OutOfMemory);
+    };
+    Ok(found)
 }
 
 /// The lines of a way, or what is said without one.
@@ -310,7 +313,7 @@ fn push_lines(text: &mut String, lines: &[WayLine]) -> Result<(), AllocError>
 
 /// The line of what is said where there is no way.
 fn without(listed: bool, execs: ExecBound) -> &'static str
-    ensures { string_bytes result ≡ with_end (told_without listed execs) }
+    ensures { result.now ≡ with_end (told_without listed execs) }
 {
     match (listed, execs) {
         (true, _) => "no way found\n",
