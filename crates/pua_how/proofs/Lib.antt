@@ -4,3 +4,4 @@ mod Coming
 mod Granting
 mod Outlooking
 mod Meaning
+mod Stepping

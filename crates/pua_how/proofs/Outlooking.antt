@@ -1,7 +1,7 @@
 -- Whether a list for ever has a call on something, item by item.
 use Rattle.std.proofs.Common.{◌≡◌, ◌≢◌, ℕ, ◌<◌, Bool, true, false, List, [], ◌∷◌, ◌++◌, length, map, take, refl, sym, ap, ◌∙◌, arith}
 use Rattle.std.proofs.Common.{Option, Some, None, cond, zero, suc, ◌+◌, ◌-◌, ◌≤◌, get_or, take_all}
-use Rattle.std.proofs.lemmas.Bool.{and_right, lt-ltb}
+use Rattle.std.proofs.lemmas.Bool.{and_right, eqb-true, lt-ltb}
 use Rattle.std.proofs.lemmas.List.Folds.{list_any-append, list_any_at, list_any_more}
 use Rattle.std.proofs.lemmas.Map.Views.{any-filter_same}
 use Rattle.std.specs.List.{AllByRecursion, list_any}
@@ -13,12 +13,12 @@ use Rattle.pua_calls.specs.Calls.{CallTable, calls, call_number}
 use Rattle.pua_calls.specs.CallSets.{has}
 use Rattle.pua_calls.specs.declared.call.Call.{Call}
 use Rattle.pua_calls.specs.declared.call.Call.TheVariants as call
-use Rattle.pua_how.proofs.Granting.{same_number}
+use Rattle.pua_calls.proofs.ForCallers.{same_bit}
 use Rattle.pua_policy.specs.History.{History, veils}
 use Rattle.pua_audit.specs.Reach.{Word}
 use Rattle.pua_objects.specs.Items.{subject_given}
 use Rattle.pua_objects.specs.ListItems.{items_told, word_after}
-use Rattle.pua_objects.specs.Objects.{Subject, At, Item, Others, items}
+use Rattle.pua_objects.specs.Objects.{Subject, At, Item, items}
 use Rattle.pua_objects.specs.declared.item.Subject as told
 use Rattle.pua_objects.specs.declared.item.Subject.TheVariants as subject
 use Rattle.pua_objects.specs.declared.list.ListItem.{ListItem}
@@ -97,6 +97,10 @@ any_both false p (x ∷ xs) = any_both false p xs
 
 abbrev pub is_call : Call → Call → Bool
 is_call call other = call_number other == call_number call
+
+-- two calls of one number are one
+same_number : (call other : Call) → is_call call other ≡ true → other ≡ call
+same_number call other e = same_bit other call (ap (λ n. n - 1) (eqb-true (call_number other) (call_number call) e))
 
 one_of : (call : Call) → list_any (is_call call) calls ≡ true
 one_of call.Stat = refl

@@ -1,5 +1,6 @@
 -- Worked rows on what is asked about, and on ways to it.
 use Rattle.std.specs.Prelude.{◌≡◌, ◌+◌, ℕ, true, false, [], ◌∷◌, Some, None, codes, refl}
+use Rattle.std.specs.Fmt.{digits}
 use Rattle.pua_tree.specs.Tree.{Tree, Node}
 use Rattle.pua_tree.specs.declared.node.Kind.TheVariants.{Dir, File}
 use Rattle.pua_path.specs.declared.found.Found.TheVariants.{Whole, Slot}
@@ -19,7 +20,12 @@ use Rattle.pua_objects.specs.declared.kind.ObjectKind.TheVariants as kind
 use Rattle.pua_ever.specs.Through.{ever_lasting}
 use Rattle.pua_how.specs.Asking.{Standing, Making, asking_of, targets_of}
 use Rattle.pua_how.specs.Targets.{is_listed, is_of}
+use Rattle.pua_how.specs.Steps.{comes, step_text}
 use Rattle.pua_how.specs.Ways.{IsWay}
+use Rattle.pua_how.specs.declared.step.At.{At}
+use Rattle.pua_how.specs.declared.step.At.TheVariants as at
+use Rattle.pua_how.specs.declared.step.Dir.TheVariants as dir
+use Rattle.pua_how.specs.declared.step.Step.TheVariants as step
 use Rattle.pua_how.specs.declared.target.Target.{Target}
 use Rattle.pua_how.specs.declared.target.Target.TheVariants as target
 
@@ -150,6 +156,35 @@ way_rows = record {
   };
   refused = λ way. no_answer way.granted.0;
   of_another = λ target way. no_process way.own.0;
+}
+
+-- the lines of steps, and whether steps come to a call: a name is freed, and made
+abbrev pid_name : At
+pid_name = at.Name (dir.Standing 3) (codes "pid")
+
+abbrev conf_name : At
+conf_name = at.Name (dir.Standing 1) (codes "conf")
+
+pub record StepRows : Type 0 where
+  pub line : step_text pid_tree 1 0 (step.Link conf_name pid_name) ≡ codes "1 link /etc/conf /run/pid"
+  pub in_what_was_made : step_text pid_tree 1 3 (step.On call.Symlink (at.Name dir.Made (codes "x"))) ≡ codes "1 symlink target /run/x"
+  pub freed : comes standard_table 1 call.Create (target.Name 3 (codes "pid")) (step.On call.Unlink pid_name ∷ step.On call.Create pid_name ∷ [])
+      pid_world 0 ≡ true
+  pub not_freed : comes standard_table 1 call.Create (target.Name 3 (codes "pid")) (step.On call.Create pid_name ∷ []) pid_world 0 ≡ false
+  pub refused : comes standard_table 1 call.OpenWrite (target.Node 2) (step.On call.OpenWrite conf_name ∷ []) pid_world 0 ≡ false
+  pub another_call : comes standard_table 1 call.OpenRead (target.Node 2) (step.On call.Stat conf_name ∷ []) pid_world 0 ≡ false
+  pub no_step : comes standard_table 1 call.OpenRead (target.Node 2) [] pid_world 0 ≡ false
+
+pub step_rows : StepRows
+unfolding digits
+step_rows = record {
+  line = refl;
+  in_what_was_made = refl;
+  freed = refl;
+  not_freed = refl;
+  refused = refl;
+  another_call = refl;
+  no_step = refl;
 }
 
 -- lines of the list for ever about it that have a call: by OpenBSD's rules the file can come to be written, by a further name, and

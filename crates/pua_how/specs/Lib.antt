@@ -6,7 +6,9 @@ pub mod Asking
 pub mod Laws
 -- Worked rows, which hold by computation.
 pub mod Examples
--- Notes: what contracts see of the lines that were served, of what a list for ever has, and of a question.
+-- Notes: what the steps of a plan come to, and what contracts see of the lines that were served, of what a list for ever has, and
+-- of a question.
+pub mod Steps
 pub mod Served
 pub mod Outlooks
 pub mod Asked

@@ -1,8 +1,11 @@
 //! Ways: which plans are served, and what they come to.
 
-ghost use Rattle.std.specs.Prelude.{◌≡◌, ◌≤◌, IfOk, IfSome, length, vec_len};
+ghost use Rattle.std.specs.Prelude.{◌≡◌, IfOk, IfSome, is_some};
 ghost use Rattle.std.specs.List.{Contains};
+ghost use Rattle.pua_script.specs.Replay.{World as Replayed};
+ghost use Rattle.pua_script.specs.Worlds.{StandsForWorld};
 ghost use Rattle.pua_how.specs.Served.{AreWay};
+ghost use Rattle.pua_how.specs.Steps.{plan_comes};
 ghost use Rattle.pua_how.specs.declared.target.Target.{Target as Thing};
 
 use crate::asking::Meant;
@@ -92,8 +95,8 @@ impl Plan {
 
     /// Serves the plan for a process in a world: a way to the call on something that is meant, if each
     /// step is answered `ok`, none but the last is an exec, and the last is that call, on a path that
-    /// names this thing when it is served. None where it is not, and the world then has served some of
-    /// the steps. The only error is that a growth was refused.
+    /// names this thing when it is served. None exactly where this is not so, and the world then has
+    /// served some of the steps. The only error is that a growth was refused.
     pub fn serve<T: FileTree>(
         &self,
         alloc: Global,
@@ -102,9 +105,12 @@ impl Plan {
         call: Call,
         meant: &Meant,
     ) -> Result<Option<Vec<WayLine>>, OutOfMemory>
-        ensures { IfOk result (λ served. IfSome served (λ lines. (thing : Thing)
+        ensures way { IfOk result (λ served. IfSome served (λ lines. (thing : Thing)
             × Contains meant.now.targets.items thing
             × AreWay world.old process call thing lines.items)) }
+        ensures found { IfOk result (λ served. (w : Replayed) → StandsForWorld world.old w →
+            is_some served ≡ plan_comes world.old.table process call meant.now.targets.items
+            self.now w) }
     {
         let Some(target) = meant.targets.get(self.place) else {
             return Ok(None);

@@ -2,11 +2,10 @@ use Rattle.pua_tool.proofs.Common.{◌≡◌, ℕ, List, ◌++◌, Ok, Err, ap, 
 use Rattle.pua_tool.proofs.Common.{err_from_is_err_and}
 use Rattle.pua_ever.specs.LastingList.{IsBothOf}
 use Rattle.pua_ever.specs.Refusals.{refusal_in}
-use Rattle.pua_texts.specs.Members.{IsJointOf}
-use Rattle.pua_texts.specs.TogetherLines.{together_list}
+use Rattle.pua_texts.specs.TogetherLines.{one_of, together_list}
 use Rattle.pua_tool.specs.TogetherTexts.{first_refused}
 use Rattle.pua_tool.proofs.TextAnswers.{answers_refused}
-use Rattle.pua_tool.proofs.TogetherTexts.{one_living}
+use Rattle.pua_tool.proofs.TogetherTexts.{joint_is, one_living}
 use Rattle.pua_tool.proofs.together.joint_to.Goals as goal
 
 pub returns-in_err-one : goal.returns-in_err-one
@@ -35,11 +34,10 @@ returns g c = λ table w named ruled stands are live none.
     let one = one_living of named c.args.first.now c.args.more.now c.in_ok-one.one live
     (subst (λ (table : CallTable). first_refused table named ≡ None) (sym same) none) c.in_ok-one.ensures.joined in
     let whose = subst (IsBothOf of one.history) (sym c.as_ref.ensures.value) (c.in-Ok.ensures one.history one.stands) in
-    let joint = subst (λ (o : Option History). IsJointOf _ of o _) (sym one.is)
-    (one.stands, c.in-Ok-list_lasting.ensures.list one.history one.stands whose) in
     let text = c.args.front.now ++ together_list c.args.rules table w.tree named in
     c.told.ensures text (g.S.Sink.written c.args.sink.now) (g.S.Sink.written c.write_together.new.sink) (g.S.Sink.failed c.args.sink.now)
     (g.S.Sink.failed c.write_together.new.sink)
     (subst (λ (text : List ℕ). Tells text c.write_together.result (g.S.Sink.written c.args.sink.now) (g.S.Sink.written c.write_together.new.sink)
     (g.S.Sink.failed c.args.sink.now) (g.S.Sink.failed c.write_together.new.sink))
-    (λ i. c.args.front.now ++ together_list c.args.rules (same i) (at i) named) (c.write_together.ensures of named are joint))
+    (λ i. c.args.front.now ++ together_list c.args.rules (same i) (at i) named) (c.write_together.ensures of named are
+    (joint_is _ of (one_of of named) _ one.history one.is one.stands (c.in-Ok-list_lasting.ensures.list one.history one.stands whose))))

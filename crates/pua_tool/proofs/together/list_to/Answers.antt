@@ -1,11 +1,11 @@
 use Rattle.pua_tool.proofs.Common.{◌≡◌, ℕ, List, [], ◌++◌, ◌∷◌, Ok, Err, ap, sym, subst, ◌∙◌, None, Some, Option, History, CallTable, Tells}
 use Rattle.pua_tool.proofs.Common.{answer_lines, err_from_is_err_and, AnswersTo}
-use Rattle.pua_texts.specs.Members.{AreMembers, IsJointOf}
+use Rattle.pua_texts.specs.Members.{AreMembers}
 use Rattle.pua_texts.specs.TogetherLines.{living, one_of, together_list}
 use Rattle.pua_texts.specs.declared.members.Member.{Member}
 use Rattle.pua_tool.specs.TogetherTexts.{first_refused, other_veils, together_lines, together_of, unless_fault}
 use Rattle.pua_tool.proofs.TextAnswers.{answers_refused, answers_told}
-use Rattle.pua_tool.proofs.TogetherTexts.{fault_listed, fault_veils, none_living}
+use Rattle.pua_tool.proofs.TogetherTexts.{fault_listed, fault_veils, no_joint, none_living}
 use Rattle.pua_tool.proofs.together.list_to.Goals as goal
 
 pub returns-in_err-check_members : goal.returns-in_err-check_members
@@ -44,7 +44,7 @@ returns-in-Some g c = λ done named replay are.
     (c.in_ok-check_members.ensures.listed named are) in
     let found = c.in_ok-living.ensures.living named are in
     let live = subst (λ (ms : List Member). AreMembers ms (living named)) (sym c.as_slice.ensures.value) found in
-    let behind = subst (λ (ms : List Member). AreMembers ms (living named)) (sym c.as_slice-3.ensures.value ∙ c.in-Some.ensures) found in
+    let behind = subst (λ (ms : List Member). AreMembers ms (living named)) (sym c.as_slice-3.ensures.value ∙ c.in-Some.ensures.cases.0) found in
     let front : c.as_str-front.result.now ≡ answer_lines 1 done.answers = c.as_str-front.ensures.value ∙ c.in-Ok.ensures ∙
     ap (answer_lines 1) (c.as_slice-2.ensures.value ∙ replay.answers) in
     answers_told g.S.Sink.written g.S.Sink.failed (together_of c.args.rules done named) (together_lines c.args.rules done named)
@@ -55,13 +55,13 @@ returns-in-Some g c = λ done named replay are.
     (ap (λ front. front ++ together_list c.args.rules done.table done.world.tree named) front)
     (c.joint_to.ensures done.table done.world named replay.table replay.stands are behind none))
 
-pub returns-in-None : goal.returns-in-None
-returns-in-None g c = λ done named replay are.
+pub returns : goal.returns
+returns g c = λ done named replay are.
     let none = subst (λ (table : CallTable). first_refused table named ≡ None) (c.table.ensures ∙ replay.table)
     (c.in_ok-check_members.ensures.listed named are) in
     let found = c.in_ok-living.ensures.living named are in
     let live = subst (λ (ms : List Member). AreMembers ms (living named)) (sym c.as_slice.ensures.value) found in
-    let behind = subst (λ (ms : List Member). AreMembers ms (living named)) (sym c.as_slice-3.ensures.value ∙ c.in-None.ensures) found in
+    let behind = subst (λ (ms : List Member). AreMembers ms (living named)) (sym c.as_slice-3.ensures.value) found in
     let front : c.as_str-front.result.now ≡ answer_lines 1 done.answers = c.as_str-front.ensures.value ∙ c.in-Ok.ensures ∙
     ap (answer_lines 1) (c.as_slice-2.ensures.value ∙ replay.answers) in
     answers_told g.S.Sink.written g.S.Sink.failed (together_of c.args.rules done named) (together_lines c.args.rules done named)
@@ -72,6 +72,7 @@ returns-in-None g c = λ done named replay are.
     (g.S.Sink.failed c.args.sink.now) (g.S.Sink.failed c.write_together.new.sink)
     (subst (λ (text : List ℕ). Tells text c.write_together.result (g.S.Sink.written c.args.sink.now) (g.S.Sink.written c.write_together.new.sink)
     (g.S.Sink.failed c.args.sink.now) (g.S.Sink.failed c.write_together.new.sink))
-    (λ i. front i ++ together_list c.args.rules done.table ((c.tree.ensures ∙ replay.stands.tree) i) named)
+    (λ i. front i ++ together_list c.args.rules done.table ((c.tree-tree.ensures ∙ replay.stands.tree) i) named)
     (c.write_together.ensures done.table named are
-    (subst (λ (o : Option History). IsJointOf _ done.table o None) (sym (none_living done.table named behind)) tt))))
+    (no_joint _ done.table (one_of done.table named)
+    (none_living done.table named c.as_slice-3.result.now c.in-None.ensures.cases behind)))))
