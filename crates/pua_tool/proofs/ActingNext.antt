@@ -1,9 +1,9 @@
 -- Processes that are asked for together, one after another.
 use Rattle.pua_tool.proofs.Common.{◌≡◌, ℕ, List, [], ◌∷◌, ◌++◌, ◌∙◌, refl, sym, ap, subst, map, Option, Some, None, Result, Ok, Err, ◌>>=◌}
 use Rattle.pua_tool.proofs.Common.{CallTable, History, World, history_of, ToolFault}
-use Rattle.std.proofs.Common.{◌+◌, ◌<◌, ◌≤◌, Bool, true, false, cond, not, drop, get_or, length, slice_index_or, append_assoc, append-nil}
+use Rattle.std.proofs.Common.{◌+◌, ◌<◌, ◌≤◌, true, false, cond, not, drop, get_or, length, slice_index_or, append_assoc, append-nil}
 use Rattle.std.proofs.Math.ListN.{drop_of_length-le}
-use Rattle.std.proofs.lemmas.List.{drop_more, map-append}
+use Rattle.std.proofs.lemmas.List.{drop_more}
 use Rattle.std.specs.Borrow.{Bor}
 use Rattle.std.specs.Prelude.{if◌then◌else◌, ok_or}
 use Rattle.pua_policy.specs.History.{ProcessState, StandsFor, is_ended}

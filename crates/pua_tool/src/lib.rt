@@ -1,5 +1,5 @@
-//! Whole texts of runs, of audits, of lists of objects, of now and for ever, and of tightened scripts,
-//! or what refuses them, and the whole program as a function over its inputs.
+//! Whole texts of runs, of audits, of lists of objects, of now and for ever, of ways, and of tightened
+//! scripts, or what refuses them, and the whole program as a function over its inputs.
 #![tactic(auto)]
 
 mod acting;
@@ -41,7 +41,7 @@ pub use pua_io::{
 };
 pub use pua_texts::state_law;
 pub use pua_words::{
-    AuditWords, Command, EverWords, Members, ObjectWords, Processes, Text, TogetherWords,
+    AuditWords, Command, EverWords, HowWords, Members, ObjectWords, Processes, Text, TogetherWords,
     UsageLine, WhyWords,
 };
 pub use run::{run_by, run_to};

@@ -1,5 +1,5 @@
 use Rattle.pua_tool.proofs.Common.{refl, sym, ap, ◌∙◌, arith, Some}
-use Rattle.pua_tool.proofs.ActingNext.{RefusedGo, refused_done, refused_here, refused_next}
+use Rattle.pua_tool.proofs.ActingNext.{refused_done, refused_here, refused_next}
 use Rattle.pua_tool.proofs.acting.check_members.Goals as goal
 
 pub loop-member-init : goal.loop-member-init

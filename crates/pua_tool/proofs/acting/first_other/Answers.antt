@@ -1,5 +1,5 @@
 use Rattle.pua_tool.proofs.Common.{refl, sym, ◌∙◌, arith}
-use Rattle.pua_tool.proofs.ActingNext.{OtherGo, alike_next, other_done, other_here}
+use Rattle.pua_tool.proofs.ActingNext.{alike_next, other_done, other_here}
 use Rattle.pua_tool.proofs.acting.first_other.Goals as goal
 
 pub loop-member-init : goal.loop-member-init

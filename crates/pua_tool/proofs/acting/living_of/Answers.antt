@@ -1,7 +1,7 @@
 use Rattle.pua_tool.proofs.Common.{[], List, refl, sym, subst, ◌∙◌, arith}
 use Rattle.pua_texts.specs.Members.{AreMembers}
 use Rattle.pua_texts.specs.declared.members.Member.{Member}
-use Rattle.pua_tool.proofs.ActingNext.{LivingGo, ended_next, living_done, living_next}
+use Rattle.pua_tool.proofs.ActingNext.{ended_next, living_done, living_next}
 use Rattle.pua_tool.proofs.acting.living_of.Goals as goal
 
 pub loop-member-init : goal.loop-member-init

@@ -1,6 +1,6 @@
-use Rattle.pua_tool.proofs.Common.{refl, sym, ◌∙◌, arith, history_of}
+use Rattle.pua_tool.proofs.Common.{refl, arith, history_of}
 use Rattle.pua_script.proofs.ForCallers.{is_made, none_made}
-use Rattle.pua_tool.proofs.ActingNext.{MadeGo, made_begin, made_done, made_next, made_none}
+use Rattle.pua_tool.proofs.ActingNext.{made_begin, made_done, made_next, made_none}
 use Rattle.pua_tool.proofs.acting.made_of.Goals as goal
 
 pub loop-number-init : goal.loop-number-init

@@ -1,4 +1,4 @@
-use Rattle.pua_tool.proofs.Common.{◌≡◌, ℕ, List, [], ◌∷◌, refl, sym, subst, map, arith, History, CallTable}
+use Rattle.pua_tool.proofs.Common.{ℕ, List, [], ◌∷◌, refl, sym, subst, map, arith, History, CallTable}
 use Rattle.std.specs.Borrow.{Bor}
 use Rattle.std.specs.Prelude.{IfSome}
 use Rattle.pua_policy.specs.History.{ProcessState, StandsFor}
@@ -7,7 +7,7 @@ use Rattle.pua_ever.specs.Together.{joined}
 use Rattle.pua_texts.specs.Members.{AreMembers}
 use Rattle.pua_texts.specs.TogetherLines.{one_for}
 use Rattle.pua_texts.specs.declared.members.Member.{Member}
-use Rattle.pua_tool.proofs.ActingNext.{LentGo, lent_done, lent_next}
+use Rattle.pua_tool.proofs.ActingNext.{lent_done, lent_next}
 use Rattle.pua_tool.proofs.together.join_all.Goals as goal
 
 pub loop-member-init : goal.loop-member-init

@@ -1,7 +1,6 @@
-use Rattle.pua_tool.proofs.Common.{◌≡◌, ℕ, List, ◌++◌, Ok, Err, ap, sym, subst, ◌∙◌, None, Some, Option, History, CallTable, Tells, unless_reason}
+use Rattle.pua_tool.proofs.Common.{◌≡◌, ℕ, List, ◌++◌, Ok, ap, sym, subst, ◌∙◌, None, CallTable, Tells, unless_reason}
 use Rattle.pua_tool.proofs.Common.{err_from_is_err_and}
 use Rattle.pua_ever.specs.LastingList.{IsBothOf}
-use Rattle.pua_ever.specs.Refusals.{refusal_in}
 use Rattle.pua_texts.specs.TogetherLines.{one_of, together_list}
 use Rattle.pua_tool.specs.TogetherTexts.{first_refused}
 use Rattle.pua_tool.proofs.TextAnswers.{answers_refused}

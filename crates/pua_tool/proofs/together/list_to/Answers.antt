@@ -1,9 +1,9 @@
-use Rattle.pua_tool.proofs.Common.{◌≡◌, ℕ, List, [], ◌++◌, ◌∷◌, Ok, Err, ap, sym, subst, ◌∙◌, None, Some, Option, History, CallTable, Tells}
+use Rattle.pua_tool.proofs.Common.{◌≡◌, ℕ, List, ◌++◌, Ok, ap, sym, subst, ◌∙◌, None, Some, CallTable, Tells}
 use Rattle.pua_tool.proofs.Common.{answer_lines, err_from_is_err_and, AnswersTo}
 use Rattle.pua_texts.specs.Members.{AreMembers}
 use Rattle.pua_texts.specs.TogetherLines.{living, one_of, together_list}
 use Rattle.pua_texts.specs.declared.members.Member.{Member}
-use Rattle.pua_tool.specs.TogetherTexts.{first_refused, other_veils, together_lines, together_of, unless_fault}
+use Rattle.pua_tool.specs.TogetherTexts.{first_refused, together_lines, together_of, unless_fault}
 use Rattle.pua_tool.proofs.TextAnswers.{answers_refused, answers_told}
 use Rattle.pua_tool.proofs.TogetherTexts.{fault_listed, fault_veils, no_joint, none_living}
 use Rattle.pua_tool.proofs.together.list_to.Goals as goal

@@ -1,4 +1,4 @@
-use Rattle.pua_tool.proofs.Common.{ap, sym, subst, ◌∙◌, err_from_is_err_and, List}
+use Rattle.pua_tool.proofs.Common.{sym, subst, err_from_is_err_and, List}
 use Rattle.pua_texts.specs.Members.{AreMembers}
 use Rattle.pua_texts.specs.declared.members.Member.{Member}
 use Rattle.pua_tool.specs.TogetherTexts.{all_made, numbers_in, together_of}
