@@ -1,18 +1,22 @@
 #!/usr/bin/perl
-# Tests of `pua how` over random worlds by a fixed seed: perl tests/how.t [PROGRAM [WORLDS]]
-# In each world process 1 can put no veil any more. For each call that its list for ever has and its list of now
+# Tests of `pua how` over the examples, and over random worlds by a fixed seed: perl tests/how.t [PROGRAM [WORLDS]]
+# In each world a process can put no veil any more. For each call that its list for ever has and its list of now
 # lacks, a way is asked for: behind the script, each of its lines is answered `ok`, and the last one is the call on
-# what the line was about, which a model (Model.pm) follows through renames. How many have one is counted, and nearly
-# all do. And for calls that the list lacks, as the model of its definition has it (EverModel.pm), there is none, ever.
+# what the line was about, which a model (Model.pm) follows through renames. In the examples all have one, unless what
+# the process starts is bounded: then a program may bring what it does not. In random worlds those that have one are
+# counted, and nearly all do. And for calls that the list of these lacks, as the model of its definition has it
+# (EverModel.pm), there is none, ever.
 use strict;
 use warnings;
 use FindBin qw($Bin);
 use lib "$Bin/lib";
+use File::Basename qw(dirname);
 use Storable qw(dclone);
 use Test::More;
 use EverModel;
 use Lists qw(lists_of);
 use Model;
+use Tables qw(content);
 use Things;
 use Worlds qw(answer_of program_in worlds_told);
 
@@ -36,7 +40,34 @@ for my $rules (qw(profile openbsd)) {
     }
     told($rules);
 }
+test_examples();
 done_testing();
+
+# By each rules, of each process behind each script that can put no veil any more, each call has a way.
+sub test_examples {
+    for my $script (glob "$Bin/../examples/*/*script") {
+        my $files = { listing => content(dirname($script) . '/listing'), script => content($script) };
+        my ($name) = $script =~ m{examples/(.*)\z};
+        for my $rules (qw(profile openbsd)) {
+            my $model = Model->new($files->{listing}, { rules => $rules });
+            $model->run($files->{script});
+            test_example($name, with_lists({ files => $files, rules => $rules, model => $model, process => $_ }))
+                for grep { is_confined($model, $_) } $model->living;
+        }
+    }
+    return;
+}
+
+sub test_example {
+    my ($name, $world) = @_;
+    $world->{counted} = 'examples';
+    $world->{has_all} = !grep { "@$_" eq 'exec bounded' } @{ $world->{ever}{state} };
+    my @calls = further($world);
+    is(first_fault($world, sub { fault_of($world, $_) }, @calls), undef, "$name, $world->{rules} $world->{process}: ways");
+    return;
+}
+
+sub is_confined { return $_[0]->state($_[1]) =~ /^unveil (?:locked|given-up)$/m }
 
 # A world in which process 1 lives and can put no veil any more.
 sub world {
@@ -46,21 +77,27 @@ sub world {
         $files->{script} = $worlds->script({ askers => [1], veils => 1 + $worlds->number(4), locks => 1 });
         my $model = Model->new($files->{listing}, { rules => $rules });
         $model->run($files->{script});
-        next if $model->state(1) !~ /^unveil (?:locked|given-up)$/m;
-        my $world = { files => $files, rules => $rules, model => $model };
-        $world->{now}  = list_of($world);
-        $world->{ever} = list_of($world, '--ever');
-        return $world;
+        next if !is_confined($model, 1);
+        return with_lists({ files => $files, rules => $rules, model => $model, process => 1, counted => $rules });
     }
 }
 
-# A list of process 1.
+# A world with the lists of its process.
+sub with_lists {
+    my ($world) = @_;
+    $world->{now}  = list_of($world);
+    $world->{ever} = list_of($world, '--ever');
+    return $world;
+}
+
 sub list_of {
     my ($world, @words) = @_;
-    my ($status, $out, $err) = answer_of($PUA, $world->{files}, words_of($world, 'objects', @words));
+    my ($status, $out, $err) = answer_of($PUA, $world->{files}, words_of($world, 'objects', process_of($world), @words));
     BAIL_OUT("status $status: $err") if $status != 0;
-    return lists_of($out)->{lists}{1};
+    return lists_of($out)->{lists}{ $world->{process} };
 }
+
+sub process_of { return ('--process', $_[0]{process}) }
 
 sub words_of {
     my ($world, $command, @words) = @_;
@@ -73,7 +110,7 @@ sub first_fault {
     for (@questions) {
         my $fault = $fault_of->($_);
         next if !defined $fault;
-        diag(worlds_told($world->{files}, 'how', '--rules', $world->{rules}, 'listing', 'script', @{$_}{qw(call path kind)}));
+        diag(worlds_told($world->{files}, words_of($world, 'how', process_of($world)), @{$_}{qw(call path kind)}));
         return $fault;
     }
     return;
@@ -93,7 +130,7 @@ sub further {
 # What the program answers to a question: its lines.
 sub answer {
     my ($world, $question) = @_;
-    my @words = (words_of($world, 'how'), @{$question}{qw(call path kind)});
+    my @words = (words_of($world, 'how', process_of($world)), @{$question}{qw(call path kind)});
     my ($status, $out, $err) = answer_of($PUA, $world->{files}, @words);
     return "status $status: $err" if $status != 0 || $err ne '';
     return split /\n/, $out;
@@ -102,14 +139,14 @@ sub answer {
 # What is wrong with the answer for a call that the list for ever has.
 sub fault_of {
     my ($world, $question) = @_;
-    my ($rules, @way) = ($world->{rules}, answer($world, $question));
-    $counts{$rules}{calls}++;
+    my ($counts, @way) = ($counts{ $world->{counted} } ||= {}, answer($world, $question));
+    $counts->{calls}++;
     if ("@way" eq 'no way found') {
-        $counts{$rules}{ is_of_file($question) ? 'starts' : 'none' }++;
-        return;
+        $counts->{ is_of_file($question) ? 'starts' : 'none' }++;
+        return $world->{has_all} ? "no way to $question->{call} $question->{path}" : undef;
     }
-    $counts{$rules}{ways}++;
-    $counts{$rules}{lengths}{@way}++;
+    $counts->{ways}++;
+    $counts->{lengths}{@way}++;
     return fault_of_way($world, $question, @way);
 }
 
@@ -128,8 +165,8 @@ sub fault_of_way {
     my $model = dclone($world->{model});
     my ($process, $call, @words) = split / /, pop @way;
     $model->answer(split / /) for @way;
-    return "another call: $call" if $process != 1 || $call ne $question->{call};
-    my ($kind, $path) = split / /, $model->subject(1, $call, $words[-1]);
+    return "another call: $call" if $process != $world->{process} || $call ne $question->{call};
+    my ($kind, $path) = split / /, $model->subject($process, $call, $words[-1]);
     my $thing = about($world, $model, $kind, $path);
     my $asked = about($world, $world->{model}, @{$question}{qw(kind path)});
     return $thing eq $asked ? undef : "the way leads to $thing, and not to $asked";
