@@ -1,7 +1,8 @@
 #!/usr/bin/env python3
 """What a run of the gate takes, crate by crate: python3 bench/gate.py [COMMAND..] > bench/gate.tsv
 
-Runs the command (`rt ci --anew`, if none is given) and looks twice a second at the processes that it started. A process
+Runs the command (`rt ci`, if none is given; where the toolchain keeps what passed, give it `rt ci --anew`) and looks twice a
+second at the processes that it started. A process
 of the prover counts for the crate that its words name, any other one for the program that runs. What is written is a
 line for each with its minutes of the processor, then those of all processes as the kernel counts them, and those on the
 clock. What a process did after the last look is in the sum of all alone.
@@ -66,7 +67,7 @@ def is_below(process, top, parents):
 
 
 def main():
-    command = sys.argv[1:] or ["rt", "ci", "--anew"]
+    command = sys.argv[1:] or ["rt", "ci"]
     begun = time.monotonic()
     running = subprocess.Popen(command, stdout=sys.stderr)
     seen, status = {}, None

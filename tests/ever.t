@@ -4,7 +4,8 @@
 # does what it and what it forks can touch behind random requests of theirs: short of an exec that succeeds where what
 # is started isn't bounded, and else whatever is started, so that a future goes on. Things are followed through renames
 # by a model (Model.pm) of which the same is requested. The list for ever is that of a plain model, too (EverModel.pm),
-# so it isn't too long; and what can have no such list is refused.
+# so it isn't too long; and what can have no such list is refused. So it is of two processes together, with other
+# promises and the same veils.
 use strict;
 use warnings;
 use FindBin qw($Bin);
@@ -21,6 +22,7 @@ use Worlds qw(answer_of program_in worlds_told);
 
 my $SEED   = 7;
 my $WORLDS = 40;
+my $PAIRS  = 15;
 my $PLAYS  = 12;
 
 # A process that the first line of each script forks, and that asks for nothing: it has no veils and all
@@ -62,6 +64,15 @@ for my $number (1 .. $WORLDS) {
     ok(!is_told($world, beyond_ever($world)), "world $number: it has what can be touched in $PLAYS futures");
     ok(!$world->{stray}, "world $number: no exec succeeds where it has none");
 }
+for my $number (1 .. $PAIRS) {
+    my $world = pair($number);
+    ok(!is_told($world, beyond_alone($world)), "pair $number: what each can ever touch is in the list of both");
+    is(states_told($world), states_wanted($world), "pair $number: the states");
+    is(exec_word($world), exec_wanted($world), "pair $number: whether what they start is bounded");
+    ok(!is_told($world, not_modelled($world)), "pair $number: the list of both is that of the model");
+    ok(!is_told($world, beyond_ever($world)), "pair $number: it has what they can touch in $PLAYS futures");
+    ok(!$world->{stray}, "pair $number: no exec succeeds where it has none");
+}
 note("$counts{lists} lists and $counts{answers} answers in $counts{plays} futures within lists for ever, of which ",
     "$counts{met} calls of $counts{calls} were met; $counts{execs} futures ended by an exec, $counts{started} went on ",
     "through $counts{bounded} that were bounded, and $counts{tries} failed where the list has none");
@@ -77,12 +88,35 @@ sub world {
         next if $world->{model}->state(1) !~ /^unveil (?:locked|given-up)$/m;
         next if $number % 4 && !grep { / new / } EverModel::lasting($world->{model}, 1);
         next if $number % 5 == 0 && !is_started($world->{model});
-        $world->{lists}    = lists_of(asked($world, 'objects', '--process', 'all'))->{lists};
-        $world->{now}      = $world->{lists}{1};
-        $world->{ever}     = ever_of($world, 1);
-        $world->{foreseen} = Foreseen->new($world->{model}, $world->{ever});
-        return $world;
+        return with_lists($world, 1);
     }
+}
+
+# A world in which process 1 and the child that it forked under the same veils have pledged each for itself, and can put
+# no veil any more. In two of three one of both can edit the tree.
+sub pair {
+    my ($number) = @_;
+    while (1) {
+        my $world  = drawn($RULES[ $number % @RULES ]);
+        my $pledge = $worlds->pick(@PLEDGES) =~ s/\A1 /$CHILD /r . "\n";
+        my $model  = $world->{model};
+        $world->{files}{script} .= $pledge;
+        $model->run($pledge);
+        next if grep { $model->state($_) !~ /^unveil (?:locked|given-up)$/m } 1, $CHILD;
+        next if $number % 3 && !grep { / new / } EverModel::lasting(EverModel::joined($model, 1, $CHILD), 0);
+        return with_lists($world, 1, $CHILD);
+    }
+}
+
+# A world with the lists of now, and the one for ever of these processes.
+sub with_lists {
+    my ($world, @members) = @_;
+    $world->{members}  = \@members;
+    $world->{lists}    = lists_of(asked($world, 'objects', '--process', 'all'))->{lists};
+    $world->{nows}     = [ map { $world->{lists}{$_} } @members ];
+    $world->{ever}     = ever_of($world, join ',', @members);
+    $world->{foreseen} = Foreseen->new($world->{model}, $world->{ever});
+    return $world;
 }
 
 # Whether process 1 can start something now, and all that it starts is bounded.
@@ -91,12 +125,12 @@ sub is_started {
     return EverModel::bound($model, 1) && grep { /^prog .*exec/ } EverModel::lines($model, 1);
 }
 
-# The list for ever of a process, which is asked for once.
+# The list for ever of a process, or of several, which is asked for once.
 sub ever_of {
-    my ($world, $process) = @_;
+    my ($world, $which) = @_;
     my $evers = $world->{evers} ||= {};
-    $evers->{$process} ||= lists_of(asked($world, 'objects', '--ever', '--process', $process))->{lists}{$process};
-    return $evers->{$process};
+    $evers->{$which} ||= lists_of(asked($world, 'objects', '--ever', '--process', $which))->{lists}{$which};
+    return $evers->{$which};
 }
 
 # A listing and a script, with a table by which no call lacks c.
@@ -191,26 +225,66 @@ sub beyond_now {
     return;
 }
 
+# The first line for ever of one of two that the list of both doesn't have, with all its calls.
+sub beyond_alone {
+    my ($world) = @_;
+    for my $process (@{ $world->{members} }) {
+        my $fault = Lists::beyond(ever_of($world, $process), $world->{ever});
+        return "process $process: $fault" if defined $fault;
+    }
+    return;
+}
+
+# What the list of both says of their states, without what is said of exec and of openings, and what the model does.
+sub states_told {
+    my ($world) = @_;
+    return join '', map { "@$_\n" } grep { $_->[0] !~ /\A(?:exec|opening)\z/ } @{ $world->{ever}{state} };
+}
+
+sub states_wanted {
+    my ($world) = @_;
+    my ($states, $veils) = ('');
+    for my $process (@{ $world->{members} }) {
+        my ($own, $rest) = $world->{model}->state($process) =~ /\A(.*?^unveil \S+\n)(.*)\z/ms;
+        $states .= $own =~ s/\Aprocess /process $process /r;
+        $veils = $rest =~ s/^opening .*\n//gmr;
+    }
+    return $states . $veils;
+}
+
+# A model, and the number of the process in it whose list for ever it is.
+sub whose {
+    my ($world) = @_;
+    my ($model, @members) = ($world->{model}, @{ $world->{members} });
+    return @members == 1 ? ($model, @members) : (EverModel::joined($model, @members), 0);
+}
+
 # What the list for ever says of execs, and what the model does: nothing where no line has one.
 sub exec_word { return (Lists::state_of($_[0]{ever}, 'exec'))[0] }
 
 sub exec_wanted {
     my ($world) = @_;
-    return if !grep { EverModel::has_exec($_) } EverModel::lines($world->{model}, 1);
-    return EverModel::bound($world->{model}, 1) ? 'bounded' : 'open';
+    my @whose = whose($world);
+    return if !grep { EverModel::has_exec($_) } EverModel::lines(@whose);
+    return EverModel::bound(@whose) ? 'bounded' : 'open';
 }
 
 sub is_bounded { my $word = exec_word($_[0]); return defined $word && $word eq 'bounded' }
 
-# The lists for ever of these two and those of the model, if they differ.
+# The lists for ever of process 1, of the child, and of the world, and those of the model, if they differ.
 sub not_modelled {
     my ($world) = @_;
+    my $fault = differs($world->{ever}, EverModel::lasting(whose($world)));
     for my $process (1, $CHILD) {
-        my @lines  = map { $_->{text} } @{ ever_of($world, $process)->{lines} };
-        my @wanted = EverModel::lasting($world->{model}, $process);
-        return join "\n", "process $process:", @lines, 'and by the model:', @wanted if "@lines" ne "@wanted";
+        $fault = differs(ever_of($world, $process), EverModel::lasting($world->{model}, $process)) if !defined $fault;
     }
-    return;
+    return $fault;
+}
+
+sub differs {
+    my ($list, @wanted) = @_;
+    my @lines = map { $_->{text} } @{ $list->{lines} };
+    return "@lines" eq "@wanted" ? undef : join "\n", 'the lines:', @lines, 'and by the model:', @wanted;
 }
 
 # What some random future leaves beyond the list for ever, if one does. The script of the world is then that up to
@@ -218,8 +292,9 @@ sub not_modelled {
 sub beyond_ever {
     my ($world) = @_;
     my $first = $world->{files}{script};
-    my %holds = map { $_ => Lists::holds($world->{now}, $_) || Lists::hands_down($world->{now}, $_) } qw(proc exec);
+    my %holds = map { $_ => scalar holders($world, $_) } qw(proc exec);
     $holds{bounded} = is_bounded($world);
+    $holds{several} = @{ $world->{members} } > 1;
     for (1 .. $PLAYS) {
         $world->{files}{script} = $first;
         my $futures = Futures->new($worlds, $world->{foreseen}->every, \%holds, 10);
@@ -234,10 +309,20 @@ sub beyond_ever {
     return;
 }
 
+# The lists of now of those that hold a promise, or hand it down.
+sub holders {
+    my ($world, $promise) = @_;
+    return grep { Lists::holds($_, $promise) || Lists::hands_down($_, $promise) } @{ $world->{nows} };
+}
+
 # The first fault behind some parts of a random script, each of one line or of many.
 sub played {
     my ($world, $futures) = @_;
-    my $play = { model => dclone($world->{model}), list => $world->{now}, alive => [1], family => { 1 => 1 } };
+    my @members = @{ $world->{members} };
+    my $play = {
+        model => dclone($world->{model}), list => $world->{nows}[0],
+        alive => [@members], family => { map { $_ => 1 } @members },
+    };
     for (1 .. 1 + $worlds->number(5)) {
         my $count = $worlds->pick(1, 2, 4, 8, 16);
         my @lines = $futures->lines($play->{model}, $play->{list}, $count, @{ $play->{alive} });
@@ -314,7 +399,7 @@ sub beyond_lists {
     my @members = sort { $a <=> $b } keys %{ $play->{family} };
     for my $member (@members) {
         $counts{lists}++;
-        $fault = beyond_state($world->{now}, $lists->{$member}) if !defined $fault;
+        $fault = beyond_state($world, $lists->{$member}) if !defined $fault;
         $fault = $world->{foreseen}->meet_list($play->{model}, $lists->{$member}) if !defined $fault;
         return "process $member: $fault" if defined $fault;
     }
@@ -323,16 +408,16 @@ sub beyond_lists {
     return;
 }
 
-# A member of the family keeps the veils of process 1, as far as letters go, and gets no promise but error, and those
-# that were handed down.
+# A member of the family keeps the veils of process 1, as far as letters go, and gets no promise but error, those of the
+# first ones, and those that were handed down.
 sub beyond_state {
-    my ($first, $list) = @_;
+    my ($world, $list) = @_;
+    my $first = $world->{nows}[0];
     return if !Lists::is_alive($list);
     return "can put veils again" if !Lists::is_confined($list);
     return "has other veils" if "@{ [ letters($first) ] }" ne "@{ [ letters($list) ] }";
     my ($promises) = Lists::state_of($list, 'promises');
-    my @more = grep { $_ ne 'error' && $_ ne '=' && !Lists::holds($first, $_) && !Lists::hands_down($first, $_) }
-        split /,/, $promises;
+    my @more = grep { $_ ne 'error' && $_ ne '=' && !holders($world, $_) } split /,/, $promises;
     return @more ? "has further promises: @more" : undef;
 }
 
@@ -348,6 +433,12 @@ sub refusals {
         'pua: process 2 can still unveil', '--process', '2');
     is_refused('a process that was never made', { script => "1 unveil - -\n" }, 'pua: no such process',
         '--process', '2');
+    is_refused('two processes, one of which was never made,', { script => "1 unveil - -\n" }, 'pua: no such process',
+        '--process', '1,2');
+    is_refused('two processes, one of which can still unveil,', { script => "1 fork 2\n1 unveil - -\n" },
+        'pua: process 2 can still unveil', '--process', '1,2');
+    is_refused('two processes with other veils', { script => "1 fork 2\n2 unveil / r\n1 unveil - -\n2 unveil - -\n" },
+        'pua: processes 1 and 2 have other veils', '--process', 'all');
     for my $call (@NEED_C) {
         my $files = { script => "1 unveil - -\n", table => table_without_c($call) };
         is_refused("a table by which $call needs no c", $files, "pua: table: $call: no c", '--table', 'table');

@@ -94,7 +94,8 @@ sub wrong_row {
 sub is_left_out {
     my ($entry, @words) = @_;
     return 0 if !$is_plain;
-    return 1 if @words && $words[0] =~ /\A(?:why|tight)\z/;
+    return 1 if @words && $words[0] =~ /\A(?:why|tight|how)\z/;
+    return 1 if grep({ $_ eq '--ever' } @words) && grep { /\A(?:all|\d+(?:,\d+)+)\z/ } @words;
     return ($entry->{status} || 0) != 2 && grep { /\A--(?:table|rules|why)/ } @words;
 }
 

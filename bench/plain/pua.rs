@@ -1844,7 +1844,7 @@ fn perform(command: Command, words: &Words) -> Result<(), (u8, String)> {
 /// Those of the program beside which this one stands. Here no table is read.
 const USAGE: &str = "pua: usage: pua run [--table FILE] TREE SCRIPT; \
                      pua audit --limit N [--process P] [--base root|cwd] [--after CALL:PATH] [--table FILE] TREE SCRIPT [NAME...]";
-const OBJECTS_USAGE: &str = "pua: usage: pua objects [--ever|--why] [--process P|all] [--rules profile|openbsd] [--table FILE] TREE SCRIPT";
+const OBJECTS_USAGE: &str = "pua: usage: pua objects [--ever|--why] [--process P,...|all] [--rules profile|openbsd] [--table FILE] TREE SCRIPT";
 
 fn main() -> ExitCode {
     let words: Vec<String> = std::env::args().skip(1).collect();

@@ -1,5 +1,5 @@
-# A plain model of the list for ever, written from "All that can ever be touched" and "The same through execs" in
-# docs/DEFINITIONS.md. It asks a world of Model.pm. A cover is a text of letters, or undef where no veil covers.
+# A plain model of the list for ever, written from "All that can ever be touched", "The same through execs" and "What
+# several can touch together" in docs/DEFINITIONS.md. It asks a world of Model.pm. A cover is a text of letters, or undef where no veil covers.
 package EverModel;
 use strict;
 use warnings;
@@ -81,6 +81,31 @@ sub _let_through {
     return () if $path eq 'new' && grep { $_->{kind} eq $kind && !$passes->{ $_->{call} } } @NEW;
     my @left = grep { $passes->{$_} } split /,/, $calls;
     return @left ? "$kind $path " . join(',', @left) : ();
+}
+
+# A model in which process 0 stands for these that live ("What several can touch together" in docs/DEFINITIONS.md); it
+# has ended where none of them lives.
+sub joined {
+    my ($model, @numbers) = @_;
+    my @living = grep { !$_->{ended} } map { $model->{processes}{$_} } @numbers;
+    my $one = @living ? _joint($model, @living) : { ended => 1 };
+    return bless { %$model, processes => { %{ $model->{processes} }, 0 => $one } }, ref $model;
+}
+
+sub _joint {
+    my ($model, @living) = @_;
+    my $held  = _union(map { $_->{promises} } @living);
+    my $given = _union(map { lets($model, $_, 'exec') ? $_->{execpromises} : {} } @living);
+    my $open  = grep { !$_->{locked} } @living;
+    undef $given if $given && $open && grep { Model::_holds({ promises => $_ }, 'unveil') } $held, $given;
+    return { %{ $living[0] }, locked => 1, promises => $held, execpromises => $given };
+}
+
+# What one of some sets has; undef where one of them is.
+sub _union {
+    my (@sets) = @_;
+    return if grep { !$_ } @sets;
+    return { map { %$_ } @sets };
 }
 
 # --- Covers ---

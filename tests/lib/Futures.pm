@@ -13,9 +13,9 @@ my @EDITS = (
 my @LOOKS = qw(stat lstat readlink open-r open-w open-rw chmod chdir chdir chdir);
 
 # Draws from a generator of worlds. %$calls has each call that can ever be allowed on something: others are drawn
-# seldom, since a process mostly ends by them. %$holds says whether the processes hold proc and exec, and whether what
-# is started is bounded; whoever can't execute anything, or goes on then, tries it more often. The first child that is
-# forked has the number $child.
+# seldom, since a process mostly ends by them. %$holds says whether the processes hold proc and exec, whether what is
+# started is bounded, and whether they are several from the beginning; whoever can't execute anything, or goes on then,
+# tries it more often. The first child that is forked has the number $child.
 sub new {
     my ($class, $worlds, $calls, $holds, $child) = @_;
     my %may = map { $_ => 1 } keys %$calls;
@@ -55,11 +55,12 @@ sub _line {
     return "$asker " . $futures->_request(@calls ? $worlds->pick(@calls) : 'stat') . "\n";
 }
 
-# Whether who asks is let through by its promises. Where what is started is bounded, one holds what another lacks, and
-# ends by a call that only the other may do; else all of a family hold the same, as long as none gives up more.
+# Whether who asks is let through by its promises. Of several, and where what is started is bounded, one holds what
+# another lacks, and ends by a call that only the other may do; else all of a family hold the same, as long as none gives
+# up more.
 sub _may {
     my ($futures, $asker, $call) = @_;
-    return 1 if !$futures->{holds}{bounded};
+    return 1 if !$futures->{holds}{bounded} && !$futures->{holds}{several};
     my $model = $futures->{model};
     my @parts = $call =~ /\A(?:rename|link)\z/ ? ("old name of $call", "new name of $call") : $call;
     return !grep { !EverModel::lets($model, $model->{processes}{$asker}, $_) } @parts;

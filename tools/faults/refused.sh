@@ -31,6 +31,8 @@ printf '%s\n' '1 fork 2' '2 mkdir /n' '1 unveil /n rwc' '1 unveil /n/x =' '1 unv
     '1 pledge stdio,rpath,exec stdio,rpath' '2 rmdir /n' > gone
 printf '%s\n' '1 fork 2' '2 unveil /d rwc' '2 unveil /g rc' '2 unveil /n c' '2 unveil - -' > moves
 printf '%s\n' '1 pledge stdio,,rpath -' > list
+printf '%s\n' '1 unveil /d rwc' '1 unveil - -' '1 fork 2' '2 pledge stdio,rpath -' > both
+printf '%s\n' '1 unveil /d wc' '1 unveil /o rwc' '1 unveil - -' > drop
 printf '%s\n' '[chmod]' 'promises = ["fattr", "rpath"]' 'veil = "r"' 'stat = { promises = [""], veil = "" }' > nested
 printf '%s\n' 'stat = { promises = [""], veil = "" }' '[chmod]' 'promises = ["fattr", "rpath"]' 'veil = "r"' > calls
 printf '%s\n' 'unlink = { promises = ["cpath"], veil = "" }' > stays
@@ -94,6 +96,11 @@ sweep 'objects, and places that are gone' 0 objects tree gone
 sweep 'for ever' 0 objects --ever tree one
 sweep 'for ever, and what can be moved' 0 objects --ever --process 2 twice moves
 sweep 'for ever, and places that are gone' 0 objects --ever tree gone
+sweep 'for ever, two together' 0 objects --ever --process 1,2 twice both
+sweep 'for ever, all together' 0 objects --ever --process all twice both
+sweep 'a way' 0 how twice drop open-r /d/f
+sweep 'a way to what is made' 0 how twice drop stat new
+sweep 'what never comes' 0 how twice both open-r /k
 sweep 'a tightened script' 0 tight tree gone
 sweep 'a tightened script of a file with two names' 0 tight twice moves
 sweep 'what words are needed by' 0 tight --why tree gone

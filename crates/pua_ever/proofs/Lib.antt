@@ -34,6 +34,7 @@ pub mod Through
 pub mod Narrowed
 pub mod Lasts
 pub mod Together
+pub mod OneByOne
 pub mod Chosen
 pub mod ForCallers
 pub mod RowsTell

@@ -74,10 +74,11 @@ fn joint_after(table: &CallTable, joint: Joint, more: &[&Process]) -> Joint
     ensures { (before : AnyJoint) (hs : List History) → IsJoint joint before →
         AreStoodFor more.now hs → IsJoint result (joint_after table.now before hs) }
 {
-    match more.split_first() {
-        Some((process, rest)) => joint_after(table, joint.with(process, table), rest),
-        None => joint,
+    let mut joint = joint;
+    for process in more {
+        joint = joint.with(process, table);
     }
+    joint
 }
 
 /// What is handed down, if neither who holds these promises nor a program that is started can put a

@@ -11,11 +11,14 @@ use pua_objects::ObjectKind;
 
 /// What can be made.
 #[derive(Clone, Copy)]
-pub(crate) enum Made {
+pub enum Made {
+    /// A directory.
     Dir,
     /// The further names of such a directory.
     Others,
+    /// A file.
     File,
+    /// A link.
     Link,
 }
 
@@ -33,7 +36,7 @@ impl Made {
     }
 
     /// The call that makes it.
-    pub(crate) fn maker(self) -> Call
+    pub fn maker(self) -> Call
         ensures { result ≡ maker_of (new_of self) }
     {
         match self {

@@ -40,9 +40,10 @@ use pua_policy::{Cover, Object, Place, Process, judge};
 use pua_tree::{FileTree, Name, NodeId, OutOfMemory};
 use std::alloc::Global;
 
-/// What decides the calls of the lines, beside an item's own object and cover.
+/// What decides the calls of the lines of a list for ever, beside an item's own object and cover. It is
+/// of one tree, one process and one table, which are handed in again with each question.
 #[derive(Drop)]
-pub(crate) struct Prospects {
+pub struct Prospects {
     /// Whether the tree can change at all.
     may_edit: bool,
     /// Whether the promises of both of link's names are held.
@@ -54,8 +55,10 @@ pub(crate) struct Prospects {
     movable: Movable,
 }
 
-/// Finds what decides the calls of the lines. The only error is that a growth was refused.
-pub(crate) fn find_prospects<T: FileTree>(
+/// Finds what decides the calls of the lines of a process's list for ever, by a table of what calls need.
+/// What it decides is that list where `why_refused` has no reason against one. The only error is that a
+/// growth was refused.
+pub fn find_prospects<T: FileTree>(
     alloc: Global,
     tree: &T,
     process: &Process,
@@ -113,7 +116,7 @@ fn may_call(process: &Process, table: &CallTable) -> bool
 
 impl Prospects {
     /// The calls that can ever be allowed on what an item is about.
-    pub(crate) fn calls_on(&self, process: &Process, table: &CallTable, item: &Item<'_>) -> Calls
+    pub fn calls_on(&self, process: &Process, table: &CallTable, item: &Item<'_>) -> Calls
         ensures { (t : Tree) (h : History) (about : About) → WellFormed t → EditsNeedC table.now →
             StandsFor process.now h → IsProspects t table.now h self.now →
             SubjectFits t about → IsItemOn t h about item.now →
@@ -246,12 +249,7 @@ impl Prospects {
 
     /// The calls on the name at which an item stands, if it has a veil of its own and the item can
     /// be taken away; else none.
-    pub(crate) fn calls_on_freed(
-        &self,
-        process: &Process,
-        table: &CallTable,
-        item: &Item<'_>,
-    ) -> Calls
+    pub fn calls_on_freed(&self, process: &Process, table: &CallTable, item: &Item<'_>) -> Calls
         ensures { (t : Tree) (h : History) (about : About) → WellFormed t →
             StandsFor process.now h →
             IsProspects t table.now h self.now → SubjectFits t about → IsItemOn t h about item.now →
@@ -270,7 +268,7 @@ impl Prospects {
     }
 
     /// The calls on what can be made; none where it can't.
-    pub(crate) fn calls_on_made(&self, made: Made) -> Calls
+    pub fn calls_on_made(&self, made: Made) -> Calls
         ensures { (t : Tree) (table : Table) (h : History) → IsProspects t table h self.now →
             (call : AnyCall) →
             has result call ≡ ((edits_tree table h && can_make t table h (new_of made))

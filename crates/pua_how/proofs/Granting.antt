@@ -1,19 +1,14 @@
 -- Lines of a way that were granted, one line more, and the last one.
-use Rattle.std.proofs.Common.{◌≡◌, ℕ, true, false, List, [], ◌∷◌, ◌++◌, map, refl, sym, ap, subst, ◌∙◌}
+use Rattle.std.proofs.Common.{◌≡◌, ℕ, false, List, [], ◌∷◌, ◌++◌, map, refl, sym, subst, ◌∙◌}
 use Rattle.std.specs.List.{AllByRecursion}
 use Rattle.std.proofs.lemmas.List.{map-append}
-use Rattle.std.proofs.Common.{◌-◌}
-use Rattle.std.proofs.lemmas.Bool.{eqb-true}
-use Rattle.std.specs.Prelude.{◌==◌}
-use Rattle.pua_calls.specs.Calls.{CallTable, call_number}
-use Rattle.pua_calls.proofs.ForCallers.{same_bit}
+use Rattle.pua_calls.specs.Calls.{CallTable}
 use Rattle.pua_calls.specs.declared.call.Call.{Call}
 use Rattle.pua_script.specs.Requests.{Asked}
 use Rattle.pua_script.specs.Replay.{World, apply, answers_to, world_after}
 use Rattle.pua_script.specs.Family.{is_exec}
 use Rattle.pua_script.specs.Worlds.{WorldState, StandsForWorld, IsServed}
 use Rattle.pua_script.specs.declared.answer.Answer.TheVariants.{Okay}
-use Rattle.pua_how.specs.Ways.{IsWay, Reaches}
 use Rattle.pua_script.specs.declared.answer.Answer.{Answer}
 use Rattle.pua_how.specs.Served.{IsLine, AreGranted, IsCall, AreWay, asks_of}
 use Rattle.pua_how.specs.declared.line.WayLine.{WayLine}
@@ -40,12 +35,12 @@ told_more : (table : CallTable) (w : World) (asks : List Asked) (ask : Asked) �
 told_more table w [] ask all is = (is, tt)
 told_more table w (other ∷ asks) ask all is = (all.0, told_more table (apply table w other).1 asks ask all.1 is)
 
-left_more : (table : CallTable) (w : World) (asks : List Asked) (ask : Asked) →
+pub left_more : (table : CallTable) (w : World) (asks : List Asked) (ask : Asked) →
     world_after table w (asks ++ ask ∷ []) ≡ (apply table (world_after table w asks) ask).1
 left_more table w [] ask = refl
 left_more table w (other ∷ asks) ask = left_more table (apply table w other).1 asks ask
 
-asks_more : (lines : List WayLine) (line : WayLine) → asks_of (lines ++ line ∷ []) ≡ asks_of lines ++ line.request ∷ []
+pub asks_more : (lines : List WayLine) (line : WayLine) → asks_of (lines ++ line ∷ []) ≡ asks_of lines ++ line.request ∷ []
 asks_more lines line = map-append (λ one. one.request) lines (line ∷ [])
 
 module _ (before mid after : WorldState) (process : ℕ) (lines : List WayLine) (line : WayLine)
@@ -101,7 +96,3 @@ none_yet before process = record {
   left = λ w stands. stands;
   table = λ w stands. refl;
 }
-
--- two calls of one number are one
-pub same_number : (call other : Call) → (call_number other == call_number call) ≡ true → other ≡ call
-same_number call other e = same_bit other call (ap (λ n. n - 1) (eqb-true (call_number other) (call_number call) e))

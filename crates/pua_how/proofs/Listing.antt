@@ -5,7 +5,7 @@ use Rattle.std.proofs.lemmas.Bool.{and_parts, and_from, eqb-true, eq-eqb, false�
 use Rattle.std.specs.Prelude.{◌==◌, ◌&&◌, ◌||◌, nat_lt, is_some, is_none, option_map}
 use Rattle.std.specs.List.{Contains, list_any}
 use Rattle.pua_tree.specs.Names.{same_bytes}
-use Rattle.pua_tree.specs.Tree.{Tree, WellFormed, Node, is_dir, is_dir_kind, is_living, kind_at, look, node_at}
+use Rattle.pua_tree.specs.Tree.{Tree, WellFormed, Node, is_dir, is_dir_kind, is_living, kind_at, node_at}
 use Rattle.pua_tree.specs.declared.node.Kind.{Kind}
 use Rattle.pua_tree.specs.declared.node.Kind.TheVariants as kind
 use Rattle.pua_tree.proofs.ForCallers.{None≢Some, Some≢None, row_says, sound_from}
@@ -17,9 +17,8 @@ use Rattle.pua_calls.specs.declared.call.Call.{Call}
 use Rattle.pua_policy.specs.History.{History, perms_kept}
 use Rattle.pua_policy.specs.declared.place.Place.{Place}
 use Rattle.pua_policy.specs.declared.place.Place.TheVariants as place
-use Rattle.pua_objects.specs.Objects.{At, Others, own_way}
 use Rattle.pua_objects.proofs.ForCallers.{Among, among_contained}
-use Rattle.pua_ever.specs.Ever.{EverLine, Thing, Stands}
+use Rattle.pua_ever.specs.Ever.{EverLine, Thing}
 use Rattle.pua_ever.specs.Laws.{IsLineOf, of_dir, of_row, of_name, of_others, of_new_dir, of_new_file, of_new_link, of_new_others}
 use Rattle.pua_how.specs.Targets.{is_of, is_about, is_file_kind, IsLast, IsGiven, has_call, line_has, is_listed}
 use Rattle.pua_how.specs.declared.target.Target.{Target}

@@ -1,5 +1,6 @@
 -- Worked rows on what is asked about, and on ways to it.
 use Rattle.std.specs.Prelude.{◌≡◌, ◌+◌, ℕ, true, false, [], ◌∷◌, Some, None, codes, refl}
+use Rattle.std.specs.Fmt.{digits}
 use Rattle.pua_tree.specs.Tree.{Tree, Node}
 use Rattle.pua_tree.specs.declared.node.Kind.TheVariants.{Dir, File}
 use Rattle.pua_path.specs.declared.found.Found.TheVariants.{Whole, Slot}
@@ -15,9 +16,16 @@ use Rattle.pua_path.specs.declared.errno.Errno.TheVariants.{EACCES}
 use Rattle.pua_script.specs.declared.answer.Answer.TheVariants.{Failed, Okay}
 use Rattle.pua_script.specs.declared.request.Action.{Action}
 use Rattle.pua_script.specs.declared.request.Action.TheVariants.{OnPath, Link}
+use Rattle.pua_objects.specs.declared.kind.ObjectKind.TheVariants as kind
 use Rattle.pua_ever.specs.Through.{ever_lasting}
+use Rattle.pua_how.specs.Asking.{Standing, Making, asking_of, targets_of}
 use Rattle.pua_how.specs.Targets.{is_listed, is_of}
+use Rattle.pua_how.specs.Steps.{comes, step_text}
 use Rattle.pua_how.specs.Ways.{IsWay}
+use Rattle.pua_how.specs.declared.step.At.{At}
+use Rattle.pua_how.specs.declared.step.At.TheVariants as at
+use Rattle.pua_how.specs.declared.step.Dir.TheVariants as dir
+use Rattle.pua_how.specs.declared.step.Step.TheVariants as step
 use Rattle.pua_how.specs.declared.target.Target.{Target}
 use Rattle.pua_how.specs.declared.target.Target.TheVariants as target
 
@@ -150,6 +158,35 @@ way_rows = record {
   of_another = λ target way. no_process way.own.0;
 }
 
+-- the lines of steps, and whether steps come to a call: a name is freed, and made
+abbrev pid_name : At
+pid_name = at.Name (dir.Standing 3) (codes "pid")
+
+abbrev conf_name : At
+conf_name = at.Name (dir.Standing 1) (codes "conf")
+
+pub record StepRows : Type 0 where
+  pub line : step_text pid_tree 1 0 (step.Link conf_name pid_name) ≡ codes "1 link /etc/conf /run/pid"
+  pub in_what_was_made : step_text pid_tree 1 3 (step.On call.Symlink (at.Name dir.Made (codes "x"))) ≡ codes "1 symlink target /run/x"
+  pub freed : comes standard_table 1 call.Create (target.Name 3 (codes "pid")) (step.On call.Unlink pid_name ∷ step.On call.Create pid_name ∷ [])
+      pid_world 0 ≡ true
+  pub not_freed : comes standard_table 1 call.Create (target.Name 3 (codes "pid")) (step.On call.Create pid_name ∷ []) pid_world 0 ≡ false
+  pub refused : comes standard_table 1 call.OpenWrite (target.Node 2) (step.On call.OpenWrite conf_name ∷ []) pid_world 0 ≡ false
+  pub another_call : comes standard_table 1 call.OpenRead (target.Node 2) (step.On call.Stat conf_name ∷ []) pid_world 0 ≡ false
+  pub no_step : comes standard_table 1 call.OpenRead (target.Node 2) [] pid_world 0 ≡ false
+
+pub step_rows : StepRows
+unfolding digits
+step_rows = record {
+  line = refl;
+  in_what_was_made = refl;
+  freed = refl;
+  not_freed = refl;
+  refused = refl;
+  another_call = refl;
+  no_step = refl;
+}
+
 -- lines of the list for ever about it that have a call: by OpenBSD's rules the file can come to be written, by a further name, and
 -- by the standard ones it can't; a name with a veil can come to be free
 pub record ListedRows : Type 0 where
@@ -160,3 +197,36 @@ pub record ListedRows : Type 0 where
 
 pub listed_rows : ListedRows
 listed_rows = record { by_link = refl; without_link = refl; of_the_name = refl; of_no_name = refl }
+
+-- what paths ask about
+pub record AskedRows : Type 0 where
+  pub root : asking_of (codes "/") ≡ Some (Standing [])
+  pub names : asking_of (codes "/etc/conf") ≡ Some (Standing (codes "etc" ∷ codes "conf" ∷ []))
+  pub made : asking_of (codes "new") ≡ Some Making
+  pub relative : asking_of (codes "etc") ≡ None
+  pub dots : asking_of (codes "/etc/../etc") ≡ None
+  pub slash_behind : asking_of (codes "/etc/") ≡ None
+  pub nothing : asking_of [] ≡ None
+  pub directory : targets_of pid_tree pid_history 4 (Standing (codes "run" ∷ [])) None ≡ target.Directory 3 ∷ target.Others 3 ∷ []
+  pub veiled_file : targets_of pid_tree pid_history 4 (Standing (codes "run" ∷ codes "pid" ∷ [])) None
+      ≡ target.Node 4 ∷ target.Name 3 (codes "pid") ∷ []
+  pub of_kind : targets_of pid_tree pid_history 4 (Standing (codes "run" ∷ codes "pid" ∷ [])) (Some kind.Missing)
+      ≡ target.Name 3 (codes "pid") ∷ []
+  pub further : targets_of pid_tree pid_history 4 (Standing (codes "run" ∷ codes "x" ∷ [])) None ≡ target.Others 3 ∷ []
+  pub behind_a_file : targets_of pid_tree pid_history 4 (Standing (codes "etc" ∷ codes "conf" ∷ codes "x" ∷ [])) None ≡ []
+
+pub asked_rows : AskedRows
+asked_rows = record {
+  root = refl;
+  names = refl;
+  made = refl;
+  relative = refl;
+  dots = refl;
+  slash_behind = refl;
+  nothing = refl;
+  directory = refl;
+  veiled_file = refl;
+  of_kind = refl;
+  further = refl;
+  behind_a_file = refl;
+}

@@ -1,5 +1,5 @@
 -- What contracts see of the lines of a way that were served so far.
-use Rattle.std.specs.Prelude.{◌≡◌, ℕ, true, false, List, map, Some, Ok, Option, IfSome, string_bytes}
+use Rattle.std.specs.Prelude.{◌≡◌, ℕ, false, List, map, Some, Ok, string_bytes}
 use Rattle.std.specs.List.{AllByRecursion}
 use Rattle.pua_calls.specs.declared.call.Call.{Call}
 use Rattle.pua_script.specs.Requests.{Asked}

@@ -1,6 +1,6 @@
 //! Laws and worked examples, each the contract of a function that does nothing.
 
-ghost use Rattle.pua_how.specs.Examples.{ListedRows, OfRows, WayRows};
+ghost use Rattle.pua_how.specs.Examples.{AskedRows, ListedRows, OfRows, StepRows, WayRows};
 ghost use Rattle.pua_how.specs.Laws.{NeverComes, NeverComesThrough, WaysAreListed};
 
 use pua_ever::{ever_law, through_law};
@@ -18,11 +18,13 @@ pub fn how_law()
     through_law();
 }
 
-/// Examples of what is asked about, and of ways.
-#[tactic(auto, using(crate::specs::Examples::of_rows, crate::specs::Examples::way_rows))]
+/// Examples of what is asked about, by a path too, of ways, and of steps that come to one.
+#[tactic(auto, using(crate::specs::Examples::of_rows, crate::specs::Examples::way_rows, crate::specs::Examples::step_rows, crate::specs::Examples::asked_rows))]
 pub fn how_examples()
     ensures of { OfRows }
     ensures ways { WayRows }
+    ensures steps { StepRows }
+    ensures asked { AskedRows }
 {}
 
 /// Examples of what the list for ever has of something.

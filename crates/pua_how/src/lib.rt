@@ -1,14 +1,21 @@
 //! Ways to what a process can ever touch: requests that are served one after another, up to a call.
 #![tactic(auto)]
 
+mod asking;
 mod laws;
 mod line;
+mod outlook;
+mod plan;
 mod serve;
 mod step;
 mod target;
+mod way;
 
+pub use asking::{Asking, Meant, find_meant};
 pub use laws::{how_examples, how_law, listed_examples};
 pub use line::WayLine;
+pub use outlook::{Outlook, find_outlook};
 pub use serve::serve_way;
 pub use step::{At, Dir, Step};
 pub use target::Target;
+pub use way::{BestPlans, Plan, find_plans};

@@ -1,7 +1,10 @@
 //! The lines of a way.
 
-ghost use Rattle.std.specs.Prelude.{◌≡◌, ℕ, IfOk, IfSome};
+ghost use Rattle.std.specs.Prelude.{◌≡◌, ◌++◌, ℕ, IfOk, IfSome, OnOk, option_map, string_bytes};
 ghost use Rattle.pua_how.specs.Served.{IsLine};
+ghost use Rattle.pua_how.specs.Steps.{action_text, made_behind, number_of, path_behind};
+ghost use Rattle.pua_how.specs.Steps.{request_of_step, step_text, target_behind};
+ghost use Rattle.pua_calls.specs.Calls.{call_name};
 
 use crate::step::{At, Dir, Step};
 use pua_calls::Call;
@@ -29,7 +32,9 @@ pub(crate) fn line_of<T: FileTree>(
     step: &Step,
     made: NodeId,
 ) -> Result<Option<WayLine>, OutOfMemory>
-    ensures { IfOk result (λ read. IfSome read (IsLine process)) }
+    ensures own { IfOk result (λ read. IfSome read (IsLine process)) }
+    ensures asked { IfOk result (λ read. option_map (λ line. line.request) read
+        ≡ request_of_step (T.content tree.now) process made step.now) }
 {
     let text = text_of(alloc, tree, process, step, made)?;
     match read_request(alloc, 1, text.as_bytes()) {
@@ -46,7 +51,10 @@ fn text_of<T: FileTree>(
     process: u32,
     step: &Step,
     made: NodeId,
-) -> Result<String, OutOfMemory> {
+) -> Result<String, OutOfMemory>
+    ensures { IfOk result (λ text. string_bytes text
+        ≡ step_text (T.content tree.now) process made step.now) }
+{
     let mut paths = TreePaths::new(alloc, tree)?;
     let mut text = String::new(alloc);
     write!(text, "{process} ")?;
@@ -60,7 +68,10 @@ fn push_step<T: FileTree>(
     text: &mut String,
     step: &Step,
     made: NodeId,
-) -> Result<(), AllocError> {
+) -> Result<(), AllocError>
+    ensures { OnOk result (string_bytes text.new
+        ≡ string_bytes text.old ++ action_text paths.old.tree made step.now) }
+{
     match step {
         Step::On(call, at) => {
             push_call(text, *call)?;
@@ -80,7 +91,10 @@ fn push_step<T: FileTree>(
 }
 
 /// Adds a call, and the target of a symlink.
-fn push_call(text: &mut String, call: Call) -> Result<(), AllocError> {
+fn push_call(text: &mut String, call: Call) -> Result<(), AllocError>
+    ensures { OnOk result (string_bytes text.new
+        ≡ string_bytes text.old ++ (call_name call ++ target_behind call)) }
+{
     text.push_str(call.name())?;
     if call == Call::Symlink {
         text.push_str(" target")?;
@@ -94,7 +108,11 @@ fn push_path<T: FileTree>(
     text: &mut String,
     at: &At,
     made: NodeId,
-) -> Result<(), AllocError> {
+) -> Result<(), AllocError>
+    ensures text { OnOk result (string_bytes text.new
+        ≡ string_bytes text.old ++ path_behind paths.old.tree made at.now) }
+    ensures tree { paths.new.tree ≡ paths.old.tree }
+{
     text.push_str(" ")?;
     match at {
         At::Directory(dir) => paths.push_dir(text, *dir),
@@ -103,7 +121,9 @@ fn push_path<T: FileTree>(
 }
 
 /// The number of a directory.
-fn number(dir: Dir, made: NodeId) -> NodeId {
+fn number(dir: Dir, made: NodeId) -> NodeId
+    ensures { result ≡ number_of dir made }
+{
     match dir {
         Dir::Standing(id) => id,
         Dir::Made => made,
@@ -111,7 +131,9 @@ fn number(dir: Dir, made: NodeId) -> NodeId {
 }
 
 /// The directory that was made last, once a step was served.
-pub(crate) fn made_by<T: FileTree>(tree: &T, step: &Step, made: NodeId) -> NodeId {
+pub(crate) fn made_by<T: FileTree>(tree: &T, step: &Step, made: NodeId) -> NodeId
+    ensures { result ≡ made_behind (T.content tree.now) made step.now }
+{
     match step {
         Step::On(Call::Mkdir, At::Name(dir, name)) => {
             tree.look(number(*dir, made), name).unwrap_or(made)

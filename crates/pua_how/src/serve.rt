@@ -1,12 +1,15 @@
 //! Serving the steps of a plan, up to the call that is asked for.
 
-ghost use Rattle.std.specs.Prelude.{◌≡◌, ◌==◌, IfOk, IfSome, option_map, true};
-ghost use Rattle.pua_calls.specs.Calls.{call_number};
+ghost use Rattle.std.specs.Prelude.{◌≡◌, ◌++◌, ◌∷◌, [], IfOk, IfSome, is_some, option_map, true};
+ghost use Rattle.pua_calls.specs.declared.call.Call.{Call as AnyCall};
 ghost use Rattle.pua_path.specs.Resolution.{resolution_of_text};
-ghost use Rattle.pua_how.specs.Served.{AreGranted, AreWay, IsCall};
+ghost use Rattle.pua_how.specs.Served.{AreGranted, AreWay, IsCall, asks_of};
+ghost use Rattle.pua_how.specs.Steps.{comes, is_some_by, is_the_call, reaches as comes_to};
 ghost use Rattle.pua_how.specs.Ways.{Reaches, call_of as asked_for};
+ghost use Rattle.pua_how.specs.declared.step.Step.{Step as AnyStep};
+ghost use Rattle.pua_how.specs.declared.target.Target.{Target as Thing};
 ghost use Rattle.pua_script.specs.Family.{is_exec as is_an_exec};
-ghost use Rattle.pua_script.specs.Replay.{World as Replayed};
+ghost use Rattle.pua_script.specs.Replay.{World as Replayed, world_after};
 ghost use Rattle.pua_script.specs.Worlds.{IsServed, StandsForWorld, WorldState};
 
 use crate::line::{WayLine, line_of, made_by};
@@ -28,8 +31,9 @@ struct Served {
 
 /// Serves the steps of a plan for the process of a number: a way to a call on what is asked about, if
 /// each of them is answered `ok`, none but the last is an exec, and the last is that call, on a path that
-/// names what is asked about when it is served. None where it is not, and where there are no steps. After
-/// None, and after the error that a growth was refused, the world has served some of the steps or none.
+/// names what is asked about when it is served. None exactly where this is not so: where a step has no
+/// line, say, since its path would be too long, and where there are no steps. After None, and after the
+/// error that a growth was refused, the world has served some of the steps or none.
 /// What is answered `ok` is this profile's, as a script's lines are (`World::apply`).
 pub fn serve_way<T: FileTree>(
     alloc: Global,
@@ -39,8 +43,10 @@ pub fn serve_way<T: FileTree>(
     target: &Target,
     steps: &[Step],
 ) -> Result<Option<Vec<WayLine>>, OutOfMemory>
-    ensures { IfOk result (λ served. IfSome served
+    ensures way { IfOk result (λ served. IfSome served
         (λ lines. AreWay world.old process call target.now lines.items)) }
+    ensures found { IfOk result (λ served. (w : Replayed) → StandsForWorld world.old w →
+        is_some served ≡ comes world.old.table process call target.now steps.now w 0) }
 {
     let Some((last, first)) = steps.split_last() else {
         return Ok(None);
@@ -61,9 +67,11 @@ fn serve_last<T: FileTree>(
     step: &Step,
     served: Served,
 ) -> Result<Option<Vec<WayLine>>, OutOfMemory>
-    ensures { (before : WorldState) → AreGranted before process served.lines.items world.old →
+    ensures way { (before : WorldState) → AreGranted before process served.lines.items world.old →
         IfOk result (λ found. IfSome found
         (λ lines. AreWay before process call target.now lines.items)) }
+    ensures found { IfOk result (λ found. (w : Replayed) → StandsForWorld world.old w →
+        is_some found ≡ comes world.old.table process call target.now (step.now ∷ []) w served.made) }
 {
     let line = line_of(alloc, world.tree(), process, step, served.made)?;
     let Some(line) = line else {
@@ -87,8 +95,13 @@ fn serve_first<T: FileTree>(
     process: u32,
     steps: &[Step],
 ) -> Result<Option<Served>, OutOfMemory>
-    ensures { IfOk result (λ served. IfSome served
+    ensures granted { IfOk result (λ served. IfSome served
         (λ served. AreGranted world.old process served.lines.items world.new)) }
+    ensures on { IfOk result (λ served. (w : Replayed) → StandsForWorld world.old w →
+        (call : AnyCall) (target : Thing) (last : AnyStep) →
+        comes world.old.table process call target (steps.now ++ last ∷ []) w 0
+        ≡ is_some_by (λ s. comes world.old.table process call target (last ∷ [])
+        (world_after world.old.table w (asks_of s.lines.items)) s.made) served) }
 {
     let mut lines = Vec::new(alloc);
     let mut made = NodeId::ROOT;
@@ -134,22 +147,17 @@ fn is_asked<T: FileTree>(
     target: &Target,
     request: &Request,
 ) -> bool
-    ensures { result ≡ true → IsCall world.now number call target.now request.now }
+    ensures call { result ≡ true → IsCall world.now number call target.now request.now }
+    ensures exact { (w : Replayed) → StandsForWorld world.now w →
+        result ≡ is_the_call number call target.now w request.now.action }
 {
     let Some((asked, path)) = call_of(request.action()) else {
         return false;
     };
-    if !is_same(asked, call) {
+    if asked != call {
         return false;
     }
     reaches(world, number, call, target, path)
-}
-
-/// Whether two calls are the same.
-fn is_same(one: Call, other: Call) -> bool
-    ensures { result ≡ (call_number one == call_number other) }
-{
-    one.number() == other.number()
 }
 
 /// The call that an action asks for, and its path, if it has one path.
@@ -171,8 +179,10 @@ fn reaches<T: FileTree>(
     target: &Target,
     path: &PathBytes,
 ) -> bool
-    ensures { result ≡ true → (w : Replayed) → StandsForWorld world.now w →
+    ensures named { result ≡ true → (w : Replayed) → StandsForWorld world.now w →
         Reaches w number call target.now path.now }
+    ensures exact { (w : Replayed) → StandsForWorld world.now w →
+        result ≡ comes_to number call target.now w path.now }
 {
     let Some(process) = world.process(number) else {
         return false;

@@ -1,6 +1,6 @@
 //! Wrong bodies of `pua_words`.
 
-use pua_words::{Processes, Stop, Text, UsageLine, read_words};
+use pua_words::{Members, Processes, Stop, Text, UsageLine, read_words};
 use std::alloc::Global;
 
 /// No process has the number 0.
@@ -10,6 +10,19 @@ fn process_0_taken(alloc: Global, words: &[&str]) {
     };
     if let Text::Objects(words) = command.text
         && let Processes::One(0) = words.processes
+    {
+        unreachable!()
+    }
+}
+
+/// Nor has one of several that are named.
+fn process_0_among_several(alloc: Global, words: &[&str]) {
+    let Ok(command) = read_words(alloc, words) else {
+        return;
+    };
+    if let Text::Together(words) = &command.text
+        && let Members::Named(numbers) = &words.members
+        && let Some(0) = numbers.last()
     {
         unreachable!()
     }
@@ -53,6 +66,25 @@ fn why_line_for_objects() {
 /// To ask for a script with fewer rights has a line of its own.
 fn program_line_for_tight(alloc: Global) {
     if let Err(Stop::Usage(UsageLine::Program)) = read_words(alloc, &["tight"]) {
+        unreachable!()
+    }
+}
+
+/// To ask for a way has a line of its own.
+fn program_line_for_how(alloc: Global) {
+    if let Err(Stop::Usage(UsageLine::Program)) = read_words(alloc, &["how"]) {
+        unreachable!()
+    }
+}
+
+/// No process has the number 0, nor one of which a way is asked for.
+fn process_0_has_a_way(alloc: Global, words: &[&str]) {
+    let Ok(command) = read_words(alloc, words) else {
+        return;
+    };
+    if let Text::How(words) = command.text
+        && words.process == 0
+    {
         unreachable!()
     }
 }

@@ -10,6 +10,8 @@ pub mod ItemLines
 pub mod OneByOne
 pub mod KeptPaths
 pub mod EverLines
+pub mod MembersNext
+pub mod TogetherList
 pub mod OpeningLines
 pub mod States
 pub mod StateLaw

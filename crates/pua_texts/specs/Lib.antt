@@ -4,6 +4,7 @@ pub mod Openings
 pub mod States
 pub mod ObjectLines
 pub mod EverLines
+pub mod TogetherLines
 pub mod WhyLines
 -- Notes: what the code has of lists, what a writing leaves, and what is put at once.
 pub mod Lists
@@ -11,6 +12,7 @@ pub mod ColumnsState
 pub mod ListLines
 pub mod VeilDates
 pub mod WhyLists
+pub mod Members
 pub mod Tells
 pub mod Blocks
 pub mod Copied

@@ -66,12 +66,18 @@ openings_told Openbsd span h = opening_lines (keywords_of (opening_set span h))
 abbrev pub unveiled_line : History → List ℕ
 unveiled_line h = if has_veil (veils h) then [] else with_end (codes "no veils")
 
+-- by which rules, what a process holds, and whether it may put veils
+abbrev pub held_lines : Rules → History → List ℕ
+held_lines rules h = rules_line rules ++ with_end (codes "promises " ++ pledged_text (pledged_set h))
+    ++ with_end (codes "execpromises " ++ pledged_text (held_for_exec h)) ++ with_end (codes "unveil " ++ unveil_word h)
+
+-- what becomes of a list for ever at an exec, what promises open by themselves, and that there is no veil
+abbrev pub bound_lines : Rules → Span → History → List ℕ
+bound_lines rules span h = execs_told span ++ openings_told rules span h ++ unveiled_line h
+
 -- the lines of a living process before those of its veils
 abbrev pub living_lines : Heading → History → List ℕ
-living_lines head h = with_end (codes "process alive") ++ rules_line head.rules
-    ++ with_end (codes "promises " ++ pledged_text (pledged_set h))
-    ++ with_end (codes "execpromises " ++ pledged_text (held_for_exec h)) ++ with_end (codes "unveil " ++ unveil_word h)
-    ++ execs_told head.span ++ openings_told head.rules head.span h ++ unveiled_line h
+living_lines head h = with_end (codes "process alive") ++ held_lines head.rules h ++ bound_lines head.rules head.span h
 
 -- an ended process has one line
 abbrev pub own_lines : Heading → History → List ℕ

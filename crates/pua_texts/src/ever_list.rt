@@ -63,7 +63,10 @@ pub fn write_ever<'t, T: FileTree, S: Sink>(
 }
 
 /// The lines of these rows. The only error is that a growth was refused.
-fn ever_lines<'t>(alloc: Global, rows: &[EverRow<'t>]) -> Result<Vec<ListLine<'t>>, OutOfMemory>
+pub(crate) fn ever_lines<'t>(
+    alloc: Global,
+    rows: &[EverRow<'t>],
+) -> Result<Vec<ListLine<'t>>, OutOfMemory>
     ensures { IfOk result (λ lines. (t : Tree) (told : List Told) →
         AreEverTold t [] rows.now told [] → lines_text plain [] lines.items ≡ ever_lines t told) }
 {

@@ -1,6 +1,6 @@
 //! What stands before the lines of a list: its heading, and the state of its process.
 
-ghost use Rattle.std.specs.Prelude.{◌≡◌, ◌++◌, IfOk, map};
+ghost use Rattle.std.specs.Prelude.{◌≡◌, ◌++◌, IfOk, map, string_bytes};
 ghost use Rattle.pua_policy.specs.History.{History, StandsFor};
 ghost use Rattle.pua_texts.specs.Blocks.{PassesOn};
 ghost use Rattle.pua_texts.specs.ListLines.{head_text};
@@ -53,6 +53,16 @@ impl<'t> ProcessHead<'t> {
         };
         let veils = veils_of_living(alloc, process)?;
         Ok(ProcessHead { text, veils })
+    }
+
+    /// This text, and these veils.
+    pub(crate) fn of(text: String, veils: Vec<(&'t Place, &'t Perms)>) -> ProcessHead<'t>
+        ensures { result ≡ record {
+          text = string_bytes text;
+          veils = map (λ veil. (veil.0.now, veil.1.now)) veils.entry.items;
+        } }
+    {
+        ProcessHead { text, veils }
     }
 
     /// Adds the heading and the state to a block.

@@ -2,7 +2,8 @@
 
 ghost use Rattle.std.specs.Prelude.{◌≡◌, ◌++◌, IfOk, OnOk, string_bytes};
 ghost use Rattle.pua_policy.specs.History.{History, StandsFor};
-ghost use Rattle.pua_texts.specs.States.{execs_told, heading_line, living_lines, opening_set};
+ghost use Rattle.pua_texts.specs.States.{bound_lines, execs_told, heading_line, held_lines};
+ghost use Rattle.pua_texts.specs.States.{living_lines, opening_set};
 ghost use Rattle.pua_texts.specs.States.{openings_told, own_lines, pledged_text, rules_line, title_of};
 ghost use Rattle.pua_texts.specs.States.{unveil_word, unveiled_line};
 ghost use Rattle.pua_texts.specs.Lines.{with_end};
@@ -93,15 +94,44 @@ fn push_living(
     ensures { OnOk result ((h : History) → StandsFor process.now h →
         string_bytes text.new ≡ string_bytes text.old ++ living_lines heading h) }
 {
+    push_line(text, "process ", "alive")?;
+    push_held(alloc, text, heading.rules, process)?;
+    push_bounds(alloc, text, heading.rules, heading.span, process)
+}
+
+/// Adds by which rules it is, what a process holds, and whether it may put veils. The only error is that
+/// a growth was refused.
+pub(crate) fn push_held(
+    alloc: Global,
+    text: &mut String,
+    rules: Rules,
+    process: &Process,
+) -> Result<(), AllocError>
+    ensures { OnOk result ((h : History) → StandsFor process.now h →
+        string_bytes text.new ≡ string_bytes text.old ++ held_lines rules h) }
+{
     let promises = spelled_promises(alloc, process.promises())?;
     let execpromises = spelled_promises(alloc, process.execpromises())?;
-    push_line(text, "process ", "alive")?;
-    push_rules(text, heading.rules)?;
+    push_rules(text, rules)?;
     push_line(text, "promises ", promises.as_str())?;
     push_line(text, "execpromises ", execpromises.as_str())?;
-    push_line(text, "unveil ", unveil_state(process))?;
-    push_execs(text, heading.span)?;
-    push_opened(alloc, text, heading, process)?;
+    push_line(text, "unveil ", unveil_state(process))
+}
+
+/// Adds what becomes of a list for ever at an exec, what promises open by themselves, and that there is
+/// no veil. The only error is that a growth was refused.
+pub(crate) fn push_bounds(
+    alloc: Global,
+    text: &mut String,
+    rules: Rules,
+    span: Span,
+    process: &Process,
+) -> Result<(), AllocError>
+    ensures { OnOk result ((h : History) → StandsFor process.now h →
+        string_bytes text.new ≡ string_bytes text.old ++ bound_lines rules span h) }
+{
+    push_execs(text, span)?;
+    push_opened(alloc, text, rules, span, process)?;
     push_unveiled(text, process)
 }
 
@@ -130,15 +160,16 @@ fn push_execs(text: &mut String, span: Span) -> Result<(), AllocError>
 fn push_opened(
     alloc: Global,
     text: &mut String,
-    heading: Heading,
+    rules: Rules,
+    span: Span,
     process: &Process,
 ) -> Result<(), AllocError>
-    ensures { OnOk result ((h : History) → StandsFor process.now h → string_bytes text.new
-        ≡ string_bytes text.old ++ openings_told heading.rules heading.span h) }
+    ensures { OnOk result ((h : History) → StandsFor process.now h →
+        string_bytes text.new ≡ string_bytes text.old ++ openings_told rules span h) }
 {
-    match heading.rules {
+    match rules {
         Rules::Profile => Ok(()),
-        Rules::Openbsd => push_openings(alloc, text, opening_promises(heading.span, process)),
+        Rules::Openbsd => push_openings(alloc, text, opening_promises(span, process)),
     }
 }
 

@@ -1,30 +1,35 @@
 -- What a tightened script that was written is.
-use Rattle.pua_tool.proofs.Common.{◌≡◌, ◌≢◌, ◌∙◌, ℕ, List, ap, map, refl, sym, subst, Err, Ok, Option, Some, None, Result, ◌>>=◌, Tree, listing}
-use Rattle.pua_tool.proofs.Common.{CallTable, Asked, script, World, new_world, answers_to, world_after, answer_lines, Chosen, Replayed}
-use Rattle.pua_tool.proofs.Common.{replay_of, table_by, as_listing, as_script, ToolFault, History}
+use Rattle.pua_tool.proofs.Common.{◌≡◌, ◌∙◌, ℕ, List, ap, refl, sym, subst, Err, Ok, Option, Some, None, Result, ◌>>=◌, Tree, listing}
+use Rattle.pua_tool.proofs.Common.{CallTable, Asked, script, World, new_world, answers_to, world_after, answer_lines, Chosen}
+use Rattle.pua_tool.proofs.Common.{table_by, as_listing, as_script, History}
 use Rattle.std.specs.Prelude.{is_some}
 use Rattle.pua_tree.proofs.ForCallers.{same_Ok}
 use Rattle.pua_calls.specs.Calls.{table_by_rules}
-use Rattle.pua_script.specs.declared.answer.Answer.TheVariants.{Okay}
+use Rattle.pua_calls.specs.Tables.{NoCallNeedsError}
+use Rattle.pua_script.proofs.ForCallers.{replays_keep_byte_trees, listings_list_byte_trees, scripts_ask_in_bytes}
 use Rattle.pua_script.specs.declared.fault.ScriptFault.{ScriptFault}
 use Rattle.pua_tight.specs.Narrower.{AsksWithin, HistoryWithin, WorldWithin}
 use Rattle.pua_tight.specs.Tight.{Line, lines_of, tight}
 use Rattle.pua_tight.specs.Texts as texts
-use Rattle.pua_tight.specs.Laws.{IsTightened, IsScriptOfLines, LeavesOut, MayLeaveOut, RestsOnOne, leave_out}
+use Rattle.pua_tight.specs.Laws.{IsTightened, IsScriptOfLines, RestsOnOne}
 use Rattle.pua_tight.proofs.ForCallers.{tightens, scripts_are_tightened, tight_is_minimal, tight_is_least, rules_rest, tight_texts_are_read}
 use Rattle.pua_tight.proofs.ForCallers.{FoundWithin, never, made, found_within, allows_no_more, futures_within, ended_alike, lists_no_more}
+use Rattle.pua_tight.proofs.ForCallers.{lists_no_more_for_ever, lasts_no_more}
 use Rattle.pua_tool.specs.Texts.{run_text}
 use Rattle.pua_tool.specs.TightTexts.{as_tight, tight_text}
 use Rattle.pua_tool.specs.Fewest.{MayDoNoMore, LeavesNoMore, IsTightWritten, TightAsWritten}
 use Rattle.pua_tool.proofs.Replays.{replayed_is}
+use Rattle.pua_tool.proofs.Tables.{tables_need_no_error}
 
 -- a process whose events lie within those of another
-may_do_no_more : (table : CallTable) → (less given : History) → HistoryWithin less given →
+may_do_no_more : (table : CallTable) → NoCallNeedsError table → (less given : History) → HistoryWithin less given →
     MayDoNoMore table less given
-may_do_no_more table less given inside = record {
+may_do_no_more table sound less given inside = record {
   ended = ended_alike inside;
   calls = allows_no_more table less given inside;
   listed = lists_no_more table less given inside;
+  ever = lists_no_more_for_ever table less given inside;
+  lasting = lasts_no_more table sound less given inside;
 }
 
 -- what two worlds have of one number, where one lies within the other
@@ -39,13 +44,13 @@ both_within (made {h = g} {k = l} inside) h k here there =
     let outer : l ≡ k = cc in
     subst (λ (events : History). HistoryWithin events k) inner (subst (HistoryWithin g) outer inside)
 
-leaves_no_more : (table : CallTable) → (less given : World) → WorldWithin less given →
+leaves_no_more : (table : CallTable) → NoCallNeedsError table → (less given : World) → WorldWithin less given →
     LeavesNoMore table less given
-leaves_no_more table less given inside = record {
+leaves_no_more table sound less given inside = record {
   tree = inside.tree;
   made = λ process. made_alike (found_within inside.histories process);
   processes = λ process h k here there.
-      may_do_no_more table h k (both_within (found_within inside.histories process) h k here there);
+      may_do_no_more table sound h k (both_within (found_within inside.histories process) h k here there);
 }
 
 -- a text of a script without a fault
@@ -99,6 +104,9 @@ module _ (choice : Chosen) (tree_bytes script_bytes : List ℕ) (table : CallTab
       let replayed = replayed_is choice tree_bytes bytes table t asks chosen (ap as_listing listed) (ap as_script is) in
       λ i. replayed i >>= λ done. Ok (answer_lines 1 done.answers)
 
+  sound : NoCallNeedsError table
+  sound = tables_need_no_error choice table chosen
+
   inner : WorldWithin (world_after table w left) (world_after table w given)
   inner = subst (λ (asks : List Asked). WorldWithin (world_after table w left) (world_after table w asks)) is_script.asks is_tight.narrower
 
@@ -108,11 +116,13 @@ module _ (choice : Chosen) (tree_bytes script_bytes : List ℕ) (table : CallTab
     read = read;
     within = subst (λ (asks : List Asked). AsksWithin left asks) is_script.asks is_tight.within;
     same = run_is text left read ∙ ap (λ answers. Ok (answer_lines 1 answers)) same_answers ∙ sym (run_is script_bytes given scripted);
-    narrower = leaves_no_more table (world_after table w left) (world_after table w given) inner;
+    well = (replays_keep_byte_trees table w given (listings_list_byte_trees tree_bytes t listed)
+        (scripts_ask_in_bytes script_bytes given scripted)).tree;
+    narrower = leaves_no_more table sound (world_after table w left) (world_after table w given) inner;
     futures = λ later granted.
         let behind = futures_within table (world_after table w left) (world_after table w given) later inner granted in (
           behind.0,
-          leaves_no_more table (world_after table (world_after table w left) later)
+          leaves_no_more table sound (world_after table (world_after table w left) later)
               (world_after table (world_after table w given) later) behind.1,
         );
     minimal = λ index piece may some alike.

@@ -9,5 +9,8 @@ pub mod Written
 pub mod Stops
 pub mod Ends
 pub mod WhyTexts
+pub mod HowTexts
+pub mod ActingNext
+pub mod TogetherTexts
 pub mod TightTexts
 pub mod Fewest

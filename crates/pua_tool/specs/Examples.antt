@@ -1,7 +1,8 @@
 -- Worked examples of whole texts.
-use Rattle.std.specs.Prelude.{◌≡◌, ℕ, List, [], ◌∷◌, None, Some, Ok, Err, codes, refl}
+use Rattle.std.specs.Prelude.{◌≡◌, ℕ, List, [], ◌∷◌, None, Some, Result, Ok, Err, codes, refl}
 use Rattle.std.specs.Fmt.{digits}
 use Rattle.pua_tree.specs.Examples.{text_of_lines}
+use Rattle.pua_tree.specs.Steps.{◌>>=◌}
 use Rattle.pua_tree.specs.declared.fault.ListingFault.TheVariants.{BadLine}
 use Rattle.pua_path.specs.Traces.{trace_from}
 use Rattle.pua_calls.specs.declared.rules.Rules.TheVariants.{Openbsd}
@@ -9,13 +10,17 @@ use Rattle.pua_script.specs.declared.fault.ScriptFault.TheVariants.{BadCall}
 use Rattle.pua_audit.specs.declared.base.Base.TheVariants.{Root, Cwd}
 use Rattle.pua_audit.specs.declared.fault.AuditFault.TheVariants.{BadResume}
 use Rattle.pua_why.specs.Texts.{promises_text}
+use Rattle.pua_words.specs.declared.command.Members.TheVariants as members
 use Rattle.pua_words.specs.declared.command.Processes.TheVariants.{One, All}
 use Rattle.pua_tool.specs.Texts.{Chosen, Wanted, by_standard, replay_of, run_text, audit_text}
 use Rattle.pua_tool.specs.ObjectTexts.{objects_text}
 use Rattle.pua_tool.specs.EverTexts.{ever_text}
+use Rattle.pua_tool.specs.TogetherTexts.{together_text}
+use Rattle.pua_tool.specs.HowTexts.{question_of, way_text}
 use Rattle.pua_tool.specs.WhyTexts.{objects_why_text, posed_script, run_why_text, why_text}
 use Rattle.pua_tool.specs.TightTexts.{tight_text, tight_why_text, words_by}
-use Rattle.pua_tool.specs.declared.fault.ToolFault.TheVariants.{Listing, Script, NoProcess, Audit}
+use Rattle.pua_tool.specs.declared.fault.ToolFault.{ToolFault}
+use Rattle.pua_tool.specs.declared.fault.ToolFault.TheVariants.{Listing, Script, NoProcess, Audit, CanUnveil, OtherVeils, HowCall, HowPath, HowThing}
 
 abbrev pub root_listing : List ℕ
 root_listing = text_of_lines (codes "tree 1" ∷ codes "0 dir" ∷ [])
@@ -56,6 +61,12 @@ two_directories = text_of_lines (codes "tree 1" ∷ codes "0 dir" ∷ codes "1 d
 
 abbrev pub veiling_in_turn : List ℕ
 veiling_in_turn = text_of_lines (codes "1 unveil /d r" ∷ codes "1 fork 2" ∷ codes "2 unveil /e r" ∷ [])
+
+abbrev pub sharing : List ℕ
+sharing = text_of_lines (codes "1 fork 2" ∷ codes "1 fork 3" ∷ codes "1 pledge rpath -" ∷ codes "2 pledge cpath -" ∷ codes "3 exit" ∷ [])
+
+abbrev pub parting : List ℕ
+parting = text_of_lines (codes "1 unveil /d r" ∷ codes "1 fork 2" ∷ codes "2 unveil /e r" ∷ codes "1 unveil - -" ∷ codes "2 unveil - -" ∷ [])
 
 abbrev pub opening_past_veils : List ℕ
 opening_past_veils = text_of_lines (codes "1 unveil / =" ∷ codes "1 pledge stdio,dns -" ∷ [])
@@ -123,6 +134,13 @@ pub record TextRows : Type 0 where
   pub ever : ever_text by_standard root_listing pairing 7
       ≡ Ok (text_of_lines (codes "1 ok" ∷ codes "2 ok" ∷ codes "3 ok" ∷ codes "ever 7" ∷ codes "process alive" ∷ codes "promises ="
       ∷ codes "execpromises -" ∷ codes "unveil given-up" ∷ codes "no veils" ∷ []))
+  pub together : together_text by_standard root_listing sharing members.All
+      ≡ Ok (text_of_lines (codes "1 ok" ∷ codes "2 ok" ∷ codes "3 ok" ∷ codes "4 ok" ∷ codes "5 ok" ∷ codes "ever 1,2,3"
+      ∷ codes "process 1 alive" ∷ codes "promises rpath" ∷ codes "execpromises -" ∷ codes "unveil given-up"
+      ∷ codes "process 2 alive" ∷ codes "promises cpath" ∷ codes "execpromises -" ∷ codes "unveil given-up"
+      ∷ codes "process 3 ended" ∷ codes "no veils" ∷ codes "dir / stat,lstat,open-r,chdir" ∷ codes "other / mkdir,symlink"
+      ∷ codes "dir new stat,lstat,open-r,rmdir,chdir" ∷ codes "other new mkdir,symlink" ∷ codes "link new lstat,readlink,unlink" ∷ []))
+  pub other_veils : together_text by_standard two_directories parting members.All ≡ Err (OtherVeils 1 2)
   pub opened_past_veils : objects_text by_openbsd root_listing opening_past_veils (One 1)
       ≡ Ok (text_of_lines (codes "1 ok" ∷ codes "2 ok" ∷ codes "objects 1" ∷ codes "process alive" ∷ codes "rules openbsd"
       ∷ codes "promises dns,stdio" ∷ codes "execpromises -" ∷ codes "unveil given-up"
@@ -155,7 +173,7 @@ pub record TextRows : Type 0 where
   pub bad_resume : audit_text by_standard root_listing [] (record plain_job { after = Some (codes "stat:/nope") }) ≡ Err (Audit BadResume)
 
 pub text_rows : TextRows
-unfolding digits replay_of audit_text objects_text ever_text
+unfolding digits replay_of audit_text objects_text ever_text together_text
 text_rows = record {
   run = refl;
   run_of_no_lines = refl;
@@ -176,6 +194,8 @@ text_rows = record {
   all_objects = refl;
   beyond_link = refl;
   ever = refl;
+  together = refl;
+  other_veils = refl;
   opened_past_veils = refl;
   opened_by_veils = refl;
   unopened = refl;
@@ -224,3 +244,22 @@ pub record ReasonTextRows : Type 0 where
 pub reason_text_rows : ReasonTextRows
 unfolding digits trace_from promises_text posed_script why_text objects_why_text
 reason_text_rows = record { run_by_openbsd = refl; another_process = refl; dated_veils = refl }
+
+-- what is said where no way is found, and what refuses the question
+abbrev pub without_way : List ℕ → List ℕ → List ℕ → List ℕ → Result (List ℕ) ToolFault
+without_way tree_bytes script_bytes call path =
+    replay_of by_standard tree_bytes script_bytes
+    >>= λ done. question_of done (record { process = 1; call = call; path = path; kind = None }) 0
+    >>= λ q. Ok (way_text done q None)
+
+pub record HowTextRows : Type 0 where
+  pub never : without_way root_listing locking (codes "stat") (codes "/") ≡ Ok (text_of_lines (codes "never" ∷ []))
+  pub unfound : without_way root_listing veiling_script (codes "stat") (codes "/d") ≡ Ok (text_of_lines (codes "no way found" ∷ []))
+  pub can_unveil : without_way root_listing [] (codes "stat") (codes "/") ≡ Err (CanUnveil 1)
+  pub bad_call : without_way root_listing locking (codes "rename") (codes "/..") ≡ Err HowCall
+  pub bad_path : without_way root_listing locking (codes "stat") (codes "/..") ≡ Err HowPath
+  pub no_thing : without_way root_listing locking (codes "stat") (codes "/a/b") ≡ Err HowThing
+
+pub how_text_rows : HowTextRows
+unfolding replay_of
+how_text_rows = record { never = refl; unfound = refl; can_unveil = refl; bad_call = refl; bad_path = refl; no_thing = refl }

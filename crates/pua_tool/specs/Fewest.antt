@@ -1,7 +1,7 @@
 -- What the tightened script is that a command writes.
 use Rattle.std.specs.Prelude.{◌≡◌, ◌≢◌, ℕ, List, map, Some, None, Ok, is_some, IsTrue}
 use Rattle.std.specs.List.{Contains}
-use Rattle.pua_tree.specs.Tree.{Tree}
+use Rattle.pua_tree.specs.Tree.{Tree, WellFormed}
 use Rattle.pua_tree.specs.Listing.{listing}
 use Rattle.pua_calls.specs.Calls.{CallTable}
 use Rattle.pua_calls.specs.declared.call.Call.{Call}
@@ -12,20 +12,26 @@ use Rattle.pua_script.specs.Scripts.{script}
 use Rattle.pua_script.specs.Replay.{World, new_world, history_of, answers_to, world_after}
 use Rattle.pua_script.specs.declared.answer.Answer.TheVariants.{Okay}
 use Rattle.pua_objects.specs.Objects.{Line, objects}
+use Rattle.pua_ever.specs.Ever.{EverLine, ever}
+use Rattle.pua_ever.specs.Through.{bound_of, ever_lasting}
 use Rattle.pua_tight.specs.declared.piece.Piece.{Piece}
 use Rattle.pua_tight.specs.Tight.{lines_of}
 use Rattle.pua_tight.specs.Narrower.{AsksWithin}
-use Rattle.pua_tight.specs.Laws.{IsListed, LeavesOut, MayLeaveOut, leave_out}
+use Rattle.pua_tight.specs.Laws.{IsListed, IsListedForEver, LeavesOut, MayLeaveOut, leave_out}
 use Rattle.pua_tool.specs.Texts.{Chosen, run_text, table_by}
 use Rattle.pua_tool.specs.TightTexts.{tight_text}
 
 -- a process has ended where another has, and whatever is allowed to it is allowed to the other: over each tree each call on each
--- path, and of its list of objects each line with all of its calls
+-- path, and of its list of objects and of its lists for ever each line with all of its calls; of the one that is printed unless what
+-- it starts is bounded and what the other one starts is not
 pub record MayDoNoMore (table : CallTable) (less given : History) : Type 0 where
   pub ended : is_ended less ≡ is_ended given
   pub calls : (t : Tree) (call : Call) (text : List ℕ) → IsTrue (is_allowed (verdict_on t table less call text)) →
       IsTrue (is_allowed (verdict_on t table given call text))
   pub listed : (t : Tree) (line : Line) → Contains (objects t table less) line → IsListed t table given line
+  pub ever : (t : Tree) → WellFormed t → (line : EverLine) → Contains (ever t table less) line → IsListedForEver (ever t table given) line
+  pub lasting : (t : Tree) → WellFormed t → (bound_of table given ≡ None → bound_of table less ≡ None) →
+      (line : EverLine) → Contains (ever_lasting t table less) line → IsListedForEver (ever_lasting t table given) line
 
 -- one tree, and the same processes, each of which may do no more
 pub record LeavesNoMore (table : CallTable) (less given : World) : Type 0 where
@@ -42,7 +48,8 @@ pub record IsTightWritten (choice : Chosen) (tree_bytes script_bytes : List ℕ)
   pub within : AsksWithin left given
   -- its run has the same text
   pub same : run_text choice tree_bytes text ≡ run_text choice tree_bytes script_bytes
-  -- each process may do no more where it ends,
+  -- each process may do no more where it ends, in a tree that is well-formed,
+  pub well : WellFormed (world_after table (new_world t) given).tree
   pub narrower : LeavesNoMore table (world_after table (new_world t) left) (world_after table (new_world t) given)
   -- nor after whatever is asked then, as long as all of it is granted, which it then is behind the given script too
   pub futures : (later : List Asked) →

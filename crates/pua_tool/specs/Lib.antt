@@ -2,7 +2,9 @@
 pub mod Texts
 pub mod ObjectTexts
 pub mod EverTexts
+pub mod TogetherTexts
 pub mod WhyTexts
+pub mod HowTexts
 pub mod TightTexts
 pub mod Answers
 pub mod Statuses
@@ -18,3 +20,4 @@ pub mod Examples
 -- Notes: what the code has begun.
 pub mod Begun
 pub mod PosedScripts
+pub mod Questions

@@ -6,7 +6,8 @@ use Rattle.pua_words.specs.Commands.{AsksSoundly}
 use Rattle.pua_words.specs.Usages.{AsksAbout}
 use Rattle.pua_words.specs.declared.command.Command.{Command}
 use Rattle.pua_words.specs.declared.command.Text.{Text}
-use Rattle.pua_words.specs.declared.command.Text.TheVariants.{Run, RunWhy, Why, Audit, Objects, ObjectsWhy, Ever, Tight, TightWhy}
+use Rattle.pua_words.specs.declared.command.Text.TheVariants.{Run, RunWhy, Why, Audit, Objects, ObjectsWhy, Ever, Together}
+use Rattle.pua_words.specs.declared.command.Text.TheVariants.{How, Tight, TightWhy}
 use Rattle.pua_tool.specs.declared.fault.ToolFault.{ToolFault}
 use Rattle.pua_tool.specs.declared.fault.ToolFault.TheVariants.{Write, OutOfMemory}
 use Rattle.pua_tool.specs.declared.outcome.CommandFault.{CommandFault}
@@ -18,20 +19,26 @@ use Rattle.pua_tool.specs.Statuses.{status_of}
 use Rattle.pua_tool.specs.Texts.{Chosen, given_bytes, run_text, audit_text, wanted_by}
 use Rattle.pua_tool.specs.ObjectTexts.{objects_text}
 use Rattle.pua_tool.specs.EverTexts.{ever_text}
+use Rattle.pua_tool.specs.TogetherTexts.{together_text}
+use Rattle.pua_tool.specs.HowTexts.{IsHowText, way_wanted}
 use Rattle.pua_tool.specs.WhyTexts.{objects_why_text, run_why_text, why_text}
 use Rattle.pua_tool.specs.TightTexts.{tight_text, tight_why_text}
 
--- the text that is asked for, of a table, a listing and a script, or what refuses it
-abbrev pub text_asked : Text → Chosen → List ℕ → List ℕ → Result (List ℕ) ToolFault
-text_asked Run choice tree script = run_text choice tree script
-text_asked RunWhy choice tree script = run_why_text choice tree script
-text_asked (Why words) choice tree script = why_text choice tree script words.process (map (λ field. field.now) words.fields.items)
-text_asked (Audit words) choice tree script = audit_text choice tree script (wanted_by words)
-text_asked (Objects words) choice tree script = objects_text choice tree script words.processes
-text_asked (ObjectsWhy words) choice tree script = objects_why_text choice tree script words.processes
-text_asked (Ever words) choice tree script = ever_text choice tree script words.process
-text_asked Tight choice tree script = tight_text choice tree script
-text_asked TightWhy choice tree script = tight_why_text choice tree script
+-- this is the text that is asked for, of a table, a listing and a script, or what refuses it; of a way it is one of several, as which
+-- one is found is in no contract
+abbrev pub IsTextAsked : Text → Chosen → List ℕ → List ℕ → Result (List ℕ) ToolFault → Type 0
+IsTextAsked Run choice tree script answer = run_text choice tree script ≡ answer
+IsTextAsked RunWhy choice tree script answer = run_why_text choice tree script ≡ answer
+IsTextAsked (Why words) choice tree script answer =
+    why_text choice tree script words.process (map (λ field. field.now) words.fields.items) ≡ answer
+IsTextAsked (Audit words) choice tree script answer = audit_text choice tree script (wanted_by words) ≡ answer
+IsTextAsked (Objects words) choice tree script answer = objects_text choice tree script words.processes ≡ answer
+IsTextAsked (ObjectsWhy words) choice tree script answer = objects_why_text choice tree script words.processes ≡ answer
+IsTextAsked (Ever words) choice tree script answer = ever_text choice tree script words.process ≡ answer
+IsTextAsked (Together words) choice tree script answer = together_text choice tree script words.members ≡ answer
+IsTextAsked (How words) choice tree script answer = IsHowText choice tree script (way_wanted words) answer
+IsTextAsked Tight choice tree script answer = tight_text choice tree script ≡ answer
+IsTextAsked TightWhy choice tree script answer = tight_why_text choice tree script ≡ answer
 
 -- the table's bytes are held under its name, or no table is named and there are none
 abbrev pub HoldsTable : Held → Option (Bor (List ℕ)) → Option (List ℕ) → Type 0
@@ -48,7 +55,7 @@ pub record Asks (held : Held) (command : Command) (answer : Result (List ℕ) To
   pub table_held : HoldsTable held command.table table
   pub tree_held : Holds held command.tree.now tree
   pub script_held : Holds held command.script.now script
-  pub answers : text_asked command.text (record { rules = command.rules; rows = table }) tree script ≡ answer
+  pub answers : IsTextAsked command.text (record { rules = command.rules; rows = table }) tree script answer
 
 -- the whole text that is asked for was written
 pub record IsDone (held : Held) (command : Command) (old new : Option (List ℕ)) : Type 0 where

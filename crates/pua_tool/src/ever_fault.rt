@@ -20,7 +20,7 @@ pub(crate) fn fault_of(number: u32, fault: EverFault) -> ToolFault
 }
 
 /// Why there is no list for ever of the process with this number, as the tool reports it.
-fn reason_of(number: u32, reason: Refusal) -> ToolFault
+pub(crate) fn reason_of(number: u32, reason: Refusal) -> ToolFault
     ensures told { result ≡ ever_fault number reason }
     ensures unwritten { result ≢ ToolFault.Write }
 {

@@ -1,4 +1,5 @@
-//! Why runs, audits, lists of objects and tightened scripts are refused, each with the line that reports it.
+//! Why runs, audits, lists of objects, ways and tightened scripts are refused, each with the line that
+//! reports it.
 
 ghost use Rattle.std.specs.Prelude.{◌≡◌};
 ghost use Rattle.pua_tool.specs.Statuses.{status_of};
@@ -19,8 +20,8 @@ pub(crate) const OUT_OF_MEMORY: &str = "pua: out of memory";
 /// The line of a process that was never made, without its end.
 pub(crate) const NO_PROCESS: &str = "pua: no such process";
 
-/// Why the text of a run, of an audit, of a list of objects, of now or for ever, or of a tightened script
-/// was not written, or not whole. It is displayed as the line that the program prints.
+/// Why the text of a run, of an audit, of a list of objects, of now or for ever, of a way, or of a
+/// tightened script was not written, or not whole. It is displayed as the line that the program prints.
 #[derive(Clone, Copy, Debug, PartialEq, Eq, Error)]
 pub enum ToolFault {
     /// The tree's bytes are no listing.
@@ -61,6 +62,20 @@ pub enum ToolFault {
     /// The same of link(2), by its new name.
     #[error("pua: table: link: no c")]
     LinkLacksC,
+    /// There is no list of what the processes with these numbers can ever touch together: the second
+    /// has a veil on another place than the first, or other letters at one.
+    #[error("pua: processes {0} and {1} have other veils")]
+    OtherVeils(u32, u32),
+    /// What a way is asked for is none of the calls on one path.
+    #[error("pua: how: bad call")]
+    HowCall,
+    /// Where it is to lead is no path as a list for ever prints it.
+    #[error("pua: how: bad path")]
+    HowPath,
+    /// A name before the last one of the path is no directory's, or nothing there is of the kind that was
+    /// asked for.
+    #[error("pua: how: no such thing")]
+    HowThing,
 }
 
 impl ToolFault {

@@ -3,7 +3,7 @@
 
 ghost use Rattle.std.specs.Prelude.{◌≡◌};
 ghost use Rattle.pua_tool.specs.Alike.{AnswersAlike, LinesAlike};
-ghost use Rattle.pua_tool.specs.Examples.{ReasonTextRows, TextRows, TightTextRows};
+ghost use Rattle.pua_tool.specs.Examples.{HowTextRows, ReasonTextRows, TextRows, TightTextRows};
 ghost use Rattle.pua_tool.specs.Fewest.{TightAsWritten};
 ghost use Rattle.pua_tool.specs.Forever.{EverAsWritten};
 ghost use Rattle.pua_tool.specs.Futures.{Confinement, ConfinementAsRead, Narrowing};
@@ -14,11 +14,12 @@ ghost use Rattle.pua_script.specs.Tightening.{OthersLeave, OthersLeaveAlways};
 use pua_tree::FileTree;
 
 /// Examples of whole texts, and of what refuses them.
-#[tactic(auto, using(crate::specs::Examples::text_rows, crate::specs::Examples::reason_text_rows, crate::specs::Examples::tight_text_rows))]
+#[tactic(auto, using(crate::specs::Examples::text_rows, crate::specs::Examples::reason_text_rows, crate::specs::Examples::tight_text_rows, crate::specs::Examples::how_text_rows))]
 pub fn text_examples()
     ensures texts { TextRows }
     ensures reasons { ReasonTextRows }
     ensures tightened { TightTextRows }
+    ensures ways { HowTextRows }
 {}
 
 /// Narrowing ("Every future of a locked process" in docs/DEFINITIONS.md): over each tree the later

@@ -1,12 +1,14 @@
-//! Whole texts of runs, of audits, of lists of objects, of now and for ever, and of tightened scripts,
-//! or what refuses them, and the whole program as a function over its inputs.
+//! Whole texts of runs, of audits, of lists of objects, of now and for ever, of ways, and of tightened
+//! scripts, or what refuses them, and the whole program as a function over its inputs.
 #![tactic(auto)]
 
+mod acting;
 mod audit;
 mod cli;
 mod ever;
 mod ever_fault;
 mod fault;
+mod how;
 mod job;
 mod laws;
 mod objects;
@@ -21,12 +23,14 @@ mod status;
 mod table;
 mod tight;
 mod tight_why;
+mod together;
 mod why;
 
 pub use audit::{audit_by, audit_to};
 pub use cli::{command, program};
 pub use ever::ever_to;
 pub use fault::ToolFault;
+pub use how::how_to;
 pub use job::Job;
 pub use laws::{confined, ever_text_law, narrowing, text_examples, tight_text_law, trees_alike};
 pub use objects::objects_to;
@@ -37,7 +41,8 @@ pub use pua_io::{
 };
 pub use pua_texts::state_law;
 pub use pua_words::{
-    AuditWords, Command, EverWords, ObjectWords, Processes, Text, UsageLine, WhyWords,
+    AuditWords, Command, EverWords, HowWords, Members, ObjectWords, Processes, Text, TogetherWords,
+    UsageLine, WhyWords,
 };
 pub use run::{run_by, run_to};
 pub use run_why::run_why_to;
@@ -46,4 +51,5 @@ pub use status::{DEVICE, DONE, MEMORY, REFUSED, USAGE};
 pub use table::TableChoice;
 pub use tight::tight_to;
 pub use tight_why::tight_why_to;
+pub use together::together_to;
 pub use why::why_to;

@@ -1,12 +1,12 @@
 //! What a command asks for, done: its inputs are taken, and its text is written.
 
-ghost use Rattle.std.specs.Prelude.{◌≡◌, ◌≢◌, ◌≤◌, ◌⊎◌, OnOk, IfOk, IfErr};
+ghost use Rattle.std.specs.Prelude.{◌≡◌, ◌≢◌, ◌≤◌, ◌⊎◌, ℕ, List, Result, OnOk, IfOk, IfErr};
 ghost use Rattle.std.specs.Prelude.{option_map};
 ghost use Rattle.pua_io.specs.Held.{Holds};
 ghost use Rattle.pua_tool.specs.Answers.{AnswersTo};
 ghost use Rattle.pua_tool.specs.Performed.{HoldsTable, IsCutShort, IsDone, IsRefused, IsStopped};
 ghost use Rattle.pua_tool.specs.Performed.{IsTableUnheld, IsUnheld, IsUntaken, LacksInput};
-ghost use Rattle.pua_tool.specs.Performed.{text_asked};
+ghost use Rattle.pua_tool.specs.Performed.{IsTextAsked};
 ghost use Rattle.pua_tool.specs.Statuses.{fault_status};
 ghost use Rattle.pua_tool.specs.Texts.{given_bytes};
 ghost use Rattle.pua_tool.specs.Told.{IsFaultTold};
@@ -15,6 +15,7 @@ ghost use Rattle.pua_tool.specs.declared.outcome.CommandFault.{CommandFault};
 use crate::audit::audit_by;
 use crate::ever::ever_to;
 use crate::fault::ToolFault;
+use crate::how::how_to;
 use crate::job::job_of;
 use crate::objects::objects_to;
 use crate::objects_why::objects_why_to;
@@ -25,6 +26,7 @@ use crate::status::{DEVICE, DONE, MEMORY, REFUSED, USAGE};
 use crate::table::TableChoice;
 use crate::tight::tight_to;
 use crate::tight_why::tight_why_to;
+use crate::together::together_to;
 use crate::why::why_to;
 use pua_calls::Rules;
 use pua_io::{InputFault, Inputs, Sink};
@@ -32,17 +34,18 @@ use pua_words::{Command, Text};
 use std::alloc::Global;
 
 /// Does what a command asks for: the text of a run, of an audit, of a list of objects, of now or for
-/// ever, or of a tightened script goes to `out`, and of a fault one line goes to `err`, which is dropped
-/// where it can't be written. The inputs are taken, first the tree's, then the script's, then the
-/// table's where one is named, before any of them is read as a listing, a script or a table.
+/// ever, of a way, or of a tightened script goes to `out`, and of a fault one line goes to `err`, which
+/// is dropped where it can't be written. The inputs are taken, first the tree's, then the script's, then
+/// the table's where one is named, before any of them is read as a listing, a script or a table.
 ///
 /// It answers the status. [`DONE`]: the text that is asked for, of the bytes that the inputs hold
-/// under the command's names, was written, and nothing to `err`. [`REFUSED`]: these bytes, or
-/// what the audit is asked for, are refused. [`DEVICE`]: an input is missing, and nothing was
-/// written; or a put failed, and a front of the text was written. [`MEMORY`]: a growth of memory was
-/// refused. After [`REFUSED`] and [`MEMORY`] nothing was written. After each but [`DONE`] the line of
-/// what stopped it went to `err`: all of it, or a front of it before a put that failed. Which bytes
-/// the line of a table, a listing, a script or an audit has is in no contract.
+/// under the command's names, was written, and nothing to `err`; of a way it is one of several, as
+/// which one is found is in no contract. [`REFUSED`]: these bytes, or what the audit or the way is
+/// asked for, are refused. [`DEVICE`]: an input is missing, and nothing was written; or a put failed,
+/// and a front of the text was written. [`MEMORY`]: a growth of memory was refused. After [`REFUSED`]
+/// and [`MEMORY`] nothing was written. After each but [`DONE`] the line of what stopped it went to
+/// `err`: all of it, or a front of it before a put that failed. Which bytes the line of a table, a
+/// listing, a script, an audit, a list or a way has is in no contract.
 pub fn perform<I: Inputs, O: Sink, E: Sink>(
     alloc: Global,
     command: &Command<'_>,
@@ -165,10 +168,11 @@ fn write_text<O: Sink>(
     text: &Text<'_>,
     out: &mut O,
 ) -> Result<(), ToolFault>
-    ensures { AnswersTo O.written O.failed (text_asked text.now (record {
+    ensures { (answer : Result (List ℕ) ToolFault) × IsTextAsked text.now (record {
       rules = rules;
       rows = option_map (λ bytes. bytes.items) taken.now.table;
-    }) taken.now.tree.items taken.now.script.items) result out.old out.new }
+    }) taken.now.tree.items taken.now.script.items answer
+        × AnswersTo O.written O.failed answer result out.old out.new }
 {
     let (tree, script) = (taken.tree.as_slice(), taken.script.as_slice());
     let rows = taken.table.as_ref().map(|bytes| bytes.as_slice());
@@ -186,6 +190,8 @@ fn write_text<O: Sink>(
             objects_why_to(alloc, tree, script, table, words.processes, out)
         }
         Text::Ever(words) => ever_to(alloc, tree, script, table, words.process, out),
+        Text::Together(words) => together_to(alloc, tree, script, table, &words.members, out),
+        Text::How(words) => how_to(alloc, tree, script, table, words, out),
         Text::Tight => tight_to(alloc, tree, script, table, out),
         Text::TightWhy => tight_why_to(alloc, tree, script, table, out),
     }

@@ -1,10 +1,17 @@
 -- What the words of a command line may ask for.
-use Rattle.std.specs.Prelude.{ℕ, ◌≡◌, ◌≤◌, ⊤, Bool, true, false, List, Option, Some, None, codes}
+use Rattle.std.specs.Prelude.{ℕ, ◌≡◌, ◌≤◌, ◌==◌, ⊤, Bool, true, false, List, map, Option, Some, None, codes}
+use Rattle.std.specs.List.{All, slice_split}
 use Rattle.std.specs.Str.Parse.{digits_value, without_leading_plus}
 use Rattle.pua_words.specs.declared.command.Text.{Text}
-use Rattle.pua_words.specs.declared.command.Text.TheVariants.{Run, RunWhy, Why, Audit, Objects, ObjectsWhy, Ever, Tight, TightWhy}
+use Rattle.pua_words.specs.declared.command.Text.TheVariants.{Run, RunWhy, Why, Audit, Objects, ObjectsWhy, Ever, Together}
+use Rattle.pua_words.specs.declared.command.Text.TheVariants.{Tight, TightWhy, How}
+use Rattle.pua_words.specs.declared.command.Members.{Members}
+use Rattle.pua_words.specs.declared.command.Members.TheVariants.{Named}
+use Rattle.pua_words.specs.declared.command.Members.TheVariants as members
 use Rattle.pua_words.specs.declared.command.Processes.{Processes}
-use Rattle.pua_words.specs.declared.command.Processes.TheVariants.{One, All}
+use Rattle.pua_words.specs.declared.command.Processes.TheVariants.{One}
+use Rattle.pua_words.specs.declared.command.Processes.TheVariants as processes
+use Rattle.pua_tree.specs.Spelling.{number_within}
 use Rattle.pua_words.specs.declared.words.TheConstants.{MOST_NUMBER}
 
 -- a process has a number from 1 to 999,999
@@ -14,16 +21,26 @@ IsProcessNumber n = (1 ≤ n) × (n ≤ MOST_NUMBER)
 -- a list is asked of a process that may have been made, or of all
 abbrev pub MayBeAsked : Processes → Type 0
 MayBeAsked (One process) = IsProcessNumber process
-MayBeAsked All = ⊤
+MayBeAsked processes.All = ⊤
 
 -- the text has the number of the process in decimal digits, or means all
 abbrev pub IsTextOf : Option (List ℕ) → Processes → Type 0
 IsTextOf None processes = ⊥
 IsTextOf (Some text) (One process) = digits_value 10 (without_leading_plus text) ≡ process
-IsTextOf (Some text) All = text ≡ codes "all"
+IsTextOf (Some text) processes.All = text ≡ codes "all"
 
--- an audit is asked of a process that may have been made, and so is a list for ever, a single request, and a list of
--- objects unless it is asked of all
+-- a list of several together is asked of processes that may have been made, or of all
+abbrev pub MayBeMembers : Members → Type 0
+MayBeMembers (Named numbers) = All IsProcessNumber numbers.items
+MayBeMembers members.All = ⊤
+
+-- the text has these numbers in decimal, with commas between them
+abbrev pub AreIn : Option (List ℕ) → List ℕ → Type 0
+AreIn None numbers = ⊥
+AreIn (Some text) numbers = map (number_within 1 MOST_NUMBER) (slice_split (λ b. b == 44) text) ≡ map Some numbers
+
+-- an audit, a way, a single request and a list for ever are asked of a process that may have been made, a list of objects of
+-- one or of all, and a list of several together of such processes or of all
 abbrev pub AsksSoundly : Text → Type 0
 AsksSoundly Run = ⊤
 AsksSoundly RunWhy = ⊤
@@ -32,8 +49,10 @@ AsksSoundly (Audit words) = IsProcessNumber words.process
 AsksSoundly (Objects words) = MayBeAsked words.processes
 AsksSoundly (ObjectsWhy words) = MayBeAsked words.processes
 AsksSoundly (Ever words) = IsProcessNumber words.process
+AsksSoundly (Together words) = MayBeMembers words.members
 AsksSoundly Tight = ⊤
 AsksSoundly TightWhy = ⊤
+AsksSoundly (How words) = IsProcessNumber words.process
 
 -- the text of a run that is asked for, with reasons or without
 abbrev pub run_asked : Bool → Text
@@ -45,11 +64,11 @@ abbrev pub tight_asked : Bool → Text
 tight_asked false = Tight
 tight_asked true = TightWhy
 
--- the list that is asked for of these processes, of now or for ever, with reasons or without; all have no list for ever
--- together, and a list for ever has no reasons
+-- the list that is asked for of these processes, of now or for ever, with reasons or without; that for ever of all is of what
+-- they can touch together, and a list for ever has no reasons
 abbrev pub list_asked : Bool → Bool → Processes → Option Text
 list_asked false false processes = Some (Objects (record { processes = processes }))
 list_asked false true processes = Some (ObjectsWhy (record { processes = processes }))
 list_asked true false (One process) = Some (Ever (record { process = process }))
-list_asked true false All = None
+list_asked true false processes.All = Some (Together (record { members = members.All }))
 list_asked true true processes = None

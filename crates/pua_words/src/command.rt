@@ -2,6 +2,7 @@
 
 use pua_audit::Base;
 use pua_calls::Rules;
+use pua_objects::ObjectKind;
 
 /// A command: a text that is asked for, and the names of the inputs that it is made of.
 #[derive(Drop)]
@@ -36,10 +37,15 @@ pub enum Text<'a> {
     ObjectsWhy(ObjectWords),
     /// The same as a run's, and then all that a process and what it forks can ever touch.
     Ever(EverWords),
+    /// The same as a run's, and then all that several processes and what they fork can ever touch
+    /// together.
+    Together(TogetherWords),
     /// The script, without the promises and letters that none of its answers needs.
     Tight,
     /// What each promise and letter of the script is needed by.
     TightWhy,
+    /// By which requests a process can come to be granted a call, or that it never can.
+    How(HowWords<'a>),
 }
 
 /// What an audit is asked for, besides its inputs.
@@ -87,4 +93,33 @@ pub struct ObjectWords {
 pub struct EverWords {
     /// The number of the process, 1 to 999,999 where the words of the command line named it.
     pub process: u32,
+}
+
+/// Of which processes together a list for ever is asked.
+#[derive(Drop)]
+pub enum Members {
+    /// Those of these numbers, each 1 to 999,999 where the words of the command line named them.
+    Named(Vec<u32>),
+    /// All that were ever made, in the order of their numbers.
+    All,
+}
+
+/// What a list for ever of several processes together is asked for, besides its inputs.
+#[derive(Drop)]
+pub struct TogetherWords {
+    /// The processes.
+    pub members: Members,
+}
+
+/// To which call a way is asked for, and on what, besides the inputs.
+#[derive(Clone, Copy)]
+pub struct HowWords<'a> {
+    /// The number of the process, 1 to 999,999 where the words of the command line named it.
+    pub process: u32,
+    /// The call's name, as it was given: no call need have it.
+    pub call: &'a [u8],
+    /// Where what is asked about stands, or `new`, as it was given: it need be no path.
+    pub path: &'a [u8],
+    /// What is asked about, where not each line of the path is meant.
+    pub kind: Option<ObjectKind>,
 }

@@ -6,7 +6,7 @@ pub(crate) const PROGRAM_USAGE: &str =
 
 /// How a list of objects is asked for, of now or for ever, in one line.
 pub(crate) const OBJECTS_USAGE: &str =
-    "pua: usage: pua objects [--ever|--why] [--process P|all] [--rules profile|openbsd] [--table FILE] TREE SCRIPT";
+    "pua: usage: pua objects [--ever|--why] [--process P,...|all] [--rules profile|openbsd] [--table FILE] TREE SCRIPT";
 
 /// How it is asked why a request is answered as it is, in one line.
 pub(crate) const WHY_USAGE: &str =
@@ -15,6 +15,10 @@ pub(crate) const WHY_USAGE: &str =
 /// How a script is asked for without what none of its answers needs, in one line.
 pub(crate) const TIGHT_USAGE: &str =
     "pua: usage: pua tight [--why] [--rules profile|openbsd] [--table FILE] TREE SCRIPT";
+
+/// How a way is asked for to what can ever be touched, in one line.
+pub(crate) const HOW_USAGE: &str =
+    "pua: usage: pua how [--process P] [--rules profile|openbsd] [--table FILE] TREE SCRIPT CALL PATH [KIND]";
 
 pub(crate) const PUA: &str =
     "Lists what a pledged and unveiled process may still do to a file tree";
@@ -27,6 +31,8 @@ pub(crate) const OBJECTS: &str =
 pub(crate) const WHY: &str = "Serves a script, then says what decides one more call";
 
 pub(crate) const TIGHT: &str = "Writes a script without the rights that its answers do not need";
+
+pub(crate) const HOW: &str = "Serves a script, then says how a call can come to be granted";
 
 pub(crate) const AUDIT: &str = "Serves a script, then lists each path and call still allowed";
 
@@ -55,6 +61,12 @@ pub(crate) const TIGHT_WHY: &str = "Say by which line each promise and letter is
 pub(crate) const CALL: &str = "The call, spelled as in SCRIPT";
 
 pub(crate) const ARGUMENTS: &str = "Its arguments, spelled as in SCRIPT";
+
+pub(crate) const HOW_CALL: &str = "The call, one of those from stat to exec";
+
+pub(crate) const HOW_PATH: &str = "What it is about, as a list for ever prints it, or `new`";
+
+pub(crate) const HOW_KIND: &str = "Which line of PATH: dir, file, prog, link, missing, other";
 
 pub(crate) const PROCESSES: &str = "Process number, 1 to 999999, or `all`";
 
@@ -200,6 +212,38 @@ Example: pua tight TREE SCRIPT | diff SCRIPT -",
     ""
 );
 
+pub(crate) const HOW_OUTPUT: &str = with_calls_and_faults!(
+    "\
+Serves SCRIPT, and says how process P can come to be granted CALL, by its own
+doing, on what stands at PATH then, wherever it is moved. It prints one of:
+  lines of a script     each was answered ok behind SCRIPT, and the last is CALL
+                        on this thing: `>> SCRIPT` appends them
+  never                 no line of the list for ever has CALL on it: whatever P
+                        and what it forks do, it is granted to none of them
+  never before an exec  the same, until they start a program; behind `exec open`
+  no way found          a line has CALL on it, and there may be a way or none
+This is so as long as nobody else changes the tree. To exec a file that they can
+write or make, no way is found: in a script no file becomes a program.
+PATH is as `pua objects --ever` prints it, and no link on it is followed; or it
+is `new`, for what can be made. A file is meant by all of its names; a name with
+nothing there is one of the `other` names of its directory, or `missing` with a
+veil of its own. Where CALL is in more than one line of PATH it is the shortest
+way of all, and with KIND that of this line. New names are `new`, `new2` and so
+on, and a new link leads to `target`.
+
+Example: pua how TREE SCRIPT open-r /in/secret",
+    "
+  no such process      no fork of SCRIPT made it: its answer says why
+  process P can still unveil
+                       it has to be locked, or without the promise `unveil`
+  table: CALL: no c    by the table rmdir, unlink, create, mkdir, symlink,
+                       rename and link all have to need the letter c
+  how: bad call        CALL is none of those from stat to exec
+  how: bad path        PATH is neither `new` nor `/` with names, as in a list
+  how: no such thing   what stands before the last name of PATH is no directory,
+                       or nothing there is of this KIND"
+);
+
 pub(crate) const OBJECTS_OUTPUT: &str = with_calls_and_faults!(
     "\
 Prints what `pua run` prints, then `objects P`, then the state of process P:
@@ -229,7 +273,10 @@ PATH now, wherever it is moved, and in the end on what they can make: `dir new`,
 line has exec, no exec of theirs can succeed. Where one has, the state has `exec
 bounded`, and what they start is in the list, whatever it does; or `exec open`,
 and the list holds until an exec succeeds.
-It is a list of one process, which can put no veil any more.
+It is a list of one process, which can put no veil any more. With `--process
+1,2,..` or `--process all` it is one list of what several can ever touch
+together; those of them that live need the same veils. Then the heading is
+`ever 1,2`, and a state has the number in its first line: `process 2 ended`.
 
 With `--why` an answer that is not ok has its reason, as of `pua run --why`, and
 behind CALLS a line has `PROMISES PLACE LETTERS LINE`: the promises by which
@@ -244,7 +291,9 @@ Example: pua objects --process all TREE SCRIPT",
                        `--ever` is for a process that is locked, or without the
                        promise `unveil`
   table: CALL: no c    `--ever` is for a table by which rmdir, unlink, create,
-                       mkdir, symlink, rename and link all need the letter c"
+                       mkdir, symlink, rename and link all need the letter c
+  processes P and Q have other veils
+                       `--ever` of several is for processes of the same veils"
 );
 
 pub(crate) const AUDIT_OUTPUT: &str = with_calls_and_faults!(

@@ -8,6 +8,9 @@ mod usage;
 mod version;
 mod words;
 
-pub use command::{AuditWords, Command, EverWords, ObjectWords, Processes, Text, WhyWords};
+pub use command::{
+    AuditWords, Command, EverWords, HowWords, Members, ObjectWords, Processes, Text, TogetherWords,
+    WhyWords,
+};
 pub use usage::UsageLine;
 pub use words::{Stop, read_words};

@@ -16,6 +16,8 @@ pub enum UsageLine {
     Why,
     /// How a script is asked for without what none of its answers needs.
     Tight,
+    /// How a way is asked for to what can ever be touched.
+    How,
 }
 
 impl UsageLine {
@@ -28,6 +30,7 @@ impl UsageLine {
             Some(first) if *first == "objects" => UsageLine::Objects,
             Some(first) if *first == "why" => UsageLine::Why,
             Some(first) if *first == "tight" => UsageLine::Tight,
+            Some(first) if *first == "how" => UsageLine::How,
             _ => UsageLine::Program,
         }
     }
@@ -41,6 +44,7 @@ impl UsageLine {
             UsageLine::Objects => help::OBJECTS_USAGE,
             UsageLine::Why => help::WHY_USAGE,
             UsageLine::Tight => help::TIGHT_USAGE,
+            UsageLine::How => help::HOW_USAGE,
         }
     }
 }

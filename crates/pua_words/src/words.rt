@@ -2,12 +2,17 @@
 
 ghost use Rattle.std.specs.Prelude.{◌≡◌, ◌↔◌, IfErr, IfOk, IfSome, Some, codes, map, option_map};
 ghost use Rattle.std.specs.Prelude.{true};
+ghost use Rattle.std.specs.List.{All};
 ghost use Rattle.clap.specs.Matches.{first_value, found_of};
-ghost use Rattle.pua_words.specs.Commands.{MayBeAsked, AsksSoundly, IsProcessNumber, IsTextOf};
+ghost use Rattle.pua_objects.specs.Lines.{kind_word};
+ghost use Rattle.pua_words.specs.Commands.{AreIn, AsksSoundly, IsProcessNumber, IsTextOf, MayBeAsked};
 ghost use Rattle.pua_words.specs.Commands.{list_asked, run_asked, tight_asked};
 ghost use Rattle.pua_words.specs.Usages.{AsksAbout, IsStop, is_about};
 
-use crate::command::{AuditWords, Command, EverWords, ObjectWords, Processes, Text, WhyWords};
+use crate::command::{
+    AuditWords, Command, EverWords, HowWords, Members, ObjectWords, Processes, Text, TogetherWords,
+    WhyWords,
+};
 use crate::help;
 use crate::usage::UsageLine;
 use crate::version::VERSION;
@@ -15,6 +20,8 @@ use clap::error::ErrorKind;
 use clap::{Arg, ArgAction, ArgMatches, Error, value_parser};
 use pua_audit::Base;
 use pua_calls::Rules;
+use pua_objects::ObjectKind;
+use pua_tree::number_within;
 use std::alloc::{AllocError, Global};
 
 /// The greatest number that a process has.
@@ -82,9 +89,10 @@ fn read_text<'a>(
 {
     Ok(match name {
         "run" => Some(run_of(found.get_flag("why"))),
-        "objects" => read_objects(found),
+        "objects" => read_objects(alloc, found)?,
         "why" => read_why(alloc, found)?.map(Text::Why),
         "tight" => Some(tight_of(found.get_flag("why"))),
+        "how" => read_how(found).map(Text::How),
         _ => read_audit(alloc, found)?.map(Text::Audit),
     })
 }
@@ -97,6 +105,7 @@ fn pua_command<'a>(alloc: Global) -> Built<'a> {
     let pua = with_command(pua, objects_command(alloc));
     let pua = with_command(pua, why_command(alloc));
     let pua = with_command(pua, tight_command(alloc));
+    let pua = with_command(pua, how_command(alloc));
     with_command(pua, audit_command(alloc))
 }
 
@@ -139,6 +148,20 @@ fn tight_command<'a>(alloc: Global) -> Built<'a> {
     let tight = command(alloc, "tight", help::TIGHT, help::TIGHT_OUTPUT);
     let tight = with(tight, flag(alloc, "why", help::TIGHT_WHY));
     with_inputs(alloc, tight)
+}
+
+fn how_command<'a>(alloc: Global) -> Built<'a> {
+    let how = command(alloc, "how", help::HOW, help::HOW_OUTPUT);
+    let how = with_inputs(alloc, with(how, process(alloc)));
+    let how = with(
+        how,
+        operand(alloc, "call", "CALL", help::HOW_CALL).required(true),
+    );
+    let how = with(
+        how,
+        operand(alloc, "path", "PATH", help::HOW_PATH).required(true),
+    );
+    with(how, kind(alloc))
 }
 
 fn audit_command<'a>(alloc: Global) -> Built<'a> {
@@ -228,7 +251,7 @@ fn process<'a>(alloc: Global) -> Arg<'a> {
 }
 
 fn processes<'a>(alloc: Global) -> Arg<'a> {
-    option(alloc, "process", "P|all", help::PROCESSES).default_value("1")
+    option(alloc, "process", "P,...|all", help::PROCESSES).default_value("1")
 }
 
 fn base<'a>(alloc: Global) -> Arg<'a> {
@@ -243,6 +266,12 @@ fn rules<'a>(alloc: Global) -> Arg<'a> {
         .hide_possible_values(true)
         .default_value("profile")
         .value_parser(["profile", "openbsd"].as_slice())
+}
+
+fn kind<'a>(alloc: Global) -> Arg<'a> {
+    operand(alloc, "kind", "KIND", help::HOW_KIND)
+        .hide_possible_values(true)
+        .value_parser(["dir", "file", "prog", "link", "missing", "other"].as_slice())
 }
 
 /// What an error of `clap` over these words asks for: a text about the program, or nothing.
@@ -330,19 +359,28 @@ fn tight_of<'a>(why: bool) -> Text<'a>
 }
 
 /// The list of objects that the words ask for, of now or for ever. None where they name no process,
-/// and where a list for ever is asked of all or with reasons.
-fn read_objects<'a>(found: &ArgMatches<'a>) -> Option<Text<'a>>
-    ensures { IfSome result AsksSoundly }
+/// and where a list for ever is asked for with reasons, or one of now of several numbers.
+fn read_objects<'a>(alloc: Global, found: &ArgMatches<'a>) -> Result<Option<Text<'a>>, AllocError>
+    ensures { IfOk result (λ text. IfSome text AsksSoundly) }
 {
-    list_of(
-        found.get_flag("ever"),
-        found.get_flag("why"),
-        read_processes(found.get_str("process"))?,
-    )
+    let ever = found.get_flag("ever");
+    let why = found.get_flag("why");
+    let process = found.get_str("process");
+    if let Some(processes) = read_processes(process) {
+        return Ok(list_of(ever, why, processes));
+    }
+    if !ever || why {
+        return Ok(None);
+    }
+    let Some(numbers) = read_numbers(alloc, process)? else {
+        return Ok(None);
+    };
+    let members = Members::Named(numbers);
+    Ok(Some(Text::Together(TogetherWords { members })))
 }
 
 /// The list of these processes, of now or for ever, with reasons or without. None for a list for ever
-/// of all, since there is one of each alone, and for one with reasons.
+/// with reasons.
 fn list_of<'a>(ever: bool, why: bool, processes: Processes) -> Option<Text<'a>>
     ensures asked { result ≡ list_asked ever why processes }
     ensures sound { MayBeAsked processes → IfSome result AsksSoundly }
@@ -351,8 +389,31 @@ fn list_of<'a>(ever: bool, why: bool, processes: Processes) -> Option<Text<'a>>
         (false, false, processes) => Some(Text::Objects(ObjectWords { processes })),
         (false, true, processes) => Some(Text::ObjectsWhy(ObjectWords { processes })),
         (true, false, Processes::One(process)) => Some(Text::Ever(EverWords { process })),
-        (true, false, Processes::All) | (true, true, _) => None,
+        (true, false, Processes::All) => Some(Text::Together(TogetherWords {
+            members: Members::All,
+        })),
+        (true, true, _) => None,
     }
+}
+
+/// The numbers of processes that a text has with commas between them; None for any other text.
+fn read_numbers(alloc: Global, text: Option<&str>) -> Result<Option<Vec<u32>>, AllocError>
+    ensures sound { IfOk result (λ numbers. IfSome numbers (λ numbers.
+        All IsProcessNumber numbers.items)) }
+    ensures text { IfOk result (λ numbers. IfSome numbers (λ numbers.
+        AreIn (option_map (λ s. s.now) text.entry) numbers.items)) }
+{
+    let Some(text) = text else {
+        return Ok(None);
+    };
+    let mut numbers = Vec::new(alloc);
+    for field in text.as_bytes().split(|byte| *byte == b',') {
+        let Some(number) = number_within(1, MOST_NUMBER, field) else {
+            return Ok(None);
+        };
+        numbers.push(number)?;
+    }
+    Ok(Some(numbers))
 }
 
 /// The process of a number, or all; None for any other text.
@@ -410,6 +471,44 @@ fn read_why<'a>(alloc: Global, found: &ArgMatches<'a>) -> Result<Option<WhyWords
         fields.push(argument.as_bytes())?;
     }
     Ok(Some(WhyWords { process, fields }))
+}
+
+/// The call to which a way is asked for, and on what.
+fn read_how<'a>(found: &ArgMatches<'a>) -> Option<HowWords<'a>>
+    ensures process { IfSome result (λ words. IsProcessNumber words.process) }
+    ensures call { IfSome result (λ words.
+        Some words.call.now ≡ first_value (found_of found.now) (codes "call")) }
+    ensures path { IfSome result (λ words.
+        Some words.path.now ≡ first_value (found_of found.now) (codes "path")) }
+    ensures kind { IfSome result (λ words. option_map kind_word words.kind
+        ≡ first_value (found_of found.now) (codes "kind")) }
+{
+    let kind = match found.get_str("kind") {
+        Some(text) => Some(read_kind(text)?),
+        None => None,
+    };
+    Some(HowWords {
+        process: read_process(found)?,
+        call: found.get_str("call")?.as_bytes(),
+        path: found.get_str("path")?.as_bytes(),
+        kind,
+    })
+}
+
+/// The kind of this name, as a list's line has it; None for any other text.
+fn read_kind(text: &str) -> Option<ObjectKind>
+    ensures named { IfSome result (λ kind. kind_word kind ≡ text.now) }
+    ensures each { (kind : ObjectKind) → kind_word kind ≡ text.now → result ≡ Some kind }
+{
+    match text {
+        "dir" => Some(ObjectKind::Dir),
+        "file" => Some(ObjectKind::File),
+        "prog" => Some(ObjectKind::Prog),
+        "link" => Some(ObjectKind::Link),
+        "missing" => Some(ObjectKind::Missing),
+        "other" => Some(ObjectKind::Other),
+        _ => None,
+    }
 }
 
 /// The number of the process. clap has judged it by the same range, but no contract says what clap

@@ -1,4 +1,4 @@
-use Rattle.std.proofs.Common.{◌≡◌, Result, sym, ap, subst, ◌∙◌, Ok}
+use Rattle.std.proofs.Common.{◌≡◌, sym, ap, ◌∙◌, Ok}
 use Rattle.pua_path.specs.Resolution.{resolution_of_text}
 use Rattle.pua_calls.specs.Calls.{ending_of, last_of}
 use Rattle.pua_policy.specs.History.{working_dir}
@@ -7,8 +7,8 @@ use Rattle.pua_script.proofs.ForCallers.{is_made}
 use Rattle.pua_how.specs.Targets.{is_of}
 use Rattle.pua_how.proofs.serve.reaches.Goals as goal
 
-pub returns-in-Ok : goal.returns-in-Ok
-returns-in-Ok g c = λ yes w stands.
+pub returns-in-Ok-clause-named : goal.returns-in-Ok-clause-named
+returns-in-Ok-clause-named g c = λ yes w stands.
     let made = is_made c.in-Some.process.now (history_of w c.args.number) (c.in-Some.ensures.history w stands) in
     let h = made.history in
     let at = c.tree-in-Ok.ensures ∙ stands.tree in

@@ -1,14 +1,14 @@
-use Rattle.std.proofs.Common.{◌≡◌, List, Option, sym, subst, ◌∙◌}
+use Rattle.std.proofs.Common.{List, Option, sym, subst}
 use Rattle.std.specs.Prelude.{IfSome}
 use Rattle.pua_how.specs.Served.{AreWay, IsLine}
 use Rattle.pua_how.specs.declared.line.WayLine.{WayLine}
 use Rattle.pua_how.proofs.Granting.{last_one}
 use Rattle.pua_how.proofs.serve.serve_last.Goals as goal
 
-pub returns : goal.returns
-returns g c = λ before granted.
+pub returns-clause-way : goal.returns-clause-way
+returns-clause-way g c = λ before granted.
     subst (λ (lines : List WayLine). AreWay before c.args.process c.args.call c.args.target.now lines) (sym c.in_ok-push.ensures.items)
     (last_one before c.args.world.now c.answered.new.world c.args.process c.args.served.lines.items c.in-Some.line granted
-    (subst (λ (o : Option WayLine). IfSome o (IsLine c.args.process)) c.in-Some.is c.in_ok-line.ensures)
+    (subst (λ (o : Option WayLine). IfSome o (IsLine c.args.process)) c.in-Some.is c.in_ok-line.ensures.own)
     c.in_ok-answered.field-0 c.in-Okay.is c.in_ok-answered.ensures c.args.call c.args.target.now
-    (c.is_asked.ensures c.if-not-is_asked.false))
+    (c.is_asked.ensures.call c.if-not-is_asked.false))

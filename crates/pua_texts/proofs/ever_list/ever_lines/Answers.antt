@@ -1,4 +1,4 @@
-use Rattle.pua_texts.proofs.Common.{◌+◌, [], List, refl, sym, subst, drop, arith, ever_lines}
+use Rattle.pua_texts.proofs.Common.{◌+◌, List, refl, sym, subst, drop, arith, ever_lines}
 use Rattle.pua_texts.specs.declared.list_line.ListLine.{ListLine}
 use Rattle.pua_texts.proofs.EverLines.{Going, row_more, rows_done}
 use Rattle.pua_texts.proofs.ever_list.ever_lines.Goals as goal

@@ -1,38 +1,16 @@
-use Rattle.pua_texts.proofs.Common.{◌≡◌, ◌++◌, ap, ◌∙◌, string_bytes, codes, with_end}
-use Rattle.pua_policy.specs.History.{held_for_exec, pledged_set}
-use Rattle.pua_texts.specs.States.{execs_told, openings_told, pledged_text, rules_line, unveil_word, unveiled_line}
+use Rattle.pua_texts.proofs.Common.{string_bytes, codes, with_end}
+use Rattle.pua_texts.specs.States.{bound_lines, held_lines}
 use Rattle.pua_texts.proofs.Outcomes.{on_ok}
 use Rattle.pua_texts.proofs.States.{text_more}
 use Rattle.pua_texts.proofs.state.push_living.Goals as goal
 
 pub returns : goal.returns
-returns c = on_ok c.push_unveiled.result (λ last h stands.
+returns c = on_ok c.push_bounds.result (λ last h stands.
     let head = c.args.heading in
     let old = string_bytes c.args.text.now in
     let alive = string_bytes c.push_line.new.text in
-    let ruled = string_bytes c.push_rules.new.text in
-    let promised = string_bytes c.push_line-2.new.text in
-    let handed = string_bytes c.push_line-3.new.text in
-    let veiling = string_bytes c.push_line-4.new.text in
-    let started = string_bytes c.push_execs.new.text in
-    let opened = string_bytes c.push_opened.new.text in
-    let promises = with_end (codes "promises " ++ pledged_text (pledged_set h)) in
-    let for_exec = with_end (codes "execpromises " ++ pledged_text (held_for_exec h)) in
-    let unveils = with_end (codes "unveil " ++ unveil_word h) in
-    let promised_is : promised ≡ ruled ++ promises = c.in_ok-push_line-2.ensures
-    ∙ ap (λ t. ruled ++ with_end (codes "promises " ++ t))
-    (c.as_str.ensures.value ∙ c.in_ok-promises.ensures ∙ ap pledged_text (c.promises.ensures.history h stands)) in
-    let handed_is : handed ≡ promised ++ for_exec = c.in_ok-push_line-3.ensures
-    ∙ ap (λ t. promised ++ with_end (codes "execpromises " ++ t))
-    (c.as_str-2.ensures.value ∙ c.in_ok-execpromises.ensures ∙ ap pledged_text (c.execpromises.ensures.history h stands)) in
-    let veiling_is : veiling ≡ handed ++ unveils = c.in_ok-push_line-4.ensures
-    ∙ ap (λ t. handed ++ with_end (codes "unveil " ++ t)) (c.unveil_state.ensures h stands) in
-    text_more old _ (unveiled_line h) opened _
-    (text_more old _ (openings_told head.rules head.span h) started opened
-    (text_more old _ (execs_told head.span) veiling started
-    (text_more old _ unveils handed veiling
-    (text_more old _ for_exec promised handed
-    (text_more old _ promises ruled promised
-    (text_more old _ (rules_line head.rules) alive ruled c.in_ok-push_line.ensures c.in_ok-push_rules.ensures) promised_is) handed_is)
-    veiling_is) c.in_ok-push_execs.ensures) (c.in_ok-push_opened.ensures h stands)) (last h stands))
-    c.push_unveiled.ensures
+    let held = string_bytes c.push_held.new.text in
+    text_more old _ (bound_lines head.rules head.span h) held _
+    (text_more old (with_end (codes "process alive")) (held_lines head.rules h) alive held c.in_ok-push_line.ensures
+    (c.in_ok-push_held.ensures h stands)) (last h stands))
+    c.push_bounds.ensures

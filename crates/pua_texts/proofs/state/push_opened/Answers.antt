@@ -9,5 +9,5 @@ use Rattle.pua_texts.proofs.state.push_opened.Goals as goal
 pub returns-in-Openbsd : goal.returns-in-Openbsd
 returns-in-Openbsd c = on_ok c.push_openings.result (λ lines h stands.
     lines ∙ ap (λ (set : ℕ). string_bytes c.args.text.now ++ opening_lines (keywords_of set)) (c.opening_promises.ensures h stands)
-    ∙ ap (λ (rules : Rules). string_bytes c.args.text.now ++ openings_told rules c.args.heading.span h) (sym c.in-Openbsd.is))
+    ∙ ap (λ (rules : Rules). string_bytes c.args.text.now ++ openings_told rules c.args.span h) (sym c.in-Openbsd.is))
     c.push_openings.ensures

@@ -1,5 +1,4 @@
 use Rattle.pua_texts.proofs.Common.{◌+◌, ◌∷◌, [], ap, ◌∙◌, get_or, map, string_bytes, take_all, arith, None, map-append, veils_behind}
-use Rattle.pua_texts.proofs.Common.{world_left}
 use Rattle.pua_texts.proofs.States.{shown}
 use Rattle.pua_texts.specs.WhyLists.{veil_behind}
 use Rattle.pua_texts.proofs.WhyColumns.{column_next}

@@ -1,0 +1,137 @@
+-- Whether steps come to the call, one after another.
+use Rattle.std.proofs.Common.{◌≡◌, ℕ, ◌+◌, ◌<◌, true, false, Bool, List, [], ◌∷◌, ◌++◌, drop, length, refl, sym, ap, subst, ◌∙◌, Some, None, Option}
+use Rattle.std.proofs.Common.{slice_index_or}
+use Rattle.std.specs.Prelude.{option_map}
+use Rattle.std.proofs.lemmas.List.{drop_more}
+use Rattle.pua_tree.specs.Tree.{Tree}
+use Rattle.pua_calls.specs.Calls.{CallTable}
+use Rattle.pua_calls.specs.declared.call.Call.{Call}
+use Rattle.pua_script.specs.Requests.{Asked}
+use Rattle.pua_script.specs.Replay.{World, apply, world_after}
+use Rattle.pua_script.specs.Family.{is_exec, is_okay}
+use Rattle.pua_script.specs.Worlds.{WorldState, StandsForWorld, IsServed}
+use Rattle.pua_script.specs.declared.answer.Answer.{Answer}
+use Rattle.pua_script.specs.declared.answer.Answer.TheVariants as answers
+use Rattle.pua_how.specs.Served.{AreGranted, asks_of}
+use Rattle.pua_how.specs.Steps.{comes, goes_on, is_some_by, made_behind, request_of_step}
+use Rattle.pua_how.specs.declared.line.WayLine.{WayLine}
+use Rattle.pua_how.specs.declared.step.Step.{Step}
+use Rattle.pua_how.specs.declared.target.Target.{Target}
+use Rattle.pua_how.proofs.Granting.{asks_more, left_more}
+
+no_line : (o : Option WayLine) → ((line : WayLine) → o ≡ Some line → ⊥) → None ≡ o
+no_line None other = refl
+no_line (Some line) other = absurd (other line refl)
+
+other_answer : (answer : Answer) → (answer ≡ answers.Okay → ⊥) → is_okay answer ≡ false
+other_answer answers.Okay other = absurd (other refl)
+other_answer (answers.Failed errno) other = refl
+other_answer answers.Killed other = refl
+other_answer answers.Gone other = refl
+
+-- a step with others behind it
+module _ (table : CallTable) (process : ℕ) (call : Call) (target : Target) (step : Step) (rest : List Step) (last : Step) (w : World) (made : ℕ) where
+  abbrev later : World → ℕ → Bool
+  later = comes table process call target (rest ++ last ∷ [])
+
+  comes_on : comes table process call target (step ∷ (rest ++ last ∷ [])) w made
+      ≡ is_some_by (goes_on table process call target later w made step) (request_of_step w.tree process made step)
+  comes_on = by rest
+    where
+      by : (rest : List Step) → comes table process call target (step ∷ (rest ++ last ∷ [])) w made
+          ≡ is_some_by (goes_on table process call target (comes table process call target (rest ++ last ∷ [])) w made step)
+          (request_of_step w.tree process made step)
+      by [] = refl
+      by (next ∷ more) = refl
+
+  without_line : None ≡ request_of_step w.tree process made step → comes table process call target (step ∷ (rest ++ last ∷ [])) w made ≡ false
+  without_line none = comes_on ∙ ap (is_some_by (goes_on table process call target later w made step)) (sym none)
+
+  module _ (ask : Asked) (asked : Some ask ≡ request_of_step w.tree process made step) where
+    asked_on : comes table process call target (step ∷ (rest ++ last ∷ [])) w made ≡ goes_on table process call target later w made step ask
+    asked_on = comes_on ∙ ap (is_some_by (goes_on table process call target later w made step)) (sym asked)
+
+    by_exec : is_exec ask.action ≡ true → comes table process call target (step ∷ (rest ++ last ∷ [])) w made ≡ false
+    by_exec exec = asked_on ∙ rw exec refl
+
+    by_refused : is_exec ask.action ≡ false → is_okay (apply table w ask).0 ≡ false →
+        comes table process call target (step ∷ (rest ++ last ∷ [])) w made ≡ false
+    by_refused quiet refused = asked_on ∙ rw (quiet, refused) refl
+
+    by_served : is_exec ask.action ≡ false → is_okay (apply table w ask).0 ≡ true →
+        comes table process call target (step ∷ (rest ++ last ∷ [])) w made
+        ≡ later (apply table w ask).1 (made_behind (apply table w ask).1.tree made step)
+    by_served quiet okay = asked_on ∙ rw (quiet, okay) refl
+
+-- the steps come to a call where those that are left do
+abbrev pub AreOn : WorldState → ℕ → List Step → ℕ → List WayLine → ℕ → Type 0
+AreOn before process steps i lines made =
+    (w : World) → StandsForWorld before w → (call : Call) (target : Target) (last : Step) →
+    comes before.table process call target (steps ++ last ∷ []) w 0
+    ≡ comes before.table process call target (drop i steps ++ last ∷ []) (world_after before.table w (asks_of lines)) made
+
+-- the next of them, as it is read
+module _ (before mid : WorldState) (process : ℕ) (steps : List Step) (i : ℕ) (step : Step) (lines : List WayLine) (made : ℕ)
+    (granted : AreGranted before process lines mid) (on : AreOn before process steps i lines made)
+    (within : i < length steps) (is : step ≡ slice_index_or steps i step)
+    (t : Tree) (tree : t ≡ mid.tree) (read : Option WayLine)
+    (asked : option_map (λ (line : WayLine). line.request) read ≡ request_of_step t process made step) where
+  module _ (w : World) (stands : StandsForWorld before w) (call : Call) (target : Target) (last : Step) where
+    abbrev now : World
+    now = world_after before.table w (asks_of lines)
+
+    here : StandsForWorld mid now
+    here = granted.left w stands
+
+    asked_now : option_map (λ (line : WayLine). line.request) read ≡ request_of_step now.tree process made step
+    asked_now = asked ∙ ap (λ u. request_of_step u process made step) (tree ∙ here.tree)
+
+    left : comes before.table process call target (steps ++ last ∷ []) w 0
+        ≡ comes before.table process call target (step ∷ (drop (i + 1) steps ++ last ∷ [])) now made
+    left = on w stands call target last
+        ∙ ap (λ s. comes before.table process call target (s ++ last ∷ []) now made)
+        (drop_more steps i step within ∙ ap (λ x. x ∷ drop (i + 1) steps) (sym is))
+
+    pub none_on : ((line : WayLine) → read ≡ Some line → ⊥) → comes before.table process call target (steps ++ last ∷ []) w 0 ≡ false
+    none_on none = left ∙ without_line before.table process call target step (drop (i + 1) steps) last now made
+        (ap (option_map (λ (line : WayLine). line.request)) (no_line read none) ∙ asked_now)
+
+    module _ (line : WayLine) (line_is : read ≡ Some line) where
+      its : Some line.request ≡ request_of_step now.tree process made step
+      its = sym (ap (option_map (λ (line : WayLine). line.request)) line_is) ∙ asked_now
+
+      pub exec_on : is_exec line.request.action ≡ true → comes before.table process call target (steps ++ last ∷ []) w 0 ≡ false
+      exec_on exec = left ∙ by_exec before.table process call target step (drop (i + 1) steps) last now made line.request its exec
+
+      module _ (answer : Answer) (after : WorldState) (served : IsServed mid line.request answer after) where
+        told : is_okay (apply before.table now line.request).0 ≡ is_okay answer
+        told = subst (λ table. is_okay (apply table now line.request).0 ≡ is_okay answer) (granted.table w stands)
+            (ap is_okay (sym (served now here).0))
+
+        pub refused_on : is_exec line.request.action ≡ false → (answer ≡ answers.Okay → ⊥) →
+            comes before.table process call target (steps ++ last ∷ []) w 0 ≡ false
+        refused_on quiet other = left ∙ by_refused before.table process call target step (drop (i + 1) steps) last now made line.request its quiet
+            (told ∙ other_answer answer other)
+
+        tree_left : after.tree ≡ (apply before.table now line.request).1.tree
+        tree_left = subst (λ table. after.tree ≡ (apply table now line.request).1.tree) (granted.table w stands) (served now here).1.tree
+
+        pub served_on : is_exec line.request.action ≡ false → answer ≡ answers.Okay →
+            comes before.table process call target (steps ++ last ∷ []) w 0
+            ≡ comes before.table process call target (drop (i + 1) steps ++ last ∷ [])
+            (world_after before.table w (asks_of (lines ++ line ∷ []))) (made_behind after.tree made step)
+        served_on quiet okay = left
+            ∙ by_served before.table process call target step (drop (i + 1) steps) last now made line.request its quiet (told ∙ ap is_okay okay)
+            ∙ ap (λ u. comes before.table process call target (drop (i + 1) steps ++ last ∷ []) (apply before.table now line.request).1
+            (made_behind u made step)) (sym tree_left)
+            ∙ ap (λ v. comes before.table process call target (drop (i + 1) steps ++ last ∷ []) v (made_behind after.tree made step))
+            (sym (ap (world_after before.table w) (asks_more lines line) ∙ left_more before.table w (asks_of lines) line.request))
+
+  -- one step more
+  pub step_on : (line : WayLine) → read ≡ Some line → (answer : Answer) (after : WorldState) → IsServed mid line.request answer after →
+      is_exec line.request.action ≡ false → answer ≡ answers.Okay → (new : ℕ) → new ≡ made_behind after.tree made step →
+      AreOn before process steps (i + 1) (lines ++ line ∷ []) new
+  step_on line line_is answer after served quiet okay new new_is = λ w stands call target last.
+      served_on w stands call target last line line_is answer after served quiet okay
+      ∙ ap (comes before.table process call target (drop (i + 1) steps ++ last ∷ []) (world_after before.table w (asks_of (lines ++ line ∷ []))))
+      (sym new_is)

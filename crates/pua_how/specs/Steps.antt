@@ -1,0 +1,105 @@
+-- What the steps of a plan ask for, and whether they come to a call when they are served one after another.
+use Rattle.std.specs.Prelude.{ℕ, Bool, false, ◌&&◌, ◌==◌, if◌then◌else◌, List, [], ◌∷◌, ◌++◌, Option, Some, None, Result, Ok, Err}
+use Rattle.std.specs.Prelude.{codes, decimal, slice_get, unwrap_or}
+use Rattle.pua_tree.specs.Tree.{Tree, look}
+use Rattle.pua_path.specs.declared.errno.Errno.{Errno}
+use Rattle.pua_path.specs.declared.found.Found.{Found}
+use Rattle.pua_calls.specs.Calls.{CallTable, call_name, call_number}
+use Rattle.pua_calls.specs.declared.call.Call.{Call}
+use Rattle.pua_calls.specs.declared.call.Call.TheVariants as call
+use Rattle.pua_policy.specs.History.{History}
+use Rattle.pua_policy.specs.Verdict.{object_named}
+use Rattle.pua_script.specs.Requests.{Asked}
+use Rattle.pua_script.specs.Replay.{World, history_of, apply}
+use Rattle.pua_script.specs.Scripts.{request_of}
+use Rattle.pua_script.specs.Family.{is_exec, is_okay}
+use Rattle.pua_script.specs.declared.fault.ScriptFault.{ScriptFault}
+use Rattle.pua_script.specs.declared.request.Action.{Action}
+use Rattle.pua_why.specs.Texts.{dir_text, spot_text}
+use Rattle.pua_how.specs.Targets.{is_of}
+use Rattle.pua_how.specs.Ways.{call_of}
+use Rattle.pua_how.specs.declared.step.At.{At}
+use Rattle.pua_how.specs.declared.step.At.TheVariants as at
+use Rattle.pua_how.specs.declared.step.Dir.{Dir}
+use Rattle.pua_how.specs.declared.step.Dir.TheVariants as dir
+use Rattle.pua_how.specs.declared.step.Step.{Step}
+use Rattle.pua_how.specs.declared.step.Step.TheVariants as step
+use Rattle.pua_how.specs.declared.target.Target.{Target}
+use Rattle.pua_how.specs.declared.way.Plan.{Plan}
+
+-- the number of a directory, by that of the one that was made last
+abbrev pub number_of : Dir → ℕ → ℕ
+number_of (dir.Standing id) made = id
+number_of dir.Made made = made
+
+-- a blank, and what a path leads to as a script has it
+abbrev pub path_behind : Tree → ℕ → At → List ℕ
+path_behind t made (at.Directory id) = codes " " ++ dir_text t id
+path_behind t made (at.Name dir name) = codes " " ++ spot_text t (number_of dir made, name)
+
+-- a call, with the target of a symlink
+abbrev pub target_behind : Call → List ℕ
+target_behind call.Symlink = codes " target"
+target_behind _ = []
+
+abbrev pub action_text : Tree → ℕ → Step → List ℕ
+action_text t made (step.On call at) = (call_name call ++ target_behind call) ++ path_behind t made at
+action_text t made (step.Rename old new) = (codes "rename" ++ path_behind t made old) ++ path_behind t made new
+action_text t made (step.Link old new) = (codes "link" ++ path_behind t made old) ++ path_behind t made new
+
+-- the line of a step, by where directories stand, and by the one that was made last
+abbrev pub step_text : Tree → ℕ → ℕ → Step → List ℕ
+step_text t process made step = (decimal process ++ codes " ") ++ action_text t made step
+
+-- the request as which it is read; none where it is no line of the process: a path may be too long
+abbrev pub own_request : ℕ → Result Asked ScriptFault → Option Asked
+own_request process (Ok ask) = if ask.process == process then Some ask else None
+own_request process (Err fault) = None
+
+abbrev pub request_of_step : Tree → ℕ → ℕ → Step → Option Asked
+request_of_step t process made step = own_request process (request_of 1 (step_text t process made step))
+
+-- the directory that was made last, once a step was served
+abbrev pub made_behind : Tree → ℕ → Step → ℕ
+made_behind t made (step.On call.Mkdir (at.Name dir name)) = unwrap_or (look t (number_of dir made) name) made
+made_behind t made _ = made
+
+-- what is so of the value, if there is one
+abbrev pub is_some_by : {A : Type 0} → (A → Bool) → Option A → Bool
+is_some_by test None = false
+is_some_by test (Some x) = test x
+
+-- the call is on a path that names what is asked about
+abbrev pub names_asked : Tree → History → Target → Result Found Errno → Bool
+names_asked t h target (Ok object) = is_of t h target object
+names_asked t h target (Err errno) = false
+
+module _ (process : ℕ) (call : Call) (target : Target) where
+  abbrev pub reaches : World → List ℕ → Bool
+  reaches w text = is_some_by (λ h. names_asked w.tree h target (object_named w.tree h call text)) (history_of w process)
+
+  abbrev pub is_the_call : World → Action → Bool
+  is_the_call w action = is_some_by (λ two. (call_number two.0 == call_number call) && reaches w two.1) (call_of action)
+
+module _ (table : CallTable) (process : ℕ) (call : Call) (target : Target) where
+  -- a request is the call on what is asked about, and is answered `ok`
+  abbrev pub is_end : World → Asked → Bool
+  is_end w ask = is_the_call process call target w ask.action && is_okay (apply table w ask).0
+
+  -- a request is no exec, and is answered `ok`; the world, and the directory that was made last, then are as they have to be
+  abbrev pub goes_on : (World → ℕ → Bool) → World → ℕ → Step → Asked → Bool
+  goes_on later w made step ask =
+      if is_exec ask.action then false
+      else (is_okay (apply table w ask).0 && later (apply table w ask).1 (made_behind (apply table w ask).1.tree made step))
+
+  -- these steps come to the call: each but the last is answered `ok` and is no exec, and the last is the call
+  abbrev pub comes : List Step → World → ℕ → Bool
+  comes [] w made = false
+  comes (step ∷ []) w made = is_some_by (is_end w) (request_of_step w.tree process made step)
+  comes (step ∷ next ∷ more) w made =
+      is_some_by (goes_on (comes (next ∷ more)) w made step) (request_of_step w.tree process made step)
+
+-- a plan comes to the call on the thing at its place, if there is one
+abbrev pub plan_comes : CallTable → ℕ → Call → List Target → Plan → World → Bool
+plan_comes table process call things plan w =
+    is_some_by (λ target. comes table process call target plan.steps.items w 0) (slice_get things plan.place)

@@ -1,0 +1,120 @@
+//! Ways: which plans are served, and what they come to.
+
+ghost use Rattle.std.specs.Prelude.{◌≡◌, IfOk, IfSome, is_some};
+ghost use Rattle.std.specs.List.{Contains};
+ghost use Rattle.pua_script.specs.Replay.{World as Replayed};
+ghost use Rattle.pua_script.specs.Worlds.{StandsForWorld};
+ghost use Rattle.pua_how.specs.Served.{AreWay};
+ghost use Rattle.pua_how.specs.Steps.{plan_comes};
+ghost use Rattle.pua_how.specs.declared.target.Target.{Target as Thing};
+
+use crate::asking::Meant;
+use crate::line::WayLine;
+use crate::plan::plan_for;
+use crate::serve::serve_way;
+use crate::step::Step;
+use crate::target::Target;
+use pua_calls::{Call, CallTable};
+use pua_policy::Process;
+use pua_script::World;
+use pua_tree::{FileTree, OutOfMemory};
+use std::alloc::Global;
+
+/// Steps that may come to a call on one of the things that are meant.
+#[derive(Drop)]
+pub struct Plan {
+    /// Which of them, by its place among all.
+    place: usize,
+    steps: Vec<Step>,
+}
+
+/// The two plans with the fewest steps, as far as there are two: of two that are as long the one for what
+/// comes first among all that is meant.
+#[derive(Drop)]
+pub struct BestPlans {
+    pub first: Option<Plan>,
+    pub second: Option<Plan>,
+}
+
+/// Lays plans by which a process may come to a call on something that is meant. Nothing is promised of
+/// them: what a plan comes to is seen when it is served. The only error is that a growth was refused.
+pub fn find_plans<T: FileTree>(
+    alloc: Global,
+    tree: &T,
+    process: &Process,
+    table: &CallTable,
+    call: Call,
+    meant: &Meant,
+) -> Result<BestPlans, OutOfMemory> {
+    let mut best = BestPlans {
+        first: None,
+        second: None,
+    };
+    let mut place = 0usize;
+    for target in &meant.targets {
+        let plans = plan_for(
+            alloc,
+            tree,
+            process,
+            table,
+            call,
+            target,
+            meant.name.as_ref(),
+        )?;
+        best.offer(place, plans.first);
+        best.offer(place, plans.second);
+        place = place.saturating_add(1);
+    }
+    Ok(best)
+}
+
+impl BestPlans {
+    /// Keeps steps if they are among the two shortest so far.
+    fn offer(&mut self, place: usize, steps: Option<Vec<Step>>) {
+        let Some(steps) = steps else {
+            return;
+        };
+        let plan = Plan { place, steps };
+        if plan.is_shorter(&self.first) {
+            self.second = self.first.take();
+            self.first = Some(plan);
+        } else if plan.is_shorter(&self.second) {
+            self.second = Some(plan);
+        }
+    }
+}
+
+impl Plan {
+    /// Whether it has fewer steps than another one, or there is no other.
+    fn is_shorter(&self, other: &Option<Plan>) -> bool {
+        match other {
+            Some(other) => self.steps.len() < other.steps.len(),
+            None => true,
+        }
+    }
+
+    /// Serves the plan for a process in a world: a way to the call on something that is meant, if each
+    /// step is answered `ok`, none but the last is an exec, and the last is that call, on a path that
+    /// names this thing when it is served. None exactly where this is not so, and the world then has
+    /// served some of the steps. The only error is that a growth was refused.
+    pub fn serve<T: FileTree>(
+        &self,
+        alloc: Global,
+        world: &mut World<T>,
+        process: u32,
+        call: Call,
+        meant: &Meant,
+    ) -> Result<Option<Vec<WayLine>>, OutOfMemory>
+        ensures way { IfOk result (λ served. IfSome served (λ lines. (thing : Thing)
+            × Contains meant.now.targets.items thing
+            × AreWay world.old process call thing lines.items)) }
+        ensures found { IfOk result (λ served. (w : Replayed) → StandsForWorld world.old w →
+            is_some served ≡ plan_comes world.old.table process call meant.now.targets.items
+            self.now w) }
+    {
+        let Some(target) = meant.targets.get(self.place) else {
+            return Ok(None);
+        };
+        serve_way(alloc, world, process, call, target, self.steps.as_slice())
+    }
+}

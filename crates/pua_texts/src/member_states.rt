@@ -1,0 +1,88 @@
+//! The heading of a list of several processes, and the state of each.
+
+ghost use Rattle.std.specs.Prelude.{◌≡◌, ◌∷◌, ◌++◌, [], ℕ, List, IfOk, OnOk, if◌then◌else◌};
+ghost use Rattle.std.specs.Prelude.{decimal, flat_map, map, string_bytes};
+ghost use Rattle.pua_objects.specs.Objects.{with_commas};
+ghost use Rattle.pua_policy.specs.History.{History, StandsFor};
+ghost use Rattle.pua_texts.specs.Members.{AreMembers};
+ghost use Rattle.pua_texts.specs.TogetherLines.{member_lines, together_heading};
+
+use crate::members::Member;
+use crate::state::push_held;
+use pua_calls::Rules;
+use std::alloc::{AllocError, Global};
+use std::fmt::Write;
+
+/// The heading of a list of these processes, and the state of each of them. The only error is that a
+/// growth was refused.
+pub(crate) fn states_text(
+    alloc: Global,
+    rules: Rules,
+    members: &[Member<'_>],
+) -> Result<String, AllocError>
+    ensures { IfOk result (λ text. (named : List (ℕ × History)) → AreMembers members.now named →
+        string_bytes text ≡ together_heading named ++ flat_map (member_lines rules) named) }
+{
+    let mut text = String::from_str(alloc, "ever ")?;
+    push_numbers(&mut text, members)?;
+    writeln!(text)?;
+    push_states(alloc, &mut text, rules, members)?;
+    Ok(text)
+}
+
+/// Adds the numbers of processes with commas between them.
+fn push_numbers(text: &mut String, members: &[Member<'_>]) -> Result<(), AllocError>
+    ensures { OnOk result (string_bytes text.new ≡ string_bytes text.old
+        ++ with_commas (map (λ member. decimal member.number) members.now)) }
+{
+    let mut is_first = true;
+    for member in members {
+        push_number(text, is_first, member.number)?;
+        is_first = false;
+    }
+    Ok(())
+}
+
+/// Adds a number, with a comma before it unless it is the first.
+fn push_number(text: &mut String, is_first: bool, number: u32) -> Result<(), AllocError>
+    ensures { OnOk result (string_bytes text.new ≡ string_bytes text.old
+        ++ ((if is_first then [] else 44 ∷ []) ++ decimal number)) }
+{
+    if is_first {
+        return write!(text, "{number}");
+    }
+    write!(text, ",{number}")
+}
+
+/// Adds the state of each of these processes.
+fn push_states(
+    alloc: Global,
+    text: &mut String,
+    rules: Rules,
+    members: &[Member<'_>],
+) -> Result<(), AllocError>
+    ensures { OnOk result ((named : List (ℕ × History)) → AreMembers members.now named →
+        string_bytes text.new ≡ string_bytes text.old ++ flat_map (member_lines rules) named) }
+{
+    for member in members {
+        push_state(alloc, text, rules, member)?;
+    }
+    Ok(())
+}
+
+/// Adds the state of a process: its number, whether it lives, by which rules, and what it holds.
+fn push_state(
+    alloc: Global,
+    text: &mut String,
+    rules: Rules,
+    member: &Member<'_>,
+) -> Result<(), AllocError>
+    ensures { OnOk result ((h : History) → StandsFor member.now.process.now h →
+        string_bytes text.new ≡ string_bytes text.old ++ member_lines rules (member.now.number, h)) }
+{
+    if member.process.ended() {
+        return writeln!(text, "process {} ended", member.number);
+    }
+    writeln!(text, "process {} alive", member.number)?;
+    push_held(alloc, text, rules, member.process)
+}

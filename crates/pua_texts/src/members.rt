@@ -1,0 +1,22 @@
+//! Processes that act together.
+
+use pua_ever::LastingList;
+use pua_policy::Process;
+
+/// One of several processes that act together, and its number.
+#[derive(Clone, Copy)]
+pub struct Member<'t> {
+    /// Its number.
+    pub number: u32,
+    /// The process.
+    pub process: &'t Process,
+}
+
+/// The process that stands for several, as [`join`](pua_ever::join) makes it, and what it can ever touch.
+#[derive(Clone, Copy)]
+pub struct Joint<'t, 'l> {
+    /// The process that stands for them.
+    pub one: &'t Process,
+    /// Its list for ever.
+    pub list: &'l LastingList<'t>,
+}

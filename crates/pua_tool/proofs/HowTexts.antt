@@ -1,0 +1,234 @@
+-- The text of a way, step by step.
+use Rattle.pua_tool.proofs.Common.{◌≡◌, ◌≢◌, ℕ, List, [], ◌∷◌, ◌∙◌, map, refl, sym, subst, ap, Result, ◌>>=◌, Option, Some, None, Ok, Err}
+use Rattle.pua_tool.proofs.Common.{History, Tree, CallTable, history_of, StandsForWorld, Chosen, Replayed, replay_of, ToolFault, OutOfMemory, Write}
+use Rattle.pua_tool.proofs.Common.{with_end, arith, AnswersTo}
+use Rattle.std.proofs.Common.{◌⊎◌, inl, inr, length}
+use Rattle.std.specs.Prelude.{string_bytes, ok_or, option_copied, option_map, IfSome}
+use Rattle.std.specs.Borrow.{Bor}
+use Rattle.std.specs.List.{AllByRecursion, Contains}
+use Rattle.pua_tree.proofs.ForCallers.{None≢Some, same_Ok, same_Some}
+use Rattle.pua_calls.specs.Calls.{call_named}
+use Rattle.pua_calls.specs.declared.call.Call.{Call}
+use Rattle.pua_ever.specs.Refusals.{refusal}
+use Rattle.pua_ever.specs.declared.refusal.Refusal.{Refusal}
+use Rattle.pua_script.specs.Scripts.{request_of}
+use Rattle.pua_script.specs.Worlds.{WorldState}
+use Rattle.pua_how.specs.Asking.{Asking, asking_of, targets_of}
+use Rattle.pua_how.specs.Outlooks.{IsOutlook}
+use Rattle.pua_how.specs.Served.{AreWay, IsLine, asks_of}
+use Rattle.pua_how.specs.Ways.{IsWay}
+use Rattle.pua_how.specs.declared.line.WayLine.{WayLine}
+use Rattle.pua_how.specs.declared.target.Target.{Target}
+use Rattle.pua_tool.specs.EverTexts.{ever_fault}
+use Rattle.pua_tool.specs.HowTexts.{HowWanted, IsFoundFor, IsHowAfter, IsHowAsked, IsHowText, Question, question_of}
+use Rattle.pua_tool.specs.HowTexts.{some_thing, things_asked, told_without, way_text}
+use Rattle.pua_tool.specs.Questions.{AreMeant, AreWayTo, IsQuestion, text_told, texts_of}
+use Rattle.pua_tool.specs.declared.fault.ToolFault.TheVariants.{NoProcess, HowCall, HowPath, HowThing}
+use Rattle.pua_tool.specs.declared.how.Question as given
+use Rattle.pua_tool.proofs.TextAnswers.{answers_refused}
+
+-- ---- what may be meant
+
+module _ (t : Tree) (h : History) (wanted : HowWanted) (last : ℕ) where
+  abbrev of_asking : Option Asking → Result (List Target) ToolFault
+  of_asking asking = ok_or asking HowPath >>= λ asking. some_thing (targets_of t h last asking wanted.kind)
+
+  pub bad_path : asking_of wanted.path ≡ None → things_asked t h wanted last ≡ Err HowPath
+  bad_path unread = ap of_asking unread
+
+  module _ (asking : Asking) (things : List Target) (read : asking_of wanted.path ≡ Some asking)
+      (are : things ≡ targets_of t h last asking wanted.kind) where
+    pub none_meant : length things ≡ 0 → things_asked t h wanted last ≡ Err HowThing
+    none_meant none = ap of_asking read ∙ ap some_thing (sym are) ∙ by things none
+      where
+        by : (things : List Target) → length things ≡ 0 → some_thing things ≡ Err HowThing
+        by [] none = refl
+        by (thing ∷ more) none = absurd (omega (arith, none))
+
+    pub some_meant : length things ≢ 0 → things_asked t h wanted last ≡ Ok things
+    some_meant some = ap of_asking read ∙ ap some_thing (sym are) ∙ by things some
+      where
+        by : (things : List Target) → length things ≢ 0 → some_thing things ≡ Ok things
+        by [] some = absurd (some refl)
+        by (thing ∷ more) some = refl
+
+module _ (done : Replayed) (wanted : HowWanted) (last : ℕ) where
+  pub question_made : (h : History) (call : Call) (things : List Target) → history_of done.world wanted.process ≡ Some h →
+      refusal done.table h ≡ None → call_named wanted.call ≡ Some call → things_asked done.world.tree h wanted last ≡ Ok things →
+      question_of done wanted last ≡ Ok (record { history = h; call = call; things = things })
+  question_made h call things here none read asked = rw here (rw none (rw read (rw asked refl)))
+
+  -- ---- the first fault
+
+  pub no_process : history_of done.world wanted.process ≡ None → question_of done wanted last ≡ Err NoProcess
+  no_process here = rw here refl
+
+  pub no_list : (h : History) (reason : Refusal) → history_of done.world wanted.process ≡ Some h → refusal done.table h ≡ Some reason →
+      question_of done wanted last ≡ Err (ever_fault wanted.process reason)
+  no_list h reason here some = rw here (rw some refl)
+
+  pub no_call : (h : History) → history_of done.world wanted.process ≡ Some h → refusal done.table h ≡ None → call_named wanted.call ≡ None →
+      question_of done wanted last ≡ Err HowCall
+  no_call h here none unread = rw here (rw none (rw unread refl))
+
+  pub no_thing : (h : History) (call : Call) (fault : ToolFault) → history_of done.world wanted.process ≡ Some h →
+      refusal done.table h ≡ None → call_named wanted.call ≡ Some call → things_asked done.world.tree h wanted last ≡ Err fault →
+      question_of done wanted last ≡ Err fault
+  no_thing h call fault here none read asked = rw here (rw none (rw read (rw asked refl)))
+
+  pub fault_asked : (fault : ToolFault) → question_of done wanted last ≡ Err fault → IsHowAsked done wanted (Err fault)
+  fault_asked fault refused = record {
+    last = last;
+    found = None;
+    sound = λ q is. tt;
+    is = sym (ap (λ (r : Result Question ToolFault). r >>= λ q. Ok (way_text done q None)) refused);
+  }
+
+-- ---- behind the replay
+
+module _ (choice : Chosen) (tree_bytes script_bytes : List ℕ) (wanted : HowWanted) where
+  pub after_done : (done : Replayed) (answer : Result (List ℕ) ToolFault) → replay_of choice tree_bytes script_bytes ≡ Ok done →
+      IsHowAsked done wanted answer → IsHowText choice tree_bytes script_bytes wanted answer
+  after_done done answer is asked = subst (λ (r : Result Replayed ToolFault). IsHowAfter r wanted answer) (sym is) asked
+
+  pub after_refused : (fault : ToolFault) → replay_of choice tree_bytes script_bytes ≡ Err fault →
+      IsHowText choice tree_bytes script_bytes wanted (Err fault)
+  after_refused fault is = subst (λ (r : Result Replayed ToolFault). IsHowAfter r wanted (Err fault)) (sym is) refl
+
+  -- some answer is one
+  pub some_answer : (answer : Result (List ℕ) ToolFault) × IsHowText choice tree_bytes script_bytes wanted answer
+  some_answer = by (replay_of choice tree_bytes script_bytes)
+    where
+      by : (r : Result Replayed ToolFault) → (answer : Result (List ℕ) ToolFault) × IsHowAfter r wanted answer
+      by (Ok done) = (
+        question_of done wanted 0 >>= λ q. Ok (way_text done q None),
+        record { last = 0; found = None; sound = λ q is. tt; is = refl },
+      )
+      by (Err fault) = (Err fault, refl)
+
+-- ---- the lines of a way
+
+read_all : (process : ℕ) (lines : List WayLine) → AllByRecursion (IsLine process) lines →
+    map (request_of 1) (map (λ line. string_bytes line.text) lines) ≡ map Ok (asks_of lines)
+read_all process [] all = refl
+read_all process (line ∷ lines) all = λ i. all.0.read i ∷ read_all process lines all.1 i
+
+module _ (done : Replayed) (wanted : HowWanted) (q : given.Question) (is : IsQuestion done wanted q) where
+  abbrev there : Question
+  there = record { history = is.history; call = q.call; things = q.meant.targets.items }
+
+  found_for : (found : Option (List WayLine)) → ((lines : List WayLine) → found ≡ Some lines → AreWayTo done wanted.process q lines) →
+      IsFoundFor done wanted.process is.last there (texts_of found)
+  found_for None way = tt
+  found_for (Some lines) way =
+      let to = way lines refl in
+      record {
+        above = is.above;
+        thing = to.thing;
+        meant = to.meant;
+        asks = asks_of lines;
+        read = read_all wanted.process lines to.are;
+        way = to.way;
+      }
+
+  text_is : (texts : Option (List (List ℕ))) → text_told q.outlook texts ≡ way_text done there texts
+  text_is None = λ i. with_end (told_without (is.outlook.listed i) (is.outlook.execs i))
+  text_is (Some texts) = refl
+
+  pub told_asked : (found : Option (List WayLine)) → ((lines : List WayLine) → found ≡ Some lines → AreWayTo done wanted.process q lines) →
+      (bytes : List ℕ) → bytes ≡ text_told q.outlook (texts_of found) → IsHowAsked done wanted (Ok bytes)
+  told_asked found way bytes told = record {
+    last = is.last;
+    found = texts_of found;
+    sound = λ other asked.
+        subst (λ (x : Question). IsFoundFor done wanted.process is.last x (texts_of found)) (same_Ok there other (sym is.asked ∙ asked))
+        (found_for found way);
+    is =
+        ap Ok (told ∙ text_is (texts_of found))
+        ∙ sym (ap (λ (r : Result Question ToolFault). r >>= λ x. Ok (way_text done x (texts_of found))) is.asked);
+  }
+
+-- ---- what the code keeps of a question
+
+module _ (done : Replayed) (wanted : HowWanted) (q : given.Question) (h : History) (t : Tree) (table : CallTable) where
+  abbrev things : List Target
+  things = q.meant.targets.items
+
+  pub question_is : t ≡ done.world.tree → table ≡ done.table → history_of done.world wanted.process ≡ Some h → refusal table h ≡ None →
+      call_named wanted.call ≡ Some q.call → AreMeant t h wanted things → (asked : List Target) → asked ≡ things →
+      IsOutlook t table h asked q.call q.outlook → IsQuestion done wanted q
+  question_is at ruled here none read meant asked all outlook =
+      let are = subst (λ (t : Tree). AreMeant t h wanted things) at meant in
+      record {
+        last = are.last;
+        above = are.above;
+        history = h;
+        asked = question_made done wanted are.last h q.call things here (subst (λ (table : CallTable). refusal table h ≡ None) ruled none) read
+            are.are;
+        outlook = subst (λ (table : CallTable). IsOutlook done.world.tree table h things q.call q.outlook) ruled
+            (subst (λ (t : Tree). IsOutlook t table h things q.call q.outlook) at
+            (subst (λ (asked : List Target). IsOutlook t table h asked q.call q.outlook) all outlook));
+      }
+
+-- a way in a world behind the script is one in that of the replay
+pub way_behind : (done : Replayed) (before : WorldState) (process : ℕ) (q : given.Question) (lines : List WayLine) (thing : Target) →
+    before.table ≡ done.table → StandsForWorld before done.world → Contains q.meant.targets.items thing →
+    AreWay before process q.call thing lines → AreWayTo done process q lines
+way_behind done before process q lines thing ruled stands meant way = record {
+  thing = thing;
+  meant = meant;
+  are = way.are;
+  way = subst (λ (table : CallTable). IsWay table done.world process q.call thing (asks_of lines)) ruled (way.way done.world stands);
+}
+
+-- ---- what is told
+
+memory_or_other : (fault : ToolFault) → (fault ≡ OutOfMemory) ⊎ (fault ≢ OutOfMemory)
+memory_or_other OutOfMemory = inl refl
+memory_or_other fault = inr (λ same. cc)
+
+module _ {A : Type 0} (written : A → Option (List ℕ)) (failed : A → ℕ) (choice : Chosen) (tree_bytes script_bytes : List ℕ)
+    (wanted : HowWanted) where
+  -- a fault before anything is written: the first one, or some answer where there was no memory
+  pub fault_told : (fault : ToolFault) (s : A) → fault ≢ Write →
+      (fault ≢ OutOfMemory → IsHowText choice tree_bytes script_bytes wanted (Err fault)) →
+      (answer : Result (List ℕ) ToolFault) × IsHowText choice tree_bytes script_bytes wanted answer
+      × AnswersTo written failed answer (Err fault) s s
+  fault_told fault s unwritten refused = by (memory_or_other fault)
+    where
+      by : (fault ≡ OutOfMemory) ⊎ (fault ≢ OutOfMemory) →
+          (answer : Result (List ℕ) ToolFault) × IsHowText choice tree_bytes script_bytes wanted answer
+          × AnswersTo written failed answer (Err fault) s s
+      by (inl memory) =
+          let some = some_answer choice tree_bytes script_bytes wanted in
+          (some.0, some.1, answers_refused written failed some.0 fault s unwritten (λ other. absurd (other memory)))
+      by (inr other) = (Err fault, refused other, answers_refused written failed (Err fault) fault s unwritten (λ again. refl))
+
+-- ---- what was found
+
+module _ {V : Type 0} (items : V → List WayLine) (choice : Chosen) (tree_bytes script_bytes : List ℕ) (process : ℕ) (q : given.Question) where
+  -- lines that are a way behind the script, whatever it left
+  abbrev pub AreFound : V → Type 0
+  AreFound v = (done : Replayed) → replay_of choice tree_bytes script_bytes ≡ Ok done → AreWayTo done process q (items v)
+
+  -- what a plan came to in a world behind the script
+  pub served_found : (done : Replayed) (before : WorldState) → replay_of choice tree_bytes script_bytes ≡ Ok done → before.table ≡ done.table →
+      StandsForWorld before done.world → (found : Option V) →
+      IfSome found (λ v. (thing : Target) × Contains q.meant.targets.items thing × AreWay before process q.call thing (items v)) →
+      IfSome found AreFound
+  served_found done before is ruled stands None way = tt
+  served_found done before is ruled stands (Some v) way = λ other again.
+      subst (λ (d : Replayed). AreWayTo d process q (items v)) (same_Ok done other (sym is ∙ again))
+      (way_behind done before process q (items v) way.0 ruled stands way.1 way.2)
+
+  pub found_ways : (found : Option V) → IfSome found AreFound → (done : Replayed) → replay_of choice tree_bytes script_bytes ≡ Ok done →
+      (lines : List WayLine) → option_map items found ≡ Some lines → AreWayTo done process q lines
+  found_ways None ways done is lines same = absurd (None≢Some lines same)
+  found_ways (Some v) ways done is lines same =
+      subst (λ (ls : List WayLine). AreWayTo done process q ls) (same_Some (items v) lines same) (ways done is)
+
+-- what is lent of something is as it is
+pub lent_items : {V : Type 0} (items : V → List WayLine) (lent : Option (Bor V)) →
+    option_map (λ v. items v.now) lent ≡ option_map items (option_copied lent)
+lent_items items None = refl
+lent_items items (Some v) = refl

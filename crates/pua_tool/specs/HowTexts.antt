@@ -1,0 +1,114 @@
+-- The text of a way, and what refuses it. Which way is found is in no contract: what is, is that it is one, and when none is looked
+-- for.
+use Rattle.std.specs.Prelude.{◌≡◌, ⊤, ℕ, Bool, true, false, List, [], ◌∷◌, map, flat_map, Option, Some, None, Result, Ok, Err, ok_or, codes}
+use Rattle.std.specs.List.{Contains, list_any}
+use Rattle.pua_tree.specs.Steps.{◌>>=◌}
+use Rattle.pua_tree.specs.Tree.{Tree}
+use Rattle.pua_calls.specs.Calls.{call_named}
+use Rattle.pua_calls.specs.declared.call.Call.{Call}
+use Rattle.pua_policy.specs.History.{History}
+use Rattle.pua_script.specs.Requests.{Asked}
+use Rattle.pua_script.specs.Replay.{history_of}
+use Rattle.pua_script.specs.Scripts.{request_of}
+use Rattle.pua_objects.specs.declared.kind.ObjectKind.{ObjectKind}
+use Rattle.pua_ever.specs.Refusals.{refusal}
+use Rattle.pua_ever.specs.Through.{ever_lasting, execs_of}
+use Rattle.pua_ever.specs.declared.lasting_list.ExecBound.{ExecBound}
+use Rattle.pua_ever.specs.declared.lasting_list.ExecBound.TheVariants.{Open}
+use Rattle.pua_ever.specs.declared.refusal.Refusal.{Refusal}
+use Rattle.pua_how.specs.Asking.{asking_of, targets_of}
+use Rattle.pua_how.specs.Targets.{IsLast, is_listed}
+use Rattle.pua_how.specs.Ways.{IsWay}
+use Rattle.pua_how.specs.declared.target.Target.{Target}
+use Rattle.pua_texts.specs.Lines.{with_end}
+use Rattle.pua_tool.specs.EverTexts.{ever_fault}
+use Rattle.pua_tool.specs.Texts.{Chosen, Replayed, replay_of}
+use Rattle.pua_tool.specs.declared.fault.ToolFault.{ToolFault}
+use Rattle.pua_tool.specs.declared.fault.ToolFault.TheVariants.{NoProcess, HowCall, HowPath, HowThing}
+use Rattle.pua_words.specs.declared.command.HowWords.{HowWords}
+
+-- what a way is asked for: of which process, by which call, to what, and of which kind that is
+pub record HowWanted : Type 0 where
+  pub process : ℕ
+  pub call : List ℕ
+  pub path : List ℕ
+  pub kind : Option ObjectKind
+
+abbrev pub way_wanted : HowWords → HowWanted
+way_wanted words = record { process = words.process; call = words.call.now; path = words.path.now; kind = words.kind }
+
+-- what is asked about behind a script: the history of the process, the call, and all that may be meant
+pub record Question : Type 0 where
+  pub history : History
+  pub call : Call
+  pub things : List Target
+
+-- that there is a list for ever, or the reason against it
+abbrev pub unless_refused : ℕ → Option Refusal → Result (Unit {0}) ToolFault
+unless_refused process None = Ok tt
+unless_refused process (Some reason) = Err (ever_fault process reason)
+
+-- all that may be meant, if something is
+abbrev pub some_thing : List Target → Result (List Target) ToolFault
+some_thing [] = Err HowThing
+some_thing (thing ∷ more) = Ok (thing ∷ more)
+
+-- all that may be meant in a tree, by the last number of the nodes that live there, or a fault: a path that no list prints, or one by
+-- which nothing is meant
+abbrev pub things_asked : Tree → History → HowWanted → ℕ → Result (List Target) ToolFault
+things_asked t h wanted last =
+    ok_or (asking_of wanted.path) HowPath >>= λ asking. some_thing (targets_of t h last asking wanted.kind)
+
+-- the question behind a script, or the first fault: a process never made, a reason against its list for ever, a call that is none
+-- of the fourteen, or that of the path
+abbrev pub question_of : Replayed → HowWanted → ℕ → Result Question ToolFault
+question_of done wanted last = do
+  h ← ok_or (history_of done.world wanted.process) NoProcess
+  unrefused ← unless_refused wanted.process (refusal done.table h)
+  call ← ok_or (call_named wanted.call) HowCall
+  things ← things_asked done.world.tree h wanted last
+  Ok (record { history = h; call = call; things = things })
+
+-- whether a line of the list for ever about it has the call
+abbrev pub may_come : Replayed → Question → Bool
+may_come done q = list_any (λ thing. is_listed (ever_lasting done.world.tree done.table q.history) thing q.call) q.things
+
+-- what is said where there is no way: none is looked for where no line has the call, which may change once a program is started
+abbrev pub told_without : Bool → ExecBound → List ℕ
+told_without true execs = codes "no way found"
+told_without false Open = codes "never before an exec"
+told_without false _ = codes "never"
+
+-- the lines of a way, or what is said without one
+abbrev pub way_text : Replayed → Question → Option (List (List ℕ)) → List ℕ
+way_text done q (Some lines) = flat_map with_end lines
+way_text done q None = with_end (told_without (may_come done q) (execs_of done.world.tree done.table q.history))
+
+-- lines of a script that are a way to the call on something that is meant, and this is the last number of the nodes that live
+pub record IsWayTo (done : Replayed) (process last : ℕ) (q : Question) (lines : List (List ℕ)) : Type 0 where
+  pub above : IsLast done.world.tree last
+  pub thing : Target
+  pub meant : Contains q.things thing
+  pub asks : List Asked
+  pub read : map (request_of 1) lines ≡ map Ok asks
+  pub way : IsWay done.table done.world process q.call thing asks
+
+-- so is what was found, if something was
+abbrev pub IsFoundFor : Replayed → ℕ → ℕ → Question → Option (List (List ℕ)) → Type 0
+IsFoundFor done process last q None = ⊤
+IsFoundFor done process last q (Some lines) = IsWayTo done process last q lines
+
+-- a text of a way behind a script: the lines of some way to what is asked about, or what is said without one; or the first fault
+pub record IsHowAsked (done : Replayed) (wanted : HowWanted) (answer : Result (List ℕ) ToolFault) : Type 0 where
+  pub last : ℕ
+  pub found : Option (List (List ℕ))
+  pub sound : (q : Question) → question_of done wanted last ≡ Ok q → IsFoundFor done wanted.process last q found
+  pub is : answer ≡ (question_of done wanted last >>= λ q. Ok (way_text done q found))
+
+-- the same of a script over a listing, by the table that is chosen, or the first fault: the table's, the listing's, or the script's
+abbrev pub IsHowAfter : Result Replayed ToolFault → HowWanted → Result (List ℕ) ToolFault → Type 0
+IsHowAfter (Ok done) wanted answer = IsHowAsked done wanted answer
+IsHowAfter (Err fault) wanted answer = answer ≡ Err fault
+
+abbrev pub IsHowText : Chosen → List ℕ → List ℕ → HowWanted → Result (List ℕ) ToolFault → Type 0
+IsHowText choice tree_bytes script_bytes wanted answer = IsHowAfter (replay_of choice tree_bytes script_bytes) wanted answer

@@ -1,0 +1,47 @@
+-- What is asked about behind a script, as the code keeps it.
+use Rattle.std.specs.Prelude.{◌≡◌, ℕ, List, map, flat_map, Option, Some, None, Ok, string_bytes}
+use Rattle.std.specs.List.{AllByRecursion, Contains}
+use Rattle.pua_tree.specs.Tree.{Tree}
+use Rattle.pua_policy.specs.History.{History}
+use Rattle.pua_how.specs.Outlooks.{IsOutlook}
+use Rattle.pua_how.specs.declared.outlook.Outlook.{Outlook}
+use Rattle.pua_how.specs.Served.{IsLine, asks_of}
+use Rattle.pua_how.specs.Targets.{IsLast}
+use Rattle.pua_how.specs.Ways.{IsWay}
+use Rattle.pua_how.specs.declared.line.WayLine.{WayLine}
+use Rattle.pua_how.specs.declared.target.Target.{Target}
+use Rattle.pua_texts.specs.Lines.{with_end}
+use Rattle.pua_tool.specs.HowTexts.{HowWanted, question_of, things_asked, told_without}
+use Rattle.pua_tool.specs.Texts.{Replayed}
+use Rattle.pua_tool.specs.declared.how.Question as given
+
+-- what is asked about, and what the list for ever says of it
+pub record IsQuestion (done : Replayed) (wanted : HowWanted) (q : given.Question) : Type 0 where
+  pub last : ℕ
+  pub above : IsLast done.world.tree last
+  pub history : History
+  pub asked : question_of done wanted last ≡ Ok (record { history = history; call = q.call; things = q.meant.targets.items })
+  pub outlook : IsOutlook done.world.tree done.table history q.meant.targets.items q.call q.outlook
+
+-- lines of a process that are a way to one of some things
+pub record AreWayTo (done : Replayed) (process : ℕ) (q : given.Question) (lines : List WayLine) : Type 0 where
+  pub thing : Target
+  pub meant : Contains q.meant.targets.items thing
+  pub are : AllByRecursion (IsLine process) lines
+  pub way : IsWay done.table done.world process q.call thing (asks_of lines)
+
+-- all that may be meant in a tree
+pub record AreMeant (t : Tree) (h : History) (wanted : HowWanted) (things : List Target) : Type 0 where
+  pub last : ℕ
+  pub above : IsLast t last
+  pub are : things_asked t h wanted last ≡ Ok things
+
+-- the texts of lines
+abbrev pub texts_of : Option (List WayLine) → Option (List (List ℕ))
+texts_of None = None
+texts_of (Some lines) = Some (map (λ line. string_bytes line.text) lines)
+
+-- the lines of a way, or what is said without one
+abbrev pub text_told : Outlook → Option (List (List ℕ)) → List ℕ
+text_told outlook (Some lines) = flat_map with_end lines
+text_told outlook None = with_end (told_without outlook.listed outlook.execs)

@@ -1,0 +1,177 @@
+//! The processes that are asked for together, and why there is no list of them.
+
+ghost use Rattle.std.specs.Prelude.{◌≡◌, ◌≢◌, ℕ, List, None, Some, Ok, Err, IfOk, IfErr, OnOk, map};
+ghost use Rattle.pua_policy.specs.History.{History, StandsFor};
+ghost use Rattle.pua_script.specs.Replay.{World as Replayed};
+ghost use Rattle.pua_script.specs.Worlds.{StandsForWorld};
+ghost use Rattle.pua_texts.specs.Members.{AreMembers};
+ghost use Rattle.pua_texts.specs.TogetherLines.{living};
+ghost use Rattle.pua_tool.specs.TogetherTexts.{all_made, first_other, first_refused, keeps_all};
+ghost use Rattle.pua_tool.specs.TogetherTexts.{numbers_in, other_veils, same_veils};
+
+use crate::ever_fault::reason_of;
+use crate::fault::ToolFault;
+use pua_calls::{CallTable, Perms};
+use pua_ever::why_refused;
+use pua_policy::{Place, Process};
+use pua_script::World;
+use pua_texts::Member;
+use pua_tree::{FileTree, OutOfMemory};
+use pua_words::Members;
+use std::alloc::Global;
+
+/// The processes that are asked for: `NoProcess` where one was never made. The only other fault is
+/// `OutOfMemory`, where a growth was refused.
+pub(crate) fn members_of<'t, T: FileTree>(
+    alloc: Global,
+    world: &'t World<T>,
+    which: &Members,
+) -> Result<Vec<Member<'t>>, ToolFault>
+    ensures made { IfOk result (λ members. (w : Replayed) → StandsForWorld world.now w →
+        (named : List (ℕ × History)) × (all_made w (numbers_in w which.now) ≡ Ok named)
+        × AreMembers members.items named) }
+    ensures refused { IfErr result (λ fault. fault ≢ ToolFault.OutOfMemory → (w : Replayed) →
+        StandsForWorld world.now w → all_made w (numbers_in w which.now) ≡ Err fault) }
+    ensures unwritten { IfErr result (λ fault. fault ≢ ToolFault.Write) }
+{
+    match which {
+        Members::Named(numbers) => made_of(alloc, world, numbers.as_slice()),
+        Members::All => {
+            let Ok(numbers) = world.numbers(alloc) else {
+                return Err(ToolFault::OutOfMemory);
+            };
+            made_of(alloc, world, numbers.as_slice())
+        }
+    }
+}
+
+/// The processes of these numbers.
+fn made_of<'t, T: FileTree>(
+    alloc: Global,
+    world: &'t World<T>,
+    numbers: &[u32],
+) -> Result<Vec<Member<'t>>, ToolFault>
+    ensures made { IfOk result (λ members. (w : Replayed) → StandsForWorld world.now w →
+        (named : List (ℕ × History)) × (all_made w numbers.now ≡ Ok named)
+        × AreMembers members.items named) }
+    ensures refused { IfErr result (λ fault. fault ≢ ToolFault.OutOfMemory → (w : Replayed) →
+        StandsForWorld world.now w → all_made w numbers.now ≡ Err fault) }
+    ensures unwritten { IfErr result (λ fault. fault ≢ ToolFault.Write) }
+{
+    let mut members = Vec::new(alloc);
+    for number in numbers {
+        let Some(process) = world.process(*number) else {
+            return Err(ToolFault::NoProcess);
+        };
+        let member = Member {
+            number: *number,
+            process,
+        };
+        let Ok(()) = members.push(member) else {
+            return Err(ToolFault::OutOfMemory);
+        };
+    }
+    Ok(members)
+}
+
+/// Answers why there is no list of the first of these processes of which there is none.
+pub(crate) fn check_members(members: &[Member<'_>], table: &CallTable) -> Result<(), ToolFault>
+    ensures listed { OnOk result ((named : List (ℕ × History)) → AreMembers members.now named →
+        first_refused table.now named ≡ None) }
+    ensures refused { IfErr result (λ fault. (named : List (ℕ × History)) →
+        AreMembers members.now named → first_refused table.now named ≡ Some fault) }
+    ensures unwritten { IfErr result (λ fault. fault ≢ ToolFault.Write) }
+{
+    for member in members {
+        if let Some(reason) = why_refused(member.process, table) {
+            return Err(reason_of(member.number, reason));
+        }
+    }
+    Ok(())
+}
+
+/// Those of these processes that live. The only fault is that a growth was refused.
+pub(crate) fn living_of<'t>(
+    alloc: Global,
+    members: &[Member<'t>],
+) -> Result<Vec<Member<'t>>, ToolFault>
+    ensures living { IfOk result (λ left. (named : List (ℕ × History)) →
+        AreMembers members.now named → AreMembers left.items (living named)) }
+    ensures memory { IfErr result (λ fault. fault ≡ ToolFault.OutOfMemory) }
+    ensures unwritten { IfErr result (λ fault. fault ≢ ToolFault.Write) }
+{
+    let mut left = Vec::new(alloc);
+    for member in members {
+        if member.process.ended() {
+            continue;
+        }
+        let Ok(()) = left.push(*member) else {
+            return Err(ToolFault::OutOfMemory);
+        };
+    }
+    Ok(left)
+}
+
+/// Answers `OtherVeils` where one of these processes, which live, has other veils than the first. The
+/// only other fault is that a growth was refused.
+pub(crate) fn check_veils(alloc: Global, members: &[Member<'_>]) -> Result<(), ToolFault>
+    ensures alike { OnOk result ((named : List (ℕ × History)) → AreMembers members.now named →
+        other_veils named ≡ None) }
+    ensures refused { IfErr result (λ fault. fault ≢ ToolFault.OutOfMemory →
+        (named : List (ℕ × History)) → AreMembers members.now named →
+        other_veils named ≡ Some fault) }
+    ensures unwritten { IfErr result (λ fault. fault ≢ ToolFault.Write) }
+{
+    let Some((first, more)) = members.split_first() else {
+        return Ok(());
+    };
+    match first_other(alloc, first.process, more) {
+        Ok(Some(other)) => Err(ToolFault::OtherVeils(first.number, other)),
+        Ok(None) => Ok(()),
+        Err(OutOfMemory) => Err(ToolFault::OutOfMemory),
+    }
+}
+
+/// The number of the first of these processes that has other veils than one. The only error is that a
+/// growth was refused.
+fn first_other(
+    alloc: Global,
+    first: &Process,
+    members: &[Member<'_>],
+) -> Result<Option<u32>, OutOfMemory>
+    ensures { IfOk result (λ other. (g : History) (named : List (ℕ × History)) →
+        StandsFor first.now g → AreMembers members.now named → other ≡ first_other g named) }
+{
+    for member in members {
+        let alike = have_same_veils(alloc, first, member.process)?;
+        if !alike {
+            return Ok(Some(member.number));
+        }
+    }
+    Ok(None)
+}
+
+/// Whether two processes keep veils on the same places, with the same letters. The only error is that a
+/// growth was refused.
+fn have_same_veils(alloc: Global, first: &Process, other: &Process) -> Result<bool, OutOfMemory>
+    ensures { IfOk result (λ same. (g h : History) → StandsFor first.now g →
+        StandsFor other.now h → same ≡ same_veils g h) }
+{
+    let of_first = first.veils(alloc)?;
+    let of_other = other.veils(alloc)?;
+    Ok(keeps_all(other, of_first.as_slice()) && keeps_all(first, of_other.as_slice()))
+}
+
+/// Whether a process keeps each of these veils, with the same letters.
+fn keeps_all(process: &Process, veils: &[(&Place, &Perms)]) -> bool
+    ensures { (h : History) → StandsFor process.now h →
+        result ≡ keeps_all h (map (λ veil. (veil.0.now, veil.1.now)) veils.now) }
+{
+    match veils.split_first() {
+        Some((veil, more)) => {
+            let (place, perms) = *veil;
+            process.kept(place) == Some(*perms) && keeps_all(process, more)
+        }
+        None => true,
+    }
+}

@@ -1,0 +1,323 @@
+//! The text of a way to what a process can ever touch.
+
+ghost use Rattle.std.specs.Prelude.{◌≡◌, ◌≢◌, ◌++◌, ℕ, List, Ok, Err, IfErr, IfOk, IfSome, OnOk, Result};
+ghost use Rattle.std.specs.Prelude.{flat_map, map, option_map, string_bytes};
+ghost use Rattle.pua_policy.specs.History.{History, StandsFor};
+ghost use Rattle.pua_texts.specs.Lines.{with_end};
+ghost use Rattle.pua_how.specs.Outlooks.{IsOutlook};
+ghost use Rattle.pua_tool.specs.Answers.{AnswersTo};
+ghost use Rattle.pua_tool.specs.Begun.{IsReplay};
+ghost use Rattle.pua_tool.specs.HowTexts.{IsHowText, question_of, things_asked, told_without};
+ghost use Rattle.pua_tool.specs.HowTexts.{way_wanted};
+ghost use Rattle.pua_tool.specs.Questions.{AreMeant, AreWayTo, IsQuestion, text_told, texts_of};
+ghost use Rattle.pua_tool.specs.Texts.{Replayed, choice_of, replay_of};
+
+use crate::ever_fault::reason_of;
+use crate::fault::ToolFault;
+use crate::objects::put_text;
+use crate::script::{Replay, replay_script};
+use crate::table::TableChoice;
+use pua_calls::{Call, CallTable};
+use pua_ever::{ExecBound, both_of, why_refused};
+use pua_how::{
+    Asking, BestPlans, Meant, Outlook, Plan, Target, WayLine, find_meant, find_outlook, find_plans,
+};
+use pua_io::Sink;
+use pua_policy::Process;
+use pua_tree::FileTree;
+use pua_words::HowWords;
+use std::alloc::{AllocError, Global};
+
+/// Writes a way by which a process comes to a call on something, where the script has been served:
+/// lines of a script, each of this process, each answered `ok` behind the script and the lines before
+/// it, none an exec but the last one, which is the call, on a path that leads to what was asked about
+/// wherever that is then. What is asked about is what a line of the list for ever is about, by the path
+/// that the line has: what stands there, by any of its names, or the missing name; where several are
+/// meant, any of them, or that of the kind that is given. Without a way it writes one line: `never`,
+/// where no line of the list for ever about it has the call, and so none ever comes;
+/// `never before an exec`, where the list holds until a program is started; or `no way found`, which
+/// says nothing.
+///
+/// The first that holds of `Table`, `Listing`, `Script`, `NoProcess`, `CanUnveil`, `LacksC`,
+/// `RenameLacksC`, `LinkLacksC`, `HowCall`, `HowPath` and `HowThing` is answered before anything is
+/// written. So is `OutOfMemory`, wherever a growth was refused. `Write` is answered only where a put
+/// failed in this call, and a front of the text is then written.
+pub fn how_to<S: Sink>(
+    alloc: Global,
+    tree_bytes: &[u8],
+    script_bytes: &[u8],
+    table: TableChoice<'_>,
+    words: &HowWords<'_>,
+    sink: &mut S,
+) -> Result<(), ToolFault>
+    ensures text { (answer : Result (List ℕ) ToolFault)
+        × IsHowText (choice_of table.entry) tree_bytes.now script_bytes.now (way_wanted words.now) answer
+        × AnswersTo S.written S.failed answer result sink.old sink.new }
+{
+    let text = how_text(alloc, tree_bytes, script_bytes, table, words)?;
+    put_text(text.as_str(), sink)
+}
+
+/// The text.
+fn how_text(
+    alloc: Global,
+    tree_bytes: &[u8],
+    script_bytes: &[u8],
+    table: TableChoice<'_>,
+    words: &HowWords<'_>,
+) -> Result<String, ToolFault>
+    ensures done { IfOk result (λ text. IsHowText (choice_of table.entry) tree_bytes.now
+        script_bytes.now (way_wanted words.now) (Ok (string_bytes text))) }
+    ensures refused { IfErr result (λ fault. fault ≢ ToolFault.OutOfMemory →
+        IsHowText (choice_of table.entry) tree_bytes.now script_bytes.now (way_wanted words.now)
+        (Err fault)) }
+    ensures unwritten { IfErr result (λ fault. fault ≢ ToolFault.Write) }
+{
+    let question = asked_behind(alloc, tree_bytes, script_bytes, table, words)?;
+    let process = words.process;
+    let found = find(alloc, tree_bytes, script_bytes, table, process, &question)?;
+    match told(alloc, &question.outlook, found.as_ref()) {
+        Ok(text) => Ok(text),
+        Err(AllocError) => Err(ToolFault::OutOfMemory),
+    }
+}
+
+/// What is asked about behind a script, with what may come to it.
+#[derive(Drop)]
+pub(crate) struct Question {
+    pub(crate) call: Call,
+    pub(crate) meant: Meant,
+    pub(crate) outlook: Outlook,
+    plans: BestPlans,
+}
+
+/// What is asked about behind a script over the tree of a listing, or the first fault. `OutOfMemory`
+/// where a growth was refused.
+fn asked_behind(
+    alloc: Global,
+    tree_bytes: &[u8],
+    script_bytes: &[u8],
+    table: TableChoice<'_>,
+    words: &HowWords<'_>,
+) -> Result<Question, ToolFault>
+    ensures asked { IfOk result (λ question. (done : Replayed)
+        × (replay_of (choice_of table.entry) tree_bytes.now script_bytes.now ≡ Ok done)
+        × IsQuestion done (way_wanted words.now) question) }
+    ensures refused { IfErr result (λ fault. fault ≢ ToolFault.OutOfMemory →
+        IsHowText (choice_of table.entry) tree_bytes.now script_bytes.now (way_wanted words.now)
+        (Err fault)) }
+    ensures unwritten { IfErr result (λ fault. fault ≢ ToolFault.Write) }
+{
+    let replay = replay_script(alloc, tree_bytes, script_bytes, table)?;
+    let question = asked_of(alloc, &replay, words);
+    replay.release();
+    question
+}
+
+/// What is asked about where a replay ends.
+fn asked_of(alloc: Global, replay: &Replay, words: &HowWords<'_>) -> Result<Question, ToolFault>
+    ensures asked { IfOk result (λ question. (done : Replayed) → IsReplay replay.now done →
+        IsQuestion done (way_wanted words.now) question) }
+    ensures refused { IfErr result (λ fault. fault ≢ ToolFault.OutOfMemory →
+        (done : Replayed) → IsReplay replay.now done → (last : ℕ)
+        × (question_of done (way_wanted words.now) last ≡ Err fault)) }
+    ensures unwritten { IfErr result (λ fault. fault ≢ ToolFault.Write) }
+{
+    let world = &replay.world;
+    let Some(process) = world.process(words.process) else {
+        return Err(ToolFault::NoProcess);
+    };
+    let (tree, table) = (world.tree(), world.table());
+    if let Some(reason) = why_refused(process, table) {
+        return Err(reason_of(words.process, reason));
+    }
+    let Some(call) = Call::read(words.call) else {
+        return Err(ToolFault::HowCall);
+    };
+    let meant = meant_by(alloc, tree, process, words)?;
+    let things = meant.targets.as_slice();
+    let outlook = outlook_of(alloc, tree, process, table, things, call)?;
+    let Ok(plans) = find_plans(alloc, tree, process, table, call, &meant) else {
+        return Err(ToolFault::OutOfMemory);
+    };
+    Ok(Question {
+        call,
+        meant,
+        outlook,
+        plans,
+    })
+}
+
+/// All that may be meant, if something is.
+fn meant_by<T: FileTree>(
+    alloc: Global,
+    tree: &T,
+    process: &Process,
+    words: &HowWords<'_>,
+) -> Result<Meant, ToolFault>
+    ensures meant { IfOk result (λ meant. (h : History) → StandsFor process.now h →
+        AreMeant (T.content tree.now) h (way_wanted words.now) meant.targets.items) }
+    ensures refused { IfErr result (λ fault. fault ≢ ToolFault.OutOfMemory →
+        (h : History) → StandsFor process.now h → (last : ℕ)
+        × (things_asked (T.content tree.now) h (way_wanted words.now) last ≡ Err fault)) }
+    ensures unwritten { IfErr result (λ fault. fault ≢ ToolFault.Write) }
+{
+    let Ok(asking) = Asking::read(alloc, words.path) else {
+        return Err(ToolFault::OutOfMemory);
+    };
+    let Some(asking) = asking else {
+        return Err(ToolFault::HowPath);
+    };
+    let Ok(meant) = find_meant(alloc, tree, process, &asking, words.kind) else {
+        return Err(ToolFault::OutOfMemory);
+    };
+    if meant.targets.is_empty() {
+        return Err(ToolFault::HowThing);
+    }
+    Ok(meant)
+}
+
+/// What the list for ever says of it. `OutOfMemory` where a growth was refused.
+fn outlook_of<T: FileTree>(
+    alloc: Global,
+    tree: &T,
+    process: &Process,
+    table: &CallTable,
+    things: &[Target],
+    call: Call,
+) -> Result<Outlook, ToolFault>
+    ensures told { IfOk result (λ found. (h : History) → StandsFor process.now h →
+        IsOutlook (T.content tree.now) table.now h things.now call found) }
+    ensures memory { IfErr result (λ fault. fault ≡ ToolFault.OutOfMemory) }
+    ensures unwritten { IfErr result (λ fault. fault ≢ ToolFault.Write) }
+{
+    let Ok(both) = both_of(alloc, process, table) else {
+        return Err(ToolFault::OutOfMemory);
+    };
+    let Ok(outlook) = find_outlook(alloc, tree, process, both.as_ref(), table, things, call) else {
+        return Err(ToolFault::OutOfMemory);
+    };
+    Ok(outlook)
+}
+
+/// A way to what is asked about, if one of the plans is one; none is served where no line of the list for
+/// ever has the call. `OutOfMemory` where a growth was refused.
+fn find(
+    alloc: Global,
+    tree_bytes: &[u8],
+    script_bytes: &[u8],
+    table: TableChoice<'_>,
+    process: u32,
+    question: &Question,
+) -> Result<Option<Vec<WayLine>>, ToolFault>
+    ensures way { IfOk result (λ found. IfSome found (λ lines. (done : Replayed) →
+        replay_of (choice_of table.entry) tree_bytes.now script_bytes.now ≡ Ok done →
+        AreWayTo done process question.now lines.items)) }
+    ensures memory { IfErr result (λ fault. fault ≡ ToolFault.OutOfMemory) }
+    ensures unwritten { IfErr result (λ fault. fault ≢ ToolFault.Write) }
+{
+    if !question.outlook.listed {
+        return Ok(None);
+    }
+    let (first, second) = (
+        question.plans.first.as_ref(),
+        question.plans.second.as_ref(),
+    );
+    match serve(
+        alloc,
+        tree_bytes,
+        script_bytes,
+        table,
+        process,
+        question,
+        first,
+    )? {
+        Some(lines) => Ok(Some(lines)),
+        None => serve(
+            alloc,
+            tree_bytes,
+            script_bytes,
+            table,
+            process,
+            question,
+            second,
+        ),
+    }
+}
+
+/// Serves a plan in a world behind a script, if there is one. A script that was served once is refused for
+/// want of memory alone.
+fn serve(
+    alloc: Global,
+    tree_bytes: &[u8],
+    script_bytes: &[u8],
+    table: TableChoice<'_>,
+    process: u32,
+    question: &Question,
+    plan: Option<&Plan>,
+) -> Result<Option<Vec<WayLine>>, ToolFault>
+    ensures way { IfOk result (λ found. IfSome found (λ lines. (done : Replayed) →
+        replay_of (choice_of table.entry) tree_bytes.now script_bytes.now ≡ Ok done →
+        AreWayTo done process question.now lines.items)) }
+    ensures memory { IfErr result (λ fault. fault ≡ ToolFault.OutOfMemory) }
+    ensures unwritten { IfErr result (λ fault. fault ≢ ToolFault.Write) }
+{
+    let Some(plan) = plan else {
+        return Ok(None);
+    };
+    let Ok(mut replay) = replay_script(alloc, tree_bytes, script_bytes, table) else {
+        return Err(ToolFault::OutOfMemory);
+    };
+    let served = plan.serve(
+        alloc,
+        &mut replay.world,
+        process,
+        question.call,
+        &question.meant,
+    );
+    replay.release();
+    let Ok(found) = served else {
+        return Err(ToolFault::OutOfMemory);
+    };
+    Ok(found)
+}
+
+/// The lines of a way, or what is said without one.
+fn told(
+    alloc: Global,
+    outlook: &Outlook,
+    found: Option<&Vec<WayLine>>,
+) -> Result<String, AllocError>
+    ensures { IfOk result (λ text. string_bytes text ≡ text_told outlook.now
+        (texts_of (option_map (λ lines. lines.now.items) found.entry))) }
+{
+    let mut text = String::new(alloc);
+    match found {
+        Some(lines) => push_lines(&mut text, lines.as_slice())?,
+        None => text.push_str(without(outlook.listed, outlook.execs))?,
+    }
+    Ok(text)
+}
+
+/// Adds lines, each with its end.
+fn push_lines(text: &mut String, lines: &[WayLine]) -> Result<(), AllocError>
+    ensures { OnOk result (string_bytes text.new ≡ string_bytes text.old
+        ++ flat_map with_end (map (λ line. string_bytes line.text) lines.now)) }
+{
+    for line in lines {
+        text.push_str(line.text.as_str())?;
+        text.push('\n')?;
+    }
+    Ok(())
+}
+
+/// The line of what is said where there is no way.
+fn without(listed: bool, execs: ExecBound) -> &'static str
+    ensures { result.now ≡ with_end (told_without listed execs) }
+{
+    match (listed, execs) {
+        (true, _) => "no way found\n",
+        (false, ExecBound::Open) => "never before an exec\n",
+        (false, _) => "never\n",
+    }
+}

@@ -1,0 +1,180 @@
+//! The text of what several processes can ever touch together.
+
+ghost use Rattle.std.specs.Prelude.{◌≡◌, ◌≢◌, ◌∷◌, ◌++◌, ℕ, List, None, Ok, IfSome, IfOk, IfErr};
+ghost use Rattle.pua_calls.specs.Calls.{CallTable as AnyTable};
+ghost use Rattle.pua_policy.specs.History.{History, StandsFor};
+ghost use Rattle.pua_script.specs.Replay.{World as AnyWorld};
+ghost use Rattle.pua_script.specs.Worlds.{StandsForWorld};
+ghost use Rattle.pua_texts.specs.Members.{AreMembers};
+ghost use Rattle.pua_texts.specs.TogetherLines.{living, one_for, together_list};
+ghost use Rattle.pua_tool.specs.Answers.{AnswersTo};
+ghost use Rattle.pua_tool.specs.Begun.{IsReplay};
+ghost use Rattle.pua_tool.specs.Texts.{Replayed, choice_of};
+ghost use Rattle.pua_tool.specs.TogetherTexts.{first_refused, together_after, together_of};
+ghost use Rattle.pua_tool.specs.TogetherTexts.{together_text};
+
+use crate::acting::{check_members, check_veils, living_of, members_of};
+use crate::ever_fault::fault_of;
+use crate::fault::ToolFault;
+use crate::objects::told;
+use crate::script::{ProgramTree, Replay, replay_script};
+use crate::table::TableChoice;
+use pua_calls::{CallTable, Rules};
+use pua_ever::{both_of, join, list_lasting};
+use pua_io::Sink;
+use pua_policy::Process;
+use pua_script::World;
+use pua_texts::{Joint, Member, answer_text, write_together};
+use pua_tree::OutOfMemory;
+use pua_words::Members;
+use std::alloc::Global;
+
+/// Writes the list for ever of several processes together, of those of some numbers, in their order, or
+/// of all that were ever made: for each line of the script its number and what it was answered, then
+/// `ever P,Q,..`, and of each process the lines `process P alive`, `promises`, `execpromises` and
+/// `unveil`, or `process P ended`. Where one of them lives, there follows what is told once of all that
+/// live, as [`ever_to`](crate::ever_to) tells it of one: whose rules they are, what becomes of the list at
+/// an exec, what promises open by themselves, and the veils; and a line for each thing on which a call
+/// can ever be allowed to them or to what they fork, by what they do together.
+///
+/// The first that holds of `Table`, `Listing`, `Script` and `NoProcess` is answered before anything is
+/// written; then that of `CanUnveil`, `LacksC`, `RenameLacksC` and `LinkLacksC` which the first process
+/// has that has one; then `OtherVeils`, of the first that lives and the first behind it that lives and has
+/// another place with a veil, or other letters at one. So is `OutOfMemory`, wherever a growth was
+/// refused. `Write` is answered only where a put failed in this call, and a front of the text is then
+/// written. A process that has ended adds nothing to the list.
+#[tactic(auto, unfolding(crate::specs::TogetherTexts::together_text))]
+pub fn together_to<S: Sink>(
+    alloc: Global,
+    tree_bytes: &[u8],
+    script_bytes: &[u8],
+    table: TableChoice<'_>,
+    members: &Members,
+    sink: &mut S,
+) -> Result<(), ToolFault>
+    ensures text { AnswersTo S.written S.failed
+        (together_text (choice_of table.entry) tree_bytes.now script_bytes.now members.now)
+        result sink.old sink.new }
+{
+    let replay = replay_script(alloc, tree_bytes, script_bytes, table)?;
+    let written = members_to(alloc, &replay, table.rules, members, sink);
+    replay.release();
+    written
+}
+
+/// Writes the answers of a script, and then the list of the processes that are asked for where the
+/// script ends. Every fault but `Write` is answered before anything is written.
+fn members_to<S: Sink>(
+    alloc: Global,
+    replay: &Replay,
+    rules: Rules,
+    which: &Members,
+    sink: &mut S,
+) -> Result<(), ToolFault>
+    ensures { (done : Replayed) → IsReplay replay.now done →
+        AnswersTo S.written S.failed (together_after rules done which.now) result sink.old
+        sink.new }
+{
+    let members = members_of(alloc, &replay.world, which)?;
+    list_to(alloc, replay, rules, members.as_slice(), sink)
+}
+
+/// Writes the answers of a script, and then the list of these processes where the script ends. Every
+/// fault but `Write` is answered before anything is written.
+fn list_to<S: Sink>(
+    alloc: Global,
+    replay: &Replay,
+    rules: Rules,
+    members: &[Member<'_>],
+    sink: &mut S,
+) -> Result<(), ToolFault>
+    ensures { (done : Replayed) (named : List (ℕ × History)) → IsReplay replay.now done →
+        AreMembers members.now named →
+        AnswersTo S.written S.failed (together_of rules done named) result sink.old sink.new }
+{
+    check_members(members, replay.world.table())?;
+    let living = living_of(alloc, members)?;
+    check_veils(alloc, living.as_slice())?;
+    let Ok(front) = answer_text(alloc, replay.answers.as_slice()) else {
+        return Err(ToolFault::OutOfMemory);
+    };
+    let front = front.as_str();
+    match living.as_slice().split_first() {
+        Some((first, more)) => {
+            joint_to(
+                alloc,
+                &replay.world,
+                rules,
+                members,
+                first,
+                more,
+                front,
+                sink,
+            )
+        }
+        None => {
+            let tree = replay.world.tree();
+            told(write_together(alloc, tree, rules, members, None, front, sink))
+        }
+    }
+}
+
+/// Writes the front of a text, and then the list of these processes, of which the first that lives and
+/// the others that do are given. Every fault but `Write` is answered before anything is written.
+fn joint_to<S: Sink>(
+    alloc: Global,
+    world: &World<ProgramTree>,
+    rules: Rules,
+    members: &[Member<'_>],
+    first: &Member<'_>,
+    more: &[Member<'_>],
+    front: &str,
+    sink: &mut S,
+) -> Result<(), ToolFault>
+    ensures { (table : AnyTable) (w : AnyWorld) (named : List (ℕ × History)) →
+        world.now.table ≡ table → StandsForWorld world.now w → AreMembers members.now named →
+        AreMembers (first.now ∷ more.now) (living named) →
+        first_refused table named ≡ None →
+        AnswersTo S.written S.failed
+        (Ok (front.now ++ together_list rules table w.tree named)) result sink.old sink.new }
+{
+    let (tree, table) = (world.tree(), world.table());
+    let one = join_all(alloc, first, more, table)?;
+    let Ok(both) = both_of(alloc, &one, table) else {
+        return Err(ToolFault::OutOfMemory);
+    };
+    let list = match list_lasting(alloc, tree, &one, both.as_ref(), table) {
+        Ok(list) => list,
+        Err(fault) => return Err(fault_of(first.number, fault)),
+    };
+    let joint = Some(Joint {
+        one: &one,
+        list: &list,
+    });
+    told(write_together(alloc, tree, rules, members, joint, front, sink))
+}
+
+/// Makes the process that stands for these. The only fault is that a growth was refused.
+fn join_all(
+    alloc: Global,
+    first: &Member<'_>,
+    more: &[Member<'_>],
+    table: &CallTable,
+) -> Result<Process, ToolFault>
+    ensures joined { IfOk result (λ one. (named : List (ℕ × History)) →
+        AreMembers (first.now ∷ more.now) named →
+        IfSome (one_for table.now named) (StandsFor one)) }
+    ensures memory { IfErr result (λ fault. fault ≡ ToolFault.OutOfMemory) }
+    ensures unwritten { IfErr result (λ fault. fault ≢ ToolFault.Write) }
+{
+    let mut others = Vec::new(alloc);
+    for member in more {
+        let Ok(()) = others.push(member.process) else {
+            return Err(ToolFault::OutOfMemory);
+        };
+    }
+    match join(alloc, first.process, others.as_slice(), table) {
+        Ok(one) => Ok(one),
+        Err(OutOfMemory) => Err(ToolFault::OutOfMemory),
+    }
+}

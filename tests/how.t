@@ -1,0 +1,218 @@
+#!/usr/bin/perl
+# Tests of `pua how` over the examples, and over random worlds by a fixed seed: perl tests/how.t [PROGRAM [WORLDS]]
+# In each world a process can put no veil any more. For each call that its list for ever has and its list of now
+# lacks, a way is asked for: behind the script, each of its lines is answered `ok`, and the last one is the call on
+# what the line was about, which a model (Model.pm) follows through renames. In the examples all have one, unless what
+# the process starts is bounded: then a program may bring what it does not. In random worlds those that have one are
+# counted, and nearly all do. And for calls that the list of these lacks, as the model of its definition has it
+# (EverModel.pm), there is none, ever.
+use strict;
+use warnings;
+use FindBin qw($Bin);
+use lib "$Bin/lib";
+use File::Basename qw(dirname);
+use Storable qw(dclone);
+use Test::More;
+use EverModel;
+use Lists qw(lists_of);
+use Model;
+use Tables qw(content);
+use Things;
+use Worlds qw(answer_of program_in worlds_told);
+
+my $SEED = 17;
+
+# Of a hundred calls that a list for ever has more than that of now, so many have a way.
+my $LEAST = 99.5;
+
+my $PUA    = program_in(@ARGV);
+my $WORLDS = @ARGV > 1 ? $ARGV[1] : 40;
+my $worlds = Worlds->new($SEED);
+my %counts;
+
+for my $rules (qw(profile openbsd)) {
+    for my $number (1 .. $WORLDS) {
+        my $world = world($rules);
+        my @calls = further($world);
+        is(first_fault($world, sub { fault_of($world, $_) }, @calls), undef, "$rules $number: ways");
+        my @others = others($world);
+        is(first_fault($world, sub { fault_of_never($world, $_) }, @others), undef, "$rules $number: calls without one");
+    }
+    told($rules);
+}
+test_examples();
+done_testing();
+
+# By each rules, of each process behind each script that can put no veil any more, each call has a way.
+sub test_examples {
+    for my $script (glob "$Bin/../examples/*/*script") {
+        my $files = { listing => content(dirname($script) . '/listing'), script => content($script) };
+        my ($name) = $script =~ m{examples/(.*)\z};
+        for my $rules (qw(profile openbsd)) {
+            my $model = Model->new($files->{listing}, { rules => $rules });
+            $model->run($files->{script});
+            test_example($name, with_lists({ files => $files, rules => $rules, model => $model, process => $_ }))
+                for grep { is_confined($model, $_) } $model->living;
+        }
+    }
+    return;
+}
+
+sub test_example {
+    my ($name, $world) = @_;
+    $world->{counted} = 'examples';
+    $world->{has_all} = !grep { "@$_" eq 'exec bounded' } @{ $world->{ever}{state} };
+    my @calls = further($world);
+    is(first_fault($world, sub { fault_of($world, $_) }, @calls), undef, "$name, $world->{rules} $world->{process}: ways");
+    return;
+}
+
+sub is_confined { return $_[0]->state($_[1]) =~ /^unveil (?:locked|given-up)$/m }
+
+# A world in which process 1 lives and can put no veil any more.
+sub world {
+    my ($rules) = @_;
+    while (1) {
+        my $files = { listing => $worlds->listing };
+        $files->{script} = $worlds->script({ askers => [1], veils => 1 + $worlds->number(4), locks => 1 });
+        my $model = Model->new($files->{listing}, { rules => $rules });
+        $model->run($files->{script});
+        next if !is_confined($model, 1);
+        return with_lists({ files => $files, rules => $rules, model => $model, process => 1, counted => $rules });
+    }
+}
+
+# A world with the lists of its process.
+sub with_lists {
+    my ($world) = @_;
+    $world->{now}  = list_of($world);
+    $world->{ever} = list_of($world, '--ever');
+    return $world;
+}
+
+sub list_of {
+    my ($world, @words) = @_;
+    my ($status, $out, $err) = answer_of($PUA, $world->{files}, words_of($world, 'objects', process_of($world), @words));
+    BAIL_OUT("status $status: $err") if $status != 0;
+    return lists_of($out)->{lists}{ $world->{process} };
+}
+
+sub process_of { return ('--process', $_[0]{process}) }
+
+sub words_of {
+    my ($world, $command, @words) = @_;
+    return ($command, '--rules', $world->{rules}, @words, 'listing', 'script');
+}
+
+# The first fault of some questions, which is told with the world.
+sub first_fault {
+    my ($world, $fault_of, @questions) = @_;
+    for (@questions) {
+        my $fault = $fault_of->($_);
+        next if !defined $fault;
+        diag(worlds_told($world->{files}, words_of($world, 'how', process_of($world)), @{$_}{qw(call path kind)}));
+        return $fault;
+    }
+    return;
+}
+
+# The calls that the list for ever has and that of now lacks, each with its line's kind and path.
+sub further {
+    my ($world) = @_;
+    my ($now, @calls) = (Lists::calls_at($world->{now}));
+    for my $line (@{ $world->{ever}{lines} }) {
+        my $had = $now->{"$line->{kind} $line->{path}"} || {};
+        push @calls, map { { call => $_, kind => $line->{kind}, path => $line->{path} } } grep { !$had->{$_} } @{ $line->{calls} };
+    }
+    return @calls;
+}
+
+# What the program answers to a question: its lines.
+sub answer {
+    my ($world, $question) = @_;
+    my @words = (words_of($world, 'how', process_of($world)), @{$question}{qw(call path kind)});
+    my ($status, $out, $err) = answer_of($PUA, $world->{files}, @words);
+    return "status $status: $err" if $status != 0 || $err ne '';
+    return split /\n/, $out;
+}
+
+# What is wrong with the answer for a call that the list for ever has.
+sub fault_of {
+    my ($world, $question) = @_;
+    my ($counts, @way) = ($counts{ $world->{counted} } ||= {}, answer($world, $question));
+    $counts->{calls}++;
+    if ("@way" eq 'no way found') {
+        $counts->{ is_of_file($question) ? 'starts' : 'none' }++;
+        return $world->{has_all} ? "no way to $question->{call} $question->{path}" : undef;
+    }
+    $counts->{ways}++;
+    $counts->{lengths}{@way}++;
+    return fault_of_way($world, $question, @way);
+}
+
+# A file that isn't a program is started by no line of a script, and is listed since a kernel starts what was written.
+sub is_of_file { return $_[0]{call} eq 'exec' && $_[0]{kind} eq 'file' }
+
+# What is wrong with a way: some line isn't answered `ok`, or the last one isn't the call on the thing.
+sub fault_of_way {
+    my ($world, $question, @way) = @_;
+    my %files = %{ $world->{files} };
+    $files{script} .= join '', map { "$_\n" } @way;
+    my ($status, $out, $err) = answer_of($PUA, \%files, words_of($world, 'run'));
+    return "status $status: $err" if $status != 0;
+    my @answers = map { (split / /)[1] } split /\n/, $out;
+    return "not all ok: @way" if grep { $_ ne 'ok' } @answers[ -@way .. -1 ];
+    my $model = dclone($world->{model});
+    my ($process, $call, @words) = split / /, pop @way;
+    $model->answer(split / /) for @way;
+    return "another call: $call" if $process != $world->{process} || $call ne $question->{call};
+    my ($kind, $path) = split / /, $model->subject($process, $call, $words[-1]);
+    my $thing = about($world, $model, $kind, $path);
+    my $asked = about($world, $world->{model}, @{$question}{qw(kind path)});
+    return $thing eq $asked ? undef : "the way leads to $thing, and not to $asked";
+}
+
+# What a kind and a path name in a model: a thing that was there behind the script, or what was made since.
+sub about {
+    my ($world, $model, $kind, $path) = @_;
+    return "new $kind" if $path eq 'new';
+    my ($thing, $number) = Things::thing($model, $kind, $path);
+    return Things::has($world->{model}, $number) ? $thing : "new $kind";
+}
+
+# Some calls that no line of the model's list for ever has on a thing, each with the kind and path of one of its names.
+sub others {
+    my ($world) = @_;
+    my (%has, %at);
+    for my $line (EverModel::lasting($world->{model}, 1)) {
+        my ($kind, $path, $calls) = split / /, $line;
+        my $thing = about($world, $world->{model}, $kind, $path);
+        $has{$thing}{$_} = 1 for split /,/, $calls;
+        $at{$thing} = { kind => $kind, path => $path };
+    }
+    my @all = map { my $thing = $_; map { { %{ $at{$thing} }, call => $_ } } grep { !$has{$thing}{$_} } @Model::CALLS } sort keys %at;
+    return map { $worlds->pick(@all) } @all ? (1 .. 4) : ();
+}
+
+# What is wrong with the answer for a call that no line has.
+sub fault_of_never {
+    my ($world, $question) = @_;
+    my @lines  = EverModel::lasting($world->{model}, 1);
+    my $is_open = grep({ EverModel::has_exec($_) } @lines) && !EverModel::bound($world->{model}, 1);
+    my $wanted = $is_open ? 'never before an exec' : 'never';
+    my $told   = join ' ', answer($world, $question);
+    $counts{ $world->{rules} }{never}++;
+    return $told eq $wanted ? undef : "$told, and not $wanted";
+}
+
+# How many calls have a way, by some rules.
+sub told {
+    my ($rules) = @_;
+    my %told = (ways => 0, none => 0, starts => 0, never => 0, calls => 0, %{ $counts{$rules} });
+    my $lengths = join ', ', map { "$told{lengths}{$_} of $_" } sort { $a <=> $b } keys %{ $told{lengths} || {} };
+    note("$rules: $told{ways} ways of $told{calls} calls ($lengths), none for $told{none} and for the exec of $told{starts} ",
+        "files; $told{never} calls that never come");
+    my $share = 100 * $told{ways} / (($told{ways} + $told{none}) || 1);
+    cmp_ok($share, '>=', $LEAST, "$rules: of a hundred calls, at least $LEAST have a way");
+    return;
+}
