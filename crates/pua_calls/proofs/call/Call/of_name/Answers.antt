@@ -1,7 +1,7 @@
 use Rattle.pua_calls.proofs.Common.{◌∙◌, rules, tests, YieldsList-from_slice, same_bytes, calls}
 use Rattle.std.proofs.lemmas.Iterator.Search.{find_from_yields_List}
 use Rattle.pua_calls.specs.Calls.{call_name}
-use Rattle.pua_calls.proofs.call.Call.read.Goals as goal
+use Rattle.pua_calls.proofs.call.Call.of_name.Goals as goal
 
 pub returns : goal.returns
 returns c =
