@@ -147,12 +147,14 @@ sub test_audit {
     };
 }
 
-# Tests an audit that is resumed after some of its lines, and after some other pair.
+# Tests an audit that is resumed after some of its lines, and after some other pair of a call that the table has.
 sub test_resumed {
     my ($world, $audit, $worlds) = @_;
     my @tried = @{ $audit->{tried} };
     my @allowed = grep { $tried[$_] ne '' } 0 .. $#tried;
-    my @after = ($worlds->number(scalar @tried), map { $worlds->pick(@allowed) } @allowed ? 1 .. $RESUMED : ());
+    my %place = map { $Model::CALLS[$_] => $_ } 0 .. $#Model::CALLS;
+    my $any   = @Model::CALLS * $worlds->number(scalar @{ $audit->{paths} }) + $place{ $worlds->pick($world->{model}->calls) };
+    my @after = ($any, map { $worlds->pick(@allowed) } @allowed ? 1 .. $RESUMED : ());
     for my $at (@after) {
         my ($path, $call) = ($audit->{paths}[ $at / @Model::CALLS ], $Model::CALLS[ $at % @Model::CALLS ]);
         my @words = (@{ $audit->{front} }, '--after', "$call:" . Model::spelled($path), @{ $audit->{end} });
@@ -231,9 +233,10 @@ sub test_given {
 sub test_worlds {
     my $worlds = Worlds->new($SEED);
     for my $number (1 .. $WORLDS) {
+        my @rules = $worlds->number(2) ? () : ('--rules', 'openbsd');
+        $worlds->by(@rules ? 'openbsd' : 'profile');
         my %files = (listing => $worlds->listing);
         $files{script} = $worlds->number(4) ? $worlds->script({}) : $worlds->moving_script;
-        my @rules = $worlds->number(2) ? () : ('--rules', 'openbsd');
         if ($worlds->number(5) == 0) {
             $files{table} = $worlds->table;
             push @rules, '--table', 'table';

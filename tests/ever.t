@@ -1,5 +1,5 @@
 #!/usr/bin/perl
-# Tests of `pua objects --ever` over random worlds by a fixed seed: perl tests/ever.t [PROGRAM]
+# Tests of `pua objects --ever` over random worlds by a fixed seed: perl tests/ever.t [PROGRAM [SEED]]
 # In each world process 1 can put no veil any more. What it can touch now lies within what it can ever touch; and so
 # does what it and what it forks can touch behind random requests of theirs: short of an exec that succeeds where what
 # is started isn't bounded, and else whatever is started, so that a future goes on. Things are followed through renames
@@ -20,7 +20,6 @@ use Model;
 use Things;
 use Worlds qw(answer_of program_in worlds_told);
 
-my $SEED   = 7;
 my $WORLDS = 40;
 my $PAIRS  = 15;
 my $PLAYS  = 12;
@@ -32,7 +31,8 @@ my $WITNESS = 9;
 # A process that process 1 forks when it can put no veil any more.
 my $CHILD = 2;
 
-my $PUA = program_in(@ARGV);
+my $PUA  = program_in(@ARGV);
+my $SEED = @ARGV > 1 ? $ARGV[1] : 7;
 
 # What the process pledges at last.
 my @PLEDGES = (
@@ -51,7 +51,7 @@ my @PERMISSIONS = qw(rwxc rwxc rwc wc rc xc c c r r rw rx x w =);
 my @RULES = qw(profile profile openbsd table);
 
 # The calls that have to need c, in the order in which the program says that one doesn't.
-my @NEED_C = qw(rmdir unlink create mkdir symlink);
+my @NEED_C = qw(rmdir unlink create mkdir symlink bind mknod);
 
 my $worlds = Worlds->new($SEED);
 my %counts = map { $_ => 0 } qw(lists answers calls met execs bounded started tries plays);
@@ -136,6 +136,7 @@ sub ever_of {
 # A listing and a script, with a table by which no call lacks c.
 sub drawn {
     my ($rules) = @_;
+    $worlds->by($rules);
     my $files = { listing => $worlds->listing, table => '' };
     my $words = $rules eq 'table' ? [ '--table', 'table' ] : [ '--rules', $rules ];
     while (1) {
@@ -162,8 +163,14 @@ sub first_script {
     my @veils = map { veil(@rows) } 0 .. 1 + $worlds->number(3);
     unshift @veils, nested_veils(@rows) if $worlds->number(3) == 0;
     my @locks = ('1 unveil - -', '1 unveil - -', '1 pledge stdio,rpath,wpath,cpath,fattr,exec,proc -');
-    my @last  = $worlds->number(3) ? $worlds->pick(@PLEDGES) : ();
+    my @last  = $worlds->number(3) ? last_pledge() : ();
     return join '', "1 fork $WITNESS\n", @edits, map { "$_\n" } @veils, $worlds->pick(@locks), "1 fork $CHILD", @last;
+}
+
+# What the process pledges at last, by OpenBSD's rules mostly with the promise of sockets.
+sub last_pledge {
+    my ($process, $call, @lists) = split / /, $worlds->pick(@PLEDGES);
+    return join ' ', $process, $call, map { $worlds->promises($_) } @lists;
 }
 
 # A line that puts a veil on what stands in a tree, or on a name in it that may be missing; mostly one with c.
@@ -225,11 +232,14 @@ sub beyond_now {
     return;
 }
 
-# The first line for ever of one of two that the list of both doesn't have, with all its calls.
+# The first line for ever of one of two that the list of both doesn't have, with all its calls. Where that of both
+# holds until a program is started and that of one goes on through it, the latter may have more.
 sub beyond_alone {
     my ($world) = @_;
     for my $process (@{ $world->{members} }) {
-        my $fault = Lists::beyond(ever_of($world, $process), $world->{ever});
+        my $alone = ever_of($world, $process);
+        next if is_exec($alone, 'bounded') && is_exec($world->{ever}, 'open');
+        my $fault = Lists::beyond($alone, $world->{ever});
         return "process $process: $fault" if defined $fault;
     }
     return;
@@ -269,7 +279,10 @@ sub exec_wanted {
     return EverModel::bound(@whose) ? 'bounded' : 'open';
 }
 
-sub is_bounded { my $word = exec_word($_[0]); return defined $word && $word eq 'bounded' }
+# Whether a list for ever says this word of execs.
+sub is_exec { my ($list, $word) = @_; return grep { $_ eq $word } Lists::state_of($list, 'exec') }
+
+sub is_bounded { return is_exec($_[0]{ever}, 'bounded') ? 1 : 0 }
 
 # The lists for ever of process 1, of the child, and of the world, and those of the model, if they differ.
 sub not_modelled {
@@ -441,8 +454,10 @@ sub refusals {
         'pua: processes 1 and 2 have other veils', '--process', 'all');
     for my $call (@NEED_C) {
         my $files = { script => "1 unveil - -\n", table => table_without_c($call) };
-        is_refused("a table by which $call needs no c", $files, "pua: table: $call: no c", '--table', 'table');
+        my @rules = $call =~ /\A(?:bind|mknod)\z/ ? ('--rules', 'openbsd') : ();
+        is_refused("a table by which $call needs no c", $files, "pua: table: $call: no c", @rules, '--table', 'table');
     }
+    $worlds->by('profile');
     my $files = { script => "1 unveil - -\n", table => table_without_c(qw(symlink create mkdir)) };
     is_refused('a table by which three calls need no c', $files, 'pua: table: create: no c', '--table', 'table');
     $files->{script} = '';
@@ -469,7 +484,7 @@ sub is_refused {
     return;
 }
 
-# Random tables: there is a list for ever where each of the five calls needs c, and else none.
+# Random tables: there is a list for ever where each of the calls needs c that edit a tree, and else none.
 sub tabled_worlds {
     my ($lacks, @wrong) = (0);
     for (1 .. 40) {

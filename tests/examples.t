@@ -18,7 +18,7 @@ my $PROGRAM = program_in(@ARGV);
 my $EXAMPLES = "$Bin/../examples";
 
 # The files by which OpenBSD's rules give other objects. Where there is none, the state alone tells of these rules.
-my %BY_OPENBSD = (aliases => 'openbsd-output');
+my %BY_OPENBSD = map { $_ => 'openbsd-output' } qw(aliases first-run key-directory patch socket-server);
 
 # The words by which a text is asked for.
 my %HELP = (
@@ -30,7 +30,7 @@ my %HELP = (
     tight   => ['tight --help', 'help tight'],
     how     => ['how --help', 'help how'],
 );
-my $VERSION = "pua 0.1.0\nrattle-kit-13b logic dac8208d650f15bf\n";
+my $VERSION = "pua 0.1.0\nrattle-kit-13f logic dac8208d650f15bf\n";
 
 # Tests what a command writes, and its status.
 sub is_told {

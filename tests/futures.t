@@ -41,8 +41,7 @@ my @CLAIMS = (
     [ \&name_fault,   'names without c stay' ],
 );
 
-my %EVERY_CALL = map { $_ => 1 } @Model::CALLS;
-my %EDITS = map { $_ => 1 } qw(create mkdir rmdir unlink symlink rename link);
+my %EDITS = map { $_ => 1 } qw(create mkdir rmdir unlink symlink bind mknod rename link);
 
 my $worlds = Worlds->new($SEED);
 my %counts = map { $_ => 0 } qw(edits lists alike audits children names);
@@ -69,7 +68,7 @@ sub world {
     my ($world, $model) = begun($how);
     ($world, $model) = begun($how)
         while $worlds->number(5) && !grep { /c/ } values %{ $model->{processes}{1}{letters} };
-    my $futures = Futures->new($worlds, \%EVERY_CALL, { proc => 1, exec => 1 }, 10);
+    my $futures = Futures->new($worlds, calls(), { proc => 1, exec => 1 }, 10);
     for (1 .. $LINES / $AT_ONCE) {
         my @askers = (1, 1, 2, 3, grep { $_ != $WITNESS } $model->living);
         my @lines = $worlds->number(4) ? drawn($futures, $model, @askers) : $worlds->requests($AT_ONCE, @askers);
@@ -88,9 +87,13 @@ sub drawn {
     return $futures->lines($model, $list, $AT_ONCE, @askers);
 }
 
+# All calls that there are by the rules of the worlds.
+sub calls { return { map { $_ => 1 } $worlds->calls, 'symlink' } }
+
 # Its first lines, and their model.
 sub begun {
     my ($how)  = @_;
+    $worlds->by($how->{rules} || 'profile');
     my $world  = { how => $how, listing => $worlds->listing };
     my $script = $worlds->script({ veils => 3, locks => 1, lines => 0, ends => 0 });
     my @veils  = grep { $_ ne '1 fork 2' } split /\n/, $script;
@@ -143,7 +146,7 @@ sub further {
     return if !@confined;
     my ($asker, @forked) = $worlds->pick(@confined);
     my $model   = dclone($cut->{model});
-    my $futures = Futures->new($worlds, \%EVERY_CALL, { proc => 1, exec => 0 }, 50);
+    my $futures = Futures->new($worlds, calls(), { proc => 1, exec => 0 }, 50);
     my @lines;
     for (1 .. $LINES / $AT_ONCE) {
         my @more = drawn($futures, $model, $asker, @forked);

@@ -4,7 +4,8 @@
 # lacks, a way is asked for: behind the script, each of its lines is answered `ok`, and the last one is the call on
 # what the line was about, which a model (Model.pm) follows through renames. In the examples all have one, unless what
 # the process starts is bounded: then a program may bring what it does not. In random worlds those that have one are
-# counted, and nearly all do. And for calls that the list of these lacks, as the model of its definition has it
+# counted, and nearly all do. The list for ever with the steps of ways has these calls in its columns, and no others,
+# each with the number of the way's lines. And for calls that the list of these lacks, as the model of its definition has it
 # (EverModel.pm), there is none, ever.
 use strict;
 use warnings;
@@ -26,7 +27,7 @@ my $SEED = 17;
 my $LEAST = 99.5;
 
 my $PUA    = program_in(@ARGV);
-my $WORLDS = @ARGV > 1 ? $ARGV[1] : 40;
+my $WORLDS = @ARGV > 1 ? $ARGV[1] : 120;
 my $worlds = Worlds->new($SEED);
 my %counts;
 
@@ -35,6 +36,7 @@ for my $rules (qw(profile openbsd)) {
         my $world = world($rules);
         my @calls = further($world);
         is(first_fault($world, sub { fault_of($world, $_) }, @calls), undef, "$rules $number: ways");
+        test_columns($world, "$rules $number", @calls);
         my @others = others($world);
         is(first_fault($world, sub { fault_of_never($world, $_) }, @others), undef, "$rules $number: calls without one");
     }
@@ -64,6 +66,15 @@ sub test_example {
     $world->{has_all} = !grep { "@$_" eq 'exec bounded' } @{ $world->{ever}{state} };
     my @calls = further($world);
     is(first_fault($world, sub { fault_of($world, $_) }, @calls), undef, "$name, $world->{rules} $world->{process}: ways");
+    test_columns($world, "$name, $world->{rules} $world->{process}", @calls);
+    return;
+}
+
+# The columns of the list for ever have these calls, and no others.
+sub test_columns {
+    my ($world, $name, @calls) = @_;
+    my @told = map { join ' ', @{$_}{qw(kind path call)} } @calls;
+    is_deeply([sort keys %{ $world->{steps} }], [sort @told], "$name: the calls of the columns");
     return;
 }
 
@@ -72,6 +83,7 @@ sub is_confined { return $_[0]->state($_[1]) =~ /^unveil (?:locked|given-up)$/m 
 # A world in which process 1 lives and can put no veil any more.
 sub world {
     my ($rules) = @_;
+    $worlds->by($rules);
     while (1) {
         my $files = { listing => $worlds->listing };
         $files->{script} = $worlds->script({ askers => [1], veils => 1 + $worlds->number(4), locks => 1 });
@@ -87,6 +99,7 @@ sub with_lists {
     my ($world) = @_;
     $world->{now}  = list_of($world);
     $world->{ever} = list_of($world, '--ever');
+    $world->{steps} = steps_of(list_of($world, '--ever', '--how'));
     return $world;
 }
 
@@ -98,6 +111,16 @@ sub list_of {
 }
 
 sub process_of { return ('--process', $_[0]{process}) }
+
+# The numbers of steps in the columns of a list, by kind, path and call.
+sub steps_of {
+    my ($list) = @_;
+    my %steps;
+    for my $line (@{ $list->{lines} }) {
+        $steps{"$line->{kind} $line->{path} $_"} = $line->{steps}{$_} for keys %{ $line->{steps} };
+    }
+    return \%steps;
+}
 
 sub words_of {
     my ($world, $command, @words) = @_;
@@ -140,9 +163,12 @@ sub answer {
 sub fault_of {
     my ($world, $question) = @_;
     my ($counts, @way) = ($counts{ $world->{counted} } ||= {}, answer($world, $question));
+    my $steps = $world->{steps}{ join ' ', @{$question}{qw(kind path call)} };
+    my $found = "@way" eq 'no way found' ? '?' : @way;
+    return "$steps steps are told of, and not $found" if $steps ne $found;
     $counts->{calls}++;
     if ("@way" eq 'no way found') {
-        $counts->{ is_of_file($question) ? 'starts' : 'none' }++;
+        $counts->{ why_none($world, $question) }++;
         return $world->{has_all} ? "no way to $question->{call} $question->{path}" : undef;
     }
     $counts->{ways}++;
@@ -152,6 +178,31 @@ sub fault_of {
 
 # A file that isn't a program is started by no line of a script, and is listed since a kernel starts what was written.
 sub is_of_file { return $_[0]{call} eq 'exec' && $_[0]{kind} eq 'file' }
+
+# Why a call may have no way.
+sub why_none {
+    my ($world, $question) = @_;
+    return 'starts' if is_of_file($question);
+    return 'brought' if is_brought($world, $question);
+    return takes_none($world) ? 'kept' : 'none';
+}
+
+# A call that the list of its own doing lacks is brought by a program that the process starts.
+sub is_brought {
+    my ($world, $question) = @_;
+    for my $line (EverModel::lines($world->{model}, $world->{process})) {
+        my ($kind, $path, $calls) = split / /, $line;
+        return 0 if "$kind $path" eq "$question->{kind} $question->{path}" && grep { $_ eq $question->{call} } split /,/, $calls;
+    }
+    return 1;
+}
+
+# A process without the promises to take names away frees none, though the list has what comes where one with `c` is freed.
+sub takes_none {
+    my ($world) = @_;
+    my ($model, $process) = ($world->{model}, $world->{model}{processes}{ $world->{process} });
+    return !grep { EverModel::lets($model, $process, $_) } qw(rmdir unlink);
+}
 
 # What is wrong with a way: some line isn't answered `ok`, or the last one isn't the call on the thing.
 sub fault_of_way {
@@ -190,7 +241,7 @@ sub others {
         $has{$thing}{$_} = 1 for split /,/, $calls;
         $at{$thing} = { kind => $kind, path => $path };
     }
-    my @all = map { my $thing = $_; map { { %{ $at{$thing} }, call => $_ } } grep { !$has{$thing}{$_} } @Model::CALLS } sort keys %at;
+    my @all = map { my $thing = $_; map { { %{ $at{$thing} }, call => $_ } } grep { !$has{$thing}{$_} } $world->{model}->calls } sort keys %at;
     return map { $worlds->pick(@all) } @all ? (1 .. 4) : ();
 }
 
@@ -208,10 +259,11 @@ sub fault_of_never {
 # How many calls have a way, by some rules.
 sub told {
     my ($rules) = @_;
-    my %told = (ways => 0, none => 0, starts => 0, never => 0, calls => 0, %{ $counts{$rules} });
+    my %told = (ways => 0, none => 0, starts => 0, brought => 0, kept => 0, never => 0, calls => 0, %{ $counts{$rules} });
     my $lengths = join ', ', map { "$told{lengths}{$_} of $_" } sort { $a <=> $b } keys %{ $told{lengths} || {} };
-    note("$rules: $told{ways} ways of $told{calls} calls ($lengths), none for $told{none} and for the exec of $told{starts} ",
-        "files; $told{never} calls that never come");
+    note("$rules: $told{ways} ways of $told{calls} calls ($lengths), none for $told{none}, for the exec of $told{starts} files, for ",
+        "$told{brought} that a started program brings, and for $told{kept} where no name can be freed; ",
+        "$told{never} calls that never come");
     my $share = 100 * $told{ways} / (($told{ways} + $told{none}) || 1);
     cmp_ok($share, '>=', $LEAST, "$rules: of a hundred calls, at least $LEAST have a way");
     return;

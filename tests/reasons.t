@@ -39,6 +39,12 @@ my %NEEDS = (
     chmod => ['fattr'], exec => ['exec'],
 );
 
+# What is otherwise by OpenBSD's rules.
+my %OPENBSD = (
+    chmod => ['rpath,fattr'], connect => ['unix'], bind => ['unix'], mknod => ['dpath'],
+    chown => [ 'rpath,chown', 'rpath,fattr' ],
+);
+
 # What is otherwise by a table, which has what no rules have: a call without promises, and calls with several
 # sets. And the letters that it asks.
 my %OTHERS = (
@@ -60,7 +66,7 @@ sub table {
 # By which rules one world after the other is asked, and what calls need by these.
 my @RULES = (
     [ {}, \%NEEDS ],
-    [ { rules => 'openbsd' }, { %NEEDS, chmod => ['rpath,fattr'] } ],
+    [ { rules => 'openbsd' }, { %NEEDS, %OPENBSD } ],
     [ { table => table() }, { %NEEDS, %OTHERS } ],
 );
 
@@ -167,6 +173,7 @@ for (@by_hand) {
 my $worlds = Worlds->new($SEED);
 for my $number (1 .. $WORLDS) {
     my ($how, $needs) = @{ $RULES[ $number % @RULES ] };
+    $worlds->by($how->{rules} || 'profile');
     my $world  = Why::World->new($PROGRAM, $worlds->listing, $how);
     my $script = refused_script($worlds);
     ask($world, "world $number", $script, $number % $WHY_IN == 1);

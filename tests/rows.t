@@ -3,8 +3,9 @@
 #
 #     perl tests/rows.t [--plain] [PROGRAM]
 #
-# Each audit that a row has whole is also resumed after each of its lines. With --plain the program is one that knows the
-# standard table of calls alone, and no reasons: rows that ask for more are left out.
+# Each audit that a row has whole is also resumed after each of its lines. With --plain the program is one that reads no
+# table of calls, has no reasons, and lists for ever by the standard rules alone, of one process, saying nothing of execs:
+# rows that ask for more are left out.
 use strict;
 use warnings;
 use FindBin qw($Bin);
@@ -95,8 +96,9 @@ sub is_left_out {
     my ($entry, @words) = @_;
     return 0 if !$is_plain;
     return 1 if @words && $words[0] =~ /\A(?:why|tight|how)\z/;
-    return 1 if grep({ $_ eq '--ever' } @words) && grep { /\A(?:all|\d+(?:,\d+)+)\z/ } @words;
-    return ($entry->{status} || 0) != 2 && grep { /\A--(?:table|rules|why)/ } @words;
+    my $is_ever = grep { $_ eq '--ever' } @words;
+    return 1 if $is_ever && (text($entry, 'state') =~ /^exec /m || grep { /\A(?:all|\d+(?:,\d+)+)\z/ } @words);
+    return ($entry->{status} || 0) != 2 && grep { /\A--(?:table|why|how)/ || $is_ever && /\A--rules/ } @words;
 }
 
 sub is_right {

@@ -5,7 +5,7 @@
 #
 # - What is printed is the script that one trial after another leaves, as the model (Tight.pm) has it, to the byte.
 # - It is answered as the given script, line by line; without any one word more some line is answered otherwise.
-# - Where each call rests on one set of promises, whatever else is left out has all that is printed.
+# - Where each request rests on one set of promises, whatever else is left out has all that is printed.
 # - Printed once more it stays as it is.
 # - Each process may do no more than after the given script: the state, the objects, and the list for ever.
 # - What is said of each word (--why) is so.
@@ -180,9 +180,11 @@ for my $example (sort grep { -d } glob "$Bin/../examples/*") {
 }
 for my $number (1 .. $WORLDS) {
     my $listing = $worlds->listing;
+    $worlds->by($number % 3 == 2 ? 'openbsd' : 'profile');
     my %how = $number % 3 == 1 ? () : $number % 3 == 2 ? (rules => 'openbsd') : (table => $worlds->table);
     my $text = $number % 5 ? $worlds->script({ lines => 2 + $worlds->number(8) }) : $worlds->moving_script;
-    is_right("world $number", Tight->new($PROGRAM, $listing, %how), !$how{table}, lines_in($text));
+    my $has_one_set = !$how{table} && $text !~ /^\S+\s+chown\s/m;
+    is_right("world $number", Tight->new($PROGRAM, $listing, %how), $has_one_set, lines_in($text));
 }
 note "$count{words} words, of which $count{left} are left; $count{lines} lines of objects, $count{fewer} fewer after";
 note "$count{least} scripts of few words are answered alike; $count{runs} runs";

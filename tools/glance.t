@@ -190,7 +190,6 @@ process 1: veils 1, locked; read 0, written 1, executed 0, made 2, removed 0
     opens past the veils /etc/resolv.conf, /etc/hosts
 process 2: veils 0, locked; read 0, written 0, executed 0, made 0, removed 0
     no veils at all: it touches what is not listed too
-    connects to each socket, and binds sockets anywhere: no line shows it
 OUT
 
 tells('lists for ever', <<'END', split /\n/, <<'OUT');

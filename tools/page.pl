@@ -114,9 +114,10 @@ sub node {
 }
 
 # A row: what stands in the first column, and the calls on a thing of this kind in theirs; those
-# of a list for ever that aren't among $now, the calls of the list of now, are marked.
+# of a list for ever that aren't among $now, the calls of the list of now, or have their $steps, are
+# marked.
 sub row {
-    my ($tag, $first, $kind, $calls, $now, @why) = @_;
+    my ($tag, $first, $kind, $calls, $now, $steps, @why) = @_;
     my $cells = columns($kind, $calls);
     my %was = map { $_ => 1 } split /,/, defined $now ? $now : '';
     $first .= ' <small>by ' . text("@why") . '</small>' if @why;
@@ -124,8 +125,10 @@ sub row {
     for my $column (@COLUMNS, $cells->{else} ? 'else' : ()) {
         my @texts;
         for my $call (@{ $cells->{$column} || [] }) {
-            my $is_more = defined $now && !$was{$call};
-            push @texts, $is_more ? '<b class="more">' . text($call) . '</b>' : text($call);
+            my $count   = ($steps || {})->{$call};
+            my $is_more = defined $count || defined $now && !$was{$call};
+            my $title   = !defined $count ? '' : ' title="' . steps_title($count) . '"';
+            push @texts, $is_more ? "<b class=\"more\"$title>" . text($call) . '</b>' : text($call);
         }
         push @cells, "<span title=\"$column\">@texts</span>";
     }
@@ -137,7 +140,13 @@ sub row {
 sub row_of {
     my ($tag, $first, $kind, $said) = @_;
     my ($says) = @$said or return row($tag, $first, $kind);
-    return row($tag, $first, $kind, @$says{qw(calls now)}, @{ $says->{why} });
+    return row($tag, $first, $kind, @$says{qw(calls now steps)}, @{ $says->{why} });
+}
+
+# What is said of the number of steps to a call.
+sub steps_title {
+    my ($count) = @_;
+    return $count eq '?' ? 'no way found' : $count eq '1' ? 'in 1 step' : "in $count steps";
 }
 
 # The pieces of a page, of which some are lists of pieces, one after the other.
@@ -246,14 +255,17 @@ sub add_list {
     push @$page, "<h2>What process $list->{process} can " . ($list->{ever} ? 'ever ' : '')
         . "touch</h2>\n";
     push @$page, "<p>What the list of now does not have is <b class=\"more\">marked</b>.</p>\n"
-        if $now;
+        if $now || $list->{steps};
     add_state($page, $tree, $list);
     push @$page, "<div class=\"row head\">", (map { "<span>$_</span>" } 'name', @COLUMNS),
         "</div>\n";
     for my $object (@{ $list->{objects} }) {
         my ($kind, $path, $calls, @why) = @$object;
         my $node = $path eq 'new' ? { kind => '' } : node($tree, $path);
-        my $said = { calls => $calls, why => \@why, now => $now && ($was{"$kind $path"} || '') };
+        my $said = {
+            calls => $calls, why => \@why, now => $now && ($was{"$kind $path"} || ''),
+            steps => ($list->{steps} || {})->{"$kind $path"},
+        };
         if ($path eq 'new') {
             push @$page, row_of('div', "<i>new</i> <small>$kind</small>", $kind, [$said]);
         } elsif ($kind eq 'other') {

@@ -138,6 +138,15 @@ my @site = ('1 dir 0 www', '2 dir 1 site', '3 file 2 index', '4 file 1 key', '5 
     like($page, qr{<li><code>limits none</code> </li>}, 'a line of the state that is not known stands as it is');
 }
 
+# The steps of ways in a list for ever.
+{
+    my $page = page_of('steps', \@site, ['1 ok', 'ever 1', 'process alive', 'file /www/key stat,open-r open-r 2',
+        'file new open-w open-w ?']);
+    my %told = reverse $page =~ m{<b class="more" title="([^"]*)">([^<]*)</b>}g;
+    is_deeply(\%told, { 'open-r' => 'in 2 steps', 'open-w' => 'no way found' }, 'calls with their steps are marked');
+    unlike($page, qr{>by open-r}, 'and they are no reasons');
+}
+
 # Programs that it starts: said where one can be executed. Sockets: said where no line shows them.
 {
     my $says = sub {
@@ -155,7 +164,7 @@ my @site = ('1 dir 0 www', '2 dir 1 site', '3 file 2 index', '4 file 1 key', '5 
     my $sockets = 'unix: no line shows that it can connect to each socket where a veil has w, and bind one where a veil has c';
     is($says->('promises stdio,unix', 'execpromises stdio', @veil), $sockets, 'sockets without lines');
     is($says->('rules openbsd', 'promises stdio,unix', 'execpromises stdio', 'opening /etc/hosts open-r', 'opening /tmp/ create veils', @veil),
-        "as OpenBSD&#39;s kernel is known to answer; $sockets; no veil hides it", 'openings, and sockets without lines');
+        'as OpenBSD&#39;s kernel is known to answer; no veil hides it', 'openings, and no sockets that can be connected to');
     is($says->('rules openbsd', 'promises stdio,unix', 'execpromises stdio', @veil, 'file /www/s connect'),
         'as OpenBSD&#39;s kernel is known to answer', 'sockets with lines');
     is($says->('promises stdio', 'execpromises stdio', 'no veils', 'unveil locked', 'exec bounded'),

@@ -17,8 +17,8 @@
 #                    the root.
 #     -e FILE        writes into FILE what the kernel answered to the lines of the script, as `pua
 #                    run` does: so `pua run TREE SCRIPT | diff FILE -` shows where the two differ.
-#     -k             writes connect, bind, mknod (mkfifo too) and chown as lines of their own, for
-#                    a pua that knows these calls by its rules of OpenBSD.
+#     -k             writes connect, bind, mknod (mkfifo too) and chown as lines of their own,
+#                    which `pua` knows as calls by `--rules openbsd` alone.
 #     -l             keeps what ld.so opens for a program.
 #     -o FILE        writes into FILE what each process still had open at its end, or at the end
 #                    of the trace, though it was opened before the last pledge or lock of the

@@ -414,6 +414,7 @@ const EXEC: u64 = 1 << 9;
 const FATTR: u64 = 1 << 10;
 const PROC: u64 = 1 << 17;
 const RPATH: u64 = 1 << 22;
+const UNIX: u64 = 1 << 29;
 const UNVEIL: u64 = 1 << 30;
 const WPATH: u64 = 1 << 34;
 const ALL_BUT_ERROR: u64 = ((1 << 36) - 1) & !ERROR;
@@ -441,10 +442,13 @@ enum Call {
     Chmod,
     Chdir,
     Exec,
+    Connect,
+    Bind,
 }
 
-/// Each call with its name, what it needs, and whether it follows a link at its path's end.
-const CALLS: [(Call, &str, u64, u8, bool); 14] = [
+/// Each call with its name, what it needs, and whether it follows a link at its path's end; by the standard table the
+/// first fourteen alone are calls.
+const CALLS: [(Call, &str, u64, u8, bool); 16] = [
     (Call::Stat, "stat", RPATH, R, true),
     (Call::Lstat, "lstat", RPATH, R, false),
     (Call::Readlink, "readlink", RPATH, R, false),
@@ -459,15 +463,18 @@ const CALLS: [(Call, &str, u64, u8, bool); 14] = [
     (Call::Chmod, "chmod", FATTR, W, true),
     (Call::Chdir, "chdir", RPATH, R, true),
     (Call::Exec, "exec", EXEC, X, true),
+    (Call::Connect, "connect", UNIX, W, true),
+    (Call::Bind, "bind", UNIX, C, false),
 ];
 
-/// What calls need: sets of promises, of which one has to be held, and letters; what rename and link need of their old
-/// names, whose new ones need `cpath` and `c`; and whether execpromises stay after an exec.
+/// What calls need: sets of promises, of which one has to be held, and letters, and without a set a word is no call; what
+/// rename and link need of their old names, whose new ones need `cpath` and `c`; whether these are OpenBSD's rules, by
+/// which execpromises stay after an exec, and lists say what promises open by themselves.
 struct Rules {
-    calls: [(Vec<u64>, u8); 14],
+    calls: [(Vec<u64>, u8); 16],
     rename: OldName,
     link: OldName,
-    is_exec_kept: bool,
+    is_openbsd: bool,
 }
 
 struct OldName {
@@ -485,11 +492,22 @@ fn rules() -> &'static Rules {
 
 impl Rules {
     fn standard() -> Rules {
+        let is_call = |call| !matches!(call, Call::Connect | Call::Bind);
         Rules {
-            calls: CALLS.map(|(_, _, promises, letters, _)| (vec![promises], letters)),
+            calls: CALLS.map(|(call, _, promises, letters, _)| (Vec::from_iter(is_call(call).then_some(promises)), letters)),
             rename: OldName { promises: CPATH, letters: C, is_followed: false },
             link: OldName { promises: CPATH, letters: C, is_followed: false },
-            is_exec_kept: false,
+            is_openbsd: false,
+        }
+    }
+
+    fn openbsd() -> Rules {
+        let promises = |call, promises| if call == Call::Chmod { RPATH | promises } else { promises };
+        Rules {
+            calls: CALLS.map(|(call, _, own, letters, _)| (vec![promises(call, own)], letters)),
+            rename: OldName { promises: RPATH | CPATH, letters: R | C, is_followed: false },
+            link: OldName { promises: RPATH, letters: R, is_followed: true },
+            is_openbsd: true,
         }
     }
 }
@@ -515,17 +533,20 @@ fn object(tree: &Tree, found: Found) -> Object {
 fn object_fault(call: Call, object: Object) -> Option<Errno> {
     use Call::*;
     match (object, call) {
-        (Object::Missing, Create | Mkdir | Symlink) => None,
+        (Object::Missing, Create | Mkdir | Symlink | Bind) => None,
         (Object::Missing, _) => Some("ENOENT"),
         (_, Mkdir | Symlink) => Some("EEXIST"),
+        (_, Bind) => Some("EADDRINUSE"),
         (Object::Dir(rmdir), Rmdir) => rmdir,
         (Object::Dir(_), Readlink) => Some("EINVAL"),
         (Object::Dir(_), OpenW | OpenRw | Create) => Some("EISDIR"),
         (Object::Dir(_), Unlink) => Some("EPERM"),
         (Object::Dir(_), Exec) => Some("EACCES"),
+        (Object::Dir(_), Connect) => Some("ENOTSOCK"),
         (Object::Dir(_), _) => None,
         (Object::Node(kind), Readlink) if kind != Kind::Link => Some("EINVAL"),
         (Object::Node(kind), Exec) if kind != Kind::Prog => Some("EACCES"),
+        (Object::Node(kind), Connect) if kind != Kind::File => Some("ENOTSOCK"),
         (Object::Node(_), Rmdir | Chdir) => Some("ENOTDIR"),
         (Object::Node(_), _) => None,
     }
@@ -664,7 +685,7 @@ impl Process {
 
     fn exec(&mut self) {
         self.promises = self.execpromises;
-        if !rules().is_exec_kept {
+        if !rules().is_openbsd {
             self.execpromises = None;
         }
         if self.promises.is_none() {
@@ -760,7 +781,8 @@ fn read_perms(field: &[u8]) -> Option<u8> {
 }
 
 fn read_call(word: &[u8]) -> Option<Call> {
-    CALLS.iter().find(|row| row.1.as_bytes() == word).map(|row| row.0)
+    let call = CALLS.iter().find(|row| row.1.as_bytes() == word)?.0;
+    (!rules().calls[call as usize].0.is_empty()).then_some(call)
 }
 
 fn read_action<'a>(fields: &[&'a [u8]]) -> Result<Action<'a>, &'static str> {
@@ -917,7 +939,7 @@ fn change(
     spot: Option<Spot>,
 ) -> Result<(), Errno> {
     match (call, node) {
-        (Call::Create, None) => return add(tree, spot, Kind::File, &[]),
+        (Call::Create, None) | (Call::Bind, _) => return add(tree, spot, Kind::File, &[]),
         (Call::Mkdir, _) => return add(tree, spot, Kind::Dir, &[]),
         (Call::Rmdir | Call::Unlink, _) => {
             if let Some((dir, name)) = spot {
@@ -971,7 +993,7 @@ struct Step {
 }
 
 const NOWHERE: u32 = u32::MAX;
-const KEPT: u16 = 0b00_0111_1000_0110;
+const KEPT: u16 = 0b1000_0111_1000_0110;
 
 /// For each directory the calls that are allowed on names that it doesn't have, and for each number of letters left, from
 /// 1, and each directory the steps that are of use.
@@ -1223,7 +1245,7 @@ fn rest_after(after: After, letter: u32) -> After {
 fn calls_after(rest: After) -> u16 {
     match rest {
         None => u16::MAX,
-        Some(([], call)) => !((2 << call) - 1),
+        Some(([], call)) => !(u16::MAX >> (15 - call)),
         Some(_) => 0,
     }
 }
@@ -1262,9 +1284,10 @@ fn own_bound(step: &Step) -> u8 {
 }
 
 const BLOCK: usize = 65_536;
-const ENDINGS: [&[u8]; 14] = [
+const ENDINGS: [&[u8]; 16] = [
     b" stat\n", b" lstat\n", b" readlink\n", b" open-r\n", b" open-w\n", b" open-rw\n", b" create\n", b" mkdir\n",
-    b" rmdir\n", b" unlink\n", b" symlink\n", b" chmod\n", b" chdir\n", b" exec\n",
+    b" rmdir\n", b" unlink\n", b" symlink\n", b" chmod\n", b" chdir\n", b" exec\n", b" connect\n",
+    b" bind\n",
 ];
 
 /// The letters and the call of the text `CALL:PATH`.
@@ -1323,6 +1346,7 @@ struct Words<'a> {
     /// None for all processes, for which only `objects` can be asked.
     process: Option<u32>,
     is_ever: bool,
+    is_openbsd: bool,
     from_root: bool,
     after: Option<&'a str>,
     operands: Vec<&'a str>,
@@ -1337,8 +1361,9 @@ fn read_words(words: &[String]) -> Option<(Command, Words<'_>)> {
         _ => return None,
     };
     let is_audit = command == Command::Audit;
-    let mut read = Words { limit: None, process: Some(1), is_ever: false, from_root: true, after: None, operands: Vec::new() };
-    let (mut has_options, mut given) = (command != Command::Run, Vec::new());
+    let (is_ever, is_openbsd, from_root) = (false, false, true);
+    let mut read = Words { limit: None, process: Some(1), is_ever, is_openbsd, from_root, after: None, operands: Vec::new() };
+    let (mut has_options, mut given) = (true, Vec::new());
     while let [word, more @ ..] = rest {
         rest = more;
         if !has_options || !word.starts_with("--") {
@@ -1361,6 +1386,8 @@ fn read_words(words: &[String]) -> Option<(Command, Words<'_>)> {
         }
         given.push(option);
         match option {
+            "--rules" => read.is_openbsd = *["profile", "openbsd"].iter().find(|rules| value == **rules)? == "openbsd",
+            _ if command == Command::Run => return None,
             "--process" if !is_audit && value == "all" => read.process = None,
             "--process" => read.process = Some(value.parse().ok().filter(|process| (1..=999_999).contains(process))?),
             _ if !is_audit => return None,
@@ -1370,12 +1397,30 @@ fn read_words(words: &[String]) -> Option<(Command, Words<'_>)> {
             _ => return None,
         }
     }
-    if read.is_ever && read.process.is_none() {
+    if read.is_ever && (read.process.is_none() || read.is_openbsd) {
         return None;
     }
     let has_enough = if is_audit { read.limit.is_some() && read.operands.len() >= 2 } else { read.operands.len() == 2 };
     has_enough.then_some((command, read))
 }
+
+/// What a promise opens by itself, by OpenBSD's rules; where the veils are asked, that is said.
+const OPENINGS: [(&str, &str); 14] = [
+    ("dns", "/etc/resolv.conf stat,open-r"),
+    ("dns", "/etc/hosts open-r"),
+    ("dns", "/etc/services open-r"),
+    ("dns", "/etc/protocols open-r"),
+    ("getpw", "/etc/pwd.db open-r"),
+    ("getpw", "/etc/group open-r"),
+    ("getpw", "/etc/netid open-r"),
+    ("getpw", "/var/run/ypbind.lock stat,open-r"),
+    ("getpw", "/var/yp/binding/ open-r"),
+    ("stdio", "/dev/null open-r,open-w,open-rw"),
+    ("stdio", "/etc/localtime stat,open-r"),
+    ("stdio", "/usr/share/zoneinfo/ open-r"),
+    ("tmppath", "/tmp/ create,unlink veils"),
+    ("tty", "/dev/tty open-r,open-w,open-rw veils"),
+];
 
 /// Adds the lines of a process's state.
 fn state(out: &mut Vec<u8>, tree: &Tree, process: &Process) {
@@ -1389,7 +1434,14 @@ fn state(out: &mut Vec<u8>, tree: &Tree, process: &Process) {
         _ => "open",
     };
     let (promises, execpromises) = (keywords(process.promises), keywords(process.execpromises));
-    let _ = writeln!(out, "process alive\npromises {promises}\nexecpromises {execpromises}\nunveil {unveil}");
+    let rules = if rules().is_openbsd { "rules openbsd\n" } else { "" };
+    let _ = writeln!(out, "process alive\n{rules}promises {promises}\nexecpromises {execpromises}\nunveil {unveil}");
+    if !rules.is_empty() {
+        let is_pledged = |promise: &str| promises.split(',').any(|pledged| pledged == promise);
+        for (_, opening) in OPENINGS.iter().filter(|(promise, _)| is_pledged(promise)) {
+            let _ = writeln!(out, "opening {opening}");
+        }
+    }
     for place in &process.places {
         let (dir, name) = place;
         let kept = match name {
@@ -1822,6 +1874,7 @@ fn perform(command: Command, words: &Words) -> Result<(), (u8, String)> {
         _ => Err((3, format!("pua: cannot read {file}"))),
     };
     let (listing, text) = (take(words.operands[0])?, take(words.operands[1])?);
+    RULES.get_or_init(if words.is_openbsd { Rules::openbsd } else { Rules::standard });
     let tree = read_listing(&listing).map_err(|fault| (1, fault))?;
     let script = read_script(&text).map_err(|fault| (1, fault))?;
     let mut world = World { tree, processes: Map::from_iter([(1, Process::default())]) };
@@ -1841,10 +1894,11 @@ fn perform(command: Command, words: &Words) -> Result<(), (u8, String)> {
     }
 }
 
-/// Those of the program beside which this one stands. Here no table is read.
+/// Those of the program beside which this one stands. Here no table is read, and lists for ever are those by the standard
+/// rules of one process, which say nothing of execs.
 const USAGE: &str = "pua: usage: pua run [--table FILE] TREE SCRIPT; \
                      pua audit --limit N [--process P] [--base root|cwd] [--after CALL:PATH] [--table FILE] TREE SCRIPT [NAME...]";
-const OBJECTS_USAGE: &str = "pua: usage: pua objects [--ever|--why] [--process P,...|all] [--rules profile|openbsd] [--table FILE] TREE SCRIPT";
+const OBJECTS_USAGE: &str = "pua: usage: pua objects [--ever [--how]|--why] [--process P,...|all] [--rules profile|openbsd] [--table FILE] TREE SCRIPT";
 
 fn main() -> ExitCode {
     let words: Vec<String> = std::env::args().skip(1).collect();

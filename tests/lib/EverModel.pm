@@ -7,21 +7,21 @@ use Model;
 
 # What each call suits. A `gone` directory is one that rmdir may find empty.
 my %SUITS = (
-    create => 'missing file prog', mkdir => 'missing', symlink => 'missing',
+    create => 'missing file prog', connect => 'file', (map { $_ => 'missing' } qw(mkdir symlink bind mknod)),
     unlink => 'file prog link', rmdir => 'gone', exec => 'prog', readlink => 'link',
     chdir => 'dir gone', lstat => 'dir gone file prog link',
-    (map { $_ => 'dir gone file prog' } qw(stat open-r chmod)),
+    (map { $_ => 'dir gone file prog' } qw(stat open-r chmod chown)),
     (map { $_ => 'file prog' } qw(open-w open-rw)),
 );
 
-my @EDITS = qw(create mkdir rmdir unlink symlink);
+my @EDITS = qw(create mkdir rmdir unlink symlink bind mknod);
 
-# What can be made, by its kind: the call that makes it, and what it is.
+# What can be made, by its kind: the calls that make it, and what it is.
 my @NEW = (
-    { kind => 'dir', call => 'mkdir', is => 'gone' },
-    { kind => 'other', call => 'mkdir', is => 'missing' },
-    { kind => 'file', call => 'create', is => 'file' },
-    { kind => 'link', call => 'symlink', is => 'link' },
+    { kind => 'dir', calls => ['mkdir'], is => 'gone' },
+    { kind => 'other', calls => ['mkdir'], is => 'missing' },
+    { kind => 'file', calls => ['create', 'bind', 'mknod'], is => 'file' },
+    { kind => 'link', calls => ['symlink'], is => 'link' },
 );
 
 # The lines of the list for ever of a process that can put no veil any more.
@@ -58,7 +58,7 @@ sub bound {
     return $process->{execpromises};
 }
 
-sub has_exec { return $_[0] =~ /[ ,]exec\z/ }
+sub has_exec { return $_[0] =~ /[ ,]exec\b/ }
 
 # The lines of a process that holds both sets, with the calls that one of the two lets through.
 sub _through {
@@ -78,7 +78,7 @@ sub _through {
 sub _let_through {
     my ($line, $passes) = @_;
     my ($kind, $path, $calls) = split / /, $line;
-    return () if $path eq 'new' && grep { $_->{kind} eq $kind && !$passes->{ $_->{call} } } @NEW;
+    return () if $path eq 'new' && !grep { $passes->{$_} } map { @{ $_->{calls} } } grep { $_->{kind} eq $kind } @NEW;
     my @left = grep { $passes->{$_} } split /,/, $calls;
     return @left ? "$kind $path " . join(',', @left) : ();
 }
@@ -242,12 +242,13 @@ sub lets {
 }
 
 # The line of something, if a call can be allowed on it under one of some covers. A file that can be written, or have
-# its mode set, and one that is new can be made a program: so exec, the last of the calls, is that of a program then.
+# its mode set, and one that is new can be made a program: so exec is that of a program then.
 sub _line {
     my ($ever, $kind, $path, $is, @covers) = @_;
-    my @calls = grep { $ever->_is_allowed($_, $is, @covers) } @Model::CALLS;
-    my $turns = $is eq 'file' && ($path eq 'new' || grep { /\A(?:open-w|open-rw|create|chmod)\z/ } @calls);
-    push @calls, 'exec' if $turns && $ever->_is_allowed('exec', 'prog', @covers);
+    my %has = map { $_ => $ever->_is_allowed($_, $is, @covers) } @Model::CALLS;
+    my $turns = $is eq 'file' && ($path eq 'new' || grep { $has{$_} } qw(open-w open-rw create chmod));
+    $has{exec} = 1 if $turns && $ever->_is_allowed('exec', 'prog', @covers);
+    my @calls = grep { $has{$_} } @Model::CALLS;
     return @calls ? "$kind $path " . join(',', @calls) : ();
 }
 
@@ -305,8 +306,8 @@ sub _freed {
 sub _new_line {
     my ($ever, $new) = @_;
     my @names = (@{ $ever->{name_covers} }, @{ $ever->{dir_covers} });
-    return () if !$ever->{edits} || !$ever->_is_allowed($new->{call}, 'missing', @names);
-    my $is_dir = $new->{call} eq 'mkdir';
+    return () if !$ever->{edits} || !grep { $ever->_is_allowed($_, 'missing', @names) } @{ $new->{calls} };
+    my $is_dir = $new->{calls}[0] eq 'mkdir';
     return $ever->_line($new->{kind}, 'new', $new->{is}, @{ $ever->{ $is_dir ? 'dir_covers' : 'file_covers' } });
 }
 

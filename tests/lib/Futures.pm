@@ -9,8 +9,9 @@ use Things;
 
 my @EDITS = (
     ('rename') x 7, ('link') x 2, ('mkdir') x 3, ('create') x 2, ('symlink') x 1, ('unlink') x 2, ('rmdir') x 2,
+    ('bind') x 2, ('mknod') x 2,
 );
-my @LOOKS = qw(stat lstat readlink open-r open-w open-rw chmod chdir chdir chdir);
+my @LOOKS = qw(stat lstat readlink open-r open-w open-rw chmod chdir chdir chdir connect chown);
 
 # Draws from a generator of worlds. %$calls has each call that can ever be allowed on something: others are drawn
 # seldom, since a process mostly ends by them. %$holds says whether the processes hold proc and exec, whether what is
@@ -71,7 +72,7 @@ sub _request {
     return 'rename ' . $futures->_old . ' ' . $futures->_place  if $call eq 'rename';
     return 'link ' . $futures->_any('file', 'prog', 'link') . ' ' . $futures->_new if $call eq 'link';
     return 'symlink ' . $futures->{worlds}->path . ' ' . $futures->_new if $call eq 'symlink';
-    return "$call " . $futures->_new                             if $call eq 'mkdir';
+    return "$call " . $futures->_new                             if $call =~ /\A(?:mkdir|bind|mknod)\z/;
     return "$call " . $futures->_place                           if $call eq 'create';
     return "$call " . $futures->_old('file', 'prog', 'link')     if $call eq 'unlink';
     return "$call " . $futures->_old('dir')                      if $call eq 'rmdir' || $call eq 'chdir';

@@ -7,8 +7,8 @@ use Exporter qw(import);
 our @EXPORT_OK = qw(lists_of);
 
 # The answers of a text, in the order of the script's lines; and its lists, by the number of the process.
-# A list has its state, each line of it as its words; its lines, each a kind, a path (or `new`) and a
-# list of calls; and its text without the heading.
+# A list has its state, each line of it as its words; its lines, each a kind, a path (or `new`), a
+# list of calls, and the steps to calls where they are told; and its text without the heading.
 sub lists_of {
     my ($text) = @_;
     my ($list, @answers, %lists);
@@ -29,7 +29,11 @@ sub lists_of {
             next;
         }
         my ($path, $calls) = @words[1, 2];
-        push @{ $list->{lines} }, { text => $line, kind => $kind, path => $path, calls => [ split /,/, $calls ] };
+        my $column = join ' ', @words[3 .. $#words];
+        my %steps = $column =~ /\A[a-z-]+ (?:[0-9]+|\?)(?:,[a-z-]+ (?:[0-9]+|\?))*\z/
+            ? map { split / / } split /,/, $column : ();
+        push @{ $list->{lines} },
+            { text => $line, kind => $kind, path => $path, calls => [ split /,/, $calls ], steps => \%steps };
     }
     return { answers => \@answers, lists => \%lists };
 }

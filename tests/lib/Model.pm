@@ -24,7 +24,8 @@ my $ERROR = 'error';
 
 # The calls on one path, in their order.
 our @CALLS = qw(
-    stat lstat readlink open-r open-w open-rw create mkdir rmdir unlink symlink chmod chdir exec
+    stat lstat readlink open-r open-w open-rw create mkdir rmdir unlink symlink chmod chdir exec connect bind
+    mknod chown
 );
 
 # What each needs: sets of promises, of which one has to be held; and letters.
@@ -43,6 +44,10 @@ my %STANDARD = (
     chmod    => [['fattr'], 'w'],
     chdir    => [['rpath'], 'r'],
     exec     => [['exec'], 'x'],
+    connect  => [[], 'w'],
+    bind     => [[], 'c'],
+    mknod    => [[], 'c'],
+    chown    => [[], 'w'],
     'old name of rename' => [['cpath'], 'c'],
     'new name of rename' => [['cpath'], 'c'],
     'old name of link'   => [['cpath'], 'c'],
@@ -52,12 +57,16 @@ my %STANDARD = (
 # What is otherwise by OpenBSD's rules.
 my %OPENBSD = (
     chmod                => [['rpath,fattr'], 'w'],
+    connect              => [['unix'], 'w'],
+    bind                 => [['unix'], 'c'],
+    mknod                => [['dpath'], 'c'],
+    chown                => [['rpath,chown', 'rpath,fattr'], 'w'],
     'old name of rename' => [['rpath,cpath'], 'rc'],
     'old name of link'   => [['rpath'], 'r'],
 );
 
 # The calls that follow a link at their path's end, and those that drop a slash there.
-my %FOLLOWS = map { $_ => 1 } qw(stat open-r open-w open-rw create chmod chdir exec);
+my %FOLLOWS = map { $_ => 1 } qw(stat open-r open-w open-rw create chmod chdir exec connect chown);
 my %DROPS   = map { $_ => 1 } qw(mkdir rmdir rename);
 
 # What becomes of a call on each kind of thing. An errno refuses it; `way` asks how a directory was named.
@@ -76,6 +85,10 @@ my %MISFITS = (
     unlink     => { missing => 'ENOENT', dir => 'EPERM' },
     chdir      => { missing => 'ENOENT', file => 'ENOTDIR', prog => 'ENOTDIR' },
     exec       => { missing => 'ENOENT', dir => 'EACCES', file => 'EACCES' },
+    connect    => { missing => 'ENOENT', dir => 'ENOTSOCK', prog => 'ENOTSOCK' },
+    bind       => { map { $_ => 'EADDRINUSE' } qw(dir file prog link) },
+    mknod      => { map { $_ => 'EEXIST' } qw(dir file prog link) },
+    chown      => { missing => 'ENOENT' },
 );
 
 # The requests beside the calls on one path, and symlink, which has a target too.
@@ -99,6 +112,12 @@ sub new {
     $model->{needs}     = { %STANDARD, $is_openbsd ? %OPENBSD : (), _rows_of($how->{table}) };
     $model->{processes} = { 1 => { dir => 0, veils => [], letters => {} } };
     return $model;
+}
+
+# The calls on one path that the table has, in their order.
+sub calls {
+    my ($model) = @_;
+    return grep { @{ $model->{needs}{$_}[0] } } @CALLS;
 }
 
 # The rows of a table's text, as far as it has one call, one array and one text a line.
@@ -185,7 +204,7 @@ sub _veiled {
     return _lacking($needed, $letters) ? 'EACCES' : '';
 }
 
-# --- The fourteen calls ---
+# --- The calls on one path ---
 
 # Why what was found does not suit a call; nothing where it does.
 sub _misfit {
@@ -217,8 +236,8 @@ sub _call {
     my ($model, $process, $call, $path) = @_;
     my ($answer, $found) = $model->verdict($process, $call, unspelled($path));
     return $answer if $answer;
-    $model->_make($call eq 'create' ? 'file' : 'dir', $found)
-        if ($call eq 'create' || $call eq 'mkdir') && $model->_kind($found) eq 'missing';
+    $model->_make($call eq 'mkdir' ? 'dir' : 'file', $found)
+        if $call =~ /\A(?:create|mkdir|bind|mknod)\z/ && $model->_kind($found) eq 'missing';
     $model->_cut(@{ $model->{above}{ $found->{dir} } }) if $call eq 'rmdir';
     $model->_cut($found->{in}, $found->{name}) if $call eq 'unlink';
     $process->{dir} = $found->{dir} if $call eq 'chdir';

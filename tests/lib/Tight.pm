@@ -14,7 +14,10 @@ my %NEEDS = (
 );
 
 # What is otherwise by OpenBSD's.
-my %OPENBSD = (chmod => ['rpath', 'fattr'], rename => ['rpath', 'cpath'], link => ['rpath', 'cpath']);
+my %OPENBSD = (
+    chmod => ['rpath', 'fattr'], rename => ['rpath', 'cpath'], link => ['rpath', 'cpath'],
+    connect => ['unix'], bind => ['unix'], mknod => ['dpath'], chown => ['rpath', 'chown', 'fattr'],
+);
 
 my @LETTERS = qw(r w x c);
 

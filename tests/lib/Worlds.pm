@@ -42,8 +42,9 @@ my @EXECPROMISES = ('-', '-', 'stdio,rpath', 'rpath,wpath,cpath,exec', 'rpath,un
 # Sets of promises of tables of calls.
 my @SETS = ('', 'rpath', 'cpath', 'wpath', 'rpath,wpath', 'fattr', 'exec', 'stdio', 'rpath,cpath', 'inet');
 
-# The calls on one path.
+# The calls on one path, and those that OpenBSD's rules have beside them.
 my @CALLS = qw(stat lstat readlink open-r open-w open-rw create mkdir rmdir unlink chmod chdir exec);
+my @FURTHER = qw(connect bind mknod chown);
 
 # What a line asks for; the words in capitals stand for what is drawn. Most paths suit their call.
 my @REQUESTS = (
@@ -56,6 +57,9 @@ my @REQUESTS = (
     'pledge MILD EXECPROMISES',
     'fork CHILD',
 );
+
+# What a line asks for beside these by OpenBSD's rules.
+my @MORE = (('connect FILE', 'bind NEW') x 2, 'connect PATH', 'bind PATH', ('mknod NEW', 'chown HIGH') x 2, 'mknod PATH', 'chown PATH');
 
 # What is drawn seldom: what is refused for its text, an end, a lock in the midst.
 my @SELDOM = (
@@ -85,6 +89,13 @@ sub new {
     my $worlds = bless { state => 1 + $seed % 2147483646, names => [@NAMES] }, $class;
     @$worlds{qw(paths of)} = (['/'], { dir => [''] });
     $worlds->number(2) for 1 .. 5;
+    return $worlds;
+}
+
+# From here on worlds are by these rules: `openbsd` or others.
+sub by {
+    my ($worlds, $rules) = @_;
+    $worlds->{further} = $rules eq 'openbsd';
     return $worlds;
 }
 
@@ -195,7 +206,8 @@ sub requests {
 
 sub _request {
     my ($worlds) = @_;
-    my $request = $worlds->pick($worlds->number($SELDOM_IN) ? @REQUESTS : @SELDOM);
+    my @requests = (@REQUESTS, $worlds->{further} ? @MORE : ());
+    my $request = $worlds->pick($worlds->number($SELDOM_IN) ? @requests : @SELDOM);
     return join ' ', map { $worlds->_drawn($_) } split / /, $request;
 }
 
@@ -209,6 +221,17 @@ sub _stretch {
     return "$lines\n";
 }
 
+# The calls that there are by the rules of the worlds.
+sub calls { return (@CALLS, $_[0]{further} ? @FURTHER : ()) }
+
+# One of some lists of promises, by rules with further calls mostly with the promises of some of these.
+sub promises {
+    my ($worlds, @lists) = @_;
+    my $list = $worlds->pick(@lists);
+    return $list if !$worlds->{further} || $list =~ /\A[-=]\z/ || $worlds->number(3) == 0;
+    return "$list," . $worlds->pick('unix', 'dpath', 'unix,dpath,chown');
+}
+
 # What is drawn for a word, or the word itself.
 sub _drawn {
     my ($worlds, $word) = @_;
@@ -216,17 +239,17 @@ sub _drawn {
           $word eq 'PATH'         ? $worlds->path
         : $word eq 'HIGH'         ? $worlds->_high_path
         : $word eq 'TARGET'       ? $worlds->_target
-        : $word eq 'CALL'         ? $worlds->pick(@CALLS)
+        : $word eq 'CALL'         ? $worlds->pick($worlds->calls)
         : $word eq 'DIR'          ? $worlds->_path_of('dir')
         : $word eq 'LEAF'         ? $worlds->_path_of('leaf')
         : $word eq 'PROG'         ? $worlds->_path_of('prog')
         : $word eq 'FILE'         ? $worlds->_path_of('file', 'prog', 'link', 'hard')
         : $word eq 'NEW'          ? $worlds->_new_path
         : $word eq 'PERMISSIONS'  ? $worlds->pick(@PERMISSIONS)
-        : $word eq 'MILD'         ? $worlds->pick(@MILD)
-        : $word eq 'LAST'         ? $worlds->pick(@LAST)
-        : $word eq 'EXECPROMISES' ? $worlds->pick(@EXECPROMISES)
-        : $word eq 'SET'          ? $worlds->pick(grep { $_ ne '-' } @EXECPROMISES)
+        : $word eq 'MILD'         ? $worlds->promises(@MILD)
+        : $word eq 'LAST'         ? $worlds->promises(@LAST)
+        : $word eq 'EXECPROMISES' ? $worlds->promises(@EXECPROMISES)
+        : $word eq 'SET'          ? $worlds->promises(grep { $_ ne '-' } @EXECPROMISES)
         : $word eq 'NAME'         ? $worlds->name
         : $word eq 'CHILD'        ? $worlds->pick(3, 4)
         :                           $word;
@@ -300,7 +323,7 @@ sub _end {
     my @lines;
     push @lines, $worlds->_veil($process) if $worlds->number(3) == 0;
     push @lines, "$process unveil - -\n" if $worlds->number(3) == 0;
-    push @lines, "$process pledge " . $worlds->pick(@LAST) . ' ' . $worlds->pick(@EXECPROMISES) . "\n"
+    push @lines, "$process pledge " . $worlds->promises(@LAST) . ' ' . $worlds->promises(@EXECPROMISES) . "\n"
         if $worlds->number(3);
     return @lines;
 }
@@ -311,7 +334,7 @@ sub table {
     my %rows;
     for (0 .. 2) {
         my @sets = map { qq("$_") } map { $worlds->pick(@SETS) } 0 .. $worlds->number(3);
-        $rows{ $worlds->pick(@CALLS, 'symlink') } = [ join(', ', @sets), $worlds->pick(qw(r w x c rw rc wc), '') ];
+        $rows{ $worlds->pick($worlds->calls, 'symlink') } = [ join(', ', @sets), $worlds->pick(qw(r w x c rw rc wc), '') ];
     }
     return join '', map { "[$_]\npromises = [$rows{$_}[0]]\nveil = \"$rows{$_}[1]\"\n" } sort keys %rows;
 }

@@ -36,6 +36,9 @@ printf '%s\n' '1 unveil /d wc' '1 unveil /o rwc' '1 unveil - -' > drop
 printf '%s\n' '[chmod]' 'promises = ["fattr", "rpath"]' 'veil = "r"' 'stat = { promises = [""], veil = "" }' > nested
 printf '%s\n' 'stat = { promises = [""], veil = "" }' '[chmod]' 'promises = ["fattr", "rpath"]' 'veil = "r"' > calls
 printf '%s\n' 'unlink = { promises = ["cpath"], veil = "" }' > stays
+printf '%s\n' '1 bind /tmp/s' '1 connect /tmp/s' '1 mknod /tmp/m' '1 chown /tmp/m' '1 bind /tmp/m' > sockets
+printf '%s\n' '1 pledge stdio,dns -' '1 open-r /etc/hosts' > opened
+printf '%s\n' '1 unveil /d rwc' '1 pledge stdio,rpath,wpath,cpath -' '1 open-rw /d/f' '1 create /d/n' '1 unlink /d/l' > needs
 : > none
 
 # Counts the run's answer, or prints that it is wrong.
@@ -83,6 +86,9 @@ sweep 'forks' 0 run tree forks
 sweep 'veils' 0 run tree veils
 sweep 'further names' 0 run twice links
 sweep 'no script' 0 run tree none
+sweep 'sockets, and what is made' 0 run --rules openbsd tree sockets
+sweep 'a run with reasons' 0 run --why tree veils
+sweep 'a reason, and what opens the path' 0 run --why --rules openbsd tree opened
 sweep 'an audit' 0 audit --limit 3 tree one
 sweep 'an audit of what it makes' 0 audit --limit 2 --base cwd tree makes a 'b\040c'
 sweep 'an audit of another process' 0 audit --limit 2 --process 2 tree forks
@@ -98,11 +104,13 @@ sweep 'for ever, and what can be moved' 0 objects --ever --process 2 twice moves
 sweep 'for ever, and places that are gone' 0 objects --ever tree gone
 sweep 'for ever, two together' 0 objects --ever --process 1,2 twice both
 sweep 'for ever, all together' 0 objects --ever --process all twice both
+sweep 'for ever, with the steps of ways' 0 objects --ever --how twice drop
 sweep 'a way' 0 how twice drop open-r /d/f
 sweep 'a way to what is made' 0 how twice drop stat new
 sweep 'what never comes' 0 how twice both open-r /k
 sweep 'a tightened script' 0 tight tree gone
 sweep 'a tightened script of a file with two names' 0 tight twice moves
+sweep 'a tightened script of words that are needed' 0 tight twice needs
 sweep 'what words are needed by' 0 tight --why tree gone
 sweep 'a tightened script by a table' 0 tight --table calls tree makes
 sweep 'a run by a table' 0 run --table calls tree veils

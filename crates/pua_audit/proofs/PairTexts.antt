@@ -17,8 +17,9 @@ use Rattle.std.proofs.lemmas.List.Folds.{list_any-append}
 use Rattle.std.proofs.lemmas.List.Splits.{slice_split_none, slice_split_at, length-slice_split, join_with_byte-slice_split}
 use Rattle.std.proofs.lemmas.List.Sums.{split_at_first, passes_at_first}
 use Rattle.pua_tree.specs.Spelling.{byte_spelling}
-use Rattle.pua_tree.proofs.ForCallers.{spelling_tells, None≢Some, first_passes}
-use Rattle.pua_calls.specs.Calls.{call_name, call_named}
+use Rattle.pua_tree.specs.Listing.{only_if}
+use Rattle.pua_tree.proofs.ForCallers.{spelling_tells, None≢Some, first_passes, only_if_read}
+use Rattle.pua_calls.specs.Calls.{call_in, call_name, call_of_name, is_known}
 use Rattle.pua_audit.specs.Reach.{printed_path}
 use Rattle.pua_audit.specs.Begin.{word_of_pieces_between, resume_pair}
 use Rattle.pua_audit.specs.PairTexts.{pair_text, is_in_alphabet, IsWord, ResumeTextsName}
@@ -222,7 +223,7 @@ module _ (alphabet : List (List ℕ)) (letters : IsTrue (list_all is_letter alph
 
 -- the call's name
 
-call_read : (c : Call) → (list_any colon (call_name c) ≡ false) × (call_named (call_name c) ≡ Some c)
+call_read : (c : Call) → (list_any colon (call_name c) ≡ false) × (call_of_name (call_name c) ≡ Some c)
 call_read Stat = (refl, refl)
 call_read _ = (refl, refl)
 
@@ -249,13 +250,17 @@ module _ (s : Scope) (letters : IsTrue (list_all is_letter s.alphabet)) (text : 
   back = after_first colon text
 
   abbrev IsNamed : Pair → Type 0
-  IsNamed p = IsWord s p.0 × (text ≡ pair_text s.base p)
+  IsNamed p = IsWord s p.0 × IsTrue (is_known s.table p.1) × (text ≡ pair_text s.base p)
 
-  whole : (c : Call) (w : Word) → call_named front ≡ Some c → word_of_path s.base s.alphabet back ≡ Some w → text ≡ pair_text s.base (w, c)
+  -- a call that the table has, by its name
+  had : (c : Call) → call_in s.table front ≡ Some c → (call_of_name front ≡ Some c) × IsTrue (is_known s.table c)
+  had c is = only_if_read (is_known s.table) (call_of_name front) c is
+
+  whole : (c : Call) (w : Word) → call_in s.table front ≡ Some c → word_of_path s.base s.alphabet back ≡ Some w → text ≡ pair_text s.base (w, c)
   whole c w is there =
       let path = path_spelled s.alphabet letters s.base back w there in
       let name : front ≡ call_name c =
-      sym ((bytes_eq-Decides (call_name c) front).0 (first_passes (λ call. same_bytes (call_name call) front) calls c is)) in
+      sym ((bytes_eq-Decides (call_name c) front).0 (first_passes (λ call. same_bytes (call_name call) front) calls c (had c is).0)) in
       elim (cases_lt (position_or_len colon text) (length text)) [
         | inl h ↦
             split_at_first colon text 0 h
@@ -265,33 +270,35 @@ module _ (s : Scope) (letters : IsTrue (list_all is_letter s.alphabet)) (text : 
             absurd (printed_some s.alphabet letters s.base w path.1 (sym none ∙ path.0))
       ]
 
-  within : (c : Call) (w : Word) (v : Bool) → nat_le (length w) s.limit ≡ v → call_named front ≡ Some c →
+  within : (c : Call) (w : Word) (v : Bool) → nat_le (length w) s.limit ≡ v → call_in s.table front ≡ Some c →
       word_of_path s.base s.alphabet back ≡ Some w
       → option_map {U = Pair} (λ word. (word, c)) (cond v (Some w) None) ≡ Some pair → IsNamed pair
   within c w true short is there e =
       let path = path_spelled s.alphabet letters s.base back w there in
-      subst IsNamed (same_Some (w, c) pair e) (record { within = leb-true (length w) s.limit short; letters = path.1 }, whole c w is there)
+      subst IsNamed (same_Some (w, c) pair e) (record { within = leb-true (length w) s.limit short; letters = path.1 }, (had c is).1, whole c w is there)
   within c w false short is there e = absurd (None≢Some pair e)
 
-  by_parts : (c : Option Call) → call_named front ≡ c → (w : Option Word) → word_of_path s.base s.alphabet back ≡ w
+  by_parts : (c : Option Call) → call_in s.table front ≡ c → (w : Option Word) → word_of_path s.base s.alphabet back ≡ w
       → option_and_then {U = Pair} (λ call. option_map (λ word. (word, call)) (word_within s.limit w)) c ≡ Some pair → IsNamed pair
   by_parts None is w there e = absurd (None≢Some pair e)
   by_parts (Some c) is None there e = absurd (None≢Some pair e)
   by_parts (Some c) is (Some w) there e = within c w (nat_le (length w) s.limit) refl is there e
 
   named : resume_pair s text ≡ Some pair → IsNamed pair
-  named e = by_parts (call_named front) refl (word_of_path s.base s.alphabet back) refl e
+  named e = by_parts (call_in s.table front) refl (word_of_path s.base s.alphabet back) refl e
 
   read : IsNamed pair → resume_pair s text ≡ Some pair
   read h =
       let cutted = cut (call_name pair.1) (printed_path s.base pair.0) (call_read pair.1).0 in
-      ap (resume_pair s) h.1
+      ap (resume_pair s) h.2
       ∙ (λ i. option_and_then
       (λ call. option_map (λ word. (word, call)) (word_within s.limit (word_of_path s.base s.alphabet (cutted.1 i))))
-      (call_named (cutted.0 i)))
+      (call_in s.table (cutted.0 i)))
       ∙ (λ i. option_and_then
       (λ call. option_map (λ word. (word, call)) (word_within s.limit (path_read s.alphabet letters s.base pair.0 h.0.letters i)))
-      ((call_read pair.1).1 i))
+      (only_if (is_known s.table) ((call_read pair.1).1 i)))
+      ∙ ap (λ b. option_and_then (λ call. option_map (λ word. (word, call)) (word_within s.limit (Some pair.0)))
+      (cond b (Some pair.1) None)) h.1
       ∙ ap (λ v. option_map (λ word. (word, pair.1)) (cond v (Some pair.0) None)) (le-leb (length pair.0) s.limit h.0.within)
 
 pub resume_texts_name : ResumeTextsName

@@ -8,7 +8,7 @@ use Rattle.pua_tree.specs.Tree.{Tree}
 use Rattle.pua_tree.specs.Spelling.{spelling, name_of}
 use Rattle.pua_tree.specs.Steps.{◌>>=◌}
 use Rattle.pua_tree.specs.Listing.{only_if}
-use Rattle.pua_calls.specs.Calls.{CallTable, call_named}
+use Rattle.pua_calls.specs.Calls.{CallTable, call_in}
 use Rattle.pua_policy.specs.History.{History}
 use Rattle.pua_audit.specs.Limits.{most_letters, most_candidates, most_path}
 use Rattle.pua_audit.specs.Reach.{Word, Pair, Scope, alphabet_of, rest_after}
@@ -46,15 +46,15 @@ word_of_path Cwd alphabet text = if same_bytes text (codes ".") then Some [] els
 abbrev pub word_within : ℕ → Option Word → Option Word
 word_within limit word = only_if (λ w. nat_le (length w) limit) word
 
--- the pair that a text `CALL:PATH` names: a word of the alphabet with no more letters than the limit
-abbrev pub pair_named : Base → List (List ℕ) → ℕ → List ℕ → Option Pair
-pair_named base alphabet limit text =
+-- the pair that a text `CALL:PATH` names: a call of the table, and a word of the alphabet with no more letters than the limit
+abbrev pub pair_named : CallTable → Base → List (List ℕ) → ℕ → List ℕ → Option Pair
+pair_named table base alphabet limit text =
     option_and_then (λ call. option_map (λ word. (word, call))
     (word_within limit (word_of_path base alphabet (after_first (λ b. b == 58) text))))
-    (call_named (before_first (λ b. b == 58) text))
+    (call_in table (before_first (λ b. b == 58) text))
 
 abbrev pub resume_pair : Scope → List ℕ → Option Pair
-resume_pair s text = pair_named s.base s.alphabet s.limit text
+resume_pair s text = pair_named s.table s.base s.alphabet s.limit text
 
 abbrev pub longest : List (List ℕ) → ℕ
 longest letters = fold (λ most letter. max most (length letter)) 0 letters

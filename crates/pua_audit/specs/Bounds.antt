@@ -26,7 +26,7 @@ table_cost t letters = suc (length t.nodes * row_cost t letters)
 abbrev pub pairs_cost : Tree → ℕ → ℕ
 pairs_cost t letters = table_cost t letters + (length t.nodes + 2)
 
--- one word: two steps, and each call judged
+-- one word: at most sixteen times what a step and a verdict cost
 abbrev pub word_cost : Tree → ℕ
 word_cost t = 16 * (part_cost t + (length t.nodes + 4))
 

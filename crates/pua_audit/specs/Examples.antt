@@ -1,10 +1,10 @@
 -- Worked rows on small reaches.
-use Rattle.std.specs.Prelude.{◌≡◌, ℕ, List, [], ◌∷◌, ◌++◌, map, length, Option, Some, None, Result, Ok, Err, codes, refl}
+use Rattle.std.specs.Prelude.{◌≡◌, ◌+◌, ℕ, List, [], ◌∷◌, ◌++◌, map, length, Option, Some, None, Result, Ok, Err, codes, refl}
 use Rattle.pua_tree.specs.Tree.{Tree, empty_tree}
 use Rattle.pua_tree.specs.Examples.{example_tree}
 use Rattle.pua_tree.specs.declared.node.Kind.TheVariants.{Dir, File, Link}
-use Rattle.pua_calls.specs.Promises.{cpath, fattr, reading, writing, executing, creating}
-use Rattle.pua_calls.specs.Calls.{CallTable, standard_table, call_name}
+use Rattle.pua_calls.specs.Promises.{cpath, dpath, fattr, unix, reading, writing, executing, creating}
+use Rattle.pua_calls.specs.Calls.{CallTable, standard_table, openbsd_table, call_name}
 use Rattle.pua_calls.specs.TableTexts.{with_rule}
 use Rattle.pua_calls.specs.declared.call.Call.TheVariants.{Stat}
 use Rattle.pua_policy.specs.History.{History, Pledged, Unveiled, Locked, Moved, Ended, new_history}
@@ -43,6 +43,9 @@ live_from_root t h candidates limit = live_in (beginning t standard_table h Root
 
 abbrev pub one_promise : History
 one_promise = Pledged (Some cpath) None ∷ new_history
+
+abbrev pub two_promises : History
+two_promises = Pledged (Some (unix + dpath)) None ∷ new_history
 
 abbrev pub one_veil : History
 one_veil = Locked ∷ Unveiled (Slot 1 (codes "passwd")) reading ∷ new_history
@@ -106,6 +109,12 @@ pub record ReachRows : Type 0 where
   pub limit_of_17 : beginning empty_tree standard_table new_history Root [] 17 (Some (codes "stat:")) ≡ Err LimitTooLarge
   pub by_another_table : printed_beginning Root (beginning empty_tree free_stat (Pledged (Some 0) None ∷ new_history) Root [] 0 None)
       ≡ codes "/ stat" ∷ []
+  -- a text names a call of the table alone
+  pub further_calls : printed_beginning Root (beginning empty_tree openbsd_table two_promises Root (codes "a" ∷ []) 1 None)
+      ≡ codes "/a bind" ∷ codes "/a mknod" ∷ []
+  pub resumed_after_bind : printed_beginning Root (beginning empty_tree openbsd_table two_promises Root (codes "a" ∷ []) 1
+      (Some (codes "bind:/a"))) ≡ codes "/a mknod" ∷ []
+  pub no_such_call : beginning empty_tree standard_table two_promises Root (codes "a" ∷ []) 1 (Some (codes "bind:/a")) ≡ Err BadResume
   pub through_a_link : lines_from_root tree_of_two_paths (Unveiled (Slot 1 (codes "f")) reading ∷ new_history) [] 2 None ≡
       codes "/d/f stat" ∷ codes "/d/f lstat" ∷ codes "/d/f open-r" ∷ codes "/l/f stat" ∷ codes "/l/f lstat" ∷ codes "/l/f open-r" ∷ []
   -- what leads to the file after at most 32 links: /k/l/f and /l/k/f follow 33
@@ -146,6 +155,9 @@ reach_rows = record {
   limit_of_16 = refl;
   limit_of_17 = refl;
   by_another_table = refl;
+  further_calls = refl;
+  resumed_after_bind = refl;
+  no_such_call = refl;
   through_a_link = refl;
   after_32_links = refl;
   link_itself = refl;

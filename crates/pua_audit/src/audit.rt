@@ -59,7 +59,8 @@ impl Model for Audit {
 impl Audit {
     /// Begins the audit of a process over the tree of a probe: by paths from this base, of at most
     /// `limit` letters, each a name of the tree's rows, `..` or a candidate; from its first line, or
-    /// from the one after the pair that a text `CALL:PATH` names. What a call needs, the table says.
+    /// from the one after the pair that a text `CALL:PATH` names. What a call needs, the table says, and
+    /// which calls there are.
     /// The process and the table are copied, so what becomes of them later changes nothing. What is
     /// to come is the same for each history that the process stands for.
     ///
@@ -107,7 +108,7 @@ impl Audit {
         process.known();
         let rows = probe.rows(alloc)?;
         let Checked { letters, after } = beginning::check(
-            alloc, &*probe, &rows, base, candidates, limit, after,
+            alloc, &*probe, &rows, table, base, candidates, limit, after,
         )?;
         let terms = Terms::new(alloc, &*probe, process, table, base, limit, letters)?;
         let pairs = Pairs::begin(alloc, probe, &rows, terms, after)?;

@@ -4,7 +4,7 @@ ghost use Rattle.std.specs.Prelude.{◌≡◌, ◌≢◌, ℕ, List, Option, Ok,
 ghost use Rattle.std.specs.Prelude.{map, option_map};
 ghost use Rattle.pua_tree.specs.LentRows.{lent_entry};
 ghost use Rattle.pua_tree.specs.Tree.{WellFormed};
-ghost use Rattle.pua_calls.specs.Calls.{CallTable};
+ghost use Rattle.pua_calls.specs.Calls as calls;
 ghost use Rattle.pua_policy.specs.History.{History};
 ghost use Rattle.pua_audit.specs.Bounds.{letter_count};
 ghost use Rattle.pua_audit.specs.Begin.{beginning};
@@ -18,6 +18,7 @@ use crate::candidates::read_candidates;
 use crate::fault::AuditFault;
 use crate::limits::{MOST_CANDIDATES, MOST_LETTERS};
 use crate::resume_text::{Resumption, read_pair};
+use pua_calls::CallTable;
 use pua_path::{MOST_PATH, Probe};
 use pua_tree::LentRow;
 use std::alloc::Global;
@@ -30,25 +31,25 @@ pub(crate) struct Checked {
     pub(crate) after: Option<Resumption>,
 }
 
-/// What an audit begins with, by the rows of its tree, its base, candidates, limit and resume text,
-/// or the first fault; `OutOfMemory` comes wherever a growth was refused.
+/// What an audit begins with, by the rows of its tree, its table, base, candidates, limit and resume
+/// text, or the first fault; `OutOfMemory` comes wherever a growth was refused.
 pub(crate) fn check<'t, P: Probe<'t>>(
     alloc: Global,
     probe: &P,
     rows: &[LentRow<'_>],
+    table: &CallTable,
     base: Base,
     candidates: &[&[u8]],
     limit: u8,
     after: Option<&[u8]>,
 ) -> Result<Checked, AuditFault>
     requires rows { map lent_entry rows.now ≡ (P.tree probe.now).rows }
-    ensures begun { IfOk result (λ b. (table : CallTable) (h : History) →
-        beginning (P.tree probe.now) table h base (map (λ s. s.now) candidates.now) limit
+    ensures begun { IfOk result (λ b. (h : History) →
+        beginning (P.tree probe.now) table.now h base (map (λ s. s.now) candidates.now) limit
         (option_map (λ s. s.now) after.entry)
-        ≡ Ok (beginning_with (P.tree probe.now) table h base limit b)) }
-    ensures refused { IfErr result (λ fault. fault ≢ AuditFault.OutOfMemory →
-        (table : CallTable) (h : History) →
-        beginning (P.tree probe.now) table h base (map (λ s. s.now) candidates.now) limit
+        ≡ Ok (beginning_with (P.tree probe.now) table.now h base limit b)) }
+    ensures refused { IfErr result (λ fault. fault ≢ AuditFault.OutOfMemory → (h : History) →
+        beginning (P.tree probe.now) table.now h base (map (λ s. s.now) candidates.now) limit
         (option_map (λ s. s.now) after.entry) ≡ Err fault) }
     ensures many { IfOk result (λ b. length b.letters ≡ letter_count (P.tree probe.now)
         (map (λ s. s.now) candidates.now)) }
@@ -58,7 +59,10 @@ pub(crate) fn check<'t, P: Probe<'t>>(
     let letters = letters_within(alloc, probe, rows, candidates, limit)?;
     let after = match after {
         None => None,
-        Some(text) => Some(read_pair(alloc, base, &letters, usize::from(limit), text)?),
+        Some(text) => {
+            let limit = usize::from(limit);
+            Some(read_pair(alloc, table, base, &letters, limit, text)?)
+        }
     };
     Ok(Checked { letters, after })
 }
@@ -72,12 +76,12 @@ fn letters_within<'t, P: Probe<'t>>(
     limit: u8,
 ) -> Result<Alphabet, AuditFault>
     requires rows { map lent_entry rows.now ≡ (P.tree probe.now).rows }
-    ensures begun { IfOk result (λ letters. (table : CallTable) (h : History) (base : bases.Base)
+    ensures begun { IfOk result (λ letters. (table : calls.CallTable) (h : History) (base : bases.Base)
         (after : Option (List ℕ)) →
         beginning (P.tree probe.now) table h base (map (λ s. s.now) candidates.now) limit after
         ≡ begun_in (scope_with (P.tree probe.now) table h base limit letters) after) }
     ensures refused { IfErr result (λ fault. fault ≢ AuditFault.OutOfMemory →
-        (table : CallTable) (h : History) (base : bases.Base) (after : Option (List ℕ)) →
+        (table : calls.CallTable) (h : History) (base : bases.Base) (after : Option (List ℕ)) →
         beginning (P.tree probe.now) table h base (map (λ s. s.now) candidates.now) limit after
         ≡ Err fault) }
     ensures known { IfOk result (λ letters. WellFormed (P.tree probe.now)) }

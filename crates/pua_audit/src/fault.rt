@@ -22,7 +22,7 @@ pub enum AuditFault {
     /// The place, from 1, of the first candidate that is not spelled as a name.
     #[error("bad candidate {0}")]
     BadCandidate(u32),
-    /// The text to resume after names no pair of a word within the limit and a call.
+    /// The text to resume after names no pair of a word within the limit and a call that the table has.
     #[error("bad resume")]
     BadResume,
     /// A growth of memory was refused.

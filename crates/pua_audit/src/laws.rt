@@ -51,8 +51,8 @@ pub fn live_law()
     ensures few { LiveStatesFew }
 {}
 
-/// A text names a pair to resume after exactly where it is the text of that pair: the call's name, a
-/// colon, and the printed path of a word over the alphabet within the limit.
+/// A text names a pair to resume after exactly where it is the text of that pair: the name of a call
+/// that the table has, a colon, and the printed path of a word over the alphabet within the limit.
 pub fn resume_text_law()
     ensures { ResumeTextsName }
 {}

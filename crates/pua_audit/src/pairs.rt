@@ -95,7 +95,7 @@ impl Pairs {
 
     /// The calls of the walk's word that come after the one that was given last: a bit for each, the
     /// first at bit 0.
-    pub(crate) fn later_calls(&mut self) -> u16
+    pub(crate) fn later_calls(&mut self) -> u32
         ensures ready { AreReady self.old → AreReady self.new }
         ensures terms { self.new.terms ≡ self.old.terms }
         ensures live { self.new.live ≡ self.old.live }

@@ -15,7 +15,7 @@ pub struct PathLines<'a> {
     /// The first call.
     pub call: Call,
     /// The calls after it: a bit for each, that of the call with number n at bit n - 1.
-    pub later: u16,
+    pub later: u32,
     /// Whether each byte of the path stands for itself, so that the path is printed as it is.
     pub plain: bool,
 }

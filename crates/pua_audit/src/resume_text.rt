@@ -13,7 +13,7 @@ ghost use Rattle.pua_audit.specs.declared.base.Base.TheVariants.{Root};
 use crate::alphabet::Alphabet;
 use crate::base::Base;
 use crate::fault::AuditFault;
-use pua_calls::Call;
+use pua_calls::{Call, CallTable};
 use pua_tree::Name;
 use std::alloc::Global;
 
@@ -25,24 +25,27 @@ pub(crate) struct Resumption {
     pub(crate) call: Call,
 }
 
-/// The pair that a text names, its path beginning at this base and having at most so many letters.
+/// The pair that a text names: a call that this table has, and a path that begins at this base and has
+/// at most so many letters.
 /// The errors are `BadResume` where it names none, and `OutOfMemory` where the growth for the
 /// word was refused.
 pub(crate) fn read_pair(
     alloc: Global,
+    table: &CallTable,
     base: Base,
     letters: &Alphabet,
     limit: usize,
     text: &[u8],
 ) -> Result<Resumption, AuditFault>
     ensures pair { MatchResult result
-        (λ r. pair_named base letters.now limit text.now ≡ Some (pair_in letters.now r))
+        (λ r. pair_named table.now base letters.now limit text.now
+        ≡ Some (pair_in letters.now r))
         (λ fault. fault ≢ AuditFault.OutOfMemory → (fault ≡ AuditFault.BadResume) ×
-        (pair_named base letters.now limit text.now ≡ None)) }
+        (pair_named table.now base letters.now limit text.now ≡ None)) }
     ensures letters { IfOk result (λ r. AreLetters letters.now limit r.word.items) }
 {
     let (name, path) = split_at_colon(text);
-    let Some(call) = Call::read(name) else {
+    let Some(call) = table.call_named(name) else {
         return Err(AuditFault::BadResume);
     };
     let Ok(mut word) = Vec::with_capacity(alloc, limit) else {

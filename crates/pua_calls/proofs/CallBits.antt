@@ -9,11 +9,8 @@ use Rattle.std.proofs.lemmas.List.{get_or-map}
 use Rattle.std.proofs.lemmas.List.FromFn.{get_or-range_with_len}
 use Rattle.std.proofs.lemmas.Nat.{and_le_l}
 use Rattle.std.proofs.lemmas.Nat.Bits.{bit_at_or, bit_at_and, bit_at-lt, bit_at-zero}
+use Rattle.pua_calls.specs.Calls.{call_count}
 use Rattle.pua_calls.specs.CallSets.{bit_of, has, keeps_link}
-
--- how many calls there are
-abbrev pub call_count : ℕ
-call_count = 14
 
 one_of : (x y : ℕ) → x < 2 → y < 2 → (max x y == 1) ≡ ((x == 1) || (y == 1))
 one_of zero zero low high = refl
@@ -81,7 +78,7 @@ bit_below Stat = omega arith
 bit_below _ = omega arith
 
 -- the set of one call
-pub single_below : (call : Call) → 1 * 2 ^ bit_of call % 65536 < 2 ^ call_count
+pub single_below : (call : Call) → 1 * 2 ^ bit_of call % 4294967296 < 2 ^ call_count
 single_below Stat = omega arith
 single_below _ = omega arith
 

@@ -1,9 +1,8 @@
 -- The standard table, row by row.
 use Rattle.pua_calls.proofs.Common.{◌≡◌, ℕ, ◌<◌, List, length, get_or, sym, ap, ◌∙◌, arith, Rule, CallTable, calls, Stat}
 use Rattle.std.proofs.lemmas.List.{same_lists, get_or-map}
-use Rattle.pua_calls.specs.Calls.{standard_pair, standard_rule, standard_table}
+use Rattle.pua_calls.specs.Calls.{call_count, standard_pair, standard_rule, standard_table}
 use Rattle.pua_calls.specs.declared.rules.ExecPromises.TheVariants.{Unset}
-use Rattle.pua_calls.proofs.CallBits.{call_count}
 
 -- rules that are each call's standard one are those of the standard table
 pub is_standard : (rows : List Rule) → length rows ≡ call_count →

@@ -9,7 +9,7 @@ use Rattle.toml.specs.Data.{Data, as_str, Items, no_items, item, Members, no_mem
 use Rattle.pua_tree.proofs.ForCallers.{step_read}
 use Rattle.pua_path.specs.declared.errno.Errno.{Errno}
 use Rattle.pua_calls.specs.Promises.{error, promises_of, perms_of, union_or_fault}
-use Rattle.pua_calls.specs.Calls.{standard_rule, call_named}
+use Rattle.pua_calls.specs.Calls.{standard_rule, call_in}
 use Rattle.pua_calls.specs.Tables.{NamesNoError, NeedsNoError, NoCallNeedsError, HasPairsOf}
 use Rattle.pua_calls.specs.TableTexts.{alternative_of, alternatives_of, veil_of, row_of, rule_in, with_rule, document_of}
 use Rattle.pua_calls.specs.TableTexts.{table_of_document, table_over}
@@ -94,7 +94,7 @@ module _ (P : CallTable → Type 0) (keeps : (rules : CallTable) (call : Call) (
       let same : rules ≡ table = cc in
       subst P same so
   rules_keep rules (member key value members) table so is =
-      let named = step_read (ok_or (call_named key) BadKey) _ table is in
+      let named = step_read (ok_or (call_in rules key) BadKey) _ table is in
       let rule = step_read (rule_in named.0 value) _ table named.2 in
       rules_keep (with_rule rules named.0 rule.0) members table
       (keeps rules named.0 rule.0 (rule_needs_no_error named.0 value rule.0 rule.1) so) rule.2

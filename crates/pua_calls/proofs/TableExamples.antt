@@ -40,7 +40,7 @@ pub openbsd_rows : OpenbsdRows
 unfolding toml_on_literals chars is_utf8
 openbsd_rows = record {
   kept = record {
-    fourteen = refl;
+    each = refl;
     rules = each_needs_none (rule_of openbsd_table) openbsd_needs_no_error calls;
     rename = (((lit< tt, refl), tt), ((lit< tt, refl), tt));
     link = (((lit< tt, refl), tt), ((lit< tt, refl), tt));
@@ -49,4 +49,12 @@ openbsd_rows = record {
   no_text = refl;
   row_over = refl;
   no_rename = refl;
+  named = refl;
+  not_named = refl;
+  had = refl;
+  not_had = refl;
+  each_known = refl;
+  further = refl;
+  further_row = refl;
+  no_further_row = refl;
 }

@@ -17,7 +17,7 @@ use Rattle.toml.specs.View.{members_view}
 use Rattle.toml.specs.declared.value.Value.{Value}
 use Rattle.pua_tree.specs.Steps.{◌>>=◌}
 use Rattle.pua_calls.specs.Promises.{error}
-use Rattle.pua_calls.specs.Calls.{call_named}
+use Rattle.pua_calls.specs.Calls.{call_in}
 use Rattle.pua_calls.specs.TableTexts.{count, document_of, keys_ascend, member_count, rule_in, with_rule}
 use Rattle.pua_calls.specs.declared.table.read.TableFault.{TableFault}
 use Rattle.pua_calls.specs.declared.table.read.TableFault.TheVariants.{BadKey}
@@ -27,14 +27,14 @@ module _ (t : CallTable) (key : List ℕ) (value : Data) (rest : Members) where
   abbrev put : Call → Rule → Result CallTable TableFault
   put call rule = rules_with (with_rule t call rule) rest
 
-  named_as : (found : Option Call) → call_named key ≡ found →
+  named_as : (found : Option Call) → call_in t key ≡ found →
       rules_with t (member key value rest) ≡ (ok_or found BadKey >>= λ call. rule_in call value >>= put call)
   named_as found named = λ i. ok_or (named i) BadKey >>= λ call. rule_in call value >>= put call
 
-  pub unnamed : call_named key ≡ None → rules_with t (member key value rest) ≡ Err BadKey
+  pub unnamed : call_in t key ≡ None → rules_with t (member key value rest) ≡ Err BadKey
   unnamed none = named_as None none
 
-  pub one_row : (call : Call) (rule : Rule) → call_named key ≡ Some call → rule_in call value ≡ Ok rule →
+  pub one_row : (call : Call) (rule : Rule) → call_in t key ≡ Some call → rule_in call value ≡ Ok rule →
       rules_with t (member key value rest) ≡ put call rule
   one_row call rule named is = named_as (Some call) named ∙ (λ i. is i >>= put call)
 

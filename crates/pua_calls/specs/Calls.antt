@@ -1,8 +1,9 @@
--- The fourteen calls with one path, and what each of them needs; what rename and link need, which have two; and what an
--- exec leaves of execpromises.
-use Rattle.std.specs.Prelude.{ℕ, ◌+◌, ◌-◌, List, [], ◌∷◌, map, Option, codes, find, slice_index_or}
+-- The calls with one path, and what each of them needs; what rename and link need, which have two; and what an exec leaves of
+-- execpromises.
+use Rattle.std.specs.Prelude.{ℕ, ◌+◌, ◌-◌, ◌==◌, Bool, not, List, [], ◌∷◌, length, map, Option, codes, find, slice_index_or}
 use Rattle.pua_tree.specs.Names.{same_bytes}
-use Rattle.pua_calls.specs.Promises.{rpath, wpath, cpath, fattr, exec, reading, writing, executing, creating}
+use Rattle.pua_tree.specs.Listing.{only_if}
+use Rattle.pua_calls.specs.Promises.{rpath, wpath, cpath, dpath, fattr, chown, exec, unix, reading, writing, executing, creating}
 use Rattle.pua_path.specs.declared.text.Ending.{Ending}
 use Rattle.pua_path.specs.declared.text.Ending.TheVariants.{Dot, Dropped}
 use Rattle.pua_path.specs.declared.found.Last.{Last}
@@ -13,11 +14,17 @@ use Rattle.pua_calls.specs.declared.rules.Rules.{Rules}
 use Rattle.pua_calls.specs.declared.rules.Rules.TheVariants.{Profile, Openbsd}
 use Rattle.pua_calls.specs.declared.call.Call.{Call}
 use Rattle.pua_calls.specs.declared.call.Call.TheVariants.{Stat, Lstat, Readlink, OpenRead, OpenWrite, OpenBoth, Create, Mkdir, Rmdir}
-use Rattle.pua_calls.specs.declared.call.Call.TheVariants.{Unlink, Symlink, Chmod, Chdir, Exec}
+use Rattle.pua_calls.specs.declared.call.Call.TheVariants.{Unlink, Symlink, Chmod, Chdir, Exec, Connect, Bind, Mknod, Chown}
 
 -- in the order of their numbers
 abbrev pub calls : List Call
-calls = Stat ∷ Lstat ∷ Readlink ∷ OpenRead ∷ OpenWrite ∷ OpenBoth ∷ Create ∷ Mkdir ∷ Rmdir ∷ Unlink ∷ Symlink ∷ Chmod ∷ Chdir ∷ Exec ∷ []
+calls =
+    Stat ∷ Lstat ∷ Readlink ∷ OpenRead ∷ OpenWrite ∷ OpenBoth ∷ Create ∷ Mkdir ∷ Rmdir ∷ Unlink ∷ Symlink ∷ Chmod ∷ Chdir ∷ Exec ∷ Connect ∷ Bind
+    ∷ Mknod ∷ Chown ∷ []
+
+-- how many there are
+abbrev pub call_count : ℕ
+call_count = 18
 
 abbrev pub call_number : Call → ℕ
 call_number Stat = 1
@@ -34,6 +41,10 @@ call_number Symlink = 11
 call_number Chmod = 12
 call_number Chdir = 13
 call_number Exec = 14
+call_number Connect = 15
+call_number Bind = 16
+call_number Mknod = 17
+call_number Chown = 18
 
 abbrev pub call_name : Call → List ℕ
 call_name Stat = codes "stat"
@@ -50,15 +61,20 @@ call_name Symlink = codes "symlink"
 call_name Chmod = codes "chmod"
 call_name Chdir = codes "chdir"
 call_name Exec = codes "exec"
+call_name Connect = codes "connect"
+call_name Bind = codes "bind"
+call_name Mknod = codes "mknod"
+call_name Chown = codes "chown"
 
-abbrev pub call_named : List ℕ → Option Call
-call_named word = find (λ call. same_bytes (call_name call) word) calls
+abbrev pub call_of_name : List ℕ → Option Call
+call_of_name word = find (λ call. same_bytes (call_name call) word) calls
 
 -- what a call needs: one of the sets of promises, and each of the permissions
 pub record Rule : Type 0 where
   pub alternatives : List ℕ
   pub perms : ℕ
 
+-- those that have no set of promises are never allowed
 abbrev pub standard_rule : Call → Rule
 standard_rule Stat = record { alternatives = rpath ∷ []; perms = reading }
 standard_rule Lstat = record { alternatives = rpath ∷ []; perms = reading }
@@ -74,6 +90,10 @@ standard_rule Symlink = record { alternatives = cpath ∷ []; perms = creating }
 standard_rule Chmod = record { alternatives = fattr ∷ []; perms = writing }
 standard_rule Chdir = record { alternatives = rpath ∷ []; perms = reading }
 standard_rule Exec = record { alternatives = exec ∷ []; perms = executing }
+standard_rule Connect = record { alternatives = []; perms = writing }
+standard_rule Bind = record { alternatives = []; perms = creating }
+standard_rule Mknod = record { alternatives = []; perms = creating }
+standard_rule Chown = record { alternatives = []; perms = writing }
 
 -- what a request with two paths needs of what one of them names, and whether its last part is followed if it is a link
 pub record NameRule : Type 0 where
@@ -103,9 +123,14 @@ pub record CallTable : Type 0 where
 abbrev pub standard_table : CallTable
 standard_table = record { rules = map standard_rule calls; rename = standard_pair; link = standard_pair; execpromises = Unset }
 
--- OpenBSD's kernel asks chmod to be allowed to read too
+-- OpenBSD's kernel asks chmod to be allowed to read too, lets sockets be named by one promise, special files be made by another,
+-- and owners be changed by either of two, where it is allowed to read too
 abbrev pub openbsd_rule : Call → Rule
 openbsd_rule Chmod = record { alternatives = (rpath + fattr) ∷ []; perms = writing }
+openbsd_rule Connect = record { alternatives = unix ∷ []; perms = writing }
+openbsd_rule Bind = record { alternatives = unix ∷ []; perms = creating }
+openbsd_rule Mknod = record { alternatives = dpath ∷ []; perms = creating }
+openbsd_rule Chown = record { alternatives = (rpath + chown) ∷ (rpath + fattr) ∷ []; perms = writing }
 openbsd_rule call = standard_rule call
 
 -- of its old name rename reads what it takes away
@@ -134,6 +159,22 @@ table_by_rules Openbsd = openbsd_table
 abbrev pub rule_of : CallTable → Call → Rule
 rule_of table call = slice_index_or table.rules (call_number call - 1) (standard_rule call)
 
+-- a table has those calls for which it has a set of promises
+abbrev pub is_known : CallTable → Call → Bool
+is_known table call = not (length (rule_of table call).alternatives == 0)
+
+-- the call of this name that a table has
+abbrev pub call_in : CallTable → List ℕ → Option Call
+call_in table word = only_if (is_known table) (call_of_name word)
+
+-- the call of this name that there is by rules
+abbrev pub call_named_by : Rules → List ℕ → Option Call
+call_named_by rules word = call_in (table_by_rules rules) word
+
+-- and by those of the profile
+abbrev pub call_named : List ℕ → Option Call
+call_named word = call_named_by Profile word
+
 -- whether the last part is followed if it is a link
 abbrev pub last_of : Call → Last
 last_of Lstat = Kept
@@ -142,6 +183,8 @@ last_of Mkdir = Kept
 last_of Rmdir = Kept
 last_of Unlink = Kept
 last_of Symlink = Kept
+last_of Bind = Kept
+last_of Mknod = Kept
 last_of _ = Followed
 
 -- what a slash at the end of the call's path means

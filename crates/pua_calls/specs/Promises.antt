@@ -29,8 +29,14 @@ no_promises = 0
 abbrev pub all_promises : ℕ
 all_promises = 2 ^ 36 - 1
 
+abbrev pub chown : ℕ
+chown = 2 ^ 2
+
 abbrev pub cpath : ℕ
 cpath = 2 ^ 3
+
+abbrev pub dpath : ℕ
+dpath = 2 ^ 6
 
 abbrev pub error : ℕ
 error = 2 ^ 8
@@ -46,6 +52,9 @@ proc = 2 ^ 17
 
 abbrev pub rpath : ℕ
 rpath = 2 ^ 22
+
+abbrev pub unix : ℕ
+unix = 2 ^ 29
 
 abbrev pub unveil : ℕ
 unveil = 2 ^ 30

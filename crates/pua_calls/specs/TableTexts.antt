@@ -6,7 +6,7 @@ use Rattle.toml.specs.Data.{Data, as_str, as_array, as_table, Items, no_items, i
 use Rattle.toml.specs.Parse.{parse_document}
 use Rattle.pua_tree.specs.Steps.{◌>>=◌}
 use Rattle.pua_calls.specs.Promises.{holds, error, promises_of, perms_of}
-use Rattle.pua_calls.specs.Calls.{CallTable, Rule, standard_table, call_named, call_number}
+use Rattle.pua_calls.specs.Calls.{CallTable, Rule, standard_table, call_in, call_number}
 use Rattle.pua_calls.specs.Tables.{most_alternatives}
 use Rattle.pua_path.specs.declared.errno.Errno.{Errno}
 use Rattle.pua_calls.specs.declared.call.Call.{Call}
@@ -79,11 +79,12 @@ abbrev pub keys_ascend : Members → Bool
 keys_ascend no_members = true
 keys_ascend (member key value members) = is_before key members && keys_ascend members
 
--- the table with the rules of the members, in their order; a document's keys ascend, and none can name rename or link
+-- the table with the rules of the members, in their order; a document's keys ascend, and each is the name of a call that the
+-- table has, so none is rename or link
 abbrev pub rules_with : CallTable → Members → Result CallTable TableFault
 rules_with table no_members = Ok table
 rules_with table (member key value members) = do
-  call ← ok_or (call_named key) BadKey
+  call ← ok_or (call_in table key) BadKey
   rule ← rule_in call value
   rules_with (with_rule table call rule) members
 

@@ -2,7 +2,7 @@
 use Rattle.std.specs.Prelude.{◌≡◌, ℕ, ◌-◌, ◌<◌, ◌^◌, List, ◌++◌, length, replicate, bit_and}
 use Rattle.std.specs.List.{AllByRecursion}
 use Rattle.pua_calls.specs.Promises.{error}
-use Rattle.pua_calls.specs.Calls.{Rule, PairRule, CallTable, rule_of}
+use Rattle.pua_calls.specs.Calls.{Rule, PairRule, CallTable, call_count, rule_of}
 use Rattle.pua_calls.specs.declared.call.Call.{Call}
 
 -- at most so many alternatives have a call
@@ -35,9 +35,9 @@ pub record HasPairsOf (base table : CallTable) : Type 0 where
   pub link : table.link ≡ base.link
   pub execpromises : table.execpromises ≡ base.execpromises
 
--- a rule for each of the fourteen calls, and none of these names `error`, nor one of rename and link
+-- a rule for each call, and none of these names `error`, nor one of rename and link
 pub record IsCallTable (table : CallTable) : Type 0 where
-  pub fourteen : length table.rules ≡ 14
+  pub each : length table.rules ≡ call_count
   pub rules : AllByRecursion NeedsNoError table.rules
   pub rename : PairNeedsNoError table.rename
   pub link : PairNeedsNoError table.link

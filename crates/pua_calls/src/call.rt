@@ -1,7 +1,8 @@
-//! The fourteen calls with one path.
+//! The calls with one path.
 
 use crate::perms::Perms;
 use crate::promises::Promises;
+use crate::rules::Rules;
 use pua_path::Last;
 
 /// A call with one path, in the order of the calls' numbers.
@@ -35,6 +36,14 @@ pub enum Call {
     Chdir,
     /// execve(2).
     Exec,
+    /// connect(2) of a socket to the one of this path, which OpenBSD's rules alone have.
+    Connect,
+    /// bind(2) of a socket to a path, which OpenBSD's rules alone have.
+    Bind,
+    /// mknod(2), and mkfifo(2), which OpenBSD's rules alone have.
+    Mknod,
+    /// chown(2), which OpenBSD's rules alone have.
+    Chown,
 }
 
 /// What a call needs: all of these promises, all of these permissions, and whether its path's last
@@ -48,10 +57,11 @@ pub struct Need {
 
 impl Call {
     ghost use Rattle.std.specs.Prelude.{◌≡◌};
-    ghost use Rattle.pua_calls.specs.Calls.{call_number, call_name, call_named, last_of};
+    ghost use Rattle.pua_calls.specs.Calls.{call_number, call_name, call_of_name, call_named};
+    ghost use Rattle.pua_calls.specs.Calls.{call_named_by, is_known, last_of, table_by_rules};
 
     /// How many calls there are.
-    pub const COUNT: usize = 14;
+    pub const COUNT: usize = 18;
 
     /// Every call, in the order of their numbers.
     pub const ALL: [Call; Call::COUNT] = [
@@ -69,9 +79,13 @@ impl Call {
         Call::Chmod,
         Call::Chdir,
         Call::Exec,
+        Call::Connect,
+        Call::Bind,
+        Call::Mknod,
+        Call::Chown,
     ];
 
-    /// Its number, from 1 to 14.
+    /// Its number, from 1 to `COUNT`.
     pub fn number(self) -> u8
         ensures { result ≡ call_number self }
     {
@@ -97,6 +111,10 @@ impl Call {
             Call::Chmod => "chmod",
             Call::Chdir => "chdir",
             Call::Exec => "exec",
+            Call::Connect => "connect",
+            Call::Bind => "bind",
+            Call::Mknod => "mknod",
+            Call::Chown => "chown",
         }
     }
 
@@ -107,13 +125,43 @@ impl Call {
         match self {
             Call::Lstat | Call::Readlink => Last::Kept,
             Call::Mkdir | Call::Rmdir | Call::Unlink | Call::Symlink => Last::Kept,
+            Call::Bind | Call::Mknod => Last::Kept,
             _ => Last::Followed,
         }
     }
 
-    /// The call of this name, if there is one.
+    /// The call of this name that there is by rules, if there is one: this project's own have the first
+    /// fourteen, OpenBSD's have all.
+    pub fn read_by(rules: Rules, word: &[u8]) -> Option<Call>
+        ensures { result ≡ call_named_by rules word.now }
+    {
+        let call = Call::of_name(word)?;
+        call.is_by(rules).then_some(call)
+    }
+
+    /// Whether there is this call by rules: whether their table has a set of promises for it.
+    pub(crate) fn is_by(self, rules: Rules) -> bool
+        ensures { result ≡ is_known (table_by_rules rules) self }
+    {
+        match rules {
+            Rules::Profile => !matches!(
+                self,
+                Call::Connect | Call::Bind | Call::Mknod | Call::Chown
+            ),
+            Rules::Openbsd => true,
+        }
+    }
+
+    /// The call of this name that there is by this project's own rules, if there is one.
     pub fn read(word: &[u8]) -> Option<Call>
         ensures { result ≡ call_named word.now }
+    {
+        Call::read_by(Rules::Profile, word)
+    }
+
+    /// The call of this name, if there is one by any rules.
+    pub(crate) fn of_name(word: &[u8]) -> Option<Call>
+        ensures { result ≡ call_of_name word.now }
     {
         let likely = Call::likely(word);
         if likely.name().as_bytes() == word {
@@ -137,7 +185,11 @@ impl Call {
             [b'o', ..] => Call::OpenBoth,
             [b'c', .., b'e'] => Call::Create,
             [b'c', .., b'd'] => Call::Chmod,
+            [b'c', .., b't'] => Call::Connect,
+            [b'c', .., b'n'] => Call::Chown,
             [b'c', ..] => Call::Chdir,
+            [b'b', ..] => Call::Bind,
+            [b'm', .., b'd'] => Call::Mknod,
             [b'm', ..] => Call::Mkdir,
             [b'r', .., b'r'] => Call::Rmdir,
             [b'r', ..] => Call::Readlink,

@@ -5,23 +5,25 @@ use std::marker::Model;
 /// A set of calls. Contracts see a number with a bit for each call, the first at bit 0.
 #[derive(Clone, Copy, PartialEq, Eq, Hash)]
 pub struct Calls {
-    bits: u16,
+    bits: u32,
 }
 
 impl Model for Calls {
     ghost use Rattle.std.specs.Prelude.{ℕ, ◌<◌, ◌^◌};
+    ghost use Rattle.pua_calls.specs.Calls.{call_count};
 
     ghost Value = { ℕ };
 
     ghost view = { λ a. a.bits };
 
-    ghost invariant = { λ a. a.bits < 2 ^ 14 };
+    ghost invariant = { λ a. a.bits < 2 ^ call_count };
 
     ghost inverse = { λ n. record { bits = n } };
 }
 
 ghost use Rattle.std.specs.Prelude.{◌≡◌, ◌≢◌, ◌↔◌, ◌<◌, ◌^◌, []};
 ghost use Rattle.std.specs.Prelude.{◌&&◌, ◌||◌, not, IsTrue};
+ghost use Rattle.pua_calls.specs.Calls.{call_count};
 ghost use Rattle.pua_calls.specs.CallSets.{has, calls_in, keeps_link};
 
 use crate::call::Call;
@@ -32,17 +34,19 @@ impl Calls {
 
     /// The calls on a link itself.
     const KEEPING: Calls = Calls {
-        bits: 1 << Call::Lstat as u16
-            | 1 << Call::Readlink as u16
-            | 1 << Call::Mkdir as u16
-            | 1 << Call::Rmdir as u16
-            | 1 << Call::Unlink as u16
-            | 1 << Call::Symlink as u16,
+        bits: 1 << Call::Lstat as u32
+            | 1 << Call::Readlink as u32
+            | 1 << Call::Mkdir as u32
+            | 1 << Call::Rmdir as u32
+            | 1 << Call::Unlink as u32
+            | 1 << Call::Symlink as u32
+            | 1 << Call::Bind as u32
+            | 1 << Call::Mknod as u32,
     };
 
     /// The others: the calls on what a link leads to.
     const FOLLOWING: Calls = Calls {
-        bits: !Calls::KEEPING.bits & (1 << Call::COUNT) - 1,
+        bits: ((1 << Call::COUNT) - 1) & !Calls::KEEPING.bits,
     };
 
     /// Whether it has a call.
@@ -60,9 +64,9 @@ impl Calls {
     }
 
     /// Its number: a bit for each call, that of the call with number n at bit n - 1.
-    pub fn bits(self) -> u16
+    pub fn bits(self) -> u32
         ensures number { result ≡ self }
-        ensures calls { result < 2 ^ 14 }
+        ensures calls { result < 2 ^ call_count }
     {
         self.bits
     }

@@ -2,7 +2,7 @@
 //! function that does nothing, or that hands out the constants of which it speaks.
 
 ghost use Rattle.std.specs.Prelude.{◌≡◌, [], ◌∷◌, Ok, codes, map};
-ghost use Rattle.pua_calls.specs.Calls.{calls};
+ghost use Rattle.pua_calls.specs.Calls.{call_count, calls};
 ghost use Rattle.pua_calls.specs.Tables.{most_alternatives};
 ghost use Rattle.pua_calls.specs.Promises.{promises_of, other_promises, perms_of};
 ghost use Rattle.pua_calls.specs.TableExamples.{OpenbsdRows, TableRows};
@@ -14,17 +14,21 @@ use crate::table::MOST_ALTERNATIVES;
 
 /// The constants of `Promises` that are one promise, in the order of their keywords: each is what
 /// its keyword names.
-pub fn promise_constants() -> [Promises; 8]
-    ensures { map Ok result ≡ map promises_of (codes "cpath" ∷ codes "error" ∷ codes "exec"
-        ∷ codes "fattr" ∷ codes "proc" ∷ codes "rpath" ∷ codes "unveil" ∷ codes "wpath" ∷ []) }
+pub fn promise_constants() -> [Promises; 11]
+    ensures { map Ok result ≡ map promises_of (codes "chown" ∷ codes "cpath" ∷ codes "dpath"
+        ∷ codes "error" ∷ codes "exec" ∷ codes "fattr" ∷ codes "proc" ∷ codes "rpath"
+        ∷ codes "unix" ∷ codes "unveil" ∷ codes "wpath" ∷ []) }
 {
     [
+        Promises::CHOWN,
         Promises::CPATH,
+        Promises::DPATH,
         Promises::ERROR,
         Promises::EXEC,
         Promises::FATTR,
         Promises::PROC,
         Promises::RPATH,
+        Promises::UNIX,
         Promises::UNVEIL,
         Promises::WPATH,
     ]
@@ -57,6 +61,7 @@ pub fn permission_constants() -> [Perms; 5]
 /// call as the definitions say.
 pub fn limits_law()
     ensures calls { Call.ALL ≡ calls }
+    ensures count { Call.COUNT ≡ call_count }
     ensures alternatives { MOST_ALTERNATIVES ≡ most_alternatives }
 {}
 

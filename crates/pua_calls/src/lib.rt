@@ -1,4 +1,4 @@
-//! Promises, permissions, the fourteen calls with one path, and tables of what they need.
+//! Promises, permissions, the calls with one path, and tables of what they need.
 #![tactic(auto)]
 
 mod call;

@@ -1,16 +1,21 @@
 //! What each call needs.
 
-ghost use Rattle.std.specs.Prelude.{◌≡◌, [], ◌∷◌};
-ghost use Rattle.pua_calls.specs.Calls.{rule_of, standard_table, last_of, ending_of};
+ghost use Rattle.std.specs.Prelude.{◌≡◌, [], ◌∷◌, take, IsTrue, IsFalse};
+ghost use Rattle.pua_calls.specs.Calls.{is_known, rule_of, standard_table, openbsd_table};
+ghost use Rattle.pua_calls.specs.Calls.{last_of, ending_of};
 
 use crate::call::{Call, Need};
 use crate::perms::Perms;
 use crate::promises::Promises;
 use pua_path::Ending;
 
-/// What a call needs, by the standard table (this profile).
+/// What a call needs, by the standard table (this profile); of a call that has no set of promises there
+/// the first set of those of which it needs one by OpenBSD's.
 pub fn need(call: Call) -> Need
-    ensures promises { (rule_of standard_table call).alternatives ≡ result.promises ∷ [] }
+    ensures promises { IsTrue (is_known standard_table call) →
+        (rule_of standard_table call).alternatives ≡ result.promises ∷ [] }
+    ensures further { IsFalse (is_known standard_table call) →
+        take 1 (rule_of openbsd_table call).alternatives ≡ result.promises ∷ [] }
     ensures perms { (rule_of standard_table call).perms ≡ result.perms }
     ensures last { result.last ≡ last_of call }
 {
@@ -31,6 +36,10 @@ pub fn need(call: Call) -> Need
         }
         Call::Chmod => (Promises::FATTR, Perms::WRITE),
         Call::Exec => (Promises::EXEC, Perms::EXEC),
+        Call::Connect => (Promises::UNIX, Perms::WRITE),
+        Call::Bind => (Promises::UNIX, Perms::CREATE),
+        Call::Mknod => (Promises::DPATH, Perms::CREATE),
+        Call::Chown => (Promises::RPATH.union(Promises::CHOWN), Perms::WRITE),
     };
     Need {
         promises,

@@ -38,7 +38,11 @@ use std::alloc::{AllocError, Global};
 
 /// The keywords that a call needs, or that decide what a call without its promises gets.
 impl Keywords {
+    const CHOWN: Keywords = Keywords(1 << 2);
+
     const CPATH: Keywords = Keywords(1 << 3);
+
+    const DPATH: Keywords = Keywords(1 << 6);
 
     const ERROR: Keywords = Keywords(1 << 8);
 
@@ -49,6 +53,8 @@ impl Keywords {
     const PROC: Keywords = Keywords(1 << 17);
 
     const RPATH: Keywords = Keywords(1 << 22);
+
+    const UNIX: Keywords = Keywords(1 << 29);
 
     const UNVEIL: Keywords = Keywords(1 << 30);
 
@@ -66,7 +72,7 @@ static KEYWORDS: [Flag<Keywords>; Promises::KEYWORDS] = [
     },
     Flag {
         name: "chown",
-        value: Keywords(1 << 2),
+        value: Keywords::CHOWN,
     },
     Flag {
         name: "cpath",
@@ -82,7 +88,7 @@ static KEYWORDS: [Flag<Keywords>; Promises::KEYWORDS] = [
     },
     Flag {
         name: "dpath",
-        value: Keywords(1 << 6),
+        value: Keywords::DPATH,
     },
     Flag {
         name: "drm",
@@ -174,7 +180,7 @@ static KEYWORDS: [Flag<Keywords>; Promises::KEYWORDS] = [
     },
     Flag {
         name: "unix",
-        value: Keywords(1 << 29),
+        value: Keywords::UNIX,
     },
     Flag {
         name: "unveil",
@@ -235,9 +241,19 @@ impl Promises {
         keywords: Keywords((1 << 36) - 1 - (1 << 8)),
     };
 
+    /// To change the owners of files.
+    pub const CHOWN: Promises = Promises {
+        keywords: Keywords::CHOWN,
+    };
+
     /// To create and to remove files.
     pub const CPATH: Promises = Promises {
         keywords: Keywords::CPATH,
+    };
+
+    /// To make special files.
+    pub const DPATH: Promises = Promises {
+        keywords: Keywords::DPATH,
     };
 
     /// Calls that lack a promise fail with ENOSYS, and the process lives.
@@ -263,6 +279,11 @@ impl Promises {
     /// To read files, and to look at them.
     pub const RPATH: Promises = Promises {
         keywords: Keywords::RPATH,
+    };
+
+    /// To name sockets by their paths.
+    pub const UNIX: Promises = Promises {
+        keywords: Keywords::UNIX,
     };
 
     /// To put veils on places.

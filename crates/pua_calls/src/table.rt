@@ -45,10 +45,11 @@ impl Model for RuleRow {
     ghost inverse_ok = { λ a h i. record { sets = h.0 i; count = h.1 i; perms = a.perms } };
 }
 
-/// What each of the fourteen calls needs, what rename and link need, which have two paths, and what
-/// an exec leaves of execpromises. It is kept inline, so that a copy takes no memory. Contracts see a
-/// list of fourteen rules, in the order of the calls' numbers, those of rename and link, and that of
-/// execpromises. No alternative names `error`: a process can gain that promise, and no other.
+/// What each of the calls needs, what rename and link need, which have two paths, and what an exec
+/// leaves of execpromises. A call that has no set of promises is never allowed. It is kept inline, so
+/// that a copy takes no memory. Contracts see a list of rules, in the order of the calls' numbers,
+/// those of rename and link, and that of execpromises. No alternative names `error`: a process can
+/// gain that promise, and no other.
 #[derive(Clone, Copy)]
 pub struct CallTable {
     rows: [RuleRow; Call::COUNT],
@@ -83,7 +84,7 @@ impl Model for CallTable {
 
 ghost use Rattle.std.specs.Prelude.{◌≡◌, ◌<◌, [], ◌∷◌, ◌++◌, length};
 ghost use Rattle.pua_calls.specs.Calls.{standard_rule, standard_table, openbsd_table};
-ghost use Rattle.pua_calls.specs.Calls.{table_by_rules, rule_of};
+ghost use Rattle.pua_calls.specs.Calls.{call_count, call_in, table_by_rules, rule_of};
 ghost use Rattle.pua_calls.specs.Tables.{NeedsNoError, NoCallNeedsError, most_alternatives};
 ghost use Rattle.pua_calls.specs.TableTexts.{with_rule};
 
@@ -129,14 +130,20 @@ impl RuleRow {
         ensures { result ≡ standard_rule call }
     {
         let need = needs::need(call);
-        RuleRow::one(need.promises, need.perms)
+        if call.is_by(Rules::Profile) {
+            return RuleRow::one(need.promises, need.perms);
+        }
+        RuleRow {
+            perms: need.perms,
+            ..RuleRow::NONE
+        }
     }
 }
 
 impl CallTable {
-    /// This project's own table: each call needs what `needs::need` answers, both names of rename
-    /// and of link need cpath and `c`, of a link itself, and an exec unsets execpromises (this
-    /// profile).
+    /// This project's own table: each of the first fourteen calls needs what `needs::need` answers, the
+    /// others are never allowed, both names of rename and of link need cpath and `c`, of a link itself,
+    /// and an exec unsets execpromises (this profile).
     pub fn standard() -> CallTable
         ensures { result ≡ standard_table }
     {
@@ -149,9 +156,10 @@ impl CallTable {
     }
 
     /// The rules of OpenBSD's kernel, as its manual pages and its sources are known; no kernel was
-    /// tried. They are the standard ones but for these. chmod needs rpath beside fattr. The old name
-    /// of rename needs rpath and cpath, `r` and `c`; that of link rpath and `r` alone, of what a
-    /// link leads to. Execpromises stay after an exec.
+    /// tried. They are the standard ones but for these. chmod needs rpath beside fattr. connect needs
+    /// unix and `w`, bind unix and `c`, mknod dpath and `c`; chown needs `w`, and rpath with chown or
+    /// with fattr. The old name of rename needs rpath and cpath, `r` and `c`; that of link rpath and `r`
+    /// alone, of what a link leads to. Execpromises stay after an exec.
     pub fn openbsd() -> CallTable
         ensures { result ≡ openbsd_table }
     {
@@ -160,6 +168,12 @@ impl CallTable {
             Call::Chmod,
             RuleRow::one(Promises::RPATH.union(Promises::FATTR), Perms::WRITE),
         );
+        table.set(Call::Connect, RuleRow::one(Promises::UNIX, Perms::WRITE));
+        table.set(Call::Bind, RuleRow::one(Promises::UNIX, Perms::CREATE));
+        table.set(Call::Mknod, RuleRow::one(Promises::DPATH, Perms::CREATE));
+        let mut chown = RuleRow::one(Promises::RPATH.union(Promises::CHOWN), Perms::WRITE);
+        chown.add(Promises::RPATH.union(Promises::FATTR));
+        table.set(Call::Chown, chown);
         CallTable {
             rename: PairNeed::openbsd_rename(),
             link: PairNeed::openbsd_link(),
@@ -184,6 +198,14 @@ impl CallTable {
         ensures { self.new ≡ with_rule self.old call row }
     {
         self.rows[call.number() as usize - 1] = row;
+    }
+
+    /// The call of this name, if the table has a set of promises for it.
+    pub fn call_named(&self, word: &[u8]) -> Option<Call>
+        ensures { result ≡ call_in self.now word.now }
+    {
+        let call = Call::of_name(word)?;
+        (!self.alternatives(call).is_empty()).then_some(call)
     }
 
     /// The sets of promises of which a call needs one, each promise in it. At most 8.
@@ -224,7 +246,7 @@ impl CallTable {
 
     /// Does nothing. A caller learns from it what is true of each table.
     pub fn known(&self)
-        ensures fourteen { length self.now.rules ≡ 14 }
+        ensures each { length self.now.rules ≡ call_count }
         ensures no_error { NoCallNeedsError self.now }
     {
         // The prover knows the invariant of a value that is read.

@@ -4,9 +4,10 @@ use Rattle.pua_ever.proofs.Common.{and_parts, and_from, Tree, WellFormed, Spot, 
 use Rattle.pua_ever.proofs.Common.{is_link_kind, Found, Whole, Slot, Top, CallTable, is_kept, History, may_any, IsMissing, cover}
 use Rattle.pua_ever.proofs.Common.{cover_fault, covered_verdict, is_allowed, Asked, World, apply, world_after, is_member}
 use Rattle.pua_ever.proofs.Common.{family_then, NoCallNeedsError, TreesAlong, has_c, IsWithin, verdicts_within}
-use Rattle.pua_ever.proofs.Common.{Members, first_tree, cover_in, covers_descend, is_yes, New, NewDir, NewOthers, NewFile}
-use Rattle.pua_ever.proofs.Common.{NewLink, maker, EditsNeedC, VeilsStand, Cover, can_move, may_rename}
-use Rattle.pua_calls.specs.declared.call.Call.TheVariants as call
+use Rattle.pua_ever.proofs.Common.{Members, first_tree, cover_in, covers_descend, is_yes}
+use Rattle.pua_ever.proofs.Common.{Call, EditsNeedC, VeilsStand, Cover, can_move, may_rename, Bool, Option, rule_of, allowed_unless}
+use Rattle.pua_ever.proofs.Common.{if_promised, or_fault}
+use Rattle.pua_path.specs.declared.errno.Errno.{Errno}
 use Rattle.pua_script.specs.Confinement.{object_in}
 use Rattle.pua_script.proofs.ForCallers.{same_cover}
 use Rattle.pua_script.proofs.ForCallers.{each_spares, by_other}
@@ -15,6 +16,7 @@ use Rattle.pua_ever.specs.Laws.{MembersEdit, NoExecLoosens}
 use Rattle.pua_ever.proofs.Execs.{members_still}
 use Rattle.pua_ever.proofs.Grown.{Grown, Written, by_name, by_turn, From, is_new, is_moved, is_linked, Put, Born, name_cover}
 use Rattle.pua_ever.proofs.Growing.{takes, requests_grow}
+use Rattle.pua_ever.proofs.KindFaults.{plain_alike}
 use Rattle.pua_ever.proofs.Origins.{Stays}
 use Rattle.pua_ever.proofs.Unedited.{yes_before}
 use Rattle.pua_ever.proofs.Stepping.{stays_then}
@@ -28,13 +30,18 @@ module _ (table : CallTable) (sound : NoCallNeedsError table) (now a : History) 
     same_in : (d : ℕ) → is_dir t d ≡ true → cover_in t a d ≡ cover_in t now d
     same_in d is = sym ((covers_descend t a well).directory d Top is) ∙ same (Whole d Top) ∙ (covers_descend t now well).directory d Top is
 
-    makes_within : (made : New) (s : Spot) → is_allowed (covered_verdict empty_tree table a (maker made) (name_cover table t a s) IsMissing)
+    -- a call on a missing name, by the fault of its kind
+    abbrev on_name : Call → Spot → History → Option Errno → Bool
+    on_name c s h fault =
+        is_allowed (if_promised (may_any h (rule_of table c).alternatives)
+        (allowed_unless (or_fault (cover_fault (name_cover table t h s) (rule_of table c).perms) fault)))
+
+    makes_within : (maker : Call) (s : Spot) → is_allowed (covered_verdict empty_tree table a maker (name_cover table t a s) IsMissing)
         ≡ true
-        → is_allowed (covered_verdict empty_tree table now (maker made) (name_cover table t now s) IsMissing) ≡ true
-    makes_within NewDir s e = verdicts_within now a within table sound t call.Mkdir (Ok (Slot s.0 s.1 None)) e
-    makes_within NewOthers s e = verdicts_within now a within table sound t call.Mkdir (Ok (Slot s.0 s.1 None)) e
-    makes_within NewFile s e = verdicts_within now a within table sound t call.Create (Ok (Slot s.0 s.1 None)) e
-    makes_within NewLink s e = verdicts_within now a within table sound t call.Symlink (Ok (Slot s.0 s.1 None)) e
+        → is_allowed (covered_verdict empty_tree table now maker (name_cover table t now s) IsMissing) ≡ true
+    makes_within maker s e =
+        sym (ap (on_name maker s now) (plain_alike t maker None)) ∙
+        verdicts_within now a within table sound t maker (Ok (Slot s.0 s.1 None)) (ap (on_name maker s a) (plain_alike t maker None) ∙ e)
 
     written_within : (s : Spot) (x : ℕ) → Written table t a s x → Written table t now s x
     written_within s x (by_name has) = by_name (ap has_c (sym (same (Slot s.0 s.1 None))) ∙ has)
@@ -84,7 +91,9 @@ module _ (table : CallTable) (sound : NoCallNeedsError table) (now a : History) 
             spot = makes.spot;
             lives = makes.lives;
             free = makes.free;
-            allowed = makes_within born.made makes.spot makes.allowed;
+            maker = makes.maker;
+            makes = makes.makes;
+            allowed = makes_within makes.maker makes.spot makes.allowed;
             covered = ap has_c (sym (same (Slot makes.spot.0 makes.spot.1 None))) ∙ makes.covered;
           };
         }

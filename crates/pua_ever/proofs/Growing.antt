@@ -7,10 +7,11 @@ use Rattle.pua_ever.proofs.Common.{is_kept, History, may_any, working_dir, IsMis
 use Rattle.pua_ever.proofs.Common.{object_fault, allowed_unless, if_promised, is_allowed, Call, Asked, most_processes, World, Fails, Copies}
 use Rattle.pua_ever.proofs.Common.{change_effect, history_of, apply, tree_left, Action, OnPath, Symlink, Rename, Link, Pledge, Unveil, Lock}
 use Rattle.pua_ever.proofs.Common.{Fork, Exit, has_c, Change, CopyAs, change_by, IsDecided, by_going, covers_descend, named_within_text}
-use Rattle.pua_ever.proofs.Common.{row_cover, is_yes, can_link, can_move, may_rename, New, NewDir, NewFile, NewLink, maker, EditsNeedC, List, FoundFits}
+use Rattle.pua_ever.proofs.Common.{row_cover, is_yes, can_link, can_move, may_rename, New, NewDir, NewFile, NewLink, EditsNeedC, List, FoundFits}
 use Rattle.std.proofs.Common.{not}
 use Rattle.std.specs.Prelude.{length}
 use Rattle.std.proofs.lemmas.Bool.{not-false}
+use Rattle.pua_tree.specs.declared.node.Kind.{Kind}
 use Rattle.pua_tree.specs.declared.node.Kind.TheVariants as kind
 use Rattle.pua_path.specs.Fits.{IsOf, is_link, spot_named, node_named}
 use Rattle.pua_path.specs.declared.found.Last.{Last}
@@ -22,22 +23,36 @@ use Rattle.pua_calls.specs.Promises.{holds, creating}
 use Rattle.pua_calls.specs.declared.call.Call.TheVariants as call
 use Rattle.pua_policy.specs.declared.answer.May.TheVariants as may
 use Rattle.pua_script.specs.Judged.{NameFits}
-use Rattle.pua_script.specs.Confinement.{TakingNeedsC}
-use Rattle.pua_script.specs.Decide.{NoChange, AddNode, CutRow, ShiftRow, TieRow, adding, shifting, fault_if}
+use Rattle.pua_script.specs.Confinement.{TakingNeedsC, changes_names}
+use Rattle.pua_script.specs.Decide.{NoChange, AddNode, CutRow, ShiftRow, TieRow, adding, making, made_by, shifting, fault_if}
 use Rattle.pua_script.specs.Decide.{is_whole, plain_node, link_node, kinds_fault}
 use Rattle.pua_script.specs.Guards.{IsShift}
 use Rattle.pua_script.proofs.ForCallers.{name_fits, c_from_cover, covered_by_c, by_tree, by_own_tree, by_cutting}
 use Rattle.pua_script.proofs.ForCallers.{by_tying, first_none, second_none, not_faulty}
-use Rattle.pua_ever.specs.Ever.{may_link}
-use Rattle.pua_ever.proofs.Grown.{Grown, Written, by_name, by_turn, From, is_moved, is_linked, new_kind, name_cover, grown_all, grown_add}
+use Rattle.pua_calls.specs.Calls.{calls}
+use Rattle.pua_objects.proofs.ForCallers.{one_of_calls}
+use Rattle.pua_ever.specs.Ever.{may_link, is_some_file, file_makers}
+use Rattle.pua_ever.proofs.Common.{among_filter}
+use Rattle.pua_ever.proofs.Ways.{any_among}
+use Rattle.pua_ever.proofs.Grown.{Grown, Written, by_name, by_turn, From, IsMaker, is_moved, is_linked, new_kind, name_cover, grown_all, grown_add}
 use Rattle.pua_ever.proofs.Grown.{grown_tie, grown_cut, grown_shift}
 
 pub takes : (table : CallTable) → EditsNeedC table → TakingNeedsC table
-takes table needs = record { rmdir = needs.rmdir; unlink = needs.unlink; rename_old = needs.rename_old; rename_new = needs.rename_new }
+takes table needs = record {
+  rmdir = needs.calls call.Rmdir refl;
+  unlink = needs.calls call.Unlink refl;
+  rename_old = needs.rename_old;
+  rename_new = needs.rename_new;
+}
+
+none_is : {X : Type 0} (o : Option X) → is_none o ≡ true → o ≡ None
+none_is None e = refl
+none_is (Some x) e = cc
 
 module _ (table : CallTable) (needs : EditsNeedC table) (t : Tree) (h : History) (well : WellFormed t) where
   abbrev IsMade : New → Spot → Type 0
-  IsMade new s = (is_allowed (covered_verdict empty_tree table h (maker new) (name_cover table t h s) IsMissing) ≡ true) ×
+  IsMade new s = (maker : Call) × IsMaker new maker ×
+      (is_allowed (covered_verdict empty_tree table h maker (name_cover table t h s) IsMissing) ≡ true) ×
       (has_c (name_cover table t h s) ≡ true)
 
   -- what is asked of a change, so that what it leaves has grown so
@@ -47,32 +62,55 @@ module _ (table : CallTable) (needs : EditsNeedC table) (t : Tree) (h : History)
   Grows (TieRow s x) = (is_dir t s.0 ≡ true) × Written table t h s x × From table t h x
   Grows _ = Unit {0}
 
-  by_added : (new : New) (node : Node) → node.kind ≡ new_kind new → object_fault empty_tree (maker new) IsMissing ≡ None →
-      holds (rule_of table (maker new)).perms creating ≡ true
-      → (x : Found) → may_any h (rule_of table (maker new)).alternatives ≡ may.Yes →
-      cover_fault (cover t h x) (rule_of table (maker new)).perms ≡ None → Grows (adding node x)
-  by_added new node is fine has (Slot dir name None) granted covered = (
+  by_added : (new : New) (maker : Call) → IsMaker new maker → (node : Node) → node.kind ≡ new_kind new →
+      object_fault empty_tree maker IsMissing ≡ None → holds (rule_of table maker).perms creating ≡ true
+      → (x : Found) → may_any h (rule_of table maker).alternatives ≡ may.Yes →
+      cover_fault (cover t h x) (rule_of table maker).perms ≡ None → Grows (adding node x)
+  by_added new maker makes node is fine has (Slot dir name None) granted covered = (
     new,
     is,
     (
+      maker,
+      makes,
       λ i. is_allowed (if_promised (granted i) (allowed_unless (or_fault (covered i) (fine i)))),
-      c_from_cover (cover t h (Slot dir name None)) (rule_of table (maker new)).perms has covered,
+      c_from_cover (cover t h (Slot dir name None)) (rule_of table maker).perms has covered,
     ),
   )
-  by_added new node is fine has (Slot dir name (Some y)) granted covered = tt
-  by_added new node is fine has (Whole dir (way.Named parent name)) granted covered = tt
-  by_added new node is fine has (Whole dir way.Dot) granted covered = tt
-  by_added new node is fine has (Whole dir way.DotDot) granted covered = tt
-  by_added new node is fine has (Whole dir way.Top) granted covered = tt
+  by_added new maker makes node is fine has (Slot dir name (Some y)) granted covered = tt
+  by_added new maker makes node is fine has (Whole dir (way.Named parent name)) granted covered = tt
+  by_added new maker makes node is fine has (Whole dir way.Dot) granted covered = tt
+  by_added new maker makes node is fine has (Whole dir way.DotDot) granted covered = tt
+  by_added new maker makes node is fine has (Whole dir way.Top) granted covered = tt
+
+  -- a call that makes a file, if it makes what it may, makes it where nothing stands
+  abbrev makes_well : Call → Option Kind → Bool
+  makes_well c None = true
+  makes_well c (Some kind.File) = is_none (object_fault empty_tree c IsMissing) && (is_some_file (made_by c) && changes_names c)
+  makes_well c (Some _) = false
+
+  by_made : (c : Call) (x : Found) → may_any h (rule_of table c).alternatives ≡ may.Yes →
+      cover_fault (cover t h x) (rule_of table c).perms ≡ None → (made : Option Kind) → makes_well c made ≡ true →
+      Grows (making made (spot_named x) (node_named x))
+  by_made c x granted covered None is = tt
+  by_made c x granted covered (Some kind.File) is =
+      let parts = and_parts (is_none (object_fault empty_tree c IsMissing)) (is_some_file (made_by c) && changes_names c) is in
+      let more = and_parts (is_some_file (made_by c)) (changes_names c) parts.1 in
+      let among = among_filter (λ maker. is_some_file (made_by maker)) calls c more.0 (one_of_calls c) in
+      by_added NewFile c (λ passes e. any_among passes file_makers c among e) (plain_node kind.File) refl
+      (none_is (object_fault empty_tree c IsMissing) parts.0) (needs.calls c more.1) x granted covered
+  by_made c x granted covered (Some kind.Dir) is = absurd (false≢true is)
+  by_made c x granted covered (Some kind.Prog) is = absurd (false≢true is)
+  by_made c x granted covered (Some kind.Link) is = absurd (false≢true is)
 
   by_call : (c : Call) (x : Found) → may_any h (rule_of table c).alternatives ≡ may.Yes →
       cover_fault (cover t h x) (rule_of table c).perms ≡ None → Grows (change_by table c x)
-  by_call call.Create x granted covered = by_added NewFile (plain_node kind.File) refl refl needs.create x granted covered
-  by_call call.Mkdir x granted covered = by_added NewDir (plain_node kind.Dir) refl refl needs.mkdir x granted covered
+  by_call call.Mkdir x granted covered =
+      by_added NewDir call.Mkdir (λ passes e. e) (plain_node kind.Dir) refl refl (needs.calls call.Mkdir refl) x granted covered
   by_call call.Rmdir x granted covered = by_cutting Grows tt (spot_named x) (node_named x) (λ s is. tt)
   by_call call.Unlink x granted covered = by_cutting Grows tt (spot_named x) (node_named x) (λ s is. tt)
   by_call call.Chdir x granted covered = by_going Grows tt x (λ dir. tt)
-  by_call _ x granted covered = tt
+  by_call call.Exec x granted covered = tt
+  by_call c x granted covered = by_made c x granted covered (made_by c) refl
 
   -- what stands at the spot by whose name something was found
   standing : (a : Found) → NameFits t a → (s : Spot) → spot_named a ≡ Some s → (is_dir t s.0 ≡ true) × (look t s.0 s.1 ≡ node_named a)
@@ -200,7 +238,7 @@ module _ (table : CallTable) (needs : EditsNeedC table) (t : Tree) (h : History)
   grows_by : (action : Action) (c : Change) → IsDecided table t h action c → Grows c
   grows_by (OnPath asked path) c d = subst Grows (sym d.2) (by_call asked d.0 d.1.promised d.1.covered)
   grows_by (Symlink target path) c d =
-      subst Grows (sym d.3) (by_added NewLink (link_node target) refl refl needs.symlink d.0 d.1.promised d.1.covered)
+      subst Grows (sym d.3) (by_added NewLink call.Symlink (λ passes e. e) (link_node target) refl refl (needs.calls call.Symlink refl) d.0 d.1.promised d.1.covered)
   grows_by (Rename old new) c d =
       by_moved d.old d.new d.node c (name_fits t well (working_dir h) Dropped old table.rename.old.last d.old d.two.found_old)
       (name_fits t well (working_dir h) Dropped new table.rename.new.last d.new d.two.found_new)
@@ -227,7 +265,9 @@ module _ (table : CallTable) (needs : EditsNeedC table) (t : Tree) (h : History)
 
 grown_made : (table : CallTable) (needs : EditsNeedC table) (w : World) (h : History) (well : WellFormed w.tree) (c : Change) →
     Grows table needs w.tree h well c → Grown table w.tree h (tree_left w.tree (change_effect w h c))
-grown_made table needs w h well (AddNode s node) grows = grown_add table w.tree h grows.0 s.0 s.1 node grows.1 grows.2.0 grows.2.1
+grown_made table needs w h well (AddNode s node) grows =
+    let made = grows.2 in
+    grown_add table w.tree h grows.0 made.0 made.1 s.0 s.1 node grows.1 made.2 made.3
 grown_made table needs w h well (CutRow s) grows = grown_cut table w.tree h s.0 s.1
 grown_made table needs w h well (ShiftRow s r) grows = grown_shift table w.tree h s.0 r.0 s.1 r.1 grows.0 grows.1 grows.2 grows.3 grows.4
 grown_made table needs w h well (TieRow s x) grows = grown_tie table w.tree h s.0 s.1 x grows.0 grows.1 grows.2

@@ -4,7 +4,7 @@ use Rattle.pua_ever.proofs.Common.{Some, None, Ok, Err, is_some, ◌==◌, optio
 use Rattle.pua_ever.proofs.Common.{false≢true, Tree, Node, Spot, spot_cmp, is_dir, is_living, look, node_at, kind_at, is_empty, empty_tree}
 use Rattle.pua_ever.proofs.Common.{Kind, spots_total, exact_spots, Some≢None, same_Some, Slot, CallTable, History, IsMissing, cover}
 use Rattle.pua_ever.proofs.Common.{covered_verdict, is_allowed, Cover, tree_left, has_c, cover_in, row_cover, can_link, can_move, New}
-use Rattle.pua_ever.proofs.Common.{NewDir, NewOthers, NewFile, NewLink, maker, may_rename, and_parts}
+use Rattle.pua_ever.proofs.Common.{NewDir, NewOthers, NewFile, NewLink, is_made_by, may_rename, Call, and_parts}
 use Rattle.std.proofs.Common.{not, ◌&&◌}
 use Rattle.pua_tree.specs.Tree.{rows_of}
 use Rattle.pua_tree.specs.Edits.{with_row, without_row, without_node, without_unnamed, with_new, add, tie, cut, cut_found, shift}
@@ -26,6 +26,10 @@ new_kind NewLink = kind.Link
 pub moved_has_c : (table : CallTable) (h : History) (left : Cover) → can_move table h left ≡ true → has_c left ≡ true
 moved_has_c table h left can = (and_parts (has_c left) _ (and_parts (may_rename table h) _ can).1).0
 
+-- by such a call it is made
+abbrev pub IsMaker : New → Call → Type 0
+IsMaker made maker = (passes : Call → Bool) → passes maker ≡ true → is_made_by passes made ≡ true
+
 module _ (table : CallTable) (t : Tree) (h : History) where
   -- what covers a name at which nothing stands
   abbrev pub name_cover : Spot → Cover
@@ -36,7 +40,9 @@ module _ (table : CallTable) (t : Tree) (h : History) where
     pub spot : Spot
     pub lives : is_dir t spot.0 ≡ true
     pub free : look t spot.0 spot.1 ≡ None
-    pub allowed : is_allowed (covered_verdict empty_tree table h (maker made) (name_cover spot) IsMissing) ≡ true
+    pub maker : Call
+    pub makes : IsMaker made maker
+    pub allowed : is_allowed (covered_verdict empty_tree table h maker (name_cover spot) IsMissing) ≡ true
     pub covered : has_c (name_cover spot) ≡ true
 
   -- a row was written where the name, or the empty directory that stood there, is covered with `c`
@@ -95,11 +101,11 @@ module _ (table : CallTable) (t : Tree) (h : History) where
   at_or_not : (s spot : Spot) → (s ≡ spot) ⊎ (s ≢ spot)
   at_or_not s spot = elim (same_or_other spot_cmp spots_total exact_spots s spot) [ inl same ↦ inl same.0 | inr other ↦ inr other.0 ]
 
-  pub grown_add : (made : New) (dir : ℕ) (name : List ℕ) (node : Node) → node.kind ≡ new_kind made
-      → is_allowed (covered_verdict empty_tree table h (maker made) (name_cover (dir, name)) IsMissing) ≡ true →
+  pub grown_add : (made : New) (maker : Call) → IsMaker made maker → (dir : ℕ) (name : List ℕ) (node : Node) → node.kind ≡ new_kind made
+      → is_allowed (covered_verdict empty_tree table h maker (name_cover (dir, name)) IsMissing) ≡ true →
       has_c (name_cover (dir, name)) ≡ true
       → Grown (tree_left t (edit_effect h (add t dir name node)))
-  grown_add made dir name node is allowed has = by (is_dir t dir) (look t dir name) (has_room t) refl refl
+  grown_add made maker makes dir name node is allowed has = by (is_dir t dir) (look t dir name) (has_room t) refl refl
     where
       grown : is_dir t dir ≡ true → look t dir name ≡ None → Grown (with_new t dir name node)
       grown lives free = record {
@@ -118,7 +124,15 @@ module _ (table : CallTable) (t : Tree) (h : History) where
             made = made;
             kinds = ap (kind_at (with_new t dir name node)) same.0 ∙
                 ap (option_map (λ n. n.kind)) (put_here nat_cmp nat_cmp_total nat_cmp-IsAntisymmetric t.next node t.nodes) ∙ ap Some is;
-            makes = record { spot = (dir, name); lives = lives; free = free; allowed = allowed; covered = has };
+            makes = record {
+              spot = (dir, name);
+              lives = lives;
+              free = free;
+              maker = maker;
+              makes = makes;
+              allowed = allowed;
+              covered = has;
+            };
           })
           | inr other ↦ inl (put_elsewhere nat_cmp nat_cmp_total nat_cmp-IsAntisymmetric x t.next node t.nodes other.0)
         ];

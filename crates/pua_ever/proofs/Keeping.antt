@@ -4,7 +4,7 @@ use Rattle.pua_ever.proofs.Common.{Some, ◌&&◌, ◌||◌, ◌==◌, Ok, Err, 
 use Rattle.pua_ever.proofs.Common.{nat_cmp_total, nat_cmp-IsAntisymmetric, false≢true, eqb-true, eq-eqb}
 use Rattle.pua_ever.proofs.Common.{Tree, CallTable, rule_of, Call, History, may_any, is_unveil, Found, Asked, World, apply}
 use Rattle.pua_ever.proofs.Common.{world_after, history_of, Change, change_by, change_effect, CopyAs, Copies, Fails, IsDecided, Action}
-use Rattle.pua_ever.proofs.Common.{OnPath, Symlink, Rename, Link, Pledge, Unveil, Lock, Fork, Exit, is_member, family_then, by_going}
+use Rattle.pua_ever.proofs.Common.{OnPath, Symlink, Rename, Link, Pledge, Unveil, Lock, Fork, Exit, is_member, family_then}
 use Rattle.pua_ever.proofs.Common.{most_processes, EAGAIN}
 use Rattle.std.specs.FinMap.{put, find as find_key}
 use Rattle.pua_tree.specs.Edits.{add, cut, shift, tie}
@@ -24,8 +24,9 @@ use Rattle.pua_script.specs.declared.answer.Answer.{Answer}
 use Rattle.pua_script.specs.declared.answer.Answer.TheVariants.{Okay, Failed as IsFailed, Killed as IsKilled, Gone}
 use Rattle.pua_policy.specs.declared.answer.Refusal.{Refusal}
 use Rattle.pua_policy.specs.declared.answer.Refusal.TheVariants.{Failed, Killed}
-use Rattle.pua_script.proofs.ForCallers.{by_living, by_decision, decisions_are_guarded, by_placing, by_cutting, by_tying, by_moves, others_leave}
+use Rattle.pua_script.proofs.ForCallers.{by_living, by_decision, decisions_are_guarded, by_placing, by_tying, by_moves, others_leave}
 use Rattle.pua_script.proofs.ForCallers.{forks_copy}
+use Rattle.pua_ever.proofs.Calling.{by_calling}
 
 -- what is kept: by an event that is no unveil, by a program that is started, and since nothing can put a veil
 pub record Keeps (table : CallTable) (Kind : History → Type 0) : Type 0 where
@@ -57,13 +58,9 @@ module _ (table : CallTable) (Kind : History → Type 0) (keeps : Keeps table Ki
     Kept _ = Unit {0}
 
     kept_call : (c : Call) (x : Found) → may_any h (rule_of table c).alternatives ≡ Yes → Kept (change_by table c x)
-    kept_call call.Create x may = by_placing Kept tt _ (spot_named x) (node_named x) (λ s is. tt)
-    kept_call call.Mkdir x may = by_placing Kept tt _ (spot_named x) (node_named x) (λ s is. tt)
-    kept_call call.Rmdir x may = by_cutting Kept tt (spot_named x) (node_named x) (λ s is. tt)
-    kept_call call.Unlink x may = by_cutting Kept tt (spot_named x) (node_named x) (λ s is. tt)
-    kept_call call.Chdir x may = by_going Kept tt x (λ dir. keeps.more (Moved dir) h refl k)
-    kept_call call.Exec x may = keeps.program h k may
-    kept_call _ x may = tt
+    kept_call c x may =
+        by_calling table Kept tt c (λ edits s node. tt) (λ edits s. tt) (λ dir. keeps.more (Moved dir) h refl k)
+        (λ is. keeps.program h k (subst (λ d. may_any h (rule_of table d).alternatives ≡ Yes) is may)) x
 
     kept_by : (action : Action) (c : Change) → IsDecided table w.tree h action c → Kept c
     kept_by (OnPath asked path) c d = subst Kept (sym d.2) (kept_call asked d.0 d.1.promised)

@@ -27,10 +27,10 @@ use Rattle.pua_ever.proofs.Holding.{goes, along_now, may_holds}
 use Rattle.pua_ever.proofs.Through.{within_both, ever_lasts}
 
 pub ever_lasts_after_read : EverLastsAfterRead
-ever_lasts_after_read table sound needs tree_bytes script_bytes t first asks listed scripted bytes process now given here bound edits member
+ever_lasts_after_read table sound needs rules tree_bytes script_bytes t first asks listed scripted bytes process now given here bound edits member
     belongs =
     let w = world_after table (new_world t) first in
-    let said = scripts_ask_in_bytes script_bytes first scripted in
+    let said = scripts_ask_in_bytes rules script_bytes first scripted in
     let tree : IsByteTree t = listings_list_byte_trees tree_bytes t listed in
     let left = replays_keep_byte_trees table (new_world t) first tree said in
     let places = replays_keep_places table needs (new_world t) first (replays_keep_trees table (new_world t) first tree said)

@@ -16,6 +16,7 @@ pub mod Starting
 pub mod Complete
 pub mod Now
 pub mod NoExec
+pub mod Calling
 pub mod Standing
 pub mod Rules
 pub mod KeptVeils

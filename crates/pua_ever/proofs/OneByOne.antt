@@ -1,5 +1,5 @@
 -- Processes as one, one after another.
-use Rattle.pua_ever.proofs.Common.{◌≡◌, ◌∷◌, [], List, ℕ, sym, ap, subst, refl, ◌∙◌, CallTable, History, StandsFor}
+use Rattle.pua_ever.proofs.Common.{◌≡◌, ◌∷◌, [], List, ℕ, sym, ap, subst, ◌∙◌, CallTable, History, StandsFor}
 use Rattle.std.proofs.Common.{◌+◌, ◌<◌, ◌≤◌, drop, length, slice_index_or}
 use Rattle.std.proofs.Math.ListN.{drop_of_length-le}
 use Rattle.std.proofs.lemmas.List.{drop_more}

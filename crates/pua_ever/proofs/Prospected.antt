@@ -45,7 +45,7 @@ module _ (table : CallTable) (needs : EditsNeedC table) (h : History) where
       by : (o : Option Errno) → cover_fault cover (rule_of table call.Rmdir).perms ≡ o
           → is_allowed (if_promised (may_any h (rule_of table call.Rmdir).alternatives)
           (allowed_unless (or_fault o (object_fault empty_tree call.Rmdir object)))) ≡ false
-      by None fine = absurd (false≢true (sym lacks ∙ c_from_cover cover (rule_of table call.Rmdir).perms needs.rmdir fine))
+      by None fine = absurd (false≢true (sym lacks ∙ c_from_cover cover (rule_of table call.Rmdir).perms (needs.calls call.Rmdir refl) fine))
       by (Some e) fault = no_errno (may_any h (rule_of table call.Rmdir).alternatives) e
 
   -- so without `c` it makes no difference

@@ -1,15 +1,17 @@
 -- Where nothing refuses the list.
 use Rattle.pua_ever.proofs.Common.{◌≡◌, ◌⊎◌, List, [], ◌∷◌, Bool, true, false, cond, refl, sym, ◌∙◌, inl, inr, Option, Some, None, not}
 use Rattle.pua_ever.proofs.Common.{◌&&◌, ◌||◌, if◌then◌else◌, false≢true, and_parts, Some≢None, CallTable, History, Call, is_yes}
-use Rattle.pua_ever.proofs.Common.{EditsNeedC}
+use Rattle.pua_ever.proofs.Common.{EditsNeedC, Among, among_filter, among_left, among_right, filter, ap, and_from}
 use Rattle.std.specs.Prelude.{find}
 use Rattle.std.proofs.lemmas.Bool.{not-false}
 use Rattle.pua_calls.specs.Promises.{holds, creating, unveil}
 use Rattle.pua_policy.specs.History.{held_set, has_error, is_locked, is_ended}
 use Rattle.pua_policy.specs.declared.answer.May.TheVariants.{Yes, Enosys, Death}
-use Rattle.pua_calls.specs.declared.call.Call.TheVariants as call
+use Rattle.pua_calls.specs.Calls.{calls}
+use Rattle.pua_script.specs.Confinement.{changes_names}
+use Rattle.pua_objects.proofs.ForCallers.{one_of_calls}
 use Rattle.pua_script.specs.Laws.{IsConfined}
-use Rattle.pua_ever.specs.Refusals.{can_unveil, lacks_c, changing_calls, new_needs_c, both_need_c, table_refusal, refusal}
+use Rattle.pua_ever.specs.Refusals.{can_unveil, lacks_c, takes_name, changing_calls, new_needs_c, both_need_c, table_refusal, refusal}
 use Rattle.pua_ever.specs.declared.refusal.Refusal.TheVariants.{CanUnveil, LacksC, RenameLacksC, LinkLacksC}
 
 none_in : (p : Call → Bool) (c : Call) (cs : List Call) → find p (c ∷ cs) ≡ None → (p c ≡ false) × (find p cs ≡ None)
@@ -18,6 +20,24 @@ none_in p c cs = by (p c)
     by : (b : Bool) → cond b (Some c) (find p cs) ≡ None → (b ≡ false) × (find p cs ≡ None)
     by true e = absurd (Some≢None c e)
     by false e = (refl, e)
+
+none_among : (p : Call → Bool) (cs : List Call) (c : Call) → find p cs ≡ None → Among cs c → p c ≡ false
+none_among p [] c e a = absurd a
+none_among p (d ∷ cs) c e (inl same) = sym (ap p same) ∙ (none_in p d cs e).0
+none_among p (d ∷ cs) c e (inr a) = none_among p cs c (none_in p d cs e).1 a
+
+-- a call that makes a name or takes one away is one of those that are asked
+among_changing : (c : Call) → changes_names c ≡ true → Among changing_calls c
+among_changing c changes = by (takes_name c) refl
+  where
+    by : (b : Bool) → takes_name c ≡ b → Among changing_calls c
+    by true takes =
+        among_left (filter takes_name calls) (filter (λ edit. changes_names edit && not (takes_name edit)) calls) c
+        (among_filter takes_name calls c takes (one_of_calls c))
+    by false other =
+        among_right (filter takes_name calls) (filter (λ edit. changes_names edit && not (takes_name edit)) calls) c
+        (among_filter (λ edit. changes_names edit && not (takes_name edit)) calls c (and_from (changes_names c) (not (takes_name c)) changes
+        (ap not other)) (one_of_calls c))
 
 -- of two tests each passed
 both : (a b : Bool) → (if a then (if b then None else Some LinkLacksC) else Some RenameLacksC) ≡ None → (a ≡ true) × (b ≡ true)
@@ -33,18 +53,9 @@ table_parts table (Some c) e = absurd (Some≢None (LacksC c) e)
 all_need : (table : CallTable) → table_refusal table (find (lacks_c table) changing_calls) ≡ None → EditsNeedC table
 all_need table e =
     let parts = table_parts table (find (lacks_c table) changing_calls) e in
-    let rmdir = none_in (lacks_c table) call.Rmdir (call.Unlink ∷ call.Create ∷ call.Mkdir ∷ call.Symlink ∷ []) parts.0 in
-    let unlink = none_in (lacks_c table) call.Unlink (call.Create ∷ call.Mkdir ∷ call.Symlink ∷ []) rmdir.1 in
-    let create = none_in (lacks_c table) call.Create (call.Mkdir ∷ call.Symlink ∷ []) unlink.1 in
-    let mkdir = none_in (lacks_c table) call.Mkdir (call.Symlink ∷ []) create.1 in
-    let symlink = none_in (lacks_c table) call.Symlink [] mkdir.1 in
     let rename = and_parts (holds table.rename.old.needs.perms creating) (holds table.rename.new.needs.perms creating) parts.1 in
     record {
-      create = not-false _ create.0;
-      mkdir = not-false _ mkdir.0;
-      rmdir = not-false _ rmdir.0;
-      unlink = not-false _ unlink.0;
-      symlink = not-false _ symlink.0;
+      calls = λ edit changes. not-false _ (none_among (lacks_c table) changing_calls edit parts.0 (among_changing edit changes));
       rename_old = rename.0;
       rename_new = rename.1;
       link_new = parts.2;

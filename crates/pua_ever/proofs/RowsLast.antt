@@ -1,6 +1,6 @@
 -- Rows of the list that holds longest: whether one has exec, and what is let through.
 use Rattle.pua_ever.proofs.Common.{◌≡◌, ℕ, Bool, true, false, ◌||◌, ◌&&◌, ◌<◌, ◌≤◌, List, [], ◌∷◌, ◌++◌, length, cond, refl, sym, ap, subst, ◌∙◌}
-use Rattle.pua_ever.proofs.Common.{arith, inl, inr, false≢true, filter, map, nat_lt, list_any, Tree, calls, has, Call, Word, EverLine, has_ever_calls}
+use Rattle.pua_ever.proofs.Common.{arith, inl, inr, false≢true, filter, list_any, Tree, calls, has, Call, Word, EverLine, has_ever_calls}
 use Rattle.std.proofs.Common.{◌+◌, drop, drop_of_length-le, slice_index_or}
 use Rattle.std.proofs.lemmas.Bool.{lt-ltb}
 use Rattle.std.proofs.lemmas.List.{drop_more}

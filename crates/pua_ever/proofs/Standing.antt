@@ -5,7 +5,7 @@ use Rattle.pua_ever.proofs.Common.{nat_cmp-IsAntisymmetric, and_parts, Tree, Wel
 use Rattle.pua_ever.proofs.Common.{Found, Whole, Slot, resolutions_fit, CallTable, History, perms_kept, same_place, working_dir}
 use Rattle.pua_ever.proofs.Common.{same_place_is, Call, Place, Asked, most_processes, World, Fails, Copies, change_effect, history_of}
 use Rattle.pua_ever.proofs.Common.{apply, world_after, Change, CopyAs, change_by, IsDecided, named_within_text, Action, OnPath, Symlink}
-use Rattle.pua_ever.proofs.Common.{Rename, Link, Pledge, Unveil, Lock, Fork, Exit, by_going, EditsNeedC, VeilsStand}
+use Rattle.pua_ever.proofs.Common.{Rename, Link, Pledge, Unveil, Lock, Fork, Exit, EditsNeedC, VeilsStand}
 use Rattle.std.specs.Prelude.{length}
 use Rattle.std.specs.FinMap.{put, find as find_key}
 use Rattle.std.proofs.lemmas.List.Folds.{list_all-append}
@@ -17,7 +17,6 @@ use Rattle.pua_calls.specs.declared.rules.ExecPromises.{ExecPromises}
 use Rattle.pua_policy.specs.History.{Pledged, Unveiled, Locked, Moved, Ended, held_for_exec, is_pledge}
 use Rattle.pua_policy.specs.History.{after_exec, new_history}
 use Rattle.pua_policy.specs.Verdict.{place_of}
-use Rattle.pua_calls.specs.declared.call.Call.TheVariants as call
 use Rattle.pua_script.specs.Worlds.{history_left}
 use Rattle.pua_script.specs.Bytes.{is_in_bytes, are_in_bytes, IsByteTree}
 use Rattle.pua_script.specs.Replay.{Effect, Kills, Leaves, refusal_effect, come_of, edit_effect}
@@ -28,9 +27,10 @@ use Rattle.pua_policy.specs.declared.answer.Refusal.{Refusal}
 use Rattle.pua_policy.specs.declared.answer.Refusal.TheVariants.{Failed, Killed}
 use Rattle.pua_tree.specs.Edits.{add, cut, shift, tie}
 use Rattle.pua_script.proofs.ForCallers.{replays_keep_trees, replays_keep_byte_trees, listings_list_byte_trees, scripts_ask_in_bytes}
-use Rattle.pua_script.proofs.ForCallers.{by_request, by_decision, decisions_are_guarded, by_placing, by_cutting, by_tying}
+use Rattle.pua_script.proofs.ForCallers.{by_request, by_decision, decisions_are_guarded, by_placing, by_tying}
 use Rattle.pua_script.proofs.ForCallers.{by_moves}
 use Rattle.pua_ever.specs.Laws.{dir_of_place, PlacesStand, ReplaysKeepPlaces, EverAfterRead, EverAsRead}
+use Rattle.pua_ever.proofs.Calling.{by_calling}
 use Rattle.pua_ever.proofs.Growing.{numbers_grow}
 use Rattle.pua_ever.proofs.Covers.{living_dir, below_next}
 use Rattle.pua_ever.proofs.Complete.{beside_one, ever_complete}
@@ -72,12 +72,7 @@ module _ (table : CallTable) (w : World) (h : History) (well : WellFormed w.tree
   Stood _ = Unit {0}
 
   stood_call : (c : Call) (x : Found) → Stood (change_by table c x)
-  stood_call call.Create x = by_placing Stood tt _ (spot_named x) (node_named x) (λ s is. tt)
-  stood_call call.Mkdir x = by_placing Stood tt _ (spot_named x) (node_named x) (λ s is. tt)
-  stood_call call.Rmdir x = by_cutting Stood tt (spot_named x) (node_named x) (λ s is. tt)
-  stood_call call.Unlink x = by_cutting Stood tt (spot_named x) (node_named x) (λ s is. tt)
-  stood_call call.Chdir x = by_going Stood tt x (λ dir. stand)
-  stood_call _ x = tt
+  stood_call c x = by_calling table Stood tt c (λ edits s node. tt) (λ edits s. tt) (λ dir. stand) (λ is. tt) x
 
   stood_by : (action : Action) (c : Change) → IsDecided table w.tree h action c → Stood c
   stood_by (OnPath asked path) c d = subst Stood (sym d.2) (stood_call asked d.0)
@@ -175,9 +170,9 @@ new_places t process h is at perms e = by process is
     ]
 
 pub ever_as_read : EverAsRead
-ever_as_read table sound needs tree_bytes script_bytes t first asks listed scripted process now here confined none alone member belongs =
+ever_as_read table sound needs rules tree_bytes script_bytes t first asks listed scripted process now here confined none alone member belongs =
     let bytes = and_parts (are_in_bytes first) (are_in_bytes asks) (sym (list_all-append (λ ask. is_in_bytes ask.action) first asks) ∙
-    scripts_ask_in_bytes script_bytes (first ++ asks) scripted) in
+    scripts_ask_in_bytes rules script_bytes (first ++ asks) scripted) in
     let w = world_after table (new_world t) first in
     let tree : IsByteTree t = listings_list_byte_trees tree_bytes t listed in
     let left = replays_keep_byte_trees table (new_world t) first tree bytes.0 in
@@ -187,10 +182,10 @@ ever_as_read table sound needs tree_bytes script_bytes t first asks listed scrip
     (replays_keep_trees table w asks left bytes.1) none alone member belongs
 
 pub ever_after_read : EverAfterRead
-ever_after_read table sound needs tree_bytes script_bytes t first asks listed scripted bytes process now here confined none edit member
+ever_after_read table sound needs rules tree_bytes script_bytes t first asks listed scripted bytes process now here confined none edit member
     belongs =
     let w = world_after table (new_world t) first in
-    let said = scripts_ask_in_bytes script_bytes first scripted in
+    let said = scripts_ask_in_bytes rules script_bytes first scripted in
     let tree : IsByteTree t = listings_list_byte_trees tree_bytes t listed in
     let left = replays_keep_byte_trees table (new_world t) first tree said in
     let places = replays_keep_places table needs (new_world t) first (replays_keep_trees table (new_world t) first tree said)

@@ -1,9 +1,9 @@
 -- One request keeps what is known of each row.
 use Rattle.pua_ever.proofs.Common.{◌≡◌, ◌≢◌, ◌⊎◌, ◌≤◌, ◌<◌, ℕ, true, false, refl, sym, ap, subst, ◌∙◌, inl, inr, arith, Option, Some, None}
-use Rattle.pua_ever.proofs.Common.{◌==◌, is_some, option_map, false≢true, and_parts, eqb-true, Tree, WellFormed, Spot, is_dir, is_living}
+use Rattle.pua_ever.proofs.Common.{◌==◌, ◌++◌, is_some, option_map, false≢true, and_parts, eqb-true, Tree, WellFormed, Spot, is_dir, is_living}
 use Rattle.pua_ever.proofs.Common.{zero, suc, Bool, Reaches, above, row_of, look, node_at, is_empty, has_no_row, empty_tree, sound_from, row_says, same_dir, CallTable, History}
 use Rattle.pua_ever.proofs.Common.{perms_kept, IsMissing, covered_verdict, is_allowed, has_c, UncoveredStay, cover_in, own_or}
-use Rattle.pua_ever.proofs.Common.{covers_descend, row_cover, can_link, has_c_outside, some_dir_moves, New, maker, can_make, can_move, VeilsStand}
+use Rattle.pua_ever.proofs.Common.{covers_descend, row_cover, can_link, has_c_outside, some_dir_moves, New, is_allowed_under, name_covers, dir_covers, can_make, can_move, VeilsStand}
 use Rattle.pua_policy.specs.declared.place.Place.TheVariants as place
 use Rattle.pua_script.proofs.ForCallers.{spared_twice}
 use Rattle.pua_ever.proofs.Grown.{Grown, Written, by_name, by_turn, From, is_new, is_moved, is_linked, Makes, name_cover, moved_has_c}
@@ -207,11 +207,12 @@ module _ (table : CallTable) (t0 : Tree) (h : History) (well0 : WellFormed t0) (
 
     can : (made : New) → Makes table t h made → can_make t0 table h made ≡ true
     can made makes =
-        any_among (λ left. is_allowed (covered_verdict empty_tree table h (maker made) left IsMissing)) _ _
+        makes.makes (is_allowed_under table h (name_covers t0 h ++ dir_covers t0 h) IsMissing)
+        (any_among (λ left. is_allowed (covered_verdict empty_tree table h makes.maker left IsMissing)) _ _
         (name_under table t0 h well0 stand t k makes.spot makes.lives (free_then table t0 h well0 stand t k makes.spot makes.free)
         (named_c makes.spot makes.covered))
-        (ap (λ left. is_allowed (covered_verdict empty_tree table h (maker made) left IsMissing))
-        (sym ((covers_descend t h k.well).at_name makes.spot.0 makes.spot.1 None)) ∙ makes.allowed)
+        (ap (λ left. is_allowed (covered_verdict empty_tree table h makes.maker left IsMissing))
+        (sym ((covers_descend t h k.well).at_name makes.spot.0 makes.spot.1 None)) ∙ makes.allowed))
 
     young_then : (x : ℕ) → t0.next ≤ x → is_living u x ≡ true → Known table t0 h well0 stand u x
     young_then x from is = elim (grown.nodes x is) [

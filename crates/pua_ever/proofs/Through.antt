@@ -7,7 +7,7 @@ use Rattle.pua_ever.proofs.Common.{Asked, World, apply, world_after, is_member, 
 use Rattle.pua_ever.proofs.Common.{TreesAlong, IsWithin, Members, first_tree, EditsNeedC, VeilsStand}
 use Rattle.pua_ever.proofs.Common.{among_map, map_among, among_filter, filter_among, contained, among_contained, ever, has_ever_calls, EverLine, May}
 use Rattle.pua_ever.proofs.Common.{◌≤◌, is_some, option_map, Node, Kind, is_dir, is_dir_kind, is_living, node_at, kind_at, Whole, Slot, Option, None}
-use Rattle.pua_ever.proofs.Common.{named_within_text, resolutions_fit, New, NewDir, NewOthers, NewFile, NewLink, maker}
+use Rattle.pua_ever.proofs.Common.{named_within_text, resolutions_fit, New, NewDir, NewOthers, NewFile, NewLink, is_made_by}
 use Rattle.pua_tree.specs.declared.node.Kind.TheVariants as kind
 use Rattle.pua_path.specs.Fits.{found_fits}
 use Rattle.std.specs.Prelude.{bit_or, unwrap_or, ◌-◌}
@@ -165,7 +165,7 @@ module _ (table : CallTable) (sound : NoCallNeedsError table) (needs : EditsNeed
   module _ (t0 : Tree) (well0 : WellFormed t0) where
     abbrev MadeByOne : Tree → Type 0
     MadeByOne u = (x : ℕ) → t0.next ≤ x → is_living u x ≡ true →
-        (made : New) × (kind_at u x ≡ Some (new_kind made)) × (is_promised_by_one table now given (maker made) ≡ true)
+        (made : New) × (kind_at u x ≡ Some (new_kind made)) × (is_made_by (is_promised_by_one table now given) made ≡ true)
 
     made_first : MadeByOne t0
     made_first x from lives = let below = below_next t0 now well0 x lives in absurd (omega arith)
@@ -177,7 +177,8 @@ module _ (table : CallTable) (sound : NoCallNeedsError table) (needs : EditsNeed
       | inr born ↦ (
         born.made,
         born.kinds,
-        one_of table sound now given h k (maker born.made) (yes table sound now given (may_any h (rule_of table (maker born.made)).alternatives) _ born.makes.allowed),
+        born.makes.makes (is_promised_by_one table now given) (one_of table sound now given h k born.makes.maker
+            (yes table sound now given (may_any h (rule_of table born.makes.maker).alternatives) _ born.makes.allowed)),
       )
     ]
 
@@ -200,21 +201,21 @@ module _ (table : CallTable) (sound : NoCallNeedsError table) (needs : EditsNeed
       lives_by_kind k None e = cc
       lives_by_kind k (Some n) e = refl
 
-      dir_by_one : (x : ℕ) (m : New) → kind_at u x ≡ Some (new_kind m) → is_promised_by_one table now given (maker m) ≡ true →
+      dir_by_one : (x : ℕ) (m : New) → kind_at u x ≡ Some (new_kind m) → is_made_by (is_promised_by_one table now given) m ≡ true →
           is_dir u x ≡ true → is_promised_by_one table now given call.Mkdir ≡ true
       dir_by_one x NewDir kinds one is = one
       dir_by_one x NewOthers kinds one is = one
       dir_by_one x NewFile kinds one is = absurd (false≢true (sym (ap is_dir_kind kinds) ∙ is))
       dir_by_one x NewLink kinds one is = absurd (false≢true (sym (ap is_dir_kind kinds) ∙ is))
 
-      file_by_one : (x : ℕ) (m : New) → kind_at u x ≡ Some (new_kind m) → is_promised_by_one table now given (maker m) ≡ true →
-          kind_at u x ≡ Some kind.File → is_promised_by_one table now given call.Create ≡ true
+      file_by_one : (x : ℕ) (m : New) → kind_at u x ≡ Some (new_kind m) → is_made_by (is_promised_by_one table now given) m ≡ true →
+          kind_at u x ≡ Some kind.File → is_made_by (is_promised_by_one table now given) NewFile ≡ true
       file_by_one x NewFile kinds one is = one
       file_by_one x NewDir kinds one is = let never : Some kind.Dir ≡ Some kind.File = sym kinds ∙ is in cc
       file_by_one x NewOthers kinds one is = let never : Some kind.Dir ≡ Some kind.File = sym kinds ∙ is in cc
       file_by_one x NewLink kinds one is = let never : Some kind.Link ≡ Some kind.File = sym kinds ∙ is in cc
 
-      link_by_one : (x : ℕ) (m : New) → kind_at u x ≡ Some (new_kind m) → is_promised_by_one table now given (maker m) ≡ true →
+      link_by_one : (x : ℕ) (m : New) → kind_at u x ≡ Some (new_kind m) → is_made_by (is_promised_by_one table now given) m ≡ true →
           kind_at u x ≡ Some kind.Link → is_promised_by_one table now given call.Symlink ≡ true
       link_by_one x NewLink kinds one is = one
       link_by_one x NewDir kinds one is = let never : Some kind.Dir ≡ Some kind.Link = sym kinds ∙ is in cc

@@ -279,10 +279,10 @@ one_stands : (table : CallTable) (t : Tree) (first : History) (more : List Histo
 one_stands table t first more stand at perms is = stand at perms (sym (kept_after first at) ∙ is)
 
 pub together_after_read : TogetherAfterRead
-together_after_read table sound needs tree_bytes script_bytes t before asks listed scripted bytes members first more acts given bound edits
+together_after_read table sound needs rules tree_bytes script_bytes t before asks listed scripted bytes members first more acts given bound edits
     member belongs =
     let w = world_after table (new_world t) before in
-    let said = scripts_ask_in_bytes script_bytes before scripted in
+    let said = scripts_ask_in_bytes rules script_bytes before scripted in
     let tree = listings_list_byte_trees tree_bytes t listed in
     let left = replays_keep_byte_trees table (new_world t) before tree said in
     let places = replays_keep_places table needs (new_world t) before (replays_keep_trees table (new_world t) before tree said)

@@ -4,7 +4,7 @@ use Rattle.pua_ever.proofs.Common.{is_some, nat_le, false≢true, or_left, or_ri
 use Rattle.pua_ever.proofs.Common.{may_any, CallTable, rule_of, Call, May, most_processes, Asked, tree_left, is_member}
 use Rattle.pua_ever.proofs.Common.{family_then, World, Fails, Copies, change_effect, history_of, apply}
 use Rattle.pua_ever.proofs.Common.{world_after, Change, CopyAs, change_by, IsDecided, Action, OnPath, Symlink, Rename, Link, Pledge, Unveil}
-use Rattle.pua_ever.proofs.Common.{Lock, Fork, Exit, by_going, IsWithin, Members, Among, is_yes, may_edit}
+use Rattle.pua_ever.proofs.Common.{Lock, Fork, Exit, IsWithin, Members, Among, is_yes, may_edit}
 use Rattle.std.proofs.Common.{◌||◌}
 use Rattle.std.specs.List.{AllByRecursion}
 use Rattle.std.specs.Prelude.{length}
@@ -15,6 +15,7 @@ use Rattle.pua_script.proofs.ForCallers.{by_own_tree}
 use Rattle.pua_script.proofs.ForCallers.{may_yes}
 use Rattle.pua_ever.specs.Ever.{edit_calls}
 use Rattle.pua_ever.specs.Laws.{MembersEdit, NoExecLoosens}
+use Rattle.pua_ever.proofs.Calling.{by_calling}
 use Rattle.pua_ever.proofs.Execs.{members_still}
 use Rattle.pua_ever.proofs.Ways.{any_among, any_found}
 
@@ -40,13 +41,9 @@ module _ (table : CallTable) (w : World) (h : History) (lacks : may_edit table h
       (ap is_yes e)))
 
   keeps_call : (c : Call) (x : Found) → may_any h (rule_of table c).alternatives ≡ Yes → Keeps (change_by table c x)
-  keeps_call call.Create x is = absurd (unpromised call.Create (inl refl) is)
-  keeps_call call.Mkdir x is = absurd (unpromised call.Mkdir (inr (inl refl)) is)
-  keeps_call call.Rmdir x is = absurd (unpromised call.Rmdir (inr (inr (inl refl))) is)
-  keeps_call call.Unlink x is = absurd (unpromised call.Unlink (inr (inr (inr (inl refl)))) is)
-  keeps_call call.Chdir x is = by_going Keeps refl x (λ dir. refl)
-  keeps_call call.Exec x is = refl
-  keeps_call _ x is = refl
+  keeps_call c x is =
+      by_calling table Keeps refl c (λ edits s node. absurd (unpromised c edits is)) (λ edits s. absurd (unpromised c edits is)) (λ dir. refl)
+      (λ starts. refl) x
 
   keeps_copy : (new : ℕ) → Keeps (CopyAs new)
   keeps_copy new = by (is_some (history_of w new) || nat_le most_processes (length w.histories))

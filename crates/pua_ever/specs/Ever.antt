@@ -8,6 +8,7 @@ use Rattle.std.specs.Prelude.{◌==◌, Option, Some, None, is_some, is_none, na
 use Rattle.std.specs.List.{list_any, list_all}
 use Rattle.pua_tree.specs.Tree.{Tree, Node, Spot, is_dir_kind, is_dir, look, kind_at, climb, empty_tree}
 use Rattle.pua_tree.specs.declared.node.Kind.{Kind}
+use Rattle.pua_tree.specs.declared.node.Kind.TheVariants as kind
 use Rattle.pua_path.specs.Fits.{is_link_kind}
 use Rattle.pua_path.specs.declared.found.Found.TheVariants.{Whole, Slot}
 use Rattle.pua_path.specs.declared.found.Way.{Way}
@@ -24,7 +25,8 @@ use Rattle.pua_calls.specs.declared.call.Call.{Call}
 use Rattle.pua_calls.specs.declared.call.Call.TheVariants as call
 use Rattle.pua_policy.specs.declared.place.Place.{Place}
 use Rattle.pua_policy.specs.declared.place.Place.TheVariants as place
-use Rattle.pua_script.specs.Confinement.{object_in, has_c}
+use Rattle.pua_script.specs.Decide.{made_by}
+use Rattle.pua_script.specs.Confinement.{object_in, has_c, changes_names}
 use Rattle.pua_audit.specs.Reach.{Word, printed_path}
 use Rattle.pua_audit.specs.declared.base.Base.TheVariants.{Root}
 use Rattle.pua_objects.specs.Objects.{Subject, At, Others, Item, items, cover_in, is_named_by, subject_word, with_commas}
@@ -106,9 +108,10 @@ name_covers t h = filter_map (λ veil. veil_cover_at t h veil.0 veil.1) (veils h
 abbrev pub open_covers : Tree → History → List Cover
 open_covers t h = filter has_c (map (cover_in t h) (directories t))
 
--- the tree can change by them at all: they may give a new name by rename or link, or make one of the five calls that edit a tree
+-- the tree can change by them at all: they may give a new name by rename or link, or make one of the calls that make a name or
+-- take one away
 abbrev pub edit_calls : List Call
-edit_calls = call.Create ∷ call.Mkdir ∷ call.Rmdir ∷ call.Unlink ∷ call.Symlink ∷ []
+edit_calls = filter changes_names calls
 
 abbrev pub is_yes : May → Bool
 is_yes Yes = true
@@ -240,13 +243,22 @@ pub data New : Type 0 where
   NewFile : New
   NewLink : New
 
--- the call that makes it, the covers under which it can come, and what it is
-abbrev pub maker : New → Call
-maker NewDir = call.Mkdir
-maker NewOthers = call.Mkdir
-maker NewFile = call.Create
-maker NewLink = call.Symlink
+-- the calls that make a file
+abbrev pub is_some_file : Option Kind → Bool
+is_some_file (Some kind.File) = true
+is_some_file _ = false
 
+abbrev pub file_makers : List Call
+file_makers = filter (λ maker. is_some_file (made_by maker)) calls
+
+-- a call that makes it passes a test
+abbrev pub is_made_by : (Call → Bool) → New → Bool
+is_made_by passes NewDir = passes call.Mkdir
+is_made_by passes NewOthers = passes call.Mkdir
+is_made_by passes NewFile = list_any passes file_makers
+is_made_by passes NewLink = passes call.Symlink
+
+-- the covers under which it can come, and what it is
 abbrev pub new_covers : Tree → CallTable → History → New → List Cover
 new_covers t table h NewDir = dir_covers t h
 new_covers t table h NewOthers = dir_covers t h
@@ -263,9 +275,9 @@ abbrev pub is_new_named : New → Call → Bool
 is_new_named NewLink call = keeps_link call
 is_new_named _ call = true
 
--- it can be made where its call is allowed on a missing name, under some cover that a name can have
+-- it can be made where a call that makes it is allowed on a missing name, under some cover that a name can have
 abbrev pub can_make : Tree → CallTable → History → New → Bool
-can_make t table h new = is_allowed_under table h (name_covers t h ++ dir_covers t h) IsMissing (maker new)
+can_make t table h new = is_made_by (is_allowed_under table h (name_covers t h ++ dir_covers t h) IsMissing) new
 
 -- a call can be allowed on it under these covers; a file is made with any mode, so as a program too
 abbrev pub can_allow_new : Tree → CallTable → History → New → Call → Bool

@@ -2,7 +2,7 @@
 use Rattle.std.specs.Prelude.{◌≡◌, ◌+◌, ℕ, List, [], ◌∷◌, map, Some, None, codes, refl}
 use Rattle.pua_tree.specs.Tree.{Tree, Node}
 use Rattle.pua_tree.specs.declared.node.Kind.TheVariants.{Dir, File, Link, Prog}
-use Rattle.pua_calls.specs.Promises.{rpath, wpath, cpath, fattr, exec, reading, writing, executing, creating}
+use Rattle.pua_calls.specs.Promises.{rpath, wpath, cpath, dpath, fattr, exec, unix, reading, writing, executing, creating}
 use Rattle.pua_calls.specs.Calls.{CallTable, NameRule, standard_name, standard_pair, standard_table, openbsd_table}
 use Rattle.pua_policy.specs.History.{History, Pledged, Unveiled, Locked, new_history}
 use Rattle.pua_policy.specs.declared.place.Place.TheVariants as place
@@ -194,6 +194,13 @@ no_cpath_tree = record {
 abbrev pub no_cpath_history : History
 no_cpath_history = Pledged (Some (rpath + wpath)) None ∷ Locked ∷ new_history
 
+-- and by OpenBSD's rules sockets can be named by another promise, and special files be made by a third
+abbrev pub unix_history : History
+unix_history = Pledged (Some (rpath + unix)) None ∷ Locked ∷ new_history
+
+abbrev pub dpath_history : History
+dpath_history = Pledged (Some (rpath + dpath)) None ∷ Locked ∷ new_history
+
 -- `/mail` has r and `/spool` has rwc: by OpenBSD's rules what stands in `/mail` can be given a further name in
 -- `/spool`, and be written by that. So it isn't with the link in it, which link follows
 abbrev pub aliases_tree : Tree
@@ -357,15 +364,32 @@ pub record EverRows : Type 0 where
       ∷ codes "dir /a stat,lstat,open-r,chdir"
       ∷ codes "file /a/k stat,lstat,open-r,open-w,open-rw"
       ∷ []
+  -- each of the calls that make a file lets one come by itself
+  pub by_bind : lines_by_openbsd no_cpath_tree unix_history ≡
+      codes "dir / stat,lstat,open-r,chdir"
+      ∷ codes "other / bind"
+      ∷ codes "dir /a stat,lstat,open-r,chdir"
+      ∷ codes "other /a bind"
+      ∷ codes "file /a/k stat,lstat,open-r,connect"
+      ∷ codes "file new stat,lstat,open-r,connect"
+      ∷ []
+  pub by_mknod : lines_by_openbsd no_cpath_tree dpath_history ≡
+      codes "dir / stat,lstat,open-r,chdir"
+      ∷ codes "other / mknod"
+      ∷ codes "dir /a stat,lstat,open-r,chdir"
+      ∷ codes "other /a mknod"
+      ∷ codes "file /a/k stat,lstat,open-r"
+      ∷ codes "file new stat,lstat,open-r"
+      ∷ []
   pub aliases : lines_by_openbsd aliases_tree aliases_history ≡
       codes "dir /mail stat,lstat,open-r,chdir"
-      ∷ codes "file /mail/aliases stat,lstat,open-r,open-w,open-rw,create,unlink,chmod"
+      ∷ codes "file /mail/aliases stat,lstat,open-r,open-w,open-rw,create,unlink,chmod,chown"
       ∷ codes "link /mail/l lstat,readlink"
-      ∷ codes "dir /spool stat,lstat,open-r,rmdir,chmod,chdir"
+      ∷ codes "dir /spool stat,lstat,open-r,rmdir,chmod,chdir,chown"
       ∷ codes "other /spool create,mkdir,symlink"
-      ∷ codes "dir new stat,lstat,open-r,rmdir,chmod,chdir"
+      ∷ codes "dir new stat,lstat,open-r,rmdir,chmod,chdir,chown"
       ∷ codes "other new create,mkdir,symlink"
-      ∷ codes "file new stat,lstat,open-r,open-w,open-rw,create,unlink,chmod"
+      ∷ codes "file new stat,lstat,open-r,open-w,open-rw,create,unlink,chmod,chown"
       ∷ codes "link new lstat,readlink,unlink"
       ∷ []
   pub standard_aliases : lines aliases_tree aliases_history ≡
@@ -389,12 +413,12 @@ pub record EverRows : Type 0 where
       ∷ []
   pub two_ways : lines_by_openbsd two_ways_tree two_ways_history ≡
       codes "dir /bin stat,lstat,open-r,chdir"
-      ∷ codes "prog /bin/p stat,lstat,open-r,open-w,open-rw,create,unlink,chmod,exec"
-      ∷ codes "dir /spool stat,lstat,open-r,rmdir,chmod,chdir"
+      ∷ codes "prog /bin/p stat,lstat,open-r,open-w,open-rw,create,unlink,chmod,exec,chown"
+      ∷ codes "dir /spool stat,lstat,open-r,rmdir,chmod,chdir,chown"
       ∷ codes "other /spool create,mkdir,symlink"
-      ∷ codes "dir new stat,lstat,open-r,rmdir,chmod,chdir"
+      ∷ codes "dir new stat,lstat,open-r,rmdir,chmod,chdir,chown"
       ∷ codes "other new create,mkdir,symlink"
-      ∷ codes "file new stat,lstat,open-r,open-w,open-rw,create,unlink,chmod"
+      ∷ codes "file new stat,lstat,open-r,open-w,open-rw,create,unlink,chmod,chown"
       ∷ codes "link new lstat,readlink,unlink"
       ∷ []
   pub standard_rules : refusal standard_table no_veil_history ≡ None
@@ -416,6 +440,8 @@ ever_rows = record {
   no_veil = refl;
   words_of_all = refl;
   no_cpath = refl;
+  by_bind = refl;
+  by_mknod = refl;
   aliases = refl;
   standard_aliases = refl;
   unread_aliases = refl;
@@ -457,26 +483,26 @@ pub record MovedRows : Type 0 where
       ∷ codes "link new lstat,readlink,unlink"
       ∷ []
   pub openbsd_drop_box : lines_by_openbsd drop_box_tree drop_box_history ≡
-      codes "dir /in rmdir,chmod"
+      codes "dir /in rmdir,chmod,chown"
       ∷ codes "other /in create,mkdir,symlink"
-      ∷ codes "file /in/f open-w,create,unlink,chmod"
-      ∷ codes "dir /tmp stat,lstat,open-r,rmdir,chmod,chdir"
+      ∷ codes "file /in/f open-w,create,unlink,chmod,chown"
+      ∷ codes "dir /tmp stat,lstat,open-r,rmdir,chmod,chdir,chown"
       ∷ codes "other /tmp create,mkdir,symlink"
-      ∷ codes "dir new stat,lstat,open-r,rmdir,chmod,chdir"
+      ∷ codes "dir new stat,lstat,open-r,rmdir,chmod,chdir,chown"
       ∷ codes "other new create,mkdir,symlink"
-      ∷ codes "file new stat,lstat,open-r,open-w,open-rw,create,unlink,chmod"
+      ∷ codes "file new stat,lstat,open-r,open-w,open-rw,create,unlink,chmod,chown"
       ∷ codes "link new lstat,readlink,unlink"
       ∷ []
   pub openbsd_name_and_area : lines_by_openbsd name_and_area_tree name_and_area_history ≡
       codes "dir / stat,lstat,open-r,chdir"
-      ∷ codes "dir /a rmdir,chmod"
+      ∷ codes "dir /a rmdir,chmod,chown"
       ∷ codes "other /a create,mkdir,symlink"
-      ∷ codes "prog /a/p open-w,create,unlink,chmod"
-      ∷ codes "prog /f stat,lstat,open-r,open-w,open-rw,create,unlink,chmod"
+      ∷ codes "prog /a/p open-w,create,unlink,chmod,chown"
+      ∷ codes "prog /f stat,lstat,open-r,open-w,open-rw,create,unlink,chmod,chown"
       ∷ codes "missing /f create,mkdir,symlink"
-      ∷ codes "dir new stat,lstat,open-r,rmdir,chmod,chdir"
+      ∷ codes "dir new stat,lstat,open-r,rmdir,chmod,chdir,chown"
       ∷ codes "other new create,mkdir,symlink"
-      ∷ codes "file new stat,lstat,open-r,open-w,open-rw,create,unlink,chmod"
+      ∷ codes "file new stat,lstat,open-r,open-w,open-rw,create,unlink,chmod,chown"
       ∷ codes "link new lstat,readlink,unlink"
       ∷ []
 

@@ -1,5 +1,5 @@
 -- What contracts see of the list that holds longest.
-use Rattle.std.specs.Prelude.{◌≡◌, [], Option, Some, None, if◌then◌else◌, MatchOption}
+use Rattle.std.specs.Prelude.{◌≡◌, [], Option, None, MatchOption}
 use Rattle.pua_tree.specs.Tree.{Tree}
 use Rattle.pua_calls.specs.Calls.{CallTable}
 use Rattle.pua_policy.specs.History.{History}

@@ -20,24 +20,20 @@ use Rattle.pua_policy.specs.declared.place.Place.{Place}
 use Rattle.pua_policy.specs.declared.place.Place.TheVariants as place
 use Rattle.pua_script.specs.Requests.{Asked}
 use Rattle.pua_tree.specs.Listing.{listing}
-use Rattle.pua_script.specs.Scripts.{script}
+use Rattle.pua_script.specs.Scripts.{script_by}
 use Rattle.pua_script.specs.Replay.{World, apply, new_world, history_of, world_after}
 use Rattle.pua_script.specs.Laws.{IsConfined}
 use Rattle.pua_script.specs.Family.{family, family_then, is_done, is_member, none_done, members_alone, is_exec, HasHistoryOf}
 use Rattle.pua_script.specs.Tightening.{NoCallNeedsError, Tightens}
-use Rattle.pua_script.specs.Confinement.{TreesAlong}
+use Rattle.pua_script.specs.Confinement.{TreesAlong, changes_names}
 use Rattle.pua_script.specs.Bytes.{are_in_bytes}
 use Rattle.pua_objects.specs.Objects.{At, Others, Line, objects, own_way}
 use Rattle.pua_ever.specs.Ever.{NewDir, NewOthers, NewFile, NewLink, Thing, Stands, Comes, EverLine, turning_calls, ever}
 
--- the five calls that make a name or take one away need `c`, and so do both names of rename and the new one of
--- link: its old name stays, whatever it needs
+-- the calls that make a name or take one away need `c`, and so do both names of rename and the new one of link: its old
+-- name stays, whatever it needs
 pub record EditsNeedC (table : CallTable) : Type 0 where
-  pub create : IsTrue (holds (rule_of table call.Create).perms creating)
-  pub mkdir : IsTrue (holds (rule_of table call.Mkdir).perms creating)
-  pub rmdir : IsTrue (holds (rule_of table call.Rmdir).perms creating)
-  pub unlink : IsTrue (holds (rule_of table call.Unlink).perms creating)
-  pub symlink : IsTrue (holds (rule_of table call.Symlink).perms creating)
+  pub calls : (edit : Call) → IsTrue (changes_names edit) → IsTrue (holds (rule_of table edit).perms creating)
   pub rename_old : IsTrue (holds table.rename.old.needs.perms creating)
   pub rename_new : IsTrue (holds table.rename.new.needs.perms creating)
   pub link_new : IsTrue (holds table.link.new.needs.perms creating)
@@ -240,13 +236,13 @@ ReplaysKeepPlaces =
     (table : CallTable) → EditsNeedC table → (w : World) (asks : List Asked) →
     TreesAlong table w asks → PlacesStand w → PlacesStand (world_after table w asks)
 
--- a listing and a script as a command reads them, cut anywhere: the first lines left a world, in which some
+-- a listing and a script as a command reads them by any rules, cut anywhere: the first lines left a world, in which some
 -- process can put no veil any more, and its family alone asks the further ones
 abbrev pub EverAsRead : Type 0
 EverAsRead =
     (table : CallTable) → NoCallNeedsError table → EditsNeedC table →
-    (tree_bytes script_bytes : List ℕ) (t : Tree) (first asks : List Asked) →
-    listing tree_bytes ≡ Ok t → script script_bytes ≡ Ok (first ++ asks) →
+    (rules : Rules) (tree_bytes script_bytes : List ℕ) (t : Tree) (first asks : List Asked) →
+    listing tree_bytes ≡ Ok t → script_by rules script_bytes ≡ Ok (first ++ asks) →
     let w = world_after table (new_world t) first in
     (process : ℕ) (now : History) → history_of w process ≡ Some now → IsConfined now →
     IsTrue (none_done is_exec table w asks (process ∷ [])) →
@@ -255,13 +251,13 @@ EverAsRead =
     let after = world_after table w asks in
     HasHistoryOf after member (Foresees w.tree table now after.tree)
 
--- a listing and a script as a command reads them, and behind them any list of requests in bytes, however long, in which
--- others than the family leave the tree as it is
+-- a listing and a script as a command reads them by any rules, and behind them any list of requests in bytes, however long,
+-- in which others than the family leave the tree as it is
 abbrev pub EverAfterRead : Type 0
 EverAfterRead =
     (table : CallTable) → NoCallNeedsError table → EditsNeedC table →
-    (tree_bytes script_bytes : List ℕ) (t : Tree) (first asks : List Asked) →
-    listing tree_bytes ≡ Ok t → script script_bytes ≡ Ok first → IsTrue (are_in_bytes asks) →
+    (rules : Rules) (tree_bytes script_bytes : List ℕ) (t : Tree) (first asks : List Asked) →
+    listing tree_bytes ≡ Ok t → script_by rules script_bytes ≡ Ok first → IsTrue (are_in_bytes asks) →
     let w = world_after table (new_world t) first in
     (process : ℕ) (now : History) → history_of w process ≡ Some now → IsConfined now →
     IsTrue (none_done is_exec table w asks (process ∷ [])) → MembersEdit table w asks (process ∷ []) →

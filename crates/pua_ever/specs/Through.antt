@@ -12,6 +12,7 @@ use Rattle.pua_path.specs.declared.found.Found.{Found}
 use Rattle.pua_calls.specs.Promises.{holds, unveil}
 use Rattle.pua_calls.specs.Tables.{NamesNoError}
 use Rattle.pua_calls.specs.Calls.{CallTable, rule_of}
+use Rattle.pua_calls.specs.declared.rules.Rules.{Rules}
 use Rattle.pua_calls.specs.declared.call.Call.{Call}
 use Rattle.pua_calls.specs.declared.call.Call.TheVariants as call
 use Rattle.pua_calls.specs.declared.rules.ExecPromises.{ExecPromises}
@@ -20,14 +21,14 @@ use Rattle.pua_policy.specs.History.{History, held_set, held_for_exec, is_locked
 use Rattle.pua_policy.specs.Verdict.{is_unveil, verdict_of}
 use Rattle.pua_policy.specs.declared.answer.Verdict.TheVariants.{Allowed}
 use Rattle.pua_script.specs.Bytes.{are_in_bytes}
-use Rattle.pua_script.specs.Scripts.{script}
+use Rattle.pua_script.specs.Scripts.{script_by}
 use Rattle.pua_script.specs.Requests.{Asked}
 use Rattle.pua_script.specs.Replay.{World, new_world, history_of, world_after}
 use Rattle.pua_script.specs.Family.{family, is_member, HasHistoryOf}
 use Rattle.pua_script.specs.Tightening.{NoCallNeedsError}
 use Rattle.pua_script.specs.Confinement.{TakingNeedsC, TreesAlong, UncoveredStay}
 use Rattle.pua_objects.specs.Objects.{Line, objects}
-use Rattle.pua_ever.specs.Ever.{maker, Thing, Stands, Comes, EverLine, is_exec_call, ever, has_ever_calls}
+use Rattle.pua_ever.specs.Ever.{is_made_by, Thing, Stands, Comes, EverLine, is_exec_call, ever, has_ever_calls}
 use Rattle.pua_ever.specs.declared.lasting_list.ExecBound.{ExecBound}
 use Rattle.pua_ever.specs.declared.lasting_list.ExecBound.TheVariants.{Never, Bounded, Open}
 use Rattle.pua_ever.specs.Laws.{EditsNeedC, VeilsStand, MembersEdit, ForeseesIn, ForeseesStartsIn, IsWithinLines}
@@ -42,7 +43,7 @@ is_promised_by_one table h given call = is_promised_by table (held_set h) call |
 -- a line with those of its calls that pass; what is made has none, unless the call that makes it passes
 abbrev pub can_come : (Call → Bool) → Thing → Bool
 can_come passes (Stands subject) = true
-can_come passes (Comes new) = passes (maker new)
+can_come passes (Comes new) = is_made_by passes new
 
 abbrev pub let_through : (Call → Bool) → EverLine → EverLine
 let_through passes line = record line { calls = filter (λ call. can_come passes line.thing && passes call) line.calls }
@@ -191,13 +192,13 @@ EverLasts =
     let after = world_after table w asks in
     HasHistoryOf after member (ForeseesIn (ever_lasting w.tree table now) w.tree table now after.tree)
 
--- a listing and a script as a command reads them, and behind them any list of requests in bytes, however long, in which
--- others than the family leave the tree as it is
+-- a listing and a script as a command reads them by any rules, and behind them any list of requests in bytes, however long,
+-- in which others than the family leave the tree as it is
 abbrev pub EverLastsAfterRead : Type 0
 EverLastsAfterRead =
     (table : CallTable) → NoCallNeedsError table → EditsNeedC table →
-    (tree_bytes script_bytes : List ℕ) (t : Tree) (first asks : List Asked) →
-    listing tree_bytes ≡ Ok t → script script_bytes ≡ Ok first → IsTrue (are_in_bytes asks) →
+    (rules : Rules) (tree_bytes script_bytes : List ℕ) (t : Tree) (first asks : List Asked) →
+    listing tree_bytes ≡ Ok t → script_by rules script_bytes ≡ Ok first → IsTrue (are_in_bytes asks) →
     let w = world_after table (new_world t) first in
     (process : ℕ) (now : History) (given : ℕ) → history_of w process ≡ Some now → bound_of table now ≡ Some given →
     MembersEdit table w asks (process ∷ []) →

@@ -6,11 +6,12 @@ use Rattle.pua_tree.specs.Tree.{Tree}
 use Rattle.pua_tree.specs.Listing.{listing}
 use Rattle.pua_calls.specs.Promises.{holds, unveil}
 use Rattle.pua_calls.specs.Calls.{CallTable}
+use Rattle.pua_calls.specs.declared.rules.Rules.{Rules}
 use Rattle.pua_calls.specs.declared.call.Call.TheVariants as call
 use Rattle.pua_policy.specs.History.{History, Pledged, Locked, held_set, held_for_exec, is_locked, is_ended, with_both}
 use Rattle.pua_policy.specs.Verdict.{is_unveil}
 use Rattle.pua_script.specs.Bytes.{are_in_bytes}
-use Rattle.pua_script.specs.Scripts.{script}
+use Rattle.pua_script.specs.Scripts.{script_by}
 use Rattle.pua_script.specs.Requests.{Asked}
 use Rattle.pua_script.specs.Replay.{World, new_world, history_of, world_after}
 use Rattle.pua_script.specs.Laws.{IsConfined}
@@ -103,12 +104,12 @@ TogetherLasts =
     let after = world_after table w asks in
     HasHistoryOf after member (ForeseesIn (ever_lasting w.tree table one) w.tree table one after.tree)
 
--- a listing and a script as a command reads them, and behind them any list of requests in bytes
+-- a listing and a script as a command reads them by any rules, and behind them any list of requests in bytes
 abbrev pub TogetherAfterRead : Type 0
 TogetherAfterRead =
     (table : CallTable) → NoCallNeedsError table → EditsNeedC table →
-    (tree_bytes script_bytes : List ℕ) (t : Tree) (before asks : List Asked) →
-    listing tree_bytes ≡ Ok t → script script_bytes ≡ Ok before → IsTrue (are_in_bytes asks) →
+    (rules : Rules) (tree_bytes script_bytes : List ℕ) (t : Tree) (before asks : List Asked) →
+    listing tree_bytes ≡ Ok t → script_by rules script_bytes ≡ Ok before → IsTrue (are_in_bytes asks) →
     let w = world_after table (new_world t) before in
     (members : List ℕ) (first : History) (more : List History) → ActTogether w members first more →
     let one = joined table first more in

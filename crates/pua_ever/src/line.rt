@@ -1,15 +1,15 @@
 //! A line of the list for ever.
 
-ghost use Rattle.std.specs.Prelude.{◌≡◌, Bool};
+ghost use Rattle.std.specs.Prelude.{◌≡◌};
 ghost use Rattle.pua_tree.specs.Tree.{Tree};
 ghost use Rattle.pua_audit.specs.Reach.{Word};
 ghost use Rattle.pua_calls.specs.CallSets.{has};
-ghost use Rattle.pua_calls.specs.declared.call.Call.{Call as AnyCall};
 ghost use Rattle.pua_ever.specs.Ever.{Thing};
 ghost use Rattle.pua_ever.specs.EverLines.{IsThing, line_with};
 ghost use Rattle.pua_ever.specs.Through.{can_come as comes_by, let_through as let_through_by};
 
-use pua_calls::{Call, Calls};
+use crate::made::Made;
+use pua_calls::Calls;
 use pua_objects::ObjectKind;
 
 /// What a line is about.
@@ -29,20 +29,20 @@ impl EverThing {
     {
         match self {
             EverThing::Stands(_) => true,
-            EverThing::Comes(kind) => passes.contains(maker_of(kind)),
+            EverThing::Comes(kind) => is_made_by(kind, passes),
         }
     }
 }
 
-/// The call by which such a thing is made.
-fn maker_of(kind: ObjectKind) -> Call
-    ensures { (t : Tree) (about : Thing) (passes : AnyCall → Bool) →
-        IsThing t about (EverThing.Comes kind) → comes_by passes about ≡ passes result }
+/// Whether a call by which such a thing is made is among these.
+fn is_made_by(kind: ObjectKind, calls: Calls) -> bool
+    ensures { (t : Tree) (about : Thing) → IsThing t about (EverThing.Comes kind) →
+        result ≡ comes_by (has calls) about }
 {
     match kind {
-        ObjectKind::File => Call::Create,
-        ObjectKind::Link => Call::Symlink,
-        _ => Call::Mkdir,
+        ObjectKind::File => Made::File.is_made_by(calls),
+        ObjectKind::Link => Made::Link.is_made_by(calls),
+        _ => Made::Dir.is_made_by(calls),
     }
 }
 

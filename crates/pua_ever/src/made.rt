@@ -2,11 +2,12 @@
 
 ghost use Rattle.std.specs.Prelude.{◌≡◌, ◌∷◌, Some};
 ghost use Rattle.pua_objects.specs.Lines.{kind_word};
-ghost use Rattle.pua_ever.specs.Ever.{maker as maker_of, new_word};
+ghost use Rattle.pua_calls.specs.CallSets.{has};
+ghost use Rattle.pua_ever.specs.Ever.{is_made_by, new_word};
 ghost use Rattle.pua_ever.specs.EverLines as left;
 ghost use Rattle.pua_ever.specs.EverLines.{made_left, new_of};
 
-use pua_calls::Call;
+use pua_calls::{Call, Calls};
 use pua_objects::ObjectKind;
 
 /// What can be made.
@@ -35,14 +36,18 @@ impl Made {
         }
     }
 
-    /// The call that makes it.
-    pub fn maker(self) -> Call
-        ensures { result ≡ maker_of (new_of self) }
+    /// Whether a call that makes it is among these.
+    pub fn is_made_by(self, calls: Calls) -> bool
+        ensures { result ≡ is_made_by (has calls) (new_of self) }
     {
         match self {
-            Made::Dir | Made::Others => Call::Mkdir,
-            Made::File => Call::Create,
-            Made::Link => Call::Symlink,
+            Made::Dir | Made::Others => calls.contains(Call::Mkdir),
+            Made::File => {
+                calls.contains(Call::Create)
+                    || calls.contains(Call::Bind)
+                    || calls.contains(Call::Mknod)
+            }
+            Made::Link => calls.contains(Call::Symlink),
         }
     }
 

@@ -96,18 +96,20 @@ fn may_link(process: &Process, table: &CallTable) -> bool
         && may_any(process, link.new_name().alternatives())
 }
 
-/// Whether a process holds the promises of one of the five calls that make a name or take one away.
+/// Whether a process holds the promises of one of the calls that make a name or take one away.
 fn may_call(process: &Process, table: &CallTable) -> bool
     ensures { (h : History) → StandsFor process.now h →
         result ≡ list_any (λ edit. says_yes (may_any_of h
         (rule_of table.now edit).alternatives)) edit_calls }
 {
-    const EDITS: [Call; 5] = [
+    const EDITS: [Call; 7] = [
         Call::Create,
         Call::Mkdir,
         Call::Rmdir,
         Call::Unlink,
         Call::Symlink,
+        Call::Bind,
+        Call::Mknod,
     ];
     EDITS
         .iter()
@@ -274,7 +276,7 @@ impl Prospects {
             has result call ≡ ((edits_tree table h && can_make t table h (new_of made))
             && is_new_allowed t table h (new_of made) call) }
     {
-        if !self.may_edit || !self.movable.made.contains(made.maker()) {
+        if !self.may_edit || !made.is_made_by(self.movable.made) {
             return Calls::NONE;
         }
         match made {

@@ -28,8 +28,8 @@ pub enum Refusal {
 
 /// Why there is no list of what a process and all that it forks can ever touch, by a table of what
 /// calls need; None where there is one. Of two reasons the process's comes first, then that of the
-/// first of rmdir, unlink, create, mkdir, symlink, rename and link. A process that has ended can
-/// put no veil, so it has a list, without a line.
+/// first of rmdir, unlink, create, mkdir, symlink, bind, mknod, rename and link. A process that has
+/// ended can put no veil, so it has a list, without a line.
 pub fn why_refused(process: &Process, table: &CallTable) -> Option<Refusal>
     ensures exact { (h : History) → StandsFor process.now h → result ≡ refusal_of table.now h }
     ensures none { result ≡ None → EditsNeedC table.now }
@@ -73,16 +73,18 @@ fn new_needs_c(pair: &PairNeed) -> bool
     pair.new_name().perms().contains(Perms::CREATE)
 }
 
-/// The first of the five calls that does not need `c`.
+/// The first of the calls that make a name or take one away that does not need `c`.
 fn first_without_c(table: &CallTable) -> Option<Call>
     ensures { result ≡ find (lacks_c table.now) changing_calls }
 {
-    const CHANGING: [Call; 5] = [
+    const CHANGING: [Call; 7] = [
         Call::Rmdir,
         Call::Unlink,
         Call::Create,
         Call::Mkdir,
         Call::Symlink,
+        Call::Bind,
+        Call::Mknod,
     ];
     CHANGING
         .iter()

@@ -4,6 +4,7 @@ use Rattle.std.specs.List.{AllByRecursion}
 use Rattle.std.proofs.lemmas.List.{map-append}
 use Rattle.pua_calls.specs.Calls.{CallTable}
 use Rattle.pua_calls.specs.declared.call.Call.{Call}
+use Rattle.pua_calls.specs.declared.rules.Rules.{Rules}
 use Rattle.pua_script.specs.Requests.{Asked}
 use Rattle.pua_script.specs.Replay.{World, apply, answers_to, world_after}
 use Rattle.pua_script.specs.Family.{is_exec}
@@ -23,10 +24,10 @@ all_map : {A B : Type 0} (P : B → Type 0) (f : A → B) (xs : List A) → AllB
 all_map P f [] all = tt
 all_map P f (x ∷ xs) all = (all.0, all_map P f xs all.1)
 
-all_own : (process : ℕ) (lines : List WayLine) → AllByRecursion (IsLine process) lines →
+all_own : (rules : Rules) (process : ℕ) (lines : List WayLine) → AllByRecursion (IsLine rules process) lines →
     AllByRecursion (λ ask. ask.process ≡ process) (asks_of lines)
-all_own process [] all = tt
-all_own process (line ∷ lines) all = (all.0.own, all_own process lines all.1)
+all_own rules process [] all = tt
+all_own rules process (line ∷ lines) all = (all.0.own, all_own rules process lines all.1)
 
 -- the answers and the world behind one request more
 told_more : (table : CallTable) (w : World) (asks : List Asked) (ask : Asked) →
@@ -43,8 +44,8 @@ left_more table w (other ∷ asks) ask = left_more table (apply table w other).1
 pub asks_more : (lines : List WayLine) (line : WayLine) → asks_of (lines ++ line ∷ []) ≡ asks_of lines ++ line.request ∷ []
 asks_more lines line = map-append (λ one. one.request) lines (line ∷ [])
 
-module _ (before mid after : WorldState) (process : ℕ) (lines : List WayLine) (line : WayLine)
-    (so_far : AreGranted before process lines mid) (is : IsLine process line)
+module _ (rules : Rules) (before mid after : WorldState) (process : ℕ) (lines : List WayLine) (line : WayLine)
+    (so_far : AreGranted rules before process lines mid) (is : IsLine rules process line)
     (answer : Answer) (okay : answer ≡ Okay) (served : IsServed mid line.request answer after) where
   told_all : (w : World) → StandsForWorld before w →
       AllByRecursion (λ answer. answer ≡ Okay) (answers_to before.table w (asks_of (lines ++ line ∷ [])))
@@ -62,9 +63,9 @@ module _ (before mid after : WorldState) (process : ℕ) (lines : List WayLine) 
       (subst (λ table. StandsForWorld after (apply table (world_after before.table w (asks_of lines)) line.request).1)
       (so_far.table w stands) (served (world_after before.table w (asks_of lines)) (so_far.left w stands)).1))
 
-  pub one_more : is_exec line.request.action ≡ false → AreGranted before process (lines ++ line ∷ []) after
+  pub one_more : is_exec line.request.action ≡ false → AreGranted rules before process (lines ++ line ∷ []) after
   one_more quiet = record {
-    are = all_more (IsLine process) lines line so_far.are is;
+    are = all_more (IsLine rules process) lines line so_far.are is;
     quiet = all_more (λ one. is_exec one.request.action ≡ false) lines line so_far.quiet quiet;
     told = told_all;
     left = left_all;
@@ -72,14 +73,14 @@ module _ (before mid after : WorldState) (process : ℕ) (lines : List WayLine) 
   }
 
   pub last_one : (call : Call) (target : Target) → IsCall mid process call target line.request →
-      AreWay before process call target (lines ++ line ∷ [])
+      AreWay rules before process call target (lines ++ line ∷ [])
   last_one call target asked = record {
-    are = all_more (IsLine process) lines line so_far.are is;
+    are = all_more (IsLine rules process) lines line so_far.are is;
     way = λ w stands. record {
       first = asks_of lines;
       last = line.request;
       parts = asks_more lines line;
-      own = all_own process (lines ++ line ∷ []) (all_more (IsLine process) lines line so_far.are is);
+      own = all_own rules process (lines ++ line ∷ []) (all_more (IsLine rules process) lines line so_far.are is);
       granted = told_all w stands;
       quiet = all_map (λ ask. is_exec ask.action ≡ false) (λ one. one.request) lines so_far.quiet;
       text = asked.text;
@@ -88,8 +89,8 @@ module _ (before mid after : WorldState) (process : ℕ) (lines : List WayLine) 
     };
   }
 
-pub none_yet : (before : WorldState) (process : ℕ) → AreGranted before process [] before
-none_yet before process = record {
+pub none_yet : (rules : Rules) (before : WorldState) (process : ℕ) → AreGranted rules before process [] before
+none_yet rules before process = record {
   are = tt;
   quiet = tt;
   told = λ w stands. tt;

@@ -6,6 +6,7 @@ use Rattle.std.proofs.lemmas.List.{drop_more}
 use Rattle.pua_tree.specs.Tree.{Tree}
 use Rattle.pua_calls.specs.Calls.{CallTable}
 use Rattle.pua_calls.specs.declared.call.Call.{Call}
+use Rattle.pua_calls.specs.declared.rules.Rules.{Rules}
 use Rattle.pua_script.specs.Requests.{Asked}
 use Rattle.pua_script.specs.Replay.{World, apply, world_after}
 use Rattle.pua_script.specs.Family.{is_exec, is_okay}
@@ -30,52 +31,53 @@ other_answer answers.Killed other = refl
 other_answer answers.Gone other = refl
 
 -- a step with others behind it
-module _ (table : CallTable) (process : ℕ) (call : Call) (target : Target) (step : Step) (rest : List Step) (last : Step) (w : World) (made : ℕ) where
+module _ (rules : Rules) (table : CallTable) (process : ℕ) (call : Call) (target : Target) (step : Step) (rest : List Step) (last : Step) (w : World)
+    (made : ℕ) where
   abbrev later : World → ℕ → Bool
-  later = comes table process call target (rest ++ last ∷ [])
+  later = comes rules table process call target (rest ++ last ∷ [])
 
-  comes_on : comes table process call target (step ∷ (rest ++ last ∷ [])) w made
-      ≡ is_some_by (goes_on table process call target later w made step) (request_of_step w.tree process made step)
+  comes_on : comes rules table process call target (step ∷ (rest ++ last ∷ [])) w made
+      ≡ is_some_by (goes_on table process call target later w made step) (request_of_step rules w.tree process made step)
   comes_on = by rest
     where
-      by : (rest : List Step) → comes table process call target (step ∷ (rest ++ last ∷ [])) w made
-          ≡ is_some_by (goes_on table process call target (comes table process call target (rest ++ last ∷ [])) w made step)
-          (request_of_step w.tree process made step)
+      by : (rest : List Step) → comes rules table process call target (step ∷ (rest ++ last ∷ [])) w made
+          ≡ is_some_by (goes_on table process call target (comes rules table process call target (rest ++ last ∷ [])) w made step)
+          (request_of_step rules w.tree process made step)
       by [] = refl
       by (next ∷ more) = refl
 
-  without_line : None ≡ request_of_step w.tree process made step → comes table process call target (step ∷ (rest ++ last ∷ [])) w made ≡ false
+  without_line : None ≡ request_of_step rules w.tree process made step → comes rules table process call target (step ∷ (rest ++ last ∷ [])) w made ≡ false
   without_line none = comes_on ∙ ap (is_some_by (goes_on table process call target later w made step)) (sym none)
 
-  module _ (ask : Asked) (asked : Some ask ≡ request_of_step w.tree process made step) where
-    asked_on : comes table process call target (step ∷ (rest ++ last ∷ [])) w made ≡ goes_on table process call target later w made step ask
+  module _ (ask : Asked) (asked : Some ask ≡ request_of_step rules w.tree process made step) where
+    asked_on : comes rules table process call target (step ∷ (rest ++ last ∷ [])) w made ≡ goes_on table process call target later w made step ask
     asked_on = comes_on ∙ ap (is_some_by (goes_on table process call target later w made step)) (sym asked)
 
-    by_exec : is_exec ask.action ≡ true → comes table process call target (step ∷ (rest ++ last ∷ [])) w made ≡ false
+    by_exec : is_exec ask.action ≡ true → comes rules table process call target (step ∷ (rest ++ last ∷ [])) w made ≡ false
     by_exec exec = asked_on ∙ rw exec refl
 
     by_refused : is_exec ask.action ≡ false → is_okay (apply table w ask).0 ≡ false →
-        comes table process call target (step ∷ (rest ++ last ∷ [])) w made ≡ false
+        comes rules table process call target (step ∷ (rest ++ last ∷ [])) w made ≡ false
     by_refused quiet refused = asked_on ∙ rw (quiet, refused) refl
 
     by_served : is_exec ask.action ≡ false → is_okay (apply table w ask).0 ≡ true →
-        comes table process call target (step ∷ (rest ++ last ∷ [])) w made
+        comes rules table process call target (step ∷ (rest ++ last ∷ [])) w made
         ≡ later (apply table w ask).1 (made_behind (apply table w ask).1.tree made step)
     by_served quiet okay = asked_on ∙ rw (quiet, okay) refl
 
 -- the steps come to a call where those that are left do
-abbrev pub AreOn : WorldState → ℕ → List Step → ℕ → List WayLine → ℕ → Type 0
-AreOn before process steps i lines made =
+abbrev pub AreOn : Rules → WorldState → ℕ → List Step → ℕ → List WayLine → ℕ → Type 0
+AreOn rules before process steps i lines made =
     (w : World) → StandsForWorld before w → (call : Call) (target : Target) (last : Step) →
-    comes before.table process call target (steps ++ last ∷ []) w 0
-    ≡ comes before.table process call target (drop i steps ++ last ∷ []) (world_after before.table w (asks_of lines)) made
+    comes rules before.table process call target (steps ++ last ∷ []) w 0
+    ≡ comes rules before.table process call target (drop i steps ++ last ∷ []) (world_after before.table w (asks_of lines)) made
 
 -- the next of them, as it is read
-module _ (before mid : WorldState) (process : ℕ) (steps : List Step) (i : ℕ) (step : Step) (lines : List WayLine) (made : ℕ)
-    (granted : AreGranted before process lines mid) (on : AreOn before process steps i lines made)
+module _ (rules : Rules) (before mid : WorldState) (process : ℕ) (steps : List Step) (i : ℕ) (step : Step) (lines : List WayLine) (made : ℕ)
+    (granted : AreGranted rules before process lines mid) (on : AreOn rules before process steps i lines made)
     (within : i < length steps) (is : step ≡ slice_index_or steps i step)
     (t : Tree) (tree : t ≡ mid.tree) (read : Option WayLine)
-    (asked : option_map (λ (line : WayLine). line.request) read ≡ request_of_step t process made step) where
+    (asked : option_map (λ (line : WayLine). line.request) read ≡ request_of_step rules t process made step) where
   module _ (w : World) (stands : StandsForWorld before w) (call : Call) (target : Target) (last : Step) where
     abbrev now : World
     now = world_after before.table w (asks_of lines)
@@ -83,25 +85,25 @@ module _ (before mid : WorldState) (process : ℕ) (steps : List Step) (i : ℕ)
     here : StandsForWorld mid now
     here = granted.left w stands
 
-    asked_now : option_map (λ (line : WayLine). line.request) read ≡ request_of_step now.tree process made step
-    asked_now = asked ∙ ap (λ u. request_of_step u process made step) (tree ∙ here.tree)
+    asked_now : option_map (λ (line : WayLine). line.request) read ≡ request_of_step rules now.tree process made step
+    asked_now = asked ∙ ap (λ u. request_of_step rules u process made step) (tree ∙ here.tree)
 
-    left : comes before.table process call target (steps ++ last ∷ []) w 0
-        ≡ comes before.table process call target (step ∷ (drop (i + 1) steps ++ last ∷ [])) now made
+    left : comes rules before.table process call target (steps ++ last ∷ []) w 0
+        ≡ comes rules before.table process call target (step ∷ (drop (i + 1) steps ++ last ∷ [])) now made
     left = on w stands call target last
-        ∙ ap (λ s. comes before.table process call target (s ++ last ∷ []) now made)
+        ∙ ap (λ s. comes rules before.table process call target (s ++ last ∷ []) now made)
         (drop_more steps i step within ∙ ap (λ x. x ∷ drop (i + 1) steps) (sym is))
 
-    pub none_on : ((line : WayLine) → read ≡ Some line → ⊥) → comes before.table process call target (steps ++ last ∷ []) w 0 ≡ false
-    none_on none = left ∙ without_line before.table process call target step (drop (i + 1) steps) last now made
+    pub none_on : ((line : WayLine) → read ≡ Some line → ⊥) → comes rules before.table process call target (steps ++ last ∷ []) w 0 ≡ false
+    none_on none = left ∙ without_line rules before.table process call target step (drop (i + 1) steps) last now made
         (ap (option_map (λ (line : WayLine). line.request)) (no_line read none) ∙ asked_now)
 
     module _ (line : WayLine) (line_is : read ≡ Some line) where
-      its : Some line.request ≡ request_of_step now.tree process made step
+      its : Some line.request ≡ request_of_step rules now.tree process made step
       its = sym (ap (option_map (λ (line : WayLine). line.request)) line_is) ∙ asked_now
 
-      pub exec_on : is_exec line.request.action ≡ true → comes before.table process call target (steps ++ last ∷ []) w 0 ≡ false
-      exec_on exec = left ∙ by_exec before.table process call target step (drop (i + 1) steps) last now made line.request its exec
+      pub exec_on : is_exec line.request.action ≡ true → comes rules before.table process call target (steps ++ last ∷ []) w 0 ≡ false
+      exec_on exec = left ∙ by_exec rules before.table process call target step (drop (i + 1) steps) last now made line.request its exec
 
       module _ (answer : Answer) (after : WorldState) (served : IsServed mid line.request answer after) where
         told : is_okay (apply before.table now line.request).0 ≡ is_okay answer
@@ -109,29 +111,29 @@ module _ (before mid : WorldState) (process : ℕ) (steps : List Step) (i : ℕ)
             (ap is_okay (sym (served now here).0))
 
         pub refused_on : is_exec line.request.action ≡ false → (answer ≡ answers.Okay → ⊥) →
-            comes before.table process call target (steps ++ last ∷ []) w 0 ≡ false
-        refused_on quiet other = left ∙ by_refused before.table process call target step (drop (i + 1) steps) last now made line.request its quiet
+            comes rules before.table process call target (steps ++ last ∷ []) w 0 ≡ false
+        refused_on quiet other = left ∙ by_refused rules before.table process call target step (drop (i + 1) steps) last now made line.request its quiet
             (told ∙ other_answer answer other)
 
         tree_left : after.tree ≡ (apply before.table now line.request).1.tree
         tree_left = subst (λ table. after.tree ≡ (apply table now line.request).1.tree) (granted.table w stands) (served now here).1.tree
 
         pub served_on : is_exec line.request.action ≡ false → answer ≡ answers.Okay →
-            comes before.table process call target (steps ++ last ∷ []) w 0
-            ≡ comes before.table process call target (drop (i + 1) steps ++ last ∷ [])
+            comes rules before.table process call target (steps ++ last ∷ []) w 0
+            ≡ comes rules before.table process call target (drop (i + 1) steps ++ last ∷ [])
             (world_after before.table w (asks_of (lines ++ line ∷ []))) (made_behind after.tree made step)
         served_on quiet okay = left
-            ∙ by_served before.table process call target step (drop (i + 1) steps) last now made line.request its quiet (told ∙ ap is_okay okay)
-            ∙ ap (λ u. comes before.table process call target (drop (i + 1) steps ++ last ∷ []) (apply before.table now line.request).1
+            ∙ by_served rules before.table process call target step (drop (i + 1) steps) last now made line.request its quiet (told ∙ ap is_okay okay)
+            ∙ ap (λ u. comes rules before.table process call target (drop (i + 1) steps ++ last ∷ []) (apply before.table now line.request).1
             (made_behind u made step)) (sym tree_left)
-            ∙ ap (λ v. comes before.table process call target (drop (i + 1) steps ++ last ∷ []) v (made_behind after.tree made step))
+            ∙ ap (λ v. comes rules before.table process call target (drop (i + 1) steps ++ last ∷ []) v (made_behind after.tree made step))
             (sym (ap (world_after before.table w) (asks_more lines line) ∙ left_more before.table w (asks_of lines) line.request))
 
   -- one step more
   pub step_on : (line : WayLine) → read ≡ Some line → (answer : Answer) (after : WorldState) → IsServed mid line.request answer after →
       is_exec line.request.action ≡ false → answer ≡ answers.Okay → (new : ℕ) → new ≡ made_behind after.tree made step →
-      AreOn before process steps (i + 1) (lines ++ line ∷ []) new
+      AreOn rules before process steps (i + 1) (lines ++ line ∷ []) new
   step_on line line_is answer after served quiet okay new new_is = λ w stands call target last.
       served_on w stands call target last line line_is answer after served quiet okay
-      ∙ ap (comes before.table process call target (drop (i + 1) steps ++ last ∷ []) (world_after before.table w (asks_of (lines ++ line ∷ []))))
+      ∙ ap (comes rules before.table process call target (drop (i + 1) steps ++ last ∷ []) (world_after before.table w (asks_of (lines ++ line ∷ []))))
       (sym new_is)

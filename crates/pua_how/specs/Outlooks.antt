@@ -6,14 +6,14 @@ use Rattle.pua_tree.specs.Tree.{Tree, Spot}
 use Rattle.pua_path.specs.declared.found.Found.TheVariants.{Slot}
 use Rattle.pua_calls.specs.Calls.{CallTable}
 use Rattle.pua_calls.specs.declared.call.Call.{Call}
-use Rattle.pua_calls.specs.declared.call.Call.TheVariants as call
 use Rattle.pua_policy.specs.History.{History}
 use Rattle.pua_objects.specs.Items.{subject_given}
 use Rattle.pua_objects.specs.Objects.{Subject, At}
 use Rattle.pua_objects.specs.declared.item.Subject as told
 use Rattle.pua_objects.specs.declared.item.Subject.TheVariants as subject
 use Rattle.pua_objects.specs.declared.list.ListItem.{ListItem}
-use Rattle.pua_ever.specs.Ever.{EverLine, Stands, Comes, New, all_new, ever, can_be_freed, can_make, is_ever_allowed, is_new_allowed, may_edit, own_spot}
+use Rattle.pua_ever.specs.Ever.{EverLine, Stands, Comes, New, all_new, ever, can_be_freed, can_make, is_ever_allowed, is_made_by, is_new_allowed, may_edit, own_spot}
+use Rattle.pua_ever.specs.EverLines.{new_of}
 use Rattle.pua_ever.specs.Both.{IsBoth}
 use Rattle.pua_ever.specs.Through.{ever_lasting, ever_through, execs_of}
 use Rattle.pua_ever.specs.declared.lasting.Both.{Both}
@@ -62,12 +62,12 @@ made_of (target.NewLink last) = Some made.Link
 made_of _ = None
 
 -- what is asked stands now, or is made by a call that passes
+abbrev pub comes_as : (Call → Bool) → Option Made → Bool
+comes_as passes (Some one) = is_made_by passes (new_of one)
+comes_as passes None = true
+
 abbrev pub comes_by : (Call → Bool) → Target → Bool
-comes_by passes (target.NewDirectory last) = passes call.Mkdir
-comes_by passes (target.NewOthers last) = passes call.Mkdir
-comes_by passes (target.NewFile last) = passes call.Create
-comes_by passes (target.NewLink last) = passes call.Symlink
-comes_by passes _ = true
+comes_by passes asked = comes_as passes (made_of asked)
 
 -- these are the lines of a process, or, where it is handed in, of who holds both sets
 abbrev pub AreLinesOf : Tree → CallTable → History → Option Both → List EverLine → Type 0

@@ -2,9 +2,10 @@
 use Rattle.std.specs.Prelude.{◌≡◌, ℕ, false, List, map, Some, Ok, string_bytes}
 use Rattle.std.specs.List.{AllByRecursion}
 use Rattle.pua_calls.specs.declared.call.Call.{Call}
+use Rattle.pua_calls.specs.declared.rules.Rules.{Rules}
 use Rattle.pua_script.specs.Requests.{Asked}
 use Rattle.pua_script.specs.Replay.{World, answers_to, world_after}
-use Rattle.pua_script.specs.Scripts.{request_of}
+use Rattle.pua_script.specs.Scripts.{request_by}
 use Rattle.pua_script.specs.Family.{is_exec}
 use Rattle.pua_script.specs.Worlds.{WorldState, StandsForWorld}
 use Rattle.pua_script.specs.declared.answer.Answer.TheVariants.{Okay}
@@ -12,9 +13,9 @@ use Rattle.pua_how.specs.Ways.{Reaches, IsWay, call_of}
 use Rattle.pua_how.specs.declared.line.WayLine.{WayLine}
 use Rattle.pua_how.specs.declared.target.Target.{Target}
 
--- the text is a line of a script, of this process
-pub record IsLine (process : ℕ) (line : WayLine) : Type 0 where
-  pub read : request_of 1 (string_bytes line.text) ≡ Ok line.request
+-- the text is a line of a script that is read by rules, of this process
+pub record IsLine (rules : Rules) (process : ℕ) (line : WayLine) : Type 0 where
+  pub read : request_by rules 1 (string_bytes line.text) ≡ Ok line.request
   pub own : line.request.process ≡ process
 
 -- the requests of lines
@@ -22,8 +23,8 @@ abbrev pub asks_of : List WayLine → List Asked
 asks_of lines = map (λ line. line.request) lines
 
 -- these lines of a process were served, each was answered `ok`, and none is an exec
-pub record AreGranted (before : WorldState) (process : ℕ) (lines : List WayLine) (after : WorldState) : Type 0 where
-  pub are : AllByRecursion (IsLine process) lines
+pub record AreGranted (rules : Rules) (before : WorldState) (process : ℕ) (lines : List WayLine) (after : WorldState) : Type 0 where
+  pub are : AllByRecursion (IsLine rules process) lines
   pub quiet : AllByRecursion (λ line. is_exec line.request.action ≡ false) lines
   pub told : (w : World) → StandsForWorld before w → AllByRecursion (λ answer. answer ≡ Okay) (answers_to before.table w (asks_of lines))
   pub left : (w : World) → StandsForWorld before w → StandsForWorld after (world_after before.table w (asks_of lines))
@@ -36,6 +37,6 @@ pub record IsCall (before : WorldState) (process : ℕ) (call : Call) (target : 
   pub reaches : (w : World) → StandsForWorld before w → Reaches w process call target text
 
 -- lines that are a way in each world for which this one stands
-pub record AreWay (before : WorldState) (process : ℕ) (call : Call) (target : Target) (lines : List WayLine) : Type 0 where
-  pub are : AllByRecursion (IsLine process) lines
+pub record AreWay (rules : Rules) (before : WorldState) (process : ℕ) (call : Call) (target : Target) (lines : List WayLine) : Type 0 where
+  pub are : AllByRecursion (IsLine rules process) lines
   pub way : (w : World) → StandsForWorld before w → IsWay before.table w process call target (asks_of lines)

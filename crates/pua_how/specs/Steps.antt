@@ -7,11 +7,12 @@ use Rattle.pua_path.specs.declared.found.Found.{Found}
 use Rattle.pua_calls.specs.Calls.{CallTable, call_name, call_number}
 use Rattle.pua_calls.specs.declared.call.Call.{Call}
 use Rattle.pua_calls.specs.declared.call.Call.TheVariants as call
+use Rattle.pua_calls.specs.declared.rules.Rules.{Rules}
 use Rattle.pua_policy.specs.History.{History}
 use Rattle.pua_policy.specs.Verdict.{object_named}
 use Rattle.pua_script.specs.Requests.{Asked}
 use Rattle.pua_script.specs.Replay.{World, history_of, apply}
-use Rattle.pua_script.specs.Scripts.{request_of}
+use Rattle.pua_script.specs.Scripts.{request_by}
 use Rattle.pua_script.specs.Family.{is_exec, is_okay}
 use Rattle.pua_script.specs.declared.fault.ScriptFault.{ScriptFault}
 use Rattle.pua_script.specs.declared.request.Action.{Action}
@@ -51,13 +52,14 @@ action_text t made (step.Link old new) = (codes "link" ++ path_behind t made old
 abbrev pub step_text : Tree → ℕ → ℕ → Step → List ℕ
 step_text t process made step = (decimal process ++ codes " ") ++ action_text t made step
 
--- the request as which it is read; none where it is no line of the process: a path may be too long
+-- the request as which it is read by rules; none where it is no line of the process: a path may be too long, or the rules have no
+-- such call
 abbrev pub own_request : ℕ → Result Asked ScriptFault → Option Asked
 own_request process (Ok ask) = if ask.process == process then Some ask else None
 own_request process (Err fault) = None
 
-abbrev pub request_of_step : Tree → ℕ → ℕ → Step → Option Asked
-request_of_step t process made step = own_request process (request_of 1 (step_text t process made step))
+abbrev pub request_of_step : Rules → Tree → ℕ → ℕ → Step → Option Asked
+request_of_step rules t process made step = own_request process (request_by rules 1 (step_text t process made step))
 
 -- the directory that was made last, once a step was served
 abbrev pub made_behind : Tree → ℕ → Step → ℕ
@@ -92,14 +94,15 @@ module _ (table : CallTable) (process : ℕ) (call : Call) (target : Target) whe
       if is_exec ask.action then false
       else (is_okay (apply table w ask).0 && later (apply table w ask).1 (made_behind (apply table w ask).1.tree made step))
 
+module _ (rules : Rules) (table : CallTable) (process : ℕ) (call : Call) (target : Target) where
   -- these steps come to the call: each but the last is answered `ok` and is no exec, and the last is the call
   abbrev pub comes : List Step → World → ℕ → Bool
   comes [] w made = false
-  comes (step ∷ []) w made = is_some_by (is_end w) (request_of_step w.tree process made step)
+  comes (step ∷ []) w made = is_some_by (is_end table process call target w) (request_of_step rules w.tree process made step)
   comes (step ∷ next ∷ more) w made =
-      is_some_by (goes_on (comes (next ∷ more)) w made step) (request_of_step w.tree process made step)
+      is_some_by (goes_on table process call target (comes (next ∷ more)) w made step) (request_of_step rules w.tree process made step)
 
 -- a plan comes to the call on the thing at its place, if there is one
-abbrev pub plan_comes : CallTable → ℕ → Call → List Target → Plan → World → Bool
-plan_comes table process call things plan w =
-    is_some_by (λ target. comes table process call target plan.steps.items w 0) (slice_get things plan.place)
+abbrev pub plan_comes : Rules → CallTable → ℕ → Call → List Target → Plan → World → Bool
+plan_comes rules table process call things plan w =
+    is_some_by (λ target. comes rules table process call target plan.steps.items w 0) (slice_get things plan.place)

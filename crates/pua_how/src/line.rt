@@ -7,8 +7,8 @@ ghost use Rattle.pua_how.specs.Steps.{request_of_step, step_text, target_behind}
 ghost use Rattle.pua_calls.specs.Calls.{call_name};
 
 use crate::step::{At, Dir, Step};
-use pua_calls::Call;
-use pua_script::{Request, ScriptFault, read_request};
+use pua_calls::{Call, Rules};
+use pua_script::{Request, ScriptFault, read_request_by};
 use pua_tree::{FileTree, NodeId, OutOfMemory};
 use pua_why::TreePaths;
 use std::alloc::{AllocError, Global};
@@ -23,21 +23,22 @@ pub struct WayLine {
 }
 
 /// The line of a step of a process, by where directories stand in a tree, and by which one was made
-/// last; the root, if none was. None where the text is no line of that process: a path may be too long.
-/// The only error is that a growth was refused.
+/// last; the root, if none was. None where the text is no line of that process by these rules: a path
+/// may be too long, or the rules have no such call. The only error is that a growth was refused.
 pub(crate) fn line_of<T: FileTree>(
     alloc: Global,
+    rules: Rules,
     tree: &T,
     process: u32,
     step: &Step,
     made: NodeId,
 ) -> Result<Option<WayLine>, OutOfMemory>
-    ensures own { IfOk result (λ read. IfSome read (IsLine process)) }
+    ensures own { IfOk result (λ read. IfSome read (IsLine rules process)) }
     ensures asked { IfOk result (λ read. option_map (λ line. line.request) read
-        ≡ request_of_step (T.content tree.now) process made step.now) }
+        ≡ request_of_step rules (T.content tree.now) process made step.now) }
 {
     let text = text_of(alloc, tree, process, step, made)?;
-    match read_request(alloc, 1, text.as_bytes()) {
+    match read_request_by(alloc, rules, 1, text.as_bytes()) {
         Ok(request) if request.process() == process => Ok(Some(WayLine { text, request })),
         Err(ScriptFault::OutOfMemory) => Err(OutOfMemory),
         _ => Ok(None),

@@ -165,7 +165,7 @@ fn can_come(passes: Calls, asked: &Target) -> bool
     ensures { result ≡ comes_by (has passes) asked.now }
 {
     match made_as(asked) {
-        Some(made) => passes.contains(made.maker()),
+        Some(made) => made.is_made_by(passes),
         None => true,
     }
 }

@@ -91,7 +91,11 @@ fn lay(
         Target::Name(dir, name) => lay_name(ground, items, *dir, name, shortest),
         Target::NewDirectory(_) => lay_made_dir(ground, End::Itself, shortest),
         Target::NewOthers(_) => lay_made_dir(ground, End::Further, shortest),
-        Target::NewFile(_) => lay_made(ground, Call::Create, shortest),
+        Target::NewFile(_) => {
+            lay_made(ground, Call::Create, shortest)?;
+            lay_made(ground, Call::Bind, shortest)?;
+            lay_made(ground, Call::Mknod, shortest)
+        }
         Target::NewLink(_) => lay_made(ground, Call::Symlink, shortest),
     }
 }

@@ -15,8 +15,8 @@ ghost use Rattle.pua_script.specs.Worlds.{IsServed, StandsForWorld, WorldState};
 use crate::line::{WayLine, line_of, made_by};
 use crate::step::Step;
 use crate::target::Target;
-use pua_calls::Call;
 use pua_calls::needs::ending;
+use pua_calls::{Call, Rules};
 use pua_path::{Counted, Ending, Errno, Found, Last, PathText, resolve};
 use pua_script::{Action, Answer, PathBytes, Request, World, WorldFault};
 use pua_tree::{FileTree, NodeId, OutOfMemory};
@@ -32,11 +32,13 @@ struct Served {
 /// Serves the steps of a plan for the process of a number: a way to a call on what is asked about, if
 /// each of them is answered `ok`, none but the last is an exec, and the last is that call, on a path that
 /// names what is asked about when it is served. None exactly where this is not so: where a step has no
-/// line, say, since its path would be too long, and where there are no steps. After None, and after the
-/// error that a growth was refused, the world has served some of the steps or none.
-/// What is answered `ok` is this profile's, as a script's lines are (`World::apply`).
+/// line, say, since its path would be too long or the rules have no such call, and where there are no
+/// steps. After None, and after the error that a growth was refused, the world has served some of the
+/// steps or none. Its lines are read by these rules. What is answered `ok` is this profile's, as a
+/// script's lines are (`World::apply`).
 pub fn serve_way<T: FileTree>(
     alloc: Global,
+    rules: Rules,
     world: &mut World<T>,
     process: u32,
     call: Call,
@@ -44,15 +46,15 @@ pub fn serve_way<T: FileTree>(
     steps: &[Step],
 ) -> Result<Option<Vec<WayLine>>, OutOfMemory>
     ensures way { IfOk result (λ served. IfSome served
-        (λ lines. AreWay world.old process call target.now lines.items)) }
+        (λ lines. AreWay rules world.old process call target.now lines.items)) }
     ensures found { IfOk result (λ served. (w : Replayed) → StandsForWorld world.old w →
-        is_some served ≡ comes world.old.table process call target.now steps.now w 0) }
+        is_some served ≡ comes rules world.old.table process call target.now steps.now w 0) }
 {
     let Some((last, first)) = steps.split_last() else {
         return Ok(None);
     };
-    match serve_first(alloc, world, process, first)? {
-        Some(served) => serve_last(alloc, world, process, call, target, last, served),
+    match serve_first(alloc, rules, world, process, first)? {
+        Some(served) => serve_last(alloc, rules, world, process, call, target, last, served),
         None => Ok(None),
     }
 }
@@ -60,6 +62,7 @@ pub fn serve_way<T: FileTree>(
 /// Serves the last step, behind those that were served.
 fn serve_last<T: FileTree>(
     alloc: Global,
+    rules: Rules,
     world: &mut World<T>,
     process: u32,
     call: Call,
@@ -67,13 +70,15 @@ fn serve_last<T: FileTree>(
     step: &Step,
     served: Served,
 ) -> Result<Option<Vec<WayLine>>, OutOfMemory>
-    ensures way { (before : WorldState) → AreGranted before process served.lines.items world.old →
+    ensures way { (before : WorldState) →
+        AreGranted rules before process served.lines.items world.old →
         IfOk result (λ found. IfSome found
-        (λ lines. AreWay before process call target.now lines.items)) }
+        (λ lines. AreWay rules before process call target.now lines.items)) }
     ensures found { IfOk result (λ found. (w : Replayed) → StandsForWorld world.old w →
-        is_some found ≡ comes world.old.table process call target.now (step.now ∷ []) w served.made) }
+        is_some found
+        ≡ comes rules world.old.table process call target.now (step.now ∷ []) w served.made) }
 {
-    let line = line_of(alloc, world.tree(), process, step, served.made)?;
+    let line = line_of(alloc, rules, world.tree(), process, step, served.made)?;
     let Some(line) = line else {
         return Ok(None);
     };
@@ -91,22 +96,23 @@ fn serve_last<T: FileTree>(
 /// Serves the steps before the last one.
 fn serve_first<T: FileTree>(
     alloc: Global,
+    rules: Rules,
     world: &mut World<T>,
     process: u32,
     steps: &[Step],
 ) -> Result<Option<Served>, OutOfMemory>
     ensures granted { IfOk result (λ served. IfSome served
-        (λ served. AreGranted world.old process served.lines.items world.new)) }
+        (λ served. AreGranted rules world.old process served.lines.items world.new)) }
     ensures on { IfOk result (λ served. (w : Replayed) → StandsForWorld world.old w →
         (call : AnyCall) (target : Thing) (last : AnyStep) →
-        comes world.old.table process call target (steps.now ++ last ∷ []) w 0
-        ≡ is_some_by (λ s. comes world.old.table process call target (last ∷ [])
+        comes rules world.old.table process call target (steps.now ++ last ∷ []) w 0
+        ≡ is_some_by (λ s. comes rules world.old.table process call target (last ∷ [])
         (world_after world.old.table w (asks_of s.lines.items)) s.made) served) }
 {
     let mut lines = Vec::new(alloc);
     let mut made = NodeId::ROOT;
     for step in steps {
-        let line = line_of(alloc, world.tree(), process, step, made)?;
+        let line = line_of(alloc, rules, world.tree(), process, step, made)?;
         let Some(line) = line else {
             return Ok(None);
         };

@@ -14,7 +14,7 @@ use crate::plan::plan_for;
 use crate::serve::serve_way;
 use crate::step::Step;
 use crate::target::Target;
-use pua_calls::{Call, CallTable};
+use pua_calls::{Call, CallTable, Rules};
 use pua_policy::Process;
 use pua_script::World;
 use pua_tree::{FileTree, OutOfMemory};
@@ -95,11 +95,13 @@ impl Plan {
 
     /// Serves the plan for a process in a world: a way to the call on something that is meant, if each
     /// step is answered `ok`, none but the last is an exec, and the last is that call, on a path that
-    /// names this thing when it is served. None exactly where this is not so, and the world then has
-    /// served some of the steps. The only error is that a growth was refused.
+    /// names this thing when it is served. Its lines are read by these rules. None exactly where this is
+    /// not so, and the world then has served some of the steps. The only error is that a growth was
+    /// refused.
     pub fn serve<T: FileTree>(
         &self,
         alloc: Global,
+        rules: Rules,
         world: &mut World<T>,
         process: u32,
         call: Call,
@@ -107,14 +109,15 @@ impl Plan {
     ) -> Result<Option<Vec<WayLine>>, OutOfMemory>
         ensures way { IfOk result (λ served. IfSome served (λ lines. (thing : Thing)
             × Contains meant.now.targets.items thing
-            × AreWay world.old process call thing lines.items)) }
+            × AreWay rules world.old process call thing lines.items)) }
         ensures found { IfOk result (λ served. (w : Replayed) → StandsForWorld world.old w →
-            is_some served ≡ plan_comes world.old.table process call meant.now.targets.items
-            self.now w) }
+            is_some served ≡ plan_comes rules world.old.table process call
+            meant.now.targets.items self.now w) }
     {
         let Some(target) = meant.targets.get(self.place) else {
             return Ok(None);
         };
-        serve_way(alloc, world, process, call, target, self.steps.as_slice())
+        let steps = self.steps.as_slice();
+        serve_way(alloc, rules, world, process, call, target, steps)
     }
 }

@@ -2,7 +2,7 @@
 use Rattle.std.specs.Prelude.{ℕ, List, codes}
 use Rattle.pua_path.specs.declared.errno.Errno.{Errno}
 use Rattle.pua_path.specs.declared.errno.Errno.TheVariants.{EPERM, ENOENT, E2BIG, EACCES, EAGAIN, EBUSY, EEXIST, ENOTDIR, EISDIR, EINVAL}
-use Rattle.pua_path.specs.declared.errno.Errno.TheVariants.{ENOSPC, ELOOP, ENAMETOOLONG, ENOTEMPTY, ENOSYS}
+use Rattle.pua_path.specs.declared.errno.Errno.TheVariants.{ENOSPC, ELOOP, ENAMETOOLONG, ENOTEMPTY, ENOSYS, ENOTSOCK, EADDRINUSE}
 
 abbrev pub errno_name : Errno → List ℕ
 errno_name EPERM = codes "EPERM"
@@ -20,3 +20,5 @@ errno_name ELOOP = codes "ELOOP"
 errno_name ENAMETOOLONG = codes "ENAMETOOLONG"
 errno_name ENOTEMPTY = codes "ENOTEMPTY"
 errno_name ENOSYS = codes "ENOSYS"
+errno_name ENOTSOCK = codes "ENOTSOCK"
+errno_name EADDRINUSE = codes "EADDRINUSE"

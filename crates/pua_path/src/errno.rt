@@ -20,6 +20,8 @@ pub enum Errno {
     ENAMETOOLONG,
     ENOTEMPTY,
     ENOSYS,
+    ENOTSOCK,
+    EADDRINUSE,
 }
 
 impl fmt::Display for Errno {
@@ -45,6 +47,8 @@ impl fmt::Display for Errno {
             Errno::ENAMETOOLONG => "ENAMETOOLONG",
             Errno::ENOTEMPTY => "ENOTEMPTY",
             Errno::ENOSYS => "ENOSYS",
+            Errno::ENOTSOCK => "ENOTSOCK",
+            Errno::EADDRINUSE => "EADDRINUSE",
         })
     }
 }

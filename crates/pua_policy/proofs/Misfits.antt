@@ -7,7 +7,7 @@ use Rattle.pua_calls.specs.declared.call.Call.TheVariants as call
 use Rattle.pua_policy.specs.Misfits.{Object, IsDir, IsFile, IsProg, IsLink, IsMissing, misfit}
 use Rattle.pua_policy.specs.declared.reason.Misfit.{Misfit}
 use Rattle.pua_policy.specs.declared.reason.Misfit.TheVariants.{Missing, Exists, IsDirectory, IsNoFile, IsNoDirectory, IsNoLink}
-use Rattle.pua_policy.specs.declared.reason.Misfit.TheVariants.{IsNoProgram, IsNotEmpty}
+use Rattle.pua_policy.specs.declared.reason.Misfit.TheVariants.{IsNoProgram, IsNotEmpty, IsNoSocket, InUse}
 use Rattle.pua_policy.specs.ReasonLaws.{MisfitHolds, MisfitsHold}
 
 module _ (t : Tree) where
@@ -16,16 +16,20 @@ module _ (t : Tree) where
   by_kind IsMissing Missing = Some refl
   by_kind IsMissing _ = None
   by_kind _ Exists = Some tt
+  by_kind _ InUse = Some tt
   by_kind (IsDir dir way) IsDirectory = Some tt
   by_kind (IsDir dir way) IsNoFile = Some tt
   by_kind (IsDir dir way) IsNoLink = Some (tt, λ e. cc)
   by_kind (IsDir dir way) IsNoProgram = Some (tt, λ e. cc)
+  by_kind (IsDir dir way) IsNoSocket = Some (tt, λ e. cc)
   by_kind (IsDir dir way) _ = None
   by_kind _ IsNoDirectory = Some (tt, λ x. x)
   by_kind IsFile IsNoLink = Some (tt, λ e. cc)
   by_kind IsProg IsNoLink = Some (tt, λ e. cc)
   by_kind IsFile IsNoProgram = Some (tt, λ e. cc)
   by_kind IsLink IsNoProgram = Some (tt, λ e. cc)
+  by_kind IsProg IsNoSocket = Some (tt, λ e. cc)
+  by_kind IsLink IsNoSocket = Some (tt, λ e. cc)
   by_kind _ _ = None
 
   abbrev is_by_kind : Object → Option Misfit → Bool

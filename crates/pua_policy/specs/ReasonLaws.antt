@@ -7,7 +7,7 @@ use Rattle.pua_path.specs.declared.found.Found.{Found}
 use Rattle.pua_calls.specs.Promises.{holds, lacking}
 use Rattle.pua_policy.specs.History.{History, Unveiled, held_set, is_ended, perms_kept, may_any}
 use Rattle.pua_policy.specs.Laws.{places_over}
-use Rattle.pua_policy.specs.Misfits.{Object, IsDir, IsProg, IsLink, IsMissing, misfit}
+use Rattle.pua_policy.specs.Misfits.{Object, IsDir, IsFile, IsProg, IsLink, IsMissing, misfit}
 use Rattle.pua_policy.specs.Verdict.{cover, cover_fault, is_unveil}
 use Rattle.pua_policy.specs.Reasons.{Promising, Holds, HasEnded, Lacks, promising, may_of, covering, cover_of}
 use Rattle.pua_calls.specs.declared.call.Call.{Call}
@@ -16,7 +16,7 @@ use Rattle.pua_policy.specs.declared.reason.Covering.{Covering}
 use Rattle.pua_policy.specs.declared.reason.Covering.TheVariants.{InView, NoneOver, By}
 use Rattle.pua_policy.specs.declared.reason.Misfit.{Misfit}
 use Rattle.pua_policy.specs.declared.reason.Misfit.TheVariants.{Missing, Exists, IsDirectory, IsNoFile, IsNoDirectory, IsNoLink}
-use Rattle.pua_policy.specs.declared.reason.Misfit.TheVariants.{IsNoProgram, IsNotEmpty, ByDot, ByDotDot, ByNothing}
+use Rattle.pua_policy.specs.declared.reason.Misfit.TheVariants.{IsNoProgram, IsNotEmpty, ByDot, ByDotDot, ByNothing, IsNoSocket, InUse}
 
 -- what is told of promises is so: the set is one of those asked for, and held; or of each set some is not held, and with just that it were
 pub record LacksSome (h : History) (set some : ℕ) : Type 0 where
@@ -95,6 +95,8 @@ MisfitHolds t object IsNotEmpty = (dir parent : ℕ) × (name : List ℕ) × (ob
 MisfitHolds t object ByDot = (dir : ℕ) × (object ≡ IsDir dir way.Dot)
 MisfitHolds t object ByDotDot = (dir : ℕ) × (object ≡ IsDir dir way.DotDot)
 MisfitHolds t object ByNothing = (dir : ℕ) × (object ≡ IsDir dir way.Top)
+MisfitHolds t object IsNoSocket = IsNoMissing object × (object ≢ IsFile)
+MisfitHolds t object InUse = IsNoMissing object
 
 abbrev pub MisfitsHold : Type 0
 MisfitsHold = (t : Tree) (call : Call) (object : Object) → IfSome (misfit t call object) (MisfitHolds t object)

@@ -292,12 +292,15 @@ fn directory_misfit(call: Call) -> Option<Misfit>
         result ≡ misfit t call (IsDir dir how) }
 {
     match call {
-        Call::Stat | Call::Lstat | Call::OpenRead | Call::Rmdir | Call::Chmod | Call::Chdir => None,
+        Call::Stat | Call::Lstat | Call::OpenRead | Call::Rmdir | Call::Chdir => None,
+        Call::Chmod | Call::Chown => None,
         Call::Readlink => Some(Misfit::IsNoLink),
         Call::OpenWrite | Call::OpenBoth | Call::Create => Some(Misfit::IsDirectory),
-        Call::Mkdir | Call::Symlink => Some(Misfit::Exists),
+        Call::Mkdir | Call::Symlink | Call::Mknod => Some(Misfit::Exists),
         Call::Unlink => Some(Misfit::IsNoFile),
         Call::Exec => Some(Misfit::IsNoProgram),
+        Call::Connect => Some(Misfit::IsNoSocket),
+        Call::Bind => Some(Misfit::InUse),
     }
 }
 
@@ -322,15 +325,17 @@ fn slot_misfit(call: Call, kind: Option<Kind>) -> Option<Misfit>
 {
     let Some(kind) = kind else {
         return match call {
-            Call::Create | Call::Mkdir | Call::Symlink => None,
+            Call::Create | Call::Mkdir | Call::Symlink | Call::Bind | Call::Mknod => None,
             _ => Some(Misfit::Missing),
         };
     };
     match call {
         Call::Readlink if kind != Kind::Link => Some(Misfit::IsNoLink),
-        Call::Mkdir | Call::Symlink => Some(Misfit::Exists),
+        Call::Mkdir | Call::Symlink | Call::Mknod => Some(Misfit::Exists),
         Call::Rmdir | Call::Chdir => Some(Misfit::IsNoDirectory),
         Call::Exec if kind != Kind::Prog => Some(Misfit::IsNoProgram),
+        Call::Connect if matches!(kind, Kind::Prog | Kind::Link) => Some(Misfit::IsNoSocket),
+        Call::Bind => Some(Misfit::InUse),
         _ => None,
     }
 }

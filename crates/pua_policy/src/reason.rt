@@ -58,6 +58,10 @@ pub enum Misfit {
     ByDotDot,
     /// It was named by no part.
     ByNothing,
+    /// It is no file, so it is no socket.
+    IsNoSocket,
+    /// Something has the name to which a socket is to be bound.
+    InUse,
 }
 
 impl Misfit {
@@ -75,6 +79,8 @@ impl Misfit {
             Misfit::IsNoProgram => Errno::EACCES,
             Misfit::IsNotEmpty => Errno::ENOTEMPTY,
             Misfit::ByNothing => Errno::EBUSY,
+            Misfit::IsNoSocket => Errno::ENOTSOCK,
+            Misfit::InUse => Errno::EADDRINUSE,
         }
     }
 }

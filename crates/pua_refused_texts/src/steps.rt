@@ -4,6 +4,7 @@ ghost use Rattle.std.specs.Prelude.{◌<◌, ◌≤◌, ◌*◌, ◌^◌, length
 ghost use Rattle.pua_steps.specs.Ready.{IsReady};
 ghost use Rattle.pua_steps.specs.Table.{IsState, IsTable};
 
+use pua_calls::Call;
 use pua_steps::{CallSet, Row, State, Steps, Tables, Walk};
 use std::alloc::Global;
 
@@ -17,10 +18,10 @@ fn first_call_stays_in_its_set() {
     }
 }
 
-/// The bit at 13 is that of a call.
+/// The last bit is that of a call.
 #[tactic(auto, using(crate::proofs::Walks::last_call))]
 fn last_call_is_no_call() {
-    if CallSet::of(1 << 13).take_first().is_none() {
+    if CallSet::of(1 << (Call::COUNT - 1)).take_first().is_none() {
         unreachable!()
     }
 }

@@ -55,7 +55,7 @@ pub use Rattle.pua_script.specs.Limits.{most_processes}
 pub use Rattle.pua_script.specs.Replay.{answer_and_world, answer_to, apply, change_effect, come_of, Copies, edit_effect, edited_tree}
 pub use Rattle.pua_script.specs.Replay.{Effect, effect, Fails, history_of, Kills, Leaves, left_by, World, world_after}
 pub use Rattle.pua_script.specs.Requests.{Asked}
-pub use Rattle.pua_script.specs.Scripts.{request_of, request_of_fields}
+pub use Rattle.pua_script.specs.Scripts.{request_by, request_of_fields}
 pub use Rattle.pua_script.specs.Worlds.{process_at, StandsForWorld, tree_left, WorldState}
 pub use Rattle.pua_script.specs.declared.answer.Answer.{Answer}
 pub use Rattle.pua_script.specs.declared.answer.Answer.TheVariants.{Gone, Okay}

@@ -1,15 +1,16 @@
 -- What a list of requests of a family leaves of the tree.
-use Rattle.pua_script.proofs.Common.{◌≡◌, ℕ, List, [], ◌∷◌, Bool, true, false, refl, sym, ap, ◌∙◌, lit<, filter, false≢true, and_parts}
+use Rattle.pua_script.proofs.Common.{◌≡◌, ℕ, List, [], ◌∷◌, Bool, true, false, refl, sym, ap, ◌∙◌, ◌||◌, filter, list_any, AllByRecursion, false≢true, and_parts}
 use Rattle.pua_script.proofs.Common.{not-true, Tree, WellFormed, holds, CallTable, History, held_set, is_unveil, Asked, World, apply}
 use Rattle.pua_script.proofs.Common.{world_after, is_member, is_exec, is_done, UncoveredStay, object_in, has_c}
 use Rattle.std.specs.Prelude.{not}
-use Rattle.pua_calls.specs.Promises.{cpath}
+use Rattle.std.proofs.lemmas.Bool.{or_parts}
+use Rattle.pua_calls.specs.Tables.{NamesNoError}
 use Rattle.pua_script.specs.Family.{none_done, members_alone, family_then}
-use Rattle.pua_script.specs.Confinement.{TakingNeedsC, ChangingNeedsCpath, TreesAlong, FamiliesConfine}
+use Rattle.pua_script.specs.Confinement.{TakingNeedsC, ChangingNeeds, TreesAlong, FamiliesConfine}
 use Rattle.pua_script.proofs.Allowing.{IsWithin, same_cover}
 use Rattle.pua_script.proofs.Families.{Members, members_then, begins}
 use Rattle.pua_script.proofs.Confining.{each_spares, spared_twice}
-use Rattle.pua_script.proofs.Unchanged.{cpath_changes}
+use Rattle.pua_script.proofs.Unchanged.{promises_change}
 
 stay_self : (h : History) (t : Tree) → UncoveredStay h t t
 stay_self h t s x here lacks = record { row = here; node = refl; covered = refl }
@@ -45,24 +46,37 @@ module _ (table : CallTable) (now : History) where
       (spares_along needs asks after (family_then table w ask members)
       (members_then table now w ask members false are (not-true (is_done is_exec table w ask members) parts.0)) parts.1 asked.1 trees.1)
 
-  lacking : (h : History) → IsWithin now h → holds (held_set now) cpath ≡ false → holds (held_set h) cpath ≡ false
-  lacking h within lacks = by (holds (held_set h) cpath) refl
-    where
-      by : (b : Bool) → holds (held_set h) cpath ≡ b → holds (held_set h) cpath ≡ false
-      by false e = e
-      by true e = absurd (false≢true (sym lacks ∙ within.tightens.promises cpath (lit< tt, refl) e))
+  module _ (promises : List ℕ) (others : AllByRecursion NamesNoError promises) where
+    -- who holds less holds none of them either
+    lacking : (h : History) → IsWithin now h → list_any (holds (held_set now)) promises ≡ false →
+        list_any (holds (held_set h)) promises ≡ false
+    lacking h within = among promises others
+      where
+        none : (p : ℕ) → NamesNoError p → holds (held_set now) p ≡ false → holds (held_set h) p ≡ false
+        none p other lacks = by (holds (held_set h) p) refl
+          where
+            by : (b : Bool) → holds (held_set h) p ≡ b → holds (held_set h) p ≡ false
+            by false e = e
+            by true e = absurd (false≢true (sym lacks ∙ within.tightens.promises p other e))
 
-  unchanged_along : ChangingNeedsCpath table → holds (held_set now) cpath ≡ false → (asks : List Asked) (w : World) (members : List ℕ) →
-      Members w members now false
+        among : (ps : List ℕ) → AllByRecursion NamesNoError ps → list_any (holds (held_set now)) ps ≡ false →
+            list_any (holds (held_set h)) ps ≡ false
+        among [] others lacks = refl
+        among (p ∷ ps) others lacks =
+            let parts = or_parts (holds (held_set now) p) (list_any (holds (held_set now)) ps) lacks in
+            ap (λ b. b || list_any (holds (held_set h)) ps) (none p others.0 parts.0) ∙ among ps others.1 parts.1
+
+  unchanged_along : (promises : List ℕ) → ChangingNeeds promises table → list_any (holds (held_set now)) promises ≡ false →
+      (asks : List Asked) (w : World) (members : List ℕ) → Members w members now false
       → none_done is_exec table w asks members ≡ true → members_alone table w asks members ≡ true → (world_after table w asks).tree ≡ w.tree
-  unchanged_along needs lacks [] w members are none alone = refl
-  unchanged_along needs lacks (ask ∷ asks) w members are none alone =
+  unchanged_along promises needs lacks [] w members are none alone = refl
+  unchanged_along promises needs lacks (ask ∷ asks) w members are none alone =
       let asked = and_parts (is_member members ask.process) _ alone in
       let parts = and_parts (not (is_done is_exec table w ask members)) _ none in
       let asker = are ask.process asked.0 in
-      unchanged_along needs lacks asks (apply table w ask).1 (family_then table w ask members)
+      unchanged_along promises needs lacks asks (apply table w ask).1 (family_then table w ask members)
       (members_then table now w ask members false are (not-true (is_done is_exec table w ask members) parts.0)) parts.1 asked.1
-      ∙ cpath_changes table needs w ask asker.0 asker.1 (lacking asker.0 asker.2.within lacks)
+      ∙ promises_change table promises needs w ask asker.0 asker.1 (lacking promises needs.no_error asker.0 asker.2.within lacks)
 
 pub at_all : (w : World) (members : List ℕ) (now : History) → Members w members now true → Members w members now false
 at_all w members now are m belongs = let one = are m belongs in
@@ -73,5 +87,5 @@ families_confine table w asks process now here confined none alone =
     let are = at_all w (process ∷ []) now (begins table now w process here confined) in
     record {
       spares = λ needs trees. spares_along table now needs asks w (process ∷ []) are none alone trees;
-      unchanged = λ needs lacks. unchanged_along table now needs lacks asks w (process ∷ []) are none alone;
+      unchanged = λ promises needs lacks. unchanged_along table now promises needs lacks asks w (process ∷ []) are none alone;
     }

@@ -8,11 +8,9 @@ use Rattle.pua_script.specs.Judged.{edit_by, is_edit}
 -- the change is one of the spot and of what stands there
 pub edits_by : (table : CallTable) (c : Call) (object : Found) → is_edit c ≡ true →
     edit_by c (spot_named object) (node_named object) ≡ change_by table c object
-edits_by table call.Create object is = refl
-edits_by table call.Mkdir object is = refl
-edits_by table call.Rmdir object is = refl
-edits_by table call.Unlink object is = refl
-edits_by table _ object is = absurd (false≢true is)
+edits_by table call.Chdir object is = absurd (false≢true is)
+edits_by table call.Exec object is = absurd (false≢true is)
+edits_by table _ object is = refl
 
 -- and none where no spot was named
 pub nowhere : (c : Call) (there : Option ℕ) → edit_by c None there ≡ NoChange

@@ -24,7 +24,7 @@ use Rattle.pua_policy.specs.Misfits.{misfit, misfit_errno}
 use Rattle.pua_policy.specs.Verdict.{Object}
 use Rattle.pua_policy.specs.declared.reason.Misfit.{Misfit}
 use Rattle.pua_policy.specs.declared.reason.Misfit.TheVariants.{Missing, Exists, IsDirectory, IsNoFile, IsNoDirectory, IsNoLink}
-use Rattle.pua_policy.specs.declared.reason.Misfit.TheVariants.{IsNoProgram, IsNotEmpty, ByDot, ByDotDot, ByNothing}
+use Rattle.pua_policy.specs.declared.reason.Misfit.TheVariants.{IsNoProgram, IsNotEmpty, ByDot, ByDotDot, ByNothing, IsNoSocket, InUse}
 use Rattle.pua_policy.specs.declared.answer.Cover.TheVariants as covers
 use Rattle.pua_policy.specs.declared.answer.UnveilFault.{UnveilFault}
 use Rattle.pua_policy.specs.declared.answer.UnveilFault.TheVariants as unveil_faults
@@ -174,6 +174,8 @@ misfit_apart (Some IsNotEmpty) = λ e. cc
 misfit_apart (Some ByDot) = λ e. cc
 misfit_apart (Some ByDotDot) = λ e. cc
 misfit_apart (Some ByNothing) = λ e. cc
+misfit_apart (Some IsNoSocket) = λ e. cc
+misfit_apart (Some InUse) = λ e. cc
 
 object_apart : (t : Tree) (c : Call) (o : Object) → Apart (object_fault t c o)
 object_apart t c o = misfit_apart (misfit t c o)

@@ -2,7 +2,7 @@
 use Rattle.pua_script.proofs.Common.{◌≡◌, ℕ, suc, ◌≤◌, ◌<◌, Bool, true, false, cond, List, [], ◌∷◌, length, take, refl, sym, ap, subst, ◌∙◌}
 use Rattle.pua_script.proofs.Common.{arith, lit<, IsTrue, option_map, nat_lt, list_all, lines, not-true, and_from, is_bytes}
 use Rattle.pua_script.proofs.Common.{is_in_bytes, ◌>>=◌, None≢Some, Errno, Call, Asked, Action, OnPath, Symlink, Rename, Link, Unveil, Fork}
-use Rattle.pua_script.proofs.Common.{request_of_fields, request_of}
+use Rattle.pua_script.proofs.Common.{request_of_fields, request_by}
 use Rattle.std.proofs.Common.{Option, Some, None, Result, Ok}
 use Rattle.std.proofs.Common.{Err, true≢false}
 use Rattle.std.specs.Prelude.{◌≢◌, codes, ok_or, not}
@@ -17,7 +17,8 @@ use Rattle.pua_tree.proofs.ForCallers.{same_Some, guarded, Err≢Ok, same_Ok, un
 use Rattle.pua_tree.proofs.ForCallers.{bytes_unspelled, decimal_within, number_read, mapped, only_if_read, first_passes, other_word}
 use Rattle.pua_tree.proofs.ForCallers.{same_word, ok_or_read, step_read}
 use Rattle.pua_calls.specs.Promises.{promises_of, perms_of}
-use Rattle.pua_calls.specs.Calls.{calls, call_name, call_named}
+use Rattle.pua_calls.specs.Calls.{calls, call_name, call_named_by, call_of_name, is_known, table_by_rules}
+use Rattle.pua_calls.specs.declared.rules.Rules.{Rules}
 use Rattle.pua_calls.specs.declared.call.Call.TheVariants as call
 use Rattle.pua_script.specs.Requests.{is_symlink, has_no_nul}
 use Rattle.pua_script.specs.declared.request.Given.{Given}
@@ -104,279 +105,289 @@ perms_told field _ (letters ne e) = ap (λ b. cond b (Some 0) (result_ok (perms_
 perms_told field _ (unknown_letter ne e) = ap (λ b. cond b (Some 0) (result_ok (perms_of field))) (other_word field (codes "=") ne) ∙
     ap result_ok e
 
--- the calls' names
-call_read : (word : List ℕ) (c : Call) → call_named word ≡ Some c → word ≡ call_name c
-call_read word c e = sym (same_word (call_name c) word (first_passes (λ d. same_bytes (call_name d) word) calls c e))
+module _ (rules : Rules) where
+  -- the calls' names
+  call_read : (word : List ℕ) (c : Call) → call_named_by rules word ≡ Some c → word ≡ call_name c
+  call_read word c e = sym (same_word (call_name c) word (first_passes (λ d. same_bytes (call_name d) word) calls c
+      (only_if_read (is_known (table_by_rules rules)) (call_of_name word) c e).0))
 
-form_of_call : (c : Call) (a : List ℕ) → is_symlink c ≡ false → form_of (call_name c) (a ∷ []) ≡ Some (PathForm c a)
-form_of_call call.Symlink a other = absurd (true≢false other)
-form_of_call _ a other = refl
+  as_known : (c : Call) (a : List ℕ) → is_symlink c ≡ false → call_named_by rules (call_name c) ≡ Some c →
+      option_map (λ d. PathForm d a) (only_if (λ d. not (is_symlink d)) (call_named_by rules (call_name c))) ≡ Some (PathForm c a)
+  as_known c a other there =
+      ap (λ o. option_map (λ d. PathForm d a) (only_if (λ d. not (is_symlink d)) o)) there
+      ∙ ap (λ b. option_map (λ d. PathForm d a) (cond (not b) (Some c) None)) other
 
--- what a form asks for
-module _ (n : ℕ) where
-  path_form : (word a : List ℕ) (c : Call) (action : Action) → is_symlink c ≡ false → word ≡ call_name c →
-      action_of n (PathForm c a) ≡ Ok action → SpellsAction (word ∷ a ∷ []) action
-  path_form word a c action other named e =
-      let path = step_read (ok_or (path_in a) (BadPath n)) (λ p. Ok (OnPath c p)) action e in
-      subst (SpellsAction (word ∷ a ∷ [])) (same_Ok (OnPath c path.0) action path.2)
-      (on_path other named (path_read a path.0 (ok_or_read (path_in a) (BadPath n) path.0 path.1)))
+  form_of_call : (c : Call) (a : List ℕ) → is_symlink c ≡ false → call_named_by rules (call_name c) ≡ Some c →
+      form_of rules (call_name c) (a ∷ []) ≡ Some (PathForm c a)
+  form_of_call call.Symlink a other there = absurd (true≢false other)
+  form_of_call c a other there = as_known c a other there
 
-  two_paths : (make : List ℕ → List ℕ → Action) (a b : List ℕ) (action : Action) → with_paths n make a b ≡ Ok action →
-      (x : List ℕ) × (y : List ℕ) × SpellsPath a x × SpellsPath b y × (make x y ≡ action)
-  two_paths make a b action e =
-      let first = step_read (ok_or (path_in a) (BadPath n)) (λ x. ok_or (path_in b) (BadPath n) >>= λ y. Ok (make x y)) action e in
-      let second = step_read (ok_or (path_in b) (BadPath n)) (λ y. Ok (make first.0 y)) action first.2 in (
-        first.0,
-        second.0,
-        path_read a first.0 (ok_or_read (path_in a) (BadPath n) first.0 first.1),
-        path_read b second.0 (ok_or_read (path_in b) (BadPath n) second.0 second.1),
-        same_Ok _ action second.2,
+  -- what a form asks for
+  module _ (n : ℕ) where
+    path_form : (word a : List ℕ) (c : Call) (action : Action) → is_symlink c ≡ false → call_named_by rules word ≡ Some c →
+        action_of n (PathForm c a) ≡ Ok action → SpellsAction rules (word ∷ a ∷ []) action
+    path_form word a c action other there e =
+        let path = step_read (ok_or (path_in a) (BadPath n)) (λ p. Ok (OnPath c p)) action e in
+        subst (SpellsAction rules (word ∷ a ∷ [])) (same_Ok (OnPath c path.0) action path.2)
+        (on_path other there (path_read a path.0 (ok_or_read (path_in a) (BadPath n) path.0 path.1)))
+
+    two_paths : (make : List ℕ → List ℕ → Action) (a b : List ℕ) (action : Action) → with_paths n make a b ≡ Ok action →
+        (x : List ℕ) × (y : List ℕ) × SpellsPath a x × SpellsPath b y × (make x y ≡ action)
+    two_paths make a b action e =
+        let first = step_read (ok_or (path_in a) (BadPath n)) (λ x. ok_or (path_in b) (BadPath n) >>= λ y. Ok (make x y)) action e in
+        let second = step_read (ok_or (path_in b) (BadPath n)) (λ y. Ok (make first.0 y)) action first.2 in (
+          first.0,
+          second.0,
+          path_read a first.0 (ok_or_read (path_in a) (BadPath n) first.0 first.1),
+          path_read b second.0 (ok_or_read (path_in b) (BadPath n) second.0 second.1),
+          same_Ok _ action second.2,
+        )
+
+    symlink_form : (word a b : List ℕ) (action : Action) → word ≡ codes "symlink" → action_of n (SymlinkForm a b) ≡ Ok action →
+        SpellsAction rules (word ∷ a ∷ b ∷ []) action
+    symlink_form word a b action named e = let both = two_paths Symlink a b action e in
+        subst (SpellsAction rules (word ∷ a ∷ b ∷ [])) both.4 (symlink named both.2 both.3)
+
+    rename_form : (word a b : List ℕ) (action : Action) → word ≡ codes "rename" → action_of n (RenameForm a b) ≡ Ok action →
+        SpellsAction rules (word ∷ a ∷ b ∷ []) action
+    rename_form word a b action named e = let both = two_paths Rename a b action e in
+        subst (SpellsAction rules (word ∷ a ∷ b ∷ [])) both.4 (rename named both.2 both.3)
+
+    link_form : (word a b : List ℕ) (action : Action) → word ≡ codes "link" → action_of n (LinkForm a b) ≡ Ok action →
+        SpellsAction rules (word ∷ a ∷ b ∷ []) action
+    link_form word a b action named e = let both = two_paths Link a b action e in
+        subst (SpellsAction rules (word ∷ a ∷ b ∷ [])) both.4 (link named both.2 both.3)
+
+    pledge_form : (word a b : List ℕ) (action : Action) → word ≡ codes "pledge" → action_of n (PledgeForm a b) ≡ Ok action →
+        SpellsAction rules (word ∷ a ∷ b ∷ []) action
+    pledge_form word a b action named e =
+        let first = step_read (ok_or (given_in a) (BadList n)) (λ p. ok_or (given_in b) (BadList n) >>= λ x. Ok (Pledge p x)) action e in
+        let second = step_read (ok_or (given_in b) (BadList n)) (λ x. Ok (Pledge first.0 x)) action first.2 in
+        subst (SpellsAction rules (word ∷ a ∷ b ∷ [])) (same_Ok (Pledge first.0 second.0) action second.2)
+        (pledge named (given_read a first.0 (ok_or_read (given_in a) (BadList n) first.0 first.1))
+        (given_read b second.0 (ok_or_read (given_in b) (BadList n) second.0 second.1)))
+
+    unveil_form : (word a b : List ℕ) (action : Action) → word ≡ codes "unveil" → action_of n (UnveilForm a b) ≡ Ok action →
+        SpellsAction rules (word ∷ a ∷ b ∷ []) action
+    unveil_form word a b action named = by (is_dash a) refl (is_dash b) refl
+      where
+        by : (s : Bool) → is_dash a ≡ s → (t : Bool) → is_dash b ≡ t
+            → cond s (cond t (Ok Lock) (Err (BadList n))) (ok_or (path_in a) (BadPath n) >>= λ text. cond t (Err (BadList n))
+            (Ok (Unveil text (perms_in b)))) ≡ Ok action → SpellsAction rules (word ∷ a ∷ b ∷ []) action
+        by true d true f e = subst (SpellsAction rules (word ∷ a ∷ b ∷ [])) (same_Ok Lock action e)
+            (lock named (same_word a (codes "-") d) (same_word b (codes "-") f))
+        by true d false f e = absurd (Err≢Ok (BadList n) action e)
+        by false d true f e = let path = step_read (ok_or (path_in a) (BadPath n)) (λ text. Err (BadList n)) action e in
+            absurd (Err≢Ok (BadList n) action path.2)
+        by false d false f e =
+            let path = step_read (ok_or (path_in a) (BadPath n)) (λ text. Ok (Unveil text (perms_in b))) action e in
+            subst (SpellsAction rules (word ∷ a ∷ b ∷ [])) (same_Ok (Unveil path.0 (perms_in b)) action path.2)
+            (unveil named (apart_from a (codes "-") d) (apart_from b (codes "-") f)
+            (path_read a path.0 (ok_or_read (path_in a) (BadPath n) path.0 path.1)) (perms_read b))
+
+    one_argument : (word a : List ℕ) (form : Form) (action : Action) → form_of rules word (a ∷ []) ≡ Some form → action_of n form ≡ Ok action →
+        SpellsAction rules (word ∷ a ∷ []) action
+    one_argument word a form action = by (same_bytes word (codes "fork")) refl
+      where
+        by : (s : Bool) → same_bytes word (codes "fork") ≡ s
+            → cond s (option_map ForkForm (number_within 1 999999 a))
+            (option_map (λ c. PathForm c a) (only_if (λ c. not (is_symlink c)) (call_named_by rules word))) ≡ Some form →
+            action_of n form ≡ Ok action → SpellsAction rules (word ∷ a ∷ []) action
+        by true w e is =
+            let number = mapped ForkForm (number_within 1 999999 a) form e in
+            let read = number_read 1 999999 a number.0 (lit< tt) number.1 in
+            subst (SpellsAction rules (word ∷ a ∷ [])) (same_Ok (Fork number.0) action (ap (action_of n) number.2 ∙ is))
+            (fork (same_word word (codes "fork") w) read.0 read.1 read.2)
+        by false w e is =
+            let named = mapped (λ c. PathForm c a) (only_if (λ c. not (is_symlink c)) (call_named_by rules word)) form e in
+            let read = only_if_read (λ c. not (is_symlink c)) (call_named_by rules word) named.0 named.1 in
+            path_form word a named.0 action (not-true (is_symlink named.0) read.1) read.0 (ap (action_of n) named.2 ∙
+            is)
+
+    two_arguments : (word a b : List ℕ) (form : Form) (action : Action) → form_of rules word (a ∷ b ∷ []) ≡ Some form →
+        action_of n form ≡ Ok action → SpellsAction rules (word ∷ a ∷ b ∷ []) action
+    two_arguments word a b form action =
+        by (same_bytes word (codes "symlink")) refl (same_bytes word (codes "rename")) refl (same_bytes word (codes "link")) refl
+        (same_bytes word (codes "pledge")) refl (same_bytes word (codes "unveil")) refl
+      where
+        by : (s : Bool) → same_bytes word (codes "symlink") ≡ s → (r : Bool) → same_bytes word (codes "rename") ≡ r → (l : Bool) →
+            same_bytes word (codes "link") ≡ l → (p : Bool) → same_bytes word (codes "pledge") ≡ p → (u : Bool) →
+            same_bytes word (codes "unveil") ≡ u
+            → cond s (Some (SymlinkForm a b))
+            (cond r (Some (RenameForm a b))
+            (cond l (Some (LinkForm a b)) (cond p (Some (PledgeForm a b)) (cond u (Some (UnveilForm a b)) None)))) ≡ Some form →
+            action_of n form ≡ Ok action → SpellsAction rules (word ∷ a ∷ b ∷ []) action
+        by true w r _ l _ p _ u _ e is =
+            symlink_form word a b action (same_word word (codes "symlink") w) (ap (action_of n) (same_Some (SymlinkForm a b) form e) ∙ is)
+        by false _ true w l _ p _ u _ e is =
+            rename_form word a b action (same_word word (codes "rename") w) (ap (action_of n) (same_Some (RenameForm a b) form e) ∙ is)
+        by false _ false _ true w p _ u _ e is =
+            link_form word a b action (same_word word (codes "link") w) (ap (action_of n) (same_Some (LinkForm a b) form e) ∙ is)
+        by false _ false _ false _ true w u _ e is =
+            pledge_form word a b action (same_word word (codes "pledge") w) (ap (action_of n) (same_Some (PledgeForm a b) form e) ∙ is)
+        by false _ false _ false _ false _ true w e is =
+            unveil_form word a b action (same_word word (codes "unveil") w) (ap (action_of n) (same_Some (UnveilForm a b) form e) ∙ is)
+        by false _ false _ false _ false _ false w e is = absurd (None≢Some form e)
+
+    pub action_read : (more : List (List ℕ)) (form : Form) (action : Action) → form_in rules more ≡ Some form → action_of n form ≡ Ok action →
+        SpellsAction rules more action
+    action_read [] form action e is = absurd (None≢Some form e)
+    action_read (word ∷ []) form action e is =
+        let both = guarded (same_bytes word (codes "exit")) ExitForm form e in
+        subst (SpellsAction rules (word ∷ [])) (same_Ok Exit action (ap (action_of n) both.1 ∙ is)) (exit (same_word word (codes "exit") both.0))
+    action_read (word ∷ a ∷ []) form action e is = one_argument word a form action e is
+    action_read (word ∷ a ∷ b ∷ []) form action e is = two_arguments word a b form action e is
+    action_read (word ∷ a ∷ b ∷ c ∷ more) form action e is = absurd (None≢Some form e)
+
+    -- the form that fields have, and what it asks for
+    abbrev Reads : List (List ℕ) → Action → Type 0
+    Reads more action = (form : Form) × (form_in rules more ≡ Some form) × (action_of n form ≡ Ok action)
+
+    paths_told : (make : List ℕ → List ℕ → Action) (a b x y : List ℕ) → SpellsPath a x → SpellsPath b y →
+        with_paths n make a b ≡ Ok (make x y)
+    paths_told make a b x y first second =
+        ap (λ o. ok_or o (BadPath n) >>= λ v. ok_or (path_in b) (BadPath n) >>= λ w. Ok (make v w)) (path_told a x first)
+        ∙ ap (λ o. ok_or o (BadPath n) >>= λ w. Ok (make x w)) (path_told b y second)
+
+    action_told : (more : List (List ℕ)) (action : Action) → SpellsAction rules more action → Reads more action
+    action_told _ _ (on_path {word = word} {a = a} {path = path} {call = c} other there spells) = (
+      PathForm c a,
+      ap (λ w. form_of rules w (a ∷ [])) (call_read word c there) ∙
+          form_of_call c a other (subst (λ w. call_named_by rules w ≡ Some c) (call_read word c there) there),
+      ap (λ o. ok_or o (BadPath n) >>= λ p. Ok (OnPath c p)) (path_told a path spells),
+    )
+    action_told _ _ (symlink {a = a} {b = b} {target = x} {path = y} named first second) =
+        (SymlinkForm a b, ap (λ w. form_of rules w (a ∷ b ∷ [])) named, paths_told Symlink a b x y first second)
+    action_told _ _ (rename {a = a} {b = b} {old = x} {new = y} named first second) =
+        (RenameForm a b, ap (λ w. form_of rules w (a ∷ b ∷ [])) named, paths_told Rename a b x y first second)
+    action_told _ _ (link {a = a} {b = b} {old = x} {new = y} named first second) =
+        (LinkForm a b, ap (λ w. form_of rules w (a ∷ b ∷ [])) named, paths_told Link a b x y first second)
+    action_told _ _ (pledge {a = a} {b = b} {promises = p} {execpromises = x} named first second) = (
+      PledgeForm a b,
+      ap (λ w. form_of rules w (a ∷ b ∷ [])) named,
+      ap (λ o. ok_or o (BadList n) >>= λ v. ok_or (given_in b) (BadList n) >>= λ w. Ok (Pledge v w)) (given_told a p first)
+          ∙ ap (λ o. ok_or o (BadList n) >>= λ w. Ok (Pledge p w)) (given_told b x second),
+    )
+    action_told _ _ (unveil {a = a} {b = b} {path = path} {perms = perms} named no_a no_b first second) = (
+      UnveilForm a b,
+      ap (λ w. form_of rules w (a ∷ b ∷ [])) named,
+      ap (λ s. cond s (cond (is_dash b) (Ok Lock) (Err (BadList n))) (ok_or (path_in a) (BadPath n) >>= λ text. cond (is_dash b)
+          (Err (BadList n)) (Ok (Unveil text (perms_in b))))) (other_word a (codes "-") no_a)
+          ∙ ap (λ o. ok_or o (BadPath n) >>= λ text. cond (is_dash b) (Err (BadList n)) (Ok (Unveil text (perms_in b))))
+          (path_told a path first)
+          ∙ ap (λ t. cond t (Err (BadList n)) (Ok (Unveil path (perms_in b)))) (other_word b (codes "-") no_b)
+          ∙ ap (λ v. Ok (Unveil path v)) (perms_told b perms second),
+    )
+    action_told _ _ (lock {a = a} {b = b} named first second) =
+        (UnveilForm a b, ap (λ w. form_of rules w (a ∷ b ∷ [])) named, (λ i. unveil_of n (first i) (second i)))
+    action_told _ _ (fork {a = a} {new = new} named first low high) = (
+      ForkForm new,
+      ap (λ w. form_of rules w (a ∷ [])) named ∙ ap (λ f. option_map ForkForm (number_within 1 999999 f)) first ∙
+          ap (option_map ForkForm) (decimal_within 1 999999 new low high (below new high)),
+      refl,
+    )
+      where
+        below : (new : ℕ) → new ≤ 999999 → new < 18446744073709551616
+        below new high = omega (arith, high)
+    action_told _ _ (exit named) = (ExitForm, ap (λ w. form_of rules w []) named, refl)
+
+  pub request_read : (n : ℕ) (line : List ℕ) (ask : Asked) → request_by rules n line ≡ Ok ask → SpellsRequest rules line ask
+  request_read n line ask = by (list_all is_field (fields line)) refl (fields line) refl
+    where
+      split : (process : List ℕ) (more : List (List ℕ)) → IsTrue (list_all is_field (fields line)) → fields line ≡ process ∷ more →
+          request_of_fields rules n (process ∷ more) ≡ Ok ask → SpellsRequest rules line ask
+      split process more visible are e =
+          let number = step_read (ok_or (number_within 1 999999 process) (BadLine n))
+          (λ m. action_in rules n more >>= λ action. Ok (record { process = m; action = action })) ask e in
+          let action = step_read (action_in rules n more) (λ action. Ok (record { process = number.0; action = action })) ask number.2 in
+          let form = step_read (ok_or (form_in rules more) (BadCall n)) (action_of n) action.0 action.1 in
+          let read = number_read 1 999999 process number.0 (lit< tt) (ok_or_read _ (BadLine n) number.0 number.1) in
+          subst (SpellsRequest rules line) (same_Ok (record { process = number.0; action = action.0 }) ask action.2) (record {
+            visible = visible;
+            more = more;
+            split = are ∙ ap (λ p. p ∷ more) read.0;
+            low = read.1;
+            high = read.2;
+            spells = action_read n more form.0 action.0 (ok_or_read _ (BadCall n) form.0 form.1) form.2;
+          })
+
+      by : (s : Bool) → list_all is_field (fields line) ≡ s → (fs : List (List ℕ)) → fields line ≡ fs →
+          cond s (request_of_fields rules n fs) (Err (BadLine n)) ≡ Ok ask → SpellsRequest rules line ask
+      by true visible [] are e = absurd (Err≢Ok (BadLine n) ask e)
+      by true visible (process ∷ more) are e = split process more visible are e
+      by false visible fs are e = absurd (Err≢Ok (BadLine n) ask e)
+
+  request_told : (n : ℕ) (line : List ℕ) (ask : Asked) → SpellsRequest rules line ask → request_by rules n line ≡ Ok ask
+  request_told n line ask spells =
+      let reads = action_told n spells.more ask.action spells.spells in
+      ap (λ s. cond s (request_of_fields rules n (fields line)) (Err (BadLine n))) spells.visible
+      ∙ ap (request_of_fields rules n) spells.split
+      ∙ ap (λ o. ok_or o (BadLine n) >>= λ m. action_in rules n spells.more >>= λ action. Ok (record { process = m; action = action }))
+      (decimal_within 1 999999 ask.process spells.low spells.high (omega (arith, spells.high)))
+      ∙ ap (λ o. (ok_or o (BadCall n) >>= action_of n) >>= λ action. Ok (record { process = ask.process; action = action })) reads.1
+      ∙ ap (λ r. r >>= λ action. Ok (record { process = ask.process; action = action })) reads.2
+
+  requests_read : (n : ℕ) (texts : List (List ℕ)) (asks : List Asked) → requests_of rules n texts ≡ Ok asks → SpellRequests rules texts asks
+  requests_read n [] [] e = tt
+  requests_read n [] (ask ∷ asks) e = cc
+  requests_read n (text ∷ texts) asks e =
+      let first = step_read (request_by rules n text) (λ request. requests_of rules (suc n) texts >>= λ requests. Ok (request ∷ requests)) asks e in
+      let rest = step_read (requests_of rules (suc n) texts) (λ requests. Ok (first.0 ∷ requests)) asks first.2 in
+      subst (SpellRequests rules (text ∷ texts)) (same_Ok (first.0 ∷ rest.0) asks rest.2) (
+        request_read n text first.0 first.1,
+        requests_read (suc n) texts rest.0 rest.1,
       )
 
-  symlink_form : (word a b : List ℕ) (action : Action) → word ≡ codes "symlink" → action_of n (SymlinkForm a b) ≡ Ok action →
-      SpellsAction (word ∷ a ∷ b ∷ []) action
-  symlink_form word a b action named e = let both = two_paths Symlink a b action e in
-      subst (SpellsAction (word ∷ a ∷ b ∷ [])) both.4 (symlink named both.2 both.3)
+  requests_told : (n : ℕ) (texts : List (List ℕ)) (asks : List Asked) → SpellRequests rules texts asks → requests_of rules n texts ≡ Ok asks
+  requests_told n [] [] spells = refl
+  requests_told n [] (ask ∷ asks) spells = absurd spells
+  requests_told n (text ∷ texts) [] spells = absurd spells
+  requests_told n (text ∷ texts) (ask ∷ asks) spells =
+      ap (λ r. r >>= λ request. requests_of rules (suc n) texts >>= λ requests. Ok (request ∷ requests)) (request_told n text ask spells.0)
+      ∙ ap (λ r. r >>= λ requests. Ok (ask ∷ requests)) (requests_told (suc n) texts asks spells.1)
 
-  rename_form : (word a b : List ℕ) (action : Action) → word ≡ codes "rename" → action_of n (RenameForm a b) ≡ Ok action →
-      SpellsAction (word ∷ a ∷ b ∷ []) action
-  rename_form word a b action named e = let both = two_paths Rename a b action e in
-      subst (SpellsAction (word ∷ a ∷ b ∷ [])) both.4 (rename named both.2 both.3)
+  -- a script with at most so many lines
+  abbrev within : ℕ → List (List ℕ) → Result (List Asked) ScriptFault
+  within limit texts = requests_of rules 1 (take limit texts) >>= λ requests. cond (nat_lt limit (length texts)) (Err TooMany) (Ok requests)
 
-  link_form : (word a b : List ℕ) (action : Action) → word ≡ codes "link" → action_of n (LinkForm a b) ≡ Ok action →
-      SpellsAction (word ∷ a ∷ b ∷ []) action
-  link_form word a b action named e = let both = two_paths Link a b action e in
-      subst (SpellsAction (word ∷ a ∷ b ∷ [])) both.4 (link named both.2 both.3)
-
-  pledge_form : (word a b : List ℕ) (action : Action) → word ≡ codes "pledge" → action_of n (PledgeForm a b) ≡ Ok action →
-      SpellsAction (word ∷ a ∷ b ∷ []) action
-  pledge_form word a b action named e =
-      let first = step_read (ok_or (given_in a) (BadList n)) (λ p. ok_or (given_in b) (BadList n) >>= λ x. Ok (Pledge p x)) action e in
-      let second = step_read (ok_or (given_in b) (BadList n)) (λ x. Ok (Pledge first.0 x)) action first.2 in
-      subst (SpellsAction (word ∷ a ∷ b ∷ [])) (same_Ok (Pledge first.0 second.0) action second.2)
-      (pledge named (given_read a first.0 (ok_or_read (given_in a) (BadList n) first.0 first.1))
-      (given_read b second.0 (ok_or_read (given_in b) (BadList n) second.0 second.1)))
-
-  unveil_form : (word a b : List ℕ) (action : Action) → word ≡ codes "unveil" → action_of n (UnveilForm a b) ≡ Ok action →
-      SpellsAction (word ∷ a ∷ b ∷ []) action
-  unveil_form word a b action named = by (is_dash a) refl (is_dash b) refl
+  within_read : (limit : ℕ) (texts : List (List ℕ)) (asks : List Asked) → within limit texts ≡ Ok asks →
+      (length texts ≤ limit) × SpellRequests rules texts asks
+  within_read limit texts asks e =
+      let requests = step_read (requests_of rules 1 (take limit texts)) (λ requests. cond (nat_lt limit (length texts)) (Err TooMany) (Ok requests))
+      asks e in
+      by (nat_lt limit (length texts)) refl requests.0 requests.1 requests.2
     where
-      by : (s : Bool) → is_dash a ≡ s → (t : Bool) → is_dash b ≡ t
-          → cond s (cond t (Ok Lock) (Err (BadList n))) (ok_or (path_in a) (BadPath n) >>= λ text. cond t (Err (BadList n))
-          (Ok (Unveil text (perms_in b)))) ≡ Ok action → SpellsAction (word ∷ a ∷ b ∷ []) action
-      by true d true f e = subst (SpellsAction (word ∷ a ∷ b ∷ [])) (same_Ok Lock action e)
-          (lock named (same_word a (codes "-") d) (same_word b (codes "-") f))
-      by true d false f e = absurd (Err≢Ok (BadList n) action e)
-      by false d true f e = let path = step_read (ok_or (path_in a) (BadPath n)) (λ text. Err (BadList n)) action e in
-          absurd (Err≢Ok (BadList n) action path.2)
-      by false d false f e =
-          let path = step_read (ok_or (path_in a) (BadPath n)) (λ text. Ok (Unveil text (perms_in b))) action e in
-          subst (SpellsAction (word ∷ a ∷ b ∷ [])) (same_Ok (Unveil path.0 (perms_in b)) action path.2)
-          (unveil named (apart_from a (codes "-") d) (apart_from b (codes "-") f)
-          (path_read a path.0 (ok_or_read (path_in a) (BadPath n) path.0 path.1)) (perms_read b))
+      by : (s : Bool) → nat_lt limit (length texts) ≡ s → (found : List Asked) → requests_of rules 1 (take limit texts) ≡ Ok found →
+          cond s (Err TooMany) (Ok found) ≡ Ok asks → (length texts ≤ limit) × SpellRequests rules texts asks
+      by true s found are is = absurd (Err≢Ok TooMany asks is)
+      by false s found are is =
+          let short = ltb-false limit (length texts) s in
+          (short, requests_read 1 texts asks (ap (requests_of rules 1) (sym (take_all limit texts short)) ∙ are ∙ is))
 
-  one_argument : (word a : List ℕ) (form : Form) (action : Action) → form_of word (a ∷ []) ≡ Some form → action_of n form ≡ Ok action →
-      SpellsAction (word ∷ a ∷ []) action
-  one_argument word a form action = by (same_bytes word (codes "fork")) refl
-    where
-      by : (s : Bool) → same_bytes word (codes "fork") ≡ s
-          → cond s (option_map ForkForm (number_within 1 999999 a))
-          (option_map (λ c. PathForm c a) (only_if (λ c. not (is_symlink c)) (call_named word))) ≡ Some form →
-          action_of n form ≡ Ok action → SpellsAction (word ∷ a ∷ []) action
-      by true w e is =
-          let number = mapped ForkForm (number_within 1 999999 a) form e in
-          let read = number_read 1 999999 a number.0 (lit< tt) number.1 in
-          subst (SpellsAction (word ∷ a ∷ [])) (same_Ok (Fork number.0) action (ap (action_of n) number.2 ∙ is))
-          (fork (same_word word (codes "fork") w) read.0 read.1 read.2)
-      by false w e is =
-          let named = mapped (λ c. PathForm c a) (only_if (λ c. not (is_symlink c)) (call_named word)) form e in
-          let read = only_if_read (λ c. not (is_symlink c)) (call_named word) named.0 named.1 in
-          path_form word a named.0 action (not-true (is_symlink named.0) read.1) (call_read word named.0 read.0) (ap (action_of n) named.2 ∙
-          is)
+  within_told : (limit : ℕ) (texts : List (List ℕ)) (asks : List Asked) → length texts ≤ limit → SpellRequests rules texts asks →
+      within limit texts ≡ Ok asks
+  within_told limit texts asks short spells =
+      ap (λ r. r >>= λ requests. cond (nat_lt limit (length texts)) (Err TooMany) (Ok requests))
+      (ap (requests_of rules 1) (take_all limit texts short) ∙ requests_told 1 texts asks spells)
+      ∙ ap (λ s. cond s (Err TooMany) (Ok asks)) (le-ltb limit (length texts) short)
 
-  two_arguments : (word a b : List ℕ) (form : Form) (action : Action) → form_of word (a ∷ b ∷ []) ≡ Some form →
-      action_of n form ≡ Ok action → SpellsAction (word ∷ a ∷ b ∷ []) action
-  two_arguments word a b form action =
-      by (same_bytes word (codes "symlink")) refl (same_bytes word (codes "rename")) refl (same_bytes word (codes "link")) refl
-      (same_bytes word (codes "pledge")) refl (same_bytes word (codes "unveil")) refl
-    where
-      by : (s : Bool) → same_bytes word (codes "symlink") ≡ s → (r : Bool) → same_bytes word (codes "rename") ≡ r → (l : Bool) →
-          same_bytes word (codes "link") ≡ l → (p : Bool) → same_bytes word (codes "pledge") ≡ p → (u : Bool) →
-          same_bytes word (codes "unveil") ≡ u
-          → cond s (Some (SymlinkForm a b))
-          (cond r (Some (RenameForm a b))
-          (cond l (Some (LinkForm a b)) (cond p (Some (PledgeForm a b)) (cond u (Some (UnveilForm a b)) None)))) ≡ Some form →
-          action_of n form ≡ Ok action → SpellsAction (word ∷ a ∷ b ∷ []) action
-      by true w r _ l _ p _ u _ e is =
-          symlink_form word a b action (same_word word (codes "symlink") w) (ap (action_of n) (same_Some (SymlinkForm a b) form e) ∙ is)
-      by false _ true w l _ p _ u _ e is =
-          rename_form word a b action (same_word word (codes "rename") w) (ap (action_of n) (same_Some (RenameForm a b) form e) ∙ is)
-      by false _ false _ true w p _ u _ e is =
-          link_form word a b action (same_word word (codes "link") w) (ap (action_of n) (same_Some (LinkForm a b) form e) ∙ is)
-      by false _ false _ false _ true w u _ e is =
-          pledge_form word a b action (same_word word (codes "pledge") w) (ap (action_of n) (same_Some (PledgeForm a b) form e) ∙ is)
-      by false _ false _ false _ false _ true w e is =
-          unveil_form word a b action (same_word word (codes "unveil") w) (ap (action_of n) (same_Some (UnveilForm a b) form e) ∙ is)
-      by false _ false _ false _ false _ false w e is = absurd (None≢Some form e)
-
-  pub action_read : (more : List (List ℕ)) (form : Form) (action : Action) → form_in more ≡ Some form → action_of n form ≡ Ok action →
-      SpellsAction more action
-  action_read [] form action e is = absurd (None≢Some form e)
-  action_read (word ∷ []) form action e is =
-      let both = guarded (same_bytes word (codes "exit")) ExitForm form e in
-      subst (SpellsAction (word ∷ [])) (same_Ok Exit action (ap (action_of n) both.1 ∙ is)) (exit (same_word word (codes "exit") both.0))
-  action_read (word ∷ a ∷ []) form action e is = one_argument word a form action e is
-  action_read (word ∷ a ∷ b ∷ []) form action e is = two_arguments word a b form action e is
-  action_read (word ∷ a ∷ b ∷ c ∷ more) form action e is = absurd (None≢Some form e)
-
-  -- the form that fields have, and what it asks for
-  abbrev Reads : List (List ℕ) → Action → Type 0
-  Reads more action = (form : Form) × (form_in more ≡ Some form) × (action_of n form ≡ Ok action)
-
-  paths_told : (make : List ℕ → List ℕ → Action) (a b x y : List ℕ) → SpellsPath a x → SpellsPath b y →
-      with_paths n make a b ≡ Ok (make x y)
-  paths_told make a b x y first second =
-      ap (λ o. ok_or o (BadPath n) >>= λ v. ok_or (path_in b) (BadPath n) >>= λ w. Ok (make v w)) (path_told a x first)
-      ∙ ap (λ o. ok_or o (BadPath n) >>= λ w. Ok (make x w)) (path_told b y second)
-
-  action_told : (more : List (List ℕ)) (action : Action) → SpellsAction more action → Reads more action
-  action_told _ _ (on_path {word = word} {a = a} {path = path} {call = c} other named spells) = (
-    PathForm c a,
-    ap (λ w. form_of w (a ∷ [])) named ∙ form_of_call c a other,
-    ap (λ o. ok_or o (BadPath n) >>= λ p. Ok (OnPath c p)) (path_told a path spells),
-  )
-  action_told _ _ (symlink {a = a} {b = b} {target = x} {path = y} named first second) =
-      (SymlinkForm a b, ap (λ w. form_of w (a ∷ b ∷ [])) named, paths_told Symlink a b x y first second)
-  action_told _ _ (rename {a = a} {b = b} {old = x} {new = y} named first second) =
-      (RenameForm a b, ap (λ w. form_of w (a ∷ b ∷ [])) named, paths_told Rename a b x y first second)
-  action_told _ _ (link {a = a} {b = b} {old = x} {new = y} named first second) =
-      (LinkForm a b, ap (λ w. form_of w (a ∷ b ∷ [])) named, paths_told Link a b x y first second)
-  action_told _ _ (pledge {a = a} {b = b} {promises = p} {execpromises = x} named first second) = (
-    PledgeForm a b,
-    ap (λ w. form_of w (a ∷ b ∷ [])) named,
-    ap (λ o. ok_or o (BadList n) >>= λ v. ok_or (given_in b) (BadList n) >>= λ w. Ok (Pledge v w)) (given_told a p first)
-        ∙ ap (λ o. ok_or o (BadList n) >>= λ w. Ok (Pledge p w)) (given_told b x second),
-  )
-  action_told _ _ (unveil {a = a} {b = b} {path = path} {perms = perms} named no_a no_b first second) = (
-    UnveilForm a b,
-    ap (λ w. form_of w (a ∷ b ∷ [])) named,
-    ap (λ s. cond s (cond (is_dash b) (Ok Lock) (Err (BadList n))) (ok_or (path_in a) (BadPath n) >>= λ text. cond (is_dash b)
-        (Err (BadList n)) (Ok (Unveil text (perms_in b))))) (other_word a (codes "-") no_a)
-        ∙ ap (λ o. ok_or o (BadPath n) >>= λ text. cond (is_dash b) (Err (BadList n)) (Ok (Unveil text (perms_in b))))
-        (path_told a path first)
-        ∙ ap (λ t. cond t (Err (BadList n)) (Ok (Unveil path (perms_in b)))) (other_word b (codes "-") no_b)
-        ∙ ap (λ v. Ok (Unveil path v)) (perms_told b perms second),
-  )
-  action_told _ _ (lock {a = a} {b = b} named first second) =
-      (UnveilForm a b, ap (λ w. form_of w (a ∷ b ∷ [])) named, (λ i. unveil_of n (first i) (second i)))
-  action_told _ _ (fork {a = a} {new = new} named first low high) = (
-    ForkForm new,
-    ap (λ w. form_of w (a ∷ [])) named ∙ ap (λ f. option_map ForkForm (number_within 1 999999 f)) first ∙
-        ap (option_map ForkForm) (decimal_within 1 999999 new low high (below new high)),
-    refl,
-  )
-    where
-      below : (new : ℕ) → new ≤ 999999 → new < 18446744073709551616
-      below new high = omega (arith, high)
-  action_told _ _ (exit named) = (ExitForm, ap (λ w. form_of w []) named, refl)
-
-pub request_read : (n : ℕ) (line : List ℕ) (ask : Asked) → request_of n line ≡ Ok ask → SpellsRequest line ask
-request_read n line ask = by (list_all is_field (fields line)) refl (fields line) refl
-  where
-    split : (process : List ℕ) (more : List (List ℕ)) → IsTrue (list_all is_field (fields line)) → fields line ≡ process ∷ more →
-        request_of_fields n (process ∷ more) ≡ Ok ask → SpellsRequest line ask
-    split process more visible are e =
-        let number = step_read (ok_or (number_within 1 999999 process) (BadLine n))
-        (λ m. action_in n more >>= λ action. Ok (record { process = m; action = action })) ask e in
-        let action = step_read (action_in n more) (λ action. Ok (record { process = number.0; action = action })) ask number.2 in
-        let form = step_read (ok_or (form_in more) (BadCall n)) (action_of n) action.0 action.1 in
-        let read = number_read 1 999999 process number.0 (lit< tt) (ok_or_read _ (BadLine n) number.0 number.1) in
-        subst (SpellsRequest line) (same_Ok (record { process = number.0; action = action.0 }) ask action.2) (record {
-          visible = visible;
-          more = more;
-          split = are ∙ ap (λ p. p ∷ more) read.0;
-          low = read.1;
-          high = read.2;
-          spells = action_read n more form.0 action.0 (ok_or_read _ (BadCall n) form.0 form.1) form.2;
-        })
-
-    by : (s : Bool) → list_all is_field (fields line) ≡ s → (fs : List (List ℕ)) → fields line ≡ fs →
-        cond s (request_of_fields n fs) (Err (BadLine n)) ≡ Ok ask → SpellsRequest line ask
-    by true visible [] are e = absurd (Err≢Ok (BadLine n) ask e)
-    by true visible (process ∷ more) are e = split process more visible are e
-    by false visible fs are e = absurd (Err≢Ok (BadLine n) ask e)
-
-request_told : (n : ℕ) (line : List ℕ) (ask : Asked) → SpellsRequest line ask → request_of n line ≡ Ok ask
-request_told n line ask spells =
-    let reads = action_told n spells.more ask.action spells.spells in
-    ap (λ s. cond s (request_of_fields n (fields line)) (Err (BadLine n))) spells.visible
-    ∙ ap (request_of_fields n) spells.split
-    ∙ ap (λ o. ok_or o (BadLine n) >>= λ m. action_in n spells.more >>= λ action. Ok (record { process = m; action = action }))
-    (decimal_within 1 999999 ask.process spells.low spells.high (omega (arith, spells.high)))
-    ∙ ap (λ o. (ok_or o (BadCall n) >>= action_of n) >>= λ action. Ok (record { process = ask.process; action = action })) reads.1
-    ∙ ap (λ r. r >>= λ action. Ok (record { process = ask.process; action = action })) reads.2
-
-requests_read : (n : ℕ) (texts : List (List ℕ)) (asks : List Asked) → requests_of n texts ≡ Ok asks → SpellRequests texts asks
-requests_read n [] [] e = tt
-requests_read n [] (ask ∷ asks) e = cc
-requests_read n (text ∷ texts) asks e =
-    let first = step_read (request_of n text) (λ request. requests_of (suc n) texts >>= λ requests. Ok (request ∷ requests)) asks e in
-    let rest = step_read (requests_of (suc n) texts) (λ requests. Ok (first.0 ∷ requests)) asks first.2 in
-    subst (SpellRequests (text ∷ texts)) (same_Ok (first.0 ∷ rest.0) asks rest.2) (
-      request_read n text first.0 first.1,
-      requests_read (suc n) texts rest.0 rest.1,
-    )
-
-requests_told : (n : ℕ) (texts : List (List ℕ)) (asks : List Asked) → SpellRequests texts asks → requests_of n texts ≡ Ok asks
-requests_told n [] [] spells = refl
-requests_told n [] (ask ∷ asks) spells = absurd spells
-requests_told n (text ∷ texts) [] spells = absurd spells
-requests_told n (text ∷ texts) (ask ∷ asks) spells =
-    ap (λ r. r >>= λ request. requests_of (suc n) texts >>= λ requests. Ok (request ∷ requests)) (request_told n text ask spells.0)
-    ∙ ap (λ r. r >>= λ requests. Ok (ask ∷ requests)) (requests_told (suc n) texts asks spells.1)
-
--- a script with at most so many lines
-abbrev within : ℕ → List (List ℕ) → Result (List Asked) ScriptFault
-within limit texts = requests_of 1 (take limit texts) >>= λ requests. cond (nat_lt limit (length texts)) (Err TooMany) (Ok requests)
-
-within_read : (limit : ℕ) (texts : List (List ℕ)) (asks : List Asked) → within limit texts ≡ Ok asks →
-    (length texts ≤ limit) × SpellRequests texts asks
-within_read limit texts asks e =
-    let requests = step_read (requests_of 1 (take limit texts)) (λ requests. cond (nat_lt limit (length texts)) (Err TooMany) (Ok requests))
-    asks e in
-    by (nat_lt limit (length texts)) refl requests.0 requests.1 requests.2
-  where
-    by : (s : Bool) → nat_lt limit (length texts) ≡ s → (found : List Asked) → requests_of 1 (take limit texts) ≡ Ok found →
-        cond s (Err TooMany) (Ok found) ≡ Ok asks → (length texts ≤ limit) × SpellRequests texts asks
-    by true s found are is = absurd (Err≢Ok TooMany asks is)
-    by false s found are is =
-        let short = ltb-false limit (length texts) s in
-        (short, requests_read 1 texts asks (ap (requests_of 1) (sym (take_all limit texts short)) ∙ are ∙ is))
-
-within_told : (limit : ℕ) (texts : List (List ℕ)) (asks : List Asked) → length texts ≤ limit → SpellRequests texts asks →
-    within limit texts ≡ Ok asks
-within_told limit texts asks short spells =
-    ap (λ r. r >>= λ requests. cond (nat_lt limit (length texts)) (Err TooMany) (Ok requests))
-    (ap (requests_of 1) (take_all limit texts short) ∙ requests_told 1 texts asks spells)
-    ∙ ap (λ s. cond s (Err TooMany) (Ok asks)) (le-ltb limit (length texts) short)
-
-pub scripts_are_read : ScriptsAreRead
-scripts_are_read bytes asks = (within_read 60000 (lines bytes) asks, λ is. within_told 60000 (lines bytes) asks is.0 is.1)
+  pub scripts_are_read : ScriptsAreRead rules
+  scripts_are_read bytes asks = (within_read 60000 (lines bytes) asks, λ is. within_told 60000 (lines bytes) asks is.0 is.1)
 
 -- what spells an action is bytes
 path_bytes : (field text : List ℕ) → SpellsPath field text → is_bytes text ≡ true
 path_bytes _ _ (empty is) = refl
 path_bytes _ _ (spelled other bytes no_nul is) = bytes
 
-pub action_bytes : (more : List (List ℕ)) (action : Action) → SpellsAction more action → is_in_bytes action ≡ true
-action_bytes _ _ (on_path {a = a} {path = path} other named spells) = path_bytes a path spells
-action_bytes _ _ (symlink {a = a} {b = b} {target = x} {path = y} named first second) =
+pub action_bytes : (rules : Rules) (more : List (List ℕ)) (action : Action) → SpellsAction rules more action → is_in_bytes action ≡ true
+action_bytes _ _ _ (on_path {a = a} {path = path} other there spells) = path_bytes a path spells
+action_bytes _ _ _ (symlink {a = a} {b = b} {target = x} {path = y} named first second) =
     and_from _ _ (path_bytes a x first) (path_bytes b y second)
-action_bytes _ _ (rename {a = a} {b = b} {old = x} {new = y} named first second) =
+action_bytes _ _ _ (rename {a = a} {b = b} {old = x} {new = y} named first second) =
     and_from _ _ (path_bytes a x first) (path_bytes b y second)
-action_bytes _ _ (link {a = a} {b = b} {old = x} {new = y} named first second) = and_from _ _ (path_bytes a x first) (path_bytes b y second)
-action_bytes _ _ (pledge named first second) = refl
-action_bytes _ _ (unveil {a = a} {path = path} named no_a no_b first second) = path_bytes a path first
-action_bytes _ _ (lock named first second) = refl
-action_bytes _ _ (fork named first low high) = refl
-action_bytes _ _ (exit named) = refl
+action_bytes _ _ _ (link {a = a} {b = b} {old = x} {new = y} named first second) = and_from _ _ (path_bytes a x first) (path_bytes b y second)
+action_bytes _ _ _ (pledge named first second) = refl
+action_bytes _ _ _ (unveil {a = a} {path = path} named no_a no_b first second) = path_bytes a path first
+action_bytes _ _ _ (lock named first second) = refl
+action_bytes _ _ _ (fork named first low high) = refl
+action_bytes _ _ _ (exit named) = refl

@@ -1,22 +1,20 @@
 -- What was checked before a change, whichever request was granted it.
-use Rattle.pua_script.proofs.Common.{◌≡◌, ℕ, List, [], ◌∷◌, Bool, true, false, not, refl, sym, subst, ◌⊎◌, inl, inr, Option, Some, None}
+use Rattle.pua_script.proofs.Common.{◌≡◌, ℕ, List, [], ◌∷◌, Bool, true, false, not, ◌&&◌, refl, sym, subst, ◌⊎◌, inl, inr, Option, Some, None}
 use Rattle.pua_script.proofs.Common.{IsTrue, is_some, Tree, Node, Spot, target_fits, has_room, has_name_room, spot_named, node_named, Dot}
 use Rattle.pua_script.proofs.Common.{Dropped, Found, Whole, Slot, unveil, CallTable, History, Event, Unveiled, Moved, is_locked, may_any}
 use Rattle.pua_script.proofs.Common.{Yes, Call, is_bytes, is_in_bytes, Change, NoChange, AddNode, CutRow, ShiftRow, TieRow, BeginProgram}
-use Rattle.pua_script.proofs.Common.{AddEvent, CopyAs, shifting, is_whole, is_exec, is_chdir, IsShift, Action, OnPath}
-use Rattle.pua_tree.specs.declared.node.Kind.TheVariants as kind
+use Rattle.pua_script.proofs.Common.{AddEvent, CopyAs, shifting, is_whole, is_exec, is_chdir, IsShift, Action, OnPath, and_from, and_parts}
+use Rattle.pua_tree.specs.declared.node.Kind.{Kind}
 use Rattle.pua_calls.specs.declared.call.Call.TheVariants as call
 use Rattle.pua_script.specs.Decide.{plain_node}
-use Rattle.pua_script.specs.Decide.{link_node, placing, cutting, tying, change_by, adding, removing}
+use Rattle.pua_script.specs.Decide.{link_node, placing, cutting, tying, change_by, adding, removing, made_by, making}
 use Rattle.pua_script.specs.Guards.{OnOne, OnTwo}
-use Rattle.pua_script.specs.Laws.{lacks_room}
+use Rattle.pua_script.specs.Laws.{adds_node, lacks_room}
 
 -- the calls that make a name, and those that take one away
 abbrev pub makes : Call → Bool
-makes call.Create = true
-makes call.Mkdir = true
 makes call.Symlink = true
-makes _ = false
+makes call = adds_node call
 
 abbrev pub takes : Call → Bool
 takes call.Rmdir = true
@@ -128,20 +126,27 @@ module _ (table : CallTable) (t : Tree) (h : History) where
   no_target : (target : List ℕ) → None ≡ Some target → is_bytes target ≡ true
   no_target target e = cc
 
+  -- a call that makes what it may is one of those that make a name
+  abbrev is_maker : Call → Option Kind → Bool
+  is_maker c None = true
+  is_maker c (Some made) = makes c && (adds_node c && target_fits made None)
+
+  on_making : (c : Call) (path : List ℕ) (x : Found) → OnOne table t h c path x → (made : Option Kind) → is_maker c made ≡ true →
+      Grounds table t h (OnPath c path) (making made (spot_named x) (node_named x))
+  on_making c path x on None is = tt
+  on_making c path x on (Some made) is =
+      let parts = and_parts (makes c) (adds_node c && target_fits made None) is in
+      let more = and_parts (adds_node c) (target_fits made None) parts.1 in
+      on_adding (OnPath c path) c path x (plain_node made) on parts.0 more.1 (λ small. (small, no_target))
+      (λ full. and_from (adds_node c) (not (has_room t)) more.0 full)
+
   pub on_call : (c : Call) (path : List ℕ) (x : Found) → OnOne table t h c path x → Grounds table t h (OnPath c path) (change_by table c x)
-  on_call call.Create path x on =
-      on_adding (OnPath call.Create path) call.Create path x (plain_node kind.File) on refl refl (λ small. (small, no_target))
-      (λ full. full)
-  on_call call.Mkdir path x on = on_adding (OnPath call.Mkdir path) call.Mkdir path x (plain_node kind.Dir) on refl refl (λ small. (
-    small,
-    no_target,
-  )) (λ full. full)
   on_call call.Rmdir path x on = on_cutting (OnPath call.Rmdir path) call.Rmdir path x on refl
   on_call call.Unlink path x on = on_cutting (OnPath call.Unlink path) call.Unlink path x on refl
   on_call call.Chdir path (Whole dir way) on = refl
   on_call call.Chdir path (Slot dir name y) on = tt
   on_call call.Exec path x on = refl
-  on_call _ path x on = tt
+  on_call c path x on = on_making c path x on (made_by c) refl
 
   pub link_leads : (target : List ℕ) → is_bytes target ≡ true → LeadsToBytes (link_node target)
   link_leads target small other e = let same : target ≡ other = cc in subst (λ x. is_bytes x ≡ true) same small

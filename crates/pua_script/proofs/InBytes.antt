@@ -10,6 +10,7 @@ use Rattle.pua_tree.specs.Grammar.{entry_fits, entries_fit, made_fits, target_st
 use Rattle.pua_tree.specs.declared.node.Kind.TheVariants.{Dir, File, Prog, Link as LinkKind}
 use Rattle.pua_tree.proofs.ForCallers.{all_found, listings_are_read, listings_list_trees, fits_parts}
 use Rattle.pua_script.specs.ScriptGrammar.{SpellRequests}
+use Rattle.pua_calls.specs.declared.rules.Rules.{Rules}
 use Rattle.pua_script.specs.Bytes.{are_in_bytes, ReplaysKeepByteTrees, ListingsListByteTrees, ScriptsAskInBytes}
 use Rattle.pua_script.proofs.KeepTrees.{requests_keep_trees}
 use Rattle.pua_script.proofs.Grammar.{action_bytes, scripts_are_read}
@@ -61,15 +62,15 @@ listings_list_byte_trees bytes t read =
       targets = targets_lead t (ap (λ (u : Tree). list_all node_leads u.nodes) is.4 ∙ entries_lead is.0 [] is.1 is.2);
     }
 
-requests_bytes : (texts : List (List ℕ)) (asks : List Asked) → SpellRequests texts asks → are_in_bytes asks ≡ true
-requests_bytes [] [] spells = refl
-requests_bytes [] (ask ∷ asks) spells = absurd spells
-requests_bytes (text ∷ texts) [] spells = absurd spells
-requests_bytes (text ∷ texts) (ask ∷ asks) spells =
-    and_from (is_in_bytes ask.action) _ (action_bytes spells.0.more ask.action spells.0.spells) (requests_bytes texts asks spells.1)
+requests_bytes : (rules : Rules) (texts : List (List ℕ)) (asks : List Asked) → SpellRequests rules texts asks → are_in_bytes asks ≡ true
+requests_bytes rules [] [] spells = refl
+requests_bytes rules [] (ask ∷ asks) spells = absurd spells
+requests_bytes rules (text ∷ texts) [] spells = absurd spells
+requests_bytes rules (text ∷ texts) (ask ∷ asks) spells =
+    and_from (is_in_bytes ask.action) _ (action_bytes rules spells.0.more ask.action spells.0.spells) (requests_bytes rules texts asks spells.1)
 
 pub scripts_ask_in_bytes : ScriptsAskInBytes
-scripts_ask_in_bytes bytes asks read = requests_bytes (lines bytes) asks ((scripts_are_read bytes asks).0 read).1
+scripts_ask_in_bytes rules bytes asks read = requests_bytes rules (lines bytes) asks ((scripts_are_read rules bytes asks).0 read).1
 
 pub replays_keep_byte_trees : ReplaysKeepByteTrees
 replays_keep_byte_trees table w [] is_tree small = is_tree

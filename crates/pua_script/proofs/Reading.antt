@@ -1,7 +1,7 @@
 -- The parts of a line as its reader finds them.
 use Rattle.pua_script.proofs.Common.{◌≡◌, ℕ, ◌≤◌, not, ◌&&◌, ◌||◌, eqb, cond, List, [], ◌∷◌, map, length, take, refl, ap, ◌∙◌, arith}
 use Rattle.pua_script.proofs.Common.{IsTrue, list_all, and_parts, not-true, has_byte, request_of_fields}
-use Rattle.pua_script.proofs.Common.{request_of, Asked, Result, ◌>>=◌}
+use Rattle.pua_script.proofs.Common.{request_by, Asked, Result, ◌>>=◌}
 use Rattle.std.proofs.Common.{leb, Some, None, Ok, Err}
 use Rattle.std.specs.Borrow.{Bor}
 use Rattle.std.specs.Prelude.{ok_or, ⊤}
@@ -15,6 +15,7 @@ use Rattle.pua_script.specs.declared.fault.ScriptFault.{ScriptFault}
 use Rattle.pua_script.specs.declared.fault.ScriptFault.TheVariants.{BadLine, BadCall}
 use Rattle.pua_script.specs.Added.{IsActionAdded, IsRequestAdded}
 use Rattle.pua_script.specs.Scripts.{action_in}
+use Rattle.pua_calls.specs.declared.rules.Rules.{Rules}
 
 -- a field of plain bytes is the text that it spells, and none of them is NUL
 pub plain_path : (field : List ℕ) → IsTrue (list_all is_plain field) → only_if has_no_nul (bytes_spelled field) ≡ Some field
@@ -32,43 +33,44 @@ plain_path (b ∷ more) h =
     ∙ ap (λ t. cond (not (t || has_byte 0 more)) (Some (b ∷ more)) None) (ne_eqb b 0 (omega (arith, above)))
     ∙ ap (λ t. cond t (Some (b ∷ more)) None) behind.1
 
--- no call has more than two arguments
-pub many_arguments : (n : ℕ) (fs : List (Bor (List ℕ))) → 4 ≤ length fs → action_in n (map (λ f. f.now) fs) ≡ Err (BadCall n)
-many_arguments n [] long = absurd (omega arith)
-many_arguments n (a ∷ []) long = absurd (omega arith)
-many_arguments n (a ∷ b ∷ []) long = absurd (omega arith)
-many_arguments n (a ∷ b ∷ c ∷ []) long = absurd (omega arith)
-many_arguments n (a ∷ b ∷ c ∷ d ∷ more) long = refl
+module _ (rules : Rules) where
+  -- no call has more than two arguments
+  pub many_arguments : (n : ℕ) (fs : List (Bor (List ℕ))) → 4 ≤ length fs → action_in rules n (map (λ f. f.now) fs) ≡ Err (BadCall n)
+  many_arguments n [] long = absurd (omega arith)
+  many_arguments n (a ∷ []) long = absurd (omega arith)
+  many_arguments n (a ∷ b ∷ []) long = absurd (omega arith)
+  many_arguments n (a ∷ b ∷ c ∷ []) long = absurd (omega arith)
+  many_arguments n (a ∷ b ∷ c ∷ d ∷ more) long = refl
 
--- the first six fields decide
-six_decide : (n : ℕ) (fs : List (List ℕ)) → request_of_fields n fs ≡ request_of_fields n (take 6 fs)
-six_decide n [] = refl
-six_decide n (p ∷ []) = refl
-six_decide n (p ∷ w ∷ []) = refl
-six_decide n (p ∷ w ∷ a ∷ []) = refl
-six_decide n (p ∷ w ∷ a ∷ b ∷ []) = refl
-six_decide n (p ∷ w ∷ a ∷ b ∷ c ∷ more) = refl
+  -- the first six fields decide
+  six_decide : (n : ℕ) (fs : List (List ℕ)) → request_of_fields rules n fs ≡ request_of_fields rules n (take 6 fs)
+  six_decide n [] = refl
+  six_decide n (p ∷ []) = refl
+  six_decide n (p ∷ w ∷ []) = refl
+  six_decide n (p ∷ w ∷ a ∷ []) = refl
+  six_decide n (p ∷ w ∷ a ∷ b ∷ []) = refl
+  six_decide n (p ∷ w ∷ a ∷ b ∷ c ∷ more) = refl
 
-pub by_fields : (n : ℕ) (line : List ℕ) (fs : List (List ℕ)) → first_fields line ≡ Some fs → request_of n line ≡ request_of_fields n fs
-by_fields n line fs e =
-    let read = guarded (list_all is_field (fields line)) (take 6 (fields line)) fs e in
-    ap (λ s. cond s (request_of_fields n (fields line)) (Err (BadLine n))) read.0 ∙ six_decide n (fields line) ∙
-    ap (request_of_fields n) read.1
+  pub by_fields : (n : ℕ) (line : List ℕ) (fs : List (List ℕ)) → first_fields line ≡ Some fs → request_by rules n line ≡ request_of_fields rules n fs
+  by_fields n line fs e =
+      let read = guarded (list_all is_field (fields line)) (take 6 (fields line)) fs e in
+      ap (λ s. cond s (request_of_fields rules n (fields line)) (Err (BadLine n))) read.0 ∙ six_decide n (fields line) ∙
+      ap (request_of_fields rules n) read.1
 
--- a process's number and the action behind it are a request
-pub line_added : (n number : ℕ) (process : List ℕ) (more : List (List ℕ)) (before after : List Asked) (read : Result ⊤ ScriptFault) →
-    number_within 1 999999 process ≡ Some number → IsActionAdded (action_in n more) number before after read →
-    IsRequestAdded (request_of_fields n (process ∷ more)) before after read
-line_added n number process more before after read e = by read
-  where
-    numbered : request_of_fields n (process ∷ more) ≡ (action_in n more >>= λ action. Ok (record { process = number; action = action }))
-    numbered = ap (λ o. ok_or o (BadLine n) >>= λ m. action_in n more >>= λ action. Ok (record { process = m; action = action })) e
+  -- a process's number and the action behind it are a request
+  pub line_added : (n number : ℕ) (process : List ℕ) (more : List (List ℕ)) (before after : List Asked) (read : Result ⊤ ScriptFault) →
+      number_within 1 999999 process ≡ Some number → IsActionAdded (action_in rules n more) number before after read →
+      IsRequestAdded (request_of_fields rules n (process ∷ more)) before after read
+  line_added n number process more before after read e = by read
+    where
+      numbered : request_of_fields rules n (process ∷ more) ≡ (action_in rules n more >>= λ action. Ok (record { process = number; action = action }))
+      numbered = ap (λ o. ok_or o (BadLine n) >>= λ m. action_in rules n more >>= λ action. Ok (record { process = m; action = action })) e
 
-    by : (r : Result ⊤ ScriptFault) → IsActionAdded (action_in n more) number before after r →
-        IsRequestAdded (request_of_fields n (process ∷ more)) before after r
-    by (Ok _) added = (
-      record { process = number; action = added.0 },
-      numbered ∙ ap (λ r. r >>= λ action. Ok (record { process = number; action = action })) added.1,
-      added.2,
-    )
-    by (Err fault) fails = λ other. numbered ∙ ap (λ r. r >>= λ action. Ok (record { process = number; action = action })) (fails other)
+      by : (r : Result ⊤ ScriptFault) → IsActionAdded (action_in rules n more) number before after r →
+          IsRequestAdded (request_of_fields rules n (process ∷ more)) before after r
+      by (Ok _) added = (
+        record { process = number; action = added.0 },
+        numbered ∙ ap (λ r. r >>= λ action. Ok (record { process = number; action = action })) added.1,
+        added.2,
+      )
+      by (Err fault) fails = λ other. numbered ∙ ap (λ r. r >>= λ action. Ok (record { process = number; action = action })) (fails other)

@@ -1,5 +1,6 @@
 -- What a world's requests leave, by the worlds of the replay for which it stands.
 use Rattle.pua_script.proofs.Common.{◌≡◌, ℕ, ◌+◌, ◌<◌, List, [], ◌∷◌, ◌++◌, length, take, refl, sym, ap, subst, ◌∙◌, lit<, option_map}
+use Rattle.pua_script.proofs.Common.{Bool, true, false, not, ◌||◌, list_all, list_any, AllByRecursion, IsTrue, holds, rule_of, and_parts, false≢true}
 use Rattle.pua_script.proofs.Common.{Result, Ok, Err, WellFormed, PairRule, CallTable, History, Asked}
 use Rattle.pua_script.proofs.Common.{World, apply, world_after, WorldState, StandsForWorld, HasHistoryOf}
 use Rattle.pua_script.proofs.Common.{UncoveredStay, AreDone, Answer, state_of, stands as stands_for}
@@ -7,17 +8,50 @@ use Rattle.std.proofs.Common.{get_or, add-one}
 use Rattle.std.proofs.Math.Seq.{take-suc}
 use Rattle.std.specs.Prelude.{IfOk, OnErr, MatchResult}
 use Rattle.pua_calls.proofs.ForCallers.{standard_needs_no_error, openbsd_needs_no_error, texts_need_no_error, texts_keep_pairs}
+use Rattle.pua_calls.proofs.ForCallers.{none_by_test}
+use Rattle.pua_calls.specs.Calls.{openbsd_table, standard_table}
+use Rattle.pua_calls.specs.declared.call.Call.TheVariants as call
 use Rattle.pua_calls.specs.declared.rules.Rules.TheVariants.{Profile, Openbsd}
 use Rattle.pua_script.specs.Worlds.{IsServed, AreServed}
 use Rattle.pua_script.specs.Tightening.{IsNarrowedBy, EndsWithin}
-use Rattle.pua_script.specs.Confinement.{NeedsC, NamesCpath, TreesAlong}
+use Rattle.pua_script.specs.Confinement.{NeedsC, NamesOne, CallsNeed, changes_names, TreesAlong}
 use Rattle.pua_script.specs.Futures.{RulesNarrow, ReadTablesNarrow, HasProcessOf, IsNarrowing, IsSparing, AreDoneInPart, AreHeld}
+use Rattle.pua_script.specs.Futures.{changing_promises}
 use Rattle.pua_script.specs.Futures.{AreServedInPart}
 use Rattle.pua_script.proofs.Tightening.{each_narrows, within_self}
 use Rattle.pua_script.proofs.Confining.{each_spares}
 use Rattle.pua_script.proofs.Families.{families_narrow}
 use Rattle.pua_script.proofs.Confined.{families_confine}
 use Rattle.pua_script.proofs.Serving.{served_more}
+
+-- what is so of each call that passes a test
+if_changes : (a b : Bool) → (not a || b) ≡ true → a ≡ true → b ≡ true
+if_changes true b e is = e
+if_changes false b e is = absurd (false≢true is)
+
+-- a test of whether each alternative names one of some promises
+abbrev each_names : List ℕ → List ℕ → Bool
+each_names promises sets = list_all (λ set. list_any (holds set) promises) sets
+
+names_by_test : (promises sets : List ℕ) → each_names promises sets ≡ true →
+    AllByRecursion (λ set. IsTrue (list_any (holds set) promises)) sets
+names_by_test promises [] e = tt
+names_by_test promises (set ∷ sets) e =
+    let parts = and_parts (list_any (holds set) promises) (each_names promises sets) e in
+    (parts.0, names_by_test promises sets parts.1)
+
+-- the calls that change names need one of the promises of their rules, by computing each
+standard_changes : CallsNeed (changing_promises Profile) standard_table
+standard_changes call.Stat changes = absurd (false≢true changes)
+standard_changes c changes =
+    names_by_test (changing_promises Profile) (rule_of standard_table c).alternatives
+    (if_changes (changes_names c) (each_names (changing_promises Profile) (rule_of standard_table c).alternatives) refl changes)
+
+openbsd_changes : CallsNeed (changing_promises Openbsd) openbsd_table
+openbsd_changes call.Stat changes = absurd (false≢true changes)
+openbsd_changes c changes =
+    names_by_test (changing_promises Openbsd) (rule_of openbsd_table c).alternatives
+    (if_changes (changes_names c) (each_names (changing_promises Openbsd) (rule_of openbsd_table c).alternatives) refl changes)
 
 pub rules_narrow : RulesNarrow
 rules_narrow Profile = record {
@@ -28,11 +62,8 @@ rules_narrow Profile = record {
   };
   taking = record { rmdir = refl; unlink = refl; rename_old = refl; rename_new = refl };
   changing = record {
-    create = (refl, tt);
-    mkdir = (refl, tt);
-    rmdir = (refl, tt);
-    unlink = (refl, tt);
-    symlink = (refl, tt);
+    no_error = none_by_test (changing_promises Profile) refl;
+    calls = standard_changes;
     rename = (refl, tt);
     link = (refl, tt);
   };
@@ -45,11 +76,8 @@ rules_narrow Openbsd = record {
   };
   taking = record { rmdir = refl; unlink = refl; rename_old = refl; rename_new = refl };
   changing = record {
-    create = (refl, tt);
-    mkdir = (refl, tt);
-    rmdir = (refl, tt);
-    unlink = (refl, tt);
-    symlink = (refl, tt);
+    no_error = none_by_test (changing_promises Openbsd) refl;
+    calls = openbsd_changes;
     rename = (refl, tt);
     link = (refl, tt);
   };
@@ -66,16 +94,13 @@ read_tables_narrow = record {
         rename_old = subst (λ (pair : PairRule). NeedsC pair.old.needs) (sym renames) needs.rename_old;
         rename_new = subst (λ (pair : PairRule). NeedsC pair.new.needs) (sym renames) needs.rename_new;
       };
-  changing = λ base needs text table is create mkdir rmdir unlink symlink.
+  changing = λ base promises needs text table is calls.
       let same = texts_keep_pairs base text table is in
       record {
-        create = create;
-        mkdir = mkdir;
-        rmdir = rmdir;
-        unlink = unlink;
-        symlink = symlink;
-        rename = subst (λ (pair : PairRule). NamesCpath pair.new.needs) (sym same.rename) needs.rename;
-        link = subst (λ (pair : PairRule). NamesCpath pair.new.needs) (sym same.link) needs.link;
+        no_error = needs.no_error;
+        calls = calls;
+        rename = subst (λ (pair : PairRule). NamesOne promises pair.new.needs) (sym same.rename) needs.rename;
+        link = subst (λ (pair : PairRule). NamesOne promises pair.new.needs) (sym same.link) needs.link;
       };
 }
 
@@ -173,7 +198,7 @@ held_by before after asks done = record {
       record {
         spares = λ needs. subst (λ u. UncoveredStay now before.tree u) (sym left.0.tree)
             (subst (λ t. UncoveredStay now t (world_after before.table w asks).tree) (sym stands.tree) (both.spares needs left.1));
-        unchanged = λ needs lacks. left.0.tree ∙ both.unchanged needs lacks ∙ sym stands.tree;
+        unchanged = λ promises needs lacks. left.0.tree ∙ both.unchanged promises needs lacks ∙ sym stands.tree;
       };
 }
 

@@ -1,31 +1,44 @@
--- Who doesn't hold cpath may make no call whose alternatives all name it.
+-- Who holds none of some promises may make no call whose alternatives each name one of them.
 use Rattle.pua_script.proofs.Common.{◌≡◌, ℕ, List, [], ◌∷◌, Bool, true, false, cond, refl, sym, ap, ◌∙◌, ◌||◌, list_any, AllByRecursion}
 use Rattle.pua_script.proofs.Common.{IsTrue, is_some, nat_le, false≢true, Tree, EAGAIN, holds, History, held_set, has_error, is_ended}
 use Rattle.pua_script.proofs.Common.{may_any, CallTable, rule_of, Call, Yes, most_processes, tree_left, Change, AddNode, CutRow, ShiftRow}
 use Rattle.pua_script.proofs.Common.{TieRow, CopyAs, World, Fails, Copies, history_of, change_effect, Action}
 use Rattle.std.specs.Prelude.{length}
-use Rattle.pua_calls.specs.Promises.{cpath}
+use Rattle.std.proofs.lemmas.Bool.{or_right}
 use Rattle.pua_calls.specs.Calls.{Rule}
 use Rattle.pua_calls.specs.declared.call.Call.TheVariants as call
 use Rattle.pua_policy.specs.declared.answer.May.TheVariants.{Enosys, Death}
 use Rattle.pua_policy.proofs.ForCallers.{holds_through}
-use Rattle.pua_script.specs.Confinement.{NamesCpath, ChangingNeedsCpath, CpathChanges}
+use Rattle.pua_script.specs.Confinement.{NamesOne, changes_names, ChangingNeeds, PromisesChange}
+use Rattle.pua_script.specs.Laws.{adds_node}
 use Rattle.pua_script.proofs.Guarding.{grounds}
 use Rattle.pua_script.proofs.Grounds.{Grounds, makes, takes}
 use Rattle.pua_script.proofs.Applied.{by_own_tree}
 
-module _ (h : History) (lacks : holds (held_set h) cpath ≡ false) where
-  none_held : (alternatives : List ℕ) → AllByRecursion (λ set. IsTrue (holds set cpath)) alternatives →
+module _ (promises : List ℕ) (h : History) (lacks : list_any (holds (held_set h)) promises ≡ false) where
+  -- what is held has a promise, so that is held
+  through : (set : ℕ) → holds (held_set h) set ≡ true → (ps : List ℕ) → list_any (holds set) ps ≡ true →
+      list_any (holds (held_set h)) ps ≡ true
+  through set held [] e = e
+  through set held (p ∷ ps) e = by (holds set p) refl (λ has. through set held ps has) e
+    where
+      by : (b : Bool) → holds set p ≡ b → (list_any (holds set) ps ≡ true → list_any (holds (held_set h)) ps ≡ true) →
+          (b || list_any (holds set) ps) ≡ true → (holds (held_set h) p || list_any (holds (held_set h)) ps) ≡ true
+      by true is rest e = ap (λ b. b || list_any (holds (held_set h)) ps) (holds_through (held_set h) set p held is)
+      by false is rest e = or_right (holds (held_set h) p) (list_any (holds (held_set h)) ps) (rest e)
+
+  none_held : (alternatives : List ℕ) → AllByRecursion (λ set. IsTrue (list_any (holds set) promises)) alternatives →
       list_any (holds (held_set h)) alternatives ≡ false
   none_held [] names = refl
   none_held (set ∷ sets) names = by (holds (held_set h) set) refl (none_held sets names.1)
     where
       by : (b : Bool) → holds (held_set h) set ≡ b → list_any (holds (held_set h)) sets ≡ false →
           (b || list_any (holds (held_set h)) sets) ≡ false
-      by true is rest = absurd (false≢true (sym lacks ∙ holds_through (held_set h) set cpath is names.0))
+      by true is rest = absurd (false≢true (sym lacks ∙ through set is promises names.0))
       by false is rest = rest
 
-  pub may_not : (alternatives : List ℕ) → AllByRecursion (λ set. IsTrue (holds set cpath)) alternatives → may_any h alternatives ≡ Yes → ⊥
+  pub may_not : (alternatives : List ℕ) → AllByRecursion (λ set. IsTrue (list_any (holds set) promises)) alternatives →
+      may_any h alternatives ≡ Yes → ⊥
   may_not alternatives names e =
       by (is_ended h) (has_error h) (ap (λ b. cond (is_ended h) Death (cond b Yes (cond (has_error h) Enosys Death)))
       (sym (none_held alternatives names)) ∙ e)
@@ -56,30 +69,36 @@ keeps w h (CopyAs new) none = by (is_some (history_of w new) || nat_le most_proc
     by false = refl
 keeps w h _ none = refl
 
-module _ (table : CallTable) (needs : ChangingNeedsCpath table) (t : Tree) (h : History) (lacks : holds (held_set h) cpath ≡ false) where
-  never : {A : Type 0} (rule : Rule) → NamesCpath rule → may_any h rule.alternatives ≡ Yes → A
-  never rule names may = absurd (may_not h lacks rule.alternatives names may)
+-- a call that makes a name or takes one away is one of those that change names
+pub adding_changes : (c : Call) → adds_node c ≡ true → changes_names c ≡ true
+adding_changes call.Symlink made = refl
+adding_changes call.Rmdir made = refl
+adding_changes call.Unlink made = refl
+adding_changes _ made = made
 
-  making_needs : (c : Call) → makes c ≡ true → NamesCpath (rule_of table c)
-  making_needs call.Create made = needs.create
-  making_needs call.Mkdir made = needs.mkdir
-  making_needs call.Symlink made = needs.symlink
-  making_needs _ made = cc
+making_changes : (c : Call) → makes c ≡ true → changes_names c ≡ true
+making_changes call.Symlink made = refl
+making_changes c made = adding_changes c made
 
-  taking_needs : (c : Call) → takes c ≡ true → NamesCpath (rule_of table c)
-  taking_needs call.Rmdir taken = needs.rmdir
-  taking_needs call.Unlink taken = needs.unlink
-  taking_needs _ taken = cc
+taking_changes : (c : Call) → takes c ≡ true → changes_names c ≡ true
+taking_changes call.Rmdir taken = refl
+taking_changes call.Unlink taken = refl
+taking_changes _ taken = cc
 
-  -- without cpath no edit is decided
+module _ (promises : List ℕ) (table : CallTable) (needs : ChangingNeeds promises table) (t : Tree) (h : History)
+    (lacks : list_any (holds (held_set h)) promises ≡ false) where
+  never : {A : Type 0} (rule : Rule) → NamesOne promises rule → may_any h rule.alternatives ≡ Yes → A
+  never rule names may = absurd (may_not promises h lacks rule.alternatives names may)
+
+  -- without them no edit is decided
   no_edit : (action : Action) (c : Change) → Grounds table t h action c → is_edit c ≡ false
-  no_edit action (AddNode spot node) g = never (rule_of table g.call) (making_needs g.call g.made) g.on.promised
-  no_edit action (CutRow spot) g = never (rule_of table g.call) (taking_needs g.call g.taken) g.on.promised
+  no_edit action (AddNode spot node) g = never (rule_of table g.call) (needs.calls g.call (making_changes g.call g.made)) g.on.promised
+  no_edit action (CutRow spot) g = never (rule_of table g.call) (needs.calls g.call (taking_changes g.call g.taken)) g.on.promised
   no_edit action (ShiftRow from to) g = never table.rename.new.needs needs.rename g.two.promised_new
   no_edit action (TieRow spot x) g = never table.link.new.needs needs.link g.two.promised_new
   no_edit action _ g = refl
 
-pub cpath_changes : CpathChanges
-cpath_changes table needs w ask h here lacks =
+pub promises_change : PromisesChange
+promises_change table promises needs w ask h here lacks =
     by_own_tree table w ask h here (λ t. t ≡ w.tree) refl
-    (λ c guards. keeps w h c (no_edit table needs w.tree h lacks ask.action c (grounds table w.tree h ask.action c guards)))
+    (λ c guards. keeps w h c (no_edit promises table needs w.tree h lacks ask.action c (grounds table w.tree h ask.action c guards)))

@@ -5,7 +5,8 @@ use Rattle.pua_tree.specs.Tree.{Tree, WellFormed, target_at}
 use Rattle.pua_tree.specs.Listing.{listing}
 use Rattle.pua_calls.specs.Calls.{CallTable}
 use Rattle.pua_script.specs.Requests.{Asked}
-use Rattle.pua_script.specs.Scripts.{script}
+use Rattle.pua_script.specs.Scripts.{script_by}
+use Rattle.pua_calls.specs.declared.rules.Rules.{Rules}
 use Rattle.pua_script.specs.Replay.{World, apply, world_after}
 use Rattle.pua_script.specs.Confinement.{TreesAlong}
 use Rattle.pua_script.specs.declared.request.Action.{Action}
@@ -52,4 +53,4 @@ ListingsListByteTrees = (bytes : List ℕ) (t : Tree) → listing bytes ≡ Ok t
 
 -- and what is read as a script asks in bytes
 abbrev pub ScriptsAskInBytes : Type 0
-ScriptsAskInBytes = (bytes : List ℕ) (asks : List Asked) → script bytes ≡ Ok asks → IsTrue (are_in_bytes asks)
+ScriptsAskInBytes = (rules : Rules) (bytes : List ℕ) (asks : List Asked) → script_by rules bytes ≡ Ok asks → IsTrue (are_in_bytes asks)

@@ -1,18 +1,21 @@
 -- The second part of narrowing: what a process can't touch with `c` stays, whatever it asks for.
-use Rattle.std.specs.Prelude.{◌≡◌, ℕ, Bool, true, false, if◌then◌else◌, List, [], ◌∷◌, Some, IsTrue, IsFalse}
-use Rattle.std.specs.List.{AllByRecursion}
+use Rattle.std.specs.Prelude.{◌≡◌, ℕ, Bool, true, false, if◌then◌else◌, List, [], ◌∷◌, Some, IsTrue, IsFalse, is_some}
+use Rattle.std.specs.List.{AllByRecursion, list_any}
 use Rattle.pua_tree.specs.Tree.{Tree, WellFormed, Spot, is_dir, look, node_at}
 use Rattle.pua_path.specs.declared.found.Found.{Found}
 use Rattle.pua_path.specs.declared.found.Found.TheVariants.{Whole, Slot}
 use Rattle.pua_path.specs.declared.found.Way.TheVariants.{Named}
-use Rattle.pua_calls.specs.Promises.{holds, cpath, creating}
+use Rattle.pua_calls.specs.Promises.{holds, creating}
 use Rattle.pua_calls.specs.Calls.{Rule, CallTable, rule_of}
+use Rattle.pua_calls.specs.Tables.{NamesNoError}
 use Rattle.pua_policy.specs.History.{History, held_set}
 use Rattle.pua_policy.specs.Verdict.{cover}
 use Rattle.pua_policy.specs.declared.answer.Cover.{Cover}
 use Rattle.pua_policy.specs.declared.answer.Cover.TheVariants.{All, Nothing, Only}
+use Rattle.pua_calls.specs.declared.call.Call.{Call}
 use Rattle.pua_calls.specs.declared.call.Call.TheVariants as call
 use Rattle.pua_script.specs.Requests.{Asked}
+use Rattle.pua_script.specs.Decide.{made_by}
 use Rattle.pua_script.specs.Replay.{World, history_of, apply, world_after}
 use Rattle.pua_script.specs.Laws.{IsConfined}
 use Rattle.pua_script.specs.Family.{is_exec, none_done, members_alone}
@@ -29,19 +32,31 @@ pub record TakingNeedsC (table : CallTable) : Type 0 where
   pub rename_old : NeedsC table.rename.old.needs
   pub rename_new : NeedsC table.rename.new.needs
 
--- each alternative names cpath
-abbrev pub NamesCpath : Rule → Type 0
-NamesCpath rule = AllByRecursion (λ set. IsTrue (holds set cpath)) rule.alternatives
+-- each alternative names one of these promises
+abbrev pub NamesOne : List ℕ → Rule → Type 0
+NamesOne promises rule = AllByRecursion (λ set. IsTrue (list_any (holds set) promises)) rule.alternatives
 
--- the five calls that make a name or take one away, and the new names of rename and of link
-pub record ChangingNeedsCpath (table : CallTable) : Type 0 where
-  pub create : NamesCpath (rule_of table call.Create)
-  pub mkdir : NamesCpath (rule_of table call.Mkdir)
-  pub rmdir : NamesCpath (rule_of table call.Rmdir)
-  pub unlink : NamesCpath (rule_of table call.Unlink)
-  pub symlink : NamesCpath (rule_of table call.Symlink)
-  pub rename : NamesCpath table.rename.new.needs
-  pub link : NamesCpath table.link.new.needs
+-- the calls that make a name or take one away
+abbrev pub changes_names : Call → Bool
+changes_names call.Symlink = true
+changes_names call.Rmdir = true
+changes_names call.Unlink = true
+changes_names call = is_some (made_by call)
+
+-- these need one of some promises
+abbrev pub CallsNeed : List ℕ → CallTable → Type 0
+CallsNeed promises table = (c : Call) → IsTrue (changes_names c) → NamesOne promises (rule_of table c)
+
+-- so do the new names of rename and of link, and none of the promises is `error`, since a process can gain that
+pub record ChangingNeeds (promises : List ℕ) (table : CallTable) : Type 0 where
+  pub no_error : AllByRecursion NamesNoError promises
+  pub calls : CallsNeed promises table
+  pub rename : NamesOne promises table.rename.new.needs
+  pub link : NamesOne promises table.link.new.needs
+
+-- a history doesn't hold any of these promises
+abbrev pub HoldsNone : List ℕ → History → Type 0
+HoldsNone promises h = IsFalse (list_any (holds (held_set h)) promises)
 
 -- what stands in a row, as veils see it: a directory by its node, anything else by its name
 abbrev pub object_in : Tree → Spot → ℕ → Found
@@ -70,20 +85,21 @@ EachRequestSpares = (table : CallTable) → TakingNeedsC table → (w : World) (
     WellFormed w.tree → WellFormed (apply table w ask).1.tree → history_of w ask.process ≡ Some h →
     UncoveredStay h w.tree (apply table w ask).1.tree
 
--- and without cpath the tree stays
-abbrev pub CpathChanges : Type 0
-CpathChanges = (table : CallTable) → ChangingNeedsCpath table → (w : World) (ask : Asked) (h : History) →
-    history_of w ask.process ≡ Some h → IsFalse (holds (held_set h) cpath) → (apply table w ask).1.tree ≡ w.tree
+-- and without the promises by which the tree is changed it stays
+abbrev pub PromisesChange : Type 0
+PromisesChange = (table : CallTable) (promises : List ℕ) → ChangingNeeds promises table → (w : World) (ask : Asked) (h : History) →
+    history_of w ask.process ≡ Some h → HoldsNone promises h → (apply table w ask).1.tree ≡ w.tree
 
 -- each world on the way has a tree
 abbrev pub TreesAlong : CallTable → World → List Asked → Type 0
 TreesAlong table w [] = WellFormed w.tree
 TreesAlong table w (ask ∷ asks) = WellFormed w.tree × TreesAlong table (apply table w ask).1 asks
 
--- the second part over a list of requests: by the history at its beginning each uncovered row stays, and without cpath the tree stays
+-- the second part over a list of requests: by the history at its beginning each uncovered row stays, and without the promises by
+-- which the tree is changed the tree stays
 pub record Confines (table : CallTable) (w : World) (now : History) (asks : List Asked) : Type 0 where
   pub spares : TakingNeedsC table → TreesAlong table w asks → UncoveredStay now w.tree (world_after table w asks).tree
-  pub unchanged : ChangingNeedsCpath table → IsFalse (holds (held_set now) cpath) → (world_after table w asks).tree ≡ w.tree
+  pub unchanged : (promises : List ℕ) → ChangingNeeds promises table → HoldsNone promises now → (world_after table w asks).tree ≡ w.tree
 
 -- where members alone ask, and no exec of theirs is answered ok
 abbrev pub FamilyConfines : CallTable → World → List Asked → Type 0

@@ -139,15 +139,26 @@ abbrev pub going : Found → Change
 going (Whole dir way) = AddEvent (Moved dir)
 going _ = NoChange
 
+-- the kind of the node that a call makes, by its path alone
+abbrev pub made_by : Call → Option Kind
+made_by call.Create = Some kind.File
+made_by call.Bind = Some kind.File
+made_by call.Mknod = Some kind.File
+made_by call.Mkdir = Some kind.Dir
+made_by _ = None
+
+-- such a node at a spot, if the call makes one
+abbrev pub making : Option Kind → Option Spot → Option ℕ → Change
+making (Some made) spot there = placing (plain_node made) spot there
+making None spot there = NoChange
+
 -- what an allowed call changes, by what was found
 abbrev pub change_by : CallTable → Call → Found → Change
-change_by table call.Create object = adding (plain_node kind.File) object
-change_by table call.Mkdir object = adding (plain_node kind.Dir) object
 change_by table call.Rmdir object = removing object
 change_by table call.Unlink object = removing object
 change_by table call.Chdir object = going object
 change_by table call.Exec object = BeginProgram table.execpromises
-change_by table _ object = NoChange
+change_by table call object = making (made_by call) (spot_named object) (node_named object)
 
 abbrev pub is_whole : Found → Bool
 is_whole (Whole dir way) = true

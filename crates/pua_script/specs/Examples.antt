@@ -4,13 +4,14 @@ use Rattle.pua_tree.specs.Examples.{text_of_lines}
 use Rattle.pua_tree.specs.Listing.{listing}
 use Rattle.pua_tree.specs.Tree.{Tree}
 use Rattle.pua_calls.specs.Calls.{CallTable, standard_table, openbsd_table}
+use Rattle.pua_calls.specs.declared.rules.Rules.TheVariants.{Openbsd}
 use Rattle.pua_script.specs.Requests.{Asked}
-use Rattle.pua_script.specs.Scripts.{script}
+use Rattle.pua_script.specs.Scripts.{request_by, script, script_by}
 use Rattle.pua_script.specs.Replay.{answers_to, new_world}
 use Rattle.pua_script.specs.Family.{is_exec, none_done}
 use Rattle.pua_tree.specs.declared.fault.ListingFault.{ListingFault}
 use Rattle.pua_path.specs.declared.errno.Errno.TheVariants.{EPERM, ENOENT, EACCES, EAGAIN, EBUSY, EEXIST, ENOTDIR, EISDIR, EINVAL, ELOOP}
-use Rattle.pua_path.specs.declared.errno.Errno.TheVariants.{ENAMETOOLONG, ENOTEMPTY, ENOSYS}
+use Rattle.pua_path.specs.declared.errno.Errno.TheVariants.{ENAMETOOLONG, ENOTEMPTY, ENOSYS, ENOTSOCK, EADDRINUSE}
 use Rattle.pua_script.specs.declared.answer.Answer.{Answer}
 use Rattle.pua_script.specs.declared.answer.Answer.TheVariants.{Okay, Failed, Killed, Gone}
 use Rattle.pua_script.specs.declared.fault.ScriptFault.{ScriptFault}
@@ -118,7 +119,7 @@ link_rows = record {
 
 -- the answers where rename and link need something else
 abbrev pub answers_by_openbsd : List (List ℕ) → List (List ℕ) → List Answer
-answers_by_openbsd tree lines = answers_by openbsd_table (listing (text_of_lines tree)) (script (text_of_lines lines))
+answers_by_openbsd tree lines = answers_by openbsd_table (listing (text_of_lines tree)) (script_by Openbsd (text_of_lines lines))
 
 -- two directories, of which a process may read the one, and make names in the other
 abbrev pub read_and_made : List (List ℕ)
@@ -178,6 +179,59 @@ pair_rows = record {
   aliases = refl;
   standard_aliases = refl;
   directory_linked = refl;
+}
+
+-- a socket, which a listing has as a file, a link to it, and a program
+abbrev pub socket_tree : List (List ℕ)
+socket_tree = root_alone ++ codes "1 dir 0 run" ∷ codes "2 link 1 cur s" ∷ codes "3 file 1 s" ∷ codes "4 prog 1 p" ∷ []
+
+-- the calls that OpenBSD's rules alone have
+pub record SocketRows : Type 0 where
+  -- a file may be a socket, and nothing else is one; a link is followed
+  pub connected : answers_by_openbsd socket_tree (codes "1 pledge unix -" ∷ codes "1 connect /run/s" ∷ codes "1 connect /run/cur"
+      ∷ codes "1 connect /run" ∷ codes "1 connect /run/p" ∷ codes "1 connect /run/x" ∷ codes "1 connect /run/s/" ∷ []) ≡ Okay ∷ Okay ∷ Okay
+      ∷ Failed ENOTSOCK ∷ Failed ENOTSOCK ∷ Failed ENOENT ∷ Failed ENOTDIR ∷ []
+  -- bind makes a name, and takes none; a link is kept, and what is made is removed by cpath
+  pub bound : answers_by_openbsd socket_tree (codes "1 pledge unix -" ∷ codes "1 bind /run/new" ∷ codes "1 connect /run/new"
+      ∷ codes "1 bind /run/new" ∷ codes "1 bind /run/cur" ∷ codes "1 bind /run/x/y" ∷ codes "1 unlink /run/new" ∷ []) ≡ Okay ∷ Okay ∷ Okay
+      ∷ Failed EADDRINUSE ∷ Failed EADDRINUSE ∷ Failed ENOENT ∷ Killed ∷ []
+  -- connect needs `w`, bind `c`
+  pub by_letters : answers_by_openbsd socket_tree (codes "1 unveil /run rw" ∷ codes "1 unveil /run/c rc" ∷ codes "1 connect /run/s"
+      ∷ codes "1 bind /run/x" ∷ codes "1 bind /run/c" ∷ codes "1 connect /run/c" ∷ codes "1 connect /x" ∷ []) ≡ Okay ∷ Okay ∷ Okay
+      ∷ Failed EACCES ∷ Okay ∷ Failed EACCES ∷ Failed ENOENT ∷ []
+  -- mknod makes a file where nothing stands, by dpath and `c` alone; a link is kept
+  pub made : answers_by_openbsd socket_tree (codes "1 pledge dpath,error -" ∷ codes "1 mknod /run/new" ∷ codes "1 mknod /run/new"
+      ∷ codes "1 mknod /run" ∷ codes "1 mknod /run/cur" ∷ codes "1 mknod /x/y" ∷ codes "1 create /run/z" ∷ codes "1 bind /run/z" ∷ []) ≡ Okay
+      ∷ Okay ∷ Failed EEXIST ∷ Failed EEXIST ∷ Failed EEXIST ∷ Failed ENOENT ∷ Failed ENOSYS ∷ Failed ENOSYS ∷ []
+  -- chown needs rpath, and chown or fattr; a link is followed, and each kind has an owner
+  pub owned : answers_by_openbsd socket_tree (codes "1 fork 2" ∷ codes "1 pledge rpath,chown -" ∷ codes "1 chown /run" ∷ codes "1 chown /run/cur"
+      ∷ codes "1 chown /run/p" ∷ codes "1 chown /run/x" ∷ codes "2 pledge rpath,fattr,error -" ∷ codes "2 chown /run/s"
+      ∷ codes "2 pledge fattr,error -" ∷ codes "2 chown /run/s" ∷ codes "1 pledge rpath -" ∷ codes "1 chown /run/s" ∷ []) ≡ Okay ∷ Okay ∷ Okay
+      ∷ Okay ∷ Okay ∷ Failed ENOENT ∷ Okay ∷ Okay ∷ Okay ∷ Failed ENOSYS ∷ Okay ∷ Killed ∷ []
+  -- mknod needs `c`, chown `w`
+  pub further_letters : answers_by_openbsd socket_tree (codes "1 unveil /run rw" ∷ codes "1 unveil /run/c rc" ∷ codes "1 chown /run/s"
+      ∷ codes "1 mknod /run/x" ∷ codes "1 mknod /run/c" ∷ codes "1 chown /run/c" ∷ []) ≡ Okay ∷ Okay ∷ Okay ∷ Failed EACCES ∷ Okay
+      ∷ Failed EACCES ∷ []
+  -- and connect and bind need unix, whatever else is held
+  pub connect_by_others : answers_by_openbsd socket_tree (codes "1 pledge rpath,wpath,cpath,error -" ∷ codes "1 connect /run/s"
+      ∷ codes "1 bind /run/x" ∷ []) ≡ Okay ∷ Failed ENOSYS ∷ Failed ENOSYS ∷ []
+  -- by the profile there is no such call, and so no path of one
+  pub no_call : script (text_of_lines (codes "1 connect \\x" ∷ [])) ≡ Err (BadCall 1)
+  pub no_path : script_by Openbsd (text_of_lines (codes "1 connect \\x" ∷ [])) ≡ Err (BadPath 1)
+  pub no_further_call : script (text_of_lines (codes "1 mknod /x" ∷ [])) ≡ Err (BadCall 1)
+
+pub socket_rows : SocketRows
+socket_rows = record {
+  connected = refl;
+  bound = refl;
+  by_letters = refl;
+  made = refl;
+  owned = refl;
+  further_letters = refl;
+  connect_by_others = refl;
+  no_call = refl;
+  no_path = refl;
+  no_further_call = refl;
 }
 
 pub record ReplayRows : Type 0 where
@@ -344,6 +398,9 @@ pub record ScriptRows : Type 0 where
   pub empty_word : fault_of (codes "1 pledge stdio,,rpath -") ≡ Err (BadList 1)
   pub null_path : fault_of (codes "1 unveil - r") ≡ Err (BadList 1)
   pub null_perms : fault_of (codes "1 unveil /a -") ≡ Err (BadList 1)
+  -- by OpenBSD's rules
+  pub unknown_there : script_by Openbsd (codes "1 touch /") ≡ Err (BadCall 1)
+  pub line_there : request_by Openbsd 7 (codes "1 touch /") ≡ Err (BadCall 7)
 
 pub script_rows : ScriptRows
 script_rows = record {
@@ -355,4 +412,6 @@ script_rows = record {
   empty_word = refl;
   null_path = refl;
   null_perms = refl;
+  unknown_there = refl;
+  line_there = refl;
 }

@@ -3,27 +3,33 @@ use Rattle.std.specs.Prelude.{◌≡◌, ℕ, List, [], ◌∷◌, Some, Ok, tak
 use Rattle.pua_calls.specs.Calls.{CallTable, table_by_rules, rule_of}
 use Rattle.pua_calls.specs.TableTexts.{table_over}
 use Rattle.pua_calls.specs.declared.rules.Rules.{Rules}
-use Rattle.pua_calls.specs.Promises.{holds, cpath}
-use Rattle.pua_policy.specs.History.{History, ProcessState, StandsFor, held_set}
+use Rattle.pua_calls.specs.declared.rules.Rules.TheVariants.{Profile, Openbsd}
+use Rattle.pua_calls.specs.Promises.{cpath, dpath, unix}
+use Rattle.pua_policy.specs.History.{History, ProcessState, StandsFor}
 use Rattle.pua_script.specs.Requests.{Asked}
 use Rattle.pua_script.specs.Replay.{World, history_of, world_after}
 use Rattle.pua_script.specs.Tightening.{NoCallNeedsError, IsNarrowedBy, EndsWithin}
-use Rattle.pua_calls.specs.declared.call.Call.TheVariants.{Create, Mkdir, Rmdir, Unlink, Symlink}
-use Rattle.pua_script.specs.Confinement.{NeedsC, NamesCpath, TakingNeedsC, ChangingNeedsCpath, UncoveredStay, TreesAlong}
+use Rattle.pua_calls.specs.declared.call.Call.TheVariants.{Rmdir, Unlink}
+use Rattle.pua_script.specs.Confinement.{NeedsC, CallsNeed, TakingNeedsC, ChangingNeeds, HoldsNone, UncoveredStay, TreesAlong}
 use Rattle.pua_script.specs.Family.{is_exec, is_done, none_done, members_alone, family, is_member}
 use Rattle.pua_script.specs.Laws.{IsConfined}
 use Rattle.pua_script.specs.declared.answer.Answer.{Answer}
 use Rattle.pua_script.specs.Worlds.{WorldState, StandsForWorld, AreServed, process_at}
 
--- a table is one of those that narrowing is about
-pub record TableNarrows (table : CallTable) : Type 0 where
+-- a table is one of those that narrowing is about, and changes the tree by these promises
+pub record TableNarrows (promises : List ℕ) (table : CallTable) : Type 0 where
   pub error : NoCallNeedsError table
   pub taking : TakingNeedsC table
-  pub changing : ChangingNeedsCpath table
+  pub changing : ChangingNeeds promises table
+
+-- the promises by which rules let a process change the tree
+abbrev pub changing_promises : Rules → List ℕ
+changing_promises Profile = cpath ∷ []
+changing_promises Openbsd = cpath ∷ unix ∷ dpath ∷ []
 
 -- so are the rules that a command names, whichever they are
 abbrev pub RulesNarrow : Type 0
-RulesNarrow = (rules : Rules) → TableNarrows (table_by_rules rules)
+RulesNarrow = (rules : Rules) → TableNarrows (changing_promises rules) (table_by_rules rules)
 
 -- of a table that a text gives over such a one the laws ask no more than of its calls: rename and link need what they need by that one
 pub record ReadTablesNarrow : Type 0 where
@@ -31,10 +37,8 @@ pub record ReadTablesNarrow : Type 0 where
       NoCallNeedsError table
   pub taking : (base : CallTable) → TakingNeedsC base → (text : List ℕ) (table : CallTable) → table_over base text ≡ Ok table →
       NeedsC (rule_of table Rmdir) → NeedsC (rule_of table Unlink) → TakingNeedsC table
-  pub changing : (base : CallTable) → ChangingNeedsCpath base → (text : List ℕ) (table : CallTable) → table_over base text ≡ Ok table →
-      NamesCpath (rule_of table Create) → NamesCpath (rule_of table Mkdir) → NamesCpath (rule_of table Rmdir) →
-      NamesCpath (rule_of table Unlink) → NamesCpath (rule_of table Symlink) →
-      ChangingNeedsCpath table
+  pub changing : (base : CallTable) (promises : List ℕ) → ChangingNeeds promises base → (text : List ℕ) (table : CallTable) →
+      table_over base text ≡ Ok table → CallsNeed promises table → ChangingNeeds promises table
 
 -- a process is kept at the number, and stands for a history of this kind
 pub record HasProcessOf (s : WorldState) (process : ℕ) (IsSo : History → Type 0) : Type 0 where
@@ -68,11 +72,11 @@ AreDoneInPart before asks after = (count : ℕ)
     × ((w : World) → StandsForWorld before w → StandsForWorld after (world_after before.table w (take count asks)) ×
     (after.table ≡ before.table) × TreesAlong before.table w (take count asks))
 
--- by the history of a confined process at the beginning, and if the table asks for `c` and for cpath where it has to:
--- each row that isn't covered with `c` stays, and without cpath the tree does
+-- by the history of a confined process at the beginning, and if the table asks for `c` and for promises where it has to: each row
+-- that isn't covered with `c` stays, and without these promises the tree does
 pub record IsConfining (before : WorldState) (now : History) (after : WorldState) : Type 0 where
   pub spares : TakingNeedsC before.table → UncoveredStay now before.tree after.tree
-  pub unchanged : ChangingNeedsCpath before.table → IsFalse (holds (held_set now) cpath) → after.tree ≡ before.tree
+  pub unchanged : (promises : List ℕ) → ChangingNeeds promises before.table → HoldsNone promises now → after.tree ≡ before.tree
 
 -- what a list of requests leaves of the family of a process that was confined, as long as no exec of a
 -- member is answered ok: each member stands afterwards for a history that allows no more, and where

@@ -1,5 +1,5 @@
 -- What the code decides, by the definitions.
-use Rattle.std.specs.Prelude.{ℕ, List, Bool, true, false, Option, Some, None, Result, Ok, Err}
+use Rattle.std.specs.Prelude.{ℕ, List, Bool, true, Option, Some, None, Result, Ok, Err, is_some}
 use Rattle.pua_tree.specs.Tree.{Node, Tree, Spot}
 use Rattle.pua_tree.specs.declared.node.Kind.TheVariants as kind
 use Rattle.pua_path.specs.Fits.{FoundFits, StandsAsNamed}
@@ -14,7 +14,7 @@ use Rattle.pua_policy.specs.Verdict.{place_of}
 use Rattle.pua_policy.specs.declared.answer.Refusal.{Refusal}
 use Rattle.pua_script.specs.Decide.{NoChange, AddNode, CutRow, ShiftRow, TieRow, BeginProgram, AddEvent, Asking, Change, Decision, pledging}
 use Rattle.pua_script.specs.Decide.{veiling}
-use Rattle.pua_script.specs.Decide.{plain_node, link_node, placing, cutting, if_named, unless_fault, covers_by, asker_on}
+use Rattle.pua_script.specs.Decide.{plain_node, link_node, made_by, making, cutting, if_named, unless_fault, covers_by, asker_on}
 use Rattle.pua_script.specs.declared.granted.Granted.{Granted}
 use Rattle.pua_script.specs.declared.granted.Granted.TheVariants as granted
 use Rattle.pua_script.specs.declared.granted.NewNode.{NewNode}
@@ -54,19 +54,15 @@ decision_by asker granted.Exit = Ok (AddEvent Ended)
 
 -- a call that makes a name or takes one away
 abbrev pub is_edit : Call → Bool
-is_edit call.Create = true
-is_edit call.Mkdir = true
 is_edit call.Rmdir = true
 is_edit call.Unlink = true
-is_edit _ = false
+is_edit call = is_some (made_by call)
 
 -- what such a call changes, by the spot that its path named and by what stands there
 abbrev pub edit_by : Call → Option Spot → Option ℕ → Change
-edit_by call.Create spot there = placing (plain_node kind.File) spot there
-edit_by call.Mkdir spot there = placing (plain_node kind.Dir) spot there
 edit_by call.Rmdir spot there = cutting spot there
 edit_by call.Unlink spot there = cutting spot there
-edit_by _ spot there = NoChange
+edit_by call spot there = making (made_by call) spot there
 
 -- what a rename and a link change, as a decision
 abbrev pub shifted : Result (Option Shift) Refusal → Decision

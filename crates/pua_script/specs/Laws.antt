@@ -1,5 +1,5 @@
 -- What is true of replays.
-use Rattle.std.specs.Prelude.{not, ◌&&◌, ◌≡◌, ◌≢◌, ◌↔◌, Bool, true, false, ◌⊎◌, Ok, Err, List, ◌++◌, IsTrue}
+use Rattle.std.specs.Prelude.{not, ◌&&◌, ◌≡◌, ◌≢◌, ◌↔◌, Bool, true, false, ◌⊎◌, Ok, Err, List, ◌++◌, IsTrue, is_some}
 use Rattle.pua_tree.specs.Tree.{Tree, WellFormed}
 use Rattle.pua_tree.specs.Edits.{has_name_room, has_room}
 use Rattle.pua_path.specs.declared.errno.Errno.TheVariants.{ENOSPC}
@@ -8,11 +8,10 @@ use Rattle.pua_policy.specs.History.{History, held_set, is_locked}
 use Rattle.pua_calls.specs.Calls.{CallTable}
 use Rattle.pua_policy.specs.declared.answer.Refusal.TheVariants.{Failed}
 use Rattle.pua_calls.specs.declared.call.Call.{Call}
-use Rattle.pua_calls.specs.declared.call.Call.TheVariants as call
 use Rattle.pua_script.specs.declared.request.Action.{Action}
 use Rattle.pua_script.specs.declared.request.Action.TheVariants.{OnPath, Symlink, Link}
 use Rattle.pua_script.specs.Requests.{Asked}
-use Rattle.pua_script.specs.Decide.{Change, AddNode, TieRow, decide}
+use Rattle.pua_script.specs.Decide.{Change, AddNode, TieRow, decide, made_by}
 use Rattle.pua_script.specs.Guards.{IsPossible}
 use Rattle.pua_script.specs.Replay.{World, Fails, change_effect, effect, answers_to, world_after}
 
@@ -28,9 +27,7 @@ IsConfined h = (is_locked h ≡ true) ⊎ (holds (held_set h) unveil ≡ false)
 
 -- the calls that add a node
 abbrev pub adds_node : Call → Bool
-adds_node call.Create = true
-adds_node call.Mkdir = true
-adds_node _ = false
+adds_node call = is_some (made_by call)
 
 -- a change that adds a node or a name for which the tree has no room
 abbrev pub wants_room : Tree → Change → Bool

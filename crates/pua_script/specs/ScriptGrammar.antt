@@ -5,12 +5,13 @@ use Rattle.std.specs.List.{list_all}
 use Rattle.std.specs.Str.Lines.{lines}
 use Rattle.pua_tree.specs.Spelling.{spelling, fields, is_field}
 use Rattle.pua_calls.specs.Promises.{promises_of, perms_of}
-use Rattle.pua_calls.specs.Calls.{call_name}
+use Rattle.pua_calls.specs.Calls.{call_named_by}
+use Rattle.pua_calls.specs.declared.rules.Rules.{Rules}
 use Rattle.pua_path.specs.declared.errno.Errno.{Errno}
 use Rattle.pua_calls.specs.declared.call.Call.{Call}
 use Rattle.pua_script.specs.Limits.{most_script_lines, most_number}
 use Rattle.pua_script.specs.Requests.{Asked, is_symlink, has_no_nul}
-use Rattle.pua_script.specs.Scripts.{has_empty_word, script}
+use Rattle.pua_script.specs.Scripts.{has_empty_word, script_by}
 use Rattle.pua_script.specs.declared.request.Given.{Given}
 use Rattle.pua_script.specs.declared.request.Given.TheVariants.{Null, Good, Unknown}
 use Rattle.pua_script.specs.declared.request.Action.{Action}
@@ -42,44 +43,44 @@ pub data SpellsPerms (field : List ℕ) : Option ℕ → Type 0 where
   unknown_letter : {errno : Errno} → field ≢ codes "=" → perms_of field ≡ Err errno → SpellsPerms field None
 
 -- the fields of a call and its arguments
-pub data SpellsAction : List (List ℕ) → Action → Type 0 where
-  on_path : {word a path : List ℕ} {call : Call} → IsFalse (is_symlink call) → word ≡ call_name call → SpellsPath a path →
-      SpellsAction (word ∷ a ∷ []) (OnPath call path)
+pub data SpellsAction (rules : Rules) : List (List ℕ) → Action → Type 0 where
+  on_path : {word a path : List ℕ} {call : Call} → IsFalse (is_symlink call) → call_named_by rules word ≡ Some call → SpellsPath a path →
+      SpellsAction rules (word ∷ a ∷ []) (OnPath call path)
   symlink : {word a b target path : List ℕ} → word ≡ codes "symlink" → SpellsPath a target → SpellsPath b path →
-      SpellsAction (word ∷ a ∷ b ∷ []) (Symlink target path)
+      SpellsAction rules (word ∷ a ∷ b ∷ []) (Symlink target path)
   rename : {word a b old new : List ℕ} → word ≡ codes "rename" → SpellsPath a old → SpellsPath b new →
-      SpellsAction (word ∷ a ∷ b ∷ []) (Rename old new)
+      SpellsAction rules (word ∷ a ∷ b ∷ []) (Rename old new)
   link : {word a b old new : List ℕ} → word ≡ codes "link" → SpellsPath a old → SpellsPath b new →
-      SpellsAction (word ∷ a ∷ b ∷ []) (Link old new)
+      SpellsAction rules (word ∷ a ∷ b ∷ []) (Link old new)
   pledge : {word a b : List ℕ} {promises execpromises : Given} → word ≡ codes "pledge" → SpellsGiven a promises →
-      SpellsGiven b execpromises → SpellsAction (word ∷ a ∷ b ∷ []) (Pledge promises execpromises)
+      SpellsGiven b execpromises → SpellsAction rules (word ∷ a ∷ b ∷ []) (Pledge promises execpromises)
   unveil : {word a b path : List ℕ} {perms : Option ℕ} → word ≡ codes "unveil" → a ≢ codes "-" → b ≢ codes "-" → SpellsPath a path →
-      SpellsPerms b perms → SpellsAction (word ∷ a ∷ b ∷ []) (Unveil path perms)
-  lock : {word a b : List ℕ} → word ≡ codes "unveil" → a ≡ codes "-" → b ≡ codes "-" → SpellsAction (word ∷ a ∷ b ∷ []) Lock
+      SpellsPerms b perms → SpellsAction rules (word ∷ a ∷ b ∷ []) (Unveil path perms)
+  lock : {word a b : List ℕ} → word ≡ codes "unveil" → a ≡ codes "-" → b ≡ codes "-" → SpellsAction rules (word ∷ a ∷ b ∷ []) Lock
   fork : {word a : List ℕ} {new : ℕ} → word ≡ codes "fork" → a ≡ decimal new → 1 ≤ new → new ≤ most_number →
-      SpellsAction (word ∷ a ∷ []) (Fork new)
-  exit : {word : List ℕ} → word ≡ codes "exit" → SpellsAction (word ∷ []) Exit
+      SpellsAction rules (word ∷ a ∷ []) (Fork new)
+  exit : {word : List ℕ} → word ≡ codes "exit" → SpellsAction rules (word ∷ []) Exit
 
 -- a line: the decimal of the process, and the fields of what it asks for, with single spaces between fields
-pub record SpellsRequest (line : List ℕ) (ask : Asked) : Type 0 where
+pub record SpellsRequest (rules : Rules) (line : List ℕ) (ask : Asked) : Type 0 where
   pub visible : IsTrue (list_all is_field (fields line))
   pub more : List (List ℕ)
   pub split : fields line ≡ decimal ask.process ∷ more
   pub low : 1 ≤ ask.process
   pub high : ask.process ≤ most_number
-  pub spells : SpellsAction more ask.action
+  pub spells : SpellsAction rules more ask.action
 
 -- each line spells its request
-abbrev pub SpellRequests : List (List ℕ) → List Asked → Type 0
-SpellRequests [] [] = Unit {0}
-SpellRequests [] (ask ∷ asks) = ⊥
-SpellRequests (line ∷ lines) [] = ⊥
-SpellRequests (line ∷ lines) (ask ∷ asks) = SpellsRequest line ask × SpellRequests lines asks
+abbrev pub SpellRequests : Rules → List (List ℕ) → List Asked → Type 0
+SpellRequests rules [] [] = Unit {0}
+SpellRequests rules [] (ask ∷ asks) = ⊥
+SpellRequests rules (line ∷ lines) [] = ⊥
+SpellRequests rules (line ∷ lines) (ask ∷ asks) = SpellsRequest rules line ask × SpellRequests rules lines asks
 
 -- the bytes are a script of these requests
-abbrev pub IsScript : List ℕ → List Asked → Type 0
-IsScript bytes asks = (length (lines bytes) ≤ most_script_lines) × SpellRequests (lines bytes) asks
+abbrev pub IsScript : Rules → List ℕ → List Asked → Type 0
+IsScript rules bytes asks = (length (lines bytes) ≤ most_script_lines) × SpellRequests rules (lines bytes) asks
 
 -- the reader accepts exactly the scripts of a list of requests
-abbrev pub ScriptsAreRead : Type 0
-ScriptsAreRead = (bytes : List ℕ) (asks : List Asked) → (script bytes ≡ Ok asks) ↔ IsScript bytes asks
+abbrev pub ScriptsAreRead : Rules → Type 0
+ScriptsAreRead rules = (bytes : List ℕ) (asks : List Asked) → (script_by rules bytes ≡ Ok asks) ↔ IsScript rules bytes asks

@@ -9,7 +9,9 @@ use Rattle.pua_tree.specs.Spelling.{bytes_spelled, fields, is_field, number_with
 use Rattle.pua_tree.specs.Steps.{◌>>=◌}
 use Rattle.pua_tree.specs.Listing.{only_if}
 use Rattle.pua_calls.specs.Promises.{promises_of, perms_of}
-use Rattle.pua_calls.specs.Calls.{call_named}
+use Rattle.pua_calls.specs.Calls.{call_named_by}
+use Rattle.pua_calls.specs.declared.rules.Rules.{Rules}
+use Rattle.pua_calls.specs.declared.rules.Rules.TheVariants.{Profile}
 use Rattle.pua_script.specs.Limits.{most_script_lines, most_number}
 use Rattle.pua_script.specs.Requests.{Asked, is_symlink, has_no_nul}
 use Rattle.pua_path.specs.declared.errno.Errno.{Errno}
@@ -62,18 +64,18 @@ pub data Form : Type 0 where
   ExitForm : Form
 
 -- the form of a line, if its call is known, has that many arguments, and a new process's number is one
-abbrev pub form_of : List ℕ → List (List ℕ) → Option Form
-form_of word [] = if same_bytes word (codes "exit") then Some ExitForm else None
-form_of word (a ∷ []) =
+abbrev pub form_of : Rules → List ℕ → List (List ℕ) → Option Form
+form_of rules word [] = if same_bytes word (codes "exit") then Some ExitForm else None
+form_of rules word (a ∷ []) =
     if same_bytes word (codes "fork") then option_map ForkForm (number_within 1 most_number a)
-    else option_map (λ call. PathForm call a) (only_if (λ call. not (is_symlink call)) (call_named word))
-form_of word (a ∷ b ∷ []) =
+    else option_map (λ call. PathForm call a) (only_if (λ call. not (is_symlink call)) (call_named_by rules word))
+form_of rules word (a ∷ b ∷ []) =
     if same_bytes word (codes "symlink") then Some (SymlinkForm a b)
     else (if same_bytes word (codes "rename") then Some (RenameForm a b)
     else (if same_bytes word (codes "link") then Some (LinkForm a b)
     else (if same_bytes word (codes "pledge") then Some (PledgeForm a b)
     else (if same_bytes word (codes "unveil") then Some (UnveilForm a b) else None))))
-form_of word (a ∷ b ∷ c ∷ more) = None
+form_of rules word (a ∷ b ∷ c ∷ more) = None
 
 -- two paths, both read or the line's fault
 abbrev pub with_paths : ℕ → (List ℕ → List ℕ → Action) → List ℕ → List ℕ → Result Action ScriptFault
@@ -103,33 +105,42 @@ action_of n (ForkForm new) = Ok (Fork new)
 action_of n ExitForm = Ok Exit
 
 -- the fields after the process's number: the call and its arguments, and what they ask for
-abbrev pub form_in : List (List ℕ) → Option Form
-form_in [] = None
-form_in (word ∷ arguments) = form_of word arguments
+abbrev pub form_in : Rules → List (List ℕ) → Option Form
+form_in rules [] = None
+form_in rules (word ∷ arguments) = form_of rules word arguments
 
-abbrev pub action_in : ℕ → List (List ℕ) → Result Action ScriptFault
-action_in n more = ok_or (form_in more) (BadCall n) >>= action_of n
+abbrev pub action_in : Rules → ℕ → List (List ℕ) → Result Action ScriptFault
+action_in rules n more = ok_or (form_in rules more) (BadCall n) >>= action_of n
 
-abbrev pub request_of_fields : ℕ → List (List ℕ) → Result Asked ScriptFault
-request_of_fields n [] = Err (BadLine n)
-request_of_fields n (process ∷ more) = do
+abbrev pub request_of_fields : Rules → ℕ → List (List ℕ) → Result Asked ScriptFault
+request_of_fields rules n [] = Err (BadLine n)
+request_of_fields rules n (process ∷ more) = do
   number ← ok_or (number_within 1 most_number process) (BadLine n)
-  action ← action_in n more
+  action ← action_in rules n more
   Ok (record { process = number; action = action })
 
 -- what line n asks for, or its first fault
+abbrev pub request_by : Rules → ℕ → List ℕ → Result Asked ScriptFault
+request_by rules n text = if list_all is_field (fields text) then request_of_fields rules n (fields text) else Err (BadLine n)
+
+-- by the rules of the profile
 abbrev pub request_of : ℕ → List ℕ → Result Asked ScriptFault
-request_of n text = if list_all is_field (fields text) then request_of_fields n (fields text) else Err (BadLine n)
+request_of n text = request_by Profile n text
 
 -- the requests of lines, of which the first is line n, or the fault of the first line that has one
-abbrev pub requests_of : ℕ → List (List ℕ) → Result (List Asked) ScriptFault
-requests_of n [] = Ok []
-requests_of n (text ∷ texts) = request_of n text >>= λ request. requests_of (suc n) texts >>= λ requests. Ok (request ∷ requests)
+abbrev pub requests_of : Rules → ℕ → List (List ℕ) → Result (List Asked) ScriptFault
+requests_of rules n [] = Ok []
+requests_of rules n (text ∷ texts) =
+    request_by rules n text >>= λ request. requests_of rules (suc n) texts >>= λ requests. Ok (request ∷ requests)
 
 -- the requests of which the bytes are a script, or their first fault
-abbrev pub script : List ℕ → Result (List Asked) ScriptFault
-script bytes = requests_of 1 (take most_script_lines (lines bytes)) >>= λ requests. if nat_lt most_script_lines (length (lines bytes)) then
+abbrev pub script_by : Rules → List ℕ → Result (List Asked) ScriptFault
+script_by rules bytes = requests_of rules 1 (take most_script_lines (lines bytes)) >>= λ requests. if nat_lt most_script_lines (length (lines bytes)) then
     Err TooMany else Ok requests
+
+-- by the rules of the profile, which have the fourteen calls
+abbrev pub script : List ℕ → Result (List Asked) ScriptFault
+script bytes = script_by Profile bytes
 
 -- a reader answers as the definition does, unless a growth was refused
 abbrev pub IsReadAs : {A : Type 0} → Result A ScriptFault → Result A ScriptFault → Type 0

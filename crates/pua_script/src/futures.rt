@@ -3,7 +3,7 @@
 
 ghost use Rattle.pua_script.specs.Bytes.{ListingsListByteTrees, ReplaysKeepByteTrees};
 ghost use Rattle.pua_script.specs.Bytes.{ReplaysKeepTrees, RequestsKeepTrees, ScriptsAskInBytes};
-ghost use Rattle.pua_script.specs.Confinement.{CpathChanges, EachRequestSpares, FamiliesConfine};
+ghost use Rattle.pua_script.specs.Confinement.{EachRequestSpares, FamiliesConfine, PromisesChange};
 ghost use Rattle.pua_script.specs.ErrorTables.{ErrorTables};
 ghost use Rattle.pua_script.specs.Futures.{ReadTablesNarrow, RulesNarrow};
 ghost use Rattle.pua_script.specs.Tightening.{EachRequestNarrows, FamiliesNarrow, ForksCopy};
@@ -35,15 +35,15 @@ pub fn families_law()
 /// What a family alone asks for leaves each row whose object it can't touch with `c`, with the
 /// node, the kind, the target and the cover, as long as no member's exec succeeds, where the table
 /// asks rmdir, unlink and both names of rename for `c` and each tree on the way is one; and without
-/// cpath it leaves the tree, where the five calls that make a name or take one away need it, and the
-/// new names of rename and link. A single request of any process does so by the history that it had
-/// before. A row that stays says nothing of what is written to its file: link takes no name away, so
-/// that where it needs less of its old name, as by OpenBSD's rules, the file may be given a further
-/// name and be written by that.
+/// certain promises it leaves the tree, where the calls that make a name or take one away need one
+/// of these, and the new names of rename and link. A single request of any process does so by the
+/// history that it had before. A row that stays says nothing of what is written to its file: link takes
+/// no name away, so that where it needs less of its old name, as by OpenBSD's rules, the file may be
+/// given a further name and be written by that.
 pub fn confined_law()
     ensures requests { EachRequestSpares }
     ensures lists { FamiliesConfine }
-    ensures cpath { CpathChanges }
+    ensures promises { PromisesChange }
 {}
 
 /// Requests whose texts are bytes leave a tree whose links lead to bytes, if those of the tree before
@@ -57,9 +57,9 @@ pub fn bytes_law()
 {}
 
 /// The standard rules, and those of OpenBSD, are of those that the laws speak of: no call needs
-/// `error`, rmdir, unlink and both names of rename need `c`, and the five calls that make a name or
-/// take one away need cpath, as the new names of rename and link do. Of a table that a text gives over
-/// such rules no more is asked than of these calls.
+/// `error`, rmdir, unlink and both names of rename need `c`, and the calls that make a name or take one
+/// away need cpath, as the new names of rename and link do; by OpenBSD's rules cpath, unix or dpath. Of a
+/// table that a text gives over such rules no more is asked than of these calls.
 pub fn table_law()
     ensures rules { RulesNarrow }
     ensures read { ReadTablesNarrow }

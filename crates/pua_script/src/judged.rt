@@ -87,7 +87,7 @@ pub(crate) fn is_edit(call: Call) -> bool
 {
     matches!(
         call,
-        Call::Create | Call::Mkdir | Call::Rmdir | Call::Unlink
+        Call::Create | Call::Bind | Call::Mknod | Call::Mkdir | Call::Rmdir | Call::Unlink
     )
 }
 
@@ -126,7 +126,7 @@ pub(crate) fn editing<'a>(
         decision_by asker result ≡ Ok (edit_by call (Some (dir, name.now)) there) }
 {
     match call {
-        Call::Create => adding(NewNode::File, dir, name, there),
+        Call::Create | Call::Bind | Call::Mknod => adding(NewNode::File, dir, name, there),
         Call::Mkdir => adding(NewNode::Directory, dir, name, there),
         Call::Rmdir | Call::Unlink => removing(dir, name, there),
         _ => Granted::NoChange,

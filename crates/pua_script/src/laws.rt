@@ -3,12 +3,13 @@
 
 ghost use Rattle.std.specs.Prelude.{◌≡◌};
 ghost use Rattle.pua_script.specs.Examples.{ExecRows, LinkRows, PairRows, RenameRows, ReplayRows};
-ghost use Rattle.pua_script.specs.Examples.{ScriptRows};
+ghost use Rattle.pua_script.specs.Examples.{ScriptRows, SocketRows};
 ghost use Rattle.pua_script.specs.Guards.{DecisionsAreGuarded};
 ghost use Rattle.pua_script.specs.Limits.{most_script_lines, most_number, most_processes};
 ghost use Rattle.pua_script.specs.Laws.{ChangesLackRoom, DecisionsArePossible, RefusalsLackNoRoom};
 ghost use Rattle.pua_script.specs.Laws.{ReplayComposes, RequestsLackRoom};
 ghost use Rattle.pua_script.specs.ScriptGrammar.{ScriptsAreRead};
+ghost use Rattle.pua_calls.specs.declared.rules.Rules.{Rules};
 ghost use Rattle.pua_script.specs.Worlds.{WorldsAnswerAlike};
 
 use crate::limits::{MOST_NUMBER, MOST_PROCESSES, MOST_SCRIPT_LINES};
@@ -32,6 +33,7 @@ pub fn replay_examples()
     ensures renames { RenameRows }
     ensures links { LinkRows }
     ensures pairs { PairRows }
+    ensures sockets { SocketRows }
     ensures execs { ExecRows }
 {}
 
@@ -51,9 +53,9 @@ pub fn standing_law()
     ensures { WorldsAnswerAlike }
 {}
 
-/// Bytes are read as a list of requests exactly where their lines spell it.
+/// Bytes are read as a list of requests exactly where their lines spell it, by any rules.
 pub fn script_law()
-    ensures { ScriptsAreRead }
+    ensures { (rules : Rules) → ScriptsAreRead rules }
 {}
 
 /// A request is answered `ENOSPC` exactly where it was granted a change that adds a node or a name,

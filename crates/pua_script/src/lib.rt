@@ -30,7 +30,7 @@ pub use laws::{
     standing_law,
 };
 pub use limits::{MOST_NUMBER, MOST_PROCESSES, MOST_SCRIPT_LINES};
-pub use line::read_request;
+pub use line::{read_request, read_request_by};
 pub use request::{Action, Given, PathBytes, Request};
-pub use script::{Script, read_script};
+pub use script::{Script, read_script, read_script_by};
 pub use world::World;

@@ -6,7 +6,7 @@ ghost use Rattle.pua_script.specs.Added.{IsActionAdded, IsRequestAdded};
 ghost use Rattle.pua_script.specs.Scripts.{IsReadAs};
 ghost use Rattle.pua_script.specs.Scripts.{is_dash, is_equals, has_empty_word, path_in};
 ghost use Rattle.pua_script.specs.Scripts.{given_in, perms_in, unveil_of, with_paths, action_in};
-ghost use Rattle.pua_script.specs.Scripts.{action_of, request_of, request_of_fields};
+ghost use Rattle.pua_script.specs.Scripts.{action_of, request_by, request_of, request_of_fields};
 ghost use Rattle.pua_script.specs.Scripts.Form.{PledgeForm};
 ghost use Rattle.pua_script.specs.declared.request.Action.TheVariants.{Symlink, Rename, Link};
 ghost use Rattle.pua_script.specs.declared.fault.ScriptFault.TheVariants.{BadCall, BadList};
@@ -16,44 +16,58 @@ use crate::fault::ScriptFault;
 use crate::limits::MOST_NUMBER;
 use crate::origin::Origin;
 use crate::request::{Action, Given, PathBytes, Request};
-use pua_calls::{Call, Perms, Promises};
+use pua_calls::{Call, Perms, Promises, Rules};
 use pua_tree::{Fields, are_plain, number_within, unspelled};
 use std::alloc::Global;
 
-/// Reads one line of a script, whose number is told with a fault. `OutOfMemory` where a growth was
-/// refused.
+/// Reads one line of a script by this project's own rules, as `read_request_by` does.
 pub fn read_request(alloc: Global, number: u32, line: &[u8]) -> Result<Request, ScriptFault>
     ensures { IsReadAs (request_of number line.now) result }
 {
+    read_request_by(alloc, Rules::Profile, number, line)
+}
+
+/// Reads one line of a script, whose number is told with a fault, with the calls that there are by
+/// these rules. `OutOfMemory` where a growth was refused.
+pub fn read_request_by(
+    alloc: Global,
+    rules: Rules,
+    number: u32,
+    line: &[u8],
+) -> Result<Request, ScriptFault>
+    ensures { IsReadAs (request_by rules number line.now) result }
+{
     let mut requests = Vec::new(alloc);
-    add_request(alloc, &mut requests, number, line)?;
+    add_request(alloc, rules, &mut requests, number, line)?;
     Ok(requests.pop().unwrap())
 }
 
 /// Adds what the line of this number asks for.
 pub(crate) fn add_request(
     alloc: Global,
+    rules: Rules,
     requests: &mut Vec<Request>,
     number: u32,
     line: &[u8],
 ) -> Result<(), ScriptFault>
-    ensures { IsRequestAdded (request_of number line.now)
+    ensures { IsRequestAdded (request_by rules number line.now)
         requests.old.items requests.new.items result }
 {
     let Some(fields) = Fields::read(line) else {
         return Err(ScriptFault::BadLine(number));
     };
-    read_fields(alloc, requests, number, fields.as_slice())
+    read_fields(alloc, rules, requests, number, fields.as_slice())
 }
 
 /// Adds the request of a line's fields.
 fn read_fields(
     alloc: Global,
+    rules: Rules,
     requests: &mut Vec<Request>,
     number: u32,
     fields: &[&[u8]],
 ) -> Result<(), ScriptFault>
-    ensures { IsRequestAdded (request_of_fields number (map (λ field. field.now) fields.now))
+    ensures { IsRequestAdded (request_of_fields rules number (map (λ field. field.now) fields.now))
         requests.old.items requests.new.items result }
 {
     let Some((process, more)) = fields.split_first() else {
@@ -63,31 +77,37 @@ fn read_fields(
         return Err(ScriptFault::BadLine(number));
     };
     let line = number;
-    read_action(alloc, requests, Origin { line, process }, more)
+    read_action(alloc, rules, requests, Origin { line, process }, more)
 }
 
 /// Adds what the fields after the process's number ask for.
 fn read_action(
     alloc: Global,
+    rules: Rules,
     requests: &mut Vec<Request>,
     origin: Origin,
     fields: &[&[u8]],
 ) -> Result<(), ScriptFault>
-    ensures { IsActionAdded (action_in origin.line (map (λ field. field.now) fields.now))
+    ensures { IsActionAdded (action_in rules origin.line (map (λ field. field.now) fields.now))
         origin.process requests.old.items requests.new.items result }
 {
     match fields {
         [] => Err(ScriptFault::BadCall(origin.line)),
-        [word] => read_alone(requests, origin, word),
-        [word, a] => read_one(alloc, requests, origin, word, a),
-        [word, a, b] => read_two(alloc, requests, origin, word, a, b),
+        [word] => read_alone(rules, requests, origin, word),
+        [word, a] => read_one(alloc, rules, requests, origin, word, a),
+        [word, a, b] => read_two(alloc, rules, requests, origin, word, a, b),
         _ => Err(ScriptFault::BadCall(origin.line)),
     }
 }
 
 /// A call without arguments.
-fn read_alone(requests: &mut Vec<Request>, origin: Origin, word: &[u8]) -> Result<(), ScriptFault>
-    ensures { IsActionAdded (action_in origin.line (word.now ∷ [])) origin.process
+fn read_alone(
+    rules: Rules,
+    requests: &mut Vec<Request>,
+    origin: Origin,
+    word: &[u8],
+) -> Result<(), ScriptFault>
+    ensures { IsActionAdded (action_in rules origin.line (word.now ∷ [])) origin.process
         requests.old.items requests.new.items result }
 {
     match word {
@@ -99,12 +119,13 @@ fn read_alone(requests: &mut Vec<Request>, origin: Origin, word: &[u8]) -> Resul
 /// A call with one argument.
 fn read_one(
     alloc: Global,
+    rules: Rules,
     requests: &mut Vec<Request>,
     origin: Origin,
     word: &[u8],
     a: &[u8],
 ) -> Result<(), ScriptFault>
-    ensures { IsActionAdded (action_in origin.line (word.now ∷ a.now ∷ [])) origin.process
+    ensures { IsActionAdded (action_in rules origin.line (word.now ∷ a.now ∷ [])) origin.process
         requests.old.items requests.new.items result }
 {
     if is_fork(word) {
@@ -113,7 +134,7 @@ fn read_one(
             None => Err(ScriptFault::BadCall(origin.line)),
         };
     }
-    match Call::read(word) {
+    match Call::read_by(rules, word) {
         None | Some(Call::Symlink) => Err(ScriptFault::BadCall(origin.line)),
         Some(call) => {
             let path = read_path(alloc, origin.line, a)?;
@@ -125,13 +146,14 @@ fn read_one(
 /// A call with two arguments.
 fn read_two(
     alloc: Global,
+    rules: Rules,
     requests: &mut Vec<Request>,
     origin: Origin,
     word: &[u8],
     a: &[u8],
     b: &[u8],
 ) -> Result<(), ScriptFault>
-    ensures { IsActionAdded (action_in origin.line (word.now ∷ a.now ∷ b.now ∷ [])) origin.process
+    ensures { IsActionAdded (action_in rules origin.line (word.now ∷ a.now ∷ b.now ∷ [])) origin.process
         requests.old.items requests.new.items result }
 {
     if word == b"symlink".as_slice() {

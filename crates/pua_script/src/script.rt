@@ -5,6 +5,7 @@ use crate::limits::MOST_SCRIPT_LINES;
 use crate::line::add_request;
 use crate::request::Request;
 use bstr::ByteSlice;
+use pua_calls::Rules;
 use std::alloc::Global;
 use std::marker::Model;
 
@@ -24,7 +25,7 @@ impl Model for Script {
 }
 
 ghost use Rattle.std.specs.Prelude.{◌≡◌, ◌≢◌, MatchResult, Ok, Err};
-ghost use Rattle.pua_script.specs.Scripts.{script};
+ghost use Rattle.pua_script.specs.Scripts.{script, script_by};
 
 impl Script {
     /// The requests, the first line's first.
@@ -42,8 +43,8 @@ impl Script {
     }
 }
 
-/// Reads a script: one request a line, 60,000 lines at most. A line ends in LF or CRLF; the last
-/// end may be missing. The format is this program's own.
+/// Reads a script by this project's own rules: one request a line, 60,000 lines at most. A line ends
+/// in LF or CRLF; the last end may be missing. The format is this program's own.
 ///
 /// The error is the first fault of the first line that has one, with that line's number;
 /// `TooMany` where none of the first 60,000 has one and there are more; `OutOfMemory` where a
@@ -52,6 +53,15 @@ pub fn read_script(alloc: Global, bytes: &[u8]) -> Result<Script, ScriptFault>
     ensures { MatchResult result (λ requests. script bytes.now ≡ Ok requests)
         (λ fault. fault ≢ ScriptFault.OutOfMemory → script bytes.now ≡ Err fault) }
 {
+    read_script_by(alloc, Rules::Profile, bytes)
+}
+
+/// Reads a script with the calls that there are by these rules, as [`read_script`] does by those of
+/// this project.
+pub fn read_script_by(alloc: Global, rules: Rules, bytes: &[u8]) -> Result<Script, ScriptFault>
+    ensures { MatchResult result (λ requests. script_by rules bytes.now ≡ Ok requests)
+        (λ fault. fault ≢ ScriptFault.OutOfMemory → script_by rules bytes.now ≡ Err fault) }
+{
     let mut requests = Vec::new(alloc);
     let mut number = 0;
     for line in bytes.lines() {
@@ -59,7 +69,7 @@ pub fn read_script(alloc: Global, bytes: &[u8]) -> Result<Script, ScriptFault>
             return Err(ScriptFault::TooMany);
         }
         number += 1;
-        add_request(alloc, &mut requests, number, line)?;
+        add_request(alloc, rules, &mut requests, number, line)?;
     }
     Ok(Script { requests })
 }

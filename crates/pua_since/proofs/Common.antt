@@ -42,7 +42,7 @@ pub use Rattle.pua_why.specs.Facts.{Fact, facts_of}
 pub use Rattle.pua_why.specs.Reasons.{Ended, Fault, reason}
 pub use Rattle.pua_why.specs.Seen.{fact_seen}
 pub use Rattle.pua_why.specs.Since.{came_from, forebear, parent_by, since, Test}
-pub use Rattle.pua_why.specs.Texts.{answer_words, date_of, reason_since, since_text}
+pub use Rattle.pua_why.specs.Texts.{answer_words, date_of, reason_since, reason_tail}
 pub use Rattle.pua_since.specs.Changes.{has_changed, has_forked}
 pub use Rattle.pua_since.specs.Concerns.{TouchesOnly}
 pub use Rattle.pua_since.specs.Dates.{AreFactsAt, ArePlacesOf, AreVeilsAt, fact_line, IsFactAt, IsRequestAt, IsVeilAt, veil_seen, veil_told}

@@ -10,9 +10,10 @@ use Rattle.std.specs.List.{list_all}
 use Rattle.std.specs.Result.{result_ok}
 use Rattle.pua_tree.specs.Spelling.{fields, is_field, number_within}
 use Rattle.pua_tree.specs.Steps.{◌>>=◌}
+use Rattle.pua_calls.specs.declared.rules.Rules.{Rules}
 use Rattle.pua_script.specs.Limits.{most_number}
 use Rattle.pua_script.specs.Scripts.{Form, PathForm, SymlinkForm, RenameForm, LinkForm, PledgeForm, UnveilForm, ForkForm, ExitForm}
-use Rattle.pua_script.specs.Scripts.{action_of, form_in, given_in, is_dash, path_in, perms_in, request_of, request_of_fields, unveil_of}
+use Rattle.pua_script.specs.Scripts.{action_of, form_in, given_in, is_dash, path_in, perms_in, request_by, request_of_fields, unveil_of}
 use Rattle.pua_script.specs.Scripts.{with_paths}
 use Rattle.pua_script.specs.declared.fault.ScriptFault.{ScriptFault}
 use Rattle.pua_script.specs.declared.fault.ScriptFault.TheVariants.{BadLine, BadCall, BadPath, BadList}
@@ -37,7 +38,7 @@ same_then (Ok x) (Err f) g h e so = cc
 same_then (Err f) (Ok x) g h e so = cc
 same_then (Err e) (Err f) g h same so = refl
 
-module _ (n m : ℕ) where
+module _ (rules : Rules) (n m : ℕ) where
   same_paths : (make : List ℕ → List ℕ → Action) (a b : List ℕ) → SameOk (with_paths n make a b) (with_paths m make a b)
   same_paths make a b =
       same_then _ _ _ _ (same_found (path_in a) (BadPath n) (BadPath m)) λ first. same_then _ _ _ _
@@ -72,23 +73,23 @@ module _ (n m : ℕ) where
   same_action (ForkForm new) = refl
   same_action ExitForm = refl
 
-  same_fields : (fs : List (List ℕ)) → SameOk (request_of_fields n fs) (request_of_fields m fs)
+  same_fields : (fs : List (List ℕ)) → SameOk (request_of_fields rules n fs) (request_of_fields rules m fs)
   same_fields [] = refl
   same_fields (process ∷ more) =
       same_then _ _ _ _ (same_found (number_within 1 most_number process) (BadLine n) (BadLine m)) λ number.
-      same_then _ _ _ _ (same_then _ _ _ _ (same_found (form_in more) (BadCall n) (BadCall m)) same_action) λ action. refl
+      same_then _ _ _ _ (same_then _ _ _ _ (same_found (form_in rules more) (BadCall n) (BadCall m)) same_action) λ action. refl
 
-  same_request : (text : List ℕ) → SameOk (request_of n text) (request_of m text)
+  same_request : (text : List ℕ) → SameOk (request_by rules n text) (request_by rules m text)
   same_request text = by (list_all is_field (fields text))
     where
-      by : (good : Bool) → SameOk (if good then request_of_fields n (fields text) else Err (BadLine n))
-          (if good then request_of_fields m (fields text) else Err (BadLine m))
+      by : (good : Bool) → SameOk (if good then request_of_fields rules n (fields text) else Err (BadLine n))
+          (if good then request_of_fields rules m (fields text) else Err (BadLine m))
       by true = same_fields (fields text)
       by false = refl
 
 -- a line asks the same wherever it stands
-pub asks_same : (n m : ℕ) (text : List ℕ) (a b : Asked) → request_of n text ≡ Ok a → request_of m text ≡ Ok b → a ≡ b
-asks_same n m text a b read again = by (sym (ap result_ok read) ∙ same_request n m text ∙ ap result_ok again)
+pub asks_same : (rules : Rules) (n m : ℕ) (text : List ℕ) (a b : Asked) → request_by rules n text ≡ Ok a → request_by rules m text ≡ Ok b → a ≡ b
+asks_same rules n m text a b read again = by (sym (ap result_ok read) ∙ same_request rules n m text ∙ ap result_ok again)
   where
     by : result_ok {T = Asked} {E = ScriptFault} (Ok a) ≡ result_ok {T = Asked} {E = ScriptFault} (Ok b) → a ≡ b
     by e = cc
@@ -111,22 +112,24 @@ found_one {A = A} P test (line ∷ lines) place all e = by (test line.0) refl e 
 abbrev IsSameLine : (Bor (List ℕ) → Bool) → List ℕ → Type 0
 IsSameLine test line = (other : Bor (List ℕ)) → test other ≡ true → line ≡ other.now
 
-pub found_request : (watches : List Watch) (test : Bor (List ℕ) → Bool) (line : List ℕ) → IsSameLine test line →
-    (lines : List (Bor (List ℕ) × ℕ)) (place n : ℕ) (ask : Asked) → AreKnown watches lines → lookup test lines ≡ Some place
-    → request_of n line ≡ Ok ask → IsRequestAt watches place ask 0
-found_request watches test line same lines place n ask known found read =
-    let other = found_one (IsLineKnown watches) test lines place known found in
+pub found_request : (rules : Rules) (watches : List Watch) (test : Bor (List ℕ) → Bool) (line : List ℕ) → IsSameLine test line →
+    (lines : List (Bor (List ℕ) × ℕ)) (place n : ℕ) (ask : Asked) → AreKnown rules watches lines → lookup test lines ≡ Some place
+    → request_by rules n line ≡ Ok ask → IsRequestAt watches place ask 0
+found_request rules watches test line same lines place n ask known found read =
+    let other = found_one (IsLineKnown rules watches) test lines place known found in
     let known_as = other.2 in
     subst (λ asked. IsRequestAt watches place asked 0)
-    (asks_same known_as.0 n other.0.now known_as.1 ask known_as.2 (ap (request_of n) (sym (same other.0 other.1)) ∙ read)) known_as.3
+    (asks_same rules known_as.0 n other.0.now known_as.1 ask known_as.2 (ap (request_by rules n) (sym (same other.0 other.1)) ∙ read)) known_as.3
 
 -- what is known stays so
-one_known : (old new : List Watch) → IsKeptThrough old new → (line : Bor (List ℕ) × ℕ) → IsLineKnown old line → IsLineKnown new line
-one_known old new kept line known = (known.0, known.1, known.2, request_kept old new line.1 known.1 0 kept known.3)
+one_known : (rules : Rules) (old new : List Watch) → IsKeptThrough old new → (line : Bor (List ℕ) × ℕ) → IsLineKnown rules old line →
+    IsLineKnown rules new line
+one_known rules old new kept line known = (known.0, known.1, known.2, request_kept old new line.1 known.1 0 kept known.3)
 
-pub known_kept : (old new : List Watch) → IsKeptThrough old new → (lines : List (Bor (List ℕ) × ℕ)) → AreKnown old lines →
-    AreKnown new lines
-known_kept old new kept lines known = All-weaker (IsLineKnown old) (IsLineKnown new) (one_known old new kept) lines known
+pub known_kept : (rules : Rules) (old new : List Watch) → IsKeptThrough old new → (lines : List (Bor (List ℕ) × ℕ)) →
+    AreKnown rules old lines → AreKnown rules new lines
+known_kept rules old new kept lines known =
+    All-weaker (IsLineKnown rules old) (IsLineKnown rules new) (one_known rules old new kept) lines known
 
 -- a request that is wanted somewhere is one
 pub request_wanted : (watches : List Watch) (place : ℕ) (ask : Asked) (lines : ℕ) → IsRequestAt watches place ask lines →
@@ -144,8 +147,8 @@ request_wanted watches place ask lines at = record {
 }
 
 -- a further line
-pub known_more : (watches : List Watch) (lines more : List (Bor (List ℕ) × ℕ)) (line : Bor (List ℕ)) (place n : ℕ) (ask : Asked) →
-    more ≡ lines ++ (line, place) ∷ [] → AreKnown watches lines → request_of n line.now ≡ Ok ask → IsRequestAt watches place ask 0 →
-    AreKnown watches more
-known_more watches lines more line place n ask pushed known read at =
-    subst (AreKnown watches) (sym pushed) (All-push (IsLineKnown watches) lines (line, place) known (n, ask, read, at))
+pub known_more : (rules : Rules) (watches : List Watch) (lines more : List (Bor (List ℕ) × ℕ)) (line : Bor (List ℕ)) (place n : ℕ) (ask : Asked) →
+    more ≡ lines ++ (line, place) ∷ [] → AreKnown rules watches lines → request_by rules n line.now ≡ Ok ask → IsRequestAt watches place ask 0 →
+    AreKnown rules watches more
+known_more rules watches lines more line place n ask pushed known read at =
+    subst (AreKnown rules watches) (sym pushed) (All-push (IsLineKnown rules watches) lines (line, place) known (n, ask, read, at))

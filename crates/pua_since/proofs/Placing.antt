@@ -8,43 +8,48 @@ use Rattle.std.specs.Str.Lines.{lines}
 use Rattle.std.proofs.lemmas.Bool.{ltb-false}
 use Rattle.pua_tree.specs.Steps.{◌>>=◌}
 use Rattle.pua_script.specs.Limits.{most_script_lines}
-use Rattle.pua_script.specs.Scripts.{request_of, script}
+use Rattle.pua_calls.specs.declared.rules.Rules.{Rules}
+use Rattle.pua_script.specs.Scripts.{request_by, script_by}
 use Rattle.pua_script.specs.declared.fault.ScriptFault.{ScriptFault}
 use Rattle.pua_script.specs.declared.fault.ScriptFault.TheVariants.{TooMany}
 use Rattle.pua_since.specs.Dates.{PlacesFrom}
 use Rattle.pua_since.proofs.Keeping.{request_kept}
 
--- the requests of a script are those of all its lines
-limited : (limit : ℕ) (all : List (List ℕ)) (requests : List Asked) →
-    (requests_of 1 (take limit all) >>= λ read. if nat_lt limit (length all) then Err TooMany else Ok read) ≡ Ok requests →
-    requests_of 1 all ≡ Ok requests
-limited limit all requests = by (requests_of 1 (take limit all)) refl (nat_lt limit (length all)) refl
-  where
-    by : (r : Result (List Asked) ScriptFault) → requests_of 1 (take limit all) ≡ r → (b : Bool) → nat_lt limit (length all) ≡ b →
-        (r >>= λ read. if b then Err TooMany else Ok read) ≡ Ok requests → requests_of 1 all ≡ Ok requests
-    by (Err fault) read b many e = cc
-    by (Ok found) read true many e = cc
-    by (Ok found) read false many e =
-        let few : length all ≤ limit = ltb-false limit (length all) many in
-        sym (ap (requests_of 1) (take_all limit all few)) ∙ read ∙ e
+module _ (rules : Rules) where
+  -- the requests of a script are those of all its lines
+  limited : (limit : ℕ) (all : List (List ℕ)) (requests : List Asked) →
+      (requests_of rules 1 (take limit all) >>= λ read. if nat_lt limit (length all) then Err TooMany else Ok read) ≡ Ok requests →
+      requests_of rules 1 all ≡ Ok requests
+  limited limit all requests = by (requests_of rules 1 (take limit all)) refl (nat_lt limit (length all)) refl
+    where
+      by : (r : Result (List Asked) ScriptFault) → requests_of rules 1 (take limit all) ≡ r → (b : Bool) → nat_lt limit (length all) ≡ b →
+          (r >>= λ read. if b then Err TooMany else Ok read) ≡ Ok requests → requests_of rules 1 all ≡ Ok requests
+      by (Err fault) read b many e = cc
+      by (Ok found) read true many e = cc
+      by (Ok found) read false many e =
+          let few : length all ≤ limit = ltb-false limit (length all) many in
+          sym (ap (requests_of rules 1) (take_all limit all few)) ∙ read ∙ e
 
-pub all_read : (bytes : List ℕ) (requests : List Asked) → script bytes ≡ Ok requests → requests_of 1 (lines bytes) ≡ Ok requests
-all_read bytes requests read = limited most_script_lines (lines bytes) requests read
+  pub all_read : (bytes : List ℕ) (requests : List Asked) → script_by rules bytes ≡ Ok requests → requests_of rules 1 (lines bytes) ≡ Ok requests
+  all_read bytes requests read = limited most_script_lines (lines bytes) requests read
 
--- the first of them
-pub first_read : (n : ℕ) (line : List ℕ) (more : List (List ℕ)) (request : Asked) (requests : List Asked) →
-    requests_of n (line ∷ more) ≡ Ok (request ∷ requests) → (request_of n line ≡ Ok request) × (requests_of (suc n) more ≡ Ok requests)
-first_read n line more request requests e = by (request_of n line) refl (requests_of (suc n) more) refl e
-  where
-    by : (r : Result Asked ScriptFault) → request_of n line ≡ r → (s : Result (List Asked) ScriptFault) → requests_of (suc n) more ≡ s →
-        (r >>= λ asked. s >>= λ others. Ok (asked ∷ others)) ≡ Ok (request ∷ requests)
-        → (request_of n line ≡ Ok request) × (requests_of (suc n) more ≡ Ok requests)
-    by (Err fault) read s others e = cc
-    by (Ok asked) read (Err fault) others e = cc
-    by (Ok asked) read (Ok rest) others e =
-        let same : asked ≡ request = cc in
-        let same_rest : rest ≡ requests = cc in
-        (read ∙ ap Ok same, others ∙ ap Ok same_rest)
+  -- the first of them
+  pub first_read : (n : ℕ) (line : List ℕ) (more : List (List ℕ)) (request : Asked) (requests : List Asked) →
+      requests_of rules n (line ∷ more) ≡ Ok (request ∷ requests) → (request_by rules n line ≡ Ok request) × (requests_of rules (suc n) more ≡ Ok requests)
+  first_read n line more request requests e = by (request_by rules n line) refl (requests_of rules (suc n) more) refl e
+    where
+      by : (r : Result Asked ScriptFault) → request_by rules n line ≡ r → (s : Result (List Asked) ScriptFault) → requests_of rules (suc n) more ≡ s →
+          (r >>= λ asked. s >>= λ others. Ok (asked ∷ others)) ≡ Ok (request ∷ requests)
+          → (request_by rules n line ≡ Ok request) × (requests_of rules (suc n) more ≡ Ok requests)
+      by (Err fault) read s others e = cc
+      by (Ok asked) read (Err fault) others e = cc
+      by (Ok asked) read (Ok rest) others e =
+          let same : asked ≡ request = cc in
+          let same_rest : rest ≡ requests = cc in
+          (read ∙ ap Ok same, others ∙ ap Ok same_rest)
+
+  pub none_read : (n : ℕ) (requests : List Asked) → requests_of rules n [] ≡ Ok requests → requests ≡ []
+  none_read n requests e = cc
 
 -- a request that is answered `ok` has no place
 pub passed : (watches : List Watch) (n m : ℕ) (request : Asked) (answer : Answer) (asks left : List Asked) (told told_left : List Answer)
@@ -95,6 +100,3 @@ places_kept old new kept n (ask ∷ asks) (Killed ∷ told) (place ∷ places) a
     (request_kept old new place ask n kept at.0, places_kept old new kept (suc n) asks told places at.1)
 places_kept old new kept n (ask ∷ asks) (Gone ∷ told) (place ∷ places) at =
     (request_kept old new place ask n kept at.0, places_kept old new kept (suc n) asks told places at.1)
-
-pub none_read : (n : ℕ) (requests : List Asked) → requests_of n [] ≡ Ok requests → requests ≡ []
-none_read n requests e = cc

@@ -2,9 +2,10 @@
 use Rattle.pua_since.proofs.Common.{◌≡◌, ◌+◌, ℕ, suc, List, [], ◌∷◌, ◌++◌, length, flat_map, refl, sym, ap, subst, ◌∙◌, append_assoc}
 use Rattle.pua_since.proofs.Common.{append-nil, Option, inl, inr, ◌⊎◌, CallTable, with_end, Asked, World, answers_to, apply, world_after}
 use Rattle.pua_since.proofs.Common.{WorldState, StandsForWorld, Answer, Okay, Failed, Killed, Gone, reason, date_of, reason_since}
-use Rattle.pua_since.proofs.Common.{since_text, answer_words, ArePlacesOf, AreWatched, IsKeptThrough, Watch, Watches, one_request_more}
+use Rattle.pua_since.proofs.Common.{reason_tail, answer_words, ArePlacesOf, AreWatched, IsKeptThrough, Watch, Watches, one_request_more}
 use Rattle.std.proofs.Common.{add-one}
 use Rattle.std.specs.Prelude.{decimal}
+use Rattle.pua_calls.specs.declared.rules.Rules.{Rules}
 use Rattle.std.proofs.lemmas.List.{length_push}
 use Rattle.pua_why.specs.Texts.{answer_why, why_lines}
 use Rattle.pua_since.specs.Dates.{question_line, places_left}
@@ -43,7 +44,7 @@ next_places watches n ask more Killed told (place ∷ places) at = at.1
 next_places watches n ask more Gone told (place ∷ places) at = at.1
 
 -- some requests were served and told of, and others are still to be
-pub record IsTold (before : WorldState) (kept_before : Watches) (requests : List Asked) (told : List Answer) (places : List ℕ)
+pub record IsTold (rules : Rules) (before : WorldState) (kept_before : Watches) (requests : List Asked) (told : List Answer) (places : List ℕ)
     (now : WorldState) (kept_now : Watches) (left : List Asked) (told_left : List Answer) (left_places : List ℕ) (n : ℕ) (text : List ℕ) :
     Type 0 where
   pub past : List Asked
@@ -57,16 +58,16 @@ pub record IsTold (before : WorldState) (kept_before : Watches) (requests : List
       AreWatched before.table w [] requests kept_before → AreWatched before.table w past left kept_now
   pub lines : (w : World) → StandsForWorld before w → told ≡ answers_to before.table w requests →
       AreWatched before.table w [] requests kept_before → ArePlacesOf kept_before.watches.items 0 requests told places
-      → (flat_map with_end (why_lines before.table w [] 1 requests) ≡ text
-      ++ flat_map with_end (why_lines before.table w past (suc n) left)) × ArePlacesOf kept_now.watches.items n left told_left
+      → (flat_map with_end (why_lines rules before.table w [] 1 requests) ≡ text
+      ++ flat_map with_end (why_lines rules before.table w past (suc n) left)) × ArePlacesOf kept_now.watches.items n left told_left
       left_places
 
 -- none yet
-pub none_told : (before : WorldState) (kept_before : Watches) (requests : List Asked) (told : List Answer) (places : List ℕ)
+pub none_told : (rules : Rules) (before : WorldState) (kept_before : Watches) (requests : List Asked) (told : List Answer) (places : List ℕ)
     (left : List Asked) (told_left : List Answer) (left_places : List ℕ) (n : ℕ) (text : List ℕ)
     → left ≡ requests → told_left ≡ told → left_places ≡ places → n ≡ 0 → text ≡ [] →
-    IsTold before kept_before requests told places before kept_before left told_left left_places n text
-none_told before kept_before requests told places left told_left left_places n text same same_told same_places count empty = record {
+    IsTold rules before kept_before requests told places before kept_before left told_left left_places n text
+none_told rules before kept_before requests told places left told_left left_places n text same same_told same_places count empty = record {
   past = [];
   split = sym same;
   count = count;
@@ -74,14 +75,14 @@ none_told before kept_before requests told places left told_left left_places n t
   world = λ w stands answered. (stands, refl, same_told ∙ answered ∙ ap (answers_to before.table w) (sym same));
   watched = λ w stands answered are. subst (λ asks. AreWatched before.table w [] asks kept_before) (sym same) are;
   lines = λ w stands answered are at. (
-    sym (λ i. empty i ++ flat_map with_end (why_lines before.table w [] (suc (count i)) (same i))),
+    sym (λ i. empty i ++ flat_map with_end (why_lines rules before.table w [] (suc (count i)) (same i))),
     subst (λ (X : Type 0). X) (λ i. ArePlacesOf kept_before.watches.items (sym count i) (sym same i) (sym same_told i) (sym same_places i))
         at,
   );
 }
 
 -- what is told and done of one more
-pub record IsTurn (now : WorldState) (kept_now : Watches) (next : WorldState) (kept_next : Watches) (ask : Asked) (answer : Answer)
+pub record IsTurn (rules : Rules) (now : WorldState) (kept_now : Watches) (next : WorldState) (kept_next : Watches) (ask : Asked) (answer : Answer)
     (line : Option ℕ) (number : ℕ) (text more : List ℕ) : Type 0 where
   pub kept : IsKeptThrough kept_now.watches.items kept_next.watches.items
   pub world : (w : World) → StandsForWorld now w → StandsForWorld next (apply now.table w ask).1 × (next.table ≡ now.table)
@@ -89,13 +90,13 @@ pub record IsTurn (now : WorldState) (kept_now : Watches) (next : WorldState) (k
       answer ≡ (apply now.table (world_after now.table w done) ask).0 → number ≡ length done + 1
       → AreWatched now.table w done (ask ∷ left) kept_now → AreWatched now.table w (done ++ ask ∷ []) left kept_next
   pub told : (w : World) → StandsForWorld now w → answer ≡ (apply now.table w ask).0 →
-      more ≡ text ++ with_end (decimal number ++ 32 ∷ (answer_words now.table w ask ++ since_text (date_of (reason now.table w ask) line)))
+      more ≡ text ++ with_end (decimal number ++ 32 ∷ (answer_words now.table w ask ++ reason_tail rules now.table w ask (date_of (reason now.table w ask) line)))
 
-module _ (before : WorldState) (kept_before : Watches) (requests : List Asked) (told : List Answer) (places : List ℕ) (now : WorldState)
+module _ (rules : Rules) (before : WorldState) (kept_before : Watches) (requests : List Asked) (told : List Answer) (places : List ℕ) (now : WorldState)
     (kept_now : Watches) (n : ℕ) (text : List ℕ)
     (ask : Asked) (more : List Asked) (answer : Answer) (told_more : List Answer) (left_places : List ℕ)
-    (so : IsTold before kept_before requests told places now kept_now (ask ∷ more) (answer ∷ told_more) left_places n text)
-    (next : WorldState) (kept_next : Watches) (more_text : List ℕ) (turn : IsTurn now kept_now next kept_next ask answer
+    (so : IsTold rules before kept_before requests told places now kept_now (ask ∷ more) (answer ∷ told_more) left_places n text)
+    (next : WorldState) (kept_next : Watches) (more_text : List ℕ) (turn : IsTurn rules now kept_now next kept_next ask answer
     (question_line kept_now.watches.items answer left_places) (n + 1) text more_text) where
   abbrev behind : List Asked
   behind = so.past ++ ask ∷ []
@@ -134,33 +135,33 @@ module _ (before : WorldState) (kept_before : Watches) (requests : List Asked) (
         (subst (λ t. AreWatched t w so.past (ask ∷ more) kept_now) back are))
 
     turn_lines : AreWatched before.table w [] requests kept_before → ArePlacesOf kept_before.watches.items 0 requests told places
-        → (flat_map with_end (why_lines before.table w [] 1 requests) ≡ more_text
-        ++ flat_map with_end (why_lines before.table w behind (suc (n + 1)) more)) ×
+        → (flat_map with_end (why_lines rules before.table w [] 1 requests) ≡ more_text
+        ++ flat_map with_end (why_lines rules before.table w behind (suc (n + 1)) more)) ×
         ArePlacesOf kept_next.watches.items (n + 1) more told_more (places_left answer left_places)
     turn_lines are at =
         let lines = so.lines w stands answered are at in
         let dated = next_date before.table w so.past (ask ∷ more) kept_now (so.watched w stands answered are) ask more answer told_more
         left_places first_answer
         (subst (λ k. ArePlacesOf kept_now.watches.items k (ask ∷ more) (answer ∷ told_more) left_places) so.count lines.1) in
-        let pushed : more_text ≡ text ++ with_end (decimal (n + 1) ++ 32 ∷ answer_why before.table w so.past ask) =
+        let pushed : more_text ≡ text ++ with_end (decimal (n + 1) ++ 32 ∷ answer_why rules before.table w so.past ask) =
         turn.told reached (so.world w stands answered).0 (first_answer ∙ sym (λ i. (apply (same i) reached ask).0))
         ∙ (λ i. text ++ with_end
         (decimal (n + 1) ++ 32
         ∷ (answer_words (same i) reached ask
-        ++ since_text (date_of (reason (same i) reached ask) (question_line kept_now.watches.items answer left_places)))))
-        ∙ ap (λ date. text ++ with_end (decimal (n + 1) ++ 32 ∷ (answer_words before.table reached ask ++ since_text date))) dated in
-        let rest : List ℕ = flat_map with_end (why_lines before.table w behind (suc (suc n)) more) in (
+        ++ reason_tail rules (same i) reached ask (date_of (reason (same i) reached ask) (question_line kept_now.watches.items answer left_places)))))
+        ∙ ap (λ date. text ++ with_end (decimal (n + 1) ++ 32 ∷ (answer_words before.table reached ask ++ reason_tail rules before.table reached ask date))) dated in
+        let rest : List ℕ = flat_map with_end (why_lines rules before.table w behind (suc (suc n)) more) in (
           lines.0
-              ∙ sym (append_assoc text (with_end (decimal (suc n) ++ 32 ∷ answer_why before.table w so.past ask)) rest)
-              ∙ sym ((λ i. pushed i ++ flat_map with_end (why_lines before.table w behind (suc (n + 1)) more))
-              ∙ (λ i. (text ++ with_end (decimal (add-one n i) ++ 32 ∷ answer_why before.table w so.past ask))
-              ++ flat_map with_end (why_lines before.table w behind (suc (add-one n i)) more))),
+              ∙ sym (append_assoc text (with_end (decimal (suc n) ++ 32 ∷ answer_why rules before.table w so.past ask)) rest)
+              ∙ sym ((λ i. pushed i ++ flat_map with_end (why_lines rules before.table w behind (suc (n + 1)) more))
+              ∙ (λ i. (text ++ with_end (decimal (add-one n i) ++ 32 ∷ answer_why rules before.table w so.past ask))
+              ++ flat_map with_end (why_lines rules before.table w behind (suc (add-one n i)) more))),
           subst (λ k. ArePlacesOf kept_next.watches.items k more told_more (places_left answer left_places)) (sym (add-one n))
               (places_kept kept_now.watches.items kept_next.watches.items turn.kept (suc n) more told_more (places_left answer left_places)
               (next_places kept_now.watches.items n ask more answer told_more left_places lines.1)),
         )
 
-  one_more : IsTold before kept_before requests told places next kept_next more told_more (places_left answer left_places) (n + 1) more_text
+  one_more : IsTold rules before kept_before requests told places next kept_next more told_more (places_left answer left_places) (n + 1) more_text
   one_more = record {
     past = behind;
     split = so.split ∙ sym (append_assoc so.past (ask ∷ []) more);
@@ -172,37 +173,37 @@ module _ (before : WorldState) (kept_before : Watches) (requests : List Asked) (
   }
 
 -- one more, by what its iteration finds
-pub turned : (before : WorldState) (kept_before : Watches) (requests : List Asked) (told : List Answer) (places : List ℕ) (now : WorldState)
+pub turned : (rules : Rules) (before : WorldState) (kept_before : Watches) (requests : List Asked) (told : List Answer) (places : List ℕ) (now : WorldState)
     (kept_now : Watches) (left : List Asked) (told_left : List Answer) (left_places : List ℕ) (n : ℕ) (text : List ℕ)
     (ask : Asked) (more : List Asked) (answer : Answer) (told_more : List Answer) (more_places : List ℕ) (m : ℕ) (line : Option ℕ)
     (next : WorldState) (kept_next : Watches) (more_text : List ℕ)
-    → IsTold before kept_before requests told places now kept_now left told_left left_places n text → left ≡ ask ∷ more →
+    → IsTold rules before kept_before requests told places now kept_now left told_left left_places n text → left ≡ ask ∷ more →
     told_left ≡ answer ∷ told_more → m ≡ n + 1 → line ≡ question_line kept_now.watches.items answer left_places →
     more_places ≡ places_left answer left_places
-    → IsTurn now kept_now next kept_next ask answer line (n + 1) text more_text →
-    IsTold before kept_before requests told places next kept_next more told_more more_places m more_text
-turned before kept_before requests told places now kept_now left told_left left_places n text ask more answer told_more more_places m line
+    → IsTurn rules now kept_now next kept_next ask answer line (n + 1) text more_text →
+    IsTold rules before kept_before requests told places next kept_next more told_more more_places m more_text
+turned rules before kept_before requests told places now kept_now left told_left left_places n text ask more answer told_more more_places m line
     next kept_next more_text so asked answered count by_line by_places turn =
-    subst (λ (X : Type 0). X) (λ i. IsTold before kept_before requests told places next kept_next more told_more (sym by_places i)
+    subst (λ (X : Type 0). X) (λ i. IsTold rules before kept_before requests told places next kept_next more told_more (sym by_places i)
     (sym count i) more_text)
-    (one_more before kept_before requests told places now kept_now n text ask more answer told_more left_places
-    (subst (λ (X : Type 0). X) (λ i. IsTold before kept_before requests told places now kept_now (asked i) (answered i) left_places n text)
+    (one_more rules before kept_before requests told places now kept_now n text ask more answer told_more left_places
+    (subst (λ (X : Type 0). X) (λ i. IsTold rules before kept_before requests told places now kept_now (asked i) (answered i) left_places n text)
     so) next kept_next more_text
-    (subst (λ l. IsTurn now kept_now next kept_next ask answer l (n + 1) text more_text) by_line turn))
+    (subst (λ l. IsTurn rules now kept_now next kept_next ask answer l (n + 1) text more_text) by_line turn))
 
 -- all were told of
-pub all_told : (before : WorldState) (kept_before : Watches) (requests : List Asked) (told : List Answer) (places : List ℕ)
+pub all_told : (rules : Rules) (before : WorldState) (kept_before : Watches) (requests : List Asked) (told : List Answer) (places : List ℕ)
     (now : WorldState) (kept_now : Watches) (left : List Asked) (told_left : List Answer) (left_places : List ℕ) (n : ℕ) (text : List ℕ)
-    → IsTold before kept_before requests told places now kept_now left told_left left_places n text → (left ≡ []) ⊎ (told_left ≡ []) →
+    → IsTold rules before kept_before requests told places now kept_now left told_left left_places n text → (left ≡ []) ⊎ (told_left ≡ []) →
     (w : World) → StandsForWorld before w → told ≡ answers_to before.table w requests → left ≡ []
-all_told before kept_before requests told places now kept_now [] told_left left_places n text so empty w stands answered = refl
-all_told before kept_before requests told places now kept_now (ask ∷ more) told_left left_places n text so (inl empty) w stands answered =
+all_told rules before kept_before requests told places now kept_now [] told_left left_places n text so empty w stands answered = refl
+all_told rules before kept_before requests told places now kept_now (ask ∷ more) told_left left_places n text so (inl empty) w stands answered =
     cc
-all_told before kept_before requests told places now kept_now (ask ∷ more) told_left left_places n text so (inr empty) w stands answered =
+all_told rules before kept_before requests told places now kept_now (ask ∷ more) told_left left_places n text so (inr empty) w stands answered =
     let all = (so.world w stands answered).2 in cc
 
-pub past_all : (before : WorldState) (kept_before : Watches) (requests : List Asked) (told : List Answer) (places : List ℕ)
+pub past_all : (rules : Rules) (before : WorldState) (kept_before : Watches) (requests : List Asked) (told : List Answer) (places : List ℕ)
     (now : WorldState) (kept_now : Watches) (left : List Asked) (told_left : List Answer) (left_places : List ℕ) (n : ℕ) (text : List ℕ)
-    → (so : IsTold before kept_before requests told places now kept_now left told_left left_places n text) → left ≡ [] → so.past ≡ requests
-past_all before kept_before requests told places now kept_now left told_left left_places n text so none =
+    → (so : IsTold rules before kept_before requests told places now kept_now left told_left left_places n text) → left ≡ [] → so.past ≡ requests
+past_all rules before kept_before requests told places now kept_now left told_left left_places n text so none =
     sym (so.split ∙ ap (λ more. so.past ++ more) none ∙ append-nil so.past)

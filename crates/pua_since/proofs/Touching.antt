@@ -53,12 +53,8 @@ module _ (table : CallTable) (w : World) (process : ℕ) (sorted : IsTrue (is_so
       by other false differs = ap is_some (elsewhere other (λ same. false≢true (sym differs ∙ eq-eqb other process same)))
 
   by_call : (asked : Call) (object : Found) → call_is_own asked ≡ true → IsOwn w (change_effect w h (change_by table asked object))
-  by_call call.Create object own = absurd (false≢true own)
-  by_call call.Mkdir object own = absurd (false≢true own)
-  by_call call.Rmdir object own = absurd (false≢true own)
-  by_call call.Unlink object own = absurd (false≢true own)
   by_call call.Chdir object own = by_going (λ c. IsOwn w (change_effect w h c)) refl object (λ dir. refl)
-  by_call _ object own = refl
+  by_call _ object own = cc
 
   by_action : (action : Action) (c : Change) → IsDecided table w.tree h action c → is_own action ≡ true →
       IsOwn w (change_effect w h c)

@@ -34,13 +34,7 @@ put_there process h made sorted here =
 -- the calls that change nothing
 no_change : (table : CallTable) (c : Call) (object : Found) → call_changes c ≡ false → change_by table c object ≡ NoChange
 no_change table call.Create object e = cc
-no_change table call.Mkdir object e = cc
-no_change table call.Rmdir object e = cc
-no_change table call.Unlink object e = cc
-no_change table call.Symlink object e = cc
-no_change table call.Chdir object e = cc
-no_change table call.Exec object e = cc
-no_change table _ object e = refl
+no_change table _ object e = cc
 
 module _ (table : CallTable) (w : World) (ask : Asked) (sorted : IsTrue (is_sorted nat_cmp w.histories)) (h : History)
     (here : history_of w ask.process ≡ Some h) where

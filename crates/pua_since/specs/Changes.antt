@@ -15,6 +15,8 @@ use Rattle.pua_script.specs.declared.request.Action.TheVariants.{OnPath}
 -- the calls that change something where they are done
 abbrev pub call_changes : Call → Bool
 call_changes call.Create = true
+call_changes call.Bind = true
+call_changes call.Mknod = true
 call_changes call.Mkdir = true
 call_changes call.Rmdir = true
 call_changes call.Unlink = true

@@ -16,6 +16,8 @@ use Rattle.pua_since.specs.declared.touched.Touched.TheVariants.{Process, Anythi
 -- a call that changes no more than the process that asks: it makes no name, and takes none away
 abbrev pub call_is_own : Call → Bool
 call_is_own call.Create = false
+call_is_own call.Bind = false
+call_is_own call.Mknod = false
 call_is_own call.Mkdir = false
 call_is_own call.Rmdir = false
 call_is_own call.Unlink = false

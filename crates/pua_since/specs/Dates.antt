@@ -4,12 +4,13 @@ use Rattle.std.specs.Option.{option_eq}
 use Rattle.std.specs.Borrow.{Bor}
 use Rattle.std.specs.List.{AllZip}
 use Rattle.pua_calls.specs.Calls.{CallTable}
+use Rattle.pua_calls.specs.declared.rules.Rules.{Rules}
 use Rattle.pua_policy.specs.History.{ProcessState}
 use Rattle.pua_policy.specs.declared.place.Place.{Place}
 use Rattle.pua_policy.specs.declared.reason.Covering.TheVariants.{By}
 use Rattle.pua_script.specs.Requests.{Asked}
 use Rattle.pua_script.specs.Replay.{World, world_after}
-use Rattle.pua_script.specs.Scripts.{request_of}
+use Rattle.pua_script.specs.Scripts.{request_by}
 use Rattle.pua_script.specs.Worlds.{WorldState, process_at}
 use Rattle.pua_script.specs.declared.answer.Answer.{Answer}
 use Rattle.pua_script.specs.declared.answer.Answer.TheVariants.{Okay}
@@ -57,12 +58,13 @@ abbrev pub ArePlacesOf : List Watch → ℕ → List Asked → List Answer → L
 ArePlacesOf watches n (ask ∷ more) (answer ∷ told) places = PlacesFrom watches n ask answer places (ArePlacesOf watches (suc n) more told)
 ArePlacesOf watches n _ _ places = places ≡ []
 
--- lines that were read, with the places of the questions of their requests
-abbrev pub IsLineKnown : List Watch → Bor (List ℕ) × ℕ → Type 0
-IsLineKnown watches line = (n : ℕ) × (ask : Asked) × (request_of n line.0.now ≡ Ok ask) × IsRequestAt watches line.1 ask 0
+-- lines that were read by these rules, with the places of the questions of their requests
+abbrev pub IsLineKnown : Rules → List Watch → Bor (List ℕ) × ℕ → Type 0
+IsLineKnown rules watches line =
+    (n : ℕ) × (ask : Asked) × (request_by rules n line.0.now ≡ Ok ask) × IsRequestAt watches line.1 ask 0
 
-abbrev pub AreKnown : List Watch → List (Bor (List ℕ) × ℕ) → Type 0
-AreKnown watches lines = All (IsLineKnown watches) lines
+abbrev pub AreKnown : Rules → List Watch → List (Bor (List ℕ) × ℕ) → Type 0
+AreKnown rules watches lines = All (IsLineKnown rules watches) lines
 
 -- the veil that is asked about
 abbrev pub place_asked : Question → Option Place

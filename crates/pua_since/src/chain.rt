@@ -15,6 +15,7 @@ ghost use Rattle.pua_since.specs.Dates.{AreDatesOf, AreFactsAt, IsFactAt, fact_l
 use crate::reason_line::push_answer;
 use crate::watch::Question;
 use crate::watches::Watches;
+use pua_calls::Rules;
 use pua_policy::{Covering, Place};
 use pua_script::{Answer, Request, World};
 use pua_tree::{FileTree, OutOfMemory};
@@ -23,13 +24,15 @@ use std::alloc::{AllocError, Global};
 
 /// What decides a request behind a script: a line for the promises that let it through, for each link
 /// that its paths follow, for what they name and for the veil that covers that, in the order of the
-/// checks and as far as it passes them; and as the last line its answer, with the reason and since which
-/// line, as [`reason_text`](crate::reason_text) would tell it of the script's next line.
+/// checks and as far as it passes them; and as the last line its answer, with the reason, since which
+/// line that is so, and what opens the path all the same, as [`reason_text`](crate::reason_text) would
+/// tell it of the script's next line.
 ///
 /// The script's requests were answered so in a world as `before`, which serves them; `after` is the
 /// world that they left, and serves the request. The only error is that a growth was refused.
 pub fn chain_text<T: FileTree>(
     alloc: Global,
+    rules: Rules,
     before: &mut World<T>,
     after: &mut World<T>,
     requests: &[Request],
@@ -40,7 +43,7 @@ pub fn chain_text<T: FileTree>(
         answers.now ≡ answers_to before.old.table w requests.now →
         StandsForWorld after.old (world_after before.old.table w requests.now) →
         after.old.table ≡ before.old.table → string_bytes text
-        ≡ flat_map with_end (chain before.old.table w requests.now request.now)) }
+        ≡ flat_map with_end (chain rules before.old.table w requests.now request.now)) }
 {
     let passed = facts(alloc, after, request.process(), request.action())?;
     let passed = passed.as_slice();
@@ -48,7 +51,7 @@ pub fn chain_text<T: FileTree>(
     let Ok(answer) = after.apply(request) else {
         return Err(OutOfMemory);
     };
-    Ok(lines_of(alloc, before, request, passed, answer, &dates)?)
+    Ok(lines_of(alloc, rules, before, request, passed, answer, &dates)?)
 }
 
 /// Since which lines what is told of a request is so; None where it was from the start.
@@ -178,6 +181,7 @@ fn veil_told(fact: &Fact) -> Option<&Place>
 /// A line for each fact of a request that is asked in a world, and one for its answer.
 fn lines_of<T: FileTree>(
     alloc: Global,
+    rules: Rules,
     world: &World<T>,
     request: &Request,
     passed: &[Fact],
@@ -190,7 +194,7 @@ fn lines_of<T: FileTree>(
         map fact_seen passed.now
         ≡ facts_of world.now.table (world_after world.now.table w done) request.now →
         AreDatesOf world.now.table w done request.now (map fact_seen passed.now) dates.now →
-        string_bytes text ≡ flat_map with_end (chain world.now.table w done request.now)) }
+        string_bytes text ≡ flat_map with_end (chain rules world.now.table w done request.now)) }
 {
     let mut text = String::new(alloc);
     let Ok(mut paths) = TreePaths::new(alloc, world.tree()) else {
@@ -204,6 +208,7 @@ fn lines_of<T: FileTree>(
     push_answer(
         alloc,
         &mut text,
+        rules,
         world,
         process,
         action,

@@ -44,6 +44,8 @@ fn call_changes(call: Call) -> bool
     matches!(
         call,
         Call::Create
+            | Call::Bind
+            | Call::Mknod
             | Call::Mkdir
             | Call::Rmdir
             | Call::Unlink

@@ -5,19 +5,21 @@ ghost use Rattle.pua_script.specs.Replay.{World as Replayed, apply};
 ghost use Rattle.pua_script.specs.Worlds.{StandsForWorld};
 ghost use Rattle.pua_why.specs.Reasons.{reason};
 ghost use Rattle.pua_why.specs.Seen.{reason_seen};
-ghost use Rattle.pua_why.specs.Texts.{date_of, reason_text, since_text, spaced_words, answer_words};
+ghost use Rattle.pua_why.specs.Texts.{answer_words, date_of, reason_tail, reason_text, spaced_words};
 
+use pua_calls::Rules;
 use pua_script::{Action, Answer, World};
 use pua_tree::FileTree;
-use pua_why::{Fault, Reason, TreePaths, push_reason, push_since, reason};
+use pua_why::{Fault, Reason, TreePaths, push_opener, push_reason, push_since, reason};
 use std::alloc::{AllocError, Global};
 use std::fmt::Write;
 
-/// Adds what a request is answered in a world, and if that is not `ok`, why, and since which line, if
-/// that is told.
+/// Adds what a request is answered in a world, and if that is not `ok`, why, since which line, if that
+/// is told, and by which promise a kernel opens the path all the same, if one does by these rules.
 pub(crate) fn push_answer<T: FileTree>(
     alloc: Global,
     text: &mut String,
+    rules: Rules,
     world: &World<T>,
     process: u32,
     action: &Action,
@@ -28,7 +30,8 @@ pub(crate) fn push_answer<T: FileTree>(
         answer ≡ (apply world.now.table w (record { process = process; action = action.now })).0 →
         string_bytes text.new ≡ string_bytes text.old
         ++ (answer_words world.now.table w (record { process = process; action = action.now })
-        ++ since_text (date_of (reason world.now.table w
+        ++ reason_tail rules world.now.table w (record { process = process; action = action.now })
+        (date_of (reason world.now.table w
         (record { process = process; action = action.now })) line))) }
 {
     if let Answer::Okay = answer {
@@ -39,7 +42,8 @@ pub(crate) fn push_answer<T: FileTree>(
     };
     write!(text, "{answer}")?;
     push_words(alloc, text, world, &reason)?;
-    push_since(text, date_of(&reason, line))
+    push_since(text, date_of(&reason, line))?;
+    push_opener(alloc, text, rules, world, process, action, &reason)
 }
 
 /// Adds the words of a reason, by the paths of a world's tree, with a blank before them, if it has any.

@@ -2,14 +2,15 @@
 
 ghost use Rattle.std.specs.Prelude.{◌≡◌, ◌++◌, ◌∷◌, [], ℕ, List, Ok, IfOk, OnOk, decimal, flat_map};
 ghost use Rattle.std.specs.Prelude.{string_bytes};
+ghost use Rattle.pua_calls.specs.declared.rules.Rules.{Rules};
 ghost use Rattle.pua_script.specs.AnswerTexts.{with_end};
 ghost use Rattle.pua_script.specs.Replay.{World as Replayed, answers_to, apply, world_after};
 ghost use Rattle.pua_script.specs.Requests.{Asked};
-ghost use Rattle.pua_script.specs.Scripts.{request_of, script};
+ghost use Rattle.pua_script.specs.Scripts.{request_by, script_by};
 ghost use Rattle.std.specs.Slice.Iter.{iter_rest};
 ghost use Rattle.pua_script.specs.Worlds.{StandsForWorld};
 ghost use Rattle.pua_why.specs.Reasons.{reason};
-ghost use Rattle.pua_why.specs.Texts.{date_of, since_text, why_lines, answer_words};
+ghost use Rattle.pua_why.specs.Texts.{answer_words, date_of, reason_tail, why_lines};
 ghost use Rattle.pua_since.specs.Dates.{AreKnown, ArePlacesOf, IsRequestAt, question_line};
 ghost use Rattle.pua_since.specs.Dates.{places_left};
 ghost use Rattle.pua_since.specs.Watched.{AreWatched, IsKeptThrough};
@@ -20,6 +21,7 @@ use crate::watches::Watches;
 use bstr::ByteSlice;
 use indexmap::IndexMap;
 use itoa::Buffer;
+use pua_calls::Rules;
 use pua_script::{Answer, Request, World};
 use pua_tree::{FileTree, OutOfMemory};
 use std::alloc::{AllocError, Global};
@@ -37,8 +39,8 @@ pub(crate) fn watch_lines<'a, T: FileTree>(
     answers: &[Answer],
     watches: &mut Watches<'a>,
 ) -> Result<Vec<usize>, OutOfMemory>
-    ensures places { IfOk result (λ places. (w : Replayed) → StandsForWorld world.now w →
-        script script_bytes.now ≡ Ok requests.now →
+    ensures places { IfOk result (λ places. (w : Replayed) (rules : Rules) →
+        StandsForWorld world.now w → script_by rules script_bytes.now ≡ Ok requests.now →
         answers.now ≡ answers_to world.now.table w requests.now →
         ArePlacesOf watches.new.watches.items 0 requests.now answers.now places.items) }
     ensures watched { OnOk result ((w : Replayed) (left : List Asked) →
@@ -71,14 +73,14 @@ fn place_of<'a, 'l, T: FileTree>(
     known: &mut IndexMap<&'l [u8], usize>,
     watches: &mut Watches<'a>,
 ) -> Result<usize, OutOfMemory>
-    ensures place { IfOk result (λ place. (n : ℕ) →
-        AreKnown watches.old.watches.items known.old.entries →
-        request_of n line.now ≡ Ok request.now →
+    ensures place { IfOk result (λ place. (rules : Rules) (n : ℕ) →
+        AreKnown rules watches.old.watches.items known.old.entries →
+        request_by rules n line.now ≡ Ok request.now →
         IsRequestAt watches.new.watches.items place request.now done) }
-    ensures known { OnOk result ((n : ℕ) →
-        AreKnown watches.old.watches.items known.old.entries →
-        request_of n line.now ≡ Ok request.now →
-        AreKnown watches.new.watches.items known.new.entries) }
+    ensures known { OnOk result ((rules : Rules) (n : ℕ) →
+        AreKnown rules watches.old.watches.items known.old.entries →
+        request_by rules n line.now ≡ Ok request.now →
+        AreKnown rules watches.new.watches.items known.new.entries) }
     ensures watched { OnOk result ((w : Replayed) (left : List Asked) →
         StandsForWorld world.now w → AreWatched world.now.table w [] left watches.old →
         AreWatched world.now.table w [] left watches.new) }
@@ -95,11 +97,12 @@ fn place_of<'a, 'l, T: FileTree>(
     Ok(place)
 }
 
-/// A line for each request, with its number, what it is answered, and if that is not `ok`, why, and
-/// since which line. The world is the one before them, and serves them; the questions of those that are
+/// A line for each request, with its number, what it is answered, and if that is not `ok`, why, since
+/// which line, and by which promise a kernel opens it all the same. The world is the one before them, and serves them; the questions of those that are
 /// not answered `ok` stand at these places.
 pub(crate) fn lines_text<T: FileTree>(
     alloc: Global,
+    rules: Rules,
     world: &mut World<T>,
     requests: &[Request],
     answers: &[Answer],
@@ -110,7 +113,7 @@ pub(crate) fn lines_text<T: FileTree>(
         answers.now ≡ answers_to world.old.table w requests.now →
         AreWatched world.old.table w [] requests.now watches.old →
         ArePlacesOf watches.old.watches.items 0 requests.now answers.now places.now →
-        string_bytes text ≡ flat_map with_end (why_lines world.old.table w [] 1 requests.now)) }
+        string_bytes text ≡ flat_map with_end (why_lines rules world.old.table w [] 1 requests.now)) }
     ensures watched { OnOk result ((w : Replayed) → StandsForWorld world.old w →
         answers.now ≡ answers_to world.old.table w requests.now →
         AreWatched world.old.table w [] requests.now watches.old →
@@ -127,7 +130,9 @@ pub(crate) fn lines_text<T: FileTree>(
     for (done, (request, answer)) in requests.iter().zip(answers).enumerate() {
         let line = next_line(watches, *answer, &mut left);
         let number = done + 1;
-        push_line(alloc, &mut text, number, world, request, *answer, line)?;
+        push_line(
+            alloc, &mut text, rules, number, world, request, *answer, line,
+        )?;
         watches.serve(alloc, world, request, *answer, number)?;
     }
     Ok(text)
@@ -149,6 +154,7 @@ fn next_line(watches: &Watches<'_>, answer: Answer, left: &mut Iter<'_, usize>) 
 fn push_line<T: FileTree>(
     alloc: Global,
     text: &mut String,
+    rules: Rules,
     number: usize,
     world: &World<T>,
     request: &Request,
@@ -158,37 +164,40 @@ fn push_line<T: FileTree>(
     ensures { OnOk result ((w : Replayed) → StandsForWorld world.now w →
         answer ≡ (apply world.now.table w request.now).0 →
         string_bytes text.new ≡ string_bytes text.old ++ with_end (decimal number ++ 32 ∷
-        (answer_words world.now.table w request.now
-        ++ since_text (date_of (reason world.now.table w request.now) line)))) }
+        (answer_words world.now.table w request.now ++ reason_tail rules world.now.table w
+        request.now (date_of (reason world.now.table w request.now) line)))) }
 {
     let mut digits = Buffer::new();
     text.push_str(digits.format(number))?;
     text.push_str(" ")?;
     let (process, action) = (request.process(), request.action());
-    push_answer(alloc, text, world, process, action, answer, line)?;
+    push_answer(alloc, text, rules, world, process, action, answer, line)?;
     text.push_str("\n")
 }
 
 /// The text of a run of a script with reasons: a line for each of its requests, with its number, what
-/// it is answered, and if that is not `ok`, why, and since which line that is so, unless it was so from
-/// the start. The script was read from these bytes, and its requests were answered so, in a world as
-/// this one, which serves them. The only error is that a growth was refused.
+/// it is answered, and if that is not `ok`, why, since which line that is so, unless it was so from the
+/// start, and by which promise a kernel opens the path all the same, if one does by these rules. The
+/// script was read from these bytes by these rules, and its requests were answered so, in a world as this
+/// one, which serves them. The only error is that a growth was refused.
 pub fn reason_text<T: FileTree>(
     alloc: Global,
+    rules: Rules,
     world: &mut World<T>,
     script_bytes: &[u8],
     requests: &[Request],
     answers: &[Answer],
 ) -> Result<String, OutOfMemory>
-    ensures { IfOk result (λ text. (w : Replayed) → StandsForWorld world.old w →
-        script script_bytes.now ≡ Ok requests.now →
+    ensures { IfOk result (λ text. (w : Replayed) →
+        StandsForWorld world.old w → script_by rules script_bytes.now ≡ Ok requests.now →
         answers.now ≡ answers_to world.old.table w requests.now →
-        string_bytes text ≡ flat_map with_end (why_lines world.old.table w [] 1 requests.now)) }
+        string_bytes text ≡ flat_map with_end (why_lines rules world.old.table w [] 1 requests.now)) }
 {
     let mut watches = Watches::new(alloc, requests, answers)?;
     let places = watch_lines(alloc, world, script_bytes, requests, answers, &mut watches)?;
     lines_text(
         alloc,
+        rules,
         world,
         requests,
         answers,

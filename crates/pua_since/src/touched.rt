@@ -42,6 +42,12 @@ fn call_is_own(call: Call) -> bool
 {
     !matches!(
         call,
-        Call::Create | Call::Mkdir | Call::Rmdir | Call::Unlink | Call::Symlink
+        Call::Create
+            | Call::Bind
+            | Call::Mknod
+            | Call::Mkdir
+            | Call::Rmdir
+            | Call::Unlink
+            | Call::Symlink
     )
 }

@@ -5,7 +5,7 @@ ghost use Rattle.std.specs.Prelude.{string_bytes};
 ghost use Rattle.pua_script.specs.AnswerTexts.{with_end};
 ghost use Rattle.pua_script.specs.Replay.{World as Replayed, answers_to};
 ghost use Rattle.pua_script.specs.Requests.{Asked};
-ghost use Rattle.pua_script.specs.Scripts.{script};
+ghost use Rattle.pua_script.specs.Scripts.{script_by};
 ghost use Rattle.pua_script.specs.Worlds.{StandsForWorld};
 ghost use Rattle.pua_why.specs.Texts.{why_lines};
 ghost use Rattle.pua_since.specs.Watched.{AreWatched, IsKeptThrough, line_at};
@@ -14,6 +14,7 @@ ghost use Rattle.pua_since.specs.Dates.{AreVeilsAt, veil_date, veil_seen, veils_
 use crate::reason_lines::{lines_text, watch_lines};
 use crate::watch::Question;
 use crate::watches::Watches;
+use pua_calls::Rules;
 use pua_policy::Place;
 use pua_script::{Answer, Request, World};
 use pua_tree::{FileTree, OutOfMemory};
@@ -60,16 +61,18 @@ fn add_veils<'w>(
 /// that was so from the start. The only error is that a growth was refused.
 pub fn dated_text<T: FileTree>(
     alloc: Global,
+    rules: Rules,
     world: &mut World<T>,
     script_bytes: &[u8],
     requests: &[Request],
     answers: &[Answer],
     veils: &[(u32, &Place)],
 ) -> Result<(String, Vec<Option<usize>>), OutOfMemory>
-    ensures { IfOk result (λ dated. (w : Replayed) → StandsForWorld world.old w →
-        script script_bytes.now ≡ Ok requests.now →
+    ensures { IfOk result (λ dated. (w : Replayed) →
+        StandsForWorld world.old w → script_by rules script_bytes.now ≡ Ok requests.now →
         answers.now ≡ answers_to world.old.table w requests.now →
-        (string_bytes dated.0 ≡ flat_map with_end (why_lines world.old.table w [] 1 requests.now))
+        (string_bytes dated.0
+        ≡ flat_map with_end (why_lines rules world.old.table w [] 1 requests.now))
         × (dated.1.items ≡ map (veil_date world.old.table w requests.now)
         (map veil_seen veils.now))) }
 {
@@ -78,6 +81,7 @@ pub fn dated_text<T: FileTree>(
     let places = watch_lines(alloc, world, script_bytes, requests, answers, &mut watches)?;
     let text = lines_text(
         alloc,
+        rules,
         world,
         requests,
         answers,

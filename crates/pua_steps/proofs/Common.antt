@@ -12,7 +12,7 @@ pub use Rattle.std.proofs.lemmas.Nat.Bits.{bit_at_above}
 pub use Rattle.std.specs.Int.{bit_at}
 pub use Rattle.std.specs.List.{AllByRecursion, range_with_len}
 pub use Rattle.std.specs.Prelude.{flat_map, IfSome, option_to_list}
-pub use mir.Syntax.{w16}
+pub use mir.Syntax.{w32}
 pub use Rattle.pua_steps.specs.Calls.{has_call}
 unfoldable pub use Rattle.pua_steps.specs.Calls.{calls_of}
 pub use Rattle.pua_steps.specs.Graph.{Graph, Pair, some_pair, Word}

@@ -2,7 +2,7 @@
 use Rattle.pua_steps.proofs.Common.{call_count, ℕ, zero, suc, ◌+◌, ◌-◌, ◌*◌, ◌<◌, ◌≤◌, ◌≡◌, max, List, [], ◌∷◌, ◌++◌, Option, Some, None, Bool, true}
 use Rattle.pua_steps.proofs.Common.{false, cond, not, ◌||◌, ◌==◌, nat_lt, nat_le, refl, ap, arith, sym, ◌∙◌, length, get_or, option_map}
 use Rattle.pua_steps.proofs.Common.{◌^◌, suc-mul, mul-le-mul_right, length-append, inl, inr, subst, IfSome, range_with_len, bit_at_above}
-use Rattle.pua_steps.proofs.Common.{cases_lt, cases_eq, cases_Bool, eqb-true, le-leb, lt-leb, lt-ltb, le-ltb, and_parts, w16, has_call}
+use Rattle.pua_steps.proofs.Common.{cases_lt, cases_eq, cases_Bool, eqb-true, le-leb, lt-leb, lt-ltb, le-ltb, and_parts, w32, has_call}
 use Rattle.pua_steps.proofs.Common.{calls_of, Graph, Pair, cons, alone, below, rows, some_pair, visit_of, missing_visit, has_gap, end_of}
 use Rattle.pua_steps.proofs.Common.{first_of, visits_from, graph_of, missing_at, entries_at, IsEntry, IsState, IsBound, IsSized, live_of}
 use Rattle.pua_steps.proofs.Common.{bound_of, State, Visit, Entry, Steps, or-false}
@@ -58,8 +58,8 @@ some_of m fits =
           ap (λ k. some_pair (alone (filter (has_call k) (range_with_len 0 call_count)))) none ∙ some_alone [] ∙ ap (λ k. not (k == 0)) (sym none)
       | inr e ↦
           let more : 0 < m = elim (cases_eq m 0) [ inl none ↦ absurd (eqb-false m 0 e none) | inr some ↦ omega (arith, some) ] in
-          let low = bit_at-trailing_zeros w16 m more (omega (arith, fits)) in
-          let t : ℕ = trailing_zeros w16 m in
+          let low = bit_at-trailing_zeros w32 m more (omega (arith, fits)) in
+          let t : ℕ = trailing_zeros w32 m in
           let within : t < call_count = elim (cases_lt t call_count) [
             | inl h ↦ h
             | inr h ↦ (let bad : 1 ≡ 0 = sym low.1 ∙ bit_at_above m call_count t fits h in

@@ -39,7 +39,7 @@ module _ (f g : ℕ → Bool) where
       ]
 
 pub first_taken : (set rest call : ℕ) → call < call_count → bit_at set call ≡ 1 → ((i : ℕ) → i < call → bit_at set i ≡ 0) → bit_at rest call ≡ 0 →
-    ((i : ℕ) → i < 16 → i ≢ call → bit_at rest i ≡ bit_at set i)
+    ((i : ℕ) → i < call_count → i ≢ call → bit_at rest i ≡ bit_at set i)
     → calls_of set ≡ call ∷ calls_of rest
 unfolding calls_of
 first_taken set rest call within here before gone others =
@@ -75,7 +75,7 @@ kept_from p q h k (suc n) same =
 
 -- the calls up to one are taken out of a set
 pub calls_dropped : (set rest call : ℕ) → ((i : ℕ) → i ≤ call → bit_at rest i ≡ 0) →
-    ((i : ℕ) → i < 16 → call < i → bit_at rest i ≡ bit_at set i) → calls_of rest ≡ filter (λ other. nat_lt call other) (calls_of set)
+    ((i : ℕ) → i < call_count → call < i → bit_at rest i ≡ bit_at set i) → calls_of rest ≡ filter (λ other. nat_lt call other) (calls_of set)
 unfolding calls_of
 calls_dropped set rest call low high =
     kept_from (has_call set) (λ other. nat_lt call other) (has_call rest) 0 call_count (λ i from to. elim (cases_lt call i) [

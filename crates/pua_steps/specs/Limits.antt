@@ -15,7 +15,7 @@ most_bound = 33
 
 -- how many calls there are
 abbrev pub call_count : ℕ
-call_count = 14
+call_count = 18
 
 -- how many entries one search in a list reads at most: it halves what is left of fewer than 2^64, and looks at what it found
 abbrev pub search_cost : ℕ

@@ -8,7 +8,7 @@ use std::marker::Model;
 /// first at bit 0.
 #[derive(Clone, Copy)]
 pub struct CallSet {
-    bits: u16,
+    bits: u32,
 }
 
 impl Model for CallSet {
@@ -31,7 +31,7 @@ ghost use Rattle.pua_steps.specs.Calls.{calls_of};
 impl CallSet {
     /// The set of these bits: those of calls, that is.
     #[tactic(auto, using(crate::proofs::Sets::low_calls))]
-    pub fn of(bits: u16) -> CallSet
+    pub fn of(bits: u32) -> CallSet
         ensures { calls_of result ≡ calls_of bits }
     {
         CallSet {

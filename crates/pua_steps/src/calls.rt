@@ -6,7 +6,7 @@ ghost use Rattle.pua_steps.specs.Limits.{call_count};
 ghost use Rattle.pua_steps.specs.Calls.{calls_of};
 
 /// Takes the first call out of a set: the call of its lowest bit. None where the set has no call.
-pub(crate) fn take_first(calls: &mut u16) -> Option<u8>
+pub(crate) fn take_first(calls: &mut u32) -> Option<u8>
     requires { calls.old < 2 ^ call_count }
     ensures { MatchOption result ((calls.new ≡ calls.old) × (calls.old ≡ 0))
         (λ call. (calls.new < 2 ^ call_count) × (call < call_count) ×
@@ -22,7 +22,7 @@ pub(crate) fn take_first(calls: &mut u16) -> Option<u8>
 }
 
 /// The first call of a set that has one.
-fn first_of(set: u16) -> u8
+fn first_of(set: u32) -> u8
     requires some { 0 < set }
     requires fits { set < 2 ^ call_count }
     ensures within { result < call_count }
@@ -33,17 +33,17 @@ fn first_of(set: u16) -> u8
 }
 
 /// A set without a call.
-fn without(set: u16, call: u8) -> u16
+fn without(set: u32, call: u8) -> u32
     requires { call < call_count }
     ensures within { result ≤ set }
     ensures here { bit_at result call ≡ 0 }
-    ensures others { (i : ℕ) → i < 16 → i ≢ call → bit_at result i ≡ bit_at set i }
+    ensures others { (i : ℕ) → i < call_count → i ≢ call → bit_at result i ≡ bit_at set i }
 {
     set & !(1 << call)
 }
 
 /// The calls of a set that come after a call.
-pub(crate) fn calls_after(set: u16, call: u8) -> u16
+pub(crate) fn calls_after(set: u32, call: u8) -> u32
     requires fits { set < 2 ^ call_count }
     requires call { call < call_count }
     ensures fits { result < 2 ^ call_count }

@@ -4,4 +4,4 @@
 pub(crate) const MOST_LINKS: u8 = 32;
 
 /// How many calls there are.
-pub(crate) const CALL_COUNT: u8 = 14;
+pub(crate) const CALL_COUNT: u8 = 18;

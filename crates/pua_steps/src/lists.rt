@@ -40,7 +40,7 @@ pub(crate) struct Lists {
 impl Entry {
     /// Whether the letter may give something where at most `left` letters come after it, in a
     /// directory where the calls `missing` are allowed on letters without entries.
-    fn is_useful(&self, missing: u16, live: &Live, left: usize) -> bool
+    fn is_useful(&self, missing: u32, live: &Live, left: usize) -> bool
         requires links { self.now.links ≤ most_links }
         requires layer { left * live.now.dirs + live.now.dirs ≤ length live.now.bounds.items }
         requires to { IfSome self.now.to (λ d. d < live.now.dirs) }
@@ -156,7 +156,7 @@ impl Lists {
     fn add(
         &mut self,
         entry: &Entry,
-        missing: u16,
+        missing: u32,
         live: &Live,
         left: usize,
     ) -> Result<(), AllocError>

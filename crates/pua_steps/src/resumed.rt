@@ -31,7 +31,7 @@ impl Walk {
     pub fn resume(
         alloc: Global,
         tables: Tables,
-        calls: u16,
+        calls: u32,
         base: Option<State>,
         limit: usize,
         word: &[usize],

@@ -15,8 +15,8 @@ use crate::visit::Visit;
 #[derive(Clone, Copy)]
 pub struct Entry {
     pub letter: usize,
-    pub all: u16,
-    pub kept: u16,
+    pub all: u32,
+    pub kept: u32,
     pub links: u8,
     pub to: Option<u32>,
 }
@@ -26,7 +26,7 @@ pub struct Entry {
 #[derive(Drop)]
 pub struct Row {
     pub entries: Vec<Entry>,
-    pub missing: u16,
+    pub missing: u32,
 }
 
 /// What each letter in each directory leads to: how many letters the alphabet has, and a row for each
@@ -71,7 +71,7 @@ impl Entry {
 
 /// Whether calls are allowed on the letters without entries, and there is one of them from `next` on
 /// and before `end`.
-pub(crate) fn has_gap(missing: u16, next: usize, end: usize) -> bool
+pub(crate) fn has_gap(missing: u32, next: usize, end: usize) -> bool
     ensures { result ≡ has_gap missing next end }
 {
     missing != 0 && next < end

@@ -113,7 +113,7 @@ impl Tables {
     }
 
     /// The calls that are allowed on the letters of a directory that have no entries.
-    pub(crate) fn missing(&self, dir: u32) -> u16
+    pub(crate) fn missing(&self, dir: u32) -> u32
         requires { dir < length self.now.steps.rows.items }
         ensures { result ≡ missing_at self.now.steps dir }
     {

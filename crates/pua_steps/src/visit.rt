@@ -7,6 +7,6 @@ use crate::state::State;
 #[derive(Clone, Copy)]
 pub struct Visit {
     pub letter: usize,
-    pub calls: u16,
+    pub calls: u32,
     pub behind: Option<State>,
 }

@@ -32,7 +32,7 @@ pub struct Walk {
     /// How many letters at the front of the word are as they were before the last `next_call`.
     pub(crate) unchanged: usize,
     /// The calls of the word that are still to be given.
-    pub(crate) calls: u16,
+    pub(crate) calls: u32,
     /// The state to which the word leads, where it is live.
     pub(crate) behind: Option<State>,
     /// The states that are open, one for each letter of the word.
@@ -47,7 +47,7 @@ impl Walk {
     pub fn begin(
         alloc: Global,
         tables: Tables,
-        calls: u16,
+        calls: u32,
         base: Option<State>,
         limit: usize,
     ) -> Result<Walk, AllocError>
@@ -103,7 +103,7 @@ impl Walk {
 
     /// Takes all calls of the walk's word that are still to be given: a bit for each, the first at bit
     /// 0. The pairs that come after theirs are still to come. It reads no letter.
-    pub fn take_calls(&mut self) -> u16
+    pub fn take_calls(&mut self) -> u32
         ensures ready { IsReady self.old → IsReady self.new }
         ensures same { IsSameWalk self.old self.new }
         ensures word { self.new.word ≡ self.old.word }

@@ -18,7 +18,7 @@ use Rattle.pua_texts.specs.declared.list_line.ListLine.{ListLine}
 use Rattle.pua_texts.proofs.ListLines.{line_added, word_added}
 use Rattle.pua_texts.proofs.ObjectLines.{line_parts}
 
-given_text : (t : Tree) (about : Thing) (thing : EverThing) (word : Word) → IsThing t about thing →
+pub given_text : (t : Tree) (about : Thing) (thing : EverThing) (word : Word) → IsThing t about thing →
     thing_text t word about ≡ kind_word (kind_of thing) ++ 32 ∷ path_or_new thing word
 given_text t (Stands subject) (told.Stands kind) word is = ap (λ k. k ++ 32 ∷ printed_path Root word) (sym is)
 given_text t (Comes new) (told.Comes kind) word is = ap (λ k. k ++ 32 ∷ codes "new") (sym is)

@@ -10,6 +10,7 @@ pub mod ItemLines
 pub mod OneByOne
 pub mod KeptPaths
 pub mod EverLines
+pub mod EverHowLines
 pub mod MembersNext
 pub mod TogetherList
 pub mod OpeningLines

@@ -1,6 +1,6 @@
 -- The lines of a list, step by step.
-use Rattle.pua_texts.proofs.Common.{◌≡◌, ℕ, suc, ◌+◌, List, [], ◌∷◌, ◌++◌, ◌<◌, ◌≤◌, ◌∙◌, slice_index_or, refl, sym, ap, map, take, drop}
-use Rattle.pua_texts.proofs.Common.{length, get_or, append_assoc, append-nil, arith, drop_more, drop_of_length-le, Call, Word, calls_in, call_name, with_commas, Option, None, Some, take_all}
+use Rattle.pua_texts.proofs.Common.{◌≡◌, ℕ, suc, List, [], ◌∷◌, ◌++◌, ◌<◌, ◌≤◌, ◌∙◌, refl, sym, ap, map, take}
+use Rattle.pua_texts.proofs.Common.{length, get_or, append_assoc, append-nil, arith, Call, Word, calls_in, call_name, with_commas, Option, None, Some, take_all}
 use Rattle.std.proofs.Common.{◌≢◌, zero, length-append}
 use Rattle.std.proofs.lemmas.List.{get_or_append_left}
 use Rattle.std.proofs.Math.Seq.{take-append_seam}

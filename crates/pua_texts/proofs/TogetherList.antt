@@ -1,5 +1,5 @@
 -- The list of several processes, by the one that stands for those that live.
-use Rattle.pua_texts.proofs.Common.{◌≡◌, ℕ, List, [], ◌∷◌, ◌++◌, ◌∙◌, refl, sym, ap, append_assoc, append-nil, flat_map, Option, Some, None}
+use Rattle.pua_texts.proofs.Common.{◌≡◌, ℕ, List, [], ◌++◌, ◌∙◌, refl, sym, ap, append_assoc, append-nil, flat_map, Option, Some, None}
 use Rattle.pua_texts.proofs.Common.{Tree, CallTable, History, StandsFor, veils, veil_lines, Place, ever_lines}
 use Rattle.pua_calls.specs.declared.rules.Rules.{Rules}
 use Rattle.pua_ever.specs.LastingList.{IsLasting}

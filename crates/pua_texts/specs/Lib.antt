@@ -4,6 +4,7 @@ pub mod Openings
 pub mod States
 pub mod ObjectLines
 pub mod EverLines
+pub mod EverHowLines
 pub mod TogetherLines
 pub mod WhyLines
 -- Notes: what the code has of lists, what a writing leaves, and what is put at once.

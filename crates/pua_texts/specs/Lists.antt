@@ -1,6 +1,5 @@
 -- What stands before the lines of a list, as the code has it.
 use Rattle.std.specs.Prelude.{◌≡◌, ℕ, List, ◌++◌}
-use Rattle.pua_tree.specs.Tree.{Tree}
 use Rattle.pua_policy.specs.History.{History}
 use Rattle.pua_policy.specs.declared.place.Place.{Place}
 use Rattle.pua_texts.specs.States.{heading_line, own_lines, living_veils}

@@ -7,6 +7,7 @@ ghost use Rattle.std.specs.List.{AllByRecursion};
 ghost use Rattle.pua_why.specs.Texts.{promises_text};
 ghost use Rattle.pua_texts.specs.Blocks.{PassesOn};
 ghost use Rattle.pua_texts.specs.ColumnsState.{IsNumber, IsResting, columns_of, plain, veil_column};
+ghost use Rattle.pua_texts.specs.EverHowLines.{numbered};
 
 use crate::block::{Block, MOST_LINE};
 use pua_calls::Promises;
@@ -72,6 +73,17 @@ impl Columns {
             resting: Vec::new(alloc),
             veils,
             unveiled: " - - -\n",
+        }
+    }
+
+    /// These texts, by their numbers in the place of veils, and LF alone without a number.
+    pub(crate) fn of_lines(alloc: Global, texts: Vec<String>) -> Columns
+        ensures { result ≡ numbered (map string_bytes texts.items) }
+    {
+        Columns {
+            resting: Vec::new(alloc),
+            veils: texts,
+            unveiled: "\n",
         }
     }
 

@@ -9,6 +9,7 @@ mod block;
 mod calls_text;
 mod columns;
 mod copies;
+mod ever_how_list;
 mod ever_list;
 mod fault;
 mod kept_path;
@@ -33,6 +34,7 @@ mod why_lists;
 
 pub use answers::{answer_text, front_text};
 pub use audit_list::{AuditList, write_audit};
+pub use ever_how_list::write_ever_how;
 pub use ever_list::write_ever;
 pub use fault::TextFault;
 pub use laws::state_law;

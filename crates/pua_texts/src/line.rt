@@ -145,6 +145,10 @@ fn padded_end(call: Call) -> &'static [u8]
         Call::Chmod => b" chmod\n         ",
         Call::Chdir => b" chdir\n         ",
         Call::Exec => b" exec\n          ",
+        Call::Connect => b" connect\n       ",
+        Call::Bind => b" bind\n          ",
+        Call::Mknod => b" mknod\n         ",
+        Call::Chown => b" chown\n         ",
     }
 }
 

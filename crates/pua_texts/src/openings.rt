@@ -1,82 +1,19 @@
 //! What promises open by themselves, by the rules of OpenBSD's kernel, as lines.
 
-ghost use Rattle.std.specs.Prelude.{◌≡◌, ◌++◌, OnOk, map, string_bytes};
+ghost use Rattle.std.specs.Prelude.{◌≡◌, ◌++◌, ◌∷◌, [], codes, if◌then◌else◌, map, OnOk};
+ghost use Rattle.std.specs.Prelude.{string_bytes};
+ghost use Rattle.pua_calls.specs.Calls.{call_name};
 ghost use Rattle.pua_calls.specs.Promises.{keywords_of};
-ghost use Rattle.pua_texts.specs.Openings.{line_if, opened_by, opening_lines, opening_rows};
+ghost use Rattle.pua_objects.specs.Objects.{with_commas};
+ghost use Rattle.pua_why.specs.Seen.{opening_seen};
+ghost use Rattle.pua_texts.specs.Lines.{with_end};
+ghost use Rattle.pua_texts.specs.Openings.{line_if, opened_by, opening_lines, opening_text};
+ghost use Rattle.pua_texts.specs.Openings.{veils_word};
 
-use pua_calls::Promises;
+use pua_calls::{Call, Promises};
+use pua_why::{Opening, openings};
 use std::alloc::{AllocError, Global};
 use std::fmt::Write;
-
-/// What a promise opens by itself.
-#[derive(Clone, Copy)]
-struct Opening {
-    /// The keyword of the promise.
-    promise: &'static str,
-    /// A path as a process spells it, with a slash at its end for each path below; the calls; and `veils`
-    /// where the veils are asked as for any path. Else none of them hides the file.
-    told: &'static str,
-}
-
-/// In the order of the promises.
-static OPENINGS: [Opening; 14] = [
-    Opening {
-        promise: "dns",
-        told: "/etc/resolv.conf stat,open-r",
-    },
-    Opening {
-        promise: "dns",
-        told: "/etc/hosts open-r",
-    },
-    Opening {
-        promise: "dns",
-        told: "/etc/services open-r",
-    },
-    Opening {
-        promise: "dns",
-        told: "/etc/protocols open-r",
-    },
-    Opening {
-        promise: "getpw",
-        told: "/etc/pwd.db open-r",
-    },
-    Opening {
-        promise: "getpw",
-        told: "/etc/group open-r",
-    },
-    Opening {
-        promise: "getpw",
-        told: "/etc/netid open-r",
-    },
-    Opening {
-        promise: "getpw",
-        told: "/var/run/ypbind.lock stat,open-r",
-    },
-    Opening {
-        promise: "getpw",
-        told: "/var/yp/binding/ open-r",
-    },
-    Opening {
-        promise: "stdio",
-        told: "/dev/null open-r,open-w,open-rw",
-    },
-    Opening {
-        promise: "stdio",
-        told: "/etc/localtime stat,open-r",
-    },
-    Opening {
-        promise: "stdio",
-        told: "/usr/share/zoneinfo/ open-r",
-    },
-    Opening {
-        promise: "tmppath",
-        told: "/tmp/ create,unlink veils",
-    },
-    Opening {
-        promise: "tty",
-        told: "/dev/tty open-r,open-w,open-rw veils",
-    },
-];
 
 /// Adds a line for each opening of these promises, in their order. The only error is that a growth was
 /// refused.
@@ -109,7 +46,7 @@ fn push_all(text: &mut String, keywords: &[&str]) -> Result<(), AllocError>
 fn push_opened_by(text: &mut String, keyword: &str) -> Result<(), AllocError>
     ensures { OnOk result (string_bytes text.new ≡ string_bytes text.old ++ opened_by keyword.now) }
 {
-    for row in rows() {
+    for row in openings() {
         push_if(text, row, keyword)?;
     }
     Ok(())
@@ -118,17 +55,51 @@ fn push_opened_by(text: &mut String, keyword: &str) -> Result<(), AllocError>
 /// Adds the line of an opening, if it is that of this promise.
 fn push_if(text: &mut String, row: &Opening, keyword: &str) -> Result<(), AllocError>
     ensures { OnOk result (string_bytes text.new ≡ string_bytes text.old
-        ++ line_if keyword.now (row.now.promise.now, row.now.told.now)) }
+        ++ line_if keyword.now (opening_seen row.now)) }
 {
     if row.promise != keyword {
         return Ok(());
     }
-    writeln!(text, "opening {}", row.told)
+    push_row(text, row)
 }
 
-/// All openings.
-fn rows() -> &'static [Opening]
-    ensures { map (λ row. (row.promise.now, row.told.now)) result.now ≡ opening_rows }
+/// Adds the line of an opening.
+fn push_row(text: &mut String, row: &Opening) -> Result<(), AllocError>
+    ensures { OnOk result (string_bytes text.new ≡ string_bytes text.old
+        ++ with_end (codes "opening " ++ opening_text (opening_seen row.now))) }
 {
-    OPENINGS.as_slice()
+    write!(text, "opening {} ", row.path)?;
+    push_calls(text, row.calls)?;
+    writeln!(text, "{}", veils_word(row.asks_veils))
+}
+
+/// Adds the names of calls with commas between them.
+fn push_calls(text: &mut String, calls: &[Call]) -> Result<(), AllocError>
+    ensures { OnOk result (string_bytes text.new ≡ string_bytes text.old
+        ++ with_commas (map call_name calls.now)) }
+{
+    let mut is_first = true;
+    for call in calls {
+        push_call(text, is_first, *call)?;
+        is_first = false;
+    }
+    Ok(())
+}
+
+/// Adds the name of a call, with a comma before it unless it is the first.
+fn push_call(text: &mut String, is_first: bool, call: Call) -> Result<(), AllocError>
+    ensures { OnOk result (string_bytes text.new ≡ string_bytes text.old
+        ++ ((if is_first then [] else 44 ∷ []) ++ call_name call)) }
+{
+    if !is_first {
+        text.push_str(",")?;
+    }
+    text.push_str(call.name())
+}
+
+/// That the veils are asked, where they are.
+fn veils_word(asked: bool) -> &'static str
+    ensures { result.now ≡ veils_word asked }
+{
+    if asked { " veils" } else { "" }
 }

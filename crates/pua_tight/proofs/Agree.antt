@@ -1,6 +1,6 @@
 -- Of three worlds, of which the middle one lacks of the last only what the first lacks too: it answers as the outer two, where these answer alike,
--- by a table whose calls each rest on one set of promises.
-use Rattle.std.proofs.Common.{◌≡◌, ℕ, List, [], ◌∷◌, refl, sym, ap, ◌∙◌, Bool, true, false, cond, ◌||◌, ◌&&◌, subst, length}
+-- as far as what is asked for rests on one set of promises.
+use Rattle.std.proofs.Common.{◌≡◌, ◌≤◌, ℕ, List, [], ◌∷◌, refl, sym, ap, ◌∙◌, Bool, true, false, cond, ◌||◌, ◌&&◌, subst, length}
 use Rattle.std.proofs.lemmas.Bool.{true≢false, false≢true, and_parts, and_from}
 use Rattle.std.specs.Prelude.{Option, Some, None, Result, Ok, Err, option_map, nat_le}
 use Rattle.pua_tree.specs.Tree.{Tree}
@@ -243,11 +243,20 @@ lacked h alt e = ap (λ b. refusal_of (cond (is_ended h) may.Death (cond (b || f
     by false true = refl
     by false false = refl
 
+-- and no set at all allows nothing
+none_allows : (h : History) → refusal_of (may_any h []) ≡ Some (value h)
+none_allows h = by (is_ended h) (has_error h)
+  where
+    by : (x y : Bool) → refusal_of (cond x may.Death (cond y may.Enosys may.Death)) ≡ Some (valued_by x y)
+    by true y = refl
+    by false true = refl
+    by false false = refl
+
 over : (h : History) (sets : List ℕ) → is_ended h ≡ true → refusal_of (may_any h sets) ≡ Some (value h)
 over h sets e = ap (λ x. refusal_of (cond x may.Death (cond (list_any (holds (held_set h)) sets) may.Yes (cond (has_error h) may.Enosys may.Death)))) e
     ∙ ap (λ x. Some (valued_by x (has_error h))) (sym e)
 
-module _ (table : CallTable) (one : RestsOnOne table) (t : Tree) (l m s : History) (w : HistoryThree l m s) where
+module _ (table : CallTable) (t : Tree) (l m s : History) (w : HistoryThree l m s) where
   abbrev lacks : History → List ℕ → Option Refusal
   lacks x sets = refusal_of (may_any x sets)
 
@@ -281,13 +290,13 @@ module _ (table : CallTable) (one : RestsOnOne table) (t : Tree) (l m s : Histor
       by false e false true true p q r at =
           absurd (false≢true (sym p ∙ has_both (held_set l) (held_set m) (held_set s) alt (held_three w) q r))
 
-  sets_miss : (sets : List ℕ) → length sets ≡ 1 → (v : Refusal) → lacks m sets ≡ Some v → (lacks s sets ≡ Some v) ⊎ (lacks l sets ≡ Some v)
-  sets_miss [] e v is = let no : ⊥ = omega (arith, e) in absurd no
+  sets_miss : (sets : List ℕ) → length sets ≤ 1 → (v : Refusal) → lacks m sets ≡ Some v → (lacks s sets ≡ Some v) ⊎ (lacks l sets ≡ Some v)
+  sets_miss [] e v is = inl (none_allows s ∙ ap (λ z. Some z) (sym (value_is m [] v is ∙ value_inner)))
   sets_miss (alt ∷ []) e v is = set_misses alt v is
   sets_miss (alt ∷ other ∷ sets) e v is = let no : ⊥ = omega (arith, e) in absurd no
 
   -- promises, behind which the last one isn't refused for want of promises without the middle one
-  promises : (sets : List ℕ) → length sets ≡ 1 → (f g h : Decision) → Agree f g h → ((r : Refusal) → r ≡ value l → h ≡ Err r → g ≡ Err r) →
+  promises : (sets : List ℕ) → length sets ≤ 1 → (f g h : Decision) → Agree f g h → ((r : Refusal) → r ≡ value l → h ≡ Err r → g ≡ Err r) →
       Agree (unless_refused (lacks l sets) f) (unless_refused (lacks m sets) g) (unless_refused (lacks s sets) h)
   promises sets e f g h rest late = by (lacks m sets) refl
     where
@@ -327,7 +336,7 @@ module _ (table : CallTable) (one : RestsOnOne table) (t : Tree) (l m s : Histor
   plain_late : (g h : Decision) → rare h ≡ false → (r : Refusal) → r ≡ value l → h ≡ Err r → g ≡ Err r
   plain_late g h plain r is e = absurd (true≢false (sym (value_rare l) ∙ ap (λ z. rare (Err z)) (sym is) ∙ ap rare (sym e) ∙ plain))
 
-  two_promises : (first second : List ℕ) → length first ≡ 1 → length second ≡ 1 → (f g h : Decision) → Agree f g h → rare h ≡ false →
+  two_promises : (first second : List ℕ) → length first ≤ 1 → length second ≤ 1 → (f g h : Decision) → Agree f g h → rare h ≡ false →
       Agree (unless_refused (lacks l first) (unless_refused (lacks l second) f)) (unless_refused (lacks m first) (unless_refused (lacks m second) g))
       (unless_refused (lacks s first) (unless_refused (lacks s second) h))
   two_promises first second one_first one_second f g h rest plain =
@@ -418,7 +427,7 @@ module _ (table : CallTable) (one : RestsOnOne table) (t : Tree) (l m s : Histor
 
   unveil_agrees : (path : List ℕ) (a b : ℕ) → holds b a ≡ true →
       Agree (decide table t l (Unveil path (Some b))) (decide table t m (Unveil path (Some a))) (decide table t s (Unveil path (Some a)))
-  unveil_agrees path a b less = promises (unveil ∷ []) refl (at l b) (at m a) (at s a)
+  unveil_agrees path a b less = promises (unveil ∷ []) (omega arith) (at l b) (at m a) (at s a)
       (same_check (fault_if (is_locked l) EPERM) (fault_if (is_locked m) EPERM) (fault_if (is_locked s) EPERM)
       (ap (λ x. fault_if x EPERM) (locked_three w)) (ap (λ x. fault_if x EPERM) (locked_alike later))
       (veil_by refusals t (asker_of l) path (Some b)) (veil_by refusals t (asker_of m) path (Some a)) (veil_by refusals t (asker_of s) path (Some a))
@@ -438,7 +447,7 @@ module _ (table : CallTable) (one : RestsOnOne table) (t : Tree) (l m s : Histor
 
   unveil_unknown : (path : List ℕ) →
       Agree (decide table t l (Unveil path None)) (decide table t m (Unveil path None)) (decide table t s (Unveil path None))
-  unveil_unknown path = promises (unveil ∷ []) refl (at l) (at m) (at s)
+  unveil_unknown path = promises (unveil ∷ []) (omega arith) (at l) (at m) (at s)
       (same_check (fault_if (is_locked l) EPERM) (fault_if (is_locked m) EPERM) (fault_if (is_locked s) EPERM)
       (ap (λ x. fault_if x EPERM) (locked_three w)) (ap (λ x. fault_if x EPERM) (locked_alike later))
       (veil_by refusals t (asker_of l) path None) (veil_by refusals t (asker_of m) path None) (veil_by refusals t (asker_of s) path None)
@@ -497,13 +506,13 @@ module _ (table : CallTable) (one : RestsOnOne table) (t : Tree) (l m s : Histor
   granted_agree : (c : Change) → Agree (Ok c) (Ok c) (Ok c)
   granted_agree c = record { err = λ r e i. e; ok = λ g d e i. i }
 
-  same_agrees : (action : Action) → Agree (decide table t l action) (decide table t m action) (decide table t s action)
-  same_agrees (OnPath call path) = promises (rule_of table call).alternatives (one.calls call) (at l) (at m) (at s)
+  same_agrees : (action : Action) → RestsOnOne table action → Agree (decide table t l action) (decide table t m action) (decide table t s action)
+  same_agrees (OnPath call path) one = promises (rule_of table call).alternatives one (at l) (at m) (at s)
       (object_agrees call path (change_by table call)) (plain_late (at m) (at s) (object_plain table t s call path (change_by table call)))
     where
       at : History → Decision
       at z = object_by refusals table t (asker_of z) call path (λ x. Ok (change_by table call x))
-  same_agrees (Symlink target path) = promises (rule_of table call.Symlink).alternatives (one.calls call.Symlink) (linked l) (linked m) (linked s)
+  same_agrees (Symlink target path) one = promises (rule_of table call.Symlink).alternatives one (linked l) (linked m) (linked s)
       (same_check (path_fault target) (path_fault target) (path_fault target) refl refl (at l) (at m) (at s)
       (object_agrees call.Symlink path (adding (link_node target))))
       (plain_late (linked m) (linked s) (checked_plain (path_fault target) (at s) (path_plain target)
@@ -514,30 +523,30 @@ module _ (table : CallTable) (one : RestsOnOne table) (t : Tree) (l m s : Histor
 
       linked : History → Decision
       linked z = check (path_fault target) (at z)
-  same_agrees (Rename old new) = two_promises table.rename.old.needs.alternatives table.rename.new.needs.alternatives one.rename.0 one.rename.1
+  same_agrees (Rename old new) one = two_promises table.rename.old.needs.alternatives table.rename.new.needs.alternatives one.0 one.1
       (at l) (at m) (at s) (pair_agrees table.rename ending.Dropped old new (λ x y. rename_by refusals t x y (node_named x)))
       (objects_plain table.rename t s ending.Dropped old new (λ x y. rename_by refusals t x y (node_named x))
       (λ x y. rename_plain t x y (node_named x)))
     where
       at : History → Decision
       at z = objects_by refusals table.rename t (asker_of z) ending.Dropped old new (λ x y. rename_by refusals t x y (node_named x))
-  same_agrees (Link old new) = two_promises table.link.old.needs.alternatives table.link.new.needs.alternatives one.link.0 one.link.1
+  same_agrees (Link old new) one = two_promises table.link.old.needs.alternatives table.link.new.needs.alternatives one.0 one.1
       (at l) (at m) (at s) (pair_agrees table.link ending.Dot old new (λ x y. link_by refusals x y (node_named x)))
       (objects_plain table.link t s ending.Dot old new (λ x y. link_by refusals x y (node_named x)) (λ x y. link_plain x y (node_named x)))
     where
       at : History → Decision
       at z = objects_by refusals table.link t (asker_of z) ending.Dot old new (λ x y. link_by refusals x y (node_named x))
-  same_agrees (Pledge p e) = pledge_agrees (given_self p) (given_self e)
-  same_agrees (Unveil path None) = unveil_unknown path
-  same_agrees (Unveil path (Some a)) = unveil_agrees path a a (holds_self a)
-  same_agrees Lock = promises (unveil ∷ []) refl (Ok (AddEvent Locked)) (Ok (AddEvent Locked)) (Ok (AddEvent Locked))
+  same_agrees (Pledge p e) one = pledge_agrees (given_self p) (given_self e)
+  same_agrees (Unveil path None) one = unveil_unknown path
+  same_agrees (Unveil path (Some a)) one = unveil_agrees path a a (holds_self a)
+  same_agrees Lock one = promises (unveil ∷ []) (omega arith) (Ok (AddEvent Locked)) (Ok (AddEvent Locked)) (Ok (AddEvent Locked))
       (granted_agree (AddEvent Locked)) (plain_late (Ok (AddEvent Locked)) (Ok (AddEvent Locked)) refl)
-  same_agrees (Fork new) = promises (proc ∷ []) refl (Ok (CopyAs new)) (Ok (CopyAs new)) (Ok (CopyAs new))
+  same_agrees (Fork new) one = promises (proc ∷ []) (omega arith) (Ok (CopyAs new)) (Ok (CopyAs new)) (Ok (CopyAs new))
       (granted_agree (CopyAs new)) (plain_late (Ok (CopyAs new)) (Ok (CopyAs new)) refl)
-  same_agrees Exit = granted_agree (AddEvent Ended)
+  same_agrees Exit one = granted_agree (AddEvent Ended)
 
   -- the first one asks for no less
-  pub agrees : {y x : Action} → ActionWithin y x → Agree (decide table t l x) (decide table t m y) (decide table t s y)
-  agrees (as_given {action = action}) = same_agrees action
-  agrees (less_pledged p e) = pledge_agrees p e
-  agrees (less_unveiled {path = path} {a = a} {b = b} less) = unveil_agrees path a b less
+  pub agrees : {y x : Action} → ActionWithin y x → RestsOnOne table y → Agree (decide table t l x) (decide table t m y) (decide table t s y)
+  agrees (as_given {action = action}) one = same_agrees action one
+  agrees (less_pledged p e) one = pledge_agrees p e
+  agrees (less_unveiled {path = path} {a = a} {b = b} less) one = unveil_agrees path a b less

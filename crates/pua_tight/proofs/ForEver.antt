@@ -8,6 +8,7 @@ use Rattle.pua_path.specs.declared.found.Found.TheVariants.{Whole, Slot}
 use Rattle.pua_path.specs.declared.found.Way.TheVariants.{Top}
 use Rattle.pua_calls.specs.Calls.{CallTable, rule_of, calls}
 use Rattle.pua_calls.specs.declared.call.Call.{Call}
+use Rattle.pua_calls.specs.declared.call.Call.TheVariants as call
 use Rattle.pua_policy.specs.History.{History, perms_kept, veils, may_any}
 use Rattle.pua_policy.specs.Verdict.{Object, IsDir, IsFile, IsProg, IsLink, IsMissing, cover, cover_fault, covered_verdict, is_allowed}
 use Rattle.pua_policy.specs.Verdict.{object_fault, or_fault}
@@ -20,7 +21,7 @@ use Rattle.pua_objects.proofs.ForCallers.{among_flat, flat_among, contained, amo
 use Rattle.pua_ever.specs.Ever.{dir_covers, file_covers, name_covers, can_move, can_link, covers_of_dir, covers_of, named_covers, ever_object}
 use Rattle.pua_ever.specs.Ever.{removable_dir, lasting_dir, is_named_way, may_edit, is_allowed_under, turning_calls}
 use Rattle.pua_ever.specs.Ever.{starts_under, is_exec_call, can_allow, is_ever_allowed, ever_calls, New, NewDir, NewOthers, NewFile, NewLink}
-use Rattle.pua_ever.specs.Ever.{maker, new_covers, new_object, is_new_named, can_make, can_allow_new, is_new_allowed, new_calls, own_spot}
+use Rattle.pua_ever.specs.Ever.{is_made_by, file_makers, new_covers, new_object, is_new_named, can_make, can_allow_new, is_new_allowed, new_calls, own_spot}
 use Rattle.pua_ever.specs.Ever.{can_be_freed, freed_at, names_to_free, subjects_of, all_new, ever_line, new_line, EverLine}
 use Rattle.pua_ever.specs.Ever.{has_ever_calls, ever}
 use Rattle.pua_ever.proofs.ForCallers.{any_among, any_found, StandsNow, items_stand, dir_cover, file_cover, named_moved, named_linked}
@@ -47,6 +48,14 @@ some_alike (within less) = refl
 pub has_more : (xs ys : List Call) → ((c : Call) → Among xs c → Among ys c) → nat_lt 0 (length xs) ≡ true → nat_lt 0 (length ys) ≡ true
 has_more [] ys more e = absurd (false≢true e)
 has_more (c ∷ xs) ys more e = some_of ys c (more c (inl refl))
+
+-- a call that makes something passes another test too
+pub made_by_more : (p q : Call → Bool) → ((c : Call) → p c ≡ true → q c ≡ true) → (new : New) → is_made_by p new ≡ true →
+    is_made_by q new ≡ true
+made_by_more p q more NewDir e = more call.Mkdir e
+made_by_more p q more NewOthers e = more call.Mkdir e
+made_by_more p q more NewFile e = any_more p q more file_makers e
+made_by_more p q more NewLink e = more call.Symlink e
 
 module _ (table : CallTable) (h k : History) (w : Eases table h k) where
   -- what is allowed under some cover on a thing
@@ -185,8 +194,12 @@ module _ (table : CallTable) (h k : History) (w : Eases table h k) where
     new_covers_more NewLink = files_more table h k w t
 
     made_more : (new : New) → can_make t table h new ≡ true → can_make t table k new ≡ true
-    made_more new e = under_more _ _ (both_lists (name_covers t h) (dir_covers t h) (name_covers t k) (dir_covers t k) (names_more table h k w t)
-        (dirs_more table h k w t)) IsMissing IsMissing (maker new) (λ fine. fine) e
+    made_more new e =
+        let less = both_lists (name_covers t h) (dir_covers t h) (name_covers t k) (dir_covers t k) (names_more table h k w t)
+        (dirs_more table h k w t) in
+        made_by_more (is_allowed_under table h (name_covers t h ++ dir_covers t h) IsMissing)
+        (is_allowed_under table k (name_covers t k ++ dir_covers t k) IsMissing)
+        (λ c. under_more _ _ less IsMissing IsMissing c (λ fine. fine)) new e
 
     new_allowed_more : (new : New) (c : Call) → can_allow_new t table h new c ≡ true → can_allow_new t table k new c ≡ true
     new_allowed_more NewFile c e = or_more _ _ _ _ (under_more _ _ (new_covers_more NewFile) IsFile IsFile c (λ fine. fine))

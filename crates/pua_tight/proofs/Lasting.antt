@@ -26,7 +26,7 @@ use Rattle.pua_audit.specs.Reach.{Word}
 use Rattle.pua_objects.specs.Objects.{Subject, items, cover_in, is_named_by}
 use Rattle.pua_objects.proofs.ForCallers.{Among, among_map, map_among, among_filter, filter_among, among_either, contained, among_contained}
 use Rattle.pua_ever.specs.Ever.{is_allowed_under, turning_calls, is_exec_call, can_allow, covers_of, ever_object, is_ever_allowed}
-use Rattle.pua_ever.specs.Ever.{New, NewDir, NewOthers, NewFile, NewLink, maker, new_covers, new_object, file_covers, name_covers, dir_covers}
+use Rattle.pua_ever.specs.Ever.{New, NewDir, NewOthers, NewFile, NewLink, is_made_by, new_covers, new_object, file_covers, name_covers, dir_covers}
 use Rattle.pua_ever.specs.Ever.{can_make, can_allow_new, is_new_named, is_new_allowed, may_edit, subjects_of, all_new, ever_line}
 use Rattle.pua_ever.specs.Ever.{new_line, Thing, Stands, Comes, EverLine, has_ever_calls, ever}
 use Rattle.pua_ever.specs.Through.{is_promised_by, is_promised_by_one, can_come, let_through, only_through, ever_through, has_exec, bound_of}
@@ -39,7 +39,7 @@ use Rattle.pua_tight.proofs.Sets.{holds_self}
 use Rattle.pua_tight.proofs.Histories.{VeilsWithin, no_veils, veils_too, CoverWithin, all, nothing, only, held_within, exec_within, others_within}
 use Rattle.pua_tight.proofs.Worlds.{parts}
 use Rattle.pua_tight.proofs.EverCovers.{Eases, eases, or_more, any_more}
-use Rattle.pua_tight.proofs.ForEver.{ever_more, has_more}
+use Rattle.pua_tight.proofs.ForEver.{ever_more, has_more, made_by_more}
 
 -- each within itself
 set_same : (p : Option ℕ) → SetWithin p p
@@ -180,11 +180,14 @@ module _ (table : CallTable) (t : Tree) (well : WellFormed t) where
     coming_pass new c a = by (may_edit table k && can_make t table k new) refl a
       where
         by : (b : Bool) → (may_edit table k && can_make t table k new) ≡ b →
-            Among (if b then filter (is_new_allowed t table k new) calls else []) c → (passes (maker new) && passes c) ≡ true
+            Among (if b then filter (is_new_allowed t table k new) calls else []) c →
+            (is_made_by passes new && passes c) ≡ true
         by true is a =
             let one = filter_among (is_new_allowed t table k new) calls c a in
-            and_from (passes (maker new)) (passes c)
-            (promised (name_covers t k ++ dir_covers t k) IsMissing (maker new) (and_parts (may_edit table k) _ is).1)
+            let covers = name_covers t k ++ dir_covers t k in
+            and_from (is_made_by passes new) (passes c)
+            (made_by_more (is_allowed_under table k covers IsMissing) passes (promised covers IsMissing) new
+            (and_parts (may_edit table k) _ is).1)
             (promised_new new c (and_parts (is_new_named new c) _ one.1).1)
         by false is a = absurd a
 
@@ -224,7 +227,7 @@ module _ (table : CallTable) (t : Tree) (well : WellFormed t) where
 
       comes_more : (thing : Thing) → can_come (is_promised_by_one table h a) thing ≡ true → can_come (is_promised_by_one table k b) thing ≡ true
       comes_more (Stands subject) e = refl
-      comes_more (Comes new) e = passes_more (maker new) e
+      comes_more (Comes new) e = made_by_more (is_promised_by_one table h a) (is_promised_by_one table k b) passes_more new e
 
       through_less : (line : EverLine) → Among (ever_through t table h a) line → IsListedForEver (ever_through t table k b) line
       through_less line there =

@@ -1,4 +1,4 @@
--- By a table whose calls each rest on one set of promises nothing that is answered as before has less than the tightened script.
+-- Of a script whose requests each rest on one set of promises nothing that is answered as before has less than the tightened one.
 use Rattle.std.proofs.Common.{◌≡◌, ◌≢◌, ℕ, List, [], ◌∷◌, ◌++◌, refl, sym, ap, ◌∙◌, Bool, true, false, cond, subst, min, ◌+◌, ◌%◌, ◌<◌, arith, append_assoc, inl, inr, ◌⊎◌}
 use Rattle.std.proofs.lemmas.Bool.{false≢true, eqb-true, eq-eqb}
 use Rattle.std.proofs.lemmas.Nat.Bits.{bit_at_and, bit_at-lt, bit_at-zero, same_from_bits}
@@ -20,9 +20,9 @@ use Rattle.pua_tight.specs.Narrower.{GivenWithin, given_none, given_less, given_
 use Rattle.pua_tight.specs.Narrower.{AsksWithin, no_asks, asks}
 use Rattle.pua_tight.specs.Tight.{Piece, InPromises, InExecpromises, InVeil, given_without, action_without, without, Line, asks_of, same_answers}
 use Rattle.pua_tight.specs.Tight.{try_piece, thin_line, thin}
-use Rattle.pua_tight.specs.Laws.{IsPieceOf, AreOkay, without_all, LeavesOut, RestsOnOne, bit_of, AreSpareable, TightIsLeast}
+use Rattle.pua_tight.specs.Laws.{IsPieceOf, AreOkay, without_all, LeavesOut, RestsOnOne, RestOnOne, bit_of, AreSpareable, TightIsLeast}
 use Rattle.pua_tight.proofs.Sets.{holds_self}
-use Rattle.pua_tight.proofs.Tightened.{has_lacking, without_within, action_twice, world_self, tried_same, line_within, thin_same}
+use Rattle.pua_tight.proofs.Tightened.{has_lacking, without_within, action_twice, world_self, tried_same, line_within, thin_within, thin_same}
 use Rattle.pua_tight.proofs.Less.{lack_at, ask_mono, is_without, lacks_down, lacks_left, okay_less}
 use Rattle.pua_tight.proofs.Worlds.{heads, tails}
 use Rattle.pua_tight.proofs.Minimal.{compose, asks_self, prefix, same_self}
@@ -284,23 +284,33 @@ tried piece y z (Unveil path None) ly lz same out =
     unchanged piece (Unveil path None) y z (λ bit. refl) (λ bit. refl) (λ bit. refl) (wanted ly) (wanted lz)
 tried piece y z x ly lz same out = unchanged piece x y z (λ bit. refl) (λ bit. refl) (λ bit. refl) (wanted ly) (wanted lz)
 
+-- what pledges and unveils lack makes no difference to what a script rests on
+still_one : (table : CallTable) {y x : Action} → ActionWithin y x → RestsOnOne table x → RestsOnOne table y
+still_one table as_given one = one
+still_one table (less_pledged p e) one = tt
+still_one table (less_unveiled less) one = tt
+
+still_all : (table : CallTable) {ys xs : List Asked} → AsksWithin ys xs → RestOnOne table xs → RestOnOne table ys
+still_all table no_asks one = tt
+still_all table (asks first rest) one = (still_one table first.action one.0, still_all table rest one.1)
+
 -- a script that has less
-all_agree : (table : CallTable) → RestsOnOne table → (a b c : World) → WorldThree a b c → {ys xs : List Asked} → AsksLess ys xs →
+all_agree : (table : CallTable) (a b c : World) → WorldThree a b c → {ys xs : List Asked} → RestOnOne table ys → AsksLess ys xs →
     answers_to table a xs ≡ answers_to table c ys → answers_to table b ys ≡ answers_to table c ys
-all_agree table one a b c w less_none e = refl
-all_agree table one a b c w (less_more {y = y} {x = x} {ys = ys} {xs = xs} less rest) e =
+all_agree table a b c w one less_none e = refl
+all_agree table a b c w one (less_more {y = y} {x = x} {ys = ys} {xs = xs} less rest) e =
     let outer : (apply table a x).0 ≡ (apply table c y).0 = heads _ _ _ _ e in
-    let inner : (apply table b y).0 ≡ (apply table c y).0 = agree_three table one a b c w x y less.process less.action outer in
+    let inner : (apply table b y).0 ≡ (apply table c y).0 = agree_three table a b c w x y one.0 less.process less.action outer in
     let next : WorldThree (apply table a x).1 (apply table b y).1 (apply table c y).1 =
     step_three table a b c w x y y less.process less.process (back_three less.action less.errs) (outer ∙ sym inner) inner in
     ap (λ v. v ∷ answers_to table (apply table b y).1 ys) inner
-    ∙ ap (λ v. (apply table c y).0 ∷ v) (all_agree table one (apply table a x).1 (apply table b y).1 (apply table c y).1 next rest (tails _ _ _ _ e))
+    ∙ ap (λ v. (apply table c y).0 ∷ v) (all_agree table (apply table a x).1 (apply table b y).1 (apply table c y).1 next one.1 rest (tails _ _ _ _ e))
 
 histories_three : (hs : List (ℕ × History)) → HistoriesThree hs hs hs
 histories_three [] = three_nobody
 histories_three (one ∷ hs) = three_somebody (history_three one.1) (histories_three hs)
 
-module _ (table : CallTable) (one : RestsOnOne table) (w : World) (want : List Answer) where
+module _ (table : CallTable) (w : World) (want : List Answer) where
   module _ (before after : List Asked) where
     line_errors : (ask : Asked) (pieces : List Piece) → ((piece : Piece) → IsPieceOf pieces piece → bit_and (bit_of piece) error ≡ 0) →
         errors (thin_line table w want before after ask pieces).action ≡ errors ask.action
@@ -358,10 +368,10 @@ module _ (table : CallTable) (one : RestsOnOne table) (w : World) (want : List A
     refute : (a : World) (line : Line) (y : Asked) (ys : List Asked) → WorldThree a over over → answers_to table w (before ++ line.ask ∷ after) ≡ want →
         AskLess y line.ask → (piece : Piece) → IsPieceOf line.pieces piece → action_without piece y.action ≡ y.action →
         ((p : Piece) → IsPieceOf line.pieces p → bit_and (bit_of p) error ≡ 0) → (apply table over line.ask).0 ≡ answer.Okay →
-        (apply table a y).0 ≡ (apply table over line.ask).0 → AsksLess after ys →
+        (apply table a y).0 ≡ (apply table over line.ask).0 → RestOnOne table after → AsksLess after ys →
         answers_to table (apply table a y).1 ys ≡ answers_to table (apply table over line.ask).1 after →
         without piece (ends line.ask line.pieces) ≢ ends line.ask line.pieces → ⊥
-    refute a line y ys three start less piece among out apart okay head rest tail left =
+    refute a line y ys three start less piece among out apart okay head one rest tail left =
         let found : Tried line.ask piece (ends line.ask line.pieces) = search_trial line.ask line.ask line.pieces piece
         (record { process = refl; action = as_given; errs = refl }) among start apart left in
         let ask : Asked = found.ask in
@@ -375,7 +385,7 @@ module _ (table : CallTable) (one : RestsOnOne table) (w : World) (want : List A
         (tried piece y.action ask.action line.ask.action less.action found.below.action (less.errs ∙ sym found.below.errs) out)
         (head ∙ okay ∙ sym okay_mid) (okay_mid ∙ sym okay_ask) in
         let both : answers_to table (apply table over (without piece ask)).1 after ≡ answers_to table (apply table over ask).1 after =
-        all_agree table one (apply table a y).1 (apply table over (without piece ask)).1 (apply table over ask).1 worlds rest
+        all_agree table (apply table a y).1 (apply table over (without piece ask)).1 (apply table over ask).1 worlds one rest
         (tail ∙ sym (tails _ _ _ _ alike.1)) in
         let from_line : answers_to table over (without piece ask ∷ after) ≡ answers_to table over (ask ∷ after) =
         ap (λ v. v ∷ answers_to table (apply table over (without piece ask)).1 after) (okay_mid ∙ sym okay_ask)
@@ -386,13 +396,13 @@ module _ (table : CallTable) (one : RestsOnOne table) (w : World) (want : List A
         false≢true (sym found.bad ∙ ap (λ v. same_answers v want) whole ∙ same_self want)
 
   least_from : (before : List Asked) (a : World) (lines : List Line) (less : List Asked) →
-      WorldThree a (world_after table w before) (world_after table w before) → answers_to table w (before ++ asks_of lines) ≡ want →
-      LeavesOut less lines → AreSpareable lines → AreOkay table (world_after table w before) lines →
+      WorldThree a (world_after table w before) (world_after table w before) → RestOnOne table (asks_of lines) →
+      answers_to table w (before ++ asks_of lines) ≡ want → LeavesOut less lines → AreSpareable lines → AreOkay table (world_after table w before) lines →
       answers_to table a less ≡ answers_to table (world_after table w before) (asks_of lines) → AsksLess (thin table w want before lines) less
-  least_from before a [] [] three good out spare okay e = less_none
-  least_from before a [] (y ∷ ys) three good out spare okay e = absurd out
-  least_from before a (line ∷ lines) [] three good out spare okay e = absurd out
-  least_from before a (line ∷ lines) (y ∷ ys) three good out spare okay e =
+  least_from before a [] [] three one good out spare okay e = less_none
+  least_from before a [] (y ∷ ys) three one good out spare okay e = absurd out
+  least_from before a (line ∷ lines) [] three one good out spare okay e = absurd out
+  least_from before a (line ∷ lines) (y ∷ ys) three one good out spare okay e =
       let base : World = world_after table w before in
       let after : List Asked = thin table w want (before ++ line.ask ∷ []) lines in
       let pieces : List Piece = out.0.0 in
@@ -403,7 +413,7 @@ module _ (table : CallTable) (one : RestsOnOne table) (w : World) (want : List A
       step_three table a base base three y line.ask line.ask (sym less.process) (sym less.process) (front_three less.action less.errs) head refl in
       let is : world_after table w (before ++ line.ask ∷ []) ≡ (apply table base line.ask).1 = one_request_more table w before line.ask in
       let rest : AsksLess after ys = least_from (before ++ line.ask ∷ []) (apply table a y).1 lines ys
-      (subst (λ u. WorldThree (apply table a y).1 u u) (sym is) next)
+      (subst (λ u. WorldThree (apply table a y).1 u u) (sym is) next) one.1
       (ap (answers_to table w) (append_assoc before (line.ask ∷ []) (asks_of lines)) ∙ good) out.1 spare.1
       (subst (λ u. AreOkay table u lines) (sym is) okay.1) (tails _ _ _ _ e ∙ ap (λ u. answers_to table u (asks_of lines)) (sym is)) in
       let start : answers_to table w (before ++ line.ask ∷ after) ≡ want =
@@ -418,7 +428,7 @@ module _ (table : CallTable) (one : RestsOnOne table) (w : World) (want : List A
       let lack : (p : Piece) → IsPieceOf pieces p → without p x ≡ x = λ p among. lacks p x (decide_action p x.action)
       (refute before after a line y ys three start less p (out.0.1 p among)
       (subst (λ v. action_without p v.action ≡ v.action) (sym out.0.2) (stays_out p pieces line.ask among)) spare.0
-      (okay.0 p (out.0.1 p among)) head rest tail) in
+      (okay.0 p (out.0.1 p among)) head (still_all table (thin_within table w want (before ++ line.ask ∷ []) lines) one.1) rest tail) in
       let in_less : AskWithin x y = subst (AskWithin x) (sym out.0.2) (within_left pieces x line.ask in_line lack) in
       less_more (record {
         process = in_less.process;
@@ -433,5 +443,5 @@ module _ (table : CallTable) (one : RestsOnOne table) (w : World) (want : List A
 
 pub tight_is_least : TightIsLeast
 tight_is_least table w lines less one okay spare out e =
-    forget (least_from table one w (answers_to table w (asks_of lines)) [] w lines less
-    (record { first = refl; last = refl; histories = histories_three w.histories }) refl out spare okay e)
+    forget (least_from table w (answers_to table w (asks_of lines)) [] w lines less
+    (record { first = refl; last = refl; histories = histories_three w.histories }) one refl out spare okay e)

@@ -31,7 +31,7 @@ use Rattle.pua_policy.specs.Misfits.{misfit, misfit_errno}
 use Rattle.pua_policy.specs.Verdict.{cover, cover_fault, object_of, or_fault, place_of}
 use Rattle.pua_policy.specs.declared.reason.Misfit.{Misfit}
 use Rattle.pua_policy.specs.declared.reason.Misfit.TheVariants.{Missing, Exists, IsDirectory, IsNoFile, IsNoDirectory, IsNoLink}
-use Rattle.pua_policy.specs.declared.reason.Misfit.TheVariants.{IsNoProgram, IsNotEmpty, ByDot, ByDotDot, ByNothing}
+use Rattle.pua_policy.specs.declared.reason.Misfit.TheVariants.{IsNoProgram, IsNotEmpty, ByDot, ByDotDot, ByNothing, IsNoSocket, InUse}
 use Rattle.pua_policy.specs.declared.answer.Cover.{Cover}
 use Rattle.pua_policy.specs.declared.answer.Cover.TheVariants as covers
 use Rattle.pua_policy.specs.declared.answer.UnveilFault.{UnveilFault}
@@ -182,6 +182,8 @@ misfit_plain (Some IsNotEmpty) = refl
 misfit_plain (Some ByDot) = refl
 misfit_plain (Some ByDotDot) = refl
 misfit_plain (Some ByNothing) = refl
+misfit_plain (Some IsNoSocket) = refl
+misfit_plain (Some InUse) = refl
 
 veil_plain : (o : Option UnveilFault) → rare_fault (unveil_errno o) ≡ false
 veil_plain None = refl

@@ -77,15 +77,15 @@ up_to_front line zero trials up = tt
 up_to_front line (suc n) [] up = tt
 up_to_front line (suc n) (trial ∷ trials) up = (up.0, up_to_front line n trials up.1)
 
-front_descends : (want : List Answer) (n : ℕ) (trials : List Trial) → Descend want trials → Descend want (take n trials)
+pub front_descends : (want : List Answer) (n : ℕ) (trials : List Trial) → Descend want trials → Descend want (take n trials)
 front_descends want zero trials d = tt
 front_descends want (suc n) [] d = tt
 front_descends want (suc n) (trial ∷ trials) d = (d.0, up_to_front trial.line n trials d.1, front_descends want n trials d.2)
 
-rest_descends : (want : List Answer) (n : ℕ) (trials : List Trial) → Descend want trials → Descend want (drop n trials)
-rest_descends want zero trials d = d
-rest_descends want (suc n) [] d = tt
-rest_descends want (suc n) (trial ∷ trials) d = rest_descends want n trials d.2
+pub back_descends : (want : List Answer) (n : ℕ) (trials : List Trial) → Descend want trials → Descend want (drop n trials)
+back_descends want zero trials d = d
+back_descends want (suc n) [] d = tt
+back_descends want (suc n) (trial ∷ trials) d = back_descends want n trials d.2
 
 pub left_in_two : (xs ys : List Trial) (asks : List Asked) → all_left (xs ++ ys) asks ≡ all_left ys (all_left xs asks)
 left_in_two [] ys asks = refl
@@ -108,7 +108,7 @@ module _ (table : CallTable) (w : World) (want : List Answer) where
       (is : left ≡ all_left (take spare trials) given) (answered : answers_to table w left ≡ want) where
     spare_done : AreDone table w want trials spare given left
     spare_done = record {
-      more = record { same = answered; descend = rest_descends want spare trials to_try.descend };
+      more = record { same = answered; descend = back_descends want spare trials to_try.descend };
       tried =
           ap (all_tried table w want (drop spare trials))
           (is ∙ sym (all_spare (take spare trials) given (front_descends want spare trials to_try.descend) to_try.same
@@ -126,7 +126,7 @@ module _ (table : CallTable) (w : World) (want : List Answer) where
         ap (λ l. all_left l given) (one_more trials spare trial less (again trials spare _))
         ∙ left_in_two (take spare trials) (trial ∷ []) given ∙ ap (leave_out trial.line trial.piece) (sym is) in
         record {
-          more = record { same = answered; descend = rest_descends want (spare + 1) trials to_try.descend };
+          more = record { same = answered; descend = back_descends want (spare + 1) trials to_try.descend };
           tried =
               ap (all_tried table w want (drop (spare + 1) trials))
               (ap (λ b. cond b (leave_out trial.line trial.piece left) left)

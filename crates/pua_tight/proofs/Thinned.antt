@@ -9,6 +9,7 @@ use Rattle.pua_path.specs.declared.errno.Errno.TheVariants.{EINVAL}
 use Rattle.pua_calls.specs.Promises.{holds, promise_of, promises_of, letter_of, union_of}
 use Rattle.pua_script.specs.Requests.{Asked}
 use Rattle.pua_script.specs.Scripts.{has_empty_word}
+use Rattle.pua_calls.specs.declared.rules.Rules.{Rules}
 use Rattle.pua_script.specs.ScriptGrammar.{SpellsGiven, nothing, known, SpellsPerms, no_letter, letters}
 use Rattle.pua_script.specs.ScriptGrammar.{SpellsAction, on_path, symlink, rename, link, pledge, unveil, lock, fork, exit, SpellsRequest}
 use Rattle.pua_script.specs.declared.request.Given.{Given}
@@ -120,20 +121,20 @@ perms_field (Some set) field e =
     (all_left (λ c. stays_in set (letter_of c)) is_visible field (field_bytes field e))
 
 -- the fields of a line that has less
-pub record ThinFields (action : Action) (process : List ℕ) (more : List (List ℕ)) : Type 0 where
+pub record ThinFields (rules : Rules) (action : Action) (process : List ℕ) (more : List (List ℕ)) : Type 0 where
   pub after : List (List ℕ)
   pub are : fields_text action (process ∷ more) ≡ process ∷ after
   pub visible : list_all is_field (process ∷ after) ≡ true
-  pub spells : SpellsAction after action
+  pub spells : SpellsAction rules after action
 
-module _ (process : List ℕ) where
+module _ {rules : Rules} (process : List ℕ) where
   as_they_are : {action : Action} (more : List (List ℕ)) → fields_text action (process ∷ more) ≡ process ∷ more →
-      list_all is_field (process ∷ more) ≡ true → SpellsAction more action → ThinFields action process more
+      list_all is_field (process ∷ more) ≡ true → SpellsAction rules more action → ThinFields rules action process more
   as_they_are more are visible spells = record { after = more; are = are; visible = visible; spells = spells }
 
   pledge_fields : (word a b : List ℕ) {p q e f : Given} → GivenWithin p q → GivenWithin e f → word ≡ codes "pledge" →
       list_all is_field (process ∷ word ∷ a ∷ b ∷ []) ≡ true → SpellsGiven a q → SpellsGiven b f →
-      ThinFields (Pledge p e) process (word ∷ a ∷ b ∷ [])
+      ThinFields rules (Pledge p e) process (word ∷ a ∷ b ∷ [])
   pledge_fields word a b {p = p} {e = e} first second is visible x y =
       let one = and_parts (is_field process) (is_field word && (is_field a && (is_field b && true))) visible in
       let two = and_parts (is_field word) (is_field a && (is_field b && true)) one.1 in
@@ -148,8 +149,8 @@ module _ (process : List ℕ) where
       }
 
   unveil_fields : (word a b path : List ℕ) (s t : ℕ) → holds t s ≡ true → word ≡ codes "unveil" → a ≢ codes "-" →
-      list_all is_field (process ∷ word ∷ a ∷ b ∷ []) ≡ true → SpellsAction (word ∷ a ∷ b ∷ []) (Unveil path (Some t)) →
-      ThinFields (Unveil path (Some s)) process (word ∷ a ∷ b ∷ [])
+      list_all is_field (process ∷ word ∷ a ∷ b ∷ []) ≡ true → SpellsAction rules (word ∷ a ∷ b ∷ []) (Unveil path (Some t)) →
+      ThinFields rules (Unveil path (Some s)) process (word ∷ a ∷ b ∷ [])
   unveil_fields word a b path s t less is apart visible (unveil named no_a no_b first second) =
       let one = and_parts (is_field process) (is_field word && (is_field a && (is_field b && true))) visible in
       let two = and_parts (is_field word) (is_field a && (is_field b && true)) one.1 in
@@ -165,7 +166,7 @@ module _ (process : List ℕ) where
       }
 
   pub thin_fields : {action less : Action} (more : List (List ℕ)) → ActionWithin less action → list_all is_field (process ∷ more) ≡ true →
-      SpellsAction more action → ThinFields less process more
+      SpellsAction rules more action → ThinFields rules less process more
   thin_fields more (less_pledged first second) visible (pledge {word = word} {a = a} {b = b} is x y) =
       pledge_fields word a b first second is visible x y
   thin_fields more (less_unveiled {path = path} {a = s} {b = t} less) visible (unveil {word = word} {a = a} {b = b} named no_a no_b x y) =
@@ -194,10 +195,10 @@ fields_of_joined w (v ∷ ws) e =
 abbrev pub with_action : Asked → Action → Asked
 with_action ask action = record { process = ask.process; action = action }
 
-pub thin_line_read : (line : List ℕ) (ask : Asked) (less : Action) → SpellsRequest line ask → ActionWithin less ask.action →
-    SpellsRequest (line_text less line) (with_action ask less)
-thin_line_read line ask less spells within =
-    let thin : ThinFields less (decimal ask.process) spells.more =
+pub thin_line_read : {rules : Rules} (line : List ℕ) (ask : Asked) (less : Action) → SpellsRequest rules line ask →
+    ActionWithin less ask.action → SpellsRequest rules (line_text less line) (with_action ask less)
+thin_line_read {rules = rules} line ask less spells within =
+    let thin : ThinFields rules less (decimal ask.process) spells.more =
     thin_fields (decimal ask.process) spells.more within (ap (list_all is_field) (sym spells.split) ∙ spells.visible) spells.spells in
     let text : line_text less line ≡ join_with_byte 32 (decimal ask.process ∷ thin.after) =
     ap (λ fs. join_with_byte 32 (fields_text less fs)) spells.split ∙ ap (join_with_byte 32) thin.are in

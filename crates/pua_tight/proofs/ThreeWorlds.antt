@@ -302,19 +302,19 @@ module _ (t : Tree) (ls ms ss : List (ℕ × History)) (all : HistoriesThree ls 
           by (Err r) f g i j k p q = left_alike n (refusal_effect r) (come_of wm m f) (come_of ws s g) p q (λ okay. not_okay r okay)
 
     -- the middle one answers as the last one does, where the first one, which asks for no less, does
-    module _ (table : CallTable) (one : RestsOnOne table) (x y : Action) (less : ActionWithin y x) where
+    module _ (table : CallTable) (x y : Action) (one : RestsOnOne table y) (less : ActionWithin y x) where
       agreed : answer_to (come_of wl l (decide table t l x)) ≡ answer_to (come_of ws s (decide table t s y)) →
           answer_to (come_of wm m (decide table t m y)) ≡ answer_to (come_of ws s (decide table t s y))
       agreed = by (decide table t l x) (decide table t s y) refl refl
         where
           by : (d f : Decision) → decide table t l x ≡ d → decide table t s y ≡ f → answer_to (come_of wl l d) ≡ answer_to (come_of ws s f) →
               answer_to (come_of wm m (decide table t m y)) ≡ answer_to (come_of ws s f)
-          by (Ok c) (Ok d) p q e = ap (λ z. answer_to (come_of wm m z)) ((agrees table one t l m s w less).ok c d p q)
+          by (Ok c) (Ok d) p q e = ap (λ z. answer_to (come_of wm m z)) ((agrees table t l m s w less one).ok c d p q)
               ∙ answered_alike (alike_within t ms ss (later_all all) m s (later_two w) d)
           by (Ok c) (Err r) p q e = absurd (true≢false (sym (change_full wl l r c e) ∙ ap full (sym q) ∙ decide_full table t s y))
           by (Err r) (Ok d) p q e = absurd (true≢false (sym (change_full ws s r d (sym e)) ∙ ap full (sym p) ∙ decide_full table t l x))
           by (Err r) (Err v) p q e = ap (λ z. answer_to (come_of wm m z))
-              ((agrees table one t l m s w less).err v (p ∙ ap (λ z. Err z) (same_refusal r v e)) q)
+              ((agrees table t l m s w less one).err v (p ∙ ap (λ z. Err z) (same_refusal r v e)) q)
 
     module _ (table : CallTable) (x y z : Action) (kind : ActionThree x y z) where
       served : (n : ℕ) (a b c : Bool) → a ≡ b → b ≡ c →
@@ -332,14 +332,14 @@ module _ (t : Tree) (ls ms ss : List (ℕ × History)) (all : HistoriesThree ls 
       served n true true false p q e f = absurd (true≢false q)
       served n false false true p q e f = absurd (false≢true q)
 
-    module _ (table : CallTable) (one : RestsOnOne table) (x y : Action) (less : ActionWithin y x) where
+    module _ (table : CallTable) (x y : Action) (one : RestsOnOne table y) (less : ActionWithin y x) where
       answered : (n : ℕ) (a b c : Bool) → a ≡ b → b ≡ c →
           (cond {A = Answer × World} a (answer.Gone, wl) (do_decided wl n l (decide table t l x))).0
           ≡ (cond {A = Answer × World} c (answer.Gone, ws) (do_decided ws n s (decide table t s y))).0 →
           (cond {A = Answer × World} b (answer.Gone, wm) (do_decided wm n m (decide table t m y))).0
           ≡ (cond {A = Answer × World} c (answer.Gone, ws) (do_decided ws n s (decide table t s y))).0
       answered n true true true p q e = refl
-      answered n false false false p q e = agreed table one x y less e
+      answered n false false false p q e = agreed table x y one less e
       answered n true false c p q e = absurd (true≢false p)
       answered n false true c p q e = absurd (false≢true p)
       answered n true true false p q e = absurd (true≢false q)
@@ -354,12 +354,12 @@ module _ (t : Tree) (ls ms ss : List (ℕ × History)) (all : HistoriesThree ls 
   kept table n x y z kind (made3 {l = l} {m = m} {s = s} w) e f =
       served l m s w table x y z kind n (is_ended l) (is_ended m) (is_ended s) (ended_three w) (ended_alike (later_two w)) e f
 
-  told : (table : CallTable) → RestsOnOne table → (n : ℕ) (x y : Action) → ActionWithin y x → {o p q : Option History} → FoundThree o p q →
+  told : (table : CallTable) (n : ℕ) (x y : Action) → RestsOnOne table y → ActionWithin y x → {o p q : Option History} → FoundThree o p q →
       (answer_and_world table wl (record { process = n; action = x }) o).0 ≡ (answer_and_world table ws (record { process = n; action = y }) q).0 →
       (answer_and_world table wm (record { process = n; action = y }) p).0 ≡ (answer_and_world table ws (record { process = n; action = y }) q).0
-  told table one n x y less never3 e = refl
-  told table one n x y less (made3 {l = l} {m = m} {s = s} w) e =
-      answered l m s w table one x y less n (is_ended l) (is_ended m) (is_ended s) (ended_three w) (ended_alike (later_two w)) e
+  told table n x y one less never3 e = refl
+  told table n x y one less (made3 {l = l} {m = m} {s = s} w) e =
+      answered l m s w table x y one less n (is_ended l) (is_ended m) (is_ended s) (ended_three w) (ended_alike (later_two w)) e
 
 -- three requests of one process
 pub step_three : (table : CallTable) (a b c : World) → WorldThree a b c → (x y z : Asked) → y.process ≡ x.process → z.process ≡ x.process →
@@ -378,14 +378,14 @@ step_three table a b c w x y z py pz kind =
     Goal v u p q = (apply table a x).0 ≡ (apply table v p).0 → (apply table v p).0 ≡ (apply table u q).0 →
         WorldThree (apply table a x).1 (apply table v p).1 (apply table u q).1
 
-pub agree_three : (table : CallTable) → RestsOnOne table → (a b c : World) → WorldThree a b c → (x y : Asked) → y.process ≡ x.process →
-    ActionWithin y.action x.action → (apply table a x).0 ≡ (apply table c y).0 → (apply table b y).0 ≡ (apply table c y).0
-agree_three table one a b c w x y py less =
+pub agree_three : (table : CallTable) (a b c : World) → WorldThree a b c → (x y : Asked) → RestsOnOne table y.action →
+    y.process ≡ x.process → ActionWithin y.action x.action → (apply table a x).0 ≡ (apply table c y).0 → (apply table b y).0 ≡ (apply table c y).0
+agree_three table a b c w x y one py less =
     subst (λ n. Goal b c (record { process = n; action = y.action })) (sym py)
     (subst (λ u. Goal (record { tree = u; histories = b.histories }) c (record { process = x.process; action = y.action })) w.first
     (subst (λ u. Goal (record { tree = a.tree; histories = b.histories }) (record { tree = u; histories = c.histories })
     (record { process = x.process; action = y.action })) (w.first ∙ w.last)
-    (told a.tree a.histories b.histories c.histories w.histories table one x.process x.action y.action less (found_three w.histories x.process))))
+    (told a.tree a.histories b.histories c.histories w.histories table x.process x.action y.action one less (found_three w.histories x.process))))
   where
     Goal : World → World → Asked → Type 0
     Goal v u p = (apply table a x).0 ≡ (apply table u p).0 → (apply table v p).0 ≡ (apply table u p).0

@@ -15,7 +15,8 @@ use Rattle.pua_tree.specs.declared.fault.ListingFault.{ListingFault}
 use Rattle.pua_tree.proofs.ForCallers.{Err≢Ok}
 use Rattle.pua_calls.specs.Calls.{CallTable}
 use Rattle.pua_script.specs.Requests.{Asked}
-use Rattle.pua_script.specs.Scripts.{script}
+use Rattle.pua_calls.specs.declared.rules.Rules.{Rules}
+use Rattle.pua_script.specs.Scripts.{script_by}
 use Rattle.pua_script.specs.Replay.{World, new_world, apply, answers_to}
 use Rattle.pua_script.specs.declared.answer.Answer.{Answer}
 use Rattle.pua_script.specs.declared.fault.ScriptFault.{ScriptFault}
@@ -196,21 +197,21 @@ tightens_all table t answers trials asks left told are is =
     ∙ ap (λ l. all_tried table w (answers_to table w l) (trials_from 0 lines) l) (sym own) ∙ tried_one_by_one table w lines
 
 -- what is made of a listing and a script that were read, and what of a fault
-pub made_of : {A : Type 0} (make : Tree → List Asked → A) (tree_bytes script_bytes : List ℕ) (t : Tree) (asks : List Asked) →
-    listing tree_bytes ≡ Ok t → script script_bytes ≡ Ok asks →
-    (as_listing (listing tree_bytes) >>= λ t. as_script (script script_bytes >>= λ asks. Ok (make t asks))) ≡ Ok (make t asks)
-made_of make tree_bytes script_bytes t asks listed read =
-    ap (λ l. as_listing l >>= λ t. as_script (script script_bytes >>= λ asks. Ok (make t asks))) listed
+pub made_of : {A : Type 0} (rules : Rules) (make : Tree → List Asked → A) (tree_bytes script_bytes : List ℕ) (t : Tree) (asks : List Asked) →
+    listing tree_bytes ≡ Ok t → script_by rules script_bytes ≡ Ok asks →
+    (as_listing (listing tree_bytes) >>= λ t. as_script (script_by rules script_bytes >>= λ asks. Ok (make t asks))) ≡ Ok (make t asks)
+made_of rules make tree_bytes script_bytes t asks listed read =
+    ap (λ l. as_listing l >>= λ t. as_script (script_by rules script_bytes >>= λ asks. Ok (make t asks))) listed
     ∙ ap (λ s. as_script (s >>= λ asks. Ok (make t asks))) read
 
 abbrev fault_or : {X : Type 0} → TightFault → Result X TightFault → TightFault
 fault_or other (Ok x) = other
 fault_or other (Err fault) = fault
 
-pub fault_of : {A : Type 0} (make : Tree → List Asked → A) (tree_bytes script_bytes : List ℕ) (fault : TightFault) →
-    IsFaultOf tree_bytes script_bytes fault →
-    (as_listing (listing tree_bytes) >>= λ t. as_script (script script_bytes >>= λ asks. Ok (make t asks))) ≡ Err fault
-fault_of {A = A} make tree_bytes script_bytes fault e = by (listing tree_bytes) (script script_bytes) e
+pub fault_of : {A : Type 0} (rules : Rules) (make : Tree → List Asked → A) (tree_bytes script_bytes : List ℕ) (fault : TightFault) →
+    IsFaultOf rules tree_bytes script_bytes fault →
+    (as_listing (listing tree_bytes) >>= λ t. as_script (script_by rules script_bytes >>= λ asks. Ok (make t asks))) ≡ Err fault
+fault_of {A = A} rules make tree_bytes script_bytes fault e = by (listing tree_bytes) (script_by rules script_bytes) e
   where
     by : (l : Result Tree ListingFault) (s : Result (List Asked) ScriptFault) → (as_listing l >>= λ t. as_script s) ≡ Err fault →
         (as_listing l >>= λ t. as_script (s >>= λ asks. Ok (make t asks))) ≡ Err fault
@@ -219,13 +220,13 @@ fault_of {A = A} make tree_bytes script_bytes fault e = by (listing tree_bytes) 
     by (Ok t) (Ok asks) e = absurd (Err≢Ok fault asks (sym e))
 
 -- a listing's fault
-pub listing_fault : (tree_bytes script_bytes : List ℕ) (fault : TightFault) → as_listing (listing tree_bytes) ≡ Err fault →
-    IsFaultOf tree_bytes script_bytes fault
-listing_fault tree_bytes script_bytes fault e = ap (λ l. l >>= λ t. as_script (script script_bytes)) e
+pub listing_fault : (rules : Rules) (tree_bytes script_bytes : List ℕ) (fault : TightFault) → as_listing (listing tree_bytes) ≡ Err fault →
+    IsFaultOf rules tree_bytes script_bytes fault
+listing_fault rules tree_bytes script_bytes fault e = ap (λ l. l >>= λ t. as_script (script_by rules script_bytes)) e
 
-pub script_fault : (tree_bytes script_bytes : List ℕ) (t : Tree) (fault : TightFault) → listing tree_bytes ≡ Ok t →
-    as_script (script script_bytes) ≡ Err fault → IsFaultOf tree_bytes script_bytes fault
-script_fault tree_bytes script_bytes t fault listed e = ap (λ l. as_listing l >>= λ t. as_script (script script_bytes)) listed ∙ e
+pub script_fault : (rules : Rules) (tree_bytes script_bytes : List ℕ) (t : Tree) (fault : TightFault) → listing tree_bytes ≡ Ok t →
+    as_script (script_by rules script_bytes) ≡ Err fault → IsFaultOf rules tree_bytes script_bytes fault
+script_fault rules tree_bytes script_bytes t fault listed e = ap (λ l. as_listing l >>= λ t. as_script (script_by rules script_bytes)) listed ∙ e
 
 -- one more of some that are mapped
 pub mapped_turn : {X Y : Type 0} (f : X → Y) (xs : List X) (index : ℕ) (x : X) → index < length xs → x ≡ get_or xs index x →
@@ -329,8 +330,8 @@ words_all asked asks answers index words past so_far =
     words_done (lines_by asked asks answers) index words (omega (arith, past, as_many_lines asked asks answers)) so_far
 
 -- a script was tightened by a table and over a listing that are those that were given
-module _ (table own_table : CallTable) (tree_bytes own_bytes script_bytes : List ℕ) (answers : List Answer) (asks left : List Asked)
-    (same_table : own_table ≡ table) (same_bytes : own_bytes ≡ tree_bytes) (given : IsGiven table tree_bytes script_bytes answers asks)
+module _ (rules : Rules) (table own_table : CallTable) (tree_bytes own_bytes script_bytes : List ℕ) (answers : List Answer) (asks left : List Asked)
+    (same_table : own_table ≡ table) (same_bytes : own_bytes ≡ tree_bytes) (given : IsGiven rules table tree_bytes script_bytes answers asks)
     (tight : (t : Tree) → listing own_bytes ≡ Ok t → answers ≡ answers_to own_table (new_world t) asks → left ≡ tightened own_table t asks) where
   own_listed : listing own_bytes ≡ Ok given.tree
   own_listed = ap listing same_bytes ∙ given.listed
@@ -341,16 +342,16 @@ module _ (table own_table : CallTable) (tree_bytes own_bytes script_bytes : List
       ∙ ap (λ own. tightened own given.tree asks) same_table
 
   -- what is written of it
-  pub text_made : (text : List ℕ) → text ≡ thinned_text left script_bytes → text_over table tree_bytes script_bytes ≡ Ok text
+  pub text_made : (text : List ℕ) → text ≡ thinned_text left script_bytes → text_over rules table tree_bytes script_bytes ≡ Ok text
   text_made text is =
-      made_of (λ t asks. thinned_text (tightened table t asks) script_bytes) tree_bytes script_bytes given.tree asks given.listed given.read
+      made_of rules (λ t asks. thinned_text (tightened table t asks) script_bytes) tree_bytes script_bytes given.tree asks given.listed given.read
       ∙ ap Ok (ap (λ l. thinned_text l script_bytes) (sym is_tight) ∙ sym is)
 
   -- what its words are needed for
   pub uses_made : (words : List Trial) (told : List WordUse) → words ≡ words_from 0 (lines_by (asked_for table) asks answers) →
       ((t : Tree) → listing own_bytes ≡ Ok t → answers_to own_table (new_world t) left ≡ answers →
       told ≡ map (use_by own_table (new_world t) answers left) words) →
-      uses_over table tree_bytes script_bytes ≡ Ok told
+      uses_over rules table tree_bytes script_bytes ≡ Ok told
   uses_made words told are is =
       let w : World = new_world given.tree in
       let lines : List Line = lines_of table w asks in
@@ -360,24 +361,24 @@ module _ (table own_table : CallTable) (tree_bytes own_bytes script_bytes : List
       let wanted : answers ≡ answers_to table w (asks_of lines) = given.told ∙ ap (answers_to table w) (sym own) in
       let same : answers_to own_table w left ≡ answers =
       (λ j. answers_to (same_table j) w (is_tight j)) ∙ (tightens table w lines).same ∙ sym wanted in
-      made_of (λ t asks. uses table (new_world t) (lines_of table (new_world t) asks)) tree_bytes script_bytes given.tree asks given.listed given.read
+      made_of rules (λ t asks. uses table (new_world t) (lines_of table (new_world t) asks)) tree_bytes script_bytes given.tree asks given.listed given.read
       ∙ ap Ok (sym (is given.tree own_listed same ∙ ap (λ t. map (use_by t w answers left) words) same_table
       ∙ ap (λ l. map (use_by table w answers left) l) all
       ∙ ap (λ l. map (use_by table w l left) (words_from 0 lines)) wanted
       ∙ ap (λ l. map (use_by table w (answers_to table w (asks_of lines)) l) (words_from 0 lines)) is_tight))
 
 -- the fault of a listing or a script
-pub no_text : (table : CallTable) (tree_bytes script_bytes : List ℕ) (fault : TightFault) → IsFaultOf tree_bytes script_bytes fault →
-    text_over table tree_bytes script_bytes ≡ Err fault
-no_text table tree_bytes script_bytes fault e = fault_of (λ t asks. thinned_text (tightened table t asks) script_bytes) tree_bytes script_bytes fault e
+pub no_text : (rules : Rules) (table : CallTable) (tree_bytes script_bytes : List ℕ) (fault : TightFault) → IsFaultOf rules tree_bytes script_bytes fault →
+    text_over rules table tree_bytes script_bytes ≡ Err fault
+no_text rules table tree_bytes script_bytes fault e = fault_of rules (λ t asks. thinned_text (tightened table t asks) script_bytes) tree_bytes script_bytes fault e
 
-pub no_uses : (table : CallTable) (tree_bytes script_bytes : List ℕ) (fault : TightFault) → IsFaultOf tree_bytes script_bytes fault →
-    uses_over table tree_bytes script_bytes ≡ Err fault
-no_uses table tree_bytes script_bytes fault e =
-    fault_of (λ t asks. uses table (new_world t) (lines_of table (new_world t) asks)) tree_bytes script_bytes fault e
+pub no_uses : (rules : Rules) (table : CallTable) (tree_bytes script_bytes : List ℕ) (fault : TightFault) → IsFaultOf rules tree_bytes script_bytes fault →
+    uses_over rules table tree_bytes script_bytes ≡ Err fault
+no_uses rules table tree_bytes script_bytes fault e =
+    fault_of rules (λ t asks. uses table (new_world t) (lines_of table (new_world t) asks)) tree_bytes script_bytes fault e
 
 -- a fault of the listing, told of bytes that are those that were given
-pub own_fault : (own_bytes tree_bytes script_bytes : List ℕ) (fault : TightFault) → own_bytes ≡ tree_bytes →
-    as_listing (listing own_bytes) ≡ Err fault → IsFaultOf tree_bytes script_bytes fault
-own_fault own_bytes tree_bytes script_bytes fault same e =
-    listing_fault tree_bytes script_bytes fault (ap (λ l. as_listing (listing l)) (sym same) ∙ e)
+pub own_fault : (rules : Rules) (own_bytes tree_bytes script_bytes : List ℕ) (fault : TightFault) → own_bytes ≡ tree_bytes →
+    as_listing (listing own_bytes) ≡ Err fault → IsFaultOf rules tree_bytes script_bytes fault
+own_fault rules own_bytes tree_bytes script_bytes fault same e =
+    listing_fault rules tree_bytes script_bytes fault (ap (λ l. as_listing (listing l)) (sym same) ∙ e)

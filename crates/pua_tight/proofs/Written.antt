@@ -11,10 +11,11 @@ use Rattle.std.specs.Prelude.{Ok, ◌==◌, nat_le}
 use Rattle.std.specs.Str.Lines.{lines, lines_of_parts, strip_carriage_return}
 use Rattle.pua_tree.proofs.ForCallers.{is_visible, fields_joined, step_read, same_Ok}
 use Rattle.pua_tree.specs.Spelling.{fields, is_field}
+use Rattle.pua_calls.specs.declared.rules.Rules.{Rules}
 use Rattle.pua_script.proofs.ForCallers.{scripts_are_read}
 use Rattle.pua_script.specs.Limits.{most_script_lines}
 use Rattle.pua_script.specs.Requests.{Asked}
-use Rattle.pua_script.specs.Scripts.{script}
+use Rattle.pua_script.specs.Scripts.{script_by}
 use Rattle.pua_script.specs.Replay.{new_world}
 use Rattle.pua_script.specs.ScriptGrammar.{SpellsRequest, SpellRequests}
 use Rattle.pua_script.specs.declared.request.Action.{Action}
@@ -45,7 +46,7 @@ seen_is_shown b e =
 no_control : (c b : ℕ) → c ≤ 31 → is_shown b ≡ true → (b == c) ≡ false
 no_control c b low e = ne_eqb b c (λ is. omega (arith, is, low, leb-true 32 b (and_parts (nat_le 32 b) (nat_le b 126) e).0))
 
-spelled_shown : (line : List ℕ) (ask : Asked) → SpellsRequest line ask → list_all is_shown line ≡ true
+spelled_shown : {rules : Rules} (line : List ℕ) (ask : Asked) → SpellsRequest rules line ask → list_all is_shown line ≡ true
 spelled_shown line ask spells =
     ap (list_all is_shown) (sym (fields_joined line))
     ∙ joined_pass 32 is_shown refl (fields line) (more_pass is_field (list_all is_shown)
@@ -101,20 +102,20 @@ module _ (line : List ℕ) (less : Action) where
       ∙ ap (λ rest. line_text less front ++ rest) (drop_at front (13 ∷ []) (length front) refl)
 
   -- a line with its end, which is cut off when it is read
-  thin_ended : (ask : Asked) → SpellsRequest (strip_carriage_return line) ask → ActionWithin less ask.action →
+  thin_ended : {rules : Rules} (ask : Asked) → SpellsRequest rules (strip_carriage_return line) ask → ActionWithin less ask.action →
       (strip_carriage_return (ended_text less line) ≡ line_text less (strip_carriage_return line)) × (free 10 (ended_text less line) ≡ true)
-  thin_ended ask spells within = by (ends line)
+  thin_ended {rules = rules} ask spells within = by (ends line)
     where
       by : Ends line →
           (strip_carriage_return (ended_text less line) ≡ line_text less (strip_carriage_return line)) × (free 10 (ended_text less line) ≡ true)
       by (bare e) =
-          let thin = thin_line_read line ask less (subst (λ l. SpellsRequest l ask) e spells) within in
+          let thin = thin_line_read line ask less (subst (λ l. SpellsRequest rules l ask) e spells) within in
           let shown = spelled_shown (line_text less line) (with_action ask less) thin in (
             ap strip_carriage_return (bare_text e) ∙ shown_stays (line_text less line) shown ∙ ap (line_text less) (sym e),
             ap (free 10) (bare_text e) ∙ shown_free (line_text less line) shown,
           )
       by (returned front is e) =
-          let thin = thin_line_read front ask less (subst (λ l. SpellsRequest l ask) e spells) within in
+          let thin = thin_line_read front ask less (subst (λ l. SpellsRequest rules l ask) e spells) within in
           let shown = spelled_shown (line_text less front) (with_action ask less) thin in (
             ap strip_carriage_return (returned_text front is e) ∙ return_goes (line_text less front) ∙ ap (line_text less) (sym e),
             ap (free 10) (returned_text front is e) ∙ list_all-append (λ b. not (b == 10)) (line_text less front) (13 ∷ [])
@@ -122,18 +123,19 @@ module _ (line : List ℕ) (less : Action) where
           )
 
 -- a request that has less, read from its line
-line_read : (line : List ℕ) (x y : Asked) → AskWithin x y → SpellsRequest line y → SpellsRequest (line_text x.action line) x
-line_read line x y within spells =
-    subst (λ p. SpellsRequest (line_text x.action line) (record { process = p; action = x.action })) (sym within.process)
+line_read : {rules : Rules} (line : List ℕ) (x y : Asked) → AskWithin x y → SpellsRequest rules line y →
+    SpellsRequest rules (line_text x.action line) x
+line_read {rules = rules} line x y within spells =
+    subst (λ p. SpellsRequest rules (line_text x.action line) (record { process = p; action = x.action })) (sym within.process)
     (thin_line_read line y x.action spells within.action)
 
-some_line : (line : List ℕ) (ask : Asked) → SpellsRequest line ask → (length line == 0) ≡ false
+some_line : {rules : Rules} (line : List ℕ) (ask : Asked) → SpellsRequest rules line ask → (length line == 0) ≡ false
 some_line [] ask spells = absurd (false≢true spells.visible)
 some_line (b ∷ more) ask spells = ne_eqb (length (b ∷ more)) 0 (λ e. omega (arith, e))
 
 -- the lines of the parts between line feeds
-record LinesThin (xs : List Asked) (parts : List (List ℕ)) : Type 0 where
-  spell : SpellRequests (lines_of_parts (lines_text xs parts)) xs
+record LinesThin (rules : Rules) (xs : List Asked) (parts : List (List ℕ)) : Type 0 where
+  spell : SpellRequests rules (lines_of_parts (lines_text xs parts)) xs
   cuts : list_all (free 10) (lines_text xs parts) ≡ true
   count : length (lines_of_parts (lines_text xs parts)) ≡ length (lines_of_parts parts)
 
@@ -142,42 +144,42 @@ then_more : (line y : List ℕ) (parts : List (List ℕ)) (xs : List Asked) →
 then_more line y parts [] = refl
 then_more line y parts (x ∷ xs) = refl
 
-last_thin : (line : List ℕ) {xs ys : List Asked} → AsksWithin xs ys → free 10 line ≡ true → (b : Bool) → (length line == 0) ≡ b →
-    SpellRequests (cond b [] (line ∷ [])) ys → LinesThin xs (line ∷ [])
-last_thin line no_asks clean true none spells =
-    record { spell = subst (λ ls. SpellRequests ls []) (sym (ap (λ b. cond b [] (line ∷ [])) none)) tt; cuts = and_from (free 10 line) true clean refl; count = refl }
+last_thin : {rules : Rules} (line : List ℕ) {xs ys : List Asked} → AsksWithin xs ys → free 10 line ≡ true → (b : Bool) → (length line == 0) ≡ b →
+    SpellRequests rules (cond b [] (line ∷ [])) ys → LinesThin rules xs (line ∷ [])
+last_thin {rules = rules} line no_asks clean true none spells =
+    record { spell = subst (λ ls. SpellRequests rules ls []) (sym (ap (λ b. cond b [] (line ∷ [])) none)) tt; cuts = and_from (free 10 line) true clean refl; count = refl }
 last_thin line (asks first rest) clean true none spells = absurd spells
 last_thin line no_asks clean false some spells = absurd spells
-last_thin line (asks {x = x} {y = y} first no_asks) clean false some spells =
+last_thin {rules = rules} line (asks {x = x} {y = y} first no_asks) clean false some spells =
     let less : Action = x.action in
-    let thin : SpellsRequest (line_text less line) x = line_read line x y first spells.0 in
+    let thin : SpellsRequest rules (line_text less line) x = line_read line x y first spells.0 in
     let shown = spelled_shown (line_text less line) x thin in
     let text : ended_text less line ≡ line_text less line = bare_text line less (shown_stays line (spelled_shown line y spells.0)) in
     let lines : lines_of_parts (ended_text less line ∷ []) ≡ line_text less line ∷ [] =
     ap (λ l. lines_of_parts (l ∷ [])) text
     ∙ ap (λ b. cond b [] (line_text less line ∷ [])) (some_line (line_text less line) x thin) in
     record {
-      spell = subst (λ ls. SpellRequests ls (x ∷ [])) (sym lines) (thin, tt);
+      spell = subst (λ ls. SpellRequests rules ls (x ∷ [])) (sym lines) (thin, tt);
       cuts = and_from (free 10 (ended_text less line)) true (ap (free 10) text ∙ shown_free (line_text less line) shown) refl;
       count = ap length lines ∙ sym (ap (λ b. length (cond b [] (line ∷ []))) some);
     }
 last_thin line (asks first (asks next rest)) clean false some spells = absurd spells.1
 
-lines_thin : (parts : List (List ℕ)) {xs ys : List Asked} → AsksWithin xs ys → list_all (free 10) parts ≡ true →
-    SpellRequests (lines_of_parts parts) ys → LinesThin xs parts
+lines_thin : {rules : Rules} (parts : List (List ℕ)) {xs ys : List Asked} → AsksWithin xs ys → list_all (free 10) parts ≡ true →
+    SpellRequests rules (lines_of_parts parts) ys → LinesThin rules xs parts
 lines_thin [] no_asks clean spells = record { spell = tt; cuts = refl; count = refl }
 lines_thin [] (asks first rest) clean spells = absurd spells
 lines_thin (line ∷ []) within clean spells =
     last_thin line within (and_parts (free 10 line) true clean).0 (length line == 0) refl spells
 lines_thin (line ∷ next ∷ parts) no_asks clean spells = absurd spells
-lines_thin (line ∷ next ∷ parts) (asks {x = x} {y = y} {xs = xs} first rest) clean spells =
+lines_thin {rules = rules} (line ∷ next ∷ parts) (asks {x = x} {y = y} {xs = xs} first rest) clean spells =
     let both = and_parts (free 10 line) (list_all (free 10) (next ∷ parts)) clean in
-    let more : LinesThin xs (next ∷ parts) = lines_thin (next ∷ parts) rest both.1 spells.1 in
+    let more : LinesThin rules xs (next ∷ parts) = lines_thin (next ∷ parts) rest both.1 spells.1 in
     let one = thin_ended line x.action y spells.0 first.action in
     let text : List ℕ = ended_text x.action line in
     record {
-      spell = subst (λ ls. SpellRequests ls (x ∷ xs)) (sym (then_more text next parts xs))
-          (subst (λ l. SpellsRequest l x) (sym one.0) (line_read (strip_carriage_return line) x y first spells.0), more.spell);
+      spell = subst (λ ls. SpellRequests rules ls (x ∷ xs)) (sym (then_more text next parts xs))
+          (subst (λ l. SpellsRequest rules l x) (sym one.0) (line_read (strip_carriage_return line) x y first spells.0), more.spell);
       cuts = and_from (free 10 text) (list_all (free 10) (lines_text xs (next ∷ parts))) one.1 more.cuts;
       count = ap length (then_more text next parts xs) ∙ ap suc more.count;
     }
@@ -188,32 +190,32 @@ joined_again line parts [] clean = cut_joined 10 line parts clean
 joined_again line parts (x ∷ xs) clean = cut_joined 10 (ended_text x.action line) (lines_text xs parts) clean
 
 pub texts_are_read : TextsAreRead
-texts_are_read bytes ys xs read within = by (cut 10 bytes) refl
+texts_are_read rules bytes ys xs read within = by (cut 10 bytes) refl
   where
-    by : (parts : List (List ℕ)) → cut 10 bytes ≡ parts → script (thinned_text xs bytes) ≡ Ok xs
+    by : (parts : List (List ℕ)) → cut 10 bytes ≡ parts → script_by rules (thinned_text xs bytes) ≡ Ok xs
     by [] are = absurd (omega (arith, ap length are, length-slice_split (λ b. b == 10) bytes))
     by (line ∷ parts) are =
-        let is = (scripts_are_read bytes ys).0 read in
-        let thin : LinesThin xs (line ∷ parts) =
+        let is = (scripts_are_read rules bytes ys).0 read in
+        let thin : LinesThin rules xs (line ∷ parts) =
         lines_thin (line ∷ parts) within (ap (list_all (free 10)) (sym are) ∙ pieces_free 10 bytes)
-        (subst (λ ps. SpellRequests (lines_of_parts ps) ys) are is.1) in
+        (subst (λ ps. SpellRequests rules (lines_of_parts ps) ys) are is.1) in
         let text : List ℕ = thinned_text xs bytes in
         let lines_are : lines text ≡ lines_of_parts (lines_text xs (line ∷ parts)) =
         ap (λ ps. lines_of_parts (cut 10 (join_with_byte 10 (lines_text xs ps)))) are
         ∙ ap lines_of_parts (joined_again line parts xs thin.cuts) in
-        (scripts_are_read text xs).1 (
+        (scripts_are_read rules text xs).1 (
           subst (λ n. n ≤ most_script_lines) (ap (λ ps. length (lines_of_parts ps)) are ∙ sym thin.count ∙ ap length (sym lines_are)) is.0,
-          subst (λ ls. SpellRequests ls xs) (sym lines_are) thin.spell,
+          subst (λ ls. SpellRequests rules ls xs) (sym lines_are) thin.spell,
         )
 
 pub tight_texts_are_read : TightTextsAreRead
-tight_texts_are_read table t bytes text told =
-    let read = step_read (script bytes) (λ more. Ok (thinned_text (tight table (new_world t) (lines_of table (new_world t) more)) bytes)) text told in
+tight_texts_are_read rules table t bytes text told =
+    let read = step_read (script_by rules bytes) (λ more. Ok (thinned_text (tight table (new_world t) (lines_of table (new_world t) more)) bytes)) text told in
     let same = tightens table (new_world t) (lines_of table (new_world t) read.0) in (
       read.0,
       read.1,
-      ap script (sym (same_Ok _ text read.2))
-          ∙ texts_are_read bytes read.0 (tight table (new_world t) (lines_of table (new_world t) read.0)) read.1
+      ap (script_by rules) (sym (same_Ok _ text read.2))
+          ∙ texts_are_read rules bytes read.0 (tight table (new_world t) (lines_of table (new_world t) read.0)) read.1
           (subst (AsksWithin (tight table (new_world t) (lines_of table (new_world t) read.0)))
           (scripts_are_tightened table (new_world t) read.0).asks same.within),
     )

@@ -3,7 +3,9 @@ use Rattle.std.specs.Prelude.{◌≡◌, ℕ, List, [], ◌∷◌, ◌++◌, Opt
 use Rattle.std.specs.Result.{result_ok}
 use Rattle.pua_tree.specs.Examples.{text_of_lines}
 use Rattle.pua_tree.specs.declared.fault.ListingFault.TheVariants.{BadHeader}
-use Rattle.pua_calls.specs.Calls.{CallTable, standard_table, openbsd_table}
+use Rattle.pua_calls.specs.Calls.{standard_table, table_by_rules}
+use Rattle.pua_calls.specs.declared.rules.Rules.{Rules}
+use Rattle.pua_calls.specs.declared.rules.Rules.TheVariants.{Profile, Openbsd}
 use Rattle.pua_calls.specs.Promises.{exec, rpath, wpath, reading, writing}
 use Rattle.pua_script.specs.Examples.{example}
 use Rattle.pua_script.specs.Scripts.{script}
@@ -15,11 +17,11 @@ use Rattle.pua_tight.specs.Texts.{thinned_text, text_over}
 use Rattle.pua_tight.specs.Uses.{WordUse, uses_over}
 
 -- what is written of a script over the example tree
-abbrev pub written_by : CallTable → List ℕ → Option (List ℕ)
-written_by table bytes = result_ok (text_over table (text_of_lines example) bytes)
+abbrev pub written_by : Rules → List ℕ → Option (List ℕ)
+written_by rules bytes = result_ok (text_over rules (table_by_rules rules) (text_of_lines example) bytes)
 
 abbrev pub written : List ℕ → Option (List ℕ)
-written bytes = written_by standard_table bytes
+written bytes = written_by Profile bytes
 
 -- which words go
 pub record TightRows : Type 0 where
@@ -36,7 +38,11 @@ pub record TightRows : Type 0 where
   pub child : written (text_of_lines (codes "1 pledge rpath,wpath,proc -" ∷ codes "1 fork 2" ∷ codes "1 pledge rpath -"
       ∷ codes "2 open-w /etc/passwd" ∷ []))
       ≡ Some (text_of_lines (codes "1 pledge wpath,proc -" ∷ codes "1 fork 2" ∷ codes "1 pledge = -" ∷ codes "2 open-w /etc/passwd" ∷ []))
-  pub chmod : written_by openbsd_table (text_of_lines (codes "1 pledge rpath,wpath,fattr -" ∷ codes "1 chmod /etc/passwd" ∷ []))
+  pub moved : written (text_of_lines (codes "1 unveil /etc rw" ∷ codes "1 chdir /etc" ∷ codes "1 open-r passwd" ∷ []))
+      ≡ Some (text_of_lines (codes "1 unveil /etc r" ∷ codes "1 chdir /etc" ∷ codes "1 open-r passwd" ∷ []))
+  pub of_another : written (text_of_lines (codes "1 fork 2" ∷ codes "1 unveil /etc rw" ∷ codes "2 open-w /etc/passwd" ∷ codes "1 stat /etc" ∷ []))
+      ≡ Some (text_of_lines (codes "1 fork 2" ∷ codes "1 unveil /etc r" ∷ codes "2 open-w /etc/passwd" ∷ codes "1 stat /etc" ∷ []))
+  pub chmod : written_by Openbsd (text_of_lines (codes "1 pledge rpath,wpath,fattr -" ∷ codes "1 chmod /etc/passwd" ∷ []))
       ≡ Some (text_of_lines (codes "1 pledge rpath,fattr -" ∷ codes "1 chmod /etc/passwd" ∷ []))
 
 pub tight_rows : TightRows
@@ -47,6 +53,8 @@ tight_rows = record {
   refused_stays = refl;
   execpromises = refl;
   child = refl;
+  moved = refl;
+  of_another = refl;
   chmod = refl;
 }
 
@@ -60,8 +68,8 @@ pub record WrittenRows : Type 0 where
       ≡ Some (codes "1 unveil /etc r" ++ 13 ∷ 10 ∷ codes "1 unveil - -" ++ 10 ∷ codes "1 stat /etc")
   pub spelling_stays : written (text_of_lines (codes "1 unveil /a\\040b rw" ∷ codes "1 pledge nothing -" ∷ []))
       ≡ Some (text_of_lines (codes "1 unveil /a\\040b =" ∷ codes "1 pledge nothing -" ∷ []))
-  pub bad_listing : text_over standard_table (codes "tree 3") (codes "1 say") ≡ Err (Listing BadHeader)
-  pub bad_script : text_over standard_table (text_of_lines example) (codes "1 say") ≡ Err (Script (BadCall 1))
+  pub bad_listing : text_over Profile standard_table (codes "tree 3") (codes "1 say") ≡ Err (Listing BadHeader)
+  pub bad_script : text_over Profile standard_table (text_of_lines example) (codes "1 say") ≡ Err (Script (BadCall 1))
 
 pub written_rows : WrittenRows
 written_rows = record {
@@ -90,7 +98,7 @@ without_rows = record { letter = refl; promise = refl; execpromise = refl }
 
 -- what the words of a script over the example tree are needed for
 abbrev pub used : List ℕ → Option (List WordUse)
-used bytes = result_ok (uses_over standard_table (text_of_lines example) bytes)
+used bytes = result_ok (uses_over Profile standard_table (text_of_lines example) bytes)
 
 abbrev pub word : ℕ → Piece → Option ℕ → WordUse
 word line piece needed_by = record { line = line; word = piece; needed_by = needed_by }

@@ -1,12 +1,14 @@
 -- What a thinned script that is answered as the given one leaves to its processes.
-use Rattle.std.specs.Prelude.{None, Ok, ◌≡◌, ◌≢◌, ℕ, zero, suc, List, [], ◌∷◌, map, bit_and, length, IsTrue, ◌⊎◌}
+use Rattle.std.specs.Prelude.{None, Ok, ◌≡◌, ◌≢◌, ◌≤◌, ℕ, zero, suc, List, [], ◌∷◌, map, bit_and, length, IsTrue, ◌⊎◌, Bool, true, false}
 use Rattle.pua_tree.specs.Tree.{Tree, WellFormed}
-use Rattle.pua_calls.specs.Calls.{CallTable, rule_of, table_by_rules}
+use Rattle.pua_calls.specs.Calls.{CallTable, Rule, rule_of, table_by_rules}
 use Rattle.pua_calls.specs.declared.rules.Rules.{Rules}
+use Rattle.pua_calls.specs.declared.rules.Rules.TheVariants.{Profile}
 use Rattle.pua_calls.specs.Promises.{error}
 use Rattle.pua_calls.specs.declared.call.Call.{Call}
+use Rattle.pua_calls.specs.declared.call.Call.TheVariants as call
 use Rattle.pua_policy.specs.History.{History}
-use Rattle.std.specs.List.{Contains}
+use Rattle.std.specs.List.{Contains, list_any}
 use Rattle.pua_calls.specs.Tables.{NoCallNeedsError}
 use Rattle.pua_objects.specs.Objects as objects
 use Rattle.pua_ever.specs.Ever.{EverLine, ever}
@@ -15,8 +17,10 @@ use Rattle.pua_policy.specs.Verdict.{verdict_on, is_allowed}
 use Rattle.pua_script.specs.Requests.{Asked}
 use Rattle.pua_script.specs.Replay.{World, new_world, apply, answers_to, world_after}
 use Rattle.pua_script.specs.declared.answer.Answer.TheVariants.{Okay}
+use Rattle.pua_script.specs.declared.request.Action.{Action}
+use Rattle.pua_script.specs.declared.request.Action.TheVariants.{OnPath, Symlink, Rename, Link}
 use Rattle.pua_tight.specs.Narrower.{WorldWithin, HistoryWithin, AskWithin, AsksWithin}
-use Rattle.pua_script.specs.Scripts.{script}
+use Rattle.pua_script.specs.Scripts.{script_by}
 use Rattle.pua_tight.specs.Texts.{thinned_text, tight_text}
 use Rattle.pua_tight.specs.Tight.{Piece, InPromises, InExecpromises, InVeil, Line, asks_of, lines_of, without, tight}
 
@@ -128,11 +132,22 @@ TightIsMinimal = (table : CallTable) (w : World) (lines : List Line) (index : �
     MayLeaveOut lines index piece → leave_out index piece (tight table w lines) ≢ tight table w lines →
     answers_to table w (leave_out index piece (tight table w lines)) ≢ answers_to table w (asks_of lines)
 
--- each call rests on one set of promises, as by the rules of the profile and by OpenBSD's
-pub record RestsOnOne (table : CallTable) : Type 0 where
-  pub calls : (call : Call) → length (rule_of table call).alternatives ≡ 1
-  pub rename : (length table.rename.old.needs.alternatives ≡ 1) × (length table.rename.new.needs.alternatives ≡ 1)
-  pub link : (length table.link.old.needs.alternatives ≡ 1) × (length table.link.new.needs.alternatives ≡ 1)
+-- one set of promises, or none, by which nothing is ever allowed
+abbrev pub HasOneSet : Rule → Type 0
+HasOneSet rule = length rule.alternatives ≤ 1
+
+-- what is asked for rests on one set of promises, if it is ever allowed: of two names each on one
+abbrev pub RestsOnOne : CallTable → Action → Type 0
+RestsOnOne table (OnPath call path) = HasOneSet (rule_of table call)
+RestsOnOne table (Symlink target path) = HasOneSet (rule_of table call.Symlink)
+RestsOnOne table (Rename old new) = HasOneSet table.rename.old.needs × HasOneSet table.rename.new.needs
+RestsOnOne table (Link old new) = HasOneSet table.link.old.needs × HasOneSet table.link.new.needs
+RestsOnOne table action = Unit {0}
+
+-- so does each request of a script
+abbrev pub RestOnOne : CallTable → List Asked → Type 0
+RestOnOne table [] = Unit {0}
+RestOnOne table (ask ∷ asks) = RestsOnOne table ask.action × RestOnOne table asks
 
 -- `error` is none of what may be left out
 abbrev pub bit_of : Piece → ℕ
@@ -144,16 +159,24 @@ abbrev pub AreSpareable : List Line → Type 0
 AreSpareable [] = Unit {0}
 AreSpareable (line ∷ lines) = ((piece : Piece) → IsPieceOf line.pieces piece → bit_and (bit_of piece) error ≡ 0) × AreSpareable lines
 
--- by such a table it is the least of all: whatever else is left out of the given script, as long as it is answered as before, has
--- all that the tightened one has
+-- of such a script it is the least of all: whatever else is left out of the given one, as long as it is answered as before, has all
+-- that the tightened one has
 abbrev pub TightIsLeast : Type 0
-TightIsLeast = (table : CallTable) (w : World) (lines : List Line) (less : List Asked) → RestsOnOne table → AreOkay table w lines →
-    AreSpareable lines → LeavesOut less lines → answers_to table w less ≡ answers_to table w (asks_of lines) →
+TightIsLeast = (table : CallTable) (w : World) (lines : List Line) (less : List Asked) → RestOnOne table (asks_of lines) →
+    AreOkay table w lines → AreSpareable lines → LeavesOut less lines → answers_to table w less ≡ answers_to table w (asks_of lines) →
     AsksWithin (tight table w lines) less
 
--- so it is by the rules that a command names
+-- an owner is changed by either of two promises, by OpenBSD's rules
+abbrev pub is_chown : Action → Bool
+is_chown (OnPath call.Chown path) = true
+is_chown action = false
+
+abbrev pub HasNoChown : List Asked → Type 0
+HasNoChown asks = list_any (λ ask. is_chown ask.action) asks ≡ false
+
+-- by the rules that a command names each script is such a one: by the profile's each, by OpenBSD's each without chown
 abbrev pub RulesRestOnOne : Type 0
-RulesRestOnOne = (rules : Rules) → RestsOnOne (table_by_rules rules)
+RulesRestOnOne = (rules : Rules) (asks : List Asked) → (rules ≡ Profile) ⊎ HasNoChown asks → RestOnOne (table_by_rules rules) asks
 
 -- what may be left out of a script's requests meets what these laws ask of lines
 pub record IsScriptOfLines (table : CallTable) (w : World) (more : List Asked) : Type 0 where
@@ -166,10 +189,11 @@ ScriptsAreTightened = (table : CallTable) (w : World) (more : List Asked) → Is
 
 -- the bytes that are written for requests that have less than those that were read are a script of these
 abbrev pub TextsAreRead : Type 0
-TextsAreRead = (bytes : List ℕ) (given less : List Asked) → script bytes ≡ Ok given → AsksWithin less given →
-    script (thinned_text less bytes) ≡ Ok less
+TextsAreRead = (rules : Rules) (bytes : List ℕ) (given less : List Asked) → script_by rules bytes ≡ Ok given → AsksWithin less given →
+    script_by rules (thinned_text less bytes) ≡ Ok less
 
 -- so the text of a tightened script is a script of the tightened requests, of which all that stands above is proved
 abbrev pub TightTextsAreRead : Type 0
-TightTextsAreRead = (table : CallTable) (t : Tree) (bytes text : List ℕ) → tight_text table t bytes ≡ Ok text →
-    (given : List Asked) × (script bytes ≡ Ok given) × (script text ≡ Ok (tight table (new_world t) (lines_of table (new_world t) given)))
+TightTextsAreRead = (rules : Rules) (table : CallTable) (t : Tree) (bytes text : List ℕ) → tight_text rules table t bytes ≡ Ok text →
+    (given : List Asked) × (script_by rules bytes ≡ Ok given)
+    × (script_by rules text ≡ Ok (tight table (new_world t) (lines_of table (new_world t) given)))

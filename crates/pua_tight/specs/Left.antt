@@ -3,12 +3,13 @@ use Rattle.std.specs.Prelude.{◌≡◌, ℕ, zero, suc, Bool, true, if◌then�
 use Rattle.pua_path.specs.declared.errno.Errno.{Errno}
 use Rattle.pua_calls.specs.Promises.{holds, lacking}
 use Rattle.pua_calls.specs.Calls.{CallTable}
+use Rattle.pua_calls.specs.declared.rules.Rules.{Rules}
 use Rattle.pua_tree.specs.Tree.{Tree}
 use Rattle.pua_tree.specs.Listing.{listing}
 use Rattle.pua_tree.specs.Steps.{◌>>=◌}
 use Rattle.pua_script.specs.Requests.{Asked}
 use Rattle.pua_script.specs.Regiven.{with_lists, with_perms}
-use Rattle.pua_script.specs.Scripts.{script}
+use Rattle.pua_script.specs.Scripts.{script_by}
 use Rattle.pua_script.specs.Family.{is_okay}
 use Rattle.pua_script.specs.Replay.{answers_to, new_world}
 use Rattle.pua_script.specs.declared.answer.Answer.{Answer}
@@ -69,12 +70,12 @@ lines_by asked (ask ∷ asks) [] = record { ask = ask; pieces = pieces_by asked 
 lines_by asked (ask ∷ asks) (answer ∷ answers) = record { ask = ask; pieces = pieces_by asked ask (Some answer) } ∷ lines_by asked asks answers
 
 -- a listing and a script were read, and the script was answered over the tree
-pub record IsGiven (table : CallTable) (tree_bytes script_bytes : List ℕ) (answers : List Answer) (asks : List Asked) : Type 0 where
+pub record IsGiven (rules : Rules) (table : CallTable) (tree_bytes script_bytes : List ℕ) (answers : List Answer) (asks : List Asked) : Type 0 where
   pub tree : Tree
   pub listed : listing tree_bytes ≡ Ok tree
-  pub read : script script_bytes ≡ Ok asks
+  pub read : script_by rules script_bytes ≡ Ok asks
   pub told : answers ≡ answers_to table (new_world tree) asks
 
 -- the fault of a listing, or else of a script
-abbrev pub IsFaultOf : List ℕ → List ℕ → TightFault → Type 0
-IsFaultOf tree_bytes script_bytes fault = (as_listing (listing tree_bytes) >>= λ t. as_script (script script_bytes)) ≡ Err fault
+abbrev pub IsFaultOf : Rules → List ℕ → List ℕ → TightFault → Type 0
+IsFaultOf rules tree_bytes script_bytes fault = (as_listing (listing tree_bytes) >>= λ t. as_script (script_by rules script_bytes)) ≡ Err fault

@@ -8,8 +8,9 @@ use Rattle.pua_tree.specs.Spelling.{fields}
 use Rattle.pua_tree.specs.Steps.{◌>>=◌}
 use Rattle.pua_calls.specs.Promises.{holds, promise_of, letter_of}
 use Rattle.pua_calls.specs.Calls.{CallTable}
+use Rattle.pua_calls.specs.declared.rules.Rules.{Rules}
 use Rattle.pua_script.specs.Requests.{Asked}
-use Rattle.pua_script.specs.Scripts.{script}
+use Rattle.pua_script.specs.Scripts.{script_by}
 use Rattle.pua_script.specs.Replay.{new_world}
 use Rattle.pua_script.specs.declared.request.Given.{Given}
 use Rattle.pua_script.specs.declared.request.Given.TheVariants.{Good}
@@ -69,9 +70,9 @@ thinned_text asks bytes = join_with_byte 10 (lines_text asks (slice_split (λ b.
 abbrev pub tightened : CallTable → Tree → List Asked → List Asked
 tightened table t asks = tight table (new_world t) (lines_of table (new_world t) asks)
 
--- the bytes of a script over a tree, tightened by a table; or the script's fault
-abbrev pub tight_text : CallTable → Tree → List ℕ → Result (List ℕ) ScriptFault
-tight_text table t bytes = script bytes >>= λ asks. Ok (thinned_text (tightened table t asks) bytes)
+-- the bytes of a script that is read by rules, over a tree, tightened by a table; or the script's fault
+abbrev pub tight_text : Rules → CallTable → Tree → List ℕ → Result (List ℕ) ScriptFault
+tight_text rules table t bytes = script_by rules bytes >>= λ asks. Ok (thinned_text (tightened table t asks) bytes)
 
 abbrev pub as_listing : Result Tree ListingFault → Result Tree TightFault
 as_listing (Ok t) = Ok t
@@ -82,5 +83,5 @@ as_script (Ok x) = Ok x
 as_script (Err fault) = Err (Script fault)
 
 -- the bytes over the tree of a listing, or the first fault: the listing's, or the script's
-abbrev pub text_over : CallTable → List ℕ → List ℕ → Result (List ℕ) TightFault
-text_over table tree_bytes script_bytes = as_listing (listing tree_bytes) >>= λ t. as_script (tight_text table t script_bytes)
+abbrev pub text_over : Rules → CallTable → List ℕ → List ℕ → Result (List ℕ) TightFault
+text_over rules table tree_bytes script_bytes = as_listing (listing tree_bytes) >>= λ t. as_script (tight_text rules table t script_bytes)

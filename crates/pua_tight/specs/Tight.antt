@@ -4,7 +4,7 @@ use Rattle.std.specs.Prelude.{ℕ, ◌==◌, Bool, true, false, ◌&&◌, if◌t
 use Rattle.std.specs.Prelude.{Some, option_map}
 use Rattle.pua_path.specs.declared.errno.Errno.{Errno}
 use Rattle.pua_path.specs.declared.errno.Errno.TheVariants.{EPERM, ENOENT, E2BIG, EACCES, EAGAIN, EBUSY, EEXIST, ENOTDIR, EISDIR, EINVAL}
-use Rattle.pua_path.specs.declared.errno.Errno.TheVariants.{ENOSPC, ELOOP, ENAMETOOLONG, ENOTEMPTY, ENOSYS}
+use Rattle.pua_path.specs.declared.errno.Errno.TheVariants.{ENOSPC, ELOOP, ENAMETOOLONG, ENOTEMPTY, ENOSYS, ENOTSOCK, EADDRINUSE}
 use Rattle.pua_calls.specs.Promises.{lacking, holds, keyword_rows, error, proc, unveil}
 use Rattle.pua_calls.specs.Calls.{CallTable, rule_of, calls}
 use Rattle.pua_script.specs.Requests.{Asked}
@@ -58,11 +58,13 @@ errno_number ELOOP = 11
 errno_number ENAMETOOLONG = 12
 errno_number ENOTEMPTY = 13
 errno_number ENOSYS = 14
+errno_number ENOTSOCK = 15
+errno_number EADDRINUSE = 16
 
 abbrev pub answer_number : Answer → ℕ
-answer_number Okay = 15
-answer_number Killed = 16
-answer_number Gone = 17
+answer_number Okay = 17
+answer_number Killed = 18
+answer_number Gone = 19
 answer_number (Failed errno) = errno_number errno
 
 abbrev pub same_answers : List Answer → List Answer → Bool

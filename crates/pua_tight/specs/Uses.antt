@@ -3,8 +3,9 @@ use Rattle.std.specs.Prelude.{ℕ, suc, ◌==◌, if◌then◌else◌, List, [],
 use Rattle.pua_tree.specs.Listing.{listing}
 use Rattle.pua_tree.specs.Steps.{◌>>=◌}
 use Rattle.pua_calls.specs.Calls.{CallTable}
+use Rattle.pua_calls.specs.declared.rules.Rules.{Rules}
 use Rattle.pua_script.specs.Requests.{Asked}
-use Rattle.pua_script.specs.Scripts.{script}
+use Rattle.pua_script.specs.Scripts.{script_by}
 use Rattle.pua_script.specs.Replay.{World, new_world, answers_to}
 use Rattle.pua_script.specs.declared.answer.Answer.{Answer}
 use Rattle.pua_tight.specs.declared.fault.TightFault.{TightFault}
@@ -39,7 +40,7 @@ abbrev pub uses : CallTable → World → List Line → List WordUse
 uses table w lines = map (use_by table w (answers_to table w (asks_of lines)) (tight table w lines)) (words_from 0 lines)
 
 -- of a script over a listing, or the first fault: the listing's, or the script's
-abbrev pub uses_over : CallTable → List ℕ → List ℕ → Result (List WordUse) TightFault
-uses_over table tree_bytes script_bytes =
+abbrev pub uses_over : Rules → CallTable → List ℕ → List ℕ → Result (List WordUse) TightFault
+uses_over rules table tree_bytes script_bytes =
     as_listing (listing tree_bytes)
-    >>= λ t. as_script (script script_bytes >>= λ asks. Ok (uses table (new_world t) (lines_of table (new_world t) asks)))
+    >>= λ t. as_script (script_by rules script_bytes >>= λ asks. Ok (uses table (new_world t) (lines_of table (new_world t) asks)))

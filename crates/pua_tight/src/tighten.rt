@@ -4,7 +4,7 @@ ghost use Rattle.std.specs.Prelude.{◌≡◌, ◌≢◌, Err, IfOk, IfErr, Ok};
 ghost use Rattle.pua_tree.specs.Tree.{Tree};
 ghost use Rattle.pua_tree.specs.Listing.{listing};
 ghost use Rattle.pua_script.specs.Replay.{answers_to, new_world};
-ghost use Rattle.pua_script.specs.Scripts.{script as script_of};
+ghost use Rattle.pua_script.specs.Scripts.{script_by};
 ghost use Rattle.pua_tight.specs.Texts.{as_listing, as_script, text_over, tightened};
 ghost use Rattle.pua_tight.specs.Left.{IsFaultOf, IsGiven};
 
@@ -14,29 +14,31 @@ use crate::text::thinned_text;
 use crate::together::try_all;
 use crate::trial::trials_of;
 use crate::wanted::{Wanted, begun};
-use pua_calls::CallTable;
-use pua_script::{Request, Script, ScriptFault, read_script};
+use pua_calls::{CallTable, Rules};
+use pua_script::{Request, Script, ScriptFault, read_script_by};
 use std::alloc::{AllocError, Global};
 
 /// The bytes of a script without the promises and letters that none of its answers needs, where it is
-/// served over the tree of a listing by a table. From the last line to the first, and in a line in the
-/// order of keywords and of the letters r, w, x, c, each is left out without which every line is answered
-/// as before; of lines that are answered ok alone, and of promises those that some call asks for, but
-/// `error`. All other bytes stay, and where nothing is left of an argument it is `=`.
+/// read by these rules and served over the tree of a listing by a table. From the last line to the
+/// first, and in a line in the order of keywords and of the letters r, w, x, c, each is left out without
+/// which every line is answered as before; of lines that are answered ok alone, and of promises those
+/// that some call asks for, but `error`. All other bytes stay, and where nothing is left of an argument
+/// it is `=`.
 ///
 /// The first that holds of `Listing` and `Script` is answered; `OutOfMemory` where a growth was refused.
 pub fn tight_text(
     alloc: Global,
     tree_bytes: &[u8],
     script_bytes: &[u8],
+    rules: Rules,
     table: &CallTable,
 ) -> Result<Vec<u8>, TightFault>
     ensures done { IfOk result (λ text.
-        text_over table.now tree_bytes.now script_bytes.now ≡ Ok text.items) }
+        text_over rules table.now tree_bytes.now script_bytes.now ≡ Ok text.items) }
     ensures refused { IfErr result (λ fault. fault ≢ TightFault.OutOfMemory →
-        (text_over table.now tree_bytes.now script_bytes.now ≡ Err fault)) }
+        (text_over rules table.now tree_bytes.now script_bytes.now ≡ Err fault)) }
 {
-    let (wanted, mut requests) = begin(alloc, tree_bytes, script_bytes, table)?;
+    let (wanted, mut requests) = begin(alloc, tree_bytes, script_bytes, rules, table)?;
     tighten(&wanted, &mut requests)?;
     match thinned_text(alloc, requests.as_slice(), script_bytes) {
         Ok(text) => Ok(text),
@@ -44,22 +46,24 @@ pub fn tight_text(
     }
 }
 
-/// A script's requests, and what they are answered over the tree of a listing.
+/// The requests of a script that is read by these rules, and what they are answered over the tree of a
+/// listing.
 pub(crate) fn begin<'a>(
     alloc: Global,
     tree_bytes: &'a [u8],
     script_bytes: &[u8],
+    rules: Rules,
     table: &'a CallTable,
 ) -> Result<(Wanted<'a>, Vec<Request>), TightFault>
     ensures tree { IfOk result (λ given. given.0.tree_bytes.now ≡ tree_bytes.now) }
     ensures table { IfOk result (λ given. given.0.table.now ≡ table.now) }
-    ensures given { IfOk result (λ given. IsGiven table.now tree_bytes.now script_bytes.now
+    ensures given { IfOk result (λ given. IsGiven rules table.now tree_bytes.now script_bytes.now
         given.0.answers.items given.1.items) }
     ensures refused { IfErr result (λ fault. fault ≢ TightFault.OutOfMemory →
-        IsFaultOf tree_bytes.now script_bytes.now fault) }
+        IsFaultOf rules tree_bytes.now script_bytes.now fault) }
 {
     let world = begun(alloc, tree_bytes, table)?;
-    let script = read_requests(alloc, script_bytes)?;
+    let script = read_requests(alloc, rules, script_bytes)?;
     let wanted = Wanted::of(alloc, world, tree_bytes, table, &script)?;
     Ok((wanted, script.into_requests()))
 }
@@ -85,13 +89,13 @@ pub(crate) fn tighten(wanted: &Wanted<'_>, requests: &mut Vec<Request>) -> Resul
     }
 }
 
-/// The requests of a script.
-fn read_requests(alloc: Global, bytes: &[u8]) -> Result<Script, TightFault>
-    ensures read { IfOk result (λ script. script_of bytes.now ≡ Ok script) }
+/// The requests of a script that is read by these rules.
+fn read_requests(alloc: Global, rules: Rules, bytes: &[u8]) -> Result<Script, TightFault>
+    ensures read { IfOk result (λ script. script_by rules bytes.now ≡ Ok script) }
     ensures refused { IfErr result (λ fault. fault ≢ TightFault.OutOfMemory →
-        (as_script (script_of bytes.now) ≡ Err fault)) }
+        (as_script (script_by rules bytes.now) ≡ Err fault)) }
 {
-    match read_script(alloc, bytes) {
+    match read_script_by(alloc, rules, bytes) {
         Ok(script) => Ok(script),
         Err(ScriptFault::OutOfMemory) => Err(TightFault::OutOfMemory),
         Err(fault) => Err(TightFault::Script(fault)),

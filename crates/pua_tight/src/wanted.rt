@@ -105,7 +105,7 @@ fn read_tree(alloc: Global, bytes: &[u8]) -> Result<SlabTree, TightFault>
 
 /// Gives back the memory of a world: one call, where the world's drop would else be walked and proved
 /// at each exit behind it.
-fn release(world: World<SlabTree>) {}
+pub(crate) fn release(world: World<SlabTree>) {}
 
 /// Serves requests in a world up to the first that is answered otherwise than is wanted, and answers its
 /// index. Where the lists have other lengths, it is the first that only one of them has.

@@ -15,7 +15,7 @@ use crate::piece::Piece;
 use crate::tighten::{begin, tighten};
 use crate::trial::{Trial, add_trials, other_without};
 use crate::wanted::Wanted;
-use pua_calls::{CallTable, Promises};
+use pua_calls::{CallTable, Promises, Rules};
 use pua_script::{Answer, Request};
 use std::alloc::{AllocError, Global};
 
@@ -38,14 +38,15 @@ pub fn word_uses(
     alloc: Global,
     tree_bytes: &[u8],
     script_bytes: &[u8],
+    rules: Rules,
     table: &CallTable,
 ) -> Result<Vec<WordUse>, TightFault>
     ensures done { IfOk result (λ uses.
-        uses_over table.now tree_bytes.now script_bytes.now ≡ Ok uses.items) }
+        uses_over rules table.now tree_bytes.now script_bytes.now ≡ Ok uses.items) }
     ensures refused { IfErr result (λ fault. fault ≢ TightFault.OutOfMemory →
-        (uses_over table.now tree_bytes.now script_bytes.now ≡ Err fault)) }
+        (uses_over rules table.now tree_bytes.now script_bytes.now ≡ Err fault)) }
 {
-    let (wanted, mut requests) = begin(alloc, tree_bytes, script_bytes, table)?;
+    let (wanted, mut requests) = begin(alloc, tree_bytes, script_bytes, rules, table)?;
     let words = words_of(
         alloc,
         asked_for(table),

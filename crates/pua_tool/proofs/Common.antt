@@ -8,7 +8,7 @@ pub use Rattle.pua_policy.specs.History.{History}
 pub use Rattle.pua_script.proofs.ForCallers.{is_made}
 pub use Rattle.pua_script.specs.Replay.{answers_to, history_of, new_world, World, world_after}
 pub use Rattle.pua_script.specs.Requests.{Asked}
-pub use Rattle.pua_script.specs.Scripts.{script}
+pub use Rattle.pua_script.specs.Scripts.{script_by}
 pub use Rattle.pua_script.specs.Worlds.{StandsForWorld}
 pub use Rattle.pua_texts.proofs.ForCallers.{if_err, if_ok}
 pub use Rattle.pua_texts.specs.Lines.{answer_lines, with_end}

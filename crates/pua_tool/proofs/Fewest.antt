@@ -1,6 +1,6 @@
 -- What a tightened script that was written is.
 use Rattle.pua_tool.proofs.Common.{◌≡◌, ◌∙◌, ℕ, List, ap, refl, sym, subst, Err, Ok, Option, Some, None, Result, ◌>>=◌, Tree, listing}
-use Rattle.pua_tool.proofs.Common.{CallTable, Asked, script, World, new_world, answers_to, world_after, answer_lines, Chosen}
+use Rattle.pua_tool.proofs.Common.{CallTable, Asked, script_by, World, new_world, answers_to, world_after, answer_lines, Chosen}
 use Rattle.pua_tool.proofs.Common.{table_by, as_listing, as_script, History}
 use Rattle.std.specs.Prelude.{is_some}
 use Rattle.pua_tree.proofs.ForCallers.{same_Ok}
@@ -11,7 +11,7 @@ use Rattle.pua_script.specs.declared.fault.ScriptFault.{ScriptFault}
 use Rattle.pua_tight.specs.Narrower.{AsksWithin, HistoryWithin, WorldWithin}
 use Rattle.pua_tight.specs.Tight.{Line, lines_of, tight}
 use Rattle.pua_tight.specs.Texts as texts
-use Rattle.pua_tight.specs.Laws.{IsTightened, IsScriptOfLines, RestsOnOne}
+use Rattle.pua_tight.specs.Laws.{IsTightened, IsScriptOfLines, RestOnOne}
 use Rattle.pua_tight.proofs.ForCallers.{tightens, scripts_are_tightened, tight_is_minimal, tight_is_least, rules_rest, tight_texts_are_read}
 use Rattle.pua_tight.proofs.ForCallers.{FoundWithin, never, made, found_within, allows_no_more, futures_within, ended_alike, lists_no_more}
 use Rattle.pua_tight.proofs.ForCallers.{lists_no_more_for_ever, lasts_no_more}
@@ -64,7 +64,7 @@ rules_alone choice table chosen none = same_Ok (table_by_rules choice.rules) tab
     (sym (ap (λ (rows : Option (List ℕ)). table_by (record { rules = choice.rules; rows = rows })) none) ∙ chosen)
 
 module _ (choice : Chosen) (tree_bytes script_bytes : List ℕ) (table : CallTable) (t : Tree) (given : List Asked) (text : List ℕ)
-    (chosen : table_by choice ≡ Ok table) (listed : listing tree_bytes ≡ Ok t) (scripted : script script_bytes ≡ Ok given)
+    (chosen : table_by choice ≡ Ok table) (listed : listing tree_bytes ≡ Ok t) (scripted : script_by choice.rules script_bytes ≡ Ok given)
     (told : tight_text choice tree_bytes script_bytes ≡ Ok text) where
   abbrev w : World
   w = new_world t
@@ -81,24 +81,24 @@ module _ (choice : Chosen) (tree_bytes script_bytes : List ℕ) (table : CallTab
   is_script : IsScriptOfLines table w given
   is_script = scripts_are_tightened table w given
 
-  over : as_tight (texts.text_over table tree_bytes script_bytes) ≡ Ok text
+  over : as_tight (texts.text_over choice.rules table tree_bytes script_bytes) ≡ Ok text
   unfolding tight_text
-  over = (λ i. sym chosen i >>= λ table. as_tight (texts.text_over table tree_bytes script_bytes)) ∙ told
+  over = (λ i. sym chosen i >>= λ table. as_tight (texts.text_over choice.rules table tree_bytes script_bytes)) ∙ told
 
-  written : texts.tight_text table t script_bytes ≡ Ok text
-  written = text_is (texts.tight_text table t script_bytes) text
-      ((λ i. as_tight (texts.as_listing (sym listed i) >>= λ t. texts.as_script (texts.tight_text table t script_bytes))) ∙ over)
+  written : texts.tight_text choice.rules table t script_bytes ≡ Ok text
+  written = text_is (texts.tight_text choice.rules table t script_bytes) text
+      ((λ i. as_tight (texts.as_listing (sym listed i) >>= λ t. texts.as_script (texts.tight_text choice.rules table t script_bytes))) ∙ over)
 
-  read : script text ≡ Ok left
+  read : script_by choice.rules text ≡ Ok left
   read =
-      let parts = tight_texts_are_read table t script_bytes text written in
+      let parts = tight_texts_are_read choice.rules table t script_bytes text written in
       let same : parts.0 ≡ given = same_Ok parts.0 given (sym parts.1 ∙ scripted) in
       parts.2 ∙ (λ i. Ok (tight table w (lines_of table w (same i))))
 
   same_answers : answers_to table w left ≡ answers_to table w given
   same_answers = is_tight.same ∙ ap (answers_to table w) is_script.asks
 
-  run_is : (bytes : List ℕ) (asks : List Asked) → script bytes ≡ Ok asks →
+  run_is : (bytes : List ℕ) (asks : List Asked) → script_by choice.rules bytes ≡ Ok asks →
       run_text choice tree_bytes bytes ≡ Ok (answer_lines 1 (answers_to table w asks))
   run_is bytes asks is =
       let replayed = replayed_is choice tree_bytes bytes table t asks chosen (ap as_listing listed) (ap as_script is) in
@@ -117,7 +117,7 @@ module _ (choice : Chosen) (tree_bytes script_bytes : List ℕ) (table : CallTab
     within = subst (λ (asks : List Asked). AsksWithin left asks) is_script.asks is_tight.within;
     same = run_is text left read ∙ ap (λ answers. Ok (answer_lines 1 answers)) same_answers ∙ sym (run_is script_bytes given scripted);
     well = (replays_keep_byte_trees table w given (listings_list_byte_trees tree_bytes t listed)
-        (scripts_ask_in_bytes script_bytes given scripted)).tree;
+        (scripts_ask_in_bytes choice.rules script_bytes given scripted)).tree;
     narrower = leaves_no_more table sound (world_after table w left) (world_after table w given) inner;
     futures = λ later granted.
         let behind = futures_within table (world_after table w left) (world_after table w given) later inner granted in (
@@ -127,9 +127,11 @@ module _ (choice : Chosen) (tree_bytes script_bytes : List ℕ) (table : CallTab
         );
     minimal = λ index piece may some alike.
         tight_is_minimal table w lines index piece is_script.okay may some (alike ∙ ap (answers_to table w) (sym is_script.asks));
-    least = λ none less leaves alike.
-        tight_is_least table w lines less (subst RestsOnOne (rules_alone choice table chosen none) (rules_rest choice.rules)) is_script.okay
+    least = λ one less leaves alike.
+        tight_is_least table w lines less (subst (λ (asks : List Asked). RestOnOne table asks) (sym is_script.asks) one) is_script.okay
         is_script.spare leaves (alike ∙ ap (answers_to table w) (sym is_script.asks));
+    one_set = λ none some.
+        subst (λ (other : CallTable). RestOnOne other given) (rules_alone choice table chosen none) (rules_rest choice.rules given some);
   }
 
 pub tight_as_written : TightAsWritten

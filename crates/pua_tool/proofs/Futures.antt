@@ -1,6 +1,6 @@
 -- What a family reaches and changes, by what its histories allow.
 use Rattle.pua_tool.proofs.Common.{◌≡◌, ℕ, List, [], ◌∷◌, ◌++◌, map, refl, sym, ap, subst, ◌∙◌, Tree, listing, CallTable, History, Asked}
-use Rattle.pua_tool.proofs.Common.{script, new_world, world_after}
+use Rattle.pua_tool.proofs.Common.{script_by, new_world, world_after}
 use Rattle.std.proofs.Common.{codes, Bool, true}
 use Rattle.std.specs.Prelude.{Ok}
 use Rattle.std.proofs.lemmas.Bool.{and_parts}
@@ -13,6 +13,7 @@ use Rattle.pua_audit.specs.SubLists.{SubList}
 use Rattle.pua_audit.specs.declared.base.Base.{Base}
 use Rattle.pua_audit.specs.declared.base.Base.TheVariants.{Root, Cwd}
 use Rattle.pua_audit.proofs.ForCallers.{fewer_reach_less, reach_needs_rows}
+use Rattle.pua_calls.specs.declared.rules.Rules.{Rules}
 use Rattle.pua_script.specs.Bytes.{is_in_bytes, are_in_bytes, IsByteTree}
 use Rattle.pua_script.specs.Tightening.{AllowsNoMore}
 use Rattle.pua_script.proofs.ForCallers.{families_narrow, families_confine, replays_keep_trees, replays_keep_byte_trees}
@@ -86,11 +87,11 @@ narrowing_as_read choice tree_bytes script_bytes table t first asks given listed
     (one.0, one.1, one.2.1 (world_after table w asks).tree)
 
 -- all texts that are read are bytes: those of the tree, of the first lines, and of the others
-module _ (tree_bytes script_bytes : List ℕ) (table : CallTable) (t : Tree) (first asks : List Asked) (listed : listing tree_bytes ≡ Ok t)
-    (scripted : script script_bytes ≡ Ok (first ++ asks)) where
+module _ (rules : Rules) (tree_bytes script_bytes : List ℕ) (table : CallTable) (t : Tree) (first asks : List Asked)
+    (listed : listing tree_bytes ≡ Ok t) (scripted : script_by rules script_bytes ≡ Ok (first ++ asks)) where
   both_in_bytes : (are_in_bytes first ≡ true) × (are_in_bytes asks ≡ true)
   both_in_bytes = and_parts (are_in_bytes first) (are_in_bytes asks)
-      (sym (list_all-append (λ ask. is_in_bytes ask.action) first asks) ∙ scripts_ask_in_bytes script_bytes (first ++ asks) scripted)
+      (sym (list_all-append (λ ask. is_in_bytes ask.action) first asks) ∙ scripts_ask_in_bytes rules script_bytes (first ++ asks) scripted)
 
   tree_in_bytes : IsByteTree (world_after table (new_world t) first).tree
   tree_in_bytes = replays_keep_byte_trees table (new_world t) first (listings_list_byte_trees tree_bytes t listed) both_in_bytes.0
@@ -99,7 +100,7 @@ pub confinement_as_read : ConfinementAsRead
 confinement_as_read choice tree_bytes script_bytes table t first asks given listed scripted process now here confined none alone =
     let w = world_after table (new_world t) first in
     let both = confinement table w process now asks here confined none alone in (
-      λ taking. both.spares taking (tree_in_bytes tree_bytes script_bytes table t first asks listed scripted)
-          (both_in_bytes tree_bytes script_bytes table t first asks listed scripted).1,
+      λ taking. both.spares taking (tree_in_bytes choice.rules tree_bytes script_bytes table t first asks listed scripted)
+          (both_in_bytes choice.rules tree_bytes script_bytes table t first asks listed scripted).1,
       both.unchanged,
     )

@@ -7,11 +7,12 @@ use Rattle.std.specs.Prelude.{string_bytes, ok_or, option_copied, option_map, If
 use Rattle.std.specs.Borrow.{Bor}
 use Rattle.std.specs.List.{AllByRecursion, Contains}
 use Rattle.pua_tree.proofs.ForCallers.{None≢Some, same_Ok, same_Some}
-use Rattle.pua_calls.specs.Calls.{call_named}
+use Rattle.pua_calls.specs.Calls.{call_in}
 use Rattle.pua_calls.specs.declared.call.Call.{Call}
+use Rattle.pua_calls.specs.declared.rules.Rules.{Rules}
 use Rattle.pua_ever.specs.Refusals.{refusal}
 use Rattle.pua_ever.specs.declared.refusal.Refusal.{Refusal}
-use Rattle.pua_script.specs.Scripts.{request_of}
+use Rattle.pua_script.specs.Scripts.{request_by}
 use Rattle.pua_script.specs.Worlds.{WorldState}
 use Rattle.pua_how.specs.Asking.{Asking, asking_of, targets_of}
 use Rattle.pua_how.specs.Outlooks.{IsOutlook}
@@ -54,7 +55,7 @@ module _ (t : Tree) (h : History) (wanted : HowWanted) (last : ℕ) where
 
 module _ (done : Replayed) (wanted : HowWanted) (last : ℕ) where
   pub question_made : (h : History) (call : Call) (things : List Target) → history_of done.world wanted.process ≡ Some h →
-      refusal done.table h ≡ None → call_named wanted.call ≡ Some call → things_asked done.world.tree h wanted last ≡ Ok things →
+      refusal done.table h ≡ None → call_in done.table wanted.call ≡ Some call → things_asked done.world.tree h wanted last ≡ Ok things →
       question_of done wanted last ≡ Ok (record { history = h; call = call; things = things })
   question_made h call things here none read asked = rw here (rw none (rw read (rw asked refl)))
 
@@ -67,17 +68,17 @@ module _ (done : Replayed) (wanted : HowWanted) (last : ℕ) where
       question_of done wanted last ≡ Err (ever_fault wanted.process reason)
   no_list h reason here some = rw here (rw some refl)
 
-  pub no_call : (h : History) → history_of done.world wanted.process ≡ Some h → refusal done.table h ≡ None → call_named wanted.call ≡ None →
+  pub no_call : (h : History) → history_of done.world wanted.process ≡ Some h → refusal done.table h ≡ None → call_in done.table wanted.call ≡ None →
       question_of done wanted last ≡ Err HowCall
   no_call h here none unread = rw here (rw none (rw unread refl))
 
   pub no_thing : (h : History) (call : Call) (fault : ToolFault) → history_of done.world wanted.process ≡ Some h →
-      refusal done.table h ≡ None → call_named wanted.call ≡ Some call → things_asked done.world.tree h wanted last ≡ Err fault →
+      refusal done.table h ≡ None → call_in done.table wanted.call ≡ Some call → things_asked done.world.tree h wanted last ≡ Err fault →
       question_of done wanted last ≡ Err fault
   no_thing h call fault here none read asked = rw here (rw none (rw read (rw asked refl)))
 
-  pub fault_asked : (fault : ToolFault) → question_of done wanted last ≡ Err fault → IsHowAsked done wanted (Err fault)
-  fault_asked fault refused = record {
+  pub fault_asked : (rules : Rules) (fault : ToolFault) → question_of done wanted last ≡ Err fault → IsHowAsked rules done wanted (Err fault)
+  fault_asked rules fault refused = record {
     last = last;
     found = None;
     sound = λ q is. tt;
@@ -88,18 +89,21 @@ module _ (done : Replayed) (wanted : HowWanted) (last : ℕ) where
 
 module _ (choice : Chosen) (tree_bytes script_bytes : List ℕ) (wanted : HowWanted) where
   pub after_done : (done : Replayed) (answer : Result (List ℕ) ToolFault) → replay_of choice tree_bytes script_bytes ≡ Ok done →
-      IsHowAsked done wanted answer → IsHowText choice tree_bytes script_bytes wanted answer
-  after_done done answer is asked = subst (λ (r : Result Replayed ToolFault). IsHowAfter r wanted answer) (sym is) asked
+      IsHowAsked choice.rules done wanted answer → IsHowText choice tree_bytes script_bytes wanted answer
+  unfolding IsHowText
+  after_done done answer is asked = subst (λ (r : Result Replayed ToolFault). IsHowAfter choice.rules r wanted answer) (sym is) asked
 
   pub after_refused : (fault : ToolFault) → replay_of choice tree_bytes script_bytes ≡ Err fault →
       IsHowText choice tree_bytes script_bytes wanted (Err fault)
-  after_refused fault is = subst (λ (r : Result Replayed ToolFault). IsHowAfter r wanted (Err fault)) (sym is) refl
+  unfolding IsHowText
+  after_refused fault is = subst (λ (r : Result Replayed ToolFault). IsHowAfter choice.rules r wanted (Err fault)) (sym is) refl
 
   -- some answer is one
   pub some_answer : (answer : Result (List ℕ) ToolFault) × IsHowText choice tree_bytes script_bytes wanted answer
+  unfolding IsHowText
   some_answer = by (replay_of choice tree_bytes script_bytes)
     where
-      by : (r : Result Replayed ToolFault) → (answer : Result (List ℕ) ToolFault) × IsHowAfter r wanted answer
+      by : (r : Result Replayed ToolFault) → (answer : Result (List ℕ) ToolFault) × IsHowAfter choice.rules r wanted answer
       by (Ok done) = (
         question_of done wanted 0 >>= λ q. Ok (way_text done q None),
         record { last = 0; found = None; sound = λ q is. tt; is = refl },
@@ -108,17 +112,17 @@ module _ (choice : Chosen) (tree_bytes script_bytes : List ℕ) (wanted : HowWan
 
 -- ---- the lines of a way
 
-read_all : (process : ℕ) (lines : List WayLine) → AllByRecursion (IsLine process) lines →
-    map (request_of 1) (map (λ line. string_bytes line.text) lines) ≡ map Ok (asks_of lines)
-read_all process [] all = refl
-read_all process (line ∷ lines) all = λ i. all.0.read i ∷ read_all process lines all.1 i
+read_all : (rules : Rules) (process : ℕ) (lines : List WayLine) → AllByRecursion (IsLine rules process) lines →
+    map (request_by rules 1) (map (λ line. string_bytes line.text) lines) ≡ map Ok (asks_of lines)
+read_all rules process [] all = refl
+read_all rules process (line ∷ lines) all = λ i. all.0.read i ∷ read_all rules process lines all.1 i
 
-module _ (done : Replayed) (wanted : HowWanted) (q : given.Question) (is : IsQuestion done wanted q) where
+module _ (rules : Rules) (done : Replayed) (wanted : HowWanted) (q : given.Question) (is : IsQuestion done wanted q) where
   abbrev there : Question
   there = record { history = is.history; call = q.call; things = q.meant.targets.items }
 
-  found_for : (found : Option (List WayLine)) → ((lines : List WayLine) → found ≡ Some lines → AreWayTo done wanted.process q lines) →
-      IsFoundFor done wanted.process is.last there (texts_of found)
+  found_for : (found : Option (List WayLine)) → ((lines : List WayLine) → found ≡ Some lines → AreWayTo rules done wanted.process q lines) →
+      IsFoundFor rules done wanted.process is.last there (texts_of found)
   found_for None way = tt
   found_for (Some lines) way =
       let to = way lines refl in
@@ -127,7 +131,7 @@ module _ (done : Replayed) (wanted : HowWanted) (q : given.Question) (is : IsQue
         thing = to.thing;
         meant = to.meant;
         asks = asks_of lines;
-        read = read_all wanted.process lines to.are;
+        read = read_all rules wanted.process lines to.are;
         way = to.way;
       }
 
@@ -135,13 +139,13 @@ module _ (done : Replayed) (wanted : HowWanted) (q : given.Question) (is : IsQue
   text_is None = λ i. with_end (told_without (is.outlook.listed i) (is.outlook.execs i))
   text_is (Some texts) = refl
 
-  pub told_asked : (found : Option (List WayLine)) → ((lines : List WayLine) → found ≡ Some lines → AreWayTo done wanted.process q lines) →
-      (bytes : List ℕ) → bytes ≡ text_told q.outlook (texts_of found) → IsHowAsked done wanted (Ok bytes)
+  pub told_asked : (found : Option (List WayLine)) → ((lines : List WayLine) → found ≡ Some lines → AreWayTo rules done wanted.process q lines) →
+      (bytes : List ℕ) → bytes ≡ text_told q.outlook (texts_of found) → IsHowAsked rules done wanted (Ok bytes)
   told_asked found way bytes told = record {
     last = is.last;
     found = texts_of found;
     sound = λ other asked.
-        subst (λ (x : Question). IsFoundFor done wanted.process is.last x (texts_of found)) (same_Ok there other (sym is.asked ∙ asked))
+        subst (λ (x : Question). IsFoundFor rules done wanted.process is.last x (texts_of found)) (same_Ok there other (sym is.asked ∙ asked))
         (found_for found way);
     is =
         ap Ok (told ∙ text_is (texts_of found))
@@ -155,7 +159,7 @@ module _ (done : Replayed) (wanted : HowWanted) (q : given.Question) (h : Histor
   things = q.meant.targets.items
 
   pub question_is : t ≡ done.world.tree → table ≡ done.table → history_of done.world wanted.process ≡ Some h → refusal table h ≡ None →
-      call_named wanted.call ≡ Some q.call → AreMeant t h wanted things → (asked : List Target) → asked ≡ things →
+      call_in table wanted.call ≡ Some q.call → AreMeant t h wanted things → (asked : List Target) → asked ≡ things →
       IsOutlook t table h asked q.call q.outlook → IsQuestion done wanted q
   question_is at ruled here none read meant asked all outlook =
       let are = subst (λ (t : Tree). AreMeant t h wanted things) at meant in
@@ -163,18 +167,18 @@ module _ (done : Replayed) (wanted : HowWanted) (q : given.Question) (h : Histor
         last = are.last;
         above = are.above;
         history = h;
-        asked = question_made done wanted are.last h q.call things here (subst (λ (table : CallTable). refusal table h ≡ None) ruled none) read
-            are.are;
+        asked = question_made done wanted are.last h q.call things here (subst (λ (table : CallTable). refusal table h ≡ None) ruled none)
+            (subst (λ (table : CallTable). call_in table wanted.call ≡ Some q.call) ruled read) are.are;
         outlook = subst (λ (table : CallTable). IsOutlook done.world.tree table h things q.call q.outlook) ruled
             (subst (λ (t : Tree). IsOutlook t table h things q.call q.outlook) at
             (subst (λ (asked : List Target). IsOutlook t table h asked q.call q.outlook) all outlook));
       }
 
 -- a way in a world behind the script is one in that of the replay
-pub way_behind : (done : Replayed) (before : WorldState) (process : ℕ) (q : given.Question) (lines : List WayLine) (thing : Target) →
+pub way_behind : (rules : Rules) (done : Replayed) (before : WorldState) (process : ℕ) (q : given.Question) (lines : List WayLine) (thing : Target) →
     before.table ≡ done.table → StandsForWorld before done.world → Contains q.meant.targets.items thing →
-    AreWay before process q.call thing lines → AreWayTo done process q lines
-way_behind done before process q lines thing ruled stands meant way = record {
+    AreWay rules before process q.call thing lines → AreWayTo rules done process q lines
+way_behind rules done before process q lines thing ruled stands meant way = record {
   thing = thing;
   meant = meant;
   are = way.are;
@@ -209,23 +213,23 @@ module _ {A : Type 0} (written : A → Option (List ℕ)) (failed : A → ℕ) (
 module _ {V : Type 0} (items : V → List WayLine) (choice : Chosen) (tree_bytes script_bytes : List ℕ) (process : ℕ) (q : given.Question) where
   -- lines that are a way behind the script, whatever it left
   abbrev pub AreFound : V → Type 0
-  AreFound v = (done : Replayed) → replay_of choice tree_bytes script_bytes ≡ Ok done → AreWayTo done process q (items v)
+  AreFound v = (done : Replayed) → replay_of choice tree_bytes script_bytes ≡ Ok done → AreWayTo choice.rules done process q (items v)
 
   -- what a plan came to in a world behind the script
   pub served_found : (done : Replayed) (before : WorldState) → replay_of choice tree_bytes script_bytes ≡ Ok done → before.table ≡ done.table →
       StandsForWorld before done.world → (found : Option V) →
-      IfSome found (λ v. (thing : Target) × Contains q.meant.targets.items thing × AreWay before process q.call thing (items v)) →
+      IfSome found (λ v. (thing : Target) × Contains q.meant.targets.items thing × AreWay choice.rules before process q.call thing (items v)) →
       IfSome found AreFound
   served_found done before is ruled stands None way = tt
   served_found done before is ruled stands (Some v) way = λ other again.
-      subst (λ (d : Replayed). AreWayTo d process q (items v)) (same_Ok done other (sym is ∙ again))
-      (way_behind done before process q (items v) way.0 ruled stands way.1 way.2)
+      subst (λ (d : Replayed). AreWayTo choice.rules d process q (items v)) (same_Ok done other (sym is ∙ again))
+      (way_behind choice.rules done before process q (items v) way.0 ruled stands way.1 way.2)
 
   pub found_ways : (found : Option V) → IfSome found AreFound → (done : Replayed) → replay_of choice tree_bytes script_bytes ≡ Ok done →
-      (lines : List WayLine) → option_map items found ≡ Some lines → AreWayTo done process q lines
+      (lines : List WayLine) → option_map items found ≡ Some lines → AreWayTo choice.rules done process q lines
   found_ways None ways done is lines same = absurd (None≢Some lines same)
   found_ways (Some v) ways done is lines same =
-      subst (λ (ls : List WayLine). AreWayTo done process q ls) (same_Some (items v) lines same) (ways done is)
+      subst (λ (ls : List WayLine). AreWayTo choice.rules done process q ls) (same_Some (items v) lines same) (ways done is)
 
 -- what is lent of something is as it is
 pub lent_items : {V : Type 0} (items : V → List WayLine) (lent : Option (Bor V)) →

@@ -10,6 +10,10 @@ pub mod Stops
 pub mod Ends
 pub mod WhyTexts
 pub mod HowTexts
+pub mod NowThere
+pub mod RowColumns
+pub mod Counts
+pub mod EverHowTexts
 pub mod ActingNext
 pub mod TogetherTexts
 pub mod TightTexts

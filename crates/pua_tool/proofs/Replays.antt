@@ -1,5 +1,5 @@
 -- What is replayed, step by step.
-use Rattle.pua_tool.proofs.Common.{◌≡◌, ℕ, List, subst, Result, Tree, listing, ◌>>=◌, CallTable, Asked, script, World, new_world}
+use Rattle.pua_tool.proofs.Common.{◌≡◌, ℕ, List, subst, Result, Tree, listing, ◌>>=◌, CallTable, Asked, script_by, World, new_world}
 use Rattle.pua_tool.proofs.Common.{answers_to, world_after, StandsForWorld, Chosen, Replayed, as_listing, as_script, table_by, replay_of}
 use Rattle.pua_tool.proofs.Common.{ToolFault}
 use Rattle.std.specs.Prelude.{Ok, Err}
@@ -16,7 +16,7 @@ module _ (choice : Chosen) (tree_bytes script_bytes : List ℕ) where
       record { table = table; answers = answers_to table (new_world t) asks; world = world_after table (new_world t) asks }
 
   pub replayed_is : (table : CallTable) (t : Tree) (asks : List Asked)
-      → table_by choice ≡ Ok table → as_listing (listing tree_bytes) ≡ Ok t → as_script (script script_bytes) ≡ Ok asks
+      → table_by choice ≡ Ok table → as_listing (listing tree_bytes) ≡ Ok t → as_script (script_by choice.rules script_bytes) ≡ Ok asks
       → replay_of choice tree_bytes script_bytes
       ≡ Ok (record { table = table; answers = answers_to table (new_world t) asks; world = world_after table (new_world t) asks })
   unfolding replay_of
@@ -26,7 +26,7 @@ module _ (choice : Chosen) (tree_bytes script_bytes : List ℕ) where
   served table t requests = requests >>= λ asks. Ok (left_by table t asks)
 
   abbrev listed : CallTable → Result Tree ToolFault → Result Replayed ToolFault
-  listed table read = read >>= λ t. served table t (as_script (script script_bytes))
+  listed table read = read >>= λ t. served table t (as_script (script_by choice.rules script_bytes))
 
   -- a table's fault comes first
   pub table_refuses : (fault : ToolFault) → table_by choice ≡ Err fault → replay_of choice tree_bytes script_bytes ≡ Err fault
@@ -41,7 +41,7 @@ module _ (choice : Chosen) (tree_bytes script_bytes : List ℕ) where
 
   -- a script's fault comes where both have none
   pub script_refuses : (table : CallTable) (t : Tree) (fault : ToolFault)
-      → table_by choice ≡ Ok table → as_listing (listing tree_bytes) ≡ Ok t → as_script (script script_bytes) ≡ Err fault
+      → table_by choice ≡ Ok table → as_listing (listing tree_bytes) ≡ Ok t → as_script (script_by choice.rules script_bytes) ≡ Err fault
       → replay_of choice tree_bytes script_bytes ≡ Err fault
   unfolding replay_of
   script_refuses table t fault b l s = λ i. b i >>= λ table. l i >>= λ t. served table t (s i)

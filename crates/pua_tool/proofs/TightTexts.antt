@@ -17,10 +17,10 @@ no_memory fault other is = other (ap tight_fault is)
 
 module _ (choice : Chosen) (tree_bytes script_bytes : List ℕ) where
   abbrev text_by : CallTable → Result (List ℕ) ToolFault
-  text_by table = as_tight (text_over table tree_bytes script_bytes)
+  text_by table = as_tight (text_over choice.rules table tree_bytes script_bytes)
 
   abbrev uses_by : CallTable → Result (List WordUse) ToolFault
-  uses_by table = as_tight (uses_over table tree_bytes script_bytes)
+  uses_by table = as_tight (uses_over choice.rules table tree_bytes script_bytes)
 
   -- a table's fault comes first
   pub text_refused : (fault : ToolFault) → table_by choice ≡ Err fault → tight_text choice tree_bytes script_bytes ≡ Err fault
@@ -28,7 +28,7 @@ module _ (choice : Chosen) (tree_bytes script_bytes : List ℕ) where
   text_refused fault refuses = λ i. refuses i >>= text_by
 
   pub text_is : (table : CallTable) (read : Result (List ℕ) TightFault) → table_by choice ≡ Ok table →
-      text_over table tree_bytes script_bytes ≡ read → tight_text choice tree_bytes script_bytes ≡ as_tight read
+      text_over choice.rules table tree_bytes script_bytes ≡ read → tight_text choice tree_bytes script_bytes ≡ as_tight read
   unfolding tight_text
   text_is table read chosen is = (λ i. chosen i >>= text_by) ∙ ap as_tight is
 
@@ -37,7 +37,7 @@ module _ (choice : Chosen) (tree_bytes script_bytes : List ℕ) where
   words_refused fault refuses = λ i. refuses i >>= uses_by
 
   pub words_are : (table : CallTable) (words : Result (List WordUse) TightFault) → table_by choice ≡ Ok table →
-      uses_over table tree_bytes script_bytes ≡ words → words_by choice tree_bytes script_bytes ≡ as_tight words
+      uses_over choice.rules table tree_bytes script_bytes ≡ words → words_by choice tree_bytes script_bytes ≡ as_tight words
   unfolding words_by
   words_are table words chosen is = (λ i. chosen i >>= uses_by) ∙ ap as_tight is
 

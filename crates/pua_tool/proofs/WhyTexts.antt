@@ -1,6 +1,6 @@
 -- The texts with reasons, step by step.
 use Rattle.pua_tool.proofs.Common.{◌≡◌, ℕ, List, ◌∷◌, ◌++◌, ◌∙◌, map, sym, subst, ap, Result, flat_map, Tree, listing, ◌>>=◌}
-use Rattle.pua_tool.proofs.Common.{CallTable, Asked, script, World, new_world, world_after, StandsForWorld, Chosen, as_listing}
+use Rattle.pua_tool.proofs.Common.{CallTable, Asked, script_by, World, new_world, world_after, StandsForWorld, Chosen, as_listing}
 use Rattle.pua_tool.proofs.Common.{as_script, table_by, ToolFault}
 use Rattle.std.proofs.Common.{◌+◌, ◌<◌, ◌≤◌, get_or, drop, length, append-nil}
 use Rattle.std.proofs.Common.{append_assoc}
@@ -33,10 +33,10 @@ module _ (choice : Chosen) (tree_bytes script_bytes : List ℕ) where
   asked table t requests = requests >>= λ asks. Ok (posed_by table t asks)
 
   abbrev listed : CallTable → Result Tree ToolFault → Result Posed ToolFault
-  listed table read = read >>= λ t. asked table t (as_script (script script_bytes))
+  listed table read = read >>= λ t. asked table t (as_script (script_by choice.rules script_bytes))
 
   pub posed_is : (table : CallTable) (t : Tree) (asks : List Asked)
-      → table_by choice ≡ Ok table → as_listing (listing tree_bytes) ≡ Ok t → as_script (script script_bytes) ≡ Ok asks
+      → table_by choice ≡ Ok table → as_listing (listing tree_bytes) ≡ Ok t → as_script (script_by choice.rules script_bytes) ≡ Ok asks
       → posed_script choice tree_bytes script_bytes ≡ Ok (record { table = table; world = new_world t; asks = asks })
   unfolding posed_script
   posed_is table t asks b l s = λ i. b i >>= λ table. l i >>= λ t. s i >>= λ asks. Ok (posed_by table t asks)
@@ -54,7 +54,7 @@ module _ (choice : Chosen) (tree_bytes script_bytes : List ℕ) where
 
   -- a script's fault comes where both have none
   pub script_refuses : (table : CallTable) (t : Tree) (fault : ToolFault)
-      → table_by choice ≡ Ok table → as_listing (listing tree_bytes) ≡ Ok t → as_script (script script_bytes) ≡ Err fault
+      → table_by choice ≡ Ok table → as_listing (listing tree_bytes) ≡ Ok t → as_script (script_by choice.rules script_bytes) ≡ Err fault
       → posed_script choice tree_bytes script_bytes ≡ Err fault
   unfolding posed_script
   script_refuses table t fault b l s = λ i. b i >>= λ table. l i >>= λ t. asked table t (s i)

@@ -1,6 +1,6 @@
 -- What a list for ever that was written says of the future.
 use Rattle.pua_tool.proofs.Common.{◌≡◌, ◌≢◌, ◌∙◌, ◌∷◌, [], ℕ, List, ◌++◌, ap, refl, sym, subst, Ok, Option, Some, None, CallTable, Tree, Asked, World}
-use Rattle.pua_tool.proofs.Common.{History, history_of, new_world, answers_to, world_after, answer_lines, listing, script, Chosen, Replayed}
+use Rattle.pua_tool.proofs.Common.{History, history_of, new_world, answers_to, world_after, answer_lines, listing, script_by, Chosen, Replayed}
 use Rattle.pua_tool.proofs.Common.{Result, table_by, as_listing, as_script, replay_of, unless_reason, ToolFault}
 use Rattle.std.proofs.Common.{◌⊎◌, inl, inr, true}
 use Rattle.std.specs.Prelude.{IsTrue, ok_or}
@@ -38,7 +38,7 @@ unfolding ever_text
 ever_is choice tree_bytes script_bytes process done r = λ i. r i >>= λ done. ever_after choice.rules done process
 
 module _ (choice : Chosen) (tree_bytes script_bytes : List ℕ) (table : CallTable) (t : Tree) (first : List Asked) (process : ℕ)
-    (text : List ℕ) (given : table_by choice ≡ Ok table) (read : listing tree_bytes ≡ Ok t) (scripted : script script_bytes ≡ Ok first)
+    (text : List ℕ) (given : table_by choice ≡ Ok table) (read : listing tree_bytes ≡ Ok t) (scripted : script_by choice.rules script_bytes ≡ Ok first)
     (told : ever_text choice tree_bytes script_bytes process ≡ Ok text) where
   abbrev w : World
   w = world_after table (new_world t) first
@@ -75,10 +75,10 @@ module _ (choice : Chosen) (tree_bytes script_bytes : List ℕ) (table : CallTab
       by asks bytes edit member belongs None is (inr alone) =
           subst (λ lines. HasHistoryOf (world_after table w asks) member (ForeseesIn lines w.tree table h (world_after table w asks).tree))
           (sym (lasting_unbounded w.tree table h is))
-          (ever_after_read table (tables_need_no_error choice table given) (unrefused_table table h none) tree_bytes script_bytes t first
+          (ever_after_read table (tables_need_no_error choice table given) (unrefused_table table h none) choice.rules tree_bytes script_bytes t first
           asks read scripted bytes process h here confined alone edit member belongs)
       by asks bytes edit member belongs (Some handed) is held =
-          ever_lasts_after_read table (tables_need_no_error choice table given) (unrefused_table table h none) tree_bytes script_bytes t
+          ever_lasts_after_read table (tables_need_no_error choice table given) (unrefused_table table h none) choice.rules tree_bytes script_bytes t
           first asks read scripted bytes process h handed here is edit member belongs
   foreseen_behind h here none (inr ended) = inr ended
 

@@ -1,14 +1,15 @@
 -- What the tightened script is that a command writes.
-use Rattle.std.specs.Prelude.{◌≡◌, ◌≢◌, ℕ, List, map, Some, None, Ok, is_some, IsTrue}
+use Rattle.std.specs.Prelude.{◌≡◌, ◌≢◌, ◌⊎◌, ℕ, List, map, Some, None, Ok, is_some, IsTrue}
 use Rattle.std.specs.List.{Contains}
 use Rattle.pua_tree.specs.Tree.{Tree, WellFormed}
 use Rattle.pua_tree.specs.Listing.{listing}
 use Rattle.pua_calls.specs.Calls.{CallTable}
 use Rattle.pua_calls.specs.declared.call.Call.{Call}
+use Rattle.pua_calls.specs.declared.rules.Rules.TheVariants.{Profile}
 use Rattle.pua_policy.specs.History.{History, is_ended}
 use Rattle.pua_policy.specs.Verdict.{verdict_on, is_allowed}
 use Rattle.pua_script.specs.Requests.{Asked}
-use Rattle.pua_script.specs.Scripts.{script}
+use Rattle.pua_script.specs.Scripts.{script_by}
 use Rattle.pua_script.specs.Replay.{World, new_world, history_of, answers_to, world_after}
 use Rattle.pua_script.specs.declared.answer.Answer.TheVariants.{Okay}
 use Rattle.pua_objects.specs.Objects.{Line, objects}
@@ -17,7 +18,7 @@ use Rattle.pua_ever.specs.Through.{bound_of, ever_lasting}
 use Rattle.pua_tight.specs.declared.piece.Piece.{Piece}
 use Rattle.pua_tight.specs.Tight.{lines_of}
 use Rattle.pua_tight.specs.Narrower.{AsksWithin}
-use Rattle.pua_tight.specs.Laws.{IsListed, IsListedForEver, LeavesOut, MayLeaveOut, leave_out}
+use Rattle.pua_tight.specs.Laws.{IsListed, IsListedForEver, LeavesOut, MayLeaveOut, leave_out, RestOnOne, HasNoChown}
 use Rattle.pua_tool.specs.Texts.{Chosen, run_text, table_by}
 use Rattle.pua_tool.specs.TightTexts.{tight_text}
 
@@ -44,7 +45,7 @@ pub record IsTightWritten (choice : Chosen) (tree_bytes script_bytes : List ℕ)
     (text : List ℕ) : Type 0 where
   -- it is a script, of the given requests but for words that were left out
   pub left : List Asked
-  pub read : script text ≡ Ok left
+  pub read : script_by choice.rules text ≡ Ok left
   pub within : AsksWithin left given
   -- its run has the same text
   pub same : run_text choice tree_bytes text ≡ run_text choice tree_bytes script_bytes
@@ -61,11 +62,13 @@ pub record IsTightWritten (choice : Chosen) (tree_bytes script_bytes : List ℕ)
   pub minimal : (index : ℕ) (piece : Piece) → MayLeaveOut (lines_of table (new_world t) given) index piece →
       leave_out index piece left ≢ left →
       answers_to table (new_world t) (leave_out index piece left) ≢ answers_to table (new_world t) given
-  -- by the rules alone, whatever else is left out so that all is answered as before has all that it has
-  pub least : choice.rows ≡ None → (less : List Asked) → LeavesOut less (lines_of table (new_world t) given) →
+  -- where each request rests on one set of promises, whatever else is left out so that all is answered as before has all that it has
+  pub least : RestOnOne table given → (less : List Asked) → LeavesOut less (lines_of table (new_world t) given) →
       answers_to table (new_world t) less ≡ answers_to table (new_world t) given → AsksWithin left less
+  -- which they do by the rules alone: by the profile's of every script, by OpenBSD's of every script without chown
+  pub one_set : choice.rows ≡ None → (choice.rules ≡ Profile) ⊎ HasNoChown given → RestOnOne table given
 
 abbrev pub TightAsWritten : Type 0
 TightAsWritten = (choice : Chosen) (tree_bytes script_bytes : List ℕ) (table : CallTable) (t : Tree) (given : List Asked) (text : List ℕ) →
-    table_by choice ≡ Ok table → listing tree_bytes ≡ Ok t → script script_bytes ≡ Ok given →
+    table_by choice ≡ Ok table → listing tree_bytes ≡ Ok t → script_by choice.rules script_bytes ≡ Ok given →
     tight_text choice tree_bytes script_bytes ≡ Ok text → IsTightWritten choice tree_bytes script_bytes table t given text

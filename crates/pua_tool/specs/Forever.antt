@@ -6,7 +6,7 @@ use Rattle.pua_calls.specs.Calls.{CallTable}
 use Rattle.pua_calls.specs.declared.rules.Rules.{Rules}
 use Rattle.pua_policy.specs.History.{History, is_ended}
 use Rattle.pua_script.specs.Requests.{Asked}
-use Rattle.pua_script.specs.Scripts.{script}
+use Rattle.pua_script.specs.Scripts.{script_by}
 use Rattle.pua_script.specs.Replay.{World, new_world, history_of, answers_to, world_after}
 use Rattle.pua_script.specs.Bytes.{are_in_bytes}
 use Rattle.pua_script.specs.Family.{family, is_member, is_exec, none_done, HasHistoryOf}
@@ -37,5 +37,5 @@ pub record IsEverWritten (rules : Rules) (table : CallTable) (t : Tree) (first :
 abbrev pub EverAsWritten : Type 0
 EverAsWritten = (choice : Chosen) (tree_bytes script_bytes : List ℕ) (table : CallTable) (t : Tree) (first : List Asked)
     (process : ℕ) (text : List ℕ) →
-    table_by choice ≡ Ok table → listing tree_bytes ≡ Ok t → script script_bytes ≡ Ok first →
+    table_by choice ≡ Ok table → listing tree_bytes ≡ Ok t → script_by choice.rules script_bytes ≡ Ok first →
     ever_text choice tree_bytes script_bytes process ≡ Ok text → IsEverWritten choice.rules table t first process text

@@ -1,17 +1,16 @@
 -- What a process that can put no veil any more may come to reach and to change, whatever is asked afterwards.
-use Rattle.std.specs.Prelude.{◌≡◌, ℕ, Bool, List, [], ◌∷◌, ◌++◌, Some, Ok, IsTrue, IsFalse}
+use Rattle.std.specs.Prelude.{◌≡◌, ℕ, Bool, List, [], ◌∷◌, ◌++◌, Some, Ok, IsTrue}
 use Rattle.pua_tree.specs.Tree.{Tree}
 use Rattle.pua_tree.specs.Listing.{listing}
-use Rattle.pua_calls.specs.Promises.{holds, cpath}
 use Rattle.pua_calls.specs.Calls.{CallTable}
-use Rattle.pua_policy.specs.History.{History, held_set}
+use Rattle.pua_policy.specs.History.{History}
 use Rattle.pua_script.specs.Requests.{Asked}
-use Rattle.pua_script.specs.Scripts.{script}
+use Rattle.pua_script.specs.Scripts.{script_by}
 use Rattle.pua_script.specs.Replay.{World, new_world, history_of, world_after}
 use Rattle.pua_script.specs.Laws.{IsConfined}
 use Rattle.pua_script.specs.Family.{is_exec, is_chdir, none_done, members_alone, family, is_member, HasHistoryOf}
 use Rattle.pua_script.specs.Tightening.{NoCallNeedsError, Tightens}
-use Rattle.pua_script.specs.Confinement.{TakingNeedsC, ChangingNeedsCpath, UncoveredStay}
+use Rattle.pua_script.specs.Confinement.{TakingNeedsC, ChangingNeeds, HoldsNone, UncoveredStay}
 use Rattle.pua_script.specs.Bytes.{IsByteTree, are_in_bytes}
 use Rattle.pua_audit.specs.Reach.{Pair, alphabet_of, reach}
 use Rattle.pua_audit.specs.SubLists.{SubList}
@@ -53,12 +52,12 @@ NarrowingNow = (table : CallTable) → NoCallNeedsError table → (w : World) (p
     SubList (reach_over (world_after table w asks).tree table last base (alphabet_of (world_after table w asks).tree candidates) limit)
     (reach_over w.tree table now base (alphabet_of w.tree candidates) limit))
 
--- the second part: each row that isn't covered with `c` stays, and without cpath the tree does. A text is a list of numbers here,
+-- the second part: each row that isn't covered with `c` stays, and without the promises by which it is changed the tree does. A text is a list of numbers here,
 -- and the first is so of texts that are bytes; those of a listing and a script are
 pub record ConfinesInBytes (table : CallTable) (w : World) (now : History) (asks : List Asked) : Type 0 where
   pub spares : TakingNeedsC table → IsByteTree w.tree → IsTrue (are_in_bytes asks) →
       UncoveredStay now w.tree (world_after table w asks).tree
-  pub unchanged : ChangingNeedsCpath table → IsFalse (holds (held_set now) cpath) → (world_after table w asks).tree ≡ w.tree
+  pub unchanged : (promises : List ℕ) → ChangingNeeds promises table → HoldsNone promises now → (world_after table w asks).tree ≡ w.tree
 
 -- where members alone ask, and no exec of theirs is answered ok
 abbrev pub Confinement : Type 0
@@ -70,7 +69,7 @@ Confinement = (table : CallTable) (w : World) (process : ℕ) (now : History) (a
 -- after them are the further requests
 abbrev pub AsRead : (CallTable → World → List Asked → Type 0) → Type 0
 AsRead Holds = (choice : Chosen) (tree_bytes script_bytes : List ℕ) (table : CallTable) (t : Tree) (first asks : List Asked) →
-    table_by choice ≡ Ok table → listing tree_bytes ≡ Ok t → script script_bytes ≡ Ok (first ++ asks) →
+    table_by choice ≡ Ok table → listing tree_bytes ≡ Ok t → script_by choice.rules script_bytes ≡ Ok (first ++ asks) →
     Holds table (world_after table (new_world t) first) asks
 
 -- each member of the family of a confined process reaches no more, over the tree that the further requests leave
@@ -84,14 +83,14 @@ IsNarrowed table w asks = (process : ℕ) (now : History) →
 abbrev pub NarrowingAsRead : Type 0
 NarrowingAsRead = AsRead IsNarrowed
 
--- where its family alone asks, what the process can't touch with `c` stays, and without cpath all does, each by the
--- tables of which it is so
+-- where its family alone asks, what the process can't touch with `c` stays, and without the promises by which the tree is changed
+-- all does, each by the tables of which it is so
 abbrev pub IsConfiningFamily : CallTable → World → List Asked → Type 0
 IsConfiningFamily table w asks = (process : ℕ) (now : History) →
     history_of w process ≡ Some now → IsConfined now → IsTrue (none_done is_exec table w asks (process ∷ [])) →
     IsTrue (members_alone table w asks (process ∷ [])) →
     (TakingNeedsC table → UncoveredStay now w.tree (world_after table w asks).tree)
-    × (ChangingNeedsCpath table → IsFalse (holds (held_set now) cpath) → (world_after table w asks).tree ≡ w.tree)
+    × ((promises : List ℕ) → ChangingNeeds promises table → HoldsNone promises now → (world_after table w asks).tree ≡ w.tree)
 
 abbrev pub ConfinementAsRead : Type 0
 ConfinementAsRead = AsRead IsConfiningFamily

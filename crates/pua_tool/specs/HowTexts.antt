@@ -4,12 +4,13 @@ use Rattle.std.specs.Prelude.{◌≡◌, ⊤, ℕ, Bool, true, false, List, [], 
 use Rattle.std.specs.List.{Contains, list_any}
 use Rattle.pua_tree.specs.Steps.{◌>>=◌}
 use Rattle.pua_tree.specs.Tree.{Tree}
-use Rattle.pua_calls.specs.Calls.{call_named}
+use Rattle.pua_calls.specs.Calls.{call_in}
 use Rattle.pua_calls.specs.declared.call.Call.{Call}
+use Rattle.pua_calls.specs.declared.rules.Rules.{Rules}
 use Rattle.pua_policy.specs.History.{History}
 use Rattle.pua_script.specs.Requests.{Asked}
 use Rattle.pua_script.specs.Replay.{history_of}
-use Rattle.pua_script.specs.Scripts.{request_of}
+use Rattle.pua_script.specs.Scripts.{request_by}
 use Rattle.pua_objects.specs.declared.kind.ObjectKind.{ObjectKind}
 use Rattle.pua_ever.specs.Refusals.{refusal}
 use Rattle.pua_ever.specs.Through.{ever_lasting, execs_of}
@@ -59,13 +60,13 @@ abbrev pub things_asked : Tree → History → HowWanted → ℕ → Result (Lis
 things_asked t h wanted last =
     ok_or (asking_of wanted.path) HowPath >>= λ asking. some_thing (targets_of t h last asking wanted.kind)
 
--- the question behind a script, or the first fault: a process never made, a reason against its list for ever, a call that is none
--- of the fourteen, or that of the path
+-- the question behind a script, or the first fault: a process never made, a reason against its list for ever, a call that the
+-- table doesn't have, or that of the path
 abbrev pub question_of : Replayed → HowWanted → ℕ → Result Question ToolFault
 question_of done wanted last = do
   h ← ok_or (history_of done.world wanted.process) NoProcess
   unrefused ← unless_refused wanted.process (refusal done.table h)
-  call ← ok_or (call_named wanted.call) HowCall
+  call ← ok_or (call_in done.table wanted.call) HowCall
   things ← things_asked done.world.tree h wanted last
   Ok (record { history = h; call = call; things = things })
 
@@ -84,31 +85,33 @@ abbrev pub way_text : Replayed → Question → Option (List (List ℕ)) → Lis
 way_text done q (Some lines) = flat_map with_end lines
 way_text done q None = with_end (told_without (may_come done q) (execs_of done.world.tree done.table q.history))
 
--- lines of a script that are a way to the call on something that is meant, and this is the last number of the nodes that live
-pub record IsWayTo (done : Replayed) (process last : ℕ) (q : Question) (lines : List (List ℕ)) : Type 0 where
+-- lines of a script that is read by rules, which are a way to the call on something that is meant, and this is the last number of
+-- the nodes that live
+pub record IsWayTo (rules : Rules) (done : Replayed) (process last : ℕ) (q : Question) (lines : List (List ℕ)) : Type 0 where
   pub above : IsLast done.world.tree last
   pub thing : Target
   pub meant : Contains q.things thing
   pub asks : List Asked
-  pub read : map (request_of 1) lines ≡ map Ok asks
+  pub read : map (request_by rules 1) lines ≡ map Ok asks
   pub way : IsWay done.table done.world process q.call thing asks
 
 -- so is what was found, if something was
-abbrev pub IsFoundFor : Replayed → ℕ → ℕ → Question → Option (List (List ℕ)) → Type 0
-IsFoundFor done process last q None = ⊤
-IsFoundFor done process last q (Some lines) = IsWayTo done process last q lines
+abbrev pub IsFoundFor : Rules → Replayed → ℕ → ℕ → Question → Option (List (List ℕ)) → Type 0
+IsFoundFor rules done process last q None = ⊤
+IsFoundFor rules done process last q (Some lines) = IsWayTo rules done process last q lines
 
 -- a text of a way behind a script: the lines of some way to what is asked about, or what is said without one; or the first fault
-pub record IsHowAsked (done : Replayed) (wanted : HowWanted) (answer : Result (List ℕ) ToolFault) : Type 0 where
+pub record IsHowAsked (rules : Rules) (done : Replayed) (wanted : HowWanted) (answer : Result (List ℕ) ToolFault) : Type 0 where
   pub last : ℕ
   pub found : Option (List (List ℕ))
-  pub sound : (q : Question) → question_of done wanted last ≡ Ok q → IsFoundFor done wanted.process last q found
+  pub sound : (q : Question) → question_of done wanted last ≡ Ok q → IsFoundFor rules done wanted.process last q found
   pub is : answer ≡ (question_of done wanted last >>= λ q. Ok (way_text done q found))
 
 -- the same of a script over a listing, by the table that is chosen, or the first fault: the table's, the listing's, or the script's
-abbrev pub IsHowAfter : Result Replayed ToolFault → HowWanted → Result (List ℕ) ToolFault → Type 0
-IsHowAfter (Ok done) wanted answer = IsHowAsked done wanted answer
-IsHowAfter (Err fault) wanted answer = answer ≡ Err fault
+abbrev pub IsHowAfter : Rules → Result Replayed ToolFault → HowWanted → Result (List ℕ) ToolFault → Type 0
+IsHowAfter rules (Ok done) wanted answer = IsHowAsked rules done wanted answer
+IsHowAfter rules (Err fault) wanted answer = answer ≡ Err fault
 
-abbrev pub IsHowText : Chosen → List ℕ → List ℕ → HowWanted → Result (List ℕ) ToolFault → Type 0
-IsHowText choice tree_bytes script_bytes wanted answer = IsHowAfter (replay_of choice tree_bytes script_bytes) wanted answer
+unfoldable pub IsHowText : Chosen → List ℕ → List ℕ → HowWanted → Result (List ℕ) ToolFault → Type 0
+IsHowText choice tree_bytes script_bytes wanted answer =
+    IsHowAfter choice.rules (replay_of choice tree_bytes script_bytes) wanted answer

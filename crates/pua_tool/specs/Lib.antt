@@ -5,6 +5,7 @@ pub mod EverTexts
 pub mod TogetherTexts
 pub mod WhyTexts
 pub mod HowTexts
+pub mod EverHowTexts
 pub mod TightTexts
 pub mod Answers
 pub mod Statuses
@@ -17,7 +18,9 @@ pub mod Forever
 pub mod Fewest
 -- Worked rows, which hold by computation.
 pub mod Examples
+pub mod EverHowExamples
 -- Notes: what the code has begun.
 pub mod Begun
 pub mod PosedScripts
 pub mod Questions
+pub mod RowColumns

@@ -6,7 +6,7 @@ use Rattle.pua_words.specs.Commands.{AsksSoundly}
 use Rattle.pua_words.specs.Usages.{AsksAbout}
 use Rattle.pua_words.specs.declared.command.Command.{Command}
 use Rattle.pua_words.specs.declared.command.Text.{Text}
-use Rattle.pua_words.specs.declared.command.Text.TheVariants.{Run, RunWhy, Why, Audit, Objects, ObjectsWhy, Ever, Together}
+use Rattle.pua_words.specs.declared.command.Text.TheVariants.{Run, RunWhy, Why, Audit, Objects, ObjectsWhy, Ever, EverHow, Together}
 use Rattle.pua_words.specs.declared.command.Text.TheVariants.{How, Tight, TightWhy}
 use Rattle.pua_tool.specs.declared.fault.ToolFault.{ToolFault}
 use Rattle.pua_tool.specs.declared.fault.ToolFault.TheVariants.{Write, OutOfMemory}
@@ -21,11 +21,12 @@ use Rattle.pua_tool.specs.ObjectTexts.{objects_text}
 use Rattle.pua_tool.specs.EverTexts.{ever_text}
 use Rattle.pua_tool.specs.TogetherTexts.{together_text}
 use Rattle.pua_tool.specs.HowTexts.{IsHowText, way_wanted}
+use Rattle.pua_tool.specs.EverHowTexts.{IsEverHowText}
 use Rattle.pua_tool.specs.WhyTexts.{objects_why_text, run_why_text, why_text}
 use Rattle.pua_tool.specs.TightTexts.{tight_text, tight_why_text}
 
--- this is the text that is asked for, of a table, a listing and a script, or what refuses it; of a way it is one of several, as which
--- one is found is in no contract
+-- this is the text that is asked for, of a table, a listing and a script, or what refuses it; of a way, and of
+-- the list with the steps of ways, it is one of several, as which way is found is in no contract
 abbrev pub IsTextAsked : Text → Chosen → List ℕ → List ℕ → Result (List ℕ) ToolFault → Type 0
 IsTextAsked Run choice tree script answer = run_text choice tree script ≡ answer
 IsTextAsked RunWhy choice tree script answer = run_why_text choice tree script ≡ answer
@@ -35,6 +36,7 @@ IsTextAsked (Audit words) choice tree script answer = audit_text choice tree scr
 IsTextAsked (Objects words) choice tree script answer = objects_text choice tree script words.processes ≡ answer
 IsTextAsked (ObjectsWhy words) choice tree script answer = objects_why_text choice tree script words.processes ≡ answer
 IsTextAsked (Ever words) choice tree script answer = ever_text choice tree script words.process ≡ answer
+IsTextAsked (EverHow words) choice tree script answer = IsEverHowText choice tree script words.process answer
 IsTextAsked (Together words) choice tree script answer = together_text choice tree script words.members ≡ answer
 IsTextAsked (How words) choice tree script answer = IsHowText choice tree script (way_wanted words) answer
 IsTextAsked Tight choice tree script answer = tight_text choice tree script ≡ answer

@@ -2,6 +2,7 @@
 use Rattle.std.specs.Prelude.{◌≡◌, ℕ, List, map, flat_map, Option, Some, None, Ok, string_bytes}
 use Rattle.std.specs.List.{AllByRecursion, Contains}
 use Rattle.pua_tree.specs.Tree.{Tree}
+use Rattle.pua_calls.specs.declared.rules.Rules.{Rules}
 use Rattle.pua_policy.specs.History.{History}
 use Rattle.pua_how.specs.Outlooks.{IsOutlook}
 use Rattle.pua_how.specs.declared.outlook.Outlook.{Outlook}
@@ -23,11 +24,11 @@ pub record IsQuestion (done : Replayed) (wanted : HowWanted) (q : given.Question
   pub asked : question_of done wanted last ≡ Ok (record { history = history; call = q.call; things = q.meant.targets.items })
   pub outlook : IsOutlook done.world.tree done.table history q.meant.targets.items q.call q.outlook
 
--- lines of a process that are a way to one of some things
-pub record AreWayTo (done : Replayed) (process : ℕ) (q : given.Question) (lines : List WayLine) : Type 0 where
+-- lines of a process, which rules read, that are a way to one of some things
+pub record AreWayTo (rules : Rules) (done : Replayed) (process : ℕ) (q : given.Question) (lines : List WayLine) : Type 0 where
   pub thing : Target
   pub meant : Contains q.meant.targets.items thing
-  pub are : AllByRecursion (IsLine process) lines
+  pub are : AllByRecursion (IsLine rules process) lines
   pub way : IsWay done.table done.world process q.call thing (asks_of lines)
 
 -- all that may be meant in a tree

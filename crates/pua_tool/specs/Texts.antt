@@ -12,7 +12,7 @@ use Rattle.pua_calls.specs.declared.rules.Rules.TheVariants.{Profile}
 use Rattle.pua_calls.specs.declared.table.read.TableFault.{TableFault}
 use Rattle.pua_policy.specs.History.{History}
 use Rattle.pua_script.specs.Requests.{Asked}
-use Rattle.pua_script.specs.Scripts.{script}
+use Rattle.pua_script.specs.Scripts.{script_by}
 use Rattle.pua_script.specs.Replay.{World, new_world, history_of, answers_to, world_after}
 use Rattle.pua_script.specs.declared.answer.Answer.{Answer}
 use Rattle.pua_script.specs.declared.fault.ScriptFault.{ScriptFault}
@@ -113,7 +113,7 @@ unfoldable pub replay_of : Chosen → List ℕ → List ℕ → Result Replayed 
 replay_of choice tree_bytes script_bytes = do
   table ← table_by choice
   t ← as_listing (listing tree_bytes)
-  asks ← as_script (script script_bytes)
+  asks ← as_script (script_by choice.rules script_bytes)
   Ok (record { table = table; answers = answers_to table (new_world t) asks; world = world_after table (new_world t) asks })
 
 -- a line for each answer of a script over a listing

@@ -25,7 +25,7 @@ as_tight (Err fault) = Err (tight_fault fault)
 
 -- a script over a listing, tightened, or the first fault: the table's, the listing's, or the script's
 unfoldable pub tight_text : Chosen → List ℕ → List ℕ → Result (List ℕ) ToolFault
-tight_text choice tree_bytes script_bytes = table_by choice >>= λ table. as_tight (text_over table tree_bytes script_bytes)
+tight_text choice tree_bytes script_bytes = table_by choice >>= λ table. as_tight (text_over choice.rules table tree_bytes script_bytes)
 
 -- which argument has a word, and the word
 abbrev pub word_text : Piece → List ℕ
@@ -46,7 +46,7 @@ use_lines words = flat_map (λ used. with_end (use_text used)) words
 
 -- the words that may be left out of a script over a listing, or the first fault, which is the same
 unfoldable pub words_by : Chosen → List ℕ → List ℕ → Result (List WordUse) ToolFault
-words_by choice tree_bytes script_bytes = table_by choice >>= λ table. as_tight (uses_over table tree_bytes script_bytes)
+words_by choice tree_bytes script_bytes = table_by choice >>= λ table. as_tight (uses_over choice.rules table tree_bytes script_bytes)
 
 -- what each of them is needed by
 abbrev pub tight_why_text : Chosen → List ℕ → List ℕ → Result (List ℕ) ToolFault

@@ -131,7 +131,7 @@ fn asked_of(alloc: Global, replay: &Replay, words: &HowWords<'_>) -> Result<Ques
     if let Some(reason) = why_refused(process, table) {
         return Err(reason_of(words.process, reason));
     }
-    let Some(call) = Call::read(words.call) else {
+    let Some(call) = table.call_named(words.call) else {
         return Err(ToolFault::HowCall);
     };
     let meant = meant_by(alloc, tree, process, words)?;
@@ -212,7 +212,7 @@ fn find(
 ) -> Result<Option<Vec<WayLine>>, ToolFault>
     ensures way { IfOk result (λ found. IfSome found (λ lines. (done : Replayed) →
         replay_of (choice_of table.entry) tree_bytes.now script_bytes.now ≡ Ok done →
-        AreWayTo done process question.now lines.items)) }
+        AreWayTo table.entry.rules done process question.now lines.items)) }
     ensures memory { IfErr result (λ fault. fault ≡ ToolFault.OutOfMemory) }
     ensures unwritten { IfErr result (λ fault. fault ≢ ToolFault.Write) }
 {
@@ -258,18 +258,20 @@ fn serve(
 ) -> Result<Option<Vec<WayLine>>, ToolFault>
     ensures way { IfOk result (λ found. IfSome found (λ lines. (done : Replayed) →
         replay_of (choice_of table.entry) tree_bytes.now script_bytes.now ≡ Ok done →
-        AreWayTo done process question.now lines.items)) }
+        AreWayTo table.entry.rules done process question.now lines.items)) }
     ensures memory { IfErr result (λ fault. fault ≡ ToolFault.OutOfMemory) }
     ensures unwritten { IfErr result (λ fault. fault ≢ ToolFault.Write) }
 {
     let Some(plan) = plan else {
         return Ok(None);
     };
+    let rules = table.rules;
     let Ok(mut replay) = replay_script(alloc, tree_bytes, script_bytes, table) else {
         return Err(ToolFault::OutOfMemory);
     };
     let served = plan.serve(
         alloc,
+        rules,
         &mut replay.world,
         process,
         question.call,

@@ -3,6 +3,7 @@
 
 ghost use Rattle.std.specs.Prelude.{◌≡◌};
 ghost use Rattle.pua_tool.specs.Alike.{AnswersAlike, LinesAlike};
+ghost use Rattle.pua_tool.specs.EverHowExamples.{EverHowRows};
 ghost use Rattle.pua_tool.specs.Examples.{HowTextRows, ReasonTextRows, TextRows, TightTextRows};
 ghost use Rattle.pua_tool.specs.Fewest.{TightAsWritten};
 ghost use Rattle.pua_tool.specs.Forever.{EverAsWritten};
@@ -56,8 +57,9 @@ pub fn ever_text_law()
 {}
 
 /// Where there is a text of a tightened script, it is a script again, the given one but for words that were left out: its run has
-/// the same text, each process may do no more, and without any one word more some line is answered otherwise. By the rules
-/// alone, without a table's rows, whatever else is left out so that all is answered as before has all that it has.
+/// the same text, each process may do no more, and without any one word more some line is answered otherwise. Where each request
+/// rests on one set of promises, whatever else is left out so that all is answered as before has all that it has: by the rules
+/// alone, without a table's rows, by the profile's of every script, by OpenBSD's of every script without chown.
 #[tactic(auto, using(crate::proofs::Fewest::tight_as_written))]
 pub fn tight_text_law()
     ensures { TightAsWritten }
@@ -74,3 +76,9 @@ pub fn trees_alike<S: FileTree, T: FileTree>(first: &S, second: &T)
     first.known();
     second.known();
 }
+
+/// Examples of columns.
+#[tactic(auto, using(crate::specs::EverHowExamples::ever_how_rows))]
+pub fn column_examples()
+    ensures { EverHowRows }
+{}

@@ -5,12 +5,15 @@
 mod acting;
 mod audit;
 mod cli;
+mod columns;
 mod ever;
 mod ever_fault;
+mod ever_how;
 mod fault;
 mod how;
 mod job;
 mod laws;
+mod now;
 mod objects;
 mod objects_why;
 mod outcome;
@@ -29,10 +32,13 @@ mod why;
 pub use audit::{audit_by, audit_to};
 pub use cli::{command, program};
 pub use ever::ever_to;
+pub use ever_how::ever_how_to;
 pub use fault::ToolFault;
 pub use how::how_to;
 pub use job::Job;
-pub use laws::{confined, ever_text_law, narrowing, text_examples, tight_text_law, trees_alike};
+pub use laws::{
+    column_examples, confined, ever_text_law, narrowing, text_examples, tight_text_law, trees_alike,
+};
 pub use objects::objects_to;
 pub use objects_why::objects_why_to;
 pub use pua_io::{

@@ -1,7 +1,7 @@
 //! The text of the lists of processes with reasons.
 
 ghost use Rattle.std.specs.Prelude.{◌≡◌, ◌++◌, Ok};
-ghost use Rattle.pua_script.specs.Scripts.{script};
+ghost use Rattle.pua_script.specs.Scripts.{script_by};
 ghost use Rattle.pua_tool.specs.Texts.{choice_of};
 ghost use Rattle.pua_tool.specs.PosedScripts.{IsPosed};
 ghost use Rattle.pua_texts.specs.Tells.{TellsTo};
@@ -65,7 +65,7 @@ fn write_asked<S: Sink>(
     processes: Processes,
     sink: &mut S,
 ) -> Result<(), ToolFault>
-    ensures { (p : Asking) → script script_bytes.now ≡ Ok p.asks → IsPosed posed.old p →
+    ensures { (p : Asking) → script_by rules script_bytes.now ≡ Ok p.asks → IsPosed posed.old p →
         AnswersTo S.written S.failed (why_lists_asked rules p processes) result sink.old sink.new }
 {
     let numbers = numbers_of(alloc, &posed.after, processes)?;
@@ -84,8 +84,8 @@ fn write_all<S: Sink>(
     numbers: &[u32],
     sink: &mut S,
 ) -> Result<(), TextFault>
-    ensures { (p : Asking) → script script_bytes.now ≡ Ok p.asks → IsPosed posed.old p →
-        TellsTo S.written S.failed (reason_lines p ++ why_lists_of rules p numbers.now)
+    ensures { (p : Asking) → script_by rules script_bytes.now ≡ Ok p.asks → IsPosed posed.old p →
+        TellsTo S.written S.failed (reason_lines rules p ++ why_lists_of rules p numbers.now)
         result sink.old sink.new }
 {
     let (requests, answers) = (posed.script.requests(), posed.answers.as_slice());
@@ -93,6 +93,7 @@ fn write_all<S: Sink>(
     let veils = veils.as_slice();
     let (front, lines) = dated_text(
         alloc,
+        rules,
         &mut posed.before,
         script_bytes,
         requests,

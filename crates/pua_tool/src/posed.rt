@@ -3,7 +3,7 @@
 ghost use Rattle.std.specs.Prelude.{◌≡◌, ◌≢◌, Ok, Err, IfOk, IfErr};
 ghost use Rattle.pua_tree.specs.Listing.{listing};
 ghost use Rattle.pua_tree.specs.Tree.{Tree};
-ghost use Rattle.pua_script.specs.Scripts.{script};
+ghost use Rattle.pua_script.specs.Scripts.{script_by};
 ghost use Rattle.pua_script.specs.Worlds.{StandsForWorld};
 ghost use Rattle.pua_tool.specs.Texts.{as_listing, as_script, choice_of};
 ghost use Rattle.pua_tool.specs.PosedScripts.{IsNewOver, IsPosed};
@@ -13,7 +13,7 @@ ghost use Rattle.pua_tool.specs.WhyTexts.{posed_script};
 use crate::fault::ToolFault;
 use crate::script::{ProgramTree, read_requests, read_table, read_tree, release};
 use crate::table::TableChoice;
-use pua_calls::CallTable;
+use pua_calls::{CallTable, Rules};
 use pua_script::{Answer, Script, World};
 use std::alloc::Global;
 
@@ -46,14 +46,15 @@ pub(crate) fn pose(
 ) -> Result<Posed, ToolFault>
     ensures done { IfOk result (λ done. (p : Asking)
         × (posed_script (choice_of choice.entry) tree_bytes.now script_bytes.now ≡ Ok p)
-        × (script script_bytes.now ≡ Ok p.asks) × IsPosed done p) }
+        × (script_by choice.entry.rules script_bytes.now ≡ Ok p.asks) × IsPosed done p) }
     ensures refused { IfErr result (λ fault. fault ≢ ToolFault.OutOfMemory →
         (posed_script (choice_of choice.entry) tree_bytes.now script_bytes.now ≡ Err fault)) }
     ensures unwritten { IfErr result (λ fault. fault ≢ ToolFault.Write) }
 {
+    let rules = choice.rules;
     let table = read_table(alloc, choice)?;
     let before = world_of(alloc, tree_bytes, table)?;
-    match read_both(alloc, tree_bytes, script_bytes, table) {
+    match read_both(alloc, tree_bytes, rules, script_bytes, table) {
         Ok((requests, after)) => serve(alloc, requests, before, after),
         Err(fault) => {
             release(before);
@@ -62,21 +63,23 @@ pub(crate) fn pose(
     }
 }
 
-/// The requests of a script, and a world before it, over the tree of a listing that is known to be one.
+/// The requests of a script that is read by these rules, and a world before it, over the tree of a
+/// listing that is known to be one.
 fn read_both(
     alloc: Global,
     tree_bytes: &[u8],
+    rules: Rules,
     script_bytes: &[u8],
     table: CallTable,
 ) -> Result<(Script, World<ProgramTree>), ToolFault>
-    ensures script { IfOk result (λ read. as_script (script script_bytes.now) ≡ Ok read.0) }
+    ensures script { IfOk result (λ read. as_script (script_by rules script_bytes.now) ≡ Ok read.0) }
     ensures world { IfOk result (λ read. IsNewOver tree_bytes.now table read.1) }
     ensures refused { IfErr result (λ fault. fault ≢ ToolFault.OutOfMemory → (t : Tree) →
         as_listing (listing tree_bytes.now) ≡ Ok t →
-        as_script (script script_bytes.now) ≡ Err fault) }
+        as_script (script_by rules script_bytes.now) ≡ Err fault) }
     ensures unwritten { IfErr result (λ fault. fault ≢ ToolFault.Write) }
 {
-    let requests = read_requests(alloc, script_bytes)?;
+    let requests = read_requests(alloc, rules, script_bytes)?;
     let after = world_of(alloc, tree_bytes, table)?;
     Ok((requests, after))
 }

@@ -1,7 +1,7 @@
 //! The text of a run with reasons.
 
 ghost use Rattle.std.specs.Prelude.{◌≡◌, Ok, IfOk, string_bytes};
-ghost use Rattle.pua_script.specs.Scripts.{script};
+ghost use Rattle.pua_script.specs.Scripts.{script_by};
 ghost use Rattle.pua_tool.specs.Answers.{AnswersTo};
 ghost use Rattle.pua_tool.specs.Texts.{choice_of};
 ghost use Rattle.pua_tool.specs.PosedScripts.{IsPosed};
@@ -12,6 +12,7 @@ use crate::fault::ToolFault;
 use crate::objects::put_text;
 use crate::posed::{Posed, pose};
 use crate::table::TableChoice;
+use pua_calls::Rules;
 use pua_io::Sink;
 use pua_since::reason_text;
 use pua_tree::OutOfMemory;
@@ -21,7 +22,8 @@ use std::alloc::Global;
 /// answer is not `ok` behind it a blank and the reason, and then ` since line M`, if it was not so from
 /// the start: before line M of the script the same request would have had another reason, after it and
 /// after each later line before this one it would have had this one. A process asked by its parent
-/// before the fork that made it.
+/// before the fork that made it. By OpenBSD's rules `, a kernel opens it by PROMISE` stands at the end of
+/// the line, where a promise that the process holds opens the path by itself, and nothing else refuses it.
 ///
 /// The first that holds of `Table`, `Listing` and `Script` is answered before anything is written. So is
 /// `OutOfMemory`, wherever a growth was refused. `Write` is answered only where a put failed in this
@@ -38,7 +40,7 @@ pub fn run_why_to<S: Sink>(
         result sink.old sink.new }
 {
     let mut posed = pose(alloc, tree_bytes, script_bytes, table)?;
-    let text = text_of(alloc, script_bytes, &mut posed);
+    let text = text_of(alloc, table.rules, script_bytes, &mut posed);
     posed.release();
     let Ok(text) = text else {
         return Err(ToolFault::OutOfMemory);
@@ -46,11 +48,23 @@ pub fn run_why_to<S: Sink>(
     put_text(text.as_str(), sink)
 }
 
-/// The lines of a script that was read from these bytes, with reasons.
-fn text_of(alloc: Global, script_bytes: &[u8], posed: &mut Posed) -> Result<String, OutOfMemory>
-    ensures { IfOk result (λ text. (p : Asking) → script script_bytes.now ≡ Ok p.asks →
-        IsPosed posed.old p → string_bytes text ≡ reason_lines p) }
+/// The lines of a script that was read from these bytes by these rules, with reasons.
+fn text_of(
+    alloc: Global,
+    rules: Rules,
+    script_bytes: &[u8],
+    posed: &mut Posed,
+) -> Result<String, OutOfMemory>
+    ensures { IfOk result (λ text. (p : Asking) → script_by rules script_bytes.now ≡ Ok p.asks →
+        IsPosed posed.old p → string_bytes text ≡ reason_lines rules p) }
 {
     let (requests, answers) = (posed.script.requests(), posed.answers.as_slice());
-    reason_text(alloc, &mut posed.before, script_bytes, requests, answers)
+    reason_text(
+        alloc,
+        rules,
+        &mut posed.before,
+        script_bytes,
+        requests,
+        answers,
+    )
 }

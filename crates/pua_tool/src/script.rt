@@ -3,15 +3,15 @@
 ghost use Rattle.std.specs.Prelude.{◌≡◌, ◌≢◌, List, Ok, Err, IfOk, IfErr};
 ghost use Rattle.pua_tree.specs.Listing.{listing};
 ghost use Rattle.pua_script.specs.Requests.{Asked};
-ghost use Rattle.pua_script.specs.Scripts.{script};
+ghost use Rattle.pua_script.specs.Scripts.{script_by};
 ghost use Rattle.pua_tool.specs.Texts.{Replayed, as_listing, as_script, choice_of, replay_of};
 ghost use Rattle.pua_tool.specs.Texts.{table_by};
 ghost use Rattle.pua_tool.specs.Begun.{IsReplay, replay_by};
 
 use crate::fault::ToolFault;
 use crate::table::TableChoice;
-use pua_calls::{CallTable, TableFault};
-use pua_script::{Answer, Script, ScriptFault, World, read_script};
+use pua_calls::{CallTable, Rules, TableFault};
+use pua_script::{Answer, Script, ScriptFault, World, read_script_by};
 use pua_tree::{ListingFault, SlabTree, read_listing_slab};
 use std::alloc::Global;
 
@@ -52,27 +52,29 @@ pub(crate) fn replay_script(
         (replay_of (choice_of table.entry) tree_bytes.now script_bytes.now ≡ Err fault)) }
     ensures unwritten { IfErr result (λ fault. fault ≢ ToolFault.Write) }
 {
+    let rules = table.rules;
     let table = read_table(alloc, table)?;
     let tree = read_tree(alloc, tree_bytes)?;
-    replay_over(alloc, tree, table, script_bytes)
+    replay_over(alloc, tree, table, rules, script_bytes)
 }
 
-/// Serves a script over a tree, by a table, or answers the script's fault. `OutOfMemory` where a growth
-/// was refused.
+/// Serves a script that is read by these rules over a tree, by a table, or answers the script's fault.
+/// `OutOfMemory` where a growth was refused.
 fn replay_over(
     alloc: Global,
     tree: ProgramTree,
     table: CallTable,
+    rules: Rules,
     script_bytes: &[u8],
 ) -> Result<Replay, ToolFault>
     ensures done { IfOk result (λ replay. (asks : List Asked)
-        × (as_script (script script_bytes.now) ≡ Ok asks)
+        × (as_script (script_by rules script_bytes.now) ≡ Ok asks)
         × IsReplay replay (replay_by table tree asks)) }
     ensures refused { IfErr result (λ fault. fault ≢ ToolFault.OutOfMemory →
-        (as_script (script script_bytes.now) ≡ Err fault)) }
+        (as_script (script_by rules script_bytes.now) ≡ Err fault)) }
     ensures unwritten { IfErr result (λ fault. fault ≢ ToolFault.Write) }
 {
-    let script = read_requests(alloc, script_bytes)?;
+    let script = read_requests(alloc, rules, script_bytes)?;
     replay_requests(alloc, tree, table, &script)
 }
 
@@ -128,13 +130,14 @@ pub(crate) fn read_tree(alloc: Global, bytes: &[u8]) -> Result<ProgramTree, Tool
     }
 }
 
-pub(crate) fn read_requests(alloc: Global, bytes: &[u8]) -> Result<Script, ToolFault>
-    ensures read { IfOk result (λ asks. as_script (script bytes.now) ≡ Ok asks) }
+/// The requests of a script, with the calls that there are by these rules.
+pub(crate) fn read_requests(alloc: Global, rules: Rules, bytes: &[u8]) -> Result<Script, ToolFault>
+    ensures read { IfOk result (λ asks. as_script (script_by rules bytes.now) ≡ Ok asks) }
     ensures refused { IfErr result (λ fault. fault ≢ ToolFault.OutOfMemory →
-        (as_script (script bytes.now) ≡ Err fault)) }
+        (as_script (script_by rules bytes.now) ≡ Err fault)) }
     ensures unwritten { IfErr result (λ fault. fault ≢ ToolFault.Write) }
 {
-    match read_script(alloc, bytes) {
+    match read_script_by(alloc, rules, bytes) {
         Ok(requests) => Ok(requests),
         Err(ScriptFault::OutOfMemory) => Err(ToolFault::OutOfMemory),
         Err(fault) => Err(ToolFault::Script(fault)),

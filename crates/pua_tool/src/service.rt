@@ -14,6 +14,7 @@ ghost use Rattle.pua_tool.specs.declared.outcome.CommandFault.{CommandFault};
 
 use crate::audit::audit_by;
 use crate::ever::ever_to;
+use crate::ever_how::ever_how_to;
 use crate::fault::ToolFault;
 use crate::how::how_to;
 use crate::job::job_of;
@@ -190,6 +191,7 @@ fn write_text<O: Sink>(
             objects_why_to(alloc, tree, script, table, words.processes, out)
         }
         Text::Ever(words) => ever_to(alloc, tree, script, table, words.process, out),
+        Text::EverHow(words) => ever_how_to(alloc, tree, script, table, words.process, out),
         Text::Together(words) => together_to(alloc, tree, script, table, &words.members, out),
         Text::How(words) => how_to(alloc, tree, script, table, words, out),
         Text::Tight => tight_to(alloc, tree, script, table, out),

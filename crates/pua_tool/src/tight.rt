@@ -17,7 +17,8 @@ use std::alloc::Global;
 /// the first, and in a line in the order of keywords and of the letters r, w, x, c, each is left out
 /// without which every line is answered as before; of lines that are answered `ok` alone, and of promises
 /// those that some call asks for, but `error`. All other bytes of the script stay, and where nothing is
-/// left of an argument it is `=`. What a call needs is said by the table of calls that is chosen.
+/// left of an argument it is `=`. Which calls there are is said by the rules that are chosen, and what a
+/// call needs by the table of calls.
 ///
 /// The first that holds of `Table`, `Listing` and `Script` is answered before anything is written. So is
 /// `OutOfMemory`, wherever a growth was refused. `Write` is answered only where a put failed in this
@@ -51,8 +52,9 @@ fn text_of(
         (tight_text (choice_of table.entry) tree_bytes.now script_bytes.now ≡ Err fault)) }
     ensures unwritten { IfErr result (λ fault. fault ≢ ToolFault.Write) }
 {
+    let rules = table.rules;
     let table = read_table(alloc, table)?;
-    match pua_tight::tight_text(alloc, tree_bytes, script_bytes, &table) {
+    match pua_tight::tight_text(alloc, tree_bytes, script_bytes, rules, &table) {
         Ok(text) => Ok(text),
         Err(fault) => Err(of_tight(fault)),
     }

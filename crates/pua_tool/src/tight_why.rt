@@ -77,8 +77,9 @@ fn words_by(
         (words_by (choice_of table.entry) tree_bytes.now script_bytes.now ≡ Err fault)) }
     ensures unwritten { IfErr result (λ fault. fault ≢ ToolFault.Write) }
 {
+    let rules = table.rules;
     let table = read_table(alloc, table)?;
-    match word_uses(alloc, tree_bytes, script_bytes, &table) {
+    match word_uses(alloc, tree_bytes, script_bytes, rules, &table) {
         Ok(words) => Ok(words),
         Err(fault) => Err(of_tight(fault)),
     }

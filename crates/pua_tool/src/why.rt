@@ -3,7 +3,7 @@
 ghost use Rattle.std.specs.Prelude.{◌≡◌, ◌≢◌, ◌++◌, ◌∷◌, Ok, Err, IfErr, IfOk, OnOk, map};
 ghost use Rattle.std.specs.Prelude.{string_bytes};
 ghost use Rattle.pua_script.specs.Requests.{Asked};
-ghost use Rattle.pua_script.specs.Scripts.{request_of};
+ghost use Rattle.pua_script.specs.Scripts.{request_by};
 ghost use Rattle.pua_tool.specs.PosedScripts.{IsPosed};
 ghost use Rattle.pua_tool.specs.Answers.{AnswersTo};
 ghost use Rattle.pua_tool.specs.Texts.{choice_of};
@@ -15,8 +15,9 @@ use crate::fault::ToolFault;
 use crate::objects::put_text;
 use crate::posed::{Posed, pose};
 use crate::table::TableChoice;
+use pua_calls::Rules;
 use pua_io::Sink;
-use pua_script::{Request, ScriptFault, read_request};
+use pua_script::{Request, ScriptFault, read_request_by};
 use pua_since::chain_text;
 use pua_tree::OutOfMemory;
 use std::alloc::{AllocError, Global};
@@ -25,8 +26,9 @@ use std::fmt::Write;
 /// Writes what decides a request of this process, given by the fields of a script's line behind the
 /// number, where the script has been served: a line for the promises that let it through, for each link
 /// that its paths follow, for what they name and for the veil that covers that, in the order of the
-/// checks and as far as it passes them; and as the last line its answer, with the reason and since which
-/// line, as [`run_why_to`](crate::run_why_to) would write it of the script's next line.
+/// checks and as far as it passes them; and as the last line its answer, with the reason, since which
+/// line that is so, and what opens the path all the same, as [`run_why_to`](crate::run_why_to) would write
+/// it of the script's next line.
 ///
 /// The first that holds of `Table`, `Listing`, `Script` and `Request` is answered before anything is
 /// written. So is `OutOfMemory`, wherever a growth was refused. `Write` is answered only where a put
@@ -46,7 +48,7 @@ pub fn why_to<S: Sink>(
         (map (λ field. field.now) fields.now)) result sink.old sink.new }
 {
     let mut posed = pose(alloc, tree_bytes, script_bytes, table)?;
-    let text = asked_text(alloc, &mut posed, process, fields);
+    let text = asked_text(alloc, &mut posed, table.rules, process, fields);
     posed.release();
     put_text(text?.as_str(), sink)
 }
@@ -56,37 +58,44 @@ pub fn why_to<S: Sink>(
 fn asked_text(
     alloc: Global,
     posed: &mut Posed,
+    rules: Rules,
     process: u32,
     fields: &[&[u8]],
 ) -> Result<String, ToolFault>
     ensures done { IfOk result (λ text. (p : Asking) → IsPosed posed.old p → (ask : Asked)
-        × (as_request (request_of 1 (request_line process (map (λ field. field.now) fields.now)))
-        ≡ Ok ask) × (string_bytes text ≡ chain_lines p ask)) }
+        × (as_request (request_by rules 1 (request_line process
+        (map (λ field. field.now) fields.now))) ≡ Ok ask) × (string_bytes text
+        ≡ chain_lines rules p ask)) }
     ensures refused { IfErr result (λ fault. fault ≢ ToolFault.OutOfMemory →
-        as_request (request_of 1 (request_line process
+        as_request (request_by rules 1 (request_line process
         (map (λ field. field.now) fields.now))) ≡ Err fault) }
     ensures unwritten { IfErr result (λ fault. fault ≢ ToolFault.Write) }
 {
-    let request = read_asked(alloc, process, fields)?;
-    match text_of(alloc, posed, &request) {
+    let request = read_asked(alloc, rules, process, fields)?;
+    match text_of(alloc, rules, posed, &request) {
         Ok(text) => Ok(text),
         Err(OutOfMemory) => Err(ToolFault::OutOfMemory),
     }
 }
 
-/// The request of a process, by the fields behind its number.
-fn read_asked(alloc: Global, process: u32, fields: &[&[u8]]) -> Result<Request, ToolFault>
-    ensures read { IfOk result (λ request. as_request (request_of 1 (request_line process
+/// The request of a process, by the fields behind its number, which are read by these rules.
+fn read_asked(
+    alloc: Global,
+    rules: Rules,
+    process: u32,
+    fields: &[&[u8]],
+) -> Result<Request, ToolFault>
+    ensures read { IfOk result (λ request. as_request (request_by rules 1 (request_line process
         (map (λ field. field.now) fields.now))) ≡ Ok request) }
     ensures refused { IfErr result (λ fault. fault ≢ ToolFault.OutOfMemory →
-        as_request (request_of 1 (request_line process
+        as_request (request_by rules 1 (request_line process
         (map (λ field. field.now) fields.now))) ≡ Err fault) }
     ensures unwritten { IfErr result (λ fault. fault ≢ ToolFault.Write) }
 {
     let Ok(line) = line_of(alloc, process, fields) else {
         return Err(ToolFault::OutOfMemory);
     };
-    match read_request(alloc, 1, line.as_slice()) {
+    match read_request_by(alloc, rules, 1, line.as_slice()) {
         Ok(request) => Ok(request),
         Err(ScriptFault::OutOfMemory) => Err(ToolFault::OutOfMemory),
         Err(fault) => Err(ToolFault::Request(fault)),
@@ -117,11 +126,16 @@ fn push_field(line: &mut Vec<u8>, field: &[u8]) -> Result<(), AllocError>
 }
 
 /// The lines of what a request passes behind a script, and of its answer.
-fn text_of(alloc: Global, posed: &mut Posed, request: &Request) -> Result<String, OutOfMemory>
+fn text_of(
+    alloc: Global,
+    rules: Rules,
+    posed: &mut Posed,
+    request: &Request,
+) -> Result<String, OutOfMemory>
     ensures { IfOk result (λ text. (p : Asking) → IsPosed posed.old p →
-        string_bytes text ≡ chain_lines p request.now) }
+        string_bytes text ≡ chain_lines rules p request.now) }
 {
     let (requests, answers) = (posed.script.requests(), posed.answers.as_slice());
     let (before, after) = (&mut posed.before, &mut posed.after);
-    chain_text(alloc, before, after, requests, answers, request)
+    chain_text(alloc, rules, before, after, requests, answers, request)
 }

@@ -19,16 +19,16 @@ use Rattle.pua_why.specs.Columns.{CoveringsIn}
 use Rattle.pua_why.specs.Laws.{ChainsEnd, FactsOf, GrantsAreTold, PairFactsOf, PairsAreTold}
 
 pub chains_end : ChainsEnd
-chains_end table w done [] ask n =
-    λ i. (decimal (plus_none n i) ++ 32 ∷ answer_why table w (sym (append-nil done) i) ask) ∷ []
+chains_end rules table w done [] ask n =
+    λ i. (decimal (plus_none n i) ++ 32 ∷ answer_why rules table w (sym (append-nil done) i) ask) ∷ []
   where
     plus_none : (m : ℕ) → m ≡ m + 0
     plus_none m = omega arith
-chains_end table w done (first ∷ asks) ask n =
-    ap (λ more. (decimal n ++ 32 ∷ answer_why table w done first) ∷ more)
-    (chains_end table w (done ++ first ∷ []) asks ask (suc n)
-    ∙ (λ i. why_lines table w (done ++ first ∷ []) (suc n) asks
-    ++ (decimal (plus_one n (length asks) i) ++ 32 ∷ answer_why table w (append_assoc done (first ∷ []) asks i) ask) ∷ []))
+chains_end rules table w done (first ∷ asks) ask n =
+    ap (λ more. (decimal n ++ 32 ∷ answer_why rules table w done first) ∷ more)
+    (chains_end rules table w (done ++ first ∷ []) asks ask (suc n)
+    ∙ (λ i. why_lines rules table w (done ++ first ∷ []) (suc n) asks
+    ++ (decimal (plus_one n (length asks) i) ++ 32 ∷ answer_why rules table w (append_assoc done (first ∷ []) asks i) ask) ∷ []))
   where
     plus_one : (m k : ℕ) → suc m + k ≡ m + suc k
     plus_one m k = omega arith

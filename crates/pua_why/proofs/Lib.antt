@@ -13,5 +13,6 @@ pub mod Adding
 pub mod Needing
 pub mod Passing
 pub mod Plain
+pub mod Openers
 pub mod Joining
 pub mod ForCallers

@@ -1,11 +1,14 @@
 -- With reasons each line is the line without them, and more.
 use Rattle.pua_why.proofs.Common.{◌≡◌, ℕ, suc, List, [], ◌∷◌, ◌++◌, Some, None, refl, sym, ap, ◌∙◌, append_assoc, Option, subst, decimal}
-use Rattle.pua_why.proofs.Common.{CallTable, World, Answer}
+use Rattle.pua_why.proofs.Common.{CallTable, World, Answer, Bool, true, false, if◌then◌else◌, Tree, Sole, Old, New, Fault, LacksLetters}
+use Rattle.pua_calls.specs.declared.rules.Rules.{Rules}
+use Rattle.pua_calls.specs.declared.rules.Rules.TheVariants.{Profile, Openbsd}
 use Rattle.pua_script.specs.AnswerTexts.{answer_text}
 use Rattle.pua_script.specs.Requests.{Asked}
 use Rattle.pua_script.specs.Replay.{answers_to, world_after}
-use Rattle.pua_why.specs.Reasons.{reason, answer_of}
-use Rattle.pua_why.specs.Texts.{spaced_words, reason_text, reason_since, since_text, answer_why, why_lines}
+use Rattle.pua_why.specs.Openings.{is_lack, opened_by, opener, opener_text}
+use Rattle.pua_why.specs.Reasons.{LacksPromises, Uncovered, Reason, Refused, reason, answer_of}
+use Rattle.pua_why.specs.Texts.{answer_why, fault_text, reason_since, reason_tail, reason_text, since_text, spaced_words, why_lines}
 use Rattle.pua_why.specs.Laws.{IsTail, TellMore, WhyLinesTellMore}
 use Rattle.pua_why.proofs.Decisions.{reasons_give_answers}
 use Rattle.pua_script.proofs.ForCallers.{one_request_more}
@@ -14,25 +17,47 @@ use Rattle.pua_script.proofs.ForCallers.{one_request_more}
 abbrev Tells : Answer → List ℕ → Type 0
 Tells answer text = (tail : List ℕ) × (text ≡ answer_text answer ++ tail) × IsTail tail
 
-since_tail : (line : Option ℕ) → IsTail (since_text line)
-since_tail None = tt
-since_tail (Some line) = refl
+-- what is told of an opening stands behind words
+tail_behind : (words : List ℕ) (line : Option ℕ) (opened : List ℕ) → (words ≡ [] → opened ≡ []) →
+    IsTail (spaced_words words ++ (since_text line ++ opened))
+tail_behind [] None opened none = subst IsTail (sym (none refl)) tt
+tail_behind [] (Some line) opened none = refl
+tail_behind (b ∷ more) line opened none = refl
 
-both_tail : (text : List ℕ) (line : Option ℕ) → IsTail (spaced_words text ++ since_text line)
-both_tail [] line = since_tail line
-both_tail (b ∷ more) line = refl
+-- a lack has words
+lack_told : (t : Tree) (fault : Fault) → is_lack fault ≡ true → fault_text t fault ≡ [] → ⊥
+lack_told t (LacksPromises error (set ∷ [])) lack none = cc
+lack_told t (LacksPromises error (set ∷ other ∷ sets)) lack none = cc
+lack_told t (Uncovered Sole object) lack none = cc
+lack_told t (Uncovered Old object) lack none = cc
+lack_told t (Uncovered New object) lack none = cc
+lack_told t (LacksLetters Sole place given lacks) lack none = cc
+lack_told t (LacksLetters Old place given lacks) lack none = cc
+lack_told t (LacksLetters New place given lacks) lack none = cc
+lack_told t _ lack none = cc
 
-told_behind : (answer : Answer) (text : List ℕ) (line : Option ℕ) →
-    Tells answer ((answer_text answer ++ spaced_words text) ++ since_text line)
-told_behind answer text line =
-    (spaced_words text ++ since_text line, append_assoc (answer_text answer) (spaced_words text) (since_text line), both_tail text line)
+-- what has no words is told no opening
+none_opened : (rules : Rules) (table : CallTable) (w : World) (ask : Asked) (r : Reason) → reason_text w.tree r ≡ [] →
+    opener_text (opened_by rules table w ask r) ≡ []
+none_opened Profile table w ask r none = refl
+none_opened Openbsd table w ask (Refused fault) none = by (is_lack fault) refl
+  where
+    by : (b : Bool) → is_lack fault ≡ b → opener_text (if b then opener table w ask else None) ≡ []
+    by true lack = absurd (lack_told w.tree fault lack none)
+    by false lack = refl
+none_opened Openbsd table w ask _ none = refl
 
-why_tells : (table : CallTable) (w : World) (done : List Asked) (ask : Asked) →
-    Tells (answer_of (reason table (world_after table w done) ask)) (answer_why table w done ask)
-why_tells table w done ask =
+why_tells : (rules : Rules) (table : CallTable) (w : World) (done : List Asked) (ask : Asked) →
+    Tells (answer_of (reason table (world_after table w done) ask)) (answer_why rules table w done ask)
+why_tells rules table w done ask =
     let v : World = world_after table w done in
-    told_behind (answer_of (reason table v ask)) (reason_text v.tree (reason table v ask))
-    (reason_since table w done ask (reason table v ask))
+    let r : Reason = reason table v ask in
+    let tail : List ℕ = reason_tail rules table v ask (reason_since table w done ask r) in (
+      spaced_words (reason_text v.tree r) ++ tail,
+      append_assoc (answer_text (answer_of r)) (spaced_words (reason_text v.tree r)) tail,
+      tail_behind (reason_text v.tree r) (reason_since table w done ask r) (opener_text (opened_by rules table v ask r))
+          (none_opened rules table v ask r),
+    )
 
 line_tells : (n : ℕ) (answer : Answer) (text : List ℕ) → Tells answer text →
     (tail : List ℕ) × ((decimal n ++ 32 ∷ text) ≡ (decimal n ++ 32 ∷ answer_text answer) ++ tail) × IsTail tail
@@ -44,13 +69,13 @@ line_tells n answer text tells = (
 )
 
 pub why_lines_tell_more : WhyLinesTellMore
-why_lines_tell_more table w done [] n = tt
-why_lines_tell_more table w done (ask ∷ asks) n =
-    let v : World = world_after table w done in (
-      subst (λ answer. (tail : List ℕ) × ((decimal n ++ 32 ∷ answer_why table w done ask) ≡ (decimal n ++ 32 ∷ answer_text answer) ++ tail)
-          × IsTail tail)
-          (reasons_give_answers table v ask) (line_tells n (answer_of (reason table v ask)) (answer_why table w done ask)
-          (why_tells table w done ask)),
-      subst (λ next. TellMore (why_lines table w (done ++ ask ∷ []) (suc n) asks) (suc n) (answers_to table next asks))
-          (one_request_more table w done ask) (why_lines_tell_more table w (done ++ ask ∷ []) asks (suc n)),
+why_lines_tell_more rules table w done [] n = tt
+why_lines_tell_more rules table w done (ask ∷ asks) n =
+    let v : World = world_after table w done in
+    let told : List ℕ = answer_why rules table w done ask in (
+      subst (λ answer. (tail : List ℕ) × ((decimal n ++ 32 ∷ told) ≡ (decimal n ++ 32 ∷ answer_text answer) ++ tail) × IsTail tail)
+          (reasons_give_answers table v ask)
+          (line_tells n (answer_of (reason table v ask)) told (why_tells rules table w done ask)),
+      subst (λ next. TellMore (why_lines rules table w (done ++ ask ∷ []) (suc n) asks) (suc n) (answers_to table next asks))
+          (one_request_more table w done ask) (why_lines_tell_more rules table w (done ++ ask ∷ []) asks (suc n)),
     )

@@ -6,7 +6,8 @@ use Rattle.std.proofs.Common.{inl, inr, ◌⊎◌, true≢false}
 use Rattle.std.specs.Prelude.{IsFalse}
 use Rattle.pua_tree.specs.Tree.{Node}
 use Rattle.pua_calls.specs.declared.call.Call.TheVariants as call
-use Rattle.pua_script.specs.Decide.{placing, cutting, going, tying}
+use Rattle.pua_path.specs.declared.found.Way.TheVariants as way
+use Rattle.pua_script.specs.Decide.{placing, tying}
 use Rattle.pua_script.specs.Guards.{IsDecided, IsShift}
 use Rattle.pua_script.specs.Worlds.{is_fork}
 use Rattle.pua_script.specs.declared.request.Action.{Action}
@@ -25,16 +26,6 @@ module _ (w : World) where
   plain_placing node (Some spot) None = refl
   plain_placing node (Some spot) (Some x) = refl
 
-  plain_cutting : (spot : Option Spot) (x : Option ℕ) → Plain (cutting spot x)
-  plain_cutting None None = refl
-  plain_cutting None (Some x) = refl
-  plain_cutting (Some spot) None = refl
-  plain_cutting (Some spot) (Some x) = refl
-
-  plain_going : (object : Found) → Plain (going object)
-  plain_going (Whole dir by) = refl
-  plain_going (Slot dir name x) = refl
-
   plain_shifting : (old new : Option Spot) → Plain (shifting old new)
   plain_shifting None None = refl
   plain_shifting None (Some new) = refl
@@ -45,13 +36,13 @@ module _ (w : World) where
   plain_tying x None = refl
   plain_tying x (Some spot) = refl
 
+  -- whatever was found, each call has a change that computes
   plain_change : (table : CallTable) (c : Call) (object : Found) → Plain (change_by table c object)
-  plain_change table call.Create object = plain_placing _ (spot_named object) (node_named object)
-  plain_change table call.Mkdir object = plain_placing _ (spot_named object) (node_named object)
-  plain_change table call.Rmdir object = plain_cutting (spot_named object) (node_named object)
-  plain_change table call.Unlink object = plain_cutting (spot_named object) (node_named object)
-  plain_change table call.Chdir object = plain_going object
-  plain_change table _ object = refl
+  plain_change table call.Stat object = refl
+  plain_change table _ (Whole dir (way.Named parent name)) = refl
+  plain_change table _ (Whole dir _) = refl
+  plain_change table _ (Slot dir name None) = refl
+  plain_change table _ (Slot dir name (Some x)) = refl
 
   is_plain : (change other : Change) → change ≡ other → Plain other → Plain change
   is_plain change other is plain = ap (process_fault w) is ∙ plain

@@ -7,35 +7,37 @@ use Rattle.pua_tree.specs.Limits.{number_end}
 use Rattle.pua_tree.specs.Tree.{Tree, empty_tree}
 use Rattle.pua_tree.specs.declared.fault.ListingFault.{ListingFault}
 use Rattle.pua_path.specs.Traces.{trace_from}
-use Rattle.pua_calls.specs.Calls.{CallTable, standard_table, openbsd_table}
+use Rattle.pua_calls.specs.Calls.{table_by_rules}
+use Rattle.pua_calls.specs.declared.rules.Rules.{Rules}
+use Rattle.pua_calls.specs.declared.rules.Rules.TheVariants.{Profile, Openbsd}
 use Rattle.pua_script.specs.Requests.{Asked}
-use Rattle.pua_script.specs.Scripts.{script}
+use Rattle.pua_script.specs.Scripts.{script, script_by}
 use Rattle.pua_script.specs.Replay.{new_world}
 use Rattle.pua_script.specs.declared.fault.ScriptFault.{ScriptFault}
 use Rattle.pua_script.specs.Examples.{root_alone, example, ordered_tree}
 use Rattle.pua_why.specs.Texts.{why_lines, chain, promises_text}
 
-abbrev pub lines_over : CallTable → Result Tree ListingFault → Result (List Asked) ScriptFault → List (List ℕ)
-lines_over table (Ok t) (Ok asks) = why_lines table (new_world t) [] 1 asks
-lines_over table _ _ = []
+abbrev pub lines_over : Rules → Result Tree ListingFault → Result (List Asked) ScriptFault → List (List ℕ)
+lines_over rules (Ok t) (Ok asks) = why_lines rules (table_by_rules rules) (new_world t) [] 1 asks
+lines_over rules _ _ = []
 
-abbrev pub why_by : CallTable → List (List ℕ) → List (List ℕ) → List (List ℕ)
-why_by table tree lines = lines_over table (listing (text_of_lines tree)) (script (text_of_lines lines))
+abbrev pub why_by : Rules → List (List ℕ) → List (List ℕ) → List (List ℕ)
+why_by rules tree lines = lines_over rules (listing (text_of_lines tree)) (script_by rules (text_of_lines lines))
 
 abbrev pub why_of : List (List ℕ) → List (List ℕ) → List (List ℕ)
-why_of tree lines = why_by standard_table tree lines
+why_of tree lines = why_by Profile tree lines
 
-abbrev pub chain_over : CallTable → Result Tree ListingFault → Result (List Asked) ScriptFault → Result (List Asked) ScriptFault →
+abbrev pub chain_over : Rules → Result Tree ListingFault → Result (List Asked) ScriptFault → Result (List Asked) ScriptFault →
     List (List ℕ)
-chain_over table (Ok t) (Ok asks) (Ok (ask ∷ more)) = chain table (new_world t) asks ask
-chain_over table _ _ _ = []
+chain_over rules (Ok t) (Ok asks) (Ok (ask ∷ more)) = chain rules (table_by_rules rules) (new_world t) asks ask
+chain_over rules _ _ _ = []
 
-abbrev pub chain_by : CallTable → List (List ℕ) → List (List ℕ) → List ℕ → List (List ℕ)
-chain_by table tree lines line =
-    chain_over table (listing (text_of_lines tree)) (script (text_of_lines lines)) (script (text_of_lines (line ∷ [])))
+abbrev pub chain_by : Rules → List (List ℕ) → List (List ℕ) → List ℕ → List (List ℕ)
+chain_by rules tree lines line =
+    chain_over rules (listing (text_of_lines tree)) (script_by rules (text_of_lines lines)) (script_by rules (text_of_lines (line ∷ [])))
 
 abbrev pub chain_of : List (List ℕ) → List (List ℕ) → List ℕ → List (List ℕ)
-chain_of tree lines line = chain_by standard_table tree lines line
+chain_of tree lines line = chain_by Profile tree lines line
 
 abbrev pub with_dir : List (List ℕ)
 with_dir = root_alone ++ codes "1 dir 0 d" ∷ []
@@ -88,7 +90,7 @@ pub record WhyRows : Type 0 where
       codes "1 ok" ∷ codes "2 ok" ∷ codes "3 ok" ∷ codes "4 ok" ∷ codes "5 ok" ∷ codes "6 ok"
       ∷ codes "7 ENOTDIR /d/x is no directory since line 4" ∷ []
   -- of a tree that has no number left
-  pub full : lines_over standard_table (Ok (record empty_tree { next = number_end })) (script (text_of_lines (codes "1 mkdir /a" ∷ []))) ≡
+  pub full : lines_over Profile (Ok (record empty_tree { next = number_end })) (script (text_of_lines (codes "1 mkdir /a" ∷ []))) ≡
       codes "1 ENOSPC tree is full" ∷ []
   pub children : why_of root_alone (codes "1 pledge stdio,proc -" ∷ codes "1 fork 2" ∷ codes "2 stat /" ∷ []) ≡
       codes "1 ok" ∷ codes "2 ok" ∷ codes "3 killed no rpath since line 1" ∷ []
@@ -137,16 +139,84 @@ pub record WhyRows : Type 0 where
       codes "needs rpath,wpath" ∷ codes "names file /etc/passwd" ∷ codes "EACCES no w in veil r on /etc since line 1" ∷ []
   pub another_veil : chain_of example (codes "1 unveil /etc r" ∷ []) (codes "1 unveil /etc/passwd rw") ≡
       codes "needs unveil" ∷ codes "names file /etc/passwd" ∷ codes "ok" ∷ []
-  pub by_kernel : why_by openbsd_table ordered_tree (codes "1 pledge stdio,cpath -" ∷ codes "1 rename /f /g" ∷ []) ≡
+  pub by_kernel : why_by Openbsd ordered_tree (codes "1 pledge stdio,cpath -" ∷ codes "1 rename /f /g" ∷ []) ≡
       codes "1 ok" ∷ codes "2 killed no rpath since line 1" ∷ []
-  pub by_kernel_new : why_by openbsd_table ordered_tree (codes "1 pledge stdio,rpath -" ∷ codes "1 link /f /g" ∷ []) ≡
+  pub by_kernel_new : why_by Openbsd ordered_tree (codes "1 pledge stdio,rpath -" ∷ codes "1 link /f /g" ∷ []) ≡
       codes "1 ok" ∷ codes "2 killed no cpath since line 1" ∷ []
-  pub kernel_pair : chain_by openbsd_table ordered_tree [] (codes "1 rename /d/f /d/h") ≡
+  pub kernel_pair : chain_by Openbsd ordered_tree [] (codes "1 rename /d/f /d/h") ≡
       codes "needs cpath,rpath" ∷ codes "old: names file /d/f" ∷ codes "new: names missing /d/h" ∷ codes "old: no veils"
       ∷ codes "new: no veils" ∷ codes "ok" ∷ []
-  pub kernel_link : chain_by openbsd_table ordered_tree [] (codes "1 link /f /g") ≡
+  pub kernel_link : chain_by Openbsd ordered_tree [] (codes "1 link /f /g") ≡
       codes "needs cpath,rpath" ∷ codes "old: names file /f" ∷ codes "new: names missing /g" ∷ codes "old: no veils"
       ∷ codes "new: no veils" ∷ codes "ok" ∷ []
+
+abbrev pub opened_tree : List (List ℕ)
+opened_tree = root_alone ++ codes "1 dir 0 dev" ∷ codes "2 file 1 tty" ∷ codes "3 dir 0 etc" ∷ codes "4 file 3 resolv.conf"
+    ∷ codes "5 dir 0 tmp" ∷ codes "6 dir 0 usr" ∷ codes "7 dir 6 share" ∷ codes "8 dir 7 zoneinfo" ∷ codes "9 file 8 UTC" ∷ []
+
+-- what is said of what a kernel opens by a promise
+pub record OpeningRows : Type 0 where
+  pub by_dns : why_by Openbsd opened_tree (codes "1 pledge stdio,dns -" ∷ codes "1 open-r /etc/resolv.conf" ∷ []) ≡
+      codes "1 ok" ∷ codes "2 killed no rpath since line 1, a kernel opens it by dns" ∷ []
+  pub by_the_profile : why_by Profile opened_tree (codes "1 pledge stdio,dns -" ∷ codes "1 open-r /etc/resolv.conf" ∷ []) ≡
+      codes "1 ok" ∷ codes "2 killed no rpath since line 1" ∷ []
+  pub not_held : why_by Openbsd opened_tree (codes "1 pledge stdio -" ∷ codes "1 open-r /etc/resolv.conf" ∷ []) ≡
+      codes "1 ok" ∷ codes "2 killed no rpath since line 1" ∷ []
+  -- before its first pledge of promises no promise opens anything
+  pub not_pledged : why_by Openbsd opened_tree (codes "1 unveil /tmp r" ∷ codes "1 open-r /etc/resolv.conf" ∷ []) ≡
+      codes "1 ok" ∷ codes "2 ENOENT no veil on /etc/resolv.conf or above since line 1" ∷ []
+  -- another call, another spelling, and what is not there
+  pub another_call : why_by Openbsd opened_tree (codes "1 pledge error,dns -" ∷ codes "1 open-rw /etc/resolv.conf"
+      ∷ codes "1 open-r /etc//resolv.conf" ∷ codes "1 open-r /etc/hosts" ∷ []) ≡
+      codes "1 ok" ∷ codes "2 ENOSYS no rpath,wpath since line 1" ∷ codes "3 ENOSYS no rpath since line 1"
+      ∷ codes "4 ENOSYS no rpath since line 1" ∷ []
+  pub below : why_by Openbsd opened_tree (codes "1 pledge error,stdio -" ∷ codes "1 open-r /usr/share/zoneinfo/UTC"
+      ∷ codes "1 open-r /usr/share/zoneinfo/" ∷ codes "1 open-r /usr/share/zoneinfo" ∷ []) ≡
+      codes "1 ok" ∷ codes "2 ENOSYS no rpath since line 1, a kernel opens it by stdio" ∷ codes "3 ENOSYS no rpath since line 1"
+      ∷ codes "4 ENOSYS no rpath since line 1" ∷ []
+  -- no veil hides it
+  pub past_a_cover : why_by Openbsd opened_tree (codes "1 unveil /tmp r" ∷ codes "1 pledge stdio,rpath,dns -"
+      ∷ codes "1 open-r /etc/resolv.conf" ∷ []) ≡
+      codes "1 ok" ∷ codes "2 ok" ∷ codes "3 ENOENT no veil on /etc/resolv.conf or above since line 1, a kernel opens it by dns" ∷ []
+  pub past_letters : why_by Openbsd opened_tree (codes "1 unveil /etc w" ∷ codes "1 pledge stdio,rpath,dns -"
+      ∷ codes "1 stat /etc/resolv.conf" ∷ []) ≡
+      codes "1 ok" ∷ codes "2 ok" ∷ codes "3 EACCES no r in veil w on /etc since line 1, a kernel opens it by dns" ∷ []
+  -- by `tty` the veils are asked
+  pub terminal : why_by Openbsd opened_tree (codes "1 pledge stdio,tty -" ∷ codes "1 open-rw /dev/tty" ∷ []) ≡
+      codes "1 ok" ∷ codes "2 killed no rpath,wpath since line 1, a kernel opens it by tty" ∷ []
+  pub terminal_veiled : why_by Openbsd opened_tree (codes "1 unveil /dev/tty rw" ∷ codes "1 pledge error,tty -"
+      ∷ codes "1 open-rw /dev/tty" ∷ []) ≡
+      codes "1 ok" ∷ codes "2 ok" ∷ codes "3 ENOSYS no rpath,wpath since line 2, a kernel opens it by tty" ∷ []
+  pub terminal_hidden : why_by Openbsd opened_tree (codes "1 unveil /etc r" ∷ codes "1 pledge error,tty -"
+      ∷ codes "1 open-rw /dev/tty" ∷ []) ≡
+      codes "1 ok" ∷ codes "2 ok" ∷ codes "3 ENOSYS no rpath,wpath since line 2" ∷ []
+  pub terminal_uncovered : why_by Openbsd opened_tree (codes "1 unveil /etc r" ∷ codes "1 pledge rpath,wpath,tty -"
+      ∷ codes "1 open-rw /dev/tty" ∷ []) ≡
+      codes "1 ok" ∷ codes "2 ok" ∷ codes "3 ENOENT no veil on /dev/tty or above since line 1" ∷ []
+  pub temporary : why_by Openbsd opened_tree (codes "1 pledge error,tmppath -" ∷ codes "1 create /tmp/x" ∷ codes "1 create /etc/x" ∷ []) ≡
+      codes "1 ok" ∷ codes "2 ENOSYS no cpath,wpath since line 1, a kernel opens it by tmppath" ∷ codes "3 ENOSYS no cpath,wpath since line 1"
+      ∷ []
+  pub in_a_chain : chain_by Openbsd opened_tree (codes "1 pledge stdio,dns -" ∷ []) (codes "1 open-r /etc/resolv.conf") ≡
+      codes "killed no rpath since line 1, a kernel opens it by dns" ∷ []
+
+pub opening_rows : OpeningRows
+unfolding digits trace_from promises_text
+opening_rows = record {
+  by_dns = refl;
+  by_the_profile = refl;
+  not_held = refl;
+  not_pledged = refl;
+  another_call = refl;
+  below = refl;
+  past_a_cover = refl;
+  past_letters = refl;
+  terminal = refl;
+  terminal_veiled = refl;
+  terminal_hidden = refl;
+  terminal_uncovered = refl;
+  temporary = refl;
+  in_a_chain = refl;
+}
 
 pub why_rows : WhyRows
 unfolding digits trace_from promises_text

@@ -10,7 +10,7 @@ use Rattle.pua_policy.specs.declared.place.Place.TheVariants.{Dir, Slot}
 use Rattle.pua_script.specs.Decide.{Side, Sole, Old, New}
 use Rattle.pua_policy.specs.declared.reason.Misfit.{Misfit}
 use Rattle.pua_policy.specs.declared.reason.Misfit.TheVariants.{Missing, Exists, IsDirectory, IsNoFile, IsNoDirectory, IsNoLink}
-use Rattle.pua_policy.specs.declared.reason.Misfit.TheVariants.{IsNoProgram, IsNotEmpty, ByDot, ByDotDot, ByNothing}
+use Rattle.pua_policy.specs.declared.reason.Misfit.TheVariants.{IsNoProgram, IsNotEmpty, ByDot, ByDotDot, ByNothing, IsNoSocket, InUse}
 use Rattle.pua_why.specs.Reasons.{Fault, Ends, LacksPromises, BadTarget, BadPath, Uncovered, LacksLetters, Unfit, Inside, UnknownPromise}
 use Rattle.pua_why.specs.Reasons.{AsksPromises, IsLocked, UnknownLetter, AsksLetters, NoPlaceLeft, NumberTaken, NoProcessLeft, NoRoom}
 use Rattle.pua_why.specs.Reasons.{Reason, NeverMade, Ended, Refused, Granted}
@@ -50,6 +50,8 @@ misfit_group IsNotEmpty = 6
 misfit_group ByDot = 6
 misfit_group ByDotDot = 6
 misfit_group ByNothing = 6
+misfit_group IsNoSocket = 6
+misfit_group InUse = 6
 
 abbrev pub misfit_key : Misfit → ℕ
 misfit_key Missing = 5
@@ -63,6 +65,8 @@ misfit_key IsNotEmpty = 7
 misfit_key ByDot = 8
 misfit_key ByDotDot = 9
 misfit_key ByNothing = 10
+misfit_key IsNoSocket = 11
+misfit_key InUse = 12
 
 abbrev pub exec_key : Bool → ℕ
 exec_key false = 0

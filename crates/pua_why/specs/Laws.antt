@@ -6,6 +6,7 @@ use Rattle.pua_path.specs.declared.text.Ending.TheVariants as ending
 use Rattle.pua_path.specs.declared.found.Found.{Found}
 use Rattle.pua_calls.specs.Promises.{holds}
 use Rattle.pua_calls.specs.Calls.{CallTable, PairRule, rule_of}
+use Rattle.pua_calls.specs.declared.rules.Rules.{Rules}
 use Rattle.pua_policy.specs.History.{History, is_ended}
 use Rattle.pua_policy.specs.Verdict.{object_of, verdict_on}
 use Rattle.pua_policy.specs.ReasonLaws.{LackSome, MisfitHolds}
@@ -69,14 +70,14 @@ TellMore _ n _ = ⊥
 
 -- with reasons each line is the line without them, and more
 abbrev pub WhyLinesTellMore : Type 0
-WhyLinesTellMore = (table : CallTable) (w : World) (done asks : List Asked) (n : ℕ) →
-    TellMore (why_lines table w done n asks) n (answers_to table (world_after table w done) asks)
+WhyLinesTellMore = (rules : Rules) (table : CallTable) (w : World) (done asks : List Asked) (n : ℕ) →
+    TellMore (why_lines rules table w done n asks) n (answers_to table (world_after table w done) asks)
 
 -- the last line of a chain is what is told of the request as the script's next line
 abbrev pub ChainsEnd : Type 0
-ChainsEnd = (table : CallTable) (w : World) (done asks : List Asked) (ask : Asked) (n : ℕ) →
-    why_lines table w done n (asks ++ ask ∷ []) ≡ why_lines table w done n asks
-    ++ (decimal (n + length asks) ++ 32 ∷ answer_why table w (done ++ asks) ask) ∷ []
+ChainsEnd = (rules : Rules) (table : CallTable) (w : World) (done asks : List Asked) (ask : Asked) (n : ℕ) →
+    why_lines rules table w done n (asks ++ ask ∷ []) ≡ why_lines rules table w done n asks
+    ++ (decimal (n + length asks) ++ 32 ∷ answer_why rules table w (done ++ asks) ask) ∷ []
 
 -- the chain of a call that is granted tells the promises, the links, the object and the veil on which it rests
 pub record FactsOf (t : Tree) (table : CallTable) (h : History) (call : Call) (text : List ℕ) : Type 0 where

@@ -3,6 +3,7 @@ pub mod Reasons
 pub mod Keys
 pub mod Since
 pub mod Facts
+pub mod Openings
 pub mod Texts
 pub mod Columns
 pub mod Unknown

@@ -1,4 +1,4 @@
--- Reasons and facts as the code tells them.
+-- Reasons, facts and openings as the code tells them.
 use Rattle.std.specs.Prelude.{map, List, [], ◌∷◌, Option, Some, None, Result, Ok, Err}
 use Rattle.pua_calls.specs.Promises.{lacking}
 use Rattle.pua_script.specs.Decide as decide
@@ -13,8 +13,10 @@ use Rattle.pua_why.specs.declared.told.Reason.{Reason}
 use Rattle.pua_why.specs.declared.told.Reason.TheVariants.{NeverMade, Ended, Refused, Granted}
 use Rattle.pua_why.specs.declared.told.Fact.{Fact}
 use Rattle.pua_why.specs.declared.told.Fact.TheVariants.{Needs, Follows, Names, Under}
+use Rattle.pua_why.specs.declared.kernel.Opening.{Opening}
 use Rattle.pua_why.specs.Reasons as reasons
 use Rattle.pua_why.specs.Facts as facts
+use Rattle.pua_why.specs.Openings as openings
 
 abbrev pub side_seen : Side → decide.Side
 side_seen Sole = decide.Sole
@@ -47,6 +49,9 @@ reason_seen NeverMade = reasons.NeverMade
 reason_seen Ended = reasons.Ended
 reason_seen (Refused fault) = reasons.Refused (fault_seen fault)
 reason_seen Granted = reasons.Granted
+
+abbrev pub opening_seen : Opening → openings.Opening
+opening_seen row = record { promise = row.promise.now; path = row.path.now; calls = row.calls.now; asks_veils = row.asks_veils }
 
 abbrev pub fact_seen : Fact → facts.Fact
 fact_seen (Needs set) = facts.Needs set

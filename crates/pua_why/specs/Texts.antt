@@ -15,6 +15,7 @@ use Rattle.pua_path.specs.declared.traced.PathFault.{PathFault}
 use Rattle.pua_path.specs.declared.traced.PathFault.TheVariants.{InText, NoStart, Stops}
 use Rattle.pua_calls.specs.Promises.{keywords_of, perm_letters}
 use Rattle.pua_calls.specs.Calls.{CallTable}
+use Rattle.pua_calls.specs.declared.rules.Rules.{Rules}
 use Rattle.pua_policy.specs.History.{History, perms_kept}
 use Rattle.pua_policy.specs.Limits.{most_places}
 use Rattle.pua_policy.specs.Verdict.{Object, IsDir, IsFile, IsProg, IsLink, IsMissing, object_of}
@@ -29,13 +30,14 @@ use Rattle.pua_policy.specs.declared.reason.Covering.TheVariants.{InView, NoneOv
 use Rattle.pua_script.specs.Decide.{Side, Sole, Old, New}
 use Rattle.pua_policy.specs.declared.reason.Misfit.{Misfit}
 use Rattle.pua_policy.specs.declared.reason.Misfit.TheVariants.{Missing, Exists, IsDirectory, IsNoFile, IsNoDirectory, IsNoLink}
-use Rattle.pua_policy.specs.declared.reason.Misfit.TheVariants.{IsNoProgram, IsNotEmpty, ByDot, ByDotDot, ByNothing}
+use Rattle.pua_policy.specs.declared.reason.Misfit.TheVariants.{IsNoProgram, IsNotEmpty, ByDot, ByDotDot, ByNothing, IsNoSocket, InUse}
 use Rattle.pua_why.specs.Reasons.{Fault, Ends, LacksPromises, BadTarget, BadPath, Uncovered, LacksLetters, Unfit, Inside, UnknownPromise}
 use Rattle.pua_why.specs.Reasons.{AsksPromises, IsLocked, UnknownLetter, AsksLetters, NoPlaceLeft, NumberTaken, NoProcessLeft, NoRoom}
 use Rattle.pua_why.specs.Reasons.{Reason, NeverMade, Ended, Refused, Granted, reason, answer_of}
 use Rattle.pua_why.specs.Keys.{reason_key}
 use Rattle.pua_why.specs.Since.{Test, since}
 use Rattle.pua_why.specs.Facts.{Fact, Needs, Follows, Names, Under, facts_of}
+use Rattle.pua_why.specs.Openings.{opened_by, opener_text}
 
 -- words with something between them
 abbrev pub joined_words : List ℕ → List (List ℕ) → List ℕ
@@ -120,6 +122,8 @@ misfit_text object IsNotEmpty = object ++ codes " is not empty"
 misfit_text object ByDot = codes "path ends in ."
 misfit_text object ByDotDot = codes "path ends in .."
 misfit_text object ByNothing = codes "path has no component"
+misfit_text object IsNoSocket = object ++ codes " is no socket"
+misfit_text object InUse = object ++ codes " exists"
 
 abbrev pub veil_text : Tree → Place → ℕ → List ℕ
 veil_text t place given = codes "veil " ++ letters_text given ++ codes " on " ++ place_text t place
@@ -184,16 +188,21 @@ date_of reason line = line
 abbrev pub reason_since : CallTable → World → List Asked → Asked → Reason → Option ℕ
 reason_since table w asks ask reason = date_of reason (since (has_key table ask (reason_key reason)) table w 1 asks ask.process)
 
--- an answer after these requests, with its reason, and since which of them it is so
-abbrev pub answer_why : CallTable → World → List Asked → Asked → List ℕ
-answer_why table w asks ask =
+-- since which line a reason is so, and by which promise a kernel does it all the same
+abbrev pub reason_tail : Rules → CallTable → World → Asked → Option ℕ → List ℕ
+reason_tail rules table w ask line = since_text line ++ opener_text (opened_by rules table w ask (reason table w ask))
+
+-- an answer after these requests, with its reason, since which of them it is so, and what opens it by these rules
+abbrev pub answer_why : Rules → CallTable → World → List Asked → Asked → List ℕ
+answer_why rules table w asks ask =
     let left : World = world_after table w asks in
-    answer_words table left ask ++ since_text (reason_since table w asks ask (reason table left ask))
+    answer_words table left ask ++ reason_tail rules table left ask (reason_since table w asks ask (reason table left ask))
 
 -- a line for each request after the first ones, the next of them being line n
-abbrev pub why_lines : CallTable → World → List Asked → ℕ → List Asked → List (List ℕ)
-why_lines table w done n [] = []
-why_lines table w done n (ask ∷ asks) = (decimal n ++ 32 ∷ answer_why table w done ask) ∷ why_lines table w (done ++ ask ∷ []) (suc n) asks
+abbrev pub why_lines : Rules → CallTable → World → List Asked → ℕ → List Asked → List (List ℕ)
+why_lines rules table w done n [] = []
+why_lines rules table w done n (ask ∷ asks) =
+    (decimal n ++ 32 ∷ answer_why rules table w done ask) ∷ why_lines rules table w (done ++ ask ∷ []) (suc n) asks
 
 -- a veil has been on a place, with these permissions
 abbrev pub has_veil_on : Place → ℕ → Test
@@ -238,6 +247,6 @@ abbrev pub fact_text : CallTable → World → List Asked → Asked → Fact →
 fact_text table w asks ask fact = fact_dated (world_after table w asks).tree (veil_since table w asks ask fact) fact
 
 -- all that decides one request after the others, and its answer
-abbrev pub chain : CallTable → World → List Asked → Asked → List (List ℕ)
-chain table w asks ask = map (fact_text table w asks ask) (facts_of table (world_after table w asks) ask) ++ answer_why table w asks ask
-    ∷ []
+abbrev pub chain : Rules → CallTable → World → List Asked → Asked → List (List ℕ)
+chain rules table w asks ask =
+    map (fact_text table w asks ask) (facts_of table (world_after table w asks) ask) ++ answer_why rules table w asks ask ∷ []

@@ -11,6 +11,7 @@ ghost use Rattle.pua_policy.specs.declared.reason.Covering.TheVariants.{By};
 ghost use Rattle.pua_script.specs.Decide.{Change, call_by, object_by, symlink_by, unveil_by};
 ghost use Rattle.pua_script.specs.Decide.{veil_by};
 ghost use Rattle.pua_why.specs.Checked.{refused_by};
+ghost use Rattle.pua_why.specs.Openings.{uncovered_by};
 ghost use Rattle.pua_why.specs.Reasons.{faults, faults_on, place_beyond, uncovered_fault};
 ghost use Rattle.pua_why.specs.Reasons.{unpromised_fault, unveil_beyond_on};
 ghost use Rattle.pua_why.specs.Seen.{fault_seen, side_seen};
@@ -125,7 +126,7 @@ fn lacking<'s>(side: Side, place: &Place, given: Perms, perms: Perms) -> Option<
 }
 
 /// The fault of a call whose promises are held, by what its path names.
-fn object_fault<'s, T: FileTree>(
+pub(crate) fn object_fault<'s, T: FileTree>(
     tree: &T,
     table: &CallTable,
     process: &Process,
@@ -147,6 +148,29 @@ fn object_fault<'s, T: FileTree>(
     if fault.is_some() {
         return fault;
     }
+    let wrong = misfit(&mut probe, call, &found)?;
+    Some(Fault::Unfit(Side::Sole, found, wrong))
+}
+
+/// The fault of a call that neither promises nor veils refuse, by what its path names.
+pub(crate) fn fit_fault<'s, T: FileTree>(
+    tree: &T,
+    table: &CallTable,
+    process: &Process,
+    call: Call,
+    path: &[u8],
+    links: &mut Links,
+) -> Option<Fault<'s>>
+    ensures { (change : founds.Found → Change) → option_map fault_seen result
+        ≡ refused_by (object_by faults table.now (T.content tree.now)
+        (uncovered_by (faults_on process.now)) call path.now (λ object. Ok (change object))) }
+{
+    let mut probe = Counted::new(tree);
+    let last = call.last();
+    let found = match traced(&mut probe, process.dir(), path, ending(call), last, links) {
+        Ok(found) => found,
+        Err(fault) => return Some(Fault::BadPath(Side::Sole, fault)),
+    };
     let wrong = misfit(&mut probe, call, &found)?;
     Some(Fault::Unfit(Side::Sole, found, wrong))
 }

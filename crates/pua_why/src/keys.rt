@@ -244,6 +244,8 @@ fn misfit_number(misfit: Misfit) -> u64
         Misfit::ByDot => 8,
         Misfit::ByDotDot => 9,
         Misfit::ByNothing => 10,
+        Misfit::IsNoSocket => 11,
+        Misfit::InUse => 12,
     }
 }
 

@@ -1,6 +1,6 @@
 //! Laws and worked examples of reasons, each the contract of a function that does nothing.
 
-ghost use Rattle.pua_why.specs.Examples.{WhyRows};
+ghost use Rattle.pua_why.specs.Examples.{OpeningRows, WhyRows};
 ghost use Rattle.pua_why.specs.Laws.{CallFaultsHold, ChainsEnd, GrantsAreTold, PairsAreTold};
 ghost use Rattle.pua_why.specs.Laws.{ReasonsGiveAnswers, ReasonsGiveDecisions};
 ghost use Rattle.pua_why.specs.Laws.{ReasonsGiveVerdicts, ReasonsSince, WhyLinesTellMore};
@@ -10,9 +10,10 @@ ghost use Rattle.pua_why.specs.Since.{SinceHolds};
 ghost use Rattle.pua_why.specs.Truths.{CheckFaultsHold, FullTreesAreFull, RequestFaultsHold};
 ghost use Rattle.pua_why.specs.Unknown.{UnknownsAreTold};
 
-/// Examples of reasons.
+/// Examples of reasons, and of what a kernel opens all the same.
 pub fn why_examples()
-    ensures { WhyRows }
+    ensures reasons { WhyRows }
+    ensures openings { OpeningRows }
 {}
 
 /// A decision is a function of what is reasoned: a reason never contradicts a refusal, nor the

@@ -3,6 +3,7 @@
 
 mod checks;
 mod given;
+mod kernel;
 mod keys;
 mod laws;
 mod pairs;
@@ -12,6 +13,7 @@ mod texts;
 mod told;
 mod tree_paths;
 
+pub use kernel::{Opening, openings, push_opener};
 pub use keys::Key;
 pub use laws::{
     answer_law, chain_law, checks_law, fault_law, line_law, since_law, truth_law, unknown_law,

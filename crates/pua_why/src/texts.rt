@@ -1,6 +1,6 @@
 //! Reasons and facts as they are written.
 
-ghost use Rattle.std.specs.Prelude.{◌≡◌, ◌≤◌, ◌++◌, ◌∷◌, [], codes, if◌then◌else◌, IfOk, OnOk, map};
+ghost use Rattle.std.specs.Prelude.{◌≡◌, ◌≤◌, ◌++◌, ◌∷◌, [], ℕ, List, codes, if◌then◌else◌, IfOk, OnOk, map};
 ghost use Rattle.std.specs.Prelude.{length, string_bytes};
 ghost use Rattle.pua_calls.specs.Promises.{lacking};
 ghost use Rattle.pua_path.specs.declared.traced.PathFault.TheVariants as faults;
@@ -398,18 +398,33 @@ fn push_misfit<T: FileTree>(
         ≡ string_bytes text.old ++ misfit_text (found_text paths.old.tree found.now) misfit) }
     ensures tree { paths.new.tree ≡ paths.old.tree }
 {
+    let (of_object, words) = misfit_words(misfit);
+    if of_object {
+        push_so(text, paths, found, words)
+    } else {
+        text.push_str(words)
+    }
+}
+
+/// What is told of a misfit, and whether what was found stands before it.
+fn misfit_words(misfit: Misfit) -> (bool, &'static str)
+    ensures { (object : List ℕ) → misfit_text object misfit
+        ≡ (if result.0 then object ++ result.1.now else result.1.now) }
+{
     match misfit {
-        Misfit::Missing => push_so(text, paths, found, " is missing"),
-        Misfit::Exists => push_so(text, paths, found, " exists"),
-        Misfit::IsDirectory => push_so(text, paths, found, " is a directory"),
-        Misfit::IsNoFile => push_so(text, paths, found, " is a directory"),
-        Misfit::IsNoDirectory => push_so(text, paths, found, " is no directory"),
-        Misfit::IsNoLink => push_so(text, paths, found, " is no link"),
-        Misfit::IsNoProgram => push_so(text, paths, found, " is no program"),
-        Misfit::IsNotEmpty => push_so(text, paths, found, " is not empty"),
-        Misfit::ByDot => text.push_str("path ends in ."),
-        Misfit::ByDotDot => text.push_str("path ends in .."),
-        Misfit::ByNothing => text.push_str("path has no component"),
+        Misfit::Missing => (true, " is missing"),
+        Misfit::Exists => (true, " exists"),
+        Misfit::IsDirectory => (true, " is a directory"),
+        Misfit::IsNoFile => (true, " is a directory"),
+        Misfit::IsNoDirectory => (true, " is no directory"),
+        Misfit::IsNoLink => (true, " is no link"),
+        Misfit::IsNoProgram => (true, " is no program"),
+        Misfit::IsNotEmpty => (true, " is not empty"),
+        Misfit::ByDot => (false, "path ends in ."),
+        Misfit::ByDotDot => (false, "path ends in .."),
+        Misfit::ByNothing => (false, "path has no component"),
+        Misfit::IsNoSocket => (true, " is no socket"),
+        Misfit::InUse => (true, " exists"),
     }
 }
 

@@ -3,7 +3,7 @@ use Rattle.std.specs.Prelude.{ℕ, ◌≡◌, ◌≤◌, ◌==◌, ⊤, Bool, tr
 use Rattle.std.specs.List.{All, slice_split}
 use Rattle.std.specs.Str.Parse.{digits_value, without_leading_plus}
 use Rattle.pua_words.specs.declared.command.Text.{Text}
-use Rattle.pua_words.specs.declared.command.Text.TheVariants.{Run, RunWhy, Why, Audit, Objects, ObjectsWhy, Ever, Together}
+use Rattle.pua_words.specs.declared.command.Text.TheVariants.{Run, RunWhy, Why, Audit, Objects, ObjectsWhy, Ever, EverHow, Together}
 use Rattle.pua_words.specs.declared.command.Text.TheVariants.{Tight, TightWhy, How}
 use Rattle.pua_words.specs.declared.command.Members.{Members}
 use Rattle.pua_words.specs.declared.command.Members.TheVariants.{Named}
@@ -49,6 +49,7 @@ AsksSoundly (Audit words) = IsProcessNumber words.process
 AsksSoundly (Objects words) = MayBeAsked words.processes
 AsksSoundly (ObjectsWhy words) = MayBeAsked words.processes
 AsksSoundly (Ever words) = IsProcessNumber words.process
+AsksSoundly (EverHow words) = IsProcessNumber words.process
 AsksSoundly (Together words) = MayBeMembers words.members
 AsksSoundly Tight = ⊤
 AsksSoundly TightWhy = ⊤
@@ -72,3 +73,8 @@ list_asked false true processes = Some (ObjectsWhy (record { processes = process
 list_asked true false (One process) = Some (Ever (record { process = process }))
 list_asked true false processes.All = Some (Together (record { members = members.All }))
 list_asked true true processes = None
+
+-- the list for ever with the steps of ways is asked for of one process, without reasons
+abbrev pub how_list_asked : Bool → Bool → Option Processes → Option Text
+how_list_asked true false (Some (One process)) = Some (EverHow (record { process = process }))
+how_list_asked _ _ _ = None

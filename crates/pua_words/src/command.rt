@@ -37,6 +37,8 @@ pub enum Text<'a> {
     ObjectsWhy(ObjectWords),
     /// The same as a run's, and then all that a process and what it forks can ever touch.
     Ever(EverWords),
+    /// The same, with the number of steps of a way to each call that the list of now lacks.
+    EverHow(EverWords),
     /// The same as a run's, and then all that several processes and what they fork can ever touch
     /// together.
     Together(TogetherWords),

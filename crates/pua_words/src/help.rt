@@ -6,7 +6,7 @@ pub(crate) const PROGRAM_USAGE: &str =
 
 /// How a list of objects is asked for, of now or for ever, in one line.
 pub(crate) const OBJECTS_USAGE: &str =
-    "pua: usage: pua objects [--ever|--why] [--process P,...|all] [--rules profile|openbsd] [--table FILE] TREE SCRIPT";
+    "pua: usage: pua objects [--ever [--how]|--why] [--process P,...|all] [--rules profile|openbsd] [--table FILE] TREE SCRIPT";
 
 /// How it is asked why a request is answered as it is, in one line.
 pub(crate) const WHY_USAGE: &str =
@@ -54,6 +54,8 @@ pub(crate) const EVER: &str = "List all that it and what it forks can ever touch
 
 pub(crate) const RUN_WHY: &str = "Say why, behind each answer that is not ok";
 
+pub(crate) const EVER_HOW: &str = "Say in how many steps a call comes, with --ever";
+
 pub(crate) const OBJECTS_WHY: &str = "Say by which promises, and by which veil";
 
 pub(crate) const TIGHT_WHY: &str = "Say by which line each promise and letter is needed";
@@ -62,7 +64,7 @@ pub(crate) const CALL: &str = "The call, spelled as in SCRIPT";
 
 pub(crate) const ARGUMENTS: &str = "Its arguments, spelled as in SCRIPT";
 
-pub(crate) const HOW_CALL: &str = "The call, one of those from stat to exec";
+pub(crate) const HOW_CALL: &str = "The call, one with one path";
 
 pub(crate) const HOW_PATH: &str = "What it is about, as a list for ever prints it, or `new`";
 
@@ -102,7 +104,8 @@ the rules: all promises of one of some lists, and letters of a veil.
   veil = \"c\"
 
 With `--rules openbsd` chmod, rename and link need what OpenBSD is known to ask
-of them, and execpromises stay after an exec. This was tried on no kernel.
+of them, connect and bind of a socket at a path, mknod and chown are calls, and
+execpromises stay after an exec. This was tried on no kernel.
 
 In names and paths a backslash, and each byte that is not visible ASCII, is
 written as a backslash and three octal digits: `a\\040b`.
@@ -120,6 +123,7 @@ macro_rules! with_calls_and_faults {
 A line of SCRIPT is a process P, a call and its arguments, one blank between:
   P stat|lstat|readlink|open-r|open-w|open-rw|create PATH
   P mkdir|rmdir|unlink|chmod|chdir|exec PATH
+  P connect|bind|mknod|chown PATH (with `--rules openbsd` alone)
   P symlink TARGET PATH
   P rename|link OLD NEW
   P pledge PROMISES EXECPROMISES  (with commas between; - is NULL, = is none)
@@ -129,7 +133,8 @@ A line of SCRIPT is a process P, a call and its arguments, one blank between:
 
 A fault is one line on standard error. It says, or most often comes from:
   table: bad toml      FILE is no TOML document
-  table: bad key       a key is not the name of a call from stat to exec
+  table: bad key       a key is not the name of a call from stat to exec, nor of
+                       connect to chown with `--rules openbsd`
   table: .. bad row    not the two keys `promises`, an array, and `veil`, a text
   table: .. bad promises, bad veil
                        an unknown keyword or letter; no row may have `error`
@@ -237,8 +242,10 @@ Example: pua how TREE SCRIPT open-r /in/secret",
   process P can still unveil
                        it has to be locked, or without the promise `unveil`
   table: CALL: no c    by the table rmdir, unlink, create, mkdir, symlink,
-                       rename and link all have to need the letter c
-  how: bad call        CALL is none of those from stat to exec
+                       bind, mknod, rename and link all have to need the letter
+                       c
+  how: bad call        CALL is none of those from stat to exec, nor connect to
+                       chown with `--rules openbsd`
   how: bad path        PATH is neither `new` nor `/` with names, as in a list
   how: no such thing   what stands before the last name of PATH is no directory,
                        or nothing there is of this KIND"
@@ -278,6 +285,11 @@ It is a list of one process, which can put no veil any more. With `--process
 together; those of them that live need the same veils. Then the heading is
 `ever 1,2`, and a state has the number in its first line: `process 2 ended`.
 
+With `--ever --how` a line with calls that the list of now lacks on what it is
+about has one column more: each of these calls with the number of steps of a way
+to it, as `open-w 2,chmod 2`; ? where none is found. `pua how` with this CALL,
+PATH and KIND prints a way. Each such call takes a serving of SCRIPT or two.
+
 With `--why` an answer that is not ok has its reason, as of `pua run --why`, and
 behind CALLS a line has `PROMISES PLACE LETTERS LINE`: the promises by which
 these calls are let through, = for none, and of the veil that covers PATH its
@@ -291,7 +303,8 @@ Example: pua objects --process all TREE SCRIPT",
                        `--ever` is for a process that is locked, or without the
                        promise `unveil`
   table: CALL: no c    `--ever` is for a table by which rmdir, unlink, create,
-                       mkdir, symlink, rename and link all need the letter c
+                       mkdir, symlink, bind, mknod, rename and link all need
+                       `c`
   processes P and Q have other veils
                        `--ever` of several is for processes of the same veils"
 );

@@ -6,7 +6,7 @@ ghost use Rattle.std.specs.List.{All};
 ghost use Rattle.clap.specs.Matches.{first_value, found_of};
 ghost use Rattle.pua_objects.specs.Lines.{kind_word};
 ghost use Rattle.pua_words.specs.Commands.{AreIn, AsksSoundly, IsProcessNumber, IsTextOf, MayBeAsked};
-ghost use Rattle.pua_words.specs.Commands.{list_asked, run_asked, tight_asked};
+ghost use Rattle.pua_words.specs.Commands.{how_list_asked, list_asked, run_asked, tight_asked};
 ghost use Rattle.pua_words.specs.Usages.{AsksAbout, IsStop, is_about};
 
 use crate::command::{
@@ -129,6 +129,7 @@ fn run_command<'a>(alloc: Global) -> Built<'a> {
 fn objects_command<'a>(alloc: Global) -> Built<'a> {
     let objects = command(alloc, "objects", help::OBJECTS, help::OBJECTS_OUTPUT);
     let objects = with(objects, flag(alloc, "ever", help::EVER));
+    let objects = with(objects, flag(alloc, "how", help::EVER_HOW));
     let objects = with(objects, flag(alloc, "why", help::OBJECTS_WHY));
     let objects = with(objects, processes(alloc));
     with_inputs(alloc, objects)
@@ -359,13 +360,17 @@ fn tight_of<'a>(why: bool) -> Text<'a>
 }
 
 /// The list of objects that the words ask for, of now or for ever. None where they name no process,
-/// and where a list for ever is asked for with reasons, or one of now of several numbers.
+/// and where a list for ever is asked for with reasons, or one of now of several numbers, or the steps of
+/// ways of any other list than that for ever of one process.
 fn read_objects<'a>(alloc: Global, found: &ArgMatches<'a>) -> Result<Option<Text<'a>>, AllocError>
     ensures { IfOk result (λ text. IfSome text AsksSoundly) }
 {
     let ever = found.get_flag("ever");
     let why = found.get_flag("why");
     let process = found.get_str("process");
+    if found.get_flag("how") {
+        return Ok(how_list_of(ever, why, read_processes(process)));
+    }
     if let Some(processes) = read_processes(process) {
         return Ok(list_of(ever, why, processes));
     }
@@ -393,6 +398,19 @@ fn list_of<'a>(ever: bool, why: bool, processes: Processes) -> Option<Text<'a>>
             members: Members::All,
         })),
         (true, true, _) => None,
+    }
+}
+
+/// The list for ever with the steps of ways, which is of one process, and has no reasons.
+fn how_list_of<'a>(ever: bool, why: bool, processes: Option<Processes>) -> Option<Text<'a>>
+    ensures asked { result ≡ how_list_asked ever why processes }
+    ensures sound { IfSome processes MayBeAsked → IfSome result AsksSoundly }
+{
+    match (ever, why, processes) {
+        (true, false, Some(Processes::One(process))) => {
+            Some(Text::EverHow(EverWords { process }))
+        }
+        _ => None,
     }
 }
 

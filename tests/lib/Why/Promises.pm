@@ -42,12 +42,13 @@ sub _held {
     return "with $set pledged it is told $told->{reason}";
 }
 
-# Only where the lines before it are answered as they were is it the same process.
+# Only where the lines before it are answered as they were is it the same process. Where another set is whole then, nothing is lacking.
 sub _held_but_one {
     my ($case, $sets, @held) = @_;
     my $script = _more_promises($case->{script}, @held);
     return '' if !$case->{world}->is_alike($script, $case->{answers});
     my @rest = map { join ',', without([ ',', join ',', @held ], split /,/) } @$sets;
+    return '' if grep { $_ eq '' } @rest;
     my $told = $case->{world}->told($script, $case->{request});
     my $reason = join ', ', map { "no $_" } @rest;
     return '' if defined $told->{reason} && $told->{reason} eq $reason;

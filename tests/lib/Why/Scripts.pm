@@ -74,7 +74,7 @@ sub refused_script {
     my ($worlds) = @_;
     my @veils = map { "$_ unveil " . $worlds->pick('/', _high($worlds)) . ' ' . $worlds->pick(@LETTERS) } 1, 1, 2;
     my @lines = ('1 fork ' . OBSERVER, '1 fork 2', @veils, $worlds->pick(1, 2) . ' fork 3');
-    push @lines, '3 pledge ' . $worlds->pick(@FEW) . ' ' . $worlds->pick(@PROMISES);
+    push @lines, '3 pledge ' . $worlds->promises(@FEW) . ' ' . $worlds->promises(@PROMISES);
     push @lines, map { $worlds->number(4) ? _drawn($worlds) : $worlds->requests(1, 1 .. 3) } 1 .. 22;
     return [ map { split /\n/ } @lines ];
 }
@@ -95,9 +95,9 @@ sub _drawn {
         PATH     => sub { $worlds->path },
         HIGH     => sub { _high($worlds) },
         NAME     => sub { $worlds->name },
-        CALL     => sub { $worlds->pick(@CALLS) },
+        CALL     => sub { $worlds->pick(@CALLS, $worlds->{further} ? qw(connect bind bind mknod mknod chown) : ()) },
         LETTERS  => sub { $worlds->pick(@LETTERS) },
-        PROMISES => sub { $worlds->pick(@PROMISES) },
+        PROMISES => sub { $worlds->promises(@PROMISES) },
     );
     return $request =~ s/([A-Z]+)/$drawn{$1} ? $drawn{$1}->() : $TEXT{$1}/ger;
 }

@@ -17,6 +17,7 @@ our %FAULT_OF = (
     'directory'    => \&_directory,
     'no link'      => \&_no_link,
     'no program'   => \&_no_program,
+    'no socket'    => \&_no_socket,
     'not empty'    => \&_not_empty,
     'inside'       => \&_inside,
     'removed'      => \&_removed,
@@ -82,6 +83,17 @@ sub _no_program {
     return '' if !@programs;
     my @lines = (_moves($path), OBSERVER . " link $programs[0] $path");
     return same_words_fault($case, told_behind($case, @lines), "though $path is a program");
+}
+
+# Each file may be a socket.
+sub _no_socket {
+    my ($case, $path) = @_;
+    my $kind = things_of($case)->{$path};
+    return "$path isn't there" if !defined $kind;
+    return "$path may be one" if $kind eq 'file';
+    return _root_fault($case) if $path eq '/';
+    my @lines = (_moves($path), OBSERVER . " create $path");
+    return same_words_fault($case, told_behind($case, @lines), "though $path is a file");
 }
 
 sub _not_empty {

@@ -31,10 +31,11 @@ my @KINDS = (
     [ 'links',           qr/ELOOP/,         qr/($PATH) is link 33/ ],
     [ 'no veil',         qr/ENOENT/,        qr/no veil on ($PATH) or above/ ],
     [ 'letters',         qr/EACCES/,        qr/no ($LETTER) in veil ($LETTER) on ($PATH)/ ],
-    [ 'exists',          qr/EEXIST/,        qr/($PATH) exists/ ],
+    [ 'exists',          qr/EEXIST|EADDRINUSE/, qr/($PATH) exists/ ],
     [ 'directory',       qr/EISDIR|EPERM/,  qr/($PATH) is a directory/ ],
     [ 'no link',         qr/EINVAL/,        qr/($PATH) is no link/ ],
     [ 'no program',      qr/EACCES/,        qr/($PATH) is no program/ ],
+    [ 'no socket',       qr/ENOTSOCK/,      qr/($PATH) is no socket/ ],
     [ 'not empty',       qr/ENOTEMPTY/,     qr/($PATH) is not empty/ ],
     [ 'dots',            qr/EINVAL/,        qr/path ends in (\.\.?)/ ],
     [ 'no component',    qr/EBUSY/,         qr/path has no component/ ],
@@ -165,7 +166,8 @@ sub shown {
 sub told_of {
     my ($line) = @_;
     my %told;
-    @told{qw(answer reason since)} = $line =~ /\A(?:\d+ )?(\S+)(?: (.+?))?(?: since line ([1-9]\d*))?\z/
+    my $opened = qr/, a kernel opens it by [a-z]+/;
+    @told{qw(answer reason since)} = $line =~ /\A(?:\d+ )?(\S+)(?: (.+?))?(?: since line ([1-9]\d*))?(?:$opened)?\z/
         or die "no line with a reason: $line\n";
     return \%told if !defined $told{reason};
     my ($side, $words) = $told{reason} =~ /\A(?:(old|new): )?(.*)\z/;

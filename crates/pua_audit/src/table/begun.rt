@@ -179,7 +179,7 @@ impl Terms {
 fn walk_after(
     alloc: Global,
     tables: Tables,
-    calls: u16,
+    calls: u32,
     base: Option<State>,
     limit: usize,
     after: Option<Resumption>,

@@ -26,7 +26,7 @@ pub enum TableFault {
     /// The text is no TOML document, or not UTF-8.
     #[error("bad toml")]
     BadToml,
-    /// A key of the document is not the name of a call.
+    /// A key of the document is not the name of a call that the table has over which it is read.
     #[error("bad key")]
     BadKey,
     /// The value of this call is not a table with exactly the keys `promises`, an array of 1 to 8
@@ -66,9 +66,9 @@ impl CallTable {
         CallTable::standard().read_over(alloc, text)
     }
 
-    /// The table that a TOML text gives over this one: what `read` answers, but that calls which the
-    /// text does not name, rename and link need what they need by this table, and an exec leaves of
-    /// execpromises what it leaves by this table.
+    /// The table that a TOML text gives over this one: what `read` answers, but that the keys are
+    /// names of calls that this table has; calls which the text does not name, rename and link need
+    /// what they need by this table, and an exec leaves of execpromises what it leaves by it.
     pub fn read_over(&self, alloc: Global, text: &[u8]) -> Result<CallTable, TableFault>
         ensures read { IfOk result (λ table. table_over self.now text.now ≡ Ok table) }
         ensures pairs { IfOk result (HasPairsOf self.now) }
@@ -107,7 +107,7 @@ fn with_rows(base: CallTable, document: &Table) -> Result<CallTable, TableFault>
 {
     let mut table = base;
     for (key, value) in document {
-        let Some(call) = Call::read(key.as_bytes()) else {
+        let Some(call) = table.call_named(key.as_bytes()) else {
             return Err(TableFault::BadKey);
         };
         table.set(call, row(call, value)?);

@@ -1,5 +1,5 @@
 use Rattle.pua_ever.proofs.Common.{refl, arith}
-use Rattle.pua_ever.proofs.OneByOne.{JointGo, joint_done, joint_next}
+use Rattle.pua_ever.proofs.OneByOne.{joint_done, joint_next}
 use Rattle.pua_ever.proofs.joining.joint_after.Goals as goal
 
 pub loop-process-init : goal.loop-process-init

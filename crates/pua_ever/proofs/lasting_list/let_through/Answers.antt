@@ -1,4 +1,4 @@
-use Rattle.pua_ever.proofs.Common.{[], refl, sym, subst, arith}
+use Rattle.pua_ever.proofs.Common.{refl, sym, subst, arith}
 use Rattle.std.proofs.Common.{◌+◌, drop}
 use Rattle.pua_ever.proofs.RowsLast.{Through, through_more, all_through}
 use Rattle.pua_ever.proofs.lasting_list.let_through.Goals as goal

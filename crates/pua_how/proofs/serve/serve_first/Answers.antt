@@ -9,14 +9,14 @@ use Rattle.pua_how.proofs.serve.serve_first.Goals as goal
 
 pub loop-step-preserved : goal.loop-step-preserved
 loop-step-preserved g c = record {
-  granted = subst (λ (lines : List WayLine). AreGranted c.args.world.now c.args.process lines c.answered.new.world) (sym c.in_ok-push.ensures.items)
-      (one_more c.args.world.now c.loop-step.world c.answered.new.world c.args.process c.loop-step.lines.items c.in-Some.line
+  granted = subst (λ (lines : List WayLine). AreGranted c.args.rules c.args.world.now c.args.process lines c.answered.new.world) (sym c.in_ok-push.ensures.items)
+      (one_more c.args.rules c.args.world.now c.loop-step.world c.answered.new.world c.args.process c.loop-step.lines.items c.in-Some.line
       c.loop-step.invariant.granted
-      (subst (λ (o : Option WayLine). IfSome o (IsLine c.args.process)) c.in-Some.is c.in_ok-line.ensures.own)
+      (subst (λ (o : Option WayLine). IfSome o (IsLine c.args.rules c.args.process)) c.in-Some.is c.in_ok-line.ensures.own)
       c.in_ok-answered.field-0 c.in-Okay.is c.in_ok-answered.ensures (sym c.is_exec.ensures ∙ c.if-is_exec.false));
-  on = subst (λ (lines : List WayLine). AreOn c.args.world.now c.args.process c.args.steps.now (c.loop-step.step-index + 1) lines c.made_by-made.result)
+  on = subst (λ (lines : List WayLine). AreOn c.args.rules c.args.world.now c.args.process c.args.steps.now (c.loop-step.step-index + 1) lines c.made_by-made.result)
       (sym c.in_ok-push.ensures.items)
-      (step_on c.args.world.now c.loop-step.world c.args.process c.args.steps.now c.loop-step.step-index c.step-item.result
+      (step_on c.args.rules c.args.world.now c.loop-step.world c.args.process c.args.steps.now c.loop-step.step-index c.step-item.result
       c.loop-step.lines.items c.loop-step.made c.loop-step.invariant.granted c.loop-step.invariant.on c.loop-step-test.true c.step-item.is
       (g.T.FileTree.content c.tree.result.now) c.tree.ensures c.in_ok-line.line c.in_ok-line.ensures.asked c.in-Some.line c.in-Some.is
       c.in_ok-answered.field-0 c.answered.new.world c.in_ok-answered.ensures (sym c.is_exec.ensures ∙ c.if-is_exec.false) c.in-Okay.is
@@ -26,14 +26,14 @@ loop-step-preserved g c = record {
 
 pub returns-in_default-clause-on : goal.returns-in_default-clause-on
 returns-in_default-clause-on g c = λ w stands call target last.
-    none_on c.args.world.now c.loop-step.world c.args.process c.args.steps.now c.loop-step.step-index c.step-item.result
+    none_on c.args.rules c.args.world.now c.loop-step.world c.args.process c.args.steps.now c.loop-step.step-index c.step-item.result
     c.loop-step.lines.items c.loop-step.made c.loop-step.invariant.granted c.loop-step.invariant.on c.loop-step-test.true c.step-item.is
     (g.T.FileTree.content c.tree.result.now) c.tree.ensures c.in_ok-line.line c.in_ok-line.ensures.asked w stands call target last
     c.in_default.not-Some
 
 pub returns-then-is_exec-clause-on : goal.returns-then-is_exec-clause-on
 returns-then-is_exec-clause-on g c = λ w stands call target last.
-    exec_on c.args.world.now c.loop-step.world c.args.process c.args.steps.now c.loop-step.step-index c.step-item.result
+    exec_on c.args.rules c.args.world.now c.loop-step.world c.args.process c.args.steps.now c.loop-step.step-index c.step-item.result
     c.loop-step.lines.items c.loop-step.made c.loop-step.invariant.granted c.loop-step.invariant.on c.loop-step-test.true c.step-item.is
     (g.T.FileTree.content c.tree.result.now) c.tree.ensures c.in_ok-line.line c.in_ok-line.ensures.asked w stands call target last
     c.in-Some.line c.in-Some.is (sym c.is_exec.ensures ∙ c.if-is_exec.true)
@@ -42,7 +42,7 @@ pub returns-in_default-2 : goal.returns-in_default-2
 returns-in_default-2 g c = record {
   granted = tt;
   on = λ w stands call target last.
-      refused_on c.args.world.now c.loop-step.world c.args.process c.args.steps.now c.loop-step.step-index c.step-item.result
+      refused_on c.args.rules c.args.world.now c.loop-step.world c.args.process c.args.steps.now c.loop-step.step-index c.step-item.result
       c.loop-step.lines.items c.loop-step.made c.loop-step.invariant.granted c.loop-step.invariant.on c.loop-step-test.true c.step-item.is
       (g.T.FileTree.content c.tree.result.now) c.tree.ensures c.in_ok-line.line c.in_ok-line.ensures.asked w stands call target last
       c.in-Some.line c.in-Some.is c.in_ok-answered.field-0 c.answered.new.world c.in_ok-answered.ensures

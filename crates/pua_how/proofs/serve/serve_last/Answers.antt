@@ -7,8 +7,8 @@ use Rattle.pua_how.proofs.serve.serve_last.Goals as goal
 
 pub returns-clause-way : goal.returns-clause-way
 returns-clause-way g c = λ before granted.
-    subst (λ (lines : List WayLine). AreWay before c.args.process c.args.call c.args.target.now lines) (sym c.in_ok-push.ensures.items)
-    (last_one before c.args.world.now c.answered.new.world c.args.process c.args.served.lines.items c.in-Some.line granted
-    (subst (λ (o : Option WayLine). IfSome o (IsLine c.args.process)) c.in-Some.is c.in_ok-line.ensures.own)
+    subst (λ (lines : List WayLine). AreWay c.args.rules before c.args.process c.args.call c.args.target.now lines) (sym c.in_ok-push.ensures.items)
+    (last_one c.args.rules before c.args.world.now c.answered.new.world c.args.process c.args.served.lines.items c.in-Some.line granted
+    (subst (λ (o : Option WayLine). IfSome o (IsLine c.args.rules c.args.process)) c.in-Some.is c.in_ok-line.ensures.own)
     c.in_ok-answered.field-0 c.in-Okay.is c.in_ok-answered.ensures c.args.call c.args.target.now
     (c.is_asked.ensures.call c.if-not-is_asked.false))

@@ -5,5 +5,5 @@ use Rattle.pua_script.proofs.Reading.{many_arguments}
 use Rattle.pua_script.proofs.line.read_action.Goals as goal
 
 pub returns-in_default : goal.returns-in_default
-returns-in_default c = λ other. many_arguments c.args.origin.line c.args.fields.now (omega arith) ∙
+returns-in_default c = λ other. many_arguments c.args.rules c.args.origin.line c.args.fields.now (omega arith) ∙
     ap (λ (origin : LineOf). Err (BadCall origin.line)) (sym c.origin.view_is)

@@ -26,4 +26,4 @@ returns g c w stands told after_stands same =
     sym (λ i. (apply (now i) (world_after (now i) w asks) ask).0))
     (facts ∙ sym (λ i. facts_of (now i) (world_after (now i) w asks) ask))
     (subst (λ t. AreDatesOf t w asks ask (map fact_seen c.as_slice-passed.result.now) c.in_ok-dates.dates) (sym now) dates)
-    ∙ (λ i. flat_map with_end (chain (now i) w asks ask))
+    ∙ (λ i. flat_map with_end (chain c.args.rules (now i) w asks ask))

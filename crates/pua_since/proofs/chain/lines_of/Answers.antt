@@ -1,5 +1,5 @@
 use Rattle.pua_since.proofs.Common.{◌≡◌, ◌∙◌, ◌++◌, ◌∷◌, [], sym, ap, map, flat_map, append_assoc, append-nil, string_bytes, inl, inr, ◌⊎◌}
-use Rattle.pua_since.proofs.Common.{iter_rest, with_end, apply, world_after, Asked, reason, fact_seen, date_of, since_text, answer_words}
+use Rattle.pua_since.proofs.Common.{iter_rest, with_end, apply, world_after, Asked, reason, fact_seen, date_of, reason_tail, answer_words}
 use Rattle.std.proofs.lemmas.Slice.Zip.{Zip-more, either_empty_from_Zip}
 use Rattle.pua_why.specs.Texts.{fact_dated}
 use Rattle.pua_since.proofs.Chained.{chained, dated_lines, none_left, one_line}
@@ -50,14 +50,14 @@ returns g c w done stands told are dated =
     c.loop-fact.invariant.told ∙ ap (λ lines. string_bytes c.loop-fact.text ++ flat_map with_end lines) (none_left t _ _ empty) ∙
     append-nil (string_bytes c.loop-fact.text) in
     let answered : string_bytes c.push_answer.new.text ≡ string_bytes c.loop-fact.text
-    ++ (answer_words table left asked ++ since_text (date_of (reason table left asked) c.args.dates.now.answer)) =
+    ++ (answer_words table left asked ++ reason_tail c.args.rules table left asked (date_of (reason table left asked) c.args.dates.now.answer)) =
     c.in_ok-push_answer.ensures left stands (told ∙ sym (λ i. (apply table left (same i)).0)) in
     c.in_ok-push_str-2.ensures.bytes
     ∙ ap (λ text. text ++ 10 ∷ []) (answered ∙
     (λ i. string_bytes c.loop-fact.text
-    ++ (answer_words table left (same i) ++ since_text (date_of (reason table left (same i)) c.args.dates.now.answer))))
+    ++ (answer_words table left (same i) ++ reason_tail c.args.rules table left (same i) (date_of (reason table left (same i)) c.args.dates.now.answer))))
     ∙ append_assoc (string_bytes c.loop-fact.text) _ (10 ∷ [])
-    ∙ chained table w done c.args.request.now (map fact_seen c.args.passed.now) c.args.dates.now t (string_bytes c.loop-fact.text)
+    ∙ chained c.args.rules table w done c.args.request.now (map fact_seen c.args.passed.now) c.args.dates.now t (string_bytes c.loop-fact.text)
     stands.tree are dated (sym so_far)
   where
     by : (iter_rest c.loop-fact.fact-iterator.a ≡ []) ⊎ (iter_rest c.loop-fact.fact-iterator.b ≡ []) →

@@ -1,9 +1,8 @@
-use Rattle.pua_since.proofs.Common.{◌≡◌, ◌∙◌, ap, sym, ◌++◌, string_bytes, Asked, since_text}
-use Rattle.std.proofs.Common.{OnOk}
+use Rattle.pua_since.proofs.Common.{◌≡◌, ◌∙◌, ap, sym, ◌++◌, string_bytes, Asked}
 use Rattle.std.proofs.lemmas.Result.{on_ok_weaker}
 use Rattle.pua_script.specs.AnswerTexts.{answer_text}
 use Rattle.pua_why.specs.Seen.{reason_seen}
-use Rattle.pua_why.specs.Texts.{reason_text, spaced_words}
+use Rattle.pua_why.specs.Texts.{reason_text, since_text, spaced_words}
 use Rattle.pua_why.proofs.ForCallers.{pushed_so}
 use Rattle.pua_since.proofs.Answered.{okay_told, told_in_parts}
 use Rattle.pua_since.proofs.reason_line.push_answer.Goals as goal
@@ -11,22 +10,21 @@ use Rattle.pua_since.proofs.reason_line.push_answer.Goals as goal
 pub returns-in-Okay : goal.returns-in-Okay
 returns-in-Okay g c = pushed_so c.push_str.result _ _ _ c.push_str.ensures.bytes λ pushed w stands told.
     let ask : Asked = record { process = c.args.process; action = c.args.action.now } in
-    pushed ∙ ap (λ text. string_bytes c.args.text.now ++ text) (sym (okay_told c.args.world.now.table w ask c.args.line (sym c.in-Okay.is ∙
+    pushed ∙ ap (λ text. string_bytes c.args.text.now ++ text) (sym (okay_told c.args.rules c.args.world.now.table w ask c.args.line (sym c.in-Okay.is ∙
     told)))
 
 pub returns : goal.returns
 returns g c =
-    let last : OnOk c.push_since.result (string_bytes c.push_since.new.text ≡ string_bytes c.push_words.new.text
-    ++ since_text c.date_of.result) = c.push_since.ensures in
+    let ask : Asked = record { process = c.args.process; action = c.args.action.now } in
+    let dated : string_bytes c.push_since.new.text ≡ string_bytes c.push_words.new.text ++ since_text c.date_of.result =
+    c.in_ok-push_since.ensures in
     let answered : string_bytes c.write.new.self ≡ string_bytes c.args.text.now ++ answer_text c.args.answer =
     c.in_ok-write.ensures.bytes in
     let worded : string_bytes c.push_words.new.text ≡ string_bytes c.write.new.self
     ++ spaced_words (reason_text c.args.world.now.tree (reason_seen c.in-Ok.reason)) = c.in_ok-push_words.ensures in
-    on_ok_weaker c.push_since.result (λ dated w stands told.
-    told_in_parts c.args.world.now.table w (record { process = c.args.process; action = c.args.action.now }) c.args.line c.args.answer
-    (reason_seen c.in-Ok.reason)
+    on_ok_weaker c.push_opener.result (λ opened w stands told.
+    told_in_parts c.args.rules c.args.world.now.table w ask c.args.line c.args.answer (reason_seen c.in-Ok.reason)
     (string_bytes c.args.text.now) (string_bytes c.write.new.self) (string_bytes c.push_words.new.text) (string_bytes c.push_since.new.text)
-    told
-    (c.in-Ok.ensures w stands told) answered
+    (string_bytes c.push_opener.new.text) told (c.in-Ok.ensures w stands told) answered
     (worded ∙ ap (λ t. string_bytes c.write.new.self ++ spaced_words (reason_text t (reason_seen c.in-Ok.reason))) stands.tree)
-    (dated ∙ ap (λ line. string_bytes c.push_words.new.text ++ since_text line) c.date_of.ensures)) last
+    (dated ∙ ap (λ line. string_bytes c.push_words.new.text ++ since_text line) c.date_of.ensures) (opened w stands)) c.push_opener.ensures

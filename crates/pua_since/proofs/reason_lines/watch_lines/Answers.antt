@@ -15,9 +15,9 @@ loop-done-init g c =
     let count : c.into_iter-done-iterator.result.count ≡ 0 = cc in
     let none : length c.new-known.result.entries ≡ 0 = c.new-known.ensures.len in
     record {
-      known = λ read k d less. absurd (omega (arith, none, less));
-      lines = λ read. (1, ap (requests_of 1) all ∙ all_read c.args.script_bytes.now c.args.requests.now read ∙ sym (ap Ok requests));
-      places = λ read later rest kept at.
+      known = λ rules read k d less. absurd (omega (arith, none, less));
+      lines = λ rules read. (1, ap (requests_of rules 1) all ∙ all_read rules c.args.script_bytes.now c.args.requests.now read ∙ sym (ap Ok requests));
+      places = λ rules read later rest kept at.
           subst (λ places. ArePlacesOf later 0 c.args.requests.now c.args.answers.now places)
           (sym (ap (λ places. places ++ rest) c.new-places.ensures.items))
           (subst (λ (X : Type 0). X) (λ i. ArePlacesOf later (count i) (requests i) (told i) rest) at);
@@ -31,13 +31,13 @@ loop-done-preserved-in-Okay g c =
     let so = c.loop-done.invariant in
     record {
       known = so.known;
-      lines = λ read.
-          let first = first_read (so.lines read).0 c.in-Some.line.now c.next.new.self.iter.a c.in-Some.request.now
+      lines = λ rules read.
+          let first = first_read rules (so.lines rules read).0 c.in-Some.line.now c.next.new.self.iter.a c.in-Some.request.now
           (iter_rest c.next.new.self.iter.b.a)
-          (sym (ap (requests_of (so.lines read).0) steps.0.0) ∙ (so.lines read).1 ∙ ap Ok steps.0.1.0) in
-          (suc (so.lines read).0, first.1);
-      places = λ read later rest kept at.
-          so.places read later rest kept
+          (sym (ap (requests_of rules (so.lines rules read).0) steps.0.0) ∙ (so.lines rules read).1 ∙ ap Ok steps.0.1.0) in
+          (suc (so.lines rules read).0, first.1);
+      places = λ rules read later rest kept at.
+          so.places rules read later rest kept
           (passed later c.loop-done.done-iterator.count c.next.new.self.count c.in-Some.request.now c.in-Some.answer.now _ _ _ _ rest
           steps.0.1.0 steps.0.1.1 c.in-Okay.is steps.2 at);
       watched = so.watched;
@@ -50,26 +50,26 @@ loop-done-preserved g c =
     let so = c.loop-done.invariant in
     let kept_now = c.in_ok-place.ensures.kept in
     record {
-      known = λ read.
-          let first = first_read (so.lines read).0 c.in-Some.line.now c.next.new.self.iter.a c.in-Some.request.now
+      known = λ rules read.
+          let first = first_read rules (so.lines rules read).0 c.in-Some.line.now c.next.new.self.iter.a c.in-Some.request.now
           (iter_rest c.next.new.self.iter.b.a)
-          (sym (ap (requests_of (so.lines read).0) steps.0.0) ∙ (so.lines read).1 ∙ ap Ok steps.0.1.0) in
-          c.in_ok-place.ensures.known (so.lines read).0 (so.known read) first.0;
-      lines = λ read.
-          let first = first_read (so.lines read).0 c.in-Some.line.now c.next.new.self.iter.a c.in-Some.request.now
+          (sym (ap (requests_of rules (so.lines rules read).0) steps.0.0) ∙ (so.lines rules read).1 ∙ ap Ok steps.0.1.0) in
+          c.in_ok-place.ensures.known rules (so.lines rules read).0 (so.known rules read) first.0;
+      lines = λ rules read.
+          let first = first_read rules (so.lines rules read).0 c.in-Some.line.now c.next.new.self.iter.a c.in-Some.request.now
           (iter_rest c.next.new.self.iter.b.a)
-          (sym (ap (requests_of (so.lines read).0) steps.0.0) ∙ (so.lines read).1 ∙ ap Ok steps.0.1.0) in
-          (suc (so.lines read).0, first.1);
-      places = λ read later rest kept at.
-          let first = first_read (so.lines read).0 c.in-Some.line.now c.next.new.self.iter.a c.in-Some.request.now
+          (sym (ap (requests_of rules (so.lines rules read).0) steps.0.0) ∙ (so.lines rules read).1 ∙ ap Ok steps.0.1.0) in
+          (suc (so.lines rules read).0, first.1);
+      places = λ rules read later rest kept at.
+          let first = first_read rules (so.lines rules read).0 c.in-Some.line.now c.next.new.self.iter.a c.in-Some.request.now
           (iter_rest c.next.new.self.iter.b.a)
-          (sym (ap (requests_of (so.lines read).0) steps.0.0) ∙ (so.lines read).1 ∙ ap Ok steps.0.1.0) in
+          (sym (ap (requests_of rules (so.lines rules read).0) steps.0.0) ∙ (so.lines rules read).1 ∙ ap Ok steps.0.1.0) in
           let own = request_kept c.place_of.new.watches.watches.items later c.in_ok-place.place c.in-Some.request.now c.in-Some.done kept
-          (c.in_ok-place.ensures.place (so.lines read).0 (so.known read) first.0) in
+          (c.in_ok-place.ensures.place rules (so.lines rules read).0 (so.known rules read) first.0) in
           subst (λ places. ArePlacesOf later 0 c.args.requests.now c.args.answers.now places)
           (sym (ap (λ places. places ++ rest) c.in_ok-push.ensures.items ∙
           append_assoc c.loop-done.places.items (c.in_ok-place.place ∷ []) rest))
-          (so.places read later (c.in_ok-place.place ∷ rest)
+          (so.places rules read later (c.in_ok-place.place ∷ rest)
           (kept_twice c.loop-done.watches.watches.items c.place_of.new.watches.watches.items later kept_now kept)
           (placed later c.loop-done.done-iterator.count c.next.new.self.count c.in-Some.request.now c.in-Some.answer.now _ _ _ _
           c.in_ok-place.place rest steps.0.1.0 steps.0.1.1 c.in_default.not-Okay steps.2
@@ -84,15 +84,15 @@ returns g c =
     let steps = c.in-None.ensures.steps in
     let so = c.loop-done.invariant in
     record {
-      places = λ w stands read told.
+      places = λ w rules stands read told.
           let empty : (iter_rest c.loop-done.done-iterator.iter.b.a ≡ []) ⊎ (iter_rest c.loop-done.done-iterator.iter.b.b ≡ []) =
           elim steps.0 [
-            | inl x ↦ inl (none_read (so.lines read).0 _ (sym (ap (requests_of (so.lines read).0) x.1.0) ∙ (so.lines read).1))
+            | inl x ↦ inl (none_read rules (so.lines rules read).0 _ (sym (ap (requests_of rules (so.lines rules read).0) x.1.0) ∙ (so.lines rules read).1))
             | inr y ↦ elim y.1 [ inl z ↦ inl (nil_from_length _ z.1.0) | inr z ↦ inr (nil_from_length _ z.1.0) ]
           ] in
           subst (λ places. ArePlacesOf c.loop-done.watches.watches.items 0 c.args.requests.now c.args.answers.now places)
           (append-nil c.loop-done.places.items)
-          (so.places read c.loop-done.watches.watches.items [] (kept_all c.loop-done.watches.watches.items)
+          (so.places rules read c.loop-done.watches.watches.items [] (kept_all c.loop-done.watches.watches.items)
           (none_placed c.loop-done.watches.watches.items c.loop-done.done-iterator.count _ _ empty));
       watched = so.watched;
       kept = so.kept;

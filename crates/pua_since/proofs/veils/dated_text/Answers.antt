@@ -14,7 +14,7 @@ returns g c w stands read told =
     in
     let places : ArePlacesOf c.watch_lines.new.watches.watches.items 0 asks c.args.answers.now c.as_slice.result.now =
     subst (λ at. ArePlacesOf c.watch_lines.new.watches.watches.items 0 asks c.args.answers.now at) (sym c.as_slice.ensures.value)
-    (c.in_ok-places.ensures.places w stands read told) in
+    (c.in_ok-places.ensures.places w c.args.rules stands read told) in
     let served : AreWatched table w asks [] kept = c.in_ok-text.ensures.watched w stands told placed in
     let own : AreVeilsAt kept.watches.items (length asks) (map veil_seen c.args.veils.now) c.in_ok-own.own.items =
     veils_kept c.watch_veils.new.watches.watches.items kept.watches.items (length asks)

@@ -1,6 +1,6 @@
 use Rattle.pua_texts.proofs.Common.{◌≤◌, ◌+◌, ◌++◌, ◌∷◌, [], ℕ, List, get_or, sym, ap, ◌∙◌, append_assoc, append-nil, arith, if◌then◌else◌}
 use Rattle.pua_texts.proofs.Common.{call_name, calls, Stat}
-use Rattle.pua_calls.proofs.ForCallers.{call_count}
+use Rattle.pua_calls.specs.Calls.{call_count}
 use Rattle.pua_texts.proofs.ObjectLines.{calls_left, calls_all, call_taken, call_left, calls_done}
 use Rattle.pua_texts.proofs.calls_text.add_names.Goals.{then-contains, else-contains}
 use Rattle.pua_texts.proofs.calls_text.add_names.Goals as goal

@@ -1,7 +1,7 @@
 use Rattle.std.proofs.Common.{◌∷◌, ◌+◌, ◌≤◌, List, suc, length, sym, subst, arith}
 use Rattle.std.specs.Prelude.{◌*◌}
 use Rattle.std.proofs.Math.Nat.{mul-le-mul_right, suc-mul}
-use Rattle.pua_calls.proofs.ForCallers.{call_count}
+use Rattle.pua_calls.specs.Calls.{call_count}
 use Rattle.pua_audit.specs.Coming.{calls_at}
 use Rattle.pua_calls.specs.declared.call.Call.{Call}
 use Rattle.pua_texts.specs.Copied.{Copied}

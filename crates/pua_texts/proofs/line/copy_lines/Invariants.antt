@@ -1,6 +1,6 @@
 use Rattle.std.proofs.Common.{◌+◌, ◌≤◌, ◌∷◌, ℕ, List, suc, length}
 use Rattle.std.specs.Prelude.{◌*◌}
-use Rattle.pua_calls.proofs.ForCallers.{call_count}
+use Rattle.pua_calls.specs.Calls.{call_count}
 use Rattle.pua_audit.specs.Coming.{calls_at}
 use Rattle.pua_texts.specs.Copied.{Copied}
 use Rattle.pua_texts.specs.PathLines.{printed_lines}

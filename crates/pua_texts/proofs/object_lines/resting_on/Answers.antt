@@ -1,6 +1,6 @@
 use Rattle.pua_texts.proofs.Common.{◌+◌, ◌≤◌, ap, sym, ◌∙◌, drop, arith, bit_or, filter, calls, has}
 use Rattle.pua_texts.proofs.Common.{resting_on}
-use Rattle.pua_calls.proofs.ForCallers.{call_count}
+use Rattle.pua_calls.specs.Calls.{call_count}
 use Rattle.pua_texts.proofs.WhyColumns.{rest_done, rest_passed, rest_taken}
 use Rattle.pua_texts.proofs.object_lines.resting_on.Goals.{then-contains, else-contains}
 use Rattle.pua_texts.proofs.object_lines.resting_on.Goals as goal

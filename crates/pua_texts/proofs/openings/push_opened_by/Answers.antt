@@ -5,7 +5,7 @@ use Rattle.pua_texts.proofs.openings.push_opened_by.Goals as goal
 
 pub loop-row-preserved : goal.loop-row-preserved
 loop-row-preserved c =
-    let rows = c.rows-row-items.result.now in
+    let rows = c.openings-row-items.result.now in
     let i = c.loop-row.row-index in
     let keyword = c.args.keyword.now in
     ap (λ text. text ++ still_of keyword rows (i + 1)) c.in_ok-push_if.ensures
@@ -14,7 +14,7 @@ loop-row-preserved c =
 
 pub returns : goal.returns
 returns c =
-    let rows = c.rows-row-items.result.now in
+    let rows = c.openings-row-items.result.now in
     sym (rows_done c.args.keyword.now (string_bytes c.loop-row.text) rows c.loop-row.row-index (omega (arith, c.loop-row-test.false)))
     ∙ c.loop-row.invariant
-    ∙ ap (λ rows. string_bytes c.args.text.now ++ flat_map (line_if c.args.keyword.now) rows) c.rows-row-items.ensures
+    ∙ ap (λ rows. string_bytes c.args.text.now ++ flat_map (line_if c.args.keyword.now) rows) c.openings-row-items.ensures

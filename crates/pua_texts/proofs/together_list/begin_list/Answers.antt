@@ -1,4 +1,4 @@
-use Rattle.pua_texts.proofs.Common.{◌≡◌, [], List, map, ap, sym, subst, ◌++◌, ◌∙◌, string_bytes}
+use Rattle.pua_texts.proofs.Common.{◌≡◌, [], map, ap, sym, subst, ◌++◌, ◌∙◌, string_bytes}
 use Rattle.pua_ever.specs.EverList.{AreEverTold}
 use Rattle.pua_ever.specs.Through.{ever_lasting}
 use Rattle.pua_texts.specs.ColumnsState.{ColumnsState}

@@ -9,21 +9,21 @@ pub returns-in_err-wanted-clause-refused : goal.returns-in_err-wanted-clause-ref
 returns-in_err-wanted-clause-refused c =
     let p = err_from_is_err_and c.from_residual.result c.from_residual.ensures.1 in
     rw (p.1, p.2) (λ some.
-    no_uses c.args.table.now c.args.tree_bytes.now c.args.script_bytes.now _ (c.in_err-wanted.ensures.refused some))
+    no_uses c.args.rules c.args.table.now c.args.tree_bytes.now c.args.script_bytes.now _ (c.in_err-wanted.ensures.refused some))
 
 pub returns-in_err-tighten-clause-refused : goal.returns-in_err-tighten-clause-refused
 returns-in_err-tighten-clause-refused c =
     let p = err_from_is_err_and c.from_residual-in_err-tighten.result c.from_residual-in_err-tighten.ensures.1 in
     rw (p.1, p.2) (λ some.
-    no_uses c.args.table.now c.args.tree_bytes.now c.args.script_bytes.now _
-    (own_fault c.in_ok-wanted.wanted.tree_bytes.now c.args.tree_bytes.now c.args.script_bytes.now _ c.in_ok-wanted.ensures.tree
+    no_uses c.args.rules c.args.table.now c.args.tree_bytes.now c.args.script_bytes.now _
+    (own_fault c.args.rules c.in_ok-wanted.wanted.tree_bytes.now c.args.tree_bytes.now c.args.script_bytes.now _ c.in_ok-wanted.ensures.tree
     (c.in_err-tighten.ensures.refused some)))
 
 pub returns-clause-done : goal.returns-clause-done
 returns-clause-done c =
     let wanted = c.in_ok-wanted.wanted in
     IfOk-weaker c.uses_of.result _ _ (λ told is.
-    uses_made c.args.table.now wanted.table.now c.args.tree_bytes.now wanted.tree_bytes.now c.args.script_bytes.now wanted.answers.items
+    uses_made c.args.rules c.args.table.now wanted.table.now c.args.tree_bytes.now wanted.tree_bytes.now c.args.script_bytes.now wanted.answers.items
     c.in_ok-wanted.requests.items c.tighten.new.requests.items c.in_ok-wanted.ensures.table c.in_ok-wanted.ensures.tree
     c.in_ok-wanted.ensures.given c.in_ok-tighten.ensures.done c.as_slice-3.result.now told.items
     (c.as_slice-3.ensures.value ∙ c.in-Ok.ensures
@@ -32,6 +32,6 @@ returns-clause-done c =
 
 pub returns-clause-refused : goal.returns-clause-refused
 returns-clause-refused c =
-    IfErr-weaker c.uses_of.result _ _ (λ fault told some. no_uses c.args.table.now c.args.tree_bytes.now c.args.script_bytes.now fault
-    (own_fault c.in_ok-wanted.wanted.tree_bytes.now c.args.tree_bytes.now c.args.script_bytes.now fault c.in_ok-wanted.ensures.tree
+    IfErr-weaker c.uses_of.result _ _ (λ fault told some. no_uses c.args.rules c.args.table.now c.args.tree_bytes.now c.args.script_bytes.now fault
+    (own_fault c.args.rules c.in_ok-wanted.wanted.tree_bytes.now c.args.tree_bytes.now c.args.script_bytes.now fault c.in_ok-wanted.ensures.tree
     (told some))) c.uses_of.ensures.refused

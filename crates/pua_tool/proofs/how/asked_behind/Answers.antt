@@ -25,4 +25,4 @@ returns-clause-refused c =
     if_err c.asked_of-question.result (λ fault refused other.
     let asked = refused other done.0 done.2 in
     after_done (choice_of c.args.table) c.args.tree_bytes.now c.args.script_bytes.now wanted done.0 (Err fault) done.1
-    (fault_asked done.0 wanted asked.0 fault asked.1)) c.asked_of-question.ensures.refused
+    (fault_asked done.0 wanted asked.0 (choice_of c.args.table).rules fault asked.1)) c.asked_of-question.ensures.refused

@@ -1,4 +1,5 @@
 use Rattle.pua_tool.proofs.Common.{◌≡◌, ◌∙◌, ap, sym, subst, refl, None, Err, Tree, ToolFault, history_of, is_made, err_from_is_err_and}
+use Rattle.pua_calls.specs.Calls.{call_in}
 use Rattle.pua_script.proofs.ForCallers.{none_made}
 use Rattle.pua_ever.specs.Refusals.{refusal}
 use Rattle.pua_tool.specs.HowTexts.{things_asked, way_wanted}
@@ -24,15 +25,15 @@ returns-in-Some-why_refused-clause-refused c = λ other done replay.
           ∙ ap (λ (fault : ToolFault). Err fault) (sym c.reason_of.ensures.told),
     )
 
-pub returns-in_default-read-clause-refused : goal.returns-in_default-read-clause-refused
-returns-in_default-read-clause-refused c = λ other done replay.
+pub returns-in_default-call_named-clause-refused : goal.returns-in_default-call_named-clause-refused
+returns-in_default-call_named-clause-refused c = λ other done replay.
     let words = c.args.words.now in
     let made = is_made c.in-Some.process.now (history_of done.world words.process) (c.in-Some.ensures.history done.world replay.stands) in
     let ruled : c.table-table.result.now ≡ done.table = c.table-table.ensures ∙ replay.table in (
       0,
       no_call done (way_wanted words) 0 made.history made.is
           ((λ i. refusal (sym ruled i) made.history) ∙ sym (c.in_default-why_refused.ensures.exact made.history made.stands))
-          (sym c.in_default-read.ensures),
+          ((λ i. call_in (sym ruled i) words.call.now) ∙ sym c.in_default-call_named.ensures),
     )
 
 pub returns-in_err-meant-clause-refused : goal.returns-in_err-meant-clause-refused
@@ -47,7 +48,8 @@ returns-in_err-meant-clause-refused c =
     sym (c.in_default-why_refused.ensures.exact made.history made.stands) in
     let refused = c.in_err-meant.ensures.refused other made.history made.stands in (
       refused.0,
-      no_thing done (way_wanted words) refused.0 made.history c.in-Some-read.call fault made.is none (sym c.in-Some-read.ensures)
+      no_thing done (way_wanted words) refused.0 made.history c.in-Some-call_named.call fault made.is none
+          ((λ i. call_in (sym ruled i) words.call.now) ∙ sym c.in-Some-call_named.ensures)
           (subst (λ (t : Tree). things_asked t made.history (way_wanted words) refused.0 ≡ Err fault) (c.tree-tree.ensures ∙ replay.stands.tree)
           refused.1),
     ))
@@ -67,6 +69,6 @@ returns-clause-asked c = λ done replay.
     let ruled : c.table-table.result.now ≡ done.table = c.table-table.ensures ∙ replay.table in
     question_is done (way_wanted words) _ made.history _ c.table-table.result.now (c.tree-tree.ensures ∙ replay.stands.tree) ruled made.is
     (sym (c.in_default-why_refused.ensures.exact made.history made.stands))
-    (sym c.in-Some-read.ensures)
+    (sym c.in-Some-call_named.ensures)
     (c.in_ok-meant.ensures.meant made.history made.stands)
     c.as_slice-things.result.now c.as_slice-things.ensures.value (c.in_ok-outlook.ensures.told made.history made.stands)

@@ -19,7 +19,7 @@ returns-in-Ok-clause-done c =
     let q = c.in_ok-question.question in
     let found = c.in_ok-found.found in
     after_done choice c.args.tree_bytes.now c.args.script_bytes.now wanted asked.0 (Ok (string_bytes c.in-Ok.text)) asked.1
-    (told_asked asked.0 wanted q asked.2 (option_map vec_items found)
+    (told_asked choice.rules asked.0 wanted q asked.2 (option_map vec_items found)
     (found_ways vec_items choice c.args.tree_bytes.now c.args.script_bytes.now wanted.process q found c.in_ok-found.ensures.way asked.0 asked.1)
     (string_bytes c.in-Ok.text)
     (c.in-Ok.ensures ∙ ap (λ (lines : Option (List WayLine)). text_told q.outlook (texts_of lines))

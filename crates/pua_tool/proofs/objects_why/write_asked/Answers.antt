@@ -9,7 +9,7 @@ pub returns-in_err-numbers : goal.returns-in_err-numbers
 returns-in_err-numbers g c =
     let p = err_from_is_err_and c.from_residual.result c.from_residual.ensures.1 in
     rw (p.1, p.2) (λ q read is. first_refuses g.S.Sink.written g.S.Sink.failed (numbers_asked (world_left q) c.args.processes)
-    (λ numbers. Ok (reason_lines q ++ why_lists_of c.args.rules q numbers)) c.in_err-numbers.field-0.0 c.args.sink.now
+    (λ numbers. Ok (reason_lines c.args.rules q ++ why_lists_of c.args.rules q numbers)) c.in_err-numbers.field-0.0 c.args.sink.now
     c.in_err-numbers.ensures.unwritten (λ other. c.in_err-numbers.ensures.refused other (world_left q) is.after))
 
 pub returns : goal.returns
@@ -20,8 +20,8 @@ returns g c = λ q read is.
     let n = g.S.Sink.failed c.args.sink.now in
     let m = g.S.Sink.failed c.write_all.new.sink in
     next_answers g.S.Sink.written g.S.Sink.failed (numbers_asked (world_left q) c.args.processes)
-    (λ numbers. Ok (reason_lines q ++ why_lists_of c.args.rules q numbers)) numbers c.told.result c.args.sink.now c.write_all.new.sink
+    (λ numbers. Ok (reason_lines c.args.rules q ++ why_lists_of c.args.rules q numbers)) numbers c.told.result c.args.sink.now c.write_all.new.sink
     (c.in_ok-numbers.ensures.asked (world_left q) is.after)
-    (c.told.ensures (reason_lines q ++ why_lists_of c.args.rules q numbers) a b n m
-    (subst (λ (lent : List ℕ). Tells (reason_lines q ++ why_lists_of c.args.rules q lent) c.write_all.result a b n m) c.as_slice-numbers.ensures.value
+    (c.told.ensures (reason_lines c.args.rules q ++ why_lists_of c.args.rules q numbers) a b n m
+    (subst (λ (lent : List ℕ). Tells (reason_lines c.args.rules q ++ why_lists_of c.args.rules q lent) c.write_all.result a b n m) c.as_slice-numbers.ensures.value
     (c.write_all.ensures q read is)))

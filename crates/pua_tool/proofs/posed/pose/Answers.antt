@@ -1,4 +1,4 @@
-use Rattle.pua_tool.proofs.Common.{◌≡◌, ◌≢◌, Err, refl, subst, sym, ◌∙◌, rules, Tree, script, new_world, StandsForWorld, choice_of}
+use Rattle.pua_tool.proofs.Common.{◌≡◌, ◌≢◌, Err, refl, subst, sym, ◌∙◌, rules, Tree, script_by, new_world, StandsForWorld, choice_of}
 use Rattle.pua_tool.proofs.Common.{OutOfMemory, if_err, if_ok}
 use Rattle.pua_tool.specs.WhyTexts.{posed_script}
 use Rattle.pua_tool.proofs.WhyTexts.{posed_is, table_refuses, listing_refuses, script_refuses, script_is}
@@ -41,7 +41,7 @@ returns-in-Ok-clause-done c =
       record { table = rules; world = new_world tree; asks = asks },
       posed_is (choice_of c.args.choice) c.args.tree_bytes.now c.args.script_bytes.now rules tree asks c.in_ok-table.ensures.read before.1
           c.in-Ok.ensures.script,
-      script_is (script c.args.script_bytes.now) asks c.in-Ok.ensures.script,
+      script_is (script_by c.args.choice.rules c.args.script_bytes.now) asks c.in-Ok.ensures.script,
       served (record { table = rules; world = new_world tree; asks = asks }) refl before.2 before.3 stands after.3,
     )) c.serve.ensures.done
 

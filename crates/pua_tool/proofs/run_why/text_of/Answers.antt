@@ -7,4 +7,4 @@ returns c = if_ok c.reason_text.result (λ text told p read is.
     let asks : c.requests-requests.result.now ≡ p.asks = c.requests-requests.ensures ∙ is.script in
     told p.world is.before (read ∙ ap Ok (sym asks)) (c.as_slice-answers.ensures.value ∙ is.answers ∙
     (λ i. answers_to (sym is.table_before i) p.world (sym asks i)))
-    ∙ (λ i. flat_map with_end (why_lines (is.table_before i) p.world [] 1 (asks i)))) c.reason_text.ensures
+    ∙ (λ i. flat_map with_end (why_lines c.args.rules (is.table_before i) p.world [] 1 (asks i)))) c.reason_text.ensures

@@ -12,4 +12,4 @@ returns c = if_ok c.chain_text.result (λ text told p is.
     told p.world is.before (c.as_slice-answers.ensures.value ∙ is.answers ∙ (λ i. answers_to (sym is.table_before i) p.world (sym asks i)))
     (subst (λ (requests : List Asked). StandsForWorld c.args.posed.now.after (world_after table p.world requests)) (sym asks) left)
     (is.table_after ∙ sym is.table_before)
-    ∙ (λ i. flat_map with_end (chain (is.table_before i) p.world (asks i) c.args.request.now))) c.chain_text.ensures
+    ∙ (λ i. flat_map with_end (chain c.args.rules (is.table_before i) p.world (asks i) c.args.request.now))) c.chain_text.ensures

@@ -26,7 +26,7 @@ returns-clause-begun g c = λ h stands.
         (subst (λ (u : Tree). beginning u c.args.table.now h c.args.base (map (λ s. s.now) c.args.candidates.now) c.args.limit
             (option_map (λ s. s.now) c.args.after)
             ≡ Ok (beginning_with u c.args.table.now h c.args.base c.args.limit c.in_ok-letters.field-0)) c.in_ok-rows.ensures.tree
-            (c.in_ok-letters.ensures.begun c.args.table.now h)),
+            (c.in_ok-letters.ensures.begun h)),
         c.in_ok-pairs.ensures.left
             ∙ ap (λ (ls : List (List ℕ)). rest_after (scope_in c.in_ok-terms.terms) (option_map (pair_in ls) after)) known
             ∙ ap (λ (s : Scope). rest_after s (option_map (pair_in letters) after)) c.in_ok-terms.ensures.scope
@@ -52,7 +52,7 @@ returns-clause-letters g c = λ h b is.
     ∙ ap alphabet_in (sym
     ((subst (λ (u : Tree). beginning u c.args.table.now h c.args.base (map (λ s. s.now) c.args.candidates.now) c.args.limit
     (option_map (λ s. s.now) c.args.after) ≡ Ok (beginning_with u c.args.table.now h c.args.base c.args.limit c.in_ok-letters.field-0))
-    c.in_ok-rows.ensures.tree (c.in_ok-letters.ensures.begun c.args.table.now h))) ∙ is)
+    c.in_ok-rows.ensures.tree (c.in_ok-letters.ensures.begun h))) ∙ is)
 
 abbrev live_in : Result Beginning AuditFault → ℕ
 live_in (Ok b) = length (live_states b.scope)
@@ -73,7 +73,7 @@ returns-clause-live g c = λ h stands b is.
     ∙ ap live_in (sym ((subst (λ (u : Tree). beginning u c.args.table.now h c.args.base (map (λ s. s.now) c.args.candidates.now)
     c.args.limit (option_map (λ s. s.now) c.args.after)
     ≡ Ok (beginning_with u c.args.table.now h c.args.base c.args.limit c.in_ok-letters.field-0)) c.in_ok-rows.ensures.tree
-    (c.in_ok-letters.ensures.begun c.args.table.now h))) ∙ is)
+    (c.in_ok-letters.ensures.begun h))) ∙ is)
 
 pub begin-requires : goal.begin-requires
 begin-requires g c κs =

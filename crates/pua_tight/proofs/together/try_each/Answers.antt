@@ -1,0 +1,37 @@
+use Rattle.std.proofs.Common.{◌≡◌, ◌-◌, length, take, drop, arith, List}
+use Rattle.std.proofs.lemmas.List.{length-drop, length-take, take_all}
+use Rattle.pua_script.specs.Replay.{new_world}
+use Rattle.pua_tight.specs.Trials.{Trial}
+use Rattle.pua_tight.proofs.Several.{all_done, more_done, none_done}
+use Rattle.pua_tight.proofs.together.try_each.Goals as goal
+
+pub loop-done-init : goal.loop-done-init
+loop-done-init c = record {
+  within = omega arith;
+  told = λ t listed to_try. none_done c.args.wanted.now.table.now (new_world t) c.args.wanted.now.answers.items c.args.trials.now
+      c.args.requests.now.items c.args.requests.now.items c.args.requests.now.items to_try;
+}
+
+pub loop-done-preserved : goal.loop-done-preserved
+loop-done-preserved c =
+    let trials : List Trial = c.args.trials.now in
+    let done = c.loop-done.done in
+    let rest : List Trial = take (length trials - done) (drop done trials) in
+    let are : rest ≡ drop done trials = take_all (length trials - done) (drop done trials) (omega (arith, length-drop done trials)) in
+    record {
+      within = omega (
+        arith,
+        c.in_ok-done.ensures.within,
+        length-take (length trials - done) (drop done trials),
+        length-drop done trials,
+        c.loop-done-test.true,
+      );
+      told = λ t listed to_try. more_done c.args.wanted.now.table.now (new_world t) c.args.wanted.now.answers.items trials
+          c.args.requests.now.items c.loop-done.requests.items c.try_front.new.requests.items done _ rest are
+          (c.loop-done.invariant.told t listed to_try) (c.in_ok-done.ensures.done t listed);
+    }
+
+pub returns-clause-tried : goal.returns-clause-tried
+returns-clause-tried c = λ t listed to_try.
+    all_done c.args.wanted.now.table.now (new_world t) c.args.wanted.now.answers.items c.args.trials.now c.args.requests.now.items
+    c.loop-done.requests.items c.loop-done.requests.items c.loop-done.done c.loop-done-test.false (c.loop-done.invariant.told t listed to_try)

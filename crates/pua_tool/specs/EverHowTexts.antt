@@ -1,0 +1,158 @@
+-- The text of the list for ever of a process with the number of steps of a way to each call that the list of now lacks, and what
+-- refuses it. Which ways are found is in no contract: what is, is that there is one of so many steps, and which calls are told of.
+use Rattle.std.specs.Prelude.{◌≡◌, ⊤, ℕ, Bool, false, not, ◌&&◌, if◌then◌else◌, List, [], ◌∷◌, ◌++◌, map, filter, length, Option, Some, None}
+use Rattle.std.specs.Prelude.{option_and_then, Result, Ok, Err, ok_or, codes, decimal}
+use Rattle.std.specs.List.{AllByRecursion, Contains}
+use Rattle.pua_tree.specs.Steps.{◌>>=◌}
+use Rattle.pua_tree.specs.Tree.{Tree, is_dir, look}
+use Rattle.pua_path.specs.declared.found.Found.TheVariants.{Whole, Slot}
+use Rattle.pua_path.specs.declared.found.Way.TheVariants.{Named, Top}
+use Rattle.pua_calls.specs.Calls.{CallTable, call_name}
+use Rattle.pua_calls.specs.declared.call.Call.{Call}
+use Rattle.pua_calls.specs.declared.rules.Rules.{Rules}
+use Rattle.pua_policy.specs.History.{History}
+use Rattle.pua_policy.specs.Verdict.{is_allowed}
+use Rattle.pua_script.specs.Requests.{Asked}
+use Rattle.pua_script.specs.Replay.{history_of}
+use Rattle.pua_audit.specs.Reach.{Word}
+use Rattle.pua_objects.specs.Lines.{kind_word}
+use Rattle.pua_objects.specs.Objects.{Subject, At, Others, is_named_by, subject_verdict, subject_word}
+use Rattle.pua_objects.specs.declared.kind.ObjectKind.{ObjectKind}
+use Rattle.pua_objects.specs.declared.kind.ObjectKind.TheVariants as kind
+use Rattle.pua_ever.specs.Ever.{EverLine, Thing, Stands, Comes, new_word}
+use Rattle.pua_ever.specs.Refusals.{refusal}
+use Rattle.pua_ever.specs.Through.{ever_lasting}
+use Rattle.pua_how.specs.Asking.{Asking, Standing, Making, directory_at_name, targets_of}
+use Rattle.pua_how.specs.Targets.{IsLast}
+use Rattle.pua_how.specs.Ways.{IsWay}
+use Rattle.pua_how.specs.declared.target.Target.{Target}
+use Rattle.pua_texts.specs.EverHowLines.{ever_list_with}
+use Rattle.pua_texts.specs.Lines.{answer_lines, with_end}
+use Rattle.pua_tool.specs.EverTexts.{unless_reason}
+use Rattle.pua_tool.specs.Texts.{Chosen, Replayed, replay_of}
+use Rattle.pua_tool.specs.declared.fault.ToolFault.{ToolFault}
+use Rattle.pua_tool.specs.declared.fault.ToolFault.TheVariants.{NoProcess}
+
+-- what stands at a name now, as a line of a kind is about it: a directory or its further names, what is no directory, or the name
+-- where nothing stands; nothing, where a line of this kind is about what doesn't stand there now
+abbrev pub dir_there : ObjectKind → ℕ → List ℕ → ℕ → Option Subject
+dir_there kind.Dir dir name node = Some (At (Whole node (Named dir name)))
+dir_there kind.Other dir name node = Some (Others node)
+dir_there _ dir name node = None
+
+abbrev pub node_there : ObjectKind → ℕ → List ℕ → ℕ → Option Subject
+node_there kind.Dir dir name node = None
+node_there kind.Other dir name node = None
+node_there kind.Missing dir name node = None
+node_there _ dir name node = Some (At (Slot dir name (Some node)))
+
+abbrev pub none_there : ObjectKind → ℕ → List ℕ → Option Subject
+none_there kind.Missing dir name = Some (At (Slot dir name None))
+none_there _ dir name = None
+
+abbrev pub subject_there : Tree → ObjectKind → ℕ → List ℕ → Option ℕ → Option Subject
+subject_there t kind dir name None = none_there kind dir name
+subject_there t kind dir name (Some node) = if is_dir t node then dir_there kind dir name node else node_there kind dir name node
+
+abbrev pub subject_in : Tree → ObjectKind → ℕ → List ℕ → List (List ℕ) → Option Subject
+subject_in t kind dir name [] = subject_there t kind dir name (look t dir name)
+subject_in t kind dir name (next ∷ more) = option_and_then (λ node. subject_in t kind node next more) (directory_at_name t dir name)
+
+-- the same at the end of names, which lead there from the root; without a name that is the root
+abbrev pub root_subject : ObjectKind → Option Subject
+root_subject kind.Dir = Some (At (Whole 0 Top))
+root_subject kind.Other = Some (Others 0)
+root_subject _ = None
+
+abbrev pub subject_at : Tree → ObjectKind → Word → Option Subject
+subject_at t kind [] = root_subject kind
+subject_at t kind (name ∷ more) = subject_in t kind 0 name more
+
+-- what a line of the list for ever is about, as the list of now has it: nothing of what is still to be made
+abbrev pub subject_now : Tree → ObjectKind → Word → Thing → Option Subject
+subject_now t kind word (Stands subject) = subject_at t kind word
+subject_now t kind word (Comes new) = None
+
+-- the list of now has the call on it
+abbrev pub is_now : Tree → CallTable → History → Option Subject → Call → Bool
+is_now t table h None call = false
+is_now t table h (Some subject) call = is_named_by t call subject && is_allowed (subject_verdict t table h call subject)
+
+-- the calls of a line that the list of now lacks
+abbrev pub lacking : Tree → CallTable → History → ObjectKind → EverLine → List Call
+lacking t table h kind line = filter (λ call. not (is_now t table h (subject_now t kind line.word line.thing) call)) line.calls
+
+-- the path of a line, as a way is asked for by it
+abbrev pub asking_by : Word → Thing → Asking
+asking_by word (Stands subject) = Standing word
+asking_by word (Comes new) = Making
+
+abbrev pub thing_word : Tree → Thing → List ℕ
+thing_word t (Stands subject) = subject_word t subject
+thing_word t (Comes new) = new_word new
+
+-- so many requests are a way to a call on what is meant by a path and a kind
+pub record IsWayOf (done : Replayed) (process : ℕ) (h : History) (asking : Asking) (kind : ObjectKind) (call : Call) (steps : ℕ) : Type 0
+  where
+    pub last : ℕ
+    pub above : IsLast done.world.tree last
+    pub thing : Target
+    pub meant : Contains (targets_of done.world.tree h last asking (Some kind)) thing
+    pub asks : List Asked
+    pub way : IsWay done.table done.world process call thing asks
+    pub long : length asks ≡ steps
+
+-- a number of steps is that of a way; without one nothing is said
+abbrev pub IsCount : Replayed → ℕ → History → Asking → ObjectKind → Call × Option ℕ → Type 0
+IsCount done process h asking kind count = by count.1
+  where
+    by : Option ℕ → Type 0
+    by None = ⊤
+    by (Some steps) = IsWayOf done process h asking kind count.0 steps
+
+-- a number, or `?` without one
+abbrev pub steps_text : Option ℕ → List ℕ
+steps_text None = codes "?"
+steps_text (Some steps) = decimal steps
+
+abbrev pub count_text : Call × Option ℕ → List ℕ
+count_text count = call_name count.0 ++ 32 ∷ steps_text count.1
+
+-- calls, each with the number of its steps, the first behind a mark, the others behind commas
+abbrev pub counts_text : ℕ → List (Call × Option ℕ) → List ℕ
+counts_text mark [] = []
+counts_text mark (count ∷ more) = (mark ∷ count_text count) ++ counts_text 44 more
+
+-- what stands behind the calls of a line: those that the list of now lacks, in their order, each with the number of steps of a way to
+-- it on what the line's path and kind mean, behind a blank; and LF
+pub record IsColumn (done : Replayed) (process : ℕ) (h : History) (line : EverLine) (text : List ℕ) : Type 0 where
+  pub kind : ObjectKind
+  pub told : kind_word kind ≡ thing_word done.world.tree line.thing
+  pub counts : List (Call × Option ℕ)
+  pub calls : map (λ count. count.0) counts ≡ lacking done.world.tree done.table h kind line
+  pub counted : AllByRecursion (IsCount done process h (asking_by line.word line.thing) kind) counts
+  pub is : text ≡ with_end (counts_text 32 counts)
+
+-- the list for ever of a process, and behind the calls of each line its column
+pub record IsEverHowList (rules : Rules) (done : Replayed) (process : ℕ) (h : History) (text : List ℕ) : Type 0 where
+  pub lines : List (EverLine × List ℕ)
+  pub are : map (λ line. line.0) lines ≡ ever_lasting done.world.tree done.table h
+  pub columns : AllByRecursion (λ line. IsColumn done process h line.0 line.1) lines
+  pub is : text ≡ ever_list_with rules done.table done.world.tree process h lines
+
+-- the answers, and then such a list, or what refuses it: the process was never made, or there is a reason for none
+pub record IsEverHowAfter (rules : Rules) (done : Replayed) (process : ℕ) (answer : Result (List ℕ) ToolFault) : Type 0 where
+  pub list : List ℕ
+  pub sound : (h : History) → history_of done.world process ≡ Some h → refusal done.table h ≡ None → IsEverHowList rules done process h list
+  pub is : answer
+      ≡ (ok_or (history_of done.world process) NoProcess
+      >>= λ h. unless_reason process (refusal done.table h) (answer_lines 1 done.answers ++ list))
+
+-- the same of a script over a listing, by the table that is chosen, or the first fault: the table's, the listing's, or the script's
+abbrev pub IsEverHowBehind : Rules → Result Replayed ToolFault → ℕ → Result (List ℕ) ToolFault → Type 0
+IsEverHowBehind rules (Ok done) process answer = IsEverHowAfter rules done process answer
+IsEverHowBehind rules (Err fault) process answer = answer ≡ Err fault
+
+unfoldable pub IsEverHowText : Chosen → List ℕ → List ℕ → ℕ → Result (List ℕ) ToolFault → Type 0
+IsEverHowText choice tree_bytes script_bytes process answer =
+    IsEverHowBehind choice.rules (replay_of choice tree_bytes script_bytes) process answer

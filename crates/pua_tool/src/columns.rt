@@ -1,0 +1,300 @@
+//! What stands behind the calls of a line of a list for ever: how many steps a way has to each call that
+//! the list of now lacks.
+
+ghost use Rattle.std.specs.Prelude.{◌≡◌, ◌&&◌, ◌++◌, ◌∷◌, [], IfErr, IfOk, IfSome, OnOk, Ok, Some};
+ghost use Rattle.std.specs.Prelude.{map, not, string_bytes};
+ghost use Rattle.std.specs.List.{AllByRecursion};
+ghost use Rattle.pua_tree.specs.Tree.{Tree};
+ghost use Rattle.pua_calls.specs.CallSets.{calls_in, has};
+ghost use Rattle.pua_calls.specs.declared.call.Call.{Call as AnyCall};
+ghost use Rattle.pua_policy.specs.History.{History, StandsFor};
+ghost use Rattle.pua_ever.specs.Ever.{Thing};
+ghost use Rattle.pua_ever.specs.EverLines.{IsThing};
+ghost use Rattle.pua_ever.specs.EverList.{word_of_row};
+ghost use Rattle.pua_how.specs.Asked.{IsAskedBy, asking_given};
+ghost use Rattle.pua_texts.specs.EverLines.{kind_of};
+ghost use Rattle.pua_texts.specs.Lines.{with_end};
+ghost use Rattle.pua_tool.specs.RowColumns.{AreColumns, AreStepsTo, IsBehind, IsColumnAt, served_by};
+ghost use Rattle.pua_tool.specs.EverHowTexts.{IsCount, asking_by, count_text, counts_text};
+ghost use Rattle.pua_tool.specs.Texts.{Replayed};
+
+use crate::fault::ToolFault;
+use crate::now::calls_now;
+use crate::script::{Replay, replay_script};
+use crate::table::TableChoice;
+use pua_calls::{Call, Calls};
+use pua_ever::{EverLine, EverRow, EverThing};
+use pua_how::{Asking, Meant, Plan, find_meant, find_plans};
+use pua_objects::ObjectKind;
+use pua_policy::Process;
+use pua_tree::{FileTree, Name, OutOfMemory};
+use std::alloc::{AllocError, Global};
+
+/// What a script was served by, and what it left; and the number of the process whose list it is.
+#[derive(Clone, Copy)]
+pub(crate) struct Behind<'a> {
+    pub(crate) tree_bytes: &'a [u8],
+    pub(crate) script_bytes: &'a [u8],
+    pub(crate) table: TableChoice<'a>,
+    pub(crate) replay: &'a Replay,
+    pub(crate) number: u32,
+}
+
+/// The columns of rows, each with the LF at the end of its line. For each call in them the script is
+/// served once more, or twice. `OutOfMemory` where a growth was refused, as of all here.
+pub(crate) fn columns_of(
+    alloc: Global,
+    behind: &Behind<'_>,
+    process: &Process,
+    rows: &[EverRow<'_>],
+) -> Result<Vec<String>, ToolFault>
+    ensures columns { IfOk result (λ columns. (done : Replayed) (h : History) →
+        IsBehind behind.now process.now done h →
+        AreColumns done behind.now.number h [] rows.now (map string_bytes columns.items)) }
+    ensures memory { IfErr result (λ fault. fault ≡ ToolFault.OutOfMemory) }
+{
+    let mut names = Vec::new(alloc);
+    let mut columns = Vec::new(alloc);
+    for row in rows {
+        let Ok(()) = go_to(&mut names, row) else {
+            return Err(ToolFault::OutOfMemory);
+        };
+        let column = column_of(alloc, behind, process, names.as_slice(), &row.line)?;
+        let Ok(()) = columns.push(column) else {
+            return Err(ToolFault::OutOfMemory);
+        };
+    }
+    Ok(columns)
+}
+
+/// Goes on to the names that lead to a row. The only error is that a growth was refused.
+fn go_to<'t>(names: &mut Vec<&'t Name>, row: &EverRow<'t>) -> Result<(), AllocError>
+    ensures { OnOk result (map (λ name. name.now) names.new.items
+        ≡ word_of_row (map (λ name. name.now) names.old.items) row.now) }
+{
+    names.truncate(row.depth);
+    if let Some(name) = row.name {
+        names.push(name)?;
+    }
+    Ok(())
+}
+
+/// The column of a line at the end of these names.
+fn column_of(
+    alloc: Global,
+    behind: &Behind<'_>,
+    process: &Process,
+    names: &[&Name],
+    line: &EverLine,
+) -> Result<String, ToolFault>
+    ensures column { IfOk result (λ text. (done : Replayed) (h : History) →
+        IsBehind behind.now process.now done h →
+        IsColumnAt done behind.now.number h (map (λ name. name.now) names.now) line.now
+        (string_bytes text)) }
+    ensures memory { IfErr result (λ fault. fault ≡ ToolFault.OutOfMemory) }
+{
+    let world = &behind.replay.world;
+    let now = calls_now(world.tree(), process, world.table(), names, line.thing);
+    let lacking = without(line.calls, now);
+    let counts = counts_on(alloc, behind, process, names, line.thing, lacking)?;
+    match text_of(alloc, counts.as_slice()) {
+        Ok(text) => Ok(text),
+        Err(AllocError) => Err(ToolFault::OutOfMemory),
+    }
+}
+
+/// Its calls but for the others.
+fn without(calls: Calls, others: Calls) -> Calls
+    ensures { (call : AnyCall) → has result call ≡ (has calls call && not (has others call)) }
+{
+    let mut left = Calls::NONE;
+    for call in Call::ALL {
+        if is_left(calls, others, call) {
+            left = left.with(call);
+        }
+    }
+    left
+}
+
+/// Whether a call is among these, and not among the others.
+fn is_left(calls: Calls, others: Calls, call: Call) -> bool
+    ensures { result ≡ (has calls call && not (has others call)) }
+{
+    calls.contains(call) && !others.contains(call)
+}
+
+/// These calls on what a line at the end of these names is about, in their order, each with the number
+/// of steps of a way to it, if one was found. Without calls nothing is asked.
+fn counts_on(
+    alloc: Global,
+    behind: &Behind<'_>,
+    process: &Process,
+    names: &[&Name],
+    thing: EverThing,
+    calls: Calls,
+) -> Result<Vec<(Call, Option<usize>)>, ToolFault>
+    ensures counts { IfOk result (λ counts. (done : Replayed) (h : History) (about : Thing) →
+        IsBehind behind.now process.now done h → IsThing done.world.tree about thing →
+        AllByRecursion (IsCount done behind.now.number h
+        (asking_by (map (λ name. name.now) names.now) about) (kind_of thing)) counts.items) }
+    ensures calls { IfOk result (λ counts. map (λ count. count.0) counts.items ≡ calls_in calls) }
+    ensures memory { IfErr result (λ fault. fault ≡ ToolFault.OutOfMemory) }
+{
+    if calls.is_empty() {
+        return Ok(Vec::new(alloc));
+    }
+    let meant = meant_on(alloc, behind.replay.world.tree(), process, names, thing)?;
+    let mut counts = Vec::new(alloc);
+    for call in Call::ALL {
+        if calls.contains(call) {
+            let steps = steps_to(alloc, behind, process, call, &meant)?;
+            let Ok(()) = counts.push((call, steps)) else {
+                return Err(ToolFault::OutOfMemory);
+            };
+        }
+    }
+    Ok(counts)
+}
+
+/// What is meant by the path and the kind of a line at the end of these names.
+fn meant_on<T: FileTree>(
+    alloc: Global,
+    tree: &T,
+    process: &Process,
+    names: &[&Name],
+    thing: EverThing,
+) -> Result<Meant, ToolFault>
+    ensures meant { IfOk result (λ meant. (h : History) (about : Thing) →
+        StandsFor process.now h → IsThing (T.content tree.now) about thing →
+        IsAskedBy (T.content tree.now) h (asking_by (map (λ name. name.now) names.now) about)
+        (Some (kind_of thing)) meant.targets.items) }
+    ensures memory { IfErr result (λ fault. fault ≡ ToolFault.OutOfMemory) }
+{
+    let Ok(asking) = asking_on(alloc, names, thing) else {
+        return Err(ToolFault::OutOfMemory);
+    };
+    match find_meant(alloc, tree, process, &asking, Some(kind_in(thing))) {
+        Ok(meant) => Ok(meant),
+        Err(OutOfMemory) => Err(ToolFault::OutOfMemory),
+    }
+}
+
+/// The kind of what a line is about.
+fn kind_in(thing: EverThing) -> ObjectKind
+    ensures { result ≡ kind_of thing }
+{
+    match thing {
+        EverThing::Stands(kind) | EverThing::Comes(kind) => kind,
+    }
+}
+
+/// The path of a line, as a way is asked for by it. The only error is that a growth was refused.
+fn asking_on(alloc: Global, names: &[&Name], thing: EverThing) -> Result<Asking, AllocError>
+    ensures { IfOk result (λ asking. (t : Tree) (about : Thing) → IsThing t about thing →
+        asking_given asking ≡ asking_by (map (λ name. name.now) names.now) about) }
+{
+    let EverThing::Stands(_) = thing else {
+        return Ok(Asking::Making);
+    };
+    let mut copies = Vec::new(alloc);
+    for name in names {
+        copies.push(**name)?;
+    }
+    Ok(Asking::Standing(copies))
+}
+
+/// The number of steps of a way to a call on something that is meant, if one of two plans is one.
+fn steps_to(
+    alloc: Global,
+    behind: &Behind<'_>,
+    process: &Process,
+    call: Call,
+    meant: &Meant,
+) -> Result<Option<usize>, ToolFault>
+    ensures steps { IfOk result (λ found. IfSome found (λ steps. (done : Replayed) →
+        served_by behind.now ≡ Ok done →
+        AreStepsTo done behind.now.number meant.now.targets.items call steps)) }
+    ensures memory { IfErr result (λ fault. fault ≡ ToolFault.OutOfMemory) }
+{
+    let world = &behind.replay.world;
+    let plans = find_plans(alloc, world.tree(), process, world.table(), call, meant);
+    let Ok(plans) = plans else {
+        return Err(ToolFault::OutOfMemory);
+    };
+    match steps_by(alloc, behind, call, meant, plans.first.as_ref())? {
+        Some(steps) => Ok(Some(steps)),
+        None => steps_by(alloc, behind, call, meant, plans.second.as_ref()),
+    }
+}
+
+/// The number of steps of a plan, if there is one and it is a way: that is seen when it is served behind
+/// the script. A script that was served once is refused for want of memory alone.
+fn steps_by(
+    alloc: Global,
+    behind: &Behind<'_>,
+    call: Call,
+    meant: &Meant,
+    plan: Option<&Plan>,
+) -> Result<Option<usize>, ToolFault>
+    ensures steps { IfOk result (λ found. IfSome found (λ steps. (done : Replayed) →
+        served_by behind.now ≡ Ok done →
+        AreStepsTo done behind.now.number meant.now.targets.items call steps)) }
+    ensures memory { IfErr result (λ fault. fault ≡ ToolFault.OutOfMemory) }
+{
+    let Some(plan) = plan else {
+        return Ok(None);
+    };
+    let replay = replay_script(alloc, behind.tree_bytes, behind.script_bytes, behind.table);
+    let Ok(mut replay) = replay else {
+        return Err(ToolFault::OutOfMemory);
+    };
+    let rules = behind.table.rules;
+    let served = plan.serve(alloc, rules, &mut replay.world, behind.number, call, meant);
+    replay.release();
+    match served {
+        Ok(Some(lines)) => Ok(Some(lines.len())),
+        Ok(None) => Ok(None),
+        Err(OutOfMemory) => Err(ToolFault::OutOfMemory),
+    }
+}
+
+/// What stands behind the calls of a line: a blank, and calls with the numbers of steps, with commas
+/// between them; and LF. The only error is that a growth was refused.
+fn text_of(alloc: Global, counts: &[(Call, Option<usize>)]) -> Result<String, AllocError>
+    ensures { IfOk result (λ text. string_bytes text
+        ≡ with_end (counts_text 32 counts.now)) }
+{
+    let mut text = String::new(alloc);
+    if let Some((first, more)) = counts.split_first() {
+        text.push(' ')?;
+        push_count(&mut text, first)?;
+        push_others(&mut text, more)?;
+    }
+    text.push('\n')?;
+    Ok(text)
+}
+
+/// Adds further calls with their numbers of steps, each behind a comma.
+fn push_others(text: &mut String, counts: &[(Call, Option<usize>)]) -> Result<(), AllocError>
+    ensures { OnOk result (string_bytes text.new ≡ string_bytes text.old
+        ++ counts_text 44 counts.now) }
+{
+    for count in counts {
+        text.push(',')?;
+        push_count(text, count)?;
+    }
+    Ok(())
+}
+
+/// Adds a call, and its number of steps, or `?` without one.
+fn push_count(text: &mut String, count: &(Call, Option<usize>)) -> Result<(), AllocError>
+    ensures { OnOk result (string_bytes text.new ≡ string_bytes text.old
+        ++ count_text count.now) }
+{
+    text.push_str(count.0.name())?;
+    text.push(' ')?;
+    match count.1 {
+        Some(steps) => write!(text, "{steps}"),
+        None => text.push('?'),
+    }
+}

@@ -1,0 +1,85 @@
+//! The text of the list for ever of a process with the number of steps of ways.
+
+ghost use Rattle.std.specs.Prelude.{◌≡◌, ℕ, List, Ok, Result};
+ghost use Rattle.pua_tool.specs.Answers.{AnswersTo};
+ghost use Rattle.pua_tool.specs.Begun.{IsReplay};
+ghost use Rattle.pua_tool.specs.EverHowTexts.{IsEverHowAfter, IsEverHowText};
+ghost use Rattle.pua_tool.specs.RowColumns.{served_by};
+ghost use Rattle.pua_tool.specs.Texts.{Replayed, choice_of};
+
+use crate::columns::{Behind, columns_of};
+use crate::ever_fault::fault_of;
+use crate::fault::ToolFault;
+use crate::objects::told;
+use crate::script::replay_script;
+use crate::table::TableChoice;
+use pua_ever::{both_of, list_lasting};
+use pua_io::Sink;
+use pua_texts::{answer_text, write_ever_how};
+use std::alloc::Global;
+
+/// Writes the list for ever of a process as [`ever_to`](crate::ever_to) does, and behind the calls of
+/// each line that has calls which the list of now lacks on what the line is about a blank and these
+/// calls in their order, with commas between them, each with a blank and the number of steps of a way
+/// to it on what the line's path and kind mean, as [`how_to`](crate::how_to) writes one; or `?`, where
+/// none was found. For each such call the script is served once more, or twice.
+///
+/// The first that holds of `Table`, `Listing`, `Script`, `NoProcess`, `CanUnveil`, `LacksC`,
+/// `RenameLacksC` and `LinkLacksC` is answered before anything is written. So is `OutOfMemory`,
+/// wherever a growth was refused. `Write` is answered only where a put failed in this call, and a
+/// front of the text is then written.
+pub fn ever_how_to<S: Sink>(
+    alloc: Global,
+    tree_bytes: &[u8],
+    script_bytes: &[u8],
+    table: TableChoice<'_>,
+    process: u32,
+    sink: &mut S,
+) -> Result<(), ToolFault>
+    ensures text { (answer : Result (List ℕ) ToolFault)
+        × IsEverHowText (choice_of table.entry) tree_bytes.now script_bytes.now process answer
+        × AnswersTo S.written S.failed answer result sink.old sink.new }
+{
+    let replay = replay_script(alloc, tree_bytes, script_bytes, table)?;
+    let behind = Behind {
+        tree_bytes,
+        script_bytes,
+        table,
+        replay: &replay,
+        number: process,
+    };
+    let written = list_to(alloc, &behind, sink);
+    replay.release();
+    written
+}
+
+/// Writes the answers of a script, and then the list for ever of the process where the script ends, with
+/// its columns. Every fault but `Write` is answered before anything is written.
+fn list_to<S: Sink>(alloc: Global, behind: &Behind<'_>, sink: &mut S) -> Result<(), ToolFault>
+    ensures { (done : Replayed) → served_by behind.now ≡ Ok done →
+        IsReplay behind.now.replay.now done →
+        (answer : Result (List ℕ) ToolFault)
+        × IsEverHowAfter behind.now.table.rules done behind.now.number answer
+        × AnswersTo S.written S.failed answer result sink.old sink.new }
+{
+    let (number, world) = (behind.number, &behind.replay.world);
+    let Some(process) = world.process(number) else {
+        return Err(ToolFault::NoProcess);
+    };
+    let (tree, table) = (world.tree(), world.table());
+    let Ok(both) = both_of(alloc, process, table) else {
+        return Err(ToolFault::OutOfMemory);
+    };
+    let list = match list_lasting(alloc, tree, process, both.as_ref(), table) {
+        Ok(list) => list,
+        Err(fault) => return Err(fault_of(number, fault)),
+    };
+    let columns = columns_of(alloc, behind, process, list.rows.as_slice())?;
+    let Ok(front) = answer_text(alloc, behind.replay.answers.as_slice()) else {
+        return Err(ToolFault::OutOfMemory);
+    };
+    let (rules, front) = (behind.table.rules, front.as_str());
+    told(write_ever_how(
+        alloc, tree, rules, number, process, &list, columns, front, sink,
+    ))
+}
