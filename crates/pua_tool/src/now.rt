@@ -3,11 +3,9 @@
 ghost use Rattle.std.specs.Prelude.{◌≡◌, ℕ, true, map, option_and_then, option_map, IfSome, None, Some};
 ghost use Rattle.pua_tree.specs.Tree.{Tree, WellFormed, is_dir as lives_as_dir, look as node_at_name};
 ghost use Rattle.pua_path.specs.declared.found.Found.TheVariants.{Whole};
-ghost use Rattle.pua_path.specs.Fits.{FoundFits};
 ghost use Rattle.pua_calls.specs.CallSets.{has};
 ghost use Rattle.pua_calls.specs.declared.call.Call.{Call};
 ghost use Rattle.pua_policy.specs.History.{History, StandsFor};
-ghost use Rattle.pua_policy.specs.Verdict.{cover};
 ghost use Rattle.pua_how.specs.Asking.{directory_at_name};
 ghost use Rattle.pua_objects.specs.Items.{SubjectFits, object_on as is_object_on};
 ghost use Rattle.pua_objects.specs.Items.{subject_given};
@@ -24,7 +22,7 @@ use pua_calls::{CallTable, Calls};
 use pua_ever::EverThing;
 use pua_objects::{Item, ObjectKind, Subject, line_of};
 use pua_path::{Counted, Found, Way};
-use pua_policy::{Cover, Object, Process, judge};
+use pua_policy::{Object, Process, judge};
 use pua_tree::{FileTree, Kind, Name, NodeId};
 
 /// The calls on what a line at the end of these names is about, as the list of now has them: none on what
@@ -49,7 +47,8 @@ pub(crate) fn calls_now<T: FileTree>(
         return Calls::NONE;
     };
     let found = found_for(tree, &subject);
-    let cover = cover_of(tree, process, &found);
+    let mut probe = Counted::new(tree);
+    let cover = process.cover(&mut probe, &found);
     let object = object_on(tree, &subject, &found);
     let item = Item {
         subject,
@@ -183,15 +182,6 @@ fn none_there<'t>(dir: NodeId, name: &'t Name, kind: ObjectKind) -> Option<Subje
         ObjectKind::Missing => Some(Subject::Name(dir, name)),
         _ => None,
     }
-}
-
-/// What the veils of a process leave of an object.
-fn cover_of<T: FileTree>(tree: &T, process: &Process, found: &Found) -> Cover
-    requires { FoundFits (T.content tree.now) found.now }
-    ensures { (h : History) → StandsFor process.now h →
-        result ≡ cover (T.content tree.now) h found.now }
-{
-    process.cover(&mut Counted::new(tree), found)
 }
 
 /// What a call is on there, by an object that is covered as it is.
