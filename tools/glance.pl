@@ -119,15 +119,18 @@ sub cover_of {
     return $covers[-1];
 }
 
-# What is to be said of veils that can be moved: one stands at or below something that has `c`, and
-# there is a place with `c` outside of that, under another veil than now.
+# What is to be said of veils that can be moved: one stands at a directory that has `c`, or below
+# one, and there is a place with `c` outside of that, under another veil than now.
 sub about_moves {
-    my ($state) = @_;
+    my ($list, $state) = @_;
     return if !holds($state, 'cpath');
+    my %is_name = map { $_->[0] =~ /\A(?:file|prog|link|missing)\z/ ? ($_->[1] => 1) : () }
+        @{ $list->{objects} };
     my $moves = $state->{sockets} ? qr/r.*c/ : qr/c/;    # by OpenBSD's rules rename asks for r too
     my @moved;
     for my $place (map { $_->[0] } @{ $state->{veils} }) {
-        for (my $path = $place; $path =~ m{\A/.}; $path =~ s{/[^/]*\z}{}) {
+        my $first = $is_name{$place} ? $place =~ s{/[^/]*\z}{}r : $place;
+        for (my $path = $first; $path =~ m{\A/.}; $path =~ s{/[^/]*\z}{}) {
             my $cover = cover_of($state, $path);
             next if !$cover || $cover->[1] !~ $moves;
             my $above = cover_of($state, $path =~ s{/[^/]*\z}{}r || '/');
@@ -156,7 +159,7 @@ sub lines_about {
     push @says, 'takes descriptors from others (recvfd)' if has_promise($state, 'recvfd');
     my @network = grep { has_promise($state, $_) } @NETWORK;
     push @says, 'the network: ' . join ',', @network if @network;
-    push @says, about_openings($state), about_moves($state);
+    push @says, about_openings($state), about_moves($list, $state);
     push @says, 'holds open ' . some(@{ $held->{ $list->{process} } })
         if $held->{ $list->{process} };
     return ("$name: veils $veils, " . ($state->{unveil} || 'lock not told') . '; '

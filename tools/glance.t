@@ -235,6 +235,14 @@ unveil locked
 veil /in wc
 veil /www r
 veil /www/tmp rwc
+objects 6
+process alive
+promises cpath,rpath,stdio
+execpromises -
+unveil locked
+veil /run/pid rwc
+veil /tmp rwc
+missing /run/pid create
 END
 answers: none
 process 1: veils 3, locked; read 0, written 0, executed 0, made 0, removed 0
@@ -249,6 +257,8 @@ process 4: veils 4, locked; read 0, written 0, executed 0, made 0, removed 0
     can move below another veil, where a kernel may go by the old place: /a/b
 process 5: veils 3, locked; read 0, written 0, executed 0, made 0, removed 0
     can move below another veil, where a kernel may go by the old place: /www/tmp
+process 6: veils 2, locked; read 0, written 0, executed 0, made 1, removed 0
+    can move below another veil, where a kernel may go by the old place: /tmp
 OUT
 
 tells('lists for ever', <<'END', split /\n/, <<'OUT');
