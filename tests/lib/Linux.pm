@@ -1,6 +1,7 @@
 # A plain model of what Linux answers to the scripts that have neither pledge nor unveil, as root: that of Model.pm by
 # OpenBSD's rules, but for what the rules of @RULES say. Each of them can be left as pua has it, so that what a
-# difference comes from can be found.
+# difference comes from can be found. That a program which runs isn't opened for writing (ETXTBSY) isn't among them: in
+# these scripts none runs.
 package Linux;
 use strict;
 use warnings;
