@@ -47,9 +47,6 @@ my %SKIPPED = (
     ktrace  => 'a command of OpenBSD',
     kdump   => 'a command of OpenBSD',
     'perl tools/list.pl' => 'the files of this machine are not asked',
-    'perl tools/conform.pl' => 'only root makes a directory its root',
-    'pua-conform' => 'only root makes a directory its root',
-    doas   => 'a command of OpenBSD',
 );
 
 # What may be named though it is not there: what is built, and edits, which are a last resort.
