@@ -190,6 +190,7 @@ $how{$_} = File::Spec->rel2abs($how{$_}) for grep { defined $how{$_} } qw(helper
 Pua::Kernel::forget_numbers() if $how{builtins};
 my $room = tempdir('conform.XXXXXXXX', DIR => $how{room} || File::Spec->tmpdir, CLEANUP => 1);
 $how{room} = $room;
+$SIG{$_} = sub { exit 1 } for qw(HUP INT PIPE TERM);    # so that the room goes
 $| = 1;
 eval {
     defined $how{trials} ? report_on($how{trials}, \%how) : answers_over(@ARGV, \%how);

@@ -211,6 +211,7 @@ sub begin {
         close $from;
         close $_->[1] for values %$to;
         $SIG{CHLD} = 'IGNORE';
+        $SIG{$_} = 'DEFAULT' for qw(HUP INT TERM);
         if (defined $helper) {
             my @pipes = map { $_ => fileno $to->{$_}[0] } keys %$to;
             execute($helper, 'helper', fileno $teller, 1, "root=$root", @pipes);
