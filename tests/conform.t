@@ -82,10 +82,12 @@ my @WRONG = (
     }],
     ['rename beside a second name takes the first away', 'Linux::_rename', sub {
         my ($right, $linux, $process, @paths) = @_;
-        my ($node) = map { $_->{node} } ($linux->resolve($process->{dir}, Tree::unspelled($paths[0]), 0, 1))[1] || {};
+        my $from = Tree::unspelled($paths[0]);
+        my $node = (($linux->resolve($process->{dir}, $from, 0, 1))[1] || {})->{node};
         my $answer = $right->($linux, $process, @paths);
-        my ($errno, $old) = $linux->resolve($process->{dir}, Tree::unspelled($paths[0]), 0, 1);
-        $linux->_untie(@$old{qw(in name)}) if $answer eq 'ok' && !$errno && defined $old->{node} && $old->{node} == $node;
+        my ($errno, $old) = $linux->resolve($process->{dir}, $from, 0, 1);
+        my $stands = $answer eq 'ok' && !$errno && defined $old->{node} && $old->{node} == $node;
+        $linux->_untie(@$old{qw(in name)}) if $stands;
         return $answer;
     }],
     ['rename moves what is no directory onto one', 'Model::_unmovable', sub {
@@ -139,7 +141,7 @@ for my $folder (glob "$Bin/../examples/*") {
 }
 is(join('', splice @wrong, 0, 5), '', "$count{cases} cases with $count{calls} calls: the kernel's answers");
 cmp_ok($count{calls}, '>', 15 * $CASES, "$count{same} of them are the program's too");
-cmp_ok($count{trees}, '>', $CASES / 2, "the names afterwards: in $count{trees} cases the program's are the kernel's too");
+cmp_ok($count{trees}, '>', $CASES / 2, "the names afterwards: in $count{trees} cases they are the program's too");
 for my $rule (@Linux::RULES) {
     my ($name, $mark, $text) = @$rule;
     my $found = $found{$name} || {};
@@ -190,7 +192,8 @@ sub is_program {
     my $answers = $plain->run($script);
     my ($living) = $plain->living;
     my @words = defined $living ? ('objects', '--process', $living) : 'run';
-    my ($status, $out, $err) = answer_of($PROGRAM, { TREE => $listing, SCRIPT => $script }, @words, '--rules', 'openbsd', 'TREE', 'SCRIPT');
+    my @all = (@words, '--rules', 'openbsd', 'TREE', 'SCRIPT');
+    my ($status, $out, $err) = answer_of($PROGRAM, { TREE => $listing, SCRIPT => $script }, @all);
     return "the program: status $status, $err" if $status != 0;
     return "the program answers otherwise than the plain model\n$out" if index($out, $answers) != 0;
     return '' unless defined $living;
@@ -212,7 +215,7 @@ sub explained {
         if ($plain eq $said) { $count{same}++ }
         else {
             my @rules = fewest($world, $said, @request);
-            push @wrong, "$name: $lines->[$at]: the kernel says $said, the program $plain, by no $MOST_RULES rules\n" if !@rules;
+            push @wrong, "$name: $lines->[$at]: the kernel says $said, the program $plain, by no rules\n" if !@rules;
             for my $found (map { $found{$_} ||= {} } @rules) {
                 $found->{calls}++;
                 $found->{pua}++ if $plain eq 'ok';

@@ -545,7 +545,7 @@ sub usages_of {
 sub test_tools {
     for my $page (glob 'man/pua-*.1') {
         my ($tool) = $page =~ /pua-(\w+)/;
-        my ($usage) = content("tools/$tool.pl") =~ /usage: \$NAME (.*?)\\n"/;
+        my ($usage) = content("tools/$tool.pl") =~ /usage: \$NAME (.*?)\\n"/s;
         my @own = map { letters($_) } $usage =~ /\[-(-?\w+(?: \w+)?)\]/g;
         my @shown = map { letters($_) } section($page, 'SYNOPSIS') =~ /^\.Op Fl (.*)/mg;
         my $told = section($page, 'DESCRIPTION');

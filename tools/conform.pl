@@ -50,7 +50,8 @@ use Pua::Perform qw(perform);
 use Pua::Trials qw(listing_of script_of trials_in);
 
 my ($NAME) = $0 =~ m{([^/]*)\z};
-my $USAGE = "usage: $NAME [--builtins] [--left] [--helper FILE] [--room DIR] [--help] TREE SCRIPT | --trials DIR\n";
+my $USAGE = "usage: $NAME [--builtins] [--left] [--helper FILE] [--room DIR] [--help] "
+    . "TREE SCRIPT | --trials DIR\n";
 
 # What is answered by no kernel here, and what a trial needs that this run can't do.
 my %NEEDS = (pledge => 'OpenBSD::Pledge', unveil => 'OpenBSD::Unveil');
@@ -131,7 +132,8 @@ sub told_of {
         my ($request, $expected, $pua) = @{ $trial->{lines}[$at] }{qw(request expected pua)};
         my $is = $answers ? $answers->[$at] : '-';
         my $mark = !$answers ? ' ' : $is ne $expected ? '!' : $is ne $pua ? '*' : ' ';
-        push @told, sprintf '%s %3d  %-12s %-12s %-12s %s', $mark, $at + 1, $is, $expected, $pua, $request;
+        push @told, sprintf '%s %3d  %-12s %-12s %-12s %s', $mark, $at + 1, $is, $expected, $pua,
+            $request;
     }
     return @told;
 }
@@ -169,10 +171,12 @@ sub report_on {
     my $by = defined $how->{helper} ? 'conform.c' : sprintf 'perl %vd', $^V;
     $by .= ', by its own functions' if $how->{builtins};
     print "system: @system\n", "calls by: $by\n",
-        sprintf("trials: %d of %d performed, %d with lines that are marked\n", $count[0], scalar @trials, $count[1]),
+        sprintf("trials: %d of %d performed, %d with lines that are marked\n", $count[0],
+            scalar @trials, $count[1]),
         sprintf("lines: %d, as expected %d, as pua says %d\n\n", @count[2 .. 4]),
-        "In the columns: what this system answers, what was expected of OpenBSD, what pua answers,\n",
-        "and the request. `!` marks what is not as expected, `*` what is so and not as pua says.\n\n",
+        "In the columns: what this system answers, what was expected of OpenBSD, what pua\n",
+        "answers, and the request. `!` marks what is not as expected, `*` what is so and not as\n",
+        "pua says.\n\n",
         map { "$_\n" } (@differ ? ('WHAT DIFFERS', '', @differ) : ()), @passed,
         'ALL', '', @all;
     return;
@@ -182,7 +186,8 @@ my @words = @ARGV;
 my %how;
 GetOptions(\%how, 'builtins', 'left', 'help', 'helper=s', 'room=s', 'trials=s') or misused();
 if ($how{help}) { help(); exit 0 }
-misused() if @ARGV != (defined $how{trials} ? 0 : 2) || grep { defined && $_ eq '' } @how{qw(helper room trials)};
+misused() if @ARGV != (defined $how{trials} ? 0 : 2);
+misused() if grep { defined && $_ eq '' } @how{qw(helper room trials)};
 fail('it has to be root, for chroot(2)') if $> != 0;
 without_cores(@words);
 fail("$how{helper}: no program") if defined $how{helper} && !(-f $how{helper} && -x _);

@@ -110,7 +110,8 @@ sub _path {
     $path = '' if $cases->_seldom(1);
     $path = $cases->_stretched($path) if $kind eq 'long' && $cases->_seldom(50);
     $path .= '/' . $cases->pick('x' x 256, 'y' x 300, 'x' x 256 . '/a') if $kind eq 'names' && $cases->_seldom(8);
-    $path = $cases->pick('x' x 256, '/nothing/' . 'x' x 256, 'a/' . 'x' x 256) if $kind eq 'names' && $cases->_seldom(5);
+    my $long = 'x' x 256;
+    $path = $cases->pick($long, "/nothing/$long", "a/$long") if $kind eq 'names' && $cases->_seldom(5);
     return $path;
 }
 

@@ -8,7 +8,7 @@ use warnings;
 use parent qw(Model);
 use Tree qw(text_fault unspelled);
 
-# What Linux is known to do otherwise. The marks: `linux`, Linux alone does so, and POSIX or OpenBSD does as pua has it;
+# What Linux is known to do otherwise. The marks: `linux`, Linux alone does so, POSIX or OpenBSD as pua has it;
 # `profile`, a choice that is marked *profile* in docs/DEFINITIONS.md; `fault`, pua has no such limit, though OpenBSD has
 # it too.
 our @RULES = (
@@ -163,7 +163,8 @@ sub _misfit {
 sub _symlink {
     my ($linux, $process, $target, $path) = @_;
     my $text = unspelled($target);
-    my $fault = $linux->{by}{target} ? $text eq '' ? 'ENOENT' : length $text > 4095 ? 'ENAMETOOLONG' : '' : text_fault($text);
+    my $whole = $text eq '' ? 'ENOENT' : length $text > 4095 ? 'ENAMETOOLONG' : '';
+    my $fault = $linux->{by}{target} ? $whole : text_fault($text);
     return $fault if $fault;
     my ($answer, $found) = $linux->verdict($process, 'symlink', unspelled($path));
     return $answer if $answer;

@@ -135,7 +135,8 @@ sub left {
     my ($root) = @_;
     chdir $root or die "$root: $!\n";
     my @lines = ('dir /');
-    walk('', sub { my ($path, $name, $kind) = @_; push @lines, "$kind $path/" . spelled($name) }, sub { });
+    my $note = sub { my ($path, $name, $kind) = @_; push @lines, "$kind $path/" . spelled($name) };
+    walk('', $note, sub { });
     chdir '/';
     return join '', map { "$_\n" } sort @lines;
 }
@@ -143,7 +144,8 @@ sub left {
 sub clear {
     my ($dir) = @_;
     chdir $dir or return;
-    walk('', sub { }, sub { my (undef, $name, $kind) = @_; $kind eq 'dir' ? rmdir $name : unlink $name });
+    my $remove = sub { my (undef, $name, $kind) = @_; $kind eq 'dir' ? rmdir $name : unlink $name };
+    walk('', sub { }, $remove);
     chdir '/';
     rmdir $dir;
     return;

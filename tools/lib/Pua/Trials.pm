@@ -1,7 +1,7 @@
 package Pua::Trials;
 
-# Reads trials: texts that have a title, how sure their answers are, why, a listing, and the lines of
-# a script with what a system is expected to answer, and what pua answers where that is another:
+# Reads trials: texts that have a title, how sure their answers are, why, a listing, and the lines
+# of a script with what a system is expected to answer, and what pua answers where that is another:
 #
 #     # A veil is put a second time and asks for less
 #     # confidence 90
