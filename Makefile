@@ -12,8 +12,8 @@ PERLDIR = $(DESTDIR)$(PREFIX)/share/pua/perl
 PROGRAM = crates/pua/out/pua
 
 # Each tool is installed as pua-NAME, for tools/NAME.pl, and has a page man/pua-NAME.1.
-TOOLS = list trace page glance
-MODULES = Calls Kdump Lists Process Reports
+TOOLS = list trace page glance conform
+MODULES = Calls Kdump Kernel Lists Perform Process Reports Trials
 
 all:
 	cd crates/pua && rt run -- --version
@@ -32,6 +32,15 @@ test:
 	for test in tools/*.t; do PUA=$(PROGRAM) perl $$test || exit 1; done
 	for test in tests/*.t; do perl $$test $(PROGRAM) || exit 1; done
 
+# Performs the trials on this system, as root, and leaves one file to send back. Without a compiler
+# what has an exec is passed over.
+conform:
+	mkdir -p out
+	by=; if cc -static -O2 -o out/conform tools/conform.c; then by='--helper out/conform'; fi; \
+	perl tools/conform.pl $$by --trials tests/data/trials > out/conform.report
+	sed -n '1,/^lines/p' out/conform.report
+	@echo 'all of it: out/conform.report'
+
 install: install-tools
 	install -d $(MANDIR)/man7
 	install -m 755 $(PROGRAM) $(BINDIR)/pua
@@ -49,6 +58,7 @@ install-tools:
 	for module in $(MODULES); do \
 		install -m 644 tools/lib/Pua/$$module.pm $(PERLDIR)/Pua/$$module.pm || exit 1; \
 	done
+	install -m 644 tools/conform.c $(PERLDIR)/../conform.c
 
 # A release for any system with a C compiler, and its tests: see release/README.md.
 dist distcheck:
@@ -58,5 +68,6 @@ uninstall:
 	rm -f $(BINDIR)/pua $(MANDIR)/man1/pua.1 $(MANDIR)/man7/pua-model.7
 	for tool in $(TOOLS); do rm -f $(BINDIR)/pua-$$tool $(MANDIR)/man1/pua-$$tool.1; done
 	for module in $(MODULES); do rm -f $(PERLDIR)/Pua/$$module.pm; done
+	rm -f $(PERLDIR)/../conform.c
 
-.PHONY: all quick check test install install-tools dist distcheck uninstall
+.PHONY: all quick check test conform install install-tools dist distcheck uninstall

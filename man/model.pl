@@ -84,4 +84,4 @@ for my $block (@blocks) {
     }
     $begins = 0;
 }
-print ".Sh SEE ALSO\n.Xr pua 1 ,\n.Xr pua-trace 1\n";
+print ".Sh SEE ALSO\n.Xr pua 1 ,\n.Xr pua-conform 1 ,\n.Xr pua-trace 1\n";

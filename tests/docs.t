@@ -545,19 +545,20 @@ sub usages_of {
 sub test_tools {
     for my $page (glob 'man/pua-*.1') {
         my ($tool) = $page =~ /pua-(\w+)/;
-        my ($usage) = content("tools/$tool.pl") =~ /usage: \$NAME (.*?)\\n"/;
-        my @own = map { letters($_) } $usage =~ /\[-(\w+(?: \w+)?)\]/g;
+        my ($usage) = content("tools/$tool.pl") =~ /usage: \$NAME (.*?)\\n"/s;
+        my @own = map { letters($_) } $usage =~ /\[-(-?\w+(?: \w+)?)\]/g;
         my @shown = map { letters($_) } section($page, 'SYNOPSIS') =~ /^\.Op Fl (.*)/mg;
         my $told = section($page, 'DESCRIPTION');
-        my @untold = grep { $told !~ /^\.(?:It )?Fl $_\b/m } map { /(\w)/ } @own;
+        my @untold = grep { $told !~ /^\.(?:It )?Fl $_\b/m } map { /(-?\w+)/ } @own;
         is("@{[sort @shown]}", "@{[sort @own]}", "$page: the synopsis has the options of the tool");
         is("@untold", '', "$page: each option is told of");
     }
     return;
 }
 
-# Options as `kv`, `m FILE` or `m Ar file`: a letter each, with a colon if it takes a value.
+# Options as `kv`, `m FILE` or `m Ar file`: a letter each, with a colon if it takes a value; and long ones, as `-room DIR`
+# or `-room Ar directory`, whole.
 sub letters {
     my ($letters, $value) = split ' ', shift;
-    return defined $value ? "$letters:" : split //, $letters;
+    return defined $value ? "$letters:" : $letters =~ /^-/ ? $letters : split //, $letters;
 }

@@ -12,8 +12,9 @@
 # name. Below it stands, as far as it is so: that it has no veils at all, that it never pledged,
 # that it can put further veils; that programs which it starts have no sandbox; which sockets it
 # can connect to and where it can bind one; that it takes descriptors from others; its promises
-# for the network; and what its promises open past the veils, beside what stdio opens for every
-# process: /dev/null, /etc/localtime and /usr/share/zoneinfo.
+# for the network; what its promises open past the veils, beside what stdio opens for every
+# process: /dev/null, /etc/localtime and /usr/share/zoneinfo; and which veils it can move below
+# another one, where a kernel may go on by what covered them before.
 #
 #     -m MANIFEST  what list.pl -m wrote: says first what the listing doesn't have.
 #     -o HELD      what trace.pl -o wrote: says of each process what it holds open.
@@ -104,6 +105,44 @@ sub about_openings {
     return @paths ? 'opens past the veils ' . some(@paths) : ();
 }
 
+# Whether a path is another one, or below it.
+sub is_below {
+    my ($path, $above) = @_;
+    return $above eq '/' || index("$path/", "$above/") == 0;
+}
+
+# The veil that covers a path, with place and letters; undef where none does.
+sub cover_of {
+    my ($state, $path) = @_;
+    my @covers = sort { length $a->[0] <=> length $b->[0] }
+        grep { is_below($path, $_->[0]) } @{ $state->{veils} };
+    return $covers[-1];
+}
+
+# What is to be said of veils that can be moved: one stands at a directory that has `c`, or below
+# one, and there is a place with `c` outside of that, under another veil than now.
+sub about_moves {
+    my ($list, $state) = @_;
+    return if !holds($state, 'cpath');
+    my %is_name = map { $_->[0] =~ /\A(?:file|prog|link|missing)\z/ ? ($_->[1] => 1) : () }
+        @{ $list->{objects} };
+    my $moves = $state->{sockets} ? qr/r.*c/ : qr/c/;    # by OpenBSD's rules rename asks for r too
+    my @moved;
+    for my $place (map { $_->[0] } @{ $state->{veils} }) {
+        my $first = $is_name{$place} ? $place =~ s{/[^/]*\z}{}r : $place;
+        for (my $path = $first; $path =~ m{\A/.}; $path =~ s{/[^/]*\z}{}) {
+            my $cover = cover_of($state, $path);
+            next if !$cover || $cover->[1] !~ $moves;
+            my $above = cover_of($state, $path =~ s{/[^/]*\z}{}r || '/');
+            my @there = grep { $_ != ($above || 0) && $_->[0] ne '-' && $_->[1] =~ /c/
+                && !is_below($_->[0], $path) } @{ $state->{veils} };
+            if (@there) { push @moved, $place; last }
+        }
+    }
+    return if !@moved;
+    return 'can move below another veil, where a kernel may go by the old place: ' . some(@moved);
+}
+
 # The lines of a process.
 sub lines_about {
     my ($list, $held) = @_;
@@ -120,7 +159,7 @@ sub lines_about {
     push @says, 'takes descriptors from others (recvfd)' if has_promise($state, 'recvfd');
     my @network = grep { has_promise($state, $_) } @NETWORK;
     push @says, 'the network: ' . join ',', @network if @network;
-    push @says, about_openings($state);
+    push @says, about_openings($state), about_moves($list, $state);
     push @says, 'holds open ' . some(@{ $held->{ $list->{process} } })
         if $held->{ $list->{process} };
     return ("$name: veils $veils, " . ($state->{unveil} || 'lock not told') . '; '

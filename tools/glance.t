@@ -192,6 +192,75 @@ process 2: veils 0, locked; read 0, written 0, executed 0, made 0, removed 0
     no veils at all: it touches what is not listed too
 OUT
 
+# Veils that can be moved below another one.
+tells('veils that can be moved', <<'END', split /\n/, <<'OUT');
+objects 1
+process alive
+promises cpath,rpath,stdio
+execpromises -
+unveil locked
+veil /a rwc
+veil /a/b/f r
+veil /c c
+objects 2
+process alive
+promises cpath,rpath,stdio
+execpromises -
+unveil locked
+veil /a rwc
+veil /a/b/f r
+veil /c r
+objects 3
+process alive
+promises rpath,stdio
+execpromises -
+unveil locked
+veil /a rwc
+veil /c rwc
+objects 4
+process alive
+promises -
+execpromises -
+unveil locked
+veil / rwc
+veil /a/b r
+veil /ab wc
+veil - rwc
+objects 5
+process alive
+rules openbsd
+promises cpath,rpath,stdio
+execpromises -
+unveil locked
+veil /in wc
+veil /www r
+veil /www/tmp rwc
+objects 6
+process alive
+promises cpath,rpath,stdio
+execpromises -
+unveil locked
+veil /run/pid rwc
+veil /tmp rwc
+missing /run/pid create
+END
+answers: none
+process 1: veils 3, locked; read 0, written 0, executed 0, made 0, removed 0
+    can move below another veil, where a kernel may go by the old place: /a, /a/b/f, /c
+process 2: veils 3, locked; read 0, written 0, executed 0, made 0, removed 0
+process 3: veils 2, locked; read 0, written 0, executed 0, made 0, removed 0
+process 4: veils 4, locked; read 0, written 0, executed 0, made 0, removed 0
+    it never pledged: it holds all promises
+    programs that it starts have no sandbox, though none that is listed can be executed
+    connects to each socket at or below /, /ab, -: no line shows it
+    binds sockets at or below /, /ab, -: no line shows it
+    can move below another veil, where a kernel may go by the old place: /a/b
+process 5: veils 3, locked; read 0, written 0, executed 0, made 0, removed 0
+    can move below another veil, where a kernel may go by the old place: /www/tmp
+process 6: veils 2, locked; read 0, written 0, executed 0, made 1, removed 0
+    can move below another veil, where a kernel may go by the old place: /tmp
+OUT
+
 tells('lists for ever', <<'END', split /\n/, <<'OUT');
 ever 1
 process alive

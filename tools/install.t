@@ -45,6 +45,7 @@ my @modules = map { m{\Atools/lib/Pua/(\w+\.pm)\z} ? $1 : () } glob 'tools/lib/P
 my %wanted_tools = (
     (map { ("/usr/bin/pua-$_" => '755', "/usr/share/man/man1/pua-$_.1" => '644') } @tools),
     (map { ("/usr/share/pua/perl/Pua/$_" => '644') } @modules),
+    '/usr/share/pua/conform.c' => '644',
 );
 my %wanted = (%wanted_tools, '/usr/bin/pua' => '755', '/usr/share/man/man1/pua.1' => '644',
     '/usr/share/man/man7/pua-model.7' => '644');

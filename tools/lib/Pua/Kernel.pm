@@ -1,0 +1,187 @@
+package Pua::Kernel;
+
+# Makes the calls of a script on the kernel of this machine, in the process that asks, and tells
+# what it answered: `ok`, the name of an errno, or a word of this tool.
+use strict;
+use warnings;
+no warnings qw(newline);
+use Errno ();
+use Exporter qw(import);
+use Fcntl qw(O_CREAT O_NONBLOCK O_RDONLY O_RDWR O_WRONLY S_ISFIFO S_ISSOCK);
+use POSIX ();
+use Socket qw(AF_UNIX SOCK_STREAM);
+our @EXPORT_OK = qw(%TAKES $MOST_SOCKET answer_of_kernel execute has_pledge has_unveil named);
+
+# How many arguments each request of a script has.
+our %TAKES = (
+    (map { $_ => 1 } qw(stat lstat readlink open-r open-w open-rw create mkdir rmdir unlink)),
+    (map { $_ => 1 } qw(chmod chdir exec connect bind mknod chown fork)),
+    (map { $_ => 2 } qw(symlink rename link pledge unveil)), exit => 0,
+);
+
+# How many bytes of path a socket's address holds. Some systems have more; a longer path is asked of
+# none.
+our $MOST_SOCKET = 103;
+
+my %FLAGS = (
+    'open-r' => O_RDONLY, 'open-w' => O_WRONLY, 'open-rw' => O_RDWR, create => O_WRONLY | O_CREAT,
+);
+
+my $PLEDGE = eval { require OpenBSD::Pledge; 1 };
+my $UNVEIL = eval { require OpenBSD::Unveil; 1 };
+sub has_pledge { return $PLEDGE }
+sub has_unveil { return $UNVEIL }
+
+# The names of errnos by their numbers. Where two have one number, it is the one that pua has.
+my %NAMES;
+for my $name (reverse(sort keys %!), qw(EAGAIN ENOTSUP EDEADLK)) {
+    my $number = Errno->can($name) ? Errno->can($name)->() : 0;
+    $NAMES{$number} = $name if $number;
+}
+sub named { my ($number) = @_; return $NAMES{$number} || "E$number" }
+
+# The numbers of system calls, where perl knows them: its own mkdir and rmdir take slashes away, and
+# its chdir, open and exec know further words.
+my @NUMBERED = qw(stat lstat open mkdir rmdir unlink symlink rename link readlink chmod chdir chown
+    execve pledge);
+my %NUMBERS;
+if (eval { local $SIG{__WARN__} = sub { }; require 'sys/syscall.ph'; 1 }) {
+    for my $call (@NUMBERED) {
+        my $number = eval { __PACKAGE__->can("SYS_$call")->() };
+        $NUMBERS{$call} = $number if defined $number && $number =~ /\A[0-9]+\z/;
+    }
+}
+sub forget_numbers { %NUMBERS = (); return }
+
+# The answer to a call that perl made by itself, or by its number.
+sub told  { my ($is_done) = @_; return $is_done ? 'ok' : named($! + 0) }
+sub asked {
+    my ($call, @arguments) = @_;
+    return told(syscall($NUMBERS{$call}, @arguments) != -1);
+}
+
+# What is asked by number where the number is known, and else by perl's own function.
+my %OWN = (
+    mkdir    => sub { mkdir $_[0], 0755 },
+    rmdir    => sub { rmdir $_[0] },
+    unlink   => sub { unlink $_[0] },
+    symlink  => sub { symlink $_[0], $_[1] },
+    rename   => sub { rename $_[0], $_[1] },
+    link     => sub { link $_[0], $_[1] },
+    chmod    => sub { chmod $_[1], $_[0] },
+    chown    => sub { chown -1, -1, $_[0] },
+    chdir    => sub { $_[0] eq '' ? nothing_there() : chdir $_[0] },
+    readlink => sub { defined readlink $_[0] },
+    stat     => sub { my @fields = stat $_[0]; scalar @fields },
+    lstat    => sub { my @fields = lstat $_[0]; scalar @fields },
+);
+my %AFTER = (    # the arguments behind the paths
+    mkdir => [0755], chown => [-1, -1],
+    stat => ["\0" x 512], lstat => ["\0" x 512], readlink => ["\0" x 4096, 4096],
+);
+
+# What this process is answered; an undefined argument is NULL.
+sub answer_of_kernel {
+    my ($call, @arguments) = @_;
+    for (@arguments) { $_ = "$_" if defined }    # a text for the call, whatever it looks like
+    my ($path) = @arguments;
+    return opened($call, $path) if exists $FLAGS{$call};
+    return on_socket($call, $path) if $call eq 'bind' || $call eq 'connect';
+    return pledged(@arguments) if $call eq 'pledge';
+    return unveiled(@arguments) if $call eq 'unveil';
+    return told(POSIX::mkfifo($path, 0666)) if $call eq 'mknod';
+    if ($call eq 'exec') {
+        execute($path, 'prog');
+        return is_started($path) ? 'ok' : named($! + 0);
+    }
+    return 'unknown' unless $OWN{$call};
+    push @arguments, mode_of($path) if $call eq 'chmod';
+    return told($OWN{$call}->(@arguments)) unless defined $NUMBERS{$call};
+    my @after = @{ $AFTER{$call} || [] };
+    return asked($call, @arguments, @after);
+}
+
+sub nothing_there { $! = Errno::ENOENT(); return }
+
+# The bits that a file has, so that a program stays one, and a file none.
+sub mode_of { my ($path) = @_; my @fields = stat $path; return @fields ? $fields[2] & 07777 : 0644 }
+
+# Whether execve(2) would have started it: a program of a listing is no format that any system has.
+# Perl's own exec goes on to a shell then, which isn't there.
+sub is_started {
+    my ($path) = @_;
+    my $errno = $! + 0;
+    my $is_there = !defined $NUMBERS{execve} && $errno == Errno::ENOENT() && -f $path && -x _;
+    $! = $errno;
+    return $is_there || $errno == Errno::ENOEXEC();
+}
+
+# A fifo whose open would wait, and a socket, which no system opens, are files to pua: ok.
+sub opened {
+    my ($call, $path) = @_;
+    my $flags = $FLAGS{$call} | O_NONBLOCK;
+    my $fd;
+    if    (defined $NUMBERS{open}) { $fd = syscall $NUMBERS{open}, $path, $flags, 0666 }
+    elsif ($path eq '')            { nothing_there() }
+    else                           { $fd = POSIX::open($path, $flags, 0666) }
+    if (defined $fd && $fd >= 0) { POSIX::close($fd); return 'ok' }
+    my $errno = $! + 0;
+    if ($errno == Errno::ENXIO() || $errno == Errno::EOPNOTSUPP()) {
+        my @fields = stat $path;
+        return 'ok' if @fields && (S_ISFIFO($fields[2]) || S_ISSOCK($fields[2]));
+    }
+    return named($errno);
+}
+
+# `too-long` is this tool's: no kernel is asked. An address without a path is something else on some
+# systems.
+sub on_socket {
+    my ($call, $path) = @_;
+    return 'too-long' if length $path > $MOST_SOCKET;
+    return 'ENOENT' if $path eq '';
+    socket my $socket, AF_UNIX, SOCK_STREAM, 0 or return named($! + 0);
+    my $address = Socket::pack_sockaddr_un($path);
+    return told($call eq 'bind' ? bind $socket, $address : connect $socket, $address);
+}
+
+# execve(2) of a path as it is, without a search and without a shell. It returns where it failed.
+sub execute {
+    my ($path, @words) = @_;
+    if (defined $NUMBERS{execve}) {
+        my @held = map { "$_" } @words;
+        my $list = pack('p*', @held) . pack 'J', 0;
+        my $none = pack 'J', 0;
+        syscall $NUMBERS{execve}, $path, $list, $none;
+        return;
+    }
+    return nothing_there() if $path eq '';
+    $path = "./$path" if $path !~ m{/};    # else it would be searched for
+    { no warnings 'exec'; exec {$path} @words }
+    return;
+}
+
+# OpenBSD::Pledge takes promises one by one, and adds stdio, without which no answer could be told.
+# It has no execpromises: these need the number of the call.
+sub pledged {
+    my ($promises, $execpromises) = @_;
+    return 'left-out' unless $PLEDGE;
+    my ($now, $then) = map { defined $_ ? [promises_of($_)] : undef } $promises, $execpromises;
+    return told(OpenBSD::Pledge::pledge(@$now)) if $now && !$then;
+    return 'ok' if !$now && !$then;
+    return 'left-out' unless defined $NUMBERS{pledge};
+    return asked('pledge', map { $_ ? "@$_" : 0 } $now, $then);
+}
+
+sub promises_of {
+    my ($list) = @_;
+    return ('stdio', grep { $_ ne '' && $_ ne 'stdio' } split /,/, $list);
+}
+
+sub unveiled {
+    my ($path, $permissions) = @_;
+    return 'left-out' unless $UNVEIL;
+    my @words = defined $path ? ($path, $permissions) : ();
+    return told(OpenBSD::Unveil::unveil(@words));
+}
+
+1;

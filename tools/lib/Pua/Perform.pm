@@ -1,0 +1,297 @@
+package Pua::Perform;
+
+# Performs a script of pua(1) over the tree of a listing by real processes and real calls. The tree
+# is made in a fresh directory, which becomes `/` by chroot(2): so it has to be root, and nothing
+# outside of that directory is touched.
+use strict;
+use warnings;
+use Exporter qw(import);
+use Fcntl qw(O_CREAT O_WRONLY);
+use File::Temp qw(tempdir);
+use IO::Handle ();
+use POSIX ();
+use Pua::Kernel qw(%TAKES answer_of_kernel execute);
+our @EXPORT_OK = qw(perform requests_of);
+
+my $PATIENCE = 3000;    # hundredths of a second in which a process has to answer
+
+# The bytes that a field spells; `=` is the empty text where it is an argument.
+sub bytes { my ($field) = @_; $field =~ s/\\([0-3][0-7][0-7])/chr oct $1/ge; return $field }
+sub argument { my ($field) = @_; return $field eq '=' ? '' : bytes($field) }
+
+sub spelled {
+    my ($bytes) = @_;
+    $bytes =~ s/([^\x21-\x7e]|\\)/sprintf '\\%03o', ord $1/ge;
+    return $bytes;
+}
+
+# The requests of a script's text, each as its fields.
+sub requests_of {
+    my ($text) = @_;
+    my @requests = map { [split / /] } split /\r?\n/, $text;
+    for my $number (1 .. @requests) {
+        my ($process, $call, @arguments) = @{ $requests[ $number - 1 ] };
+        die "line $number of the script: no request\n"
+            if !defined $call || !defined $TAKES{$call} || @arguments != $TAKES{$call}
+            || $process !~ /\A[1-9][0-9]*\z/;
+    }
+    return @requests;
+}
+
+# What the text of a listing has: by node its kind and target, and by directory its names.
+sub tree_of {
+    my ($text) = @_;
+    my ($head, $root, @lines) = split /\r?\n/, $text;
+    die "no listing\n" if !defined $root || $head !~ /\Atree [12]\z/ || $root ne '0 dir';
+    my $tree = { node => {}, in => {}, names => {} };
+    for my $line (@lines) {
+        my ($number, $kind, $parent, $name, $end) = split / /, $line;
+        die "no line of a listing: $line\n"
+            if !defined $name || $kind !~ /\A(?:dir|file|prog|link|hard)\z/;
+        if ($kind eq 'hard') { $number = $end; $tree->{names}{$end}++ }
+        else { $tree->{node}{$number} = [$kind, defined $end ? bytes($end) : undef] }
+        push @{ $tree->{in}{$parent} }, [bytes($name), $number];
+    }
+    return $tree;
+}
+
+# Makes what a node is, but no directory. Without a helper a program is a file that no system can
+# start.
+sub make {
+    my ($name, $kind, $target, $helper) = @_;
+    return symlink($target, $name) || die "$name: $!\n" if $kind eq 'link';
+    return copy($helper, $name) if $kind eq 'prog' && defined $helper;
+    my $mode = $kind eq 'prog' ? 0755 : 0644;
+    sysopen my $out, $name, O_WRONLY | O_CREAT, $mode or die "$name: $!\n";
+    print {$out} "\001\n" if $kind eq 'prog';
+    return close $out;
+}
+
+sub copy {
+    my ($from, $to) = @_;
+    open my $in, '<:raw', $from or die "$from: $!\n";
+    local $/ = undef;
+    my $bytes = <$in>;
+    sysopen my $out, $to, O_WRONLY | O_CREAT, 0755 or die "$to: $!\n";
+    binmode $out;
+    print {$out} $bytes;
+    return close $out || die "$to: $!\n";
+}
+
+# Makes a tree in the directory $root; $stage is an empty one beside it, for what has several names.
+sub make_tree {
+    my ($tree, $root, $stage, $helper) = @_;
+    my @shared = keys %{ $tree->{names} };
+    make("$stage/$_", @{ $tree->{node}{$_} }[0, 1], $helper) for @shared;
+    chdir $root or die "$root: $!\n";
+    my $in;
+    no warnings 'recursion';
+    $in = sub {
+        my ($dir) = @_;
+        for my $row (@{ $tree->{in}{$dir} || [] }) {
+            my ($name, $number) = @$row;
+            my ($kind, $target) = @{ $tree->{node}{$number} };
+            if ($tree->{names}{$number}) { link "$stage/$number", $name or die "$name: $!\n" }
+            elsif ($kind ne 'dir')       { make($name, $kind, $target, $helper) }
+            else {
+                mkdir $name, 0755 or die "$name: $!\n";
+                chdir $name or die "$name: $!\n";
+                $in->($number);
+                chdir '..' or die "..: $!\n";
+            }
+        }
+        return;
+    };
+    $in->(0);
+    undef $in;
+    unlink map { "$stage/$_" } @shared;
+    return;
+}
+
+# Goes through all that is in the working directory, however long the paths are, and hands each
+# name with the path of its directory to what `before` or `after` its own names does.
+sub walk {
+    my ($path, $before, $after) = @_;
+    opendir my $dir, '.' or die "$path: $!\n";
+    my @names = grep { !/\A\.\.?\z/ } readdir $dir;
+    closedir $dir;
+    no warnings 'recursion';
+    for my $name (@names) {
+        lstat $name;
+        my $kind = -l _ ? 'link' : -d _ ? 'dir' : -f _ && -x _ ? 'prog' : 'file';
+        $before->($path, $name, $kind);
+        if ($kind eq 'dir') {
+            chdir $name or die "$path/$name: $!\n";
+            walk($path . '/' . spelled($name), $before, $after);
+            chdir '..' or die "..: $!\n";
+        }
+        $after->($path, $name, $kind);
+    }
+    return;
+}
+
+# What stands below a directory: a line `KIND PATH` for each name, as `pua objects` has them.
+sub left {
+    my ($root) = @_;
+    chdir $root or die "$root: $!\n";
+    my @lines = ('dir /');
+    my $note = sub { my ($path, $name, $kind) = @_; push @lines, "$kind $path/" . spelled($name) };
+    walk('', $note, sub { });
+    chdir '/';
+    return join '', map { "$_\n" } sort @lines;
+}
+
+sub clear {
+    my ($dir) = @_;
+    chdir $dir or return;
+    my $remove = sub { my (undef, $name, $kind) = @_; $kind eq 'dir' ? rmdir $name : unlink $name };
+    walk('', sub { }, $remove);
+    chdir '/';
+    rmdir $dir;
+    return;
+}
+
+# Performs the text of a script over that of a listing. In %$how, optional: room, where temporary
+# directories are made; helper, a static program made of conform.c, which then makes all calls;
+# left, whether what is left is asked for. Gives a list of the answers, and the lines of what is
+# left.
+sub perform {
+    my ($listing, $script, $how) = @_;
+    my $tree = tree_of($listing);
+    my @requests = requests_of($script);
+    my $case = tempdir('conform.XXXXXXXX', DIR => $how->{room} || '/tmp', CLEANUP => 0);
+    my $back = POSIX::getcwd();
+    my $mask = umask 0;
+    my ($answers, $left);
+    my $is_done = eval {
+        mkdir "$case/$_" or die "$case/$_: $!\n" for qw(root stage);
+        make_tree($tree, "$case/root", "$case/stage", $how->{helper});
+        chdir '/';
+        $answers = answers_to(\@requests, "$case/root", $how->{helper});
+        $left = left("$case/root") if $how->{left};
+        1;
+    };
+    my $fault = $@;
+    clear($case);
+    umask $mask;
+    chdir $back if defined $back;
+    die $fault unless $is_done;
+    return ($answers, $left);
+}
+
+# The answers to requests in a directory. Each process is told its calls by a pipe of its own, and
+# all of them answer by one; who is gone without an answer was killed.
+sub answers_to {
+    my ($requests, $root, $helper) = @_;
+    local $^F = 255;    # pipes stay open when the helper is started
+    local $SIG{PIPE} = 'IGNORE';
+    my %to;
+    for my $number (1, map { $_->[1] eq 'fork' ? $_->[2] : () } @$requests) {
+        next if $to{$number};
+        pipe my $from, my $into or die "pipe: $!\n";
+        $into->autoflush(1);
+        $to{$number} = [$from, $into];
+    }
+    pipe my $from, my $teller or die "pipe: $!\n";
+    my $child = fork;
+    die "fork: $!\n" unless defined $child;
+    begin($root, $helper, $from, $teller, \%to) if !$child;
+    close $teller;
+    close $_->[0] for values %to;
+    my $run = { pid => { 1 => $child }, used => { 1 => 1 }, to => \%to, from => $from, held => '' };
+    my @answers = map { answer_to($run, @$_) } @$requests;
+    close $_->[1] for values %to;
+    close $from;
+    waitpid $child, 0;
+    return \@answers;
+}
+
+# Process 1 in its child, which doesn't return.
+sub begin {
+    my ($root, $helper, $from, $teller, $to) = @_;
+    eval {
+        close $from;
+        close $_->[1] for values %$to;
+        $SIG{CHLD} = 'IGNORE';
+        $SIG{$_} = 'DEFAULT' for qw(HUP INT TERM);
+        if (defined $helper) {
+            my @pipes = map { $_ => fileno $to->{$_}[0] } keys %$to;
+            execute($helper, 'helper', fileno $teller, 1, "root=$root", @pipes);
+            die "$helper: $!\n";
+        }
+        chdir $root or die "$root: $!\n";
+        chroot '.' or die "chroot: $!\n";
+        chdir '/' or die "chdir: $!\n";
+        work(1, $teller, $to);
+    };
+    print {*STDERR} "conform.pl: $@";
+    POSIX::_exit(3);
+}
+
+# The answer to one request.
+sub answer_to {
+    my ($run, $process, $call, @arguments) = @_;
+    return 'gone' unless defined $run->{pid}{$process};
+    # A kernel has no such number: this is the tool's, as it is pua's.
+    return 'EAGAIN' if $call eq 'fork' && $run->{used}{ $arguments[0] };
+    print { $run->{to}{$process}[1] } join(' ', $call, told_words($call, @arguments)), "\n";
+    my $told = next_answer($run, $process);
+    my ($answer, $pid) = defined $told ? split / /, $told : 'killed';
+    if ($call eq 'fork' && $answer eq 'ok') {
+        $run->{pid}{ $arguments[0] } = $pid;
+        $run->{used}{ $arguments[0] } = 1;
+    }
+    delete $run->{pid}{$process} if $answer eq 'killed' || $call eq 'exit';
+    return $answer =~ /\A[0-9]+\z/ ? Pua::Kernel::named($answer) : $answer;
+}
+
+# The arguments as a process is told them: `.` and hexadecimal digits; `-` for NULL.
+sub told_words {
+    my ($call, @arguments) = @_;
+    return @arguments if $call eq 'fork';
+    my $has_null = $call eq 'pledge' || $call eq 'unveil';
+    return map { $has_null && $_ eq '-' ? '-' : '.' . unpack 'H*', argument($_) } @arguments;
+}
+
+# The next line that a process answers; undef where it died instead.
+sub next_answer {
+    my ($run, $process) = @_;
+    my ($pid, $is_dead) = ($run->{pid}{$process}, 0);
+    for (0 .. $PATIENCE) {
+        return $1 if $run->{held} =~ s/\A([^\n]*)\n//;
+        my $ready = '';
+        vec($ready, fileno $run->{from}, 1) = 1;
+        if (select $ready, undef, undef, $is_dead ? 0 : 0.01) {
+            sysread $run->{from}, $run->{held}, 65_536, length $run->{held} or return;
+            next;
+        }
+        return if $is_dead;
+        $is_dead = $process == 1 ? waitpid($pid, POSIX::WNOHANG()) == $pid : !kill 0, $pid;
+    }
+    return 'no-answer';
+}
+
+# What a process does: the calls that it is told, until its pipe ends. A fork goes on in two.
+sub work {
+    my ($self, $teller, $to) = @_;
+    my $from = $to->{$self}[0];
+    my $say = sub { syswrite $teller, "$_[0]\n" };
+    while (1) {
+        my $line = '';
+        until ($line =~ s/\n\z//) {
+            sysread $from, $line, 1, length $line or POSIX::_exit(0);
+        }
+        my ($call, @words) = split / /, $line;
+        if ($call eq 'exit') { $say->('ok'); POSIX::_exit(0) }
+        if ($call eq 'fork') {
+            my $child = fork;
+            if    (!defined $child) { $say->($! + 0) }
+            elsif ($child)          { $say->("ok $child") }
+            else                    { $from = $to->{ $words[0] }[0] }
+            next;
+        }
+        $say->(answer_of_kernel($call, map { $_ eq '-' ? undef : pack 'H*', substr $_, 1 } @words));
+    }
+}
+
+1;
