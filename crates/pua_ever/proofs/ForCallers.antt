@@ -2,15 +2,17 @@
 
 -- each veil in the list of a history is what is kept at its place
 pub use Rattle.pua_ever.proofs.KeptVeils.{among_kept_at}
--- a list for ever behind what is read, and where nothing refuses it
+-- a list for ever of one process where others leave the tree, behind what is read, and where nothing refuses it
+pub use Rattle.pua_ever.proofs.Complete.{beside_one}
 pub use Rattle.pua_ever.proofs.Standing.{ever_after_read}
-pub use Rattle.pua_ever.proofs.Lasts.{ever_lasts_after_read}
+pub use Rattle.pua_ever.proofs.Placed.{placed_after_read}
+pub use Rattle.pua_ever.proofs.Lasts.{ever_lasts_after_read, none_starts_after_read}
 pub use Rattle.pua_ever.proofs.Refused.{unrefused_table, unrefused_history}
 -- whether some line has exec, by the rows, and that none starts anything where none has
 pub use Rattle.pua_ever.proofs.RowsLast.{exec_told}
 pub use Rattle.pua_ever.proofs.Through.{no_line}
 -- the list that holds longest, by who holds both sets
-pub use Rattle.pua_ever.proofs.Chosen.{through_lines, lasting_unbounded, lasting_alone, lasting_through, locked_same, unrefused_both}
+pub use Rattle.pua_ever.proofs.Chosen.{through_lines, lasting_unbounded, lasting_alone, lasting_through, starts_open, locked_same, unrefused_both}
 -- what an item is about stands in its tree, what covers that now is among the covers under which it can come, and which others are
 pub use Rattle.pua_ever.proofs.Now.{StandsNow, items_stand, dir_cover, file_cover}
 pub use Rattle.pua_ever.proofs.Ending.{named_moved, named_linked}

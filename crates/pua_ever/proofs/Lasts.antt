@@ -11,20 +11,28 @@ use Rattle.pua_policy.specs.declared.answer.May.TheVariants.{Yes, Enosys, Death}
 use Rattle.pua_policy.specs.declared.answer.Verdict.{Verdict}
 use Rattle.pua_policy.specs.declared.place.Place.TheVariants as place
 use Rattle.pua_policy.proofs.ForCallers.{same_veils}
-use Rattle.pua_script.specs.Bytes.{IsByteTree}
-use Rattle.pua_script.specs.Replay.{new_world, world_after}
+use Rattle.std.specs.Prelude.{IsTrue}
+use Rattle.pua_tree.specs.Listing.{listing}
+use Rattle.pua_calls.specs.declared.rules.Rules.{Rules}
+use Rattle.pua_script.specs.Bytes.{IsByteTree, are_in_bytes}
+use Rattle.pua_script.specs.Scripts.{script_by}
+use Rattle.pua_script.specs.Requests.{Asked}
+use Rattle.pua_script.specs.Family.{is_exec, none_done}
+use Rattle.pua_script.specs.Laws.{IsConfined}
+use Rattle.pua_script.specs.Replay.{new_world, world_after, history_of}
 use Rattle.pua_script.proofs.ForCallers.{replays_keep_trees, replays_keep_byte_trees, listings_list_byte_trees, scripts_ask_in_bytes, may_yes}
 use Rattle.pua_objects.specs.Objects.{Line, line_of, calls_on, subject_verdict, is_named_by}
 use Rattle.pua_objects.specs.Objects as now
 use Rattle.pua_objects.proofs.ForCallers.{some_of}
 use Rattle.pua_ever.proofs.Common.{EverLine}
-use Rattle.pua_ever.specs.Laws.{IsWithinEver, IsWithinLines}
+use Rattle.pua_ever.specs.Laws.{EditsNeedC, MembersEdit, IsWithinEver, IsWithinLines}
 use Rattle.pua_ever.specs.Through.{is_promised_by, is_promised_by_one, can_come, let_through, ever_through, has_exec, ever_lasting, is_bounded}
 use Rattle.pua_ever.specs.Through.{is_confined_through, EverLastsAfterRead, NowWithinLasting}
 use Rattle.pua_ever.proofs.Now.{now_within_ever}
 use Rattle.pua_ever.proofs.Standing.{kept_after, replays_keep_places, new_places}
 use Rattle.pua_ever.proofs.Holding.{goes, along_now, may_holds}
-use Rattle.pua_ever.proofs.Through.{within_both, ever_lasts}
+use Rattle.pua_ever.proofs.Through.{within_both, ever_lasts, no_line}
+use Rattle.pua_ever.proofs.NoExec.{without_exec_beside}
 
 pub ever_lasts_after_read : EverLastsAfterRead
 ever_lasts_after_read table sound needs rules tree_bytes script_bytes t first asks listed scripted bytes process now given here bound edits member
@@ -37,6 +45,23 @@ ever_lasts_after_read table sound needs rules tree_bytes script_bytes t first as
     (new_places t) in
     ever_lasts table sound needs w asks process now given here bound (places process now here)
     (replays_keep_trees table w asks left bytes) edits member belongs
+
+-- where no line has exec, none of theirs can succeed
+pub none_starts_after_read : (table : CallTable) → NoCallNeedsError table → EditsNeedC table →
+    (rules : Rules) (tree_bytes script_bytes : List ℕ) (t : Tree) (first asks : List Asked) →
+    listing tree_bytes ≡ Ok t → script_by rules script_bytes ≡ Ok first → IsTrue (are_in_bytes asks) →
+    let w = world_after table (new_world t) first in
+    (process : ℕ) (now : History) → history_of w process ≡ Some now → IsConfined now → has_exec (ever w.tree table now) ≡ false →
+    MembersEdit table w asks (process ∷ []) → IsTrue (none_done is_exec table w asks (process ∷ []))
+none_starts_after_read table sound needs rules tree_bytes script_bytes t first asks listed scripted bytes process now here confined quiet edits =
+    let w = world_after table (new_world t) first in
+    let said = scripts_ask_in_bytes rules script_bytes first scripted in
+    let tree : IsByteTree t = listings_list_byte_trees tree_bytes t listed in
+    let left = replays_keep_byte_trees table (new_world t) first tree said in
+    let places = replays_keep_places table needs (new_world t) first (replays_keep_trees table (new_world t) first tree said)
+    (new_places t) in
+    without_exec_beside table sound needs w asks process now here confined (places process now here)
+    (replays_keep_trees table w asks left bytes) edits (no_line w.tree table now quiet)
 
 -- leaving out pledges leaves a veil
 pub any_too : (h : History) → list_any is_unveil (filter (λ event. not (is_pledge event)) h) ≡ list_any is_unveil h

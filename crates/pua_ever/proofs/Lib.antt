@@ -18,6 +18,7 @@ pub mod Now
 pub mod NoExec
 pub mod Calling
 pub mod Standing
+pub mod Placed
 pub mod Rules
 pub mod KeptVeils
 pub mod Origin

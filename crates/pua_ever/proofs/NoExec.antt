@@ -18,7 +18,6 @@ use Rattle.pua_script.proofs.ForCallers.{begins, by_other, at_all}
 use Rattle.pua_script.proofs.ForCallers.{each_spares}
 use Rattle.pua_script.specs.Laws.{IsConfined}
 use Rattle.pua_ever.specs.Laws.{MembersEdit, NoLineHasExec, WithoutExec}
-use Rattle.pua_ever.proofs.Complete.{edits_alone}
 use Rattle.pua_ever.proofs.Growing.{takes, requests_grow}
 use Rattle.pua_ever.proofs.Origins.{Stays, at_first}
 use Rattle.pua_ever.proofs.Stepping.{stays_then}
@@ -129,5 +128,5 @@ without_exec_beside table sound needs w asks process now here confined stand tre
     (inr refl)
 
 pub without_exec : WithoutExec
-without_exec table sound needs w asks process now here confined stand trees alone never =
-    without_exec_beside table sound needs w asks process now here confined stand trees (edits_alone table asks w (process ∷ []) alone) never
+without_exec table sound needs w asks process now here confined stand trees edits never =
+    without_exec_beside table sound needs w asks process now here confined stand trees edits never

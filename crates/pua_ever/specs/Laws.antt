@@ -112,18 +112,26 @@ EverComplete =
     let after = world_after table w asks in
     HasHistoryOf after member (Foresees w.tree table now after.tree)
 
+-- each request is a member's, or leaves the tree as it was
+abbrev pub MembersEdit : CallTable → World → List Asked → List ℕ → Type 0
+MembersEdit table w [] members = ⊤
+MembersEdit table w (ask ∷ asks) members =
+    (IsTrue (is_member members ask.process) ⊎ ((apply table w ask).1.tree ≡ w.tree))
+    × MembersEdit table (apply table w ask).1 asks (family_then table w ask members)
+
 -- no line has `exec`
 abbrev pub NoLineHasExec : Tree → CallTable → History → Type 0
 NoLineHasExec t table h =
     (line : EverLine) → Contains (ever t table h) line → Contains line.calls call.Exec → ⊥
 
--- then no exec of a member can be answered ok: what the law asks for is so by itself
+-- then no exec of a member can be answered ok, whatever others ask for that leaves the tree as it is: what the laws ask for is so by
+-- itself
 abbrev pub WithoutExec : Type 0
 WithoutExec =
     (table : CallTable) → NoCallNeedsError table → EditsNeedC table →
     (w : World) (asks : List Asked) (process : ℕ) (now : History) →
     history_of w process ≡ Some now → IsConfined now → VeilsStand w.tree now → TreesAlong table w asks →
-    IsTrue (members_alone table w asks (process ∷ [])) → NoLineHasExec w.tree table now →
+    MembersEdit table w asks (process ∷ []) → NoLineHasExec w.tree table now →
     IsTrue (none_done is_exec table w asks (process ∷ []))
 
 -- over a later tree: whatever path names a file on which exec would be allowed by a history, were it a program. It has a
@@ -169,13 +177,6 @@ EverOfMany =
     (member : ℕ) → IsTrue (is_member (family table w asks members) member) →
     let after = world_after table w asks in
     HasHistoryOf after member (Foresees w.tree table now after.tree)
-
--- each request is a member's, or leaves the tree as it was
-abbrev pub MembersEdit : CallTable → World → List Asked → List ℕ → Type 0
-MembersEdit table w [] members = ⊤
-MembersEdit table w (ask ∷ asks) members =
-    (IsTrue (is_member members ask.process) ⊎ ((apply table w ask).1.tree ≡ w.tree))
-    × MembersEdit table (apply table w ask).1 asks (family_then table w ask members)
 
 -- an exec of a member that is answered ok leaves it within a history: with its veils, no promise beyond it but `error`, and
 -- no way to put veils. So it is where execpromises were set that the history holds, since veils and lock then stay

@@ -29,6 +29,7 @@ use Rattle.pua_script.specs.declared.answer.Answer.TheVariants.{Okay}
 use Rattle.pua_script.proofs.ForCallers.{by_request, decisions_are_guarded, families_narrow, first_tree}
 use Rattle.pua_ever.specs.Laws.{EverComplete, Foresees, ForeseesIn, IsForeseen, IsForeseenIn}
 use Rattle.pua_ever.specs.Through.{EverLasts, ever_lasting}
+use Rattle.pua_ever.proofs.ForCallers.{beside_one}
 use Rattle.pua_how.specs.Targets.{IsGiven, is_listed, is_of}
 use Rattle.pua_how.specs.declared.target.Target.{Target}
 use Rattle.pua_how.specs.Ways.{call_of}
@@ -69,9 +70,9 @@ unforeseen lines t u table now last well live foresees asked call given unlisted
     (line_about t u now well asked given foreseen.line.thing (live foreseen.line foreseen.listed)
     foreseen.object foreseen.about (ap (is_of u now asked) is ∙ same)) foreseen.allows)
 
-pub never_comes : EverComplete → NeverComes
-never_comes complete table sound needs w asks process now here confined stand trees none alone asked call given unlisted member belongs =
-    let last = complete table sound needs w asks process now here confined stand trees none alone member belongs in
+pub never_comes : NeverComes
+never_comes table sound needs w asks process now here confined stand trees none edit asked call given unlisted member belongs =
+    let last = beside_one table sound needs w asks process now here confined stand trees none edit member belongs in
     let well = first_tree table w asks trees in (
       last.0,
       last.1,

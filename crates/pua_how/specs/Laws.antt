@@ -28,7 +28,7 @@ NeverComes =
     (w : World) (asks : List Asked) (process : ℕ) (now : History) →
     history_of w process ≡ Some now → IsConfined now → VeilsStand w.tree now → TreesAlong table w asks →
     IsTrue (none_done is_exec table w asks (process ∷ [])) →
-    IsTrue (members_alone table w asks (process ∷ [])) →
+    MembersEdit table w asks (process ∷ []) →
     (asked : Target) (call : Call) → IsGiven w.tree asked → IsFalse (is_listed (ever w.tree table now) asked call) →
     (member : ℕ) → IsTrue (is_member (family table w asks (process ∷ [])) member) →
     let after = world_after table w asks in

@@ -6,6 +6,7 @@ pub mod Alike
 pub mod ObjectTexts
 pub mod TextAnswers
 pub mod Written
+pub mod ListWritten
 pub mod Stops
 pub mod Ends
 pub mod WhyTexts

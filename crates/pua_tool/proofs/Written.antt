@@ -2,7 +2,7 @@
 use Rattle.pua_tool.proofs.Common.{◌≡◌, ◌≢◌, ◌∙◌, ◌∷◌, [], ℕ, List, ◌++◌, ap, refl, sym, subst, Ok, Option, Some, None, CallTable, Tree, Asked, World}
 use Rattle.pua_tool.proofs.Common.{History, history_of, new_world, answers_to, world_after, answer_lines, listing, script_by, Chosen, Replayed}
 use Rattle.pua_tool.proofs.Common.{Result, table_by, as_listing, as_script, replay_of, unless_reason, ToolFault}
-use Rattle.std.proofs.Common.{◌⊎◌, inl, inr, true}
+use Rattle.std.proofs.Common.{◌⊎◌, inl, inr, Bool, true, false}
 use Rattle.std.specs.Prelude.{IsTrue, ok_or}
 use Rattle.pua_tree.specs.Steps.{◌>>=◌}
 use Rattle.pua_tree.proofs.ForCallers.{same_Ok, Err≢Ok}
@@ -14,8 +14,15 @@ use Rattle.pua_script.specs.Laws.{IsConfined}
 use Rattle.pua_ever.specs.Refusals.{refusal}
 use Rattle.pua_ever.specs.declared.refusal.Refusal.{Refusal}
 use Rattle.pua_ever.proofs.ForCallers.{ever_after_read, ever_lasts_after_read, lasting_unbounded, unrefused_table, unrefused_history}
+use Rattle.pua_ever.proofs.ForCallers.{none_starts_after_read, starts_open}
 use Rattle.pua_ever.specs.Laws.{ForeseesIn, MembersEdit}
-use Rattle.pua_ever.specs.Through.{bound_of, ever_lasting}
+use Rattle.pua_ever.specs.Ever.{EverLine, ever, ever_line_text}
+use Rattle.pua_texts.specs.EverLines.{heading_ever}
+use Rattle.pua_texts.specs.States.{head_lines}
+use Rattle.pua_tool.proofs.Common.{with_end}
+use Rattle.pua_tool.proofs.ListWritten.{behind, in_lines}
+use Rattle.pua_ever.specs.Through.{bound_of, ever_lasting, execs_of, has_exec}
+use Rattle.pua_ever.specs.declared.lasting_list.ExecBound.TheVariants.{Open}
 use Rattle.pua_texts.specs.EverLines.{ever_list}
 use Rattle.pua_tool.specs.EverTexts.{ever_after, ever_fault, ever_text}
 use Rattle.pua_tool.specs.Forever.{EverAsWritten, IsEverWritten, IsForeseenBehind}
@@ -66,13 +73,23 @@ module _ (choice : Chosen) (tree_bytes script_bytes : List ℕ) (table : CallTab
   foreseen_behind h here none (inl confined) =
       inl (λ asks bytes held edit member belongs. by asks bytes edit member belongs (bound_of table h) refl held)
     where
+      quiet : (asks : List Asked) → IsTrue (are_in_bytes asks) → MembersEdit table w asks (process ∷ []) → bound_of table h ≡ None →
+          (b : Bool) → has_exec (ever w.tree table h) ≡ b →
+          (execs_of w.tree table h ≢ Open) ⊎ IsTrue (none_done is_exec table w asks (process ∷ [])) →
+          IsTrue (none_done is_exec table w asks (process ∷ []))
+      quiet asks bytes edit unbound b has (inr alone) = alone
+      quiet asks bytes edit unbound true has (inl shut) = absurd (shut (starts_open w.tree table h has unbound))
+      quiet asks bytes edit unbound false has (inl shut) =
+          none_starts_after_read table (tables_need_no_error choice table given) (unrefused_table table h none) choice.rules tree_bytes script_bytes t
+          first asks read scripted bytes process h here confined has edit
+
       by : (asks : List Asked) → IsTrue (are_in_bytes asks) → MembersEdit table w asks (process ∷ []) → (member : ℕ) →
           IsTrue (is_member (family table w asks (process ∷ [])) member) → (bound : Option ℕ) → bound_of table h ≡ bound →
-          (bound_of table h ≢ None) ⊎ IsTrue (none_done is_exec table w asks (process ∷ [])) →
+          (execs_of w.tree table h ≢ Open) ⊎ IsTrue (none_done is_exec table w asks (process ∷ [])) →
           HasHistoryOf (world_after table w asks) member
           (ForeseesIn (ever_lasting w.tree table h) w.tree table h (world_after table w asks).tree)
-      by asks bytes edit member belongs None is (inl bounded) = absurd (bounded is)
-      by asks bytes edit member belongs None is (inr alone) =
+      by asks bytes edit member belongs None is held =
+          let alone = quiet asks bytes edit is (has_exec (ever w.tree table h)) refl held in
           subst (λ lines. HasHistoryOf (world_after table w asks) member (ForeseesIn lines w.tree table h (world_after table w asks).tree))
           (sym (lasting_unbounded w.tree table h is))
           (ever_after_read table (tables_need_no_error choice table given) (unrefused_table table h none) choice.rules tree_bytes script_bytes t first
@@ -94,6 +111,14 @@ module _ (choice : Chosen) (tree_bytes script_bytes : List ℕ) (table : CallTab
             here = is;
             is_text = parts.1;
             complete = foreseen_behind h is parts.0 (unrefused_history table h parts.0);
+            printed = λ line listed.
+                let head = head_lines w.tree (heading_ever choice.rules (execs_of w.tree table h) process) h in
+                let found = in_lines (λ (l : EverLine). with_end (ever_line_text w.tree l)) (ever_lasting w.tree table h) line listed in (
+                  answer_lines 1 done.answers ++ head ++ found.0,
+                  found.1,
+                  parts.1 ∙ ap (λ lines. answer_lines 1 done.answers ++ (head ++ lines)) found.2
+                      ∙ behind (answer_lines 1 done.answers) head found.0 (with_end (ever_line_text w.tree line)) found.1,
+                );
           }
 
 pub ever_as_written : EverAsWritten

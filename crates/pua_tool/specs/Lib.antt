@@ -14,6 +14,7 @@ pub mod Performed
 -- What is proved of these.
 pub mod Futures
 pub mod Alike
+pub mod Listed
 pub mod Forever
 pub mod Fewest
 -- Worked rows, which hold by computation.

@@ -7,11 +7,13 @@ ghost use Rattle.pua_tool.specs.EverHowExamples.{EverHowRows};
 ghost use Rattle.pua_tool.specs.Examples.{HowTextRows, ReasonTextRows, TextRows, TightTextRows};
 ghost use Rattle.pua_tool.specs.Fewest.{TightAsWritten};
 ghost use Rattle.pua_tool.specs.Forever.{EverAsWritten};
+ghost use Rattle.pua_tool.specs.Listed.{ObjectsAsWritten};
 ghost use Rattle.pua_tool.specs.Futures.{Confinement, ConfinementAsRead, Narrowing};
 ghost use Rattle.pua_tool.specs.Futures.{NarrowingAsRead, NarrowingNow};
 ghost use Rattle.pua_script.specs.Futures.{RulesNarrow};
 ghost use Rattle.pua_script.specs.Tightening.{OthersLeave, OthersLeaveAlways};
 
+use pua_objects::{completeness_law, soundness_law};
 use pua_tree::FileTree;
 
 /// Examples of whole texts, and of what refuses them.
@@ -48,6 +50,16 @@ pub fn confined()
     ensures read { ConfinementAsRead }
     ensures rules { RulesNarrow }
 {}
+
+/// Where there is a text of a list of objects of a process, it is the answers and the list of the process, each line of which stands
+/// in it; and whatever path is spelled, if a call is allowed on it, what it names has a line with the call.
+/// And each call of each line is allowed on the line's own path, or on that of each further name.
+pub fn objects_text_law()
+    ensures { ObjectsAsWritten }
+{
+    completeness_law();
+    soundness_law();
+}
 
 /// Where there is a text of a list for ever, it is the answers and the list of the process, which is complete: whatever is
 /// asked behind the script, as long as nobody else changes the tree, and all that the family starts is bounded or no exec of
