@@ -26,9 +26,9 @@ use Rattle.pua_ever.proofs.Unedited.{unedited, still_unable}
 use Rattle.pua_ever.proofs.Ending.{foreseen}
 
 -- an exec that was answered ok was allowed on its path
-record Execs (table : CallTable) (w : World) (h : History) : Type 0 where
-  path : List ℕ
-  allowed : verdict_of w.tree table h call.Exec (object_named w.tree h call.Exec path) ≡ verdicts.Allowed
+pub record Execs (table : CallTable) (w : World) (h : History) : Type 0 where
+  pub path : List ℕ
+  pub allowed : verdict_of w.tree table h call.Exec (object_named w.tree h call.Exec path) ≡ verdicts.Allowed
 
 execs_by : (table : CallTable) (w : World) (h : History) (action : Action) (c : Change) → IsDecided table w.tree h action c →
     is_exec action ≡ true → Execs table w h
@@ -47,7 +47,7 @@ execs_by table w h Lock c d is = absurd (false≢true is)
 execs_by table w h (Fork new) c d is = absurd (false≢true is)
 execs_by table w h Exit c d is = absurd (false≢true is)
 
-execs_then : (table : CallTable) (w : World) (ask : Asked) (h : History) → history_of w ask.process ≡ Some h → is_exec ask.action ≡ true →
+pub execs_then : (table : CallTable) (w : World) (ask : Asked) (h : History) → history_of w ask.process ≡ Some h → is_exec ask.action ≡ true →
     is_okay (apply table w ask).0 ≡ true → Execs table w h
 execs_then table w ask h here is =
     by_living table w ask h here (λ done. is_okay done.0 ≡ true → Execs table w h) (λ ok. absurd (false≢true ok))
