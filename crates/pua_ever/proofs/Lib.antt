@@ -14,6 +14,13 @@ pub mod ExecCalls
 pub mod Ending
 pub mod Starting
 pub mod Complete
+pub mod Untaken
+pub mod Jointly
+pub mod JointlyDone
+pub mod JointlyLasts
+pub mod JointlyClosed
+pub mod JointlyGrows
+pub mod JointlyRows
 pub mod Now
 pub mod NoExec
 pub mod Calling
