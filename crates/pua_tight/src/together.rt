@@ -12,14 +12,10 @@ ghost use Rattle.pua_tight.specs.Trials.{all_tried};
 
 use crate::arguments::Arguments;
 use crate::fault::TightFault;
-use crate::needed::without_needed;
 use crate::trial::{Trial, leave_out, put_back};
 use crate::wanted::Wanted;
 use pua_script::Request;
 use std::alloc::{AllocError, Global};
-
-/// So many pieces' shadows are followed at once: each takes the memory of a process.
-const AT_ONCE: usize = 64;
 
 /// The arguments that a line had.
 #[derive(Clone, Copy)]
@@ -31,68 +27,6 @@ pub(crate) struct Kept {
 /// Leaves out of a script one piece after another, where all of it is then answered as is wanted: the
 /// last line's first, of lines that are answered ok.
 pub(crate) fn try_all(
-    wanted: &Wanted<'_>,
-    trials: &[Trial],
-    requests: &mut Vec<Request>,
-) -> Result<(), TightFault>
-    ensures tried { IfOk result (λ _. (t : Tree) → listing wanted.now.tree_bytes.now ≡ Ok t →
-        IsToTry wanted.now.table.now (new_world t) wanted.now.answers.items trials.now
-        requests.old.items → requests.new.items ≡ all_tried wanted.now.table.now (new_world t)
-        wanted.now.answers.items trials.now requests.old.items) }
-    ensures refused { IfErr result (λ fault. fault ≢ TightFault.OutOfMemory →
-        (as_listing (listing wanted.now.tree_bytes.now) ≡ Err fault)) }
-{
-    let mut done = 0;
-    while done < trials.len() {
-        done += try_next(wanted, &trials[done..], requests)?;
-    }
-    Ok(())
-}
-
-/// Tries the first pieces, up to the first that can't be left out, and so many behind it: of these those
-/// that are needed are found without a trial of each. Answers how many are done.
-fn try_next(
-    wanted: &Wanted<'_>,
-    trials: &[Trial],
-    requests: &mut Vec<Request>,
-) -> Result<usize, TightFault>
-    ensures done { IfOk result (λ done. (t : Tree) → listing wanted.now.tree_bytes.now ≡ Ok t →
-        IsToTry wanted.now.table.now (new_world t) wanted.now.answers.items trials.now
-        requests.old.items → AreDone wanted.now.table.now (new_world t) wanted.now.answers.items
-        trials.now done requests.old.items requests.new.items) }
-    ensures some { IfOk result (λ done. 0 < length trials.now → 0 < done) }
-    ensures within { IfOk result (λ done. done ≤ length trials.now) }
-    ensures refused { IfErr result (λ fault. fault ≢ TightFault.OutOfMemory →
-        (as_listing (listing wanted.now.tree_bytes.now) ≡ Err fault)) }
-{
-    let done = try_front(wanted, trials, requests)?;
-    let more = AT_ONCE.min(trials.len() - done);
-    try_some(wanted, &trials[done..done + more], requests)?;
-    Ok(done + more)
-}
-
-/// Leaves pieces out of a script that are not needed.
-fn try_some(
-    wanted: &Wanted<'_>,
-    trials: &[Trial],
-    requests: &mut Vec<Request>,
-) -> Result<(), TightFault>
-    ensures tried { IfOk result (λ _. (t : Tree) → listing wanted.now.tree_bytes.now ≡ Ok t →
-        IsToTry wanted.now.table.now (new_world t) wanted.now.answers.items trials.now
-        requests.old.items → requests.new.items ≡ all_tried wanted.now.table.now (new_world t)
-        wanted.now.answers.items trials.now requests.old.items) }
-    ensures refused { IfErr result (λ fault. fault ≢ TightFault.OutOfMemory →
-        (as_listing (listing wanted.now.tree_bytes.now) ≡ Err fault)) }
-{
-    if trials.is_empty() {
-        return Ok(());
-    }
-    let rest = without_needed(wanted, requests.as_slice(), trials)?;
-    try_each(wanted, rest.as_slice(), requests)
-}
-
-/// Leaves them out, by trials alone.
-fn try_each(
     wanted: &Wanted<'_>,
     trials: &[Trial],
     requests: &mut Vec<Request>,
