@@ -27,7 +27,7 @@ loop-done-preserved c =
         c.loop-done-test.true,
       );
       told = λ t listed to_try. more_done c.args.wanted.now.table.now (new_world t) c.args.wanted.now.answers.items trials
-          c.args.requests.now.items c.loop-done.requests.items c.try_next.new.requests.items done _ rest are
+          c.args.requests.now.items c.loop-done.requests.items c.try_front.new.requests.items done _ rest are
           (c.loop-done.invariant.told t listed to_try) (c.in_ok-done.ensures.done t listed);
     }
 
