@@ -98,7 +98,7 @@ module _ (complete : Complete) (sound : SoundLines) (choice : Chosen) (tree_byte
                   front ++ head_lines w.tree (heading_now choice.rules process) h ++ found.0,
                   found.1,
                   text_is ∙ ap (λ lines. front ++ (head_lines w.tree (heading_now choice.rules process) h ++ lines)) found.2
-                  ∙ behind front (head_lines w.tree (heading_now choice.rules process) h) found.0 (with_end (line_text w.tree line)) found.1,
+                      ∙ behind front (head_lines w.tree (heading_now choice.rules process) h) found.0 (with_end (line_text w.tree line)) found.1,
                 );
           }
 

@@ -117,7 +117,7 @@ module _ (choice : Chosen) (tree_bytes script_bytes : List ℕ) (table : CallTab
                   answer_lines 1 done.answers ++ head ++ found.0,
                   found.1,
                   parts.1 ∙ ap (λ lines. answer_lines 1 done.answers ++ (head ++ lines)) found.2
-                  ∙ behind (answer_lines 1 done.answers) head found.0 (with_end (ever_line_text w.tree line)) found.1,
+                      ∙ behind (answer_lines 1 done.answers) head found.0 (with_end (ever_line_text w.tree line)) found.1,
                 );
           }
 

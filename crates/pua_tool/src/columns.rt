@@ -56,13 +56,9 @@ pub(crate) fn columns_of(
     let mut names = Vec::new(alloc);
     let mut columns = Vec::new(alloc);
     for row in rows {
-        let Ok(()) = go_to(&mut names, row) else {
-            return Err(ToolFault::OutOfMemory);
-        };
+        go_to(&mut names, row)?;
         let column = column_of(alloc, behind, process, names.as_slice(), &row.line)?;
-        let Ok(()) = columns.push(column) else {
-            return Err(ToolFault::OutOfMemory);
-        };
+        columns.push(column)?;
     }
     Ok(columns)
 }
@@ -97,10 +93,7 @@ fn column_of(
     let now = calls_now(world.tree(), process, world.table(), names, line.thing);
     let lacking = without(line.calls, now);
     let counts = counts_on(alloc, behind, process, names, line.thing, lacking)?;
-    match text_of(alloc, counts.as_slice()) {
-        Ok(text) => Ok(text),
-        Err(AllocError) => Err(ToolFault::OutOfMemory),
-    }
+    Ok(text_of(alloc, counts.as_slice())?)
 }
 
 /// Its calls but for the others.
@@ -148,9 +141,7 @@ fn counts_on(
     for call in Call::ALL {
         if calls.contains(call) {
             let steps = steps_to(alloc, behind, process, call, &meant)?;
-            let Ok(()) = counts.push((call, steps)) else {
-                return Err(ToolFault::OutOfMemory);
-            };
+            counts.push((call, steps))?;
         }
     }
     Ok(counts)
@@ -170,13 +161,8 @@ fn meant_on<T: FileTree>(
         (Some (kind_of thing)) meant.targets.items) }
     ensures memory { IfErr result (λ fault. fault ≡ ToolFault.OutOfMemory) }
 {
-    let Ok(asking) = asking_on(alloc, names, thing) else {
-        return Err(ToolFault::OutOfMemory);
-    };
-    match find_meant(alloc, tree, process, &asking, Some(kind_in(thing))) {
-        Ok(meant) => Ok(meant),
-        Err(OutOfMemory) => Err(ToolFault::OutOfMemory),
-    }
+    let asking = asking_on(alloc, names, thing)?;
+    Ok(find_meant(alloc, tree, process, &asking, Some(kind_in(thing)))?)
 }
 
 /// The kind of what a line is about.
@@ -217,10 +203,7 @@ fn steps_to(
     ensures memory { IfErr result (λ fault. fault ≡ ToolFault.OutOfMemory) }
 {
     let world = &behind.replay.world;
-    let plans = find_plans(alloc, world.tree(), process, world.table(), call, meant);
-    let Ok(plans) = plans else {
-        return Err(ToolFault::OutOfMemory);
-    };
+    let plans = find_plans(alloc, world.tree(), process, world.table(), call, meant)?;
     match steps_by(alloc, behind, call, meant, plans.first.as_ref())? {
         Some(steps) => Ok(Some(steps)),
         None => steps_by(alloc, behind, call, meant, plans.second.as_ref()),

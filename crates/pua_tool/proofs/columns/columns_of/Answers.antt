@@ -19,12 +19,12 @@ loop-row-preserved c =
     let word : Word = map (λ name. name.now) c.go_to.new.names.items in
     let texts : List (List ℕ) = map string_bytes c.loop-row.columns.items in
     let text : List ℕ = string_bytes c.in_ok-column.column in
-    let at : word ≡ word_of_row before row = c.in-Ok.ensures in
+    let at : word ≡ word_of_row before row = c.in_ok-go_to.ensures in
     record {
       names = row_names rows row i c.loop-row-test.true c.row-item.is before word c.loop-row.invariant.names at;
       columns = λ done h behind.
           subst (λ (texts : List (List ℕ)). AreColumns done n h [] (take (i + 1) rows) texts)
-          (sym (ap (map string_bytes) c.in-Ok-push.ensures.items ∙ map-append string_bytes c.loop-row.columns.items (c.in_ok-column.column ∷ [])))
+          (sym (ap (map string_bytes) c.in_ok-push.ensures.items ∙ map-append string_bytes c.loop-row.columns.items (c.in_ok-column.column ∷ [])))
           (row_column done n h rows row i c.loop-row-test.true c.row-item.is word (at ∙ ap (λ w. word_of_row w row) c.loop-row.invariant.names)
           texts text (c.loop-row.invariant.columns done h behind)
           (subst (λ names. IsColumnAt done n h (map (λ name. name.now) names) row.line text) c.as_slice.ensures.value

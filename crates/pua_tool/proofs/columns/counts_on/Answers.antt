@@ -11,7 +11,7 @@ use Rattle.pua_texts.specs.EverLines.{kind_of}
 use Rattle.pua_tool.specs.EverHowTexts.{IsCount, asking_by}
 use Rattle.pua_tool.specs.RowColumns.{served_by}
 use Rattle.pua_tool.proofs.Counts.{Count, all_counted, call_counted, call_passed, calls_of, steps_counted}
-use Rattle.pua_tool.proofs.columns.counts_on.Goals.{then-contains+in_ok-steps+in-Ok, else-contains}
+use Rattle.pua_tool.proofs.columns.counts_on.Goals.{then-contains+in_ok-steps+in_ok-push, else-contains}
 use Rattle.pua_tool.proofs.columns.counts_on.Goals as goal
 
 pub loop-call-preserved : goal.loop-call-preserved
@@ -26,9 +26,9 @@ loop-call-preserved c =
     let counts : List Count = c.loop-call.counts.items in
     let things = c.in_ok-meant.meant.targets.items in
     elim c.if-contains.branch [
-      | then-contains+in_ok-steps+in-Ok w ↦
+      | then-contains+in_ok-steps+in_ok-push w ↦
           let found : Option ℕ = w.in_ok-steps.steps in
-          let all : w.push.new.self.items ≡ counts ++ (call, found) ∷ [] = w.in-Ok.ensures.items in
+          let all : w.push.new.self.items ≡ counts ++ (call, found) ∷ [] = w.in_ok-push.ensures.items in
           rw w.counts-is (record {
             calls = ap calls_of all ∙ call_counted set i c.loop-call-test.true counts found (sym c.contains.ensures ∙ w.if-contains.true)
                 c.loop-call.invariant.calls;
