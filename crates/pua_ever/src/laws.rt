@@ -88,10 +88,11 @@ pub fn through_examples()
     ensures { ThroughRows }
 {}
 
-/// Several processes that put the same unveils, and can put no more: whatever they and what they fork ask
-/// for, as long as nobody else changes the tree and no exec of theirs succeeds, each call that is then
-/// allowed to one of them has its line in the list of the one that stands for all of them. So it is through
-/// execs, where all that they start is bounded, and behind a listing and a script as a command reads them.
+/// Several processes with the same veils, in whichever order, that can put no more: whatever they and what
+/// they fork ask for, as long as nobody else changes the tree and no exec of theirs succeeds, each call that
+/// is then allowed to one of them has its line in the list of the one that stands for all of them. So it is
+/// through execs, where all that they start is bounded, and behind a listing and a script as a command reads
+/// them.
 pub fn together_law()
     ensures together { EverTogether }
     ensures lasts { TogetherLasts }
@@ -106,7 +107,8 @@ pub fn together_examples()
 
 /// Several processes with veils and promises of their own, and what they fork: whatever they ask for, all of
 /// them together, each call that is then allowed to one of them has its line in the joint list of that one.
-/// So it is through execs, where all that they start is bounded, and behind a listing and a script.
+/// So it is through execs, where all that they start is bounded, and behind a listing and a script. Who has
+/// more help has no less in its list.
 pub fn jointly_law()
     ensures within { JointlyWithin }
     ensures complete { JointlyComplete }
