@@ -1,68 +1,63 @@
 -- All that members of several groups are ever allowed has its line by the facts of the beginning.
-use Rattle.pua_ever.proofs.Common.{◌≡◌, ◌≢◌, ◌⊎◌, ◌≤◌, ◌<◌, ℕ, List, [], ◌∷◌, Bool, true, false, cond, map, refl, sym, ap, subst, ◌∙◌, inl, inr}
-use Rattle.pua_ever.proofs.Common.{Option, Some, None, Result, Ok, Err, ◌==◌, ◌||◌, not, option_map, false≢true, and_parts, not-true, eq-eqb}
-use Rattle.pua_ever.proofs.Common.{Tree, WellFormed, Spot, spot_cmp, spots_total, exact_spots, is_dir, is_dir_kind, is_living, look, kind_at, is_empty, has_no_row}
-use Rattle.pua_ever.proofs.Common.{empty_tree, sound_from, row_says, is_link_kind, misfit_errno, IsNotEmpty, Followed, Way, Named, Top, Dot, DotDot}
-use Rattle.pua_ever.proofs.Common.{Found, Whole, Slot, resolutions_fit, named_within_text, CallTable, rule_of, keeps_link, is_kept, History, perms_kept, may_any, Only}
-use Rattle.pua_ever.proofs.Common.{Object, IsDir, IsMissing, object_of_kind, object_fault, cover, cover_fault, or_fault, allowed_unless, if_promised, covered_verdict}
-use Rattle.pua_ever.proofs.Common.{verdict_of, is_allowed, allowed_is, Call, Cover, May, At, Others, cover_in, own_or, Among, among_map, among_contained, contained, map_among}
-use Rattle.pua_ever.proofs.Common.{covers_descend, lasting_dir, removable_dir, Stands, Comes, New, NewDir, NewOthers, NewFile, NewLink, VeilsStand, EditsNeedC}
-use Rattle.pua_ever.proofs.Common.{Asked, World, apply, world_after, family_then, is_member, NoCallNeedsError, TreesAlong, Members, first_tree, verdicts_within}
-use Rattle.pua_ever.proofs.Common.{option_eq, is_none, is_some, ◌&&◌, ◌++◌, filter, calls, and_from, among_filter, among_left, among_right, Word, Item, items, Subject, veils, same_dir}
-use Rattle.pua_ever.specs.Ever.{EverLine, all_new, has_ever_calls, own_spot}
-use Rattle.pua_ever.specs.Laws.{IsForeseenIn}
-use Rattle.pua_ever.specs.Jointly.{TellsJointly, named_too, joint_subjects, joint_line, joint_lines}
-use Rattle.pua_path.specs.Fits.{FoundFits}
-use Rattle.pua_objects.proofs.ForCallers.{has_item, found_dir, named_by_row, one_of_calls, some_of}
+use Rattle.pua_ever.proofs.Common.{◌≡◌, ◌≢◌, ◌⊎◌, ◌<◌, ℕ, List, [], ◌∷◌, Bool, true, false, cond, map, refl, sym, ap, subst, ◌∙◌, inl, inr}
+use Rattle.pua_ever.proofs.Common.{Option, Some, None, Result, Ok, Err, ◌==◌, not, option_map, false≢true, and_parts, not-true, eq-eqb}
+use Rattle.pua_ever.proofs.Common.{Tree, WellFormed, Spot, is_dir, is_dir_kind, look, kind_at, is_empty, empty_tree, sound_from, row_says}
+use Rattle.pua_ever.proofs.Common.{is_link_kind, misfit_errno, IsNotEmpty, Followed, Way, Named, Top, Dot, DotDot, Found, Whole, Slot}
+use Rattle.pua_ever.proofs.Common.{resolutions_fit, named_within_text, CallTable, rule_of, keeps_link, ProcessState, perms_kept, may_any}
+use Rattle.pua_ever.proofs.Common.{Only, Object, IsDir, IsMissing, object_of_kind, object_fault, cover, cover_fault, or_fault}
+use Rattle.pua_ever.proofs.Common.{allowed_unless, if_promised, covered_verdict, verdict_of, is_allowed, allowed_is, Call, Cover, At}
+use Rattle.pua_ever.proofs.Common.{Others, cover_in, own_or, Among, among_map, among_contained, contained, map_among, covers_descend}
+use Rattle.pua_ever.proofs.Common.{lasting_dir, removable_dir, Stands, Comes, NewDir, NewOthers, NewFile, NewLink, VeilsStand, EditsNeedC}
+use Rattle.pua_ever.proofs.Common.{Asked, World, apply, world_after, family_then, is_member, NoCallNeedsError, TreesAlong, Members}
+use Rattle.pua_ever.proofs.Common.{first_tree, verdicts_within, option_eq, is_none, is_some, ◌++◌, filter, calls, and_from, among_filter}
+use Rattle.pua_ever.proofs.Common.{among_left, among_right, Word, Item, items, Subject, veils, same_dir}
+use Rattle.pua_ever.specs.Ever.{EverLine, all_new, has_ever_calls, own_spot, Thing, is_yes}
+use Rattle.pua_ever.specs.Laws.{IsForeseenIn, ActsWithin, NoExecLoosens, IsLineOf, of_dir, of_new_dir, of_row, of_new_file, of_new_link}
+use Rattle.pua_ever.specs.Laws.{of_name, of_others, of_new_others, PlacesStand}
+use Rattle.pua_ever.specs.Jointly.{Source, kind_of_source, TellsJointly, named_too, joint_subjects, joint_line, joint_lines, Old, Fact}
+use Rattle.pua_ever.specs.Jointly.{DirCover, NameCover, Free, StandsAt, Can, Shows, shows_dir, shows_emptied, shows_others, shows_row}
+use Rattle.pua_ever.specs.Jointly.{shows_name, shows_new_dir, shows_new_others, shows_new_file, shows_new_link, IsJointlyAllowed}
+use Rattle.pua_ever.specs.Jointly.{groups_then, ByMember, GroupsEdit, IsJointlyForeseen, JointlyComplete, JointlyWithin, JointlyThrough}
+use Rattle.pua_ever.specs.Jointly.{JointlyAfterRead, ForeseenByOne, IsJointlyStarted, IsWithinOne, AreWithinOne, StayWithinOne, as_started}
+use Rattle.pua_ever.specs.Jointly.{both_agents, crew_through, may_take}
+use Rattle.pua_path.specs.Fits.{FoundFits, IsOf, StandsAsNamed, is_link}
+use Rattle.pua_objects.proofs.ForCallers.{has_item, found_dir, named_by_row, one_of_calls, some_of, failed, among_flat, flat_among}
 use Rattle.std.specs.List.{AllByRecursion, Contains}
+use Rattle.std.proofs.Math.Bool.{or-true}
+use Rattle.std.proofs.lemmas.List.Elements.{All-contains, All-from_recursion}
+use Rattle.pua_tree.specs.declared.node.Kind.{Kind}
 use Rattle.pua_tree.specs.declared.node.Kind.TheVariants as kind
-use Rattle.pua_tree.proofs.ForCallers.{Sound, none_found}
+use Rattle.pua_tree.proofs.ForCallers.{Sound, is_living_dir}
 use Rattle.pua_path.specs.Resolution.{resolution_of_text}
-use Rattle.pua_path.specs.Fits.{IsOf, StandsAsNamed, is_link}
 use Rattle.pua_path.specs.declared.errno.Errno.{Errno}
-use Rattle.pua_path.specs.declared.found.Last.{Last}
-use Rattle.pua_path.specs.declared.found.Last.TheVariants.{Kept}
 use Rattle.pua_calls.specs.Calls.{ending_of, last_of}
 use Rattle.pua_calls.specs.declared.call.Call.TheVariants as call
 use Rattle.pua_policy.specs.Verdict.{IsFile, IsLink, IsProg, rmdir_fault, verdict}
 use Rattle.pua_policy.specs.declared.place.Place.TheVariants as place
 use Rattle.pua_policy.specs.declared.answer.May.TheVariants as may
 use Rattle.pua_policy.specs.declared.answer.Verdict.TheVariants.{Allowed}
-use Rattle.pua_script.specs.Family.{family, HasHistoryOf}
-use Rattle.pua_script.proofs.ForCallers.{each_spares, by_other, same_cover, IsWithin}
-use Rattle.pua_script.proofs.ForCallers.{replays_keep_trees, replays_keep_byte_trees, listings_list_byte_trees, scripts_ask_in_bytes}
+use Rattle.pua_script.specs.Family.{family, HasKept}
+use Rattle.pua_script.proofs.ForCallers.{each_spares, by_other, same_cover, IsWithin, replays_keep_trees, replays_keep_byte_trees}
+use Rattle.pua_script.proofs.ForCallers.{listings_list_byte_trees, scripts_ask_in_bytes}
 use Rattle.pua_script.specs.Bytes.{are_in_bytes, IsByteTree}
-use Rattle.pua_script.specs.Replay.{new_world, history_of}
+use Rattle.pua_script.specs.Replay.{new_world, kept_at}
 use Rattle.pua_objects.specs.Objects.{own_way}
-use Rattle.pua_objects.proofs.ForCallers.{failed, among_flat}
-use Rattle.pua_objects.proofs.ForCallers.{flat_among}
-use Rattle.pua_ever.specs.Ever.{Thing}
-use Rattle.pua_ever.specs.Laws.{ActsWithin, NoExecLoosens, IsLineOf, of_dir, of_new_dir, of_row, of_new_file, of_new_link, of_name, of_others, of_new_others}
-use Rattle.pua_ever.specs.Jointly.{Old, Maker, Fact, Under, Over, Frees, Lies, kind_made, Can, Shows, shows_dir, shows_emptied}
-use Rattle.pua_ever.specs.Jointly.{shows_others, shows_row, shows_name, shows_new_dir, shows_new_others, shows_new_file, shows_new_link, IsJointly}
-use Rattle.pua_ever.specs.Jointly.{groups_then, ByMember, GroupsEdit, IsJointlyForeseen, JointlyComplete, JointlyWithin, JointlyThrough}
-use Rattle.pua_ever.specs.Jointly.{JointlyAfterRead, ForeseenByOne, IsJointlyStarted, IsWithinOne, AreWithinOne, StayWithinOne}
-use Rattle.pua_ever.specs.Jointly.{as_started, both_agents, crew_through}
-use Rattle.pua_ever.proofs.Covers.{given_or_new, living_dir}
+use Rattle.pua_ever.proofs.Covers.{given_or_new}
 use Rattle.pua_ever.proofs.KindFaults.{plain_alike, dir_alike}
 use Rattle.pua_ever.proofs.Growing.{takes, requests_grow}
 use Rattle.pua_ever.proofs.Execs.{members_still}
 use Rattle.pua_ever.proofs.Along.{grown_within}
 use Rattle.pua_ever.proofs.Unedited.{yes_before}
 use Rattle.pua_ever.proofs.Untaken.{RowsStay, untaken, still_untaking}
-use Rattle.pua_ever.specs.Jointly.{may_take}
-use Rattle.pua_ever.proofs.Ending.{parts_of, Parts}
-use Rattle.pua_ever.proofs.Complete.{all_within}
-use Rattle.pua_ever.proofs.Holding.{unveils_kept, lacks_unveil, along_then}
-use Rattle.pua_ever.proofs.Standing.{kept_after, new_places, replays_keep_places}
+use Rattle.pua_ever.proofs.Ending.{named_link, one_new, parts_of, Parts}
+use Rattle.pua_ever.proofs.Complete.{all_within, yes_is}
+use Rattle.pua_ever.proofs.Holding.{lacks_unveil, along_then}
+use Rattle.pua_ever.proofs.Standing.{new_places, replays_keep_places}
 use Rattle.pua_ever.specs.Through.{is_bounded, AreWithin, GoesAlong, GoAlong}
-use Rattle.std.specs.Prelude.{flat_map, unwrap_or, ◌-◌}
-use Rattle.pua_calls.specs.Promises.{holds, all_promises, error}
-use Rattle.pua_policy.specs.History.{held_set, meet, common}
-use Rattle.pua_policy.proofs.ForCallers.{no_promises, same_end}
-use Rattle.pua_ever.specs.Ever.{is_yes}
-use Rattle.pua_ever.specs.Laws.{PlacesStand}
-use Rattle.pua_ever.proofs.Jointly.{Knows, Cradle, knows_first, knows_then, under_all, over_all, frees_missing}
+use Rattle.std.specs.Prelude.{flat_map}
+use Rattle.pua_policy.specs.States.{held_set}
+use Rattle.pua_ever.proofs.Jointly.{Known, of_then, of_maker, row_kind, Knows, knows_first, knows_then, dir_cover_all, name_cover_all}
+use Rattle.pua_ever.proofs.Jointly.{free_missing, free_emptied}
 
 abbrev is_rmdir_call : Call → Bool
 is_rmdir_call call.Rmdir = true
@@ -72,8 +67,8 @@ rmdir_is : (c : Call) → is_rmdir_call c ≡ true → c ≡ call.Rmdir
 rmdir_is call.Rmdir e = refl
 rmdir_is _ e = absurd (false≢true e)
 
-module _ (table : CallTable) (t0 : Tree) (crew : List History) (well0 : WellFormed t0) (u : Tree) (k : Knows table t0 crew well0 u)
-    (a : History) (stand : VeilsStand t0 a) (c : Call) where
+module _ (table : CallTable) (t0 : Tree) (crew : List ProcessState) (well0 : WellFormed t0) (u : Tree) (k : Knows table t0 crew well0 u)
+    (a : ProcessState) (stand : VeilsStand t0 a) (c : Call) where
   abbrev Can0 : Fact → Type 0
   Can0 fact = Can t0 table crew fact
 
@@ -135,25 +130,22 @@ module _ (table : CallTable) (t0 : Tree) (crew : List History) (well0 : WellForm
       ] refl
 
   was_dir : (d : ℕ) → d < t0.next → is_dir u d ≡ true → is_dir t0 d ≡ true
-  was_dir d below is = sym (same_dir t0 u d (k.old d below (living_dir u a k.well d is))) ∙ is
+  was_dir d below is = sym (same_dir t0 u d (k.old d below (is_living_dir u d is))) ∙ is
 
   record Hit (object : Found) : Type 0 where
     thing : Thing
     lined : Lined thing
     about : IsLineOf t0 u a thing object
-    can : IsJointly t0 table crew a thing c
-
-  always : (b : Bool) → (b || true) ≡ true
-  always true = refl
-  always false = refl
+    can : IsJointlyAllowed t0 table crew a thing c
 
   allows : (left : Cover) (object : Object) → may_any a (rule_of table c).alternatives ≡ may.Yes →
       cover_fault left (rule_of table c).perms ≡ None → object_fault empty_tree c object ≡ None →
       is_allowed (covered_verdict empty_tree table a c left object) ≡ true
   allows left object granted covered fine = λ i. is_allowed (if_promised (granted i) (allowed_unless (or_fault (covered i) (fine i))))
 
-  under_old : (d : ℕ) → is_dir u d ≡ true → d < t0.next → Can0 (Under a (Old d) (cover_in u a d))
-  under_old d is below = subst (λ q. Can0 (Under a q (cover_in u a d))) (k.seated.old d below) (under_all table t0 crew well0 u k a stand d is)
+  dir_cover_old : (d : ℕ) → is_dir u d ≡ true → d < t0.next → Can0 (DirCover a (Old d) (cover_in u a d))
+  dir_cover_old d is below =
+      subst (λ q. Can0 (DirCover a q (cover_in u a d))) (k.seated.old d below) (dir_cover_all table t0 crew well0 u k a stand d is)
 
   -- a directory that can be removed now can come to be empty
   emptied : (d : ℕ) (w : Way) → StandsAsNamed u (Whole d w) → rmdir_fault u d w ≡ None → (d ≢ 0) × (is_empty u d ≡ true)
@@ -165,13 +157,6 @@ module _ (table : CallTable) (t0 : Tree) (crew : List History) (well0 : WellForm
       by : (b : Bool) → option_map misfit_errno (cond b None (Some IsNotEmpty)) ≡ None → b ≡ true
       by true e = refl
       by false e = cc
-
-  frees_rows : (d : ℕ) → is_empty u d ≡ true → (name : List ℕ) (x : ℕ) → look t0 d name ≡ Some x → Can0 (Frees (Old d) name)
-  frees_rows d empty name x then = elim (k.gone (d, name) x then) [
-    | inr free ↦ free
-    | inl at ↦ absurd (false≢true (sym (none_found spot_cmp spots_total exact_spots (λ (q : Spot × ℕ). q.0.0 == d) u.rows
-        (not-true _ (and_parts (is_dir u d) (has_no_row u d) empty).1) (d, name) x at) ∙ eq-eqb d d refl))
-  ]
 
   hit_dir : (d : ℕ) (w : Way) → is_dir u d ≡ true → StandsAsNamed u (Whole d w) → verdict u table a c (Whole d w) ≡ Allowed → Hit (Whole d w)
   hit_dir d w is named e =
@@ -186,7 +171,7 @@ module _ (table : CallTable) (t0 : Tree) (crew : List History) (well0 : WellForm
           about = of_dir below;
           can = by below (is_rmdir_call c) refl parts.may covered parts.kind;
         }
-        | inr from ↦ (let one = k.seated.new d from (living_dir u a k.well d is) in
+        | inr from ↦ (let one = k.seated.new d from (is_living_dir u d is) in
             record {
               thing = Comes NewDir;
               lined = tt;
@@ -195,8 +180,8 @@ module _ (table : CallTable) (t0 : Tree) (crew : List History) (well0 : WellForm
                 cover = cover_in u a d;
                 object = removable_dir;
                 shows = shows_new_dir one.0
-                    (subst (λ q. Can0 (Under a q (cover_in u a d))) one.1 (under_all table t0 crew well0 u k a stand d is));
-                named = always (keeps_link c);
+                    (subst (λ q. Can0 (DirCover a q (cover_in u a d))) one.1 (dir_cover_all table t0 crew well0 u k a stand d is));
+                named = or-true (keeps_link c);
                 allowed = allows (cover_in u a d) removable_dir parts.may covered (dir_alike u c d w true (λ _. refl) parts.kind);
               };
             })
@@ -204,12 +189,12 @@ module _ (table : CallTable) (t0 : Tree) (crew : List History) (well0 : WellForm
     where
       by : d < t0.next → (b : Bool) → is_rmdir_call c ≡ b → may_any a (rule_of table c).alternatives ≡ may.Yes →
           cover_fault (cover_in u a d) (rule_of table c).perms ≡ None → object_fault u c (IsDir d w) ≡ None →
-          IsJointly t0 table crew a (Stands (At (Whole d (own_way t0 d)))) c
+          IsJointlyAllowed t0 table crew a (Stands (At (Whole d (own_way t0 d)))) c
       by below false differs granted covered fine = record {
         cover = cover_in u a d;
         object = lasting_dir;
-        shows = shows_dir (under_old d is below);
-        named = always (keeps_link c);
+        shows = shows_dir (dir_cover_old d is below);
+        named = or-true (keeps_link c);
         allowed = allows (cover_in u a d) lasting_dir granted covered (dir_alike u c d w false (λ same. sym differs ∙ ap is_rmdir_call same) fine);
       }
       by below true same granted covered fine =
@@ -217,27 +202,16 @@ module _ (table : CallTable) (t0 : Tree) (crew : List History) (well0 : WellForm
           record {
             cover = cover_in u a d;
             object = removable_dir;
-            shows = shows_emptied empty.0 (under_old d is below) (frees_rows d empty.1);
-            named = always (keeps_link c);
+            shows = shows_emptied empty.0 (dir_cover_old d is below) (free_emptied table t0 crew well0 u k d empty.1);
+            named = or-true (keeps_link c);
             allowed = allows (cover_in u a d) removable_dir granted covered (dir_alike u c d w true (λ _. refl) fine);
           }
-
-  -- a link is named by the calls alone that keep it
-  named_link : (mode : Last) (b : Bool) → last_of c ≡ mode → (mode ≡ Followed → b ≡ false) → (keeps_link c || not b) ≡ true
-  named_link Kept b is followed = ap (λ m. is_kept m || not b) is
-  named_link Followed b is followed = ap (λ m. is_kept m || not b) is ∙ ap not (followed refl)
 
   hit_file : (s : Spot) (x : ℕ) → look u s.0 s.1 ≡ Some x → is_dir u x ≡ false →
       (last_of c ≡ Followed → is_link u (Slot s.0 s.1 (Some x)) ≡ false)
       → verdict u table a c (Slot s.0 s.1 (Some x)) ≡ Allowed → Hit (Slot s.0 s.1 (Some x))
-  hit_file s x e other followed allowed = elim (given_or_new t0 x) [
-    | inl below ↦ hit_old below
-    | inr from ↦ hit_young from (k.news s x e other from)
-  ]
+  hit_file s x e other followed allowed = let came = k.others s x e other in by came.known came.kinds came.can_stand
     where
-      told : (is_dir u s.0 ≡ true) × (is_living u x ≡ true)
-      told = let told = row_says u su s x e in (told.0, told.2)
-
       left : Cover
       left = own_or (perms_kept a (place.Slot s.0 s.1)) (cover_in u a s.0)
 
@@ -250,65 +224,54 @@ module _ (table : CallTable) (t0 : Tree) (crew : List History) (well0 : WellForm
       covered : cover_fault left (rule_of table c).perms ≡ None
       covered = ap (λ c1. cover_fault c1 (rule_of table c).perms) (sym ((covers_descend u a k.well).at_name s.0 s.1 (Some x))) ∙ parts.covered
 
-      over : Can0 (Over a (k.seat s.0) s.1 left)
-      over = over_all table t0 crew well0 u k a stand s told.0
+      over : Can0 (NameCover a (k.seat s.0) s.1 left)
+      over = name_cover_all table t0 crew well0 u k a stand s (row_says u su s x e).0
 
-      hit_old : x < t0.next → Hit (Slot s.0 s.1 (Some x))
-      hit_old below =
-          let home = k.files s x e other below in
-          let same : kind_at u x ≡ kind_at t0 x = ap (option_map (λ n. n.kind)) (k.old x below told.1) in
+      fine : (o : Option Kind) → kind_at u x ≡ o → object_fault empty_tree c (object_of_kind o) ≡ None
+      fine o is = sym (plain_alike u c o) ∙ ap (λ o. object_fault u c (object_of_kind o)) (sym is) ∙ parts.kind
+
+      by : {source : Source} → Known t0 s x source → kind_at u x ≡ kind_of_source t0 source → Can0 (StandsAt source (k.seat s.0) s.1) →
+          Hit (Slot s.0 s.1 (Some x))
+      by (of_then row at own) kinds can_stand =
+          let same : kind_at u x ≡ kind_at t0 x = kinds ∙ sym (row_kind t0 row x at) in
           record {
-            thing = Stands (At (Slot home.row.0 home.row.1 (Some x)));
-            lined = row_lined home.row x home.at (sym (same_dir t0 u x (k.old x below told.1)) ∙ other);
-            about = of_row home.row home.at home.own;
+            thing = Stands (At (Slot row.0 row.1 (Some x)));
+            lined = row_lined row x at (sym (ap is_dir_kind same) ∙ other);
+            about = of_row row at own;
             can = record {
               cover = left;
               object = object_of_kind (kind_at t0 x);
-              shows = shows_row (k.seat s.0) s.1 home.at home.lies over;
-              named = named_link (last_of c) (is_link_kind (kind_at t0 x)) refl (λ m. ap is_link_kind (sym same) ∙ followed m);
-              allowed = allows left (object_of_kind (kind_at t0 x)) parts.may covered
-                  (ap (λ o. object_fault empty_tree c (object_of_kind o)) (sym same) ∙ sym (plain_alike u c (kind_at u x)) ∙ parts.kind);
+              shows = shows_row (k.seat s.0) s.1 at can_stand over;
+              named = named_link c (last_of c) (is_link_kind (kind_at t0 x)) refl (λ m. ap is_link_kind (sym same) ∙ followed m);
+              allowed = allows left (object_of_kind (kind_at t0 x)) parts.may covered (fine (kind_at t0 x) same);
             };
           }
-
-      hit_young : t0.next ≤ x → Cradle table t0 crew well0 u k.seat s x → Hit (Slot s.0 s.1 (Some x))
-      hit_young from cradle = by cradle.new cradle.kinds cradle.lies
-        where
-          kept_link : (mode : Last) → last_of c ≡ mode → (mode ≡ Followed → is_link u (Slot s.0 s.1 (Some x)) ≡ false) →
-              kind_at u x ≡ Some kind.Link → (keeps_link c || false) ≡ true
-          kept_link Kept is unlinked kinds = ap (λ m. is_kept m || false) is
-          kept_link Followed is unlinked kinds = absurd (false≢true (sym (unlinked refl) ∙ ap is_link_kind kinds))
-
-          by : (new : New) → kind_at u x ≡ Some (kind_made new) → Can0 (Lies (Maker new cradle.maker) (k.seat s.0) s.1) →
-              Hit (Slot s.0 s.1 (Some x))
-          by NewDir kinds lies = absurd (false≢true (sym other ∙ ap is_dir_kind kinds))
-          by NewOthers kinds lies = absurd (false≢true (sym other ∙ ap is_dir_kind kinds))
-          by NewFile kinds lies = record {
-            thing = Comes NewFile;
-            lined = tt;
-            about = of_new_file from kinds;
-            can = record {
-              cover = left;
-              object = IsFile;
-              shows = shows_new_file cradle.maker (k.seat s.0) s.1 lies over;
-              named = always (keeps_link c);
-              allowed = allows left IsFile parts.may covered
-                  (sym (plain_alike u c (Some kind.File)) ∙ ap (λ o. object_fault u c (object_of_kind o)) (sym kinds) ∙ parts.kind);
-            };
-          }
-          by NewLink kinds lies = record {
-            thing = Comes NewLink;
-            lined = tt;
-            about = of_new_link from kinds;
-            can = record {
-              cover = left;
-              object = IsLink;
-              shows = shows_new_link cradle.maker (k.seat s.0) s.1 lies over;
-              named = kept_link (last_of c) refl followed kinds;
-              allowed = allows left IsLink parts.may covered
-                  (sym (plain_alike u c (Some kind.Link)) ∙ ap (λ o. object_fault u c (object_of_kind o)) (sym kinds) ∙ parts.kind);
-            };
-          }
+      by (of_maker NewDir maker from) kinds can_stand = absurd (false≢true (sym other ∙ ap is_dir_kind kinds))
+      by (of_maker NewOthers maker from) kinds can_stand = absurd (false≢true (sym other ∙ ap is_dir_kind kinds))
+      by (of_maker NewFile maker from) kinds can_stand = record {
+        thing = Comes NewFile;
+        lined = tt;
+        about = of_new_file from kinds;
+        can = record {
+          cover = left;
+          object = IsFile;
+          shows = shows_new_file maker (k.seat s.0) s.1 can_stand over;
+          named = or-true (keeps_link c);
+          allowed = allows left IsFile parts.may covered (fine (Some kind.File) kinds);
+        };
+      }
+      by (of_maker NewLink maker from) kinds can_stand = record {
+        thing = Comes NewLink;
+        lined = tt;
+        about = of_new_link from kinds;
+        can = record {
+          cover = left;
+          object = IsLink;
+          shows = shows_new_link maker (k.seat s.0) s.1 can_stand over;
+          named = named_link c (last_of c) true refl (λ m. sym (ap is_link_kind kinds) ∙ followed m);
+          allowed = allows left IsLink parts.may covered (fine (Some kind.Link) kinds);
+        };
+      }
 
   hit_missing : (dir : ℕ) (name : List ℕ) → is_dir u dir ≡ true → look u dir name ≡ None →
       verdict u table a c (Slot dir name None) ≡ Allowed → Hit (Slot dir name None)
@@ -335,9 +298,9 @@ module _ (table : CallTable) (t0 : Tree) (crew : List History) (well0 : WellForm
             can = record {
               cover = Only perms;
               object = IsMissing;
-              shows = shows_name own (subst (λ q. Can0 (Frees q name)) (k.seated.old dir below)
-                  (frees_missing table t0 crew well0 u k a (dir, name) is none));
-              named = always (keeps_link c);
+              shows = shows_name own (subst (λ q. Can0 (Free q name)) (k.seated.old dir below)
+                  (free_missing table t0 crew well0 u k (dir, name) is none));
+              named = or-true (keeps_link c);
               allowed = allows (Only perms) IsMissing parts.may
                   (ap (λ o. cover_fault (own_or o (cover_in u a dir)) (rule_of table c).perms) (sym own) ∙ covered) fine;
             };
@@ -353,12 +316,12 @@ module _ (table : CallTable) (t0 : Tree) (crew : List History) (well0 : WellForm
               can = record {
                 cover = cover_in u a dir;
                 object = IsMissing;
-                shows = shows_others (under_old dir is below);
-                named = always (keeps_link c);
+                shows = shows_others (dir_cover_old dir is below);
+                named = or-true (keeps_link c);
                 allowed = allows (cover_in u a dir) IsMissing parts.may over fine;
               };
             }
-            | inr from ↦ (let one = k.seated.new dir from (living_dir u a k.well dir is) in
+            | inr from ↦ (let one = k.seated.new dir from (is_living_dir u dir is) in
                 record {
                   thing = Comes NewOthers;
                   lined = tt;
@@ -367,8 +330,8 @@ module _ (table : CallTable) (t0 : Tree) (crew : List History) (well0 : WellForm
                     cover = cover_in u a dir;
                     object = IsMissing;
                     shows = shows_new_others one.0
-                        (subst (λ q. Can0 (Under a q (cover_in u a dir))) one.1 (under_all table t0 crew well0 u k a stand dir is));
-                    named = always (keeps_link c);
+                        (subst (λ q. Can0 (DirCover a q (cover_in u a dir))) one.1 (dir_cover_all table t0 crew well0 u k a stand dir is));
+                    named = or-true (keeps_link c);
                     allowed = allows (cover_in u a dir) IsMissing parts.may over fine;
                   };
                 })
@@ -387,47 +350,43 @@ module _ (table : CallTable) (t0 : Tree) (crew : List History) (well0 : WellForm
       may_any a (rule_of table call.Exec).alternatives ≡ may.Yes →
       cover_fault (cover u a (Slot dir name (Some x))) (rule_of table call.Exec).perms ≡ None →
       (thing : Thing) × IsLineOf t0 u a thing (Slot dir name (Some x)) × IsJointlyStarted t0 table crew a thing
-  jointly_started dir name x e kinds granted fine = elim (given_or_new t0 x) [
-    | inl below ↦ (let home = k.files (dir, name) x e other below in
-        let same : kind_at t0 x ≡ Some kind.File = sym (ap (option_map (λ n. n.kind)) (k.old x below lives)) ∙ kinds in (
-          Stands (At (Slot home.row.0 home.row.1 (Some x))),
-          of_row home.row home.at home.own,
-          record {
-            cover = left;
-            shows = subst (Shows t0 table crew a (Stands (At (Slot home.row.0 home.row.1 (Some x)))) left) (ap object_of_kind same)
-                (shows_row (k.seat dir) name home.at home.lies over);
-            allowed = starts;
-          },
-        ))
-    | inr from ↦ (let cradle = k.news (dir, name) x e other from in by from cradle.new cradle.maker cradle.kinds cradle.lies)
-  ]
+  jointly_started dir name x e kinds granted fine =
+      let came = k.others (dir, name) x e other in by came.known came.kinds came.can_stand
     where
-      lives : is_living u x ≡ true
-      lives = (row_says u su (dir, name) x e).2
-
       other : is_dir u x ≡ false
       other = ap is_dir_kind kinds
 
       left : Cover
       left = own_or (perms_kept a (place.Slot dir name)) (cover_in u a dir)
 
-      over : Can0 (Over a (k.seat dir) name left)
-      over = over_all table t0 crew well0 u k a stand (dir, name) (row_says u su (dir, name) x e).0
+      over : Can0 (NameCover a (k.seat dir) name left)
+      over = name_cover_all table t0 crew well0 u k a stand (dir, name) (row_says u su (dir, name) x e).0
 
       starts : is_allowed (covered_verdict empty_tree table a call.Exec left IsProg) ≡ true
       starts = λ i. is_allowed (if_promised (granted i) (allowed_unless (or_fault
           ((ap (λ c1. cover_fault c1 (rule_of table call.Exec).perms) (sym ((covers_descend u a k.well).at_name dir name (Some x))) ∙ fine) i) None)))
 
-      by : t0.next ≤ x → (new : New) (maker : History) → kind_at u x ≡ Some (kind_made new) →
-          Can0 (Lies (Maker new maker) (k.seat dir) name) →
+      by : {source : Source} → Known t0 (dir, name) x source → kind_at u x ≡ kind_of_source t0 source →
+          Can0 (StandsAt source (k.seat dir) name) →
           (thing : Thing) × IsLineOf t0 u a thing (Slot dir name (Some x)) × IsJointlyStarted t0 table crew a thing
-      by from NewDir maker is lies = absurd (false≢true (sym other ∙ ap is_dir_kind is))
-      by from NewOthers maker is lies = absurd (false≢true (sym other ∙ ap is_dir_kind is))
-      by from NewLink maker is lies = absurd (false≢true (sym (ap is_link_kind kinds) ∙ ap is_link_kind is))
-      by from NewFile maker is lies = (
+      by (of_then row at own) is can_stand =
+          let same : kind_at t0 x ≡ Some kind.File = row_kind t0 row x at ∙ sym is ∙ kinds in (
+            Stands (At (Slot row.0 row.1 (Some x))),
+            of_row row at own,
+            record {
+              cover = left;
+              shows = subst (Shows t0 table crew a (Stands (At (Slot row.0 row.1 (Some x)))) left) (ap object_of_kind same)
+                  (shows_row (k.seat dir) name at can_stand over);
+              allowed = starts;
+            },
+          )
+      by (of_maker NewDir maker from) is can_stand = absurd (false≢true (sym other ∙ ap is_dir_kind is))
+      by (of_maker NewOthers maker from) is can_stand = absurd (false≢true (sym other ∙ ap is_dir_kind is))
+      by (of_maker NewLink maker from) is can_stand = absurd (false≢true (sym (ap is_link_kind kinds) ∙ ap is_link_kind is))
+      by (of_maker NewFile maker from) is can_stand = (
         Comes NewFile,
         of_new_file from kinds,
-        record { cover = left; shows = shows_new_file maker (k.seat dir) name lies over; allowed = starts },
+        record { cover = left; shows = shows_new_file maker (k.seat dir) name can_stand over; allowed = starts },
       )
 
   -- what was found is what a path named
@@ -456,16 +415,10 @@ module _ (table : CallTable) (t0 : Tree) (crew : List History) (well0 : WellForm
     abbrev new_lines : List EverLine
     new_lines = map (λ new. joint_line test [] (Comes new)) all_new
 
-    one_new : (made : New) → Among all_new made
-    one_new NewDir = inl refl
-    one_new NewOthers = inr (inl refl)
-    one_new NewFile = inr (inr (inl refl))
-    one_new NewLink = inr (inr (inr (inl refl)))
-
-    has_call : (thing : Thing) → IsJointly t0 table crew a thing c → Among (filter (test thing) calls) c
+    has_call : (thing : Thing) → IsJointlyAllowed t0 table crew a thing c → Among (filter (test thing) calls) c
     has_call thing can = among_filter (test thing) calls c (tells.all thing c can) (one_of_calls c)
 
-    in_list : (thing : Thing) → Lined thing → IsJointly t0 table crew a thing c →
+    in_list : (thing : Thing) → Lined thing → IsJointlyAllowed t0 table crew a thing c →
         (word : Word) × Among (joint_lines t0 a test) (joint_line test word thing)
     in_list (Stands subject) lined can = (
       lined.0,
@@ -502,37 +455,25 @@ module _ (table : CallTable) (t0 : Tree) (crew : List History) (well0 : WellForm
               allows = contained (filter (test one.thing) calls) c (has_call one.thing one.can);
             }
 
--- all of a list's elements
+-- what holds of all elements of a list holds of each
 pub every : {X : Type 0} (P : X → Type 0) (xs : List X) (x : X) → AllByRecursion P xs → Among xs x → P x
-every P [] x all a = absurd a
-every P (y ∷ ys) x all (inl e) = subst P e all.0
-every P (y ∷ ys) x all (inr a) = every P ys x all.1 a
-
-yes_is : (m : May) → is_yes m ≡ true → m ≡ may.Yes
-yes_is may.Yes e = refl
-yes_is may.Enosys e = absurd (false≢true e)
-yes_is may.Death e = absurd (false≢true e)
+every P xs x all here = All-contains P xs x (All-from_recursion P xs all) (contained xs x here)
 
 -- at the end each is within one
-stay_last : (table : CallTable) (agents : List History) (asks : List Asked) (w : World) (members : List ℕ) →
+stay_last : (table : CallTable) (agents : List ProcessState) (asks : List Asked) (w : World) (members : List ℕ) →
     StayWithinOne table w asks agents members → AreWithinOne (world_after table w asks) agents (family table w asks members)
 stay_last table agents [] w members stay = stay
 stay_last table agents (ask ∷ asks) w members stay =
     stay_last table agents asks (apply table w ask).1 (family_then table w ask members) stay.1
 
-stay_first : (table : CallTable) (agents : List History) (asks : List Asked) (w : World) (members : List ℕ) →
-    StayWithinOne table w asks agents members → AreWithinOne w agents members
-stay_first table agents [] w members stay = stay
-stay_first table agents (ask ∷ asks) w members stay = stay.0
-
-pub within_of : (agents : List History) (h : History) (one : IsWithinOne agents h) → IsWithin one.agent h
+pub within_of : (agents : List ProcessState) (h : ProcessState) (one : IsWithinOne agents h) → IsWithin one.agent h
 within_of agents h one = record { tightens = one.tightens; ended = one.ended }
 
-module _ (table : CallTable) (sound : NoCallNeedsError table) (needs : EditsNeedC table) (t0 : Tree) (crew : List History) (well0 : WellFormed t0)
-    (stands : (a : History) → Contains crew a → VeilsStand t0 a) where
+module _ (table : CallTable) (sound : NoCallNeedsError table) (needs : EditsNeedC table) (t0 : Tree) (crew : List ProcessState) (well0 : WellFormed t0)
+    (all_stand : (a : ProcessState) → Contains crew a → VeilsStand t0 a) where
   -- one request of who is within one of the crew
   pub knows_request : (w : World) (ask : Asked) (asks : List Asked) → TreesAlong table w (ask ∷ asks) → Knows table t0 crew well0 w.tree →
-      (a : History) → Contains crew a → (h : History) → history_of w ask.process ≡ Some h → IsWithin a h →
+      (a : ProcessState) → Contains crew a → (h : ProcessState) → kept_at w ask.process ≡ Some h → IsWithin a h →
       Knows table t0 crew well0 (apply table w ask).1.tree
   knows_request w ask asks trees k a among h here within =
       let after = (apply table w ask).1 in
@@ -545,50 +486,52 @@ module _ (table : CallTable) (sound : NoCallNeedsError table) (needs : EditsNeed
         | true ↦ λ yes. inl yes
         | false ↦ λ lacks. inr (untaken table w ask h here (still_untaking table sound a h within lacks))
       ] refl in
-      knows_then table t0 crew well0 a among (stands a among) w.tree after.tree k well grown spared takes
+      knows_then table t0 crew well0 a among (all_stand a among) w.tree after.tree k well grown spared takes
 
-  module _ {X : Type 0} (agents_of : X → List History) where
+  -- a group acts by processes of the crew
+  module _ {X : Type 0} (agents_of : X → List ProcessState) where
     pub record Acts (w : World) (asks : List Asked) (g : X × List ℕ) : Type 0 where
-      pub among : (a : History) → Contains (agents_of g.0) a → Contains crew a
+      pub among : (a : ProcessState) → Contains (agents_of g.0) a → Contains crew a
       pub stay : StayWithinOne table w asks (agents_of g.0) g.1
 
-    acts_then : (w : World) (ask : Asked) (asks : List Asked) (groups : List (X × List ℕ)) → AllByRecursion (Acts w (ask ∷ asks)) groups →
-        AllByRecursion (Acts (apply table w ask).1 asks) (groups_then table w ask groups)
-    acts_then w ask asks [] acts = tt
-    acts_then w ask asks (g ∷ more) acts = (record { among = acts.0.among; stay = acts.0.stay.1 }, acts_then w ask asks more acts.1)
+    -- and so do all groups
+    abbrev pub AllAct : World → List Asked → List (X × List ℕ) → Type 0
+    AllAct w asks groups = (g : X × List ℕ) → Among groups g → Acts w asks g
 
-    knows_along : (asks : List Asked) (w : World) (groups : List (X × List ℕ)) → AllByRecursion (Acts w asks) groups →
-        GroupsEdit table w asks groups → TreesAlong table w asks → Knows table t0 crew well0 w.tree →
-        Knows table t0 crew well0 (world_after table w asks).tree
+    acts_then : (w : World) (ask : Asked) (asks : List Asked) (groups : List (X × List ℕ)) → AllAct w (ask ∷ asks) groups →
+        AllAct (apply table w ask).1 asks (groups_then table w ask groups)
+    acts_then w ask asks groups acts h here =
+        let from = map_among (λ (g : X × List ℕ). (g.0, family_then table w ask g.1)) groups h here in
+        let act = acts from.0 from.1 in
+        subst (Acts (apply table w ask).1 asks) from.2 (record { among = act.among; stay = act.stay.1 })
+
+    knows_along : (asks : List Asked) (w : World) (groups : List (X × List ℕ)) → AllAct w asks groups → GroupsEdit table w asks groups →
+        TreesAlong table w asks → Knows table t0 crew well0 w.tree → Knows table t0 crew well0 (world_after table w asks).tree
     knows_along [] w groups acts edit trees k = k
     knows_along (ask ∷ asks) w groups acts edit trees k =
         knows_along asks (apply table w ask).1 (groups_then table w ask groups) (acts_then w ask asks groups acts) edit.1 trees.1 (step edit.0)
       where
-        by_group : (g : X × List ℕ) → Acts w (ask ∷ asks) g → is_member g.1 ask.process ≡ true →
-            Knows table t0 crew well0 (apply table w ask).1.tree
-        by_group g act belongs =
-            let asker = act.stay.0 ask.process belongs in
-            knows_request w ask asks trees k asker.2.agent (act.among asker.2.agent asker.2.among) asker.0 asker.1
-            (within_of (agents_of g.0) asker.0 asker.2)
-
         step : ByMember groups ask.process ⊎ ((apply table w ask).1.tree ≡ w.tree) → Knows table t0 crew well0 (apply table w ask).1.tree
         step (inl one) =
-            by_group one.group (every (Acts w (ask ∷ asks)) groups one.group acts (among_contained groups one.group one.among)) one.member
+            let act = acts one.group (among_contained groups one.group one.among) in
+            let asker = act.stay.0 ask.process one.member in
+            knows_request w ask asks trees k asker.2.agent (act.among asker.2.agent asker.2.among) asker.0 asker.1
+            (within_of (agents_of one.group.0) asker.0 asker.2)
         step (inr same) = subst (Knows table t0 crew well0) (sym same) k
 
     -- what is foreseen of a member
-    pub done : (w : World) (asks : List Asked) (groups : List (X × List ℕ)) → AllByRecursion (Acts w asks) groups → GroupsEdit table w asks groups →
+    pub done : (w : World) (asks : List Asked) (groups : List (X × List ℕ)) → AllAct w asks groups → GroupsEdit table w asks groups →
         TreesAlong table w asks → Knows table t0 crew well0 w.tree → (g : X × List ℕ) → Contains groups g → (member : ℕ) →
         is_member (family table w asks g.1) member ≡ true →
-        HasHistoryOf (world_after table w asks) member (ForeseenByOne t0 table crew (agents_of g.0) (world_after table w asks).tree)
+        HasKept (world_after table w asks) member (ForeseenByOne t0 table crew (agents_of g.0) (world_after table w asks).tree)
     done w asks groups acts edit trees first g here member belongs =
         let k = knows_along asks w groups acts edit trees first in
         let u = (world_after table w asks).tree in
-        let act = every (Acts w asks) groups g acts (among_contained groups g here) in
+        let act = acts g (among_contained groups g here) in
         let last = stay_last table (agents_of g.0) asks w g.1 act.stay member belongs in
         let a = last.2.agent in
         let within = within_of (agents_of g.0) last.0 last.2 in
-        let stand = stands a (act.among a last.2.among) in (
+        let stand = all_stand a (act.among a last.2.among) in (
           last.0,
           last.1,
           record {
@@ -618,8 +561,8 @@ module _ (table : CallTable) (sound : NoCallNeedsError table) (needs : EditsNeed
           },
         )
 
--- a family that acts by one history, and one that goes along through execs
-pub members_one : (now : History) (w : World) (members : List ℕ) → Members w members now false → AreWithinOne w (now ∷ []) members
+-- a family that acts by one process, and one that goes along through execs
+pub members_one : (now : ProcessState) (w : World) (members : List ℕ) → Members w members now false → AreWithinOne w (now ∷ []) members
 members_one now w members are m belongs =
     let one = are m belongs in (
       one.0,
@@ -632,7 +575,7 @@ members_one now w members are m belongs =
       },
     )
 
-stay_one : (table : CallTable) (now : History) (asks : List Asked) (w : World) (members : List ℕ) → Members w members now false →
+stay_one : (table : CallTable) (now : ProcessState) (asks : List Asked) (w : World) (members : List ℕ) → Members w members now false →
     NoExecLoosens table now w asks members → StayWithinOne table w asks (now ∷ []) members
 stay_one table now [] w members are none = members_one now w members are
 stay_one table now (ask ∷ asks) w members are none = (
@@ -640,35 +583,29 @@ stay_one table now (ask ∷ asks) w members are none = (
   stay_one table now asks (apply table w ask).1 (family_then table w ask members) (members_still table now w ask members are none.0) none.1,
 )
 
-module _ (now : History) (given : ℕ) where
-  held_started : held_set (as_started now given) ≡ given
-  held_started = ap (λ l. unwrap_or (Some (meet given (common l))) (all_promises - error)) (no_promises now)
-
-  pub started_stands : (t : Tree) → VeilsStand t now → VeilsStand t (as_started now given)
-  started_stands t stand at perms is = stand at perms (sym (kept_after now at) ∙ is)
-
+module _ (now : ProcessState) (given : ℕ) where
   module _ (table : CallTable) (sound : NoCallNeedsError table) (bounded : is_bounded table given ≡ true) where
-    by_own : (h : History) → GoesAlong table now given h → AreWithin (held_set h) (held_set now) → IsWithinOne (both_agents (now, given)) h
+    by_own : (h : ProcessState) → GoesAlong table now given h → AreWithin (held_set h) (held_set now) → IsWithinOne (both_agents (now, given)) h
     by_own h k own = record {
       agent = now;
       among = contained (both_agents (now, given)) now (inl refl);
       tightens = record { unveils = k.unveils; promises = own; confined = lacks_unveil table sound now given bounded h k };
-      ended = λ lives. k.ended lives;
+      ended = k.ended;
     }
 
-    by_started : (h : History) → GoesAlong table now given h → AreWithin (held_set h) given → IsWithinOne (both_agents (now, given)) h
+    by_started : (h : ProcessState) → GoesAlong table now given h → AreWithin (held_set h) given → IsWithinOne (both_agents (now, given)) h
     by_started h k later = record {
       agent = as_started now given;
       among = contained (both_agents (now, given)) (as_started now given) (inr (inl refl));
       tightens = record {
-        unveils = k.unveils ∙ sym (unveils_kept now);
-        promises = λ set fine holding. ap (λ s. holds s set) held_started ∙ later set fine holding;
+        unveils = record { any = k.unveils.any; kept = k.unveils.kept };
+        promises = later;
         confined = lacks_unveil table sound now given bounded h k;
       };
-      ended = λ lives. same_end now ∙ k.ended lives;
+      ended = k.ended;
     }
 
-    pub one_of_both : (h : History) → GoesAlong table now given h → IsWithinOne (both_agents (now, given)) h
+    pub one_of_both : (h : ProcessState) → GoesAlong table now given h → IsWithinOne (both_agents (now, given)) h
     one_of_both h k = elim k.promises [
       | inl one ↦ elim one [ inl own ↦ by_own h k own.0 | inr later ↦ by_started h k later.0 ]
       | inr none ↦ by_own h k none.0
@@ -687,115 +624,96 @@ module _ (now : History) (given : ℕ) where
 
 pub jointly_within : JointlyWithin
 jointly_within table sound needs w asks groups stay stand trees edit g here member belongs =
-    done table sound needs w.tree crew well stands (λ agents. agents) w asks groups (acts groups (λ h a. a) stay) edit trees
-    (knows_first table w.tree crew well []) g here member belongs
+    done table sound needs w.tree crew well all_stand (λ agents. agents) w asks groups acts edit trees (knows_first table w.tree crew well) g here
+    member belongs
   where
-    crew : List History
-    crew = flat_map (λ (g : List History × List ℕ). g.0) groups
+    crew : List ProcessState
+    crew = flat_map (λ (g : List ProcessState × List ℕ). g.0) groups
 
     well : WellFormed w.tree
     well = first_tree table w asks trees
 
-    stands : (a : History) → Contains crew a → VeilsStand w.tree a
-    stands a has = every (VeilsStand w.tree) crew a stand (among_contained crew a has)
+    all_stand : (a : ProcessState) → Contains crew a → VeilsStand w.tree a
+    all_stand a has = every (VeilsStand w.tree) crew a stand (among_contained crew a has)
 
-    acts : (more : List (List History × List ℕ)) → ((h : List History × List ℕ) → Among more h → Among groups h) →
-        AllByRecursion (λ g. StayWithinOne table w asks g.0 g.1) more →
-        AllByRecursion (Acts table sound needs w.tree crew well stands (λ agents. agents) w asks) more
-    acts [] within stay = tt
-    acts (h ∷ more) within stay = (
-      record {
-        among = λ a has. contained crew a
-            (among_flat (λ (g : List History × List ℕ). g.0) groups h a (within h (inl refl)) (among_contained h.0 a has));
-        stay = stay.0;
-      },
-      acts more (λ i a. within i (inr a)) stay.1,
-    )
+    acts : AllAct table sound needs w.tree crew well all_stand (λ agents. agents) w asks groups
+    acts h here = record {
+      among = λ a has. contained crew a (among_flat (λ (g : List ProcessState × List ℕ). g.0) groups h a here (among_contained h.0 a has));
+      stay = every (λ (g : List ProcessState × List ℕ). StayWithinOne table w asks g.0 g.1) groups h stay here;
+    }
 
 pub jointly_complete : JointlyComplete
 jointly_complete table sound needs w asks groups each stand trees none edit g here member belongs =
-    done table sound needs w.tree crew well stands (λ h. h ∷ []) w asks groups (acts groups (λ h a. a) each none) edit trees
-    (knows_first table w.tree crew well []) g here member belongs
+    done table sound needs w.tree crew well all_stand (λ h. h ∷ []) w asks groups acts edit trees (knows_first table w.tree crew well) g here
+    member belongs
   where
-    crew : List History
-    crew = map (λ (g : History × List ℕ). g.0) groups
+    crew : List ProcessState
+    crew = map (λ (g : ProcessState × List ℕ). g.0) groups
 
     well : WellFormed w.tree
     well = first_tree table w asks trees
 
-    stands : (a : History) → Contains crew a → VeilsStand w.tree a
-    stands a has =
-        let found = map_among (λ (g : History × List ℕ). g.0) groups a (among_contained crew a has) in
-        subst (VeilsStand w.tree) found.2 (every (λ (g : History × List ℕ). VeilsStand w.tree g.0) groups found.0 stand found.1)
+    all_stand : (a : ProcessState) → Contains crew a → VeilsStand w.tree a
+    all_stand a has =
+        let found = map_among (λ (g : ProcessState × List ℕ). g.0) groups a (among_contained crew a has) in
+        subst (VeilsStand w.tree) found.2 (every (λ (g : ProcessState × List ℕ). VeilsStand w.tree g.0) groups found.0 stand found.1)
 
-    alone : (h a : History) → Among (h ∷ []) a → h ≡ a
+    alone : (h a : ProcessState) → Among (h ∷ []) a → h ≡ a
     alone h a (inl e) = e
     alone h a (inr none) = absurd none
 
-    acts : (more : List (History × List ℕ)) → ((h : History × List ℕ) → Among more h → Among groups h) →
-        AllByRecursion (λ g. ActsWithin w g.0 g.1) more → AllByRecursion (λ g. NoExecLoosens table g.0 w asks g.1) more →
-        AllByRecursion (Acts table sound needs w.tree crew well stands (λ h. h ∷ []) w asks) more
-    acts [] within each none = tt
-    acts (h ∷ more) within each none = (
-      record {
-        among = λ a has. subst (Contains crew) (alone h.0 a (among_contained (h.0 ∷ []) a has))
-            (contained crew h.0 (among_map (λ (g : History × List ℕ). g.0) groups h (within h (inl refl))));
-        stay = stay_one table h.0 asks w h.1 (all_within w h.1 h.0 each.0) none.0;
-      },
-      acts more (λ i a. within i (inr a)) each.1 none.1,
-    )
+    acts : AllAct table sound needs w.tree crew well all_stand (λ h. h ∷ []) w asks groups
+    acts h here = record {
+      among = λ a has. subst (Contains crew) (alone h.0 a (among_contained (h.0 ∷ []) a has))
+          (contained crew h.0 (among_map (λ (g : ProcessState × List ℕ). g.0) groups h here));
+      stay = stay_one table h.0 asks w h.1
+          (all_within w h.1 h.0 (every (λ (g : ProcessState × List ℕ). ActsWithin w g.0 g.1) groups h each here))
+          (every (λ (g : ProcessState × List ℕ). NoExecLoosens table g.0 w asks g.1) groups h none here);
+    }
 
 module _ (table : CallTable) (sound : NoCallNeedsError table) (needs : EditsNeedC table) (w : World) (asks : List Asked)
-    (groups : List ((History × ℕ) × List ℕ))
-    (each : AllByRecursion (λ g. (is_bounded table g.0.1 ≡ true) × GoAlong table w g.0.0 g.0.1 g.1 × VeilsStand w.tree g.0.0) groups)
-    (trees : TreesAlong table w asks) where
-  crew : List History
+    (groups : List ((ProcessState × ℕ) × List ℕ)) (trees : TreesAlong table w asks)
+    (each : (h : (ProcessState × ℕ) × List ℕ) → Among groups h →
+    (is_bounded table h.0.1 ≡ true) × GoAlong table w h.0.0 h.0.1 h.1 × VeilsStand w.tree h.0.0) where
+  crew : List ProcessState
   crew = crew_through groups
 
   well : WellFormed w.tree
   well = first_tree table w asks trees
 
-  stands : (a : History) → Contains (crew_through groups) a → VeilsStand w.tree a
-  stands a has =
-      let found = flat_among (λ (g : (History × ℕ) × List ℕ). both_agents g.0) groups a (among_contained (crew_through groups) a has) in
-      let stand = (every (λ (g : (History × ℕ) × List ℕ). (is_bounded table g.0.1 ≡ true) × GoAlong table w g.0.0 g.0.1 g.1 ×
-      VeilsStand w.tree g.0.0) groups found.0 each found.1).2 in
-      by found.0.0.0 found.0.0.1 stand found.2
+  all_stand : (a : ProcessState) → Contains (crew_through groups) a → VeilsStand w.tree a
+  all_stand a has =
+      let found = flat_among (λ (g : (ProcessState × ℕ) × List ℕ). both_agents g.0) groups a (among_contained (crew_through groups) a has) in
+      by found.0.0.0 found.0.0.1 (each found.0 found.1).2 found.2
     where
-      by : (now : History) (given : ℕ) → VeilsStand w.tree now → Among (both_agents (now, given)) a → VeilsStand w.tree a
+      by : (now : ProcessState) (given : ℕ) → VeilsStand w.tree now → Among (both_agents (now, given)) a → VeilsStand w.tree a
       by now given stand (inl e) = subst (VeilsStand w.tree) e stand
-      by now given stand (inr (inl e)) = subst (VeilsStand w.tree) e (started_stands now given w.tree stand)
+      by now given stand (inr (inl e)) = subst (VeilsStand w.tree) e stand
       by now given stand (inr (inr none)) = absurd none
 
-  acts : (more : List ((History × ℕ) × List ℕ)) → ((h : (History × ℕ) × List ℕ) → Among more h → Among groups h) →
-      AllByRecursion (λ g. (is_bounded table g.0.1 ≡ true) × GoAlong table w g.0.0 g.0.1 g.1 × VeilsStand w.tree g.0.0) more →
-      AllByRecursion (Acts table sound needs w.tree (crew_through groups) well stands both_agents w asks) more
-  acts [] within each = tt
-  acts (h ∷ more) within each = (
-    record {
-      among = λ a has. contained (crew_through groups) a
-          (among_flat (λ (g : (History × ℕ) × List ℕ). both_agents g.0) groups h a (within h (inl refl))
-          (among_contained (both_agents h.0) a has));
-      stay = stay_both h.0.0 h.0.1 table sound each.0.0 asks w h.1 each.0.1;
-    },
-    acts more (λ i a. within i (inr a)) each.1,
-  )
+  acts : AllAct table sound needs w.tree (crew_through groups) well all_stand both_agents w asks groups
+  acts h here = record {
+    among = λ a has. contained (crew_through groups) a
+        (among_flat (λ (g : (ProcessState × ℕ) × List ℕ). both_agents g.0) groups h a here (among_contained (both_agents h.0) a has));
+    stay = let one = each h here in stay_both h.0.0 h.0.1 table sound one.0 asks w h.1 one.1;
+  }
 
-  pub through_done : GroupsEdit table w asks groups → (g : (History × ℕ) × List ℕ) → Contains groups g → (member : ℕ) →
+  pub through_done : GroupsEdit table w asks groups → (g : (ProcessState × ℕ) × List ℕ) → Contains groups g → (member : ℕ) →
       is_member (family table w asks g.1) member ≡ true →
-      HasHistoryOf (world_after table w asks) member (ForeseenByOne w.tree table (crew_through groups) (both_agents g.0) (world_after table w asks).tree)
+      HasKept (world_after table w asks) member (ForeseenByOne w.tree table (crew_through groups) (both_agents g.0) (world_after table w asks).tree)
   through_done edit g here member belongs =
-      done table sound needs w.tree (crew_through groups) well stands both_agents w asks groups (acts groups (λ h a. a) each) edit trees
-      (knows_first table w.tree (crew_through groups) well []) g here member belongs
+      done table sound needs w.tree (crew_through groups) well all_stand both_agents w asks groups acts edit trees
+      (knows_first table w.tree (crew_through groups) well) g here member belongs
 
 pub jointly_through : JointlyThrough
 jointly_through table sound needs w asks groups each trees edit g here member belongs =
-    through_done table sound needs w asks groups each trees edit g here member belongs
+    through_done table sound needs w asks groups trees
+    (λ h among. every (λ (g : (ProcessState × ℕ) × List ℕ). (is_bounded table g.0.1 ≡ true) × GoAlong table w g.0.0 g.0.1 g.1 ×
+    VeilsStand w.tree g.0.0) groups h each among) edit g here member belongs
 
 pub jointly_after_read : JointlyAfterRead
 jointly_after_read table sound needs rules tree_bytes script_bytes t before asks listed scripted bytes groups each edit g here member belongs =
-    jointly_through table sound needs w asks groups (placed groups each) (replays_keep_trees table w asks left bytes) edit g here member
-    belongs
+    through_done table sound needs w asks groups (replays_keep_trees table w asks left bytes) placed edit g here member belongs
   where
     w : World
     w = world_after table (new_world t) before
@@ -812,9 +730,8 @@ jointly_after_read table sound needs rules tree_bytes script_bytes t before asks
     places : PlacesStand w
     places = replays_keep_places table needs (new_world t) before (replays_keep_trees table (new_world t) before tree said) (new_places t)
 
-    placed : (more : List ((History × ℕ) × List ℕ)) →
-        AllByRecursion (λ g. (is_bounded table g.0.1 ≡ true) × GoAlong table w g.0.0 g.0.1 g.1 ×
-        ((process : ℕ) × (history_of w process ≡ Some g.0.0))) more →
-        AllByRecursion (λ g. (is_bounded table g.0.1 ≡ true) × GoAlong table w g.0.0 g.0.1 g.1 × VeilsStand w.tree g.0.0) more
-    placed [] each = tt
-    placed (h ∷ more) each = ((each.0.0, each.0.1, places each.0.2.0 h.0.0 each.0.2.1), placed more each.1)
+    placed : (h : (ProcessState × ℕ) × List ℕ) → Among groups h →
+        (is_bounded table h.0.1 ≡ true) × GoAlong table w h.0.0 h.0.1 h.1 × VeilsStand w.tree h.0.0
+    placed h among =
+        let one = every (λ (g : (ProcessState × ℕ) × List ℕ). (is_bounded table g.0.1 ≡ true) × GoAlong table w g.0.0 g.0.1 g.1 ×
+        ((process : ℕ) × (kept_at w process ≡ Some g.0.0))) groups h each among in (one.0, one.1, places one.2.0 h.0.0 one.2.1)

@@ -1,9 +1,10 @@
 -- Who may take no name away leaves each row.
 use Rattle.pua_ever.proofs.Common.{◌≡◌, ℕ, List, Bool, true, false, cond, refl, sym, ap, subst, ◌∙◌, inl, inr, Option, Some, None, Ok, Err}
-use Rattle.pua_ever.proofs.Common.{is_some, not, ◌||◌, nat_le, length, false≢true, or_left, or_right, Tree, Spot, spot_cmp, spots_total, exact_spots, is_dir, is_living, look}
-use Rattle.pua_ever.proofs.Common.{Node, Some≢None, CallTable, rule_of, History, may_any, Found, Call, Action, Asked, World, history_of, apply, tree_left}
-use Rattle.pua_ever.proofs.Common.{Change, change_by, CopyAs, change_effect, Copies, Fails, EAGAIN, most_processes, IsDecided, OnPath, Symlink, Rename, Link, Pledge}
-use Rattle.pua_ever.proofs.Common.{Unveil, Lock, Fork, Exit, is_yes, NoCallNeedsError, IsWithin}
+use Rattle.pua_ever.proofs.Common.{is_some, not, ◌||◌, nat_le, length, false≢true, or_left, or_right, Tree, Spot, spot_cmp, spots_total}
+use Rattle.pua_ever.proofs.Common.{exact_spots, is_dir, is_living, look, Node, Some≢None, CallTable, rule_of, ProcessState, may_any, Found}
+use Rattle.pua_ever.proofs.Common.{Call, Action, Asked, World, kept_at, apply, tree_left, Change, change_by, CopyAs, change_effect, Copies}
+use Rattle.pua_ever.proofs.Common.{Fails, EAGAIN, most_processes, IsDecided, OnPath, Symlink, Rename, Link, Pledge, Unveil, Lock, Fork}
+use Rattle.pua_ever.proofs.Common.{Exit, is_yes, NoCallNeedsError, IsWithin}
 use Rattle.pua_tree.specs.Edits.{add, tie, with_new, with_row, has_room, has_name_room}
 use Rattle.pua_tree.specs.declared.fault.TreeFault.TheVariants.{NotDir, Missing, IsDir as IsDirFault, Taken, Full}
 use Rattle.pua_tree.proofs.ForCallers.{same_or_other, put_elsewhere}
@@ -30,7 +31,7 @@ row_more t dir name x free s y e = elim (same_or_other spot_cmp spots_total exac
   | inr other ↦ put_elsewhere spot_cmp spots_total exact_spots s (dir, name) x t.rows other.0 ∙ e
 ]
 
-add_stays : (t : Tree) (h : History) (dir : ℕ) (name : List ℕ) (node : Node) → RowsStay t (tree_left t (edit_effect h (add t dir name node)))
+add_stays : (t : Tree) (h : ProcessState) (dir : ℕ) (name : List ℕ) (node : Node) → RowsStay t (tree_left t (edit_effect h (add t dir name node)))
 add_stays t h dir name node = by (is_dir t dir) (look t dir name) (has_room t) refl
   where
     by : (a : Bool) (o : Option ℕ) (room : Bool) → look t dir name ≡ o →
@@ -41,7 +42,7 @@ add_stays t h dir name node = by (is_dir t dir) (look t dir name) (has_room t) r
     by true None false e = rows_same t
     by true None true e = row_more t dir name t.next e
 
-tie_stays : (t : Tree) (h : History) (dir : ℕ) (name : List ℕ) (x : ℕ) → RowsStay t (tree_left t (edited_tree h (tie t dir name x)))
+tie_stays : (t : Tree) (h : ProcessState) (dir : ℕ) (name : List ℕ) (x : ℕ) → RowsStay t (tree_left t (edited_tree h (tie t dir name x)))
 tie_stays t h dir name x = by (is_dir t dir) (is_living t x) (is_dir t x) (look t dir name) (has_name_room t) refl
   where
     by : (a b c : Bool) (o : Option ℕ) (room : Bool) → look t dir name ≡ o →
@@ -56,7 +57,7 @@ tie_stays t h dir name x = by (is_dir t dir) (is_living t x) (is_dir t x) (look 
     by true true false None false e = rows_same t
     by true true false None true e = row_more t dir name x e
 
-module _ (table : CallTable) (w : World) (h : History) (lacks : may_take table h ≡ false) where
+module _ (table : CallTable) (w : World) (h : ProcessState) (lacks : may_take table h ≡ false) where
   abbrev Keeps : Change → Type 0
   Keeps c = RowsStay w.tree (tree_left w.tree (change_effect w h c))
 
@@ -80,7 +81,7 @@ module _ (table : CallTable) (w : World) (h : History) (lacks : may_take table h
       (λ what s made at. add_stays w.tree h s.0 s.1 (plain_node what))
 
   keeps_copy : (new : ℕ) → Keeps (CopyAs new)
-  keeps_copy new = by (is_some (history_of w new) || nat_le most_processes (length w.histories))
+  keeps_copy new = by (is_some (kept_at w new) || nat_le most_processes (length w.processes))
     where
       by : (full : Bool) → RowsStay w.tree (tree_left w.tree (cond full (Fails EAGAIN) (Copies new)))
       by true = rows_same w.tree
@@ -100,13 +101,13 @@ module _ (table : CallTable) (w : World) (h : History) (lacks : may_take table h
   keeps_by (Fork new) c d = subst Keeps (sym d.1) (keeps_copy new)
   keeps_by Exit c d = subst Keeps (sym d) (rows_same w.tree)
 
-pub untaken : (table : CallTable) (w : World) (ask : Asked) (h : History) → history_of w ask.process ≡ Some h → may_take table h ≡ false →
+pub untaken : (table : CallTable) (w : World) (ask : Asked) (h : ProcessState) → kept_at w ask.process ≡ Some h → may_take table h ≡ false →
     RowsStay w.tree (apply table w ask).1.tree
 untaken table w ask h here lacks =
     by_own_tree table w ask h here (RowsStay w.tree) (rows_same w.tree) (λ c guards. keeps_by table w h lacks ask.action c guards)
 
 -- who may take none by what it holds may take none by what is left of it
-pub still_untaking : (table : CallTable) (sound : NoCallNeedsError table) (now h : History) → IsWithin now h → may_take table now ≡ false →
+pub still_untaking : (table : CallTable) (sound : NoCallNeedsError table) (now h : ProcessState) → IsWithin now h → may_take table now ≡ false →
     may_take table h ≡ false
 still_untaking table sound now h within lacks =
     by (is_yes (may_any h table.rename.new.needs.alternatives)) (is_yes (may_any h (rule_of table call.Rmdir).alternatives))
