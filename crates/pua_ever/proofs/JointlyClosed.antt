@@ -1,91 +1,94 @@
--- What is closed under all that can come has all that can come: so the facts that the code gathers are all of them, once nothing more
--- follows from them.
+-- What is closed under the rules of what can come has all of it: so facts that are gathered are all of them, once nothing more follows.
 use Rattle.std.specs.Prelude.{◌≡◌, ◌≢◌, ◌||◌, ℕ, if◌then◌else◌, List, Some, None, IsTrue, IsFalse}
-use Rattle.std.specs.List.{Contains, list_any}
+use Rattle.std.specs.List.{Contains}
 use Rattle.pua_tree.specs.Tree.{Tree, is_dir, look, empty_tree}
 use Rattle.pua_calls.specs.Calls.{CallTable}
-use Rattle.pua_policy.specs.History.{History, perms_kept}
-use Rattle.pua_policy.specs.Verdict.{IsMissing, covered_verdict, is_allowed, is_unveil}
+use Rattle.pua_policy.specs.States.{ProcessState, has_veil, perms_kept}
+use Rattle.pua_policy.specs.Verdict.{IsMissing, covered_verdict, is_allowed}
 use Rattle.pua_policy.specs.declared.answer.Cover.{Cover}
 use Rattle.pua_policy.specs.declared.answer.Cover.TheVariants.{All, Nothing, Only}
 use Rattle.pua_policy.specs.declared.place.Place.TheVariants as place
 use Rattle.pua_script.specs.Confinement.{has_c}
 use Rattle.pua_ever.specs.Ever.{New, NewDir, is_made_by, can_move, can_link}
-use Rattle.pua_ever.specs.Jointly.{Seat, Old, Made, Source, Row, Maker, Fact, Sits, Clears, Under, Over, Frees, Enters, Writes, Creates, Lies}
-use Rattle.pua_ever.specs.Jointly.{may_take, own_veil, name_veil, kind_of_source, Can, sits_still, sits_moved, sits_born, clears_root, clears_up, clears_made, under_own, under_root, under_over, over_own, over_dir, frees_none, frees_new, frees_dir, frees_other, enters_by_c, enters_by_name, enters_by_turn, writes_at, creates_at, lies_still, lies_moved, lies_born}
+use Rattle.pua_ever.specs.Jointly.{Seat, Old, Made, Source, Row, Maker, Fact, StandsIn, NotAbove, DirCover, NameCover, Free, WayIn, Writes}
+use Rattle.pua_ever.specs.Jointly.{Makes, StandsAt, may_take, own_veil, name_veil, kind_of_source, Can, stays_in, moved_in, born_in}
+use Rattle.pua_ever.specs.Jointly.{not_above_root, not_above_up, not_above_made, dir_own, dir_root, dir_within, name_own, name_within}
+use Rattle.pua_ever.specs.Jointly.{free_none, free_made, free_dir, free_other, way_in_by_c, way_in_by_name, way_in_by_turn, writes_at}
+use Rattle.pua_ever.specs.Jointly.{makes_at, stays_at, moved_at, born_at}
 
-pub record Closed (t : Tree) (table : CallTable) (crew : List History) (P : Fact → Type 0) : Type 0 where
-  pub sits_still : {dir d : ℕ} (name : List ℕ) → look t dir name ≡ Some d → IsTrue (is_dir t d) → P (Sits (Old d) (Old dir))
-  pub sits_moved : {d p : Seat} (a : History) (k : Cover) → Contains crew a → P (Under a d k) → IsTrue (can_move table a k) →
-      P (Enters a p) → P (Clears d p) → P (Sits d p)
-  pub sits_born : {a : History} {p : Seat} → Contains crew a → P (Creates a NewDir) → P (Enters a p) →
-      P (Sits (Made a) p)
-  pub clears_root : {y : ℕ} → y ≢ 0 → P (Clears (Old y) (Old 0))
-  pub clears_up : {y : ℕ} {d : Seat} (p : Seat) → d ≢ Old y → P (Sits d p) → P (Clears (Old y) p) →
-      P (Clears (Old y) d)
-  pub clears_made : {maker : History} {d : Seat} → P (Clears (Made maker) d)
-  pub under_own : {a : History} {d : Seat} {perms : ℕ} → own_veil a d ≡ Some perms → P (Under a d (Only perms))
-  pub under_root : {a : History} → perms_kept a (place.Dir 0) ≡ None →
-      P (Under a (Old 0) (if list_any is_unveil a then Nothing else All))
-  pub under_over : {a : History} {d : Seat} {k : Cover} (p : Seat) → own_veil a d ≡ None → P (Sits d p) →
-      P (Under a p k) → P (Under a d k)
-  pub over_own : {a : History} {d : Seat} {name : List ℕ} {perms : ℕ} → name_veil a d name ≡ Some perms →
-      P (Over a d name (Only perms))
-  pub over_dir : {a : History} {d : Seat} {name : List ℕ} {k : Cover} → name_veil a d name ≡ None → P (Under a d k) →
-      P (Over a d name k)
-  pub frees_none : {dir : ℕ} {name : List ℕ} → look t dir name ≡ None → P (Frees (Old dir) name)
-  pub frees_new : {maker : History} {name : List ℕ} → P (Frees (Made maker) name)
-  pub frees_dir : {dir : ℕ} {name : List ℕ} (a : History) (d : ℕ) (k : Cover) → Contains crew a → IsTrue (may_take table a) →
-      look t dir name ≡ Some d → IsTrue (is_dir t d) → P (Under a (Old d) k) → IsTrue (has_c k) →
-      P (Frees (Old dir) name)
-  pub frees_other : {dir : ℕ} {name : List ℕ} (a : History) (x : ℕ) (k : Cover) → Contains crew a → IsTrue (may_take table a) →
-      look t dir name ≡ Some x → IsFalse (is_dir t x) → P (Over a (Old dir) name k) → IsTrue (has_c k) →
-      P (Frees (Old dir) name)
-  pub enters_by_c : {a : History} {d : Seat} (k : Cover) → P (Under a d k) → IsTrue (has_c k) → P (Enters a d)
-  pub enters_by_name : {a : History} {d : Seat} (name : List ℕ) (perms : ℕ) → name_veil a d name ≡ Some perms →
-      IsTrue (has_c (Only perms)) → P (Frees d name) → P (Enters a d)
-  pub enters_by_turn : {a : History} {d : Seat} (y perms : ℕ) (other : Seat) (k : Cover) → P (Sits (Old y) d) →
+pub record Closed (t : Tree) (table : CallTable) (crew : List ProcessState) (P : Fact → Type 0) : Type 0 where
+  pub stays_in : {dir d : ℕ} (name : List ℕ) → look t dir name ≡ Some d → IsTrue (is_dir t d) → P (StandsIn (Old d) (Old dir))
+  pub moved_in : {d p : Seat} (a : ProcessState) (k : Cover) → Contains crew a → P (DirCover a d k) → IsTrue (can_move table a k) →
+      P (WayIn a p) → P (NotAbove d p) → P (StandsIn d p)
+  pub born_in : {a : ProcessState} {p : Seat} → Contains crew a → P (Makes a NewDir) → P (WayIn a p) →
+      P (StandsIn (Made a) p)
+  pub not_above_root : {y : ℕ} → y ≢ 0 → P (NotAbove (Old y) (Old 0))
+  pub not_above_up : {y : ℕ} {d : Seat} (p : Seat) → d ≢ Old y → P (StandsIn d p) → P (NotAbove (Old y) p) →
+      P (NotAbove (Old y) d)
+  pub not_above_made : {maker : ProcessState} {d : Seat} → P (NotAbove (Made maker) d)
+  pub dir_own : {a : ProcessState} {d : Seat} {perms : ℕ} → own_veil a d ≡ Some perms → P (DirCover a d (Only perms))
+  pub dir_root : {a : ProcessState} → perms_kept a (place.Dir 0) ≡ None →
+      P (DirCover a (Old 0) (if has_veil a.veils then Nothing else All))
+  pub dir_within : {a : ProcessState} {d : Seat} {k : Cover} (p : Seat) → own_veil a d ≡ None → P (StandsIn d p) →
+      P (DirCover a p k) → P (DirCover a d k)
+  pub name_own : {a : ProcessState} {d : Seat} {name : List ℕ} {perms : ℕ} → name_veil a d name ≡ Some perms →
+      P (NameCover a d name (Only perms))
+  pub name_within : {a : ProcessState} {d : Seat} {name : List ℕ} {k : Cover} → name_veil a d name ≡ None → P (DirCover a d k) →
+      P (NameCover a d name k)
+  pub free_none : {dir : ℕ} {name : List ℕ} → look t dir name ≡ None → P (Free (Old dir) name)
+  pub free_made : {maker : ProcessState} {name : List ℕ} → P (Free (Made maker) name)
+  pub free_dir : {dir : ℕ} {name : List ℕ} (a : ProcessState) (d : ℕ) (k : Cover) → Contains crew a → IsTrue (may_take table a) →
+      look t dir name ≡ Some d → IsTrue (is_dir t d) → P (DirCover a (Old d) k) → IsTrue (has_c k) →
+      P (Free (Old dir) name)
+  pub free_other : {dir : ℕ} {name : List ℕ} (a : ProcessState) (x : ℕ) (k : Cover) → Contains crew a → IsTrue (may_take table a) →
+      look t dir name ≡ Some x → IsFalse (is_dir t x) → P (NameCover a (Old dir) name k) → IsTrue (has_c k) →
+      P (Free (Old dir) name)
+  pub way_in_by_c : {a : ProcessState} {d : Seat} (k : Cover) → P (DirCover a d k) → IsTrue (has_c k) → P (WayIn a d)
+  pub way_in_by_name : {a : ProcessState} {d : Seat} (name : List ℕ) (perms : ℕ) → name_veil a d name ≡ Some perms →
+      IsTrue (has_c (Only perms)) → P (Free d name) → P (WayIn a d)
+  pub way_in_by_turn : {a : ProcessState} {d : Seat} (y perms : ℕ) (other : Seat) (k : Cover) → P (StandsIn (Old y) d) →
       perms_kept a (place.Dir y) ≡ Some perms → IsTrue (has_c (Only perms)) →
-      ((name : List ℕ) (x : ℕ) → look t y name ≡ Some x → P (Frees (Old y) name)) →
-      P (Under a other k) → IsTrue (can_move table a k) → other ≢ Old y → P (Clears (Old y) other) →
-      P (Enters a d)
-  pub writes_at : {a : History} {d : Seat} {name : List ℕ} (k : Cover) → P (Over a d name k) → IsTrue (has_c k) →
-      P (Frees d name) → P (Writes a d name)
-  pub creates_at : {a : History} {new : New} (d : Seat) (name : List ℕ) (k : Cover) → P (Over a d name k) →
-      P (Frees d name) →
+      ((name : List ℕ) (x : ℕ) → look t y name ≡ Some x → P (Free (Old y) name)) →
+      P (DirCover a other k) → IsTrue (can_move table a k) → other ≢ Old y → P (NotAbove (Old y) other) →
+      P (WayIn a d)
+  pub writes_at : {a : ProcessState} {d : Seat} {name : List ℕ} (k : Cover) → P (NameCover a d name k) → IsTrue (has_c k) →
+      P (Free d name) → P (Writes a d name)
+  pub makes_at : {a : ProcessState} {new : New} (d : Seat) (name : List ℕ) (k : Cover) → P (NameCover a d name k) →
+      P (Free d name) →
       IsTrue (is_made_by (λ maker. is_allowed (covered_verdict empty_tree table a maker k IsMissing)) new) →
-      P (Creates a new)
-  pub lies_still : {dir : ℕ} {name : List ℕ} (x : ℕ) → look t dir name ≡ Some x → IsFalse (is_dir t x) →
-      P (Lies (Row (dir, name)) (Old dir) name)
-  pub lies_moved : {r : Source} {p : Seat} {other : List ℕ} (a : History) (d : Seat) (name : List ℕ) (k : Cover) → Contains crew a →
-      P (Lies r d name) → P (Over a d name k) →
+      P (Makes a new)
+  pub stays_at : {dir : ℕ} {name : List ℕ} (x : ℕ) → look t dir name ≡ Some x → IsFalse (is_dir t x) →
+      P (StandsAt (Row (dir, name)) (Old dir) name)
+  pub moved_at : {r : Source} {p : Seat} {other : List ℕ} (a : ProcessState) (d : Seat) (name : List ℕ) (k : Cover) → Contains crew a →
+      P (StandsAt r d name) → P (NameCover a d name k) →
       IsTrue (can_move table a k || can_link table a (kind_of_source t r) k) → P (Writes a p other) →
-      P (Lies r p other)
-  pub lies_born : {a : History} {new : New} {d : Seat} {name : List ℕ} → Contains crew a → P (Creates a new) →
-      P (Writes a d name) → P (Lies (Maker new a) d name)
+      P (StandsAt r p other)
+  pub born_at : {a : ProcessState} {new : New} {d : Seat} {name : List ℕ} → Contains crew a → P (Makes a new) →
+      P (Writes a d name) → P (StandsAt (Maker new a) d name)
 
-module _ (t : Tree) (table : CallTable) (crew : List History) (P : Fact → Type 0) (closed : Closed t table crew P) where
+module _ (t : Tree) (table : CallTable) (crew : List ProcessState) (P : Fact → Type 0) (closed : Closed t table crew P) where
   pub least : {fact : Fact} → Can t table crew fact → P fact
-  least (sits_still name h1 h2) = closed.sits_still name h1 h2
-  least (sits_moved a k h1 h2 h3 h4 h5) = closed.sits_moved a k h1 (least h2) h3 (least h4) (least h5)
-  least (sits_born h1 h2 h3) = closed.sits_born h1 (least h2) (least h3)
-  least (clears_root h1) = closed.clears_root h1
-  least (clears_up p h1 h2 h3) = closed.clears_up p h1 (least h2) (least h3)
-  least (clears_made) = closed.clears_made
-  least (under_own h1) = closed.under_own h1
-  least (under_root h1) = closed.under_root h1
-  least (under_over p h1 h2 h3) = closed.under_over p h1 (least h2) (least h3)
-  least (over_own h1) = closed.over_own h1
-  least (over_dir h1 h2) = closed.over_dir h1 (least h2)
-  least (frees_none h1) = closed.frees_none h1
-  least (frees_new) = closed.frees_new
-  least (frees_dir a d k h1 h2 h3 h4 h5 h6) = closed.frees_dir a d k h1 h2 h3 h4 (least h5) h6
-  least (frees_other a x k h1 h2 h3 h4 h5 h6) = closed.frees_other a x k h1 h2 h3 h4 (least h5) h6
-  least (enters_by_c k h1 h2) = closed.enters_by_c k (least h1) h2
-  least (enters_by_name name perms h1 h2 h3) = closed.enters_by_name name perms h1 h2 (least h3)
-  least (enters_by_turn y perms other k h1 h2 h3 h4 h5 h6 h7 h8) = closed.enters_by_turn y perms other k (least h1) h2 h3 (λ name x at. least (h4 name x at)) (least h5) h6 h7 (least h8)
+  least (stays_in name h1 h2) = closed.stays_in name h1 h2
+  least (moved_in a k h1 h2 h3 h4 h5) = closed.moved_in a k h1 (least h2) h3 (least h4) (least h5)
+  least (born_in h1 h2 h3) = closed.born_in h1 (least h2) (least h3)
+  least (not_above_root h1) = closed.not_above_root h1
+  least (not_above_up p h1 h2 h3) = closed.not_above_up p h1 (least h2) (least h3)
+  least (not_above_made) = closed.not_above_made
+  least (dir_own h1) = closed.dir_own h1
+  least (dir_root h1) = closed.dir_root h1
+  least (dir_within p h1 h2 h3) = closed.dir_within p h1 (least h2) (least h3)
+  least (name_own h1) = closed.name_own h1
+  least (name_within h1 h2) = closed.name_within h1 (least h2)
+  least (free_none h1) = closed.free_none h1
+  least (free_made) = closed.free_made
+  least (free_dir a d k h1 h2 h3 h4 h5 h6) = closed.free_dir a d k h1 h2 h3 h4 (least h5) h6
+  least (free_other a x k h1 h2 h3 h4 h5 h6) = closed.free_other a x k h1 h2 h3 h4 (least h5) h6
+  least (way_in_by_c k h1 h2) = closed.way_in_by_c k (least h1) h2
+  least (way_in_by_name name perms h1 h2 h3) = closed.way_in_by_name name perms h1 h2 (least h3)
+  least (way_in_by_turn y perms other k h1 h2 h3 h4 h5 h6 h7 h8) =
+      closed.way_in_by_turn y perms other k (least h1) h2 h3 (λ name x at. least (h4 name x at)) (least h5) h6 h7 (least h8)
   least (writes_at k h1 h2 h3) = closed.writes_at k (least h1) h2 (least h3)
-  least (creates_at d name k h1 h2 h3) = closed.creates_at d name k (least h1) (least h2) h3
-  least (lies_still x h1 h2) = closed.lies_still x h1 h2
-  least (lies_moved a d name k h1 h2 h3 h4 h5) = closed.lies_moved a d name k h1 (least h2) (least h3) h4 (least h5)
-  least (lies_born h1 h2 h3) = closed.lies_born h1 (least h2) (least h3)
+  least (makes_at d name k h1 h2 h3) = closed.makes_at d name k (least h1) (least h2) h3
+  least (stays_at x h1 h2) = closed.stays_at x h1 h2
+  least (moved_at a d name k h1 h2 h3 h4 h5) = closed.moved_at a d name k h1 (least h2) (least h3) h4 (least h5)
+  least (born_at h1 h2 h3) = closed.born_at h1 (least h2) (least h3)
