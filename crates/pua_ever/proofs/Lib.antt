@@ -24,6 +24,7 @@ pub mod JointlyRows
 pub mod Now
 pub mod NoExec
 pub mod Calling
+pub mod Leaving
 pub mod Standing
 pub mod Placed
 pub mod Rules
@@ -43,7 +44,6 @@ pub mod Through
 pub mod Narrowed
 pub mod Lasts
 pub mod Together
-pub mod OneByOne
 pub mod Chosen
 pub mod ForCallers
 pub mod RowsTell
