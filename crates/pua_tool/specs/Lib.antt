@@ -17,6 +17,7 @@ pub mod Alike
 pub mod Listed
 pub mod Forever
 pub mod Fewest
+pub mod Headline
 -- Worked rows, which hold by computation.
 pub mod Examples
 pub mod EverHowExamples

@@ -1,22 +1,21 @@
 //! What stands behind the calls of a line of a list for ever: how many steps a way has to each call that
 //! the list of now lacks.
 
-ghost use Rattle.std.specs.Prelude.{◌≡◌, ◌&&◌, ◌++◌, ◌∷◌, [], IfErr, IfOk, IfSome, OnOk, Ok, Some};
+ghost use Rattle.std.specs.Prelude.{◌≡◌, ◌&&◌, ◌++◌, ◌∷◌, [], IfErr, IfOk, IfSome, OnOk, Some};
 ghost use Rattle.std.specs.Prelude.{map, not, string_bytes};
 ghost use Rattle.std.specs.List.{AllByRecursion};
 ghost use Rattle.pua_tree.specs.Tree.{Tree};
 ghost use Rattle.pua_calls.specs.CallSets.{calls_in, has};
 ghost use Rattle.pua_calls.specs.declared.call.Call.{Call as AnyCall};
-ghost use Rattle.pua_policy.specs.History.{History, StandsFor};
 ghost use Rattle.pua_ever.specs.Ever.{Thing};
 ghost use Rattle.pua_ever.specs.EverLines.{IsThing};
 ghost use Rattle.pua_ever.specs.EverList.{word_of_row};
 ghost use Rattle.pua_how.specs.Asked.{IsAskedBy, asking_given};
 ghost use Rattle.pua_texts.specs.EverLines.{kind_of};
 ghost use Rattle.pua_texts.specs.Lines.{with_end};
-ghost use Rattle.pua_tool.specs.RowColumns.{AreColumns, AreStepsTo, IsBehind, IsColumnAt, served_by};
+ghost use Rattle.pua_tool.specs.RowColumns.{AreColumns, AreStepsTo, IsBehind, IsColumnAt};
+ghost use Rattle.pua_tool.specs.RowColumns.{done_behind};
 ghost use Rattle.pua_tool.specs.EverHowTexts.{IsCount, asking_by, count_text, counts_text};
-ghost use Rattle.pua_tool.specs.Texts.{Replayed};
 
 use crate::fault::ToolFault;
 use crate::now::calls_now;
@@ -48,9 +47,9 @@ pub(crate) fn columns_of(
     process: &Process,
     rows: &[EverRow<'_>],
 ) -> Result<Vec<String>, ToolFault>
-    ensures columns { IfOk result (λ columns. (done : Replayed) (h : History) →
-        IsBehind behind.now process.now done h →
-        AreColumns done behind.now.number h [] rows.now (map string_bytes columns.items)) }
+    ensures columns { IfOk result (λ columns. IsBehind behind.now →
+        AreColumns (done_behind behind.now) behind.now.number process.now [] rows.now
+        (map string_bytes columns.items)) }
     ensures memory { IfErr result (λ fault. fault ≡ ToolFault.OutOfMemory) }
 {
     let mut names = Vec::new(alloc);
@@ -83,10 +82,9 @@ fn column_of(
     names: &[&Name],
     line: &EverLine,
 ) -> Result<String, ToolFault>
-    ensures column { IfOk result (λ text. (done : Replayed) (h : History) →
-        IsBehind behind.now process.now done h →
-        IsColumnAt done behind.now.number h (map (λ name. name.now) names.now) line.now
-        (string_bytes text)) }
+    ensures column { IfOk result (λ text. IsBehind behind.now →
+        IsColumnAt (done_behind behind.now) behind.now.number process.now
+        (map (λ name. name.now) names.now) line.now (string_bytes text)) }
     ensures memory { IfErr result (λ fault. fault ≡ ToolFault.OutOfMemory) }
 {
     let world = &behind.replay.world;
@@ -126,9 +124,9 @@ fn counts_on(
     thing: EverThing,
     calls: Calls,
 ) -> Result<Vec<(Call, Option<usize>)>, ToolFault>
-    ensures counts { IfOk result (λ counts. (done : Replayed) (h : History) (about : Thing) →
-        IsBehind behind.now process.now done h → IsThing done.world.tree about thing →
-        AllByRecursion (IsCount done behind.now.number h
+    ensures counts { IfOk result (λ counts. (about : Thing) → IsBehind behind.now →
+        IsThing (done_behind behind.now).world.tree about thing →
+        AllByRecursion (IsCount (done_behind behind.now) behind.now.number process.now
         (asking_by (map (λ name. name.now) names.now) about) (kind_of thing)) counts.items) }
     ensures calls { IfOk result (λ counts. map (λ count. count.0) counts.items ≡ calls_in calls) }
     ensures memory { IfErr result (λ fault. fault ≡ ToolFault.OutOfMemory) }
@@ -155,9 +153,9 @@ fn meant_on<T: FileTree>(
     names: &[&Name],
     thing: EverThing,
 ) -> Result<Meant, ToolFault>
-    ensures meant { IfOk result (λ meant. (h : History) (about : Thing) →
-        StandsFor process.now h → IsThing (T.content tree.now) about thing →
-        IsAskedBy (T.content tree.now) h (asking_by (map (λ name. name.now) names.now) about)
+    ensures meant { IfOk result (λ meant. (about : Thing) →
+        IsThing (T.content tree.now) about thing →
+        IsAskedBy (T.content tree.now) process.now (asking_by (map (λ name. name.now) names.now) about)
         (Some (kind_of thing)) meant.targets.items) }
     ensures memory { IfErr result (λ fault. fault ≡ ToolFault.OutOfMemory) }
 {
@@ -197,9 +195,9 @@ fn steps_to(
     call: Call,
     meant: &Meant,
 ) -> Result<Option<usize>, ToolFault>
-    ensures steps { IfOk result (λ found. IfSome found (λ steps. (done : Replayed) →
-        served_by behind.now ≡ Ok done →
-        AreStepsTo done behind.now.number meant.now.targets.items call steps)) }
+    ensures steps { IfOk result (λ found. IfSome found (λ steps. IsBehind behind.now →
+        AreStepsTo (done_behind behind.now) behind.now.number meant.now.targets.items call
+        steps)) }
     ensures memory { IfErr result (λ fault. fault ≡ ToolFault.OutOfMemory) }
 {
     let world = &behind.replay.world;
@@ -219,9 +217,9 @@ fn steps_by(
     meant: &Meant,
     plan: Option<&Plan>,
 ) -> Result<Option<usize>, ToolFault>
-    ensures steps { IfOk result (λ found. IfSome found (λ steps. (done : Replayed) →
-        served_by behind.now ≡ Ok done →
-        AreStepsTo done behind.now.number meant.now.targets.items call steps)) }
+    ensures steps { IfOk result (λ found. IfSome found (λ steps. IsBehind behind.now →
+        AreStepsTo (done_behind behind.now) behind.now.number meant.now.targets.items call
+        steps)) }
     ensures memory { IfErr result (λ fault. fault ≡ ToolFault.OutOfMemory) }
 {
     let Some(plan) = plan else {

@@ -77,6 +77,9 @@ pub enum ToolFault {
     /// asked for.
     #[error("pua: how: no such thing")]
     HowThing,
+    /// A link is meant, and this call is on what a link leads to, never on the link.
+    #[error("pua: how: a link, which {} follows: ask about what it leads to", .0.name())]
+    HowLink(Call),
 }
 
 impl From<AllocError> for ToolFault {
