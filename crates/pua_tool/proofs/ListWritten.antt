@@ -1,6 +1,6 @@
 -- What a list of objects that was written says.
 use Rattle.pua_tool.proofs.Common.{◌≡◌, ◌∙◌, ◌∷◌, [], ℕ, List, ◌++◌, ap, refl, sym, Ok, Option, Some, None, CallTable, Tree, Asked, World}
-use Rattle.pua_tool.proofs.Common.{History, history_of, new_world, answers_to, world_after, answer_lines, with_end, listing, script_by, Chosen}
+use Rattle.pua_tool.proofs.Common.{ProcessState, kept_at, new_world, answers_to, world_after, answer_lines, with_end, listing, script_by, Chosen}
 use Rattle.pua_tool.proofs.Common.{Replayed, Result, table_by, as_listing, as_script, replay_of, ToolFault, arith, flat_map}
 use Rattle.std.proofs.Common.{zero, suc, append_assoc, append-nil}
 use Rattle.std.specs.Prelude.{ok_or, option_map}
@@ -59,29 +59,29 @@ module _ (complete : Complete) (sound : SoundLines) (choice : Chosen) (tree_byte
   abbrev front : List ℕ
   front = answer_lines 1 done.answers
 
-  abbrev asked_by : Option History → Result (List ℕ) ToolFault
+  abbrev asked_by : Option ProcessState → Result (List ℕ) ToolFault
   asked_by made = ok_or (option_map (λ h. process ∷ []) made) NoProcess >>= λ numbers. Ok (objects_after choice.rules table done.answers w numbers)
 
-  after : asked_by (history_of w process) ≡ Ok text
+  after : asked_by (kept_at w process) ≡ Ok text
   after = sym (list_is choice tree_bytes script_bytes (One process) done
       (replayed_is choice tree_bytes script_bytes table t first given (ap as_listing read) (ap as_script scripted))) ∙ told
 
-  never : history_of w process ≡ None → ⊥
+  never : kept_at w process ≡ None → ⊥
   never is = Err≢Ok NoProcess text (sym (ap asked_by is) ∙ after)
 
-  abbrev own : History → List ℕ
+  abbrev own : ProcessState → List ℕ
   own h = process_list (heading_now choice.rules process) table w.tree h
 
-  whole : (h : History) → history_of w process ≡ Some h → text ≡ front ++ own h
+  whole : (h : ProcessState) → kept_at w process ≡ Some h → text ≡ front ++ own h
   whole h is =
       let told : objects_after choice.rules table done.answers w (process ∷ []) ≡ text =
       same_Ok (objects_after choice.rules table done.answers w (process ∷ [])) text (sym (ap asked_by is) ∙ after) in
       sym told ∙ ap (λ made. front ++ (option_map_or own made [] ++ [])) is ∙ ap (λ list. front ++ list) (append-nil (own h))
 
   written : IsListWritten choice.rules table t first process text
-  written = by (history_of w process) refl
+  written = by (kept_at w process) refl
     where
-      by : (made : Option History) → history_of w process ≡ made → IsListWritten choice.rules table t first process text
+      by : (made : Option ProcessState) → kept_at w process ≡ made → IsListWritten choice.rules table t first process text
       by None is = absurd (never is)
       by (Some h) is =
           let said = scripts_ask_in_bytes choice.rules script_bytes first scripted in
