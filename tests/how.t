@@ -3,15 +3,17 @@
 # In each world a process can put no veil any more. For each call that its list for ever has and its list of now
 # lacks, a way is asked for: behind the script, each of its lines is answered `ok`, and the last one is the call on
 # what the line was about, which a model (Model.pm) follows through renames. In the examples all have one, unless what
-# the process starts is bounded: then a program may bring what it does not. In random worlds those that have one are
-# counted, and nearly all do. The list for ever with the steps of ways has these calls in its columns, and no others,
+# the process starts is bounded: then a program may bring what it does not. In random worlds those that have none are
+# counted, and so are the lines of all ways: a plan that is lost, or is longer, makes one of them more. Further worlds have
+# ways that nothing else here needs. The list for ever with the steps of ways has these calls in its columns, and no others,
 # each with the number of the way's lines. And for calls that the list of these lacks, as the model of its definition has it
-# (EverModel.pm), there is none, ever.
+# (EverModel.pm), there is none, ever; but of a link a call that follows it is refused.
 use strict;
 use warnings;
 use FindBin qw($Bin);
 use lib "$Bin/lib";
 use File::Basename qw(dirname);
+use List::Util qw(sum0);
 use Storable qw(dclone);
 use Test::More;
 use EverModel;
@@ -23,11 +25,28 @@ use Worlds qw(answer_of program_in worlds_told);
 
 my $SEED = 17;
 
-# Of a hundred calls that a list for ever has more than that of now, so many have a way.
+# In so many random worlds by each rules, of the calls that a list for ever has more than that of now, at most so many have
+# no way for no reason that is known, and the ways of all others have at most so many lines together. Where a plan comes to
+# be better, these numbers fall: put the new ones here.
+my $USUAL = 120;
+my %MOST = (profile => { none => 4, lines => 2632 }, openbsd => { none => 1, lines => 3070 });
+
+# In another number of worlds so many of a hundred such calls have a way.
 my $LEAST = 99.5;
 
+# Worlds with one question each, to which there is a way.
+my @FURTHER = (
+    {
+        name => 'what was moved out of a directory is looked for where it went',
+        rules => 'profile',
+        listing => "tree 1\n0 dir\n1 dir 0 top\n2 dir 1 d\n3 file 2 f\n4 dir 0 o\n",
+        script => "1 unveil /top r\n1 unveil /top/d c\n1 unveil /o c\n1 unveil - -\n1 pledge stdio,rpath,cpath -\n",
+        question => { call => 'open-r', path => '/top/d/f', kind => 'file' },
+    },
+);
+
 my $PUA    = program_in(@ARGV);
-my $WORLDS = @ARGV > 1 ? $ARGV[1] : 120;
+my $WORLDS = @ARGV > 1 ? $ARGV[1] : $USUAL;
 my $worlds = Worlds->new($SEED);
 my %counts;
 
@@ -42,8 +61,21 @@ for my $rules (qw(profile openbsd)) {
     }
     told($rules);
 }
+test_further($_) for @FURTHER;
 test_examples();
 done_testing();
+
+# A question has a way.
+sub test_further {
+    my ($further) = @_;
+    my $model = Model->new($further->{listing}, { rules => $further->{rules} });
+    $model->run($further->{script});
+    my $files = { listing => $further->{listing}, script => $further->{script} };
+    my $world = with_lists({ files => $files, rules => $further->{rules}, model => $model, process => 1 });
+    @{$world}{qw(counted has_all)} = ('further', 1);
+    is(first_fault($world, sub { fault_of($world, $_) }, $further->{question}), undef, "$further->{rules}: $further->{name}");
+    return;
+}
 
 # By each rules, of each process behind each script that can put no veil any more, each call has a way.
 sub test_examples {
@@ -251,7 +283,10 @@ sub fault_of_never {
     my @lines  = EverModel::lasting($world->{model}, 1);
     my $is_open = grep({ EverModel::has_exec($_) } @lines) && !EverModel::bound($world->{model}, 1);
     my $wanted = $is_open ? 'never before an exec' : 'never';
-    my $told   = join ' ', answer($world, $question);
+    if ($question->{kind} eq 'link' && Model::follows($question->{call})) {
+        $wanted = "status 1: pua: how: a link, which $question->{call} follows: ask about what it leads to\n";
+    }
+    my $told = join ' ', answer($world, $question);
     $counts{ $world->{rules} }{never}++;
     return $told eq $wanted ? undef : "$told, and not $wanted";
 }
@@ -264,6 +299,13 @@ sub told {
     note("$rules: $told{ways} ways of $told{calls} calls ($lengths), none for $told{none}, for the exec of $told{starts} files, for ",
         "$told{brought} that a started program brings, and for $told{kept} where no name can be freed; ",
         "$told{never} calls that never come");
+    if ($WORLDS == $USUAL) {
+        my $most = $MOST{$rules};
+        my $lines = sum0(map { $_ * $told{lengths}{$_} } keys %{ $told{lengths} });
+        cmp_ok($told{none}, '<=', $most->{none}, "$rules: at most $most->{none} calls have no way");
+        cmp_ok($lines, '<=', $most->{lines}, "$rules: the ways have at most $most->{lines} lines");
+        return;
+    }
     my $share = 100 * $told{ways} / (($told{ways} + $told{none}) || 1);
     cmp_ok($share, '>=', $LEAST, "$rules: of a hundred calls, at least $LEAST have a way");
     return;

@@ -132,6 +132,9 @@ sub _rows_of {
     return %rows;
 }
 
+# Whether a call is on what a link at its path's end leads to.
+sub follows { return $FOLLOWS{ $_[0] } }
+
 # What a path names to a process, by a call's rule for its end.
 sub _named {
     my ($model, $process, $call, $path) = @_;

@@ -58,6 +58,12 @@ expect 'an empty word' 1 'pua: audit: bad resume'
 run audit --limit 1 --after "stat:/
 " tree script
 expect 'a line end behind the pair' 1 'pua: audit: bad resume'
+run why tree script stat "/f
+"
+expect 'a line end behind an argument' 1 'pua: request: line 1: bad line'
+run audit --limit 1 tree script "a
+"
+expect 'a line end behind a name' 1 'pua: audit: bad candidate 1'
 run audit tree script $(seq -f name%g 1 5000) --limit 1
 expect 'an option behind many words' 1 'pua: audit: too many names'
 run run '' script

@@ -1,7 +1,7 @@
 -- A word is judged by its path as it is judged letter by letter.
 use Rattle.pua_audit.proofs.Common.{◌≡◌, ℕ, zero, suc, Bool, true, false, cond, List, [], ◌∷◌, length, map, refl, sym, ap, ◌∙◌, arith, ◌-◌}
 use Rattle.pua_audit.proofs.Common.{◌*◌, ◌≤◌, Ok, Err, filter, AllByRecursion, Tree, WellFormed, is_dir, ◌>>=◌, part_of, is_absolute}
-use Rattle.pua_audit.proofs.Common.{Ending, Followed, Top, Whole, Slot, CallTable, rule_of, last_of, calls, History, may_any, is_ended}
+use Rattle.pua_audit.proofs.Common.{Ending, Followed, Top, Whole, Slot, CallTable, rule_of, last_of, calls, ProcessState, may_any, is_ended}
 use Rattle.pua_audit.proofs.Common.{verdict_of, is_allowed, Call, Word, Pair, Scope, words, pairs, from_root, path_of, is_reached, reach}
 use Rattle.pua_audit.proofs.Common.{Start, Below, Judge, base_dir, state_of, judge_of, judge_for, reach_along, Base, Root, Cwd, longest}
 use Rattle.std.proofs.Common.{max, fold, mul-le-mul_right}
@@ -12,7 +12,7 @@ use Rattle.pua_path.specs.declared.errno.Errno.TheVariants.{ENOENT, ENOTDIR}
 use Rattle.pua_path.specs.declared.text.Ending.TheVariants as ending
 use Rattle.pua_path.specs.declared.found.Part.TheVariants as parts
 use Rattle.pua_calls.specs.Calls.{ending_of}
-use Rattle.pua_policy.specs.History.{working_dir}
+use Rattle.pua_policy.specs.States.{working_dir}
 use Rattle.pua_policy.specs.Verdict.{verdict_on, object_named}
 use Rattle.pua_audit.specs.Judge.{base_way, if_some, is_allowed_along}
 use Rattle.pua_audit.proofs.Paths.{IsPiece, IsPath, path_is, length_from_root}
@@ -21,12 +21,12 @@ use Rattle.pua_audit.proofs.Fresh.{refused}
 use Rattle.pua_steps.proofs.ForCallers.{all_flat, all_weaker}
 
 -- one who has ended is allowed nothing
-ended : (t : Tree) (table : CallTable) (h : History) (call : Call) (r : _) → is_ended h ≡ true →
+ended : (t : Tree) (table : CallTable) (h : ProcessState) (call : Call) (r : _) → is_ended h ≡ true →
     is_allowed (verdict_of t table h call r) ≡ false
 ended t table h call (Ok found) e = rw e refl
 ended t table h call (Err errno) e = rw e refl
 
-module _ (t : Tree) (fits : WellFormed t) (table : CallTable) (base : Base) (h : History) where
+module _ (t : Tree) (fits : WellFormed t) (table : CallTable) (base : Base) (h : ProcessState) where
   abbrev w : Judge
   w = judge_of t table base h
 
@@ -155,12 +155,12 @@ module _ (s : Scope) (fits : WellFormed s.tree) (readable : IsReadable s.alphabe
       omega (arith, times (length (from_root word)) (length word) (suc (longest s.alphabet)) s.limit long is.within, readable.fits)
 
   -- the reach is what is allowed letter by letter
-  pub reach_is_along : is_dir s.tree (base_dir s.base s.history) ≡ true → reach s ≡ reach_along (judge_for s) s.alphabet s.limit
+  pub reach_is_along : is_dir s.tree (base_dir s.base s.process) ≡ true → reach s ≡ reach_along (judge_for s) s.alphabet s.limit
   reach_is_along lives =
       filter_alike (is_reached s) (λ pair. is_allowed_along (judge_for s) Start pair.0 pair.1) (pairs s.alphabet s.limit)
       (all_weaker (λ pair. IsWord (λ a. IsPiece a × (length a ≤ longest s.alphabet)) s.limit pair.0) (λ pair. is_reached s pair
       ≡ is_allowed_along (judge_for s) Start pair.0 pair.1)
-      (λ pair is. judged_along s.tree fits s.table s.base s.history lives pair.1 pair.0
+      (λ pair is. judged_along s.tree fits s.table s.base s.process lives pair.1 pair.0
       (all_weaker (λ a. IsPiece a × (length a ≤ longest s.alphabet)) IsPiece (λ _ a. a.0) pair.0 is.letters)
       (short pair.0 is))
       (pairs s.alphabet s.limit)
@@ -168,13 +168,13 @@ module _ (s : Scope) (fits : WellFormed s.tree) (readable : IsReadable s.alphabe
       s.alphabet readable.letters (no_longer 0 s.alphabet))))
 
   -- one who has ended has no reach
-  pub none_for_ended : is_ended s.history ≡ true → reach s ≡ []
+  pub none_for_ended : is_ended s.process ≡ true → reach s ≡ []
   none_for_ended over =
       filter_none (is_reached s) (pairs s.alphabet s.limit)
-      (all_of (λ pair. is_reached s pair ≡ false) (λ pair. ended s.tree s.table s.history pair.1 _ over) (pairs s.alphabet s.limit))
+      (all_of (λ pair. is_reached s pair ≡ false) (λ pair. ended s.tree s.table s.process pair.1 _ over) (pairs s.alphabet s.limit))
 
   -- nor has one whose base was removed
-  pub none_without_base : is_dir s.tree (base_dir s.base s.history) ≡ false → reach s ≡ []
+  pub none_without_base : is_dir s.tree (base_dir s.base s.process) ≡ false → reach s ≡ []
   none_without_base gone =
       filter_none (is_reached s) (pairs s.alphabet s.limit)
       (all_weaker (λ pair. IsWord (λ a. IsPiece a × (length a ≤ longest s.alphabet)) s.limit pair.0) (λ pair. is_reached s pair ≡ false)
@@ -184,16 +184,16 @@ module _ (s : Scope) (fits : WellFormed s.tree) (readable : IsReadable s.alphabe
       (pairs_are (λ a. IsPiece a × (length a ≤ longest s.alphabet)) s.alphabet s.limit (both IsPiece (λ a. length a ≤ longest s.alphabet)
       s.alphabet readable.letters (no_longer 0 s.alphabet))))
     where
-      missing : (base : Base) → is_dir s.tree (base_dir base s.history) ≡ false → (c : Call) (word : Word) → AllByRecursion IsPiece word →
+      missing : (base : Base) → is_dir s.tree (base_dir base s.process) ≡ false → (c : Call) (word : Word) → AllByRecursion IsPiece word →
           length (from_root word) ≤ 1023
-          → is_allowed (verdict_on s.tree s.table s.history c (path_of base word)) ≡ false
+          → is_allowed (verdict_on s.tree s.table s.process c (path_of base word)) ≡ false
       missing Root gone c word all fits_in = let bad : true ≡ false = sym fits.root ∙ gone in cc
       missing Cwd gone c [] all fits_in =
-          let none : object_named s.tree s.history c (path_of Cwd []) ≡ Err ENOENT = rw gone refl in
-          ap (λ r. is_allowed (verdict_of s.tree s.table s.history c r)) none ∙
-          refused (may_any s.history (rule_of s.table c).alternatives) ENOENT
+          let none : object_named s.tree s.process c (path_of Cwd []) ≡ Err ENOENT = rw gone refl in
+          ap (λ r. is_allowed (verdict_of s.tree s.table s.process c r)) none ∙
+          refused (may_any s.process (rule_of s.table c).alternatives) ENOENT
       missing Cwd gone c (a ∷ word) all fits_in =
           let is : IsPath Cwd (path_of Cwd (a ∷ word)) (a ∷ word) = path_is Cwd a word all.0 all.1 fits_in in
-          let none : object_named s.tree s.history c (path_of Cwd (a ∷ word)) ≡ Err ENOENT = rw (is.fault, is.absolute, gone) refl in
-          ap (λ r. is_allowed (verdict_of s.tree s.table s.history c r)) none ∙
-          refused (may_any s.history (rule_of s.table c).alternatives) ENOENT
+          let none : object_named s.tree s.process c (path_of Cwd (a ∷ word)) ≡ Err ENOENT = rw (is.fault, is.absolute, gone) refl in
+          ap (λ r. is_allowed (verdict_of s.tree s.table s.process c r)) none ∙
+          refused (may_any s.process (rule_of s.table c).alternatives) ENOENT

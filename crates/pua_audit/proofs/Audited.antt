@@ -16,8 +16,8 @@ pub reaches_along : ReachIsAlong
 reaches_along s is lives = reach_is_along s is.tree (readable s is) lives
 
 pub closed_reaches : ClosedReaches
-closed_reaches s is closed = by (is_ended s.history) refl closed
+closed_reaches s is closed = by (is_ended s.process) refl closed
   where
-    by : (v : Bool) → is_ended s.history ≡ v → (not v && is_dir s.tree (base_dir s.base s.history)) ≡ false → reach s ≡ []
+    by : (v : Bool) → is_ended s.process ≡ v → (not v && is_dir s.tree (base_dir s.base s.process)) ≡ false → reach s ≡ []
     by true e closed = none_for_ended s is.tree (readable s is) e
     by false e closed = none_without_base s is.tree (readable s is) closed

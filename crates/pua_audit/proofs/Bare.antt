@@ -1,7 +1,7 @@
 -- Names at which no veil is kept, and where nothing stands or a file does.
-use Rattle.pua_audit.proofs.Common.{ℕ, ◌+◌, ◌≤◌, ◌≡◌, List, [], ◌∷◌, Option, Some, None, Bool, true, false, refl, cond, nat_le, ap, arith}
+use Rattle.pua_audit.proofs.Common.{ℕ, ◌+◌, ◌≤◌, ◌≡◌, List, Option, Some, None, Bool, true, cond, nat_le, ap, arith}
 use Rattle.pua_audit.proofs.Common.{sym, subst, ◌∙◌, IsTrue, le-leb, Tree, WellFormed, is_dir, most_links, part_of, follow, Found, Slot}
-use Rattle.pua_audit.proofs.Common.{Last, Followed, Kept, Top, CallTable, last_of, has, History, veil_at, Place, IsMissing, cover}
+use Rattle.pua_audit.proofs.Common.{Last, Followed, Kept, Top, CallTable, last_of, has, ProcessState, perms_kept, IsMissing, cover}
 use Rattle.pua_audit.proofs.Common.{verdict_of, is_allowed, Call, allowed_within, allowed_kept, allowed_near, allowed_far, judge_of}
 use Rattle.pua_audit.proofs.Common.{IsLetter, IsNamed, Base}
 use Rattle.std.proofs.Common.{Ok}
@@ -10,8 +10,6 @@ use Rattle.pua_tree.specs.declared.node.Kind.{Kind}
 use Rattle.pua_path.specs.Kinds.{is_file}
 use Rattle.pua_path.proofs.ForCallers.{missing_follows, file_follows, found_kind, unlinked_alike}
 use Rattle.pua_policy.proofs.ForCallers.{unveiled_within}
-use Rattle.pua_policy.specs.History.{has_veil}
-use Rattle.pua_policy.specs.History as policy
 use Rattle.pua_policy.specs.declared.place.Place.TheVariants as place
 use Rattle.pua_policy.specs.Verdict.{covered_verdict, object_of_kind, verdict}
 use Rattle.pua_audit.specs.Entries.{IsEntryAt}
@@ -22,13 +20,13 @@ alike Followed followed kept both e f = e
 alike Kept followed kept both e f = f
 
 -- a name where nothing stands in a directory, and at which no veil is kept
-pub record IsBare (t : Tree) (h : History) (dir : ℕ) (letter : List ℕ) : Type 0 where
+pub record IsBare (t : Tree) (h : ProcessState) (dir : ℕ) (letter : List ℕ) : Type 0 where
   pub name : IsNamed letter
   pub none : look t dir letter ≡ None
-  pub unveiled : policy.perms_kept h (place.Slot dir letter) ≡ None
+  pub unveiled : perms_kept h (place.Slot dir letter) ≡ None
 
 -- a name at which no directory stands is found without a link: one set of calls tells it
-module _ (t : Tree) (table : CallTable) (base : Base) (h : History) (dir : ℕ) (letter : List ℕ) (node : Option ℕ) (calls kept : ℕ)
+module _ (t : Tree) (table : CallTable) (base : Base) (h : ProcessState) (dir : ℕ) (letter : List ℕ) (node : Option ℕ) (calls kept : ℕ)
     (followed : follow t dir (part_of letter) ≡ Ok (Slot dir letter node, 0)) (on_slot : (call : Call) →
     is_allowed (verdict t table h call (Slot dir letter node)) ≡ has calls call) where
   abbrev slot : Found
@@ -54,7 +52,7 @@ module _ (t : Tree) (table : CallTable) (base : Base) (h : History) (dir : ℕ) 
     step = λ used low. (entry used low).step;
   }
 
-module _ (t : Tree) (table : CallTable) (base : Base) (h : History) (dir : ℕ) (letter : List ℕ) (fits : WellFormed t)
+module _ (t : Tree) (table : CallTable) (base : Base) (h : ProcessState) (dir : ℕ) (letter : List ℕ) (fits : WellFormed t)
     (living : IsTrue (is_dir t dir)) where
   -- one set of calls tells all names where nothing stands
   pub bare_told : (missing : ℕ) → ((call : Call) → has missing call ≡ allowed_within t table h dir IsMissing call) → IsBare t h dir letter →
@@ -67,7 +65,7 @@ module _ (t : Tree) (table : CallTable) (base : Base) (h : History) (dir : ℕ) 
   -- one tells all files of a kind
   pub file_told : (x calls kept : ℕ) (kind : Kind) → is_file kind ≡ true →
       ((call : Call) → has calls call ≡ allowed_within t table h dir (object_of_kind (Some kind)) call)
-      → IsNamed letter → found_at t dir letter ≡ Some (x, kind) → policy.perms_kept h (place.Slot dir letter) ≡ None →
+      → IsNamed letter → found_at t dir letter ≡ Some (x, kind) → perms_kept h (place.Slot dir letter) ≡ None →
       IsLetter (judge_of t table base h) dir letter calls kept 0 None
   file_told x calls kept kind file told name found unveiled =
       slot_told t table base h dir letter (Some x) calls kept (ap (follow t dir) name ∙ file_follows t dir letter x kind file found)
@@ -76,11 +74,3 @@ module _ (t : Tree) (table : CallTable) (base : Base) (h : History) (dir : ℕ) 
       (found_kind t dir letter x kind found)
       ∙ ap (λ left. is_allowed (covered_verdict t table h call left (object_of_kind (Some kind))))
       (unveiled_within t h dir letter (Some x) Top fits living unveiled) ∙ sym (told call))
-
--- where no veil is kept at all, none is kept at a place
-pub no_veil : (veils : List (Place × ℕ)) (place : Place) → has_veil veils ≡ false → veil_at veils place ≡ None
-no_veil [] place e = refl
-no_veil (veil ∷ veils) place e = absurd (true≢false e)
-  where
-    true≢false : ◌≡◌ {A = Bool} true false → ⊥
-    true≢false e = cc

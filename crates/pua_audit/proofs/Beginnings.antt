@@ -1,15 +1,15 @@
 -- What an audit begins with, or the first fault, test by test.
 use Rattle.pua_audit.proofs.Common.{◌≡◌, ℕ, suc, ◌+◌, ◌*◌, ◌≤◌, List, Bool, length, sym, ap, subst, ◌∙◌, add-one, Result, Ok, Err}
-use Rattle.pua_audit.proofs.Common.{le-leb, ◌>>=◌, Tree, CallTable, History, Scope, candidates_from, longest, Base, AuditFault}
+use Rattle.pua_audit.proofs.Common.{le-leb, ◌>>=◌, Tree, CallTable, ProcessState, Scope, candidates_from, longest, Base, AuditFault}
 use Rattle.std.specs.Prelude.{Option, nat_le}
 use Rattle.pua_audit.specs.Reach.{alphabet_of}
 use Rattle.pua_audit.specs.Begin.{Beginning, fault_unless, beginning}
 use Rattle.pua_audit.specs.Starting.{begun_in}
 use Rattle.pua_audit.specs.declared.fault.AuditFault.TheVariants.{LimitTooLarge, TooLong, TooManyNames}
 
-module _ (t : Tree) (table : CallTable) (h : History) (base : Base) (texts : List (List ℕ)) (limit : ℕ) (after : Option (List ℕ)) where
+module _ (t : Tree) (table : CallTable) (h : ProcessState) (base : Base) (texts : List (List ℕ)) (limit : ℕ) (after : Option (List ℕ)) where
   abbrev scope_of : List (List ℕ) → Scope
-  scope_of alphabet = record { tree = t; table = table; history = h; base = base; alphabet = alphabet; limit = limit }
+  scope_of alphabet = record { tree = t; table = table; process = h; base = base; alphabet = alphabet; limit = limit }
 
   -- the last two tests
   abbrev ending : List (List ℕ) → Bool → Result Beginning AuditFault

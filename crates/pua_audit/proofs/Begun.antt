@@ -1,7 +1,7 @@
 -- The walk over a table of steps begins with the reach before it.
 use Rattle.pua_audit.proofs.Common.{ℕ, zero, suc, [], None, ◌*◌, ◌<◌, ◌≤◌, ◌≡◌, List, Option, Some, refl, ap, arith, ◌∙◌, map, length}
 use Rattle.pua_audit.proofs.Common.{get_or, bit_of, Call, IsTrue, is_dir, Scope, Judge, Start, base_dir, judge_for, reach_along, IsAudited}
-use Rattle.pua_audit.proofs.Common.{live_states, allowed_at, AreApart, IsKnown, StandsForJudge, pair_in_numbers, pair_in_letters, IsTableOf}
+use Rattle.pua_audit.proofs.Common.{live_states, allowed_at, AreApart, IsKnown, AnswersAsJudge, pair_in_numbers, pair_in_letters, IsTableOf}
 use Rattle.pua_audit.proofs.Common.{mul-le, has_call, calls_of, live_count, State, Steps, IfSome, AllByRecursion, AreLetters, subst, sym}
 use Rattle.pua_audit.specs.declared.resume_text.Resumption.{Resumption}
 use Rattle.pua_audit.proofs.Leading.{masks_list}
@@ -22,7 +22,7 @@ module _ (w : Judge) (letters : List (List ℕ)) (names : List ℕ) (t : Steps) 
   unfolding allowed_at
   listed = masks_list (w.own Start) set own
 
-  pub begun_stands : StandsForJudge w letters names (graph_of t 0) set base (IsKnown names)
+  pub begun_stands : AnswersAsJudge w letters names (graph_of t 0) set base (IsKnown names)
   begun_stands = record
       { calls = listed; base = first; begins = record { dir = some; used = omega arith }; states = table_stands w letters names t is }
 
@@ -39,7 +39,7 @@ module _ (w : Judge) (letters : List (List ℕ)) (names : List ℕ) (t : Steps) 
 module _ (s : Scope) (names : List ℕ) (t : Steps) (is : IsTableOf (judge_for s) s.alphabet names t) (some : 0 < length names) (set : ℕ)
     (own : (call : Call) → has_call set (bit_of call) ≡ (judge_for s).own Start call)
     (first : (judge_for s).step Start ≡ Some (record { dir = get_or names 0 0; used = 0 })) (audited : IsAudited s)
-    (alive : IsTrue (is_dir s.tree (base_dir s.base s.history))) (apart : AreApart names) where
+    (alive : IsTrue (is_dir s.tree (base_dir s.base s.process))) (apart : AreApart names) where
   pub begun_live : length (live_states s) ≡ live_count (graph_of t) (length names) s.limit (Some (record { dir = 0; used = 0 })) s.limit
   begun_live =
       live_states_count.counted s names (graph_of t 0) set (Some (record { dir = 0; used = 0 })) audited alive apart

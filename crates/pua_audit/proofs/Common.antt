@@ -43,7 +43,7 @@ pub use Rattle.pua_path.specs.declared.found.Part.{Part}
 pub use Rattle.pua_path.specs.declared.found.Way.TheVariants.{Top}
 pub use Rattle.pua_path.specs.declared.text.Ending.{Ending}
 pub use Rattle.pua_policy.specs.Descent.{cover_in}
-pub use Rattle.pua_policy.specs.History.{History, is_ended, may_any, perms_kept, veil_at}
+pub use Rattle.pua_policy.specs.States.{ProcessState, is_ended, may_any, perms_kept, veil_at}
 pub use Rattle.pua_policy.specs.Verdict.{cover, is_allowed, IsMissing, verdict_of}
 pub use Rattle.pua_policy.specs.declared.place.Place.{Place}
 pub use Rattle.pua_steps.proofs.ForCallers.{all_joined, all_pushed}
@@ -69,13 +69,12 @@ pub use Rattle.pua_audit.specs.Coming.{pairs_at}
 pub use Rattle.pua_audit.specs.Covers.{AreCovered, DirectoriesState}
 pub use Rattle.pua_audit.specs.Entries.{allowed_far, allowed_kept, allowed_near, allowed_within, found_of, leads_to, links_of}
 pub use Rattle.pua_audit.specs.Graphs.{AreApart, HasJudgedVisits, IsKnown, IsRight, named_in, pair_in_letters, pair_in_numbers}
-pub use Rattle.pua_audit.specs.Graphs.{StandsForJudge}
+pub use Rattle.pua_audit.specs.Graphs.{AnswersAsJudge}
 pub use Rattle.pua_audit.specs.Judge.{base_dir, Below, is_letter, Judge, judge_for, judge_of, JudgeState, reach_along, Start, state_of}
 pub use Rattle.pua_audit.specs.Judge.{WordEnd}
 unfoldable pub use Rattle.pua_audit.specs.Judge.{allowed_at}
 pub use Rattle.pua_audit.specs.Laws.{IsAudited, Rises}
 pub use Rattle.pua_audit.specs.Live.{live_states, passed_states, same_stage, shorter, Stage, stage_after}
-unfoldable pub use Rattle.pua_audit.specs.Past.{plain_history}
 pub use Rattle.pua_audit.specs.Reach.{from_root, is_reached, Pair, pair_cmp, pairs, path_of, reach, rest_after, Scope, Word, words}
 pub use Rattle.pua_audit.specs.Ready.{judge_in, lent_path, scope_in}
 unfoldable pub use Rattle.pua_audit.specs.Ready.{word_of}

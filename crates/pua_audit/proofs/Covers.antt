@@ -1,7 +1,7 @@
 -- Covers of the directories of a table, and covers handed down from them.
 use Rattle.pua_audit.proofs.Common.{true, ℕ, ◌≡◌, List, Option, Some, None, sym, ap, ◌∙◌, subst, IfOk, IfSome, IsTrue, Result, Ok, Err}
 use Rattle.pua_audit.proofs.Common.{Tree, WellFormed, above, is_dir, FoundsFit, StandsAsNamed, Errno, Found, Whole, Slot, follow, last}
-use Rattle.pua_audit.proofs.Common.{Kept, Part, Top, cover_in, History, perms_kept, CallTable, cover, is_allowed, Call, allowed_within}
+use Rattle.pua_audit.proofs.Common.{Kept, Part, Top, cover_in, ProcessState, perms_kept, CallTable, cover, is_allowed, Call, allowed_within}
 use Rattle.pua_audit.proofs.Common.{found_of, leads_to}
 use Rattle.pua_path.specs.Fits.{FoundFits}
 use Rattle.pua_path.specs.declared.found.Part.TheVariants as parts
@@ -18,7 +18,7 @@ some_leads leads None is = tt
 some_leads leads (Some x) is = leads x is
 
 -- names without a veil of their own, in a directory that has this cover
-pub within_is : (t : Tree) (table : CallTable) (h : History) (fits : WellFormed t) (dir : ℕ) (living : IsTrue (is_dir t dir))
+pub within_is : (t : Tree) (table : CallTable) (h : ProcessState) (fits : WellFormed t) (dir : ℕ) (living : IsTrue (is_dir t dir))
     (left : Cover) → left ≡ cover_in t h dir
     → (object : Object) (call : Call) → is_allowed (covered_verdict t table h call left object) ≡ allowed_within t table h dir object call
 within_is t table h fits dir living left is object call =
@@ -33,14 +33,14 @@ founds_of t (Ok found) fit = fit
 founds_of t (Err errno) fit = tt
 
 -- what the veils leave of a directory that was found is the cover of the names in it
-pub covered_lead : (t : Tree) (h : History) → WellFormed t → (r : Result Found Errno) (left : Cover) → FoundsFit t r →
+pub covered_lead : (t : Tree) (h : ProcessState) → WellFormed t → (r : Result Found Errno) (left : Cover) → FoundsFit t r →
     IfOk r (λ object. left ≡ cover t h object) → IfSome (leads_to r) (λ to. left ≡ cover_in t h to)
 covered_lead t h fits (Ok (Whole dir way)) left fit is = is ∙ (covers_descend t h fits).directory dir way fit
 covered_lead t h fits (Ok (Slot dir name _)) left fit is = tt
 covered_lead t h fits (Err errno) left fit is = tt
 
 -- what was found gets its cover from the directory over it
-module _ (t : Tree) (h : History) (fits : WellFormed t) (found : Found) (is_fit : FoundFits t found) where
+module _ (t : Tree) (h : ProcessState) (fits : WellFormed t) (found : Found) (is_fit : FoundFits t found) where
   pub handed_name : (dir : ℕ) (name : List ℕ) (node : Option ℕ) → found ≡ Slot dir name node →
       own_or (perms_kept h (place.Slot dir name)) (cover_in t h dir) ≡ cover t h found
   handed_name dir name node is = sym ((covers_descend t h fits).at_name dir name node) ∙ ap (cover t h) (sym is)
@@ -55,7 +55,7 @@ module _ (t : Tree) (h : History) (fits : WellFormed t) (found : Found) (is_fit 
       handed_self dir (Named parent name) is
 
 -- a directory without a veil of its own has the cover of the one above it
-pub handed_above : (t : Tree) (h : History) → WellFormed t → (from : ℕ) → is_dir t from ≡ true → perms_kept h (place.Dir from) ≡ None →
+pub handed_above : (t : Tree) (h : ProcessState) → WellFormed t → (from : ℕ) → is_dir t from ≡ true → perms_kept h (place.Dir from) ≡ None →
     cover_in t h from ≡ cover_in t h (above t from)
 handed_above t h fits from living none = (covers_descend t h fits).over from living ∙ ap (λ o. own_or o (cover_in t h (above t from))) none
 

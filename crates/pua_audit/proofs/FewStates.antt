@@ -76,15 +76,15 @@ steps_fit t fits (part ∷ parts) at end lives few is = by (step t at.0 at.1 par
 abbrev IsAmong : Scope → Stage → Type 0
 IsAmong s y = IsTrue (is_dir s.tree y.dir) × ((y.links < 33) × (y.left < suc s.limit))
 
-live_fits : (s : Scope) → IsAudited s → IsTrue (is_dir s.tree (base_dir s.base s.history)) → (y : Stage) → IsLive s y → IsAmong s y
-live_fits s is lives y (pair, word, there, front, leads) = by (steps s.tree (map part_of word) (base_dir s.base s.history, 0)) refl leads
+live_fits : (s : Scope) → IsAudited s → IsTrue (is_dir s.tree (base_dir s.base s.process)) → (y : Stage) → IsLive s y → IsAmong s y
+live_fits s is lives y (pair, word, there, front, leads) = by (steps s.tree (map part_of word) (base_dir s.base s.process, 0)) refl leads
   where
-    by : (r : Result (ℕ × ℕ) Errno) → steps s.tree (map part_of word) (base_dir s.base s.history, 0) ≡ r
+    by : (r : Result (ℕ × ℕ) Errno) → steps s.tree (map part_of word) (base_dir s.base s.process, 0) ≡ r
         → option_map (λ (at : ℕ × ℕ). record { dir = at.0; links = at.1; left = s.limit - length word }) (result_ok r) ≡ Some y →
         IsAmong s y
     by (Ok at) stands e =
         let fit = steps_fit s.tree (resolutions_fit s.tree is.tree) (map part_of word) (
-          base_dir s.base s.history,
+          base_dir s.base s.process,
           0,
         ) at lives (omega arith) stands in
         subst (IsAmong s) (same_Some (record { dir = at.0; links = at.1; left = s.limit - length word }) y e) (
@@ -112,7 +112,7 @@ ordered layers ns =
 
 pub few_states : LiveStatesFew
 few_states s is =
-    elim (cases_Bool (is_dir s.tree (base_dir s.base s.history))) [
+    elim (cases_Bool (is_dir s.tree (base_dir s.base s.process))) [
       | inl lives ↦
           let ns : List ℕ = numbers s.tree.nodes in
           let many = counted ns (suc s.limit) s.limit 33 (omega arith) (distinct_apart ns (keys_distinct s.tree.nodes is.tree.nodes_in_order))
@@ -122,6 +122,6 @@ few_states s is =
           (subst (λ n. summed ns (suc s.limit) s.limit 33 (λ y. is_staged y (passed_states s)) ≤ n) (ordered (suc s.limit) s.tree.nodes)
           (summed-le ns (suc s.limit) s.limit 33 (λ y. is_staged y (passed_states s))))
       | inr gone ↦
-          let none = live_states_count.none s is (ap (λ b. not (is_ended s.history) && b) gone ∙ and-false (not (is_ended s.history))) in
+          let none = live_states_count.none s is (ap (λ b. not (is_ended s.process) && b) gone ∙ and-false (not (is_ended s.process))) in
           omega (arith, none)
     ]

@@ -1,7 +1,7 @@
 -- A letter that is followed once, with no link used before it, tells it after any number of links.
 use Rattle.pua_audit.proofs.Common.{ℕ, ◌+◌, ◌≡◌, List, Option, None, Bool, true, false, cond, nat_le, refl, ap, sym, ◌∙◌, option_map, inl}
 use Rattle.pua_audit.proofs.Common.{inr, cases_lt, le-leb, lt-leb, Tree, most_links, part_of, follow, last, Errno, Last, Followed, Kept}
-use Rattle.pua_audit.proofs.Common.{Found, Whole, Slot, CallTable, last_of, rule_of, History, may_any, verdict_of, is_allowed, Call, Judge}
+use Rattle.pua_audit.proofs.Common.{Found, Whole, Slot, CallTable, last_of, rule_of, ProcessState, may_any, verdict_of, is_allowed, Call, Judge}
 use Rattle.pua_audit.proofs.Common.{WordEnd, Below, judge_of, state_of, Base, JudgeState, links_of, found_of, leads_to, allowed_kept}
 use Rattle.pua_audit.proofs.Common.{allowed_near, allowed_far}
 use Rattle.std.proofs.Common.{Result, Ok}
@@ -21,7 +21,7 @@ refused Yes errno = refl
 refused Enosys errno = refl
 refused Death errno = refl
 
-module _ (t : Tree) (table : CallTable) (base : Base) (h : History) (dir : ℕ) (letter : List ℕ) (used : ℕ) where
+module _ (t : Tree) (table : CallTable) (base : Base) (h : ProcessState) (dir : ℕ) (letter : List ℕ) (used : ℕ) where
   abbrev w : Judge
   w = judge_of t table base h
 

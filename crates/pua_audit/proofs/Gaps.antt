@@ -1,7 +1,7 @@
 -- A row of a table of steps while it goes over the letters that its directory tells apart.
 use Rattle.pua_audit.proofs.Common.{ℕ, zero, suc, ◌+◌, ◌<◌, ◌≤◌, ◌^◌, ◌≡◌, ◌≢◌, List, [], None, refl, ap, arith, add-one, length, get_or}
 use Rattle.pua_audit.proofs.Common.{subst, inl, inr, cases_eq, cases_lt, IsTrue, is_dir, has, Call, allowed_within, IsMissing, Judge}
-use Rattle.pua_audit.proofs.Common.{plain_history, judge_in, IsJudgedRow, IsApart, LetterSpot, Terms, IsLetter, call_count, Entry}
+use Rattle.pua_audit.proofs.Common.{judge_in, IsJudgedRow, IsApart, LetterSpot, Terms, IsLetter, call_count, Entry}
 use Rattle.std.specs.List.Sorted.{IsStrictlyIncreasing}
 use Rattle.pua_audit.specs.Spots.{AreLettersIn, AreLetterSpots}
 use Rattle.pua_audit.proofs.Bare.{bare_told}
@@ -54,11 +54,11 @@ module _ (w : Judge) (letters : List (List ℕ)) (dir missing : ℕ) where
 -- letters that a directory does not tell apart
 pub letters_bare : (a : Terms) (dir missing : ℕ) (dots : List ℕ) (spots : List LetterSpot) (ns : List ℕ) →
     IsTrue (is_dir a.seen.tree dir) →
-    ((call : Call) → has missing call ≡ allowed_within a.seen.tree a.table (plain_history a.process) dir IsMissing call)
-    → AreLetterSpots a.seen.tree (plain_history a.process) a.letters dots spots → AreLettersIn dir dots spots ns
+    ((call : Call) → has missing call ≡ allowed_within a.seen.tree a.table a.process dir IsMissing call)
+    → AreLetterSpots a.seen.tree a.process a.letters dots spots → AreLettersIn dir dots spots ns
     → (i : ℕ) → i < length a.letters → IsApart i ns → IsLetter (judge_in a) dir (get_or a.letters i []) missing missing 0 None
 letters_bare a dir missing dots spots ns living told are among i low apart =
-    bare_told a.seen.tree a.table a.base (plain_history a.process) dir (get_or a.letters i []) a.tree living missing told
+    bare_told a.seen.tree a.table a.base a.process dir (get_or a.letters i []) a.tree living missing told
     (record {
       name = are.named i low (among.dotted i apart);
       none = are.none dir i low (among.spotted i apart);

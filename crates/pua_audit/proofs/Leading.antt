@@ -2,7 +2,7 @@
 use Rattle.pua_audit.proofs.Common.{ℕ, zero, suc, ◌≡◌, List, [], ◌∷◌, ◌++◌, Option, Some, None, Bool, true, false, cond, refl, ap, arith}
 use Rattle.pua_audit.proofs.Common.{sym, ◌∙◌, map, length, get_or, option_map, flat_map, option_to_list, IfSome, range_with_len}
 use Rattle.pua_audit.proofs.Common.{cons_option, calls, bit_of, Call, Judge, WordEnd, Start, Below, has_call, calls_of, call_count, State, Visit}
-use Rattle.pua_audit.proofs.Common.{named_in, IsRight, HasJudgedVisits, IsKnown, StandsForJudge}
+use Rattle.pua_audit.proofs.Common.{named_in, IsRight, HasJudgedVisits, IsKnown, AnswersAsJudge}
 use Rattle.std.proofs.Common.{filter}
 use Rattle.pua_audit.specs.Judge as named
 use Rattle.pua_steps.specs.Reached.{states_after, states_behind}
@@ -66,7 +66,7 @@ module _ (w : Judge) (letters : List (List ℕ)) (names : List ℕ) (g : State �
 
 -- the states to which words of so many letters lead are those of the judge, in the same order
 pub graphs_lead : (w : Judge) (letters : List (List ℕ)) (names : List ℕ) (g : State → List Visit) (set : ℕ) (base : Option State) (n : ℕ) →
-    StandsForJudge w letters names g set base (IsKnown names)
+    AnswersAsJudge w letters names g set base (IsKnown names)
     → map (named_in names) (states_after g n base) ≡ reached_from w letters n Start
 graphs_lead w letters names g set base n is = ap (map (named_in names)) (reached_led g n base) ∙
     named_led w letters names g is.states n Start base is.base is.begins

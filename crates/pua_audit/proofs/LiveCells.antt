@@ -2,7 +2,7 @@
 use Rattle.pua_audit.proofs.Common.{ℕ, suc, ◌-◌, ◌<◌, ◌≤◌, ◌≡◌, List, [], ◌∷◌, Option, Some, Bool, true, ◌||◌, ◌&&◌}
 use Rattle.pua_audit.proofs.Common.{◌==◌, nat_lt, nat_le, refl, ap, arith, sym, ◌∙◌, map, length, get_or, inl, inr}
 use Rattle.pua_audit.proofs.Common.{AllByRecursion, cases_eq, and_parts, eq-eqb, ne_eqb, le-leb, Pair, Judge, Start}
-use Rattle.pua_audit.proofs.Common.{Stage, named_in, AreApart, IsKnown, StandsForJudge, pair_in_numbers, pair_in_letters, State, Visit}
+use Rattle.pua_audit.proofs.Common.{Stage, named_in, AreApart, IsKnown, AnswersAsJudge, pair_in_numbers, pair_in_letters, State, Visit}
 use Rattle.std.proofs.Common.{ltb-true}
 use Rattle.std.proofs.lemmas.Bool.{leb-true, lt-ltb}
 use Rattle.pua_audit.specs.Judge as named
@@ -49,7 +49,7 @@ module _ (names : List ℕ) where
     among_named s (x ∷ xs) low all = (λ i. (one_dir s.dir x.dir low all.0.dir i && (s.used == x.used)) || among_named s xs low all.1 i)
 
 module _ (w : Judge) (letters : List (List ℕ)) (names : List ℕ) (g : State →
-    List Visit) (set : ℕ) (base : Option State) (stands : StandsForJudge w letters names g set base (IsKnown names)) where
+    List Visit) (set : ℕ) (base : Option State) (stands : AnswersAsJudge w letters names g set base (IsKnown names)) where
   -- all states to which words lead are of the graph
   reached : (n : ℕ) → AllByRecursion (IsKnown names) (steps.states_after g n base)
   reached n = all_reached g (IsKnown names) (λ s is. (stands.states s is).closed) n base stands.begins

@@ -2,7 +2,7 @@
 use Rattle.pua_audit.proofs.Common.{ℕ, ◌-◌, ◌≡◌, List, [], ◌∷◌, Option, None, refl, ap, sym, ◌∙◌, map, length, option_map, flat_map}
 use Rattle.pua_audit.proofs.Common.{filter_map, IsTrue, result_ok, Tree, is_dir, ◌>>=◌, part_of, steps, Errno, Word, Pair, Scope}
 use Rattle.pua_audit.proofs.Common.{Start, Below, base_dir, judge_for, reach_along, state_of, IsAudited, Stage, shorter, stage_after}
-use Rattle.pua_audit.proofs.Common.{live_states, passed_states, same_stage, unique_keys, IsKnown, StandsForJudge, AreApart, live_count, State, Visit}
+use Rattle.pua_audit.proofs.Common.{live_states, passed_states, same_stage, unique_keys, IsKnown, AnswersAsJudge, AreApart, live_count, State, Visit}
 use Rattle.std.proofs.Common.{Result, Ok, Err, arith}
 use Rattle.pua_path.specs.Resolution.{step}
 use Rattle.pua_steps.specs.Reached.{is_live}
@@ -38,14 +38,14 @@ module _ (s : Scope) where
       by (Err errno) = refl
 
   start_by_steps : (word : Word) → along.leads (judge_for s) Start word ≡ state_of (steps t (map part_of word) (
-    base_dir s.base s.history,
+    base_dir s.base s.process,
     0,
   ))
   start_by_steps [] = refl
-  start_by_steps (a ∷ word) = leads_by_steps (record { dir = base_dir s.base s.history; used = 0 }) a word
+  start_by_steps (a ∷ word) = leads_by_steps (record { dir = base_dir s.base s.process; used = 0 }) a word
 
   stage_alike : (word : Word) → stage_after s word ≡ along.stage_after (judge_for s) s.limit Start word
-  stage_alike word = by (steps t (map part_of word) (base_dir s.base s.history, 0)) ∙
+  stage_alike word = by (steps t (map part_of word) (base_dir s.base s.process, 0)) ∙
       ap (option_map (along.staged (s.limit - length word))) (sym (start_by_steps word))
     where
       by : (r : Result (ℕ × ℕ) Errno) →
@@ -54,7 +54,7 @@ module _ (s : Scope) where
       by (Ok at) = refl
       by (Err errno) = refl
 
-  passed_along : IsAudited s → IsTrue (is_dir s.tree (base_dir s.base s.history)) →
+  passed_along : IsAudited s → IsTrue (is_dir s.tree (base_dir s.base s.process)) →
       passed_states s ≡ along.stages_of (judge_for s) s.limit Start (reach_along (judge_for s) s.alphabet s.limit)
   passed_along is lives =
       ap (λ ps. filter_map (stage_after s) (flat_map (λ (p : Pair). shorter p.0) ps)) (reaches_along s is lives)
@@ -62,8 +62,8 @@ module _ (s : Scope) where
       (λ i word. stage_alike word i)
 
   module _ (names : List ℕ) (g : State → List Visit) (set : ℕ) (base : Option State) (is : IsAudited s)
-      (lives : IsTrue (is_dir s.tree (base_dir s.base s.history)))
-      (stands : StandsForJudge (judge_for s) s.alphabet names g set base (IsKnown names)) where
+      (lives : IsTrue (is_dir s.tree (base_dir s.base s.process)))
+      (stands : AnswersAsJudge (judge_for s) s.alphabet names g set base (IsKnown names)) where
     told_live : (y : Stage) → is_staged y (passed_states s) ≡ told (judge_for s) s.alphabet names g set base stands s.limit y
     told_live y = ap (is_staged y) (passed_along is lives) ∙ stages_live (judge_for s) s.alphabet s.limit y
 

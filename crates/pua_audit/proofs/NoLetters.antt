@@ -2,7 +2,7 @@
 use Rattle.pua_audit.proofs.Common.{ℕ, zero, ◌≡◌, List, [], ◌∷◌, ◌++◌, None, Bool, true, false, cond, refl, ap, sym, subst, arith, ◌∙◌}
 use Rattle.pua_audit.proofs.Common.{map, length, flat_map, filter, filter_map, bit_of, calls, Call, has_call, Judge, Start, Pair, Scope}
 use Rattle.pua_audit.proofs.Common.{allowed_at, calls_of, pairs, reach_along, is_reached, shorter, same_stage, unique_keys, stage_after}
-use Rattle.pua_audit.proofs.Common.{live_states, IsKnown, StandsForJudge, pair_in_numbers, pair_in_letters, State, Visit}
+use Rattle.pua_audit.proofs.Common.{live_states, IsKnown, AnswersAsJudge, pair_in_numbers, pair_in_letters, State, Visit}
 use Rattle.pua_audit.proofs.Leading.{masks_list}
 use Rattle.pua_audit.proofs.Refined.{graphs_reach}
 use Rattle.pua_steps.specs.Graph as graph
@@ -20,7 +20,7 @@ module _ (w : Judge) (letters : List (List ℕ)) (set : ℕ) (own : (call : Call
   unfolding allowed_at stopped
   listed = masks_list (w.own Start) set own
 
-  stands : StandsForJudge stopped letters [] no_visits set None (IsKnown [])
+  stands : AnswersAsJudge stopped letters [] no_visits set None (IsKnown [])
   unfolding stopped
   stands = record { calls = listed; base = refl; begins = tt; states = λ s is. absurd (omega (arith, is.dir)) }
 

@@ -1,7 +1,7 @@
 -- A reach asks a tree for its rows and nodes alone.
 use Rattle.pua_audit.proofs.Common.{◌≡◌, ℕ, zero, suc, List, [], ◌∷◌, ◌++◌, map, length, Bool, not, ◌&&◌, cond, refl, ap, ◌∙◌, Result, Ok}
-use Rattle.pua_audit.proofs.Common.{Err, filter, list_any, ◌>>=◌, Tree, is_dir, above, is_absolute, Errno, Ending, Part, Last, Found, Whole}
-use Rattle.pua_audit.proofs.Common.{Slot, CallTable, rule_of, last_of, History, perms_kept, may_any, IsMissing, cover, verdict_of}
+use Rattle.pua_audit.proofs.Common.{Err, filter, ◌>>=◌, Tree, is_dir, above, is_absolute, Errno, Ending, Part, Last, Found, Whole}
+use Rattle.pua_audit.proofs.Common.{Slot, CallTable, rule_of, last_of, ProcessState, perms_kept, may_any, IsMissing, cover, verdict_of}
 use Rattle.pua_audit.proofs.Common.{is_allowed, Call, Rmdir, Scope, is_reached, pairs, reach, path_of}
 use Rattle.std.specs.Prelude.{Option, Some, None}
 use Rattle.pua_tree.specs.Tree.{look, climb_within}
@@ -14,9 +14,9 @@ use Rattle.pua_path.specs.declared.found.Part.TheVariants as parts
 use Rattle.pua_path.specs.declared.found.Way.{Way}
 use Rattle.pua_path.specs.declared.found.Way.TheVariants as way
 use Rattle.pua_calls.specs.Calls.{ending_of}
-use Rattle.pua_policy.specs.History.{working_dir}
+use Rattle.pua_policy.specs.States.{has_veil, working_dir}
 use Rattle.pua_policy.specs.Verdict.{Object, IsDir, IsFile, IsProg, IsLink, object_fault, object_of, cover_fault}
-use Rattle.pua_policy.specs.Verdict.{or_fault, nearest, is_unveil, place_of, directories_over, allowed_unless, if_promised}
+use Rattle.pua_policy.specs.Verdict.{or_fault, nearest, place_of, directories_over, allowed_unless, if_promised}
 use Rattle.pua_policy.specs.Verdict.{verdict_on, object_named}
 use Rattle.pua_policy.specs.declared.answer.Cover.TheVariants.{All}
 use Rattle.pua_policy.specs.declared.place.Place.TheVariants.{Dir}
@@ -98,8 +98,8 @@ module _ (t : Tree) (n : ℕ) where
   same_over (Whole dir w) = ap (climb_within (length t.nodes) v) (same_above dir) ∙ same_climb (length t.nodes) (above t dir)
   same_over (Slot dir name y) = same_climb (length t.nodes) dir
 
-  same_cover : (h : History) (x : Found) → cover v h x ≡ cover t h x
-  same_cover h x = ap (λ dirs. cond (list_any is_unveil h) (nearest (perms_kept h (place_of x) ∷ map (λ dir. perms_kept h (Dir dir)) dirs))
+  same_cover : (h : ProcessState) (x : Found) → cover v h x ≡ cover t h x
+  same_cover h x = ap (λ dirs. cond (has_veil h.veils) (nearest (perms_kept h (place_of x) ∷ map (λ dir. perms_kept h (Dir dir)) dirs))
       All) (same_over x)
 
   same_object : (x : Found) → object_of v x ≡ object_of t x
@@ -122,14 +122,14 @@ module _ (t : Tree) (n : ℕ) where
   same_fault Rmdir IsMissing = refl
   same_fault _ IsMissing = refl
 
-  same_verdict : (table : CallTable) (h : History) (c : Call) (r : Result Found Errno) → verdict_of v table h c r ≡ verdict_of t table h c r
+  same_verdict : (table : CallTable) (h : ProcessState) (c : Call) (r : Result Found Errno) → verdict_of v table h c r ≡ verdict_of t table h c r
   same_verdict table h c (Ok x) =
       λ i. if_promised (may_any h (rule_of table c).alternatives)
       (allowed_unless (or_fault (cover_fault (same_cover h x i) (rule_of table c).perms) ((ap (object_fault v c) (same_object x) ∙
       same_fault c (object_of t x)) i)))
   same_verdict table h c (Err errno) = refl
 
-  pub same_on : (table : CallTable) (h : History) (c : Call) (text : List ℕ) → verdict_on v table h c text ≡ verdict_on t table h c text
+  pub same_on : (table : CallTable) (h : ProcessState) (c : Call) (text : List ℕ) → verdict_on v table h c text ≡ verdict_on t table h c text
   same_on table h c text =
       ap (verdict_of v table h c) (same_named (working_dir h) (ending_of c) text (last_of c)) ∙
       same_verdict table h c (object_named t h c text)
@@ -142,7 +142,7 @@ module _ {A : Type 0} (p q : A → Bool) (alike : (x : A) → p x ≡ q x) where
 renumbered : (s : Scope) (n : ℕ) → reach (record s { tree = record s.tree { next = n } }) ≡ reach s
 renumbered s n =
     same_filter (is_reached (record s { tree = record s.tree { next = n } })) (is_reached s)
-    (λ pair. ap is_allowed (same_on s.tree n s.table s.history pair.1 (path_of s.base pair.0))) (pairs s.alphabet s.limit)
+    (λ pair. ap is_allowed (same_on s.tree n s.table s.process pair.1 (path_of s.base pair.0))) (pairs s.alphabet s.limit)
 
 pub reach_needs_rows : ReachNeedsRows
 reach_needs_rows s u rows nodes =

@@ -13,7 +13,7 @@ use Rattle.std.proofs.Math.Seq.{take-suc}
 use Rattle.std.specs.List.{AllWithin}
 use Rattle.pua_tree.specs.Tree.{spot_cmp}
 use Rattle.pua_tree.proofs.ForCallers.{exact_spots}
-use Rattle.pua_policy.specs.History.{same_place}
+use Rattle.pua_policy.specs.States.{same_place}
 use Rattle.pua_policy.proofs.ForCallers.{same_place_is}
 use Rattle.pua_audit.proofs.Lists.{all_before, all_after}
 use Rattle.pua_audit.proofs.AfterPair.{letters_alike}

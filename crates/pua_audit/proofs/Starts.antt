@@ -1,5 +1,5 @@
 -- What is ahead of a walk that begins.
-use Rattle.pua_audit.proofs.Common.{◌≡◌, [], true, false, not, sym, ap, IsTrue, is_lt, is_dir, is_ended, and_parts, plain_history, Pair}
+use Rattle.pua_audit.proofs.Common.{◌≡◌, [], true, false, not, sym, ap, IsTrue, is_lt, is_dir, is_ended, and_parts, Pair}
 use Rattle.pua_audit.proofs.Common.{pair_cmp, reach, rest_after, base_dir, reach_along, IsAudited, scope_in, judge_in, Terms}
 use Rattle.std.proofs.Common.{filter}
 use Rattle.std.specs.Prelude.{Option, Some, None}
@@ -15,8 +15,8 @@ module _ (a : Terms) where
   nothing_after closed None = closed_reaches (scope_in a) audited closed
   nothing_after closed (Some pair) = ap (filter (λ other. is_lt (pair_cmp pair other))) (closed_reaches (scope_in a) audited closed)
 
-  pub lives : is_open (scope_in a) ≡ true → IsTrue (is_dir a.seen.tree (base_dir a.base (plain_history a.process)))
-  lives opened = (and_parts (not (is_ended (plain_history a.process))) (is_dir a.seen.tree (base_dir a.base (plain_history a.process)))
+  pub lives : is_open (scope_in a) ≡ true → IsTrue (is_dir a.seen.tree (base_dir a.base a.process))
+  lives opened = (and_parts (not (is_ended a.process)) (is_dir a.seen.tree (base_dir a.base a.process))
       opened).1
 
   pub all_along : is_open (scope_in a) ≡ true → reach_along (judge_in a) a.letters a.limit ≡ reach (scope_in a)

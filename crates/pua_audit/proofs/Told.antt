@@ -1,7 +1,7 @@
 -- A letter by its sets of calls.
 use Rattle.pua_audit.proofs.Common.{ℕ, zero, suc, ◌+◌, ◌<◌, ◌^◌, ◌≡◌, List, Bool, true, false, not, ◌&&◌, ◌||◌, ◌==◌, nat_le, cond, refl}
 use Rattle.pua_audit.proofs.Common.{ap, arith, sym, ◌∙◌, Result, Ok, Err, Tree, most_links, part_of, follow, last, Errno, Found, Last}
-use Rattle.pua_audit.proofs.Common.{Followed, Kept, Part, CallTable, bit_of, has, keeps_link, History, Call, Stat, judge_of}
+use Rattle.pua_audit.proofs.Common.{Followed, Kept, Part, CallTable, bit_of, has, keeps_link, ProcessState, Call, Stat, judge_of}
 use Rattle.pua_audit.proofs.Common.{call_count, calls, get_or, links_of, found_of, leads_to, allowed_near, allowed_far, IsLetter, Base}
 use Rattle.std.specs.Int.{bit_at}
 use Rattle.std.specs.Prelude.{is_ok}
@@ -12,7 +12,7 @@ use Rattle.pua_audit.proofs.Fresh.{entries_stand}
 use Rattle.pua_calls.proofs.ForCallers.{bit_of_call_at, has_none}
 
 -- a letter that is followed once, by the sets of its calls
-pub letter_told : (t : Tree) (table : CallTable) (base : Base) (h : History) (dir : ℕ) (letter : List ℕ) (all kept : ℕ)
+pub letter_told : (t : Tree) (table : CallTable) (base : Base) (h : ProcessState) (dir : ℕ) (letter : List ℕ) (all kept : ℕ)
     → ((call : Call) → has all call ≡ allowed_near t table h dir letter (follow t dir (part_of letter)) call) →
     ((call : Call) → has kept call ≡ allowed_far t table h dir letter call)
     → IsLetter (judge_of t table base h) dir letter all kept (links_of (follow t dir (part_of letter)))

@@ -9,7 +9,7 @@ use Rattle.pua_tree.specs.Spelling.{spelling, name_of}
 use Rattle.pua_tree.specs.Steps.{◌>>=◌}
 use Rattle.pua_tree.specs.Listing.{only_if}
 use Rattle.pua_calls.specs.Calls.{CallTable, call_in}
-use Rattle.pua_policy.specs.History.{History}
+use Rattle.pua_policy.specs.States.{ProcessState}
 use Rattle.pua_audit.specs.Limits.{most_letters, most_candidates, most_path}
 use Rattle.pua_audit.specs.Reach.{Word, Pair, Scope, alphabet_of, rest_after}
 use Rattle.pua_audit.specs.declared.base.Base.{Base}
@@ -73,15 +73,15 @@ abbrev pub fault_unless : Bool → AuditFault → Result (Unit {0}) AuditFault
 fault_unless test fault = if test then Ok tt else Err fault
 
 -- the limit, the number of candidates, each candidate, the length of paths, and the resume text
-abbrev pub beginning : Tree → CallTable → History → Base → List (List ℕ) → ℕ → Option (List ℕ) → Result Beginning AuditFault
+abbrev pub beginning : Tree → CallTable → ProcessState → Base → List (List ℕ) → ℕ → Option (List ℕ) → Result Beginning AuditFault
 beginning t table h base texts limit after = do
   _ ← fault_unless (nat_le limit most_letters) LimitTooLarge
   _ ← fault_unless (nat_le (length texts) most_candidates) TooManyNames
   candidates ← candidates_from 1 texts
   _ ← fault_unless (nat_le (limit * suc (longest (alphabet_of t candidates))) most_path) TooLong
-  pair ← resume_in (record { tree = t; table = table; history = h; base = base; alphabet = alphabet_of t candidates; limit = limit }) after
+  pair ← resume_in (record { tree = t; table = table; process = h; base = base; alphabet = alphabet_of t candidates; limit = limit }) after
   Ok (record {
-    scope = record { tree = t; table = table; history = h; base = base; alphabet = alphabet_of t candidates; limit = limit };
+    scope = record { tree = t; table = table; process = h; base = base; alphabet = alphabet_of t candidates; limit = limit };
     after = pair;
   })
 

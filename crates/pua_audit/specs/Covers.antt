@@ -2,7 +2,7 @@
 use Rattle.std.specs.Prelude.{◌≡◌, ℕ, List, map}
 use Rattle.pua_tree.specs.Tree.{Tree}
 use Rattle.pua_policy.specs.Descent.{cover_in}
-use Rattle.pua_policy.specs.History.{History}
+use Rattle.pua_policy.specs.States.{ProcessState}
 use Rattle.pua_policy.specs.declared.answer.Cover.{Cover}
 
 -- the directories by their numbers, and a cover for each
@@ -11,5 +11,5 @@ pub record DirectoriesState : Type 0 where
   pub covers : List Cover
 
 -- each cover is that of the names in its directory
-abbrev pub AreCovered : Tree → History → DirectoriesState → Type 0
+abbrev pub AreCovered : Tree → ProcessState → DirectoriesState → Type 0
 AreCovered t h dirs = dirs.covers ≡ map (cover_in t h) dirs.numbers

@@ -7,7 +7,7 @@ use Rattle.pua_calls.specs.Promises.{cpath, dpath, fattr, unix, reading, writing
 use Rattle.pua_calls.specs.Calls.{CallTable, standard_table, openbsd_table, call_name}
 use Rattle.pua_calls.specs.TableTexts.{with_rule}
 use Rattle.pua_calls.specs.declared.call.Call.TheVariants.{Stat}
-use Rattle.pua_policy.specs.History.{History, Pledged, Unveiled, Locked, Moved, Ended, new_history}
+use Rattle.pua_policy.specs.States.{ProcessState, state_after, Pledged, Unveiled, Locked, Moved, Ended, new_process}
 use Rattle.pua_audit.specs.Reach.{Pair, printed_path}
 use Rattle.pua_audit.specs.Begin.{Beginning, beginning, still_to_come}
 use Rattle.pua_audit.specs.Live.{live_states}
@@ -26,11 +26,11 @@ printed_beginning base (Ok b) = map (printed_pair base) (still_to_come b)
 printed_beginning base (Err fault) = []
 
 -- the lines of an audit
-abbrev pub lines_from : Base → Tree → History → List (List ℕ) → ℕ → Option (List ℕ) → List (List ℕ)
+abbrev pub lines_from : Base → Tree → ProcessState → List (List ℕ) → ℕ → Option (List ℕ) → List (List ℕ)
 lines_from base t h candidates limit after = printed_beginning base (beginning t standard_table h base candidates limit after)
 
 -- the lines of an audit from the root
-abbrev pub lines_from_root : Tree → History → List (List ℕ) → ℕ → Option (List ℕ) → List (List ℕ)
+abbrev pub lines_from_root : Tree → ProcessState → List (List ℕ) → ℕ → Option (List ℕ) → List (List ℕ)
 lines_from_root t h candidates limit after = lines_from Root t h candidates limit after
 
 -- the number of live states of that audit
@@ -38,21 +38,21 @@ abbrev pub live_in : Result Beginning AuditFault → ℕ
 live_in (Ok b) = length (live_states b.scope)
 live_in (Err fault) = 0
 
-abbrev pub live_from_root : Tree → History → List (List ℕ) → ℕ → ℕ
+abbrev pub live_from_root : Tree → ProcessState → List (List ℕ) → ℕ → ℕ
 live_from_root t h candidates limit = live_in (beginning t standard_table h Root candidates limit None)
 
-abbrev pub one_promise : History
-one_promise = Pledged (Some cpath) None ∷ new_history
+abbrev pub one_promise : ProcessState
+one_promise = state_after (Pledged (Some cpath) None) new_process
 
-abbrev pub two_promises : History
-two_promises = Pledged (Some (unix + dpath)) None ∷ new_history
+abbrev pub two_promises : ProcessState
+two_promises = state_after (Pledged (Some (unix + dpath)) None) new_process
 
-abbrev pub one_veil : History
-one_veil = Locked ∷ Unveiled (Slot 1 (codes "passwd")) reading ∷ new_history
+abbrev pub one_veil : ProcessState
+one_veil = state_after Locked (state_after (Unveiled (Slot 1 (codes "passwd")) reading) new_process)
 
 -- one chmod for each path to a file
-abbrev pub one_written_file : History
-one_written_file = Pledged (Some fattr) None ∷ Unveiled (Slot 0 (codes "f")) writing ∷ new_history
+abbrev pub one_written_file : ProcessState
+one_written_file = state_after (Pledged (Some fattr) None) (state_after (Unveiled (Slot 0 (codes "f")) writing) new_process)
 
 -- a link to its own directory, and one that goes through it 31 times, so that it follows 32 links
 abbrev pub tree_of_32_links : Tree
@@ -82,9 +82,9 @@ abbrev pub free_stat : CallTable
 free_stat = with_rule standard_table Stat (record { alternatives = 0 ∷ []; perms = 0 })
 
 pub record ReachRows : Type 0 where
-  pub root : lines_from_root empty_tree new_history [] 0 None ≡ codes "/ stat" ∷ codes "/ lstat" ∷ codes "/ open-r" ∷ codes "/ chmod"
+  pub root : lines_from_root empty_tree new_process [] 0 None ≡ codes "/ stat" ∷ codes "/ lstat" ∷ codes "/ open-r" ∷ codes "/ chmod"
       ∷ codes "/ chdir" ∷ []
-  pub above_root : lines_from_root empty_tree new_history [] 1 None ≡ codes "/ stat" ∷ codes "/ lstat" ∷ codes "/ open-r" ∷ codes "/ chmod"
+  pub above_root : lines_from_root empty_tree new_process [] 1 None ≡ codes "/ stat" ∷ codes "/ lstat" ∷ codes "/ open-r" ∷ codes "/ chmod"
       ∷ codes "/ chdir" ∷ codes "/.. stat" ∷ codes "/.. lstat" ∷ codes "/.. open-r" ∷ codes "/.. chmod" ∷ codes "/.. chdir" ∷ []
   pub missing_name : lines_from_root empty_tree one_promise (codes "a" ∷ []) 2 None ≡ codes "/../a mkdir" ∷ codes "/../a symlink"
       ∷ codes "/a mkdir" ∷ codes "/a symlink" ∷ []
@@ -97,17 +97,17 @@ pub record ReachRows : Type 0 where
       ∷ codes "/\\040 symlink" ∷ codes "/A mkdir" ∷ codes "/A symlink" ∷ []
   pub one_file : lines_from_root example_tree one_veil [] 2 None ≡ codes "/etc/passwd stat" ∷ codes "/etc/passwd lstat"
       ∷ codes "/etc/passwd open-r" ∷ []
-  pub from_working_directory : lines_from Cwd example_tree (Moved 1 ∷ one_veil) [] 1 None ≡ codes "passwd stat" ∷ codes "passwd lstat"
+  pub from_working_directory : lines_from Cwd example_tree (state_after (Moved 1) one_veil) [] 1 None ≡ codes "passwd stat" ∷ codes "passwd lstat"
       ∷ codes "passwd open-r" ∷ []
-  pub ended_process : lines_from Root empty_tree (Ended ∷ new_history) [] 1 None ≡ []
-  pub bad_candidate : beginning empty_tree standard_table new_history Root (codes "a" ∷ codes "a/b" ∷ []) 1 None ≡ Err (BadCandidate 2)
-  pub resume_beyond_limit : beginning empty_tree standard_table new_history Root (codes "a" ∷ []) 1 (Some (codes "stat:/a/a"))
+  pub ended_process : lines_from Root empty_tree (state_after Ended new_process) [] 1 None ≡ []
+  pub bad_candidate : beginning empty_tree standard_table new_process Root (codes "a" ∷ codes "a/b" ∷ []) 1 None ≡ Err (BadCandidate 2)
+  pub resume_beyond_limit : beginning empty_tree standard_table new_process Root (codes "a" ∷ []) 1 (Some (codes "stat:/a/a"))
       ≡ Err BadResume
-  pub resumed_within_a_path : lines_from_root empty_tree new_history [] 0 (Some (codes "lstat:/")) ≡ codes "/ open-r" ∷ codes "/ chmod"
+  pub resumed_within_a_path : lines_from_root empty_tree new_process [] 0 (Some (codes "lstat:/")) ≡ codes "/ open-r" ∷ codes "/ chmod"
       ∷ codes "/ chdir" ∷ []
-  pub limit_of_16 : beginning empty_tree standard_table new_history Root [] 16 (Some (codes "stat:")) ≡ Err BadResume
-  pub limit_of_17 : beginning empty_tree standard_table new_history Root [] 17 (Some (codes "stat:")) ≡ Err LimitTooLarge
-  pub by_another_table : printed_beginning Root (beginning empty_tree free_stat (Pledged (Some 0) None ∷ new_history) Root [] 0 None)
+  pub limit_of_16 : beginning empty_tree standard_table new_process Root [] 16 (Some (codes "stat:")) ≡ Err BadResume
+  pub limit_of_17 : beginning empty_tree standard_table new_process Root [] 17 (Some (codes "stat:")) ≡ Err LimitTooLarge
+  pub by_another_table : printed_beginning Root (beginning empty_tree free_stat (state_after (Pledged (Some 0) None) new_process) Root [] 0 None)
       ≡ codes "/ stat" ∷ []
   -- a text names a call of the table alone
   pub further_calls : printed_beginning Root (beginning empty_tree openbsd_table two_promises Root (codes "a" ∷ []) 1 None)
@@ -115,21 +115,20 @@ pub record ReachRows : Type 0 where
   pub resumed_after_bind : printed_beginning Root (beginning empty_tree openbsd_table two_promises Root (codes "a" ∷ []) 1
       (Some (codes "bind:/a"))) ≡ codes "/a mknod" ∷ []
   pub no_such_call : beginning empty_tree standard_table two_promises Root (codes "a" ∷ []) 1 (Some (codes "bind:/a")) ≡ Err BadResume
-  pub through_a_link : lines_from_root tree_of_two_paths (Unveiled (Slot 1 (codes "f")) reading ∷ new_history) [] 2 None ≡
+  pub through_a_link : lines_from_root tree_of_two_paths (state_after (Unveiled (Slot 1 (codes "f")) reading) new_process) [] 2 None ≡
       codes "/d/f stat" ∷ codes "/d/f lstat" ∷ codes "/d/f open-r" ∷ codes "/l/f stat" ∷ codes "/l/f lstat" ∷ codes "/l/f open-r" ∷ []
   -- what leads to the file after at most 32 links: /k/l/f and /l/k/f follow 33
   pub after_32_links : lines_from_root tree_of_32_links one_written_file [] 3 None ≡
       codes "/../../f chmod" ∷ codes "/../f chmod" ∷ codes "/../k/f chmod" ∷ codes "/../l/f chmod" ∷ codes "/f chmod"
       ∷ codes "/k/../f chmod" ∷ codes "/k/f chmod" ∷ codes "/k/k/f chmod" ∷ codes "/l/../f chmod" ∷ codes "/l/f chmod" ∷ []
-  pub link_itself : lines_from_root example_tree (Unveiled (Slot 0 (codes "t")) reading ∷ new_history) [] 1 None ≡ codes "/t lstat"
+  pub link_itself : lines_from_root example_tree (state_after (Unveiled (Slot 0 (codes "t")) reading) new_process) [] 1 None ≡ codes "/t lstat"
       ∷ codes "/t readlink" ∷ []
-  pub where_a_link_leads : lines_from_root example_tree (Unveiled (Directory 3) reading ∷ new_history) [] 1 None ≡
+  pub where_a_link_leads : lines_from_root example_tree (state_after (Unveiled (Directory 3) reading) new_process) [] 1 None ≡
       codes "/t stat" ∷ codes "/t open-r" ∷ codes "/t chdir" ∷ codes "/tmp stat" ∷ codes "/tmp lstat" ∷ codes "/tmp open-r"
       ∷ codes "/tmp chdir" ∷ []
-  pub program : lines_from_root example_tree (Unveiled (Directory 3) executing ∷ new_history) [] 2 None ≡ codes "/t/sh exec"
+  pub program : lines_from_root example_tree (state_after (Unveiled (Directory 3) executing) new_process) [] 2 None ≡ codes "/t/sh exec"
       ∷ codes "/tmp/sh exec" ∷ []
-  pub veiled_missing_name : lines_from_root example_tree (Unveiled (Slot 1 (codes "a")) creating ∷ Unveiled (Directory 1) reading
-      ∷ new_history) (codes "a" ∷ []) 2 None ≡
+  pub veiled_missing_name : lines_from_root example_tree (state_after (Unveiled (Slot 1 (codes "a")) creating) (state_after (Unveiled (Directory 1) reading) new_process)) (codes "a" ∷ []) 2 None ≡
       codes "/../etc stat" ∷ codes "/../etc lstat" ∷ codes "/../etc open-r" ∷ codes "/../etc chdir"
       ∷ codes "/etc stat" ∷ codes "/etc lstat" ∷ codes "/etc open-r" ∷ codes "/etc chdir" ∷ codes "/etc/a mkdir" ∷ codes "/etc/a symlink"
       ∷ codes "/etc/passwd stat" ∷ codes "/etc/passwd lstat" ∷ codes "/etc/passwd open-r" ∷ codes "/t/up stat" ∷ codes "/t/up open-r"

@@ -56,7 +56,7 @@ pub record HasJudgedVisits (w : Judge) (letters : List (List ℕ)) (names : List
   pub closed : AllByRecursion (λ v. IfSome v.behind In) (g s)
 
 -- the graph stands for the judge: the calls of the empty word, the state of the first letter, and all states from there
-pub record StandsForJudge (w : Judge) (letters : List (List ℕ)) (names : List ℕ) (g : State →
+pub record AnswersAsJudge (w : Judge) (letters : List (List ℕ)) (names : List ℕ) (g : State →
     List Visit) (set : ℕ) (from : Option State) (In : State → Type 0) : Type 0 where
   pub calls : map bit_of (allowed_at w Start) ≡ calls_of set
   pub base : w.step Start ≡ option_map (named_in names) from
@@ -73,7 +73,7 @@ pair_in_letters letters p = (map (λ i. get_or letters i []) p.0, p.1)
 -- the pairs of the graph are those that the judge allows, in the same order
 abbrev pub GraphsReach : Type 0
 GraphsReach = (w : Judge) (letters : List (List ℕ)) (names : List ℕ) (g : State →
-    List Visit) (calls : ℕ) (base : Option State) (limit : ℕ) → StandsForJudge w letters names g calls base (IsKnown names)
+    List Visit) (calls : ℕ) (base : Option State) (limit : ℕ) → AnswersAsJudge w letters names g calls base (IsKnown names)
     → map pair_in_numbers (reach_along w letters limit) ≡ map (pair_in_letters letters) (graph.graph_reach (λ _. g) limit calls base)
 
 -- a set whose bits are a test of calls lists the calls that pass
@@ -87,7 +87,7 @@ AreApart names = (i j : ℕ) → i < length names → j < length names → get_o
 -- there are as many live states as a graph that stands for the judge has, and none where nothing can be reached
 pub record LiveStatesCount : Type 0 where
   pub counted : (s : Scope) (names : List ℕ) (g : State → List Visit) (set : ℕ) (base : Option State) → IsAudited s →
-      IsTrue (is_dir s.tree (base_dir s.base s.history)) → AreApart names
-      → StandsForJudge (judge_for s) s.alphabet names g set base (IsKnown names) →
+      IsTrue (is_dir s.tree (base_dir s.base s.process)) → AreApart names
+      → AnswersAsJudge (judge_for s) s.alphabet names g set base (IsKnown names) →
       length (live_states s) ≡ live_count (λ _. g) (length names) s.limit base s.limit
   pub none : (s : Scope) → IsAudited s → is_open s ≡ false → length (live_states s) ≡ 0

@@ -10,7 +10,7 @@ use Rattle.pua_path.specs.declared.found.Way.TheVariants.{Dot, Top}
 use Rattle.pua_path.specs.declared.found.Found.{Found}
 use Rattle.pua_path.specs.declared.found.Found.TheVariants.{Whole}
 use Rattle.pua_calls.specs.Calls.{CallTable, calls, last_of}
-use Rattle.pua_policy.specs.History.{History, working_dir, is_ended}
+use Rattle.pua_policy.specs.States.{ProcessState, working_dir, is_ended}
 use Rattle.pua_policy.specs.Verdict.{verdict_of, is_allowed}
 use Rattle.pua_calls.specs.declared.call.Call.{Call}
 use Rattle.pua_audit.specs.Reach.{Word, Pair, Scope, pairs}
@@ -37,7 +37,7 @@ unfoldable pub allowed_at : Judge → WordEnd → List Call
 allowed_at w x = filter (w.own x) calls
 
 -- the directory in which the first letter stands
-abbrev pub base_dir : Base → History → ℕ
+abbrev pub base_dir : Base → ProcessState → ℕ
 base_dir Root h = 0
 base_dir Cwd h = working_dir h
 
@@ -47,7 +47,7 @@ base_way Root = Top
 base_way Cwd = Dot
 
 -- what the path of a word names, by its last letter
-abbrev pub found_at_end : Tree → Base → History → WordEnd → Call → Result Found Errno
+abbrev pub found_at_end : Tree → Base → ProcessState → WordEnd → Call → Result Found Errno
 found_at_end t base h Start call = Ok (Whole (base_dir base h) (base_way base))
 found_at_end t base h (Below s letter) call = last t s.dir s.used (part_of letter) (last_of call)
 
@@ -55,18 +55,18 @@ abbrev pub state_of : Result (ℕ × ℕ) Errno → Option JudgeState
 state_of (Ok at) = Some (record { dir = at.0; used = at.1 })
 state_of (Err errno) = None
 
-abbrev pub state_behind : Tree → Base → History → WordEnd → Option JudgeState
+abbrev pub state_behind : Tree → Base → ProcessState → WordEnd → Option JudgeState
 state_behind t base h Start = Some (record { dir = base_dir base h; used = 0 })
 state_behind t base h (Below s letter) = state_of (step t s.dir s.used (part_of letter))
 
-abbrev pub judge_of : Tree → CallTable → Base → History → Judge
+abbrev pub judge_of : Tree → CallTable → Base → ProcessState → Judge
 judge_of t table base h = record {
   step = state_behind t base h;
   own = λ place call. is_allowed (verdict_of t table h call (found_at_end t base h place call));
 }
 
 abbrev pub judge_for : Scope → Judge
-judge_for s = judge_of s.tree s.table s.base s.history
+judge_for s = judge_of s.tree s.table s.base s.process
 
 abbrev pub if_some : Option JudgeState → (JudgeState → Bool) → Bool
 if_some None test = false
@@ -87,4 +87,4 @@ is_letter letter = is_name letter || same_bytes letter (codes "..")
 
 -- something may be allowed: the process lives, and so does the directory at the base
 abbrev pub is_open : Scope → Bool
-is_open s = not (is_ended s.history) && is_dir s.tree (base_dir s.base s.history)
+is_open s = not (is_ended s.process) && is_dir s.tree (base_dir s.base s.process)

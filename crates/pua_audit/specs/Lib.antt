@@ -17,7 +17,6 @@ pub mod Lent
 pub mod Live
 pub mod Bounds
 -- Notes: how an audit begins.
-pub mod Past
 pub mod Alphabets
 pub mod Starting
 -- Notes: its table of steps while it is made.

@@ -18,7 +18,7 @@ pub record Stage : Type 0 where
 abbrev pub stage_after : Scope → Word → Option Stage
 stage_after s word =
     option_map (λ (at : ℕ × ℕ). record { dir = at.0; links = at.1; left = s.limit - length word })
-    (result_ok (steps s.tree (map part_of word) (base_dir s.base s.history, 0)))
+    (result_ok (steps s.tree (map part_of word) (base_dir s.base s.process, 0)))
 
 -- the words that a word properly extends
 abbrev pub shorter : Word → List Word

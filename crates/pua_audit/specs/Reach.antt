@@ -6,7 +6,7 @@ use Rattle.std.specs.Cmp.Lexicographic.{slice_cmp}
 use Rattle.pua_tree.specs.Tree.{Tree, name_cmp, distinct_names}
 use Rattle.pua_tree.specs.Spelling.{spelling}
 use Rattle.pua_calls.specs.Calls.{CallTable, calls, call_number}
-use Rattle.pua_policy.specs.History.{History}
+use Rattle.pua_policy.specs.States.{ProcessState}
 use Rattle.pua_policy.specs.Verdict.{verdict_on, is_allowed}
 use Rattle.pua_calls.specs.declared.call.Call.{Call}
 use Rattle.pua_audit.specs.declared.base.Base.{Base}
@@ -19,11 +19,11 @@ Word = List (List ℕ)
 abbrev pub Pair : Type 0
 Pair = Word × Call
 
--- what is audited: a process by its history, over a tree, by paths from a base with at most so many letters of an alphabet
+-- what is audited: a process, over a tree, by paths from a base with at most so many letters of an alphabet
 pub record Scope : Type 0 where
   pub tree : Tree
   pub table : CallTable
-  pub history : History
+  pub process : ProcessState
   pub base : Base
   pub alphabet : List (List ℕ)
   pub limit : ℕ
@@ -61,7 +61,7 @@ abbrev pub pairs : List (List ℕ) → ℕ → List Pair
 pairs alphabet limit = flat_map (λ word. map (λ call. (word, call)) calls) (words alphabet limit)
 
 abbrev pub is_reached : Scope → Pair → Bool
-is_reached s pair = is_allowed (verdict_on s.tree s.table s.history pair.1 (path_of s.base pair.0))
+is_reached s pair = is_allowed (verdict_on s.tree s.table s.process pair.1 (path_of s.base pair.0))
 
 -- the pairs that are allowed
 abbrev pub reach : Scope → List Pair

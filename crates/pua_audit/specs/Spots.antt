@@ -5,7 +5,7 @@ use Rattle.std.specs.List.Sorted.{IsNonDecreasingBy, IsStrictlyIncreasing}
 use Rattle.pua_tree.specs.Tree.{Tree, Spot, look}
 use Rattle.pua_path.specs.Paths.{part_of}
 use Rattle.pua_path.specs.declared.found.Part.TheVariants as part
-use Rattle.pua_policy.specs.History.{History, perms_kept}
+use Rattle.pua_policy.specs.States.{ProcessState, perms_kept}
 use Rattle.pua_policy.specs.declared.place.Place.{Place}
 use Rattle.pua_policy.specs.declared.place.Place.TheVariants.{Slot}
 use Rattle.pua_audit.specs.declared.table.spots.LetterSpot.{LetterSpot}
@@ -31,7 +31,7 @@ abbrev pub IsApart : ℕ → List ℕ → Type 0
 IsApart n others = AllByRecursion (λ other. other ≢ n) others
 
 -- no veil is kept at a name in a directory
-abbrev pub AreUnveiled : History → ℕ → Type 0
+abbrev pub AreUnveiled : ProcessState → ℕ → Type 0
 AreUnveiled h dir = (name : List ℕ) → perms_kept h (Slot dir name) ≡ None
 
 -- a letter is a name
@@ -40,7 +40,7 @@ IsNamed letter = part_of letter ≡ part.Name letter
 
 -- letters that are no names, and spots of letters in the order of their directories: where a letter has none, nothing
 -- stands at its name, and no veil is kept at it
-pub record AreLetterSpots (t : Tree) (h : History) (letters : List (List ℕ)) (dots : List ℕ) (spots : List LetterSpot) : Type 0 where
+pub record AreLetterSpots (t : Tree) (h : ProcessState) (letters : List (List ℕ)) (dots : List ℕ) (spots : List LetterSpot) : Type 0 where
   pub dotted : AllByRecursion (λ letter. letter < length letters) dots
   pub within : AreAtLetters letters spots
   pub named : (letter : ℕ) → letter < length letters → IsApart letter dots → IsNamed (get_or letters letter [])

@@ -5,7 +5,7 @@ use Rattle.std.specs.List.{AllByRecursion}
 use Rattle.pua_tree.specs.Tree.{Tree, WellFormed}
 use Rattle.pua_tree.specs.Steps.{◌>>=◌}
 use Rattle.pua_calls.specs.Calls.{CallTable}
-use Rattle.pua_policy.specs.History.{History}
+use Rattle.pua_policy.specs.States.{ProcessState}
 use Rattle.pua_audit.specs.Reach.{Word, Pair, Scope}
 use Rattle.pua_audit.specs.Limits.{most_letters, most_path}
 use Rattle.pua_audit.specs.Begin.{Beginning, longest, resume_in, word_within}
@@ -36,16 +36,16 @@ pub record AreSound (limit : ℕ) (letters : List (List ℕ)) : Type 0 where
   pub short : limit * suc (longest letters) ≤ most_path
 
 -- what is audited by words of these letters
-abbrev pub scope_with : Tree → CallTable → History → Base → ℕ → List (List ℕ) → Scope
+abbrev pub scope_with : Tree → CallTable → ProcessState → Base → ℕ → List (List ℕ) → Scope
 scope_with t table h base limit letters =
-    record { tree = t; table = table; history = h; base = base; alphabet = letters; limit = limit }
+    record { tree = t; table = table; process = h; base = base; alphabet = letters; limit = limit }
 
 -- the beginning of an audit, by its resume text
 abbrev pub begun_in : Scope → Option (List ℕ) → Result Beginning AuditFault
 begun_in s after = resume_in s after >>= λ pair. Ok (record { scope = s; after = pair })
 
 -- the beginning that letters and a pair are
-abbrev pub beginning_with : Tree → CallTable → History → Base → ℕ → Checked → Beginning
+abbrev pub beginning_with : Tree → CallTable → ProcessState → Base → ℕ → Checked → Beginning
 beginning_with t table h base limit b =
     record {
       scope = scope_with t table h base limit b.letters;

@@ -7,7 +7,7 @@ ghost use Rattle.std.specs.Prelude.{length, map, option_map};
 ghost use Rattle.std.specs.Borrow.{sem};
 ghost use Rattle.std.specs.List.{list_all};
 ghost use Rattle.pua_tree.specs.Spelling.{is_plain};
-ghost use Rattle.pua_policy.specs.History.{History, StandsFor};
+ghost use Rattle.pua_policy.specs.States.{ProcessState};
 ghost use Rattle.pua_audit.specs.Limits.{most_path};
 ghost use Rattle.pua_steps.specs.Limits.{search_cost};
 ghost use Rattle.pua_audit.specs.Bounds.{begin_cost, letter_count};
@@ -61,8 +61,7 @@ impl Audit {
     /// `limit` letters, each a name of the tree's rows, `..` or a candidate; from its first line, or
     /// from the one after the pair that a text `CALL:PATH` names. What a call needs, the table says, and
     /// which calls there are.
-    /// The process and the table are copied, so what becomes of them later changes nothing. What is
-    /// to come is the same for each history that the process stands for.
+    /// The process and the table are copied, so what becomes of them later changes nothing.
     ///
     /// The errors come in the order of `AuditFault`'s page, but that `OutOfMemory` comes wherever a
     /// growth was refused. The resume text is judged also where nothing is allowed at all. No
@@ -81,22 +80,21 @@ impl Audit {
         limit: u8,
         after: Option<&[u8]>,
     ) -> Result<Audit, AuditFault>
-        ensures begun { IfOk result (λ audit. (h : History) → StandsFor process.now h →
-            (b : Beginning) ×
-            ((beginning (P.tree probe.old) table.now h base (map (λ s. s.now) candidates.now) limit
-            (option_map (λ s. s.now) after.entry) ≡ Ok b) × (audit.left ≡ still_to_come b) ×
-            (b.scope.base ≡ base))) }
+        ensures begun { IfOk result (λ audit. (b : Beginning) ×
+            ((beginning (P.tree probe.old) table.now process.now base
+            (map (λ s. s.now) candidates.now) limit (option_map (λ s. s.now) after.entry) ≡ Ok b) ×
+            (audit.left ≡ still_to_come b) × (b.scope.base ≡ base))) }
         ensures of { IfOk result (λ audit. (audit.tree ≡ P.tree probe.old) × (audit.base ≡ base)) }
-        ensures refused { IfErr result (λ fault. fault ≢ AuditFault.OutOfMemory → (h : History) →
-            beginning (P.tree probe.old) table.now h base (map (λ s. s.now) candidates.now) limit
+        ensures refused { IfErr result (λ fault. fault ≢ AuditFault.OutOfMemory →
+            (h : ProcessState) → beginning (P.tree probe.old) table.now h base
+            (map (λ s. s.now) candidates.now) limit
             (option_map (λ s. s.now) after.entry) ≡ Err fault) }
-        ensures letters { IfOk result (λ audit. (h : History) (b : Beginning) →
+        ensures letters { IfOk result (λ audit. (h : ProcessState) (b : Beginning) →
             beginning (P.tree probe.old) table.now h base (map (λ s. s.now) candidates.now) limit
             (option_map (λ s. s.now) after.entry) ≡ Ok b → audit.alphabet ≡ b.scope.alphabet) }
-        ensures live { IfOk result (λ audit. (h : History) → StandsFor process.now h →
-            (b : Beginning) →
-            beginning (P.tree probe.old) table.now h base (map (λ s. s.now) candidates.now) limit
-            (option_map (λ s. s.now) after.entry) ≡ Ok b →
+        ensures live { IfOk result (λ audit. (b : Beginning) →
+            beginning (P.tree probe.old) table.now process.now base
+            (map (λ s. s.now) candidates.now) limit (option_map (λ s. s.now) after.entry) ≡ Ok b →
             audit.live ≡ length (live_states b.scope)) }
         ensures reads { IfOk result (λ audit. audit.reads ≤ search_cost * limit) }
         ensures unread { after.entry ≡ None → IfOk result (λ audit. audit.reads ≡ 0) }
@@ -105,7 +103,6 @@ impl Audit {
         ensures cost { P.count probe.new ≤ P.count probe.old + begin_cost (P.tree probe.old) limit
             (letter_count (P.tree probe.old) (map (λ s. s.now) candidates.now)) }
     {
-        process.known();
         let rows = probe.rows(alloc)?;
         let Checked { letters, after } = beginning::check(
             alloc, &*probe, &rows, table, base, candidates, limit, after,

@@ -5,7 +5,7 @@ ghost use Rattle.std.specs.Prelude.{map, option_map};
 ghost use Rattle.pua_tree.specs.LentRows.{lent_entry};
 ghost use Rattle.pua_tree.specs.Tree.{WellFormed};
 ghost use Rattle.pua_calls.specs.Calls as calls;
-ghost use Rattle.pua_policy.specs.History.{History};
+ghost use Rattle.pua_policy.specs.States.{ProcessState};
 ghost use Rattle.pua_audit.specs.Bounds.{letter_count};
 ghost use Rattle.pua_audit.specs.Begin.{beginning};
 ghost use Rattle.pua_audit.specs.declared.base.Base as bases;
@@ -44,11 +44,11 @@ pub(crate) fn check<'t, P: Probe<'t>>(
     after: Option<&[u8]>,
 ) -> Result<Checked, AuditFault>
     requires rows { map lent_entry rows.now ≡ (P.tree probe.now).rows }
-    ensures begun { IfOk result (λ b. (h : History) →
+    ensures begun { IfOk result (λ b. (h : ProcessState) →
         beginning (P.tree probe.now) table.now h base (map (λ s. s.now) candidates.now) limit
         (option_map (λ s. s.now) after.entry)
         ≡ Ok (beginning_with (P.tree probe.now) table.now h base limit b)) }
-    ensures refused { IfErr result (λ fault. fault ≢ AuditFault.OutOfMemory → (h : History) →
+    ensures refused { IfErr result (λ fault. fault ≢ AuditFault.OutOfMemory → (h : ProcessState) →
         beginning (P.tree probe.now) table.now h base (map (λ s. s.now) candidates.now) limit
         (option_map (λ s. s.now) after.entry) ≡ Err fault) }
     ensures many { IfOk result (λ b. length b.letters ≡ letter_count (P.tree probe.now)
@@ -76,12 +76,12 @@ fn letters_within<'t, P: Probe<'t>>(
     limit: u8,
 ) -> Result<Alphabet, AuditFault>
     requires rows { map lent_entry rows.now ≡ (P.tree probe.now).rows }
-    ensures begun { IfOk result (λ letters. (table : calls.CallTable) (h : History) (base : bases.Base)
-        (after : Option (List ℕ)) →
+    ensures begun { IfOk result (λ letters.
+        (table : calls.CallTable) (h : ProcessState) (base : bases.Base) (after : Option (List ℕ)) →
         beginning (P.tree probe.now) table h base (map (λ s. s.now) candidates.now) limit after
         ≡ begun_in (scope_with (P.tree probe.now) table h base limit letters) after) }
     ensures refused { IfErr result (λ fault. fault ≢ AuditFault.OutOfMemory →
-        (table : calls.CallTable) (h : History) (base : bases.Base) (after : Option (List ℕ)) →
+        (table : calls.CallTable) (h : ProcessState) (base : bases.Base) (after : Option (List ℕ)) →
         beginning (P.tree probe.now) table h base (map (λ s. s.now) candidates.now) limit after
         ≡ Err fault) }
     ensures known { IfOk result (λ letters. WellFormed (P.tree probe.now)) }

@@ -7,7 +7,6 @@ ghost use Rattle.pua_tree.specs.Tree.{is_dir};
 ghost use Rattle.pua_policy.specs.Descent.{cover_in};
 ghost use Rattle.pua_audit.specs.Bounds.{table_cost};
 ghost use Rattle.pua_audit.specs.Graphs.{AreApart};
-ghost use Rattle.pua_audit.specs.Past.{plain_history};
 ghost use Rattle.pua_audit.specs.Ready.{judge_in};
 ghost use Rattle.pua_audit.specs.Table.{IsTableOf};
 
@@ -43,8 +42,7 @@ impl Terms {
         requires tree { P.tree probe.old ≡ self.now.seen.tree }
         requires rows { map lent_entry rows.now ≡ self.now.seen.tree.rows }
         requires living { IsTrue (is_dir self.now.seen.tree base) }
-        requires covered { cover
-            ≡ cover_in self.now.seen.tree (plain_history self.now.process) base }
+        requires covered { cover ≡ cover_in self.now.seen.tree self.now.process base }
         ensures table { IfOk result (λ steps. (names : List ℕ) ×
             (IsTableOf (judge_in self.now) self.now.letters names steps × AreApart names ×
             (0 < length names) × (get_or names 0 0 ≡ base))) }

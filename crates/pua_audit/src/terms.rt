@@ -5,12 +5,10 @@ ghost use Rattle.std.specs.List.{list_all};
 ghost use Rattle.pua_tree.specs.Tree.{WellFormed, name_cmp};
 ghost use Rattle.std.proofs.Props.{props};
 ghost use Rattle.pua_policy.specs.AllowedCalls.{AreWorkedOut};
-ghost use Rattle.pua_policy.specs.History.{StandsFor};
 ghost use Rattle.pua_audit.specs.Limits.{most_letters, most_path};
 ghost use Rattle.pua_audit.specs.Begin.{longest};
 ghost use Rattle.pua_audit.specs.Judge.{base_dir, base_way, is_letter, is_open};
 ghost use Rattle.pua_audit.specs.Laws.{Rises, Rises-prop};
-ghost use Rattle.pua_audit.specs.Past.{plain_history};
 
 use crate::alphabet::{Alphabet, longest};
 use crate::base::Base;
@@ -34,7 +32,6 @@ pub(crate) struct Terms {
     /// What the process is allowed by the table.
     pub(crate) allowed: AllowedCalls,
     pub(crate) ghost tree: { WellFormed seen.tree },
-    pub(crate) ghost stands: { StandsFor process (plain_history process) },
     pub(crate) ghost few: { limit ≤ most_letters },
     pub(crate) ghost known: { IsTrue (list_all is_letter letters) },
     pub(crate) ghost rises: { Rises name_cmp letters } by { Rises-prop name_cmp letters },
@@ -61,12 +58,11 @@ impl Terms {
         requires few { limit ≤ most_letters }
         requires short { limit * suc (longest letters) ≤ most_path }
         ensures scope { IfOk result (λ terms. scope_in terms ≡ scope_with (P.tree probe.now)
-            table.now (plain_history process.now) base limit letters) }
+            table.now process.now base limit letters) }
         ensures limit { IfOk result (λ terms. terms.limit ≡ limit) }
         ensures letters { IfOk result (λ terms. terms.letters ≡ letters) }
     {
         probe.known();
-        process.known();
         letters.known();
         let process = process.fork(alloc)?;
         let allowed = AllowedCalls::new(&process, table);
@@ -104,7 +100,7 @@ impl Terms {
 
     /// The directory in which the first letter stands.
     pub(crate) fn base_dir(&self) -> NodeId
-        ensures { result ≡ base_dir self.now.base (plain_history self.now.process) }
+        ensures { result ≡ base_dir self.now.base self.now.process }
     {
         match self.base {
             Base::Root => NodeId::ROOT,

@@ -26,74 +26,190 @@ calls =
 abbrev pub call_count : ℕ
 call_count = 18
 
-abbrev pub call_number : Call → ℕ
-call_number Stat = 1
-call_number Lstat = 2
-call_number Readlink = 3
-call_number OpenRead = 4
-call_number OpenWrite = 5
-call_number OpenBoth = 6
-call_number Create = 7
-call_number Mkdir = 8
-call_number Rmdir = 9
-call_number Unlink = 10
-call_number Symlink = 11
-call_number Chmod = 12
-call_number Chdir = 13
-call_number Exec = 14
-call_number Connect = 15
-call_number Bind = 16
-call_number Mknod = 17
-call_number Chown = 18
-
-abbrev pub call_name : Call → List ℕ
-call_name Stat = codes "stat"
-call_name Lstat = codes "lstat"
-call_name Readlink = codes "readlink"
-call_name OpenRead = codes "open-r"
-call_name OpenWrite = codes "open-w"
-call_name OpenBoth = codes "open-rw"
-call_name Create = codes "create"
-call_name Mkdir = codes "mkdir"
-call_name Rmdir = codes "rmdir"
-call_name Unlink = codes "unlink"
-call_name Symlink = codes "symlink"
-call_name Chmod = codes "chmod"
-call_name Chdir = codes "chdir"
-call_name Exec = codes "exec"
-call_name Connect = codes "connect"
-call_name Bind = codes "bind"
-call_name Mknod = codes "mknod"
-call_name Chown = codes "chown"
-
-abbrev pub call_of_name : List ℕ → Option Call
-call_of_name word = find (λ call. same_bytes (call_name call) word) calls
-
 -- what a call needs: one of the sets of promises, and each of the permissions
 pub record Rule : Type 0 where
   pub alternatives : List ℕ
   pub perms : ℕ
 
--- those that have no set of promises are never allowed
+-- what is said of a call, in one place: its number and its name; what it needs by the standard table and by that of OpenBSD's
+-- rules, where one without a set of promises is never allowed; whether the last part of its path is followed if it is a link, and
+-- what a slash at the path's end means
+pub record About : Type 0 where
+  pub number : ℕ
+  pub name : List ℕ
+  pub standard : Rule
+  pub openbsd : Rule
+  pub last : Last
+  pub ending : Ending
+
+abbrev pub about : Call → About
+about Stat = record {
+  number = 1;
+  name = codes "stat";
+  standard = record { alternatives = rpath ∷ []; perms = reading };
+  openbsd = record { alternatives = rpath ∷ []; perms = reading };
+  last = Followed;
+  ending = Dot;
+}
+about Lstat = record {
+  number = 2;
+  name = codes "lstat";
+  standard = record { alternatives = rpath ∷ []; perms = reading };
+  openbsd = record { alternatives = rpath ∷ []; perms = reading };
+  last = Kept;
+  ending = Dot;
+}
+about Readlink = record {
+  number = 3;
+  name = codes "readlink";
+  standard = record { alternatives = rpath ∷ []; perms = reading };
+  openbsd = record { alternatives = rpath ∷ []; perms = reading };
+  last = Kept;
+  ending = Dot;
+}
+about OpenRead = record {
+  number = 4;
+  name = codes "open-r";
+  standard = record { alternatives = rpath ∷ []; perms = reading };
+  openbsd = record { alternatives = rpath ∷ []; perms = reading };
+  last = Followed;
+  ending = Dot;
+}
+about OpenWrite = record {
+  number = 5;
+  name = codes "open-w";
+  standard = record { alternatives = wpath ∷ []; perms = writing };
+  openbsd = record { alternatives = wpath ∷ []; perms = writing };
+  last = Followed;
+  ending = Dot;
+}
+about OpenBoth = record {
+  number = 6;
+  name = codes "open-rw";
+  standard = record { alternatives = (rpath + wpath) ∷ []; perms = reading + writing };
+  openbsd = record { alternatives = (rpath + wpath) ∷ []; perms = reading + writing };
+  last = Followed;
+  ending = Dot;
+}
+about Create = record {
+  number = 7;
+  name = codes "create";
+  standard = record { alternatives = (wpath + cpath) ∷ []; perms = writing + creating };
+  openbsd = record { alternatives = (wpath + cpath) ∷ []; perms = writing + creating };
+  last = Followed;
+  ending = Dot;
+}
+about Mkdir = record {
+  number = 8;
+  name = codes "mkdir";
+  standard = record { alternatives = cpath ∷ []; perms = creating };
+  openbsd = record { alternatives = cpath ∷ []; perms = creating };
+  last = Kept;
+  ending = Dropped;
+}
+about Rmdir = record {
+  number = 9;
+  name = codes "rmdir";
+  standard = record { alternatives = cpath ∷ []; perms = creating };
+  openbsd = record { alternatives = cpath ∷ []; perms = creating };
+  last = Kept;
+  ending = Dropped;
+}
+about Unlink = record {
+  number = 10;
+  name = codes "unlink";
+  standard = record { alternatives = cpath ∷ []; perms = creating };
+  openbsd = record { alternatives = cpath ∷ []; perms = creating };
+  last = Kept;
+  ending = Dot;
+}
+about Symlink = record {
+  number = 11;
+  name = codes "symlink";
+  standard = record { alternatives = cpath ∷ []; perms = creating };
+  openbsd = record { alternatives = cpath ∷ []; perms = creating };
+  last = Kept;
+  ending = Dot;
+}
+about Chmod = record {
+  number = 12;
+  name = codes "chmod";
+  standard = record { alternatives = fattr ∷ []; perms = writing };
+  openbsd = record { alternatives = (rpath + fattr) ∷ []; perms = writing };
+  last = Followed;
+  ending = Dot;
+}
+about Chdir = record {
+  number = 13;
+  name = codes "chdir";
+  standard = record { alternatives = rpath ∷ []; perms = reading };
+  openbsd = record { alternatives = rpath ∷ []; perms = reading };
+  last = Followed;
+  ending = Dot;
+}
+about Exec = record {
+  number = 14;
+  name = codes "exec";
+  standard = record { alternatives = exec ∷ []; perms = executing };
+  openbsd = record { alternatives = exec ∷ []; perms = executing };
+  last = Followed;
+  ending = Dot;
+}
+about Connect = record {
+  number = 15;
+  name = codes "connect";
+  standard = record { alternatives = []; perms = writing };
+  openbsd = record { alternatives = unix ∷ []; perms = writing };
+  last = Followed;
+  ending = Dot;
+}
+about Bind = record {
+  number = 16;
+  name = codes "bind";
+  standard = record { alternatives = []; perms = creating };
+  openbsd = record { alternatives = unix ∷ []; perms = creating };
+  last = Kept;
+  ending = Dot;
+}
+about Mknod = record {
+  number = 17;
+  name = codes "mknod";
+  standard = record { alternatives = []; perms = creating };
+  openbsd = record { alternatives = dpath ∷ []; perms = creating };
+  last = Kept;
+  ending = Dot;
+}
+about Chown = record {
+  number = 18;
+  name = codes "chown";
+  standard = record { alternatives = []; perms = writing };
+  openbsd = record { alternatives = (rpath + chown) ∷ (rpath + fattr) ∷ []; perms = writing };
+  last = Followed;
+  ending = Dot;
+}
+
+abbrev pub call_number : Call → ℕ
+call_number call = (about call).number
+
+abbrev pub call_name : Call → List ℕ
+call_name call = (about call).name
+
 abbrev pub standard_rule : Call → Rule
-standard_rule Stat = record { alternatives = rpath ∷ []; perms = reading }
-standard_rule Lstat = record { alternatives = rpath ∷ []; perms = reading }
-standard_rule Readlink = record { alternatives = rpath ∷ []; perms = reading }
-standard_rule OpenRead = record { alternatives = rpath ∷ []; perms = reading }
-standard_rule OpenWrite = record { alternatives = wpath ∷ []; perms = writing }
-standard_rule OpenBoth = record { alternatives = (rpath + wpath) ∷ []; perms = reading + writing }
-standard_rule Create = record { alternatives = (wpath + cpath) ∷ []; perms = writing + creating }
-standard_rule Mkdir = record { alternatives = cpath ∷ []; perms = creating }
-standard_rule Rmdir = record { alternatives = cpath ∷ []; perms = creating }
-standard_rule Unlink = record { alternatives = cpath ∷ []; perms = creating }
-standard_rule Symlink = record { alternatives = cpath ∷ []; perms = creating }
-standard_rule Chmod = record { alternatives = fattr ∷ []; perms = writing }
-standard_rule Chdir = record { alternatives = rpath ∷ []; perms = reading }
-standard_rule Exec = record { alternatives = exec ∷ []; perms = executing }
-standard_rule Connect = record { alternatives = []; perms = writing }
-standard_rule Bind = record { alternatives = []; perms = creating }
-standard_rule Mknod = record { alternatives = []; perms = creating }
-standard_rule Chown = record { alternatives = []; perms = writing }
+standard_rule call = (about call).standard
+
+abbrev pub openbsd_rule : Call → Rule
+openbsd_rule call = (about call).openbsd
+
+-- whether the last part is followed if it is a link
+abbrev pub last_of : Call → Last
+last_of call = (about call).last
+
+-- what a slash at the end of the call's path means
+abbrev pub ending_of : Call → Ending
+ending_of call = (about call).ending
+
+abbrev pub call_of_name : List ℕ → Option Call
+call_of_name word = find (λ call. same_bytes (call_name call) word) calls
 
 -- what a request with two paths needs of what one of them names, and whether its last part is followed if it is a link
 pub record NameRule : Type 0 where
@@ -122,16 +238,6 @@ pub record CallTable : Type 0 where
 -- the rules of this project's own profile
 abbrev pub standard_table : CallTable
 standard_table = record { rules = map standard_rule calls; rename = standard_pair; link = standard_pair; execpromises = Unset }
-
--- OpenBSD's kernel asks chmod to be allowed to read too, lets sockets be named by one promise, special files be made by another,
--- and owners be changed by either of two, where it is allowed to read too
-abbrev pub openbsd_rule : Call → Rule
-openbsd_rule Chmod = record { alternatives = (rpath + fattr) ∷ []; perms = writing }
-openbsd_rule Connect = record { alternatives = unix ∷ []; perms = writing }
-openbsd_rule Bind = record { alternatives = unix ∷ []; perms = creating }
-openbsd_rule Mknod = record { alternatives = dpath ∷ []; perms = creating }
-openbsd_rule Chown = record { alternatives = (rpath + chown) ∷ (rpath + fattr) ∷ []; perms = writing }
-openbsd_rule call = standard_rule call
 
 -- of its old name rename reads what it takes away
 abbrev pub openbsd_rename : PairRule
@@ -174,21 +280,3 @@ call_named_by rules word = call_in (table_by_rules rules) word
 -- and by those of the profile
 abbrev pub call_named : List ℕ → Option Call
 call_named word = call_named_by Profile word
-
--- whether the last part is followed if it is a link
-abbrev pub last_of : Call → Last
-last_of Lstat = Kept
-last_of Readlink = Kept
-last_of Mkdir = Kept
-last_of Rmdir = Kept
-last_of Unlink = Kept
-last_of Symlink = Kept
-last_of Bind = Kept
-last_of Mknod = Kept
-last_of _ = Followed
-
--- what a slash at the end of the call's path means
-abbrev pub ending_of : Call → Ending
-ending_of Mkdir = Dropped
-ending_of Rmdir = Dropped
-ending_of _ = Dot

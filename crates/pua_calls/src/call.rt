@@ -3,7 +3,7 @@
 use crate::perms::Perms;
 use crate::promises::Promises;
 use crate::rules::Rules;
-use pua_path::Last;
+use pua_path::{Ending, Last};
 
 /// A call with one path, in the order of the calls' numbers.
 #[derive(Clone, Copy, Debug, PartialEq, Eq, PartialOrd, Ord, Hash)]
@@ -55,8 +55,23 @@ pub struct Need {
     pub last: Last,
 }
 
+/// What is said of a call, in one place: its name; by the standard table the promises and permissions that it
+/// needs, or where it has none there the first set of those that OpenBSD's rules have; whether the standard
+/// table has it; whether the last part of its path is followed if it is a link; and what a slash at the
+/// path's end means.
+#[derive(Clone, Copy)]
+pub(crate) struct Facts {
+    pub(crate) name: &'static str,
+    pub(crate) promises: Promises,
+    pub(crate) perms: Perms,
+    pub(crate) is_standard: bool,
+    pub(crate) last: Last,
+    pub(crate) ending: Ending,
+}
+
 impl Call {
-    ghost use Rattle.std.specs.Prelude.{◌≡◌};
+    ghost use Rattle.std.specs.Prelude.{◌≡◌, [], ◌∷◌, take, IsTrue, IsFalse};
+    ghost use Rattle.pua_calls.specs.Calls.{about, standard_table};
     ghost use Rattle.pua_calls.specs.Calls.{call_number, call_name, call_of_name, call_named};
     ghost use Rattle.pua_calls.specs.Calls.{call_named_by, is_known, last_of, table_by_rules};
 
@@ -92,42 +107,178 @@ impl Call {
         self as u8 + 1
     }
 
+    /// What is said of it.
+    pub(crate) fn facts(self) -> Facts
+        ensures name { result.name.now ≡ (about self).name }
+        ensures standard { IsTrue result.is_standard →
+            (about self).standard.alternatives ≡ result.promises ∷ [] }
+        ensures further { IsFalse result.is_standard →
+            take 1 (about self).openbsd.alternatives ≡ result.promises ∷ [] }
+        ensures known { result.is_standard ≡ is_known standard_table self }
+        ensures perms { result.perms ≡ (about self).standard.perms }
+        ensures last { result.last ≡ (about self).last }
+        ensures ending { result.ending ≡ (about self).ending }
+    {
+        match self {
+            Call::Stat => Facts {
+                name: "stat",
+                promises: Promises::RPATH,
+                perms: Perms::READ,
+                is_standard: true,
+                last: Last::Followed,
+                ending: Ending::Dot,
+            },
+            Call::Lstat => Facts {
+                name: "lstat",
+                promises: Promises::RPATH,
+                perms: Perms::READ,
+                is_standard: true,
+                last: Last::Kept,
+                ending: Ending::Dot,
+            },
+            Call::Readlink => Facts {
+                name: "readlink",
+                promises: Promises::RPATH,
+                perms: Perms::READ,
+                is_standard: true,
+                last: Last::Kept,
+                ending: Ending::Dot,
+            },
+            Call::OpenRead => Facts {
+                name: "open-r",
+                promises: Promises::RPATH,
+                perms: Perms::READ,
+                is_standard: true,
+                last: Last::Followed,
+                ending: Ending::Dot,
+            },
+            Call::OpenWrite => Facts {
+                name: "open-w",
+                promises: Promises::WPATH,
+                perms: Perms::WRITE,
+                is_standard: true,
+                last: Last::Followed,
+                ending: Ending::Dot,
+            },
+            Call::OpenBoth => Facts {
+                name: "open-rw",
+                promises: Promises::RPATH.union(Promises::WPATH),
+                perms: Perms::READ.union(Perms::WRITE),
+                is_standard: true,
+                last: Last::Followed,
+                ending: Ending::Dot,
+            },
+            Call::Create => Facts {
+                name: "create",
+                promises: Promises::WPATH.union(Promises::CPATH),
+                perms: Perms::WRITE.union(Perms::CREATE),
+                is_standard: true,
+                last: Last::Followed,
+                ending: Ending::Dot,
+            },
+            Call::Mkdir => Facts {
+                name: "mkdir",
+                promises: Promises::CPATH,
+                perms: Perms::CREATE,
+                is_standard: true,
+                last: Last::Kept,
+                ending: Ending::Dropped,
+            },
+            Call::Rmdir => Facts {
+                name: "rmdir",
+                promises: Promises::CPATH,
+                perms: Perms::CREATE,
+                is_standard: true,
+                last: Last::Kept,
+                ending: Ending::Dropped,
+            },
+            Call::Unlink => Facts {
+                name: "unlink",
+                promises: Promises::CPATH,
+                perms: Perms::CREATE,
+                is_standard: true,
+                last: Last::Kept,
+                ending: Ending::Dot,
+            },
+            Call::Symlink => Facts {
+                name: "symlink",
+                promises: Promises::CPATH,
+                perms: Perms::CREATE,
+                is_standard: true,
+                last: Last::Kept,
+                ending: Ending::Dot,
+            },
+            Call::Chmod => Facts {
+                name: "chmod",
+                promises: Promises::FATTR,
+                perms: Perms::WRITE,
+                is_standard: true,
+                last: Last::Followed,
+                ending: Ending::Dot,
+            },
+            Call::Chdir => Facts {
+                name: "chdir",
+                promises: Promises::RPATH,
+                perms: Perms::READ,
+                is_standard: true,
+                last: Last::Followed,
+                ending: Ending::Dot,
+            },
+            Call::Exec => Facts {
+                name: "exec",
+                promises: Promises::EXEC,
+                perms: Perms::EXEC,
+                is_standard: true,
+                last: Last::Followed,
+                ending: Ending::Dot,
+            },
+            Call::Connect => Facts {
+                name: "connect",
+                promises: Promises::UNIX,
+                perms: Perms::WRITE,
+                is_standard: false,
+                last: Last::Followed,
+                ending: Ending::Dot,
+            },
+            Call::Bind => Facts {
+                name: "bind",
+                promises: Promises::UNIX,
+                perms: Perms::CREATE,
+                is_standard: false,
+                last: Last::Kept,
+                ending: Ending::Dot,
+            },
+            Call::Mknod => Facts {
+                name: "mknod",
+                promises: Promises::DPATH,
+                perms: Perms::CREATE,
+                is_standard: false,
+                last: Last::Kept,
+                ending: Ending::Dot,
+            },
+            Call::Chown => Facts {
+                name: "chown",
+                promises: Promises::RPATH.union(Promises::CHOWN),
+                perms: Perms::WRITE,
+                is_standard: false,
+                last: Last::Followed,
+                ending: Ending::Dot,
+            },
+        }
+    }
+
     /// Its name in scripts and in what is printed.
     pub fn name(self) -> &'static str
         ensures { result.now ≡ call_name self }
     {
-        match self {
-            Call::Stat => "stat",
-            Call::Lstat => "lstat",
-            Call::Readlink => "readlink",
-            Call::OpenRead => "open-r",
-            Call::OpenWrite => "open-w",
-            Call::OpenBoth => "open-rw",
-            Call::Create => "create",
-            Call::Mkdir => "mkdir",
-            Call::Rmdir => "rmdir",
-            Call::Unlink => "unlink",
-            Call::Symlink => "symlink",
-            Call::Chmod => "chmod",
-            Call::Chdir => "chdir",
-            Call::Exec => "exec",
-            Call::Connect => "connect",
-            Call::Bind => "bind",
-            Call::Mknod => "mknod",
-            Call::Chown => "chown",
-        }
+        self.facts().name
     }
 
     /// Whether the last part of its path is followed if it is a link (this profile).
     pub fn last(self) -> Last
         ensures { result ≡ last_of self }
     {
-        match self {
-            Call::Lstat | Call::Readlink => Last::Kept,
-            Call::Mkdir | Call::Rmdir | Call::Unlink | Call::Symlink => Last::Kept,
-            Call::Bind | Call::Mknod => Last::Kept,
-            _ => Last::Followed,
-        }
+        self.facts().last
     }
 
     /// The call of this name that there is by rules, if there is one: this project's own have the first
@@ -144,10 +295,7 @@ impl Call {
         ensures { result ≡ is_known (table_by_rules rules) self }
     {
         match rules {
-            Rules::Profile => !matches!(
-                self,
-                Call::Connect | Call::Bind | Call::Mknod | Call::Chown
-            ),
+            Rules::Profile => self.facts().is_standard,
             Rules::Openbsd => true,
         }
     }

@@ -5,8 +5,6 @@ ghost use Rattle.pua_calls.specs.Calls.{is_known, rule_of, standard_table, openb
 ghost use Rattle.pua_calls.specs.Calls.{last_of, ending_of};
 
 use crate::call::{Call, Need};
-use crate::perms::Perms;
-use crate::promises::Promises;
 use pua_path::Ending;
 
 /// What a call needs, by the standard table (this profile); of a call that has no set of promises there
@@ -19,32 +17,11 @@ pub fn need(call: Call) -> Need
     ensures perms { (rule_of standard_table call).perms ≡ result.perms }
     ensures last { result.last ≡ last_of call }
 {
-    let (promises, perms) = match call {
-        Call::Stat | Call::Lstat | Call::Readlink => (Promises::RPATH, Perms::READ),
-        Call::OpenRead | Call::Chdir => (Promises::RPATH, Perms::READ),
-        Call::OpenWrite => (Promises::WPATH, Perms::WRITE),
-        Call::OpenBoth => (
-            Promises::RPATH.union(Promises::WPATH),
-            Perms::READ.union(Perms::WRITE),
-        ),
-        Call::Create => (
-            Promises::WPATH.union(Promises::CPATH),
-            Perms::WRITE.union(Perms::CREATE),
-        ),
-        Call::Mkdir | Call::Rmdir | Call::Unlink | Call::Symlink => {
-            (Promises::CPATH, Perms::CREATE)
-        }
-        Call::Chmod => (Promises::FATTR, Perms::WRITE),
-        Call::Exec => (Promises::EXEC, Perms::EXEC),
-        Call::Connect => (Promises::UNIX, Perms::WRITE),
-        Call::Bind => (Promises::UNIX, Perms::CREATE),
-        Call::Mknod => (Promises::DPATH, Perms::CREATE),
-        Call::Chown => (Promises::RPATH.union(Promises::CHOWN), Perms::WRITE),
-    };
+    let facts = call.facts();
     Need {
-        promises,
-        perms,
-        last: call.last(),
+        promises: facts.promises,
+        perms: facts.perms,
+        last: facts.last,
     }
 }
 
@@ -52,8 +29,5 @@ pub fn need(call: Call) -> Need
 pub fn ending(call: Call) -> Ending
     ensures { result ≡ ending_of call }
 {
-    match call {
-        Call::Mkdir | Call::Rmdir => Ending::Dropped,
-        _ => Ending::Dot,
-    }
+    call.facts().ending
 }

@@ -1,7 +1,7 @@
 -- What is known of each row stays known over a list of requests of a family.
 use Rattle.pua_ever.proofs.Common.{◌≡◌, ◌⊎◌, subst, ℕ, List, [], ◌∷◌, true, false, sym, ap, ◌∙◌, inl, inr, None, Ok, not, ◌&&◌, ◌||◌, is_none}
 use Rattle.pua_ever.proofs.Common.{and_parts, and_from, Tree, WellFormed, Spot, is_dir, kind_at, has_no_row, empty_tree}
-use Rattle.pua_ever.proofs.Common.{is_link_kind, Found, Whole, Slot, Top, CallTable, is_kept, History, may_any, IsMissing, cover}
+use Rattle.pua_ever.proofs.Common.{is_link_kind, Found, Whole, Slot, Top, CallTable, is_kept, ProcessState, may_any, IsMissing, cover}
 use Rattle.pua_ever.proofs.Common.{cover_fault, covered_verdict, is_allowed, Asked, World, apply, world_after, is_member}
 use Rattle.pua_ever.proofs.Common.{family_then, NoCallNeedsError, TreesAlong, has_c, IsWithin, verdicts_within}
 use Rattle.pua_ever.proofs.Common.{Members, first_tree, cover_in, covers_descend, is_yes}
@@ -21,8 +21,8 @@ use Rattle.pua_ever.proofs.Origins.{Stays}
 use Rattle.pua_ever.proofs.Unedited.{yes_before}
 use Rattle.pua_ever.proofs.Stepping.{stays_then}
 
--- what has grown by a tightened history has grown by the one that it tightens
-module _ (table : CallTable) (sound : NoCallNeedsError table) (now a : History) (within : IsWithin now a) (t : Tree) (well : WellFormed t)
+-- what has grown by a tightened process has grown by the one that it tightens
+module _ (table : CallTable) (sound : NoCallNeedsError table) (now a : ProcessState) (within : IsWithin now a) (t : Tree) (well : WellFormed t)
   where
     same : (object : Found) → cover t a object ≡ cover t now object
     same object = same_cover a now within.tightens.unveils t object
@@ -31,7 +31,7 @@ module _ (table : CallTable) (sound : NoCallNeedsError table) (now a : History) 
     same_in d is = sym ((covers_descend t a well).directory d Top is) ∙ same (Whole d Top) ∙ (covers_descend t now well).directory d Top is
 
     -- a call on a missing name, by the fault of its kind
-    abbrev on_name : Call → Spot → History → Option Errno → Bool
+    abbrev on_name : Call → Spot → ProcessState → Option Errno → Bool
     on_name c s h fault =
         is_allowed (if_promised (may_any h (rule_of table c).alternatives)
         (allowed_unless (or_fault (cover_fault (name_cover table t h s) (rule_of table c).perms) fault)))
@@ -105,7 +105,7 @@ module _ (table : CallTable) (sound : NoCallNeedsError table) (now a : History) 
       next = grown.next;
     }
 
-module _ (table : CallTable) (sound : NoCallNeedsError table) (needs : EditsNeedC table) (t0 : Tree) (now : History) (well0 : WellFormed t0)
+module _ (table : CallTable) (sound : NoCallNeedsError table) (needs : EditsNeedC table) (t0 : Tree) (now : ProcessState) (well0 : WellFormed t0)
     (stand : VeilsStand t0 now) where
   pub stays_along : (asks : List Asked) (w : World) (members : List ℕ) → Members w members now false →
       NoExecLoosens table now w asks members

@@ -5,7 +5,7 @@ use Rattle.pua_ever.proofs.Common.{among_filter}
 use Rattle.pua_path.specs.Fits.{spot_named, node_named}
 use Rattle.pua_calls.specs.Calls.{calls}
 use Rattle.pua_calls.specs.declared.call.Call.TheVariants as call
-use Rattle.pua_policy.specs.History.{Moved}
+use Rattle.pua_policy.specs.States.{Moved}
 use Rattle.pua_script.specs.Confinement.{changes_names}
 use Rattle.pua_script.specs.Decide.{NoChange, AddNode, CutRow, BeginProgram, AddEvent, plain_node, made_by}
 use Rattle.pua_script.proofs.ForCallers.{by_making, by_cutting, adding_changes}

@@ -30,23 +30,24 @@ pub use Rattle.pua_path.specs.declared.found.Last.TheVariants.{Followed}
 pub use Rattle.pua_path.specs.declared.found.Way.{Way}
 pub use Rattle.pua_path.specs.declared.found.Way.TheVariants.{Dot, DotDot, Named, Top}
 pub use Rattle.pua_policy.proofs.ForCallers.{same_place_is}
-pub use Rattle.pua_policy.specs.History.{has_veil, History, may_any, perms_kept, ProcessState, same_place, StandsFor, veils, working_dir}
+pub use Rattle.pua_policy.specs.States.{has_veil, ProcessState, may_any, perms_kept, same_place, SameVeils, state_after, veils, working_dir}
 pub use Rattle.pua_policy.specs.Misfits.{misfit_errno}
 pub use Rattle.pua_policy.specs.Objects.{object_seen}
-pub use Rattle.pua_policy.specs.Verdict.{allowed_unless, cover, cover_fault, covered_verdict, FoundFits, if_promised, is_allowed, is_unveil}
+pub use Rattle.pua_policy.specs.Verdict.{allowed_unless, cover, cover_fault, covered_verdict, FoundFits, if_promised, is_allowed}
 pub use Rattle.pua_policy.specs.Verdict.{IsDir, IsMissing, Object, object_fault, object_of_kind, or_fault, verdict_of}
 pub use Rattle.pua_policy.specs.declared.answer.Cover.{Cover}
 pub use Rattle.pua_policy.specs.declared.answer.Cover.TheVariants.{All, Only}
 pub use Rattle.pua_policy.specs.declared.answer.May.{May}
 pub use Rattle.pua_policy.specs.declared.place.Place.{Place}
 pub use Rattle.pua_policy.specs.declared.reason.Misfit.TheVariants.{IsNotEmpty}
+pub use Rattle.pua_script.proofs.Entries.{found_here, found_put}
 pub use Rattle.pua_script.proofs.ForCallers.{by_going, first_tree, IsWithin, Members, members_then, verdicts_within}
 pub use Rattle.pua_script.specs.Confinement.{has_c, TreesAlong, UncoveredStay}
 pub use Rattle.pua_script.specs.Decide.{Change, change_by, CopyAs}
 pub use Rattle.pua_script.specs.Family.{family_then, is_done, is_exec, is_member, members_alone, none_done}
 pub use Rattle.pua_script.specs.Guards.{IsDecided}
 pub use Rattle.pua_script.specs.Limits.{most_processes}
-pub use Rattle.pua_script.specs.Replay.{apply, change_effect, Copies, Fails, history_of, World, world_after}
+pub use Rattle.pua_script.specs.Replay.{apply, change_effect, Copies, Fails, kept_at, put_at, World, world_after}
 pub use Rattle.pua_script.specs.Requests.{Asked}
 pub use Rattle.pua_script.specs.Tightening.{NoCallNeedsError}
 pub use Rattle.pua_script.specs.Worlds.{tree_left}

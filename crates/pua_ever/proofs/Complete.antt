@@ -1,12 +1,12 @@
 -- All that a family's members are ever allowed has its line at the beginning.
-use Rattle.pua_ever.proofs.Common.{◌≡◌, ◌⊎◌, ℕ, List, [], ◌∷◌, Bool, true, false, refl, ap, inl, inr, Tree, CallTable, History, verdict_of}
+use Rattle.pua_ever.proofs.Common.{◌≡◌, ◌⊎◌, ℕ, List, [], ◌∷◌, Bool, true, false, refl, ap, inl, inr, Tree, CallTable, ProcessState, verdict_of}
 use Rattle.pua_ever.proofs.Common.{is_allowed, allowed_is, Asked, World, world_after, verdicts_within, false≢true, is_member, is_exec}
 use Rattle.pua_ever.proofs.Common.{none_done, members_alone, NoCallNeedsError, TreesAlong, Members, first_tree, may_edit, EditsNeedC}
-use Rattle.pua_ever.proofs.Common.{VeilsStand, and_parts, apply, family_then, history_of, Some}
+use Rattle.pua_ever.proofs.Common.{VeilsStand, and_parts, apply, family_then, kept_at, Some}
 use Rattle.pua_script.specs.Laws.{IsConfined}
 use Rattle.pua_path.specs.Resolution.{resolution_of_text}
 use Rattle.pua_calls.specs.Calls.{ending_of, last_of}
-use Rattle.pua_script.specs.Family.{family, HasHistoryOf}
+use Rattle.pua_script.specs.Family.{family, HasKept}
 use Rattle.pua_script.proofs.ForCallers.{begins, at_all}
 use Rattle.pua_ever.specs.Laws.{ActsWithin, EverBeside, EverComplete, EverOfMany, EverWithExecs, Foresees, ForeseesStarts, MembersEdit}
 use Rattle.pua_ever.specs.Laws.{NoExecLoosens, StartsForeseen}
@@ -31,13 +31,13 @@ edits_alone table (ask ∷ asks) w members alone =
     let parts = and_parts (is_member members ask.process) _ alone in
     (inl parts.0, edits_alone table asks (apply table w ask).1 (family_then table w ask members) parts.1)
 
--- of any members within a history
+-- of any members within a process
 pub complete_within : (table : CallTable) → NoCallNeedsError table → EditsNeedC table →
-    (w : World) (asks : List Asked) (members : List ℕ) (now : History) →
+    (w : World) (asks : List Asked) (members : List ℕ) (now : ProcessState) →
     Members w members now false → VeilsStand w.tree now → TreesAlong table w asks → NoExecLoosens table now w asks members →
     MembersEdit table w asks members →
     (member : ℕ) → is_member (family table w asks members) member ≡ true →
-    HasHistoryOf (world_after table w asks) member (Foresees w.tree table now (world_after table w asks).tree)
+    HasKept (world_after table w asks) member (Foresees w.tree table now (world_after table w asks).tree)
 complete_within table sound needs w asks members now are stand trees none alone member belongs =
     let well = first_tree table w asks trees in
     let u = (world_after table w asks).tree in
@@ -59,11 +59,11 @@ complete_within table sound needs w asks members now are stand trees none alone 
     by false is same = inr (same is)
 
 pub beside_one : (table : CallTable) → NoCallNeedsError table → EditsNeedC table →
-    (w : World) (asks : List Asked) (process : ℕ) (now : History) →
-    history_of w process ≡ Some now → IsConfined now → VeilsStand w.tree now → TreesAlong table w asks →
+    (w : World) (asks : List Asked) (process : ℕ) (now : ProcessState) →
+    kept_at w process ≡ Some now → IsConfined now → VeilsStand w.tree now → TreesAlong table w asks →
     none_done is_exec table w asks (process ∷ []) ≡ true → MembersEdit table w asks (process ∷ []) →
     (member : ℕ) → is_member (family table w asks (process ∷ [])) member ≡ true →
-    HasHistoryOf (world_after table w asks) member (Foresees w.tree table now (world_after table w asks).tree)
+    HasKept (world_after table w asks) member (Foresees w.tree table now (world_after table w asks).tree)
 beside_one table sound needs w asks process now here confined stand trees none edit member belongs =
     complete_within table sound needs w asks (process ∷ []) now (at_all w (process ∷ []) now (begins table now w process here confined))
     stand trees (none_loosens table now asks w (process ∷ []) none) edit member belongs
@@ -73,7 +73,7 @@ ever_complete table sound needs w asks process now here confined stand trees non
     beside_one table sound needs w asks process now here confined stand trees none (edits_alone table asks w (process ∷ []) alone) member
     belongs
 
-pub all_within : (w : World) (members : List ℕ) (now : History) → ActsWithin w now members → Members w members now false
+pub all_within : (w : World) (members : List ℕ) (now : ProcessState) → ActsWithin w now members → Members w members now false
 all_within w members now acts m belongs =
     let one = acts m belongs in
     (one.0, one.1, record { within = record { tightens = one.2.0; ended = one.2.1 }; dir = λ e. absurd (false≢true e) })
@@ -90,18 +90,18 @@ pub ever_of_many : EverOfMany
 ever_of_many table sound needs w asks members now acts stand trees none alone member belongs =
     ever_beside table sound needs w asks members now acts stand trees none (edits_alone table asks w members alone) member belongs
 
-yes_is : (m : May) → is_yes m ≡ true → m ≡ may.Yes
+pub yes_is : (m : May) → is_yes m ≡ true → m ≡ may.Yes
 yes_is may.Yes e = refl
 yes_is may.Enosys e = absurd (false≢true e)
 yes_is may.Death e = absurd (false≢true e)
 
--- of any members within a history
+-- of any members within a process
 pub starts_within : (table : CallTable) → NoCallNeedsError table → EditsNeedC table →
-    (w : World) (asks : List Asked) (members : List ℕ) (now : History) →
+    (w : World) (asks : List Asked) (members : List ℕ) (now : ProcessState) →
     Members w members now false → VeilsStand w.tree now → TreesAlong table w asks → NoExecLoosens table now w asks members →
     MembersEdit table w asks members →
     (member : ℕ) → is_member (family table w asks members) member ≡ true →
-    HasHistoryOf (world_after table w asks) member (ForeseesStarts w.tree table now (world_after table w asks).tree)
+    HasKept (world_after table w asks) member (ForeseesStarts w.tree table now (world_after table w asks).tree)
 starts_within table sound needs w asks members now are stand trees loosens edit member belongs =
     let well = first_tree table w asks trees in
     let u = (world_after table w asks).tree in

@@ -2,7 +2,7 @@
 use Rattle.pua_ever.proofs.Common.{◌≡◌, Bool, ◌≢◌, ◌⊎◌, ◌<◌, ◌≤◌, ℕ, true, false, cond, refl, sym, ap, ◌∙◌, inl, inr, Option, Some, None}
 use Rattle.pua_ever.proofs.Common.{is_some, nat_lt, option_map, not, ◌==◌, option_eq, false≢true, and_from, eq-eqb, Tree, Node, WellFormed}
 use Rattle.pua_ever.proofs.Common.{Spot, is_dir, is_dir_kind, is_living, look, node_at, above, sound_from, row_of, row_says, same_Some}
-use Rattle.pua_ever.proofs.Common.{None≢Some, above_lives, Whole, Slot, Named, History, perms_kept, cover, FoundFits, Cover, Only, cover_in}
+use Rattle.pua_ever.proofs.Common.{None≢Some, above_lives, Whole, Slot, Named, ProcessState, perms_kept, cover, FoundFits, Cover, Only, cover_in}
 use Rattle.pua_ever.proofs.Common.{own_or, covers_descend, row_cover}
 use Rattle.std.proofs.Common.{ltb-true}
 use Rattle.std.proofs.lemmas.Bool.{ltb-false}
@@ -11,7 +11,7 @@ use Rattle.pua_policy.specs.declared.place.Place.TheVariants as place
 use Rattle.pua_script.specs.Confinement.{object_in}
 
 -- the cover of what stands in a row, by what it is
-module _ (t : Tree) (h : History) (well : WellFormed t) where
+module _ (t : Tree) (h : ProcessState) (well : WellFormed t) where
   pub dir_row : (s : Spot) (d : ℕ) → is_dir t d ≡ true → row_cover t h s d ≡ cover_in t h d
   dir_row s d is = ap (λ b. cover t h (cond b (Whole d (Named s.0 s.1)) (Slot s.0 s.1 (Some d)))) is ∙
       (covers_descend t h well).directory d (Named s.0 s.1) is
@@ -60,7 +60,7 @@ row_fits t well s x row = by (is_dir t x) refl
         (and_from _ _ (ap (λ o. option_eq ◌==◌ o (Some x)) row ∙ eq-eqb x x refl) (ap not is))
 
 -- the cover of the directory above one
-pub cover_over : (t : Tree) (h : History) → WellFormed t → (dir x : ℕ) (r : Option Cover) → parent t dir ≡ Some x
+pub cover_over : (t : Tree) (h : ProcessState) → WellFormed t → (dir x : ℕ) (r : Option Cover) → parent t dir ≡ Some x
     → r ≡ cond (is_dir t x) (Some (cover_in t h x)) None → r ≡ cond (is_dir t dir) (Some (cover_in t h (above t dir))) None
 cover_over t h well dir x r over is = by (is_dir t dir) over
   where

@@ -5,13 +5,14 @@ use Rattle.pua_ever.proofs.Common.{flat_map, option_eq, list_any, false≢true, 
 use Rattle.pua_ever.proofs.Common.{Tree, WellFormed, Spot, is_dir, is_dir_kind, is_living, look, node_at, kind_at, is_empty, has_no_row}
 use Rattle.pua_ever.proofs.Common.{empty_tree, Kind, sound_from, row_says, row_of, Some≢None, same_dir, is_link_kind, misfit_errno}
 use Rattle.pua_ever.proofs.Common.{IsNotEmpty, Followed, Way, Named, Top, Dot, DotDot, Found, Whole, Slot, resolutions_fit, CallTable}
-use Rattle.pua_ever.proofs.Common.{calls, rule_of, keeps_link, is_kept, History, perms_kept, veils, may_any, Object, IsDir, IsMissing}
+use Rattle.pua_ever.proofs.Common.{calls, rule_of, keeps_link, is_kept, ProcessState, perms_kept, veils, may_any, Object, IsDir, IsMissing}
 use Rattle.pua_ever.proofs.Common.{object_of_kind, object_fault, cover, cover_fault, or_fault, allowed_unless, if_promised, covered_verdict}
 use Rattle.pua_ever.proofs.Common.{verdict_of, is_allowed, Call, Cover, May, Word, Subject, At, Others, Item, items, cover_in}
 use Rattle.pua_ever.proofs.Common.{own_or, Among, among_left, among_right, among_map, among_filter, contained, covers_descend}
 use Rattle.pua_ever.proofs.Common.{named_within_text, row_cover, is_free, can_empty, dir_covers, file_covers, may_edit, can_link, can_move}
 use Rattle.pua_ever.proofs.Common.{removable_dir, is_named_way, is_allowed_under, ever_line, New, NewDir, NewOthers, NewFile, NewLink}
 use Rattle.pua_ever.proofs.Common.{same_Some, eqb-true, can_make, Stands, Comes, EverLine, subjects_of, all_new, new_line, has_ever_calls, ever, VeilsStand}
+use Rattle.std.proofs.Math.Bool.{or-true}
 use Rattle.std.specs.Prelude.{◌∷◌}
 use Rattle.pua_tree.specs.declared.node.Kind.TheVariants as kind
 use Rattle.pua_tree.proofs.ForCallers.{Sound}
@@ -45,11 +46,16 @@ use Rattle.pua_ever.proofs.KindFaults.{plain_alike, dir_as, dir_alike}
 use Rattle.pua_ever.proofs.Origins.{Origin, stood, linked, since, Known, Stays, DirUnder, at_rest, come, old_dir, dir_under, file_under}
 use Rattle.pua_ever.proofs.Origins.{could_empty, fixed_covered, free_then}
 
-one_new : (made : New) → Among all_new made
+pub one_new : (made : New) → Among all_new made
 one_new NewDir = inl refl
 one_new NewOthers = inr (inl refl)
 one_new NewFile = inr (inr (inl refl))
 one_new NewLink = inr (inr (inr (inl refl)))
+
+-- a link is named by the calls alone that keep it
+pub named_link : (c : Call) (mode : Last) (b : Bool) → last_of c ≡ mode → (mode ≡ Followed → b ≡ false) → (keeps_link c || not b) ≡ true
+named_link c Kept b is followed = ap (λ m. is_kept m || not b) is
+named_link c Followed b is followed = ap (λ m. is_kept m || not b) is ∙ ap not (followed refl)
 
 -- a verdict that allows, in its parts
 pub record Parts (m : May) (a b : Option Errno) : Type 0 where
@@ -73,7 +79,7 @@ ever_other : (b : Bool) (now : Cover) (others : List Cover) (c : Cover) → b �
 ever_other b now others c moves a = rw moves a
 
 -- the same of a file, program or link, which link can give a further name
-module _ (t : Tree) (table : CallTable) (h : History) (what : Option Kind) (now : Cover) where
+module _ (t : Tree) (table : CallTable) (h : ProcessState) (what : Option Kind) (now : Cover) where
   abbrev further : List Cover
   further = cond (can_link table h what now) (file_covers t table h) []
 
@@ -97,7 +103,7 @@ module _ (t : Tree) (table : CallTable) (h : History) (what : Option Kind) (now 
       by false = inr (subst (λ (b : Bool). Among (cond b (file_covers t table h) []) c) (sym can) a)
 
 -- what is allowed on a thing as it is can be allowed on it
-pub can_from : (table : CallTable) (h : History) (covers : List Cover) (object : Object) (c : Call) →
+pub can_from : (table : CallTable) (h : ProcessState) (covers : List Cover) (object : Object) (c : Call) →
     is_allowed_under table h covers object c ≡ true → can_allow table h covers object c ≡ true
 can_from table h covers IsFile c e = or_left (is_allowed_under table h covers IsFile c) _ e
 can_from table h covers IsProg c e = e
@@ -105,14 +111,14 @@ can_from table h covers IsLink c e = e
 can_from table h covers IsMissing c e = e
 can_from table h covers (IsDir dir way) c e = e
 
-can_new : (t : Tree) (table : CallTable) (h : History) (made : New) (c : Call) →
+can_new : (t : Tree) (table : CallTable) (h : ProcessState) (made : New) (c : Call) →
     is_allowed_under table h (new_covers t table h made) (new_object made) c ≡ true → can_allow_new t table h made c ≡ true
 can_new t table h NewDir c e = e
 can_new t table h NewOthers c e = e
 can_new t table h NewFile c e = or_left (is_allowed_under table h (file_covers t table h) IsFile c) _ e
 can_new t table h NewLink c e = e
 
-module _ (table : CallTable) (t0 : Tree) (h : History) where
+module _ (table : CallTable) (t0 : Tree) (h : ProcessState) where
   -- the calls of a line
   pub calls_among : (subject : Subject) (c : Call) → is_named_by t0 c subject ≡ true →
       is_allowed_under table h (covers_of t0 table h subject) (ever_object t0 table h subject) c ≡ true →
@@ -132,7 +138,7 @@ module _ (table : CallTable) (t0 : Tree) (h : History) where
       any_among (λ left. is_allowed (covered_verdict empty_tree table h c left object)) covers left a
       (λ i. is_allowed (if_promised (granted i) (allowed_unless (or_fault (covered i) (fine i)))))
 
-module _ (table : CallTable) (t0 : Tree) (h : History) (well0 : WellFormed t0) (stand : VeilsStand t0 h) where
+module _ (table : CallTable) (t0 : Tree) (h : ProcessState) (well0 : WellFormed t0) (stand : VeilsStand t0 h) where
   s0 : Sound t0
   s0 = sound_from t0 well0
 
@@ -269,10 +275,6 @@ module _ (table : CallTable) (t0 : Tree) (h : History) (well0 : WellFormed t0) (
         b ≡ true
     is_rmdir w d b sure e is = sure (ap (λ x. object_fault u x (IsDir d w)) (sym is) ∙ e)
 
-    always : (b : Bool) → (b || true) ≡ true
-    always true = refl
-    always false = refl
-
     hit_dir : (d : ℕ) (w : Way) → is_dir u d ≡ true → StandsAsNamed u (Whole d w) → verdict u table h c (Whole d w) ≡ Allowed →
         Hit (Whole d w)
     hit_dir d w is named e =
@@ -289,7 +291,7 @@ module _ (table : CallTable) (t0 : Tree) (h : History) (well0 : WellFormed t0) (
               record {
                 thing = Stands subject;
                 listed = listed_stands item.0 subject c (item_subject _ item.1)
-                    (calls_among table t0 h subject c (always (keeps_link c))
+                    (calls_among table t0 h subject c (or-true (keeps_link c))
                     (under_one table t0 h (covers_of_dir t0 table h d) (dir_as test) c (cover_in u h d) (dir_cover d is was) parts.may
                     covered
                     (dir_alike u c d w test (is_rmdir w d test (is_removed d w is named was) parts.kind) parts.kind)));
@@ -314,11 +316,6 @@ module _ (table : CallTable) (t0 : Tree) (h : History) (well0 : WellFormed t0) (
             by NewOthers is can = can
             by NewFile is can = absurd (false≢true is)
             by NewLink is can = absurd (false≢true is)
-
-    -- a link is named by the calls alone that keep it
-    named_link : (mode : Last) (b : Bool) → last_of c ≡ mode → (mode ≡ Followed → b ≡ false) → (keeps_link c || not b) ≡ true
-    named_link Kept b is followed = ap (λ m. is_kept m || not b) is
-    named_link Followed b is followed = ap (λ m. is_kept m || not b) is ∙ ap not (followed refl)
 
     slot_of : (s : Spot) (x : ℕ) → is_dir u x ≡ false → row_cover u h s x ≡ cover u h (Slot s.0 s.1 (Some x))
     slot_of s x other = ap (λ b. cover u h (cond b (Whole x (Named s.0 s.1)) (Slot s.0 s.1 (Some x)))) other
@@ -345,7 +342,7 @@ module _ (table : CallTable) (t0 : Tree) (h : History) (well0 : WellFormed t0) (
         record {
           thing = Stands subject;
           listed = listed_stands item.0 subject c (item_subject _ item.1)
-              (calls_among table t0 h subject c (named_link (last_of c) (is_link t0 (Slot r.0 r.1 (Some x))) refl
+              (calls_among table t0 h subject c (named_link c (last_of c) (is_link t0 (Slot r.0 r.1 (Some x))) refl
               (λ e. ap is_link_kind (sym same_kind) ∙ followed e))
               (under_one table t0 h (covers_of t0 table h subject) (ever_object t0 table h subject) c (cover u h (Slot s.0 s.1 (Some x))) a
               granted covered
@@ -544,7 +541,7 @@ module _ (table : CallTable) (t0 : Tree) (h : History) (well0 : WellFormed t0) (
             record {
               thing = Stands (At (Slot dir name None));
               listed = listed_stands line.0 (At (Slot dir name None)) c line.1
-                  (calls_among table t0 h (At (Slot dir name None)) c (always (keeps_link c))
+                  (calls_among table t0 h (At (Slot dir name None)) c (or-true (keeps_link c))
                   (under_one table t0 h (covers_of t0 table h (At (Slot dir name None))) IsMissing c (cover u h (Slot dir name None))
                   (inl covers) parts.may parts.covered fine));
               about = of_name perms own;

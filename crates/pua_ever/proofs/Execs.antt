@@ -1,9 +1,9 @@
 -- What becomes of a family whose members may become other programs that may do no more.
 use Rattle.pua_ever.proofs.Common.{◌≡◌, ◌==◌, ◌&&◌, ◌∙◌, ℕ, List, [], ◌∷◌, Bool, true, false, cond, refl, sym, ap, not, and_parts, not-true}
-use Rattle.pua_ever.proofs.Common.{false≢true, eq-eqb, eqb-true, CallTable, History, Asked, World, apply, history_of, world_after}
+use Rattle.pua_ever.proofs.Common.{false≢true, eq-eqb, eqb-true, CallTable, ProcessState, Asked, World, apply, kept_at, world_after}
 use Rattle.pua_ever.proofs.Common.{is_member, is_exec, is_done, none_done, family_then, Members, members_then, Action, OnPath, Symlink}
 use Rattle.pua_ever.proofs.Common.{Rename, Link, Pledge, Unveil, Lock, Fork, Exit}
-use Rattle.pua_script.specs.Family.{family, is_okay, with_child, HasHistoryOf}
+use Rattle.pua_script.specs.Family.{family, is_okay, with_child, HasKept}
 use Rattle.pua_script.proofs.ForCallers.{Belongs, others_leave}
 use Rattle.pua_ever.specs.Laws.{LoosensNone, NoExecLoosens}
 
@@ -19,7 +19,7 @@ no_child Lock members e = refl
 no_child (Fork new) members e = absurd (false≢true e)
 no_child Exit members e = refl
 
-module _ (table : CallTable) (now : History) where
+module _ (table : CallTable) (now : ProcessState) where
   module _ (w : World) (ask : Asked) (members : List ℕ) (are : Members w members now false) (spares : LoosensNone table now w ask members)
     where
       same_family : is_exec ask.action ≡ true → family_then table w ask members ≡ members
@@ -30,14 +30,14 @@ module _ (table : CallTable) (now : History) where
           by false = refl
 
       behind_exec : is_done is_exec table w ask members ≡ true → (m : ℕ) → is_member members m ≡ true →
-          HasHistoryOf (apply table w ask).1 m (Belongs now false)
+          HasKept (apply table w ask).1 m (Belongs now false)
       behind_exec done m belongs = by (m == ask.process) refl
         where
-          by : (b : Bool) → (m == ask.process) ≡ b → HasHistoryOf (apply table w ask).1 m (Belongs now false)
+          by : (b : Bool) → (m == ask.process) ≡ b → HasKept (apply table w ask).1 m (Belongs now false)
           by true e =
               let one = spares done in (
                 one.0,
-                ap (history_of (apply table w ask).1) (eqb-true m ask.process e) ∙ one.1,
+                ap (kept_at (apply table w ask).1) (eqb-true m ask.process e) ∙ one.1,
                 record { within = record { tightens = one.2.0; ended = one.2.1 }; dir = λ x. absurd (false≢true x) },
               )
           by false e =

@@ -1,16 +1,18 @@
 -- What crates above cite of the proofs of this one, beside the definitions and the laws.
 
--- each veil in the list of a history is what is kept at its place
+-- each veil in a list is what is kept at its place, where no place stands twice
 pub use Rattle.pua_ever.proofs.KeptVeils.{among_kept_at}
--- a list for ever behind what is read, and where nothing refuses it
+-- a list for ever of one process where others leave the tree, behind what is read, and where nothing refuses it
+pub use Rattle.pua_ever.proofs.Complete.{beside_one}
 pub use Rattle.pua_ever.proofs.Standing.{ever_after_read}
-pub use Rattle.pua_ever.proofs.Lasts.{ever_lasts_after_read}
-pub use Rattle.pua_ever.proofs.Refused.{unrefused_table, unrefused_history}
+pub use Rattle.pua_ever.proofs.Placed.{placed_after_read}
+pub use Rattle.pua_ever.proofs.Lasts.{ever_lasts_after_read, none_starts_after_read}
+pub use Rattle.pua_ever.proofs.Refused.{unrefused_table, unrefused_process}
 -- whether some line has exec, by the rows, and that none starts anything where none has
 pub use Rattle.pua_ever.proofs.RowsLast.{exec_told}
 pub use Rattle.pua_ever.proofs.Through.{no_line}
 -- the list that holds longest, by who holds both sets
-pub use Rattle.pua_ever.proofs.Chosen.{through_lines, lasting_unbounded, lasting_alone, lasting_through, locked_same, unrefused_both}
+pub use Rattle.pua_ever.proofs.Chosen.{lasting_unbounded, lasting_alone, lasting_through, starts_open}
 -- what an item is about stands in its tree, what covers that now is among the covers under which it can come, and which others are
 pub use Rattle.pua_ever.proofs.Now.{StandsNow, items_stand, dir_cover, file_cover}
 pub use Rattle.pua_ever.proofs.Ending.{named_moved, named_linked}
@@ -18,10 +20,6 @@ pub use Rattle.pua_ever.proofs.Ending.{named_moved, named_linked}
 pub use Rattle.pua_ever.proofs.KindFaults.{dir_alike}
 -- what some element passes
 pub use Rattle.pua_ever.proofs.Ways.{any_among, any_found}
--- who holds both sets: what it holds, and what leaving out pledges leaves of its veils
-pub use Rattle.pua_ever.proofs.Through.{first_of, second_of, held_both, within_both}
-pub use Rattle.pua_ever.proofs.Lasts.{any_too}
-pub use Rattle.pua_ever.proofs.Standing.{kept_after}
+-- who holds both sets
+pub use Rattle.pua_ever.proofs.Through.{within_both}
 pub use Rattle.pua_ever.proofs.Holding.{goes, along_now, may_holds, bound_parts}
--- and which list is the one that holds longest
-pub use Rattle.pua_ever.proofs.Chosen.{lasting_unstarted}

@@ -3,9 +3,9 @@ use Rattle.pua_ever.proofs.Common.{◌≡◌, ◌≤◌, ◌⊎◌, ℕ, Bool, t
 use Rattle.pua_ever.proofs.Common.{None, is_some, is_none, ◌&&◌, ◌||◌, ◌==◌, nat_le, option_eq, false≢true, and_parts, and_from, or_left}
 use Rattle.pua_ever.proofs.Common.{or_right, Tree, Node, WellFormed, Spot, is_dir, look, kind_at, is_empty, empty_tree, same_Some}
 use Rattle.pua_ever.proofs.Common.{None≢Some, is_link_kind, Followed, resolutions_fit, EAGAIN, Found, Whole, Slot, CallTable, rule_of}
-use Rattle.pua_ever.proofs.Common.{is_kept, History, may_any, working_dir, IsMissing, cover, cover_fault, covered_verdict, or_fault}
+use Rattle.pua_ever.proofs.Common.{is_kept, ProcessState, may_any, working_dir, IsMissing, cover, cover_fault, covered_verdict, or_fault}
 use Rattle.pua_ever.proofs.Common.{object_fault, allowed_unless, if_promised, is_allowed, Call, Asked, most_processes, World, Fails, Copies}
-use Rattle.pua_ever.proofs.Common.{change_effect, history_of, apply, tree_left, Action, OnPath, Symlink, Rename, Link, Pledge, Unveil, Lock}
+use Rattle.pua_ever.proofs.Common.{change_effect, kept_at, apply, tree_left, Action, OnPath, Symlink, Rename, Link, Pledge, Unveil, Lock}
 use Rattle.pua_ever.proofs.Common.{Fork, Exit, has_c, Change, CopyAs, change_by, IsDecided, by_going, covers_descend, named_within_text}
 use Rattle.pua_ever.proofs.Common.{row_cover, is_yes, can_link, can_move, may_rename, New, NewDir, NewFile, NewLink, EditsNeedC, List, FoundFits}
 use Rattle.std.proofs.Common.{not}
@@ -49,7 +49,7 @@ none_is : {X : Type 0} (o : Option X) → is_none o ≡ true → o ≡ None
 none_is None e = refl
 none_is (Some x) e = cc
 
-module _ (table : CallTable) (needs : EditsNeedC table) (t : Tree) (h : History) (well : WellFormed t) where
+module _ (table : CallTable) (needs : EditsNeedC table) (t : Tree) (h : ProcessState) (well : WellFormed t) where
   abbrev IsMade : New → Spot → Type 0
   IsMade new s = (maker : Call) × IsMaker new maker ×
       (is_allowed (covered_verdict empty_tree table h maker (name_cover table t h s) IsMissing) ≡ true) ×
@@ -263,7 +263,7 @@ module _ (table : CallTable) (needs : EditsNeedC table) (t : Tree) (h : History)
   grows_by (Fork new) c d = subst Grows (sym d.1) tt
   grows_by Exit c d = subst Grows (sym d) tt
 
-grown_made : (table : CallTable) (needs : EditsNeedC table) (w : World) (h : History) (well : WellFormed w.tree) (c : Change) →
+grown_made : (table : CallTable) (needs : EditsNeedC table) (w : World) (h : ProcessState) (well : WellFormed w.tree) (c : Change) →
     Grows table needs w.tree h well c → Grown table w.tree h (tree_left w.tree (change_effect w h c))
 grown_made table needs w h well (AddNode s node) grows =
     let made = grows.2 in
@@ -271,7 +271,7 @@ grown_made table needs w h well (AddNode s node) grows =
 grown_made table needs w h well (CutRow s) grows = grown_cut table w.tree h s.0 s.1
 grown_made table needs w h well (ShiftRow s r) grows = grown_shift table w.tree h s.0 r.0 s.1 r.1 grows.0 grows.1 grows.2 grows.3 grows.4
 grown_made table needs w h well (TieRow s x) grows = grown_tie table w.tree h s.0 s.1 x grows.0 grows.1 grows.2
-grown_made table needs w h well (CopyAs new) grows = by (is_some (history_of w new) || nat_le most_processes (length w.histories))
+grown_made table needs w h well (CopyAs new) grows = by (is_some (kept_at w new) || nat_le most_processes (length w.processes))
   where
     by : (full : Bool) → Grown table w.tree h (tree_left w.tree (cond full (Fails EAGAIN) (Copies new)))
     by true = grown_all table w.tree h
@@ -279,8 +279,8 @@ grown_made table needs w h well (CopyAs new) grows = by (is_some (history_of w n
 grown_made table needs w h well _ grows = grown_all table w.tree h
 
 -- each row and each node that a request leaves was there, or came where the one that asks has `c`
-pub requests_grow : (table : CallTable) → EditsNeedC table → (w : World) (ask : Asked) (h : History) →
-    WellFormed w.tree → history_of w ask.process ≡ Some h → Grown table w.tree h (apply table w ask).1.tree
+pub requests_grow : (table : CallTable) → EditsNeedC table → (w : World) (ask : Asked) (h : ProcessState) →
+    WellFormed w.tree → kept_at w ask.process ≡ Some h → Grown table w.tree h (apply table w ask).1.tree
 requests_grow table needs w ask h well here =
     by_own_tree table w ask h here (Grown table w.tree h) (grown_all table w.tree h)
     (λ c guards. grown_made table needs w h well c (grows_by table needs w.tree h well ask.action c guards))

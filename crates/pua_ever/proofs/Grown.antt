@@ -2,35 +2,28 @@
 use Rattle.pua_ever.proofs.Common.{◌≡◌, ◌≢◌, ◌⊎◌, ◌≤◌, ℕ, List, Bool, true, false, cond, refl, sym, ap, subst, ◌∙◌, inl, inr, arith, Option}
 use Rattle.pua_ever.proofs.Common.{Some, None, Ok, Err, is_some, ◌==◌, option_map, nat_cmp, nat_cmp_total, nat_cmp-IsAntisymmetric}
 use Rattle.pua_ever.proofs.Common.{false≢true, Tree, Node, Spot, spot_cmp, is_dir, is_living, look, node_at, kind_at, is_empty, empty_tree}
-use Rattle.pua_ever.proofs.Common.{Kind, spots_total, exact_spots, Some≢None, same_Some, Slot, CallTable, History, IsMissing, cover}
+use Rattle.pua_ever.proofs.Common.{spots_total, exact_spots, Some≢None, same_Some, Slot, CallTable, ProcessState, IsMissing, cover}
 use Rattle.pua_ever.proofs.Common.{covered_verdict, is_allowed, Cover, tree_left, has_c, cover_in, row_cover, can_link, can_move, New}
-use Rattle.pua_ever.proofs.Common.{NewDir, NewOthers, NewFile, NewLink, is_made_by, may_rename, Call, and_parts}
+use Rattle.pua_ever.proofs.Common.{is_made_by, may_rename, Call, and_parts}
 use Rattle.std.proofs.Common.{not, ◌&&◌}
 use Rattle.pua_tree.specs.Tree.{rows_of}
 use Rattle.pua_tree.specs.Edits.{with_row, without_row, without_node, without_unnamed, with_new, add, tie, cut, cut_found, shift}
 use Rattle.pua_tree.specs.Edits.{shift_found, with_row_moved, is_full_dir, is_full_dir_there, is_inside, is_same_node, has_room}
 use Rattle.pua_tree.specs.Edits.{has_name_room}
-use Rattle.pua_tree.specs.declared.node.Kind.TheVariants as kind
 use Rattle.pua_tree.specs.declared.fault.TreeFault.TheVariants.{Missing, Taken, NotDir, NotEmpty, Inside, Full, IsDir}
 use Rattle.pua_tree.proofs.ForCallers.{same_or_other, put_here, put_elsewhere, without_here, without_elsewhere}
 use Rattle.pua_script.specs.Replay.{edit_effect, edited_tree}
-
--- what is made, as a node
-abbrev pub new_kind : New → Kind
-new_kind NewDir = kind.Dir
-new_kind NewOthers = kind.Dir
-new_kind NewFile = kind.File
-new_kind NewLink = kind.Link
+pub use Rattle.pua_ever.specs.Ever.{new_kind}
 
 -- what can be moved has `c`
-pub moved_has_c : (table : CallTable) (h : History) (left : Cover) → can_move table h left ≡ true → has_c left ≡ true
+pub moved_has_c : (table : CallTable) (h : ProcessState) (left : Cover) → can_move table h left ≡ true → has_c left ≡ true
 moved_has_c table h left can = (and_parts (has_c left) _ (and_parts (may_rename table h) _ can).1).0
 
 -- by such a call it is made
 abbrev pub IsMaker : New → Call → Type 0
 IsMaker made maker = (passes : Call → Bool) → passes maker ≡ true → is_made_by passes made ≡ true
 
-module _ (table : CallTable) (t : Tree) (h : History) where
+module _ (table : CallTable) (t : Tree) (h : ProcessState) where
   -- what covers a name at which nothing stands
   abbrev pub name_cover : Spot → Cover
   name_cover s = cover t h (Slot s.0 s.1 None)

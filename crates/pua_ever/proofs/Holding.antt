@@ -1,68 +1,56 @@
 -- What a process that can put no veil any more holds at any time, and whatever it forks and starts, where what is started
 -- is bounded by the execpromises.
-use Rattle.pua_ever.proofs.Common.{◌≡◌, ◌⊎◌, ℕ, List, [], ◌∷◌, Bool, true, false, cond, refl, sym, ap, ◌∙◌, inl, inr}
-use Rattle.pua_ever.proofs.Common.{Some, None, Option, same_Some, not, ◌&&◌, ◌||◌, filter, list_any}
+use Rattle.pua_ever.proofs.Common.{◌≡◌, ◌⊎◌, ℕ, List, [], ◌∷◌, Bool, true, false, cond, refl, sym, ap, subst, ◌∙◌, inl, inr}
+use Rattle.pua_ever.proofs.Common.{Some, None, Option, same_Some, not, ◌&&◌, ◌||◌, list_any}
 use Rattle.pua_ever.proofs.Common.{false≢true, or_left, or_right}
-use Rattle.pua_ever.proofs.Common.{CallTable, rule_of, History, may_any, is_unveil, Asked, World, apply}
-use Rattle.pua_ever.proofs.Common.{world_after, history_of}
+use Rattle.pua_ever.proofs.Common.{CallTable, rule_of, ProcessState, SameVeils, has_veil, may_any, state_after, Asked, World, apply}
+use Rattle.pua_ever.proofs.Common.{world_after, kept_at}
 use Rattle.pua_ever.proofs.Common.{is_member, family_then}
 use Rattle.pua_ever.proofs.Common.{NoCallNeedsError}
 use Rattle.std.proofs.Common.{lit<}
 use Rattle.std.proofs.lemmas.Bool.{false_from_ne_true, true≢false}
 use Rattle.std.specs.List.{AllByRecursion}
-use Rattle.std.specs.Prelude.{bit_and, unwrap_or, ◌-◌}
-use Rattle.pua_calls.specs.Promises.{holds, unveil, error, all_promises}
+use Rattle.std.specs.Prelude.{bit_and}
+use Rattle.pua_calls.specs.Promises.{holds, unveil}
 use Rattle.pua_calls.specs.Tables.{NamesNoError}
 use Rattle.pua_calls.specs.declared.rules.ExecPromises.{ExecPromises}
 use Rattle.pua_calls.specs.declared.rules.ExecPromises.TheVariants.{Unset, Stay}
 use Rattle.pua_calls.specs.declared.call.Call.TheVariants as call
-use Rattle.pua_policy.specs.History.{Event, Pledged, Unveiled, Locked, Moved, Ended, held_set, held_for_exec, is_pledge, is_locked, is_ended}
-use Rattle.pua_policy.specs.History.{has_error, after_exec, meet, state_of}
+use Rattle.pua_policy.specs.States.{Event, Pledged, Unveiled, Locked, Moved, Ended, held_set, held_for_exec, is_locked, is_ended}
+use Rattle.pua_policy.specs.States.{has_error, after_exec, meet, state_by_exec, veil_at}
 use Rattle.pua_policy.specs.declared.answer.May.TheVariants.{Yes, Enosys, Death}
-use Rattle.pua_policy.proofs.ForCallers.{held_never_grows, second_holds, state_by_exec, state_exec}
-use Rattle.pua_script.specs.Family.{family, HasHistoryOf}
+use Rattle.pua_policy.proofs.ForCallers.{state_never_grows, second_holds}
+use Rattle.pua_script.specs.Family.{family, HasKept}
 use Rattle.pua_script.specs.Laws.{IsConfined}
 use Rattle.pua_ever.specs.Through.{AreWithin, HandsDown, HoldsOne, IsAlong, GoesAlong, FamiliesGoAlong, is_promised_by, is_bounded}
 use Rattle.pua_ever.specs.Through.{stays, is_confined_through, bound_of, GoAlong}
 use Rattle.pua_ever.proofs.Keeping.{Keeps, Are, alone_are, own_kept, then_kept, after_kept}
 
--- an event that is no unveil leaves the unveils
-unveils_more : (event : Event) (h : History) → is_unveil event ≡ false → filter is_unveil (event ∷ h) ≡ filter is_unveil h
-unveils_more (Unveiled place perms) h is = absurd (true≢false is)
-unveils_more (Pledged p e) h is = refl
-unveils_more Locked h is = refl
-unveils_more (Moved dir) h is = refl
-unveils_more Ended h is = refl
+-- who has the veils of one that has those of a third has these
+alike : {a b c : ProcessState} → a.veils ≡ b.veils → SameVeils b c → SameVeils a c
+alike e same = record { any = ap has_veil e ∙ same.any; kept = λ place. ap (λ vs. veil_at vs place) e ∙ same.kept place }
 
-locked_more : (event : Event) (h : History) → is_locked h ≡ true → is_locked (event ∷ h) ≡ true
+-- who is locked stays so, and who lives then lived
+locked_more : (event : Event) (h : ProcessState) → is_locked h ≡ true → is_locked (state_after event h) ≡ true
 locked_more Locked h locked = refl
 locked_more (Pledged p e) h locked = locked
 locked_more (Unveiled place perms) h locked = locked
 locked_more (Moved dir) h locked = locked
 locked_more Ended h locked = locked
 
-lives_before : (event : Event) (h : History) → is_ended (event ∷ h) ≡ false → is_ended h ≡ false
+lives_before : (event : Event) (h : ProcessState) → is_ended (state_after event h) ≡ false → is_ended h ≡ false
 lives_before (Unveiled place perms) h lives = lives
 lives_before (Pledged p e) h lives = lives
 lives_before Locked h lives = lives
 lives_before (Moved dir) h lives = lives
 lives_before Ended h lives = absurd (true≢false lives)
 
--- leaving out pledges leaves the unveils
-pub unveils_kept : (h : History) → filter is_unveil (filter (λ event. not (is_pledge event)) h) ≡ filter is_unveil h
-unveils_kept [] = refl
-unveils_kept (Pledged p e ∷ h) = unveils_kept h
-unveils_kept (Unveiled place perms ∷ h) = ap (λ l. Unveiled place perms ∷ l) (unveils_kept h)
-unveils_kept (Locked ∷ h) = unveils_kept h
-unveils_kept (Moved d ∷ h) = unveils_kept h
-unveils_kept (Ended ∷ h) = unveils_kept h
-
 -- promises never grow, but for `error`
-within_more : (event : Event) (h : History) (others : ℕ) → AreWithin (held_set h) others → AreWithin (held_set (event ∷ h)) others
-within_more event h others within set sound holding = within set sound (held_never_grows event h set sound.0 sound.1 holding)
+within_more : (event : Event) (h : ProcessState) (others : ℕ) → AreWithin (held_set h) others → AreWithin (held_set (state_after event h)) others
+within_more event h others within set sound holding = within set sound (state_never_grows event h set sound.0 sound.1 holding)
 
 -- nor do execpromises once they are set
-hands_more : (event : Event) (h : History) (given : ℕ) → HandsDown h given → HandsDown (event ∷ h) given
+hands_more : (event : Event) (h : ProcessState) (given : ℕ) → HandsDown h given → HandsDown (state_after event h) given
 hands_more (Pledged p (Some e)) h given hands = record {
   left = bit_and e hands.left;
   set = ap (λ o. Some (meet e o)) hands.set;
@@ -88,7 +76,7 @@ any_within promises others within (set ∷ sets) sound e =
     by false is e more = or_right (holds others set) _ (more e)
 
 -- who may holds one of the sets
-pub may_holds : (h : History) (sets : List ℕ) → may_any h sets ≡ Yes → list_any (holds (held_set h)) sets ≡ true
+pub may_holds : (h : ProcessState) (sets : List ℕ) → may_any h sets ≡ Yes → list_any (holds (held_set h)) sets ≡ true
 may_holds h sets = by (is_ended h) (list_any (holds (held_set h)) sets) (has_error h)
   where
     by : (a b c : Bool) → cond a Death (cond b Yes (cond c Enosys Death)) ≡ Yes → b ≡ true
@@ -105,23 +93,23 @@ lock_parts false false false locked lacks lacks_too e = inr (lacks, lacks_too)
 lock_parts false true c locked lacks lacks_too e = absurd (false≢true e)
 lock_parts false false true locked lacks lacks_too e = absurd (false≢true e)
 
-module _ (table : CallTable) (sound : NoCallNeedsError table) (now : History) (given : ℕ) (bounded : is_bounded table given ≡ true) where
-  abbrev Along : History → Type 0
+module _ (table : CallTable) (sound : NoCallNeedsError table) (now : ProcessState) (given : ℕ) (bounded : is_bounded table given ≡ true) where
+  abbrev Along : ProcessState → Type 0
   Along h = IsAlong table now given h
 
-  abbrev Goes : History → Type 0
+  abbrev Goes : ProcessState → Type 0
   Goes h = GoesAlong table now given h
 
-  pub goes : (h : History) → Along h → Goes h
+  pub goes : (h : ProcessState) → Along h → Goes h
   goes h k = record { unveils = k.unveils; lock = k.lock; ended = k.ended; promises = inl k.promises }
 
-  abbrev LockOf : History → Type 0
+  abbrev LockOf : ProcessState → Type 0
   LockOf h = (is_locked h ≡ true) ⊎ ((holds (held_set now) unveil ≡ false) × (holds given unveil ≡ false))
 
-  lock_more : (event : Event) (h : History) → LockOf h → LockOf (event ∷ h)
+  lock_more : (event : Event) (h : ProcessState) → LockOf h → LockOf (state_after event h)
   lock_more event h lock = elim lock [ inl locked ↦ inl (locked_more event h locked) | inr lacking ↦ inr lacking ]
 
-  holds_more : (event : Event) (h : History) → HoldsOne table now given h → HoldsOne table now given (event ∷ h)
+  holds_more : (event : Event) (h : ProcessState) → HoldsOne table now given h → HoldsOne table now given (state_after event h)
   holds_more event h one = elim one [
     | inl own ↦ inl (within_more event h (held_set now) own.0, hands_more event h given own.1)
     | inr later ↦ inr (
@@ -131,23 +119,23 @@ module _ (table : CallTable) (sound : NoCallNeedsError table) (now : History) (g
   ]
 
   -- who can start nothing never can
-  starts_none : (event : Event) (h : History) → is_promised_by table (held_set h) call.Exec ≡ false →
-      is_promised_by table (held_set (event ∷ h)) call.Exec ≡ false
+  starts_none : (event : Event) (h : ProcessState) → is_promised_by table (held_set h) call.Exec ≡ false →
+      is_promised_by table (held_set (state_after event h)) call.Exec ≡ false
   starts_none event h none = false_from_ne_true _ (λ starts. false≢true (sym none ∙
-      any_within (held_set (event ∷ h)) (held_set h) (within_more event h (held_set h) (λ set fine holding. holding))
+      any_within (held_set (state_after event h)) (held_set h) (within_more event h (held_set h) (λ set fine holding. holding))
       (rule_of table call.Exec).alternatives (sound.calls call.Exec) starts))
 
-  along_more : (event : Event) (h : History) → is_unveil event ≡ false → Along h → Along (event ∷ h)
-  along_more event h is k = record {
-    unveils = unveils_more event h is ∙ k.unveils;
+  along_more : (event : Event) (h : ProcessState) → (state_after event h).veils ≡ h.veils → Along h → Along (state_after event h)
+  along_more event h same k = record {
+    unveils = alike same k.unveils;
     lock = lock_more event h k.lock;
     ended = λ lives. k.ended (lives_before event h lives);
     promises = holds_more event h k.promises;
   }
 
-  goes_more : (event : Event) (h : History) → is_unveil event ≡ false → Goes h → Goes (event ∷ h)
-  goes_more event h is k = record {
-    unveils = unveils_more event h is ∙ k.unveils;
+  goes_more : (event : Event) (h : ProcessState) → (state_after event h).veils ≡ h.veils → Goes h → Goes (state_after event h)
+  goes_more event h same k = record {
+    unveils = alike same k.unveils;
     lock = lock_more event h k.lock;
     ended = λ lives. k.ended (lives_before event h lives);
     promises = elim k.promises [
@@ -157,17 +145,13 @@ module _ (table : CallTable) (sound : NoCallNeedsError table) (now : History) (g
   }
 
   -- who hands promises down starts a program that holds them
-  module _ (h : History) (k : Goes h) (hands : HandsDown h given) where
-    started : (left : ExecPromises) → state_of (after_exec left h) ≡ state_by_exec left (Some hands.left) (state_of h)
-    started left = state_exec left h ∙ ap (λ o. state_by_exec left o (state_of h)) hands.set
-
-    held_then : (left : ExecPromises) → AreWithin (held_set (after_exec left h)) given
-    held_then left set fine holding = hands.within set fine
-        ((λ i. holds (unwrap_or (sym (started left) i).promises (all_promises - error)) set) ∙ holding)
+  module _ (h : ProcessState) (k : Goes h) (hands : HandsDown h given) where
+    abbrev started : ExecPromises → ProcessState
+    started left = state_by_exec left (Some hands.left) h
 
     hands_then : (left : ExecPromises) → left ≡ table.execpromises →
-        HandsDown (after_exec left h) given ⊎ (is_promised_by table given call.Exec ≡ false)
-    hands_then Stay is = inl (record { left = hands.left; set = ap (λ p. p.execpromises) (started Stay); within = hands.within })
+        HandsDown (started left) given ⊎ (is_promised_by table given call.Exec ≡ false)
+    hands_then Stay is = inl (record { left = hands.left; set = refl; within = hands.within })
     hands_then Unset is = inr (by (is_promised_by table given call.Exec) (ap (λ l. stays l || not (is_promised_by table given call.Exec)) is
         ∙ bounded))
       where
@@ -176,17 +160,14 @@ module _ (table : CallTable) (sound : NoCallNeedsError table) (now : History) (g
         by false e = refl
 
     along_started : Along (after_exec table.execpromises h)
-    along_started = record {
-      unveils = (rw hands.set (unveils_kept h)) ∙ k.unveils;
-      lock = elim k.lock [
-        | inl locked ↦ inl (ap (λ p. p.locked) (started table.execpromises) ∙ locked)
-        | inr lacking ↦ inr lacking
-      ];
-      ended = λ lives. k.ended (sym (ap (λ p. p.ended) (started table.execpromises)) ∙ lives);
-      promises = inr (held_then table.execpromises, hands_then table.execpromises refl);
-    }
+    along_started = subst (λ o. Along (state_by_exec table.execpromises o h)) (sym hands.set) (record {
+      unveils = record { any = k.unveils.any; kept = k.unveils.kept };
+      lock = k.lock;
+      ended = k.ended;
+      promises = inr (hands.within, hands_then table.execpromises refl);
+    })
 
-  started_by_one : (h : History) → Goes h → HoldsOne table now given h → may_any h (rule_of table call.Exec).alternatives ≡ Yes →
+  started_by_one : (h : ProcessState) → Goes h → HoldsOne table now given h → may_any h (rule_of table call.Exec).alternatives ≡ Yes →
       Along (after_exec table.execpromises h)
   started_by_one h k one may = elim one [
     | inl own ↦ along_started h k own.1
@@ -197,14 +178,14 @@ module _ (table : CallTable) (sound : NoCallNeedsError table) (now : History) (g
     ]
   ]
 
-  goes_program : (h : History) → Goes h → may_any h (rule_of table call.Exec).alternatives ≡ Yes → Goes (after_exec table.execpromises h)
+  goes_program : (h : ProcessState) → Goes h → may_any h (rule_of table call.Exec).alternatives ≡ Yes → Goes (after_exec table.execpromises h)
   goes_program h k may = elim k.promises [
     | inl one ↦ goes (after_exec table.execpromises h) (started_by_one h k one may)
     | inr none ↦ absurd (false≢true (sym none.1 ∙ may_holds h (rule_of table call.Exec).alternatives may))
   ]
 
   -- who goes along can put no veil
-  pub lacks_unveil : (h : History) → Goes h → IsConfined h
+  pub lacks_unveil : (h : ProcessState) → Goes h → IsConfined h
   lacks_unveil h k = elim k.lock [
     | inl locked ↦ inl locked
     | inr lacking ↦ inr (false_from_ne_true _ (λ holding. elim k.promises [
@@ -216,7 +197,7 @@ module _ (table : CallTable) (sound : NoCallNeedsError table) (now : History) (g
     ]))
   ]
 
-  no_unveil : (h : History) → Goes h → may_any h (unveil ∷ []) ≡ Yes → is_locked h ≡ false → ⊥
+  no_unveil : (h : ProcessState) → Goes h → may_any h (unveil ∷ []) ≡ Yes → is_locked h ≡ false → ⊥
   no_unveil h k may unlocked = elim (lacks_unveil h k) [
     | inl locked ↦ true≢false (sym locked ∙ unlocked)
     | inr lacking ↦ false≢true (sym (ap (λ b. b || false) lacking) ∙ may_holds h (unveil ∷ []) may)
@@ -234,7 +215,7 @@ module _ (table : CallTable) (sound : NoCallNeedsError table) (now : History) (g
 
   -- the members
   pub own : (w : World) (ask : Asked) (members : List ℕ) → GoAlong table w now given members → is_member members ask.process ≡ true →
-      HasHistoryOf (apply table w ask).1 ask.process Goes
+      HasKept (apply table w ask).1 ask.process Goes
   own w ask members are = own_kept table Goes keeps_going w ask members are
 
   pub along_then : (w : World) (ask : Asked) (members : List ℕ) → GoAlong table w now given members →
@@ -248,28 +229,28 @@ module _ (table : CallTable) (sound : NoCallNeedsError table) (now : History) (g
   -- at the beginning the process is the only member
   pub along_now : held_for_exec now ≡ Some given → is_confined_through now given ≡ true → Along now
   along_now set confined = record {
-    unveils = refl;
+    unveils = record { any = refl; kept = λ place. refl };
     lock = lock_parts (is_locked now) (holds (held_set now) unveil) (holds given unveil) refl refl refl confined;
     ended = λ lives. lives;
     promises = inl (λ set fine holding. holding, record { left = given; set = set; within = λ set fine holding. holding });
   }
 
-  pub along_first : (w : World) (process : ℕ) → history_of w process ≡ Some now → held_for_exec now ≡ Some given →
+  pub along_first : (w : World) (process : ℕ) → kept_at w process ≡ Some now → held_for_exec now ≡ Some given →
       is_confined_through now given ≡ true → GoAlong table w now given (process ∷ [])
   along_first w process here set confined = alone_are Goes w process now here (goes now (along_now set confined))
 
-  pub family_along : (asks : List Asked) (w : World) (process : ℕ) → history_of w process ≡ Some now → held_for_exec now ≡ Some given →
+  pub family_along : (asks : List Asked) (w : World) (process : ℕ) → kept_at w process ≡ Some now → held_for_exec now ≡ Some given →
       is_confined_through now given ≡ true → Are Along (world_after table w asks) (family table w asks (process ∷ []))
   family_along asks w process here set confined =
       after_kept table Along keeps_along asks w (process ∷ []) (alone_are Along w process now here (along_now set confined))
 
 -- what the bound says of the execpromises
-pub record Bound (table : CallTable) (now : History) (given : ℕ) : Type 0 where
+pub record Bound (table : CallTable) (now : ProcessState) (given : ℕ) : Type 0 where
   pub set : held_for_exec now ≡ Some given
   pub bounded : is_bounded table given ≡ true
   pub confined : is_confined_through now given ≡ true
 
-pub bound_parts : (table : CallTable) (now : History) (given : ℕ) → bound_of table now ≡ Some given → Bound table now given
+pub bound_parts : (table : CallTable) (now : ProcessState) (given : ℕ) → bound_of table now ≡ Some given → Bound table now given
 bound_parts table now given bound = by (held_for_exec now) refl
   where
     only : (a b : Bool) (left : ℕ) → cond (a && b) (Some left) None ≡ Some given → (left ≡ given) × (a ≡ true) × (b ≡ true)

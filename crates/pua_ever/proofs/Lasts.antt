@@ -1,30 +1,35 @@
 -- The list that is printed, over a listing and a script as a command reads them, and the list of the objects of now in it.
-use Rattle.pua_ever.proofs.Common.{◌≡◌, ℕ, List, [], ◌∷◌, Bool, true, false, cond, map, refl, sym, ap, subst, ◌∙◌, inl, Option, Some}
-use Rattle.pua_ever.proofs.Common.{None, Ok, not, ◌&&◌, ◌||◌, filter, list_any, and_parts, and_from, nat_lt, length, Tree, WellFormed, climb}
-use Rattle.pua_ever.proofs.Common.{CallTable, calls, rule_of, Call, History, veils, may_any, is_unveil, cover_fault}
-use Rattle.pua_ever.proofs.Common.{or_fault, if_promised, allowed_unless, object_fault, is_allowed, All, cover_in, IsMissing}
+use Rattle.pua_ever.proofs.Common.{◌≡◌, ℕ, List, [], ◌∷◌, Bool, true, false, cond, map, refl, ap, subst, ◌∙◌, inl, Option, Some}
+use Rattle.pua_ever.proofs.Common.{None, Ok, ◌&&◌, ◌||◌, filter, and_parts, and_from, nat_lt, length, Tree, WellFormed}
+use Rattle.pua_ever.proofs.Common.{CallTable, calls, rule_of, Call, ProcessState, veils, may_any, cover_fault}
+use Rattle.pua_ever.proofs.Common.{or_fault, if_promised, allowed_unless, object_fault, is_allowed, cover_in, IsMissing}
 use Rattle.pua_ever.proofs.Common.{Subject, At, Others, Item, items, NoCallNeedsError, IsWithin, verdicts_within, May, Among, among_map}
 use Rattle.pua_ever.proofs.Common.{map_among, among_filter, filter_among, contained, among_contained, ever, has_ever_calls}
-use Rattle.pua_policy.specs.History.{with_both, Pledged, Unveiled, Locked, Moved, Ended, held_for_exec, is_pledge}
-use Rattle.pua_policy.specs.Verdict.{nearest}
+use Rattle.pua_policy.specs.States.{with_both, held_for_exec}
 use Rattle.pua_policy.specs.declared.answer.May.TheVariants.{Yes, Enosys, Death}
 use Rattle.pua_policy.specs.declared.answer.Verdict.{Verdict}
-use Rattle.pua_policy.specs.declared.place.Place.TheVariants as place
-use Rattle.pua_policy.proofs.ForCallers.{same_veils}
-use Rattle.pua_script.specs.Bytes.{IsByteTree}
-use Rattle.pua_script.specs.Replay.{new_world, world_after}
+use Rattle.std.specs.Prelude.{IsTrue}
+use Rattle.pua_tree.specs.Listing.{listing}
+use Rattle.pua_calls.specs.declared.rules.Rules.{Rules}
+use Rattle.pua_script.specs.Bytes.{IsByteTree, are_in_bytes}
+use Rattle.pua_script.specs.Scripts.{script_by}
+use Rattle.pua_script.specs.Requests.{Asked}
+use Rattle.pua_script.specs.Family.{is_exec, none_done}
+use Rattle.pua_script.specs.Laws.{IsConfined}
+use Rattle.pua_script.specs.Replay.{new_world, world_after, kept_at}
 use Rattle.pua_script.proofs.ForCallers.{replays_keep_trees, replays_keep_byte_trees, listings_list_byte_trees, scripts_ask_in_bytes, may_yes}
 use Rattle.pua_objects.specs.Objects.{Line, line_of, calls_on, subject_verdict, is_named_by}
 use Rattle.pua_objects.specs.Objects as now
 use Rattle.pua_objects.proofs.ForCallers.{some_of}
 use Rattle.pua_ever.proofs.Common.{EverLine}
-use Rattle.pua_ever.specs.Laws.{IsWithinEver, IsWithinLines}
+use Rattle.pua_ever.specs.Laws.{EditsNeedC, MembersEdit, IsWithinEver, IsWithinLines}
 use Rattle.pua_ever.specs.Through.{is_promised_by, is_promised_by_one, can_come, let_through, ever_through, has_exec, ever_lasting, is_bounded}
 use Rattle.pua_ever.specs.Through.{is_confined_through, EverLastsAfterRead, NowWithinLasting}
 use Rattle.pua_ever.proofs.Now.{now_within_ever}
-use Rattle.pua_ever.proofs.Standing.{kept_after, replays_keep_places, new_places}
+use Rattle.pua_ever.proofs.Standing.{replays_keep_places, new_places}
 use Rattle.pua_ever.proofs.Holding.{goes, along_now, may_holds}
-use Rattle.pua_ever.proofs.Through.{within_both, ever_lasts}
+use Rattle.pua_ever.proofs.Through.{within_both, ever_lasts, no_line}
+use Rattle.pua_ever.proofs.NoExec.{without_exec_beside}
 
 pub ever_lasts_after_read : EverLastsAfterRead
 ever_lasts_after_read table sound needs rules tree_bytes script_bytes t first asks listed scripted bytes process now given here bound edits member
@@ -38,22 +43,27 @@ ever_lasts_after_read table sound needs rules tree_bytes script_bytes t first as
     ever_lasts table sound needs w asks process now given here bound (places process now here)
     (replays_keep_trees table w asks left bytes) edits member belongs
 
--- leaving out pledges leaves a veil
-pub any_too : (h : History) → list_any is_unveil (filter (λ event. not (is_pledge event)) h) ≡ list_any is_unveil h
-any_too [] = refl
-any_too (Pledged p e ∷ h) = any_too h
-any_too (Unveiled place perms ∷ h) = refl
-any_too (Locked ∷ h) = any_too h
-any_too (Moved d ∷ h) = any_too h
-any_too (Ended ∷ h) = any_too h
+-- where no line has exec, none of theirs can succeed
+pub none_starts_after_read : (table : CallTable) → NoCallNeedsError table → EditsNeedC table →
+    (rules : Rules) (tree_bytes script_bytes : List ℕ) (t : Tree) (first asks : List Asked) →
+    listing tree_bytes ≡ Ok t → script_by rules script_bytes ≡ Ok first → IsTrue (are_in_bytes asks) →
+    let w = world_after table (new_world t) first in
+    (process : ℕ) (now : ProcessState) → kept_at w process ≡ Some now → IsConfined now → has_exec (ever w.tree table now) ≡ false →
+    MembersEdit table w asks (process ∷ []) → IsTrue (none_done is_exec table w asks (process ∷ []))
+none_starts_after_read table sound needs rules tree_bytes script_bytes t first asks listed scripted bytes process now here confined quiet edits =
+    let w = world_after table (new_world t) first in
+    let said = scripts_ask_in_bytes rules script_bytes first scripted in
+    let tree : IsByteTree t = listings_list_byte_trees tree_bytes t listed in
+    let left = replays_keep_byte_trees table (new_world t) first tree said in
+    let places = replays_keep_places table needs (new_world t) first (replays_keep_trees table (new_world t) first tree said)
+    (new_places t) in
+    without_exec_beside table sound needs w asks process now here confined (places process now here)
+    (replays_keep_trees table w asks left bytes) edits (no_line w.tree table now quiet)
 
-module _ (t : Tree) (well : WellFormed t) (table : CallTable) (sound : NoCallNeedsError table) (h : History) (given : ℕ)
+module _ (t : Tree) (well : WellFormed t) (table : CallTable) (sound : NoCallNeedsError table) (h : ProcessState) (given : ℕ)
     (within : IsWithin (with_both h given) h) where
-  abbrev both : History
+  abbrev both : ProcessState
   both = with_both h given
-
-  over_same : (dir : ℕ) → cover_in t h dir ≡ cover_in t both dir
-  over_same dir = sym (λ i. cond (any_too h i) (nearest (map (λ over. kept_after h (place.Dir over) i) (climb t dir))) All)
 
   allowed_if : (m n : May) (v : Verdict) → (m ≡ Yes → n ≡ Yes) → is_allowed (if_promised m v) ≡ true → is_allowed (if_promised n v) ≡ true
   allowed_if Yes n v more e = ap (λ x. is_allowed (if_promised x v)) (more refl) ∙ e
@@ -67,9 +77,7 @@ module _ (t : Tree) (well : WellFormed t) (table : CallTable) (sound : NoCallNee
   allowed_too c (Others dir) e =
       allowed_if (may_any h (rule_of table c).alternatives) (may_any both (rule_of table c).alternatives)
       (allowed_unless (or_fault (cover_fault (cover_in t both dir) (rule_of table c).perms) (object_fault t c IsMissing)))
-      (may_yes both h within (rule_of table c).alternatives (sound.calls c))
-      (ap (λ left. is_allowed (if_promised (may_any h (rule_of table c).alternatives)
-      (allowed_unless (or_fault (cover_fault left (rule_of table c).perms) (object_fault t c IsMissing))))) (sym (over_same dir)) ∙ e)
+      (may_yes both h within (rule_of table c).alternatives (sound.calls c)) e
 
   -- and its promises are held
   promised_now : (c : Call) (subject : Subject) → is_allowed (subject_verdict t table h c subject) ≡ true →
@@ -100,9 +108,8 @@ module _ (t : Tree) (well : WellFormed t) (table : CallTable) (sound : NoCallNee
       IsWithinLines (ever_through t table h given) (line_of t table h item)
   item_too item a some =
       let wide : Line = line_of t table both item in
-      let here : Among (items t (veils both)) item = subst (λ vs. Among (items t vs) item) (sym (same_veils h)) a in
       let is = among_filter now.has_calls (map (line_of t table both) (items t (veils both))) wide
-      (still (calls_on t table h item.subject) some refl) (among_map (line_of t table both) (items t (veils both)) item here) in
+      (still (calls_on t table h item.subject) some refl) (among_map (line_of t table both) (items t (veils both)) item a) in
       let later : IsWithinEver t table both wide = now_within_ever t table both well wide
       (contained (filter now.has_calls (map (line_of t table both) (items t (veils both)))) wide is) in
       let passes = is_promised_by_one table h given in
@@ -142,7 +149,7 @@ module _ (t : Tree) (well : WellFormed t) (table : CallTable) (sound : NoCallNee
       let P : Line → Type 0 = λ line. now.has_calls line ≡ true → IsWithinLines (ever_through t table h given) line in
       subst P from.2 (item_too from.0 from.1) a.1
 
-abbrev lines_by : Tree → CallTable → History → Bool → Option ℕ → List EverLine
+abbrev lines_by : Tree → CallTable → ProcessState → Bool → Option ℕ → List EverLine
 lines_by t table h some None = ever t table h
 lines_by t table h some (Some given) = cond some (ever_through t table h given) (ever t table h)
 

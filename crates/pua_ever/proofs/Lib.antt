@@ -14,10 +14,19 @@ pub mod ExecCalls
 pub mod Ending
 pub mod Starting
 pub mod Complete
+pub mod Untaken
+pub mod Jointly
+pub mod JointlyDone
+pub mod JointlyLasts
+pub mod JointlyClosed
+pub mod JointlyGrows
+pub mod JointlyRows
 pub mod Now
 pub mod NoExec
 pub mod Calling
+pub mod Leaving
 pub mod Standing
+pub mod Placed
 pub mod Rules
 pub mod KeptVeils
 pub mod Origin
@@ -35,7 +44,6 @@ pub mod Through
 pub mod Narrowed
 pub mod Lasts
 pub mod Together
-pub mod OneByOne
 pub mod Chosen
 pub mod ForCallers
 pub mod RowsTell

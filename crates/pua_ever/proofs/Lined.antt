@@ -1,6 +1,6 @@
 -- The lines of what is to come, one after another.
 use Rattle.pua_ever.proofs.Common.{ℕ, ◌≡◌, List, [], ◌∷◌, ◌++◌, Bool, true, false, cond, map, refl, sym, ap, ◌∙◌, Option, Some, None}
-use Rattle.pua_ever.proofs.Common.{◌&&◌, filter, flat_map, Tree, Spot, Slot, CallTable, calls, has, History, veils, Call, Word, Subject}
+use Rattle.pua_ever.proofs.Common.{◌&&◌, filter, flat_map, Tree, Spot, Slot, CallTable, calls, has, ProcessState, veils, Call, Word, Subject}
 use Rattle.pua_ever.proofs.Common.{At, Item, items, New, Stands, Comes, EverLine, may_edit, can_make, own_spot, subjects_of}
 use Rattle.pua_ever.proofs.Common.{is_ever_allowed, all_new, ever_line, new_line, has_ever_calls, ever, ever_lines_of, both_of, made_left}
 use Rattle.pua_ever.proofs.Common.{AreOnFreed}
@@ -12,7 +12,7 @@ use Rattle.pua_ever.specs.EverLines.{Left, Now, Freed, Coming, lines_about, line
 use Rattle.pua_ever.specs.declared.line.EverLine as given
 use Rattle.pua_ever.specs.declared.made.Made.TheVariants as made
 
-module _ (t : Tree) (table : CallTable) (h : History) where
+module _ (t : Tree) (table : CallTable) (h : ProcessState) where
   names_then : (word : Word) (names : List Subject) (more : List (Word × Subject)) (last : List EverLine)
       → map (ever_line t table h) (map (λ subject. (word, subject)) names ++ more) ++ last
       ≡ map (λ subject. ever_line t table h (word, subject)) names ++ (map (ever_line t table h) more ++ last)

@@ -2,7 +2,7 @@
 use Rattle.pua_ever.proofs.Common.{◌≡◌, ℕ, List, [], ◌∷◌, true, false, refl, sym, ap, subst, ◌∙◌, Option, Some, None, not, ◌&&◌, ◌||◌}
 use Rattle.pua_ever.proofs.Common.{if◌then◌else◌, is_some, option_map, and_parts, not-true, Tree, Node, WellFormed, Spot, is_dir, look}
 use Rattle.pua_ever.proofs.Common.{node_at, kind_at, empty_tree, Kind, sound_from, row_says, same_Some, Some≢None, None≢Some, is_link_kind}
-use Rattle.pua_ever.proofs.Common.{Named, Top, Dot, DotDot, Whole, Slot, CallTable, has, keeps_link, History, perms_kept, object_seen}
+use Rattle.pua_ever.proofs.Common.{Named, Top, Dot, DotDot, Whole, Slot, CallTable, has, keeps_link, ProcessState, perms_kept, object_seen}
 use Rattle.pua_ever.proofs.Common.{IsMissing, object_of_kind, cover, covered_verdict, is_allowed, Call, Cover, Only, has_c, SubjectFits}
 use Rattle.pua_ever.proofs.Common.{subject_given, own_or, Subject, At, Others, cover_in, covers_descend, may_edit, is_allowed_under}
 use Rattle.pua_ever.proofs.Common.{is_ever_allowed, is_free, own_spot, AreOnFreed}
@@ -28,7 +28,7 @@ seen_alike t (Some kinds.File) = refl
 seen_alike t (Some kinds.Prog) = refl
 seen_alike t (Some kinds.Link) = refl
 
-module _ (t : Tree) (well : WellFormed t) (table : CallTable) (h : History) where
+module _ (t : Tree) (well : WellFormed t) (table : CallTable) (h : ProcessState) where
   -- what stands at a name has a kind
   has_kind : (dir : ℕ) (name : List ℕ) (x : ℕ) → look t dir name ≡ Some x → is_some (kind_at t x) ≡ true
   has_kind dir name x row = by (node_at t x) (row_says t (sound_from t well) (dir, name) x row).2

@@ -1,8 +1,8 @@
 -- What is left to a family through execs over any tree, and what of the tree stays.
 use Rattle.pua_ever.proofs.Common.{◌≡◌, ◌⊎◌, ℕ, List, [], ◌∷◌, true, refl, ap, subst, sym, inl, inr, allowed_is, is_allowed, verdict_of}
-use Rattle.pua_ever.proofs.Common.{verdicts_within, CallTable, History, Asked, World, apply, world_after, is_member, family_then}
+use Rattle.pua_ever.proofs.Common.{verdicts_within, CallTable, ProcessState, Asked, World, apply, world_after, is_member, family_then}
 use Rattle.pua_ever.proofs.Common.{NoCallNeedsError, Tree, TreesAlong, UncoveredStay, first_tree}
-use Rattle.pua_policy.specs.History.{with_both}
+use Rattle.pua_policy.specs.States.{with_both}
 use Rattle.pua_script.specs.Confinement.{TakingNeedsC}
 use Rattle.pua_script.proofs.ForCallers.{each_spares, spared_twice, by_other}
 use Rattle.pua_ever.specs.Laws.{MembersEdit}
@@ -25,10 +25,10 @@ families_narrow_through table sound w asks process now given here bound member b
       ),
     )
 
-stays : (h : History) (t : Tree) → UncoveredStay h t t
+stays : (h : ProcessState) (t : Tree) → UncoveredStay h t t
 stays h t s x there lacks = record { row = there; node = refl; covered = refl }
 
-module _ (table : CallTable) (sound : NoCallNeedsError table) (needs : TakingNeedsC table) (now : History) (given : ℕ)
+module _ (table : CallTable) (sound : NoCallNeedsError table) (needs : TakingNeedsC table) (now : ProcessState) (given : ℕ)
     (bounded : is_bounded table given ≡ true) where
   spares_through : (asks : List Asked) (w : World) (members : List ℕ) → GoAlong table w now given members →
       MembersEdit table w asks members → TreesAlong table w asks → UncoveredStay now w.tree (world_after table w asks).tree

@@ -1,7 +1,7 @@
 -- Where no line has `exec`, no exec of a member is answered ok.
 use Rattle.pua_ever.proofs.Common.{◌≡◌, ◌⊎◌, ℕ, List, [], ◌∷◌, Bool, true, false, refl, ap, subst, ◌∙◌, sym, inl, inr, Some, Ok, not}
-use Rattle.pua_ever.proofs.Common.{false≢true, and_parts, and_from, Tree, WellFormed, CallTable, History, working_dir, verdict_of}
-use Rattle.pua_ever.proofs.Common.{is_allowed, if_promised, allowed_unless, or_fault, allowed_is, Asked, World, apply, history_of, Change}
+use Rattle.pua_ever.proofs.Common.{false≢true, and_parts, and_from, Tree, WellFormed, CallTable, ProcessState, working_dir, verdict_of}
+use Rattle.pua_ever.proofs.Common.{is_allowed, if_promised, allowed_unless, or_fault, allowed_is, Asked, World, apply, kept_at, Change}
 use Rattle.pua_ever.proofs.Common.{IsDecided, Action, OnPath, Symlink, Rename, Link, Pledge, Unveil, Lock, Fork, Exit, is_member, is_exec}
 use Rattle.pua_ever.proofs.Common.{is_done, none_done, family_then, NoCallNeedsError, TreesAlong, IsWithin, verdicts_within}
 use Rattle.pua_ever.proofs.Common.{Members, members_then, first_tree, may_edit, EditsNeedC, VeilsStand}
@@ -18,7 +18,6 @@ use Rattle.pua_script.proofs.ForCallers.{begins, by_other, at_all}
 use Rattle.pua_script.proofs.ForCallers.{each_spares}
 use Rattle.pua_script.specs.Laws.{IsConfined}
 use Rattle.pua_ever.specs.Laws.{MembersEdit, NoLineHasExec, WithoutExec}
-use Rattle.pua_ever.proofs.Complete.{edits_alone}
 use Rattle.pua_ever.proofs.Growing.{takes, requests_grow}
 use Rattle.pua_ever.proofs.Origins.{Stays, at_first}
 use Rattle.pua_ever.proofs.Stepping.{stays_then}
@@ -27,11 +26,11 @@ use Rattle.pua_ever.proofs.Unedited.{unedited, still_unable}
 use Rattle.pua_ever.proofs.Ending.{foreseen}
 
 -- an exec that was answered ok was allowed on its path
-record Execs (table : CallTable) (w : World) (h : History) : Type 0 where
-  path : List ℕ
-  allowed : verdict_of w.tree table h call.Exec (object_named w.tree h call.Exec path) ≡ verdicts.Allowed
+pub record Execs (table : CallTable) (w : World) (h : ProcessState) : Type 0 where
+  pub path : List ℕ
+  pub allowed : verdict_of w.tree table h call.Exec (object_named w.tree h call.Exec path) ≡ verdicts.Allowed
 
-execs_by : (table : CallTable) (w : World) (h : History) (action : Action) (c : Change) → IsDecided table w.tree h action c →
+execs_by : (table : CallTable) (w : World) (h : ProcessState) (action : Action) (c : Change) → IsDecided table w.tree h action c →
     is_exec action ≡ true → Execs table w h
 execs_by table w h (OnPath call.Exec path) c d is =
     let one = d.1 in
@@ -48,7 +47,7 @@ execs_by table w h Lock c d is = absurd (false≢true is)
 execs_by table w h (Fork new) c d is = absurd (false≢true is)
 execs_by table w h Exit c d is = absurd (false≢true is)
 
-execs_then : (table : CallTable) (w : World) (ask : Asked) (h : History) → history_of w ask.process ≡ Some h → is_exec ask.action ≡ true →
+pub execs_then : (table : CallTable) (w : World) (ask : Asked) (h : ProcessState) → kept_at w ask.process ≡ Some h → is_exec ask.action ≡ true →
     is_okay (apply table w ask).0 ≡ true → Execs table w h
 execs_then table w ask h here is =
     by_living table w ask h here (λ done. is_okay done.0 ≡ true → Execs table w h) (λ ok. absurd (false≢true ok))
@@ -59,7 +58,7 @@ execs_then table w ask h here is =
     refusing (Failed errno) ok = absurd (false≢true ok)
     refusing Killed ok = absurd (false≢true ok)
 
-module _ (table : CallTable) (sound : NoCallNeedsError table) (needs : EditsNeedC table) (t0 : Tree) (now : History) (well0 : WellFormed t0)
+module _ (table : CallTable) (sound : NoCallNeedsError table) (needs : EditsNeedC table) (t0 : Tree) (now : ProcessState) (well0 : WellFormed t0)
     (stand : VeilsStand t0 now) (never : NoLineHasExec t0 table now) where
   none_now : (w : World) (ask : Asked) (members : List ℕ) → Members w members now false → Stays table t0 now well0 stand w.tree →
       (may_edit table now ≡ true) ⊎ (w.tree ≡ t0)
@@ -82,7 +81,7 @@ module _ (table : CallTable) (sound : NoCallNeedsError table) (needs : EditsNeed
       by false e = e
       by true e = absurd (impossible e)
 
-  edit_then : (w : World) (ask : Asked) (h : History) → history_of w ask.process ≡ Some h → IsWithin now h →
+  edit_then : (w : World) (ask : Asked) (h : ProcessState) → kept_at w ask.process ≡ Some h → IsWithin now h →
       (may_edit table now ≡ true) ⊎ (w.tree ≡ t0) → (may_edit table now ≡ true) ⊎ ((apply table w ask).1.tree ≡ t0)
   edit_then w ask h here within (inl edits) = inl edits
   edit_then w ask h here within (inr same) = by (may_edit table now) refl
@@ -119,8 +118,8 @@ module _ (table : CallTable) (sound : NoCallNeedsError table) (needs : EditsNeed
 
 -- whoever else asks, if that leaves the tree
 pub without_exec_beside : (table : CallTable) → NoCallNeedsError table → EditsNeedC table →
-    (w : World) (asks : List Asked) (process : ℕ) (now : History) →
-    history_of w process ≡ Some now → IsConfined now → VeilsStand w.tree now → TreesAlong table w asks →
+    (w : World) (asks : List Asked) (process : ℕ) (now : ProcessState) →
+    kept_at w process ≡ Some now → IsConfined now → VeilsStand w.tree now → TreesAlong table w asks →
     MembersEdit table w asks (process ∷ []) → NoLineHasExec w.tree table now → none_done is_exec table w asks (process ∷ []) ≡ true
 without_exec_beside table sound needs w asks process now here confined stand trees edits never =
     let well = first_tree table w asks trees in
@@ -129,5 +128,5 @@ without_exec_beside table sound needs w asks process now here confined stand tre
     (inr refl)
 
 pub without_exec : WithoutExec
-without_exec table sound needs w asks process now here confined stand trees alone never =
-    without_exec_beside table sound needs w asks process now here confined stand trees (edits_alone table asks w (process ∷ []) alone) never
+without_exec table sound needs w asks process now here confined stand trees edits never =
+    without_exec_beside table sound needs w asks process now here confined stand trees edits never

@@ -3,7 +3,7 @@ use Rattle.pua_ever.proofs.Common.{◌≡◌, ℕ, zero, suc, List, [], ◌∷�
 use Rattle.pua_ever.proofs.Common.{inr, Option, Some, None, option_map, not, ◌&&◌, ◌||◌, ◌==◌, is_none, if◌then◌else◌, flat_map, nat_lt}
 use Rattle.pua_ever.proofs.Common.{list_any, and_parts, and_from, or_right, Tree, WellFormed, is_dir, look, kind_at, is_empty, has_no_row}
 use Rattle.pua_ever.proofs.Common.{sound_from, row_says, misfit_errno, IsNotEmpty, Way, Named, Top, Dot, DotDot, Whole, Slot, CallTable}
-use Rattle.pua_ever.proofs.Common.{calls, rule_of, History, perms_kept, veils, may_any, IsDir, IsMissing, object_of_kind, object_fault}
+use Rattle.pua_ever.proofs.Common.{calls, rule_of, ProcessState, perms_kept, veils, may_any, IsDir, IsMissing, object_of_kind, object_fault}
 use Rattle.pua_ever.proofs.Common.{cover, cover_fault, is_allowed, Call, Cover, Only, has_c, Word, Subject, At, Others, Item, items}
 use Rattle.pua_ever.proofs.Common.{cover_in, own_or, Among, among_left, among_map, map_among, among_filter, filter_among, contained}
 use Rattle.pua_ever.proofs.Common.{among_contained, covers_descend, allowed_is, is_free, can_empty, dir_covers, file_covers, may_edit, can_move}
@@ -28,7 +28,7 @@ use Rattle.pua_ever.proofs.KindFaults.{plain_alike, dir_as, dir_alike}
 use Rattle.pua_ever.proofs.Ending.{parts_of, ever_first, named_first, calls_among, under_one}
 use Rattle.pua_ever.proofs.Prospected.{empty_can}
 
-module _ (t : Tree) (h : History) where
+module _ (t : Tree) (h : ProcessState) where
   -- what an item is about stands in the tree
   abbrev pub StandsNow : Subject → Type 0
   StandsNow (At (Whole dir way)) = is_dir t dir ≡ true

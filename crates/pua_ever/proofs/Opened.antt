@@ -2,10 +2,11 @@
 use Rattle.pua_ever.proofs.Common.{◌≡◌, ◌≢◌, ℕ, List, [], ◌∷◌, Bool, true, false, cond, map, refl, sym, ap, ◌∙◌, inl, inr, Option, Some}
 use Rattle.pua_ever.proofs.Common.{None, is_some, not, ◌&&◌, ◌||◌, ◌==◌, filter_map, list_any, list_all, false≢true, eq-eqb, eqb-true}
 use Rattle.pua_ever.proofs.Common.{and_parts, and_from, not-true, Tree, WellFormed, Spot, is_dir, look, empty_tree, same_Some, None≢Some}
-use Rattle.pua_ever.proofs.Common.{sound_from, row_says, row_of, History, perms_kept, veils, is_unveil, Cover, Only, Place, has_c, own_or}
+use Rattle.pua_ever.proofs.Common.{sound_from, row_says, row_of, ProcessState, has_veil, perms_kept, veils, Cover, Only, Place, has_c, own_or}
 use Rattle.pua_ever.proofs.Common.{cover_in, Among, among_map, among_filter_map, row_cover, can_empty, is_below, has_c_outside, directories}
 use Rattle.pua_ever.proofs.Common.{opened_dir, held_dir}
 use Rattle.std.proofs.lemmas.Bool.{true≢false, or_cases}
+use Rattle.pua_policy.specs.States.{EachOnce}
 use Rattle.pua_policy.specs.declared.place.Place.TheVariants as place
 use Rattle.pua_objects.proofs.ForCallers.{found_among, filter_map_among}
 use Rattle.pua_ever.specs.Ever.{opens_outside}
@@ -63,14 +64,14 @@ barred_is : (o : Option ℕ) → is_without_c o ≡ true → (perms : ℕ) × (o
 barred_is None e = absurd (false≢true e)
 barred_is (Some perms) e = (perms, refl, not-true _ e)
 
--- the places of a history's veils
-abbrev pub places_of : History → List Place
+-- the places of a process's veils
+abbrev pub places_of : ProcessState → List Place
 places_of h = map (λ veil. veil.0) (veils h)
 
-pub place_among : (h : History) (at : Place) (perms : ℕ) → perms_kept h at ≡ Some perms → Among (places_of h) at
+pub place_among : (h : ProcessState) (at : Place) (perms : ℕ) → perms_kept h at ≡ Some perms → Among (places_of h) at
 place_among h at perms e = among_map (λ (veil : Place × ℕ). veil.0) (veils h) (at, perms) (kept_among empty_tree h at perms e)
 
-module _ (t : Tree) (h : History) (well : WellFormed t) where
+module _ (t : Tree) (h : ProcessState) (well : WellFormed t) where
   -- the directories that something holds
   abbrev pub held : List ℕ
   held = filter_map (held_dir t h) (places_of h)
@@ -171,7 +172,7 @@ module _ (t : Tree) (h : History) (well : WellFormed t) where
             two.1) (eq-eqb y y refl)))
 
   -- something has `c` outside of a directory
-  module _ (veiled : list_any is_unveil h ≡ true) (y : ℕ) where
+  module _ (once : EachOnce h.veils) (veiled : has_veil h.veils ≡ true) (y : ℕ) where
     not_below : (x d : ℕ) → is_dir t d ≡ true → is_below t x d ≡ true → is_below t y d ≡ false → is_below t y x ≡ false
     not_below x d is inner outside = by (is_below t y x) refl
       where
@@ -204,7 +205,7 @@ module _ (t : Tree) (h : History) (well : WellFormed t) where
         by_veil ((place.Slot d name, perms), a, all) =
             let one = and_parts (is_dir t d) _ all in
             let two = and_parts (not (is_below t y d)) _ one.1 in
-            opens (place.Slot d name) perms d (among_kept_at h (place.Slot d name) perms a) two.1 refl one.0 (not-true _ two.0)
+            opens (place.Slot d name) perms d (among_kept_at h.veils once (place.Slot d name) perms a) two.1 refl one.0 (not-true _ two.0)
         by_veil ((place.Dir d, perms), a, all) = absurd (false≢true all)
 
     any_outside : list_any (is_outside t y) opened ≡ true → has_c_outside t h y ≡ true

@@ -2,14 +2,14 @@
 use Rattle.pua_ever.proofs.Common.{◌≡◌, ◌≢◌, ℕ, List, [], ◌∷◌, ◌++◌, Bool, true, false, map, refl, sym, ap, subst, ◌∙◌, inl, inr}
 use Rattle.pua_ever.proofs.Common.{Option, Some, None, is_some, not, ◌&&◌, ◌==◌, filter, filter_map, if◌then◌else◌, list_any}
 use Rattle.pua_ever.proofs.Common.{false≢true, eq-eqb, eqb-true, and_parts, and_from, not-true, Tree, WellFormed, Spot, is_dir, look, climb}
-use Rattle.pua_ever.proofs.Common.{same_Some, None≢Some, sound_from, row_says, row_of, History, perms_kept, veils, has_veil, is_unveil}
+use Rattle.pua_ever.proofs.Common.{same_Some, None≢Some, sound_from, row_says, row_of, ProcessState, perms_kept, veils, has_veil}
 use Rattle.pua_ever.proofs.Common.{Cover, All, Only, Place, has_c, cover_in, Among, among_left, among_right, map_among, filter_among}
 use Rattle.pua_ever.proofs.Common.{contained, among_contained, among_filter_map, is_free, can_empty, has_c_outside, directories, dir_covers}
 use Rattle.pua_ever.proofs.Common.{name_covers, open_covers, dir_opening, name_opening, entrance_cover, HaveSame}
 use Rattle.std.proofs.lemmas.Bool.{or_cases}
 use Rattle.pua_policy.specs.Verdict.{nearest}
 use Rattle.pua_policy.specs.declared.place.Place.TheVariants as place
-use Rattle.pua_policy.proofs.ForCallers.{any_veil}
+use Rattle.pua_policy.specs.States.{EachOnce}
 use Rattle.pua_objects.proofs.ForCallers.{among_either}
 use Rattle.pua_objects.proofs.ForCallers.{filter_map_among}
 use Rattle.pua_ever.specs.Ever.{opens_at, gives_way, is_way_in, veil_cover_at}
@@ -29,7 +29,7 @@ have_same xs ys within all = record {
   all = λ x a. contained xs x (all x (among_contained ys x a));
 }
 
-module _ (t : Tree) (h : History) (well : WellFormed t) where
+module _ (t : Tree) (h : ProcessState) (well : WellFormed t) where
   -- the covers of directories with `c`, and those of entrances, as they are gathered
   abbrev pub own_covers : List Cover
   own_covers = filter_map (dir_opening t h) (places_of h) ++ (if has_veil (veils h) then [] else All ∷ [])
@@ -38,7 +38,7 @@ module _ (t : Tree) (h : History) (well : WellFormed t) where
   entrances = filter_map (entrance_cover t h (held t h well) (opened t h well)) (places_of h)
 
   no_veils : has_veil (veils h) ≡ false → (d : ℕ) → cover_in t h d ≡ All
-  no_veils none d = ap (λ b. if b then nearest (map (λ over. perms_kept h (place.Dir over)) (climb t d)) else All) (any_veil h ∙ none)
+  no_veils none d = ap (λ b. if b then nearest (map (λ over. perms_kept h (place.Dir over)) (climb t d)) else All) none
 
   -- a directory that has `c` gives its cover
   by_own : (d : ℕ) → is_dir t d ≡ true → has_c (cover_in t h d) ≡ true → Among own_covers (cover_in t h d)
@@ -49,7 +49,7 @@ module _ (t : Tree) (h : History) (well : WellFormed t) where
           among_right (filter_map (dir_opening t h) (places_of h)) _ (cover_in t h d)
           (subst (λ b. Among (if b then [] else All ∷ []) (cover_in t h d)) (sym none) (inl (sym (no_veils none d))))
       by true some =
-          let from = origin t well h (any_veil h ∙ some) d is has in
+          let from = origin t well h some d is has in
           among_left (filter_map (dir_opening t h) (places_of h)) _ (cover_in t h d)
           (among_filter_map (dir_opening t h) (places_of h) (place.Dir from.dir) (cover_in t h d)
           (place_among h (place.Dir from.dir) from.perms from.veil)
@@ -77,22 +77,22 @@ module _ (t : Tree) (h : History) (well : WellFormed t) where
       by_none false none (inl e) = (0, well.root, ap has_c (no_veils none 0), no_veils none 0 ∙ e)
       by_none false none (inr a) = absurd a
 
-  veiled : (at : Place) (perms : ℕ) → perms_kept h at ≡ Some perms → list_any is_unveil h ≡ true
-  veiled at perms e = any_veil h ∙ some (veils h) (place_among h at perms e)
+  veiled : (at : Place) (perms : ℕ) → perms_kept h at ≡ Some perms → has_veil h.veils ≡ true
+  veiled at perms e = some (veils h) (place_among h at perms e)
     where
       some : (vs : List (Place × ℕ)) → Among (map (λ veil. veil.0) vs) at → has_veil vs ≡ true
       some [] a = absurd a
       some (v ∷ vs) a = refl
 
   -- a directory that is moved or made can come there
-  entrance_covers : (at : Place) (c : Cover) → entrance_cover t h (held t h well) (opened t h well) at ≡ Some c → Among (dir_covers t h) c
-  entrance_covers (place.Slot d name) c e =
+  entrance_covers : EachOnce h.veils → (at : Place) (c : Cover) → entrance_cover t h (held t h well) (opened t h well) at ≡ Some c → Among (dir_covers t h) c
+  entrance_covers once (place.Slot d name) c e =
       let parts = when_some _ _ c e in
       let one = and_parts (is_dir t d) _ parts.0 in
       let two = and_parts (is_free t h (d, name)) _ one.1 in
       let veil = opening_some (perms_kept h (place.Slot d name)) two.1 in
       subst (Among (dir_covers t h)) (same_Some _ c parts.1) (way_by_name t h d name veil.0 one.0 veil.1 veil.2 two.0)
-  entrance_covers (place.Dir y) c e =
+  entrance_covers once (place.Dir y) c e =
       let parts = when_some _ _ c e in
       let one = and_parts (is_dir t y) _ parts.0 in
       let two = and_parts (not (y == 0)) _ one.1 in
@@ -104,11 +104,11 @@ module _ (t : Tree) (h : History) (well : WellFormed t) where
       let has : has_c (cover_in t h y) ≡ true = ap has_c (own_cover t well h y veil.0 one.0 veil.1) ∙ veil.2 in
       subst (Among (dir_covers t h)) (ap (cover_in t h) (sym row.2) ∙ same_Some _ c parts.1)
       (way_by_turn t h row.0.0 row.0.1 y (row_says t (sound_from t well) row.0 y row.1).0 row.1 one.0 has
-      (empties t h well y one.0 has ∙ four.0) (outsides t h well (veiled (place.Dir y) veil.0 veil.1) y ∙ four.1))
+      (empties t h well y one.0 has ∙ four.0) (outsides t h well once (veiled (place.Dir y) veil.0 veil.1) y ∙ four.1))
 
   -- and no other covers a directory that comes there
-  ways_gathered : (d : ℕ) → is_dir t d ≡ true → is_way_in t h d ≡ true → Among (own_covers ++ entrances) (cover_in t h d)
-  ways_gathered d is way = elim (or_cases _ _ way) [
+  ways_gathered : EachOnce h.veils → (d : ℕ) → is_dir t d ≡ true → is_way_in t h d ≡ true → Among (own_covers ++ entrances) (cover_in t h d)
+  ways_gathered once d is way = elim (or_cases _ _ way) [
     | inl has ↦ own has
     | inr more ↦ elim (or_cases _ _ more) [ inl a ↦ by_name (any_found _ _ a) | inr a ↦ by_turn (any_found _ _ a) ]
   ]
@@ -129,7 +129,7 @@ module _ (t : Tree) (h : History) (well : WellFormed t) where
           let one = and_parts (other == d) _ all in
           let two = and_parts (has_c (Only perms)) _ one.1 in
           let same = eqb-true other d one.0 in
-          let veil = among_kept_at h (place.Slot other name) perms a in
+          let veil = among_kept_at h.veils once (place.Slot other name) perms a in
           enters (place.Slot other name) perms veil
           (when _ _ (and_from (is_dir t other) _ (ap (is_dir t) same ∙
           is) (and_from (is_free t h (other, name)) _ two.1 (ap is_some (opening_from _ perms veil two.0)))) ∙
@@ -171,28 +171,28 @@ module _ (t : Tree) (h : History) (well : WellFormed t) where
               (and_from (not (y == 0)) _ no_root
               (and_from (is_some (opening h (place.Dir y))) _ (ap is_some (opening_from _ perms e has))
               (and_from (not (list_any (λ other. other == y) (held t h well))) _ (sym (empties t h well y two.0 three.0) ∙
-              four.0) (sym (outsides t h well (veiled (place.Dir y) perms e) y) ∙ four.1)))))
+              four.0) (sym (outsides t h well once (veiled (place.Dir y) perms e) y) ∙ four.1)))))
               ∙ ap (λ d. Some (cover_in t h d)) (above_row t well y s y row two.0 ∙ same))
 
-  pub dirs_same : HaveSame (own_covers ++ entrances) (dir_covers t h)
-  dirs_same = have_same _ _ within all
+  pub dirs_same : EachOnce h.veils → HaveSame (own_covers ++ entrances) (dir_covers t h)
+  dirs_same once = have_same _ _ within all
     where
       within : (c : Cover) → Among (own_covers ++ entrances) c → Among (dir_covers t h) c
       within c a =
           elim (among_either own_covers entrances c a) [
             | inl b ↦ (let at = own_dir_at c b in subst (Among (dir_covers t h)) at.3 (way_by_c t h at.0 at.1 at.2))
             | inr b ↦ (let from = filter_map_among (entrance_cover t h (held t h well) (opened t h well)) (places_of h) c b in
-                entrance_covers from.0 c from.2)
+                entrance_covers once from.0 c from.2)
           ]
 
       all : (c : Cover) → Among (dir_covers t h) c → Among (own_covers ++ entrances) c
       all c a =
           let from = map_among (cover_in t h) (filter (is_way_in t h) (directories t)) c a in
           let d = filter_among (is_way_in t h) (directories t) from.0 from.1 in
-          subst (Among (own_covers ++ entrances)) from.2 (ways_gathered from.0 (among_dir t well from.0 d.0) d.1)
+          subst (Among (own_covers ++ entrances)) from.2 (ways_gathered once from.0 (among_dir t well from.0 d.0) d.1)
 
-  pub names_same : HaveSame (filter_map (name_opening t h) (places_of h)) (name_covers t h)
-  names_same = have_same _ _ (λ c a. within c (filter_map_among (name_opening t h) (places_of h) c a))
+  pub names_same : EachOnce h.veils → HaveSame (filter_map (name_opening t h) (places_of h)) (name_covers t h)
+  names_same once = have_same _ _ (λ c a. within c (filter_map_among (name_opening t h) (places_of h) c a))
       (λ c a. all c (filter_map_among (λ veil. veil_cover_at t h veil.0 veil.1) (veils h) c a))
     where
       within : (c : Cover) → (at : Place) × Among (places_of h) at × (name_opening t h at ≡ Some c) → Among (name_covers t h) c
@@ -210,7 +210,7 @@ module _ (t : Tree) (h : History) (well : WellFormed t) where
           let parts = when_some _ _ c e in
           let one = and_parts (is_dir t d) _ parts.0 in
           let two = and_parts (has_c (Only perms)) _ one.1 in
-          let veil = among_kept_at h (place.Slot d name) perms a in
+          let veil = among_kept_at h.veils once (place.Slot d name) perms a in
           among_filter_map (name_opening t h) (places_of h) (place.Slot d name) c (place_among h (place.Slot d name) perms veil)
           (when _ _ (and_from (is_dir t d) _ one.0 two.1) ∙ opening_from _ perms veil two.0 ∙ parts.1)
       all c ((place.Dir d, perms), a, e) = absurd (None≢Some c e)

@@ -1,7 +1,7 @@
 -- What has `c` has it by a veil, on a directory that it is below.
 use Rattle.pua_ever.proofs.Common.{◌≡◌, ◌≢◌, ℕ, zero, suc, Bool, true, false, refl, sym, ap, subst, ◌∙◌, arith, Option, Some, None, ◌==◌}
 use Rattle.pua_ever.proofs.Common.{if◌then◌else◌, list_any, false≢true, eq-eqb, eqb-true, or_right, Tree, WellFormed, is_dir, above}
-use Rattle.pua_ever.proofs.Common.{Reaches, sound_from, row_of, History, perms_kept, is_unveil, All, Only, has_c, own_or, cover_in}
+use Rattle.pua_ever.proofs.Common.{Reaches, sound_from, row_of, ProcessState, has_veil, perms_kept, All, Only, has_c, own_or, cover_in}
 use Rattle.pua_ever.proofs.Common.{covers_descend, is_below}
 use Rattle.pua_tree.proofs.ForCallers.{above_dir}
 use Rattle.pua_policy.specs.declared.answer.Cover.TheVariants.{Nothing}
@@ -35,10 +35,10 @@ module _ (t : Tree) (well : WellFormed t) where
   pub below_both : (y x d : ℕ) → is_dir t d ≡ true → is_below t x d ≡ true → is_below t y x ≡ true → is_below t y d ≡ true
   below_both y x d is = let up = way_up t well 0 d is in below_steps y x up.0 d up.1 is
 
-  module _ (h : History) where
+  module _ (h : ProcessState) where
     -- the cover of a directory with a veil of its own
     pub own_cover : (d perms : ℕ) → is_dir t d ≡ true → perms_kept h (place.Dir d) ≡ Some perms → cover_in t h d ≡ Only perms
-    own_cover zero perms is e = (covers_descend t h well).root ∙ ap (λ o. own_or o (if list_any is_unveil h then Nothing else All)) e
+    own_cover zero perms is e = (covers_descend t h well).root ∙ ap (λ o. own_or o (if has_veil h.veils then Nothing else All)) e
     own_cover (suc d) perms is e = own_dir t h well (suc d) perms is (λ z. omega (arith, z)) e
 
     -- the directory by whose veil a directory has `c`
@@ -60,7 +60,7 @@ module _ (t : Tree) (well : WellFormed t) where
       below = below_self t well d d (eq-eqb d d refl) is;
     }
 
-    origin_in : list_any is_unveil h ≡ true → (steps d : ℕ) → Reaches t steps d → is_dir t d ≡ true → has_c (cover_in t h d) ≡ true →
+    origin_in : has_veil h.veils ≡ true → (steps d : ℕ) → Reaches t steps d → is_dir t d ≡ true → has_c (cover_in t h d) ≡ true →
         Origin d
     origin_in veiled zero d root is has = by (perms_kept h (place.Dir d)) refl
       where
@@ -89,5 +89,5 @@ module _ (t : Tree) (well : WellFormed t) where
               below = below_over from.dir d is up.0 from.below;
             }
 
-    pub origin : list_any is_unveil h ≡ true → (d : ℕ) → is_dir t d ≡ true → has_c (cover_in t h d) ≡ true → Origin d
+    pub origin : has_veil h.veils ≡ true → (d : ℕ) → is_dir t d ≡ true → has_c (cover_in t h d) ≡ true → Origin d
     origin veiled d is = let up = way_up t well 0 d is in origin_in veiled up.0 d up.1 is

@@ -1,10 +1,10 @@
--- What stays true of each tree on the way, by the tree and the history at the beginning: where each row came from, and
+-- What stays true of each tree on the way, by the tree and the process at the beginning: where each row came from, and
 -- so by what it is covered.
 use Rattle.pua_ever.proofs.Common.{◌≡◌, ◌≢◌, ◌⊎◌, ◌≤◌, ◌<◌, ℕ, zero, suc, ◌++◌, Bool, true, false, refl, sym, ap, subst, ◌∙◌, inl, inr}
 use Rattle.pua_ever.proofs.Common.{arith, Option, Some, None, not, ◌||◌, ◌==◌, list_any, false≢true, and_parts, not-true, or_right, Tree}
 use Rattle.pua_ever.proofs.Common.{WellFormed, Spot, spot_cmp, is_dir, is_living, look, node_at, kind_at, above, is_empty, has_no_row}
 use Rattle.pua_ever.proofs.Common.{Reaches, sound_from, row_says, row_of, same_Some, Some≢None, spots_total, exact_spots, same_dir}
-use Rattle.pua_ever.proofs.Common.{CallTable, History, perms_kept, Only, has_c, UncoveredStay, cover_in, own_or, Among, among_left}
+use Rattle.pua_ever.proofs.Common.{CallTable, ProcessState, perms_kept, Only, has_c, UncoveredStay, cover_in, own_or, Among, among_left}
 use Rattle.pua_ever.proofs.Common.{among_right, covers_descend, row_cover, is_free, can_link, can_empty, has_c_outside, dir_covers}
 use Rattle.pua_ever.proofs.Common.{name_covers, open_covers, some_dir_moves, file_covers, New, can_make, can_move, VeilsStand, Cover}
 use Rattle.pua_tree.proofs.ForCallers.{Sound, above_dir}
@@ -16,7 +16,7 @@ use Rattle.pua_ever.proofs.Quiet.{Quiet}
 use Rattle.pua_ever.proofs.Ways.{way_by_c, way_by_name, way_by_turn, name_by_veil, open_by, open_among, moves_by, file_by_name}
 use Rattle.pua_ever.proofs.Ways.{file_by_open, file_by_dir, quiet_dir, quiet_name}
 
-module _ (table : CallTable) (t0 : Tree) (h : History) (well0 : WellFormed t0) (stand : VeilsStand t0 h) where
+module _ (table : CallTable) (t0 : Tree) (h : ProcessState) (well0 : WellFormed t0) (stand : VeilsStand t0 h) where
   -- a row by which nothing can be moved at the beginning
   abbrev pub Fixed : Spot → ℕ → Type 0
   Fixed s x = (look t0 s.0 s.1 ≡ Some x) × (can_move table h (row_cover t0 h s x) ≡ false)

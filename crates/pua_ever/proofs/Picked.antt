@@ -1,14 +1,8 @@
 -- What a list of places gives that is lent.
-use Rattle.pua_ever.proofs.Common.{◌≡◌, List, [], ◌∷◌, map, refl, ap, subst, Option, Result, Ok, Err, filter_map}
+use Rattle.pua_ever.proofs.Common.{◌≡◌, List, [], ◌∷◌, map, refl, ap, subst, Option, Result, filter_map}
 use Rattle.std.specs.Prelude.{IfOk}
 use Rattle.std.specs.List.{cons_option}
 use Rattle.std.specs.Borrow.{Bor}
-
--- what is so of an answer by each history
-pub for_each : {V E H : Type 0} (r : Result V E) (S : H → Type 0) (P : H → V → Type 0) → ((h : H) → S h → IfOk r (P h)) →
-    IfOk r (λ v. (h : H) → S h → P h v)
-for_each (Ok v) S P all = all
-for_each (Err e) S P all = tt
 
 same_picked : {A B : Type 0} (f : A → Option B) (ps : List (Bor A)) → filter_map (λ p. f p.now) ps ≡ filter_map f (map (λ p. p.now) ps)
 same_picked f [] = refl

@@ -2,7 +2,7 @@
 use Rattle.pua_ever.proofs.Common.{◌≡◌, ◌⊎◌, ℕ, List, [], ◌∷◌, Bool, true, false, cond, refl, sym, ap, ◌∙◌, inl, inr, Option, Some, None}
 use Rattle.pua_ever.proofs.Common.{option_map, not, ◌&&◌, ◌||◌, ◌==◌, is_none, list_any, list_all, false≢true, and_parts, and_from, Tree}
 use Rattle.pua_ever.proofs.Common.{Spot, is_dir, is_empty, has_no_row, empty_tree, misfit_errno, IsNotEmpty, Way, Named, Top, Dot, DotDot}
-use Rattle.pua_ever.proofs.Common.{Whole, CallTable, rule_of, has, keeps_link, History, perms_kept, may_any, object_seen, Object, IsDir}
+use Rattle.pua_ever.proofs.Common.{Whole, CallTable, rule_of, has, keeps_link, ProcessState, perms_kept, may_any, object_seen, Object, IsDir}
 use Rattle.pua_ever.proofs.Common.{object_fault, cover_fault, or_fault, allowed_unless, if_promised, covered_verdict, is_allowed, Call}
 use Rattle.pua_ever.proofs.Common.{Cover, May, has_c, At, cover_in, row_cover, can_empty, dir_covers, may_edit, removable_dir, lasting_dir}
 use Rattle.pua_ever.proofs.Common.{is_named_way, is_allowed_under, is_ever_allowed, EditsNeedC, can_move, may_rename, is_yes, or_left}
@@ -29,7 +29,7 @@ rmdir_alone : (c : Call) → (c ≡ call.Rmdir) ⊎ (object_fault empty_tree c r
 rmdir_alone call.Rmdir = inl refl
 rmdir_alone _ = inr refl
 
-module _ (table : CallTable) (needs : EditsNeedC table) (h : History) where
+module _ (table : CallTable) (needs : EditsNeedC table) (h : ProcessState) where
   abbrev passes : Cover → Object → Call → Bool
   passes cover object c = is_allowed (covered_verdict empty_tree table h c cover object)
 
@@ -70,7 +70,7 @@ module _ (table : CallTable) (needs : EditsNeedC table) (h : History) where
       by true has = ap (λ x. passes cover (dir_as x) c) (same has)
       by false none = lacks none
 
-module _ (t : Tree) (h : History) where
+module _ (t : Tree) (h : ProcessState) where
   -- a directory in which nothing stands can come to be empty
   abbrev passes_in : ℕ → Spot × ℕ → Bool
   passes_in dir row = not (row.0.0 == dir) || has_c (row_cover t h row.0 row.1)
@@ -89,12 +89,12 @@ module _ (t : Tree) (h : History) where
   empty_can dir none = empty_rows dir t.rows none
 
 -- who may rename may edit the tree
-rename_edits : (table : CallTable) (h : History) → may_rename table h ≡ true → may_edit table h ≡ true
+rename_edits : (table : CallTable) (h : ProcessState) → may_rename table h ≡ true → may_edit table h ≡ true
 rename_edits table h both =
     or_left (is_yes (may_any h table.rename.new.needs.alternatives)) _
     (and_parts (is_yes (may_any h table.rename.old.needs.alternatives)) _ both).1
 
-module _ (t : Tree) (table : CallTable) (h : History) (p : Prospects) (is : IsProspects t table h p) where
+module _ (t : Tree) (table : CallTable) (h : ProcessState) (p : Prospects) (is : IsProspects t table h p) where
   module _ (dir : ℕ) (way : Way) (living : is_dir t dir ≡ true) where
     abbrev moves : Bool
     moves = is_none (perms_kept h (place.Dir dir)) && can_move table h (cover_in t h dir)

@@ -2,7 +2,7 @@
 use Rattle.pua_ever.proofs.Common.{◌≡◌, ◌≢◌, ℕ, zero, suc, List, Bool, true, false, refl, sym, ap, ◌∙◌, inl, inr, arith, Option, Some, None}
 use Rattle.pua_ever.proofs.Common.{◌||◌, ◌==◌, list_any, false≢true, and_parts, not-true, eqb-true, or_left, Tree, WellFormed, Spot}
 use Rattle.pua_ever.proofs.Common.{spot_cmp, is_dir, is_living, look, node_at, above, climb, is_empty, has_no_row, Reaches, sound_from}
-use Rattle.pua_ever.proofs.Common.{row_says, row_of, spots_total, exact_spots, same_dir, CallTable, History, perms_kept, Only, has_c}
+use Rattle.pua_ever.proofs.Common.{row_says, row_of, spots_total, exact_spots, same_dir, CallTable, ProcessState, perms_kept, Only, has_c}
 use Rattle.pua_ever.proofs.Common.{UncoveredStay, cover_in, own_or, covers_descend, is_below, row_cover}
 use Rattle.pua_tree.proofs.ForCallers.{above_is}
 use Rattle.pua_tree.proofs.ForCallers.{none_found}
@@ -12,7 +12,7 @@ use Rattle.pua_ever.proofs.Grown.{Grown, Written, by_name, by_turn, From, is_new
 use Rattle.pua_ever.proofs.Covers.{dir_row, living_dir, below_next}
 
 -- nothing with `c` is outside
-pub record Quiet (h : History) (y : ℕ) (t : Tree) : Type 0 where
+pub record Quiet (h : ProcessState) (y : ℕ) (t : Tree) : Type 0 where
   pub dirs : (d : ℕ) → is_dir t d ≡ true → is_below t y d ≡ false → has_c (cover_in t h d) ≡ false
   pub names : (d : ℕ) (name : List ℕ) (perms : ℕ) → is_dir t d ≡ true → is_below t y d ≡ false →
       perms_kept h (place.Slot d name) ≡ Some perms → has_c (Only perms) ≡ false
@@ -63,7 +63,7 @@ module _ (t : Tree) (well : WellFormed t) (y : ℕ) where
   way_up zero is = (0, refl)
   way_up (suc d) is = (sound_from t well).rooted (suc d) is (λ e. omega (arith, e))
 
-module _ (table : CallTable) (h : History) (t u : Tree) (well : WellFormed t) (well_then : WellFormed u) (grown : Grown table t h u)
+module _ (table : CallTable) (h : ProcessState) (t u : Tree) (well : WellFormed t) (well_then : WellFormed u) (grown : Grown table t h u)
     (spared : UncoveredStay h t u) (y : ℕ) (n : y ≢ 0) (quiet : Quiet h y t) where
   -- what has `c` is inside
   inside_name : (s : Spot) → is_dir t s.0 ≡ true → has_c (name_cover table t h s) ≡ true → is_below t y s.0 ≡ true

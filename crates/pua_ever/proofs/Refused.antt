@@ -1,11 +1,11 @@
 -- Where nothing refuses the list.
 use Rattle.pua_ever.proofs.Common.{◌≡◌, ◌⊎◌, List, [], ◌∷◌, Bool, true, false, cond, refl, sym, ◌∙◌, inl, inr, Option, Some, None, not}
-use Rattle.pua_ever.proofs.Common.{◌&&◌, ◌||◌, if◌then◌else◌, false≢true, and_parts, Some≢None, CallTable, History, Call, is_yes}
+use Rattle.pua_ever.proofs.Common.{◌&&◌, ◌||◌, if◌then◌else◌, false≢true, and_parts, Some≢None, CallTable, ProcessState, Call, is_yes}
 use Rattle.pua_ever.proofs.Common.{EditsNeedC, Among, among_filter, among_left, among_right, filter, ap, and_from}
 use Rattle.std.specs.Prelude.{find}
 use Rattle.std.proofs.lemmas.Bool.{not-false}
 use Rattle.pua_calls.specs.Promises.{holds, creating, unveil}
-use Rattle.pua_policy.specs.History.{held_set, has_error, is_locked, is_ended}
+use Rattle.pua_policy.specs.States.{held_set, has_error, is_locked, is_ended}
 use Rattle.pua_policy.specs.declared.answer.May.TheVariants.{Yes, Enosys, Death}
 use Rattle.pua_calls.specs.Calls.{calls}
 use Rattle.pua_script.specs.Confinement.{changes_names}
@@ -66,7 +66,7 @@ neither : (table : CallTable) (b : Bool) (o : Option Call) → cond b (Some CanU
 neither table true o e = absurd (Some≢None CanUnveil e)
 neither table false o e = (refl, e)
 
-confined : (h : History) → can_unveil h ≡ false → IsConfined h ⊎ (is_ended h ≡ true)
+confined : (h : ProcessState) → can_unveil h ≡ false → IsConfined h ⊎ (is_ended h ≡ true)
 confined h none = by (is_locked h) (is_ended h) (holds (held_set h) unveil) refl refl refl
   where
     by : (l e p : Bool) → is_locked h ≡ l → is_ended h ≡ e → holds (held_set h) unveil ≡ p → IsConfined h ⊎ (is_ended h ≡ true)
@@ -79,9 +79,9 @@ confined h none = by (is_locked h) (is_ended h) (holds (held_set h) unveil) refl
         (if ended i then Death else (if has i || false then Yes else (if has_error h then Enosys else Death)))) in
         absurd (false≢true (sym none ∙ can))
 
-module _ (table : CallTable) (h : History) (none : refusal table h ≡ None) where
+module _ (table : CallTable) (h : ProcessState) (none : refusal table h ≡ None) where
   pub unrefused_table : EditsNeedC table
   unrefused_table = all_need table (neither table (can_unveil h) (find (lacks_c table) changing_calls) none).1
 
-  pub unrefused_history : IsConfined h ⊎ (is_ended h ≡ true)
-  unrefused_history = confined h (neither table (can_unveil h) (find (lacks_c table) changing_calls) none).0
+  pub unrefused_process : IsConfined h ⊎ (is_ended h ≡ true)
+  unrefused_process = confined h (neither table (can_unveil h) (find (lacks_c table) changing_calls) none).0

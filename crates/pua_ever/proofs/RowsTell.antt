@@ -1,6 +1,6 @@
 -- Rows tell the lines of the list for ever, one row after another.
 use Rattle.pua_ever.proofs.Common.{◌≡◌, ℕ, suc, ◌<◌, ◌≤◌, List, [], ◌∷◌, ◌++◌, length, take, refl, sym, ap, subst, ◌∙◌, arith, Option}
-use Rattle.pua_ever.proofs.Common.{Some, None, ◌&&◌, filter, flat_map, Tree, Spot, CallTable, has, History, ProcessState}
+use Rattle.pua_ever.proofs.Common.{Some, None, ◌&&◌, filter, flat_map, Tree, Spot, CallTable, has, ProcessState}
 use Rattle.pua_ever.proofs.Common.{Call, Word, subject_given, Subject, Item, Stands, Comes, may_edit, can_make, own_spot}
 use Rattle.pua_ever.proofs.Common.{has_ever_calls, ever_lines_of, AreOnFreed, both_of, made_left, EverLine}
 use Rattle.std.specs.Prelude.{option_map}
@@ -34,7 +34,7 @@ module _ (t : Tree) where
   told_more before (r ∷ rows) row about lines rest is told =
       (told.0, told.1, told.2, told.3, told_more (word_of_row before r) rows row about told.1 rest is told.4)
 
-  module _ (table : CallTable) (h : History) where
+  module _ (table : CallTable) (h : ProcessState) where
     -- a row at this word, for the first thing to come
     told_first : (rows : List EverRow) (row : EverRow) (about : Thing) (first : Left) (left : List Left) (lines : List EverLine) →
         IsThing t about row.line.thing →

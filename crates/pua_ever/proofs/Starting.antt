@@ -2,7 +2,7 @@
 use Rattle.pua_ever.proofs.Common.{◌≡◌, ◌⊎◌, ◌≤◌, ◌<◌, ℕ, List, [], ◌++◌, Bool, true, false, cond, map, refl, sym, ap, subst, ◌∙◌, inl}
 use Rattle.pua_ever.proofs.Common.{inr, Some, not, ◌&&◌, ◌||◌, filter, flat_map, list_any, option_map, false≢true, and_parts, and_from}
 use Rattle.pua_ever.proofs.Common.{or_right, Tree, WellFormed, Spot, is_dir, is_dir_kind, is_living, look, kind_at, sound_from, row_says}
-use Rattle.pua_ever.proofs.Common.{is_link_kind, Slot, CallTable, calls, rule_of, History, veils, may_any, Object, object_of_kind}
+use Rattle.pua_ever.proofs.Common.{is_link_kind, Slot, CallTable, calls, rule_of, ProcessState, veils, may_any, Object, object_of_kind}
 use Rattle.pua_ever.proofs.Common.{object_fault, cover, cover_fault, Cover, Call, Subject, At, items, Among, map_among, among_filter}
 use Rattle.pua_ever.proofs.Common.{filter_among, among_right, among_map, contained, among_contained, may_edit, file_covers, is_allowed_under}
 use Rattle.pua_ever.proofs.Common.{is_ever_allowed, can_make, New, NewDir, NewOthers, NewFile, NewLink, Stands, Comes, EverLine, ever_line}
@@ -43,7 +43,7 @@ no_exec turning (inr (inr (inl e))) = ap is_exec_call (sym e)
 no_exec turning (inr (inr (inr (inl e)))) = ap is_exec_call (sym e)
 no_exec turning (inr (inr (inr (inr a)))) = absurd a
 
-module _ (table : CallTable) (t : Tree) (h : History) where
+module _ (table : CallTable) (t : Tree) (h : ProcessState) where
   abbrev standing_lines : List EverLine
   standing_lines = map (ever_line t table h) (flat_map (subjects_of t table h) (items t (veils h)))
 
@@ -79,7 +79,7 @@ module _ (table : CallTable) (t : Tree) (h : History) where
       made_at (Stands subject) = NewFile
       made_at (Comes made) = made
 
-module _ (table : CallTable) (t0 : Tree) (h : History) (well0 : WellFormed t0) (stand : VeilsStand t0 h) (u : Tree)
+module _ (table : CallTable) (t0 : Tree) (h : ProcessState) (well0 : WellFormed t0) (stand : VeilsStand t0 h) (u : Tree)
     (k : Stays table t0 h well0 stand u) (edit : (may_edit table h ≡ true) ⊎ (u ≡ t0)) where
   module _ (dir : ℕ) (name : List ℕ) (x : ℕ) (here : look u dir name ≡ Some x) (kinds : kind_at u x ≡ Some kind.File)
       (parts : Parts (may_any h (rule_of table call.Exec).alternatives)

@@ -1,7 +1,7 @@
 -- One request keeps what is known of each row.
 use Rattle.pua_ever.proofs.Common.{◌≡◌, ◌≢◌, ◌⊎◌, ◌≤◌, ◌<◌, ℕ, true, false, refl, sym, ap, subst, ◌∙◌, inl, inr, arith, Option, Some, None}
 use Rattle.pua_ever.proofs.Common.{◌==◌, ◌++◌, is_some, option_map, false≢true, and_parts, eqb-true, Tree, WellFormed, Spot, is_dir, is_living}
-use Rattle.pua_ever.proofs.Common.{zero, suc, Bool, Reaches, above, row_of, look, node_at, is_empty, has_no_row, empty_tree, sound_from, row_says, same_dir, CallTable, History}
+use Rattle.pua_ever.proofs.Common.{zero, suc, Bool, Reaches, above, row_of, look, node_at, is_empty, has_no_row, empty_tree, sound_from, row_says, same_dir, CallTable, ProcessState}
 use Rattle.pua_ever.proofs.Common.{perms_kept, IsMissing, covered_verdict, is_allowed, has_c, UncoveredStay, cover_in, own_or}
 use Rattle.pua_ever.proofs.Common.{covers_descend, row_cover, can_link, has_c_outside, some_dir_moves, New, is_allowed_under, name_covers, dir_covers, can_make, can_move, VeilsStand}
 use Rattle.pua_policy.specs.declared.place.Place.TheVariants as place
@@ -13,7 +13,7 @@ use Rattle.pua_ever.proofs.Quiet.{quiet_then, never_turned, way_up}
 use Rattle.pua_ever.proofs.Origins.{Fixed, Origin, linked, since, Entrance, by_veil, turned, still, Came, Known, Stays, DirUnder, at_rest}
 use Rattle.pua_ever.proofs.Origins.{come, dir_under, fixed_covered, same_then, name_under, could_empty, free_then}
 
-module _ (table : CallTable) (t0 : Tree) (h : History) (well0 : WellFormed t0) (stand : VeilsStand t0 h) where
+module _ (table : CallTable) (t0 : Tree) (h : ProcessState) (well0 : WellFormed t0) (stand : VeilsStand t0 h) where
   abbrev Came0 : Tree → Spot → ℕ → Type 0
   Came0 = Came table t0 h well0 stand
 

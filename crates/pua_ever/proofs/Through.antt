@@ -1,7 +1,7 @@
 -- All that a family's members are ever allowed, through execs, has its line at the beginning.
 use Rattle.pua_ever.proofs.Common.{◌≡◌, ◌⊎◌, ℕ, List, [], ◌∷◌, Bool, true, false, cond, refl, sym, ap, subst, ◌∙◌, inl, inr}
 use Rattle.pua_ever.proofs.Common.{Some, Ok, Err, Result, ◌&&◌, filter, map, list_any, false≢true, and_parts, and_from}
-use Rattle.pua_ever.proofs.Common.{or_left, or_right, eq-eqb, same_Some, Tree, WellFormed, CallTable, rule_of, Call, History, may_any}
+use Rattle.pua_ever.proofs.Common.{or_left, or_right, eq-eqb, same_Some, Tree, WellFormed, CallTable, rule_of, Call, ProcessState, may_any}
 use Rattle.pua_ever.proofs.Common.{verdict_of, is_allowed, if_promised, cover, Found}
 use Rattle.pua_ever.proofs.Common.{Asked, World, apply, world_after, is_member, family_then, NoCallNeedsError}
 use Rattle.pua_ever.proofs.Common.{TreesAlong, IsWithin, Members, first_tree, EditsNeedC, VeilsStand}
@@ -10,7 +10,7 @@ use Rattle.pua_ever.proofs.Common.{◌≤◌, is_some, option_map, Node, Kind, i
 use Rattle.pua_ever.proofs.Common.{named_within_text, resolutions_fit, New, NewDir, NewOthers, NewFile, NewLink, is_made_by}
 use Rattle.pua_tree.specs.declared.node.Kind.TheVariants as kind
 use Rattle.pua_path.specs.Fits.{found_fits}
-use Rattle.std.specs.Prelude.{bit_or, unwrap_or, ◌-◌}
+use Rattle.std.specs.Prelude.{bit_or}
 use Rattle.std.specs.List.{Contains}
 use Rattle.std.proofs.Common.{min, max, arith}
 use Rattle.std.specs.Int.{bit_at}
@@ -18,16 +18,16 @@ use Rattle.std.proofs.lemmas.Nat.Bits.{bit_at_and, bit_at_or, same_from_bits}
 use Rattle.pua_path.specs.Resolution.{resolution_of_text}
 use Rattle.pua_path.specs.declared.errno.Errno.{Errno}
 use Rattle.pua_calls.specs.Calls.{ending_of, last_of}
-use Rattle.pua_calls.specs.Promises.{holds, all_promises, error}
+use Rattle.pua_calls.specs.Promises.{holds}
 use Rattle.pua_calls.specs.declared.call.Call.TheVariants as call
-use Rattle.pua_policy.specs.History.{with_both, held_set, meet, common}
+use Rattle.pua_policy.specs.States.{with_both, held_set}
 use Rattle.pua_policy.specs.Verdict.{IsProg, covered_verdict}
 use Rattle.pua_policy.specs.declared.answer.May.TheVariants.{Yes, Enosys, Death}
 use Rattle.pua_policy.specs.declared.answer.Verdict.{Verdict}
 use Rattle.pua_policy.specs.declared.answer.Verdict.TheVariants.{Allowed}
-use Rattle.pua_policy.proofs.ForCallers.{no_promises, same_end, holds_through}
+use Rattle.pua_policy.proofs.ForCallers.{holds_through}
 use Rattle.pua_objects.proofs.ForCallers.{some_of}
-use Rattle.pua_script.specs.Family.{family, HasHistoryOf}
+use Rattle.pua_script.specs.Family.{family, HasKept}
 use Rattle.pua_ever.specs.Ever.{Thing, is_exec_call}
 use Rattle.pua_ever.specs.Laws.{IsForeseen, IsForeseenIn, IsStartForeseen, IsStartForeseenIn, ForeseesIn, ForeseesStartsIn, IsLineOf, of_dir}
 use Rattle.pua_ever.specs.Laws.{of_row, of_name, of_others, of_new_dir, of_new_file, of_new_link, of_new_others, MembersEdit, NoExecLoosens}
@@ -37,11 +37,10 @@ use Rattle.pua_ever.specs.Through.{is_bounded, AreWithin, GoesAlong, GoAlong, Ev
 use Rattle.pua_ever.proofs.Grown.{Grown, new_kind}
 use Rattle.pua_ever.proofs.Covers.{living_dir, below_next}
 use Rattle.pua_ever.proofs.Growing.{requests_grow}
-use Rattle.pua_ever.proofs.Standing.{kept_after}
 use Rattle.pua_ever.proofs.Complete.{complete_within, starts_within, beside_one}
 use Rattle.pua_ever.proofs.NoExec.{without_exec_beside}
 use Rattle.pua_ever.proofs.Ways.{any_among}
-use Rattle.pua_ever.proofs.Holding.{unveils_kept, any_within, may_holds, goes, lacks_unveil, own, along_then, along_after, along_now, along_first}
+use Rattle.pua_ever.proofs.Holding.{any_within, may_holds, goes, lacks_unveil, own, along_then, along_after, along_now, along_first}
 use Rattle.pua_ever.proofs.Holding.{bound_parts}
 
 -- both sets hold what the one holds, and what the other holds
@@ -59,23 +58,20 @@ second_of a b = eq-eqb _ _ (same_from_bits _ _ (λ i.
     least : (x y : ℕ) → min (max x y) y ≡ y
     least x y = omega arith
 
-module _ (now : History) (given : ℕ) where
-  abbrev wide : History
+module _ (now : ProcessState) (given : ℕ) where
+  abbrev wide : ProcessState
   wide = with_both now given
-
-  pub held_both : held_set wide ≡ bit_or (held_set now) given
-  held_both = ap (λ l. unwrap_or (Some (meet (bit_or (held_set now) given) (common l))) (all_promises - error)) (no_promises now)
 
   by_first : (set : ℕ) → holds (held_set now) set ≡ true → holds (bit_or (held_set now) given) set ≡ true
   by_first set holding = holds_through (bit_or (held_set now) given) (held_set now) set (first_of (held_set now) given) holding
 
   -- who goes along is within who holds both
-  pub within_both : (table : CallTable) (sound : NoCallNeedsError table) (bounded : is_bounded table given ≡ true) (h : History) →
+  pub within_both : (table : CallTable) (sound : NoCallNeedsError table) (bounded : is_bounded table given ≡ true) (h : ProcessState) →
       GoesAlong table now given h → IsWithin wide h
   within_both table sound bounded h k = record {
     tightens = record {
-      unveils = k.unveils ∙ sym (unveils_kept now);
-      promises = λ set fine holding. ap (λ s. holds s set) held_both ∙ elim k.promises [
+      unveils = record { any = k.unveils.any; kept = k.unveils.kept };
+      promises = λ set fine holding. elim k.promises [
         | inl one ↦ elim one [
           | inl own ↦ by_first set (own.0 set fine holding)
           | inr later ↦ holds_through (bit_or (held_set now) given) given set (second_of (held_set now) given) (later.0 set fine holding)
@@ -84,18 +80,15 @@ module _ (now : History) (given : ℕ) where
       ];
       confined = lacks_unveil table sound now given bounded h k;
     };
-    ended = λ lives. same_end now ∙ k.ended lives;
+    ended = k.ended;
   }
-
-  stands_too : (t : Tree) → VeilsStand t now → VeilsStand t wide
-  stands_too t stand at perms is = stand at perms (sym (kept_after now at) ∙ is)
 
   -- a line is the same thing's
   line_too : (t later : Tree) (thing : Thing) (object : Found) → IsLineOf t later wide thing object → IsLineOf t later now thing object
   line_too t later thing object (of_dir below) = of_dir below
   line_too t later thing object (of_row row at there) = of_row row at there
-  line_too t later thing object (of_name perms kept) = of_name perms (sym (kept_after now _) ∙ kept)
-  line_too t later thing object (of_others below kept) = of_others below (sym (kept_after now _) ∙ kept)
+  line_too t later thing object (of_name perms kept) = of_name perms kept
+  line_too t later thing object (of_others below kept) = of_others below kept
   line_too t later thing object (of_new_dir from) = of_new_dir from
   line_too t later thing object (of_new_file from kinds) = of_new_file from kinds
   line_too t later thing object (of_new_link from kinds) = of_new_link from kinds
@@ -106,9 +99,9 @@ last_tree : (table : CallTable) (w : World) (asks : List Asked) → TreesAlong t
 last_tree table w [] trees = first_tree table w [] trees
 last_tree table w (ask ∷ asks) trees = last_tree table (apply table w ask).1 asks trees.1
 
-module _ (table : CallTable) (sound : NoCallNeedsError table) (now : History) (given : ℕ) where
+module _ (table : CallTable) (sound : NoCallNeedsError table) (now : ProcessState) (given : ℕ) where
   -- a call that is allowed is promised by one of the two sets
-  one_of : (h : History) → GoesAlong table now given h → (c : Call) → may_any h (rule_of table c).alternatives ≡ Yes →
+  one_of : (h : ProcessState) → GoesAlong table now given h → (c : Call) → may_any h (rule_of table c).alternatives ≡ Yes →
       is_promised_by_one table now given c ≡ true
   one_of h k c may =
       let some = may_holds h (rule_of table c).alternatives may in
@@ -128,7 +121,7 @@ module _ (table : CallTable) (sound : NoCallNeedsError table) (now : History) (g
   yes Enosys v e = cc
   yes Death v e = cc
 
-  pub promised_by_one : (h : History) → GoesAlong table now given h → (t : Tree) (c : Call) (r : Result Found Errno) →
+  pub promised_by_one : (h : ProcessState) → GoesAlong table now given h → (t : Tree) (c : Call) (r : Result Found Errno) →
       verdict_of t table h c r ≡ Allowed → is_promised_by_one table now given c ≡ true
   promised_by_one h k t c r e = one_of h k c (promised r e)
     where
@@ -136,9 +129,9 @@ module _ (table : CallTable) (sound : NoCallNeedsError table) (now : History) (g
       promised (Ok object) e = yes (may_any h (rule_of table c).alternatives) _ (ap is_allowed e)
       promised (Err errno) e = yes (may_any h (rule_of table c).alternatives) _ (ap is_allowed e)
 
-module _ (table : CallTable) (sound : NoCallNeedsError table) (needs : EditsNeedC table) (now : History) (given : ℕ)
+module _ (table : CallTable) (sound : NoCallNeedsError table) (needs : EditsNeedC table) (now : ProcessState) (given : ℕ)
     (bounded : is_bounded table given ≡ true) where
-  abbrev both : History
+  abbrev both : ProcessState
   both = with_both now given
 
   abbrev passes : Call → Bool
@@ -170,7 +163,7 @@ module _ (table : CallTable) (sound : NoCallNeedsError table) (needs : EditsNeed
     made_first : MadeByOne t0
     made_first x from lives = let below = below_next t0 now well0 x lives in absurd (omega arith)
 
-    made_then : (t u : Tree) (h : History) → GoesAlong table now given h → Grown table t h u → MadeByOne t → MadeByOne u
+    made_then : (t u : Tree) (h : ProcessState) → GoesAlong table now given h → Grown table t h u → MadeByOne t → MadeByOne u
     made_then t u h k grown made x from lives = elim (grown.nodes x lives) [
       | inl same ↦ (let before = made x from (ap is_some (sym same) ∙ lives) in
           (before.0, ap (option_map (λ n. n.kind)) same ∙ before.1, before.2))
@@ -303,7 +296,7 @@ module _ (table : CallTable) (sound : NoCallNeedsError table) (needs : EditsNeed
     abbrev after : Tree
     after = (world_after table w asks).tree
 
-    last : HasHistoryOf (world_after table w asks) member (GoesAlong table now given)
+    last : HasKept (world_after table w asks) member (GoesAlong table now given)
     last = along_after table sound now given bounded asks w members are member belongs
 
     well_after : WellFormed after
@@ -323,9 +316,9 @@ module _ (table : CallTable) (sound : NoCallNeedsError table) (needs : EditsNeed
         ((resolutions_fit after well_after).whole from (ending_of c) text (last_of c) object
         (named_within_text after from (ending_of c) text (last_of c) object names)).fits
 
-    pub through_all : HasHistoryOf (world_after table w asks) member (ForeseesIn (ever_through w.tree table now given) w.tree table now after)
+    pub through_all : HasKept (world_after table w asks) member (ForeseesIn (ever_through w.tree table now given) w.tree table now after)
     through_all =
-        let wide = complete_within table sound needs w asks members both (members_within w members are) (stands_too now given w.tree stand)
+        let wide = complete_within table sound needs w asks members both (members_within w members are) stand
         trees (none_looser asks w members are) edits member belongs in (
           wide.0,
           wide.1,
@@ -338,10 +331,10 @@ module _ (table : CallTable) (sound : NoCallNeedsError table) (needs : EditsNeed
               seen.about),
         )
 
-    pub starts_all : HasHistoryOf (world_after table w asks) member
+    pub starts_all : HasKept (world_after table w asks) member
         (ForeseesStartsIn (ever_through w.tree table now given) w.tree table now after)
     starts_all =
-        let wide = starts_within table sound needs w asks members both (members_within w members are) (stands_too now given w.tree stand)
+        let wide = starts_within table sound needs w asks members both (members_within w members are) stand
         trees (none_looser asks w members are) edits member belongs in (
           wide.0,
           wide.1,
@@ -365,7 +358,7 @@ starts_through_execs table sound needs w asks members now given bounded are stan
     starts_all table sound needs now given bounded w asks stand trees members are edits member belongs
 
 -- where no line has exec the list is that of the process itself
-pub no_line : (t : Tree) (table : CallTable) (h : History) → has_exec (ever t table h) ≡ false → NoLineHasExec t table h
+pub no_line : (t : Tree) (table : CallTable) (h : ProcessState) → has_exec (ever t table h) ≡ false → NoLineHasExec t table h
 no_line t table h none line listed has =
     false≢true (sym none ∙ any_among (λ l. list_any is_exec_call l.calls) (ever t table h) line
     (among_contained (ever t table h) line listed)
@@ -376,7 +369,7 @@ ever_lasts table sound needs w asks process now given here bound stand trees edi
     rw bound (by (has_exec (ever w.tree table now)) refl)
   where
     by : (b : Bool) → has_exec (ever w.tree table now) ≡ b →
-        HasHistoryOf (world_after table w asks) member (ForeseesIn (cond b (ever_through w.tree table now given)
+        HasKept (world_after table w asks) member (ForeseesIn (cond b (ever_through w.tree table now given)
         (ever w.tree table now)) w.tree table now (world_after table w asks).tree)
     by true is =
         let parts = bound_parts table now given bound in

@@ -1,16 +1,16 @@
 -- Several processes are within one that holds and hands down what any of them does, so its list is theirs together.
 use Rattle.pua_ever.proofs.Common.{◌≡◌, ◌⊎◌, ℕ, List, [], ◌∷◌, Bool, true, false, cond, map, refl, sym, ap, subst, ◌∙◌, inl, inr, Option}
-use Rattle.pua_ever.proofs.Common.{Some, None, same_Some, not, ◌&&◌, ◌||◌, ◌==◌, filter, is_unveil, CallTable, History}
-use Rattle.pua_ever.proofs.Common.{false≢true, and_parts, eqb-true, World, Tree, world_after, history_of, is_member}
+use Rattle.pua_ever.proofs.Common.{Some, None, same_Some, not, ◌&&◌, ◌||◌, ◌==◌, CallTable, ProcessState}
+use Rattle.pua_ever.proofs.Common.{false≢true, and_parts, eqb-true, World, world_after, kept_at, is_member}
 use Rattle.pua_ever.proofs.Common.{VeilsStand, Among, ever, first_tree}
 use Rattle.std.specs.List.{AllByRecursion}
-use Rattle.std.specs.Prelude.{bit_or, filter_map}
+use Rattle.std.specs.Prelude.{bit_or}
 use Rattle.pua_calls.specs.Promises.{holds, unveil}
 use Rattle.pua_calls.specs.declared.call.Call.TheVariants as call
-use Rattle.pua_policy.specs.History.{Pledged, Unveiled, Locked, Moved, Ended, held_set, held_for_exec, is_locked, is_ended, is_pledge, with_both, common, meet, execpromises_in}
-use Rattle.pua_policy.proofs.ForCallers.{same_end, holds_through}
+use Rattle.pua_policy.specs.States.{held_set, held_for_exec, is_locked}
+use Rattle.pua_policy.proofs.ForCallers.{holds_through}
 use Rattle.pua_script.specs.Replay.{new_world}
-use Rattle.pua_script.specs.Family.{HasHistoryOf}
+use Rattle.pua_script.specs.Family.{HasKept}
 use Rattle.pua_script.proofs.ForCallers.{replays_keep_trees, replays_keep_byte_trees, listings_list_byte_trees, scripts_ask_in_bytes}
 use Rattle.pua_ever.specs.Laws.{ActsWithin, ForeseesIn, PlacesStand}
 use Rattle.pua_ever.specs.Through.{AreWithin, HandsDown, HoldsOne, GoesAlong, GoAlong, is_promised_by, bound_of, has_exec}
@@ -20,18 +20,9 @@ use Rattle.pua_ever.specs.Together.{EverTogether, TogetherLasts, TogetherAfterRe
 use Rattle.pua_ever.proofs.Complete.{all_within, ever_beside}
 use Rattle.pua_ever.proofs.NoExec.{none_along}
 use Rattle.pua_ever.proofs.Origins.{at_first}
-use Rattle.pua_ever.proofs.Standing.{kept_after, replays_keep_places, new_places}
-use Rattle.pua_ever.proofs.Holding.{unveils_kept, lock_parts, bound_parts}
-use Rattle.pua_ever.proofs.Through.{first_of, second_of, held_both, no_line, ever_through_execs}
-
--- leaving out pledges leaves no execpromises
-pub no_execpromises : (h : History) → filter_map execpromises_in (filter (λ event. not (is_pledge event)) h) ≡ []
-no_execpromises [] = refl
-no_execpromises (Pledged p e ∷ h) = no_execpromises h
-no_execpromises (Unveiled place perms ∷ h) = no_execpromises h
-no_execpromises (Locked ∷ h) = no_execpromises h
-no_execpromises (Moved d ∷ h) = no_execpromises h
-no_execpromises (Ended ∷ h) = no_execpromises h
+use Rattle.pua_ever.proofs.Standing.{replays_keep_places, new_places}
+use Rattle.pua_ever.proofs.Holding.{lock_parts, bound_parts}
+use Rattle.pua_ever.proofs.Through.{first_of, second_of, no_line, ever_through_execs}
 
 -- what is within a set is within what two sets hold
 within_first : (a b set : ℕ) → holds a set ≡ true → holds (bit_or a b) set ≡ true
@@ -41,11 +32,11 @@ within_second : (a b set : ℕ) → holds b set ≡ true → holds (bit_or a b) 
 within_second a b set holding = holds_through (bit_or a b) b set (second_of a b) holding
 
 -- what a process hands down, or that it can start nothing
-abbrev Hands : CallTable → History → Option ℕ → Type 0
+abbrev Hands : CallTable → ProcessState → Option ℕ → Type 0
 Hands table h None = Unit {0}
 Hands table h (Some given) = HandsDown h given ⊎ (is_promised_by table (held_set h) call.Exec ≡ false)
 
-hands_own : (table : CallTable) (h : History) → Hands table h (handed_down table h)
+hands_own : (table : CallTable) (h : ProcessState) → Hands table h (handed_down table h)
 hands_own table h = by (is_promised_by table (held_set h) call.Exec) (held_for_exec h) refl refl
   where
     by : (b : Bool) (o : Option ℕ) → is_promised_by table (held_set h) call.Exec ≡ b → held_for_exec h ≡ o → Hands table h (cond b o (Some 0))
@@ -53,7 +44,7 @@ hands_own table h = by (is_promised_by table (held_set h) call.Exec) (held_for_e
     by true (Some given) starts set = inl (record { left = given; set = set; within = λ s fine holding. holding })
     by false o starts set = inr starts
 
-hands_first : (table : CallTable) (h : History) (a b : Option ℕ) → Hands table h a → Hands table h (either_given a b)
+hands_first : (table : CallTable) (h : ProcessState) (a b : Option ℕ) → Hands table h a → Hands table h (either_given a b)
 hands_first table h None b hands = tt
 hands_first table h (Some a) None hands = tt
 hands_first table h (Some a) (Some b) hands = elim hands [
@@ -61,7 +52,7 @@ hands_first table h (Some a) (Some b) hands = elim hands [
   | inr none ↦ inr none
 ]
 
-hands_second : (table : CallTable) (h : History) (a b : Option ℕ) → Hands table h b → Hands table h (either_given a b)
+hands_second : (table : CallTable) (h : ProcessState) (a b : Option ℕ) → Hands table h b → Hands table h (either_given a b)
 hands_second table h None b hands = tt
 hands_second table h (Some a) None hands = tt
 hands_second table h (Some a) (Some b) hands = elim hands [
@@ -70,47 +61,47 @@ hands_second table h (Some a) (Some b) hands = elim hands [
 ]
 
 -- what is so of one of those that a joint stands for
-record IsIn (table : CallTable) (joint : Joint) (h : History) : Type 0 where
+record IsIn (table : CallTable) (joint : Joint) (h : ProcessState) : Type 0 where
   held : (set : ℕ) → holds (held_set h) set ≡ true → holds joint.held set ≡ true
   hands : Hands table h joint.given
   lock : joint.locked ≡ true → is_locked h ≡ true
 
-in_first : (table : CallTable) (h : History) → IsIn table (joint_of table h) h
+in_first : (table : CallTable) (h : ProcessState) → IsIn table (joint_of table h) h
 in_first table h = record { held = λ set holding. holding; hands = hands_own table h; lock = λ locked. locked }
 
-in_then : (table : CallTable) (joint : Joint) (other h : History) → IsIn table joint h → IsIn table (with_one table joint other) h
+in_then : (table : CallTable) (joint : Joint) (other h : ProcessState) → IsIn table joint h → IsIn table (with_one table joint other) h
 in_then table joint other h k = record {
   held = λ set holding. within_first joint.held (held_set other) set (k.held set holding);
   hands = hands_first table h joint.given (handed_down table other) k.hands;
   lock = λ locked. k.lock (and_parts joint.locked _ locked).0;
 }
 
-in_last : (table : CallTable) (joint : Joint) (h : History) → IsIn table (with_one table joint h) h
+in_last : (table : CallTable) (joint : Joint) (h : ProcessState) → IsIn table (with_one table joint h) h
 in_last table joint h = record {
   held = λ set holding. within_second joint.held (held_set h) set holding;
   hands = hands_second table h joint.given (handed_down table h) (hands_own table h);
   lock = λ locked. (and_parts joint.locked _ locked).1;
 }
 
-in_after : (table : CallTable) (more : List History) (joint : Joint) (h : History) → IsIn table joint h → IsIn table (joint_after table joint more) h
+in_after : (table : CallTable) (more : List ProcessState) (joint : Joint) (h : ProcessState) → IsIn table joint h → IsIn table (joint_after table joint more) h
 in_after table [] joint h k = k
 in_after table (other ∷ more) joint h k = in_after table more (with_one table joint other) h (in_then table joint other h k)
 
-in_more : (table : CallTable) (more : List History) (joint : Joint) (h : History) → Among more h → IsIn table (joint_after table joint more) h
+in_more : (table : CallTable) (more : List ProcessState) (joint : Joint) (h : ProcessState) → Among more h → IsIn table (joint_after table joint more) h
 in_more table [] joint h a = absurd a
 in_more table (other ∷ more) joint h (inl same) =
     subst (λ x. IsIn table (joint_after table (with_one table joint other) more) x) same
     (in_after table more (with_one table joint other) other (in_last table joint other))
 in_more table (other ∷ more) joint h (inr later) = in_more table more (with_one table joint other) h later
 
-all_in : (table : CallTable) (first : History) (more : List History) (h : History) → Among (first ∷ more) h →
+all_in : (table : CallTable) (first : ProcessState) (more : List ProcessState) (h : ProcessState) → Among (first ∷ more) h →
     IsIn table (joint_after table (joint_of table first) more) h
 all_in table first more h (inl same) =
     subst (λ x. IsIn table (joint_after table (joint_of table first) more) x) same
     (in_after table more (joint_of table first) first (in_first table first))
 all_in table first more h (inr later) = in_more table more (joint_of table first) h later
 
-among_all : (P : History → Type 0) (hs : List History) → AllByRecursion P hs → (h : History) → Among hs h → P h
+among_all : (P : ProcessState → Type 0) (hs : List ProcessState) → AllByRecursion P hs → (h : ProcessState) → Among hs h → P h
 among_all P [] all h a = absurd a
 among_all P (x ∷ hs) all h (inl same) = subst P same all.0
 among_all P (x ∷ hs) all h (inr later) = among_all P hs all.1 h later
@@ -129,101 +120,78 @@ same_first a b xs ys e = ap (first_or a) e
 same_rest : {A : Type 0} (a b : A) (xs ys : List A) → a ∷ xs ≡ b ∷ ys → xs ≡ ys
 same_rest a b xs ys e = ap rest_of e
 
--- each member has its history among them
-member_history : (w : World) (members : List ℕ) (hs : List History) → map (history_of w) members ≡ map Some hs → (member : ℕ) →
-    is_member members member ≡ true → HasHistoryOf w member (Among hs)
-member_history w [] hs e member belongs = absurd (false≢true belongs)
-member_history w (m ∷ members) [] e member belongs = let never : history_of w m ∷ map (history_of w) members ≡ [] = e in cc
-member_history w (m ∷ members) (h ∷ hs) e member belongs =
+-- each member is among them
+member_among : (w : World) (members : List ℕ) (hs : List ProcessState) → map (kept_at w) members ≡ map Some hs → (member : ℕ) →
+    is_member members member ≡ true → HasKept w member (Among hs)
+member_among w [] hs e member belongs = absurd (false≢true belongs)
+member_among w (m ∷ members) [] e member belongs = let never : kept_at w m ∷ map (kept_at w) members ≡ [] = e in cc
+member_among w (m ∷ members) (h ∷ hs) e member belongs =
     by (m == member) refl belongs
-    (member_history w members hs (same_rest (history_of w m) (Some h) (map (history_of w) members) (map Some hs) e) member)
+    (member_among w members hs (same_rest (kept_at w m) (Some h) (map (kept_at w) members) (map Some hs) e) member)
   where
     by : (b : Bool) → (m == member) ≡ b → (b || is_member members member) ≡ true →
-        (is_member members member ≡ true → HasHistoryOf w member (Among hs)) → HasHistoryOf w member (Among (h ∷ hs))
+        (is_member members member ≡ true → HasKept w member (Among hs)) → HasKept w member (Among (h ∷ hs))
     by true is belongs later = (
       h,
-      ap (history_of w) (sym (eqb-true m member is)) ∙
-          same_first (history_of w m) (Some h) (map (history_of w) members) (map Some hs) e,
+      ap (kept_at w) (sym (eqb-true m member is)) ∙
+          same_first (kept_at w m) (Some h) (map (kept_at w) members) (map Some hs) e,
       inl refl,
     )
     by false is belongs later = let found = later belongs in (found.0, found.1, inr found.2)
 
-module _ (table : CallTable) (first : History) (more : List History) (alike : AllByRecursion (IsOneOf first) (first ∷ more)) where
+module _ (table : CallTable) (first : ProcessState) (more : List ProcessState) (alike : AllByRecursion (IsOneOf first) (first ∷ more)) where
   abbrev joint : Joint
   joint = joint_after table (joint_of table first) more
 
-  abbrev one : History
+  abbrev one : ProcessState
   one = joined table first more
 
-  abbrev bare : History
-  bare = with_both first joint.held
-
-  unveils_one : filter is_unveil one ≡ filter is_unveil first
-  unveils_one = unveils_kept first
-
-  lives_one : is_ended one ≡ false
-  lives_one = same_end first ∙ alike.0.lives
-
-  held_one : held_set one ≡ bit_or (held_set first) joint.held
-  held_one = held_both first joint.held
-
-  abbrev handed : Option ℕ
-  handed = confined_part joint.locked (held_set bare) joint.given
-
-  handed_one : held_for_exec one ≡ handed
-  handed_one = by handed
-    where
-      by : (o : Option ℕ) → held_for_exec (Locked ∷ Pledged None o ∷ bare) ≡ o
-      by None = ap common (no_execpromises first)
-      by (Some given) = ap (λ l. Some (meet given (common l))) (no_execpromises first)
-
-  within_one : (h : History) → IsIn table joint h → AreWithin (held_set h) (held_set one)
-  within_one h k set fine holding =
-      ap (λ s. holds s set) held_one ∙ within_second (held_set first) joint.held set (k.held set holding)
+  within_one : (h : ProcessState) → IsIn table joint h → AreWithin (held_set h) (held_set one)
+  within_one h k set fine holding = within_second (held_set first) joint.held set (k.held set holding)
 
   -- so each is within it
-  acts_within : (w : World) (members : List ℕ) → map (history_of w) members ≡ map Some (first ∷ more) → ActsWithin w one members
-  acts_within w members histories m belongs =
-      let here = member_history w members (first ∷ more) histories m belongs in
+  acts_within : (w : World) (members : List ℕ) → map (kept_at w) members ≡ map Some (first ∷ more) → ActsWithin w one members
+  acts_within w members processes m belongs =
+      let here = member_among w members (first ∷ more) processes m belongs in
       let is = among_all (IsOneOf first) (first ∷ more) alike here.0 here.2 in (
         here.0,
         here.1,
         (
           record {
-            unveils = is.unveils ∙ sym unveils_one;
+            unveils = record { any = is.unveils.any; kept = is.unveils.kept };
             promises = within_one here.0 (all_in table first more here.0 here.2);
             confined = is.confined;
           },
-          λ lives. lives_one,
+          λ lives. alike.0.lives,
         ),
       )
 
   module _ (given : ℕ) (bound : bound_of table one ≡ Some given) where
     abbrev Confined : ℕ → Type 0
-    Confined left = (joint.locked || (not (holds (held_set bare) unveil) && not (holds left unveil))) ≡ true
+    Confined left = (joint.locked || (not (holds (held_set one) unveil) && not (holds left unveil))) ≡ true
 
     -- what it hands down is what they do, and nothing puts a veil
     parts : (joint.given ≡ Some given) × Confined given
-    parts = by joint.given (sym handed_one ∙ (bound_parts table one given bound).set)
+    parts = by joint.given (bound_parts table one given bound).set
       where
-        only : (left : ℕ) (b : Bool) → (joint.locked || (not (holds (held_set bare) unveil) && not (holds left unveil))) ≡ b →
+        only : (left : ℕ) (b : Bool) → (joint.locked || (not (holds (held_set one) unveil) && not (holds left unveil))) ≡ b →
             cond b (Some left) None ≡ Some given → (Some left ≡ Some given) × Confined given
         only left true is e = (e, subst Confined (same_Some left given e) is)
         only left false is e = let never : None ≡ Some given = e in cc
 
-        by : (o : Option ℕ) → confined_part joint.locked (held_set bare) o ≡ Some given → (o ≡ Some given) × Confined given
+        by : (o : Option ℕ) → confined_part joint.locked (held_set one) o ≡ Some given → (o ≡ Some given) × Confined given
         by None e = let never : None ≡ Some given = e in cc
         by (Some left) e = only left _ refl e
 
     -- and goes along with it
-    goes_along : (h : History) → Among (first ∷ more) h → GoesAlong table one given h
+    goes_along : (h : ProcessState) → Among (first ∷ more) h → GoesAlong table one given h
     goes_along h a =
         let is = among_all (IsOneOf first) (first ∷ more) alike h a in
         let k = all_in table first more h a in
         record {
-          unveils = is.unveils ∙ sym unveils_one;
-          lock = lock (lock_parts joint.locked (holds (held_set bare) unveil) (holds given unveil) refl refl refl parts.1) k;
-          ended = λ lives. lives_one;
+          unveils = record { any = is.unveils.any; kept = is.unveils.kept };
+          lock = lock (lock_parts joint.locked (holds (held_set one) unveil) (holds given unveil) refl refl refl parts.1) k;
+          ended = λ lives. alike.0.lives;
           promises = promises (subst (Hands table h) parts.0 k.hands) (within_one h k);
         }
       where
@@ -237,14 +205,14 @@ module _ (table : CallTable) (first : History) (more : List History) (alike : Al
         promises (inl hands) within = inl (inl (within, hands))
         promises (inr none) within = inr (within, none)
 
-    go_along : (w : World) (members : List ℕ) → map (history_of w) members ≡ map Some (first ∷ more) → GoAlong table w one given members
-    go_along w members histories m belongs =
-        let here = member_history w members (first ∷ more) histories m belongs in
+    go_along : (w : World) (members : List ℕ) → map (kept_at w) members ≡ map Some (first ∷ more) → GoAlong table w one given members
+    go_along w members processes m belongs =
+        let here = member_among w members (first ∷ more) processes m belongs in
         (here.0, here.1, goes_along here.0 here.2)
 
 pub ever_together : EverTogether
 ever_together table sound needs w asks members first more acts stand trees none edits member belongs =
-    ever_beside table sound needs w asks members (joined table first more) (acts_within table first more acts.alike w members acts.histories)
+    ever_beside table sound needs w asks members (joined table first more) (acts_within table first more acts.alike w members acts.processes)
     stand trees none edits member belongs
 
 pub together_lasts : TogetherLasts
@@ -252,31 +220,28 @@ together_lasts table sound needs w asks members first more acts given bound stan
     rw bound (by (has_exec (ever w.tree table (joined table first more))) refl)
   where
     by : (b : Bool) → has_exec (ever w.tree table (joined table first more)) ≡ b →
-        HasHistoryOf (world_after table w asks) member (ForeseesIn (cond b (ever_through w.tree table (joined table first more) given)
+        HasKept (world_after table w asks) member (ForeseesIn (cond b (ever_through w.tree table (joined table first more) given)
         (ever w.tree table (joined table first more))) w.tree table (joined table first more) (world_after table w asks).tree)
     by true is =
         ever_through_execs table sound needs w asks members (joined table first more) given (bound_parts table (joined table first more) given bound).bounded
-        (go_along table first more acts.alike given bound w members acts.histories) stand trees edits member belongs
+        (go_along table first more acts.alike given bound w members acts.processes) stand trees edits member belongs
     by false is =
-        let within = acts_within table first more acts.alike w members acts.histories in
+        let within = acts_within table first more acts.alike w members acts.processes in
         let well = first_tree table w asks trees in
         let none = none_along table sound needs w.tree (joined table first more) well stand (no_line w.tree table (joined table first more) is) asks w members
         (all_within w members (joined table first more) within) edits trees (at_first table w.tree (joined table first more) well stand) (inr refl) in
         ever_beside table sound needs w asks members (joined table first more) within stand trees none edits member belongs
 
--- the veils of each stand, and so do those of the one that stands for all
-veils_stand : (w : World) → PlacesStand w → (members : List ℕ) (hs : List History) → map (history_of w) members ≡ map Some hs →
+-- the veils of each stand
+veils_stand : (w : World) → PlacesStand w → (members : List ℕ) (hs : List ProcessState) → map (kept_at w) members ≡ map Some hs →
     AllByRecursion (VeilsStand w.tree) hs
 veils_stand w places [] [] e = tt
 veils_stand w places [] (h ∷ hs) e = let never : [] ≡ Some h ∷ map Some hs = e in cc
 veils_stand w places (m ∷ members) [] e = tt
 veils_stand w places (m ∷ members) (h ∷ hs) e = (
-  places m h (same_first (history_of w m) (Some h) (map (history_of w) members) (map Some hs) e),
-  veils_stand w places members hs (same_rest (history_of w m) (Some h) (map (history_of w) members) (map Some hs) e),
+  places m h (same_first (kept_at w m) (Some h) (map (kept_at w) members) (map Some hs) e),
+  veils_stand w places members hs (same_rest (kept_at w m) (Some h) (map (kept_at w) members) (map Some hs) e),
 )
-
-one_stands : (table : CallTable) (t : Tree) (first : History) (more : List History) → VeilsStand t first → VeilsStand t (joined table first more)
-one_stands table t first more stand at perms is = stand at perms (sym (kept_after first at) ∙ is)
 
 pub together_after_read : TogetherAfterRead
 together_after_read table sound needs rules tree_bytes script_bytes t before asks listed scripted bytes members first more acts given bound edits
@@ -288,5 +253,5 @@ together_after_read table sound needs rules tree_bytes script_bytes t before ask
     let places = replays_keep_places table needs (new_world t) before (replays_keep_trees table (new_world t) before tree said)
     (new_places t) in
     together_lasts table sound needs w asks members first more acts given bound
-    (one_stands table w.tree first more (veils_stand w places members (first ∷ more) acts.histories).0)
+    (veils_stand w places members (first ∷ more) acts.processes).0
     (replays_keep_trees table w asks left bytes) edits member belongs

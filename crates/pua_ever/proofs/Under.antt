@@ -1,6 +1,6 @@
 -- What some cover of a list passes, some cover of another one with the same elements does.
 use Rattle.pua_ever.proofs.Common.{◌≡◌, List, [], ◌++◌, Bool, true, false, refl, sym, ◌∙◌, ◌||◌, if◌then◌else◌, ap, list_any}
-use Rattle.pua_ever.proofs.Common.{false≢true, list_any-append, contained, among_contained, Tree, empty_tree, CallTable, History, Object}
+use Rattle.pua_ever.proofs.Common.{false≢true, list_any-append, contained, among_contained, Tree, empty_tree, CallTable, ProcessState, Object}
 use Rattle.pua_ever.proofs.Common.{covered_verdict, is_allowed, Cover, Call, is_allowed_under, dir_covers, name_covers, file_covers}
 use Rattle.pua_ever.proofs.Common.{some_dir_moves, can_move, open_covers, HaveSame}
 use Rattle.std.specs.List.{Contains}
@@ -19,7 +19,7 @@ any_same {X} p xs ys same = by (list_any p xs) (list_any p ys) refl refl
     by false false e f = refl
     by false true e f = absurd (false≢true (sym e ∙ moved ys xs same.all f))
 
-module _ (t : Tree) (table : CallTable) (h : History) (dirs entrances names : List Cover)
+module _ (t : Tree) (table : CallTable) (h : ProcessState) (dirs entrances names : List Cover)
     (dirs_same : HaveSame (dirs ++ entrances) (dir_covers t h)) (judged : Object) (call : Call) where
   abbrev passes : Cover → Bool
   passes left = is_allowed (covered_verdict empty_tree table h call left judged)

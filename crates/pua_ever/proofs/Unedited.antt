@@ -1,8 +1,8 @@
 -- Who holds what none of the edits needs leaves the tree.
 use Rattle.pua_ever.proofs.Common.{◌≡◌, ◌⊎◌, ℕ, List, [], ◌∷◌, Bool, true, false, cond, refl, sym, ap, subst, ◌∙◌, inl, inr, list_any, Some}
-use Rattle.pua_ever.proofs.Common.{is_some, nat_le, false≢true, or_left, or_right, EAGAIN, Found, History}
+use Rattle.pua_ever.proofs.Common.{is_some, nat_le, false≢true, or_left, or_right, EAGAIN, Found, ProcessState}
 use Rattle.pua_ever.proofs.Common.{may_any, CallTable, rule_of, Call, May, most_processes, Asked, tree_left, is_member}
-use Rattle.pua_ever.proofs.Common.{family_then, World, Fails, Copies, change_effect, history_of, apply}
+use Rattle.pua_ever.proofs.Common.{family_then, World, Fails, Copies, change_effect, kept_at, apply}
 use Rattle.pua_ever.proofs.Common.{world_after, Change, CopyAs, change_by, IsDecided, Action, OnPath, Symlink, Rename, Link, Pledge, Unveil}
 use Rattle.pua_ever.proofs.Common.{Lock, Fork, Exit, IsWithin, Members, Among, is_yes, may_edit}
 use Rattle.std.proofs.Common.{◌||◌}
@@ -19,7 +19,7 @@ use Rattle.pua_ever.proofs.Calling.{by_calling}
 use Rattle.pua_ever.proofs.Execs.{members_still}
 use Rattle.pua_ever.proofs.Ways.{any_among, any_found}
 
-module _ (table : CallTable) (w : World) (h : History) (lacks : may_edit table h ≡ false) where
+module _ (table : CallTable) (w : World) (h : ProcessState) (lacks : may_edit table h ≡ false) where
   -- a change that leaves the tree
   abbrev Keeps : Change → Type 0
   Keeps c = tree_left w.tree (change_effect w h c) ≡ w.tree
@@ -46,7 +46,7 @@ module _ (table : CallTable) (w : World) (h : History) (lacks : may_edit table h
       (λ starts. refl) x
 
   keeps_copy : (new : ℕ) → Keeps (CopyAs new)
-  keeps_copy new = by (is_some (history_of w new) || nat_le most_processes (length w.histories))
+  keeps_copy new = by (is_some (kept_at w new) || nat_le most_processes (length w.processes))
     where
       by : (full : Bool) → tree_left w.tree (cond full (Fails EAGAIN) (Copies new)) ≡ w.tree
       by true = refl
@@ -63,14 +63,14 @@ module _ (table : CallTable) (w : World) (h : History) (lacks : may_edit table h
   keeps_by (Fork new) c d = subst Keeps (sym d.1) (keeps_copy new)
   keeps_by Exit c d = subst Keeps (sym d) refl
 
-pub unedited : (table : CallTable) (w : World) (ask : Asked) (h : History) → history_of w ask.process ≡ Some h → may_edit table h ≡ false →
+pub unedited : (table : CallTable) (w : World) (ask : Asked) (h : ProcessState) → kept_at w ask.process ≡ Some h → may_edit table h ≡ false →
     (apply table w ask).1.tree ≡ w.tree
 unedited table w ask h here lacks =
     by_own_tree table w ask h here (λ u. u ≡ w.tree) refl (λ c guards. keeps_by table w h lacks ask.action c guards)
 
 -- who edits nothing by what it holds edits nothing by what is left of it
-module _ (table : CallTable) (sound : NoCallNeedsError table) (now : History) where
-  pub yes_before : (h : History) → IsWithin now h → (sets : List ℕ) → AllByRecursion NamesNoError sets → is_yes (may_any h sets) ≡ true →
+module _ (table : CallTable) (sound : NoCallNeedsError table) (now : ProcessState) where
+  pub yes_before : (h : ProcessState) → IsWithin now h → (sets : List ℕ) → AllByRecursion NamesNoError sets → is_yes (may_any h sets) ≡ true →
       is_yes (may_any now sets) ≡ true
   yes_before h within sets fine e = by (may_any h sets) refl e
     where
@@ -79,7 +79,7 @@ module _ (table : CallTable) (sound : NoCallNeedsError table) (now : History) wh
       by Enosys is e = absurd (false≢true e)
       by Death is e = absurd (false≢true e)
 
-  pub still_unable : (h : History) → IsWithin now h → may_edit table now ≡ false → may_edit table h ≡ false
+  pub still_unable : (h : ProcessState) → IsWithin now h → may_edit table now ≡ false → may_edit table h ≡ false
   still_unable h within lacks =
       by (is_yes (may_any h table.rename.new.needs.alternatives)) (is_yes (may_any h table.link.new.needs.alternatives))
       (list_any (λ edit. is_yes (may_any h (rule_of table edit).alternatives)) edit_calls) refl refl refl

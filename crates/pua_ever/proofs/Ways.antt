@@ -3,7 +3,7 @@ use Rattle.pua_ever.proofs.Common.{◌≡◌, ℕ, List, [], ◌∷◌, Bool, tr
 use Rattle.pua_ever.proofs.Common.{◌&&◌, ◌||◌, ◌==◌, filter, option_map, list_any, list_all, option_eq, nat_cmp, nat_cmp_total}
 use Rattle.pua_ever.proofs.Common.{nat_cmp-IsAntisymmetric, false≢true, eq-eqb, eqb-true, and_parts, and_from, or_left, or_right, Tree}
 use Rattle.pua_ever.proofs.Common.{Node, WellFormed, Spot, spot_cmp, is_dir, is_dir_kind, look, node_at, sound_from, spots_total}
-use Rattle.pua_ever.proofs.Common.{exact_spots, History, perms_kept, veils, same_place, Place, Cover, Only, same_place_is, has_c, cover_in}
+use Rattle.pua_ever.proofs.Common.{exact_spots, ProcessState, perms_kept, veils, same_place, Place, Cover, Only, same_place_is, has_c, cover_in}
 use Rattle.pua_ever.proofs.Common.{Among, among_left, among_right, among_map, map_among, among_filter, filter_among, among_filter_map}
 use Rattle.pua_ever.proofs.Common.{is_free, can_empty, is_below, has_c_outside, directories, dir_covers, name_covers, some_dir_moves}
 use Rattle.pua_ever.proofs.Common.{file_covers, open_covers, can_move, CallTable, map, subst}
@@ -11,9 +11,8 @@ use Rattle.std.specs.Ordering.{is_eq}
 use Rattle.std.specs.Cmp.{Equal-is}
 use Rattle.std.specs.FinMap.{find as find_key}
 use Rattle.pua_tree.proofs.ForCallers.{all_from_found}
-use Rattle.pua_policy.specs.History.{veil_at}
+use Rattle.pua_policy.specs.States.{veil_at}
 use Rattle.pua_policy.specs.declared.place.Place.TheVariants as place
-use Rattle.pua_policy.proofs.ForCallers.{veils_are_kept}
 use Rattle.pua_objects.proofs.ForCallers.{found_among}
 use Rattle.pua_ever.specs.Ever.{opens_at, gives_way, opens_outside, is_way_in, is_dir_entry}
 use Rattle.pua_ever.specs.Ever.{veil_cover_at}
@@ -65,7 +64,7 @@ veil_among (v ∷ vs) at perms e =
       | false ↦ λ other is. inr (veil_among vs at perms is)
     ] refl e
 
-module _ (t : Tree) (h : History) where
+module _ (t : Tree) (h : ProcessState) where
   pub dir_among : (d : ℕ) → is_dir t d ≡ true → Among (directories t) d
   dir_among d is = by (node_at t d) refl is
     where
@@ -77,7 +76,7 @@ module _ (t : Tree) (h : History) where
       ) (among_filter is_dir_entry t.nodes (d, n) is (node_among d n t.nodes e))
 
   pub kept_among : (at : Place) (perms : ℕ) → perms_kept h at ≡ Some perms → Among (veils h) (at, perms)
-  kept_among at perms e = veil_among (veils h) at perms (veils_are_kept h at ∙ e)
+  kept_among at perms e = veil_among (veils h) at perms e
 
   -- a way in gives its cover
   way_covers : (d : ℕ) → is_dir t d ≡ true → is_way_in t h d ≡ true → Among (dir_covers t h) (cover_in t h d)

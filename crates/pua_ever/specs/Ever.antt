@@ -15,7 +15,7 @@ use Rattle.pua_path.specs.declared.found.Way.{Way}
 use Rattle.pua_path.specs.declared.found.Way.TheVariants.{Named, Top}
 use Rattle.pua_calls.specs.Calls.{CallTable, rule_of, calls, call_name}
 use Rattle.pua_calls.specs.CallSets.{keeps_link, is_kept}
-use Rattle.pua_policy.specs.History.{History, perms_kept, veils, may_any}
+use Rattle.pua_policy.specs.States.{ProcessState, perms_kept, veils, may_any}
 use Rattle.pua_policy.specs.declared.answer.May.{May}
 use Rattle.pua_policy.specs.declared.answer.May.TheVariants.{Yes}
 use Rattle.pua_policy.specs.Verdict.{Object, IsDir, IsFile, IsProg, IsLink, IsMissing, object_of, cover, cover_fault, covered_verdict, is_allowed}
@@ -32,11 +32,11 @@ use Rattle.pua_audit.specs.declared.base.Base.TheVariants.{Root}
 use Rattle.pua_objects.specs.Objects.{Subject, At, Others, Item, items, cover_in, is_named_by, subject_word, with_commas}
 
 -- what covers that which stands in a row
-abbrev pub row_cover : Tree → History → Spot → ℕ → Cover
+abbrev pub row_cover : Tree → ProcessState → Spot → ℕ → Cover
 row_cover t h spot node = cover t h (object_in t spot node)
 
 -- a name can come to be free: nothing stands there, or what does has `c`
-abbrev pub is_free : Tree → History → Spot → Bool
+abbrev pub is_free : Tree → ProcessState → Spot → Bool
 is_free t h spot = by (look t spot.0 spot.1)
   where
     by : Option ℕ → Bool
@@ -44,11 +44,11 @@ is_free t h spot = by (look t spot.0 spot.1)
     by (Some node) = has_c (row_cover t h spot node)
 
 -- a directory can come to be empty: each thing in it has `c`
-abbrev pub can_empty : Tree → History → ℕ → Bool
+abbrev pub can_empty : Tree → ProcessState → ℕ → Bool
 can_empty t h dir = list_all (λ row. not (row.0.0 == dir) || has_c (row_cover t h row.0 row.1)) t.rows
 
 -- a veil with `c` at a name of this directory that can come to be free
-abbrev pub opens_at : Tree → History → ℕ → Place → ℕ → Bool
+abbrev pub opens_at : Tree → ProcessState → ℕ → Place → ℕ → Bool
 opens_at t h dir (place.Slot other name) perms =
     other == dir && (has_c (Only perms) && is_free t h (other, name))
 opens_at t h dir (place.Dir other) perms = false
@@ -71,14 +71,14 @@ opens_outside t inner (place.Slot dir name) perms =
     is_dir t dir && (not (is_below t inner dir) && has_c (Only perms))
 opens_outside t inner (place.Dir dir) perms = false
 
-abbrev pub has_c_outside : Tree → History → ℕ → Bool
+abbrev pub has_c_outside : Tree → ProcessState → ℕ → Bool
 has_c_outside t h inner =
     list_any (λ dir. not (is_below t inner dir) && has_c (cover_in t h dir)) (directories t)
     || list_any (λ veil. opens_outside t inner veil.0 veil.1) (veils h)
 
 -- a directory that stands in this one gives way to another that is moved onto it: it has `c` and can come
 -- to be empty, and something outside of it has `c`, from where the other can come
-abbrev pub gives_way : Tree → History → ℕ → (Spot × ℕ) → Bool
+abbrev pub gives_way : Tree → ProcessState → ℕ → (Spot × ℕ) → Bool
 gives_way t h dir row =
     row.0.0 == dir
     && (is_dir t row.1 && (has_c (cover_in t h row.1)
@@ -86,26 +86,26 @@ gives_way t h dir row =
 
 -- a directory can come to stand in this one: by a further name, by a name with a veil of its own, or in
 -- the place of another directory
-abbrev pub is_way_in : Tree → History → ℕ → Bool
+abbrev pub is_way_in : Tree → ProcessState → ℕ → Bool
 is_way_in t h dir =
     has_c (cover_in t h dir)
     || (list_any (λ veil. opens_at t h dir veil.0 veil.1) (veils h) || list_any (gives_way t h dir) t.rows)
 
 -- the covers under which a directory can come that is moved or made
-abbrev pub dir_covers : Tree → History → List Cover
+abbrev pub dir_covers : Tree → ProcessState → List Cover
 dir_covers t h = map (cover_in t h) (filter (is_way_in t h) (directories t))
 
 -- the covers of names with a veil of their own to which something else can be moved
-abbrev pub veil_cover_at : Tree → History → Place → ℕ → Option Cover
+abbrev pub veil_cover_at : Tree → ProcessState → Place → ℕ → Option Cover
 veil_cover_at t h (place.Slot dir name) perms =
     if is_dir t dir && (has_c (Only perms) && is_free t h (dir, name)) then Some (Only perms) else None
 veil_cover_at t h (place.Dir dir) perms = None
 
-abbrev pub name_covers : Tree → History → List Cover
+abbrev pub name_covers : Tree → ProcessState → List Cover
 name_covers t h = filter_map (λ veil. veil_cover_at t h veil.0 veil.1) (veils h)
 
 -- those of the directories that have `c`, in which a file can be put
-abbrev pub open_covers : Tree → History → List Cover
+abbrev pub open_covers : Tree → ProcessState → List Cover
 open_covers t h = filter has_c (map (cover_in t h) (directories t))
 
 -- the tree can change by them at all: they may give a new name by rename or link, or make one of the calls that make a name or
@@ -117,39 +117,39 @@ abbrev pub is_yes : May → Bool
 is_yes Yes = true
 is_yes _ = false
 
-abbrev pub may_edit : CallTable → History → Bool
+abbrev pub may_edit : CallTable → ProcessState → Bool
 may_edit table h =
     is_yes (may_any h table.rename.new.needs.alternatives)
     || (is_yes (may_any h table.link.new.needs.alternatives)
     || list_any (λ edit. is_yes (may_any h (rule_of table edit).alternatives)) edit_calls)
 
 -- the promises of both of rename's names are held
-abbrev pub may_rename : CallTable → History → Bool
+abbrev pub may_rename : CallTable → ProcessState → Bool
 may_rename table h =
     is_yes (may_any h table.rename.old.needs.alternatives) && is_yes (may_any h table.rename.new.needs.alternatives)
 
 -- a thing can be moved: what covers it now has `c`, and what rename's old name needs, which may be more
-abbrev pub can_move : CallTable → History → Cover → Bool
+abbrev pub can_move : CallTable → ProcessState → Cover → Bool
 can_move table h now =
     may_rename table h && (has_c now && is_none (cover_fault now table.rename.old.needs.perms))
 
 -- some directory with `c` can be moved, and what was put into it with it
-abbrev pub some_dir_moves : Tree → CallTable → History → Bool
+abbrev pub some_dir_moves : Tree → CallTable → ProcessState → Bool
 some_dir_moves t table h = list_any (can_move table h) (open_covers t h)
 
 -- the covers under which anything else can come
-abbrev pub file_covers : Tree → CallTable → History → List Cover
+abbrev pub file_covers : Tree → CallTable → ProcessState → List Cover
 file_covers t table h =
     name_covers t h ++ (open_covers t h ++ (if some_dir_moves t table h then dir_covers t h else []))
 
 -- the promises of both of link's names are held
-abbrev pub may_link : CallTable → History → Bool
+abbrev pub may_link : CallTable → ProcessState → Bool
 may_link table h =
     is_yes (may_any h table.link.old.needs.alternatives) && is_yes (may_any h table.link.new.needs.alternatives)
 
 -- a file, program or link can be given a further name by link: what covers it now has what link's old name
 -- needs, which may be less than `c`, and of links link takes those alone that it doesn't follow
-abbrev pub can_link : CallTable → History → Option Kind → Cover → Bool
+abbrev pub can_link : CallTable → ProcessState → Option Kind → Cover → Bool
 can_link table h kind now =
     may_link table h
     && (is_none (cover_fault now table.link.old.needs.perms)
@@ -162,18 +162,18 @@ ever_covers moves now others = if moves then others else now ∷ []
 
 -- those of a file, program or link, which can also come under another cover by a further name, and keep what
 -- covers it now by this one
-abbrev pub named_covers : Tree → CallTable → History → Option Kind → Cover → List Cover
+abbrev pub named_covers : Tree → CallTable → ProcessState → Option Kind → Cover → List Cover
 named_covers t table h kind now =
     if can_move table h now then file_covers t table h
     else now ∷ (if can_link table h kind now then file_covers t table h else [])
 
 -- a directory with a veil of its own keeps its cover wherever it is
-abbrev pub covers_of_dir : Tree → CallTable → History → ℕ → List Cover
+abbrev pub covers_of_dir : Tree → CallTable → ProcessState → ℕ → List Cover
 covers_of_dir t table h dir =
     ever_covers (is_none (perms_kept h (place.Dir dir)) && can_move table h (cover_in t h dir)) (cover_in t h dir) (dir_covers t h)
 
 -- and a missing name keeps its own veil
-abbrev pub covers_of : Tree → CallTable → History → Subject → List Cover
+abbrev pub covers_of : Tree → CallTable → ProcessState → Subject → List Cover
 covers_of t table h (At (Whole dir way)) = covers_of_dir t table h dir
 covers_of t table h (Others dir) = covers_of_dir t table h dir
 covers_of t table h (At (Slot dir name (Some node))) =
@@ -192,7 +192,7 @@ abbrev pub is_named_way : Way → Bool
 is_named_way (Named dir name) = true
 is_named_way _ = false
 
-abbrev pub ever_object : Tree → CallTable → History → Subject → Object
+abbrev pub ever_object : Tree → CallTable → ProcessState → Subject → Object
 ever_object t table h (At (Whole dir way)) =
     if is_named_way way && (can_empty t h dir && (may_edit table h || is_none_in dir))
     then removable_dir else lasting_dir
@@ -203,7 +203,7 @@ ever_object t table h (Others dir) = IsMissing
 ever_object t table h (At (Slot dir name node)) = object_of t (Slot dir name node)
 
 -- a call is allowed on such an object under one of these covers
-abbrev pub is_allowed_under : CallTable → History → List Cover → Object → Call → Bool
+abbrev pub is_allowed_under : CallTable → ProcessState → List Cover → Object → Call → Bool
 is_allowed_under table h covers object call =
     list_any (λ left. is_allowed (covered_verdict empty_tree table h call left object)) covers
 
@@ -217,23 +217,23 @@ is_exec_call call.Exec = true
 is_exec_call _ = false
 
 -- the call is exec, and allowed on a program under one of these covers
-abbrev pub starts_under : CallTable → History → List Cover → Call → Bool
+abbrev pub starts_under : CallTable → ProcessState → List Cover → Call → Bool
 starts_under table h covers call = is_exec_call call && is_allowed_under table h covers IsProg call
 
 -- a call can be allowed on such a thing under these covers: as it is, or, where it is a file that can be made a program, as
 -- that
-abbrev pub can_allow : CallTable → History → List Cover → Object → Call → Bool
+abbrev pub can_allow : CallTable → ProcessState → List Cover → Object → Call → Bool
 can_allow table h covers IsFile call =
     is_allowed_under table h covers IsFile call
     || (list_any (is_allowed_under table h covers IsFile) turning_calls && starts_under table h covers call)
 can_allow table h covers object call = is_allowed_under table h covers object call
 
 -- the calls that can ever be allowed on what stands or could stand now
-abbrev pub is_ever_allowed : Tree → CallTable → History → Subject → Call → Bool
+abbrev pub is_ever_allowed : Tree → CallTable → ProcessState → Subject → Call → Bool
 is_ever_allowed t table h subject call =
     is_named_by t call subject && can_allow table h (covers_of t table h subject) (ever_object t table h subject) call
 
-abbrev pub ever_calls : Tree → CallTable → History → Subject → List Call
+abbrev pub ever_calls : Tree → CallTable → ProcessState → Subject → List Call
 ever_calls t table h subject = filter (is_ever_allowed t table h subject) calls
 
 -- what can be made: a directory, the further names of such a directory, a file, a link
@@ -242,6 +242,13 @@ pub data New : Type 0 where
   NewOthers : New
   NewFile : New
   NewLink : New
+
+-- what is made, as a node
+abbrev pub new_kind : New → Kind
+new_kind NewDir = kind.Dir
+new_kind NewOthers = kind.Dir
+new_kind NewFile = kind.File
+new_kind NewLink = kind.Link
 
 -- the calls that make a file
 abbrev pub is_some_file : Option Kind → Bool
@@ -259,7 +266,7 @@ is_made_by passes NewFile = list_any passes file_makers
 is_made_by passes NewLink = passes call.Symlink
 
 -- the covers under which it can come, and what it is
-abbrev pub new_covers : Tree → CallTable → History → New → List Cover
+abbrev pub new_covers : Tree → CallTable → ProcessState → New → List Cover
 new_covers t table h NewDir = dir_covers t h
 new_covers t table h NewOthers = dir_covers t h
 new_covers t table h NewFile = file_covers t table h
@@ -276,19 +283,19 @@ is_new_named NewLink call = keeps_link call
 is_new_named _ call = true
 
 -- it can be made where a call that makes it is allowed on a missing name, under some cover that a name can have
-abbrev pub can_make : Tree → CallTable → History → New → Bool
+abbrev pub can_make : Tree → CallTable → ProcessState → New → Bool
 can_make t table h new = is_made_by (is_allowed_under table h (name_covers t h ++ dir_covers t h) IsMissing) new
 
 -- a call can be allowed on it under these covers; a file is made with any mode, so as a program too
-abbrev pub can_allow_new : Tree → CallTable → History → New → Call → Bool
+abbrev pub can_allow_new : Tree → CallTable → ProcessState → New → Call → Bool
 can_allow_new t table h NewFile call =
     is_allowed_under table h (file_covers t table h) IsFile call || starts_under table h (file_covers t table h) call
 can_allow_new t table h new call = is_allowed_under table h (new_covers t table h new) (new_object new) call
 
-abbrev pub is_new_allowed : Tree → CallTable → History → New → Call → Bool
+abbrev pub is_new_allowed : Tree → CallTable → ProcessState → New → Call → Bool
 is_new_allowed t table h new call = is_new_named new call && can_allow_new t table h new call
 
-abbrev pub new_calls : Tree → CallTable → History → New → List Call
+abbrev pub new_calls : Tree → CallTable → ProcessState → New → List Call
 new_calls t table h new =
     if may_edit table h && can_make t table h new then filter (is_new_allowed t table h new) calls else []
 
@@ -310,29 +317,29 @@ own_spot (At (Whole dir (Named parent name))) = Some (parent, name)
 own_spot _ = None
 
 -- a name has a veil of its own, and can come to be free
-abbrev pub can_be_freed : Tree → CallTable → History → Spot → Bool
+abbrev pub can_be_freed : Tree → CallTable → ProcessState → Spot → Bool
 can_be_freed t table h spot = is_some (perms_kept h (place.Slot spot.0 spot.1)) && (may_edit table h && is_free t h spot)
 
-abbrev pub freed_at : Tree → CallTable → History → Option Spot → List Subject
+abbrev pub freed_at : Tree → CallTable → ProcessState → Option Spot → List Subject
 freed_at t table h None = []
 freed_at t table h (Some spot) = if can_be_freed t table h spot then At (Slot spot.0 spot.1 None) ∷ [] else []
 
 -- where something stands at a name with a veil of its own and can be taken away, the name is a thing too
-abbrev pub names_to_free : Tree → CallTable → History → Subject → List Subject
+abbrev pub names_to_free : Tree → CallTable → ProcessState → Subject → List Subject
 names_to_free t table h subject = freed_at t table h (own_spot subject)
 
-abbrev pub subjects_of : Tree → CallTable → History → Item → List (Word × Subject)
+abbrev pub subjects_of : Tree → CallTable → ProcessState → Item → List (Word × Subject)
 subjects_of t table h item =
     (item.word, item.subject) ∷ map (λ subject. (item.word, subject)) (names_to_free t table h item.subject)
 
 abbrev pub all_new : List New
 all_new = NewDir ∷ NewOthers ∷ NewFile ∷ NewLink ∷ []
 
-abbrev pub ever_line : Tree → CallTable → History → (Word × Subject) → EverLine
+abbrev pub ever_line : Tree → CallTable → ProcessState → (Word × Subject) → EverLine
 ever_line t table h about =
     record { word = about.0; thing = Stands about.1; calls = ever_calls t table h about.1 }
 
-abbrev pub new_line : Tree → CallTable → History → New → EverLine
+abbrev pub new_line : Tree → CallTable → ProcessState → New → EverLine
 new_line t table h new = record { word = []; thing = Comes new; calls = new_calls t table h new }
 
 abbrev pub has_ever_calls : EverLine → Bool
@@ -340,7 +347,7 @@ has_ever_calls line = nat_lt 0 (length line.calls)
 
 -- all that can ever be touched: what stands or could stand now, in the order of the objects, and then what
 -- can be made
-abbrev pub ever : Tree → CallTable → History → List EverLine
+abbrev pub ever : Tree → CallTable → ProcessState → List EverLine
 ever t table h =
     filter has_ever_calls
     (map (ever_line t table h) (flat_map (subjects_of t table h) (items t (veils h)))

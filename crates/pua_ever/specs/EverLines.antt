@@ -3,7 +3,7 @@ use Rattle.std.specs.Prelude.{◌≡◌, List, [], ◌∷◌, map, filter, flat_
 use Rattle.pua_tree.specs.Tree.{Tree}
 use Rattle.pua_calls.specs.Calls.{CallTable}
 use Rattle.pua_calls.specs.CallSets.{calls_in}
-use Rattle.pua_policy.specs.History.{History}
+use Rattle.pua_policy.specs.States.{ProcessState}
 use Rattle.pua_audit.specs.Reach.{Word}
 use Rattle.pua_objects.specs.Objects.{Item, subject_word}
 use Rattle.pua_objects.specs.Lines.{kind_word}
@@ -42,13 +42,13 @@ made_left (Some made.File) = Coming NewFile ∷ Coming NewLink ∷ []
 made_left (Some made.Link) = Coming NewLink ∷ []
 
 -- the lines of what is to come, but for those without calls
-abbrev pub lines_about : Tree → CallTable → History → Left → List EverLine
+abbrev pub lines_about : Tree → CallTable → ProcessState → Left → List EverLine
 lines_about t table h (Now item) = ever_line t table h (item.word, item.subject) ∷ []
 lines_about t table h (Freed item) =
     map (λ subject. ever_line t table h (item.word, subject)) (names_to_free t table h item.subject)
 lines_about t table h (Coming new) = new_line t table h new ∷ []
 
-abbrev pub ever_lines_of : Tree → CallTable → History → List Left → List EverLine
+abbrev pub ever_lines_of : Tree → CallTable → ProcessState → List Left → List EverLine
 ever_lines_of t table h left = filter has_ever_calls (flat_map (lines_about t table h) left)
 
 -- the line tells what its thing is

@@ -4,7 +4,7 @@ use Rattle.pua_tree.specs.Tree.{Tree}
 use Rattle.pua_calls.specs.Calls.{CallTable}
 use Rattle.pua_calls.specs.CallSets.{has}
 use Rattle.pua_calls.specs.declared.call.Call.{Call}
-use Rattle.pua_policy.specs.History.{History}
+use Rattle.pua_policy.specs.States.{ProcessState}
 use Rattle.pua_audit.specs.Reach.{Word}
 use Rattle.pua_objects.specs.Items.{subject_given}
 use Rattle.pua_objects.specs.ListItems.{items_told, last_name, last_word, with_name}
@@ -32,7 +32,7 @@ AreEverTold t before (row ∷ rows) lines rest =
     × AreEverTold t (word_of_row before row) rows more rest
 
 -- the calls of a row are those that can ever be allowed on what an item is about
-pub record IsStandsRow (t : Tree) (table : CallTable) (h : History) (item : ListItem) (row : EverRow) : Type 0 where
+pub record IsStandsRow (t : Tree) (table : CallTable) (h : ProcessState) (item : ListItem) (row : EverRow) : Type 0 where
   pub kind : IsThing t (Stands (subject_given t item.item.subject)) row.line.thing
   pub calls : (call : Call) → has row.line.calls call ≡ is_ever_allowed t table h (subject_given t item.item.subject) call
 
@@ -42,13 +42,13 @@ pub record IsRowAt (item : ListItem) (row : EverRow) : Type 0 where
   pub name : option_map (λ name. name.now) row.name ≡ last_name item.item.subject
 
 -- the rows so far tell all lines but those of what is to come, at the names that lead to the item before
-pub record AreRowsSoFar (t : Tree) (table : CallTable) (h : History) (items so_far left : List ListItem) (rows : List EverRow) : Type 0 where
+pub record AreRowsSoFar (t : Tree) (table : CallTable) (h : ProcessState) (items so_far left : List ListItem) (rows : List EverRow) : Type 0 where
   pub word : last_row_word [] rows ≡ last_word [] so_far
   pub told : AreEverTold t [] rows (ever_lines_of t table h (flat_map both_of (items_told t [] items) ++ made_left (Some made.Dir)))
       (ever_lines_of t table h (flat_map both_of (items_told t (last_word [] so_far) left) ++ made_left (Some made.Dir)))
 
 -- rows tell all lines of items and of what can be made, but for some of these
-abbrev pub AreRowsBut : Tree → CallTable → History → List ListItem → List EverRow → Option Made → Type 0
+abbrev pub AreRowsBut : Tree → CallTable → ProcessState → List ListItem → List EverRow → Option Made → Type 0
 AreRowsBut t table h items rows coming =
     AreEverTold t [] rows (ever_lines_of t table h (flat_map both_of (items_told t [] items) ++ made_left (Some made.Dir)))
     (ever_lines_of t table h (made_left coming))

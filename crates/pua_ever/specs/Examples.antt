@@ -1,23 +1,24 @@
 -- Worked rows on what can ever be touched, by the standard table and by OpenBSD's rules, and on where there is no list.
-use Rattle.std.specs.Prelude.{◌≡◌, ◌+◌, ℕ, List, [], ◌∷◌, map, Some, None, codes, refl}
+use Rattle.std.specs.Prelude.{◌≡◌, ◌+◌, ℕ, true, List, [], ◌∷◌, map, Some, None, codes, refl}
 use Rattle.pua_tree.specs.Tree.{Tree, Node}
 use Rattle.pua_tree.specs.declared.node.Kind.TheVariants.{Dir, File, Link, Prog}
 use Rattle.pua_calls.specs.Promises.{rpath, wpath, cpath, dpath, fattr, exec, unix, reading, writing, executing, creating}
 use Rattle.pua_calls.specs.Calls.{CallTable, NameRule, standard_name, standard_pair, standard_table, openbsd_table}
-use Rattle.pua_policy.specs.History.{History, Pledged, Unveiled, Locked, new_history}
+use Rattle.pua_policy.specs.States.{ProcessState, new_process}
+use Rattle.pua_policy.specs.declared.place.Place.{Place}
 use Rattle.pua_policy.specs.declared.place.Place.TheVariants as place
 use Rattle.pua_ever.specs.Ever.{ever, ever_line_text}
 use Rattle.pua_ever.specs.Refusals.{refusal}
 use Rattle.pua_ever.specs.declared.refusal.Refusal.TheVariants.{CanUnveil, LinkLacksC}
 
-abbrev pub lines : Tree → History → List (List ℕ)
+abbrev pub lines : Tree → ProcessState → List (List ℕ)
 lines t h = map (ever_line_text t) (ever t standard_table h)
 
-abbrev pub lines_by_openbsd : Tree → History → List (List ℕ)
+abbrev pub lines_by_openbsd : Tree → ProcessState → List (List ℕ)
 lines_by_openbsd t h = map (ever_line_text t) (ever t openbsd_table h)
 
 -- the names that lead to what each line is about
-abbrev pub words : Tree → History → List (List (List ℕ))
+abbrev pub words : Tree → ProcessState → List (List (List ℕ))
 words t h = map (λ line. line.word) (ever t standard_table h)
 
 abbrev directory : Node
@@ -29,9 +30,13 @@ file = record { kind = File; target = None }
 abbrev program : Node
 program = record { kind = Prog; target = None }
 
--- what was put before, and then the lock and promises for every call of the table
-abbrev locked_after : History → History
-locked_after before = Pledged (Some (rpath + wpath + cpath + fattr + exec)) None ∷ Locked ∷ before
+-- who is locked, and holds these promises and has these veils
+abbrev locked_by : ℕ → List (Place × ℕ) → ProcessState
+locked_by promises veils = record new_process { promises = Some promises; veils = veils; locked = true }
+
+-- the same with promises for every call of the table
+abbrev locked_with : List (Place × ℕ) → ProcessState
+locked_with veils = locked_by (rpath + wpath + cpath + fattr + exec) veils
 
 -- `/a` has rwc and `/b` has c: what stands in `/b` can be moved into `/a`, and be read there
 abbrev pub moved_on_tree : Tree
@@ -41,12 +46,12 @@ moved_on_tree = record {
   next = 5;
 }
 
-abbrev pub moved_on_history : History
-moved_on_history =
-    locked_after (
-    Unveiled (place.Dir 2) creating
-    ∷ Unveiled (place.Dir 1) (reading + writing + creating)
-    ∷ new_history)
+abbrev pub moved_on_process : ProcessState
+moved_on_process =
+    locked_with (
+    (place.Dir 1, reading + writing + creating)
+    ∷ (place.Dir 2, creating)
+    ∷ [])
 
 -- `/` has rx, `/a` and `/b` have c: a directory in one can take the place of the other, and then stands under the veil
 -- of `/`, where the program in it can be run
@@ -57,13 +62,13 @@ in_the_place_tree = record {
   next = 5;
 }
 
-abbrev pub in_the_place_history : History
-in_the_place_history =
-    locked_after (
-    Unveiled (place.Dir 2) creating
-    ∷ Unveiled (place.Dir 1) creating
-    ∷ Unveiled (place.Dir 0) (reading + executing)
-    ∷ new_history)
+abbrev pub in_the_place_process : ProcessState
+in_the_place_process =
+    locked_with (
+    (place.Dir 0, reading + executing)
+    ∷ (place.Dir 1, creating)
+    ∷ (place.Dir 2, creating)
+    ∷ [])
 
 -- `/` has rx and `/a` has rwc: nothing outside of `/a` has c, so nothing takes its place, and the program in it is never run
 abbrev pub one_area_tree : Tree
@@ -73,12 +78,12 @@ one_area_tree = record {
   next = 4;
 }
 
-abbrev pub one_area_history : History
-one_area_history =
-    locked_after (
-    Unveiled (place.Dir 1) (reading + writing + creating)
-    ∷ Unveiled (place.Dir 0) (reading + executing)
-    ∷ new_history)
+abbrev pub one_area_process : ProcessState
+one_area_process =
+    locked_with (
+    (place.Dir 0, reading + executing)
+    ∷ (place.Dir 1, reading + writing + creating)
+    ∷ [])
 
 -- `/` has rx and the name `/f` has rwc: a file there has the letters of the name, and a directory made there is covered as `/` is
 abbrev pub name_alone_tree : Tree
@@ -88,12 +93,12 @@ name_alone_tree = record {
   next = 2;
 }
 
-abbrev pub name_alone_history : History
-name_alone_history =
-    locked_after (
-    Unveiled (place.Slot 0 (codes "f")) (reading + writing + creating)
-    ∷ Unveiled (place.Dir 0) (reading + executing)
-    ∷ new_history)
+abbrev pub name_alone_process : ProcessState
+name_alone_process =
+    locked_with (
+    (place.Dir 0, reading + executing)
+    ∷ (place.Slot 0 (codes "f"), reading + writing + creating)
+    ∷ [])
 
 -- and `/a` has wc: the program in it can be moved to the name, and in a directory to where x is
 abbrev pub name_and_area_tree : Tree
@@ -103,13 +108,13 @@ name_and_area_tree = record {
   next = 4;
 }
 
-abbrev pub name_and_area_history : History
-name_and_area_history =
-    locked_after (
-    Unveiled (place.Dir 2) (writing + creating)
-    ∷ Unveiled (place.Slot 0 (codes "f")) (reading + writing + creating)
-    ∷ Unveiled (place.Dir 0) (reading + executing)
-    ∷ new_history)
+abbrev pub name_and_area_process : ProcessState
+name_and_area_process =
+    locked_with (
+    (place.Dir 0, reading + executing)
+    ∷ (place.Slot 0 (codes "f"), reading + writing + creating)
+    ∷ (place.Dir 2, writing + creating)
+    ∷ [])
 
 -- a name with rwc that is taken by a directory without c: nothing else ever comes there
 abbrev pub dead_name_tree : Tree
@@ -119,12 +124,12 @@ dead_name_tree = record {
   next = 4;
 }
 
-abbrev pub dead_name_history : History
-dead_name_history =
-    locked_after (
-    Unveiled (place.Dir 2) creating
-    ∷ Unveiled (place.Slot 0 (codes "n")) (reading + writing + creating)
-    ∷ new_history)
+abbrev pub dead_name_process : ProcessState
+dead_name_process =
+    locked_with (
+    (place.Slot 0 (codes "n"), reading + writing + creating)
+    ∷ (place.Dir 2, creating)
+    ∷ [])
 
 -- a file with two names, one of them under c: by that name it is moved to where everything is allowed
 abbrev pub second_name_tree : Tree
@@ -134,13 +139,13 @@ second_name_tree = record {
   next = 4;
 }
 
-abbrev pub second_name_history : History
-second_name_history =
-    locked_after (
-    Unveiled (place.Dir 3) (reading + writing + creating)
-    ∷ Unveiled (place.Dir 2) creating
-    ∷ Unveiled (place.Slot 0 (codes "k")) 0
-    ∷ new_history)
+abbrev pub second_name_process : ProcessState
+second_name_process =
+    locked_with (
+    (place.Slot 0 (codes "k"), 0)
+    ∷ (place.Dir 2, creating)
+    ∷ (place.Dir 3, reading + writing + creating)
+    ∷ [])
 
 -- everything has rwc but the file `/a/k`, which has r: so `/a` never comes to be empty
 abbrev pub one_that_stays_tree : Tree
@@ -150,12 +155,12 @@ one_that_stays_tree = record {
   next = 5;
 }
 
-abbrev pub one_that_stays_history : History
-one_that_stays_history =
-    locked_after (
-    Unveiled (place.Slot 1 (codes "k")) reading
-    ∷ Unveiled (place.Dir 0) (reading + writing + creating)
-    ∷ new_history)
+abbrev pub one_that_stays_process : ProcessState
+one_that_stays_process =
+    locked_with (
+    (place.Dir 0, reading + writing + creating)
+    ∷ (place.Slot 1 (codes "k"), reading)
+    ∷ [])
 
 -- the same of a directory in the place of the file
 abbrev pub dir_that_stays_tree : Tree
@@ -165,12 +170,12 @@ dir_that_stays_tree = record {
   next = 3;
 }
 
-abbrev pub dir_that_stays_history : History
-dir_that_stays_history =
-    locked_after (
-    Unveiled (place.Dir 2) reading
-    ∷ Unveiled (place.Dir 0) (reading + writing + creating)
-    ∷ new_history)
+abbrev pub dir_that_stays_process : ProcessState
+dir_that_stays_process =
+    locked_with (
+    (place.Dir 0, reading + writing + creating)
+    ∷ (place.Dir 2, reading)
+    ∷ [])
 
 -- no veil at all
 abbrev pub no_veil_tree : Tree
@@ -180,8 +185,8 @@ no_veil_tree = record {
   next = 3;
 }
 
-abbrev pub no_veil_history : History
-no_veil_history = locked_after new_history
+abbrev pub no_veil_process : ProcessState
+no_veil_process = locked_with []
 
 -- no veil, and no promise to change the tree
 abbrev pub no_cpath_tree : Tree
@@ -191,15 +196,15 @@ no_cpath_tree = record {
   next = 3;
 }
 
-abbrev pub no_cpath_history : History
-no_cpath_history = Pledged (Some (rpath + wpath)) None ∷ Locked ∷ new_history
+abbrev pub no_cpath_process : ProcessState
+no_cpath_process = locked_by (rpath + wpath) []
 
 -- and by OpenBSD's rules sockets can be named by another promise, and special files be made by a third
-abbrev pub unix_history : History
-unix_history = Pledged (Some (rpath + unix)) None ∷ Locked ∷ new_history
+abbrev pub unix_process : ProcessState
+unix_process = locked_by (rpath + unix) []
 
-abbrev pub dpath_history : History
-dpath_history = Pledged (Some (rpath + dpath)) None ∷ Locked ∷ new_history
+abbrev pub dpath_process : ProcessState
+dpath_process = locked_by (rpath + dpath) []
 
 -- `/mail` has r and `/spool` has rwc: by OpenBSD's rules what stands in `/mail` can be given a further name in
 -- `/spool`, and be written by that. So it isn't with the link in it, which link follows
@@ -210,15 +215,15 @@ aliases_tree = record {
   next = 5;
 }
 
-abbrev aliases_veils : History
-aliases_veils = Unveiled (place.Dir 2) (reading + writing + creating) ∷ Unveiled (place.Dir 1) reading ∷ new_history
+abbrev aliases_veils : List (Place × ℕ)
+aliases_veils = (place.Dir 1, reading) ∷ (place.Dir 2, reading + writing + creating) ∷ []
 
-abbrev pub aliases_history : History
-aliases_history = locked_after aliases_veils
+abbrev pub aliases_process : ProcessState
+aliases_process = locked_with aliases_veils
 
 -- and so it isn't where nothing may be read: link needs that of its old name
-abbrev pub unread_aliases_history : History
-unread_aliases_history = Pledged (Some (wpath + cpath + fattr)) None ∷ Locked ∷ aliases_veils
+abbrev pub unread_aliases_process : ProcessState
+unread_aliases_process = locked_by (wpath + cpath + fattr) aliases_veils
 
 -- `/bin` has rx and `/spool` has rwc: by a further name in `/spool` the program in `/bin` can be written, and by its own it is run
 abbrev pub two_ways_tree : Tree
@@ -228,12 +233,12 @@ two_ways_tree = record {
   next = 4;
 }
 
-abbrev pub two_ways_history : History
-two_ways_history =
-    locked_after (
-    Unveiled (place.Dir 2) (reading + writing + creating)
-    ∷ Unveiled (place.Dir 1) (reading + executing)
-    ∷ new_history)
+abbrev pub two_ways_process : ProcessState
+two_ways_process =
+    locked_with (
+    (place.Dir 1, reading + executing)
+    ∷ (place.Dir 2, reading + writing + creating)
+    ∷ [])
 
 -- the standard table, by which link's new name needs `r` alone
 abbrev pub read_name : NameRule
@@ -243,7 +248,7 @@ abbrev pub link_by_r : CallTable
 link_by_r = record standard_table { link = record standard_pair { new = read_name } }
 
 pub record EverRows : Type 0 where
-  pub moved_on : lines moved_on_tree moved_on_history ≡
+  pub moved_on : lines moved_on_tree moved_on_process ≡
       codes "dir /a stat,lstat,open-r,rmdir,chmod,chdir"
       ∷ codes "other /a create,mkdir,symlink"
       ∷ codes "dir /b rmdir"
@@ -256,7 +261,7 @@ pub record EverRows : Type 0 where
       ∷ codes "file new stat,lstat,open-r,open-w,open-rw,create,unlink,chmod"
       ∷ codes "link new lstat,readlink,unlink"
       ∷ []
-  pub in_the_place : lines in_the_place_tree in_the_place_history ≡
+  pub in_the_place : lines in_the_place_tree in_the_place_process ≡
       codes "dir / stat,lstat,open-r,chdir"
       ∷ codes "dir /a rmdir"
       ∷ codes "other /a mkdir,symlink"
@@ -269,7 +274,7 @@ pub record EverRows : Type 0 where
       ∷ codes "other new mkdir,symlink"
       ∷ codes "link new lstat,readlink,unlink"
       ∷ []
-  pub one_area : lines one_area_tree one_area_history ≡
+  pub one_area : lines one_area_tree one_area_process ≡
       codes "dir / stat,lstat,open-r,chdir"
       ∷ codes "dir /a stat,lstat,open-r,rmdir,chmod,chdir"
       ∷ codes "other /a create,mkdir,symlink"
@@ -281,7 +286,7 @@ pub record EverRows : Type 0 where
       ∷ codes "file new stat,lstat,open-r,open-w,open-rw,create,unlink,chmod"
       ∷ codes "link new lstat,readlink,unlink"
       ∷ []
-  pub name_alone : lines name_alone_tree name_alone_history ≡
+  pub name_alone : lines name_alone_tree name_alone_process ≡
       codes "dir / stat,lstat,open-r,chdir"
       ∷ codes "prog /f stat,lstat,open-r,open-w,open-rw,create,unlink,chmod"
       ∷ codes "missing /f create,mkdir,symlink"
@@ -289,7 +294,7 @@ pub record EverRows : Type 0 where
       ∷ codes "file new stat,lstat,open-r,open-w,open-rw,create,unlink,chmod"
       ∷ codes "link new lstat,readlink,unlink"
       ∷ []
-  pub name_and_area : lines name_and_area_tree name_and_area_history ≡
+  pub name_and_area : lines name_and_area_tree name_and_area_process ≡
       codes "dir / stat,lstat,open-r,chdir"
       ∷ codes "dir /a rmdir,chmod"
       ∷ codes "other /a create,mkdir,symlink"
@@ -301,7 +306,7 @@ pub record EverRows : Type 0 where
       ∷ codes "file new stat,lstat,open-r,open-w,open-rw,create,unlink,chmod,exec"
       ∷ codes "link new lstat,readlink,unlink"
       ∷ []
-  pub dead_name : lines dead_name_tree dead_name_history ≡
+  pub dead_name : lines dead_name_tree dead_name_process ≡
       codes "dir /a rmdir"
       ∷ codes "other /a mkdir,symlink"
       ∷ codes "file /a/f unlink"
@@ -309,7 +314,7 @@ pub record EverRows : Type 0 where
       ∷ codes "other new mkdir,symlink"
       ∷ codes "link new unlink"
       ∷ []
-  pub second_name : lines second_name_tree second_name_history ≡
+  pub second_name : lines second_name_tree second_name_process ≡
       codes "dir /a rmdir"
       ∷ codes "other /a mkdir,symlink"
       ∷ codes "file /a/k stat,lstat,open-r,open-w,open-rw,create,unlink,chmod"
@@ -320,7 +325,7 @@ pub record EverRows : Type 0 where
       ∷ codes "file new stat,lstat,open-r,open-w,open-rw,create,unlink,chmod"
       ∷ codes "link new lstat,readlink,unlink"
       ∷ []
-  pub one_that_stays : lines one_that_stays_tree one_that_stays_history ≡
+  pub one_that_stays : lines one_that_stays_tree one_that_stays_process ≡
       codes "dir / stat,lstat,open-r,chmod,chdir"
       ∷ codes "other / create,mkdir,symlink"
       ∷ codes "dir /a stat,lstat,open-r,chmod,chdir"
@@ -334,7 +339,7 @@ pub record EverRows : Type 0 where
       ∷ codes "file new stat,lstat,open-r,open-w,open-rw,create,unlink,chmod"
       ∷ codes "link new lstat,readlink,unlink"
       ∷ []
-  pub dir_that_stays : lines dir_that_stays_tree dir_that_stays_history ≡
+  pub dir_that_stays : lines dir_that_stays_tree dir_that_stays_process ≡
       codes "dir / stat,lstat,open-r,chmod,chdir"
       ∷ codes "other / create,mkdir,symlink"
       ∷ codes "dir /a stat,lstat,open-r,chmod,chdir"
@@ -345,7 +350,7 @@ pub record EverRows : Type 0 where
       ∷ codes "file new stat,lstat,open-r,open-w,open-rw,create,unlink,chmod"
       ∷ codes "link new lstat,readlink,unlink"
       ∷ []
-  pub no_veil : lines no_veil_tree no_veil_history ≡
+  pub no_veil : lines no_veil_tree no_veil_process ≡
       codes "dir / stat,lstat,open-r,chmod,chdir"
       ∷ codes "other / create,mkdir,symlink"
       ∷ codes "dir /a stat,lstat,open-r,rmdir,chmod,chdir"
@@ -357,15 +362,15 @@ pub record EverRows : Type 0 where
       ∷ codes "link new lstat,readlink,unlink"
       ∷ []
   -- no names lead to what can be made
-  pub words_of_all : words no_veil_tree no_veil_history ≡
+  pub words_of_all : words no_veil_tree no_veil_process ≡
       [] ∷ [] ∷ (codes "a" ∷ []) ∷ (codes "a" ∷ []) ∷ (codes "a" ∷ codes "k" ∷ []) ∷ [] ∷ [] ∷ [] ∷ [] ∷ []
-  pub no_cpath : lines no_cpath_tree no_cpath_history ≡
+  pub no_cpath : lines no_cpath_tree no_cpath_process ≡
       codes "dir / stat,lstat,open-r,chdir"
       ∷ codes "dir /a stat,lstat,open-r,chdir"
       ∷ codes "file /a/k stat,lstat,open-r,open-w,open-rw"
       ∷ []
   -- each of the calls that make a file lets one come by itself
-  pub by_bind : lines_by_openbsd no_cpath_tree unix_history ≡
+  pub by_bind : lines_by_openbsd no_cpath_tree unix_process ≡
       codes "dir / stat,lstat,open-r,chdir"
       ∷ codes "other / bind"
       ∷ codes "dir /a stat,lstat,open-r,chdir"
@@ -373,7 +378,7 @@ pub record EverRows : Type 0 where
       ∷ codes "file /a/k stat,lstat,open-r,connect"
       ∷ codes "file new stat,lstat,open-r,connect"
       ∷ []
-  pub by_mknod : lines_by_openbsd no_cpath_tree dpath_history ≡
+  pub by_mknod : lines_by_openbsd no_cpath_tree dpath_process ≡
       codes "dir / stat,lstat,open-r,chdir"
       ∷ codes "other / mknod"
       ∷ codes "dir /a stat,lstat,open-r,chdir"
@@ -381,7 +386,7 @@ pub record EverRows : Type 0 where
       ∷ codes "file /a/k stat,lstat,open-r"
       ∷ codes "file new stat,lstat,open-r"
       ∷ []
-  pub aliases : lines_by_openbsd aliases_tree aliases_history ≡
+  pub aliases : lines_by_openbsd aliases_tree aliases_process ≡
       codes "dir /mail stat,lstat,open-r,chdir"
       ∷ codes "file /mail/aliases stat,lstat,open-r,open-w,open-rw,create,unlink,chmod,chown"
       ∷ codes "link /mail/l lstat,readlink"
@@ -392,7 +397,7 @@ pub record EverRows : Type 0 where
       ∷ codes "file new stat,lstat,open-r,open-w,open-rw,create,unlink,chmod,chown"
       ∷ codes "link new lstat,readlink,unlink"
       ∷ []
-  pub standard_aliases : lines aliases_tree aliases_history ≡
+  pub standard_aliases : lines aliases_tree aliases_process ≡
       codes "dir /mail stat,lstat,open-r,chdir"
       ∷ codes "file /mail/aliases stat,lstat,open-r"
       ∷ codes "link /mail/l lstat,readlink"
@@ -403,7 +408,7 @@ pub record EverRows : Type 0 where
       ∷ codes "file new stat,lstat,open-r,open-w,open-rw,create,unlink,chmod"
       ∷ codes "link new lstat,readlink,unlink"
       ∷ []
-  pub unread_aliases : lines_by_openbsd aliases_tree unread_aliases_history ≡
+  pub unread_aliases : lines_by_openbsd aliases_tree unread_aliases_process ≡
       codes "dir /spool rmdir"
       ∷ codes "other /spool create,mkdir,symlink"
       ∷ codes "dir new rmdir"
@@ -411,7 +416,7 @@ pub record EverRows : Type 0 where
       ∷ codes "file new open-w,create,unlink"
       ∷ codes "link new unlink"
       ∷ []
-  pub two_ways : lines_by_openbsd two_ways_tree two_ways_history ≡
+  pub two_ways : lines_by_openbsd two_ways_tree two_ways_process ≡
       codes "dir /bin stat,lstat,open-r,chdir"
       ∷ codes "prog /bin/p stat,lstat,open-r,open-w,open-rw,create,unlink,chmod,exec,chown"
       ∷ codes "dir /spool stat,lstat,open-r,rmdir,chmod,chdir,chown"
@@ -421,10 +426,10 @@ pub record EverRows : Type 0 where
       ∷ codes "file new stat,lstat,open-r,open-w,open-rw,create,unlink,chmod,chown"
       ∷ codes "link new lstat,readlink,unlink"
       ∷ []
-  pub standard_rules : refusal standard_table no_veil_history ≡ None
-  pub openbsd_rules : refusal openbsd_table no_veil_history ≡ None
-  pub link_without_c : refusal link_by_r no_veil_history ≡ Some LinkLacksC
-  pub process_first : refusal link_by_r new_history ≡ Some CanUnveil
+  pub standard_rules : refusal standard_table no_veil_process ≡ None
+  pub openbsd_rules : refusal openbsd_table no_veil_process ≡ None
+  pub link_without_c : refusal link_by_r no_veil_process ≡ Some LinkLacksC
+  pub process_first : refusal link_by_r new_process ≡ Some CanUnveil
 
 pub ever_rows : EverRows
 ever_rows = record {
@@ -461,17 +466,17 @@ drop_box_tree = record {
   next = 4;
 }
 
-abbrev pub drop_box_history : History
-drop_box_history =
-    locked_after (
-    Unveiled (place.Dir 2) (reading + writing + creating)
-    ∷ Unveiled (place.Dir 1) (writing + creating)
-    ∷ new_history)
+abbrev pub drop_box_process : ProcessState
+drop_box_process =
+    locked_with (
+    (place.Dir 1, writing + creating)
+    ∷ (place.Dir 2, reading + writing + creating)
+    ∷ [])
 
 -- what can be moved, by rules by which rename asks more of the old name than `c`: by these nothing is carried out of `/a`
 -- in a directory either, so the program in it is not run
 pub record MovedRows : Type 0 where
-  pub drop_box : lines drop_box_tree drop_box_history ≡
+  pub drop_box : lines drop_box_tree drop_box_process ≡
       codes "dir /in rmdir,chmod"
       ∷ codes "other /in create,mkdir,symlink"
       ∷ codes "file /in/f stat,lstat,open-r,open-w,open-rw,create,unlink,chmod"
@@ -482,7 +487,7 @@ pub record MovedRows : Type 0 where
       ∷ codes "file new stat,lstat,open-r,open-w,open-rw,create,unlink,chmod"
       ∷ codes "link new lstat,readlink,unlink"
       ∷ []
-  pub openbsd_drop_box : lines_by_openbsd drop_box_tree drop_box_history ≡
+  pub openbsd_drop_box : lines_by_openbsd drop_box_tree drop_box_process ≡
       codes "dir /in rmdir,chmod,chown"
       ∷ codes "other /in create,mkdir,symlink"
       ∷ codes "file /in/f open-w,create,unlink,chmod,chown"
@@ -493,7 +498,7 @@ pub record MovedRows : Type 0 where
       ∷ codes "file new stat,lstat,open-r,open-w,open-rw,create,unlink,chmod,chown"
       ∷ codes "link new lstat,readlink,unlink"
       ∷ []
-  pub openbsd_name_and_area : lines_by_openbsd name_and_area_tree name_and_area_history ≡
+  pub openbsd_name_and_area : lines_by_openbsd name_and_area_tree name_and_area_process ≡
       codes "dir / stat,lstat,open-r,chdir"
       ∷ codes "dir /a rmdir,chmod,chown"
       ∷ codes "other /a create,mkdir,symlink"
@@ -517,15 +522,15 @@ job_tree = record {
   next = 3;
 }
 
-abbrev job_veil : History
-job_veil = Unveiled (place.Dir 1) (reading + writing + executing + creating) ∷ new_history
+abbrev job_veils : List (Place × ℕ)
+job_veils = (place.Dir 1, reading + writing + executing + creating) ∷ []
 
-abbrev pub job_history : History
-job_history = locked_after job_veil
+abbrev pub job_process : ProcessState
+job_process = locked_with job_veils
 
 -- and so they can't be where exec isn't held
-abbrev pub no_exec_history : History
-no_exec_history = Pledged (Some (rpath + wpath + cpath + fattr)) None ∷ Locked ∷ job_veil
+abbrev pub no_exec_process : ProcessState
+no_exec_process = locked_by (rpath + wpath + cpath + fattr) job_veils
 
 -- `/bin` has rx and `/tmp` has rwc: nothing writes the file in `/bin`, and nothing that is written comes under x
 abbrev pub plain_file_tree : Tree
@@ -535,20 +540,20 @@ plain_file_tree = record {
   next = 4;
 }
 
-abbrev pub plain_file_history : History
-plain_file_history =
-    locked_after (
-    Unveiled (place.Dir 2) (reading + writing + creating)
-    ∷ Unveiled (place.Dir 1) (reading + executing)
-    ∷ new_history)
+abbrev pub plain_file_process : ProcessState
+plain_file_process =
+    locked_with (
+    (place.Dir 1, reading + executing)
+    ∷ (place.Dir 2, reading + writing + creating)
+    ∷ [])
 
 -- a mode alone is enough
-abbrev pub mode_history : History
-mode_history = Pledged (Some (fattr + exec)) None ∷ Locked ∷ Unveiled (place.Dir 1) (writing + executing) ∷ new_history
+abbrev pub mode_process : ProcessState
+mode_process = locked_by (fattr + exec) ((place.Dir 1, writing + executing) ∷ [])
 
 -- what can be started that was no program: a file that is made, is written or has its mode set, where it can come under x
 pub record StartedRows : Type 0 where
-  pub job : lines job_tree job_history ≡
+  pub job : lines job_tree job_process ≡
       codes "dir /tmp stat,lstat,open-r,rmdir,chmod,chdir"
       ∷ codes "other /tmp create,mkdir,symlink"
       ∷ codes "file /tmp/job stat,lstat,open-r,open-w,open-rw,create,unlink,chmod,exec"
@@ -557,7 +562,7 @@ pub record StartedRows : Type 0 where
       ∷ codes "file new stat,lstat,open-r,open-w,open-rw,create,unlink,chmod,exec"
       ∷ codes "link new lstat,readlink,unlink"
       ∷ []
-  pub no_exec : lines job_tree no_exec_history ≡
+  pub no_exec : lines job_tree no_exec_process ≡
       codes "dir /tmp stat,lstat,open-r,rmdir,chmod,chdir"
       ∷ codes "other /tmp create,mkdir,symlink"
       ∷ codes "file /tmp/job stat,lstat,open-r,open-w,open-rw,create,unlink,chmod"
@@ -566,7 +571,7 @@ pub record StartedRows : Type 0 where
       ∷ codes "file new stat,lstat,open-r,open-w,open-rw,create,unlink,chmod"
       ∷ codes "link new lstat,readlink,unlink"
       ∷ []
-  pub plain_file : lines plain_file_tree plain_file_history ≡
+  pub plain_file : lines plain_file_tree plain_file_process ≡
       codes "dir /bin stat,lstat,open-r,chdir"
       ∷ codes "file /bin/f stat,lstat,open-r"
       ∷ codes "dir /tmp stat,lstat,open-r,rmdir,chmod,chdir"
@@ -576,7 +581,7 @@ pub record StartedRows : Type 0 where
       ∷ codes "file new stat,lstat,open-r,open-w,open-rw,create,unlink,chmod"
       ∷ codes "link new lstat,readlink,unlink"
       ∷ []
-  pub mode : lines plain_file_tree mode_history ≡ codes "dir /bin chmod" ∷ codes "file /bin/f chmod,exec" ∷ []
+  pub mode : lines plain_file_tree mode_process ≡ codes "dir /bin chmod" ∷ codes "file /bin/f chmod,exec" ∷ []
 
 pub started_rows : StartedRows
 started_rows = record { job = refl; no_exec = refl; plain_file = refl; mode = refl }

@@ -2,7 +2,7 @@
 use Rattle.std.specs.Prelude.{◌≡◌, [], Option, None, MatchOption}
 use Rattle.pua_tree.specs.Tree.{Tree}
 use Rattle.pua_calls.specs.Calls.{CallTable}
-use Rattle.pua_policy.specs.History.{History}
+use Rattle.pua_policy.specs.States.{ProcessState}
 use Rattle.pua_ever.specs.EverList.{AreEverTold}
 use Rattle.pua_ever.specs.Both.{IsBoth}
 use Rattle.pua_ever.specs.Through.{bound_of, ever_lasting, execs_of}
@@ -10,9 +10,9 @@ use Rattle.pua_ever.specs.declared.lasting.Both.{Both}
 use Rattle.pua_ever.specs.declared.lasting_list.LastingList as given
 
 -- who holds both sets, where what is started is bounded
-abbrev pub IsBothOf : CallTable → History → Option Both → Type 0
+abbrev pub IsBothOf : CallTable → ProcessState → Option Both → Type 0
 IsBothOf table h both = MatchOption both (bound_of table h ≡ None) (IsBoth table h)
 
-pub record IsLasting (t : Tree) (table : CallTable) (h : History) (list : given.LastingList) : Type 0 where
+pub record IsLasting (t : Tree) (table : CallTable) (h : ProcessState) (list : given.LastingList) : Type 0 where
   pub rows : AreEverTold t [] list.rows.items (ever_lasting t table h) []
   pub execs : list.execs ≡ execs_of t table h

@@ -11,7 +11,7 @@ use Rattle.pua_path.specs.declared.found.Found.TheVariants.{Whole, Slot}
 use Rattle.pua_calls.specs.Promises.{holds, creating}
 use Rattle.pua_calls.specs.Calls.{CallTable, table_by_rules, rule_of, ending_of, last_of}
 use Rattle.pua_calls.specs.declared.rules.Rules.{Rules}
-use Rattle.pua_policy.specs.History.{History, perms_kept, is_ended}
+use Rattle.pua_policy.specs.States.{ProcessState, perms_kept, is_ended}
 use Rattle.pua_policy.specs.Verdict.{IsProg, cover, covered_verdict, verdict_of}
 use Rattle.pua_policy.specs.declared.answer.Verdict.TheVariants.{Allowed}
 use Rattle.pua_calls.specs.declared.call.Call.{Call}
@@ -21,9 +21,9 @@ use Rattle.pua_policy.specs.declared.place.Place.TheVariants as place
 use Rattle.pua_script.specs.Requests.{Asked}
 use Rattle.pua_tree.specs.Listing.{listing}
 use Rattle.pua_script.specs.Scripts.{script_by}
-use Rattle.pua_script.specs.Replay.{World, apply, new_world, history_of, world_after}
+use Rattle.pua_script.specs.Replay.{World, apply, new_world, kept_at, world_after}
 use Rattle.pua_script.specs.Laws.{IsConfined}
-use Rattle.pua_script.specs.Family.{family, family_then, is_done, is_member, none_done, members_alone, is_exec, HasHistoryOf}
+use Rattle.pua_script.specs.Family.{family, family_then, is_done, is_member, none_done, members_alone, is_exec, HasKept}
 use Rattle.pua_script.specs.Tightening.{NoCallNeedsError, Tightens}
 use Rattle.pua_script.specs.Confinement.{TreesAlong, changes_names}
 use Rattle.pua_script.specs.Bytes.{are_in_bytes}
@@ -43,7 +43,7 @@ abbrev pub dir_of_place : Place → ℕ
 dir_of_place (place.Dir dir) = dir
 dir_of_place (place.Slot dir name) = dir
 
-abbrev pub VeilsStand : Tree → History → Type 0
+abbrev pub VeilsStand : Tree → ProcessState → Type 0
 VeilsStand t h = (at : Place) (perms : ℕ) → perms_kept h at ≡ Some perms → dir_of_place at < t.next
 
 -- the line of what a path named in a later tree, by what stood in the tree `t` of the beginning:
@@ -51,7 +51,7 @@ VeilsStand t h = (at : Place) (perms : ℕ) → perms_kept h at ≡ Some perms �
 -- there then, and else that of one in which it stood;
 -- a missing name its own, where a veil is kept at it, and else that of its directory's further names.
 -- What has a number that was not given then is new, and its line is that of its kind
-pub data IsLineOf (t later : Tree) (h : History) : Thing → Found → Type 0 where
+pub data IsLineOf (t later : Tree) (h : ProcessState) : Thing → Found → Type 0 where
   of_dir : {dir : ℕ} {way : Way} →
       dir < t.next → IsLineOf t later h (Stands (At (Whole dir (own_way t dir)))) (Whole dir way)
   of_row : {dir : ℕ} {name : List ℕ} {node : ℕ} →
@@ -75,7 +75,7 @@ pub data IsLineOf (t later : Tree) (h : History) : Thing → Found → Type 0 wh
       t.next ≤ dir → IsLineOf t later h (Comes NewOthers) (Slot dir name None)
 
 -- what a path named has a line in a list, and the line has the call
-pub record IsForeseenIn (lines : List EverLine) (t : Tree) (h : History)
+pub record IsForeseenIn (lines : List EverLine) (t : Tree) (h : ProcessState)
     (later : Tree) (call : Call) (named : Result Found Errno) : Type 0 where
   pub object : Found
   pub names : named ≡ Ok object
@@ -84,18 +84,18 @@ pub record IsForeseenIn (lines : List EverLine) (t : Tree) (h : History)
   pub about : IsLineOf t later h line.thing object
   pub allows : Contains line.calls call
 
-abbrev pub IsForeseen : Tree → CallTable → History → Tree → Call → Result Found Errno → Type 0
+abbrev pub IsForeseen : Tree → CallTable → ProcessState → Tree → Call → Result Found Errno → Type 0
 IsForeseen t table h later call named = IsForeseenIn (ever t table h) t h later call named
 
 -- over a later tree: whatever path is spelled, of whatever length, from whatever directory, if a call is
--- allowed on it by a history, the line of what it names has the call
-abbrev pub ForeseesIn : List EverLine → Tree → CallTable → History → Tree → History → Type 0
+-- allowed on it to a process, the line of what it names has the call
+abbrev pub ForeseesIn : List EverLine → Tree → CallTable → ProcessState → Tree → ProcessState → Type 0
 ForeseesIn lines t table now later last =
     (from : ℕ) (call : Call) (text : List ℕ) →
     let named = resolution_of_text later from (ending_of call) text (last_of call) in
     verdict_of later table last call named ≡ Allowed → IsForeseenIn lines t now later call named
 
-abbrev pub Foresees : Tree → CallTable → History → Tree → History → Type 0
+abbrev pub Foresees : Tree → CallTable → ProcessState → Tree → ProcessState → Type 0
 Foresees t table now later last = ForeseesIn (ever t table now) t table now later last
 
 -- a process that can put no veil any more, and what it forks from now on: whatever they alone ask for, as
@@ -104,71 +104,13 @@ Foresees t table now later last = ForeseesIn (ever t table now) t table now late
 abbrev pub EverComplete : Type 0
 EverComplete =
     (table : CallTable) → NoCallNeedsError table → EditsNeedC table →
-    (w : World) (asks : List Asked) (process : ℕ) (now : History) →
-    history_of w process ≡ Some now → IsConfined now → VeilsStand w.tree now → TreesAlong table w asks →
+    (w : World) (asks : List Asked) (process : ℕ) (now : ProcessState) →
+    kept_at w process ≡ Some now → IsConfined now → VeilsStand w.tree now → TreesAlong table w asks →
     IsTrue (none_done is_exec table w asks (process ∷ [])) →
     IsTrue (members_alone table w asks (process ∷ [])) →
     (member : ℕ) → IsTrue (is_member (family table w asks (process ∷ [])) member) →
     let after = world_after table w asks in
-    HasHistoryOf after member (Foresees w.tree table now after.tree)
-
--- no line has `exec`
-abbrev pub NoLineHasExec : Tree → CallTable → History → Type 0
-NoLineHasExec t table h =
-    (line : EverLine) → Contains (ever t table h) line → Contains line.calls call.Exec → ⊥
-
--- then no exec of a member can be answered ok: what the law asks for is so by itself
-abbrev pub WithoutExec : Type 0
-WithoutExec =
-    (table : CallTable) → NoCallNeedsError table → EditsNeedC table →
-    (w : World) (asks : List Asked) (process : ℕ) (now : History) →
-    history_of w process ≡ Some now → IsConfined now → VeilsStand w.tree now → TreesAlong table w asks →
-    IsTrue (members_alone table w asks (process ∷ [])) → NoLineHasExec w.tree table now →
-    IsTrue (none_done is_exec table w asks (process ∷ []))
-
--- over a later tree: whatever path names a file on which exec would be allowed by a history, were it a program. It has a
--- line: that of a file of then has exec where it has a call by which the file can come to be a program, and that of a new
--- file has it in any case
-pub record IsStartForeseenIn (lines : List EverLine) (t : Tree) (h : History) (later : Tree) (object : Found) : Type 0 where
-  pub thing : Thing
-  pub about : IsLineOf t later h thing object
-  pub turned : (line : EverLine) → Contains lines line → line.thing ≡ thing →
-      (turning : Call) → Contains turning_calls turning → Contains line.calls turning → Contains line.calls call.Exec
-  pub made : thing ≡ Comes NewFile →
-      (line : EverLine) × Contains lines line × (line.thing ≡ Comes NewFile) × Contains line.calls call.Exec
-
-abbrev pub IsStartForeseen : Tree → CallTable → History → Tree → Found → Type 0
-IsStartForeseen t table h later object = IsStartForeseenIn (ever t table h) t h later object
-
-abbrev pub ForeseesStartsIn : List EverLine → Tree → CallTable → History → Tree → History → Type 0
-ForeseesStartsIn lines t table now later last =
-    (from : ℕ) (text : List ℕ) (dir : ℕ) (name : List ℕ) (node : ℕ) →
-    resolution_of_text later from (ending_of call.Exec) text (last_of call.Exec) ≡ Ok (Slot dir name (Some node)) →
-    kind_at later node ≡ Some kind.File →
-    covered_verdict later table last call.Exec (cover later last (Slot dir name (Some node))) IsProg ≡ Allowed →
-    IsStartForeseenIn lines t now later (Slot dir name (Some node))
-
-abbrev pub ForeseesStarts : Tree → CallTable → History → Tree → History → Type 0
-ForeseesStarts t table now later last = ForeseesStartsIn (ever t table now) t table now later last
-
--- several processes that act together: each has the veils of a history, no promise beyond it but `error`,
--- and is ended where that is. Such are a process and those that it forked before now, if none has put a
--- veil since
-abbrev pub ActsWithin : World → History → List ℕ → Type 0
-ActsWithin w now members =
-    (member : ℕ) → IsTrue (is_member members member) →
-    HasHistoryOf w member (λ h. Tightens now h × (IsFalse (is_ended h) → IsFalse (is_ended now)))
-
--- the same of them, and of what they fork
-abbrev pub EverOfMany : Type 0
-EverOfMany =
-    (table : CallTable) → NoCallNeedsError table → EditsNeedC table →
-    (w : World) (asks : List Asked) (members : List ℕ) (now : History) →
-    ActsWithin w now members → VeilsStand w.tree now → TreesAlong table w asks →
-    IsTrue (none_done is_exec table w asks members) → IsTrue (members_alone table w asks members) →
-    (member : ℕ) → IsTrue (is_member (family table w asks members) member) →
-    let after = world_after table w asks in
-    HasHistoryOf after member (Foresees w.tree table now after.tree)
+    HasKept after member (Foresees w.tree table now after.tree)
 
 -- each request is a member's, or leaves the tree as it was
 abbrev pub MembersEdit : CallTable → World → List Asked → List ℕ → Type 0
@@ -177,14 +119,73 @@ MembersEdit table w (ask ∷ asks) members =
     (IsTrue (is_member members ask.process) ⊎ ((apply table w ask).1.tree ≡ w.tree))
     × MembersEdit table (apply table w ask).1 asks (family_then table w ask members)
 
--- an exec of a member that is answered ok leaves it within a history: with its veils, no promise beyond it but `error`, and
--- no way to put veils. So it is where execpromises were set that the history holds, since veils and lock then stay
-abbrev pub LoosensNone : CallTable → History → World → Asked → List ℕ → Type 0
+-- no line has `exec`
+abbrev pub NoLineHasExec : Tree → CallTable → ProcessState → Type 0
+NoLineHasExec t table h =
+    (line : EverLine) → Contains (ever t table h) line → Contains line.calls call.Exec → ⊥
+
+-- then no exec of a member can be answered ok, whatever others ask for that leaves the tree as it is: what the laws ask for is so by
+-- itself
+abbrev pub WithoutExec : Type 0
+WithoutExec =
+    (table : CallTable) → NoCallNeedsError table → EditsNeedC table →
+    (w : World) (asks : List Asked) (process : ℕ) (now : ProcessState) →
+    kept_at w process ≡ Some now → IsConfined now → VeilsStand w.tree now → TreesAlong table w asks →
+    MembersEdit table w asks (process ∷ []) → NoLineHasExec w.tree table now →
+    IsTrue (none_done is_exec table w asks (process ∷ []))
+
+-- over a later tree: whatever path names a file on which exec would be allowed to a process, were it a program. It has a
+-- line: that of a file of then has exec where it has a call by which the file can come to be a program, and that of a new
+-- file has it in any case
+pub record IsStartForeseenIn (lines : List EverLine) (t : Tree) (h : ProcessState) (later : Tree) (object : Found) : Type 0 where
+  pub thing : Thing
+  pub about : IsLineOf t later h thing object
+  pub turned : (line : EverLine) → Contains lines line → line.thing ≡ thing →
+      (turning : Call) → Contains turning_calls turning → Contains line.calls turning → Contains line.calls call.Exec
+  pub made : thing ≡ Comes NewFile →
+      (line : EverLine) × Contains lines line × (line.thing ≡ Comes NewFile) × Contains line.calls call.Exec
+
+abbrev pub IsStartForeseen : Tree → CallTable → ProcessState → Tree → Found → Type 0
+IsStartForeseen t table h later object = IsStartForeseenIn (ever t table h) t h later object
+
+abbrev pub ForeseesStartsIn : List EverLine → Tree → CallTable → ProcessState → Tree → ProcessState → Type 0
+ForeseesStartsIn lines t table now later last =
+    (from : ℕ) (text : List ℕ) (dir : ℕ) (name : List ℕ) (node : ℕ) →
+    resolution_of_text later from (ending_of call.Exec) text (last_of call.Exec) ≡ Ok (Slot dir name (Some node)) →
+    kind_at later node ≡ Some kind.File →
+    covered_verdict later table last call.Exec (cover later last (Slot dir name (Some node))) IsProg ≡ Allowed →
+    IsStartForeseenIn lines t now later (Slot dir name (Some node))
+
+abbrev pub ForeseesStarts : Tree → CallTable → ProcessState → Tree → ProcessState → Type 0
+ForeseesStarts t table now later last = ForeseesStartsIn (ever t table now) t table now later last
+
+-- several processes that act together: each has the veils of one state, no promise beyond it but `error`,
+-- and is ended where that is. Such are a process and those that it forked before now, if none has put a
+-- veil since
+abbrev pub ActsWithin : World → ProcessState → List ℕ → Type 0
+ActsWithin w now members =
+    (member : ℕ) → IsTrue (is_member members member) →
+    HasKept w member (λ h. Tightens now h × (IsFalse (is_ended h) → IsFalse (is_ended now)))
+
+-- the same of them, and of what they fork
+abbrev pub EverOfMany : Type 0
+EverOfMany =
+    (table : CallTable) → NoCallNeedsError table → EditsNeedC table →
+    (w : World) (asks : List Asked) (members : List ℕ) (now : ProcessState) →
+    ActsWithin w now members → VeilsStand w.tree now → TreesAlong table w asks →
+    IsTrue (none_done is_exec table w asks members) → IsTrue (members_alone table w asks members) →
+    (member : ℕ) → IsTrue (is_member (family table w asks members) member) →
+    let after = world_after table w asks in
+    HasKept after member (Foresees w.tree table now after.tree)
+
+-- an exec of a member that is answered ok leaves it within a state: with its veils, no promise beyond it but `error`, and
+-- no way to put veils. So it is where execpromises were set that the state holds, since veils and lock then stay
+abbrev pub LoosensNone : CallTable → ProcessState → World → Asked → List ℕ → Type 0
 LoosensNone table now w ask members =
     IsTrue (is_done is_exec table w ask members) →
-    HasHistoryOf (apply table w ask).1 ask.process (λ h. Tightens now h × (IsFalse (is_ended h) → IsFalse (is_ended now)))
+    HasKept (apply table w ask).1 ask.process (λ h. Tightens now h × (IsFalse (is_ended h) → IsFalse (is_ended now)))
 
-abbrev pub NoExecLoosens : CallTable → History → World → List Asked → List ℕ → Type 0
+abbrev pub NoExecLoosens : CallTable → ProcessState → World → List Asked → List ℕ → Type 0
 NoExecLoosens table now w [] members = ⊤
 NoExecLoosens table now w (ask ∷ asks) members =
     LoosensNone table now w ask members × NoExecLoosens table now (apply table w ask).1 asks (family_then table w ask members)
@@ -194,38 +195,38 @@ NoExecLoosens table now w (ask ∷ asks) members =
 abbrev pub EverWithExecs : Type 0
 EverWithExecs =
     (table : CallTable) → NoCallNeedsError table → EditsNeedC table →
-    (w : World) (asks : List Asked) (members : List ℕ) (now : History) →
+    (w : World) (asks : List Asked) (members : List ℕ) (now : ProcessState) →
     ActsWithin w now members → VeilsStand w.tree now → TreesAlong table w asks →
     NoExecLoosens table now w asks members → MembersEdit table w asks members →
     (member : ℕ) → IsTrue (is_member (family table w asks members) member) →
     let after = world_after table w asks in
-    HasHistoryOf after member (Foresees w.tree table now after.tree)
+    HasKept after member (Foresees w.tree table now after.tree)
 
 -- the same of them where others may ask for anything that leaves the tree as it is
 abbrev pub EverBeside : Type 0
 EverBeside =
     (table : CallTable) → NoCallNeedsError table → EditsNeedC table →
-    (w : World) (asks : List Asked) (members : List ℕ) (now : History) →
+    (w : World) (asks : List Asked) (members : List ℕ) (now : ProcessState) →
     ActsWithin w now members → VeilsStand w.tree now → TreesAlong table w asks →
     IsTrue (none_done is_exec table w asks members) → MembersEdit table w asks members →
     (member : ℕ) → IsTrue (is_member (family table w asks members) member) →
     let after = world_after table w asks in
-    HasHistoryOf after member (Foresees w.tree table now after.tree)
+    HasKept after member (Foresees w.tree table now after.tree)
 
 -- so where a kernel makes programs of what they make, write or set the mode of, it starts none whose line has no exec
 abbrev pub StartsForeseen : Type 0
 StartsForeseen =
     (table : CallTable) → NoCallNeedsError table → EditsNeedC table →
-    (w : World) (asks : List Asked) (members : List ℕ) (now : History) →
+    (w : World) (asks : List Asked) (members : List ℕ) (now : ProcessState) →
     ActsWithin w now members → VeilsStand w.tree now → TreesAlong table w asks →
     IsTrue (none_done is_exec table w asks members) → MembersEdit table w asks members →
     (member : ℕ) → IsTrue (is_member (family table w asks members) member) →
     let after = world_after table w asks in
-    HasHistoryOf after member (ForeseesStarts w.tree table now after.tree)
+    HasKept after member (ForeseesStarts w.tree table now after.tree)
 
 -- each veil of each process stands on a number that was given: so it is in each world that a replay leaves
 abbrev pub PlacesStand : World → Type 0
-PlacesStand w = (process : ℕ) (h : History) → history_of w process ≡ Some h → VeilsStand w.tree h
+PlacesStand w = (process : ℕ) (h : ProcessState) → kept_at w process ≡ Some h → VeilsStand w.tree h
 
 -- and so it is before the first request
 abbrev pub NewPlacesStand : Type 0
@@ -244,12 +245,12 @@ EverAsRead =
     (rules : Rules) (tree_bytes script_bytes : List ℕ) (t : Tree) (first asks : List Asked) →
     listing tree_bytes ≡ Ok t → script_by rules script_bytes ≡ Ok (first ++ asks) →
     let w = world_after table (new_world t) first in
-    (process : ℕ) (now : History) → history_of w process ≡ Some now → IsConfined now →
+    (process : ℕ) (now : ProcessState) → kept_at w process ≡ Some now → IsConfined now →
     IsTrue (none_done is_exec table w asks (process ∷ [])) →
     IsTrue (members_alone table w asks (process ∷ [])) →
     (member : ℕ) → IsTrue (is_member (family table w asks (process ∷ [])) member) →
     let after = world_after table w asks in
-    HasHistoryOf after member (Foresees w.tree table now after.tree)
+    HasKept after member (Foresees w.tree table now after.tree)
 
 -- a listing and a script as a command reads them by any rules, and behind them any list of requests in bytes, however long,
 -- in which others than the family leave the tree as it is
@@ -259,11 +260,11 @@ EverAfterRead =
     (rules : Rules) (tree_bytes script_bytes : List ℕ) (t : Tree) (first asks : List Asked) →
     listing tree_bytes ≡ Ok t → script_by rules script_bytes ≡ Ok first → IsTrue (are_in_bytes asks) →
     let w = world_after table (new_world t) first in
-    (process : ℕ) (now : History) → history_of w process ≡ Some now → IsConfined now →
+    (process : ℕ) (now : ProcessState) → kept_at w process ≡ Some now → IsConfined now →
     IsTrue (none_done is_exec table w asks (process ∷ [])) → MembersEdit table w asks (process ∷ []) →
     (member : ℕ) → IsTrue (is_member (family table w asks (process ∷ [])) member) →
     let after = world_after table w asks in
-    HasHistoryOf after member (Foresees w.tree table now after.tree)
+    HasKept after member (Foresees w.tree table now after.tree)
 
 -- a line of now has one in a list: by the same names, about the same thing, with all of its calls
 pub record IsWithinLines (lines : List EverLine) (line : Line) : Type 0 where
@@ -273,13 +274,13 @@ pub record IsWithinLines (lines : List EverLine) (line : Line) : Type 0 where
   pub about : later.thing ≡ Stands line.subject
   pub allows : (call : Call) → Contains line.calls call → Contains later.calls call
 
-abbrev pub IsWithinEver : Tree → CallTable → History → Line → Type 0
+abbrev pub IsWithinEver : Tree → CallTable → ProcessState → Line → Type 0
 IsWithinEver t table h line = IsWithinLines (ever t table h) line
 
--- so the list of the objects of now lies within the list for ever, by any table and any history
+-- so the list of the objects of now lies within the list for ever, by any table, of any process
 abbrev pub NowWithinEver : Type 0
 NowWithinEver =
-    (t : Tree) (table : CallTable) (h : History) → WellFormed t →
+    (t : Tree) (table : CallTable) (h : ProcessState) → WellFormed t →
     (line : Line) → Contains (objects t table h) line → IsWithinEver t table h line
 
 -- the rules that a command names, whichever they are, are tables that the laws speak of

@@ -3,14 +3,14 @@ use Rattle.std.specs.Prelude.{◌≡◌, ◌++◌}
 use Rattle.pua_tree.specs.Tree.{Tree}
 use Rattle.pua_calls.specs.Calls.{CallTable}
 use Rattle.pua_calls.specs.CallSets.{has}
-use Rattle.pua_policy.specs.History.{History}
+use Rattle.pua_policy.specs.States.{ProcessState}
 use Rattle.pua_policy.specs.Verdict.{IsFile, IsProg, IsLink, IsMissing}
 use Rattle.pua_calls.specs.declared.call.Call.{Call}
 use Rattle.pua_ever.specs.Ever.{dir_covers, name_covers, file_covers, is_allowed_under, lasting_dir, removable_dir}
 use Rattle.pua_ever.specs.declared.movable.Movable.{Movable}
 
 -- each set has the calls that are allowed on such an object under one of the covers that it can come to have
-pub record IsMovable (t : Tree) (table : CallTable) (h : History) (found : Movable) : Type 0 where
+pub record IsMovable (t : Tree) (table : CallTable) (h : ProcessState) (found : Movable) : Type 0 where
   pub dir : (call : Call) → has found.dir call ≡ is_allowed_under table h (dir_covers t h) lasting_dir call
   pub emptied : (call : Call) → has found.emptied call ≡ is_allowed_under table h (dir_covers t h) removable_dir call
   pub others : (call : Call) → has found.others call ≡ is_allowed_under table h (dir_covers t h) IsMissing call

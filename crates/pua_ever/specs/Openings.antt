@@ -3,7 +3,7 @@
 use Rattle.std.specs.Prelude.{ℕ, Bool, false, not, ◌&&◌, if◌then◌else◌, List, ◌==◌, Option, Some, None, is_some, min, length}
 use Rattle.std.specs.List.{list_any, Contains}
 use Rattle.pua_tree.specs.Tree.{Tree, is_dir, look, above, climb}
-use Rattle.pua_policy.specs.History.{History, perms_kept}
+use Rattle.pua_policy.specs.States.{ProcessState, perms_kept}
 use Rattle.pua_policy.specs.declared.answer.Cover.{Cover}
 use Rattle.pua_policy.specs.declared.answer.Cover.TheVariants.{Only}
 use Rattle.pua_policy.specs.declared.place.Place.{Place}
@@ -18,7 +18,7 @@ abbrev pub if_c : Option ℕ → Option Cover
 if_c None = None
 if_c (Some perms) = if has_c (Only perms) then Some (Only perms) else None
 
-abbrev pub opening : History → Place → Option Cover
+abbrev pub opening : ProcessState → Place → Option Cover
 opening h at = if_c (perms_kept h at)
 
 -- a place has a veil of its own, without `c`
@@ -26,22 +26,22 @@ abbrev pub is_without_c : Option ℕ → Bool
 is_without_c None = false
 is_without_c (Some perms) = not (has_c (Only perms))
 
-abbrev pub is_barred : History → Place → Bool
+abbrev pub is_barred : ProcessState → Place → Bool
 is_barred h at = is_without_c (perms_kept h at)
 
 -- the cover of a directory that has `c` by its own veil
-abbrev pub dir_opening : Tree → History → Place → Option Cover
+abbrev pub dir_opening : Tree → ProcessState → Place → Option Cover
 dir_opening t h (place.Dir dir) = if is_dir t dir then opening h (place.Dir dir) else None
 dir_opening t h (place.Slot dir name) = None
 
 -- the cover of a name that has `c` by its own veil, and can come to be free
-abbrev pub name_opening : Tree → History → Place → Option Cover
+abbrev pub name_opening : Tree → ProcessState → Place → Option Cover
 name_opening t h (place.Slot dir name) =
     if is_dir t dir && is_free t h (dir, name) then opening h (place.Slot dir name) else None
 name_opening t h (place.Dir dir) = None
 
 -- the directory that has `c` by this veil, or in which a name has
-abbrev pub opened_dir : History → Place → Option ℕ
+abbrev pub opened_dir : ProcessState → Place → Option ℕ
 opened_dir h at = if is_some (opening h at) then Some (dir_of_place at) else None
 
 -- the directory in which something stands that has no `c`, by this veil: so it can't come to be empty
@@ -49,7 +49,7 @@ abbrev pub is_no_dir : Tree → Option ℕ → Bool
 is_no_dir t None = false
 is_no_dir t (Some node) = not (is_dir t node)
 
-abbrev pub held_dir : Tree → History → Place → Option ℕ
+abbrev pub held_dir : Tree → ProcessState → Place → Option ℕ
 held_dir t h (place.Dir dir) =
     if is_dir t dir && (not (dir == 0) && is_barred h (place.Dir dir)) then Some (above t dir) else None
 held_dir t h (place.Slot dir name) =
@@ -64,7 +64,7 @@ abbrev pub can_give_way : Tree → List ℕ → List ℕ → ℕ → Bool
 can_give_way t held opened dir =
     not (list_any (λ other. other == dir) held) && list_any (is_outside t dir) opened
 
-abbrev pub entrance_cover : Tree → History → List ℕ → List ℕ → Place → Option Cover
+abbrev pub entrance_cover : Tree → ProcessState → List ℕ → List ℕ → Place → Option Cover
 entrance_cover t h held opened (place.Slot dir name) =
     if is_dir t dir && (is_free t h (dir, name) && is_some (opening h (place.Slot dir name)))
     then Some (cover_in t h dir) else None

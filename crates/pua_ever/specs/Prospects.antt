@@ -8,7 +8,7 @@ use Rattle.pua_path.specs.Fits.{is_link_kind}
 use Rattle.pua_path.specs.declared.found.Found.TheVariants.{Slot}
 use Rattle.pua_calls.specs.Calls.{CallTable}
 use Rattle.pua_calls.specs.CallSets.{has, keeps_link}
-use Rattle.pua_policy.specs.History.{History}
+use Rattle.pua_policy.specs.States.{ProcessState}
 use Rattle.pua_policy.specs.Verdict.{object_of_kind}
 use Rattle.pua_policy.specs.declared.answer.Cover.{Cover}
 use Rattle.pua_calls.specs.declared.call.Call.{Call}
@@ -23,8 +23,8 @@ use Rattle.pua_ever.specs.Ever.{can_allow, is_ever_allowed, can_be_freed}
 use Rattle.pua_ever.specs.Movable.{IsMovable}
 use Rattle.pua_ever.specs.declared.prospects.Prospects.{Prospects}
 
--- what was found for the lines is so by this history
-pub record IsProspects (t : Tree) (table : CallTable) (h : History) (found : Prospects) : Type 0 where
+-- what was found for the lines is so of this process
+pub record IsProspects (t : Tree) (table : CallTable) (h : ProcessState) (found : Prospects) : Type 0 where
   pub edits : found.may_edit ≡ may_edit table h
   pub links : found.may_link ≡ may_link table h
   pub movable : IsMovable t table h found.movable
@@ -32,7 +32,7 @@ pub record IsProspects (t : Tree) (table : CallTable) (h : History) (found : Pro
       can_empty t h dir ≡ not (list_any (λ other. other == dir) found.held.items)
 
 -- the calls on the name at which a thing stands, once that is taken away
-pub record AreOnFreed (t : Tree) (table : CallTable) (h : History) (at : Option Spot) (calls : ℕ) : Type 0 where
+pub record AreOnFreed (t : Tree) (table : CallTable) (h : ProcessState) (at : Option Spot) (calls : ℕ) : Type 0 where
   pub none : at ≡ None → (call : Call) → has calls call ≡ false
   pub some : (spot : Spot) → at ≡ Some spot → (call : Call) →
       has calls call
@@ -49,10 +49,10 @@ own_given (subject.Name dir name) object = by object
 own_given _ object = None
 
 -- the calls on an object of a kind at a name, by what covers it now
-abbrev pub kind_covers : Tree → CallTable → History → Cover → Option Kind → List Cover
+abbrev pub kind_covers : Tree → CallTable → ProcessState → Cover → Option Kind → List Cover
 kind_covers t table h now kind = if is_some kind then named_covers t table h kind now else now ∷ []
 
-abbrev pub kind_allowed : Tree → CallTable → History → Cover → Option Kind → Call → Bool
+abbrev pub kind_allowed : Tree → CallTable → ProcessState → Cover → Option Kind → Call → Bool
 kind_allowed t table h now kind call =
     (keeps_link call || not (is_link_kind kind))
     && can_allow table h (kind_covers t table h now kind) (object_of_kind kind) call

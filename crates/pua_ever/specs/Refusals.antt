@@ -2,7 +2,7 @@
 use Rattle.std.specs.Prelude.{Bool, true, false, not, ◌&&◌, if◌then◌else◌, List, [], ◌∷◌, ◌++◌, filter, Option, Some, None, find}
 use Rattle.pua_calls.specs.Promises.{holds, creating, unveil}
 use Rattle.pua_calls.specs.Calls.{CallTable, PairRule, rule_of, calls}
-use Rattle.pua_policy.specs.History.{History, is_locked, may_any}
+use Rattle.pua_policy.specs.States.{ProcessState, is_locked, may_any}
 use Rattle.pua_calls.specs.declared.call.Call.{Call}
 use Rattle.pua_calls.specs.declared.call.Call.TheVariants as call
 use Rattle.pua_script.specs.Confinement.{changes_names}
@@ -13,7 +13,7 @@ use Rattle.pua_ever.specs.declared.refusal.Refusal.{Refusal}
 use Rattle.pua_ever.specs.declared.refusal.Refusal.TheVariants.{CanUnveil, LacksC, RenameLacksC, LinkLacksC}
 
 -- the process isn't locked, and may put veils
-abbrev pub can_unveil : History → Bool
+abbrev pub can_unveil : ProcessState → Bool
 can_unveil h = not (is_locked h) && is_yes (may_any h (unveil ∷ []))
 
 -- by the table the call doesn't need `c`
@@ -42,7 +42,7 @@ table_refusal table None =
     if both_need_c table.rename then (if new_needs_c table.link then None else Some LinkLacksC) else Some RenameLacksC
 
 -- the process's reason comes first
-abbrev pub refusal : CallTable → History → Option Refusal
+abbrev pub refusal : CallTable → ProcessState → Option Refusal
 refusal table h = if can_unveil h then Some CanUnveil else table_refusal table (find (lacks_c table) changing_calls)
 
 -- what a fault of the list says of it

@@ -17,14 +17,14 @@ use Rattle.pua_calls.specs.declared.call.Call.{Call}
 use Rattle.pua_calls.specs.declared.call.Call.TheVariants as call
 use Rattle.pua_calls.specs.declared.rules.ExecPromises.{ExecPromises}
 use Rattle.pua_calls.specs.declared.rules.ExecPromises.TheVariants.{Unset, Stay}
-use Rattle.pua_policy.specs.History.{History, held_set, held_for_exec, is_locked, is_ended, with_both}
-use Rattle.pua_policy.specs.Verdict.{is_unveil, verdict_of}
+use Rattle.pua_policy.specs.States.{ProcessState, SameVeils, held_set, held_for_exec, is_locked, is_ended, with_both}
+use Rattle.pua_policy.specs.Verdict.{verdict_of}
 use Rattle.pua_policy.specs.declared.answer.Verdict.TheVariants.{Allowed}
 use Rattle.pua_script.specs.Bytes.{are_in_bytes}
 use Rattle.pua_script.specs.Scripts.{script_by}
 use Rattle.pua_script.specs.Requests.{Asked}
-use Rattle.pua_script.specs.Replay.{World, new_world, history_of, world_after}
-use Rattle.pua_script.specs.Family.{family, is_member, HasHistoryOf}
+use Rattle.pua_script.specs.Replay.{World, new_world, kept_at, world_after}
+use Rattle.pua_script.specs.Family.{family, is_member, HasKept}
 use Rattle.pua_script.specs.Tightening.{NoCallNeedsError}
 use Rattle.pua_script.specs.Confinement.{TakingNeedsC, TreesAlong, UncoveredStay}
 use Rattle.pua_objects.specs.Objects.{Line, objects}
@@ -37,7 +37,7 @@ use Rattle.pua_ever.specs.Laws.{EditsNeedC, VeilsStand, MembersEdit, ForeseesIn,
 abbrev pub is_promised_by : CallTable → ℕ → Call → Bool
 is_promised_by table set call = list_any (holds set) (rule_of table call).alternatives
 
-abbrev pub is_promised_by_one : CallTable → History → ℕ → Call → Bool
+abbrev pub is_promised_by_one : CallTable → ProcessState → ℕ → Call → Bool
 is_promised_by_one table h given call = is_promised_by table (held_set h) call || is_promised_by table given call
 
 -- a line with those of its calls that pass; what is made has none, unless the call that makes it passes
@@ -52,7 +52,7 @@ abbrev pub only_through : (Call → Bool) → List EverLine → List EverLine
 only_through passes lines = filter has_ever_calls (map (let_through passes) lines)
 
 -- the list through execs, by the execpromises
-abbrev pub ever_through : Tree → CallTable → History → ℕ → List EverLine
+abbrev pub ever_through : Tree → CallTable → ProcessState → ℕ → List EverLine
 ever_through t table h given = only_through (is_promised_by_one table h given) (ever t table (with_both h given))
 
 -- a program that is started keeps its execpromises, or it can start none
@@ -64,11 +64,11 @@ abbrev pub is_bounded : CallTable → ℕ → Bool
 is_bounded table given = stays table.execpromises || not (is_promised_by table given call.Exec)
 
 -- neither it nor a program that it starts can put a veil
-abbrev pub is_confined_through : History → ℕ → Bool
+abbrev pub is_confined_through : ProcessState → ℕ → Bool
 is_confined_through h given = is_locked h || (not (holds (held_set h) unveil) && not (holds given unveil))
 
 -- the execpromises by which all that it starts is bounded
-abbrev pub bound_of : CallTable → History → Option ℕ
+abbrev pub bound_of : CallTable → ProcessState → Option ℕ
 bound_of table h = by (held_for_exec h)
   where
     by : Option ℕ → Option ℕ
@@ -81,7 +81,7 @@ has_exec lines = list_any (λ line. list_any is_exec_call line.calls) lines
 
 -- the list that holds longest: where no exec can succeed, or what is started isn't bounded, that of the process itself;
 -- else the one through execs
-abbrev pub ever_lasting : Tree → CallTable → History → List EverLine
+abbrev pub ever_lasting : Tree → CallTable → ProcessState → List EverLine
 ever_lasting t table h = by (bound_of table h)
   where
     by : Option ℕ → List EverLine
@@ -89,7 +89,7 @@ ever_lasting t table h = by (bound_of table h)
     by (Some given) = if has_exec (ever t table h) then ever_through t table h given else ever t table h
 
 -- what it says of execs: nothing where no line of the process itself has one; else whether what is started is bounded
-abbrev pub execs_of : Tree → CallTable → History → ExecBound
+abbrev pub execs_of : Tree → CallTable → ProcessState → ExecBound
 execs_of t table h = if has_exec (ever t table h) then by (bound_of table h) else Never
   where
     by : Option ℕ → ExecBound
@@ -103,20 +103,20 @@ abbrev pub AreWithin : ℕ → ℕ → Type 0
 AreWithin promises others = (set : ℕ) → NamesNoError set → IsTrue (holds promises set) → IsTrue (holds others set)
 
 -- the execpromises are set, and within others
-pub record HandsDown (h : History) (given : ℕ) : Type 0 where
+pub record HandsDown (h : ProcessState) (given : ℕ) : Type 0 where
   pub left : ℕ
   pub set : held_for_exec h ≡ Some left
   pub within : AreWithin left given
 
 -- what a member holds at any time: what the process held, or what it handed down
-abbrev pub HoldsOne : CallTable → History → ℕ → History → Type 0
+abbrev pub HoldsOne : CallTable → ProcessState → ℕ → ProcessState → Type 0
 HoldsOne table now given h =
     (AreWithin (held_set h) (held_set now) × HandsDown h given)
     ⊎ (AreWithin (held_set h) given × (HandsDown h given ⊎ IsFalse (is_promised_by table given call.Exec)))
 
 -- what is so of each member at any time
-pub record IsAlong (table : CallTable) (now : History) (given : ℕ) (h : History) : Type 0 where
-  pub unveils : filter is_unveil h ≡ filter is_unveil now
+pub record IsAlong (table : CallTable) (now : ProcessState) (given : ℕ) (h : ProcessState) : Type 0 where
+  pub unveils : SameVeils h now
   pub lock : IsTrue (is_locked h) ⊎ (IsFalse (holds (held_set now) unveil) × IsFalse (holds given unveil))
   pub ended : is_ended h ≡ false → is_ended now ≡ false
   pub promises : HoldsOne table now given h
@@ -124,31 +124,31 @@ pub record IsAlong (table : CallTable) (now : History) (given : ℕ) (h : Histor
 -- the veils, the lock and the promises of a family through execs, whoever else asks for whatever
 abbrev pub FamiliesGoAlong : Type 0
 FamiliesGoAlong =
-    (table : CallTable) → NoCallNeedsError table → (w : World) (asks : List Asked) (process : ℕ) (now : History) (given : ℕ) →
-    history_of w process ≡ Some now → bound_of table now ≡ Some given →
+    (table : CallTable) → NoCallNeedsError table → (w : World) (asks : List Asked) (process : ℕ) (now : ProcessState) (given : ℕ) →
+    kept_at w process ≡ Some now → bound_of table now ≡ Some given →
     (member : ℕ) → IsTrue (is_member (family table w asks (process ∷ [])) member) →
-    HasHistoryOf (world_after table w asks) member (IsAlong table now given)
+    HasKept (world_after table w asks) member (IsAlong table now given)
 
 -- the same of one that may also hold what the process held and hand down anything, if it can start nothing
-pub record GoesAlong (table : CallTable) (now : History) (given : ℕ) (h : History) : Type 0 where
-  pub unveils : filter is_unveil h ≡ filter is_unveil now
+pub record GoesAlong (table : CallTable) (now : ProcessState) (given : ℕ) (h : ProcessState) : Type 0 where
+  pub unveils : SameVeils h now
   pub lock : IsTrue (is_locked h) ⊎ (IsFalse (holds (held_set now) unveil) × IsFalse (holds given unveil))
   pub ended : is_ended h ≡ false → is_ended now ≡ false
   pub promises : HoldsOne table now given h ⊎ (AreWithin (held_set h) (held_set now) × IsFalse (is_promised_by table (held_set h) call.Exec))
 
 -- several processes that act together, each of which goes along already: such are a process and those that it forked and
 -- started before now, if none has put a veil since
-abbrev pub GoAlong : CallTable → World → History → ℕ → List ℕ → Type 0
+abbrev pub GoAlong : CallTable → World → ProcessState → ℕ → List ℕ → Type 0
 GoAlong table w now given members =
-    (member : ℕ) → IsTrue (is_member members member) → HasHistoryOf w member (GoesAlong table now given)
+    (member : ℕ) → IsTrue (is_member members member) → HasKept w member (GoesAlong table now given)
 
 -- over any tree what is allowed to a member then is allowed to who holds both sets, and one of the two lets it through
 abbrev pub FamiliesNarrowThrough : Type 0
 FamiliesNarrowThrough =
-    (table : CallTable) → NoCallNeedsError table → (w : World) (asks : List Asked) (process : ℕ) (now : History) (given : ℕ) →
-    history_of w process ≡ Some now → bound_of table now ≡ Some given →
+    (table : CallTable) → NoCallNeedsError table → (w : World) (asks : List Asked) (process : ℕ) (now : ProcessState) (given : ℕ) →
+    kept_at w process ≡ Some now → bound_of table now ≡ Some given →
     (member : ℕ) → IsTrue (is_member (family table w asks (process ∷ [])) member) →
-    HasHistoryOf (world_after table w asks) member (λ h. (t : Tree) (call : Call) (named : Result Found Errno) →
+    HasKept (world_after table w asks) member (λ h. (t : Tree) (call : Call) (named : Result Found Errno) →
     verdict_of t table h call named ≡ Allowed →
     (verdict_of t table (with_both now given) call named ≡ Allowed) × IsTrue (is_promised_by_one table now given call))
 
@@ -156,8 +156,8 @@ FamiliesNarrowThrough =
 abbrev pub FamiliesConfineThrough : Type 0
 FamiliesConfineThrough =
     (table : CallTable) → NoCallNeedsError table → TakingNeedsC table →
-    (w : World) (asks : List Asked) (process : ℕ) (now : History) (given : ℕ) →
-    history_of w process ≡ Some now → bound_of table now ≡ Some given → TreesAlong table w asks →
+    (w : World) (asks : List Asked) (process : ℕ) (now : ProcessState) (given : ℕ) →
+    kept_at w process ≡ Some now → bound_of table now ≡ Some given → TreesAlong table w asks →
     MembersEdit table w asks (process ∷ []) → UncoveredStay now w.tree (world_after table w asks).tree
 
 -- whatever they ask for, execs too, and others that leaves the tree as it is: each call that is then allowed to a member
@@ -165,32 +165,32 @@ FamiliesConfineThrough =
 abbrev pub EverThroughExecs : Type 0
 EverThroughExecs =
     (table : CallTable) → NoCallNeedsError table → EditsNeedC table →
-    (w : World) (asks : List Asked) (members : List ℕ) (now : History) (given : ℕ) → IsTrue (is_bounded table given) →
+    (w : World) (asks : List Asked) (members : List ℕ) (now : ProcessState) (given : ℕ) → IsTrue (is_bounded table given) →
     GoAlong table w now given members → VeilsStand w.tree now → TreesAlong table w asks → MembersEdit table w asks members →
     (member : ℕ) → IsTrue (is_member (family table w asks members) member) →
     let after = world_after table w asks in
-    HasHistoryOf after member (ForeseesIn (ever_through w.tree table now given) w.tree table now after.tree)
+    HasKept after member (ForeseesIn (ever_through w.tree table now given) w.tree table now after.tree)
 
 -- and where a kernel makes programs of what they make, write or set the mode of, it starts none whose line has no exec
 abbrev pub StartsThroughExecs : Type 0
 StartsThroughExecs =
     (table : CallTable) → NoCallNeedsError table → EditsNeedC table →
-    (w : World) (asks : List Asked) (members : List ℕ) (now : History) (given : ℕ) → IsTrue (is_bounded table given) →
+    (w : World) (asks : List Asked) (members : List ℕ) (now : ProcessState) (given : ℕ) → IsTrue (is_bounded table given) →
     GoAlong table w now given members → VeilsStand w.tree now → TreesAlong table w asks → MembersEdit table w asks members →
     (member : ℕ) → IsTrue (is_member (family table w asks members) member) →
     let after = world_after table w asks in
-    HasHistoryOf after member (ForeseesStartsIn (ever_through w.tree table now given) w.tree table now after.tree)
+    HasKept after member (ForeseesStartsIn (ever_through w.tree table now given) w.tree table now after.tree)
 
 -- the same of one process whose execs are bounded, and of the list that holds longest
 abbrev pub EverLasts : Type 0
 EverLasts =
     (table : CallTable) → NoCallNeedsError table → EditsNeedC table →
-    (w : World) (asks : List Asked) (process : ℕ) (now : History) (given : ℕ) →
-    history_of w process ≡ Some now → bound_of table now ≡ Some given → VeilsStand w.tree now → TreesAlong table w asks →
+    (w : World) (asks : List Asked) (process : ℕ) (now : ProcessState) (given : ℕ) →
+    kept_at w process ≡ Some now → bound_of table now ≡ Some given → VeilsStand w.tree now → TreesAlong table w asks →
     MembersEdit table w asks (process ∷ []) →
     (member : ℕ) → IsTrue (is_member (family table w asks (process ∷ [])) member) →
     let after = world_after table w asks in
-    HasHistoryOf after member (ForeseesIn (ever_lasting w.tree table now) w.tree table now after.tree)
+    HasKept after member (ForeseesIn (ever_lasting w.tree table now) w.tree table now after.tree)
 
 -- a listing and a script as a command reads them by any rules, and behind them any list of requests in bytes, however long,
 -- in which others than the family leave the tree as it is
@@ -200,14 +200,14 @@ EverLastsAfterRead =
     (rules : Rules) (tree_bytes script_bytes : List ℕ) (t : Tree) (first asks : List Asked) →
     listing tree_bytes ≡ Ok t → script_by rules script_bytes ≡ Ok first → IsTrue (are_in_bytes asks) →
     let w = world_after table (new_world t) first in
-    (process : ℕ) (now : History) (given : ℕ) → history_of w process ≡ Some now → bound_of table now ≡ Some given →
+    (process : ℕ) (now : ProcessState) (given : ℕ) → kept_at w process ≡ Some now → bound_of table now ≡ Some given →
     MembersEdit table w asks (process ∷ []) →
     (member : ℕ) → IsTrue (is_member (family table w asks (process ∷ [])) member) →
     let after = world_after table w asks in
-    HasHistoryOf after member (ForeseesIn (ever_lasting w.tree table now) w.tree table now after.tree)
+    HasKept after member (ForeseesIn (ever_lasting w.tree table now) w.tree table now after.tree)
 
 -- the list of the objects of now lies within the list that holds longest
 abbrev pub NowWithinLasting : Type 0
 NowWithinLasting =
-    (t : Tree) (table : CallTable) → NoCallNeedsError table → (h : History) → WellFormed t →
+    (t : Tree) (table : CallTable) → NoCallNeedsError table → (h : ProcessState) → WellFormed t →
     (line : Line) → Contains (objects t table h) line → IsWithinLines (ever_lasting t table h) line

@@ -1,10 +1,11 @@
 -- Worked rows on what can ever be touched through execs.
-use Rattle.std.specs.Prelude.{◌≡◌, ◌+◌, ℕ, List, [], ◌∷◌, map, Some, None, codes, refl}
+use Rattle.std.specs.Prelude.{◌≡◌, ◌+◌, ℕ, true, false, List, [], ◌∷◌, map, Some, None, codes, refl}
 use Rattle.pua_tree.specs.Tree.{Tree, Node}
 use Rattle.pua_tree.specs.declared.node.Kind.TheVariants.{Dir, File, Prog}
 use Rattle.pua_calls.specs.Promises.{rpath, wpath, cpath, exec, proc, unveil, reading, writing, executing, creating}
 use Rattle.pua_calls.specs.Calls.{CallTable, standard_table, openbsd_table}
-use Rattle.pua_policy.specs.History.{History, Pledged, Unveiled, Locked, new_history}
+use Rattle.pua_policy.specs.States.{ProcessState, new_process}
+use Rattle.pua_policy.specs.declared.place.Place.{Place}
 use Rattle.pua_policy.specs.declared.place.Place.TheVariants as place
 use Rattle.pua_ever.specs.Ever.{ever, ever_line_text}
 use Rattle.pua_ever.specs.Through.{ever_lasting, execs_of}
@@ -27,23 +28,26 @@ started_tree = record {
   next = 5;
 }
 
-abbrev pub starting : ℕ → ℕ → ℕ → History
-starting letters held given =
-    Pledged (Some held) (Some given)
-    ∷ Locked
-    ∷ Unveiled (place.Slot 0 (codes "p")) letters
-    ∷ Unveiled (place.Dir 2) (reading + creating)
-    ∷ Unveiled (place.Dir 1) creating
-    ∷ new_history
+-- the veils, of which that of the program has these letters
+abbrev pub veils_with : ℕ → List (Place × ℕ)
+veils_with letters = (place.Dir 1, creating) ∷ (place.Dir 2, reading + creating) ∷ (place.Slot 0 (codes "p"), letters) ∷ []
+
+abbrev pub starting : ℕ → ℕ → ℕ → ProcessState
+starting letters held given = record new_process {
+  promises = Some held;
+  execpromises = Some given;
+  veils = veils_with letters;
+  locked = true;
+}
 
 -- who reads, and starts what moves
-abbrev pub reads : History
+abbrev pub reads : ProcessState
 reads = starting executing (rpath + exec + proc) cpath
 
-abbrev pub lines_now : CallTable → History → List (List ℕ)
+abbrev pub lines_now : CallTable → ProcessState → List (List ℕ)
 lines_now table h = map (ever_line_text started_tree) (ever started_tree table h)
 
-abbrev pub lines_lasting : CallTable → History → List (List ℕ)
+abbrev pub lines_lasting : CallTable → ProcessState → List (List ℕ)
 lines_lasting table h = map (ever_line_text started_tree) (ever_lasting started_tree table h)
 
 abbrev pub alone : List (List ℕ)
@@ -76,23 +80,22 @@ together_by_openbsd =
     ∷ codes "link new lstat,readlink,unlink"
     ∷ []
 
+-- who holds promises, and hands none down
+abbrev pub handing_none : ℕ → ProcessState
+handing_none held = record (starting executing held 0) { execpromises = None }
+
 -- who can write no program, and starts what can: `/out` has rwxc
-abbrev pub writes : History
-writes =
-    Pledged (Some (rpath + exec + proc)) (Some (wpath + cpath))
-    ∷ Locked
-    ∷ Unveiled (place.Slot 0 (codes "p")) executing
-    ∷ Unveiled (place.Dir 2) (reading + writing + executing + creating)
-    ∷ new_history
+abbrev pub writes : ProcessState
+writes = record new_process {
+  promises = Some (rpath + exec + proc);
+  execpromises = Some (wpath + cpath);
+  veils = (place.Dir 2, reading + writing + executing + creating) ∷ (place.Slot 0 (codes "p"), executing) ∷ [];
+  locked = true;
+}
 
 -- who can put no veil, and isn't locked
-abbrev pub unlocked : ℕ → History
-unlocked given =
-    Pledged (Some (rpath + exec + proc)) (Some given)
-    ∷ Unveiled (place.Slot 0 (codes "p")) executing
-    ∷ Unveiled (place.Dir 2) (reading + creating)
-    ∷ Unveiled (place.Dir 1) creating
-    ∷ new_history
+abbrev pub unlocked : ℕ → ProcessState
+unlocked given = record (starting executing (rpath + exec + proc) given) { locked = false }
 
 pub record ThroughRows : Type 0 where
   -- by itself it can move nothing
@@ -106,9 +109,7 @@ pub record ThroughRows : Type 0 where
   pub starts_again : lines_lasting openbsd_table (starting executing (rpath + exec + proc) (cpath + exec)) ≡ together_by_openbsd
   pub starts_again_unset : lines_lasting standard_table (starting executing (rpath + exec + proc) (cpath + exec)) ≡ alone
   -- nothing is bounded without execpromises
-  pub nothing_given : lines_lasting openbsd_table (Pledged (Some (rpath + exec + proc)) None ∷ Locked ∷
-      Unveiled (place.Slot 0 (codes "p")) executing ∷ Unveiled (place.Dir 2) (reading + creating) ∷ Unveiled (place.Dir 1) creating ∷
-      new_history) ≡ alone
+  pub nothing_given : lines_lasting openbsd_table (handing_none (rpath + exec + proc)) ≡ alone
   -- nor where a program that is started can put veils
   pub unveils_later : lines_lasting standard_table (unlocked (cpath + unveil)) ≡ alone
   pub unveils_never : lines_lasting standard_table (unlocked cpath) ≡ together

@@ -1,6 +1,6 @@
 -- What several processes with the same veils can ever touch together: what one could that holds what any of them holds, and
 -- hands down what any of them hands down. It is more than each could: what the one can move, the other can read.
-use Rattle.std.specs.Prelude.{◌≡◌, ℕ, Bool, false, not, ◌&&◌, ◌||◌, if◌then◌else◌, List, [], ◌∷◌, map, filter, bit_or, Option, Some, None, Ok, IsTrue}
+use Rattle.std.specs.Prelude.{◌≡◌, ℕ, Bool, true, false, not, ◌&&◌, ◌||◌, if◌then◌else◌, List, [], ◌∷◌, map, bit_or, Option, Some, None, Ok, IsTrue}
 use Rattle.std.specs.List.{AllByRecursion}
 use Rattle.pua_tree.specs.Tree.{Tree}
 use Rattle.pua_tree.specs.Listing.{listing}
@@ -8,14 +8,13 @@ use Rattle.pua_calls.specs.Promises.{holds, unveil}
 use Rattle.pua_calls.specs.Calls.{CallTable}
 use Rattle.pua_calls.specs.declared.rules.Rules.{Rules}
 use Rattle.pua_calls.specs.declared.call.Call.TheVariants as call
-use Rattle.pua_policy.specs.History.{History, Pledged, Locked, held_set, held_for_exec, is_locked, is_ended, with_both}
-use Rattle.pua_policy.specs.Verdict.{is_unveil}
+use Rattle.pua_policy.specs.States.{ProcessState, SameVeils, held_set, held_for_exec, is_locked, is_ended}
 use Rattle.pua_script.specs.Bytes.{are_in_bytes}
 use Rattle.pua_script.specs.Scripts.{script_by}
 use Rattle.pua_script.specs.Requests.{Asked}
-use Rattle.pua_script.specs.Replay.{World, new_world, history_of, world_after}
+use Rattle.pua_script.specs.Replay.{World, new_world, kept_at, world_after}
 use Rattle.pua_script.specs.Laws.{IsConfined}
-use Rattle.pua_script.specs.Family.{family, is_member, none_done, is_exec, HasHistoryOf}
+use Rattle.pua_script.specs.Family.{family, is_member, none_done, is_exec, HasKept}
 use Rattle.pua_script.specs.Tightening.{NoCallNeedsError}
 use Rattle.pua_script.specs.Confinement.{TreesAlong}
 use Rattle.pua_ever.specs.Laws.{EditsNeedC, VeilsStand, MembersEdit, Foresees, ForeseesIn}
@@ -28,7 +27,7 @@ pub record Joint : Type 0 where
   pub given : Option ℕ
 
 -- what a process hands down to a program: nothing where it can start none, and None where it can, and has no execpromises
-abbrev pub handed_down : CallTable → History → Option ℕ
+abbrev pub handed_down : CallTable → ProcessState → Option ℕ
 handed_down table h = if is_promised_by table (held_set h) call.Exec then held_for_exec h else Some 0
 
 -- what two of them hand down, if it is bounded for both
@@ -36,18 +35,18 @@ abbrev pub either_given : Option ℕ → Option ℕ → Option ℕ
 either_given (Some a) (Some b) = Some (bit_or a b)
 either_given _ _ = None
 
-abbrev pub joint_of : CallTable → History → Joint
+abbrev pub joint_of : CallTable → ProcessState → Joint
 joint_of table h = record { locked = is_locked h; held = held_set h; given = handed_down table h }
 
 -- one more
-abbrev pub with_one : CallTable → Joint → History → Joint
+abbrev pub with_one : CallTable → Joint → ProcessState → Joint
 with_one table joint h = record {
   locked = joint.locked && is_locked h;
   held = bit_or joint.held (held_set h);
   given = either_given joint.given (handed_down table h);
 }
 
-abbrev pub joint_after : CallTable → Joint → List History → Joint
+abbrev pub joint_after : CallTable → Joint → List ProcessState → Joint
 joint_after table joint [] = joint
 joint_after table joint (h ∷ more) = joint_after table (with_one table joint h) more
 
@@ -58,26 +57,25 @@ confined_part locked held (Some given) =
     if locked || (not (holds held unveil) && not (holds given unveil)) then Some given else None
 
 -- the one that holds and hands down all of it, with the veils of the first; it can put none, as none of them can
-abbrev pub history_by : History → Joint → History
-history_by first joint =
-    Locked
-    ∷ Pledged None (confined_part joint.locked (held_set (with_both first joint.held)) joint.given)
-    ∷ with_both first joint.held
+abbrev pub process_by : ProcessState → Joint → ProcessState
+process_by first joint =
+    let held = bit_or (held_set first) joint.held in
+    record first { promises = Some held; execpromises = confined_part joint.locked held joint.given; locked = true }
 
-abbrev pub joined : CallTable → History → List History → History
-joined table first more = history_by first (joint_after table (joint_of table first) more)
+abbrev pub joined : CallTable → ProcessState → List ProcessState → ProcessState
+joined table first more = process_by first (joint_after table (joint_of table first) more)
 
 -- The laws.
 
--- a living process that can put no veil, and has put what the first of them has
-pub record IsOneOf (first h : History) : Type 0 where
-  pub unveils : filter is_unveil h ≡ filter is_unveil first
+-- a living process that can put no veil, and has the veils of the first of them, in whichever order they came
+pub record IsOneOf (first h : ProcessState) : Type 0 where
+  pub unveils : SameVeils h first
   pub confined : IsConfined h
   pub lives : is_ended h ≡ false
 
--- some numbers have these histories, one each, of such processes
-pub record ActTogether (w : World) (members : List ℕ) (first : History) (more : List History) : Type 0 where
-  pub histories : map (history_of w) members ≡ map Some (first ∷ more)
+-- some numbers have these processes, one each, of such processes
+pub record ActTogether (w : World) (members : List ℕ) (first : ProcessState) (more : List ProcessState) : Type 0 where
+  pub processes : map (kept_at w) members ≡ map Some (first ∷ more)
   pub alike : AllByRecursion (IsOneOf first) (first ∷ more)
 
 -- whatever they ask for, and whatever they fork, as long as no exec of theirs is answered ok and others leave the tree as it
@@ -85,24 +83,24 @@ pub record ActTogether (w : World) (members : List ℕ) (first : History) (more 
 abbrev pub EverTogether : Type 0
 EverTogether =
     (table : CallTable) → NoCallNeedsError table → EditsNeedC table →
-    (w : World) (asks : List Asked) (members : List ℕ) (first : History) (more : List History) → ActTogether w members first more →
+    (w : World) (asks : List Asked) (members : List ℕ) (first : ProcessState) (more : List ProcessState) → ActTogether w members first more →
     let one = joined table first more in
     VeilsStand w.tree one → TreesAlong table w asks → IsTrue (none_done is_exec table w asks members) → MembersEdit table w asks members →
     (member : ℕ) → IsTrue (is_member (family table w asks members) member) →
     let after = world_after table w asks in
-    HasHistoryOf after member (Foresees w.tree table one after.tree)
+    HasKept after member (Foresees w.tree table one after.tree)
 
 -- and through execs where all that they start is bounded
 abbrev pub TogetherLasts : Type 0
 TogetherLasts =
     (table : CallTable) → NoCallNeedsError table → EditsNeedC table →
-    (w : World) (asks : List Asked) (members : List ℕ) (first : History) (more : List History) → ActTogether w members first more →
+    (w : World) (asks : List Asked) (members : List ℕ) (first : ProcessState) (more : List ProcessState) → ActTogether w members first more →
     let one = joined table first more in
     (given : ℕ) → bound_of table one ≡ Some given →
     VeilsStand w.tree one → TreesAlong table w asks → MembersEdit table w asks members →
     (member : ℕ) → IsTrue (is_member (family table w asks members) member) →
     let after = world_after table w asks in
-    HasHistoryOf after member (ForeseesIn (ever_lasting w.tree table one) w.tree table one after.tree)
+    HasKept after member (ForeseesIn (ever_lasting w.tree table one) w.tree table one after.tree)
 
 -- a listing and a script as a command reads them by any rules, and behind them any list of requests in bytes
 abbrev pub TogetherAfterRead : Type 0
@@ -111,9 +109,9 @@ TogetherAfterRead =
     (rules : Rules) (tree_bytes script_bytes : List ℕ) (t : Tree) (before asks : List Asked) →
     listing tree_bytes ≡ Ok t → script_by rules script_bytes ≡ Ok before → IsTrue (are_in_bytes asks) →
     let w = world_after table (new_world t) before in
-    (members : List ℕ) (first : History) (more : List History) → ActTogether w members first more →
+    (members : List ℕ) (first : ProcessState) (more : List ProcessState) → ActTogether w members first more →
     let one = joined table first more in
     (given : ℕ) → bound_of table one ≡ Some given → MembersEdit table w asks members →
     (member : ℕ) → IsTrue (is_member (family table w asks members) member) →
     let after = world_after table w asks in
-    HasHistoryOf after member (ForeseesIn (ever_lasting w.tree table one) w.tree table one after.tree)
+    HasKept after member (ForeseesIn (ever_lasting w.tree table one) w.tree table one after.tree)

@@ -1,23 +1,12 @@
 -- Worked rows on what several processes can ever touch together, in the tree of the rows through execs.
-use Rattle.std.specs.Prelude.{◌≡◌, ◌+◌, ℕ, List, [], ◌∷◌, Some, None, codes, refl}
-use Rattle.pua_calls.specs.Promises.{rpath, wpath, cpath, exec, unveil, reading, executing, creating}
+use Rattle.std.specs.Prelude.{◌≡◌, ◌+◌, ℕ, List, [], ◌∷◌, codes, refl}
+use Rattle.pua_calls.specs.Promises.{rpath, wpath, cpath, exec, unveil, executing}
 use Rattle.pua_calls.specs.Calls.{standard_table}
-use Rattle.pua_policy.specs.History.{History, Pledged, Unveiled, Locked, new_history}
-use Rattle.pua_policy.specs.declared.place.Place.TheVariants as place
+use Rattle.pua_policy.specs.States.{ProcessState}
 use Rattle.pua_ever.specs.Together.{joined}
-use Rattle.pua_ever.specs.ThroughExamples.{starting, unlocked, reads, alone, together, lines_lasting}
+use Rattle.pua_ever.specs.ThroughExamples.{starting, unlocked, handing_none, reads, alone, together, lines_lasting}
 
--- who holds promises, and hands none down
-abbrev pub handing_none : ℕ → History
-handing_none held =
-    Pledged (Some held) None
-    ∷ Locked
-    ∷ Unveiled (place.Slot 0 (codes "p")) executing
-    ∷ Unveiled (place.Dir 2) (reading + creating)
-    ∷ Unveiled (place.Dir 1) creating
-    ∷ new_history
-
-abbrev pub lines_together : History → List History → List (List ℕ)
+abbrev pub lines_together : ProcessState → List ProcessState → List (List ℕ)
 lines_together h more = lines_lasting standard_table (joined standard_table h more)
 
 abbrev pub moved_and_read : List (List ℕ)

@@ -1,9 +1,8 @@
 //! Several processes as one, by which is told what they can ever touch together.
 
-ghost use Rattle.std.specs.Prelude.{◌≡◌, List, IfOk};
-ghost use Rattle.pua_policy.specs.History.{History, StandsFor};
-ghost use Rattle.pua_ever.specs.Joints.{AreStoodFor, IsJoint};
-ghost use Rattle.pua_ever.specs.Together.{Joint as AnyJoint, either_given, handed_down as handed};
+ghost use Rattle.std.specs.Prelude.{◌≡◌, map, IfOk};
+ghost use Rattle.pua_ever.specs.Joints.{joint_told};
+ghost use Rattle.pua_ever.specs.Together.{either_given, handed_down as handed};
 ghost use Rattle.pua_ever.specs.Together.{confined_part, joined, joint_after, joint_of, with_one};
 
 use crate::lasting::is_promised;
@@ -32,8 +31,8 @@ pub fn join(
     more: &[&Process],
     table: &CallTable,
 ) -> Result<Process, OutOfMemory>
-    ensures { IfOk result (λ one. (h : History) (hs : List History) → StandsFor first.now h →
-        AreStoodFor more.now hs → StandsFor one (joined table.now h hs)) }
+    ensures { IfOk result (λ one. one ≡ joined table.now first.now (map
+        (λ process. process.now) more.now)) }
 {
     let joint = joint_after(table, Joint::of(first, table), more);
     let mut one = first.with_both(alloc, joint.held)?;
@@ -47,7 +46,7 @@ pub fn join(
 impl Joint {
     /// One process alone.
     fn of(process: &Process, table: &CallTable) -> Joint
-        ensures { (h : History) → StandsFor process.now h → IsJoint result (joint_of table.now h) }
+        ensures { joint_told result ≡ joint_of table.now process.now }
     {
         Joint {
             locked: process.locked(),
@@ -58,8 +57,7 @@ impl Joint {
 
     /// One process more.
     fn with(self, process: &Process, table: &CallTable) -> Joint
-        ensures { (joint : AnyJoint) (h : History) → IsJoint self joint → StandsFor process.now h →
-            IsJoint result (with_one table.now joint h) }
+        ensures { joint_told result ≡ with_one table.now (joint_told self) process.now }
     {
         Joint {
             locked: self.locked && process.locked(),
@@ -71,8 +69,8 @@ impl Joint {
 
 /// The same processes, and these.
 fn joint_after(table: &CallTable, joint: Joint, more: &[&Process]) -> Joint
-    ensures { (before : AnyJoint) (hs : List History) → IsJoint joint before →
-        AreStoodFor more.now hs → IsJoint result (joint_after table.now before hs) }
+    ensures { joint_told result ≡ joint_after table.now (joint_told joint) (map
+        (λ process. process.now) more.now) }
 {
     let mut joint = joint;
     for process in more {
@@ -98,7 +96,7 @@ fn confined_part(locked: bool, held: Promises, given: Option<Promises>) -> Optio
 /// What a process hands down to a program: nothing where it can start none, and None where it can and
 /// has no execpromises.
 fn handed_down(process: &Process, table: &CallTable) -> Option<Promises>
-    ensures { (h : History) → StandsFor process.now h → result ≡ handed table.now h }
+    ensures { result ≡ handed table.now process.now }
 {
     if is_promised(table, process.held(), Call::Exec) {
         process.execpromises()

@@ -3,7 +3,6 @@
 ghost use Rattle.std.specs.Prelude.{◌≡◌, ◌||◌, None, IfOk, MatchOption};
 ghost use Rattle.pua_calls.specs.CallSets.{has};
 ghost use Rattle.pua_calls.specs.declared.call.Call.{Call as AnyCall};
-ghost use Rattle.pua_policy.specs.History.{History, StandsFor};
 ghost use Rattle.pua_ever.specs.Both.{IsBoth};
 ghost use Rattle.pua_ever.specs.Through.{bound_of, is_promised_by};
 ghost use Rattle.pua_ever.specs.Through.{is_promised_by_one as promised_by_either};
@@ -32,8 +31,8 @@ pub fn both_of(
     process: &Process,
     table: &CallTable,
 ) -> Result<Option<Both>, OutOfMemory>
-    ensures { IfOk result (λ found. (h : History) → StandsFor process.now h →
-        MatchOption found (bound_of table.now h ≡ None) (IsBoth table.now h)) }
+    ensures { IfOk result (λ found. MatchOption found (bound_of table.now process.now
+        ≡ None) (IsBoth table.now process.now)) }
 {
     let Some(given) = bound(process, table) else {
         return Ok(None);
@@ -50,7 +49,7 @@ pub fn both_of(
 /// where it isn't: none were given, or by the table they are unset and such a program may start
 /// another, or the process isn't locked and such a program may unveil.
 pub fn bound(process: &Process, table: &CallTable) -> Option<Promises>
-    ensures { (h : History) → StandsFor process.now h → result ≡ bound_of table.now h }
+    ensures { result ≡ bound_of table.now process.now }
 {
     let Some(given) = process.execpromises() else {
         return None;
@@ -74,7 +73,7 @@ fn is_bounded(table: &CallTable, given: Promises) -> bool
 
 /// Whether neither a process nor a program that it starts can put a veil.
 fn is_confined(process: &Process, given: Promises) -> bool
-    ensures { (h : History) → StandsFor process.now h → result ≡ is_confined_through h given }
+    ensures { result ≡ is_confined_through process.now given }
 {
     process.locked()
         || !process.held().contains(Promises::UNVEIL) && !given.contains(Promises::UNVEIL)
@@ -113,8 +112,8 @@ fn promised(table: &CallTable, held: Promises, given: Promises) -> Calls
 
 /// The calls that are let through by what a process holds, or by what it hands down.
 fn promised_by_one(process: &Process, table: &CallTable, given: Promises) -> Calls
-    ensures { (h : History) → StandsFor process.now h → (call : AnyCall) →
-        has result call ≡ promised_by_either table.now h given call }
+    ensures { (call : AnyCall) → has result call
+        ≡ promised_by_either table.now process.now given call }
 {
     promised(table, process.held(), given)
 }

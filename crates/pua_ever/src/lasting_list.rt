@@ -3,7 +3,7 @@
 ghost use Rattle.std.specs.Prelude.{◌≡◌, [], List, None, IfErr, IfOk, MatchResult, option_copied};
 ghost use Rattle.pua_tree.specs.Tree.{Tree};
 ghost use Rattle.pua_calls.specs.CallSets.{has};
-ghost use Rattle.pua_policy.specs.History.{History, StandsFor};
+ghost use Rattle.pua_policy.specs.States.{ProcessState};
 ghost use Rattle.pua_ever.specs.Ever.{EverLine as Told};
 ghost use Rattle.pua_ever.specs.EverList.{AreEverTold};
 ghost use Rattle.pua_ever.specs.Both.{IsBoth};
@@ -51,13 +51,11 @@ pub fn list_lasting<'t, T: FileTree>(
     both: Option<&'t Both>,
     table: &CallTable,
 ) -> Result<LastingList<'t>, EverFault>
-    ensures list { IfOk result (λ list. (h : History) → StandsFor process.now h →
-        IsBothOf table.now h (option_copied both.entry) →
-        IsLasting (T.content tree.now) table.now h list) }
-    ensures refused { (h : History) → StandsFor process.now h →
-        IsBothOf table.now h (option_copied both.entry) → MatchResult result
-        (λ _. refusal_of table.now h ≡ None) (λ fault. refusal_of table.now h
-        ≡ refusal_in fault) }
+    ensures list { IfOk result (λ list. IsBothOf table.now process.now (option_copied both.entry) →
+        IsLasting (T.content tree.now) table.now process.now list) }
+    ensures refused { IsBothOf table.now process.now (option_copied both.entry) →
+        MatchResult result (λ _. refusal_of table.now process.now ≡ None) (λ fault.
+        refusal_of table.now process.now ≡ refusal_in fault) }
 {
     let rows = list_ever(alloc, tree, process, table)?;
     if !some_exec(rows.as_slice()) {
@@ -87,10 +85,10 @@ fn rows_through<'t, T: FileTree>(
     both: &'t Both,
     table: &CallTable,
 ) -> Result<Vec<EverRow<'t>>, EverFault>
-    ensures rows { IfOk result (λ rows. (h : History) → (is : IsBoth table.now h both.now) →
-        AreEverTold (T.content tree.now) [] rows.items
-        (ever_through (T.content tree.now) table.now h is.given) []) }
-    ensures unrefused { IfErr result (λ fault. (h : History) → IsBoth table.now h both.now →
+    ensures rows { IfOk result (λ rows. (h : ProcessState) → (is : IsBoth table.now h both.now) →
+        AreEverTold (T.content tree.now) [] rows.items (ever_through
+        (T.content tree.now) table.now h is.given) []) }
+    ensures unrefused { IfErr result (λ fault. (h : ProcessState) → IsBoth table.now h both.now →
         refusal_of table.now h ≡ None → refusal_in fault ≡ None) }
 {
     let rows = list_ever(alloc, tree, &both.process, table)?;

@@ -1,6 +1,8 @@
 //! Laws and worked examples, each the contract of a function that does nothing.
 
 ghost use Rattle.pua_ever.specs.Examples.{EverRows, MovedRows, StartedRows};
+ghost use Rattle.pua_ever.specs.JointlyExamples.{JointlyRows};
+ghost use Rattle.pua_ever.specs.Jointly.{JointlyAfterRead, JointlyComplete, JointlyGrows, JointlyLasts, JointlyThrough, JointlyWithin};
 ghost use Rattle.pua_ever.specs.Laws.{EverAfterRead, EverAsRead, EverBeside, EverComplete, EverOfMany};
 ghost use Rattle.pua_ever.specs.Laws.{EverWithExecs};
 ghost use Rattle.pua_ever.specs.Laws.{NowWithinEver};
@@ -86,10 +88,11 @@ pub fn through_examples()
     ensures { ThroughRows }
 {}
 
-/// Several processes that put the same unveils, and can put no more: whatever they and what they fork ask
-/// for, as long as nobody else changes the tree and no exec of theirs succeeds, each call that is then
-/// allowed to one of them has its line in the list of the one that stands for all of them. So it is through
-/// execs, where all that they start is bounded, and behind a listing and a script as a command reads them.
+/// Several processes with the same veils, in whichever order, that can put no more: whatever they and what
+/// they fork ask for, as long as nobody else changes the tree and no exec of theirs succeeds, each call that
+/// is then allowed to one of them has its line in the list of the one that stands for all of them. So it is
+/// through execs, where all that they start is bounded, and behind a listing and a script as a command reads
+/// them.
 pub fn together_law()
     ensures together { EverTogether }
     ensures lasts { TogetherLasts }
@@ -100,4 +103,23 @@ pub fn together_law()
 #[tactic(auto, using(crate::specs::TogetherExamples::together_rows))]
 pub fn together_examples()
     ensures { TogetherRows }
+{}
+
+/// Several processes with veils and promises of their own, and what they fork: whatever they ask for, all of
+/// them together, each call that is then allowed to one of them has its line in the joint list of that one.
+/// So it is through execs, where all that they start is bounded, and behind a listing and a script. Who has
+/// more help has no less in its list.
+pub fn jointly_law()
+    ensures within { JointlyWithin }
+    ensures complete { JointlyComplete }
+    ensures through { JointlyThrough }
+    ensures read { JointlyAfterRead }
+    ensures lasts { JointlyLasts }
+    ensures grows { JointlyGrows }
+{}
+
+/// Examples of what processes with veils of their own can ever touch together.
+#[tactic(auto, using(crate::proofs::JointlyRows::jointly_rows))]
+pub fn jointly_examples()
+    ensures { JointlyRows }
 {}

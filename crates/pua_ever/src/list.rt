@@ -7,7 +7,7 @@ ghost use Rattle.pua_tree.specs.Tree.{Tree, WellFormed};
 ghost use Rattle.pua_calls.specs.Calls.{CallTable as Table};
 ghost use Rattle.pua_calls.specs.CallSets.{has};
 ghost use Rattle.pua_calls.specs.declared.call.Call.{Call as AnyCall};
-ghost use Rattle.pua_policy.specs.History.{History, StandsFor, is_ended};
+ghost use Rattle.pua_policy.specs.States.{ProcessState, is_ended};
 ghost use Rattle.pua_script.specs.Laws.{IsConfined};
 ghost use Rattle.pua_objects.specs.Items.{IsItemOn, subject_given};
 ghost use Rattle.pua_objects.specs.Laws.{HasPlaces};
@@ -59,16 +59,14 @@ pub fn list_ever<'t, T: FileTree>(
     process: &'t Process,
     table: &CallTable,
 ) -> Result<Vec<EverRow<'t>>, EverFault>
-    ensures rows { IfOk result (λ rows. (h : History) → StandsFor process.now h →
-        AreEverTold (T.content tree.now) [] rows.items (ever (T.content tree.now) table.now h)
-        []) }
-    ensures refused { (h : History) → StandsFor process.now h → MatchResult result
-        (λ _. refusal_of table.now h ≡ None) (λ fault. refusal_of table.now h
-        ≡ refusal_in fault) }
+    ensures rows { IfOk result (λ rows.
+        AreEverTold (T.content tree.now) [] rows.items (ever
+        (T.content tree.now) table.now process.now) []) }
+    ensures refused { MatchResult result (λ _. refusal_of table.now process.now ≡ None) (λ fault.
+        refusal_of table.now process.now ≡ refusal_in fault) }
     ensures table { OnOk result (EditsNeedC table.now) }
-    ensures confined { OnOk result ((h : History) → StandsFor process.now h →
-        IsConfined h ⊎ (is_ended h ≡ true)) }
-    ensures places { OnOk result ((h : History) → StandsFor process.now h → HasPlaces h) }
+    ensures confined { OnOk result (IsConfined process.now ⊎ (is_ended process.now ≡ true)) }
+    ensures places { OnOk result (HasPlaces process.now) }
 {
     if let Some(refusal) = why_refused(process, table) {
         return Err(EverFault::Refused(refusal));
@@ -97,10 +95,10 @@ fn rows_of<'t>(
     table: &CallTable,
     items: &[ListItem<'t>],
 ) -> Result<Vec<EverRow<'t>>, AllocError>
-    ensures { IfOk result (λ rows. (t : Tree) (h : History) → WellFormed t → EditsNeedC table.now →
-        StandsFor process.now h → IsProspects t table.now h prospects.now →
+    ensures { IfOk result (λ rows. (t : Tree) → WellFormed t → EditsNeedC table.now →
+        IsProspects t table.now process.now prospects.now →
         AllByRecursion (IsToldIn t process.now) items.now → AreNear [] items.now →
-        AreRowsBut t table.now h items.now rows.items (Some Made.Dir)) }
+        AreRowsBut t table.now process.now items.now rows.items (Some Made.Dir)) }
 {
     let mut rows = Vec::new(alloc);
     for item in items {
@@ -118,7 +116,7 @@ fn rows_of<'t>(
 
 /// Adds the rows of what can be made. The only error is that a growth was refused.
 fn add_made(prospects: &Prospects, rows: &mut Vec<EverRow<'_>>) -> Result<(), AllocError>
-    ensures { OnOk result ((t : Tree) (table : Table) (h : History) (items : List Listed) →
+    ensures { OnOk result ((t : Tree) (table : Table) (h : ProcessState) (items : List Listed) →
         IsProspects t table h prospects.now →
         AreRowsBut t table h items rows.old.items (Some Made.Dir) →
         AreRowsBut t table h items rows.new.items None) }
@@ -141,9 +139,9 @@ fn stands_row<'t>(
     item: &ListItem<'t>,
 ) -> EverRow<'t>
     ensures at { IsRowAt item.now result }
-    ensures row { (t : Tree) (h : History) → WellFormed t → EditsNeedC table.now →
-        StandsFor process.now h → IsProspects t table.now h prospects.now →
-        IsToldIn t process.now item.now → IsStandsRow t table.now h item.now result }
+    ensures row { (t : Tree) → WellFormed t → EditsNeedC table.now →
+        IsProspects t table.now process.now prospects.now → IsToldIn t process.now item.now →
+        IsStandsRow t table.now process.now item.now result }
 {
     let calls = prospects.calls_on(process, table, &item.item);
     EverRow {
@@ -165,10 +163,10 @@ fn freed_row<'t>(
 ) -> EverRow<'t>
     ensures at { IsRowAt item.now result }
     ensures thing { result.line.thing ≡ EverThing.Stands ObjectKind.Missing }
-    ensures calls { (t : Tree) (h : History) → WellFormed t → StandsFor process.now h →
-        IsProspects t table.now h prospects.now → IsToldIn t process.now item.now →
-        AreOnFreed t table.now h (own_spot (subject_given t item.now.item.subject))
-        result.line.calls }
+    ensures calls { (t : Tree) → WellFormed t → IsProspects t table.now process.now prospects.now →
+        IsToldIn t process.now item.now →
+        AreOnFreed t table.now process.now (own_spot
+        (subject_given t item.now.item.subject)) result.line.calls }
 {
     let calls = prospects.calls_on_freed(process, table, &item.item);
     EverRow {
@@ -185,8 +183,8 @@ fn freed_row<'t>(
 fn made_row<'t>(prospects: &Prospects, made: Made) -> EverRow<'t>
     ensures at { (result.depth ≡ 0) × (result.name ≡ None) }
     ensures thing { (t : Tree) → IsThing t (Comes (new_of made)) result.line.thing }
-    ensures calls { (t : Tree) (table : Table) (h : History) → IsProspects t table h prospects.now →
-        (call : AnyCall) → has result.line.calls call
+    ensures calls { (t : Tree) (table : Table) (h : ProcessState) →
+        IsProspects t table h prospects.now → (call : AnyCall) → has result.line.calls call
         ≡ ((may_edit table h && can_make t table h (new_of made))
         && is_new_allowed t table h (new_of made) call) }
 {
@@ -202,7 +200,7 @@ fn made_row<'t>(prospects: &Prospects, made: Made) -> EverRow<'t>
 
 /// What a line says that an item is.
 fn kind_of(item: &Item<'_>) -> ObjectKind
-    ensures { (t : Tree) (h : History) (about : About) → IsItemOn t h about item.now →
+    ensures { (t : Tree) (h : ProcessState) (about : About) → IsItemOn t h about item.now →
         kind_word result ≡ subject_word t about }
 {
     if let Subject::Others(_) = item.subject {

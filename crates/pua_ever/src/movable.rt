@@ -6,7 +6,7 @@ ghost use Rattle.pua_tree.specs.declared.node.Kind.{Kind};
 ghost use Rattle.pua_calls.specs.Calls.{CallTable as Table};
 ghost use Rattle.pua_calls.specs.CallSets.{has};
 ghost use Rattle.pua_calls.specs.declared.call.Call.{Call};
-ghost use Rattle.pua_policy.specs.History.{History, StandsFor};
+ghost use Rattle.pua_policy.specs.States.{ProcessState};
 ghost use Rattle.pua_policy.specs.Objects.{object_seen};
 ghost use Rattle.pua_policy.specs.Verdict.{Object as Judged, IsMissing, object_of_kind};
 ghost use Rattle.pua_ever.specs.Ever.{is_allowed_under, dir_covers, name_covers, file_covers};
@@ -53,12 +53,10 @@ impl Movable {
 
     /// The calls on what is no directory and stands at a name.
     pub(crate) fn on(&self, object: Object) -> Calls
-        ensures { (t : Tree) (table : Table) (h : History) (kind : Kind) →
+        ensures { (t : Tree) (table : Table) (h : ProcessState) (kind : Kind) →
             IsMovable t table h self.now → object
-            ≡ object_seen empty_tree (object_of_kind (Some kind)) →
-            (call : Call) →
-            has result call ≡ is_allowed_under table h (file_covers t table h) (object_of_kind
-            (Some kind)) call }
+            ≡ object_seen empty_tree (object_of_kind (Some kind)) → (call : Call) → has result call
+            ≡ is_allowed_under table h (file_covers t table h) (object_of_kind (Some kind)) call }
     {
         match object {
             Object::Program => self.program,
@@ -78,8 +76,7 @@ pub fn find_movable<T: FileTree>(
     process: &Process,
     table: &CallTable,
 ) -> Result<Movable, OutOfMemory>
-    ensures { IfOk result (λ found. (h : History) → StandsFor process.now h →
-        IsMovable (T.content tree.now) table.now h found) }
+    ensures { IfOk result (λ found. IsMovable (T.content tree.now) table.now process.now found) }
 {
     let found = find_openings(alloc, tree, process)?;
     Ok(calls_by_object(process, table, &found))
@@ -87,11 +84,11 @@ pub fn find_movable<T: FileTree>(
 
 /// The calls by what they are on.
 pub(crate) fn calls_by_object(process: &Process, table: &CallTable, found: &Openings) -> Movable
-    ensures { (t : Tree) (h : History) → StandsFor process.now h →
-        HaveSame (found.now.dirs.items ++ found.now.entrances.items) (dir_covers t h) →
-        HaveSame found.now.names.items (name_covers t h) →
-        HaveSame found.now.dirs.items (open_covers t h) →
-        IsMovable t table.now h result }
+    ensures { (t : Tree) → HaveSame (found.now.dirs.items
+        ++ found.now.entrances.items) (dir_covers t process.now) →
+        HaveSame found.now.names.items (name_covers t process.now) →
+        HaveSame found.now.dirs.items (open_covers t process.now) →
+        IsMovable t table.now process.now result }
 {
     let dir = on_dirs(process, table, found, Object::Directory);
     let emptied = on_dirs(process, table, found, Object::Removable);
@@ -114,9 +111,8 @@ pub(crate) fn calls_by_object(process: &Process, table: &CallTable, found: &Open
 
 /// The calls on such an object where a directory can come.
 fn on_dirs(process: &Process, table: &CallTable, found: &Openings, object: Object) -> Calls
-    ensures { (h : History) (judged : Judged) → StandsFor process.now h → object
-        ≡ object_seen empty_tree judged →
-        (call : Call) → has result call ≡ is_allowed_under table.now h (found.now.dirs.items
+    ensures { (judged : Judged) → object ≡ object_seen empty_tree judged → (call : Call) →
+        has result call ≡ is_allowed_under table.now process.now (found.now.dirs.items
         ++ found.now.entrances.items) judged call }
 {
     let own = under(process, table, &found.dirs, object);
@@ -133,11 +129,10 @@ fn on_files(
     moves: bool,
     object: Object,
 ) -> Calls
-    ensures { (h : History) (judged : Judged) → StandsFor process.now h → object
-        ≡ object_seen empty_tree judged →
-        (call : Call) → has result call ≡ is_allowed_under table.now h (found.now.names.items
-        ++ (found.now.dirs.items ++ (if moves then found.now.entrances.items else []))) judged
-        call }
+    ensures { (judged : Judged) → object ≡ object_seen empty_tree judged → (call : Call) →
+        has result call ≡ is_allowed_under table.now process.now (found.now.names.items
+        ++ (found.now.dirs.items ++
+        (if moves then found.now.entrances.items else []))) judged call }
 {
     let at_names = under(process, table, &found.names, object);
     if moves {
@@ -150,8 +145,8 @@ fn on_files(
 
 /// The calls on a name where nothing stands, wherever something can be made.
 fn on_names(process: &Process, table: &CallTable, found: &Openings) -> Calls
-    ensures { (h : History) → StandsFor process.now h →
-        (call : Call) → has result call ≡ is_allowed_under table.now h (found.now.names.items
+    ensures { (call : Call) → has result call
+        ≡ is_allowed_under table.now process.now (found.now.names.items
         ++ (found.now.dirs.items ++ found.now.entrances.items)) IsMissing call }
 {
     let at_names = under(process, table, &found.names, Object::Missing);
@@ -161,9 +156,8 @@ fn on_names(process: &Process, table: &CallTable, found: &Openings) -> Calls
 
 /// The calls that are allowed on such an object under one of these covers.
 fn under(process: &Process, table: &CallTable, covers: &[Cover], object: Object) -> Calls
-    ensures { (h : History) (judged : Judged) → StandsFor process.now h → object
-        ≡ object_seen empty_tree judged →
-        (call : Call) → has result call ≡ is_allowed_under table.now h covers.now judged call }
+    ensures { (judged : Judged) → object ≡ object_seen empty_tree judged → (call : Call) →
+        has result call ≡ is_allowed_under table.now process.now covers.now judged call }
 {
     let mut calls = Calls::NONE;
     for cover in covers {

@@ -2,7 +2,7 @@
 
 ghost use Rattle.std.specs.Prelude.{◌≡◌};
 ghost use Rattle.std.specs.List.{list_any};
-ghost use Rattle.pua_policy.specs.History.{History, StandsFor, may_any as may_any_of};
+ghost use Rattle.pua_policy.specs.States.{may_any as may_any_of};
 ghost use Rattle.pua_ever.specs.Ever.{may_rename as renames, can_move as moves, is_yes as says_yes};
 
 use crate::openings::has_c;
@@ -12,7 +12,7 @@ use pua_policy::{Cover, May, Process, judge};
 /// Whether a process can move what has this cover: it has `c` and what rename's old name needs, and
 /// the process holds the promises of both names.
 pub(crate) fn can_move(process: &Process, table: &CallTable, cover: &Cover) -> bool
-    ensures { (h : History) → StandsFor process.now h → result ≡ moves table.now h cover.now }
+    ensures { result ≡ moves table.now process.now cover.now }
 {
     let old_name = table.rename().old_name();
     may_rename(process, table)
@@ -22,15 +22,14 @@ pub(crate) fn can_move(process: &Process, table: &CallTable, cover: &Cover) -> b
 
 /// Whether a process can move what has one of these covers.
 pub(crate) fn moves_any(process: &Process, table: &CallTable, covers: &[Cover]) -> bool
-    ensures { (h : History) → StandsFor process.now h →
-        result ≡ list_any (moves table.now h) covers.now }
+    ensures { result ≡ list_any (moves table.now process.now) covers.now }
 {
     covers.iter().any(|cover| can_move(process, table, cover))
 }
 
 /// Whether a process holds the promises of both of rename's names.
 fn may_rename(process: &Process, table: &CallTable) -> bool
-    ensures { (h : History) → StandsFor process.now h → result ≡ renames table.now h }
+    ensures { result ≡ renames table.now process.now }
 {
     let rename = table.rename();
     may_any(process, rename.old_name().alternatives())
@@ -39,8 +38,7 @@ fn may_rename(process: &Process, table: &CallTable) -> bool
 
 /// Whether a process holds one of these sets of promises.
 pub(crate) fn may_any(process: &Process, alternatives: &[Promises]) -> bool
-    ensures { (h : History) → StandsFor process.now h →
-        result ≡ says_yes (may_any_of h alternatives.now) }
+    ensures { result ≡ says_yes (may_any_of process.now alternatives.now) }
 {
     process.may_any(alternatives) == May::Yes
 }

@@ -5,7 +5,7 @@ ghost use Rattle.std.specs.Prelude.{IfOk, filter_map, map, get_or, length};
 ghost use Rattle.std.specs.Prelude.{if◌then◌else◌};
 ghost use Rattle.std.specs.List.{list_any};
 ghost use Rattle.pua_tree.specs.Tree.{above, is_dir as lives_as_dir, look as node_at_name};
-ghost use Rattle.pua_policy.specs.History.{History, StandsFor, has_veil};
+ghost use Rattle.pua_policy.specs.States.{has_veil};
 ghost use Rattle.pua_script.specs.Confinement.{has_c as cover_has_c, object_in};
 ghost use Rattle.pua_objects.specs.Objects.{cover_in as cover_of_others};
 ghost use Rattle.pua_ever.specs.Ever.{row_cover as cover_of_row, is_free as can_be_free, can_empty};
@@ -50,20 +50,20 @@ pub(crate) fn find_openings<T: FileTree>(
     tree: &T,
     process: &Process,
 ) -> Result<Openings, OutOfMemory>
-    ensures dirs { IfOk result (λ found. (h : History) → StandsFor process.now h →
-        HaveSame (found.dirs.items
-        ++ found.entrances.items) (dir_covers (T.content tree.now) h)) }
-    ensures names { IfOk result (λ found. (h : History) → StandsFor process.now h →
-        HaveSame found.names.items (name_covers (T.content tree.now) h)) }
-    ensures open { IfOk result (λ found. (h : History) → StandsFor process.now h →
-        HaveSame found.dirs.items (open_covers (T.content tree.now) h)) }
-    ensures held { IfOk result (λ found. (h : History) (dir : ℕ) → StandsFor process.now h →
-        lives_as_dir (T.content tree.now) dir ≡ true →
-        cover_has_c (cover_of_others (T.content tree.now) h dir) ≡ true →
-        can_empty (T.content tree.now) h dir
+    ensures dirs { IfOk result (λ found.
+        HaveSame (found.dirs.items ++ found.entrances.items) (dir_covers
+        (T.content tree.now) process.now)) }
+    ensures names { IfOk result (λ found.
+        HaveSame found.names.items (name_covers (T.content tree.now) process.now)) }
+    ensures open { IfOk result (λ found.
+        HaveSame found.dirs.items (open_covers (T.content tree.now) process.now)) }
+    ensures held { IfOk result (λ found. (dir : ℕ) → lives_as_dir (T.content tree.now) dir ≡ true →
+        cover_has_c (cover_of_others (T.content tree.now) process.now dir) ≡ true →
+        can_empty (T.content tree.now) process.now dir
         ≡ not (list_any (λ other. other == dir) found.held.items)) }
 {
     tree.known();
+    process.known();
     let places = process.places(alloc)?;
     match gathered(alloc, tree, process, &places) {
         Ok(found) => Ok(found),
@@ -86,23 +86,18 @@ fn gathered<T: FileTree>(
     process: &Process,
     places: &[&Place],
 ) -> Result<Openings, AllocError>
-    ensures dirs { IfOk result (λ found. (h : History) → StandsFor process.now h →
-        found.dirs.items
-        ≡ filter_map (dir_opening_of (T.content tree.now) h) (map
-        (λ place. place.now) places.now)
-        ++ (if has_veil process.now.veils then [] else Cover.All ∷ [])) }
-    ensures entrances { IfOk result (λ found. (h : History) → StandsFor process.now h →
-        found.entrances.items
-        ≡ filter_map (entrance_of (T.content tree.now) h found.held.items (filter_map
-        (opened_dir_of h) (map (λ place. place.now) places.now))) (map
+    ensures dirs { IfOk result (λ found. found.dirs.items
+        ≡ filter_map (dir_opening_of (T.content tree.now) process.now) (map
+        (λ place. place.now) places.now) ++ (if has_veil process.now.veils then [] else Cover.All ∷ [])) }
+    ensures entrances { IfOk result (λ found. found.entrances.items
+        ≡ filter_map (entrance_of (T.content tree.now) process.now found.held.items (filter_map
+        (opened_dir_of process.now) (map (λ place. place.now) places.now))) (map
         (λ place. place.now) places.now)) }
-    ensures names { IfOk result (λ found. (h : History) → StandsFor process.now h →
-        found.names.items
-        ≡ filter_map (name_opening_of (T.content tree.now) h) (map
+    ensures names { IfOk result (λ found. found.names.items
+        ≡ filter_map (name_opening_of (T.content tree.now) process.now) (map
         (λ place. place.now) places.now)) }
-    ensures held { IfOk result (λ found. (h : History) → StandsFor process.now h →
-        found.held.items
-        ≡ filter_map (held_dir_of (T.content tree.now) h) (map
+    ensures held { IfOk result (λ found. found.held.items
+        ≡ filter_map (held_dir_of (T.content tree.now) process.now) (map
         (λ place. place.now) places.now)) }
 {
     let mut dirs = dir_openings(alloc, tree, process, places)?;
@@ -128,8 +123,8 @@ fn dir_openings<T: FileTree>(
     process: &Process,
     places: &[&Place],
 ) -> Result<Vec<Cover>, AllocError>
-    ensures { IfOk result (λ found. (h : History) → StandsFor process.now h → found.items
-        ≡ filter_map (dir_opening_of (T.content tree.now) h) (map
+    ensures { IfOk result (λ found. found.items
+        ≡ filter_map (dir_opening_of (T.content tree.now) process.now) (map
         (λ place. place.now) places.now)) }
 {
     places
@@ -145,8 +140,8 @@ fn name_openings<T: FileTree>(
     process: &Process,
     places: &[&Place],
 ) -> Result<Vec<Cover>, AllocError>
-    ensures { IfOk result (λ found. (h : History) → StandsFor process.now h → found.items
-        ≡ filter_map (name_opening_of (T.content tree.now) h) (map
+    ensures { IfOk result (λ found. found.items
+        ≡ filter_map (name_opening_of (T.content tree.now) process.now) (map
         (λ place. place.now) places.now)) }
 {
     places
@@ -163,8 +158,8 @@ fn all_opened<T: FileTree>(
     process: &Process,
     places: &[&Place],
 ) -> Result<Opened, AllocError>
-    ensures { IfOk result (λ found. (h : History) → StandsFor process.now h → found.dirs.items
-        ≡ filter_map (opened_dir_of h) (map (λ place. place.now) places.now)) }
+    ensures { IfOk result (λ found. found.dirs.items
+        ≡ filter_map (opened_dir_of process.now) (map (λ place. place.now) places.now)) }
 {
     let dirs = opened_dirs(alloc, process, places)?;
     let first = shallowest(tree, &dirs);
@@ -177,8 +172,8 @@ fn opened_dirs(
     process: &Process,
     places: &[&Place],
 ) -> Result<Vec<NodeId>, AllocError>
-    ensures { IfOk result (λ found. (h : History) → StandsFor process.now h → found.items
-        ≡ filter_map (opened_dir_of h) (map (λ place. place.now) places.now)) }
+    ensures { IfOk result (λ found. found.items
+        ≡ filter_map (opened_dir_of process.now) (map (λ place. place.now) places.now)) }
 {
     places
         .iter()
@@ -193,8 +188,8 @@ fn held_dirs<T: FileTree>(
     process: &Process,
     places: &[&Place],
 ) -> Result<Vec<NodeId>, AllocError>
-    ensures { IfOk result (λ found. (h : History) → StandsFor process.now h → found.items
-        ≡ filter_map (held_dir_of (T.content tree.now) h) (map
+    ensures { IfOk result (λ found. found.items
+        ≡ filter_map (held_dir_of (T.content tree.now) process.now) (map
         (λ place. place.now) places.now)) }
 {
     places
@@ -212,9 +207,9 @@ fn entrances<T: FileTree>(
     opened: &Opened,
     places: &[&Place],
 ) -> Result<Vec<Cover>, AllocError>
-    ensures { IfOk result (λ found. (h : History) → StandsFor process.now h → found.items
-        ≡ filter_map (entrance_of (T.content tree.now) h held.now opened.now.dirs.items) (map
-        (λ place. place.now) places.now)) }
+    ensures { IfOk result (λ found. found.items
+        ≡ filter_map (entrance_of (T.content tree.now) process.now held.now opened.now.dirs.items)
+        (map (λ place. place.now) places.now)) }
 {
     places
         .iter()
@@ -224,7 +219,7 @@ fn entrances<T: FileTree>(
 
 /// What a place's own veil leaves, if it has `c`.
 fn opening(process: &Process, place: &Place) -> Option<Cover>
-    ensures { (h : History) → StandsFor process.now h → result ≡ opening_of h place.now }
+    ensures { result ≡ opening_of process.now place.now }
 {
     match process.kept(place) {
         Some(perms) if perms.contains(Perms::CREATE) => Some(Cover::Only(perms)),
@@ -234,7 +229,7 @@ fn opening(process: &Process, place: &Place) -> Option<Cover>
 
 /// Whether a place has a veil of its own, without `c`.
 fn is_barred(process: &Process, place: &Place) -> bool
-    ensures { (h : History) → StandsFor process.now h → result ≡ barred_by h place.now }
+    ensures { result ≡ barred_by process.now place.now }
 {
     match process.kept(place) {
         Some(perms) => !perms.contains(Perms::CREATE),
@@ -244,8 +239,7 @@ fn is_barred(process: &Process, place: &Place) -> bool
 
 /// The cover of a directory that has `c` by its own veil.
 fn dir_opening<T: FileTree>(tree: &T, process: &Process, place: &Place) -> Option<Cover>
-    ensures { (h : History) → StandsFor process.now h → result
-        ≡ dir_opening_of (T.content tree.now) h place.now }
+    ensures { result ≡ dir_opening_of (T.content tree.now) process.now place.now }
 {
     match place {
         Place::Dir(dir) if is_dir(tree, *dir) => opening(process, place),
@@ -255,8 +249,7 @@ fn dir_opening<T: FileTree>(tree: &T, process: &Process, place: &Place) -> Optio
 
 /// The cover of a name that has `c` by its own veil and can come to be free.
 fn name_opening<T: FileTree>(tree: &T, process: &Process, place: &Place) -> Option<Cover>
-    ensures { (h : History) → StandsFor process.now h → result
-        ≡ name_opening_of (T.content tree.now) h place.now }
+    ensures { result ≡ name_opening_of (T.content tree.now) process.now place.now }
 {
     match place {
         Place::Slot(dir, name) if is_dir(tree, *dir) && is_free(tree, process, *dir, name) => {
@@ -268,7 +261,7 @@ fn name_opening<T: FileTree>(tree: &T, process: &Process, place: &Place) -> Opti
 
 /// The directory that has `c` by this veil, or in which a name has.
 fn opened_dir(process: &Process, place: &Place) -> Option<NodeId>
-    ensures { (h : History) → StandsFor process.now h → result ≡ opened_dir_of h place.now }
+    ensures { result ≡ opened_dir_of process.now place.now }
 {
     let (Place::Dir(dir) | Place::Slot(dir, _)) = place;
     if opening(process, place).is_some() {
@@ -280,8 +273,7 @@ fn opened_dir(process: &Process, place: &Place) -> Option<NodeId>
 
 /// The directory in which something stands that has no `c` by this veil.
 fn held_dir<T: FileTree>(tree: &T, process: &Process, place: &Place) -> Option<NodeId>
-    ensures { (h : History) → StandsFor process.now h → result
-        ≡ held_dir_of (T.content tree.now) h place.now }
+    ensures { result ≡ held_dir_of (T.content tree.now) process.now place.now }
 {
     if !is_barred(process, place) {
         return None;
@@ -304,8 +296,8 @@ fn entrance<T: FileTree>(
     opened: &Opened,
     place: &Place,
 ) -> Option<Cover>
-    ensures { (h : History) → StandsFor process.now h → result
-        ≡ entrance_of (T.content tree.now) h held.now opened.now.dirs.items place.now }
+    ensures { result ≡ entrance_of
+        (T.content tree.now) process.now held.now opened.now.dirs.items place.now }
 {
     if opening(process, place).is_none() {
         return None;
@@ -378,8 +370,7 @@ fn depth<T: FileTree>(tree: &T, dir: NodeId) -> usize
 
 /// Whether a name in a directory can come to be free: nothing stands there, or what does has `c`.
 fn is_free<T: FileTree>(tree: &T, process: &Process, dir: NodeId, name: &Name) -> bool
-    ensures { (h : History) → StandsFor process.now h → result
-        ≡ can_be_free (T.content tree.now) h (dir, name.now) }
+    ensures { result ≡ can_be_free (T.content tree.now) process.now (dir, name.now) }
 {
     match tree.look(dir, name) {
         Some(node) => has_c(row_cover(tree, process, dir, name, node)),
@@ -396,8 +387,7 @@ fn row_cover<T: FileTree>(
     node: NodeId,
 ) -> Cover
     requires { node_at_name (T.content tree.now) dir name.now ≡ Some node }
-    ensures { (h : History) → StandsFor process.now h → result
-        ≡ cover_of_row (T.content tree.now) h (dir, name.now) node }
+    ensures { result ≡ cover_of_row (T.content tree.now) process.now (dir, name.now) node }
 {
     tree.known();
     let found = found_in(tree, dir, name, node);
@@ -424,9 +414,8 @@ fn found_in<T: FileTree>(tree: &T, dir: NodeId, name: &Name, node: NodeId) -> Fo
 
 /// What the veils leave of the further names of the directory above a directory.
 fn cover_above<T: FileTree>(tree: &T, process: &Process, dir: NodeId) -> Option<Cover>
-    ensures { (h : History) → StandsFor process.now h → result
-        ≡ (if lives_as_dir (T.content tree.now) dir then Some (cover_of_others
-        (T.content tree.now) h (above (T.content tree.now) dir)) else None) }
+    ensures { result ≡ (if lives_as_dir (T.content tree.now) dir then Some (cover_of_others
+        (T.content tree.now) process.now (above (T.content tree.now) dir)) else None) }
 {
     tree.known();
     let Some(above) = tree.parent(dir) else {
@@ -437,9 +426,8 @@ fn cover_above<T: FileTree>(tree: &T, process: &Process, dir: NodeId) -> Option<
 
 /// What the veils leave of the further names of a directory.
 fn cover_in<T: FileTree>(tree: &T, process: &Process, dir: NodeId) -> Option<Cover>
-    ensures { (h : History) → StandsFor process.now h → result
-        ≡ (if lives_as_dir (T.content tree.now) dir then Some (cover_of_others
-        (T.content tree.now) h dir) else None) }
+    ensures { result ≡ (if lives_as_dir (T.content tree.now) dir then Some (cover_of_others
+        (T.content tree.now) process.now dir) else None) }
 {
     if !is_dir(tree, dir) {
         return None;
@@ -450,8 +438,7 @@ fn cover_in<T: FileTree>(tree: &T, process: &Process, dir: NodeId) -> Option<Cov
 /// What the veils leave of a living directory.
 fn cover_of_dir<T: FileTree>(tree: &T, process: &Process, dir: NodeId) -> Cover
     requires { lives_as_dir (T.content tree.now) dir ≡ true }
-    ensures { (h : History) → StandsFor process.now h → result
-        ≡ cover_of_others (T.content tree.now) h dir }
+    ensures { result ≡ cover_of_others (T.content tree.now) process.now dir }
 {
     tree.known();
     let found = Found::Whole { dir, way: Way::Top };

@@ -10,7 +10,7 @@ ghost use Rattle.pua_path.specs.declared.found.Found.TheVariants.{Whole};
 ghost use Rattle.pua_calls.specs.Calls.{CallTable as Table, rule_of};
 ghost use Rattle.pua_calls.specs.CallSets.{has};
 ghost use Rattle.pua_calls.specs.declared.call.Call.{Call as AnyCall};
-ghost use Rattle.pua_policy.specs.History.{History, StandsFor, perms_kept, may_any as may_any_of};
+ghost use Rattle.pua_policy.specs.States.{ProcessState, perms_kept, may_any as may_any_of};
 ghost use Rattle.pua_policy.specs.Objects.{object_seen};
 ghost use Rattle.pua_policy.specs.Verdict.{IsDir, object_of_kind};
 ghost use Rattle.pua_objects.specs.Items.{SubjectFits, IsItemOn};
@@ -64,8 +64,7 @@ pub fn find_prospects<T: FileTree>(
     process: &Process,
     table: &CallTable,
 ) -> Result<Prospects, OutOfMemory>
-    ensures { IfOk result (λ found. (h : History) → StandsFor process.now h →
-        IsProspects (T.content tree.now) table.now h found) }
+    ensures { IfOk result (λ found. IsProspects (T.content tree.now) table.now process.now found) }
 {
     let found = find_openings(alloc, tree, process)?;
     let movable = calls_by_object(process, table, &found);
@@ -79,7 +78,7 @@ pub fn find_prospects<T: FileTree>(
 
 /// Whether a process may ask for a change of the tree: promises alone are asked.
 fn may_edit(process: &Process, table: &CallTable) -> bool
-    ensures { (h : History) → StandsFor process.now h → result ≡ edits_tree table.now h }
+    ensures { result ≡ edits_tree table.now process.now }
 {
     if may_any(process, table.rename().new_name().alternatives()) {
         return true;
@@ -89,7 +88,7 @@ fn may_edit(process: &Process, table: &CallTable) -> bool
 
 /// Whether a process holds the promises of both of link's names.
 fn may_link(process: &Process, table: &CallTable) -> bool
-    ensures { (h : History) → StandsFor process.now h → result ≡ links_files table.now h }
+    ensures { result ≡ links_files table.now process.now }
 {
     let link = table.link();
     may_any(process, link.old_name().alternatives())
@@ -98,9 +97,8 @@ fn may_link(process: &Process, table: &CallTable) -> bool
 
 /// Whether a process holds the promises of one of the calls that make a name or take one away.
 fn may_call(process: &Process, table: &CallTable) -> bool
-    ensures { (h : History) → StandsFor process.now h →
-        result ≡ list_any (λ edit. says_yes (may_any_of h
-        (rule_of table.now edit).alternatives)) edit_calls }
+    ensures { result ≡ list_any (λ edit.
+        says_yes (may_any_of process.now (rule_of table.now edit).alternatives)) edit_calls }
 {
     const EDITS: [Call; 7] = [
         Call::Create,
@@ -119,10 +117,10 @@ fn may_call(process: &Process, table: &CallTable) -> bool
 impl Prospects {
     /// The calls that can ever be allowed on what an item is about.
     pub fn calls_on(&self, process: &Process, table: &CallTable, item: &Item<'_>) -> Calls
-        ensures { (t : Tree) (h : History) (about : About) → WellFormed t → EditsNeedC table.now →
-            StandsFor process.now h → IsProspects t table.now h self.now →
-            SubjectFits t about → IsItemOn t h about item.now →
-            (call : AnyCall) → has result call ≡ is_ever_allowed t table.now h about call }
+        ensures { (t : Tree) (about : About) → WellFormed t → EditsNeedC table.now →
+            IsProspects t table.now process.now self.now → SubjectFits t about →
+            IsItemOn t process.now about item.now → (call : AnyCall) → has result call
+            ≡ is_ever_allowed t table.now process.now about call }
     {
         match item.subject {
             Subject::Root => self.on_dir(process, table, NodeId::ROOT, false, item),
@@ -141,13 +139,11 @@ impl Prospects {
         is_named: bool,
         item: &Item<'_>,
     ) -> Calls
-        ensures { (t : Tree) (h : History) (way : Way) → EditsNeedC table.now →
-            StandsFor process.now h → IsProspects t table.now h self.now →
-            lives_as_dir t dir ≡ true → is_named ≡ is_named_way way →
-            item.now.cover ≡ cover_of_others t h dir →
-            item.now.object ≡ object_seen t (IsDir dir way) →
-            (call : AnyCall) →
-            has result call ≡ is_ever_allowed t table.now h (At (Whole dir way)) call }
+        ensures { (t : Tree) (way : Way) → EditsNeedC table.now →
+            IsProspects t table.now process.now self.now → lives_as_dir t dir ≡ true → is_named
+            ≡ is_named_way way → item.now.cover ≡ cover_of_others t process.now dir →
+            item.now.object ≡ object_seen t (IsDir dir way) → (call : AnyCall) → has result call
+            ≡ is_ever_allowed t table.now process.now (At (Whole dir way)) call }
     {
         let emptied = self.can_empty(dir, is_named);
         if moves_dir(process, table, dir, &item.cover) {
@@ -159,9 +155,9 @@ impl Prospects {
 
     /// The calls on the further names of a directory.
     fn on_others(&self, process: &Process, table: &CallTable, dir: NodeId, cover: &Cover) -> Calls
-        ensures { (t : Tree) (h : History) → StandsFor process.now h →
-            IsProspects t table.now h self.now → cover.now ≡ cover_of_others t h dir →
-            (call : AnyCall) → has result call ≡ is_ever_allowed t table.now h (Others dir) call }
+        ensures { (t : Tree) → IsProspects t table.now process.now self.now → cover.now
+            ≡ cover_of_others t process.now dir → (call : AnyCall) → has result call
+            ≡ is_ever_allowed t table.now process.now (Others dir) call }
     {
         if moves_dir(process, table, dir, cover) {
             return self.movable.others;
@@ -171,10 +167,9 @@ impl Prospects {
 
     /// The calls on a name at which no directory stands, by what does.
     fn on_name(&self, process: &Process, table: &CallTable, cover: &Cover, object: Object) -> Calls
-        ensures { (t : Tree) (h : History) (kind : Option Kind) → StandsFor process.now h →
-            IsProspects t table.now h self.now →
-            object ≡ object_seen empty_tree (object_of_kind kind) →
-            (call : AnyCall) → has result call ≡ kind_allowed t table.now h cover.now kind call }
+        ensures { (t : Tree) (kind : Option Kind) → IsProspects t table.now process.now self.now →
+            object ≡ object_seen empty_tree (object_of_kind kind) → (call : AnyCall) →
+            has result call ≡ kind_allowed t table.now process.now cover.now kind call }
     {
         let calls = self.on_plain(process, table, cover, object);
         if object == Object::Link {
@@ -186,12 +181,10 @@ impl Prospects {
 
     /// The same, of a link with the calls on what it leads to.
     fn on_plain(&self, process: &Process, table: &CallTable, cover: &Cover, object: Object) -> Calls
-        ensures { (t : Tree) (h : History) (kind : Option Kind) → StandsFor process.now h →
-            IsProspects t table.now h self.now →
-            object ≡ object_seen empty_tree (object_of_kind kind) →
-            (call : AnyCall) → has result call
-            ≡ can_allow table.now h (kind_covers t table.now h cover.now kind)
-            (object_of_kind kind) call }
+        ensures { (t : Tree) (kind : Option Kind) → IsProspects t table.now process.now self.now →
+            object ≡ object_seen empty_tree (object_of_kind kind) → (call : AnyCall) →
+            has result call ≡ can_allow table.now process.now
+            (kind_covers t table.now process.now cover.now kind) (object_of_kind kind) call }
     {
         if object == Object::Missing {
             return judge::allowed(process, table, *cover, object);
@@ -201,12 +194,10 @@ impl Prospects {
 
     /// The same, of what stands there; of a file with exec, where it can be made a program.
     fn on_thing(&self, process: &Process, table: &CallTable, cover: &Cover, object: Object) -> Calls
-        ensures { (t : Tree) (h : History) (kind : Kind) → StandsFor process.now h →
-            IsProspects t table.now h self.now →
-            object ≡ object_seen empty_tree (object_of_kind (Some kind)) →
-            (call : AnyCall) → has result call
-            ≡ can_allow table.now h (named_covers t table.now h (Some kind) cover.now)
-            (object_of_kind (Some kind)) call }
+        ensures { (t : Tree) (kind : Kind) → IsProspects t table.now process.now self.now → object
+            ≡ object_seen empty_tree (object_of_kind (Some kind)) → (call : AnyCall) →
+            has result call ≡ can_allow table.now process.now (named_covers t table.now process.now
+            (Some kind) cover.now) (object_of_kind (Some kind)) call }
     {
         let calls = self.on_seen(process, table, cover, object);
         if object != Object::File {
@@ -218,12 +209,11 @@ impl Prospects {
 
     /// The same, of what stays what it is.
     fn on_seen(&self, process: &Process, table: &CallTable, cover: &Cover, object: Object) -> Calls
-        ensures { (t : Tree) (h : History) (kind : Kind) → StandsFor process.now h →
-            IsProspects t table.now h self.now →
-            object ≡ object_seen empty_tree (object_of_kind (Some kind)) →
-            (call : AnyCall) → has result call
-            ≡ is_allowed_under table.now h (named_covers t table.now h (Some kind) cover.now)
-            (object_of_kind (Some kind)) call }
+        ensures { (t : Tree) (kind : Kind) → IsProspects t table.now process.now self.now → object
+            ≡ object_seen empty_tree (object_of_kind (Some kind)) → (call : AnyCall) →
+            has result call ≡ is_allowed_under table.now process.now
+            (named_covers t table.now process.now (Some kind) cover.now) (object_of_kind
+            (Some kind)) call }
     {
         if can_move(process, table, cover) {
             return self.movable.on(object);
@@ -238,9 +228,9 @@ impl Prospects {
     /// Whether what is no directory and stands at a name can be given a further one by link, by what
     /// covers it.
     fn can_link(&self, table: &CallTable, cover: Cover, object: Object) -> bool
-        ensures { (t : Tree) (h : History) (kind : Kind) → IsProspects t table.now h self.now →
-            object ≡ object_seen empty_tree (object_of_kind (Some kind)) →
-            result ≡ gives_names table.now h (Some kind) cover }
+        ensures { (t : Tree) (h : ProcessState) (kind : Kind) → IsProspects t table.now h self.now →
+            object ≡ object_seen empty_tree (object_of_kind (Some kind)) → result
+            ≡ gives_names table.now h (Some kind) cover }
     {
         let old_name = table.link().old_name();
         if !self.may_link || judge::cover_fault(cover, old_name.perms()).is_some() {
@@ -252,10 +242,10 @@ impl Prospects {
     /// The calls on the name at which an item stands, if it has a veil of its own and the item can
     /// be taken away; else none.
     pub fn calls_on_freed(&self, process: &Process, table: &CallTable, item: &Item<'_>) -> Calls
-        ensures { (t : Tree) (h : History) (about : About) → WellFormed t →
-            StandsFor process.now h →
-            IsProspects t table.now h self.now → SubjectFits t about → IsItemOn t h about item.now →
-            AreOnFreed t table.now h (own_spot about) result }
+        ensures { (t : Tree) (about : About) → WellFormed t →
+            IsProspects t table.now process.now self.now → SubjectFits t about →
+            IsItemOn t process.now about item.now →
+            AreOnFreed t table.now process.now (own_spot about) result }
     {
         let Some(own) = own_name(item) else {
             return Calls::NONE;
@@ -271,9 +261,9 @@ impl Prospects {
 
     /// The calls on what can be made; none where it can't.
     pub fn calls_on_made(&self, made: Made) -> Calls
-        ensures { (t : Tree) (table : Table) (h : History) → IsProspects t table h self.now →
-            (call : AnyCall) →
-            has result call ≡ ((edits_tree table h && can_make t table h (new_of made))
+        ensures { (t : Tree) (table : Table) (h : ProcessState) → IsProspects t table h self.now →
+            (call : AnyCall) → has result call
+            ≡ ((edits_tree table h && can_make t table h (new_of made))
             && is_new_allowed t table h (new_of made) call) }
     {
         if !self.may_edit || !made.is_made_by(self.movable.made) {
@@ -311,8 +301,8 @@ impl Prospects {
 /// Whether a directory can be moved to where it is covered otherwise: it has no veil of its own,
 /// which would go with it.
 fn moves_dir(process: &Process, table: &CallTable, dir: NodeId, cover: &Cover) -> bool
-    ensures { (h : History) → StandsFor process.now h →
-        result ≡ (is_none (perms_kept h (Place.Dir dir)) && moves table.now h cover.now) }
+    ensures { result ≡ (is_none (perms_kept process.now (Place.Dir dir))
+        && moves table.now process.now cover.now) }
 {
     process.kept(&Place::Dir(dir)).is_none() && can_move(process, table, cover)
 }

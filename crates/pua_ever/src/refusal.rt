@@ -1,7 +1,7 @@
 //! Why there is no list of what a process can ever touch.
 
 ghost use Rattle.std.specs.Prelude.{◌≡◌, ◌⊎◌, true, None, Option, find};
-ghost use Rattle.pua_policy.specs.History.{History, StandsFor, is_ended};
+ghost use Rattle.pua_policy.specs.States.{is_ended};
 ghost use Rattle.pua_script.specs.Laws.{IsConfined};
 ghost use Rattle.pua_ever.specs.Laws.{EditsNeedC};
 ghost use Rattle.pua_ever.specs.Refusals.{lacks_c, changing_calls};
@@ -31,10 +31,9 @@ pub enum Refusal {
 /// first of rmdir, unlink, create, mkdir, symlink, bind, mknod, rename and link. A process that has
 /// ended can put no veil, so it has a list, without a line.
 pub fn why_refused(process: &Process, table: &CallTable) -> Option<Refusal>
-    ensures exact { (h : History) → StandsFor process.now h → result ≡ refusal_of table.now h }
+    ensures exact { result ≡ refusal_of table.now process.now }
     ensures none { result ≡ None → EditsNeedC table.now }
-    ensures confined { (h : History) → StandsFor process.now h → result ≡ None →
-        IsConfined h ⊎ (is_ended h ≡ true) }
+    ensures confined { result ≡ None → IsConfined process.now ⊎ (is_ended process.now ≡ true) }
 {
     process.known();
     reason(process, table)
@@ -42,7 +41,7 @@ pub fn why_refused(process: &Process, table: &CallTable) -> Option<Refusal>
 
 /// The first reason.
 fn reason(process: &Process, table: &CallTable) -> Option<Refusal>
-    ensures { (h : History) → StandsFor process.now h → result ≡ refusal_of table.now h }
+    ensures { result ≡ refusal_of table.now process.now }
 {
     if !process.locked() && process.may(Promises::UNVEIL) == May::Yes {
         return Some(Refusal::CanUnveil);

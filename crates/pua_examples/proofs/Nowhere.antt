@@ -1,9 +1,8 @@
 -- Where no object has a line, no call is allowed on any path.
-use Rattle.pua_examples.proofs.Common.{◌≡◌}
-use Rattle.std.proofs.Common.{◌≢◌, ◌∙◌, ◌∷◌, ℕ, List, [], length, ap, arith, sym}
+use Rattle.std.proofs.Common.{◌≡◌, ◌≢◌, ◌∙◌, ◌∷◌, ℕ, List, [], length, ap, arith, sym}
 use Rattle.pua_tree.specs.Tree.{Tree, WellFormed}
 use Rattle.pua_calls.specs.Calls.{CallTable}
-use Rattle.pua_policy.specs.History.{History, working_dir}
+use Rattle.pua_policy.specs.States.{ProcessState, working_dir}
 use Rattle.pua_policy.specs.Verdict.{verdict_on}
 use Rattle.pua_calls.specs.declared.call.Call.{Call}
 use Rattle.pua_policy.specs.declared.answer.Verdict.TheVariants.{Allowed}
@@ -19,14 +18,14 @@ use Rattle.pua_objects.specs.Lines.{lines_of}
 use Rattle.pua_objects.specs.declared.line.ObjectLine.{ObjectLine}
 use Rattle.pua_objects.specs.declared.list.ListItem.{ListItem}
 
-pub nowhere : Complete → (t : Tree) (table : CallTable) (h : History) → WellFormed t → objects t table h ≡ [] →
+pub nowhere : Complete → (t : Tree) (table : CallTable) (h : ProcessState) → WellFormed t → objects t table h ≡ [] →
     (call : Call) (text : List ℕ) → verdict_on t table h call text ≢ Allowed
 nowhere complete t table h tree none call text allowed =
     let listed = complete t table h (working_dir h) call text tree allowed in
     omega (arith, listed.listed.1, ap length none)
 
 -- an item without calls has no line, and one with calls has
-module _ (t : Tree) (table : CallTable) (h : History) (word : Word) (item : ListItem) (left : List ListItem) (line : ObjectLine)
+module _ (t : Tree) (table : CallTable) (h : ProcessState) (word : Word) (item : ListItem) (left : List ListItem) (line : ObjectLine)
     (on : IsLineOn t table h (subject_given t item.item.subject) line) where
   abbrev after : Word
   after = word_after word item

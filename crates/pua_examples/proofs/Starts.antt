@@ -1,13 +1,12 @@
 -- A list for ever of which no row has exec.
-use Rattle.pua_examples.proofs.Common.{◌≡◌}
-use Rattle.std.proofs.Common.{List, [], false, sym, subst, ◌∙◌}
+use Rattle.std.proofs.Common.{◌≡◌, List, [], false, sym, subst, ◌∙◌}
 use Rattle.std.specs.List.{list_any}
 use Rattle.pua_tree.specs.Tree.{Tree}
 use Rattle.pua_calls.specs.Calls.{CallTable}
 use Rattle.pua_calls.specs.CallSets.{has}
 use Rattle.pua_calls.specs.Tables.{NoCallNeedsError}
 use Rattle.pua_calls.specs.declared.call.Call.TheVariants.{Exec}
-use Rattle.pua_policy.specs.History.{History, ProcessState, StandsFor}
+use Rattle.pua_policy.specs.States.{ProcessState}
 use Rattle.pua_ever.proofs.ForCallers.{exec_told, no_line}
 use Rattle.pua_ever.specs.Ever.{ever}
 use Rattle.pua_ever.specs.EverList.{AreEverTold}
@@ -16,13 +15,13 @@ use Rattle.pua_ever.specs.declared.list.EverRow.{EverRow}
 use Rattle.pua_examples.specs.Calling.{NeverStarts}
 
 -- where no row has exec, no line has
-pub none_has_exec : (t : Tree) (table : CallTable) (h : History) (rows : List EverRow) → AreEverTold t [] rows (ever t table h) [] →
+pub none_has_exec : (t : Tree) (table : CallTable) (h : ProcessState) (rows : List EverRow) → AreEverTold t [] rows (ever t table h) [] →
     list_any (λ row. has row.line.calls Exec) rows ≡ false → NoLineHasExec t table h
 none_has_exec t table h rows told none = no_line t table h (sym (exec_told t [] rows (ever t table h) told) ∙ none)
 
 -- so no exec of the family is answered ok
 pub never_starts : WithoutExec → (t : Tree) (process : ProcessState) (table : CallTable) → NoCallNeedsError table → EditsNeedC table →
-    ((h : History) → StandsFor process h → NoLineHasExec t table h) → NeverStarts t process table
-never_starts law t process table sound needs never w asks number h same stands here confined places trees alone =
-    law table sound needs w asks number h here confined (places number h here) trees alone
-    (subst (λ u. NoLineHasExec u table h) (sym same) (never h stands))
+    NoLineHasExec t table process → NeverStarts t process table
+never_starts law t process table sound needs never w asks number same here confined places trees alone =
+    law table sound needs w asks number process here confined (places number process here) trees alone
+    (subst (λ u. NoLineHasExec u table process) (sym same) never)

@@ -3,13 +3,13 @@ use Rattle.std.specs.Prelude.{◌≡◌, ℕ, List, [], ◌∷◌, Option, Some,
 use Rattle.pua_tree.specs.Tree.{Tree}
 use Rattle.pua_tree.specs.declared.fault.ListingFault.{ListingFault}
 use Rattle.pua_calls.specs.Calls.{CallTable}
-use Rattle.pua_policy.specs.History.{History, ProcessState, StandsFor}
+use Rattle.pua_policy.specs.States.{ProcessState}
 use Rattle.pua_script.specs.Requests.{Asked}
-use Rattle.pua_script.specs.Replay.{World, history_of}
+use Rattle.pua_script.specs.Replay.{World, kept_at}
 use Rattle.pua_script.specs.Laws.{IsConfined}
-use Rattle.pua_script.specs.Family.{none_done, members_alone, is_exec}
+use Rattle.pua_script.specs.Family.{none_done, is_exec}
 use Rattle.pua_script.specs.Confinement.{TreesAlong}
-use Rattle.pua_ever.specs.Laws.{PlacesStand}
+use Rattle.pua_ever.specs.Laws.{PlacesStand, MembersEdit}
 use Rattle.pua_script.specs.declared.fault.ScriptFault.{ScriptFault}
 use Rattle.pua_tool.specs.declared.fault.ToolFault.{ToolFault}
 use Rattle.pua_tool.specs.declared.fault.ToolFault.TheVariants.{Listing, Script}
@@ -24,6 +24,6 @@ first_fault (Ok tree) (Ok asks) = None
 -- no exec of theirs is answered ok
 abbrev pub NeverStarts : Tree → ProcessState → CallTable → Type 0
 NeverStarts t process table =
-    (w : World) (asks : List Asked) (number : ℕ) (h : History) →
-    w.tree ≡ t → StandsFor process h → history_of w number ≡ Some h → IsConfined h → PlacesStand w → TreesAlong table w asks →
-    IsTrue (members_alone table w asks (number ∷ [])) → IsTrue (none_done is_exec table w asks (number ∷ []))
+    (w : World) (asks : List Asked) (number : ℕ) →
+    w.tree ≡ t → kept_at w number ≡ Some process → IsConfined process → PlacesStand w → TreesAlong table w asks →
+    MembersEdit table w asks (number ∷ []) → IsTrue (none_done is_exec table w asks (number ∷ []))

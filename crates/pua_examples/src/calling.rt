@@ -8,11 +8,11 @@ ghost use Rattle.pua_tree.specs.Listing.{listing};
 ghost use Rattle.pua_path.specs.Fits.{FoundsFit};
 ghost use Rattle.pua_path.specs.Resolution.{resolution_of_text};
 ghost use Rattle.pua_calls.specs.Calls.{call_number, standard_table};
-ghost use Rattle.pua_policy.specs.History.{History, StandsFor};
+ghost use Rattle.pua_policy.specs.States.{ProcessState};
 ghost use Rattle.pua_policy.specs.Verdict.{verdict_on};
 ghost use Rattle.pua_script.specs.Replay.{answers_to, new_world, world_after};
 ghost use Rattle.pua_script.specs.Scripts.{script};
-ghost use Rattle.pua_script.specs.Worlds.{StandsForWorld};
+ghost use Rattle.pua_script.specs.Worlds.{world_of};
 ghost use Rattle.pua_audit.specs.Begin.{Beginning, beginning, still_to_come};
 ghost use Rattle.pua_audit.specs.declared.base.Base.TheVariants.{Root};
 ghost use Rattle.pua_objects.specs.Objects.{objects};
@@ -73,7 +73,7 @@ pub(crate) fn replay(alloc: Global, tree: SlabTree, script: &Script) -> Result<S
     ensures answers { IfOk result (λ served.
         served.answers.items ≡ answers_to standard_table (new_world tree) script.now) }
     ensures world { IfOk result (λ served.
-        StandsForWorld served.world (world_after standard_table (new_world tree) script.now)) }
+        world_of served.world ≡ world_after standard_table (new_world tree) script.now) }
     ensures table { IfOk result (λ served. served.world.table ≡ standard_table) }
 {
     let mut world = World::new(alloc, tree, CallTable::standard())?;
@@ -92,8 +92,7 @@ pub(crate) fn ask<T: FileTree>(
     call: Call,
     path: &[u8],
 ) -> Verdict
-    ensures { (h : History) → StandsFor process.now h →
-        result ≡ verdict_on (T.content tree.now) table.now h call path.now }
+    ensures { result ≡ verdict_on (T.content tree.now) table.now process.now call path.now }
 {
     let mut probe = Counted::new(tree);
     let found = name(&mut probe, process.dir(), path, ending(call), call.last());
@@ -126,12 +125,11 @@ pub(crate) fn is_reached<T: FileTree>(
     limit: u8,
     call: Call,
 ) -> Result<bool, AuditFault>
-    ensures reached { IfOk result (λ reached. (h : History) → StandsFor process.now h →
-        (b : Beginning)
-        × (beginning (T.content tree.now) table.now h Root [] limit None ≡ Ok b)
+    ensures reached { IfOk result (λ reached. (b : Beginning)
+        × (beginning (T.content tree.now) table.now process.now Root [] limit None ≡ Ok b)
         × (reached ≡ list_any (λ pair. nat_eq (call_number pair.1) (call_number call))
         (still_to_come b))) }
-    ensures refused { IfErr result (λ fault. fault ≢ AuditFault.OutOfMemory → (h : History) →
+    ensures refused { IfErr result (λ fault. fault ≢ AuditFault.OutOfMemory → (h : ProcessState) →
         beginning (T.content tree.now) table.now h Root [] limit None ≡ Err fault) }
 {
     let mut probe = Counted::new(tree);
@@ -172,10 +170,10 @@ pub(crate) fn can_touch<T: FileTree>(
     table: &CallTable,
 ) -> Result<bool, OutOfMemory>
     ensures touched { IfOk result (λ touches. IsTrue touches →
-        (h : History) → StandsFor process.now h → objects (T.content tree.now) table.now h ≢ []) }
+        objects (T.content tree.now) table.now process.now ≢ []) }
     ensures nowhere { IfOk result (λ touches. IsFalse touches →
-        (h : History) → StandsFor process.now h → (call : Call) (text : List ℕ) →
-        verdict_on (T.content tree.now) table.now h call text ≢ Verdict.Allowed) }
+        (call : Call) (text : List ℕ) →
+        verdict_on (T.content tree.now) table.now process.now call text ≢ Verdict.Allowed) }
 {
     completeness_law();
     tree.known();
@@ -197,8 +195,8 @@ pub(crate) fn can_ever_start<T: FileTree>(
     process: &Process,
     table: &CallTable,
 ) -> Result<bool, EverFault>
-    ensures never { IfOk result (λ starts. IsFalse starts → (h : History) → StandsFor process.now h →
-        NoLineHasExec (T.content tree.now) table.now h) }
+    ensures never { IfOk result (λ starts. IsFalse starts →
+        NoLineHasExec (T.content tree.now) table.now process.now) }
     ensures none { IfOk result (λ starts. IsFalse starts →
         NeverStarts (T.content tree.now) process.now table.now) }
 {

@@ -1,7 +1,7 @@
 -- What no line has never comes, and what has a way has a line.
 use Rattle.std.proofs.Common.{◌≡◌, ℕ, true, false, Bool, List, [], ◌∷◌, ◌++◌, refl, sym, ap, subst, ◌∙◌, cond, Some}
 use Rattle.std.proofs.lemmas.Bool.{and_from, eq-eqb, false≢true, or_right}
-use Rattle.std.specs.Prelude.{◌&&◌, ◌||◌, ◌==◌, not, Ok, Err, Result, filter}
+use Rattle.std.specs.Prelude.{◌&&◌, ◌||◌, ◌==◌, not, Ok, Err, Result}
 use Rattle.std.specs.List.{AllByRecursion, Contains}
 use Rattle.pua_tree.specs.Tree.{Tree, WellFormed}
 use Rattle.pua_tree.proofs.ForCallers.{None≢Some}
@@ -11,17 +11,16 @@ use Rattle.pua_path.specs.declared.found.Found.{Found}
 use Rattle.pua_calls.specs.Calls.{CallTable, ending_of, last_of}
 use Rattle.pua_calls.specs.declared.call.Call.{Call}
 use Rattle.pua_calls.specs.declared.call.Call.TheVariants as call
-use Rattle.pua_policy.specs.History.{History, Pledged, Unveiled, Locked, Moved, Ended, perms_kept, working_dir, same_place}
-use Rattle.pua_policy.specs.Verdict.{is_unveil, or_fault, allowed_unless, if_promised, verdict, verdict_of}
+use Rattle.pua_policy.specs.States.{ProcessState, perms_kept, working_dir}
+use Rattle.pua_policy.specs.Verdict.{or_fault, allowed_unless, if_promised, verdict, verdict_of}
 use Rattle.pua_policy.specs.Verdict.{object_named}
-use Rattle.pua_policy.specs.declared.place.Place.{Place}
 use Rattle.pua_policy.specs.declared.answer.Refusal.TheVariants as refusals
 use Rattle.pua_policy.specs.declared.answer.Verdict.TheVariants.{Allowed}
 use Rattle.pua_script.specs.Requests.{Asked}
 use Rattle.pua_script.specs.Decide.{Change, Decision, decide}
 use Rattle.pua_script.specs.Guards.{IsDecided, OnOne}
-use Rattle.pua_script.specs.Replay.{World, history_of, apply, world_after, answers_to, do_decided}
-use Rattle.pua_script.specs.Family.{family, family_then, none_done, members_alone, is_done, is_member, is_exec, is_okay, with_child, HasHistoryOf}
+use Rattle.pua_script.specs.Replay.{World, kept_at, apply, world_after, answers_to, do_decided}
+use Rattle.pua_script.specs.Family.{family, family_then, none_done, members_alone, is_done, is_member, is_exec, is_okay, with_child, HasKept}
 use Rattle.pua_script.specs.Tightening.{EndsWithin}
 use Rattle.pua_script.specs.declared.request.Action.{Action}
 use Rattle.pua_script.specs.declared.request.Action.TheVariants.{OnPath, Symlink, Rename, Link, Pledge, Unveil, Lock, Fork, Exit}
@@ -29,6 +28,7 @@ use Rattle.pua_script.specs.declared.answer.Answer.TheVariants.{Okay}
 use Rattle.pua_script.proofs.ForCallers.{by_request, decisions_are_guarded, families_narrow, first_tree}
 use Rattle.pua_ever.specs.Laws.{EverComplete, Foresees, ForeseesIn, IsForeseen, IsForeseenIn}
 use Rattle.pua_ever.specs.Through.{EverLasts, ever_lasting}
+use Rattle.pua_ever.proofs.ForCallers.{beside_one}
 use Rattle.pua_how.specs.Targets.{IsGiven, is_listed, is_of}
 use Rattle.pua_how.specs.declared.target.Target.{Target}
 use Rattle.pua_how.specs.Ways.{call_of}
@@ -43,20 +43,8 @@ same_ok a b e = cc
 same_some : {A : Type 0} (a b : A) → Some a ≡ Some b → a ≡ b
 same_some a b e = cc
 
--- what is kept is kept by the unveils alone
-kept_by_unveils : (h : History) (at : Place) → perms_kept h at ≡ perms_kept (filter is_unveil h) at
-kept_by_unveils [] at = refl
-kept_by_unveils (Unveiled other perms ∷ h) at = ap (cond (same_place other at) (Some perms)) (kept_by_unveils h at)
-kept_by_unveils (Pledged p e ∷ h) at = kept_by_unveils h at
-kept_by_unveils (Locked ∷ h) at = kept_by_unveils h at
-kept_by_unveils (Moved d ∷ h) at = kept_by_unveils h at
-kept_by_unveils (Ended ∷ h) at = kept_by_unveils h at
-
-same_kept : (a b : History) → filter is_unveil a ≡ filter is_unveil b → (at : Place) → perms_kept a at ≡ perms_kept b at
-same_kept a b e at = kept_by_unveils a at ∙ ap (λ h. perms_kept h at) e ∙ sym (kept_by_unveils b at)
-
 -- what no line has is not allowed where each call that is allowed has its line
-unforeseen : (lines : List EverLine) (t u : Tree) (table : CallTable) (now last : History) → WellFormed t →
+unforeseen : (lines : List EverLine) (t u : Tree) (table : CallTable) (now last : ProcessState) → WellFormed t →
     ((line : EverLine) → Contains lines line → LivesThing t line.thing) → ForeseesIn lines t table now u last →
     (asked : Target) (call : Call) → IsGiven t asked → is_listed lines asked call ≡ false →
     (from : ℕ) (text : List ℕ) (object : Found) → resolution_of_text u from (ending_of call) text (last_of call) ≡ Ok object →
@@ -69,9 +57,9 @@ unforeseen lines t u table now last well live foresees asked call given unlisted
     (line_about t u now well asked given foreseen.line.thing (live foreseen.line foreseen.listed)
     foreseen.object foreseen.about (ap (is_of u now asked) is ∙ same)) foreseen.allows)
 
-pub never_comes : EverComplete → NeverComes
-never_comes complete table sound needs w asks process now here confined stand trees none alone asked call given unlisted member belongs =
-    let last = complete table sound needs w asks process now here confined stand trees none alone member belongs in
+pub never_comes : NeverComes
+never_comes table sound needs w asks process now here confined stand trees none edit asked call given unlisted member belongs =
+    let last = beside_one table sound needs w asks process now here confined stand trees none edit member belongs in
     let well = first_tree table w asks trees in (
       last.0,
       last.1,
@@ -91,29 +79,29 @@ never_comes_through lasts table sound needs w asks process now bound here bounde
 
 -- a request that was answered `ok` was decided
 pub record IsDone (table : CallTable) (w : World) (ask : Asked) : Type 0 where
-  pub history : History
-  pub here : history_of w ask.process ≡ Some history
+  pub now : ProcessState
+  pub here : kept_at w ask.process ≡ Some now
   pub change : Change
-  pub decided : decide table w.tree history ask.action ≡ Ok change
+  pub decided : decide table w.tree now ask.action ≡ Ok change
 
 done_by : (table : CallTable) (w : World) (ask : Asked) → (apply table w ask).0 ≡ Okay → IsDone table w ask
 done_by table w ask =
     by_request table w ask (λ done. done.0 ≡ Okay → IsDone table w ask) (λ gone. cc)
     (λ h here. by h here (decide table w.tree h ask.action) refl)
   where
-    by : (h : History) → history_of w ask.process ≡ Some h → (d : Decision) → decide table w.tree h ask.action ≡ d →
+    by : (h : ProcessState) → kept_at w ask.process ≡ Some h → (d : Decision) → decide table w.tree h ask.action ≡ d →
         (do_decided w ask.process h d).0 ≡ Okay → IsDone table w ask
-    by h here (Ok change) is told = record { history = h; here = here; change = change; decided = is }
+    by h here (Ok change) is told = record { now = h; here = here; change = change; decided = is }
     by h here (Err (refusals.Failed errno)) is told = cc
     by h here (Err refusals.Killed) is told = cc
 
 -- so a call on what a path names was allowed on it
-pub record IsAllowedOn (table : CallTable) (t : Tree) (h : History) (call : Call) (text : List ℕ) : Type 0 where
+pub record IsAllowedOn (table : CallTable) (t : Tree) (h : ProcessState) (call : Call) (text : List ℕ) : Type 0 where
   pub object : Found
   pub named : object_named t h call text ≡ Ok object
   pub allowed : verdict t table h call object ≡ Allowed
 
-on_one : (table : CallTable) (t : Tree) (h : History) (call : Call) (text : List ℕ) (object : Found) →
+on_one : (table : CallTable) (t : Tree) (h : ProcessState) (call : Call) (text : List ℕ) (object : Found) →
     OnOne table t h call text object → IsAllowedOn table t h call text
 on_one table t h call text object one = record {
   object = object;
@@ -121,7 +109,7 @@ on_one table t h call text object one = record {
   allowed = λ i. if_promised (one.promised i) (allowed_unless (or_fault (one.covered i) (one.fitting i)));
 }
 
-allowed_on : (table : CallTable) (t : Tree) (h : History) (action : Action) (change : Change) (asked : Call) (text : List ℕ) →
+allowed_on : (table : CallTable) (t : Tree) (h : ProcessState) (action : Action) (change : Change) (asked : Call) (text : List ℕ) →
     IsDecided table t h action change → call_of action ≡ Some (asked, text) → IsAllowedOn table t h asked text
 allowed_on table t h (OnPath other path) _ asked text decided e =
     subst (λ (two : Call × List ℕ). IsAllowedOn table t h two.0 two.1) (same_some (other, path) (asked, text) e)
@@ -205,31 +193,33 @@ ways_are_listed complete table sound needs w process now here confined stand ask
     let belongs = own_member table process way.first w (process ∷ []) begins in
     let before = world_after table w way.first in
     let last = complete table sound needs w way.first process now here confined stand trees none alone process belongs in
-    let narrow : HasHistoryOf before process (EndsWithin table w way.first process now) =
+    let narrow : HasKept before process (EndsWithin table w way.first process now) =
     families_narrow table w way.first process now here confined none process belongs in
     let told = last_told table way.first way.last w
     (subst (λ all. AllByRecursion (λ answer. answer ≡ Okay) (answers_to table w all)) way.parts way.granted) in
     let done = done_by table before way.last told in
-    let h = way.reaches.history in
-    let done_is : done.history ≡ h =
-    same_some done.history h (sym done.here ∙ ap (history_of before) whose ∙ way.reaches.kept) in
+    let h = way.reaches.now in
+    let done_is : done.now ≡ h =
+    same_some done.now h (sym done.here ∙ ap (kept_at before) whose ∙ way.reaches.kept) in
     let last_is : last.0 ≡ h = same_some last.0 h (sym last.1 ∙ way.reaches.kept) in
     let narrow_is : narrow.0 ≡ h = same_some narrow.0 h (sym narrow.1 ∙ way.reaches.kept) in
     let allowed : IsAllowedOn table before.tree h call way.text =
     subst (λ g. IsAllowedOn table before.tree g call way.text) done_is
-    (allowed_on table before.tree done.history way.last.action done.change call way.text
-    (decisions_are_guarded table before.tree done.history way.last.action done.change done.decided) way.called) in
+    (allowed_on table before.tree done.now way.last.action done.change call way.text
+    (decisions_are_guarded table before.tree done.now way.last.action done.change done.decided) way.called) in
     let foresees : Foresees w.tree table now before.tree h = subst (Foresees w.tree table now before.tree) last_is last.2 in
     let foreseen : IsForeseen w.tree table now before.tree call (object_named before.tree h call way.text) =
     foresees (working_dir h) call way.text (ap (verdict_of before.tree table h call) allowed.named ∙ allowed.allowed) in
     let is : foreseen.object ≡ way.reaches.object =
     same_ok foreseen.object way.reaches.object (sym foreseen.names ∙ way.reaches.named) in
-    let veils = same_kept now h (sym (subst (λ g. filter is_unveil g ≡ filter is_unveil now) narrow_is narrow.2.tightens.unveils)) in
     let well = first_tree table w way.first trees in
     listed_by (ever w.tree table now) asked call foreseen.line foreseen.listed
     (line_about w.tree before.tree now well asked given foreseen.line.thing (listed_lives w.tree now well table foreseen.line foreseen.listed)
     foreseen.object foreseen.about
-    (ap (is_of before.tree now asked) is ∙ same_veils_same before.tree now h veils asked way.reaches.object ∙ way.reaches.asked))
+    (ap (is_of before.tree now asked) is
+    ∙ sym (same_veils_same before.tree h now (λ at. subst (λ g. perms_kept g at ≡ perms_kept now at) narrow_is (narrow.2.tightens.unveils.kept at))
+    asked way.reaches.object)
+    ∙ way.reaches.asked))
     foreseen.allows
   where
     begins : is_member (process ∷ []) process ≡ true

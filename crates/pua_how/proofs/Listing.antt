@@ -1,9 +1,9 @@
 -- What is asked about, and the line of the list for ever that is about it.
-use Rattle.std.proofs.Common.{◌≡◌, ℕ, ◌<◌, ◌≤◌, Bool, true, List, [], ◌∷◌, refl, sym, ap, ◌∙◌, arith, inl, inr}
+use Rattle.std.proofs.Common.{◌≡◌, ℕ, ◌<◌, ◌≤◌, true, List, refl, sym, ap, ◌∙◌, arith}
 use Rattle.std.proofs.Common.{Option, Some, None}
-use Rattle.std.proofs.lemmas.Bool.{and_parts, and_from, eqb-true, eq-eqb, false≢true, ltb-true, or_right}
-use Rattle.std.specs.Prelude.{◌==◌, ◌&&◌, ◌||◌, nat_lt, is_some, is_none, option_map}
-use Rattle.std.specs.List.{Contains, list_any}
+use Rattle.std.proofs.lemmas.Bool.{and_parts, and_from, eqb-true, eq-eqb, false≢true, ltb-true}
+use Rattle.std.specs.Prelude.{◌==◌, ◌&&◌, nat_lt, is_some, is_none, option_map}
+use Rattle.std.specs.List.{Contains}
 use Rattle.pua_tree.specs.Names.{same_bytes}
 use Rattle.pua_tree.specs.Tree.{Tree, WellFormed, Node, is_dir, is_dir_kind, is_living, kind_at, node_at}
 use Rattle.pua_tree.specs.declared.node.Kind.{Kind}
@@ -14,10 +14,11 @@ use Rattle.pua_path.specs.declared.found.Found.{Found}
 use Rattle.pua_path.specs.declared.found.Found.TheVariants.{Whole, Slot}
 use Rattle.pua_calls.specs.Calls.{call_number}
 use Rattle.pua_calls.specs.declared.call.Call.{Call}
-use Rattle.pua_policy.specs.History.{History, perms_kept}
+use Rattle.pua_policy.specs.States.{ProcessState, perms_kept}
 use Rattle.pua_policy.specs.declared.place.Place.{Place}
 use Rattle.pua_policy.specs.declared.place.Place.TheVariants as place
-use Rattle.pua_objects.proofs.ForCallers.{Among, among_contained}
+use Rattle.pua_objects.proofs.ForCallers.{among_contained}
+use Rattle.pua_ever.proofs.ForCallers.{any_among}
 use Rattle.pua_ever.specs.Ever.{EverLine, Thing}
 use Rattle.pua_ever.specs.Laws.{IsLineOf, of_dir, of_row, of_name, of_others, of_new_dir, of_new_file, of_new_link, of_new_others}
 use Rattle.pua_how.specs.Targets.{is_of, is_about, is_file_kind, IsLast, IsGiven, has_call, line_has, is_listed}
@@ -26,19 +27,13 @@ use Rattle.pua_how.specs.declared.target.Target.TheVariants as target
 use Rattle.pua_how.proofs.Lived.{LivesThing}
 
 -- a line about it that has the call makes it listed
-any_among : {A : Type 0} (p : A → Bool) (xs : List A) (x : A) → p x ≡ true → Among xs x → list_any p xs ≡ true
-any_among p [] x is a = absurd a
-any_among p (y ∷ xs) x is (inl e) = ap (λ b. b || list_any p xs) (ap p e ∙ is)
-any_among p (y ∷ xs) x is (inr a) = or_right (p y) (list_any p xs) (any_among p xs x is a)
-
 pub listed_by : (lines : List EverLine) (asked : Target) (call : Call) (line : EverLine) → Contains lines line →
     is_about asked line.thing ≡ true → Contains line.calls call → is_listed lines asked call ≡ true
 listed_by lines asked call line listed about allows =
-    any_among (line_has asked call) lines line
+    any_among (line_has asked call) lines line (among_contained lines line listed)
     (and_from (is_about asked line.thing) (has_call line.calls call) about
-    (any_among (λ other. call_number other == call_number call) line.calls call (eq-eqb (call_number call) (call_number call) refl)
-    (among_contained line.calls call allows)))
-    (among_contained lines line listed)
+    (any_among (λ other. call_number other == call_number call) line.calls call (among_contained line.calls call allows)
+    (eq-eqb (call_number call) (call_number call) refl)))
 
 -- a number that was given is none of those that came later
 given_is : (asked found next : ℕ) → asked < next → next ≤ found → (found == asked) ≡ true → ⊥
@@ -80,7 +75,7 @@ link_no_file : (o : Option Kind) → o ≡ Some kind.File → is_link_kind o ≡
 link_no_file o is link = false≢true (sym (ap is_link_kind is) ∙ link)
 
 -- the line of what a path named is about what was asked, if that is what it named
-pub line_about : (t later : Tree) (h : History) → WellFormed t → (asked : Target) → IsGiven t asked → (thing : Thing) →
+pub line_about : (t later : Tree) (h : ProcessState) → WellFormed t → (asked : Target) → IsGiven t asked → (thing : Thing) →
     LivesThing t thing → (object : Found) → IsLineOf t later h thing object → is_of later h asked object ≡ true →
     is_about asked thing ≡ true
 line_about t later h well (target.Directory asked) given thing lives (Whole dir way) (of_dir below) e = e
@@ -137,8 +132,8 @@ line_about t later h well (target.NewLink last) given thing lives (Slot dir name
 line_about t later h well (target.NewLink last) given thing lives (Slot dir name (Some node)) (of_new_file new kinds) e =
     absurd (link_no_file (kind_at later node) kinds (and_parts (nat_lt last node) _ e).1)
 
--- only the veils of a history are asked
-pub same_veils_same : (t : Tree) (a b : History) → ((at : Place) → perms_kept a at ≡ perms_kept b at) → (asked : Target) (object : Found) →
+-- only the veils of a process are asked
+pub same_veils_same : (t : Tree) (a b : ProcessState) → ((at : Place) → perms_kept a at ≡ perms_kept b at) → (asked : Target) (object : Found) →
     is_of t a asked object ≡ is_of t b asked object
 same_veils_same t a b same (target.Directory asked) (Whole dir way) = refl
 same_veils_same t a b same (target.Directory asked) (Slot dir name _) = refl

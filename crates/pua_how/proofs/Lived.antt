@@ -8,7 +8,7 @@ use Rattle.pua_path.specs.declared.found.Way.{Way}
 use Rattle.pua_path.specs.declared.found.Way.TheVariants.{Named, Top}
 use Rattle.pua_path.specs.declared.found.Found.TheVariants.{Whole, Slot}
 use Rattle.pua_calls.specs.Calls.{CallTable}
-use Rattle.pua_policy.specs.History.{History, veils, with_both}
+use Rattle.pua_policy.specs.States.{ProcessState, veils, with_both}
 use Rattle.pua_audit.specs.Reach.{Word}
 use Rattle.pua_objects.specs.Objects.{Subject, At, Others, Item, entries, items, items_at, items_below}
 use Rattle.pua_objects.proofs.ForCallers.{Among, among_contained, among_either, contained, filter_among, flat_among, map_among}
@@ -28,7 +28,7 @@ module _ (t : Tree) where
   LivesThing (Stands subject) = Lives subject
   LivesThing (Comes new) = Unit {0}
 
-module _ (t : Tree) (h : History) where
+module _ (t : Tree) (h : ProcessState) where
   items_live : (depth dir : ℕ) (way : Way) (word : Word) → is_dir t dir ≡ true → (item : Item) →
       Among (items_below depth t (veils h) dir way word) item → Lives t item.subject
   items_live zero dir way word living item a = absurd a
@@ -108,7 +108,7 @@ module _ (t : Tree) (h : History) where
         let whole = map_among (let_through passes) lines line kept.0 in
         subst (λ (l : EverLine). LivesThing t l.thing) whole.2 (live whole.0 (contained lines whole.0 whole.1))
 
-pub lasting_lives : (t : Tree) (table : CallTable) (h : History) → WellFormed t → (line : EverLine) →
+pub lasting_lives : (t : Tree) (table : CallTable) (h : ProcessState) → WellFormed t → (line : EverLine) →
     Contains (ever_lasting t table h) line → LivesThing t line.thing
 lasting_lives t table h well line = by (bound_of table h) refl
   where

@@ -14,7 +14,7 @@ use Rattle.pua_calls.specs.CallSets.{has}
 use Rattle.pua_calls.specs.declared.call.Call.{Call}
 use Rattle.pua_calls.specs.declared.call.Call.TheVariants as call
 use Rattle.pua_calls.proofs.ForCallers.{same_bit}
-use Rattle.pua_policy.specs.History.{History, veils}
+use Rattle.pua_policy.specs.States.{ProcessState, veils}
 use Rattle.pua_audit.specs.Reach.{Word}
 use Rattle.pua_objects.specs.Items.{subject_given}
 use Rattle.pua_objects.specs.ListItems.{items_told, word_after}
@@ -30,7 +30,7 @@ use Rattle.pua_ever.specs.LastingList.{IsBothOf}
 use Rattle.pua_ever.specs.declared.lasting.Both.{Both}
 use Rattle.pua_ever.specs.declared.lasting_list.ExecBound.TheVariants.{Never, Bounded, Open}
 use Rattle.pua_ever.proofs.ForCallers.{lasting_alone, lasting_through, lasting_unbounded}
-use Rattle.pua_policy.specs.History.{with_both}
+use Rattle.pua_policy.specs.States.{with_both}
 use Rattle.pua_how.specs.Targets.{has_call, is_about, is_listed, line_has}
 use Rattle.pua_ever.specs.EverLines.{new_of}
 use Rattle.pua_ever.specs.Prospects.{AreOnFreed}
@@ -99,7 +99,7 @@ abbrev pub is_call : Call → Call → Bool
 is_call call other = call_number other == call_number call
 
 -- two calls of one number are one
-same_number : (call other : Call) → is_call call other ≡ true → other ≡ call
+pub same_number : (call other : Call) → is_call call other ≡ true → other ≡ call
 same_number call other e = same_bit other call (ap (λ n. n - 1) (eqb-true (call_number other) (call_number call) e))
 
 one_of : (call : Call) → list_any (is_call call) calls ≡ true
@@ -130,7 +130,7 @@ module _ (asked : Target) (call : Call) where
 
   -- ---- the lines of the list
 
-  module _ (t : Tree) (table : CallTable) (h : History) where
+  module _ (t : Tree) (table : CallTable) (h : ProcessState) where
     subject_line : (word : Word) (subject : Subject) → line_has asked call (ever_line t table h (word, subject)) ≡ subject_has t table h asked call subject
     subject_line word subject = ap (λ b. is_about asked (Stands subject) && b) (among_all (is_ever_allowed t table h subject) call)
 
@@ -232,7 +232,7 @@ module _ (asked : Target) (call : Call) where
           ∙ swapped (comes_by passes asked) (passes call) (has_call line.calls call)
       by false none = sym (and_right (passes call && comes_by passes asked) false refl)
 
-  pub through_has : (t : Tree) (table : CallTable) (h : History) (given : ℕ) → is_listed (ever_through t table h given) asked call
+  pub through_has : (t : Tree) (table : CallTable) (h : ProcessState) (given : ℕ) → is_listed (ever_through t table h given) asked call
       ≡ ((is_promised_by_one table h given call && comes_by (is_promised_by_one table h given) asked)
       && is_listed (ever t table (with_both h given)) asked call)
   through_has t table h given =
@@ -262,7 +262,7 @@ module _ (asked : Target) (call : Call) where
       of (target.Node id) m e = cc
       of (target.Name id name) m e = cc
 
-  pub new_first : (t : Tree) (table : CallTable) (h : History) (new : New) (b : Bool) → is_about asked (Comes new) ≡ true →
+  pub new_first : (t : Tree) (table : CallTable) (h : ProcessState) (new : New) (b : Bool) → is_about asked (Comes new) ≡ true →
       b ≡ ((may_edit table h && can_make t table h new) && is_new_allowed t table h new call) → b ≡ some_new_has t table h asked call
   new_first t table h new b about same = same ∙ of asked new about
     where
@@ -291,7 +291,7 @@ and_swap true false c = refl
 and_swap false true c = refl
 and_swap false false c = refl
 
-module _ (t : Tree) (table : CallTable) (h : History) (asked : Target) (call : Call) where
+module _ (t : Tree) (table : CallTable) (h : ProcessState) (asked : Target) (call : Call) where
   -- another thing is asked about than a missing name
   freed_unnamed : ((spot : Spot) → is_about asked (Stands (At (Slot spot.0 spot.1 None))) ≡ false) → (o : Option Spot) →
       false ≡ freed_has t table h asked call o
@@ -313,7 +313,7 @@ module _ (t : Tree) (table : CallTable) (h : History) (asked : Target) (call : C
       (b && has set call) ≡ freed_has t table h asked call o
   freed_nowhere b o set is are = ap (λ x. b && x) (are.none is call) ∙ and_right b false refl ∙ ap (freed_has t table h asked call) (sym is)
 
-pub freed_is : (t : Tree) (table : CallTable) (h : History) (asked : Target) (call : Call) (about : told.Subject) (set : ℕ) →
+pub freed_is : (t : Tree) (table : CallTable) (h : ProcessState) (asked : Target) (call : Call) (about : told.Subject) (set : ℕ) →
     AreOnFreed t table h (own_spot (subject_given t about)) set →
     (is_name_of asked about && has set call) ≡ freed_has t table h asked call (own_spot (subject_given t about))
 freed_is t table h asked call about set are = of asked about are
@@ -341,7 +341,7 @@ freed_is t table h asked call about set are = of asked about are
 
 -- ---- whose lines the list that holds longest has
 
-module _ (t : Tree) (table : CallTable) (h : History) where
+module _ (t : Tree) (table : CallTable) (h : ProcessState) where
   pub through_is : (both : Option Both) → IsBothOf table h both → execs_of t table h ≡ Bounded → AreLinesOf t table h both (ever_lasting t table h)
   through_is None unbound is = by (has_exec (ever t table h)) refl
     where

@@ -1,5 +1,5 @@
 -- Whether steps come to the call, one after another.
-use Rattle.std.proofs.Common.{◌≡◌, ℕ, ◌+◌, ◌<◌, true, false, Bool, List, [], ◌∷◌, ◌++◌, drop, length, refl, sym, ap, subst, ◌∙◌, Some, None, Option}
+use Rattle.std.proofs.Common.{◌≡◌, ℕ, ◌+◌, ◌<◌, true, false, Bool, List, [], ◌∷◌, ◌++◌, drop, length, refl, sym, ap, ◌∙◌, Some, None, Option}
 use Rattle.std.proofs.Common.{slice_index_or}
 use Rattle.std.specs.Prelude.{option_map}
 use Rattle.std.proofs.lemmas.List.{drop_more}
@@ -8,17 +8,15 @@ use Rattle.pua_calls.specs.Calls.{CallTable}
 use Rattle.pua_calls.specs.declared.call.Call.{Call}
 use Rattle.pua_calls.specs.declared.rules.Rules.{Rules}
 use Rattle.pua_script.specs.Requests.{Asked}
-use Rattle.pua_script.specs.Replay.{World, apply, world_after}
+use Rattle.pua_script.specs.Replay.{World, apply}
 use Rattle.pua_script.specs.Family.{is_exec, is_okay}
-use Rattle.pua_script.specs.Worlds.{WorldState, StandsForWorld, IsServed}
+use Rattle.pua_script.specs.Worlds.{WorldState, apply_to, world_of}
 use Rattle.pua_script.specs.declared.answer.Answer.{Answer}
 use Rattle.pua_script.specs.declared.answer.Answer.TheVariants as answers
-use Rattle.pua_how.specs.Served.{AreGranted, asks_of}
 use Rattle.pua_how.specs.Steps.{comes, goes_on, is_some_by, made_behind, request_of_step}
 use Rattle.pua_how.specs.declared.line.WayLine.{WayLine}
 use Rattle.pua_how.specs.declared.step.Step.{Step}
 use Rattle.pua_how.specs.declared.target.Target.{Target}
-use Rattle.pua_how.proofs.Granting.{asks_more, left_more}
 
 no_line : (o : Option WayLine) → ((line : WayLine) → o ≡ Some line → ⊥) → None ≡ o
 no_line None other = refl
@@ -66,74 +64,57 @@ module _ (rules : Rules) (table : CallTable) (process : ℕ) (call : Call) (targ
     by_served quiet okay = asked_on ∙ rw (quiet, okay) refl
 
 -- the steps come to a call where those that are left do
-abbrev pub AreOn : Rules → WorldState → ℕ → List Step → ℕ → List WayLine → ℕ → Type 0
-AreOn rules before process steps i lines made =
-    (w : World) → StandsForWorld before w → (call : Call) (target : Target) (last : Step) →
-    comes rules before.table process call target (steps ++ last ∷ []) w 0
-    ≡ comes rules before.table process call target (drop i steps ++ last ∷ []) (world_after before.table w (asks_of lines)) made
+abbrev pub AreOn : Rules → WorldState → ℕ → List Step → ℕ → WorldState → ℕ → Type 0
+AreOn rules before process steps i now made =
+    (call : Call) (target : Target) (last : Step) →
+    comes rules before.table process call target (steps ++ last ∷ []) (world_of before) 0
+    ≡ comes rules now.table process call target (drop i steps ++ last ∷ []) (world_of now) made
 
 -- the next of them, as it is read
-module _ (rules : Rules) (before mid : WorldState) (process : ℕ) (steps : List Step) (i : ℕ) (step : Step) (lines : List WayLine) (made : ℕ)
-    (granted : AreGranted rules before process lines mid) (on : AreOn rules before process steps i lines made)
-    (within : i < length steps) (is : step ≡ slice_index_or steps i step)
-    (t : Tree) (tree : t ≡ mid.tree) (read : Option WayLine)
+module _ (rules : Rules) (before now : WorldState) (process : ℕ) (steps : List Step) (i : ℕ) (step : Step) (made : ℕ)
+    (on : AreOn rules before process steps i now made) (within : i < length steps) (is : step ≡ slice_index_or steps i step)
+    (t : Tree) (tree : t ≡ now.tree) (read : Option WayLine)
     (asked : option_map (λ (line : WayLine). line.request) read ≡ request_of_step rules t process made step) where
-  module _ (w : World) (stands : StandsForWorld before w) (call : Call) (target : Target) (last : Step) where
-    abbrev now : World
-    now = world_after before.table w (asks_of lines)
+  asked_now : option_map (λ (line : WayLine). line.request) read ≡ request_of_step rules now.tree process made step
+  asked_now = asked ∙ ap (λ u. request_of_step rules u process made step) tree
 
-    here : StandsForWorld mid now
-    here = granted.left w stands
-
-    asked_now : option_map (λ (line : WayLine). line.request) read ≡ request_of_step rules now.tree process made step
-    asked_now = asked ∙ ap (λ u. request_of_step rules u process made step) (tree ∙ here.tree)
-
-    left : comes rules before.table process call target (steps ++ last ∷ []) w 0
-        ≡ comes rules before.table process call target (step ∷ (drop (i + 1) steps ++ last ∷ [])) now made
-    left = on w stands call target last
-        ∙ ap (λ s. comes rules before.table process call target (s ++ last ∷ []) now made)
+  module _ (call : Call) (target : Target) (last : Step) where
+    left : comes rules before.table process call target (steps ++ last ∷ []) (world_of before) 0
+        ≡ comes rules now.table process call target (step ∷ (drop (i + 1) steps ++ last ∷ [])) (world_of now) made
+    left = on call target last
+        ∙ ap (λ s. comes rules now.table process call target (s ++ last ∷ []) (world_of now) made)
         (drop_more steps i step within ∙ ap (λ x. x ∷ drop (i + 1) steps) (sym is))
 
-    pub none_on : ((line : WayLine) → read ≡ Some line → ⊥) → comes rules before.table process call target (steps ++ last ∷ []) w 0 ≡ false
-    none_on none = left ∙ without_line rules before.table process call target step (drop (i + 1) steps) last now made
+    pub none_on : ((line : WayLine) → read ≡ Some line → ⊥) → comes rules before.table process call target (steps ++ last ∷ []) (world_of before) 0 ≡ false
+    none_on none = left ∙ without_line rules now.table process call target step (drop (i + 1) steps) last (world_of now) made
         (ap (option_map (λ (line : WayLine). line.request)) (no_line read none) ∙ asked_now)
 
-    module _ (line : WayLine) (line_is : read ≡ Some line) where
-      its : Some line.request ≡ request_of_step rules now.tree process made step
-      its = sym (ap (option_map (λ (line : WayLine). line.request)) line_is) ∙ asked_now
+  module _ (line : WayLine) (line_is : read ≡ Some line) where
+    its : Some line.request ≡ request_of_step rules now.tree process made step
+    its = sym (ap (option_map (λ (line : WayLine). line.request)) line_is) ∙ asked_now
 
-      pub exec_on : is_exec line.request.action ≡ true → comes rules before.table process call target (steps ++ last ∷ []) w 0 ≡ false
-      exec_on exec = left ∙ by_exec rules before.table process call target step (drop (i + 1) steps) last now made line.request its exec
+    pub exec_on : is_exec line.request.action ≡ true → (call : Call) (target : Target) (last : Step) →
+        comes rules before.table process call target (steps ++ last ∷ []) (world_of before) 0 ≡ false
+    exec_on exec call target last = left call target last
+        ∙ by_exec rules now.table process call target step (drop (i + 1) steps) last (world_of now) made line.request its exec
 
-      module _ (answer : Answer) (after : WorldState) (served : IsServed mid line.request answer after) where
-        told : is_okay (apply before.table now line.request).0 ≡ is_okay answer
-        told = subst (λ table. is_okay (apply table now line.request).0 ≡ is_okay answer) (granted.table w stands)
-            (ap is_okay (sym (served now here).0))
+    module _ (answer : Answer) (after : WorldState) (served : ◌≡◌ {A = Answer × WorldState} (answer, after) (apply_to now line.request))
+        (quiet : is_exec line.request.action ≡ false) where
+      told : is_okay (apply_to now line.request).0 ≡ is_okay answer
+      told = ap (λ (done : Answer × WorldState). is_okay done.0) (sym served)
 
-        pub refused_on : is_exec line.request.action ≡ false → (answer ≡ answers.Okay → ⊥) →
-            comes rules before.table process call target (steps ++ last ∷ []) w 0 ≡ false
-        refused_on quiet other = left ∙ by_refused rules before.table process call target step (drop (i + 1) steps) last now made line.request its quiet
-            (told ∙ other_answer answer other)
+      pub refused_on : (answer ≡ answers.Okay → ⊥) → (call : Call) (target : Target) (last : Step) →
+          comes rules before.table process call target (steps ++ last ∷ []) (world_of before) 0 ≡ false
+      refused_on other call target last = left call target last
+          ∙ by_refused rules now.table process call target step (drop (i + 1) steps) last (world_of now) made line.request its quiet
+          (told ∙ other_answer answer other)
 
-        tree_left : after.tree ≡ (apply before.table now line.request).1.tree
-        tree_left = subst (λ table. after.tree ≡ (apply table now line.request).1.tree) (granted.table w stands) (served now here).1.tree
-
-        pub served_on : is_exec line.request.action ≡ false → answer ≡ answers.Okay →
-            comes rules before.table process call target (steps ++ last ∷ []) w 0
-            ≡ comes rules before.table process call target (drop (i + 1) steps ++ last ∷ [])
-            (world_after before.table w (asks_of (lines ++ line ∷ []))) (made_behind after.tree made step)
-        served_on quiet okay = left
-            ∙ by_served rules before.table process call target step (drop (i + 1) steps) last now made line.request its quiet (told ∙ ap is_okay okay)
-            ∙ ap (λ u. comes rules before.table process call target (drop (i + 1) steps ++ last ∷ []) (apply before.table now line.request).1
-            (made_behind u made step)) (sym tree_left)
-            ∙ ap (λ v. comes rules before.table process call target (drop (i + 1) steps ++ last ∷ []) v (made_behind after.tree made step))
-            (sym (ap (world_after before.table w) (asks_more lines line) ∙ left_more before.table w (asks_of lines) line.request))
-
-  -- one step more
-  pub step_on : (line : WayLine) → read ≡ Some line → (answer : Answer) (after : WorldState) → IsServed mid line.request answer after →
-      is_exec line.request.action ≡ false → answer ≡ answers.Okay → (new : ℕ) → new ≡ made_behind after.tree made step →
-      AreOn rules before process steps (i + 1) (lines ++ line ∷ []) new
-  step_on line line_is answer after served quiet okay new new_is = λ w stands call target last.
-      served_on w stands call target last line line_is answer after served quiet okay
-      ∙ ap (comes rules before.table process call target (drop (i + 1) steps ++ last ∷ []) (world_after before.table w (asks_of (lines ++ line ∷ []))))
-      (sym new_is)
+      -- one step more
+      pub step_on : answer ≡ answers.Okay → (new : ℕ) → new ≡ made_behind after.tree made step → AreOn rules before process steps (i + 1) after new
+      step_on okay new new_is = λ call target last.
+          let rest = drop (i + 1) steps in
+          left call target last
+          ∙ by_served rules now.table process call target step rest last (world_of now) made line.request its quiet (told ∙ ap is_okay okay)
+          ∙ ap (λ (done : Answer × WorldState). comes rules done.1.table process call target (rest ++ last ∷ []) (world_of done.1)
+          (made_behind done.1.tree made step)) (sym served)
+          ∙ ap (comes rules after.table process call target (rest ++ last ∷ []) (world_of after)) (sym new_is)

@@ -1,7 +1,7 @@
 -- What contracts see of the words of a question.
 use Rattle.std.specs.Prelude.{◌≡◌, ℕ, List, Option}
 use Rattle.pua_tree.specs.Tree.{Tree}
-use Rattle.pua_policy.specs.History.{History}
+use Rattle.pua_policy.specs.States.{ProcessState}
 use Rattle.pua_objects.specs.declared.kind.ObjectKind.{ObjectKind}
 use Rattle.pua_how.specs.Asking.{Asking, Standing, Making, targets_of}
 use Rattle.pua_how.specs.Targets.{IsLast}
@@ -14,7 +14,7 @@ asking_given (told.Standing names) = Standing names.items
 asking_given told.Making = Making
 
 -- all that may be meant, by the last number before
-pub record IsAskedBy (t : Tree) (h : History) (asking : Asking) (kind : Option ObjectKind) (targets : List Target) : Type 0 where
+pub record IsAskedBy (t : Tree) (h : ProcessState) (asking : Asking) (kind : Option ObjectKind) (targets : List Target) : Type 0 where
   pub last : ℕ
   pub above : IsLast t last
   pub are : targets ≡ targets_of t h last asking kind

@@ -9,7 +9,7 @@ use Rattle.pua_tree.specs.declared.fault.NameFault.{NameFault}
 use Rattle.pua_tree.specs.declared.node.Kind.{Kind}
 use Rattle.pua_tree.specs.declared.node.Kind.TheVariants as node
 use Rattle.pua_path.specs.Fits.{is_link_kind}
-use Rattle.pua_policy.specs.History.{History, perms_kept}
+use Rattle.pua_policy.specs.States.{ProcessState, perms_kept}
 use Rattle.pua_policy.specs.declared.place.Place.TheVariants as place
 use Rattle.pua_objects.specs.declared.kind.ObjectKind.{ObjectKind}
 use Rattle.pua_objects.specs.declared.kind.ObjectKind.TheVariants as kind
@@ -36,7 +36,7 @@ path_names [] = None
 path_names (byte ∷ more) = if byte == 47 then names_behind more else None
 
 -- the name itself, where it has a veil of its own
-abbrev pub own_name : History → ℕ → List ℕ → List Target
+abbrev pub own_name : ProcessState → ℕ → List ℕ → List Target
 own_name h dir name = if is_some (perms_kept h (place.Slot dir name)) then target.Name dir name ∷ [] else []
 
 -- what stands at a name
@@ -45,11 +45,11 @@ standing_at t node = if is_dir t node then target.Directory node ∷ target.Othe
 
 -- what may be meant by a name in a directory: what stands there, and the name itself where it has a veil of its own; where
 -- neither is so, one of the further names
-abbrev pub named_at : History → ℕ → List ℕ → Option ℕ → Tree → List Target
+abbrev pub named_at : ProcessState → ℕ → List ℕ → Option ℕ → Tree → List Target
 named_at h dir name (Some node) t = standing_at t node ++ own_name h dir name
 named_at h dir name None t = if is_some (perms_kept h (place.Slot dir name)) then target.Name dir name ∷ [] else target.Others dir ∷ []
 
-abbrev pub targets_at : Tree → History → ℕ → List ℕ → List Target
+abbrev pub targets_at : Tree → ProcessState → ℕ → List ℕ → List Target
 targets_at t h dir name = named_at h dir name (look t dir name) t
 
 -- the directory at a name; links are not followed
@@ -57,11 +57,11 @@ abbrev pub directory_at_name : Tree → ℕ → List ℕ → Option ℕ
 directory_at_name t dir name = option_and_then (λ node. if is_dir t node then Some node else None) (look t dir name)
 
 -- what may be meant by a name, and those that follow it, each in the directory before
-abbrev pub targets_in : Tree → History → ℕ → List ℕ → List (List ℕ) → Option (List Target)
+abbrev pub targets_in : Tree → ProcessState → ℕ → List ℕ → List (List ℕ) → Option (List Target)
 targets_in t h dir name [] = Some (targets_at t h dir name)
 targets_in t h dir name (next ∷ more) = option_and_then (λ node. targets_in t h node next more) (directory_at_name t dir name)
 
-abbrev pub targets_by : Tree → History → List (List ℕ) → Option (List Target)
+abbrev pub targets_by : Tree → ProcessState → List (List ℕ) → Option (List Target)
 targets_by t h [] = Some (target.Directory 0 ∷ target.Others 0 ∷ [])
 targets_by t h (name ∷ more) = targets_in t h 0 name more
 
@@ -99,10 +99,10 @@ pub data Asking : Type 0 where
 abbrev pub asking_of : List ℕ → Option Asking
 asking_of path = if same_bytes path (codes "new") then Some Making else option_map Standing (path_names path)
 
-abbrev pub targets_asked : Tree → History → ℕ → Asking → List Target
+abbrev pub targets_asked : Tree → ProcessState → ℕ → Asking → List Target
 targets_asked t h last (Standing names) = unwrap_or (targets_by t h names) []
 targets_asked t h last Making = targets_new last
 
 -- all that may be meant, of a kind if one is asked for; none where what is to lead there is no directory
-abbrev pub targets_of : Tree → History → ℕ → Asking → Option ObjectKind → List Target
+abbrev pub targets_of : Tree → ProcessState → ℕ → Asking → Option ObjectKind → List Target
 targets_of t h last asking kind = filter (may_be_of t kind) (targets_asked t h last asking)

@@ -9,7 +9,7 @@ use Rattle.pua_calls.specs.Promises.{rpath, wpath, cpath, reading, writing, crea
 use Rattle.pua_calls.specs.Calls.{standard_table, openbsd_table}
 use Rattle.pua_calls.specs.declared.call.Call.TheVariants as call
 use Rattle.pua_calls.specs.declared.rules.Rules.TheVariants.{Profile}
-use Rattle.pua_policy.specs.History.{History, Pledged, Unveiled, Locked, new_history}
+use Rattle.pua_policy.specs.States.{ProcessState, new_process}
 use Rattle.pua_policy.specs.declared.place.Place.TheVariants as place
 use Rattle.pua_script.specs.Requests.{Asked}
 use Rattle.pua_script.specs.Replay.{World}
@@ -52,27 +52,28 @@ made_tree = record {
   next = 6;
 }
 
-abbrev pub pid_history : History
-pid_history =
-    Pledged (Some (rpath + wpath + cpath)) None ∷ Locked
-    ∷ Unveiled (place.Slot 3 (codes "pid")) (reading + writing + creating)
-    ∷ Unveiled (place.Slot 1 (codes "conf")) reading
-    ∷ new_history
+abbrev pub pid_now : ProcessState
+pid_now = record new_process {
+  promises = Some (rpath + wpath + cpath);
+  veils =
+      (place.Slot 1 (codes "conf"), reading) ∷ (place.Slot 3 (codes "pid"), reading + writing + creating) ∷ [];
+  locked = true;
+}
 
 -- what a path named is what is asked about: a node by whichever name, a missing name by its veil or as a further one
 pub record OfRows : Type 0 where
-  pub by_another_name : is_of pid_tree pid_history (target.Node 2) (Slot 3 (codes "new") (Some 2)) ≡ true
-  pub another_node : is_of pid_tree pid_history (target.Node 2) (Slot 1 (codes "conf") (Some 5)) ≡ false
-  pub dir_by_dots : is_of pid_tree pid_history (target.Directory 1) (Whole 1 DotDot) ≡ true
-  pub not_above : is_of pid_tree pid_history (target.Directory 1) (Whole 0 DotDot) ≡ false
-  pub veiled : is_of pid_tree pid_history (target.Name 3 (codes "pid")) (Slot 3 (codes "pid") None) ≡ true
-  pub taken : is_of pid_tree pid_history (target.Name 3 (codes "pid")) (Slot 3 (codes "pid") (Some 4)) ≡ false
-  pub further : is_of pid_tree pid_history (target.Others 3) (Slot 3 (codes "x") None) ≡ true
-  pub veiled_is_no_further : is_of pid_tree pid_history (target.Others 3) (Slot 3 (codes "pid") None) ≡ false
-  pub made_before : is_of pid_tree pid_history (target.NewDirectory 4) (Whole 3 DotDot) ≡ false
-  pub made_file : is_of made_tree pid_history (target.NewFile 4) (Slot 3 (codes "pid") (Some 5)) ≡ true
-  pub made_no_link : is_of made_tree pid_history (target.NewLink 4) (Slot 3 (codes "pid") (Some 5)) ≡ false
-  pub made_later : is_of made_tree pid_history (target.NewFile 4) (Slot 1 (codes "conf") (Some 2)) ≡ false
+  pub by_another_name : is_of pid_tree pid_now (target.Node 2) (Slot 3 (codes "new") (Some 2)) ≡ true
+  pub another_node : is_of pid_tree pid_now (target.Node 2) (Slot 1 (codes "conf") (Some 5)) ≡ false
+  pub dir_by_dots : is_of pid_tree pid_now (target.Directory 1) (Whole 1 DotDot) ≡ true
+  pub not_above : is_of pid_tree pid_now (target.Directory 1) (Whole 0 DotDot) ≡ false
+  pub veiled : is_of pid_tree pid_now (target.Name 3 (codes "pid")) (Slot 3 (codes "pid") None) ≡ true
+  pub taken : is_of pid_tree pid_now (target.Name 3 (codes "pid")) (Slot 3 (codes "pid") (Some 4)) ≡ false
+  pub further : is_of pid_tree pid_now (target.Others 3) (Slot 3 (codes "x") None) ≡ true
+  pub veiled_is_no_further : is_of pid_tree pid_now (target.Others 3) (Slot 3 (codes "pid") None) ≡ false
+  pub made_before : is_of pid_tree pid_now (target.NewDirectory 4) (Whole 3 DotDot) ≡ false
+  pub made_file : is_of made_tree pid_now (target.NewFile 4) (Slot 3 (codes "pid") (Some 5)) ≡ true
+  pub made_no_link : is_of made_tree pid_now (target.NewLink 4) (Slot 3 (codes "pid") (Some 5)) ≡ false
+  pub made_later : is_of made_tree pid_now (target.NewFile 4) (Slot 1 (codes "conf") (Some 2)) ≡ false
 
 pub of_rows : OfRows
 of_rows = record {
@@ -91,7 +92,7 @@ of_rows = record {
 }
 
 abbrev pub pid_world : World
-pid_world = record { tree = pid_tree; histories = (1, pid_history) ∷ [] }
+pid_world = record { tree = pid_tree; processes = (1, pid_now) ∷ [] }
 
 abbrev one : Action → Asked
 one action = record { process = 1; action = action }
@@ -126,7 +127,7 @@ way_rows = record {
     text = codes "/run/pid";
     called = refl;
     reaches = record {
-      history = pid_history;
+      now = pid_now;
       kept = refl;
       object = Slot 3 (codes "pid") (Some 2);
       named = refl;
@@ -142,7 +143,7 @@ way_rows = record {
     quiet = (refl, tt);
     text = codes "/run/pid";
     called = refl;
-    reaches = record { history = pid_history; kept = refl; object = Slot 3 (codes "pid") None; named = refl; asked = refl };
+    reaches = record { now = pid_now; kept = refl; object = Slot 3 (codes "pid") None; named = refl; asked = refl };
   };
   at_once = record {
     first = [];
@@ -153,7 +154,7 @@ way_rows = record {
     quiet = tt;
     text = codes "/etc/conf";
     called = refl;
-    reaches = record { history = pid_history; kept = refl; object = Slot 1 (codes "conf") (Some 2); named = refl; asked = refl };
+    reaches = record { now = pid_now; kept = refl; object = Slot 1 (codes "conf") (Some 2); named = refl; asked = refl };
   };
   refused = λ way. no_answer way.granted.0;
   of_another = λ target way. no_process way.own.0;
@@ -191,10 +192,10 @@ step_rows = record {
 -- lines of the list for ever about it that have a call: by OpenBSD's rules the file can come to be written, by a further name, and
 -- by the standard ones it can't; a name with a veil can come to be free
 pub record ListedRows : Type 0 where
-  pub by_link : is_listed (ever_lasting pid_tree openbsd_table pid_history) (target.Node 2) call.OpenWrite ≡ true
-  pub without_link : is_listed (ever_lasting pid_tree standard_table pid_history) (target.Node 2) call.OpenWrite ≡ false
-  pub of_the_name : is_listed (ever_lasting pid_tree standard_table pid_history) (target.Name 3 (codes "pid")) call.Create ≡ true
-  pub of_no_name : is_listed (ever_lasting pid_tree standard_table pid_history) (target.Others 3) call.Create ≡ false
+  pub by_link : is_listed (ever_lasting pid_tree openbsd_table pid_now) (target.Node 2) call.OpenWrite ≡ true
+  pub without_link : is_listed (ever_lasting pid_tree standard_table pid_now) (target.Node 2) call.OpenWrite ≡ false
+  pub of_the_name : is_listed (ever_lasting pid_tree standard_table pid_now) (target.Name 3 (codes "pid")) call.Create ≡ true
+  pub of_no_name : is_listed (ever_lasting pid_tree standard_table pid_now) (target.Others 3) call.Create ≡ false
 
 pub listed_rows : ListedRows
 listed_rows = record { by_link = refl; without_link = refl; of_the_name = refl; of_no_name = refl }
@@ -208,13 +209,13 @@ pub record AskedRows : Type 0 where
   pub dots : asking_of (codes "/etc/../etc") ≡ None
   pub slash_behind : asking_of (codes "/etc/") ≡ None
   pub nothing : asking_of [] ≡ None
-  pub directory : targets_of pid_tree pid_history 4 (Standing (codes "run" ∷ [])) None ≡ target.Directory 3 ∷ target.Others 3 ∷ []
-  pub veiled_file : targets_of pid_tree pid_history 4 (Standing (codes "run" ∷ codes "pid" ∷ [])) None
+  pub directory : targets_of pid_tree pid_now 4 (Standing (codes "run" ∷ [])) None ≡ target.Directory 3 ∷ target.Others 3 ∷ []
+  pub veiled_file : targets_of pid_tree pid_now 4 (Standing (codes "run" ∷ codes "pid" ∷ [])) None
       ≡ target.Node 4 ∷ target.Name 3 (codes "pid") ∷ []
-  pub of_kind : targets_of pid_tree pid_history 4 (Standing (codes "run" ∷ codes "pid" ∷ [])) (Some kind.Missing)
+  pub of_kind : targets_of pid_tree pid_now 4 (Standing (codes "run" ∷ codes "pid" ∷ [])) (Some kind.Missing)
       ≡ target.Name 3 (codes "pid") ∷ []
-  pub further : targets_of pid_tree pid_history 4 (Standing (codes "run" ∷ codes "x" ∷ [])) None ≡ target.Others 3 ∷ []
-  pub behind_a_file : targets_of pid_tree pid_history 4 (Standing (codes "etc" ∷ codes "conf" ∷ codes "x" ∷ [])) None ≡ []
+  pub further : targets_of pid_tree pid_now 4 (Standing (codes "run" ∷ codes "x" ∷ [])) None ≡ target.Others 3 ∷ []
+  pub behind_a_file : targets_of pid_tree pid_now 4 (Standing (codes "etc" ∷ codes "conf" ∷ codes "x" ∷ [])) None ≡ []
 
 pub asked_rows : AskedRows
 asked_rows = record {

@@ -4,13 +4,13 @@ use Rattle.pua_path.specs.Resolution.{resolution_of_text}
 use Rattle.pua_path.specs.declared.found.Found.{Found}
 use Rattle.pua_calls.specs.Calls.{CallTable, ending_of, last_of}
 use Rattle.pua_calls.specs.declared.call.Call.{Call}
-use Rattle.pua_policy.specs.History.{History}
+use Rattle.pua_policy.specs.States.{ProcessState}
 use Rattle.pua_policy.specs.Verdict.{verdict}
 use Rattle.pua_policy.specs.declared.answer.Verdict.TheVariants.{Allowed}
 use Rattle.pua_script.specs.Requests.{Asked}
-use Rattle.pua_script.specs.Replay.{World, history_of, world_after}
+use Rattle.pua_script.specs.Replay.{World, kept_at, world_after}
 use Rattle.pua_script.specs.Laws.{IsConfined}
-use Rattle.pua_script.specs.Family.{family, none_done, members_alone, is_member, is_exec, HasHistoryOf}
+use Rattle.pua_script.specs.Family.{family, none_done, is_member, is_exec, HasKept}
 use Rattle.pua_script.specs.Tightening.{NoCallNeedsError}
 use Rattle.pua_script.specs.Confinement.{TreesAlong}
 use Rattle.pua_ever.specs.Ever.{ever}
@@ -25,14 +25,14 @@ use Rattle.pua_how.specs.declared.target.Target.{Target}
 abbrev pub NeverComes : Type 0
 NeverComes =
     (table : CallTable) → NoCallNeedsError table → EditsNeedC table →
-    (w : World) (asks : List Asked) (process : ℕ) (now : History) →
-    history_of w process ≡ Some now → IsConfined now → VeilsStand w.tree now → TreesAlong table w asks →
+    (w : World) (asks : List Asked) (process : ℕ) (now : ProcessState) →
+    kept_at w process ≡ Some now → IsConfined now → VeilsStand w.tree now → TreesAlong table w asks →
     IsTrue (none_done is_exec table w asks (process ∷ [])) →
-    IsTrue (members_alone table w asks (process ∷ [])) →
+    MembersEdit table w asks (process ∷ []) →
     (asked : Target) (call : Call) → IsGiven w.tree asked → IsFalse (is_listed (ever w.tree table now) asked call) →
     (member : ℕ) → IsTrue (is_member (family table w asks (process ∷ [])) member) →
     let after = world_after table w asks in
-    HasHistoryOf after member (λ last. (from : ℕ) (text : List ℕ) (object : Found) →
+    HasKept after member (λ last. (from : ℕ) (text : List ℕ) (object : Found) →
     resolution_of_text after.tree from (ending_of call) text (last_of call) ≡ Ok object → is_of after.tree now asked object ≡ true →
     verdict after.tree table last call object ≡ Allowed → ⊥)
 
@@ -40,7 +40,7 @@ NeverComes =
 abbrev pub WaysAreListed : Type 0
 WaysAreListed =
     (table : CallTable) → NoCallNeedsError table → EditsNeedC table →
-    (w : World) (process : ℕ) (now : History) → history_of w process ≡ Some now → IsConfined now → VeilsStand w.tree now →
+    (w : World) (process : ℕ) (now : ProcessState) → kept_at w process ≡ Some now → IsConfined now → VeilsStand w.tree now →
     (asked : Target) (call : Call) → IsGiven w.tree asked → (asks : List Asked) (way : IsWay table w process call asked asks) →
     TreesAlong table w way.first → IsTrue (is_listed (ever w.tree table now) asked call)
 
@@ -49,12 +49,12 @@ WaysAreListed =
 abbrev pub NeverComesThrough : Type 0
 NeverComesThrough =
     (table : CallTable) → NoCallNeedsError table → EditsNeedC table →
-    (w : World) (asks : List Asked) (process : ℕ) (now : History) (given : ℕ) →
-    history_of w process ≡ Some now → bound_of table now ≡ Some given → VeilsStand w.tree now → TreesAlong table w asks →
+    (w : World) (asks : List Asked) (process : ℕ) (now : ProcessState) (given : ℕ) →
+    kept_at w process ≡ Some now → bound_of table now ≡ Some given → VeilsStand w.tree now → TreesAlong table w asks →
     MembersEdit table w asks (process ∷ []) →
     (asked : Target) (call : Call) → IsGiven w.tree asked → IsFalse (is_listed (ever_lasting w.tree table now) asked call) →
     (member : ℕ) → IsTrue (is_member (family table w asks (process ∷ [])) member) →
     let after = world_after table w asks in
-    HasHistoryOf after member (λ last. (from : ℕ) (text : List ℕ) (object : Found) →
+    HasKept after member (λ last. (from : ℕ) (text : List ℕ) (object : Found) →
     resolution_of_text after.tree from (ending_of call) text (last_of call) ≡ Ok object → is_of after.tree now asked object ≡ true →
     verdict after.tree table last call object ≡ Allowed → ⊥)

@@ -6,7 +6,7 @@ use Rattle.pua_tree.specs.Tree.{Tree, Spot}
 use Rattle.pua_path.specs.declared.found.Found.TheVariants.{Slot}
 use Rattle.pua_calls.specs.Calls.{CallTable}
 use Rattle.pua_calls.specs.declared.call.Call.{Call}
-use Rattle.pua_policy.specs.History.{History}
+use Rattle.pua_policy.specs.States.{ProcessState}
 use Rattle.pua_objects.specs.Items.{subject_given}
 use Rattle.pua_objects.specs.Objects.{Subject, At}
 use Rattle.pua_objects.specs.declared.item.Subject as told
@@ -24,7 +24,7 @@ use Rattle.pua_how.specs.declared.outlook.Outlook.{Outlook}
 use Rattle.pua_how.specs.declared.target.Target.{Target}
 use Rattle.pua_how.specs.declared.target.Target.TheVariants as target
 
-module _ (t : Tree) (table : CallTable) (h : History) (asked : Target) (call : Call) where
+module _ (t : Tree) (table : CallTable) (h : ProcessState) (asked : Target) (call : Call) where
   -- the line of a subject has the call, and is about what is asked
   abbrev pub subject_has : Subject → Bool
   subject_has subject = is_about asked (Stands subject) && is_ever_allowed t table h subject call
@@ -70,11 +70,11 @@ abbrev pub comes_by : (Call → Bool) → Target → Bool
 comes_by passes asked = comes_as passes (made_of asked)
 
 -- these are the lines of a process, or, where it is handed in, of who holds both sets
-abbrev pub AreLinesOf : Tree → CallTable → History → Option Both → List EverLine → Type 0
+abbrev pub AreLinesOf : Tree → CallTable → ProcessState → Option Both → List EverLine → Type 0
 AreLinesOf t table h None lines = lines ≡ ever t table h
 AreLinesOf t table h (Some both) lines = (is : IsBoth table h both) × (lines ≡ ever_through t table h is.given)
 
 -- what the list that holds longest has of some things
-pub record IsOutlook (t : Tree) (table : CallTable) (h : History) (things : List Target) (call : Call) (found : Outlook) : Type 0 where
+pub record IsOutlook (t : Tree) (table : CallTable) (h : ProcessState) (things : List Target) (call : Call) (found : Outlook) : Type 0 where
   pub listed : found.listed ≡ list_any (λ asked. is_listed (ever_lasting t table h) asked call) things
   pub execs : found.execs ≡ execs_of t table h

@@ -4,10 +4,10 @@ use Rattle.std.specs.List.{AllByRecursion}
 use Rattle.pua_calls.specs.declared.call.Call.{Call}
 use Rattle.pua_calls.specs.declared.rules.Rules.{Rules}
 use Rattle.pua_script.specs.Requests.{Asked}
-use Rattle.pua_script.specs.Replay.{World, answers_to, world_after}
+use Rattle.pua_script.specs.Replay.{answers_to}
 use Rattle.pua_script.specs.Scripts.{request_by}
 use Rattle.pua_script.specs.Family.{is_exec}
-use Rattle.pua_script.specs.Worlds.{WorldState, StandsForWorld}
+use Rattle.pua_script.specs.Worlds.{WorldState, state_after_all, world_of}
 use Rattle.pua_script.specs.declared.answer.Answer.TheVariants.{Okay}
 use Rattle.pua_how.specs.Ways.{Reaches, IsWay, call_of}
 use Rattle.pua_how.specs.declared.line.WayLine.{WayLine}
@@ -26,17 +26,16 @@ asks_of lines = map (λ line. line.request) lines
 pub record AreGranted (rules : Rules) (before : WorldState) (process : ℕ) (lines : List WayLine) (after : WorldState) : Type 0 where
   pub are : AllByRecursion (IsLine rules process) lines
   pub quiet : AllByRecursion (λ line. is_exec line.request.action ≡ false) lines
-  pub told : (w : World) → StandsForWorld before w → AllByRecursion (λ answer. answer ≡ Okay) (answers_to before.table w (asks_of lines))
-  pub left : (w : World) → StandsForWorld before w → StandsForWorld after (world_after before.table w (asks_of lines))
-  pub table : (w : World) → StandsForWorld before w → after.table ≡ before.table
+  pub told : AllByRecursion (λ answer. answer ≡ Okay) (answers_to before.table (world_of before) (asks_of lines))
+  pub left : after ≡ state_after_all before (asks_of lines)
 
 -- the last line is the call, on what is asked about
 pub record IsCall (before : WorldState) (process : ℕ) (call : Call) (target : Target) (ask : Asked) : Type 0 where
   pub text : List ℕ
   pub called : call_of ask.action ≡ Some (call, text)
-  pub reaches : (w : World) → StandsForWorld before w → Reaches w process call target text
+  pub reaches : Reaches (world_of before) process call target text
 
--- lines that are a way in each world for which this one stands
+-- lines that are a way in a world
 pub record AreWay (rules : Rules) (before : WorldState) (process : ℕ) (call : Call) (target : Target) (lines : List WayLine) : Type 0 where
   pub are : AllByRecursion (IsLine rules process) lines
-  pub way : (w : World) → StandsForWorld before w → IsWay before.table w process call target (asks_of lines)
+  pub way : IsWay before.table (world_of before) process call target (asks_of lines)

@@ -8,10 +8,10 @@ use Rattle.pua_calls.specs.Calls.{CallTable, call_name, call_number}
 use Rattle.pua_calls.specs.declared.call.Call.{Call}
 use Rattle.pua_calls.specs.declared.call.Call.TheVariants as call
 use Rattle.pua_calls.specs.declared.rules.Rules.{Rules}
-use Rattle.pua_policy.specs.History.{History}
+use Rattle.pua_policy.specs.States.{ProcessState}
 use Rattle.pua_policy.specs.Verdict.{object_named}
 use Rattle.pua_script.specs.Requests.{Asked}
-use Rattle.pua_script.specs.Replay.{World, history_of, apply}
+use Rattle.pua_script.specs.Replay.{World, kept_at, apply}
 use Rattle.pua_script.specs.Scripts.{request_by}
 use Rattle.pua_script.specs.Family.{is_exec, is_okay}
 use Rattle.pua_script.specs.declared.fault.ScriptFault.{ScriptFault}
@@ -72,13 +72,13 @@ is_some_by test None = false
 is_some_by test (Some x) = test x
 
 -- the call is on a path that names what is asked about
-abbrev pub names_asked : Tree → History → Target → Result Found Errno → Bool
+abbrev pub names_asked : Tree → ProcessState → Target → Result Found Errno → Bool
 names_asked t h target (Ok object) = is_of t h target object
 names_asked t h target (Err errno) = false
 
 module _ (process : ℕ) (call : Call) (target : Target) where
   abbrev pub reaches : World → List ℕ → Bool
-  reaches w text = is_some_by (λ h. names_asked w.tree h target (object_named w.tree h call text)) (history_of w process)
+  reaches w text = is_some_by (λ h. names_asked w.tree h target (object_named w.tree h call text)) (kept_at w process)
 
   abbrev pub is_the_call : World → Action → Bool
   is_the_call w action = is_some_by (λ two. (call_number two.0 == call_number call) && reaches w two.1) (call_of action)

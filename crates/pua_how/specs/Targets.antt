@@ -8,7 +8,7 @@ use Rattle.pua_tree.specs.declared.node.Kind.TheVariants as kind
 use Rattle.pua_path.specs.Fits.{is_link_kind}
 use Rattle.pua_path.specs.declared.found.Found.{Found}
 use Rattle.pua_path.specs.declared.found.Found.TheVariants.{Whole, Slot}
-use Rattle.pua_policy.specs.History.{History, perms_kept}
+use Rattle.pua_policy.specs.States.{ProcessState, perms_kept}
 use Rattle.pua_policy.specs.declared.place.Place.TheVariants as place
 use Rattle.pua_calls.specs.Calls.{call_number}
 use Rattle.pua_calls.specs.declared.call.Call.{Call}
@@ -24,7 +24,7 @@ is_file_kind _ = false
 -- in a tree: a directory is itself by whichever name, a file, program or link its node by whichever name; a missing name is
 -- asked about by itself where it has a veil of its own, and else as one of the further names of its directory; and what is made
 -- has a number above the last one before
-abbrev pub is_of : Tree → History → Target → Found → Bool
+abbrev pub is_of : Tree → ProcessState → Target → Found → Bool
 is_of t h (target.Directory asked) (Whole dir way) = dir == asked
 is_of t h (target.Others asked) (Slot dir name None) = dir == asked && is_none (perms_kept h (place.Slot dir name))
 is_of t h (target.Node asked) (Slot dir name (Some node)) = node == asked

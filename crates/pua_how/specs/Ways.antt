@@ -5,10 +5,10 @@ use Rattle.pua_path.specs.declared.found.Found.{Found}
 use Rattle.pua_calls.specs.Calls.{CallTable}
 use Rattle.pua_calls.specs.declared.call.Call.{Call}
 use Rattle.pua_calls.specs.declared.call.Call.TheVariants as call
-use Rattle.pua_policy.specs.History.{History}
+use Rattle.pua_policy.specs.States.{ProcessState}
 use Rattle.pua_policy.specs.Verdict.{object_named}
 use Rattle.pua_script.specs.Requests.{Asked}
-use Rattle.pua_script.specs.Replay.{World, history_of, answers_to, world_after}
+use Rattle.pua_script.specs.Replay.{World, kept_at, answers_to, world_after}
 use Rattle.pua_script.specs.Family.{is_exec}
 use Rattle.pua_script.specs.declared.request.Action.{Action}
 use Rattle.pua_script.specs.declared.request.Action.TheVariants.{OnPath, Symlink}
@@ -24,11 +24,11 @@ call_of _ = None
 
 -- what a text names to the process before the last request is what is asked about
 pub record Reaches (w : World) (process : ℕ) (call : Call) (target : Target) (text : List ℕ) : Type 0 where
-  pub history : History
-  pub kept : history_of w process ≡ Some history
+  pub now : ProcessState
+  pub kept : kept_at w process ≡ Some now
   pub object : Found
-  pub named : object_named w.tree history call text ≡ Ok object
-  pub asked : is_of w.tree history target object ≡ true
+  pub named : object_named w.tree now call text ≡ Ok object
+  pub asked : is_of w.tree now target object ≡ true
 
 -- requests of one process, each answered `ok`, of which no exec comes before the last; the last one is the call, on a path
 -- that names what is asked about in the world before it

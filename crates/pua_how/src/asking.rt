@@ -5,7 +5,7 @@ ghost use Rattle.std.specs.Prelude.{unwrap_or};
 ghost use Rattle.std.specs.List.{AllByRecursion, slice_split};
 ghost use Rattle.pua_tree.specs.LentRows.{lent_entry};
 ghost use Rattle.pua_tree.specs.Tree.{is_dir};
-ghost use Rattle.pua_policy.specs.History.{History, StandsFor};
+ghost use Rattle.pua_policy.specs.States.{ProcessState};
 ghost use Rattle.pua_how.specs.Asking.{asking_of, directory_at_name, is_of_kind as has_kind};
 ghost use Rattle.pua_how.specs.Asking.{may_be_of, names_read, path_names, standing_at};
 ghost use Rattle.pua_how.specs.Asking.{targets_at, targets_by, targets_in, targets_new};
@@ -101,8 +101,8 @@ pub fn find_meant<T: FileTree>(
     asking: &Asking,
     kind: Option<ObjectKind>,
 ) -> Result<Meant, OutOfMemory>
-    ensures { IfOk result (λ found. (h : History) → StandsFor process.now h →
-        IsAskedBy (T.content tree.now) h (asking_given asking.now) kind found.targets.items) }
+    ensures { IfOk result (λ found. IsAskedBy (T.content tree.now) process.now
+        (asking_given asking.now) kind found.targets.items) }
 {
     let last = last_number(alloc, tree)?;
     let targets = match asking {
@@ -156,8 +156,8 @@ fn standing<T: FileTree>(
     process: &Process,
     names: &[Name],
 ) -> Result<Vec<Target>, AllocError>
-    ensures { IfOk result (λ targets. (h : History) → StandsFor process.now h →
-        targets.items ≡ unwrap_or (targets_by (T.content tree.now) h names.now) []) }
+    ensures { IfOk result (λ targets. targets.items
+        ≡ unwrap_or (targets_by (T.content tree.now) process.now names.now) []) }
 {
     let Some((first, more)) = names.split_first() else {
         return at_directory(alloc, NodeId::ROOT);
@@ -170,7 +170,7 @@ fn standing<T: FileTree>(
 
 /// The directory to which all names but the last one lead, and that name.
 fn spot_of<T: FileTree>(tree: &T, first: &Name, more: &[Name]) -> Option<(NodeId, Name)>
-    ensures { (h : History) → targets_in (T.content tree.now) h 0 first.now more.now
+    ensures { (h : ProcessState) → targets_in (T.content tree.now) h 0 first.now more.now
         ≡ option_map (λ spot. targets_at (T.content tree.now) h spot.0 spot.1) result }
 {
     let mut dir = NodeId::ROOT;
@@ -220,8 +220,8 @@ fn at_name<T: FileTree>(
     dir: NodeId,
     name: &Name,
 ) -> Result<Vec<Target>, AllocError>
-    ensures { IfOk result (λ targets. (h : History) → StandsFor process.now h →
-        targets.items ≡ targets_at (T.content tree.now) h dir name.now) }
+    ensures { IfOk result (λ targets. targets.items
+        ≡ targets_at (T.content tree.now) process.now dir name.now) }
 {
     let is_veiled = process.kept(&Place::Slot(dir, *name)).is_some();
     let mut targets = match tree.look(dir, name) {

@@ -6,7 +6,7 @@ ghost use Rattle.pua_tree.specs.Tree.{Tree, WellFormed};
 ghost use Rattle.pua_path.specs.declared.found.Found.TheVariants.{Slot};
 ghost use Rattle.pua_calls.specs.Calls.{CallTable as Table};
 ghost use Rattle.pua_calls.specs.CallSets.{has};
-ghost use Rattle.pua_policy.specs.History.{History, StandsFor};
+ghost use Rattle.pua_policy.specs.States.{ProcessState};
 ghost use Rattle.pua_objects.specs.Items.{subject_given};
 ghost use Rattle.pua_objects.specs.ListItems.{IsToldIn};
 ghost use Rattle.pua_objects.specs.Objects.{At};
@@ -55,12 +55,10 @@ pub fn find_outlook<T: FileTree>(
     things: &[Target],
     call: Call,
 ) -> Result<Outlook, EverFault>
-    ensures told { IfOk result (λ found. (h : History) → StandsFor process.now h →
-        IsBothOf table.now h (option_copied both.entry) →
-        IsOutlook (T.content tree.now) table.now h things.now call found) }
-    ensures refused { (h : History) → StandsFor process.now h →
-        IsBothOf table.now h (option_copied both.entry) → MatchResult result
-        (λ _. refusal_of table.now h ≡ None) (λ fault. refusal_of table.now h
+    ensures told { IfOk result (λ found. IsBothOf table.now process.now (option_copied both.entry) →
+        IsOutlook (T.content tree.now) table.now process.now things.now call found) }
+    ensures refused { IsBothOf table.now process.now (option_copied both.entry) → MatchResult result
+        (λ _. refusal_of table.now process.now ≡ None) (λ fault. refusal_of table.now process.now
         ≡ refusal_in fault) }
 {
     if let Some(refusal) = why_refused(process, table) {
@@ -77,7 +75,8 @@ pub fn find_outlook<T: FileTree>(
 
 /// Whose list is the one that holds longest, where it is not that of the process itself.
 fn through_by(execs: ExecBound, both: Option<&Both>) -> Option<&Both>
-    ensures { (t : Tree) (table : Table) (h : History) → IsBothOf table h (option_copied both.entry) →
+    ensures { (t : Tree) (table : Table) (h : ProcessState) →
+        IsBothOf table h (option_copied both.entry) →
         execs ≡ execs_of t table h →
         AreLinesOf t table h (option_copied result) (ever_lasting t table h) }
 {
@@ -98,9 +97,8 @@ fn some_listed<T: FileTree>(
     things: &[Target],
     call: Call,
 ) -> Result<bool, OutOfMemory>
-    ensures { IfOk result (λ listed. (h : History) → EditsNeedC table.now → StandsFor process.now h →
-        (lines : List EverLine) →
-        AreLinesOf (T.content tree.now) table.now h (option_copied through.entry) lines →
+    ensures { IfOk result (λ listed. EditsNeedC table.now → (lines : List EverLine) →
+        AreLinesOf (T.content tree.now) table.now process.now (option_copied through.entry) lines →
         listed ≡ list_any (λ asked. is_listed lines asked call) things.now) }
 {
     for asked in things {
@@ -121,9 +119,8 @@ fn is_listed_in<T: FileTree>(
     asked: &Target,
     call: Call,
 ) -> Result<bool, OutOfMemory>
-    ensures { IfOk result (λ listed. (h : History) → EditsNeedC table.now → StandsFor process.now h →
-        (lines : List EverLine) →
-        AreLinesOf (T.content tree.now) table.now h (option_copied through.entry) lines →
+    ensures { IfOk result (λ listed. EditsNeedC table.now → (lines : List EverLine) →
+        AreLinesOf (T.content tree.now) table.now process.now (option_copied through.entry) lines →
         listed ≡ is_listed lines asked.now call) }
 {
     match through {
@@ -141,7 +138,7 @@ fn is_listed_through<T: FileTree>(
     asked: &Target,
     call: Call,
 ) -> Result<bool, OutOfMemory>
-    ensures { IfOk result (λ listed. (h : History) → EditsNeedC table.now →
+    ensures { IfOk result (λ listed. (h : ProcessState) → EditsNeedC table.now →
         (is : IsBoth table.now h both.now) → listed
         ≡ is_listed (ever_through (T.content tree.now) table.now h is.given) asked.now call) }
 {
@@ -179,9 +176,8 @@ fn is_listed_by<T: FileTree>(
     asked: &Target,
     call: Call,
 ) -> Result<bool, OutOfMemory>
-    ensures { IfOk result (λ listed. (h : History) → EditsNeedC table.now →
-        StandsFor process.now h →
-        listed ≡ is_listed (ever (T.content tree.now) table.now h) asked.now call) }
+    ensures { IfOk result (λ listed. EditsNeedC table.now →
+        listed ≡ is_listed (ever (T.content tree.now) table.now process.now) asked.now call) }
 {
     let prospects = find_prospects(alloc, tree, process, table)?;
     let items = list_items(alloc, tree, process)?;
@@ -201,10 +197,10 @@ fn items_have<T: FileTree>(
     asked: &Target,
     call: Call,
 ) -> bool
-    ensures { (h : History) → EditsNeedC table.now → StandsFor process.now h →
-        IsProspects (T.content tree.now) table.now h prospects.now →
+    ensures { EditsNeedC table.now →
+        IsProspects (T.content tree.now) table.now process.now prospects.now →
         AllByRecursion (IsToldIn (T.content tree.now) process.now) items.now →
-        result ≡ some_item_has (T.content tree.now) table.now h asked.now call items.now }
+        result ≡ some_item_has (T.content tree.now) table.now process.now asked.now call items.now }
 {
     for item in items {
         if item_has(tree, process, table, prospects, item, asked, call) {
@@ -224,10 +220,10 @@ fn item_has<T: FileTree>(
     asked: &Target,
     call: Call,
 ) -> bool
-    ensures { (h : History) → EditsNeedC table.now → StandsFor process.now h →
-        IsProspects (T.content tree.now) table.now h prospects.now →
+    ensures { EditsNeedC table.now →
+        IsProspects (T.content tree.now) table.now process.now prospects.now →
         IsToldIn (T.content tree.now) process.now item.now →
-        result ≡ has_item (T.content tree.now) table.now h asked.now call
+        result ≡ has_item (T.content tree.now) table.now process.now asked.now call
         (subject_given (T.content tree.now) item.now.item.subject) }
 {
     subject_has(tree, process, table, prospects, item, asked, call)
@@ -244,10 +240,10 @@ fn subject_has<T: FileTree>(
     asked: &Target,
     call: Call,
 ) -> bool
-    ensures { (h : History) → EditsNeedC table.now → StandsFor process.now h →
-        IsProspects (T.content tree.now) table.now h prospects.now →
+    ensures { EditsNeedC table.now →
+        IsProspects (T.content tree.now) table.now process.now prospects.now →
         IsToldIn (T.content tree.now) process.now item.now →
-        result ≡ has_subject (T.content tree.now) table.now h asked.now call
+        result ≡ has_subject (T.content tree.now) table.now process.now asked.now call
         (subject_given (T.content tree.now) item.now.item.subject) }
 {
     tree.known();
@@ -265,10 +261,9 @@ fn freed_has<T: FileTree>(
     asked: &Target,
     call: Call,
 ) -> bool
-    ensures { (h : History) → StandsFor process.now h →
-        IsProspects (T.content tree.now) table.now h prospects.now →
+    ensures { IsProspects (T.content tree.now) table.now process.now prospects.now →
         IsToldIn (T.content tree.now) process.now item.now →
-        result ≡ has_freed (T.content tree.now) table.now h asked.now call
+        result ≡ has_freed (T.content tree.now) table.now process.now asked.now call
         (own_spot (subject_given (T.content tree.now) item.now.item.subject)) }
 {
     tree.known();
@@ -316,7 +311,7 @@ fn is_name_of(item: &Item<'_>, asked: &Target) -> bool
 
 /// Whether the line of what can be made has the call.
 fn made_has(prospects: &Prospects, asked: &Target, call: Call) -> bool
-    ensures { (t : Tree) (table : Table) (h : History) → IsProspects t table h prospects.now →
+    ensures { (t : Tree) (table : Table) (h : ProcessState) → IsProspects t table h prospects.now →
         result ≡ some_new_has t table h asked.now call }
 {
     match made_as(asked) {

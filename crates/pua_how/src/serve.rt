@@ -1,16 +1,15 @@
 //! Serving the steps of a plan, up to the call that is asked for.
 
-ghost use Rattle.std.specs.Prelude.{◌≡◌, ◌++◌, ◌∷◌, [], IfOk, IfSome, is_some, option_map, true};
+ghost use Rattle.std.specs.Prelude.{◌≡◌, ◌++◌, ◌∷◌, [], IfOk, IfSome, is_some, option_map};
 ghost use Rattle.pua_calls.specs.declared.call.Call.{Call as AnyCall};
 ghost use Rattle.pua_path.specs.Resolution.{resolution_of_text};
-ghost use Rattle.pua_how.specs.Served.{AreGranted, AreWay, IsCall, asks_of};
+ghost use Rattle.pua_how.specs.Served.{AreGranted, AreWay};
 ghost use Rattle.pua_how.specs.Steps.{comes, is_some_by, is_the_call, reaches as comes_to};
-ghost use Rattle.pua_how.specs.Ways.{Reaches, call_of as asked_for};
+ghost use Rattle.pua_how.specs.Ways.{call_of as asked_for};
 ghost use Rattle.pua_how.specs.declared.step.Step.{Step as AnyStep};
 ghost use Rattle.pua_how.specs.declared.target.Target.{Target as Thing};
 ghost use Rattle.pua_script.specs.Family.{is_exec as is_an_exec};
-ghost use Rattle.pua_script.specs.Replay.{World as Replayed, world_after};
-ghost use Rattle.pua_script.specs.Worlds.{IsServed, StandsForWorld, WorldState};
+ghost use Rattle.pua_script.specs.Worlds.{WorldState, apply_to, world_of};
 
 use crate::line::{WayLine, line_of, made_by};
 use crate::step::Step;
@@ -47,8 +46,8 @@ pub fn serve_way<T: FileTree>(
 ) -> Result<Option<Vec<WayLine>>, OutOfMemory>
     ensures way { IfOk result (λ served. IfSome served
         (λ lines. AreWay rules world.old process call target.now lines.items)) }
-    ensures found { IfOk result (λ served. (w : Replayed) → StandsForWorld world.old w →
-        is_some served ≡ comes rules world.old.table process call target.now steps.now w 0) }
+    ensures found { IfOk result (λ served. is_some served
+        ≡ comes rules world.old.table process call target.now steps.now (world_of world.old) 0) }
 {
     let Some((last, first)) = steps.split_last() else {
         return Ok(None);
@@ -74,9 +73,9 @@ fn serve_last<T: FileTree>(
         AreGranted rules before process served.lines.items world.old →
         IfOk result (λ found. IfSome found
         (λ lines. AreWay rules before process call target.now lines.items)) }
-    ensures found { IfOk result (λ found. (w : Replayed) → StandsForWorld world.old w →
-        is_some found
-        ≡ comes rules world.old.table process call target.now (step.now ∷ []) w served.made) }
+    ensures found { IfOk result (λ found. is_some found
+        ≡ comes rules world.old.table process call target.now (step.now ∷ [])
+        (world_of world.old) served.made) }
 {
     let line = line_of(alloc, rules, world.tree(), process, step, served.made)?;
     let Some(line) = line else {
@@ -103,11 +102,11 @@ fn serve_first<T: FileTree>(
 ) -> Result<Option<Served>, OutOfMemory>
     ensures granted { IfOk result (λ served. IfSome served
         (λ served. AreGranted rules world.old process served.lines.items world.new)) }
-    ensures on { IfOk result (λ served. (w : Replayed) → StandsForWorld world.old w →
-        (call : AnyCall) (target : Thing) (last : AnyStep) →
-        comes rules world.old.table process call target (steps.now ++ last ∷ []) w 0
-        ≡ is_some_by (λ s. comes rules world.old.table process call target (last ∷ [])
-        (world_after world.old.table w (asks_of s.lines.items)) s.made) served) }
+    ensures on { IfOk result (λ served. (call : AnyCall) (target : Thing) (last : AnyStep) →
+        comes rules world.old.table process call target (steps.now ++ last ∷ [])
+        (world_of world.old) 0
+        ≡ is_some_by (λ s. comes rules world.new.table process call target (last ∷ [])
+        (world_of world.new) s.made) served) }
 {
     let mut lines = Vec::new(alloc);
     let mut made = NodeId::ROOT;
@@ -137,7 +136,7 @@ fn is_exec(request: &Request) -> bool
 
 /// Serves a request, and answers it. The only error is that a growth was refused.
 fn answered<T: FileTree>(world: &mut World<T>, request: &Request) -> Result<Answer, OutOfMemory>
-    ensures { IfOk result (λ answer. IsServed world.old request.now answer world.new) }
+    ensures { IfOk result (λ answer. (answer, world.new) ≡ apply_to world.old request.now) }
 {
     match world.apply(request) {
         Ok(answer) => Ok(answer),
@@ -153,9 +152,7 @@ fn is_asked<T: FileTree>(
     target: &Target,
     request: &Request,
 ) -> bool
-    ensures call { result ≡ true → IsCall world.now number call target.now request.now }
-    ensures exact { (w : Replayed) → StandsForWorld world.now w →
-        result ≡ is_the_call number call target.now w request.now.action }
+    ensures { result ≡ is_the_call number call target.now (world_of world.now) request.now.action }
 {
     let Some((asked, path)) = call_of(request.action()) else {
         return false;
@@ -185,10 +182,7 @@ fn reaches<T: FileTree>(
     target: &Target,
     path: &PathBytes,
 ) -> bool
-    ensures named { result ≡ true → (w : Replayed) → StandsForWorld world.now w →
-        Reaches w number call target.now path.now }
-    ensures exact { (w : Replayed) → StandsForWorld world.now w →
-        result ≡ comes_to number call target.now w path.now }
+    ensures { result ≡ comes_to number call target.now (world_of world.now) path.now }
 {
     let Some(process) = world.process(number) else {
         return false;

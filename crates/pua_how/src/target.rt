@@ -4,7 +4,7 @@ ghost use Rattle.std.specs.Prelude.{◌≡◌, ℕ, List, Some, None, nat_lt};
 ghost use Rattle.pua_tree.specs.Tree.{Tree};
 ghost use Rattle.pua_path.specs.declared.found.Found.TheVariants as found;
 ghost use Rattle.pua_path.specs.declared.found.Way.{Way};
-ghost use Rattle.pua_policy.specs.History.{History, StandsFor};
+ghost use Rattle.pua_policy.specs.States.{ProcessState};
 ghost use Rattle.pua_how.specs.Targets.{is_of};
 
 use pua_path::Found;
@@ -36,8 +36,7 @@ pub enum Target {
 impl Target {
     /// Whether this is what a path named in a tree, by the veils of a process.
     pub fn is<T: FileTree>(&self, tree: &T, process: &Process, found: &Found) -> bool
-        ensures { (h : History) → StandsFor process.now h →
-            result ≡ is_of (T.content tree.now) h self.now found.now }
+        ensures { result ≡ is_of (T.content tree.now) process.now self.now found.now }
     {
         match found {
             Found::Whole { dir, .. } => self.is_directory(*dir),
@@ -55,7 +54,7 @@ impl Target {
 
     /// Whether it is this directory.
     fn is_directory(&self, dir: NodeId) -> bool
-        ensures { (t : Tree) (h : History) (way : Way) →
+        ensures { (t : Tree) (h : ProcessState) (way : Way) →
             result ≡ is_of t h self.now (found.Whole dir way) }
     {
         match self {
@@ -67,7 +66,7 @@ impl Target {
 
     /// Whether it is this file, program or link.
     fn is_node<T: FileTree>(&self, tree: &T, node: NodeId) -> bool
-        ensures { (h : History) (dir : ℕ) (name : List ℕ) →
+        ensures { (h : ProcessState) (dir : ℕ) (name : List ℕ) →
             result ≡ is_of (T.content tree.now) h self.now (found.Slot dir name (Some node)) }
     {
         match self {
@@ -82,8 +81,8 @@ impl Target {
 
     /// Whether it is this name, at which nothing stands.
     fn is_missing(&self, process: &Process, dir: NodeId, name: &Name) -> bool
-        ensures { (t : Tree) (h : History) → StandsFor process.now h →
-            result ≡ is_of t h self.now (found.Slot dir name.now None) }
+        ensures { (t : Tree) →
+            result ≡ is_of t process.now self.now (found.Slot dir name.now None) }
     {
         let kept = process.kept(&Place::Slot(dir, *name));
         match self {

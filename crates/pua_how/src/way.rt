@@ -2,8 +2,7 @@
 
 ghost use Rattle.std.specs.Prelude.{◌≡◌, IfOk, IfSome, is_some};
 ghost use Rattle.std.specs.List.{Contains};
-ghost use Rattle.pua_script.specs.Replay.{World as Replayed};
-ghost use Rattle.pua_script.specs.Worlds.{StandsForWorld};
+ghost use Rattle.pua_script.specs.Worlds.{world_of};
 ghost use Rattle.pua_how.specs.Served.{AreWay};
 ghost use Rattle.pua_how.specs.Steps.{plan_comes};
 ghost use Rattle.pua_how.specs.declared.target.Target.{Target as Thing};
@@ -110,9 +109,9 @@ impl Plan {
         ensures way { IfOk result (λ served. IfSome served (λ lines. (thing : Thing)
             × Contains meant.now.targets.items thing
             × AreWay rules world.old process call thing lines.items)) }
-        ensures found { IfOk result (λ served. (w : Replayed) → StandsForWorld world.old w →
-            is_some served ≡ plan_comes rules world.old.table process call
-            meant.now.targets.items self.now w) }
+        ensures found { IfOk result (λ served. is_some served
+            ≡ plan_comes rules world.old.table process call
+            meant.now.targets.items self.now (world_of world.old)) }
     {
         let Some(target) = meant.targets.get(self.place) else {
             return Ok(None);

@@ -22,7 +22,7 @@ pub use Rattle.pua_path.specs.declared.found.Last.TheVariants.{Followed, Kept}
 pub use Rattle.pua_path.specs.declared.found.Way.{Way}
 pub use Rattle.pua_path.specs.declared.found.Way.TheVariants.{Named, Top}
 pub use Rattle.pua_policy.proofs.ForCallers.{covers_descend}
-pub use Rattle.pua_policy.specs.History.{History, perms_kept, ProcessState, StandsFor, veils}
+pub use Rattle.pua_policy.specs.States.{ProcessState, perms_kept, veils}
 pub use Rattle.pua_policy.specs.Verdict.{if_promised, is_allowed, is_link, is_link_kind, object_of, verdict}
 pub use Rattle.pua_policy.specs.declared.answer.Cover.{Cover}
 pub use Rattle.pua_policy.specs.declared.answer.Cover.TheVariants.{All}

@@ -1,7 +1,7 @@
 -- Each object on which a call is allowed has a line with the call.
 use Rattle.pua_objects.proofs.Common.{◌≡◌, ℕ, List, [], ◌∷◌, Bool, true, length, arith, refl, sym, ap, ◌∙◌, map, ◌&&◌, Option}
 use Rattle.pua_objects.proofs.Common.{Some, None, Ok, Err, Tree, WellFormed, is_dir, sound_from, FoundFits, path_fault, Last, Way, Found}
-use Rattle.pua_objects.proofs.Common.{Whole, Slot, CallTable, calls, rule_of, last_of, History, veils, verdict, if_promised, is_allowed}
+use Rattle.pua_objects.proofs.Common.{Whole, Slot, CallTable, calls, rule_of, last_of, ProcessState, veils, verdict, if_promised, is_allowed}
 use Rattle.pua_objects.proofs.Common.{Call, Allowed, Line, line_of, has_calls, items, calls_on, is_named_by, subject_verdict, subject_of}
 use Rattle.std.proofs.Common.{nat_lt, lt-ltb}
 use Rattle.std.specs.Prelude.{Result}
@@ -13,7 +13,7 @@ use Rattle.pua_calls.specs.Calls.{ending_of}
 use Rattle.pua_calls.specs.CallSets.{bit_of}
 use Rattle.pua_calls.specs.declared.call.Call.TheVariants.{Stat}
 use Rattle.pua_calls.proofs.ForCallers.{bit_below, call_at_bit}
-use Rattle.pua_policy.specs.History.{may_any, working_dir}
+use Rattle.pua_policy.specs.States.{may_any, working_dir}
 use Rattle.pua_policy.specs.Verdict.{verdict_of}
 use Rattle.pua_policy.specs.declared.answer.May.{May}
 use Rattle.pua_policy.specs.declared.answer.May.TheVariants as may
@@ -48,7 +48,7 @@ named_within_text t from ending text mode object e = by (path_fault text) refl
     by None is = rw is at e
     by (Some errno) is = let never : Err errno ≡ Ok object = rw is at e in cc
 
-module _ (t : Tree) (fits : WellFormed t) (table : CallTable) (h : History) (call : Call) where
+module _ (t : Tree) (fits : WellFormed t) (table : CallTable) (h : ProcessState) (call : Call) where
   -- what is allowed on what was found has a line
   listed : (named : Result Found Errno) (object : Found) → named ≡ Ok object → IsOf t (last_of call) object →
       verdict t table h call object ≡ Allowed → IsListed t table h call named
@@ -97,4 +97,4 @@ allowed_is Death e = cc
 pub reach_is_listed : ReachIsListed
 reach_is_listed s fits word call there =
     let pair = filter_among (is_reached s) (pairs s.alphabet s.limit) (word, call) (among_contained (reach s) (word, call) there) in
-    complete_from s.tree fits s.table s.history call (working_dir s.history) (path_of s.base word) (allowed_is _ pair.1)
+    complete_from s.tree fits s.table s.process call (working_dir s.process) (path_of s.base word) (allowed_is _ pair.1)

@@ -1,8 +1,8 @@
 -- A verdict depends on what was found alone, and on the way for rmdir.
 use Rattle.pua_objects.proofs.Common.{◌≡◌, ◌≢◌, ℕ, zero, suc, List, ◌∷◌, true, false, refl, sym, ap, ◌∙◌, Option, Some, None, not, ◌&&◌}
-use Rattle.pua_objects.proofs.Common.{◌||◌, is_some, if◌then◌else◌, list_any, Tree, Spot, is_dir, spot_cmp, exact_spots, Sound, row_says}
+use Rattle.pua_objects.proofs.Common.{◌||◌, is_some, if◌then◌else◌, Tree, Spot, is_dir, spot_cmp, exact_spots, Sound, row_says}
 use Rattle.pua_objects.proofs.Common.{eq-eqb, Last, Followed, Kept, Way, Named, Top, Found, Whole, Slot, CallTable, rule_of, last_of}
-use Rattle.pua_objects.proofs.Common.{History, perms_kept, if_promised, verdict, is_allowed, is_link, Call, Cover, All, Allowed, Subject}
+use Rattle.pua_objects.proofs.Common.{ProcessState, perms_kept, if_promised, verdict, is_allowed, is_link, Call, Cover, All, Allowed, Subject}
 use Rattle.pua_objects.proofs.Common.{At, Others, subject_of, cover_in, subject_verdict, is_named_by}
 use Rattle.std.specs.Prelude.{◌==◌, map}
 use Rattle.pua_tree.specs.Tree.{climb}
@@ -11,8 +11,9 @@ use Rattle.pua_path.specs.Fits.{StandsAsNamed}
 use Rattle.pua_path.specs.declared.errno.Errno.{Errno}
 use Rattle.pua_path.specs.declared.found.Way.TheVariants.{Dot, DotDot}
 use Rattle.pua_calls.specs.CallSets.{is_kept}
-use Rattle.pua_policy.specs.History.{may_any}
-use Rattle.pua_policy.specs.Verdict.{IsMissing, object_fault, or_fault, cover, cover_fault, nearest, is_unveil, allowed_unless}
+use Rattle.pua_policy.specs.States.{may_any}
+use Rattle.pua_policy.specs.Verdict.{IsMissing, object_fault, or_fault, cover, cover_fault, nearest, allowed_unless}
+use Rattle.pua_policy.specs.States.{has_veil}
 use Rattle.pua_calls.specs.declared.call.Call.TheVariants.{Rmdir}
 use Rattle.pua_policy.specs.declared.answer.May.{May}
 use Rattle.pua_policy.specs.declared.answer.May.TheVariants as may
@@ -36,7 +37,7 @@ module _ (t : Tree) (sound : Sound t) where
       ap way_of_spot (only_key spot_cmp spots_total exact_spots (λ y. y == suc d) s (suc d) t.rows (sound.once (suc d) living other) row
       (eq-eqb (suc d) (suc d) refl))
 
-  module _ (table : CallTable) (h : History) where
+  module _ (table : CallTable) (h : ProcessState) where
     abbrev whole_verdict : Call → ℕ → Way → Verdict
     whole_verdict call dir way = verdict t table h call (Whole dir way)
 
@@ -67,7 +68,7 @@ module _ (t : Tree) (sound : Sound t) where
     pub cover_of_others : (dir : ℕ) (name : List ℕ) → perms_kept h (place.Slot dir name) ≡ None →
         cover t h (Slot dir name None) ≡ cover_in t h dir
     cover_of_others dir name none =
-        ap (λ (o : Option ℕ). if list_any is_unveil h then nearest (o ∷ map (λ over. perms_kept h (place.Dir over)) (climb t dir)) else All)
+        ap (λ (o : Option ℕ). if has_veil h.veils then nearest (o ∷ map (λ over. perms_kept h (place.Dir over)) (climb t dir)) else All)
         none
 
     pub others_verdict : (call : Call) (dir : ℕ) (name : List ℕ) → perms_kept h (place.Slot dir name) ≡ None →

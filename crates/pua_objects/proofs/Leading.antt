@@ -2,7 +2,7 @@
 use Rattle.pua_objects.proofs.Common.{◌≡◌, ◌≤◌, ℕ, zero, suc, List, [], ◌∷◌, ◌++◌, length, map, Bool, true, false, refl, sym, ap, ◌∙◌, inl}
 use Rattle.pua_objects.proofs.Common.{inr, subst, nat_lt, Option, Some, None, Ok, Err, is_some, not, ◌||◌, filter, filter_map}
 use Rattle.pua_objects.proofs.Common.{if◌then◌else◌, AllByRecursion, list_all, and_parts, Tree, WellFormed, look, is_dir, Kind, Sound}
-use Rattle.pua_objects.proofs.Common.{row_says, path_fault, Last, Followed, Kept, Way, Named, Top, Whole, Slot, History, veils}
+use Rattle.pua_objects.proofs.Common.{row_says, path_fault, Last, Followed, Kept, Way, Named, Top, Whole, Slot, ProcessState, veils}
 use Rattle.pua_objects.proofs.Common.{is_link_kind, Place, Word, Subject, At, Others, Item, names_in, name_at, veiled_in, entries, items_at}
 use Rattle.pua_objects.proofs.Common.{items_below, items}
 use Rattle.std.specs.Prelude.{◌⊎◌, nat_le, option_map, ◌==◌}
@@ -198,7 +198,7 @@ module _ (t : Tree) where
     pub names : AreNames item.word
     pub place : IsPlaced item.word item.subject
 
-  module _ (fits : WellFormed t) (sound : Sound t) (h : History) (places : HasPlaces h) where
+  module _ (fits : WellFormed t) (sound : Sound t) (h : ProcessState) (places : HasPlaces h) where
     among_all : {X : Type 0} (p : X → Bool) (xs : List X) (x : X) → list_all p xs ≡ true → Among xs x → p x ≡ true
     among_all p [] x all a = absurd a
     among_all p (y ∷ xs) x all (inl e) = ap p (sym e) ∙ (and_parts (p y) (list_all p xs) all).0

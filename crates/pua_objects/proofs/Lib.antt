@@ -7,7 +7,6 @@ pub mod Listing
 pub mod Completeness
 pub mod Leading
 pub mod Soundness
-pub mod Processes
 pub mod Rising
 pub mod Walking
 pub mod Gathered

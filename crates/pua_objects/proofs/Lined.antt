@@ -1,6 +1,6 @@
 -- The calls of a line, by whether it is about a link.
 use Rattle.pua_objects.proofs.Common.{◌≡◌, ◌≢◌, ℕ, Bool, true, false, refl, sym, ap, subst, ◌∙◌, Option, Some, None, is_none, not, ◌&&◌}
-use Rattle.pua_objects.proofs.Common.{◌||◌, if◌then◌else◌, Tree, Kind, Found, Whole, Slot, CallTable, History, object_of, is_link}
+use Rattle.pua_objects.proofs.Common.{◌||◌, if◌then◌else◌, Tree, Kind, Found, Whole, Slot, CallTable, ProcessState, object_of, is_link}
 use Rattle.pua_objects.proofs.Common.{is_link_kind, verdict, is_allowed, Call, Subject, At, Others, cover_in, IsItemOn}
 use Rattle.std.specs.Prelude.{codes}
 use Rattle.pua_tree.specs.Tree.{kind_at}
@@ -79,7 +79,7 @@ kept_or_not true a = refl
 kept_or_not false a = refl
 
 -- a line by what is seen of the object
-pub lined : (t : Tree) (table : CallTable) (h : History) (found : Found) (object : seen.Object) (line : ObjectLine) →
+pub lined : (t : Tree) (table : CallTable) (h : ProcessState) (found : Found) (object : seen.Object) (line : ObjectLine) →
     object ≡ seen_of t found → line.kind ≡ kind_seen object
     → ((call : Call) → has line.calls call ≡ ((keeps_link call || not (is_link_seen object)) && is_allowed (verdict t table h call found)))
     → IsLineOn t table h (At found) line
@@ -90,7 +90,7 @@ lined t table h found object line is kind calls = record {
 }
 
 -- the line of an item, by whether it is about further names
-module _ (t : Tree) (table : CallTable) (h : History) (subject : Subject) (item : given.Item) (on : IsItemOn t h subject item)
+module _ (t : Tree) (table : CallTable) (h : ProcessState) (subject : Subject) (item : given.Item) (on : IsItemOn t h subject item)
     (line : ObjectLine) where
   pub others_lined : (dir : ℕ) → item.subject ≡ about.Others dir → (item.cover ≡ cover_in t h dir → item.object ≡ see.Missing →
       IsLineOn t table h (Others dir) line) → IsLineOn t table h subject line

@@ -1,7 +1,7 @@
 -- A list that is being made grows by what its innermost directory has to come.
 use Rattle.pua_objects.proofs.Common.{◌≡◌, ◌<◌, ◌≤◌, ℕ, suc, ◌-◌, List, [], ◌∷◌, ◌++◌, true, false, length, take, drop, refl, sym}
 use Rattle.pua_objects.proofs.Common.{ap, subst, ◌∙◌, arith, reverse, length-reverse, Option, Some, None, is_none, not, eq-eqb, AllByRecursion, Tree, WellFormed}
-use Rattle.pua_objects.proofs.Common.{Spot, is_dir, look, FoundFits, Named, Top, Bor, Whole, Slot, History, ProcessState, StandsFor, Word}
+use Rattle.pua_objects.proofs.Common.{Spot, is_dir, look, FoundFits, Named, Top, Bor, Whole, Slot, ProcessState, Word}
 use Rattle.pua_objects.proofs.Common.{Item, At, Others, items, names_at, AreSpots, items_to_come}
 use Rattle.pua_objects.proofs.Common.{others_item}
 use Rattle.std.specs.Prelude.{◌==◌, Err, Ok, OnOk, Result}
@@ -73,40 +73,40 @@ module _ (t : Tree) (fits : WellFormed t) (p : ProcessState) (spots : List Spot)
   -- ---- an item of each kind tells what it is about
 
   abbrev OverDir : Over → ℕ → Type 0
-  OverDir over dir = (h : History) → StandsFor p h → IsOver p.veils over (covering_over t h (Others dir))
+  OverDir over dir = IsOver p.veils over (covering_over t p (Others dir))
 
   told_others : (around dir : ℕ) (over : Over) → is_dir t dir ≡ true → OverDir over dir →
       IsToldIn t p (item_of around (about.Others dir) see.Missing over)
   told_others around dir over living covers = record {
     fits = living;
-    tells = λ h s. record { subject = refl; object = refl; cover = others_cover t fits p h s dir over living (covers h s) };
-    veil = λ h s. (covers h s).veil;
+    tells = record { subject = refl; object = refl; cover = others_cover t fits p dir over living covers };
+    veil = covers.veil;
   }
 
   pub told_root : (over : Over) → OverDir over 0 → IsToldIn t p (item_of 0 about.Root see.Directory over)
   told_root over covers = record {
     fits = (fits.root, tt);
-    tells = λ h s. record {
+    tells = record {
       subject = refl;
       object = refl;
-      cover = (over_whole t fits p h s 0 Top over fits.root (covers h s)).cover ∙ coverings_cover t h (Whole 0 Top);
+      cover = (over_whole t fits p 0 Top over fits.root covers).cover ∙ coverings_cover t p (Whole 0 Top);
     };
-    veil = λ h s. (over_whole t fits p h s 0 Top over fits.root (covers h s)).veil;
+    veil = (over_whole t fits p 0 Top over fits.root covers).veil;
   }
 
   pub told_name : (around dir : ℕ) (name : Bor (List ℕ)) (object : seen.Object) (over : Over) → is_dir t dir ≡ true →
       ((x : ℕ) → look t dir name.now ≡ Some x → is_dir t x ≡ false) →
       object ≡ object_seen t (object_of t (Slot dir name.now (look t dir name.now))) →
-      ((h : History) → StandsFor p h → IsOver p.veils over (covering t h (Slot dir name.now (look t dir name.now)))) →
+      IsOver p.veils over (covering t p (Slot dir name.now (look t dir name.now))) →
       IsToldIn t p (item_of around (about.Name dir name) object over)
   told_name around dir name object over living plain sees covers = record {
     fits = (slot_fits (look t dir name.now) refl, (living, refl));
-    tells = λ h s. record {
+    tells = record {
       subject = refl;
       object = sees;
-      cover = (covers h s).cover ∙ coverings_cover t h (Slot dir name.now (look t dir name.now));
+      cover = covers.cover ∙ coverings_cover t p (Slot dir name.now (look t dir name.now));
     };
-    veil = λ h s. (covers h s).veil;
+    veil = covers.veil;
   }
     where
       slot_fits : (o : Option ℕ) → look t dir name.now ≡ o → FoundFits t (Slot dir name.now o)
@@ -120,13 +120,13 @@ module _ (t : Tree) (fits : WellFormed t) (p : ProcessState) (spots : List Spot)
       IsToldIn t p (item_of around (about.Dir x dir name) object over)
   told_dir around x dir name object over living row is sees covers = record {
     fits = (is, (living, row));
-    tells = λ h s. record {
+    tells = record {
       subject = refl;
       object = sees;
-      cover = (over_whole t fits p h s x (Named dir name.now) over is (covers h s)).cover ∙
-          coverings_cover t h (Whole x (Named dir name.now));
+      cover = (over_whole t fits p x (Named dir name.now) over is covers).cover ∙
+          coverings_cover t p (Whole x (Named dir name.now));
     };
-    veil = λ h s. (over_whole t fits p h s x (Named dir name.now) over is (covers h s)).veil;
+    veil = (over_whole t fits p x (Named dir name.now) over is covers).veil;
   }
 
   -- ---- the directories that are entered, at a further word
@@ -366,7 +366,7 @@ module _ (t : Tree) (fits : WellFormed t) (p : ProcessState) (spots : List Spot)
           subst (Listed (reverse old)) (sym more) (subst (λ es. Listed es (so_far ++ item ∷ [])) (sym dirs)
           (stands inner around lent.now so_far before item deep refl refl plain
           (told_name depth inner.dir lent object over in_dir plain sees
-          (λ h s. over_name t fits p h s inner.dir lent.now (look t inner.dir lent.now) inner.over over (above_over h s) down))))
+          (over_name t fits p inner.dir lent.now (look t inner.dir lent.now) inner.over over above_over down))))
 
       pub dir_listed : (new : List Entered) (own items : List ListItem) (x next : ℕ) (object : seen.Object) (over : Over) →
           look t inner.dir lent.now ≡ Some x → is_dir t x ≡ true → AllByRecursion (λ (s : Spot). x ≤ s.0) (drop next spots) →
@@ -378,7 +378,7 @@ module _ (t : Tree) (fits : WellFormed t) (p : ProcessState) (spots : List Spot)
           let below : Entered = record { dir = x; next = next; over = over } in
           let item : ListItem = item_of depth (about.Dir x inner.dir lent) object over in
           let covers : OverDir over x =
-          λ h s. over_below t fits p h s inner.dir x lent.now inner.over over row is (above_over h s) down in
+          over_below t fits p inner.dir x lent.now inner.over over row is above_over down in
           let now_dirs : reverse new ≡ below ∷ after_next inner ∷ around =
           ap reverse more_dirs ∙ reverse-append old (below ∷ []) ∙ ap (λ es. below ∷ es) dirs in
           let both : items ≡ so_far ++ item ∷ item_of (suc (length around)) (about.Others x) see.Missing over ∷ [] =
@@ -426,7 +426,7 @@ module _ (t : Tree) (fits : WellFormed t) (p : ProcessState) (spots : List Spot)
       items ≡ own ++ item_of (length old) (about.Others 0) see.Missing over ∷ [] → IsOver p.veils up (unveiled p.veils) →
       IsHandedDown p (place.Dir 0) up over → Listed (reverse new) items
   root_made over up old new before own items no_dirs none more_dirs one more above down =
-      let covers : OverDir over 0 = λ h s. over_root t fits p h s up over above down in
+      let covers : OverDir over 0 = over_root t fits p up over above down in
       let dirs : new ≡ record { dir = 0; next = 0; over = over } ∷ [] = more_dirs ∙ ap (λ es. es ++ record { dir = 0; next = 0; over = over } ∷ [])
       no_dirs in
       let both : items ≡ item_of 0 about.Root see.Directory over ∷ item_of 0 (about.Others 0) see.Missing over ∷ [] =

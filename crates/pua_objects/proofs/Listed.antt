@@ -1,13 +1,13 @@
 -- Lines of what is to come, one after another.
 use Rattle.pua_objects.proofs.Common.{◌≡◌, ◌≢◌, List, [], ◌∷◌, Bool, true, false, cond, length, refl, sym, ap, ◌∙◌, arith, filter}
-use Rattle.pua_objects.proofs.Common.{nat_lt, Tree, CallTable, calls, History, Call, Word, Subject, Item, Line}
+use Rattle.pua_objects.proofs.Common.{nat_lt, Tree, CallTable, calls, ProcessState, Call, Word, Subject, Item, Line}
 use Rattle.pua_objects.proofs.Common.{line_of, has_calls, calls_on, lines_of}
 use Rattle.std.proofs.lemmas.Bool.{lt-ltb}
 use Rattle.pua_calls.specs.CallSets.{calls_in}
 use Rattle.pua_objects.specs.Lines.{IsLineOn}
 use Rattle.pua_objects.specs.declared.line.ObjectLine.{ObjectLine}
 
-module _ (t : Tree) (table : CallTable) (h : History) (subject : Subject) (given : ObjectLine) (on : IsLineOn t table h subject given) where
+module _ (t : Tree) (table : CallTable) (h : ProcessState) (subject : Subject) (given : ObjectLine) (on : IsLineOn t table h subject given) where
   same_calls : calls_on t table h subject ≡ calls_in given.calls
   same_calls = (λ i. filter (λ call. sym (on.calls call) i) calls)
 

@@ -1,8 +1,8 @@
 -- What the list of objects has: each living directory, what stands in it, and what is missing there.
-use Rattle.pua_objects.proofs.Common.{◌≡◌, ◌+◌, ◌-◌, ℕ, zero, suc, List, [], ◌∷◌, ◌++◌, length, Bool, true, false, refl, sym, ap, ◌∙◌, inl}
+use Rattle.pua_objects.proofs.Common.{◌≡◌, ◌+◌, ◌-◌, ℕ, zero, suc, List, [], ◌∷◌, ◌++◌, length, Bool, true, false, refl, sym, ap, inl}
 use Rattle.pua_objects.proofs.Common.{inr, arith, subst, Option, Some, None, not, ◌&&◌, is_some, is_none, filter_map, if◌then◌else◌, eq-eqb}
 use Rattle.pua_objects.proofs.Common.{eqb-true, and_parts, Tree, Spot, look, is_dir, spot_cmp, exact_spots, Sound, climb_ends, Way, Top}
-use Rattle.pua_objects.proofs.Common.{Found, Whole, Slot, History, perms_kept, veils, FoundFits, Place, Word, Subject, At, Others, Item}
+use Rattle.pua_objects.proofs.Common.{Found, Whole, Slot, ProcessState, perms_kept, veils, FoundFits, Place, Word, Subject, At, Others, Item}
 use Rattle.pua_objects.proofs.Common.{subject_of, names_in, name_at, veiled_in, entries, items_at, items_below, items}
 use Rattle.std.specs.Prelude.{◌==◌}
 use Rattle.std.specs.Option.{option_eq}
@@ -13,9 +13,8 @@ use Rattle.pua_tree.specs.Names.{same_bytes}
 use Rattle.pua_tree.specs.Tree.{above}
 use Rattle.pua_tree.proofs.ForCallers.{same_word}
 use Rattle.pua_tree.proofs.ForCallers.{Reaches, row_of, above_dir}
-use Rattle.pua_policy.specs.History.{veil_at}
+use Rattle.pua_policy.specs.States.{veil_at}
 use Rattle.pua_policy.specs.declared.place.Place.TheVariants as place
-use Rattle.pua_policy.proofs.ForCallers.{veils_are_kept}
 use Rattle.pua_objects.specs.Objects.{own_way}
 use Rattle.pua_objects.proofs.Among.{Among, among_left, among_right, among_map, among_filter, among_flat, among_distinct}
 use Rattle.pua_objects.proofs.Judged.{named_by_row}
@@ -57,7 +56,7 @@ veil_among ((place.Slot other called, given) ∷ vs) dir name perms e =
     by true false is same more e = more e
     by false same is also more e = more e
 
-module _ (t : Tree) (sound : Sound t) (h : History) where
+module _ (t : Tree) (sound : Sound t) (h : ProcessState) where
   -- the names of a directory's rows and of veils in it are among its entries
   row_entry : (dir : ℕ) (name : List ℕ) (x : ℕ) → look t dir name ≡ Some x → Among (entries t (veils h) dir) name
   row_entry dir name x e =
@@ -71,7 +70,7 @@ module _ (t : Tree) (sound : Sound t) (h : History) where
       Among (entries t (veils h) dir) name
   veil_entry dir name perms e =
       among_distinct (names_in t dir ++ veiled_in (veils h) dir) name (among_right (names_in t dir) (veiled_in (veils h) dir) name
-      (veil_among (veils h) dir name perms (veils_are_kept h (place.Slot dir name) ∙ e)))
+      (veil_among (veils h) dir name perms e))
 
   -- what stands at an entry of a directory is below it
   below_entry : (depth dir : ℕ) (way : Way) (word : Word) (name : List ℕ) (o : Option ℕ) (item : Item) →

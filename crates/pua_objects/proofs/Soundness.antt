@@ -2,7 +2,7 @@
 use Rattle.pua_objects.proofs.Common.{◌≡◌, ◌≤◌, ℕ, List, [], ◌∷◌, ◌++◌, length, map, Bool, true, false, refl, sym, ap, ◌∙◌, subst}
 use Rattle.pua_objects.proofs.Common.{append-nil, Option, Some, None, Ok, Err, not, ◌&&◌, ◌||◌, if◌then◌else◌, and_parts, Tree, look}
 use Rattle.pua_objects.proofs.Common.{is_dir, Sound, sound_from, path_fault, Last, Followed, Kept, Way, Top, Found, Whole, Slot, CallTable}
-use Rattle.pua_objects.proofs.Common.{calls, last_of, History, veils, is_link, is_link_kind, verdict, is_allowed, Call, Allowed, Word}
+use Rattle.pua_objects.proofs.Common.{calls, last_of, ProcessState, veils, is_link, is_link_kind, verdict, is_allowed, Call, Allowed, Word}
 use Rattle.pua_objects.proofs.Common.{Subject, At, Others, Line, line_of, has_calls, items, is_named_by, subject_verdict}
 use Rattle.std.specs.Prelude.{option_map}
 use Rattle.pua_tree.specs.Tree.{node_at}
@@ -14,7 +14,7 @@ use Rattle.pua_path.specs.declared.found.Part.{Part}
 use Rattle.pua_path.specs.declared.found.Part.TheVariants as parts
 use Rattle.pua_calls.specs.CallSets.{is_kept}
 use Rattle.pua_calls.specs.Calls.{ending_of}
-use Rattle.pua_policy.specs.History.{working_dir}
+use Rattle.pua_policy.specs.States.{working_dir}
 use Rattle.pua_policy.specs.Verdict.{verdict_of, object_named}
 use Rattle.pua_objects.specs.Laws.{path_from_root, IsAllowedBy, IsCallTold, SoundLines}
 use Rattle.pua_objects.proofs.Among.{Among, filter_among, map_among, among_contained}
@@ -23,7 +23,7 @@ use Rattle.pua_objects.proofs.Completeness.{allowed_is}
 use Rattle.pua_objects.proofs.Leading.{AreNames, with_last, names_path, Leads, resolve_along, IsPlainThere, IsNamed, slot_resolved}
 use Rattle.pua_objects.proofs.Leading.{whole_resolved, IsPlaced, items_placed}
 
-module _ (t : Tree) (h : History) where
+module _ (t : Tree) (h : ProcessState) where
   -- a path without fault from the root names what its parts do
   named_by_parts : (call : Call) (text : List ℕ) (ps : List Part) (object : Found) → path_fault text ≡ None → is_absolute text ≡ true →
       parts_of (ending_of call) text ≡ ps →

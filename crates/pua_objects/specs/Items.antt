@@ -4,7 +4,7 @@ use Rattle.pua_tree.specs.Tree.{Tree, look, is_dir}
 use Rattle.pua_path.specs.Fits.{FoundFits, StandsAsNamed}
 use Rattle.pua_path.specs.declared.found.Way.TheVariants.{Named, Top}
 use Rattle.pua_path.specs.declared.found.Found.TheVariants.{Whole, Slot}
-use Rattle.pua_policy.specs.History.{History}
+use Rattle.pua_policy.specs.States.{ProcessState}
 use Rattle.pua_policy.specs.Objects.{object_seen}
 use Rattle.pua_policy.specs.Verdict.{object_of, cover}
 use Rattle.pua_policy.specs.declared.answer.Cover.{Cover}
@@ -27,12 +27,12 @@ abbrev pub object_on : Tree → Subject → seen.Object
 object_on t (At found) = object_seen t (object_of t found)
 object_on t (Others dir) = see.Missing
 
-abbrev pub cover_on : Tree → History → Subject → Cover
+abbrev pub cover_on : Tree → ProcessState → Subject → Cover
 cover_on t h (At found) = cover t h found
 cover_on t h (Others dir) = cover_in t h dir
 
 -- the item tells what it is about, what a call is on there, and what covers it
-pub record IsItemOn (t : Tree) (h : History) (thing : Subject) (item : given.Item) : Type 0 where
+pub record IsItemOn (t : Tree) (h : ProcessState) (thing : Subject) (item : given.Item) : Type 0 where
   pub subject : subject_given t item.subject ≡ thing
   pub object : item.object ≡ object_on t thing
   pub cover : item.cover ≡ cover_on t h thing

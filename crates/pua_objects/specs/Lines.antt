@@ -3,7 +3,7 @@ use Rattle.std.specs.Prelude.{◌≡◌, List, ℕ, ◌&&◌, codes, filter, map
 use Rattle.pua_tree.specs.Tree.{Tree}
 use Rattle.pua_calls.specs.Calls.{CallTable}
 use Rattle.pua_calls.specs.CallSets.{has}
-use Rattle.pua_policy.specs.History.{History}
+use Rattle.pua_policy.specs.States.{ProcessState}
 use Rattle.pua_policy.specs.Objects.{object_seen}
 use Rattle.pua_policy.specs.Verdict.{covered_verdict, is_allowed}
 use Rattle.pua_policy.specs.Verdict.{Object as Judged}
@@ -35,15 +35,15 @@ kind_seen see.Directory = kind.Dir
 kind_seen see.Removable = kind.Dir
 
 -- a set of the calls that are allowed on such an object wherever it stands, by what the veils leave of it
-abbrev pub AreAllowed : Tree → CallTable → History → Cover → seen.Object → ℕ → Type 0
+abbrev pub AreAllowed : Tree → CallTable → ProcessState → Cover → seen.Object → ℕ → Type 0
 AreAllowed t table h left object set = (judged : Judged) → object ≡ object_seen t judged → (call : Call) →
     has set call ≡ is_allowed (covered_verdict t table h call left judged)
 
 -- the line tells what its subject is, and has each call that names it and is allowed on it
-pub record IsLineOn (t : Tree) (table : CallTable) (h : History) (subject : Subject) (line : ObjectLine) : Type 0 where
+pub record IsLineOn (t : Tree) (table : CallTable) (h : ProcessState) (subject : Subject) (line : ObjectLine) : Type 0 where
   pub kind : kind_word line.kind ≡ subject_word t subject
   pub calls : (call : Call) → has line.calls call ≡ (is_named_by t call subject && is_allowed (subject_verdict t table h call subject))
 
 -- the lines of items, but for those without calls
-abbrev pub lines_of : Tree → CallTable → History → List Item → List Line
+abbrev pub lines_of : Tree → CallTable → ProcessState → List Item → List Line
 lines_of t table h items = filter has_calls (map (line_of t table h) items)

@@ -1,7 +1,7 @@
 -- The items of a list as a vector: each says how many names of the item before lead to it.
 use Rattle.std.specs.Prelude.{◌≡◌, ◌≤◌, ⊤, ℕ, List, [], ◌∷◌, ◌++◌, length, take, Option, Some, None}
 use Rattle.pua_tree.specs.Tree.{Tree}
-use Rattle.pua_policy.specs.History.{History, ProcessState, StandsFor}
+use Rattle.pua_policy.specs.States.{ProcessState}
 use Rattle.pua_audit.specs.Reach.{Word}
 use Rattle.pua_objects.specs.Objects.{Item}
 use Rattle.pua_objects.specs.Items.{IsItemOn, SubjectFits, subject_given}
@@ -45,6 +45,5 @@ items_told t before (item ∷ items) =
 -- an item is about something in the tree, and tells what a call is on there, what covers it, and by which veil
 pub record IsToldIn (t : Tree) (process : ProcessState) (item : ListItem) : Type 0 where
   pub fits : SubjectFits t (subject_given t item.item.subject)
-  pub tells : (h : History) → StandsFor process h → IsItemOn t h (subject_given t item.item.subject) item.item
-  pub veil : (h : History) → StandsFor process h →
-      covering_by process.veils item.veil ≡ covering_over t h (subject_given t item.item.subject)
+  pub tells : IsItemOn t process (subject_given t item.item.subject) item.item
+  pub veil : covering_by process.veils item.veil ≡ covering_over t process (subject_given t item.item.subject)

@@ -2,7 +2,7 @@
 use Rattle.std.specs.Prelude.{⊤, ◌≡◌, ◌≤◌, ◌<◌, ◌+◌, ℕ, List, [], ◌∷◌, ◌++◌, length, take, drop}
 use Rattle.std.specs.List.{AllByRecursion}
 use Rattle.pua_tree.specs.Tree.{Tree, Spot}
-use Rattle.pua_policy.specs.History.{History, ProcessState, StandsFor}
+use Rattle.pua_policy.specs.States.{ProcessState}
 use Rattle.pua_audit.specs.Reach.{Word}
 use Rattle.pua_objects.specs.Objects.{Others, items}
 use Rattle.pua_objects.specs.ListItems.{AreNear, IsToldIn, items_told, last_word}
@@ -24,7 +24,7 @@ pub record IsEnteredAt (t : Tree) (process : ProcessState) (spots : List Spot) (
   pub names : f.names ≡ names_at inner.dir (drop inner.next spots)
   pub deep : IsDeepEnough t f
   pub passed : AllByRecursion (λ s. inner.dir ≤ s.0) (drop inner.next spots)
-  pub over : (h : History) → StandsFor process h → IsOver process.veils inner.over (covering_over t h (Others inner.dir))
+  pub over : IsOver process.veils inner.over (covering_over t process (Others inner.dir))
 
 -- directories, the innermost first
 abbrev pub AreEnteredAt : Tree → ProcessState → List Spot → Word → List Frame → List Entered → Type 0

@@ -1,10 +1,8 @@
 -- Which veil covers what a line is about.
 use Rattle.std.specs.Prelude.{◌≡◌, ℕ, List, map, Option, Some, None, if◌then◌else◌, slice_get}
-use Rattle.std.specs.List.{list_any}
 use Rattle.pua_tree.specs.Tree.{Tree, climb}
-use Rattle.pua_policy.specs.History.{History, ProcessState, has_veil, perms_kept, veil_at}
+use Rattle.pua_policy.specs.States.{ProcessState, has_veil, perms_kept, veil_at}
 use Rattle.pua_policy.specs.Reasons.{covering, cover_of, first_kept, kept_or}
-use Rattle.pua_policy.specs.Verdict.{is_unveil}
 use Rattle.pua_policy.specs.declared.place.Place.{Place}
 use Rattle.pua_policy.specs.declared.place.Place.TheVariants.{Dir}
 use Rattle.pua_policy.specs.declared.reason.Covering.{Covering}
@@ -13,9 +11,9 @@ use Rattle.pua_objects.specs.Objects.{Subject, At, Others}
 use Rattle.pua_objects.specs.declared.over.Over.{Over}
 
 -- what covers a subject; further names are covered as their directory
-abbrev pub covering_over : Tree → History → Subject → Covering
+abbrev pub covering_over : Tree → ProcessState → Subject → Covering
 covering_over t h (At found) = covering t h found
-covering_over t h (Others dir) = if list_any is_unveil h then first_kept (perms_kept h) (map Dir (climb t dir)) else InView
+covering_over t h (Others dir) = if has_veil h.veils then first_kept (perms_kept h) (map Dir (climb t dir)) else InView
 
 -- what the veil with an index covers by; without one nothing is over it, or everything in view where there is no veil at all
 abbrev pub veil_there : Option (Place × ℕ) → Covering

@@ -6,7 +6,7 @@ ghost use Rattle.pua_path.specs.declared.found.Found.{Found as FoundThing};
 ghost use Rattle.pua_calls.specs.Calls.{CallTable as Rules};
 ghost use Rattle.pua_policy.specs.declared.answer.Cover.{Cover as Covered};
 ghost use Rattle.pua_policy.specs.AllowedCalls.{AreWorkedOut};
-ghost use Rattle.pua_policy.specs.History.{History, ProcessState, StandsFor};
+ghost use Rattle.pua_policy.specs.States.{ProcessState};
 ghost use Rattle.pua_policy.specs.Objects.{object_seen};
 ghost use Rattle.pua_policy.specs.Verdict.{cover as cover_of, object_of};
 ghost use Rattle.pua_objects.specs.Objects.{Subject as About, At, Others, cover_in};
@@ -29,8 +29,8 @@ pub struct ObjectLine {
 
 /// The line of an item: the calls that are allowed on it, of which there may be none.
 pub fn line_of(process: &Process, table: &CallTable, item: &Item<'_>) -> ObjectLine
-    ensures { (t : Tree) (h : History) (about : About) → StandsFor process.now h →
-        IsItemOn t h about item.now → IsLineOn t table.now h about result }
+    ensures { (t : Tree) (about : About) → IsItemOn t process.now about item.now →
+        IsLineOn t table.now process.now about result }
 {
     line_with(
         item,
@@ -40,16 +40,16 @@ pub fn line_of(process: &Process, table: &CallTable, item: &Item<'_>) -> ObjectL
 
 /// The same, by what was worked out of a process and a table.
 pub fn allowed_line(allowed: &AllowedCalls, item: &Item<'_>) -> ObjectLine
-    ensures { (process : ProcessState) (table : Rules) (t : Tree) (h : History) (about : About) →
-        AreWorkedOut process table allowed.now → StandsFor process h →
-        IsItemOn t h about item.now → IsLineOn t table h about result }
+    ensures { (process : ProcessState) (table : Rules) (t : Tree) (about : About) →
+        AreWorkedOut process table allowed.now →
+        IsItemOn t process about item.now → IsLineOn t table process about result }
 {
     line_with(item, allowed.on(item.cover, item.object))
 }
 
 /// The line of an item on whose object these calls are allowed.
 fn line_with(item: &Item<'_>, calls: Calls) -> ObjectLine
-    ensures { (t : Tree) (table : Rules) (h : History) (about : About) →
+    ensures { (t : Tree) (table : Rules) (h : ProcessState) (about : About) →
         AreAllowed t table h item.now.cover item.now.object calls →
         IsItemOn t h about item.now → IsLineOn t table h about result }
 {
@@ -62,7 +62,7 @@ fn line_with(item: &Item<'_>, calls: Calls) -> ObjectLine
 /// The line of what stands somewhere, or of a name where nothing stands, on which these calls are
 /// allowed. On a link only those calls are listed that keep it.
 fn line_at(object: Object, calls: Calls) -> ObjectLine
-    ensures { (t : Tree) (table : Rules) (h : History) (found : FoundThing) (cover : Covered) →
+    ensures { (t : Tree) (table : Rules) (h : ProcessState) (found : FoundThing) (cover : Covered) →
         AreAllowed t table h cover object calls →
         cover ≡ cover_of t h found → object ≡ object_seen t (object_of t found) →
         IsLineOn t table h (At found) result }
@@ -80,7 +80,7 @@ fn line_at(object: Object, calls: Calls) -> ObjectLine
 
 /// The line of a directory's further names, on which these calls are allowed.
 fn line_of_others(calls: Calls) -> ObjectLine
-    ensures { (t : Tree) (table : Rules) (h : History) (dir : ℕ) (cover : Covered) →
+    ensures { (t : Tree) (table : Rules) (h : ProcessState) (dir : ℕ) (cover : Covered) →
         AreAllowed t table h cover Object.Missing calls →
         cover ≡ cover_in t h dir → IsLineOn t table h (Others dir) result }
 {

@@ -4,7 +4,7 @@ ghost use Rattle.std.specs.Prelude.{◌≡◌, ◌<◌, ◌≤◌, ◌+◌, ◌�
 ghost use Rattle.std.specs.Prelude.{MatchOption, drop, length, map, option_map, reverse};
 ghost use Rattle.std.specs.List.{AllByRecursion};
 ghost use Rattle.pua_tree.specs.Tree.{Spot, Tree, WellFormed, spot_cmp};
-ghost use Rattle.pua_policy.specs.History.{History, StandsFor};
+ghost use Rattle.pua_policy.specs.States.{ProcessState};
 ghost use Rattle.pua_audit.specs.Laws.{Rises};
 ghost use Rattle.pua_objects.specs.Laws.{HasPlaces};
 ghost use Rattle.pua_objects.specs.ListItems.{AreNear, IsToldIn, items_told, last_name};
@@ -62,7 +62,7 @@ pub fn list_items<'t, T: FileTree>(
     ensures told { IfOk result (λ items.
         AllByRecursion (IsToldIn (T.content tree.now) process.now) items.items) }
     ensures near { IfOk result (λ items. AreNear [] items.items) }
-    ensures places { OnOk result ((h : History) → StandsFor process.now h → HasPlaces h) }
+    ensures places { OnOk result (HasPlaces process.now) }
 {
     tree.known();
     let rows = tree.rows(alloc)?;

@@ -1,7 +1,7 @@
 //! The names under which something stands or is veiled: those of a tree's rows, and those of veils.
 
 ghost use Rattle.std.specs.Prelude.{◌≡◌, [], ◌∷◌, ◌++◌, IfOk, OnOk, IsTrue, map, filter_map};
-ghost use Rattle.pua_policy.specs.History.{History, StandsFor};
+ghost use Rattle.pua_policy.specs.States.{ProcessState};
 ghost use Rattle.pua_tree.specs.LentRows.{lent_entry};
 ghost use Rattle.pua_tree.specs.Tree.{Tree};
 ghost use Rattle.pua_objects.specs.Laws.{is_place, HasPlaces};
@@ -20,7 +20,7 @@ pub(crate) fn spots<'t>(
     rows: &[LentRow<'t>],
     process: &'t Process,
 ) -> Result<Vec<(NodeId, &'t Name)>, OutOfMemory>
-    ensures places { OnOk result ((h : History) → StandsFor process.now h → HasPlaces h) }
+    ensures places { OnOk result (HasPlaces process.now) }
     ensures spots { (t : Tree) → map lent_entry rows.now ≡ t.rows →
         IfOk result (λ spots. AreSpots t process.now.veils (map spot_now spots.items)) }
 {

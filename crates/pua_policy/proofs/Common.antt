@@ -11,11 +11,11 @@ pub use Rattle.pua_path.specs.declared.found.Found.{Found}
 pub use Rattle.pua_path.specs.declared.found.Found.TheVariants.{Slot, Whole}
 pub use Rattle.pua_path.specs.declared.found.Way.{Way}
 pub use Rattle.pua_tree.specs.Tree.{above, climb, is_dir, Tree, WellFormed}
-pub use Rattle.pua_policy.specs.History.{Ended, has_veil, History, is_ended, Locked, meet, Moved, perms_kept, Pledged, ProcessState}
-pub use Rattle.pua_policy.specs.History.{same_place, StandsFor, Unveiled, veil_at, veils, with_veil}
+pub use Rattle.pua_policy.specs.States.{Ended, has_veil, is_ended, Locked, meet, Moved, Pledged, ProcessState, state_after}
+pub use Rattle.pua_policy.specs.States.{same_place, Unveiled, veil_at, with_veil}
 pub use Rattle.pua_policy.specs.Laws.{places_over}
 pub use Rattle.pua_policy.specs.Reasons.{cover_of, covering_at, first_veiled}
-pub use Rattle.pua_policy.specs.Verdict.{allowed_unless, cover, cover_fault, cover_on, if_promised, is_unveil, nearest}
+pub use Rattle.pua_policy.specs.Verdict.{allowed_unless, cover, cover_fault, if_promised, nearest}
 pub use Rattle.pua_policy.specs.contracts.place.PlacePartialEq.TheImpl.{ghosts}
 pub use Rattle.pua_policy.specs.declared.answer.Cover.TheVariants.{All, Only}
 pub use Rattle.pua_policy.specs.declared.place.Place.{Place}

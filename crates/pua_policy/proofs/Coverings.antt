@@ -1,13 +1,12 @@
 -- Which veil of a process covers an object, by where it looks.
 use Rattle.pua_policy.proofs.Common.{◌≡◌, ℕ, List, [], ◌∷◌, map, Bool, true, false, refl, sym, ap, ◌∙◌, Option, Some, None, if◌then◌else◌}
-use Rattle.pua_policy.proofs.Common.{list_any, Tree, WellFormed, is_dir, above, climb, Way, Found, Whole, Slot, Place, All, History}
-use Rattle.pua_policy.proofs.Common.{ProcessState, StandsFor, perms_kept, veil_at, has_veil, cover, nearest, is_unveil, places_over}
+use Rattle.pua_policy.proofs.Common.{Tree, WellFormed, is_dir, above, climb, Way, Found, Whole, Slot, Place}
+use Rattle.pua_policy.proofs.Common.{ProcessState, veil_at, has_veil, cover, nearest, places_over}
 use Rattle.pua_policy.proofs.Common.{first_veiled, covering_at, cover_of}
 use Rattle.pua_policy.specs.declared.place.Place.TheVariants as place
 use Rattle.pua_policy.specs.declared.reason.Covering.TheVariants.{InView}
-use Rattle.pua_policy.specs.Verdict.{place_of, directories_over}
-use Rattle.pua_policy.specs.Reasons.{kept_or, or_farther, first_kept, covering, covering_on, covering_with}
-use Rattle.pua_policy.proofs.Standing.{any_veil, kept_by}
+use Rattle.pua_policy.specs.Verdict.{place_of, directories_over, cover_with}
+use Rattle.pua_policy.specs.Reasons.{kept_or, or_farther, first_kept, covering, covering_with}
 use Rattle.pua_policy.proofs.Veiled.{veiled_whole}
 
 -- what the first place with a veil leaves
@@ -25,14 +24,12 @@ at_dirs kept_at [] = refl
 at_dirs kept_at (d ∷ ds) = ap (λ more. kept_at (place.Dir d) ∷ more) (at_dirs kept_at ds)
 
 -- the veil that covers an object leaves its cover
-pub coverings_cover : (t : Tree) (h : History) (object : Found) → cover_of (covering t h object) ≡ cover t h object
-coverings_cover t h object = by (list_any is_unveil h)
+pub coverings_cover : (t : Tree) (p : ProcessState) (object : Found) → cover_of (covering t p object) ≡ cover t p object
+coverings_cover t p object = by (has_veil p.veils)
   where
-    by : (v : Bool) → cover_of (if v then first_kept (perms_kept h) (places_over t object) else InView)
-        ≡ (if v then nearest (perms_kept h (place_of object) ∷ map (λ dir. perms_kept h (place.Dir dir)) (directories_over t object)) else
-        All)
-    by true = first_covers (perms_kept h) (places_over t object) ∙
-        ap (λ more. nearest (perms_kept h (place_of object) ∷ more)) (at_dirs (perms_kept h) (directories_over t object))
+    by : (v : Bool) → cover_of (covering_with v (veil_at p.veils) t object) ≡ cover_with v (veil_at p.veils) t object
+    by true = first_covers (veil_at p.veils) (places_over t object) ∙
+        ap (λ more. nearest (veil_at p.veils (place_of object) ∷ more)) (at_dirs (veil_at p.veils) (directories_over t object))
     by false = refl
 
 -- the first of some directories is the first of their places
@@ -47,31 +44,26 @@ first_over kept_at (d ∷ ds) = by (kept_at (place.Dir d)) (first_over kept_at d
     by (Some perms) e = refl
     by None e = e
 
--- a process covers an object as its history does
-pub covering_by : (p : ProcessState) (h : History) → StandsFor p h → (t : Tree) (object : Found) →
-    covering t h object ≡ covering_on t p object
-covering_by p h s t object = λ i. covering_with ((any_veil h ∙ ap has_veil (sym s.veils)) i) (λ place. kept_by p h s place i) t object
-
 module _ (p : ProcessState) (t : Tree) where
   by_veil : (object : Found) (veiled : Bool) → has_veil p.veils ≡ veiled →
-      covering_on t p object ≡ covering_with veiled (veil_at p.veils) t object
+      covering t p object ≡ covering_with veiled (veil_at p.veils) t object
   by_veil object veiled e = ap (λ b. covering_with b (veil_at p.veils) t object) e
 
   -- without a veil everything is in view
-  pub covering-unveiled : (object : Found) → has_veil p.veils ≡ false → covering_on t p object ≡ InView
+  pub covering-unveiled : (object : Found) → has_veil p.veils ≡ false → covering t p object ≡ InView
   covering-unveiled object e = by_veil object false e
 
   module _ (veiled : has_veil p.veils ≡ true) where
     -- a directory is covered by the first veil from itself up
     pub covering-whole : WellFormed t → (dir : ℕ) (way : Way) → is_dir t dir ≡ true →
-        covering_on t p (Whole dir way) ≡ covering_at (first_veiled (λ dir. veil_at p.veils (place.Dir dir)) (climb t dir))
+        covering t p (Whole dir way) ≡ covering_at (first_veiled (λ dir. veil_at p.veils (place.Dir dir)) (climb t dir))
     covering-whole fits dir way e =
         by_veil (Whole dir way) true veiled ∙ first_over (veil_at p.veils) (dir ∷ climb t (above t dir))
         ∙ ap covering_at (veiled_whole t fits (λ dir. veil_at p.veils (place.Dir dir)) dir e)
 
     -- a name is covered by what is kept at it, and else by the first veil from its directory up
     pub covering-slot : (dir : ℕ) (name : List ℕ) (node own : Option ℕ) → veil_at p.veils (place.Slot dir name) ≡ own →
-        covering_on t p (Slot dir name node)
+        covering t p (Slot dir name node)
         ≡ kept_or (place.Slot dir name) own (covering_at (first_veiled (λ dir. veil_at p.veils (place.Dir dir)) (climb t dir)))
     covering-slot dir name node own e =
         by_veil (Slot dir name node) true veiled ∙ (λ i. kept_or (place.Slot dir name) (e i) (first_over (veil_at p.veils) (climb t dir) i))

@@ -1,9 +1,10 @@
 -- What a successful exec keeps of a history.
-use Rattle.pua_policy.proofs.Common.{◌≡◌, ℕ, [], ◌∷◌, refl, ap, Some, History, Pledged, Unveiled, Locked, Moved, Ended, meet, veils}
-use Rattle.pua_policy.proofs.Common.{with_veil, is_ended}
+use Rattle.pua_policy.proofs.Common.{◌≡◌, ℕ, [], ◌∷◌, refl, ap, Some, Pledged, Unveiled, Locked, Moved, Ended, meet}
+use Rattle.pua_policy.proofs.Common.{with_veil}
 use Rattle.std.specs.Prelude.{not, filter, filter_map}
-use Rattle.pua_policy.specs.History.{promises_in, execpromises_in, common}
-use Rattle.pua_policy.specs.History.{is_pledge, held_for_exec, left_for_exec, is_locked, dir_in}
+use Rattle.pua_policy.specs.States.{left_for_exec}
+use Rattle.pua_policy.specs.History.{History, promises_in, execpromises_in, common, veils, is_ended}
+use Rattle.pua_policy.specs.History.{is_pledge, held_for_exec, is_locked, dir_in}
 use Rattle.pua_calls.specs.declared.rules.ExecPromises.{ExecPromises}
 use Rattle.pua_calls.specs.declared.rules.ExecPromises.TheVariants.{Unset, Stay}
 

@@ -1,13 +1,13 @@
 -- What a set lacks of another, and what is told of promises.
 use Rattle.pua_policy.proofs.Common.{◌≡◌, ℕ, ◌+◌, Bool, true, false, List, [], ◌∷◌, map, refl, sym, ap, ◌∙◌, arith, if◌then◌else◌, ◌||◌}
-use Rattle.pua_policy.proofs.Common.{list_any, eqb-true, eq-eqb, holds, History, is_ended}
+use Rattle.pua_policy.proofs.Common.{list_any, eqb-true, eq-eqb, holds, ProcessState}
 use Rattle.std.proofs.Common.{◌%◌, ◌<◌, Some, None, Option}
 use Rattle.std.proofs.Common.{min, max}
 use Rattle.std.specs.Prelude.{bit_and, bit_or, is_some, find}
 use Rattle.std.specs.Int.{bit_at}
 use Rattle.std.proofs.lemmas.Nat.Bits.{bit_at_and, bit_at_or, bit_at_xor, bit_at-lt, same_from_bits}
-use Rattle.pua_calls.specs.Promises.{lacking}
-use Rattle.pua_policy.specs.History.{held_set, has_error}
+use Rattle.pua_calls.specs.Promises.{lacking, error}
+use Rattle.pua_policy.specs.States.{held_set}
 use Rattle.pua_policy.specs.Reasons.{HasEnded, Lacks, holds_or, may_of}
 use Rattle.pua_policy.specs.ReasonLaws.{LackingsHold, LackSome, PromisingHolds, PromisingsHold, PromisingsAnswer}
 use Rattle.pua_policy.specs.declared.answer.May.TheVariants as may
@@ -43,7 +43,7 @@ lackings_hold set wanted = record {
 }
 
 -- where no set is found, none is held
-none_found : (h : History) (sets : List ℕ) → find (holds (held_set h)) sets ≡ None → LackSome h sets (map (lacking (held_set h)) sets)
+none_found : (h : ProcessState) (sets : List ℕ) → find (holds (held_set h)) sets ≡ None → LackSome h sets (map (lacking (held_set h)) sets)
 none_found h [] e = tt
 none_found h (set ∷ sets) e = by (holds (held_set h) set) refl e (none_found h sets)
   where
@@ -63,10 +63,10 @@ some_found test (x ∷ sets) set e = by (test x) refl e (some_found test sets se
     by false is e more = more e
 
 pub promisings_hold : PromisingsHold
-promisings_hold h sets = by (is_ended h) refl (find (holds (held_set h)) sets) refl
+promisings_hold h sets = by (h.ended) refl (find (holds (held_set h)) sets) refl
   where
-    by : (v : Bool) → is_ended h ≡ v → (o : Option ℕ) → find (holds (held_set h)) sets ≡ o →
-        PromisingHolds h sets (if v then HasEnded else holds_or o (Lacks (has_error h) (map (lacking (held_set h)) sets)))
+    by : (v : Bool) → h.ended ≡ v → (o : Option ℕ) → find (holds (held_set h)) sets ≡ o →
+        PromisingHolds h sets (if v then HasEnded else holds_or o (Lacks (holds (held_set h) error) (map (lacking (held_set h)) sets)))
     by true ended o e = ended
     by false living (Some set) e = (some_found (holds (held_set h)) sets set e, living)
     by false living None e = none_found h sets e
@@ -83,7 +83,7 @@ any_found test (set ∷ sets) = by (test set) (any_found test sets)
 
 pub promisings_answer : PromisingsAnswer
 promisings_answer h sets =
-    by (is_ended h) (find (holds (held_set h)) sets) (list_any (holds (held_set h)) sets) (has_error h)
+    by (h.ended) (find (holds (held_set h)) sets) (list_any (holds (held_set h)) sets) (holds (held_set h) error)
     (any_found (holds (held_set h)) sets)
   where
     by : (ended : Bool) (found : Option ℕ) (any error : Bool) → is_some found ≡ any →

@@ -1,5 +1,6 @@
 pub mod Common
 pub mod Refusals
+pub mod Letters
 pub mod Climbs
 pub mod Veils
 pub mod Places

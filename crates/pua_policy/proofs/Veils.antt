@@ -1,8 +1,9 @@
 -- The veils are the places kept, and only an unveil changes a cover.
 use Rattle.pua_policy.proofs.Common.{◌≡◌, ℕ, List, [], ◌∷◌, map, length, Bool, true, false, refl, sym, ap, ◌∙◌, eqb-true, eq-eqb, Option}
-use Rattle.pua_policy.proofs.Common.{Some, None, Place, Dir, History, Pledged, Unveiled, Locked, Moved, Ended, veils, perms_kept, with_veil}
-use Rattle.pua_policy.proofs.Common.{veil_at, same_place, and_parts, list_any, Tree, Found, Errno, All, Only, holds, cover, cover_fault}
-use Rattle.pua_policy.proofs.Common.{nearest, is_unveil, places_over}
+use Rattle.pua_policy.proofs.Common.{Some, None, Place, Dir, ProcessState, Pledged, Unveiled, Locked, Moved, Ended, has_veil, with_veil}
+use Rattle.pua_policy.proofs.Common.{state_after}
+use Rattle.pua_policy.proofs.Common.{veil_at, same_place, and_parts, Tree, Found, Errno, All, Only, holds, cover, cover_fault}
+use Rattle.pua_policy.proofs.Common.{nearest, places_over}
 use Rattle.std.proofs.Common.{◌++◌, cond}
 use Rattle.std.specs.Prelude.{◌==◌, ◌&&◌, IfSome, is_none}
 use lib.Pointwise.{bytes_decides}
@@ -10,7 +11,8 @@ use Rattle.std.specs.Map.{lookup, lookup_key}
 use Rattle.indexmap.specs.IndexMap.{insert_entry}
 use Rattle.pua_tree.specs.Names.{same_bytes}
 use Rattle.pua_policy.specs.declared.place.Place.TheVariants.{Slot}
-use Rattle.pua_policy.specs.History.{is_locked, place_fault}
+use Rattle.pua_policy.specs.States.{place_fault, EachOnce}
+use Rattle.pua_policy.specs.History.{veils}
 use Rattle.std.proofs.lemmas.List.{map-append}
 use Rattle.std.proofs.lemmas.List.Folds.{list_all-map}
 use Rattle.std.proofs.lemmas.Nat.{and_comm}
@@ -132,31 +134,46 @@ nearest-append (None ∷ near) far perms e = nearest-append near far perms e
 nearest-append (Some other ∷ near) far perms e = cc
 
 -- a veil is kept where some place keeps permissions
-pub unveil_from_kept : (h : History) (place : Place) (perms : ℕ) → perms_kept h place ≡ Some perms → list_any is_unveil h ≡ true
-unveil_from_kept [] place perms e = cc
-unveil_from_kept (Unveiled other p ∷ h) place perms e = refl
-unveil_from_kept (Pledged p x ∷ h) place perms e = unveil_from_kept h place perms e
-unveil_from_kept (Locked ∷ h) place perms e = unveil_from_kept h place perms e
-unveil_from_kept (Moved d ∷ h) place perms e = unveil_from_kept h place perms e
-unveil_from_kept (Ended ∷ h) place perms e = unveil_from_kept h place perms e
+pub veiled_where_kept : (vs : List (Place × ℕ)) (place : Place) (perms : ℕ) → veil_at vs place ≡ Some perms → has_veil vs ≡ true
+veiled_where_kept [] place perms e = cc
+veiled_where_kept (v ∷ vs) place perms e = refl
+
+-- and where one is put
+pub veiled_with : (place : Place) (perms : ℕ) (vs : List (Place × ℕ)) → has_veil (with_veil place perms vs) ≡ true
+veiled_with place perms [] = refl
+veiled_with place perms (v ∷ vs) =
+    elim (same_place place v.0) as (λ b. has_veil (cond b ((v.0, perms) ∷ vs) (v ∷ with_veil place perms vs)) ≡ true) [
+      | true ↦ refl
+      | false ↦ refl
+    ]
+
+-- a veil leaves each place once among the veils
+pub once_more : (at : Place) (perms : ℕ) (vs : List (Place × ℕ)) → EachOnce vs → EachOnce (with_veil at perms vs)
+once_more at perms [] once = (refl, tt)
+once_more at perms (v ∷ vs) once = by (same_place at v.0) refl (once_more at perms vs once.1)
+  where
+    by : (s : Bool) → same_place at v.0 ≡ s → EachOnce (with_veil at perms vs) →
+        EachOnce (cond s ((v.0, perms) ∷ vs) (v ∷ with_veil at perms vs))
+    by true is rest = once
+    by false is rest = (still_unveiled at perms vs v.0 (same_place_turned v.0 at ∙ is) once.0, rest)
 
 -- a cover where a veil is kept, by the places where it is looked for
-cover-places : (t : Tree) (h : History) (object : Found) → list_any is_unveil h ≡ true →
-    cover t h object ≡ nearest (map (perms_kept h) (places_over t object))
-cover-places t h object e =
-    ap (λ b. cond b (nearest (perms_kept h (place_of object) ∷ map (λ dir. perms_kept h (Dir dir)) (directories_over t object))) All) e
-    ∙ ap (λ more. nearest (perms_kept h (place_of object) ∷ more)) (at_dirs (directories_over t object))
+cover-places : (t : Tree) (p : ProcessState) (object : Found) → has_veil p.veils ≡ true →
+    cover t p object ≡ nearest (map (veil_at p.veils) (places_over t object))
+cover-places t p object e =
+    ap (λ b. cond b (nearest (veil_at p.veils (place_of object) ∷ map (λ dir. veil_at p.veils (Dir dir)) (directories_over t object))) All) e
+    ∙ ap (λ more. nearest (veil_at p.veils (place_of object) ∷ more)) (at_dirs (directories_over t object))
   where
-    at_dirs : (ds : List ℕ) → map (λ dir. perms_kept h (Dir dir)) ds ≡ map (perms_kept h) (map Dir ds)
+    at_dirs : (ds : List ℕ) → map (λ dir. veil_at p.veils (Dir dir)) ds ≡ map (veil_at p.veils) (map Dir ds)
     at_dirs [] = refl
-    at_dirs (d ∷ ds) = ap (λ more. perms_kept h (Dir d) ∷ more) (at_dirs ds)
+    at_dirs (d ∷ ds) = ap (λ more. veil_at p.veils (Dir d) ∷ more) (at_dirs ds)
 
 pub nearest_counts : NearestCounts
-nearest_counts t h object near far place perms split none here =
-    cover-places t h object (unveil_from_kept h place perms here)
-    ∙ ap (λ places. nearest (map (perms_kept h) places)) split
-    ∙ ap nearest (map-append (perms_kept h) near (place ∷ far) ∙ ap (λ o. map (perms_kept h) near ++ o ∷ map (perms_kept h) far) here)
-    ∙ nearest-append (map (perms_kept h) near) (map (perms_kept h) far) perms (list_all-map is_none (perms_kept h) near ∙ none)
+nearest_counts t p object near far place perms split none here =
+    cover-places t p object (veiled_where_kept p.veils place perms here)
+    ∙ ap (λ places. nearest (map (veil_at p.veils) places)) split
+    ∙ ap nearest (map-append (veil_at p.veils) near (place ∷ far) ∙ ap (λ o. map (veil_at p.veils) near ++ o ∷ map (veil_at p.veils) far) here)
+    ∙ nearest-append (map (veil_at p.veils) near) (map (veil_at p.veils) far) perms (list_all-map is_none (veil_at p.veils) near ∙ none)
 
 -- what a set holds, a set that holds it holds
 pub holds_through : (old perms wanted : ℕ) → holds old perms ≡ true → holds perms wanted ≡ true → holds old wanted ≡ true
@@ -167,36 +184,39 @@ if_none : (b : Bool) (fault : Errno) → cond b None (Some fault) ≡ None → b
 if_none true fault e = refl
 if_none false fault e = cc
 
-nearest_narrows : (h : History) (place : Place) (old perms wanted : ℕ) → perms_kept h place ≡ Some old → holds old perms ≡ true →
+nearest_narrows : (vs : List (Place × ℕ)) (place : Place) (old perms wanted : ℕ) → veil_at vs place ≡ Some old → holds old perms ≡ true →
     (places : List Place) →
-    cover_fault (nearest (map (perms_kept (Unveiled place perms ∷ h)) places)) wanted ≡ None →
-    cover_fault (nearest (map (perms_kept h) places)) wanted ≡ None
-nearest_narrows h place old perms wanted is less [] e = e
-nearest_narrows h place old perms wanted is less (p ∷ ps) e =
-    elim (same_place place p) as (λ b. same_place place p ≡ b →
-    cover_fault (nearest (cond b (Some perms) (perms_kept h p) ∷ map (perms_kept (Unveiled place perms ∷ h)) ps)) wanted ≡ None →
-    cover_fault (nearest (perms_kept h p ∷ map (perms_kept h) ps)) wanted ≡ None) [
+    cover_fault (nearest (map (veil_at (with_veil place perms vs)) places)) wanted ≡ None →
+    cover_fault (nearest (map (veil_at vs) places)) wanted ≡ None
+nearest_narrows vs place old perms wanted is less [] e = e
+nearest_narrows vs place old perms wanted is less (p ∷ ps) e =
+    elim (same_place p place) as (λ b. same_place p place ≡ b →
+    cover_fault (nearest (cond b (Some perms) (veil_at vs p) ∷ map (veil_at (with_veil place perms vs)) ps)) wanted ≡ None →
+    cover_fault (nearest (veil_at vs p ∷ map (veil_at vs) ps)) wanted ≡ None) [
       | true ↦ λ same fits.
-          let here : perms_kept h p ≡ Some old = ap (perms_kept h) (sym (same_place_is place p same)) ∙ is in
-          ap (λ o. cover_fault (nearest (o ∷ map (perms_kept h) ps)) wanted) here
+          let here : veil_at vs p ≡ Some old = ap (veil_at vs) (same_place_is p place same) ∙ is in
+          ap (λ o. cover_fault (nearest (o ∷ map (veil_at vs) ps)) wanted) here
           ∙ ap (λ b. cond b None (Some EACCES)) (holds_through old perms wanted less (if_none (holds perms wanted) EACCES fits))
-      | false ↦ λ other fits. elim (perms_kept h p) as (λ o. cover_fault (nearest (o ∷ map (perms_kept (Unveiled place perms ∷ h)) ps))
-          wanted ≡ None → cover_fault (nearest (o ∷ map (perms_kept h) ps)) wanted ≡ None) [
-            | None ↦ nearest_narrows h place old perms wanted is less ps
+      | false ↦ λ other fits. elim (veil_at vs p) as (λ o.
+          cover_fault (nearest (o ∷ map (veil_at (with_veil place perms vs)) ps)) wanted ≡ None →
+          cover_fault (nearest (o ∷ map (veil_at vs) ps)) wanted ≡ None) [
+            | None ↦ nearest_narrows vs place old perms wanted is less ps
             | Some kept_there ↦ λ same. same
           ] fits
-    ] refl e
+    ] refl (ap (λ o. cover_fault (nearest (o ∷ map (veil_at (with_veil place perms vs)) ps)) wanted)
+    (sym (veil_at-with_veil place perms vs p)) ∙ e)
 
 pub kept_places_narrow : KeptPlacesNarrow
-kept_places_narrow h place old perms is accepted t object wanted e =
-    ap (λ c. cover_fault c wanted) (cover-places t h object (unveil_from_kept h place old is))
-    ∙ nearest_narrows h place old perms wanted is (less (is_locked h) accepted) (places_over t object)
-    (ap (λ c. cover_fault c wanted) (sym (cover-places t (Unveiled place perms ∷ h) object refl)) ∙ e)
+kept_places_narrow p place old perms is accepted t object wanted e =
+    let after : ProcessState = state_after (Unveiled place perms) p in
+    ap (λ c. cover_fault c wanted) (cover-places t p object (veiled_where_kept p.veils place old is))
+    ∙ nearest_narrows p.veils place old perms wanted is (less p.locked accepted) (places_over t object)
+    (ap (λ c. cover_fault c wanted) (sym (cover-places t after object (veiled_with place perms p.veils))) ∙ e)
   where
-    less : (locked : Bool) → cond locked (Some NotPermitted) (place_fault (perms_kept h place) (length (veils h)) perms) ≡ None →
+    less : (locked : Bool) → cond locked (Some NotPermitted) (place_fault (veil_at p.veils place) (length p.veils) perms) ≡ None →
         holds old perms ≡ true
     less true e = cc
-    less false fits = unless (holds old perms) (ap (λ o. place_fault o (length (veils h)) perms) (sym is) ∙ fits)
+    less false fits = unless (holds old perms) (ap (λ o. place_fault o (length p.veils) perms) (sym is) ∙ fits)
       where
         unless : (b : Bool) → cond b None (Some NotPermitted) ≡ None → b ≡ true
         unless true e = refl

@@ -5,7 +5,7 @@ use Rattle.pua_calls.specs.Calls.{CallTable, rule_of}
 use Rattle.pua_calls.specs.CallSets.{has}
 use Rattle.pua_calls.specs.Promises.{holds}
 use Rattle.pua_calls.specs.declared.call.Call.{Call}
-use Rattle.pua_policy.specs.History.{History, ProcessState, StandsFor}
+use Rattle.pua_policy.specs.States.{ProcessState}
 use Rattle.pua_policy.specs.Objects.{object_seen}
 use Rattle.pua_policy.specs.Verdict.{Object, covered_verdict, is_allowed}
 use Rattle.pua_policy.specs.declared.allowed_calls.AllowedCalls.{AllowedCalls}
@@ -28,7 +28,7 @@ IsWithin table perms set = (call : Call) → has set call ≡ holds perms (rule_
 
 -- the calls that are allowed on each object where everything is in view, and those that each set of permissions leaves
 pub record AreWorkedOut (process : ProcessState) (table : CallTable) (sets : AllowedCalls) : Type 0 where
-  pub everything : (t : Tree) (h : History) (judged : Object) → StandsFor process h → (call : Call) →
-      has (slice_index sets.in_view (place_of_object (object_seen t judged))) call
-      ≡ is_allowed (covered_verdict t table h call All judged)
+  pub everything : (t : Tree) (object : seen.Object) (judged : Object) → object ≡ object_seen t judged → (call : Call) →
+      has (slice_index sets.in_view (place_of_object object)) call
+      ≡ is_allowed (covered_verdict t table process call All judged)
   pub permitted : (perms : ℕ) → perms < 16 → IsWithin table perms (slice_index sets.within perms)

@@ -6,8 +6,9 @@ use Rattle.pua_calls.specs.Promises.{promises_of, perms_of, lacking, reading, wr
 use Rattle.pua_calls.specs.Calls.{call_count, calls, standard_table, openbsd_table}
 use Rattle.pua_calls.specs.CallSets.{calls_in, keeps_link}
 use Rattle.pua_policy.specs.Objects.{object_seen}
-use Rattle.pua_policy.specs.History.{History, Pledged, Unveiled, Locked, Ended, new_history, held_set, held_for_exec, pledge_fault}
-use Rattle.pua_policy.specs.History.{unveil_fault, veils, may_any, pledged_set, after_exec}
+use Rattle.pua_policy.specs.States.{Pledged, Unveiled, Locked, Ended}
+use Rattle.pua_policy.specs.History.{History, new_history, state_of, held_set, held_for_exec, pledge_fault, unveil_fault, veils, may_any}
+use Rattle.pua_policy.specs.History.{pledged_set, after_exec}
 use Rattle.pua_policy.specs.Misfits.{misfit}
 use Rattle.pua_policy.specs.Reasons.{Holds, HasEnded, Lacks, promising, covering}
 use Rattle.pua_policy.specs.Verdict.{cover, verdict_on, object_of, object_fault, rmdir_fault, IsDir, IsFile, IsProg, IsLink, IsMissing}
@@ -31,14 +32,14 @@ abbrev pub three_veils : History
 three_veils = Unveiled (Slot 1 (codes "passwd")) (reading + writing) ∷ Unveiled (Dir 3) 0 ∷ Unveiled (Dir 0) reading ∷ new_history
 
 pub record CoverRows : Type 0 where
-  pub beneath_root : cover example_tree three_veils (found.Whole 1 (way.Named 0 (codes "etc"))) ≡ Only reading
-  pub beneath_nearer : cover example_tree three_veils (found.Slot 3 (codes "sh") (Some 7)) ≡ Only 0
-  pub own : cover example_tree three_veils (found.Slot 1 (codes "passwd") (Some 2)) ≡ Only (reading + writing)
-  pub missing : cover example_tree three_veils (found.Slot 1 (codes "x") None) ≡ Only reading
-  pub own_alone : cover example_tree (Unveiled (Slot 1 (codes "passwd")) writing ∷ three_veils) (found.Slot 1 (codes "passwd") (Some 2))
+  pub beneath_root : cover example_tree (state_of three_veils) (found.Whole 1 (way.Named 0 (codes "etc"))) ≡ Only reading
+  pub beneath_nearer : cover example_tree (state_of three_veils) (found.Slot 3 (codes "sh") (Some 7)) ≡ Only 0
+  pub own : cover example_tree (state_of three_veils) (found.Slot 1 (codes "passwd") (Some 2)) ≡ Only (reading + writing)
+  pub missing : cover example_tree (state_of three_veils) (found.Slot 1 (codes "x") None) ≡ Only reading
+  pub own_alone : cover example_tree (state_of (Unveiled (Slot 1 (codes "passwd")) writing ∷ three_veils)) (found.Slot 1 (codes "passwd") (Some 2))
       ≡ Only writing
   -- no veil is kept over it
-  pub own_without_others : cover example_tree (Unveiled (Slot 1 (codes "passwd")) writing ∷ new_history)
+  pub own_without_others : cover example_tree (state_of (Unveiled (Slot 1 (codes "passwd")) writing ∷ new_history))
       (found.Slot 1 (codes "passwd") (Some 2)) ≡ Only writing
   pub increase : unveil_fault three_veils (Dir 3) reading ≡ Some NotPermitted
   pub locked : unveil_fault (Locked ∷ three_veils) (Dir 0) 0 ≡ Some NotPermitted
@@ -71,10 +72,10 @@ abbrev pub narrowed_history : History
 narrowed_history = Pledged (Some (rpath + wpath)) (Some wpath) ∷ with_error
 
 pub record VerdictRows : Type 0 where
-  pub veiled : verdict_on example_tree standard_table root_veiled Stat (codes "/tmp/sh") ≡ Failed EACCES
-  pub unveiled : verdict_on example_tree standard_table root_veiled Stat (codes "/etc") ≡ Allowed
+  pub veiled : verdict_on example_tree standard_table (state_of root_veiled) Stat (codes "/tmp/sh") ≡ Failed EACCES
+  pub unveiled : verdict_on example_tree standard_table (state_of root_veiled) Stat (codes "/etc") ≡ Allowed
   -- something stands there too
-  pub cover_before_kind : verdict_on example_tree standard_table root_veiled Mkdir (codes "/tmp/sh") ≡ Failed EACCES
+  pub cover_before_kind : verdict_on example_tree standard_table (state_of root_veiled) Mkdir (codes "/tmp/sh") ≡ Failed EACCES
   pub exec_increase : pledge_fault (Pledged None (Some rpath) ∷ new_history) None (Some (rpath + wpath)) ≡ Some EPERM
   pub first_promises : pledge_fault (Pledged None (Some rpath) ∷ new_history) (Some (rpath + error)) None ≡ None
   pub under_error : pledge_fault with_error (Some (rpath + wpath)) (Some wpath) ≡ None
@@ -163,16 +164,16 @@ set_rows = record {
 -- why something is allowed or not
 pub record ReasonRows : Type 0 where
   pub lacks : lacking (reading + 4) (reading + writing + 8) ≡ writing + 8
-  pub first_held : promising narrowed_history (wpath ∷ rpath ∷ 0 ∷ []) ≡ Holds rpath
-  pub none_held : promising with_error (wpath ∷ (rpath + wpath) ∷ []) ≡ Lacks true (wpath ∷ wpath ∷ [])
-  pub no_error : promising narrowed_history (wpath ∷ []) ≡ Lacks false (wpath ∷ [])
-  pub ended : promising (Ended ∷ narrowed_history) (rpath ∷ []) ≡ HasEnded
-  pub in_view : covering example_tree new_history (found.Whole 1 (way.Named 0 (codes "etc"))) ≡ InView
-  pub own_veil : covering example_tree three_veils (found.Slot 1 (codes "passwd") (Some 2)) ≡ By (Slot 1 (codes "passwd"))
+  pub first_held : promising (state_of narrowed_history) (wpath ∷ rpath ∷ 0 ∷ []) ≡ Holds rpath
+  pub none_held : promising (state_of with_error) (wpath ∷ (rpath + wpath) ∷ []) ≡ Lacks true (wpath ∷ wpath ∷ [])
+  pub no_error : promising (state_of narrowed_history) (wpath ∷ []) ≡ Lacks false (wpath ∷ [])
+  pub ended : promising (state_of (Ended ∷ narrowed_history)) (rpath ∷ []) ≡ HasEnded
+  pub in_view : covering example_tree (state_of new_history) (found.Whole 1 (way.Named 0 (codes "etc"))) ≡ InView
+  pub own_veil : covering example_tree (state_of three_veils) (found.Slot 1 (codes "passwd") (Some 2)) ≡ By (Slot 1 (codes "passwd"))
       (reading + writing)
-  pub nearer_veil : covering example_tree three_veils (found.Slot 3 (codes "sh") (Some 7)) ≡ By (Dir 3) 0
-  pub root_veil : covering example_tree three_veils (found.Slot 1 (codes "x") None) ≡ By (Dir 0) reading
-  pub none_over : covering example_tree (Unveiled (Dir 3) reading ∷ new_history) (found.Whole 1 (way.Named 0 (codes "etc"))) ≡ NoneOver
+  pub nearer_veil : covering example_tree (state_of three_veils) (found.Slot 3 (codes "sh") (Some 7)) ≡ By (Dir 3) 0
+  pub root_veil : covering example_tree (state_of three_veils) (found.Slot 1 (codes "x") None) ≡ By (Dir 0) reading
+  pub none_over : covering example_tree (state_of (Unveiled (Dir 3) reading ∷ new_history)) (found.Whole 1 (way.Named 0 (codes "etc"))) ≡ NoneOver
   pub directory : map (λ call. misfit example_tree call (IsDir 1 (way.Named 0 (codes "etc")))) calls
       ≡ None ∷ None ∷ Some IsNoLink ∷ None ∷ Some IsDirectory ∷ Some IsDirectory ∷ Some IsDirectory ∷ Some Exists ∷ Some IsNotEmpty
       ∷ Some IsNoFile ∷ Some Exists ∷ None ∷ None ∷ Some IsNoProgram ∷ Some IsNoSocket ∷ Some InUse
@@ -204,8 +205,8 @@ both_for_exec = Pledged None (Some (rpath + cpath)) ∷ new_history
 
 -- where OpenBSD's rules answer otherwise than the standard ones
 pub record RuleRows : Type 0 where
-  pub chmod : verdict_on example_tree openbsd_table fattr_alone Chmod (codes "/etc") ≡ Death
-  pub standard_chmod : verdict_on example_tree standard_table fattr_alone Chmod (codes "/etc") ≡ Allowed
+  pub chmod : verdict_on example_tree openbsd_table (state_of fattr_alone) Chmod (codes "/etc") ≡ Death
+  pub standard_chmod : verdict_on example_tree standard_table (state_of fattr_alone) Chmod (codes "/etc") ≡ Allowed
   -- execpromises stay after an exec, for the next one
   pub exec_promises : pledged_set (after_exec openbsd_table.execpromises both_for_exec) ≡ Some (rpath + cpath)
   pub exec_stay : held_for_exec (after_exec openbsd_table.execpromises both_for_exec) ≡ Some (rpath + cpath)

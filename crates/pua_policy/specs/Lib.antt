@@ -1,5 +1,6 @@
 -- The claim, in reading order: what a reader has to believe of processes, and of what each call is answered.
 pub mod Limits
+pub mod States
 pub mod History
 pub mod Misfits
 pub mod Verdict

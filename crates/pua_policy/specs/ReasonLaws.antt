@@ -1,14 +1,14 @@
 -- What is true of what is told of promises, of veils and of objects.
 use Rattle.std.specs.Prelude.{◌≡◌, ◌≢◌, ◌↔◌, ℕ, true, false, List, [], ◌∷◌, ◌++◌, Some, None, is_none, IfSome, bit_or}
-use Rattle.std.specs.List.{list_all, list_any}
+use Rattle.std.specs.List.{list_all}
 use Rattle.pua_tree.specs.Tree.{Tree, is_empty}
 use Rattle.pua_path.specs.declared.found.Way.TheVariants as way
 use Rattle.pua_path.specs.declared.found.Found.{Found}
 use Rattle.pua_calls.specs.Promises.{holds, lacking}
-use Rattle.pua_policy.specs.History.{History, Unveiled, held_set, is_ended, perms_kept, may_any}
+use Rattle.pua_policy.specs.States.{ProcessState, Unveiled, state_after, held_set, veil_at, has_veil, may_any}
 use Rattle.pua_policy.specs.Laws.{places_over}
 use Rattle.pua_policy.specs.Misfits.{Object, IsDir, IsFile, IsProg, IsLink, IsMissing, misfit}
-use Rattle.pua_policy.specs.Verdict.{cover, cover_fault, is_unveil}
+use Rattle.pua_policy.specs.Verdict.{cover, cover_fault}
 use Rattle.pua_policy.specs.Reasons.{Promising, Holds, HasEnded, Lacks, promising, may_of, covering, cover_of}
 use Rattle.pua_calls.specs.declared.call.Call.{Call}
 use Rattle.pua_policy.specs.declared.place.Place.{Place}
@@ -19,51 +19,51 @@ use Rattle.pua_policy.specs.declared.reason.Misfit.TheVariants.{Missing, Exists,
 use Rattle.pua_policy.specs.declared.reason.Misfit.TheVariants.{IsNoProgram, IsNotEmpty, ByDot, ByDotDot, ByNothing, IsNoSocket, InUse}
 
 -- what is told of promises is so: the set is one of those asked for, and held; or of each set some is not held, and with just that it were
-pub record LacksSome (h : History) (set some : ℕ) : Type 0 where
-  pub not_held : holds (held_set h) set ≡ false
-  pub were_held : holds (bit_or (held_set h) some) set ≡ true
-  pub of_it : some ≡ lacking (held_set h) set
+pub record LacksSome (p : ProcessState) (set some : ℕ) : Type 0 where
+  pub not_held : holds (held_set p) set ≡ false
+  pub were_held : holds (bit_or (held_set p) some) set ≡ true
+  pub of_it : some ≡ lacking (held_set p) set
 
-abbrev pub LackSome : History → List ℕ → List ℕ → Type 0
-LackSome h [] [] = Unit {0}
-LackSome h (set ∷ sets) (some ∷ more) = LacksSome h set some × LackSome h sets more
-LackSome h _ _ = ⊥
+abbrev pub LackSome : ProcessState → List ℕ → List ℕ → Type 0
+LackSome p [] [] = Unit {0}
+LackSome p (set ∷ sets) (some ∷ more) = LacksSome p set some × LackSome p sets more
+LackSome p _ _ = ⊥
 
-abbrev pub PromisingHolds : History → List ℕ → Promising → Type 0
-PromisingHolds h sets (Holds set) = (holds (held_set h) set ≡ true) × (is_ended h ≡ false)
-PromisingHolds h sets HasEnded = is_ended h ≡ true
-PromisingHolds h sets (Lacks error lacks) = LackSome h sets lacks
+abbrev pub PromisingHolds : ProcessState → List ℕ → Promising → Type 0
+PromisingHolds p sets (Holds set) = (holds (held_set p) set ≡ true) × (p.ended ≡ false)
+PromisingHolds p sets HasEnded = p.ended ≡ true
+PromisingHolds p sets (Lacks error lacks) = LackSome p sets lacks
 
 abbrev pub PromisingsHold : Type 0
-PromisingsHold = (h : History) (sets : List ℕ) → PromisingHolds h sets (promising h sets)
+PromisingsHold = (p : ProcessState) (sets : List ℕ) → PromisingHolds p sets (promising p sets)
 
 -- and it tells whether promises allow it
 abbrev pub PromisingsAnswer : Type 0
-PromisingsAnswer = (h : History) (sets : List ℕ) → may_of (promising h sets) ≡ may_any h sets
+PromisingsAnswer = (p : ProcessState) (sets : List ℕ) → may_of (promising p sets) ≡ may_any p sets
 
 -- no place has a veil
-abbrev pub NoneKept : History → List Place → Type 0
-NoneKept h places = list_all (λ place. is_none (perms_kept h place)) places ≡ true
+abbrev pub NoneKept : ProcessState → List Place → Type 0
+NoneKept p places = list_all (λ place. is_none (veil_at p.veils place)) places ≡ true
 
 -- the veil at this place is the nearest, and were its letters these, they would decide
-pub record DecidesBy (t : Tree) (h : History) (object : Found) (place : Place) (given : ℕ) : Type 0 where
+pub record DecidesBy (t : Tree) (p : ProcessState) (object : Found) (place : Place) (given : ℕ) : Type 0 where
   pub near : List Place
   pub far : List Place
   pub split : places_over t object ≡ near ++ place ∷ far
-  pub none_nearer : NoneKept h near
-  pub kept_here : perms_kept h place ≡ Some given
+  pub none_nearer : NoneKept p near
+  pub kept_here : veil_at p.veils place ≡ Some given
   pub were : (letters wanted : ℕ) →
-      (cover_fault (cover t (Unveiled place letters ∷ h) object) wanted ≡ None) ↔ (holds letters wanted ≡ true)
+      (cover_fault (cover t (state_after (Unveiled place letters) p) object) wanted ≡ None) ↔ (holds letters wanted ≡ true)
 
 -- what is told of a cover is so
-abbrev pub CoveringHolds : Tree → History → Found → Covering → Type 0
-CoveringHolds t h object InView = list_any is_unveil h ≡ false
-CoveringHolds t h object NoneOver = NoneKept h (places_over t object)
-CoveringHolds t h object (By place given) = DecidesBy t h object place given
+abbrev pub CoveringHolds : Tree → ProcessState → Found → Covering → Type 0
+CoveringHolds t p object InView = has_veil p.veils ≡ false
+CoveringHolds t p object NoneOver = NoneKept p (places_over t object)
+CoveringHolds t p object (By place given) = DecidesBy t p object place given
 
 abbrev pub CoveringsHold : Type 0
-CoveringsHold = (t : Tree) (h : History) (object : Found) → (cover_of (covering t h object) ≡ cover t h object) ×
-    CoveringHolds t h object (covering t h object)
+CoveringsHold = (t : Tree) (p : ProcessState) (object : Found) → (cover_of (covering t p object) ≡ cover t p object) ×
+    CoveringHolds t p object (covering t p object)
 
 -- with what is told to lack nothing lacks, and it does with no less
 pub record IsLacking (set wanted : ℕ) : Type 0 where

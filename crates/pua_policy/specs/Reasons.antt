@@ -1,12 +1,10 @@
 -- Why a process may do something or not: by which promises, and by which veil.
 use Rattle.std.specs.Prelude.{ℕ, Bool, true, false, if◌then◌else◌, List, [], ◌∷◌, map, Option, Some, None, find}
-use Rattle.std.specs.List.{list_any}
 use Rattle.pua_tree.specs.Tree.{Tree}
 use Rattle.pua_path.specs.declared.found.Found.{Found}
 use Rattle.pua_calls.specs.Promises.{holds, lacking, error}
-use Rattle.pua_policy.specs.History.{History, ProcessState, state_of, held_on, perms_kept, has_veil, veil_at}
+use Rattle.pua_policy.specs.States.{ProcessState, held_set, has_error, has_veil, veil_at}
 use Rattle.pua_policy.specs.Laws.{places_over}
-use Rattle.pua_policy.specs.Verdict.{is_unveil}
 use Rattle.pua_policy.specs.declared.place.Place.{Place}
 use Rattle.pua_policy.specs.declared.place.Place.TheVariants.{Dir}
 use Rattle.pua_policy.specs.declared.answer.Cover.{Cover}
@@ -29,12 +27,9 @@ holds_or (Some set) lacks = Holds set
 holds_or None lacks = lacks
 
 -- the first set that is held
-abbrev pub promising_on : ProcessState → List ℕ → Promising
-promising_on p sets = if p.ended then HasEnded else holds_or (find (holds (held_on p)) sets)
-    (Lacks (holds (held_on p) error) (map (lacking (held_on p)) sets))
-
-abbrev pub promising : History → List ℕ → Promising
-promising h sets = promising_on (state_of h) sets
+abbrev pub promising : ProcessState → List ℕ → Promising
+promising p sets = if p.ended then HasEnded else holds_or (find (holds (held_set p)) sets)
+    (Lacks (has_error p) (map (lacking (held_set p)) sets))
 
 -- as a process tells it, which names what it holds beside the sets
 abbrev pub promising_seen : seen.Promising → Promising
@@ -63,12 +58,8 @@ first_kept kept_at (place ∷ places) = kept_or place (kept_at place) (first_kep
 abbrev pub covering_with : Bool → (Place → Option ℕ) → Tree → Found → Covering
 covering_with veiled kept_at t object = if veiled then first_kept kept_at (places_over t object) else InView
 
-abbrev pub covering : Tree → History → Found → Covering
-covering t h object = covering_with (list_any is_unveil h) (perms_kept h) t object
-
--- the same by what a process keeps
-abbrev pub covering_on : Tree → ProcessState → Found → Covering
-covering_on t p object = covering_with (has_veil p.veils) (veil_at p.veils) t object
+abbrev pub covering : Tree → ProcessState → Found → Covering
+covering t p object = covering_with (has_veil p.veils) (veil_at p.veils) t object
 
 -- the first of some directories that has permissions, with them
 abbrev pub or_farther : ℕ → Option ℕ → Option (ℕ × ℕ) → Option (ℕ × ℕ)

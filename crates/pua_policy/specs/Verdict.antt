@@ -1,6 +1,5 @@
 -- What the veils leave of an object, and whether a call is allowed.
 use Rattle.std.specs.Prelude.{ℕ, Bool, true, false, if◌then◌else◌, List, [], ◌∷◌, map, Option, Some, None, option_map, Result, Ok, Err}
-use Rattle.std.specs.List.{list_any}
 use Rattle.pua_tree.specs.Tree.{Tree, kind_at, above, climb}
 use Rattle.pua_path.specs.Resolution.{resolution_of_text}
 pub use Rattle.pua_path.specs.Fits.{found_fits, FoundFits, FoundsFit, is_link_kind, is_link}
@@ -8,7 +7,7 @@ pub use Rattle.pua_policy.specs.Misfits.{Object, IsDir, IsFile, IsProg, IsLink, 
 use Rattle.pua_policy.specs.Misfits.{rmdir_misfit, misfit, misfit_errno}
 use Rattle.pua_calls.specs.Promises.{holds}
 use Rattle.pua_calls.specs.Calls.{CallTable, rule_of, last_of, ending_of}
-use Rattle.pua_policy.specs.History.{History, Event, Unveiled, ProcessState, perms_kept, may_any, working_dir, has_veil, veil_at}
+use Rattle.pua_policy.specs.States.{ProcessState, may_any, has_veil, veil_at}
 use Rattle.pua_tree.specs.declared.node.Kind.{Kind}
 use Rattle.pua_tree.specs.declared.node.Kind.TheVariants as kind
 use Rattle.pua_path.specs.declared.errno.Errno.{Errno}
@@ -44,21 +43,13 @@ nearest [] = Nothing
 nearest (None ∷ more) = nearest more
 nearest (Some perms ∷ more) = Only perms
 
-abbrev pub is_unveil : Event → Bool
-is_unveil (Unveiled place perms) = true
-is_unveil _ = false
-
 -- everything, where no veil is kept; else the permissions at the object's own place, or those of the nearest directory over it
 abbrev pub cover_with : Bool → (Place → Option ℕ) → Tree → Found → Cover
 cover_with veiled kept_at t object =
     if veiled then nearest (kept_at (place_of object) ∷ map (λ dir. kept_at (Dir dir)) (directories_over t object)) else All
 
-abbrev pub cover : Tree → History → Found → Cover
-cover t h object = cover_with (list_any is_unveil h) (perms_kept h) t object
-
--- the same by what a process keeps
-abbrev pub cover_on : Tree → ProcessState → Found → Cover
-cover_on t p object = cover_with (has_veil p.veils) (veil_at p.veils) t object
+abbrev pub cover : Tree → ProcessState → Found → Cover
+cover t p object = cover_with (has_veil p.veils) (veil_at p.veils) t object
 
 abbrev pub object_of_kind : Option Kind → Object
 object_of_kind (Some kind.Prog) = IsProg
@@ -112,36 +103,32 @@ if_promised may.Enosys verdict = Failed ENOSYS
 if_promised may.Death verdict = Death
 
 -- the fault of a call on what was found: its cover, its permissions, its kind
-abbrev pub found_fault : Tree → CallTable → History → Call → Found → Option Errno
-found_fault t table h call object =
-    or_fault (cover_fault (cover t h object) (rule_of table call).perms) (object_fault t call (object_of t object))
+abbrev pub found_fault : Tree → CallTable → ProcessState → Call → Found → Option Errno
+found_fault t table p call object =
+    or_fault (cover_fault (cover t p object) (rule_of table call).perms) (object_fault t call (object_of t object))
 
-abbrev pub found_fault_on : Tree → CallTable → ProcessState → Call → Found → Option Errno
-found_fault_on t table p call object =
-    or_fault (cover_fault (cover_on t p object) (rule_of table call).perms) (object_fault t call (object_of t object))
-
-abbrev pub verdict : Tree → CallTable → History → Call → Found → Verdict
-verdict t table h call object =
-    if_promised (may_any h (rule_of table call).alternatives) (allowed_unless (found_fault t table h call object))
+abbrev pub verdict : Tree → CallTable → ProcessState → Call → Found → Verdict
+verdict t table p call object =
+    if_promised (may_any p (rule_of table call).alternatives) (allowed_unless (found_fault t table p call object))
 
 -- the verdict on such an object wherever it stands, by what the veils leave of it
-abbrev pub covered_verdict : Tree → CallTable → History → Call → Cover → Object → Verdict
-covered_verdict t table h call left object =
-    if_promised (may_any h (rule_of table call).alternatives)
+abbrev pub covered_verdict : Tree → CallTable → ProcessState → Call → Cover → Object → Verdict
+covered_verdict t table p call left object =
+    if_promised (may_any p (rule_of table call).alternatives)
     (allowed_unless (or_fault (cover_fault left (rule_of table call).perms) (object_fault t call object)))
 
 -- the verdict where the path may have failed
-abbrev pub verdict_of : Tree → CallTable → History → Call → Result Found Errno → Verdict
-verdict_of t table h call (Ok object) = verdict t table h call object
-verdict_of t table h call (Err errno) = if_promised (may_any h (rule_of table call).alternatives) (Failed errno)
+abbrev pub verdict_of : Tree → CallTable → ProcessState → Call → Result Found Errno → Verdict
+verdict_of t table p call (Ok object) = verdict t table p call object
+verdict_of t table p call (Err errno) = if_promised (may_any p (rule_of table call).alternatives) (Failed errno)
 
 -- what the text of a call names to a process
-abbrev pub object_named : Tree → History → Call → List ℕ → Result Found Errno
-object_named t h call text = resolution_of_text t (working_dir h) (ending_of call) text (last_of call)
+abbrev pub object_named : Tree → ProcessState → Call → List ℕ → Result Found Errno
+object_named t p call text = resolution_of_text t p.dir (ending_of call) text (last_of call)
 
 -- the verdict on a call with its path's text
-abbrev pub verdict_on : Tree → CallTable → History → Call → List ℕ → Verdict
-verdict_on t table h call text = verdict_of t table h call (object_named t h call text)
+abbrev pub verdict_on : Tree → CallTable → ProcessState → Call → List ℕ → Verdict
+verdict_on t table p call text = verdict_of t table p call (object_named t p call text)
 
 abbrev pub is_allowed : Verdict → Bool
 is_allowed Allowed = true

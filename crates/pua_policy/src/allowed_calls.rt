@@ -6,7 +6,7 @@ ghost use Rattle.pua_calls.specs.Calls.{CallTable as Table};
 ghost use Rattle.pua_calls.specs.CallSets.{has};
 ghost use Rattle.pua_calls.specs.Promises.{holds};
 ghost use Rattle.pua_policy.specs.AllowedCalls.{AreWorkedOut, IsWithin, place_of_object};
-ghost use Rattle.pua_policy.specs.History.{History, ProcessState, StandsFor};
+ghost use Rattle.pua_policy.specs.States.{ProcessState};
 ghost use Rattle.pua_policy.specs.Objects.{object_seen};
 ghost use Rattle.pua_policy.specs.Verdict.{covered_verdict, is_allowed};
 ghost use Rattle.pua_policy.specs.Verdict.{Object as Judged};
@@ -52,10 +52,10 @@ impl AllowedCalls {
 
     /// The calls that are allowed on an object that has this cover, as `judge::allowed` answers them.
     pub fn on(&self, cover: Cover, object: Object) -> Calls
-        ensures { (process : ProcessState) (table : Table) (t : Tree) (h : History) (judged : Judged) →
-            AreWorkedOut process table self.now → StandsFor process h →
+        ensures { (process : ProcessState) (table : Table) (t : Tree) (judged : Judged) →
+            AreWorkedOut process table self.now →
             object ≡ object_seen t judged → (call : Call) →
-            has result call ≡ is_allowed (covered_verdict t table h call cover judged) }
+            has result call ≡ is_allowed (covered_verdict t table process call cover judged) }
     {
         let calls = self.in_view[place(object)];
         match cover {

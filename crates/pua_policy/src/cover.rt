@@ -4,9 +4,9 @@ ghost use Rattle.std.specs.Prelude.{◌≡◌, ◌+◌, ◌≤◌, length, map, 
 ghost use Rattle.pua_tree.specs.Tree.{is_dir, climb};
 ghost use Rattle.pua_path.specs.Walks.{found_seen};
 ghost use Rattle.pua_policy.specs.Descent.{own_or};
-ghost use Rattle.pua_policy.specs.History.{History, StandsFor, has_veil, perms_kept, veil_at};
-ghost use Rattle.pua_policy.specs.Reasons.{covering, covering_at, covering_on, first_veiled};
-ghost use Rattle.pua_policy.specs.Verdict.{FoundFits, cover, cover_on, nearest};
+ghost use Rattle.pua_policy.specs.States.{has_veil, veil_at};
+ghost use Rattle.pua_policy.specs.Reasons.{covering, covering_at, covering, first_veiled};
+ghost use Rattle.pua_policy.specs.Verdict.{FoundFits, cover, cover, nearest};
 
 use crate::answer::Cover;
 use crate::place::Place;
@@ -23,9 +23,7 @@ impl Process {
     /// probe's tree as it stands. At most as many looks at the tree as it has nodes.
     pub fn cover<'t, P: Probe<'t>>(&self, probe: &mut P, found: &Found) -> Cover
         requires { FoundFits (P.tree probe.old) found.now }
-        ensures state { result ≡ cover_on (P.tree probe.old) self.now found.now }
-        ensures exact { (h : History) → StandsFor self.now h →
-            result ≡ cover (P.tree probe.old) h found.now }
+        ensures exact { result ≡ cover (P.tree probe.old) self.now found.now }
         ensures tree { P.tree probe.new ≡ P.tree probe.old }
         ensures cost { P.count probe.new ≤ P.count probe.old + length (P.tree probe.old).nodes }
     {
@@ -35,9 +33,7 @@ impl Process {
     /// The same, of what was found with its name lent.
     pub fn cover_lent<'t, P: Probe<'t>>(&self, probe: &mut P, found: &LentFound<'_>) -> Cover
         requires { FoundFits (P.tree probe.old) (found_seen found.now) }
-        ensures state { result ≡ cover_on (P.tree probe.old) self.now (found_seen found.now) }
-        ensures exact { (h : History) → StandsFor self.now h →
-            result ≡ cover (P.tree probe.old) h (found_seen found.now) }
+        ensures exact { result ≡ cover (P.tree probe.old) self.now (found_seen found.now) }
         ensures tree { P.tree probe.new ≡ P.tree probe.old }
         ensures cost { P.count probe.new ≤ P.count probe.old + length (P.tree probe.old).nodes }
     {
@@ -51,11 +47,8 @@ impl Process {
     /// That is said of what was found in the probe's tree as it stands. Whatever the object is, it
     /// takes at most as many looks at the tree as that has nodes.
     pub fn covering<'t, P: Probe<'t>>(&self, probe: &mut P, found: &Found) -> Covering
-        ensures state { FoundFits (P.tree probe.old) found.now →
-            result ≡ covering_on (P.tree probe.old) self.now found.now }
         ensures exact { FoundFits (P.tree probe.old) found.now →
-            (h : History) → StandsFor self.now h →
-            result ≡ covering (P.tree probe.old) h found.now }
+            result ≡ covering (P.tree probe.old) self.now found.now }
         ensures tree { P.tree probe.new ≡ P.tree probe.old }
         ensures cost { P.count probe.new ≤ P.count probe.old + length (P.tree probe.old).nodes }
     {
@@ -78,8 +71,7 @@ impl Process {
     /// The permissions kept at this very place, or where it has no veil the cover of the names in the
     /// directory over it, which the caller hands on. The tree is not asked.
     pub fn own_cover(&self, place: &Place, over: Cover) -> Cover
-        ensures { (h : History) → StandsFor self.now h →
-            result ≡ own_or (perms_kept h place.now) over }
+        ensures { result ≡ own_or (veil_at self.now.veils place.now) over }
     {
         match self.kept(place) {
             Some(own) => Cover::Only(own),
@@ -91,8 +83,8 @@ impl Process {
     /// variables when it begins, and a place takes some 260 bytes.
     fn veiled_cover<'t, P: Probe<'t>>(&self, probe: &mut P, found: &LentFound<'_>) -> Cover
         requires { FoundFits (P.tree probe.old) (found_seen found.now) }
-        ensures state { IsTrue (has_veil self.now.veils) →
-            result ≡ cover_on (P.tree probe.old) self.now (found_seen found.now) }
+        ensures exact { IsTrue (has_veil self.now.veils) →
+            result ≡ cover (P.tree probe.old) self.now (found_seen found.now) }
         ensures tree { P.tree probe.new ≡ P.tree probe.old }
         ensures cost { P.count probe.new ≤ P.count probe.old + length (P.tree probe.old).nodes }
     {

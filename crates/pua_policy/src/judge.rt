@@ -1,16 +1,15 @@
 //! The verdict on a call.
 
 ghost use Rattle.std.specs.Prelude.{◌≡◌, ◌+◌, ◌≤◌, [], ◌∷◌, ℕ, length};
-ghost use Rattle.std.specs.Prelude.{Some, None, is_none, MatchResult};
+ghost use Rattle.std.specs.Prelude.{None, Some, is_none, MatchResult};
 ghost use Rattle.std.specs.Result.{result_err};
 ghost use Rattle.pua_tree.specs.Tree.{Tree};
 ghost use Rattle.pua_calls.specs.Calls.{rule_of};
 ghost use Rattle.pua_calls.specs.CallSets.{has};
-ghost use Rattle.pua_policy.specs.History.{History, StandsFor, may_any, may_any_on};
+ghost use Rattle.pua_policy.specs.States.{may_any};
 ghost use Rattle.pua_policy.specs.Objects.{object_seen};
 ghost use Rattle.pua_policy.specs.Verdict.{FoundFits, FoundsFit, verdict, verdict_of};
 ghost use Rattle.pua_policy.specs.Verdict.{covered_verdict, is_allowed, refusal_of, found_fault};
-ghost use Rattle.pua_policy.specs.Verdict.{found_fault_on};
 ghost use Rattle.pua_policy.specs.Verdict.{cover_fault, object_fault, object_of, object_of_kind};
 ghost use Rattle.pua_policy.specs.Verdict.{Object as Judged, IsDir};
 ghost use Rattle.pua_policy.specs.Misfits.{misfit, rmdir_misfit};
@@ -29,10 +28,11 @@ use pua_tree::{Kind, NodeId};
 /// `ENOSYS` where `error` is held, and else the process is killed (pledge(2)); one that has ended
 /// may do nothing.
 pub fn promised(process: &Process, promises: Promises) -> Result<(), Refusal>
-    ensures state { result_err result ≡ refusal_of (may_any_on process.now (promises ∷ [])) }
-    ensures exact { (h : History) → StandsFor process.now h → MatchResult result
-        (λ _. may_any h (promises ∷ []) ≡ May.Yes)
-        (λ refusal. refusal_of (may_any h (promises ∷ [])) ≡ Some refusal) }
+    ensures state { result_err result
+        ≡ refusal_of (may_any process.now (promises ∷ [])) }
+    ensures exact { MatchResult result
+        (λ _. may_any process.now (promises ∷ []) ≡ May.Yes)
+        (λ refusal. refusal_of (may_any process.now (promises ∷ [])) ≡ Some refusal) }
 {
     promised_any(process, &[promises])
 }
@@ -41,10 +41,10 @@ pub fn promised(process: &Process, promises: Promises) -> Result<(), Refusal>
 /// Without them the call fails, or the process is killed, as without those of `promised`.
 pub fn promised_for(process: &Process, table: &CallTable, call: Call) -> Result<(), Refusal>
     ensures state { result_err result
-        ≡ refusal_of (may_any_on process.now (rule_of table.now call).alternatives) }
-    ensures exact { (h : History) → StandsFor process.now h → MatchResult result
-        (λ _. may_any h (rule_of table.now call).alternatives ≡ May.Yes)
-        (λ refusal. refusal_of (may_any h (rule_of table.now call).alternatives) ≡ Some refusal) }
+        ≡ refusal_of (may_any process.now (rule_of table.now call).alternatives) }
+    ensures exact { MatchResult result
+        (λ _. may_any process.now (rule_of table.now call).alternatives ≡ May.Yes)
+        (λ refusal. refusal_of (may_any process.now (rule_of table.now call).alternatives) ≡ Some refusal) }
 {
     promised_any(process, table.alternatives(call))
 }
@@ -53,10 +53,11 @@ pub fn promised_for(process: &Process, table: &CallTable, call: Call) -> Result<
 /// and nowhere else. Where it holds none of the sets the call fails with `ENOSYS` if `error` is
 /// held, and else the process is killed; one that has ended may do nothing.
 pub fn promised_any(process: &Process, alternatives: &[Promises]) -> Result<(), Refusal>
-    ensures state { result_err result ≡ refusal_of (may_any_on process.now alternatives.now) }
-    ensures exact { (h : History) → StandsFor process.now h → MatchResult result
-        (λ _. may_any h alternatives.now ≡ May.Yes)
-        (λ refusal. refusal_of (may_any h alternatives.now) ≡ Some refusal) }
+    ensures state { result_err result
+        ≡ refusal_of (may_any process.now alternatives.now) }
+    ensures exact { MatchResult result
+        (λ _. may_any process.now alternatives.now ≡ May.Yes)
+        (λ refusal. refusal_of (may_any process.now alternatives.now) ≡ Some refusal) }
 {
     match process.may_any(alternatives) {
         May::Yes => Ok(()),
@@ -77,8 +78,7 @@ pub fn verdict<'t, P: Probe<'t>>(
     found: &Found,
 ) -> Verdict
     requires { FoundFits (P.tree probe.old) found.now }
-    ensures exact { (h : History) → StandsFor process.now h →
-        result ≡ verdict (P.tree probe.old) table.now h call found.now }
+    ensures exact { result ≡ verdict (P.tree probe.old) table.now process.now call found.now }
     ensures tree { P.tree probe.new ≡ P.tree probe.old }
     ensures cost { P.count probe.new ≤ P.count probe.old + length (P.tree probe.old).nodes + 4 }
 {
@@ -101,8 +101,7 @@ pub fn verdict_of<'t, P: Probe<'t>>(
     found: Result<Found, Errno>,
 ) -> Verdict
     requires { FoundsFit (P.tree probe.old) found }
-    ensures exact { (h : History) → StandsFor process.now h →
-        result ≡ verdict_of (P.tree probe.old) table.now h call found }
+    ensures exact { result ≡ verdict_of (P.tree probe.old) table.now process.now call found }
     ensures tree { P.tree probe.new ≡ P.tree probe.old }
     ensures cost { P.count probe.new ≤ P.count probe.old + length (P.tree probe.old).nodes + 4 }
 {
@@ -129,11 +128,8 @@ pub fn object_verdict<'t, P: Probe<'t>>(
     found: &Found,
 ) -> Result<(), Errno>
     requires { FoundFits (P.tree probe.old) found.now }
-    ensures state { result_err result ≡
-        found_fault_on (P.tree probe.old) table.now process.now call found.now }
-    ensures exact { (h : History) → StandsFor process.now h → MatchResult result
-        (λ _. found_fault (P.tree probe.old) table.now h call found.now ≡ None)
-        (λ errno. found_fault (P.tree probe.old) table.now h call found.now ≡ Some errno) }
+    ensures exact { result_err result ≡
+        found_fault (P.tree probe.old) table.now process.now call found.now }
     ensures tree { P.tree probe.new ≡ P.tree probe.old }
     ensures cost { P.count probe.new ≤ P.count probe.old + length (P.tree probe.old).nodes + 4 }
 {
@@ -149,12 +145,8 @@ pub fn object_verdict_lent<'t, P: Probe<'t>>(
     found: &LentFound<'_>,
 ) -> Result<(), Errno>
     requires { FoundFits (P.tree probe.old) (found_seen found.now) }
-    ensures state { result_err result ≡
-        found_fault_on (P.tree probe.old) table.now process.now call (found_seen found.now) }
-    ensures exact { (h : History) → StandsFor process.now h → MatchResult result
-        (λ _. found_fault (P.tree probe.old) table.now h call (found_seen found.now) ≡ None)
-        (λ errno.
-        found_fault (P.tree probe.old) table.now h call (found_seen found.now) ≡ Some errno) }
+    ensures exact { result_err result ≡
+        found_fault (P.tree probe.old) table.now process.now call (found_seen found.now) }
     ensures tree { P.tree probe.new ≡ P.tree probe.old }
     ensures cost { P.count probe.new ≤ P.count probe.old + length (P.tree probe.old).nodes + 4 }
 {
@@ -172,9 +164,8 @@ pub fn object_verdict_lent<'t, P: Probe<'t>>(
 /// which the verdict is `Verdict::Allowed`, wherever such an object stands that has this cover. The
 /// tree is not asked. `Process::cover` answers the cover, and `object` what the object is.
 pub fn allowed(process: &Process, table: &CallTable, cover: Cover, object: Object) -> Calls
-    ensures { (t : Tree) (h : History) (judged : Judged) →
-        StandsFor process.now h → object ≡ object_seen t judged → (call : Call) →
-        has result call ≡ is_allowed (covered_verdict t table.now h call cover judged) }
+    ensures { (t : Tree) (judged : Judged) → object ≡ object_seen t judged → (call : Call) →
+        has result call ≡ is_allowed (covered_verdict t table.now process.now call cover judged) }
 {
     let mut calls = Calls::NONE;
     for call in Call::ALL {
@@ -187,9 +178,8 @@ pub fn allowed(process: &Process, table: &CallTable, cover: Cover, object: Objec
 
 /// Whether a call is allowed on an object that has this cover.
 fn allows(process: &Process, table: &CallTable, call: Call, cover: &Cover, object: Object) -> bool
-    ensures { (t : Tree) (h : History) (judged : Judged) →
-        StandsFor process.now h → object ≡ object_seen t judged →
-        result ≡ is_allowed (covered_verdict t table.now h call cover.now judged) }
+    ensures { (t : Tree) (judged : Judged) → object ≡ object_seen t judged →
+        result ≡ is_allowed (covered_verdict t table.now process.now call cover.now judged) }
 {
     promised_for(process, table, call).is_ok()
         && cover_fault(*cover, table.perms(call)).is_none()

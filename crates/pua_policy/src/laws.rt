@@ -4,7 +4,7 @@
 ghost use Rattle.std.specs.Prelude.{◌≡◌};
 ghost use Rattle.pua_policy.specs.Laws.{VeilsAreKept, CoverNeedsUnveil, NearestCounts};
 ghost use Rattle.pua_policy.specs.Laws.{KeptPlacesNarrow, CoversDescend, HeldNeverGrows};
-ghost use Rattle.pua_policy.specs.Laws.{PledgesNarrow, ProcessesDecide};
+ghost use Rattle.pua_policy.specs.Laws.{PledgesNarrow, StatesAreLeft};
 ghost use Rattle.pua_policy.specs.ReasonLaws.{CoveringsHold, LackingsHold, MisfitsHold};
 ghost use Rattle.pua_policy.specs.ReasonLaws.{PromisingsAnswer, PromisingsHold};
 ghost use Rattle.pua_policy.specs.Limits.{most_places};
@@ -57,9 +57,11 @@ pub fn promise_laws()
     ensures allowed { PledgesNarrow }
 {}
 
-/// What a process keeps decides what it may do, whichever history it stands for.
+/// What a process keeps is what its history left, event by event and after an exec; and what a history
+/// lets a process do is said of what it left.
+#[tactic(auto, using(crate::proofs::Standing::states_are_left))]
 pub fn standing_law()
-    ensures { ProcessesDecide }
+    ensures { StatesAreLeft }
 {}
 
 /// What a set is told to lack of another suffices beside it, and whatever suffices has it. Of promises

@@ -1,9 +1,8 @@
 //! By which promises a process may do something.
 
 ghost use Rattle.std.specs.Prelude.{◌≡◌, find};
-ghost use Rattle.pua_policy.specs.History.{History, StandsFor};
 ghost use Rattle.pua_calls.specs.Promises.{holds};
-ghost use Rattle.pua_policy.specs.Reasons.{promising, promising_on, promising_seen};
+ghost use Rattle.pua_policy.specs.Reasons.{promising, promising_seen};
 
 use crate::process::Process;
 use crate::reason::Promising;
@@ -13,9 +12,7 @@ impl Process {
     /// By which of these sets it may do what needs all promises of one of them, the first that it
     /// holds; or why it may not (pledge(2)). `may_any` answers whether it may. Takes no memory.
     pub fn promising<'s>(&self, sets: &'s [Promises]) -> Promising<'s>
-        ensures state { promising_seen result ≡ promising_on self.now sets.now }
-        ensures history { (h : History) → StandsFor self.now h →
-            promising_seen result ≡ promising h sets.now }
+        ensures { promising_seen result ≡ promising self.now sets.now }
     {
         if self.ended() {
             return Promising::HasEnded;

@@ -1,56 +1,30 @@
--- A history with the same unveils and no more promises but `error` allows no more.
-use Rattle.pua_script.proofs.Common.{◌≡◌, ℕ, List, [], ◌∷◌, Bool, true, false, not, ◌&&◌, ◌||◌, cond, map, refl, sym, ap, subst, ◌∙◌}
-use Rattle.pua_script.proofs.Common.{list_any, AllByRecursion, Option, Some, None, Result, Ok, Err, filter, Tree, is_dir, ◌>>=◌}
+-- A state with the same unveils and no more promises but `error` allows no more.
+use Rattle.pua_script.proofs.Common.{◌≡◌, ℕ, List, [], ◌∷◌, Bool, true, false, not, ◌&&◌, ◌||◌, cond, refl, sym, ap, subst, ◌∙◌}
+use Rattle.pua_script.proofs.Common.{list_any, AllByRecursion, Option, Some, None, Result, Ok, Err, Tree, is_dir, ◌>>=◌}
 use Rattle.pua_script.proofs.Common.{is_absolute, path_fault, parts_of, resolution_of_text, resolve_parts, most_links, Errno, ENOENT}
-use Rattle.pua_script.proofs.Common.{Ending, Last, Found, holds, CallTable, rule_of, ending_of, last_of, History, Pledged, Unveiled, Locked}
-use Rattle.pua_script.proofs.Common.{Moved, Ended, held_set, has_error, is_ended, may_any, working_dir, cover, is_unveil, place_of}
-use Rattle.pua_script.proofs.Common.{cover_fault, or_fault, object_fault, object_of, object_named, Call, All, May, Yes}
+use Rattle.pua_script.proofs.Common.{Ending, Last, Found, holds, CallTable, rule_of, ending_of, last_of, ProcessState}
+use Rattle.pua_script.proofs.Common.{held_set, has_error, is_ended, may_any, working_dir, cover}
+use Rattle.pua_script.proofs.Common.{cover_fault, or_fault, object_fault, object_of, object_named, Call, May, Yes}
 use Rattle.pua_path.specs.Resolution.{resolution}
 use Rattle.pua_path.specs.declared.found.Way.TheVariants.{Top}
-use Rattle.pua_policy.specs.History.{perms_kept}
-use Rattle.pua_policy.specs.History.{same_place}
-use Rattle.pua_policy.specs.Verdict.{nearest, directories_over}
+use Rattle.pua_policy.specs.States.{SameVeils}
+use Rattle.pua_policy.specs.Verdict.{cover_with}
 use Rattle.pua_policy.specs.Verdict.{allowed_unless, if_promised, verdict_of, is_allowed, found_fault}
-use Rattle.pua_policy.specs.declared.place.Place.{Place}
-use Rattle.pua_policy.specs.declared.place.Place.TheVariants.{Dir}
 use Rattle.pua_policy.specs.declared.answer.May.TheVariants.{Enosys, Death}
 use Rattle.pua_policy.specs.declared.answer.Verdict.{Verdict}
 use Rattle.pua_policy.specs.declared.answer.Verdict.TheVariants as verdicts
 use Rattle.pua_script.specs.Tightening.{NamesNoError, NoCallNeedsError, Tightens, AllowsNoMore}
 
--- what is kept at a place is kept by the unveils alone
-kept_by_unveils : (h : History) (place : Place) → perms_kept h place ≡ perms_kept (filter is_unveil h) place
-kept_by_unveils [] place = refl
-kept_by_unveils (Unveiled other perms ∷ h) place = ap (cond (same_place other place) (Some perms)) (kept_by_unveils h place)
-kept_by_unveils (Pledged p e ∷ h) place = kept_by_unveils h place
-kept_by_unveils (Locked ∷ h) place = kept_by_unveils h place
-kept_by_unveils (Moved d ∷ h) place = kept_by_unveils h place
-kept_by_unveils (Ended ∷ h) place = kept_by_unveils h place
+-- the same veils leave the same covers
+pub same_cover : (a b : ProcessState) → SameVeils a b → (t : Tree) (object : Found) → cover t a object ≡ cover t b object
+same_cover a b e t object = λ i. cover_with (e.any i) (λ place. e.kept place i) t object
 
-any_by_unveils : (h : History) → list_any is_unveil h ≡ list_any is_unveil (filter is_unveil h)
-any_by_unveils [] = refl
-any_by_unveils (Unveiled other perms ∷ h) = refl
-any_by_unveils (Pledged p e ∷ h) = any_by_unveils h
-any_by_unveils (Locked ∷ h) = any_by_unveils h
-any_by_unveils (Moved d ∷ h) = any_by_unveils h
-any_by_unveils (Ended ∷ h) = any_by_unveils h
-
--- the same unveils leave the same covers
-pub same_cover : (a b : History) → filter is_unveil a ≡ filter is_unveil b → (t : Tree) (object : Found) →
-    cover t a object ≡ cover t b object
-same_cover a b e t object =
-    let any : list_any is_unveil a ≡ list_any is_unveil b = any_by_unveils a ∙ ap (list_any is_unveil) e ∙ sym (any_by_unveils b) in
-    λ i. cond (any i) (nearest (same_kept (place_of object) i ∷ map (λ dir. same_kept (Dir dir) i) (directories_over t object))) All
-  where
-    same_kept : (place : Place) → perms_kept a place ≡ perms_kept b place
-    same_kept place = kept_by_unveils a place ∙ ap (λ h. perms_kept h place) e ∙ sym (kept_by_unveils b place)
-
--- the later history is tightened, and one that has ended stays so
-pub record IsWithin (before after : History) : Type 0 where
+-- the later state is tightened, and one that has ended stays so
+pub record IsWithin (before after : ProcessState) : Type 0 where
   pub tightens : Tightens before after
   pub ended : is_ended after ≡ false → is_ended before ≡ false
 
-module _ (before after : History) (within : IsWithin before after) where
+module _ (before after : ProcessState) (within : IsWithin before after) where
   any_held : (alternatives : List ℕ) → AllByRecursion NamesNoError alternatives → list_any (holds (held_set after)) alternatives ≡ true →
       list_any (holds (held_set before)) alternatives ≡ true
   any_held [] sound e = e
@@ -119,7 +93,7 @@ named_alike t a b ending text mode e = by (path_fault text) refl
     by None is = rw is (from_root_alike t a b ending text mode e)
     by (Some errno) is = rw is refl
 
-pub allows_no_more : (table : CallTable) → NoCallNeedsError table → (before after : History) → IsWithin before after →
+pub allows_no_more : (table : CallTable) → NoCallNeedsError table → (before after : ProcessState) → IsWithin before after →
     AllowsNoMore table before after
 allows_no_more table sound before after within = record {
   absolute = λ t call text e allowed. verdicts_within before after within table sound t call (object_named t before call text)

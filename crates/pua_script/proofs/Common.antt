@@ -4,7 +4,7 @@ pub use Rattle.std.proofs.Common.{length, List, lit<, map, nat_eq, not, refl, ru
 pub use Rattle.std.proofs.lemmas.Bool.{and_from, and_parts, eq-eqb, eqb-true, false≢true, le-leb, lt-ltb, not-true, true≢false}
 pub use Rattle.std.proofs.lemmas.Option.{same_Some}
 pub use Rattle.std.specs.Cmp.{nat_cmp_total}
-pub use Rattle.std.specs.FinMap.{nat_cmp-IsAntisymmetric, put}
+pub use Rattle.std.specs.FinMap.{nat_cmp-IsAntisymmetric}
 pub use Rattle.std.specs.List.{AllByRecursion, list_all, list_any}
 pub use Rattle.std.specs.Ordering.{nat_cmp}
 pub use Rattle.std.specs.Prelude.{◌==◌, Err, filter, is_some, IsOk, IsTrue, nat_le, nat_lt, None, Ok, Option, option_map, Result, Some}
@@ -23,10 +23,9 @@ pub use Rattle.pua_path.specs.declared.found.Last.{Last}
 pub use Rattle.pua_path.specs.declared.text.Ending.{Ending}
 pub use Rattle.pua_path.specs.declared.text.Ending.TheVariants.{Dot, Dropped}
 pub use Rattle.pua_path.specs.declared.traced.TextFault.TheVariants.{LongComponent, LongText, NulInText}
-pub use Rattle.pua_policy.proofs.ForCallers.{keeps, stands}
-pub use Rattle.pua_policy.specs.History.{Ended, Event, has_error, held_set, History, is_ended, is_locked, Locked, may_any, Moved, Pledged}
-pub use Rattle.pua_policy.specs.History.{ProcessState, StandsFor, state_of, Unveiled, working_dir}
-pub use Rattle.pua_policy.specs.Verdict.{cover, cover_fault, is_unveil, object_fault, object_named, object_of, or_fault, place_of}
+pub use Rattle.pua_policy.specs.States.{Ended, Event, has_error, held_set, ProcessState, is_ended, is_locked, Locked, may_any, Moved, Pledged}
+pub use Rattle.pua_policy.specs.States.{state_after, Unveiled, working_dir}
+pub use Rattle.pua_policy.specs.Verdict.{cover, cover_fault, object_fault, object_named, object_of, or_fault, place_of}
 pub use Rattle.pua_policy.specs.declared.answer.Cover.{Cover}
 pub use Rattle.pua_policy.specs.declared.answer.Cover.TheVariants.{All}
 pub use Rattle.pua_policy.specs.declared.answer.May.{May}
@@ -43,20 +42,20 @@ pub use Rattle.pua_tree.specs.declared.fault.TreeFault.{TreeFault}
 pub use Rattle.pua_tree.specs.declared.node.Kind.{Kind}
 pub use Rattle.pua_script.specs.Bytes.{is_bytes, is_in_bytes}
 pub use Rattle.pua_script.specs.Confinement.{has_c, object_in, UncoveredStay}
-pub use Rattle.pua_script.specs.Decide.{AddEvent, AddNode, asker_of, asker_on, BeginProgram, Change, CopyAs, CutRow, decide, decide_link}
+pub use Rattle.pua_script.specs.Decide.{AddEvent, AddNode, asker_of, BeginProgram, Change, CopyAs, CutRow, decide, decide_link}
 pub use Rattle.pua_script.specs.Decide.{decide_rename, Decision, fault_if, if_may, inside_fault, is_whole, kinds_fault, NoChange, shifting}
 pub use Rattle.pua_script.specs.Decide.{ShiftRow, TieRow}
-pub use Rattle.pua_script.specs.Family.{HasHistoryOf, is_chdir, is_done, is_exec, is_member}
+pub use Rattle.pua_script.specs.Family.{HasKept, is_chdir, is_done, is_exec, is_member}
 pub use Rattle.pua_script.specs.Futures.{AreDone}
 pub use Rattle.pua_script.specs.Guards.{IsShift}
 pub use Rattle.pua_script.specs.Judged.{NameFits}
 pub use Rattle.pua_script.specs.Laws.{IsConfined}
 pub use Rattle.pua_script.specs.Limits.{most_processes}
 pub use Rattle.pua_script.specs.Replay.{answer_and_world, answer_to, apply, change_effect, come_of, Copies, edit_effect, edited_tree}
-pub use Rattle.pua_script.specs.Replay.{Effect, effect, Fails, history_of, Kills, Leaves, left_by, World, world_after}
+pub use Rattle.pua_script.specs.Replay.{Effect, effect, Fails, kept_at, Kills, Leaves, left_by, put_at, World, world_after}
 pub use Rattle.pua_script.specs.Requests.{Asked}
 pub use Rattle.pua_script.specs.Scripts.{request_by, request_of_fields}
-pub use Rattle.pua_script.specs.Worlds.{process_at, StandsForWorld, tree_left, WorldState}
+pub use Rattle.pua_script.specs.Worlds.{process_at, tree_left, WorldState}
 pub use Rattle.pua_script.specs.declared.answer.Answer.{Answer}
 pub use Rattle.pua_script.specs.declared.answer.Answer.TheVariants.{Gone, Okay}
 pub use Rattle.pua_script.specs.declared.fault.WorldFault.{WorldFault}

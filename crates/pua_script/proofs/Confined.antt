@@ -1,6 +1,7 @@
 -- What a list of requests of a family leaves of the tree.
-use Rattle.pua_script.proofs.Common.{◌≡◌, ℕ, List, [], ◌∷◌, Bool, true, false, refl, sym, ap, ◌∙◌, ◌||◌, filter, list_any, AllByRecursion, false≢true, and_parts}
-use Rattle.pua_script.proofs.Common.{not-true, Tree, WellFormed, holds, CallTable, History, held_set, is_unveil, Asked, World, apply}
+use Rattle.pua_policy.specs.States.{SameVeils}
+use Rattle.pua_script.proofs.Common.{◌≡◌, ℕ, List, [], ◌∷◌, Bool, true, false, refl, sym, ap, ◌∙◌, ◌||◌, list_any, AllByRecursion, false≢true, and_parts}
+use Rattle.pua_script.proofs.Common.{not-true, Tree, WellFormed, holds, CallTable, ProcessState, held_set, Asked, World, apply}
 use Rattle.pua_script.proofs.Common.{world_after, is_member, is_exec, is_done, UncoveredStay, object_in, has_c}
 use Rattle.std.specs.Prelude.{not}
 use Rattle.std.proofs.lemmas.Bool.{or_parts}
@@ -12,11 +13,11 @@ use Rattle.pua_script.proofs.Families.{Members, members_then, begins}
 use Rattle.pua_script.proofs.Confining.{each_spares, spared_twice}
 use Rattle.pua_script.proofs.Unchanged.{promises_change}
 
-stay_self : (h : History) (t : Tree) → UncoveredStay h t t
+stay_self : (h : ProcessState) (t : Tree) → UncoveredStay h t t
 stay_self h t s x here lacks = record { row = here; node = refl; covered = refl }
 
--- histories with the same unveils spare the same rows
-pub by_other : (a b : History) → filter is_unveil a ≡ filter is_unveil b → (t u : Tree) → UncoveredStay a t u → UncoveredStay b t u
+-- processes with the same unveils spare the same rows
+pub by_other : (a b : ProcessState) → SameVeils a b → (t u : Tree) → UncoveredStay a t u → UncoveredStay b t u
 by_other a b same t u stays s x here lacks =
     let stay = stays s x here (ap has_c (same_cover a b same t (object_in t s x)) ∙ lacks) in
     record {
@@ -30,7 +31,7 @@ pub first_tree : (table : CallTable) (w : World) (asks : List Asked) → TreesAl
 first_tree table w [] trees = trees
 first_tree table w (ask ∷ asks) trees = trees.0
 
-module _ (table : CallTable) (now : History) where
+module _ (table : CallTable) (now : ProcessState) where
   spares_along : TakingNeedsC table → (asks : List Asked) (w : World) (members : List ℕ) → Members w members now false →
       none_done is_exec table w asks members ≡ true
       → members_alone table w asks members ≡ true → TreesAlong table w asks → UncoveredStay now w.tree (world_after table w asks).tree
@@ -48,7 +49,7 @@ module _ (table : CallTable) (now : History) where
 
   module _ (promises : List ℕ) (others : AllByRecursion NamesNoError promises) where
     -- who holds less holds none of them either
-    lacking : (h : History) → IsWithin now h → list_any (holds (held_set now)) promises ≡ false →
+    lacking : (h : ProcessState) → IsWithin now h → list_any (holds (held_set now)) promises ≡ false →
         list_any (holds (held_set h)) promises ≡ false
     lacking h within = among promises others
       where
@@ -78,7 +79,7 @@ module _ (table : CallTable) (now : History) where
       (members_then table now w ask members false are (not-true (is_done is_exec table w ask members) parts.0)) parts.1 asked.1
       ∙ promises_change table promises needs w ask asker.0 asker.1 (lacking promises needs.no_error asker.0 asker.2.within lacks)
 
-pub at_all : (w : World) (members : List ℕ) (now : History) → Members w members now true → Members w members now false
+pub at_all : (w : World) (members : List ℕ) (now : ProcessState) → Members w members now true → Members w members now false
 at_all w members now are m belongs = let one = are m belongs in
     (one.0, one.1, record { within = one.2.within; dir = λ e. absurd (false≢true e) })
 

@@ -1,11 +1,12 @@
 -- Where each row that isn't covered with `c` stays, its cover stays too.
-use Rattle.pua_script.proofs.Common.{◌≡◌, ◌≢◌, ℕ, zero, suc, ◌∷◌, Bool, true, false, cond, map, refl, sym, ap, ◌∙◌, list_any, Option, Some}
+use Rattle.pua_script.proofs.Common.{◌≡◌, ◌≢◌, ℕ, zero, suc, ◌∷◌, Bool, true, false, cond, map, refl, sym, ap, ◌∙◌, Option, Some}
 use Rattle.pua_script.proofs.Common.{None, option_map, true≢false, Tree, WellFormed, Spot, is_dir, look, node_at, above, climb, sound_from}
-use Rattle.pua_script.proofs.Common.{Whole, Slot, History, cover, is_unveil, place_of, Cover, All, object_in, has_c, UncoveredStay}
+use Rattle.pua_script.proofs.Common.{Whole, Slot, ProcessState, cover, place_of, Cover, All, object_in, has_c, UncoveredStay}
 use Rattle.pua_tree.specs.Tree.{is_dir_kind}
 use Rattle.pua_tree.proofs.ForCallers.{Sound, Reaches, row_says, row_of, above_is, above_dir}
 use Rattle.pua_path.specs.declared.found.Way.TheVariants.{Named}
-use Rattle.pua_policy.specs.History.{perms_kept}
+use Rattle.pua_policy.specs.States.{has_veil}
+use Rattle.pua_policy.specs.States.{perms_kept}
 use Rattle.pua_policy.specs.Verdict.{nearest, directories_over}
 use Rattle.pua_policy.specs.declared.place.Place.TheVariants as place
 use Rattle.pua_policy.proofs.ForCallers.{climb_root, nearest_here, nearest_above, nearest_whole}
@@ -15,7 +16,7 @@ use Rattle.pua_script.specs.Confinement.{RowStays}
 abbrev pub IsThere : Tree → Tree → Spot → ℕ → Type 0
 IsThere t u spot x = (look u spot.0 spot.1 ≡ Some x) × (node_at u x ≡ node_at t x)
 
-module _ (t u : Tree) (well : WellFormed t) (well_then : WellFormed u) (h : History) where
+module _ (t u : Tree) (well : WellFormed t) (well_then : WellFormed u) (h : ProcessState) where
   ft : Sound t
   ft = sound_from t well
 
@@ -34,7 +35,7 @@ module _ (t u : Tree) (well : WellFormed t) (well_then : WellFormed u) (h : Hist
   same_dir : (x : ℕ) → node_at u x ≡ node_at t x → is_dir u x ≡ is_dir t x
   same_dir x e = ap (λ o. is_dir_kind (option_map (λ n. n.kind) o)) e
 
-  module _ (some : list_any is_unveil h ≡ true) (stays : (s : Spot) (x : ℕ) → look t s.0 s.1 ≡ Some x →
+  module _ (some : has_veil h.veils ≡ true) (stays : (s : Spot) (x : ℕ) → look t s.0 s.1 ≡ Some x →
       has_c (cover t h (object_in t s x)) ≡ false → IsThere t u s x) where
     cover_dir : (v : Tree) → WellFormed v → (s : Spot) (d : ℕ) → is_dir v d ≡ true → cover v h (object_in v s d) ≡ over v d
     cover_dir v w s d is =
@@ -101,14 +102,14 @@ module _ (t u : Tree) (well : WellFormed t) (well_then : WellFormed u) (h : Hist
             ∙ sym (cover_slot t s x is)
 
   -- without a veil everything is covered with `c`
-  no_veils : (s : Spot) (x : ℕ) → list_any is_unveil h ≡ false → has_c (cover t h (object_in t s x)) ≡ true
+  no_veils : (s : Spot) (x : ℕ) → has_veil h.veils ≡ false → has_c (cover t h (object_in t s x)) ≡ true
   no_veils s x none = ap
       (λ b. has_c (cond b (nearest (perms_kept h (place_of (object_in t s x)) ∷ map veil (directories_over t (object_in t s x)))) All)) none
 
   pub covers_stay : ((s : Spot) (x : ℕ) → look t s.0 s.1 ≡ Some x → has_c (cover t h (object_in t s x)) ≡ false → IsThere t u s x) →
       UncoveredStay h t u
-  covers_stay stays s x here lacks = by (list_any is_unveil h) refl
+  covers_stay stays s x here lacks = by (has_veil h.veils) refl
     where
-      by : (b : Bool) → list_any is_unveil h ≡ b → RowStays h t u s x
+      by : (b : Bool) → has_veil h.veils ≡ b → RowStays h t u s x
       by true some = row_stays some stays s x here lacks
       by false none = absurd (true≢false (sym (no_veils s x none) ∙ lacks))

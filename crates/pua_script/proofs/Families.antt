@@ -1,7 +1,7 @@
 -- What a list of requests leaves of the family of a process that can put no veil any more.
 use Rattle.pua_script.proofs.Common.{◌≡◌, ℕ, List, [], ◌∷◌, Bool, true, false, cond, ◌&&◌, ◌||◌, refl, sym, ap, subst, ◌∙◌, Some, ◌==◌}
-use Rattle.pua_script.proofs.Common.{false≢true, eqb-true, and_parts, not-true, CallTable, History, working_dir, Asked, World, history_of}
-use Rattle.pua_script.proofs.Common.{apply, world_after, IsConfined, is_member, is_exec, is_chdir, is_done, HasHistoryOf, Answer, Okay}
+use Rattle.pua_script.proofs.Common.{false≢true, eqb-true, and_parts, not-true, CallTable, ProcessState, working_dir, Asked, World, kept_at}
+use Rattle.pua_script.proofs.Common.{apply, world_after, IsConfined, is_member, is_exec, is_chdir, is_done, HasKept, Answer, Okay}
 use Rattle.pua_script.proofs.Common.{Gone, Action, Fork}
 use Rattle.std.specs.Prelude.{not}
 use Rattle.pua_script.specs.Family.{is_okay, with_child, family_then, family, none_done}
@@ -11,13 +11,13 @@ use Rattle.pua_script.proofs.Others.{forks_copy}
 use Rattle.pua_script.proofs.Allowing.{IsWithin, allows_no_more}
 use Rattle.pua_script.proofs.Tightening.{is_own, is_one, each_steps, within_self, within_twice}
 
--- a member: its history is within that of the process of the beginning, and works in its directory if none moved
-pub record Belongs (now : History) (still : Bool) (h : History) : Type 0 where
+-- a member: its state is within that of the process of the beginning, and works in its directory if none moved
+pub record Belongs (now : ProcessState) (still : Bool) (h : ProcessState) : Type 0 where
   pub within : IsWithin now h
   pub dir : still ≡ true → working_dir h ≡ working_dir now
 
-abbrev pub Members : World → List ℕ → History → Bool → Type 0
-Members w members now still = (m : ℕ) → is_member members m ≡ true → HasHistoryOf w m (Belongs now still)
+abbrev pub Members : World → List ℕ → ProcessState → Bool → Type 0
+Members w members now still = (m : ℕ) → is_member members m ≡ true → HasKept w m (Belongs now still)
 
 is_okay_only : (a : Answer) → is_okay a ≡ true → a ≡ Okay
 is_okay_only Okay e = refl
@@ -47,7 +47,7 @@ child_or_old (Fork new) members m P belongs old child = by (new == m) refl belon
     by false e belongs = old belongs
 child_or_old _ members m P belongs old child = old belongs
 
-module _ (table : CallTable) (now : History) where
+module _ (table : CallTable) (now : ProcessState) where
   module _ (w : World) (ask : Asked) (members : List ℕ) (still : Bool) (are : Members w members now still)
       (none : is_done is_exec table w ask members ≡ false) where
     abbrev then : World
@@ -57,7 +57,7 @@ module _ (table : CallTable) (now : History) where
     still_then = still && not (is_done is_chdir table w ask members)
 
     -- an old member
-    old_member : (m : ℕ) → is_member members m ≡ true → HasHistoryOf then m (Belongs now still_then)
+    old_member : (m : ℕ) → is_member members m ≡ true → HasKept then m (Belongs now still_then)
     old_member m belongs =
         let before = are m belongs in
         let after = each_steps table w ask m before.0 before.1 before.2.within.tightens.confined
@@ -73,9 +73,9 @@ module _ (table : CallTable) (now : History) where
           },
         )
 
-    -- a child has the history of the member that asked
+    -- a child has the state of the member that asked
     child : (new : ℕ) → ask.action ≡ Fork new → is_member members ask.process ≡ true → is_okay (apply table w ask).0 ≡ true →
-        HasHistoryOf then new (Belongs now still_then)
+        HasKept then new (Belongs now still_then)
     child new forks belongs okay =
         let before = are ask.process belongs in
         let same : (record { process = ask.process; action = Fork new }) ≡ ask =
@@ -83,7 +83,7 @@ module _ (table : CallTable) (now : History) where
         let copied = forks_copy table w ask.process new before.0 before.1 (ap (λ a. (apply table w a).0) same ∙
         is_okay_only (apply table w ask).0 okay) in (
           before.0,
-          sym (ap (λ a. history_of (apply table w a).1 new) same) ∙ copied,
+          sym (ap (λ a. kept_at (apply table w a).1 new) same) ∙ copied,
           record { within = before.2.within; dir = λ is. before.2.dir (and_parts still _ is).0 },
         )
 
@@ -91,12 +91,12 @@ module _ (table : CallTable) (now : History) where
     members_then m = by (is_member members ask.process) (is_okay (apply table w ask).0) refl refl
       where
         by : (a b : Bool) → is_member members ask.process ≡ a → is_okay (apply table w ask).0 ≡ b →
-            is_member (cond (a && b) (with_child ask.action members) members) m ≡ true → HasHistoryOf then m (Belongs now still_then)
+            is_member (cond (a && b) (with_child ask.action members) members) m ≡ true → HasKept then m (Belongs now still_then)
         by false b asks told belongs = old_member m belongs
         by true false asks told belongs = old_member m belongs
         by true true asks told belongs =
-            child_or_old ask.action members m (HasHistoryOf then m (Belongs now still_then)) belongs (old_member m)
-            (λ new forks is. subst (λ n. HasHistoryOf then n (Belongs now still_then)) is (child new forks asks told))
+            child_or_old ask.action members m (HasKept then m (Belongs now still_then)) belongs (old_member m)
+            (λ new forks is. subst (λ n. HasKept then n (Belongs now still_then)) is (child new forks asks told))
 
   weaker : (a b c : Bool) → (a && (b && c)) ≡ true → ((a && b) && c) ≡ true
   weaker true true c e = e
@@ -121,10 +121,10 @@ module _ (table : CallTable) (now : History) where
       )
 
   -- at the beginning the process is the only member
-  pub begins : (w : World) (process : ℕ) → history_of w process ≡ Some now → IsConfined now → Members w (process ∷ []) now true
+  pub begins : (w : World) (process : ℕ) → kept_at w process ≡ Some now → IsConfined now → Members w (process ∷ []) now true
   begins w process here confined m belongs =
       let is : process ≡ m = eqb-true process m (sym (is_one process m) ∙ belongs) in
-      (now, sym (ap (history_of w) is) ∙ here, record { within = within_self now confined; dir = λ still. refl })
+      (now, sym (ap (kept_at w) is) ∙ here, record { within = within_self now confined; dir = λ still. refl })
 
 pub families_narrow : FamiliesNarrow
 families_narrow table w asks process now here confined none m belongs =

@@ -3,7 +3,7 @@ use Rattle.pua_script.proofs.Common.{◌≡◌, ◌≢◌, ℕ, zero, suc, List,
 use Rattle.pua_script.proofs.Common.{None, option_map, Result, Ok, Err, is_some, ◌>>=◌, Tree, is_dir, is_empty, above, parts_of}
 use Rattle.pua_script.proofs.Common.{is_absolute, path_fault, text_errno, resolve_parts, resolution_of_text, most_links, node_named, Errno}
 use Rattle.pua_script.proofs.Common.{ENOENT, EINVAL, ENOSPC, LongText, LongComponent, NulInText, Ending, Last, Found, Slot, holds}
-use Rattle.pua_script.proofs.Common.{CallTable, PairRule, rule_of, ending_of, last_of, History, working_dir, may_any, place_of, cover}
+use Rattle.pua_script.proofs.Common.{CallTable, PairRule, rule_of, ending_of, last_of, ProcessState, working_dir, may_any, place_of, cover}
 use Rattle.pua_script.proofs.Common.{cover_fault, object_fault, object_of, object_named, Call, Cover, May, is_inside, is_same_node}
 use Rattle.pua_script.proofs.Common.{spot_named, Whole, Spot, or_fault, Failed, Change, NoChange, Decision, if_may, asker_of, decide_rename}
 use Rattle.pua_script.proofs.Common.{decide_link, shifting, is_whole, fault_if, kinds_fault, inside_fault}
@@ -19,7 +19,7 @@ use Rattle.pua_path.specs.declared.found.Part.TheVariants as parts
 use Rattle.pua_path.specs.declared.found.Last.TheVariants.{Followed}
 use Rattle.pua_path.specs.declared.found.Way.{Way}
 use Rattle.pua_path.specs.declared.found.Way.TheVariants as way
-use Rattle.pua_policy.specs.History.{unveil_fault}
+use Rattle.pua_policy.specs.States.{unveil_fault}
 use Rattle.pua_policy.specs.Misfits.{misfit, misfit_errno}
 use Rattle.pua_policy.specs.Verdict.{Object}
 use Rattle.pua_policy.specs.declared.reason.Misfit.{Misfit}
@@ -213,13 +213,13 @@ named_apart (Err errno) f other has = fails_apart errno (λ same. other (ap Err 
 pub granted_apart : (c : Change) → HasRoom (Ok c)
 granted_apart c e = cc
 
-pub object_has_room : (table : CallTable) (t : Tree) (h : History) (c : Call) (path : List ℕ) (f : Found → Change) →
+pub object_has_room : (table : CallTable) (t : Tree) (h : ProcessState) (c : Call) (path : List ℕ) (f : Found → Change) →
     HasRoom (decide_object table t (asker_of h) c path (λ x. Ok (f x)))
 object_has_room table t h c path f = named_apart (object_named t h c path) _ (named t (working_dir h) (ending_of c) path (last_of c)) λ x.
     checked_apart _ _ (or_apart _ _ (cover_apart (cover t h x) (rule_of table c).perms) (object_apart t c (object_of t x)))
     (granted_apart (f x))
 
-pub pair_has_room : (pair : PairRule) (t : Tree) (h : History) (end : Ending) (old_path new_path : List ℕ) (f : Found → Found → Decision) →
+pub pair_has_room : (pair : PairRule) (t : Tree) (h : ProcessState) (end : Ending) (old_path new_path : List ℕ) (f : Found → Found → Decision) →
     ((old new : Found) → HasRoom (f old new)) → HasRoom (decide_pair pair t (asker_of h) end old_path new_path f)
 pair_has_room pair t h end old_path new_path f has =
     promised_apart (may_any h pair.old.needs.alternatives) _
@@ -247,7 +247,7 @@ link_has_room old new (Some x) =
     checked_apart _ _ (or_apart _ _ (if_apart (is_whole old) EPERM (λ e. cc)) (if_apart (is_some (node_named new)) EEXIST (λ e. cc)))
     (granted_apart _)
 
-pub veil_has_room : (t : Tree) (h : History) (path : List ℕ) (perms : Option ℕ) → HasRoom (decide_veil t (asker_of h) path perms)
+pub veil_has_room : (t : Tree) (h : ProcessState) (path : List ℕ) (perms : Option ℕ) → HasRoom (decide_veil t (asker_of h) path perms)
 veil_has_room t h path None = λ e. cc
 veil_has_room t h path (Some perms) = named_apart _ _ (named t (working_dir h) ending.Dot path Followed) λ x.
     checked_apart _ _ (veil_apart (unveil_fault h (place_of x) perms)) (granted_apart _)

@@ -1,7 +1,5 @@
 -- What crates above cite of the proofs of this one, beside the definitions and the laws.
 
--- what a process of a world stands for
-pub use Rattle.pua_script.proofs.StoodFor.{IsMade, is_made, none_made}
 -- what becomes of a family, and what it leaves of the tree
 pub use Rattle.pua_script.proofs.Families.{families_narrow}
 pub use Rattle.pua_script.proofs.Confined.{families_confine}
@@ -12,11 +10,11 @@ pub use Rattle.pua_script.proofs.InBytes.{replays_keep_byte_trees, listings_list
 pub use Rattle.pua_script.proofs.Served.{rules_narrow}
 -- what requests of others leave, and what a fork copies
 pub use Rattle.pua_script.proofs.Others.{others_leave, others_leave_always, forks_copy}
--- a history within another: the same covers, and no more is allowed
+-- a process within another: the same covers, and no more is allowed
 pub use Rattle.pua_script.proofs.Allowing.{IsWithin, same_cover, may_yes, verdicts_within}
 -- the members of a family, one request after another
 pub use Rattle.pua_script.proofs.Families.{Belongs, Members, begins, members_then, members_after}
--- what one request leaves of the rows without `c`, or two of them, and what it leaves by other histories with the same veils
+-- what one request leaves of the rows without `c`, or two of them, and what it leaves by other processes with the same veils
 pub use Rattle.pua_script.proofs.Confining.{each_spares, spared_twice}
 pub use Rattle.pua_script.proofs.Confined.{by_other, first_tree, at_all}
 -- what a text named is of the tree, a cover that has what needs `c` has `c` and what `c` alone needs, and so has the
@@ -35,3 +33,5 @@ pub use Rattle.pua_script.proofs.RequestRoom.{requests_lack}
 pub use Rattle.pua_script.proofs.Composition.{one_request_more}
 -- a script is read exactly as the requests that its lines spell
 pub use Rattle.pua_script.proofs.Grammar.{scripts_are_read}
+-- what is found at a number after a value was put there or elsewhere, and what putting back what was found leaves
+pub use Rattle.pua_script.proofs.Entries.{found_put, found_elsewhere, put_there, put_back}

@@ -1,7 +1,7 @@
 -- What was checked before a change, whichever request was granted it.
 use Rattle.pua_script.proofs.Common.{◌≡◌, ℕ, List, [], ◌∷◌, Bool, true, false, not, ◌&&◌, refl, sym, subst, ◌⊎◌, inl, inr, Option, Some, None}
 use Rattle.pua_script.proofs.Common.{IsTrue, is_some, Tree, Node, Spot, target_fits, has_room, has_name_room, spot_named, node_named, Dot}
-use Rattle.pua_script.proofs.Common.{Dropped, Found, Whole, Slot, unveil, CallTable, History, Event, Unveiled, Moved, is_locked, may_any}
+use Rattle.pua_script.proofs.Common.{Dropped, Found, Whole, Slot, unveil, CallTable, ProcessState, Event, Unveiled, Moved, is_locked, may_any}
 use Rattle.pua_script.proofs.Common.{Yes, Call, is_bytes, is_in_bytes, Change, NoChange, AddNode, CutRow, ShiftRow, TieRow, BeginProgram}
 use Rattle.pua_script.proofs.Common.{AddEvent, CopyAs, shifting, is_whole, is_exec, is_chdir, IsShift, Action, OnPath, and_from, and_parts}
 use Rattle.pua_tree.specs.declared.node.Kind.{Kind}
@@ -24,7 +24,7 @@ takes _ = false
 abbrev pub LeadsToBytes : Node → Type 0
 LeadsToBytes node = (target : List ℕ) → node.target ≡ Some target → is_bytes target ≡ true
 
-module _ (table : CallTable) (t : Tree) (h : History) (action : Action) where
+module _ (table : CallTable) (t : Tree) (h : ProcessState) (action : Action) where
   -- a node where nothing stands, at the spot that the path of an allowed call named
   pub record IsAdded (spot : Spot) (node : Node) : Type 0 where
     pub call : Call
@@ -89,7 +89,7 @@ module _ (table : CallTable) (t : Tree) (h : History) (action : Action) where
   Grounds (AddEvent event) = IsSaid event
   Grounds (CopyAs new) = Unit {0}
 
-module _ (table : CallTable) (t : Tree) (h : History) where
+module _ (table : CallTable) (t : Tree) (h : ProcessState) where
   pub on_adding : (action : Action) (c : Call) (path : List ℕ) (x : Found) (node : Node) → OnOne table t h c path x → makes c ≡ true →
       target_fits node.kind node.target ≡ true
       → (is_in_bytes action ≡ true → (is_bytes path ≡ true) × LeadsToBytes node) →

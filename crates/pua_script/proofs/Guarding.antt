@@ -1,7 +1,7 @@
 -- Request by request: one that is granted passed its checks, so its change has grounds; and none is refused for want of room.
 use Rattle.pua_script.proofs.Common.{◌≡◌, ℕ, List, [], ◌∷◌, Bool, true, false, cond, refl, inl, inr, ◌⊎◌, Option, Some, None, Result, Ok}
 use Rattle.pua_script.proofs.Common.{Err, is_some, Tree, is_same_node, path_fault, resolution_of_text, spot_named, node_named, Errno}
-use Rattle.pua_script.proofs.Common.{EINVAL, Ending, Found, proc, unveil, CallTable, PairRule, rule_of, History, is_locked, may_any}
+use Rattle.pua_script.proofs.Common.{EINVAL, Ending, Found, proc, unveil, CallTable, PairRule, rule_of, ProcessState, is_locked, may_any}
 use Rattle.pua_script.proofs.Common.{working_dir, place_of, cover, cover_fault, or_fault, object_named, object_fault, object_of, Call, May}
 use Rattle.pua_script.proofs.Common.{fault_if, is_whole, inside_fault, kinds_fault, Change, NoChange, Decision, if_may, decide_rename}
 use Rattle.pua_script.proofs.Common.{decide_link, asker_of, shifting, OnPath, Symlink, Rename, Link, Unveil, Fork, IsShift, and_parts, sym}
@@ -10,7 +10,7 @@ use Rattle.std.specs.Prelude.{◌||◌}
 use Rattle.pua_path.specs.declared.errno.Errno.TheVariants.{EPERM, EEXIST}
 use Rattle.pua_path.specs.declared.text.Ending.TheVariants as ending
 use Rattle.pua_path.specs.declared.found.Last.TheVariants.{Followed}
-use Rattle.pua_policy.specs.History.{unveil_fault, pledge_fault}
+use Rattle.pua_policy.specs.States.{unveil_fault, pledge_fault}
 use Rattle.pua_policy.specs.Verdict.{found_fault}
 use Rattle.pua_calls.specs.declared.call.Call.TheVariants as call
 use Rattle.pua_policy.specs.declared.answer.May.TheVariants as may
@@ -57,7 +57,7 @@ pub second_none : (a b : Option Errno) → or_fault a b ≡ None → b ≡ None
 second_none None b e = e
 second_none (Some errno) b e = cc
 
-module _ (t : Tree) (h : History) where
+module _ (t : Tree) (h : ProcessState) where
   -- a call's object, once its promises are held
   one : (table : CallTable) (c : Call) (path : List ℕ) (g : Found → Change) (change : Change) →
       may_any h (rule_of table c).alternatives ≡ may.Yes
@@ -191,7 +191,7 @@ decisions_are_guarded table t h (Fork new) change e =
     let may = from_promised (may_any h (proc ∷ [])) _ change e in (may.0, is_ok _ _ may.1)
 decisions_are_guarded table t h Exit change e = is_ok _ _ e
 
-module _ (table : CallTable) (t : Tree) (h : History) where
+module _ (table : CallTable) (t : Tree) (h : ProcessState) where
   -- what each request that was granted a change has checked
   pub grounds : (action : Action) (c : Change) → IsDecided table t h action c → Grounds table t h action c
   grounds (OnPath asked path) c d = subst (Grounds table t h (OnPath asked path)) (sym d.2) (on_call table t h asked path d.0 d.1)

@@ -5,9 +5,9 @@ use Rattle.pua_script.proofs.Common.{nat_cmp-IsAntisymmetric, Tree, Node, WellFo
 use Rattle.pua_script.proofs.Common.{with_row, without_row, without_unnamed, with_new, add, tie, cut, cut_found, shift, shift_found}
 use Rattle.pua_script.proofs.Common.{with_row_moved, is_full_dir, is_full_dir_there, is_inside, is_same_node, has_room, has_name_room}
 use Rattle.pua_script.proofs.Common.{TreeFault, put_here, put_elsewhere, None≢Some, spot_named, resolution_of_text, EAGAIN, Ending, Dot}
-use Rattle.pua_script.proofs.Common.{Dropped, Found, Whole, Slot, CallTable, ending_of, last_of, History, working_dir, most_processes}
+use Rattle.pua_script.proofs.Common.{Dropped, Found, Whole, Slot, CallTable, ending_of, last_of, ProcessState, working_dir, most_processes}
 use Rattle.pua_script.proofs.Common.{is_bytes, is_in_bytes, Change, AddNode, CutRow, ShiftRow, TieRow, CopyAs, World, Fails, Copies}
-use Rattle.pua_script.proofs.Common.{edit_effect, edited_tree, history_of, apply, change_effect, tree_left, Action, Last}
+use Rattle.pua_script.proofs.Common.{edit_effect, edited_tree, kept_at, apply, change_effect, tree_left, Action, Last}
 use Rattle.std.specs.Prelude.{length, option_and_then}
 use Rattle.pua_tree.specs.Names.{is_name}
 use Rattle.pua_tree.specs.Tree.{target_at, rows_of}
@@ -21,7 +21,7 @@ use Rattle.pua_script.proofs.Grounds.{LeadsToBytes, Grounds}
 use Rattle.pua_script.proofs.Applied.{by_tree}
 use Rattle.pua_script.proofs.Naming.{has_name, FoundNamed, text_named}
 
-module _ (t : Tree) (is_tree : IsByteTree t) (h : History) where
+module _ (t : Tree) (is_tree : IsByteTree t) (h : ProcessState) where
   -- each node was there before
   abbrev Fewer : Tree → Type 0
   Fewer u = (x : ℕ) (n : Node) → node_at u x ≡ Some n → node_at t x ≡ Some n
@@ -148,7 +148,7 @@ FitsBytes (ShiftRow old new) = is_name new.1 ≡ true
 FitsBytes (TieRow spot x) = is_name spot.1 ≡ true
 FitsBytes _ = Unit {0}
 
-module _ (w : World) (is_tree : IsByteTree w.tree) (h : History) where
+module _ (w : World) (is_tree : IsByteTree w.tree) (h : ProcessState) where
   keeps : (c : Change) → FitsBytes c → IsByteTree (tree_left w.tree (change_effect w h c))
   keeps (AddNode spot node) fits = record {
     tree = well_edited w.tree is_tree h (add w.tree spot.0 spot.1 node)
@@ -173,7 +173,7 @@ module _ (w : World) (is_tree : IsByteTree w.tree) (h : History) where
     targets = fewer_targets w.tree is_tree h (tree_left w.tree (change_effect w h (TieRow spot x)))
         (fewer_tie w.tree is_tree h spot.0 spot.1 x);
   }
-  keeps (CopyAs new) fits = by (is_some (history_of w new) || nat_le most_processes (length w.histories))
+  keeps (CopyAs new) fits = by (is_some (kept_at w new) || nat_le most_processes (length w.processes))
     where
       by : (full : Bool) → IsByteTree (tree_left w.tree (cond full (Fails EAGAIN) (Copies new)))
       by true = is_tree

@@ -1,13 +1,13 @@
--- What a request of a process that can put no veil any more adds to its history.
-use Rattle.pua_script.proofs.Common.{◌≡◌, ℕ, [], ◌∷◌, Bool, true, false, cond, refl, sym, ap, ◌∙◌, inl, inr, ◌⊎◌, lit<, ◌||◌, true≢false}
-use Rattle.pua_script.proofs.Common.{Result, Ok, Err, IsTrue, is_some, nat_le, Tree, Errno, EAGAIN, TreeFault, unveil, CallTable, History}
+-- What a request of a process that can put no veil any more adds to its state.
+use Rattle.pua_script.proofs.Common.{state_after, ◌≡◌, ℕ, [], ◌∷◌, Bool, true, false, cond, refl, sym, ap, ◌∙◌, inl, inr, ◌⊎◌, lit<, ◌||◌, true≢false}
+use Rattle.pua_script.proofs.Common.{Result, Ok, Err, IsTrue, is_some, nat_le, Tree, Errno, EAGAIN, TreeFault, unveil, CallTable, ProcessState}
 use Rattle.pua_script.proofs.Common.{Event, Pledged, Unveiled, Locked, Moved, Ended, is_locked, is_ended, has_error, may_any, Action}
 use Rattle.pua_script.proofs.Common.{Change, NoChange, AddNode, CutRow, ShiftRow, TieRow, BeginProgram, AddEvent, CopyAs, decide, World}
-use Rattle.pua_script.proofs.Common.{Effect, Fails, Kills, Leaves, Copies, history_of, effect, edit_effect, edited_tree, change_effect}
+use Rattle.pua_script.proofs.Common.{Effect, Fails, Kills, Leaves, Copies, kept_at, effect, edit_effect, edited_tree, change_effect}
 use Rattle.pua_script.proofs.Common.{most_processes, Refusal, Failed, Killed, is_exec, is_chdir, IsConfined}
 use Rattle.std.proofs.lemmas.Bool.{false_from_ne_true}
 use Rattle.std.specs.Prelude.{length}
-use Rattle.pua_policy.proofs.ForCallers.{held_never_grows}
+use Rattle.pua_policy.proofs.ForCallers.{state_never_grows}
 use Rattle.pua_policy.specs.declared.answer.May.TheVariants as may
 use Rattle.pua_script.specs.Replay.{refusal_effect}
 use Rattle.pua_script.proofs.Guarding.{decisions_are_guarded, grounds}
@@ -20,15 +20,15 @@ is_step moves (Unveiled place perms) = false
 is_step moves (Moved dir) = moves
 is_step moves _ = true
 
--- the history as it was, or with one such event
-abbrev pub GoesOn : Bool → History → History → Type 0
-GoesOn moves h after = (after ≡ h) ⊎ ((event : Event) × IsTrue (is_step moves event) × (after ≡ event ∷ h))
+-- the state as it was, or with one such event
+abbrev pub GoesOn : Bool → ProcessState → ProcessState → Type 0
+GoesOn moves h after = (after ≡ h) ⊎ ((event : Event) × IsTrue (is_step moves event) × (after ≡ state_after event h))
 
--- an effect that leaves the process such a history, if it succeeds
-pub data Fine (moves : Bool) (h : History) : Effect → Type 0 where
+-- an effect that leaves the process such a state, if it succeeds
+pub data Fine (moves : Bool) (h : ProcessState) : Effect → Type 0 where
   fails : {errno : Errno} → Fine moves h (Fails errno)
   kills : Fine moves h Kills
-  leaves : {t : Tree} {after : History} → GoesOn moves h after → Fine moves h (Leaves t after)
+  leaves : {t : Tree} {after : ProcessState} → GoesOn moves h after → Fine moves h (Leaves t after)
   copies : {new : ℕ} → Fine moves h (Copies new)
 
 -- a change that is no exec, and adds no event but such
@@ -37,7 +37,7 @@ StepsOn m (BeginProgram left) = ⊥
 StepsOn m (AddEvent event) = IsTrue (is_step m event)
 StepsOn m _ = Unit {0}
 
-module _ (m : Bool) (w : World) (h : History) where
+module _ (m : Bool) (w : World) (h : ProcessState) where
   fine_edited : (r : Result (ℕ × Tree) TreeFault) → Fine m h (edit_effect h r)
   fine_edited (Ok x) = leaves (inl refl)
   fine_edited (Err fault) = fails
@@ -54,7 +54,7 @@ module _ (m : Bool) (w : World) (h : History) where
   fine_made (TieRow spot x) steps = fine_edited_tree _
   fine_made (BeginProgram left) steps = absurd steps
   fine_made (AddEvent event) steps = leaves (inr (event, steps, refl))
-  fine_made (CopyAs new) steps = by (is_some (history_of w new) || nat_le most_processes (length w.histories))
+  fine_made (CopyAs new) steps = by (is_some (kept_at w new) || nat_le most_processes (length w.processes))
     where
       by : (full : Bool) → Fine m h (cond full (Fails EAGAIN) (Copies new))
       by true = fails
@@ -64,7 +64,7 @@ module _ (m : Bool) (w : World) (h : History) where
   fine_refused (Failed errno) = fails
   fine_refused Killed = kills
 
-module _ (m : Bool) (t : Tree) (h : History) where
+module _ (m : Bool) (t : Tree) (h : ProcessState) where
   -- a process that can put no veil may not unveil
   no_unveil : IsConfined h → may_any h (unveil ∷ []) ≡ may.Yes → is_locked h ≡ false → ⊥
   no_unveil (inl locked) says unlocked = true≢false (sym locked ∙ unlocked)
@@ -85,19 +85,19 @@ module _ (m : Bool) (t : Tree) (h : History) where
   steps_by table action (AddEvent _) g confined other moving = refl
   steps_by table action _ g confined other moving = tt
 
-locked_after : (event : Event) (h : History) → is_locked h ≡ true → is_locked (event ∷ h) ≡ true
+locked_after : (event : Event) (h : ProcessState) → is_locked h ≡ true → is_locked (state_after event h) ≡ true
 locked_after Locked h locked = refl
 locked_after (Pledged p e) h locked = locked
 locked_after (Unveiled place perms) h locked = locked
 locked_after (Moved dir) h locked = locked
 locked_after Ended h locked = locked
 
-pub confined_after : (event : Event) (h : History) → IsConfined h → IsConfined (event ∷ h)
+pub confined_after : (event : Event) (h : ProcessState) → IsConfined h → IsConfined (state_after event h)
 confined_after event h (inl locked) = inl (locked_after event h locked)
 confined_after event h (inr lacking) =
-    inr (false_from_ne_true _ (λ holding. let again = held_never_grows event h unveil (lit< tt) refl holding in cc (again, lacking)))
+    inr (false_from_ne_true _ (λ holding. let again = state_never_grows event h unveil (lit< tt) refl holding in cc (again, lacking)))
 
-pub fine_effect : (m : Bool) (table : CallTable) (w : World) (h : History) (action : Action) → IsConfined h → is_exec action ≡ false →
+pub fine_effect : (m : Bool) (table : CallTable) (w : World) (h : ProcessState) (action : Action) → IsConfined h → is_exec action ≡ false →
     (IsTrue (is_chdir action) → IsTrue m) → Fine m h (effect table w h action)
 fine_effect m table w h action confined other moving = by_decision w h (Fine m h) (decide table w.tree h action) (fine_refused m w h)
     (λ c is. fine_made m w h c

@@ -3,7 +3,7 @@ use Rattle.pua_script.proofs.Common.{◌≡◌, ℕ, List, true, false, not, ◌
 use Rattle.pua_script.proofs.Common.{IsOk, ◌==◌, is_some, and_parts, not-true, same_Some, Tree, WellFormed, Spot, is_dir, is_empty, look}
 use Rattle.pua_script.proofs.Common.{shift, shift_found, with_row_moved, is_inside, is_same_node, is_full_dir_there, path_fault}
 use Rattle.pua_script.proofs.Common.{resolution_of_text, spot_named, node_named, Errno, EINVAL, Ending, Dot, Dropped, Last, Found, Whole}
-use Rattle.pua_script.proofs.Common.{Slot, CallTable, ending_of, last_of, History, working_dir, Call, Change, AddNode, CutRow, ShiftRow}
+use Rattle.pua_script.proofs.Common.{Slot, CallTable, ending_of, last_of, ProcessState, working_dir, Call, Change, AddNode, CutRow, ShiftRow}
 use Rattle.pua_script.proofs.Common.{TieRow, is_whole, fault_if, kinds_fault, inside_fault, NameFits, Action}
 use Rattle.std.specs.Option.{option_eq}
 use Rattle.std.proofs.lemmas.Bool.{not-false}
@@ -72,7 +72,7 @@ module _ (t : Tree) where
   removes call.Unlink x taken for = unlink_removes t x for
   removes _ x taken for = cc
 
-  module _ (well : WellFormed t) (h : History) (table : CallTable) (action : Action) where
+  module _ (well : WellFormed t) (h : ProcessState) (table : CallTable) (action : Action) where
     possible_by : (c : Change) → Grounds table t h action c → IsPossible t c
     possible_by (AddNode spot node) g =
         let fits = name_fits t well (working_dir h) (ending_of g.call) g.path (last_of g.call) g.object g.on.found in

@@ -1,5 +1,5 @@
 -- A request is answered ENOSPC only where it adds a node or a name for which there is no room.
-use Rattle.pua_script.proofs.Common.{◌≡◌, refl, ap, ◌∙◌, Ok, Err, IsTrue, Tree, WellFormed, Errno, ENOSPC, CallTable, History, Failed}
+use Rattle.pua_script.proofs.Common.{◌≡◌, refl, ap, ◌∙◌, Ok, Err, IsTrue, Tree, WellFormed, Errno, ENOSPC, CallTable, ProcessState, Failed}
 use Rattle.pua_script.proofs.Common.{Killed, Action, Change, AddNode, TieRow, Decision, decide, World, Fails, come_of, effect}
 use Rattle.pua_script.specs.Decide.{fails}
 use Rattle.pua_script.specs.Laws.{LacksRoom, RequestLacksRoom, RequestsLackRoom, wants_room, lacks_room}
@@ -13,13 +13,13 @@ module _ (t : Tree) where
   abbrev Wants : Action → Change → Type 0
   Wants action change = IsTrue (wants_room t change) → IsTrue (lacks_room t action)
 
-  module _ (h : History) (table : CallTable) where
+  module _ (h : ProcessState) (table : CallTable) where
     wants_by : (action : Action) (c : Change) → Grounds table t h action c → Wants action c
     wants_by action (AddNode spot node) g = g.room
     wants_by action (TieRow spot x) g = g.room
     wants_by action _ g = λ e. cc
 
-module _ (table : CallTable) (w : World) (h : History) (action : Action) (well : WellFormed w.tree) where
+module _ (table : CallTable) (w : World) (h : ProcessState) (action : Action) (well : WellFormed w.tree) where
   lacks : (d : Decision) → decide table w.tree h action ≡ d → come_of w h d ≡ Fails ENOSPC → LacksRoom table w.tree h action
   lacks (Ok c) is e = record
       { change = c; granted = is; full = (changes_lack w h c (decisions_are_possible table w.tree h action c well is)).0 e }

@@ -1,21 +1,21 @@
 -- A change lacks room exactly where it adds a node or a name and there is none.
 use Rattle.pua_script.proofs.Common.{◌≡◌, ◌≢◌, ℕ, Bool, true, false, not, cond, refl, sym, ap, ◌∙◌, Result, Ok, Err, IsOk, IsTrue, is_some}
 use Rattle.pua_script.proofs.Common.{nat_le, Tree, Node, Spot, is_dir, is_living, add, tie, has_room, has_name_room, with_new, with_row}
-use Rattle.pua_script.proofs.Common.{TreeFault, EAGAIN, ENOSPC, History, most_processes, NoChange, AddNode, CutRow, ShiftRow, TieRow}
-use Rattle.pua_script.proofs.Common.{BeginProgram, AddEvent, CopyAs, Effect, Fails, Leaves, Copies, edit_effect, edited_tree, history_of}
+use Rattle.pua_script.proofs.Common.{TreeFault, EAGAIN, ENOSPC, ProcessState, most_processes, NoChange, AddNode, CutRow, ShiftRow, TieRow}
+use Rattle.pua_script.proofs.Common.{BeginProgram, AddEvent, CopyAs, Effect, Fails, Leaves, Copies, edit_effect, edited_tree, kept_at}
 use Rattle.std.proofs.Common.{true≢false}
 use Rattle.std.specs.Prelude.{◌↔◌, ◌||◌, length}
 use Rattle.pua_tree.specs.declared.fault.TreeFault.TheVariants as faults
 use Rattle.pua_script.specs.Guards.{IsFree}
 use Rattle.pua_script.specs.Laws.{ChangesLackRoom}
 
-leaves_not_fails : (t : Tree) (h : History) → Leaves t h ≡ Fails ENOSPC → ⊥
+leaves_not_fails : (t : Tree) (h : ProcessState) → Leaves t h ≡ Fails ENOSPC → ⊥
 leaves_not_fails t h e = cc
 
 never : (e : Effect) → e ≢ Fails ENOSPC → (e ≡ Fails ENOSPC) ↔ IsTrue false
 never e other = (λ is. absurd (other is), λ b. absurd (true≢false (sym b)))
 
-module _ (t : Tree) (h : History) where
+module _ (t : Tree) (h : ProcessState) where
   -- an edit that has no fault but want of room
   by_room : (room : Bool) (x : ℕ × Tree) → (edit_effect h (cond room (Ok x) (Err faults.Full)) ≡ Fails ENOSPC) ↔ IsTrue (not room)
   by_room true x = never _ (leaves_not_fails x.1 h)
@@ -63,7 +63,7 @@ changes_lack w h (ShiftRow old new) possible = never _ (tree_leaves w.tree h _ p
 changes_lack w h (TieRow spot x) possible = tie_lacks w.tree h spot x possible.0 possible.1 possible.2
 changes_lack w h (BeginProgram left) possible = never _ (leaves_not_fails w.tree _)
 changes_lack w h (AddEvent event) possible = never _ (leaves_not_fails w.tree _)
-changes_lack w h (CopyAs new) possible = never _ (by (is_some (history_of w new) || nat_le most_processes (length w.histories)))
+changes_lack w h (CopyAs new) possible = never _ (by (is_some (kept_at w new) || nat_le most_processes (length w.processes)))
   where
     by : (full : Bool) → cond full (Fails EAGAIN) (Copies new) ≢ Fails ENOSPC
     by true e = cc

@@ -1,9 +1,9 @@
--- What a world's requests leave, by the worlds of the replay for which it stands.
-use Rattle.pua_script.proofs.Common.{◌≡◌, ℕ, ◌+◌, ◌<◌, List, [], ◌∷◌, ◌++◌, length, take, refl, sym, ap, subst, ◌∙◌, lit<, option_map}
+-- What a world's requests leave.
+use Rattle.pua_script.proofs.Common.{◌≡◌, ℕ, ◌+◌, ◌<◌, List, [], ◌∷◌, ◌++◌, length, take, refl, sym, ap, subst, ◌∙◌, lit<}
 use Rattle.pua_script.proofs.Common.{Bool, true, false, not, ◌||◌, list_all, list_any, AllByRecursion, IsTrue, holds, rule_of, and_parts, false≢true}
-use Rattle.pua_script.proofs.Common.{Result, Ok, Err, WellFormed, PairRule, CallTable, History, Asked}
-use Rattle.pua_script.proofs.Common.{World, apply, world_after, WorldState, StandsForWorld, HasHistoryOf}
-use Rattle.pua_script.proofs.Common.{UncoveredStay, AreDone, Answer, state_of, stands as stands_for}
+use Rattle.pua_script.proofs.Common.{Result, Ok, Err, WellFormed, PairRule, CallTable, ProcessState, Asked}
+use Rattle.pua_script.proofs.Common.{World, apply, world_after, WorldState, HasKept}
+use Rattle.pua_script.proofs.Common.{UncoveredStay, AreDone, Answer}
 use Rattle.std.proofs.Common.{get_or, add-one}
 use Rattle.std.proofs.Math.Seq.{take-suc}
 use Rattle.std.specs.Prelude.{IfOk, OnErr, MatchResult}
@@ -12,11 +12,11 @@ use Rattle.pua_calls.proofs.ForCallers.{none_by_test}
 use Rattle.pua_calls.specs.Calls.{openbsd_table, standard_table}
 use Rattle.pua_calls.specs.declared.call.Call.TheVariants as call
 use Rattle.pua_calls.specs.declared.rules.Rules.TheVariants.{Profile, Openbsd}
-use Rattle.pua_script.specs.Worlds.{IsServed, AreServed}
+use Rattle.pua_script.specs.Worlds.{world_of, apply_to, run_to, state_after_all}
 use Rattle.pua_script.specs.Tightening.{IsNarrowedBy, EndsWithin}
 use Rattle.pua_script.specs.Confinement.{NeedsC, NamesOne, CallsNeed, changes_names, TreesAlong}
-use Rattle.pua_script.specs.Futures.{RulesNarrow, ReadTablesNarrow, HasProcessOf, IsNarrowing, IsSparing, AreDoneInPart, AreHeld}
-use Rattle.pua_script.specs.Futures.{changing_promises}
+use Rattle.pua_script.specs.Futures.{RulesNarrow, ReadTablesNarrow, IsNarrowing, IsSparing, AreDoneInPart, AreHeld}
+use Rattle.pua_script.specs.Futures.{changing_promises, HaveTrees}
 use Rattle.pua_script.specs.Futures.{AreServedInPart}
 use Rattle.pua_script.proofs.Tightening.{each_narrows, within_self}
 use Rattle.pua_script.proofs.Confining.{each_spares}
@@ -104,42 +104,29 @@ read_tables_narrow = record {
       };
 }
 
--- what has a history has a process that stands for it
-has_process : (s : WorldState) (w : World) (n : ℕ) (IsSo : History → Type 0) → StandsForWorld s w → HasHistoryOf w n IsSo →
-    HasProcessOf s n IsSo
-has_process s w n IsSo stands has = record {
-  kept = state_of has.0;
-  here = stands.processes n ∙ ap (option_map state_of) has.1;
-  history = has.0;
-  stands = stands_for (state_of has.0) has.0 refl;
-  so = has.2;
-}
+module _ (before : WorldState) (ask : Asked) (after : WorldState) where
+  pub is_narrowing : (answer : Answer) → (answer, after) ≡ apply_to before ask → IsNarrowing before ask after
+  is_narrowing answer served process p here confined none =
+      subst (λ d. HasKept (world_of d.1) process (IsNarrowedBy before.table (world_of before) ask process p)) (sym served)
+      (each_narrows before.table (world_of before) ask process p here confined none)
 
-pub is_narrowing : (before : WorldState) (ask : Asked) (answer : Answer) (after : WorldState) → IsServed before ask answer after →
-    IsNarrowing before ask after
-is_narrowing before ask answer after served w stands process h here confined none =
-    has_process after (apply before.table w ask).1 process (IsNarrowedBy before.table w ask process h) (served w stands).1
-    (each_narrows before.table w ask process h here confined none)
+  -- a world that stays as it was keeps each process
+  pub stays_narrow : after ≡ before → IsNarrowing before ask after
+  stays_narrow same process p here confined none =
+      let IsSo : ProcessState → Type 0 = IsNarrowedBy before.table (world_of before) ask process p in
+      let stays : IsSo p = record {
+        tightens = (within_self p confined).tightens;
+        allows = λ sound. record { absolute = λ t call text is allowed. allowed; relative = λ dirs t call text allowed. allowed };
+        dir = λ still. refl;
+      } in
+      subst (λ (s : WorldState). HasKept (world_of s) process IsSo) (sym same) (p, here, stays)
 
--- a world that stays as it was keeps each process within its history
-pub stays_narrow : (before : WorldState) (ask : Asked) (after : WorldState) → after ≡ before → IsNarrowing before ask after
-stays_narrow before ask after same w stands process h here confined none =
-    let IsSo : History → Type 0 = IsNarrowedBy before.table w ask process h in
-    let stays : IsSo h = record {
-      tightens = (within_self h confined).tightens;
-      allows = λ sound. record { absolute = λ t call text is allowed. allowed; relative = λ dirs t call text allowed. allowed };
-      dir = λ still. refl;
-    } in
-    subst (λ (s : WorldState). HasProcessOf s process IsSo) (sym same) (has_process before w process IsSo stands (h, here, stays))
-
--- both worlds have a tree
-pub is_sparing : (before : WorldState) (ask : Asked) (answer : Answer) (after : WorldState) → WellFormed before.tree →
-    WellFormed after.tree → IsServed before ask answer after → IsSparing before ask after
-is_sparing before ask answer after well well_then served needs w stands h here =
-    let left = (served w stands).1 in
-    let stays = each_spares before.table needs w ask h (subst WellFormed stands.tree well) (subst WellFormed left.tree well_then) here in
-    subst (λ u. UncoveredStay h before.tree u) (sym left.tree) (subst (λ t. UncoveredStay h t (apply before.table w ask).1.tree)
-    (sym stands.tree) stays)
+  -- both worlds have a tree
+  pub is_sparing : (answer : Answer) → WellFormed before.tree → WellFormed after.tree → (answer, after) ≡ apply_to before ask →
+      IsSparing before ask after
+  is_sparing answer well well_then served needs p here =
+      subst (λ d. UncoveredStay p before.tree d.1.tree) (sym served)
+      (each_spares before.table needs (world_of before) ask p well (subst (λ d. WellFormed d.1.tree) served well_then) here)
 
 -- the trees on the way of one request more
 more_trees : (table : CallTable) (w : World) (asks : List Asked) (ask : Asked) → TreesAlong table w asks →
@@ -148,21 +135,18 @@ more_trees table w [] ask trees last = (trees, last)
 more_trees table w (first ∷ asks) ask trees last = (trees.0, more_trees table (apply table w first).1 asks ask trees.1 last)
 
 done_more : (before mid after : WorldState) (asks : List Asked) (told : List Answer) (ask : Asked) (answer : Answer) →
-    WellFormed after.tree → AreDone before asks told mid → IsServed mid ask answer after
+    WellFormed after.tree → AreDone before asks told mid → (answer, after) ≡ apply_to mid ask
     → AreDone before (asks ++ ask ∷ []) (told ++ answer ∷ []) after
-done_more before mid after asks told ask answer well first next = (
-  served_more before mid after asks told ask answer first.0 next,
-  λ w stands.
-      let done = first.0 w stands in
-      let v = world_after before.table w asks in
-      let left = subst (λ (table : CallTable). StandsForWorld after (apply table v ask).1) done.2 (next v done.1).1 in
-      more_trees before.table w asks ask (first.1 w stands) (subst WellFormed left.tree well),
-)
+done_more before mid after asks told ask answer well first next =
+    let step : (answer, after) ≡ apply_to (state_after_all before asks) ask = next ∙ ap (λ d. apply_to d.1 ask) first.0 in (
+      served_more before mid after asks told ask answer first.0 next,
+      more_trees before.table (world_of before) asks ask first.1 (subst (λ d. WellFormed d.1.tree) step well),
+    )
 
 -- the next of a list of requests
 pub done_next : (before mid after : WorldState) (asks : List Asked) (i : ℕ) (told more : List Answer) (ask : Asked) (answer : Answer) →
     i < length asks → ask ≡ get_or asks i ask → more ≡ told ++ answer ∷ []
-    → WellFormed after.tree → AreDone before (take i asks) told mid → IsServed mid ask answer after →
+    → WellFormed after.tree → AreDone before (take i asks) told mid → (answer, after) ≡ apply_to mid ask →
     AreDone before (take (i + 1) asks) more after
 done_next before mid after asks i told more ask answer within is pushed well first next =
     let taken : take (i + 1) asks ≡ take i asks ++ ask ∷ [] = ap (λ n. take n asks) (add-one i) ∙ take-suc asks i ask within ∙
@@ -176,29 +160,22 @@ pub done_before : (before mid after : WorldState) (asks own : List Asked) (i : �
     AreDone before (take i own) told mid → AreDoneInPart before asks after
 done_before before mid after asks own i told is same first = (
   i,
-  λ w stands. (
-    subst (λ x. StandsForWorld x (world_after before.table w (take i asks))) (sym same)
-        (subst (λ xs. StandsForWorld mid (world_after before.table w (take i xs))) is (first.0 w stands).1),
-    ap (λ (x : WorldState). x.table) same ∙ (first.0 w stands).2,
-    subst (λ xs. TreesAlong before.table w (take i xs)) is (first.1 w stands),
-  ),
+  same ∙ ap (λ d. d.1) first.0 ∙ ap (λ xs. state_after_all before (take i xs)) is,
+  subst (λ xs. HaveTrees before (take i xs)) is first.1,
 )
 
 -- what was served holds the families
-held_by : (before after : WorldState) (asks : List Asked) →
-    ((w : World) → StandsForWorld before w → StandsForWorld after (world_after before.table w asks) × TreesAlong before.table w asks) →
+held_by : (before after : WorldState) (asks : List Asked) → after ≡ state_after_all before asks → HaveTrees before asks →
     AreHeld before asks after
-held_by before after asks done = record {
-  narrows = λ w stands process now here confined none member belongs.
-      has_process after (world_after before.table w asks) member (EndsWithin before.table w asks process now) (done w stands).0
-      (families_narrow before.table w asks process now here confined none member belongs);
-  confines = λ w stands process now here confined none alone.
-      let both = families_confine before.table w asks process now here confined none alone in
-      let left = done w stands in
+held_by before after asks is trees = record {
+  narrows = λ process now here confined none member belongs.
+      subst (λ (s : WorldState). HasKept (world_of s) member (EndsWithin before.table (world_of before) asks process now)) (sym is)
+      (families_narrow before.table (world_of before) asks process now here confined none member belongs);
+  confines = λ process now here confined none alone.
+      let both = families_confine before.table (world_of before) asks process now here confined none alone in
       record {
-        spares = λ needs. subst (λ u. UncoveredStay now before.tree u) (sym left.0.tree)
-            (subst (λ t. UncoveredStay now t (world_after before.table w asks).tree) (sym stands.tree) (both.spares needs left.1));
-        unchanged = λ promises needs lacks. left.0.tree ∙ both.unchanged promises needs lacks ∙ sym stands.tree;
+        spares = λ needs. subst (λ (s : WorldState). UncoveredStay now before.tree s.tree) (sym is) (both.spares needs trees);
+        unchanged = λ promises needs lacks. ap (λ (s : WorldState). s.tree) is ∙ both.unchanged promises needs lacks;
       };
 }
 
@@ -206,18 +183,15 @@ module _ {A E : Type 0} (before after : WorldState) (asks : List Asked) (told : 
   abbrev Done : Result A E → Type 0
   Done r = MatchResult r (λ a. AreDone before asks (told a) after) (λ _. AreDoneInPart before asks after)
 
-  pub run_served : (r : Result A E) → Done r → IfOk r (λ a. AreServed before asks (told a) after)
+  pub run_served : (r : Result A E) → Done r → IfOk r (λ a. (told a, after) ≡ run_to before asks)
   run_served (Ok a) done = done.0
   run_served (Err e) done = tt
 
   pub run_held : (r : Result A E) → Done r → IfOk r (λ _. AreHeld before asks after)
-  run_held (Ok a) done = held_by before after asks (λ w stands. ((done.0 w stands).1, done.1 w stands))
+  run_held (Ok a) done = held_by before after asks (ap (λ d. d.1) done.0) done.1
   run_held (Err e) done = tt
 
   pub run_in_part : (r : Result A E) → Done r → OnErr r (AreServedInPart before asks after)
   run_in_part (Ok a) done = tt
-  run_in_part (Err e) done = record {
-    count = done.0;
-    left = λ w stands. ((done.1 w stands).0, (done.1 w stands).1);
-    held = held_by before after (take done.0 asks) (λ w stands. ((done.1 w stands).0, (done.1 w stands).2));
-  }
+  run_in_part (Err e) done =
+      record { count = done.0; left = done.1; held = held_by before after (take done.0 asks) done.1 done.2 }

@@ -1,8 +1,8 @@
 -- No request takes a row away that isn't covered with `c`.
 use Rattle.pua_script.proofs.Common.{◌≡◌, ℕ, Bool, true, false, cond, refl, sym, ap, ◌∙◌, Some, None, is_some, nat_le, eqb-true, and_parts}
 use Rattle.pua_script.proofs.Common.{not-true, Tree, WellFormed, Spot, is_dir, look, spot_named, EAGAIN, Dropped, Found, Whole, Slot, holds}
-use Rattle.pua_script.proofs.Common.{CallTable, rule_of, ending_of, last_of, History, working_dir, cover, cover_fault, Call, Cover, All}
-use Rattle.pua_script.proofs.Common.{Asked, Change, AddNode, CutRow, ShiftRow, TieRow, CopyAs, NameFits, World, Fails, Copies, history_of}
+use Rattle.pua_script.proofs.Common.{CallTable, rule_of, ending_of, last_of, ProcessState, working_dir, cover, cover_fault, Call, Cover, All}
+use Rattle.pua_script.proofs.Common.{Asked, Change, AddNode, CutRow, ShiftRow, TieRow, CopyAs, NameFits, World, Fails, Copies, kept_at}
 use Rattle.pua_script.proofs.Common.{apply, change_effect, tree_left, Action, has_c, most_processes}
 use Rattle.std.specs.Prelude.{◌||◌, length}
 use Rattle.std.proofs.lemmas.Nat.{and_comm}
@@ -35,7 +35,7 @@ covered_by_c All perms needs e = refl
 covered_by_c Nothing perms needs e = cc
 covered_by_c (Only given) perms needs e = ap (λ b. cond b None (Some EACCES)) (c_from_cover (Only given) perms needs e)
 
-module _ (t : Tree) (h : History) where
+module _ (t : Tree) (h : ProcessState) where
   -- what was found is what stands in its row, as veils see it
   pub spot_has_c : (object : Found) (spot : Spot) → NameFits t object → spot_named object ≡ Some spot → has_c (cover t h object) ≡ true →
       SpotHasC t h spot
@@ -96,21 +96,21 @@ module _ (t : Tree) (h : History) where
     )
     has_c_by action _ g = tt
 
-spares_made : (w : World) → WellFormed w.tree → (h : History) (c : Change) → HasC w.tree h c →
+spares_made : (w : World) → WellFormed w.tree → (h : ProcessState) (c : Change) → HasC w.tree h c →
     Spares w.tree h (tree_left w.tree (change_effect w h c))
 spares_made w well h (AddNode spot node) has = spares_add w.tree h well spot.0 spot.1 node
 spares_made w well h (CutRow spot) has = spares_cut w.tree h spot.0 spot.1 has
 spares_made w well h (ShiftRow old new) has = spares_shift w.tree h old.0 new.0 old.1 new.1 has.0 has.1
 spares_made w well h (TieRow spot x) has = spares_tie w.tree h spot.0 spot.1 x
-spares_made w well h (CopyAs new) has = by (is_some (history_of w new) || nat_le most_processes (length w.histories))
+spares_made w well h (CopyAs new) has = by (is_some (kept_at w new) || nat_le most_processes (length w.processes))
   where
     by : (full : Bool) → Spares w.tree h (tree_left w.tree (cond full (Fails EAGAIN) (Copies new)))
     by true = spares_all w.tree h
     by false = spares_all w.tree h
 spares_made w well h _ has = spares_all w.tree h
 
--- each row that the caller's history doesn't cover with `c` is there after the request, with its node
-pub requests_spare : (table : CallTable) → TakingNeedsC table → (w : World) (ask : Asked) (h : History) →
-    WellFormed w.tree → history_of w ask.process ≡ Some h → Spares w.tree h (apply table w ask).1.tree
+-- each row that the caller's state doesn't cover with `c` is there after the request, with its node
+pub requests_spare : (table : CallTable) → TakingNeedsC table → (w : World) (ask : Asked) (h : ProcessState) →
+    WellFormed w.tree → kept_at w ask.process ≡ Some h → Spares w.tree h (apply table w ask).1.tree
 requests_spare table needs w ask h well here = by_own_tree table w ask h here (Spares w.tree h) (spares_all w.tree h)
     (λ c guards. spares_made w well h c (has_c_by w.tree h well table needs ask.action c (grounds table w.tree h ask.action c guards)))

@@ -4,7 +4,7 @@ use Rattle.pua_script.proofs.Common.{Some, None, Ok, Err, is_some, ◌==◌, nat
 use Rattle.pua_script.proofs.Common.{eqb-true, eq-eqb, Tree, Node, WellFormed, Spot, is_dir, is_living, look, node_at, with_row}
 use Rattle.pua_script.proofs.Common.{without_row, without_unnamed, with_new, add, tie, cut, cut_found, shift, shift_found, with_row_moved}
 use Rattle.pua_script.proofs.Common.{is_full_dir, is_full_dir_there, is_inside, is_same_node, has_room, has_name_room, put_elsewhere}
-use Rattle.pua_script.proofs.Common.{sound_from, History, cover, edit_effect, edited_tree, tree_left, object_in, has_c}
+use Rattle.pua_script.proofs.Common.{sound_from, ProcessState, cover, edit_effect, edited_tree, tree_left, object_in, has_c}
 use Rattle.pua_tree.specs.Tree.{spot_cmp, rows_of}
 use Rattle.pua_tree.specs.Edits.{without_node}
 use Rattle.pua_tree.specs.declared.fault.TreeFault.TheVariants.{Missing, Taken, NotDir, NotEmpty, Inside, Full, IsDir}
@@ -12,7 +12,7 @@ use Rattle.pua_tree.proofs.ForCallers.{spots_total, exact_spots, tally_counts, t
 use Rattle.pua_tree.proofs.ForCallers.{Some≢None, row_says}
 use Rattle.pua_script.proofs.Covering.{IsThere}
 
-module _ (t : Tree) (h : History) where
+module _ (t : Tree) (h : ProcessState) where
   -- rows that are not covered with `c` are there afterwards
   abbrev pub Spares : Tree → Type 0
   Spares u = (s : Spot) (x : ℕ) → look t s.0 s.1 ≡ Some x → has_c (cover t h (object_in t s x)) ≡ false → IsThere t u s x

@@ -1,12 +1,14 @@
 -- What one request leaves of a process that can put no veil any more, whoever makes it.
-use Rattle.pua_script.proofs.Common.{◌≡◌, ℕ, [], ◌∷◌, Bool, true, false, cond, ◌&&◌, ◌||◌, refl, sym, ap, subst, ◌∙◌, inl, inr, Some}
-use Rattle.pua_script.proofs.Common.{IsTrue, filter, ◌==◌, false≢true, true≢false, eqb-true, eq-eqb, nat_cmp, nat_cmp_total}
-use Rattle.pua_script.proofs.Common.{nat_cmp-IsAntisymmetric, put_here, CallTable, History, Event, Pledged, Unveiled, Locked, Moved, Ended}
-use Rattle.pua_script.proofs.Common.{is_ended, working_dir, is_unveil, Asked, World, Effect, Fails, Kills, Leaves, Copies, effect}
-use Rattle.pua_script.proofs.Common.{history_of, apply, answer_and_world, left_by, answer_to, IsConfined, is_exec, is_chdir, is_done}
-use Rattle.pua_script.proofs.Common.{is_member, HasHistoryOf, Answer, Gone, Action}
-use Rattle.pua_policy.proofs.ForCallers.{held_never_grows}
-use Rattle.pua_script.specs.Worlds.{history_left}
+use Rattle.pua_script.proofs.Common.{state_after, ◌≡◌, ℕ, [], ◌∷◌, Bool, true, false, cond, ◌&&◌, ◌||◌, refl, sym, ap, subst, ◌∙◌, inl, inr, Some}
+use Rattle.pua_script.proofs.Common.{IsTrue, ◌==◌, false≢true, true≢false, eqb-true, eq-eqb}
+use Rattle.pua_script.proofs.Common.{CallTable, ProcessState, Event, Pledged, Unveiled, Locked, Moved, Ended}
+use Rattle.pua_script.proofs.Common.{is_ended, working_dir, Asked, World, Effect, Fails, Kills, Leaves, Copies, effect}
+use Rattle.pua_script.proofs.Common.{kept_at, apply, answer_and_world, left_by, answer_to, IsConfined, is_exec, is_chdir, is_done}
+use Rattle.pua_script.proofs.Common.{is_member, HasKept, Answer, Gone, Action}
+use Rattle.pua_policy.specs.States.{SameVeils}
+use Rattle.pua_policy.proofs.ForCallers.{state_never_grows}
+use Rattle.pua_script.proofs.Entries.{found_here}
+use Rattle.pua_script.specs.Worlds.{state_left}
 use Rattle.pua_script.specs.Family.{is_okay}
 use Rattle.pua_script.specs.Tightening.{EachRequestNarrows}
 use Rattle.pua_script.proofs.Narrowing.{is_step, GoesOn, Fine, fails, kills, leaves, copies, fine_effect, confined_after}
@@ -14,21 +16,21 @@ use Rattle.pua_script.proofs.Others.{IsNew, copied_apart, effect_is_new, others_
 use Rattle.pua_script.proofs.Allowing.{IsWithin, allows_no_more}
 
 -- an event that is no unveil leaves the unveils, and one that is no move the directory
-same_unveils : (event : Event) (h : History) → IsTrue (is_step true event) → filter is_unveil (event ∷ h) ≡ filter is_unveil h
+same_unveils : (event : Event) (h : ProcessState) → IsTrue (is_step true event) → SameVeils (state_after event h) h
 same_unveils (Unveiled place perms) h step = absurd (false≢true step)
-same_unveils (Pledged p e) h step = refl
-same_unveils Locked h step = refl
-same_unveils (Moved dir) h step = refl
-same_unveils Ended h step = refl
+same_unveils (Pledged p e) h step = record { any = refl; kept = λ place. refl }
+same_unveils Locked h step = record { any = refl; kept = λ place. refl }
+same_unveils (Moved dir) h step = record { any = refl; kept = λ place. refl }
+same_unveils Ended h step = record { any = refl; kept = λ place. refl }
 
-same_dir : (event : Event) (h : History) → IsTrue (is_step false event) → working_dir (event ∷ h) ≡ working_dir h
+same_dir : (event : Event) (h : ProcessState) → IsTrue (is_step false event) → working_dir (state_after event h) ≡ working_dir h
 same_dir (Unveiled place perms) h step = absurd (false≢true step)
 same_dir (Pledged p e) h step = refl
 same_dir Locked h step = refl
 same_dir (Moved dir) h step = absurd (false≢true step)
 same_dir Ended h step = refl
 
-still_ended : (event : Event) (h : History) → is_ended (event ∷ h) ≡ false → is_ended h ≡ false
+still_ended : (event : Event) (h : ProcessState) → is_ended (state_after event h) ≡ false → is_ended h ≡ false
 still_ended (Unveiled place perms) h lives = lives
 still_ended (Pledged p e) h lives = lives
 still_ended Locked h lives = lives
@@ -43,31 +45,34 @@ any_step m (Moved dir) step = refl
 any_step m Ended step = refl
 
 -- what a process has after its own request: the same unveils, no more promises but `error`, and its directory unless it may move
-pub record Steps (moves : Bool) (before after : History) : Type 0 where
+pub record Steps (moves : Bool) (before after : ProcessState) : Type 0 where
   pub within : IsWithin before after
   pub dir : moves ≡ false → working_dir after ≡ working_dir before
 
-pub within_self : (h : History) → IsConfined h → IsWithin h h
+pub within_self : (h : ProcessState) → IsConfined h → IsWithin h h
 within_self h confined =
-    record { tightens = record { unveils = refl; promises = λ set sound holding. holding; confined = confined }; ended = λ lives. lives }
+    record { tightens = record { unveils = record { any = refl; kept = λ place. refl }; promises = λ set sound holding. holding; confined = confined }; ended = λ lives. lives }
 
-pub within_twice : (a b c : History) → IsWithin a b → IsWithin b c → IsWithin a c
+pub within_twice : (a b c : ProcessState) → IsWithin a b → IsWithin b c → IsWithin a c
 within_twice a b c first second = record {
   tightens = record {
-    unveils = second.tightens.unveils ∙ first.tightens.unveils;
+    unveils = record {
+      any = second.tightens.unveils.any ∙ first.tightens.unveils.any;
+      kept = λ place. second.tightens.unveils.kept place ∙ first.tightens.unveils.kept place;
+    };
     promises = λ set sound holding. first.tightens.promises set sound (second.tightens.promises set sound holding);
     confined = second.tightens.confined;
   };
   ended = λ lives. first.ended (second.ended lives);
 }
 
-steps : (m : Bool) (h after : History) → IsConfined h → GoesOn m h after → Steps m h after
+steps : (m : Bool) (h after : ProcessState) → IsConfined h → GoesOn m h after → Steps m h after
 steps m h after confined (inl same) = subst (Steps m h) (sym same) (record { within = within_self h confined; dir = λ still. refl })
 steps m h after confined (inr more) = subst (Steps m h) (sym more.2) (record {
   within = record {
     tightens = record {
       unveils = same_unveils more.0 h (any_step m more.0 more.1);
-      promises = λ set sound holding. held_never_grows more.0 h set sound.0 sound.1 holding;
+      promises = λ set sound holding. state_never_grows more.0 h set sound.0 sound.1 holding;
       confined = confined_after more.0 h confined;
     };
     ended = still_ended more.0 h;
@@ -75,21 +80,21 @@ steps m h after confined (inr more) = subst (Steps m h) (sym more.2) (record {
   dir = λ still. same_dir more.0 h (subst (λ b. IsTrue (is_step b more.0)) still more.1);
 })
 
--- the history that such an effect leaves
-goes_left : {m : Bool} {h : History} {e : Effect} → Fine m h e → GoesOn m h (history_left h e)
+-- the state that such an effect leaves
+goes_left : {m : Bool} {h : ProcessState} {e : Effect} → Fine m h e → GoesOn m h (state_left h e)
 goes_left fails = inl refl
 goes_left kills = inr (Ended, refl, refl)
 goes_left (leaves goes) = goes
 goes_left copies = inl refl
 
 -- what is not answered ok is so
-refused_fine : (m : Bool) (h : History) (e : Effect) → is_okay (answer_to e) ≡ false → Fine m h e
+refused_fine : (m : Bool) (h : ProcessState) (e : Effect) → is_okay (answer_to e) ≡ false → Fine m h e
 refused_fine m h (Fails errno) e = fails
 refused_fine m h Kills e = kills
 refused_fine m h (Leaves t after) e = absurd (true≢false e)
 refused_fine m h (Copies new) e = copies
 
-module _ (table : CallTable) (w : World) (h : History) (confined : IsConfined h) (action : Action) where
+module _ (table : CallTable) (w : World) (h : ProcessState) (confined : IsConfined h) (action : Action) where
   abbrev does : Effect
   does = effect table w h action
 
@@ -109,28 +114,28 @@ module _ (table : CallTable) (w : World) (h : History) (confined : IsConfined h)
           and_left true e = e
           and_left false e = refl
 
-  request_steps : (is_exec action && is_okay (answer_to does)) ≡ false → Steps moves h (history_left h does)
-  request_steps none = steps moves h (history_left h does) confined (goes_left (fine_request none))
+  request_steps : (is_exec action && is_okay (answer_to does)) ≡ false → Steps moves h (state_left h does)
+  request_steps none = steps moves h (state_left h does) confined (goes_left (fine_request none))
 
--- the history of the one that asked is what the effect leaves
-left_here : (w : World) (process : ℕ) (h : History) (e : Effect) → IsNew w e → history_of w process ≡ Some h →
-    history_of (left_by w process h e) process ≡ Some (history_left h e)
+-- the state of the one that asked is what the effect leaves
+left_here : (w : World) (process : ℕ) (h : ProcessState) (e : Effect) → IsNew w e → kept_at w process ≡ Some h →
+    kept_at (left_by w process h e) process ≡ Some (state_left h e)
 left_here w process h (Fails errno) new here = here
-left_here w process h Kills new here = put_here nat_cmp nat_cmp_total nat_cmp-IsAntisymmetric process (Ended ∷ h) w.histories
-left_here w process h (Leaves t after) new here = put_here nat_cmp nat_cmp_total nat_cmp-IsAntisymmetric process after w.histories
+left_here w process h Kills new here = found_here process (state_after Ended h) w.processes
+left_here w process h (Leaves t after) new here = found_here process after w.processes
 left_here w process h (Copies made) new here = copied_apart w process made h new here
 
 -- whether the one that asks did such an action and was answered ok
 abbrev pub is_own : (Action → Bool) → CallTable → World → Asked → Bool
 is_own kind table w ask = kind ask.action && is_okay (apply table w ask).0
 
-module _ (table : CallTable) (w : World) (ask : Asked) (h : History) (confined : IsConfined h) where
+module _ (table : CallTable) (w : World) (ask : Asked) (h : ProcessState) (confined : IsConfined h) where
   -- what is true of the world after a request of this process
   abbrev After : Answer × World → Type 0
   After done = (is_exec ask.action && is_okay done.0) ≡ false →
-      HasHistoryOf done.1 ask.process (λ after. Steps (is_chdir ask.action && is_okay done.0) h after)
+      HasKept done.1 ask.process (λ after. Steps (is_chdir ask.action && is_okay done.0) h after)
 
-  after_served : history_of w ask.process ≡ Some h → (ended : Bool) →
+  after_served : kept_at w ask.process ≡ Some h → (ended : Bool) →
       After (cond {A = Answer × World} ended (Gone, w) (
         answer_to (effect table w h ask.action),
         left_by w ask.process h (effect table w h ask.action),
@@ -138,12 +143,12 @@ module _ (table : CallTable) (w : World) (ask : Asked) (h : History) (confined :
   after_served here true none = (h, here, record { within = within_self h confined; dir = λ still. refl })
   after_served here false none =
       let e = effect table w h ask.action in (
-        history_left h e,
+        state_left h e,
         left_here w ask.process h e (effect_is_new table w h ask.action) here,
         request_steps table w h confined ask.action none,
       )
 
-  pub own_request : history_of w ask.process ≡ Some h → After (apply table w ask)
+  pub own_request : kept_at w ask.process ≡ Some h → After (apply table w ask)
   own_request here = subst (λ o. After (answer_and_world table w ask o)) (sym here) (after_served here (is_ended h))
 
 -- the request of anyone
@@ -154,14 +159,14 @@ is_one process other = by (process == other)
     by true = refl
     by false = refl
 
-module _ (table : CallTable) (w : World) (ask : Asked) (process : ℕ) (h : History) (here : history_of w process ≡ Some h)
+module _ (table : CallTable) (w : World) (ask : Asked) (process : ℕ) (h : ProcessState) (here : kept_at w process ≡ Some h)
     (confined : IsConfined h)
     (none : is_done is_exec table w ask (process ∷ []) ≡ false) where
   abbrev moved_by : Bool
   moved_by = is_done is_chdir table w ask (process ∷ [])
 
   own_or_other : (same : Bool) → (process == ask.process) ≡ same →
-      HasHistoryOf (apply table w ask).1 process (λ after. Steps moved_by h after)
+      HasKept (apply table w ask).1 process (λ after. Steps moved_by h after)
   own_or_other false other = (
     h,
     others_leave table w ask process h here (λ e. false≢true (sym other ∙ eq-eqb process ask.process (sym e))),
@@ -169,14 +174,14 @@ module _ (table : CallTable) (w : World) (ask : Asked) (process : ℕ) (h : Hist
   )
   own_or_other true same =
       let is : process ≡ ask.process = eqb-true process ask.process same in
-      let own = own_request table w ask h confined (sym (ap (history_of w) is) ∙
+      let own = own_request table w ask h confined (sym (ap (kept_at w) is) ∙
       here) (sym (ap (λ b. b && is_own is_exec table w ask) (is_one process ask.process ∙ same)) ∙ none) in (
         own.0,
-        ap (history_of (apply table w ask).1) is ∙ own.1,
+        ap (kept_at (apply table w ask).1) is ∙ own.1,
         subst (λ b. Steps b h own.0) (sym (ap (λ b. b && is_own is_chdir table w ask) (is_one process ask.process ∙ same))) own.2,
       )
 
-  pub each_steps : HasHistoryOf (apply table w ask).1 process (λ after. Steps moved_by h after)
+  pub each_steps : HasKept (apply table w ask).1 process (λ after. Steps moved_by h after)
   each_steps = own_or_other (process == ask.process) refl
 
 pub each_narrows : EachRequestNarrows

@@ -1,8 +1,8 @@
 -- Who holds none of some promises may make no call whose alternatives each name one of them.
 use Rattle.pua_script.proofs.Common.{◌≡◌, ℕ, List, [], ◌∷◌, Bool, true, false, cond, refl, sym, ap, ◌∙◌, ◌||◌, list_any, AllByRecursion}
-use Rattle.pua_script.proofs.Common.{IsTrue, is_some, nat_le, false≢true, Tree, EAGAIN, holds, History, held_set, has_error, is_ended}
+use Rattle.pua_script.proofs.Common.{IsTrue, is_some, nat_le, false≢true, Tree, EAGAIN, holds, ProcessState, held_set, has_error, is_ended}
 use Rattle.pua_script.proofs.Common.{may_any, CallTable, rule_of, Call, Yes, most_processes, tree_left, Change, AddNode, CutRow, ShiftRow}
-use Rattle.pua_script.proofs.Common.{TieRow, CopyAs, World, Fails, Copies, history_of, change_effect, Action}
+use Rattle.pua_script.proofs.Common.{TieRow, CopyAs, World, Fails, Copies, kept_at, change_effect, Action}
 use Rattle.std.specs.Prelude.{length}
 use Rattle.std.proofs.lemmas.Bool.{or_right}
 use Rattle.pua_calls.specs.Calls.{Rule}
@@ -15,7 +15,7 @@ use Rattle.pua_script.proofs.Guarding.{grounds}
 use Rattle.pua_script.proofs.Grounds.{Grounds, makes, takes}
 use Rattle.pua_script.proofs.Applied.{by_own_tree}
 
-module _ (promises : List ℕ) (h : History) (lacks : list_any (holds (held_set h)) promises ≡ false) where
+module _ (promises : List ℕ) (h : ProcessState) (lacks : list_any (holds (held_set h)) promises ≡ false) where
   -- what is held has a promise, so that is held
   through : (set : ℕ) → holds (held_set h) set ≡ true → (ps : List ℕ) → list_any (holds set) ps ≡ true →
       list_any (holds (held_set h)) ps ≡ true
@@ -57,12 +57,12 @@ is_edit (TieRow spot x) = true
 is_edit _ = false
 
 -- any other leaves it
-keeps : (w : World) (h : History) (c : Change) → is_edit c ≡ false → tree_left w.tree (change_effect w h c) ≡ w.tree
+keeps : (w : World) (h : ProcessState) (c : Change) → is_edit c ≡ false → tree_left w.tree (change_effect w h c) ≡ w.tree
 keeps w h (AddNode spot node) none = absurd (false≢true (sym none))
 keeps w h (CutRow spot) none = absurd (false≢true (sym none))
 keeps w h (ShiftRow old new) none = absurd (false≢true (sym none))
 keeps w h (TieRow spot x) none = absurd (false≢true (sym none))
-keeps w h (CopyAs new) none = by (is_some (history_of w new) || nat_le most_processes (length w.histories))
+keeps w h (CopyAs new) none = by (is_some (kept_at w new) || nat_le most_processes (length w.processes))
   where
     by : (full : Bool) → tree_left w.tree (cond full (Fails EAGAIN) (Copies new)) ≡ w.tree
     by true = refl
@@ -85,7 +85,7 @@ taking_changes call.Rmdir taken = refl
 taking_changes call.Unlink taken = refl
 taking_changes _ taken = cc
 
-module _ (promises : List ℕ) (table : CallTable) (needs : ChangingNeeds promises table) (t : Tree) (h : History)
+module _ (promises : List ℕ) (table : CallTable) (needs : ChangingNeeds promises table) (t : Tree) (h : ProcessState)
     (lacks : list_any (holds (held_set h)) promises ≡ false) where
   never : {A : Type 0} (rule : Rule) → NamesOne promises rule → may_any h rule.alternatives ≡ Yes → A
   never rule names may = absurd (may_not promises h lacks rule.alternatives names may)

@@ -8,7 +8,7 @@ use Rattle.pua_path.specs.declared.found.Way.TheVariants.{Named}
 use Rattle.pua_calls.specs.Promises.{holds, creating}
 use Rattle.pua_calls.specs.Calls.{Rule, CallTable, rule_of}
 use Rattle.pua_calls.specs.Tables.{NamesNoError}
-use Rattle.pua_policy.specs.History.{History, held_set}
+use Rattle.pua_policy.specs.States.{ProcessState, held_set}
 use Rattle.pua_policy.specs.Verdict.{cover}
 use Rattle.pua_policy.specs.declared.answer.Cover.{Cover}
 use Rattle.pua_policy.specs.declared.answer.Cover.TheVariants.{All, Nothing, Only}
@@ -16,7 +16,7 @@ use Rattle.pua_calls.specs.declared.call.Call.{Call}
 use Rattle.pua_calls.specs.declared.call.Call.TheVariants as call
 use Rattle.pua_script.specs.Requests.{Asked}
 use Rattle.pua_script.specs.Decide.{made_by}
-use Rattle.pua_script.specs.Replay.{World, history_of, apply, world_after}
+use Rattle.pua_script.specs.Replay.{World, kept_at, apply, world_after}
 use Rattle.pua_script.specs.Laws.{IsConfined}
 use Rattle.pua_script.specs.Family.{is_exec, none_done, members_alone}
 
@@ -54,8 +54,8 @@ pub record ChangingNeeds (promises : List ℕ) (table : CallTable) : Type 0 wher
   pub rename : NamesOne promises table.rename.new.needs
   pub link : NamesOne promises table.link.new.needs
 
--- a history doesn't hold any of these promises
-abbrev pub HoldsNone : List ℕ → History → Type 0
+-- a state doesn't hold any of these promises
+abbrev pub HoldsNone : List ℕ → ProcessState → Type 0
 HoldsNone promises h = IsFalse (list_any (holds (held_set h)) promises)
 
 -- what stands in a row, as veils see it: a directory by its node, anything else by its name
@@ -69,42 +69,42 @@ has_c Nothing = false
 has_c (Only perms) = holds perms creating
 
 -- a row stays with its node, what that is, where it leads, and its cover
-pub record RowStays (h : History) (t u : Tree) (spot : Spot) (x : ℕ) : Type 0 where
+pub record RowStays (h : ProcessState) (t u : Tree) (spot : Spot) (x : ℕ) : Type 0 where
   pub row : look u spot.0 spot.1 ≡ Some x
   pub node : node_at u x ≡ node_at t x
   pub covered : cover u h (object_in u spot x) ≡ cover t h (object_in t spot x)
 
--- each row that the history doesn't cover with `c` stays
-abbrev pub UncoveredStay : History → Tree → Tree → Type 0
+-- each row that the state doesn't cover with `c` stays
+abbrev pub UncoveredStay : ProcessState → Tree → Tree → Type 0
 UncoveredStay h t u = (spot : Spot) (x : ℕ) → look t spot.0 spot.1 ≡ Some x → IsFalse (has_c (cover t h (object_in t spot x))) →
     RowStays h t u spot x
 
--- one request, by the history of the one that asks, from one tree to another; nothing is asked of that history
+-- one request, by the state of the one that asks, from one tree to another; nothing is asked of that state
 abbrev pub EachRequestSpares : Type 0
-EachRequestSpares = (table : CallTable) → TakingNeedsC table → (w : World) (ask : Asked) (h : History) →
-    WellFormed w.tree → WellFormed (apply table w ask).1.tree → history_of w ask.process ≡ Some h →
+EachRequestSpares = (table : CallTable) → TakingNeedsC table → (w : World) (ask : Asked) (h : ProcessState) →
+    WellFormed w.tree → WellFormed (apply table w ask).1.tree → kept_at w ask.process ≡ Some h →
     UncoveredStay h w.tree (apply table w ask).1.tree
 
 -- and without the promises by which the tree is changed it stays
 abbrev pub PromisesChange : Type 0
-PromisesChange = (table : CallTable) (promises : List ℕ) → ChangingNeeds promises table → (w : World) (ask : Asked) (h : History) →
-    history_of w ask.process ≡ Some h → HoldsNone promises h → (apply table w ask).1.tree ≡ w.tree
+PromisesChange = (table : CallTable) (promises : List ℕ) → ChangingNeeds promises table → (w : World) (ask : Asked) (h : ProcessState) →
+    kept_at w ask.process ≡ Some h → HoldsNone promises h → (apply table w ask).1.tree ≡ w.tree
 
 -- each world on the way has a tree
 abbrev pub TreesAlong : CallTable → World → List Asked → Type 0
 TreesAlong table w [] = WellFormed w.tree
 TreesAlong table w (ask ∷ asks) = WellFormed w.tree × TreesAlong table (apply table w ask).1 asks
 
--- the second part over a list of requests: by the history at its beginning each uncovered row stays, and without the promises by
+-- the second part over a list of requests: by the state at its beginning each uncovered row stays, and without the promises by
 -- which the tree is changed the tree stays
-pub record Confines (table : CallTable) (w : World) (now : History) (asks : List Asked) : Type 0 where
+pub record Confines (table : CallTable) (w : World) (now : ProcessState) (asks : List Asked) : Type 0 where
   pub spares : TakingNeedsC table → TreesAlong table w asks → UncoveredStay now w.tree (world_after table w asks).tree
   pub unchanged : (promises : List ℕ) → ChangingNeeds promises table → HoldsNone promises now → (world_after table w asks).tree ≡ w.tree
 
 -- where members alone ask, and no exec of theirs is answered ok
 abbrev pub FamilyConfines : CallTable → World → List Asked → Type 0
-FamilyConfines table w asks = (process : ℕ) (now : History) →
-    history_of w process ≡ Some now → IsConfined now → IsTrue (none_done is_exec table w asks (process ∷ [])) →
+FamilyConfines table w asks = (process : ℕ) (now : ProcessState) →
+    kept_at w process ≡ Some now → IsConfined now → IsTrue (none_done is_exec table w asks (process ∷ [])) →
     IsTrue (members_alone table w asks (process ∷ [])) → Confines table w now asks
 
 abbrev pub FamiliesConfine : Type 0

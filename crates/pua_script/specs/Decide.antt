@@ -9,13 +9,13 @@ use Rattle.pua_path.specs.Resolution.{resolution_of_text}
 use Rattle.pua_path.specs.Fits.{spot_named, node_named}
 use Rattle.pua_calls.specs.Promises.{proc, unveil}
 use Rattle.pua_calls.specs.Calls.{CallTable, NameRule, PairRule, rule_of, last_of, ending_of}
-use Rattle.pua_policy.specs.History.{History, Event, Pledged, Unveiled, Locked, Moved, Ended, ProcessState, state_of, working_dir}
-use Rattle.pua_policy.specs.History.{may_any_on, pledge_fault_on, unveil_fault, unveil_fault_on}
+use Rattle.pua_policy.specs.States.{ProcessState, Event, Pledged, Unveiled, Locked, Moved, Ended, working_dir, may_any, pledge_fault}
+use Rattle.pua_policy.specs.States.{unveil_fault}
+use Rattle.pua_policy.specs.Verdict.{place_of, cover, cover_fault, or_fault, object_of, refusal_of}
 use Rattle.pua_policy.specs.Misfits.{misfit, misfit_errno}
 use Rattle.pua_policy.specs.declared.reason.Misfit.{Misfit}
 use Rattle.pua_policy.specs.declared.reason.Misfit.TheVariants.{Missing, Exists, IsDirectory, IsNoFile, IsNoDirectory, IsNotEmpty, ByDot}
 use Rattle.pua_policy.specs.declared.reason.Misfit.TheVariants.{ByDotDot, ByNothing}
-use Rattle.pua_policy.specs.Verdict.{place_of, cover, cover_on, cover_fault, or_fault, object_of, refusal_of}
 use Rattle.pua_tree.specs.declared.node.Kind.{Kind}
 use Rattle.pua_tree.specs.declared.node.Kind.TheVariants as kind
 use Rattle.pua_path.specs.declared.errno.Errno.{Errno}
@@ -34,7 +34,6 @@ use Rattle.pua_calls.specs.declared.call.Call.TheVariants as call
 use Rattle.pua_policy.specs.declared.answer.UnveilFault.{UnveilFault}
 use Rattle.pua_policy.specs.declared.answer.UnveilFault.TheVariants.{NotPermitted, TooManyPlaces}
 use Rattle.pua_policy.specs.declared.answer.UnveilFault.TheVariants as unveil_faults
-use Rattle.pua_policy.specs.declared.answer.Cover.{Cover}
 use Rattle.pua_policy.specs.declared.answer.May.{May}
 use Rattle.pua_policy.specs.declared.answer.Refusal.{Refusal}
 use Rattle.pua_policy.specs.declared.answer.Refusal.TheVariants.{Failed}
@@ -44,7 +43,7 @@ use Rattle.pua_script.specs.declared.request.Action.{Action}
 use Rattle.pua_script.specs.declared.request.Action.TheVariants.{OnPath, Symlink, Rename, Link, Pledge, Unveil, Lock, Fork, Exit}
 
 -- what a request that is granted changes: nothing, a row of the tree, the program with what it leaves of execpromises,
--- the history by an event, or the number of processes
+-- the state by an event, or the number of processes
 pub data Change : Type 0 where
   NoChange : Change
   AddNode : Spot → Node → Change
@@ -335,23 +334,16 @@ refusals = record {
 abbrev pub Asking : Type 0
 Asking = Asker Errno Refusal
 
--- a process that asks, by what it keeps, by the covers of objects and by why an unveil is refused
-abbrev pub asker_by : ProcessState → (Tree → Found → Cover) → (Place → ℕ → Option UnveilFault) → Asking
-asker_by p covers unveils = record {
-  promises = λ sets. refusal_of (may_any_on p sets);
+-- a process that asks, by what it keeps
+abbrev pub asker_of : ProcessState → Asking
+asker_of p = record {
+  promises = λ sets. refusal_of (may_any p sets);
   path = λ side t ending text last. resolution_of_text t p.dir ending text last;
-  cover = λ side t object perms. cover_fault (covers t object) perms;
-  beyond = pledge_fault_on p;
+  cover = λ side t object perms. cover_fault (cover t p object) perms;
+  beyond = pledge_fault p;
   locked = fault_if p.locked EPERM;
-  place = λ place perms. unveil_errno (unveils place perms);
+  place = λ place perms. unveil_errno (unveil_fault p place perms);
 }
-
-abbrev pub asker_on : ProcessState → Asking
-asker_on p = asker_by p (λ t object. cover_on t p object) (unveil_fault_on p)
-
--- and by its history
-abbrev pub asker_of : History → Asking
-asker_of h = asker_by (state_of h) (λ t object. cover t h object) (unveil_fault h)
 
 -- the checks of a decision, by names of their own
 abbrev pub fails : Errno → Decision
@@ -382,7 +374,7 @@ abbrev pub inside_fault : Tree → ℕ → Option Spot → Option Errno
 inside_fault t x spot = inside_by EINVAL t x spot
 
 -- what a path names of which this is needed
-abbrev pub named_by : NameRule → Tree → History → Ending → List ℕ → Result Found Errno
+abbrev pub named_by : NameRule → Tree → ProcessState → Ending → List ℕ → Result Found Errno
 named_by name t h ending path = resolution_of_text t (working_dir h) ending path name.last
 
 abbrev pub decide_object : CallTable → Tree → Asking → Call → List ℕ → (Found → Decision) → Decision
@@ -428,9 +420,5 @@ abbrev pub decide_pledge : Asking → Given → Given → Decision
 decide_pledge asker promises execpromises = pledge_by refusals asker promises execpromises
 
 -- what a process's request changes, or why it is refused, by what the process keeps
-abbrev pub decide_on : CallTable → Tree → ProcessState → Action → Decision
-decide_on table t p action = decide_by refusals table t (asker_on p) action
-
--- and by its history
-abbrev pub decide : CallTable → Tree → History → Action → Decision
-decide table t h action = decide_by refusals table t (asker_of h) action
+abbrev pub decide : CallTable → Tree → ProcessState → Action → Decision
+decide table t p action = decide_by refusals table t (asker_of p) action

@@ -2,10 +2,10 @@
 use Rattle.std.specs.Prelude.{◌≡◌, ℕ, Bool, true, false, not, ◌&&◌, if◌then◌else◌, List, [], ◌∷◌, ◌==◌, Some}
 use Rattle.std.specs.List.{list_any}
 use Rattle.pua_calls.specs.Calls.{CallTable}
-use Rattle.pua_policy.specs.History.{History}
+use Rattle.pua_policy.specs.States.{ProcessState}
 use Rattle.pua_calls.specs.declared.call.Call.TheVariants as call
 use Rattle.pua_script.specs.Requests.{Asked}
-use Rattle.pua_script.specs.Replay.{World, history_of, apply}
+use Rattle.pua_script.specs.Replay.{World, kept_at, apply}
 use Rattle.pua_script.specs.declared.request.Action.{Action}
 use Rattle.pua_script.specs.declared.request.Action.TheVariants.{OnPath, Fork}
 use Rattle.pua_script.specs.declared.answer.Answer.{Answer}
@@ -56,6 +56,6 @@ members_alone table w [] members = true
 members_alone table w (ask ∷ asks) members =
     is_member members ask.process && members_alone table (apply table w ask).1 asks (family_then table w ask members)
 
--- the number has a history of this kind
-abbrev pub HasHistoryOf : World → ℕ → (History → Type 0) → Type 0
-HasHistoryOf w process P = (h : History) × (history_of w process ≡ Some h) × P h
+-- the number has a state of this kind
+abbrev pub HasKept : World → ℕ → (ProcessState → Type 0) → Type 0
+HasKept w process P = (h : ProcessState) × (kept_at w process ≡ Some h) × P h

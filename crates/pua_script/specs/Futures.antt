@@ -5,16 +5,15 @@ use Rattle.pua_calls.specs.TableTexts.{table_over}
 use Rattle.pua_calls.specs.declared.rules.Rules.{Rules}
 use Rattle.pua_calls.specs.declared.rules.Rules.TheVariants.{Profile, Openbsd}
 use Rattle.pua_calls.specs.Promises.{cpath, dpath, unix}
-use Rattle.pua_policy.specs.History.{History, ProcessState, StandsFor}
+use Rattle.pua_policy.specs.States.{ProcessState}
 use Rattle.pua_script.specs.Requests.{Asked}
-use Rattle.pua_script.specs.Replay.{World, history_of, world_after}
 use Rattle.pua_script.specs.Tightening.{NoCallNeedsError, IsNarrowedBy, EndsWithin}
 use Rattle.pua_calls.specs.declared.call.Call.TheVariants.{Rmdir, Unlink}
 use Rattle.pua_script.specs.Confinement.{NeedsC, CallsNeed, TakingNeedsC, ChangingNeeds, HoldsNone, UncoveredStay, TreesAlong}
-use Rattle.pua_script.specs.Family.{is_exec, is_done, none_done, members_alone, family, is_member}
+use Rattle.pua_script.specs.Family.{is_exec, is_done, none_done, members_alone, family, is_member, HasKept}
 use Rattle.pua_script.specs.Laws.{IsConfined}
 use Rattle.pua_script.specs.declared.answer.Answer.{Answer}
-use Rattle.pua_script.specs.Worlds.{WorldState, StandsForWorld, AreServed, process_at}
+use Rattle.pua_script.specs.Worlds.{WorldState, world_of, run_to, state_after_all, process_at}
 
 -- a table is one of those that narrowing is about, and changes the tree by these promises
 pub record TableNarrows (promises : List ℕ) (table : CallTable) : Type 0 where
@@ -40,60 +39,48 @@ pub record ReadTablesNarrow : Type 0 where
   pub changing : (base : CallTable) (promises : List ℕ) → ChangingNeeds promises base → (text : List ℕ) (table : CallTable) →
       table_over base text ≡ Ok table → CallsNeed promises table → ChangingNeeds promises table
 
--- a process is kept at the number, and stands for a history of this kind
-pub record HasProcessOf (s : WorldState) (process : ℕ) (IsSo : History → Type 0) : Type 0 where
-  pub kept : ProcessState
-  pub here : process_at s process ≡ Some kept
-  pub history : History
-  pub stands : StandsFor kept history
-  pub so : IsSo history
-
--- each process that was confined stands afterwards for a history that allows no more, but after its own exec
+-- each process that was confined allows no more afterwards, but after its own exec
 abbrev pub IsNarrowing : WorldState → Asked → WorldState → Type 0
-IsNarrowing before ask after = (w : World) → StandsForWorld before w → (process : ℕ) (h : History) →
-    history_of w process ≡ Some h → IsConfined h → IsFalse (is_done is_exec before.table w ask (process ∷ [])) →
-    HasProcessOf after process (IsNarrowedBy before.table w ask process h)
+IsNarrowing before ask after = (process : ℕ) (p : ProcessState) →
+    process_at before process ≡ Some p → IsConfined p → IsFalse (is_done is_exec before.table (world_of before) ask (process ∷ [])) →
+    HasKept (world_of after) process (IsNarrowedBy before.table (world_of before) ask process p)
 
--- by the history of the one that asks, each row that isn't covered with `c` stays, if the table asks for `c` where a name is taken away
+-- by what the one that asks keeps, each row that isn't covered with `c` stays, if the table asks for `c` where a name is taken away
 abbrev pub IsSparing : WorldState → Asked → WorldState → Type 0
-IsSparing before ask after = TakingNeedsC before.table → (w : World) → StandsForWorld before w → (h : History) →
-    history_of w ask.process ≡ Some h → UncoveredStay h before.tree after.tree
+IsSparing before ask after = TakingNeedsC before.table → (p : ProcessState) → process_at before ask.process ≡ Some p →
+    UncoveredStay p before.tree after.tree
 
 -- a list of requests was served, and each world on the way has a tree
 abbrev pub HaveTrees : WorldState → List Asked → Type 0
-HaveTrees before asks = (w : World) → StandsForWorld before w → TreesAlong before.table w asks
+HaveTrees before asks = TreesAlong before.table (world_of before) asks
 
 abbrev pub AreDone : WorldState → List Asked → List Answer → WorldState → Type 0
-AreDone before asks answers after = AreServed before asks answers after × HaveTrees before asks
+AreDone before asks answers after = ((answers, after) ≡ run_to before asks) × HaveTrees before asks
 
 -- some first ones of the requests were
 abbrev pub AreDoneInPart : WorldState → List Asked → WorldState → Type 0
-AreDoneInPart before asks after = (count : ℕ)
-    × ((w : World) → StandsForWorld before w → StandsForWorld after (world_after before.table w (take count asks)) ×
-    (after.table ≡ before.table) × TreesAlong before.table w (take count asks))
+AreDoneInPart before asks after = (count : ℕ) × (after ≡ state_after_all before (take count asks)) × HaveTrees before (take count asks)
 
--- by the history of a confined process at the beginning, and if the table asks for `c` and for promises where it has to: each row
+-- by what a confined process keeps at the beginning, and if the table asks for `c` and for promises where it has to: each row
 -- that isn't covered with `c` stays, and without these promises the tree does
-pub record IsConfining (before : WorldState) (now : History) (after : WorldState) : Type 0 where
+pub record IsConfining (before : WorldState) (now : ProcessState) (after : WorldState) : Type 0 where
   pub spares : TakingNeedsC before.table → UncoveredStay now before.tree after.tree
   pub unchanged : (promises : List ℕ) → ChangingNeeds promises before.table → HoldsNone promises now → after.tree ≡ before.tree
 
 -- what a list of requests leaves of the family of a process that was confined, as long as no exec of a
--- member is answered ok: each member stands afterwards for a history that allows no more, and where
+-- member is answered ok: each member allows no more afterwards, and where
 -- members alone ask, what they change is confined
 pub record AreHeld (before : WorldState) (asks : List Asked) (after : WorldState) : Type 0 where
-  pub narrows : (w : World) → StandsForWorld before w → (process : ℕ) (now : History) →
-      history_of w process ≡ Some now → IsConfined now → IsTrue (none_done is_exec before.table w asks (process ∷ [])) →
-      (member : ℕ) → IsTrue (is_member (family before.table w asks (process ∷ [])) member) →
-      HasProcessOf after member (EndsWithin before.table w asks process now)
-  pub confines : (w : World) → StandsForWorld before w → (process : ℕ) (now : History) →
-      history_of w process ≡ Some now → IsConfined now → IsTrue (none_done is_exec before.table w asks (process ∷ [])) →
-      IsTrue (members_alone before.table w asks (process ∷ [])) → IsConfining before now after
+  pub narrows : (process : ℕ) (now : ProcessState) →
+      process_at before process ≡ Some now → IsConfined now → IsTrue (none_done is_exec before.table (world_of before) asks (process ∷ [])) →
+      (member : ℕ) → IsTrue (is_member (family before.table (world_of before) asks (process ∷ [])) member) →
+      HasKept (world_of after) member (EndsWithin before.table (world_of before) asks process now)
+  pub confines : (process : ℕ) (now : ProcessState) →
+      process_at before process ≡ Some now → IsConfined now → IsTrue (none_done is_exec before.table (world_of before) asks (process ∷ [])) →
+      IsTrue (members_alone before.table (world_of before) asks (process ∷ [])) → IsConfining before now after
 
--- some first ones of a list were served, and no more of it: the world stands for what these leave, and
--- what a list leaves of families is true of these
+-- some first ones of a list were served, and no more of it, and what a list leaves of families is true of these
 pub record AreServedInPart (before : WorldState) (asks : List Asked) (after : WorldState) : Type 0 where
   pub count : ℕ
-  pub left : (w : World) → StandsForWorld before w →
-      StandsForWorld after (world_after before.table w (take count asks)) × (after.table ≡ before.table)
+  pub left : after ≡ state_after_all before (take count asks)
   pub held : AreHeld before (take count asks) after

@@ -7,7 +7,7 @@ use Rattle.pua_path.specs.Resolution.{resolution_of_text}
 use Rattle.pua_path.specs.Fits.{spot_named, node_named}
 use Rattle.pua_calls.specs.Promises.{proc, unveil}
 use Rattle.pua_calls.specs.Calls.{CallTable, PairRule, rule_of}
-use Rattle.pua_policy.specs.History.{History, Pledged, Unveiled, Locked, Ended, working_dir, is_locked, pledge_fault, unveil_fault, may_any}
+use Rattle.pua_policy.specs.States.{ProcessState, Pledged, Unveiled, Locked, Ended, working_dir, is_locked, pledge_fault, unveil_fault, may_any}
 use Rattle.pua_policy.specs.Verdict.{place_of, cover, cover_fault, object_named, object_fault, object_of}
 use Rattle.pua_script.specs.Decide.{link_node, is_whole, kinds_fault, inside_fault, unveil_errno, given_set, is_unknown, Change, NoChange}
 use Rattle.pua_script.specs.Decide.{AddNode, CutRow, ShiftRow, TieRow, AddEvent, CopyAs, adding, change_by, shifting, tying, ways_fault}
@@ -24,14 +24,14 @@ use Rattle.pua_script.specs.declared.request.Action.{Action}
 use Rattle.pua_script.specs.declared.request.Action.TheVariants.{OnPath, Symlink, Rename, Link, Pledge, Unveil, Lock, Fork, Exit}
 
 -- a call on what its path named: its promises, its letters, and the kind that it is for
-pub record OnOne (table : CallTable) (t : Tree) (h : History) (call : Call) (path : List ℕ) (object : Found) : Type 0 where
+pub record OnOne (table : CallTable) (t : Tree) (h : ProcessState) (call : Call) (path : List ℕ) (object : Found) : Type 0 where
   pub promised : may_any h (rule_of table call).alternatives ≡ may.Yes
   pub found : object_named t h call path ≡ Ok object
   pub covered : cover_fault (cover t h object) (rule_of table call).perms ≡ None
   pub fitting : object_fault t call (object_of t object) ≡ None
 
 -- two paths: the promises and the letters of both names, and the node that the old one named
-pub record OnTwo (pair : PairRule) (t : Tree) (h : History) (ending : Ending) (old_path new_path : List ℕ) (old new : Found) (x : ℕ) : Type
+pub record OnTwo (pair : PairRule) (t : Tree) (h : ProcessState) (ending : Ending) (old_path new_path : List ℕ) (old new : Found) (x : ℕ) : Type
     0 where
   pub promised_old : may_any h pair.old.needs.alternatives ≡ may.Yes
   pub promised_new : may_any h pair.new.needs.alternatives ≡ may.Yes
@@ -48,7 +48,7 @@ pub record IsShift (t : Tree) (old new : Found) (x : ℕ) (change : Change) : Ty
   pub kinds : kinds_fault t x old new ≡ None
   pub is : change ≡ shifting (spot_named old) (spot_named new)
 
-pub record IsRename (pair : PairRule) (t : Tree) (h : History) (old_path new_path : List ℕ) (change : Change) : Type 0 where
+pub record IsRename (pair : PairRule) (t : Tree) (h : ProcessState) (old_path new_path : List ℕ) (change : Change) : Type 0 where
   pub old : Found
   pub new : Found
   pub node : ℕ
@@ -56,7 +56,7 @@ pub record IsRename (pair : PairRule) (t : Tree) (h : History) (old_path new_pat
   pub ways : ways_fault old new ≡ None
   pub moves : (change ≡ NoChange) ⊎ IsShift t old new node change
 
-pub record IsLink (pair : PairRule) (t : Tree) (h : History) (old_path new_path : List ℕ) (change : Change) : Type 0 where
+pub record IsLink (pair : PairRule) (t : Tree) (h : ProcessState) (old_path new_path : List ℕ) (change : Change) : Type 0 where
   pub old : Found
   pub new : Found
   pub node : ℕ
@@ -65,7 +65,7 @@ pub record IsLink (pair : PairRule) (t : Tree) (h : History) (old_path new_path 
   pub free : is_some (node_named new) ≡ false
   pub is : change ≡ tying node (spot_named new)
 
-pub record IsVeil (t : Tree) (h : History) (path : List ℕ) (letters : Option ℕ) (change : Change) : Type 0 where
+pub record IsVeil (t : Tree) (h : ProcessState) (path : List ℕ) (letters : Option ℕ) (change : Change) : Type 0 where
   pub object : Found
   pub perms : ℕ
   pub promised : may_any h (unveil ∷ []) ≡ may.Yes
@@ -75,13 +75,13 @@ pub record IsVeil (t : Tree) (h : History) (path : List ℕ) (letters : Option �
   pub room : unveil_errno (unveil_fault h (place_of object) perms) ≡ None
   pub is : change ≡ AddEvent (Unveiled (place_of object) perms)
 
-pub record IsPledge (h : History) (promises execpromises : Given) (change : Change) : Type 0 where
+pub record IsPledge (h : ProcessState) (promises execpromises : Given) (change : Change) : Type 0 where
   pub known : is_unknown promises || is_unknown execpromises ≡ false
   pub within : pledge_fault h (given_set promises) (given_set execpromises) ≡ None
   pub is : change ≡ AddEvent (Pledged (given_set promises) (given_set execpromises))
 
 -- which checks a request passed that changes this
-abbrev pub IsDecided : CallTable → Tree → History → Action → Change → Type 0
+abbrev pub IsDecided : CallTable → Tree → ProcessState → Action → Change → Type 0
 IsDecided table t h (OnPath call path) change = (object : Found) × OnOne table t h call path object × (change ≡ change_by table call object)
 IsDecided table t h (Symlink target path) change = (object : Found) × OnOne table t h call.Symlink path object × (path_fault target ≡ None)
     × (change ≡ adding (link_node target) object)
@@ -95,7 +95,7 @@ IsDecided table t h Exit change = change ≡ AddEvent Ended
 
 -- each decision had its guards
 abbrev pub DecisionsAreGuarded : Type 0
-DecisionsAreGuarded = (table : CallTable) (t : Tree) (h : History) (action : Action) (change : Change) →
+DecisionsAreGuarded = (table : CallTable) (t : Tree) (h : ProcessState) (action : Action) (change : Change) →
     decide table t h action ≡ Ok change → IsDecided table t h action change
 
 -- a spot at which nothing stands

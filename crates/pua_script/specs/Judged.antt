@@ -9,12 +9,12 @@ use Rattle.pua_path.specs.declared.found.Found.{Found}
 use Rattle.pua_calls.specs.Calls.{PairRule}
 use Rattle.pua_calls.specs.declared.call.Call.{Call}
 use Rattle.pua_calls.specs.declared.call.Call.TheVariants as call
-use Rattle.pua_policy.specs.History.{Locked, Moved, Ended, ProcessState}
+use Rattle.pua_policy.specs.States.{Locked, Moved, Ended, ProcessState}
 use Rattle.pua_policy.specs.Verdict.{place_of}
 use Rattle.pua_policy.specs.declared.answer.Refusal.{Refusal}
 use Rattle.pua_script.specs.Decide.{NoChange, AddNode, CutRow, ShiftRow, TieRow, BeginProgram, AddEvent, Asking, Change, Decision, pledging}
 use Rattle.pua_script.specs.Decide.{veiling}
-use Rattle.pua_script.specs.Decide.{plain_node, link_node, made_by, making, cutting, if_named, unless_fault, covers_by, asker_on}
+use Rattle.pua_script.specs.Decide.{plain_node, link_node, made_by, making, cutting, if_named, unless_fault, covers_by, asker_of}
 use Rattle.pua_script.specs.declared.granted.Granted.{Granted}
 use Rattle.pua_script.specs.declared.granted.Granted.TheVariants as granted
 use Rattle.pua_script.specs.declared.granted.NewNode.{NewNode}
@@ -80,7 +80,7 @@ abbrev pub if_covered : PairRule → Tree → ProcessState → Ending → List �
 if_covered need t p ending old new further =
     if_named (resolution_of_text t p.dir ending old need.old.last) λ from.
     if_named (resolution_of_text t p.dir ending new need.new.last) λ to.
-    unless_fault (covers_by need t (asker_on p) from to) (further from to)
+    unless_fault (covers_by need t (asker_of p) from to) (further from to)
 
 -- further checks of what was judged
 abbrev pub on_judged : {X : Type 0} → Result X Refusal → (X → Decision) → Decision

@@ -4,7 +4,7 @@ use Rattle.pua_tree.specs.Tree.{Tree, WellFormed}
 use Rattle.pua_tree.specs.Edits.{has_name_room, has_room}
 use Rattle.pua_path.specs.declared.errno.Errno.TheVariants.{ENOSPC}
 use Rattle.pua_calls.specs.Promises.{holds, unveil}
-use Rattle.pua_policy.specs.History.{History, held_set, is_locked}
+use Rattle.pua_policy.specs.States.{ProcessState, held_set, is_locked}
 use Rattle.pua_calls.specs.Calls.{CallTable}
 use Rattle.pua_policy.specs.declared.answer.Refusal.TheVariants.{Failed}
 use Rattle.pua_calls.specs.declared.call.Call.{Call}
@@ -22,7 +22,7 @@ ReplayComposes = (table : CallTable) (w : World) (first second : List Asked) →
     × (world_after table w (first ++ second) ≡ world_after table (world_after table w first) second)
 
 -- the process can put no veil any more: it is locked, or doesn't hold `unveil`
-abbrev pub IsConfined : History → Type 0
+abbrev pub IsConfined : ProcessState → Type 0
 IsConfined h = (is_locked h ≡ true) ⊎ (holds (held_set h) unveil ≡ false)
 
 -- the calls that add a node
@@ -37,20 +37,20 @@ wants_room t _ = false
 
 -- want of room is the only fault of the edits that are decided
 abbrev pub DecisionsArePossible : Type 0
-DecisionsArePossible = (table : CallTable) (t : Tree) (h : History) (action : Action) (change : Change) →
+DecisionsArePossible = (table : CallTable) (t : Tree) (h : ProcessState) (action : Action) (change : Change) →
     WellFormed t → decide table t h action ≡ Ok change → IsPossible t change
 
 -- such a change fails exactly where it wants room, and then with ENOSPC
 abbrev pub ChangesLackRoom : Type 0
-ChangesLackRoom = (w : World) (h : History) (change : Change) → IsPossible w.tree change →
+ChangesLackRoom = (w : World) (h : ProcessState) (change : Change) → IsPossible w.tree change →
     (change_effect w h change ≡ Fails ENOSPC) ↔ IsTrue (wants_room w.tree change)
 
 -- nothing else is answered ENOSPC: no check before a change is
 abbrev pub RefusalsLackNoRoom : Type 0
-RefusalsLackNoRoom = (table : CallTable) (t : Tree) (h : History) (action : Action) → decide table t h action ≢ Err (Failed ENOSPC)
+RefusalsLackNoRoom = (table : CallTable) (t : Tree) (h : ProcessState) (action : Action) → decide table t h action ≢ Err (Failed ENOSPC)
 
 -- a request was granted a change for which there is no room
-pub record LacksRoom (table : CallTable) (t : Tree) (h : History) (action : Action) : Type 0 where
+pub record LacksRoom (table : CallTable) (t : Tree) (h : ProcessState) (action : Action) : Type 0 where
   pub change : Change
   pub granted : decide table t h action ≡ Ok change
   pub full : IsTrue (wants_room t change)
@@ -63,9 +63,9 @@ lacks_room t (Link old new) = not (has_name_room t)
 lacks_room t _ = false
 
 -- a request is answered ENOSPC exactly where it was granted such a change, and no other request is
-pub record RequestLacksRoom (table : CallTable) (w : World) (h : History) (action : Action) : Type 0 where
+pub record RequestLacksRoom (table : CallTable) (w : World) (h : ProcessState) (action : Action) : Type 0 where
   pub exact : (effect table w h action ≡ Fails ENOSPC) ↔ LacksRoom table w.tree h action
   pub only : effect table w h action ≡ Fails ENOSPC → IsTrue (lacks_room w.tree action)
 
 abbrev pub RequestsLackRoom : Type 0
-RequestsLackRoom = (table : CallTable) (w : World) (h : History) (action : Action) → WellFormed w.tree → RequestLacksRoom table w h action
+RequestsLackRoom = (table : CallTable) (w : World) (h : ProcessState) (action : Action) → WellFormed w.tree → RequestLacksRoom table w h action

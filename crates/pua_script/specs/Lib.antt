@@ -21,4 +21,5 @@ pub mod Examples
 pub mod Added
 pub mod Regiven
 pub mod Worlds
+pub mod Pasts
 pub mod Judged

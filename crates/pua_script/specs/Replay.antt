@@ -1,11 +1,10 @@
 -- What requests answer and leave, one after another: what each decides is made of the world.
-use Rattle.std.specs.Prelude.{ℕ, ◌||◌, if◌then◌else◌, List, [], ◌∷◌, length, nat_le, Option, Some, None, Result, Ok, Err, is_some}
-use Rattle.std.specs.Ordering.{nat_cmp}
-use Rattle.std.specs.FinMap.{put, find as find_key}
+use Rattle.std.specs.Prelude.{ℕ, ◌||◌, if◌then◌else◌, List, [], ◌∷◌, length, nat_eq, nat_le, Option, Some, None, Result, Ok, Err, is_some}
+use Rattle.std.specs.Map.{lookup}
 use Rattle.pua_tree.specs.Tree.{Tree}
 use Rattle.pua_tree.specs.Edits.{add, tie, cut, shift}
 use Rattle.pua_calls.specs.Calls.{CallTable}
-use Rattle.pua_policy.specs.History.{History, Ended, new_history, is_ended, after_exec}
+use Rattle.pua_policy.specs.States.{ProcessState, state_after, Ended, new_process, is_ended, after_exec}
 use Rattle.pua_script.specs.Requests.{Asked}
 use Rattle.pua_script.specs.Limits.{most_processes}
 use Rattle.pua_script.specs.Decide.{Change, NoChange, AddNode, CutRow, ShiftRow, TieRow, BeginProgram, AddEvent, CopyAs, Decision, decide}
@@ -18,20 +17,25 @@ use Rattle.pua_script.specs.declared.request.Action.{Action}
 use Rattle.pua_script.specs.declared.answer.Answer.{Answer}
 use Rattle.pua_script.specs.declared.answer.Answer.TheVariants.{Okay, Failed, Killed, Gone}
 
--- a tree, and the histories of all processes ever made by their numbers
+-- a value put at a number: in the place of the one that is there, or after the others
+abbrev pub put_at : {X : Type 0} → ℕ → X → List (ℕ × X) → List (ℕ × X)
+put_at n x [] = (n, x) ∷ []
+put_at n x (made ∷ more) = if nat_eq n made.0 then (made.0, x) ∷ more else made ∷ put_at n x more
+
+-- a tree, and what all processes ever made keep, with their numbers, in the order in which they were made
 pub record World : Type 0 where
   pub tree : Tree
-  pub histories : List (ℕ × History)
+  pub processes : List (ℕ × ProcessState)
 
 -- process 1 alone
 abbrev pub new_world : Tree → World
-new_world t = record { tree = t; histories = (1, new_history) ∷ [] }
+new_world t = record { tree = t; processes = (1, new_process) ∷ [] }
 
-abbrev pub history_of : World → ℕ → Option History
-history_of w process = find_key nat_cmp process w.histories
+abbrev pub kept_at : World → ℕ → Option ProcessState
+kept_at w process = lookup (nat_eq process) w.processes
 
-abbrev pub with_history : World → ℕ → History → World
-with_history w process h = record w { histories = put nat_cmp process h w.histories }
+abbrev pub with_process : World → ℕ → ProcessState → World
+with_process w process h = record w { processes = put_at process h w.processes }
 
 -- what a request of a living process does
 pub data Effect : Type 0 where
@@ -39,33 +43,33 @@ pub data Effect : Type 0 where
   Fails : Errno → Effect
   -- the process ends
   Kills : Effect
-  -- it succeeds, and leaves this tree and this history of the process
-  Leaves : Tree → History → Effect
-  -- it succeeds, and a new process has the same history
+  -- it succeeds, and leaves this tree and this state of the process
+  Leaves : Tree → ProcessState → Effect
+  -- it succeeds, and a new process has the same state
   Copies : ℕ → Effect
 
 -- what an edit leaves; the checks before it leave want of room as its only fault
-abbrev pub edit_effect : History → Result (ℕ × Tree) TreeFault → Effect
+abbrev pub edit_effect : ProcessState → Result (ℕ × Tree) TreeFault → Effect
 edit_effect h (Ok result) = Leaves result.1 h
 edit_effect h (Err fault) = Fails ENOSPC
 
-abbrev pub edited_tree : History → Result Tree TreeFault → Effect
+abbrev pub edited_tree : ProcessState → Result Tree TreeFault → Effect
 edited_tree h (Ok t) = Leaves t h
 edited_tree h (Err fault) = Fails ENOSPC
 
 -- so many processes at most, and no number twice
-abbrev pub fork_effect : World → History → ℕ → Effect
-fork_effect w h new = if is_some (history_of w new) || nat_le most_processes (length w.histories) then Fails EAGAIN else Copies new
+abbrev pub fork_effect : World → ProcessState → ℕ → Effect
+fork_effect w h new = if is_some (kept_at w new) || nat_le most_processes (length w.processes) then Fails EAGAIN else Copies new
 
 -- what a change comes to in a world, whose tree may lack room for it, or its processes
-abbrev pub change_effect : World → History → Change → Effect
+abbrev pub change_effect : World → ProcessState → Change → Effect
 change_effect w h NoChange = Leaves w.tree h
 change_effect w h (AddNode spot node) = edit_effect h (add w.tree spot.0 spot.1 node)
 change_effect w h (CutRow spot) = edit_effect h (cut w.tree spot.0 spot.1)
 change_effect w h (ShiftRow old new) = edited_tree h (shift w.tree old.0 old.1 new.0 new.1)
 change_effect w h (TieRow spot x) = edited_tree h (tie w.tree spot.0 spot.1 x)
 change_effect w h (BeginProgram left) = Leaves w.tree (after_exec left h)
-change_effect w h (AddEvent event) = Leaves w.tree (event ∷ h)
+change_effect w h (AddEvent event) = Leaves w.tree (state_after event h)
 change_effect w h (CopyAs new) = fork_effect w h new
 
 -- the effect of a refused request
@@ -74,12 +78,12 @@ refusal_effect (refusals.Failed errno) = Fails errno
 refusal_effect refusals.Killed = Kills
 
 -- what a decision comes to
-abbrev pub come_of : World → History → Decision → Effect
+abbrev pub come_of : World → ProcessState → Decision → Effect
 come_of w h (Ok change) = change_effect w h change
 come_of w h (Err refusal) = refusal_effect refusal
 
 -- what a living process's request does: it is decided, and then a change is made
-abbrev pub effect : CallTable → World → History → Action → Effect
+abbrev pub effect : CallTable → World → ProcessState → Action → Effect
 effect table w h action = come_of w h (decide table w.tree h action)
 
 abbrev pub answer_to : Effect → Answer
@@ -88,24 +92,24 @@ answer_to Kills = Killed
 answer_to (Leaves t h) = Okay
 answer_to (Copies new) = Okay
 
-abbrev pub left_by : World → ℕ → History → Effect → World
+abbrev pub left_by : World → ℕ → ProcessState → Effect → World
 left_by w process h (Fails errno) = w
-left_by w process h Kills = with_history w process (Ended ∷ h)
-left_by w process h (Leaves t after) = record { tree = t; histories = put nat_cmp process after w.histories }
-left_by w process h (Copies new) = with_history w new h
+left_by w process h Kills = with_process w process (state_after Ended h)
+left_by w process h (Leaves t after) = record { tree = t; processes = put_at process after w.processes }
+left_by w process h (Copies new) = with_process w new h
 
 -- the answer to a decision, and the world after it
-abbrev pub do_decided : World → ℕ → History → Decision → Answer × World
+abbrev pub do_decided : World → ℕ → ProcessState → Decision → Answer × World
 do_decided w process h decision = let does : Effect = come_of w h decision in (answer_to does, left_by w process h does)
 
 -- a request's answer and the world after it; a process that ended or was never made is gone
-abbrev pub answer_and_world : CallTable → World → Asked → Option History → Answer × World
+abbrev pub answer_and_world : CallTable → World → Asked → Option ProcessState → Answer × World
 answer_and_world table w ask None = (Gone, w)
 answer_and_world table w ask (Some h) =
     if is_ended h then (Gone, w) else do_decided w ask.process h (decide table w.tree h ask.action)
 
 abbrev pub apply : CallTable → World → Asked → Answer × World
-apply table w ask = answer_and_world table w ask (history_of w ask.process)
+apply table w ask = answer_and_world table w ask (kept_at w ask.process)
 
 -- the answers to requests, one after another, and the world after all of them
 abbrev pub answers_to : CallTable → World → List Asked → List Answer

@@ -4,12 +4,12 @@
 //! it begins, and a name takes 256 bytes. What a path names stays lent until a name is to be kept.
 
 ghost use Rattle.std.specs.Prelude.{◌≡◌, ℕ, List, None, OnErr, IsFalse, true, false};
-ghost use Rattle.pua_policy.specs.History.{History, StandsFor};
+ghost use Rattle.pua_policy.specs.States.{ProcessState};
 ghost use Rattle.pua_script.specs.Decide.{asker_of};
 ghost use Rattle.pua_script.specs.Judged.{decision_for, is_edit};
 ghost use Rattle.pua_script.specs.Replay.{come_of};
 ghost use Rattle.pua_calls.specs.Calls.{CallTable as Rules, rule_of};
-ghost use Rattle.pua_policy.specs.History.{may_any_on};
+ghost use Rattle.pua_policy.specs.States.{may_any};
 ghost use Rattle.pua_policy.specs.Verdict.{refusal_of};
 ghost use Rattle.pua_script.specs.Worlds.{Acts, Attempts, is_fork};
 ghost use Rattle.pua_script.specs.declared.request.Action.TheVariants.{Link, OnPath, Rename};
@@ -97,7 +97,7 @@ fn look<T: FileTree>(
     call: Call,
     path: &[u8],
 ) -> Result<Answer, WorldFault>
-    ensures exact { refusal_of (may_any_on process.old (rule_of table.now call).alternatives) ≡ None →
+    ensures exact { refusal_of (may_any process.old (rule_of table.now call).alternatives) ≡ None →
         is_edit call ≡ false → Acts table.now (T.content tree.old) process.old (OnPath call path.now)
         result (T.content tree.new) process.new }
     ensures unchanged { OnErr result
@@ -121,7 +121,7 @@ fn edit<T: FileTree>(
     call: Call,
     path: &[u8],
 ) -> Result<Answer, WorldFault>
-    ensures exact { refusal_of (may_any_on process.old (rule_of table.now call).alternatives) ≡ None →
+    ensures exact { refusal_of (may_any process.old (rule_of table.now call).alternatives) ≡ None →
         is_edit call ≡ true → Acts table.now (T.content tree.old) process.old (OnPath call path.now)
         result (T.content tree.new) process.new }
     ensures unchanged { OnErr result
@@ -264,10 +264,10 @@ fn answer<T: FileTree>(
     process: &mut Process,
     granted: &Result<Granted<'_>, Refusal>,
 ) -> Result<Answer, WorldFault>
-    ensures exact { (h : History) (histories : List (ℕ × History)) → StandsFor process.old h →
-        Attempts (T.content tree.old) h
-        (come_of (record { tree = T.content tree.old; histories = histories }) h
-        (decision_for (asker_of h) granted.now))
+    ensures exact { (processes : List (ℕ × ProcessState)) →
+        Attempts (T.content tree.old) process.old
+        (come_of (record { tree = T.content tree.old; processes = processes }) process.old
+        (decision_for (asker_of process.old) granted.now))
         result (T.content tree.new) process.new }
     ensures unchanged { OnErr result ((T.content tree.new ≡ T.content tree.old) ×
         (process.new ≡ process.old)) }

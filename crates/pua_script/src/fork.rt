@@ -5,7 +5,8 @@ ghost use Rattle.std.specs.Map.{lookup};
 ghost use Rattle.pua_tree.specs.Tree.{Tree};
 ghost use Rattle.pua_calls.specs.Calls.{CallTable};
 ghost use Rattle.pua_script.specs.Limits.{most_processes};
-ghost use Rattle.pua_script.specs.Worlds.{IsServed, IsOkay};
+ghost use Rattle.pua_script.specs.Replay.{apply};
+ghost use Rattle.pua_script.specs.declared.answer.Answer.TheVariants.{Okay};
 ghost use Rattle.pua_script.specs.declared.request.Action.TheVariants as actions;
 
 use crate::answer::Answer;
@@ -28,12 +29,12 @@ pub(crate) fn fork(
     new: u32,
 ) -> Result<Answer, WorldFault>
     ensures served { IfOk result (λ answer. (t : Tree) (table : CallTable) →
-        IsServed (record { tree = t; table = table; processes = processes.old.entries })
-        (record { process = number; action = actions.Fork new }) answer
-        (record { tree = t; table = table; processes = processes.new.entries })) }
-    ensures memory { OnErr result ((t : Tree) (table : CallTable) →
-        IsOkay (record { tree = t; table = table; processes = processes.old.entries })
+        (answer, record { tree = t; processes = processes.new.entries })
+        ≡ apply table (record { tree = t; processes = processes.old.entries })
         (record { process = number; action = actions.Fork new })) }
+    ensures memory { OnErr result ((t : Tree) (table : CallTable) →
+        (apply table (record { tree = t; processes = processes.old.entries })
+        (record { process = number; action = actions.Fork new })).0 ≡ Okay) }
     ensures unchanged { OnErr result (processes.new.entries ≡ processes.old.entries) }
 {
     let is_refused = is_refused(processes, new);

@@ -9,9 +9,9 @@ ghost use Rattle.pua_script.specs.Futures.{ReadTablesNarrow, RulesNarrow};
 ghost use Rattle.pua_script.specs.Tightening.{EachRequestNarrows, FamiliesNarrow, ForksCopy};
 ghost use Rattle.pua_script.specs.Tightening.{OthersLeave, OthersLeaveAlways};
 
-/// A request leaves the history of each process but the one that asks: its promises and execpromises,
+/// A request leaves the state of each process but the one that asks: its promises and execpromises,
 /// its veils and lock, its directory, and whether it has ended. A process that is forked begins with
-/// the history of the one that forked it.
+/// the state of the one that forked it.
 #[tactic(auto, using(crate::proofs::Others::others_leave, crate::proofs::Others::others_leave_always, crate::proofs::Others::forks_copy))]
 pub fn others_law()
     ensures one { OthersLeave }
@@ -37,7 +37,7 @@ pub fn families_law()
 /// asks rmdir, unlink and both names of rename for `c` and each tree on the way is one; and without
 /// certain promises it leaves the tree, where the calls that make a name or take one away need one
 /// of these, and the new names of rename and link. A single request of any process does so by the
-/// history that it had before. A row that stays says nothing of what is written to its file: link takes
+/// state that it had before. A row that stays says nothing of what is written to its file: link takes
 /// no name away, so that where it needs less of its old name, as by OpenBSD's rules, the file may be
 /// given a further name and be written by that.
 pub fn confined_law()

@@ -3,7 +3,7 @@
 ghost use Rattle.std.specs.Prelude.{◌≡◌, ℕ, List, OnErr, IsTrue, option_copied};
 ghost use Rattle.pua_tree.specs.Tree.{Tree, target_fits};
 ghost use Rattle.pua_tree.specs.Edits.{add, cut, shift, tie};
-ghost use Rattle.pua_policy.specs.History.{History, StandsFor};
+ghost use Rattle.pua_policy.specs.States.{ProcessState};
 ghost use Rattle.pua_policy.specs.Verdict.{place_of};
 ghost use Rattle.pua_script.specs.Decide.{asker_of, pledging, veiling};
 ghost use Rattle.pua_script.specs.Judged.{decision_by, node_made};
@@ -75,10 +75,10 @@ pub(crate) fn make<T: FileTree>(
     process: &mut Process,
     granted: &Granted<'_>,
 ) -> Result<Answer, WorldFault>
-    ensures exact { (h : History) (histories : List (ℕ × History)) → StandsFor process.old h →
-        Attempts (T.content tree.old) h
-        (come_of (record { tree = T.content tree.old; histories = histories }) h
-        (decision_by (asker_of h) granted.now))
+    ensures exact { (processes : List (ℕ × ProcessState)) →
+        Attempts (T.content tree.old) process.old
+        (come_of (record { tree = T.content tree.old; processes = processes }) process.old
+        (decision_by (asker_of process.old) granted.now))
         result (T.content tree.new) process.new }
     ensures unchanged { OnErr result ((T.content tree.new ≡ T.content tree.old) ×
         (process.new ≡ process.old)) }
@@ -118,7 +118,7 @@ fn add<T: FileTree>(
     name: &Name,
     node: &NewNode<'_>,
 ) -> Result<Answer, WorldFault>
-    ensures exact { (h : History) → AttemptsEdit (T.content tree.old) h
+    ensures exact { (h : ProcessState) → AttemptsEdit (T.content tree.old) h
         (edit_effect h (add (T.content tree.old) dir name.now (node_made node.now)))
         result (T.content tree.new) }
     ensures unchanged { OnErr result (T.content tree.new ≡ T.content tree.old) }
@@ -133,7 +133,7 @@ fn add<T: FileTree>(
 
 /// Takes a row away, which needs no room: what was checked before leaves no fault.
 fn cut<T: FileTree>(tree: &mut T, dir: NodeId, name: &Name) -> Answer
-    ensures { (h : History) →
+    ensures { (h : ProcessState) →
         Edits (T.content tree.old) h (edit_effect h (cut (T.content tree.old) dir name.now)) result
         (T.content tree.new) }
 {
@@ -151,7 +151,7 @@ fn shift<T: FileTree>(
     to: NodeId,
     new_name: &Name,
 ) -> Result<Answer, WorldFault>
-    ensures exact { (h : History) → AttemptsEdit (T.content tree.old) h
+    ensures exact { (h : ProcessState) → AttemptsEdit (T.content tree.old) h
         (edited_tree h (shift (T.content tree.old) from name.now to new_name.now))
         result (T.content tree.new) }
     ensures unchanged { OnErr result (T.content tree.new ≡ T.content tree.old) }
@@ -171,7 +171,7 @@ fn tie<T: FileTree>(
     name: &Name,
     node: NodeId,
 ) -> Result<Answer, WorldFault>
-    ensures exact { (h : History) → AttemptsEdit (T.content tree.old) h
+    ensures exact { (h : ProcessState) → AttemptsEdit (T.content tree.old) h
         (edited_tree h (tie (T.content tree.old) dir name.now node))
         result (T.content tree.new) }
     ensures unchanged { OnErr result (T.content tree.new ≡ T.content tree.old) }
@@ -189,8 +189,8 @@ fn pledge(
     promises: Option<Promises>,
     execpromises: Option<Promises>,
 ) -> Answer
-    ensures { (h : History) (w : World) → StandsFor process.old h →
-        Does w.tree h (come_of w h (pledging (asker_of h) promises execpromises)) result w.tree
+    ensures { (w : World) → Does w.tree process.old
+        (come_of w process.old (pledging (asker_of process.old) promises execpromises)) result w.tree
         process.new }
 {
     match process.pledge(promises, execpromises) {
@@ -202,8 +202,8 @@ fn pledge(
 /// Puts a veil on the place of what was found: `EPERM` or `E2BIG` where the process may not
 /// (unveil(2)).
 fn unveil(process: &mut Process, found: &Found, perms: Perms) -> Result<Answer, WorldFault>
-    ensures exact { (h : History) (w : World) → StandsFor process.old h →
-        Attempts w.tree h (come_of w h (veiling (asker_of h) (place_of found.now) perms)) result
+    ensures exact { (w : World) → Attempts w.tree process.old
+        (come_of w process.old (veiling (asker_of process.old) (place_of found.now) perms)) result
         w.tree process.new }
     ensures unchanged { OnErr result (process.new ≡ process.old) }
 {

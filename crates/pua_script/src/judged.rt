@@ -10,9 +10,9 @@ ghost use Rattle.pua_path.specs.declared.found.Last.TheVariants.{Followed};
 ghost use Rattle.pua_path.specs.declared.text.Ending.TheVariants.{Dot};
 ghost use Rattle.pua_calls.specs.Calls.{CallTable as Rules, rule_of};
 ghost use Rattle.pua_calls.specs.declared.call.Call.TheVariants.{Symlink};
-ghost use Rattle.pua_policy.specs.History.{may_any_on};
+ghost use Rattle.pua_policy.specs.States.{may_any};
 ghost use Rattle.pua_policy.specs.Verdict.{place_of};
-ghost use Rattle.pua_script.specs.Decide.{Asking, Decision, asker_on, change_by, cutting};
+ghost use Rattle.pua_script.specs.Decide.{Asking, Decision, asker_of, change_by, cutting};
 ghost use Rattle.pua_script.specs.Decide.{decide_object, decide_unveil, decide_veil, if_may};
 ghost use Rattle.pua_script.specs.Decide.{if_named, placing, unless_fault, veiling};
 ghost use Rattle.pua_script.specs.Judged.{NameFits, decision_for, decision_by, edit_by, is_edit};
@@ -101,7 +101,7 @@ pub(crate) fn judge_object<'t, T: FileTree>(
     path: &'t [u8],
 ) -> Result<LentFound<'t>, Errno>
     ensures { (further : founds.Found → Decision) →
-        decide_object table.now (T.content tree.now) (asker_on process.now) call path.now further
+        decide_object table.now (T.content tree.now) (asker_of process.now) call path.now further
         ≡ if_named (founds_seen result) further }
 {
     let mut probe = Counted::new(tree);
@@ -168,7 +168,7 @@ pub(crate) fn judge_target<'a>(
 ) -> Result<PathText<'a>, Refusal>
     ensures exact { (further : Decision) →
         on_judged result (λ text. further)
-        ≡ if_may (may_any_on process.now (rule_of table.now Symlink).alternatives)
+        ≡ if_may (may_any process.now (rule_of table.now Symlink).alternatives)
         (unless_fault (path_fault target.now) further) }
     ensures text { IfOk result (λ text. text.bytes ≡ target.now) }
 {
@@ -183,8 +183,8 @@ pub(crate) fn judge_target<'a>(
 /// path is read.
 pub(crate) fn judge_letters(process: &Process, perms: Option<Perms>) -> Result<Perms, Refusal>
     ensures { (t : Tree) (path : List ℕ) →
-        on_judged result (λ letters. decide_veil t (asker_on process.now) path (Some letters))
-        ≡ decide_unveil t (asker_on process.now) path perms }
+        on_judged result (λ letters. decide_veil t (asker_of process.now) path (Some letters))
+        ≡ decide_unveil t (asker_of process.now) path perms }
 {
     promised(process, Promises::UNVEIL)?;
     if process.locked() {

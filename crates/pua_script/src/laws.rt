@@ -10,7 +10,7 @@ ghost use Rattle.pua_script.specs.Laws.{ChangesLackRoom, DecisionsArePossible, R
 ghost use Rattle.pua_script.specs.Laws.{ReplayComposes, RequestsLackRoom};
 ghost use Rattle.pua_script.specs.ScriptGrammar.{ScriptsAreRead};
 ghost use Rattle.pua_calls.specs.declared.rules.Rules.{Rules};
-ghost use Rattle.pua_script.specs.Worlds.{WorldsAnswerAlike};
+ghost use Rattle.pua_script.specs.Pasts.{KeepsPasts};
 
 use crate::limits::{MOST_NUMBER, MOST_PROCESSES, MOST_SCRIPT_LINES};
 
@@ -48,9 +48,10 @@ pub fn decide_law()
     ensures { DecisionsAreGuarded }
 {}
 
-/// Two worlds of the replay for which one world stands answer alike, to the end.
-pub fn standing_law()
-    ensures { WorldsAnswerAlike }
+/// A replay, which keeps what is left of histories, answers as the one that keeps the histories does; its
+/// tree is the same, and its processes keep what is left of those histories.
+pub fn pasts_law()
+    ensures { KeepsPasts }
 {}
 
 /// Bytes are read as a list of requests exactly where their lines spell it, by any rules.

@@ -26,8 +26,8 @@ pub use futures::{
     bytes_law, confined_law, error_table_examples, families_law, others_law, steps_law, table_law,
 };
 pub use laws::{
-    decide_law, limits_law, replay_examples, replay_law, room_law, script_examples, script_law,
-    standing_law,
+    decide_law, limits_law, pasts_law, replay_examples, replay_law, room_law, script_examples,
+    script_law,
 };
 pub use limits::{MOST_NUMBER, MOST_PROCESSES, MOST_SCRIPT_LINES};
 pub use line::{read_request, read_request_by};

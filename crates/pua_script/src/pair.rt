@@ -5,9 +5,9 @@ ghost use Rattle.pua_path.specs.Fits.{spot_named, node_named};
 ghost use Rattle.pua_path.specs.Resolution.{resolution_of_text};
 ghost use Rattle.pua_path.specs.Walks.{found_seen, founds_seen};
 ghost use Rattle.pua_path.specs.declared.found.Found as found;
-ghost use Rattle.pua_policy.specs.History.{may_any_on};
+ghost use Rattle.pua_policy.specs.States.{may_any};
 ghost use Rattle.pua_policy.specs.Verdict.{FoundFits};
-ghost use Rattle.pua_script.specs.Decide.{Decision, asker_on, covers_by, if_may, if_named};
+ghost use Rattle.pua_script.specs.Decide.{Decision, asker_of, covers_by, if_may, if_named};
 ghost use Rattle.pua_script.specs.Decide.{is_whole};
 ghost use Rattle.pua_script.specs.Judged.{NameFits, if_covered, on_judged, spot_now};
 
@@ -36,8 +36,8 @@ pub(crate) struct LentSpot<'a> {
 /// any path is read.
 pub(crate) fn promised_pair(process: &Process, need: &PairNeed) -> Result<(), Refusal>
     ensures { (further : Decision) → on_judged result (λ _. further)
-        ≡ if_may (may_any_on process.now need.now.old.needs.alternatives)
-        (if_may (may_any_on process.now need.now.new.needs.alternatives) further) }
+        ≡ if_may (may_any process.now need.now.old.needs.alternatives)
+        (if_may (may_any process.now need.now.new.needs.alternatives) further) }
 {
     promised_any(process, need.old_name().alternatives())?;
     promised_any(process, need.new_name().alternatives())
@@ -98,7 +98,7 @@ fn covers_fault<T: FileTree>(
 ) -> Option<Errno>
     requires from { FoundFits (T.content tree.now) (found_seen from.now) }
     requires to { FoundFits (T.content tree.now) (found_seen to.now) }
-    ensures { result ≡ covers_by need.now (T.content tree.now) (asker_on process.now)
+    ensures { result ≡ covers_by need.now (T.content tree.now) (asker_of process.now)
         (found_seen from.now) (found_seen to.now) }
 {
     let mut probe = Counted::new(tree);

@@ -2,8 +2,8 @@
 
 ghost use Rattle.std.specs.Prelude.{◌≡◌};
 ghost use Rattle.pua_tree.specs.Tree.{Tree};
-ghost use Rattle.pua_policy.specs.History.{History, StandsFor};
-ghost use Rattle.pua_script.specs.Decide.{Asking, asker_on, decide_lock, decide_pledge, given_set};
+ghost use Rattle.pua_policy.specs.States.{ProcessState};
+ghost use Rattle.pua_script.specs.Decide.{Asking, asker_of, decide_lock, decide_pledge, given_set};
 ghost use Rattle.pua_script.specs.Decide.{is_unknown};
 ghost use Rattle.pua_script.specs.Judged.{decision_for};
 ghost use Rattle.pua_script.specs.Replay.{refusal_effect};
@@ -20,8 +20,7 @@ use pua_policy::{Process, Refusal};
 /// What a process is answered that does not get what it asks for. It ends where it did what it did not
 /// promise, and else lives on as it was.
 pub(crate) fn refuse(process: &mut Process, refusal: Refusal) -> Answer
-    ensures { (h : History) (t : Tree) → StandsFor process.old h →
-        Does t h (refusal_effect refusal) result t process.new }
+    ensures { (t : Tree) → Does t process.old (refusal_effect refusal) result t process.new }
 {
     match refusal {
         Refusal::Failed(errno) => Answer::Failed(errno),
@@ -63,7 +62,7 @@ fn given_set(given: &Given) -> Option<Promises>
 
 /// What an unveil with two NULLs is to change.
 pub(crate) fn decide_lock<'a>(process: &Process) -> Result<Granted<'a>, Refusal>
-    ensures { decision_for (asker_on process.now) result ≡ decide_lock (asker_on process.now) }
+    ensures { decision_for (asker_of process.now) result ≡ decide_lock (asker_of process.now) }
 {
     promised(process, Promises::UNVEIL)?;
     Ok(Granted::Lock)

@@ -17,7 +17,7 @@ use std::marker::Model;
 const FIRST_PROCESS: u32 = 1;
 
 /// A tree, the table of what calls need, and all processes that were ever made, ended ones too. It
-/// keeps no histories; contracts say for which worlds of the replay it stands.
+/// keeps no processes; contracts say for which worlds of the replay it stands.
 #[derive(Drop)]
 pub struct World<T: FileTree> {
     tree: T,
@@ -27,15 +27,12 @@ pub struct World<T: FileTree> {
 }
 
 impl<T: FileTree> Model for World<T> {
-    ghost use Rattle.pua_script.specs.Worlds.{WorldState, HasReplay};
+    ghost use Rattle.pua_script.specs.Worlds.{WorldState};
 
     ghost Value = { WorldState };
 
     ghost view = { λ a. record
         { tree = T.content a.tree; table = a.table; processes = a.processes.entries } };
-
-    ghost invariant = { λ a. HasReplay
-        (record { tree = T.content a.tree; table = a.table; processes = a.processes.entries }) };
 }
 
 ghost use Rattle.std.specs.Prelude.{◌≡◌, IfOk, OnErr, MatchResult, IsFalse, option_copied};
@@ -44,9 +41,11 @@ ghost use Rattle.pua_calls.specs.Calls.{CallTable as Calls};
 ghost use Rattle.pua_calls.specs.Tables.{NoCallNeedsError};
 ghost use Rattle.pua_script.specs.Futures.{AreDone, AreDoneInPart, AreHeld, AreServedInPart, HaveTrees};
 ghost use Rattle.pua_script.specs.Futures.{IsNarrowing, IsSparing};
-ghost use Rattle.pua_script.specs.Replay.{new_world};
-ghost use Rattle.pua_script.specs.Worlds.{AreNumbersOf, HasReplay, StandsForWorld, IsProcessOf};
-ghost use Rattle.pua_script.specs.Worlds.{IsOkay, IsServed, AreServed, is_fork, process_at};
+ghost use Rattle.std.specs.Prelude.{[], ◌∷◌};
+ghost use Rattle.pua_policy.specs.States.{new_process};
+ghost use Rattle.pua_script.specs.Replay.{apply, new_world};
+ghost use Rattle.pua_script.specs.Worlds.{AreNumbersOf, apply_to, run_to, is_fork, process_at, with_table};
+ghost use Rattle.pua_script.specs.declared.answer.Answer.TheVariants.{Okay};
 
 impl<T: FileTree> World<T> {
     /// A world over this tree with process 1 alone, which is new. It answers calls by this table.
@@ -54,8 +53,7 @@ impl<T: FileTree> World<T> {
     pub fn new(alloc: Global, tree: T, table: CallTable) -> Result<World<T>, OutOfMemory>
     where
         T: Drop,
-        ensures replay { IfOk result (λ world. StandsForWorld world (new_world (T.content tree))) }
-        ensures table { IfOk result (λ world. world.table ≡ table) }
+        ensures { IfOk result (λ world. world ≡ with_table table (new_world (T.content tree))) }
     {
         let processes = first_process(alloc)?;
         Ok(World {
@@ -70,8 +68,7 @@ impl<T: FileTree> World<T> {
     /// that what is promised for each world it stands for is promised for one at least; and that no
     /// call needs `error` by its table.
     pub fn known(&self)
-        ensures replay { HasReplay self.now }
-        ensures no_error { NoCallNeedsError self.now.table }
+        ensures { NoCallNeedsError self.now.table }
     {
         self.table.known();
     }
@@ -92,8 +89,7 @@ impl<T: FileTree> World<T> {
 
     /// The process of this number, also one that has ended; None where the number was never made.
     pub fn process(&self, number: u32) -> Option<&Process>
-        ensures state { option_copied result ≡ process_at self.now number }
-        ensures history { IsProcessOf self.now number (option_copied result) }
+        ensures { option_copied result ≡ process_at self.now number }
     {
         self.processes.get(&number)
     }
@@ -115,11 +111,11 @@ impl<T: FileTree> World<T> {
     /// A process that is locked or doesn't hold `unveil` may over each tree do no more afterwards,
     /// whoever asks, on absolute paths, and on relative ones but for its own chdir that succeeds:
     /// its veils stay, and it is given no promise but `error`, except by its own exec. A row that
-    /// the one that asks can't touch with `c` stays, with its node and, by the history that was,
+    /// the one that asks can't touch with `c` stays, with its node and, by the state that was,
     /// its cover, if the table asks for `c` where a name is taken away.
     pub fn apply(&mut self, request: &Request) -> Result<Answer, WorldFault>
-        ensures served { IfOk result (λ answer. IsServed self.old request.now answer self.new) }
-        ensures memory { OnErr result (IsOkay self.old request.now) }
+        ensures served { IfOk result (λ answer. (answer, self.new) ≡ apply_to self.old request.now) }
+        ensures memory { OnErr result ((apply_to self.old request.now).0 ≡ Okay) }
         ensures unchanged { OnErr result (self.new ≡ self.old) }
         ensures narrows { IsNarrowing self.old request.now self.new }
         ensures spares { IfOk result (λ _. IsSparing self.old request.now self.new) }
@@ -135,8 +131,8 @@ impl<T: FileTree> World<T> {
 
     /// Serves one request, of which only the answer and the world left are said.
     fn answer(&mut self, request: &Request) -> Result<Answer, WorldFault>
-        ensures served { IfOk result (λ answer. IsServed self.old request.now answer self.new) }
-        ensures memory { OnErr result (IsOkay self.old request.now) }
+        ensures served { IfOk result (λ answer. (answer, self.new) ≡ apply_to self.old request.now) }
+        ensures memory { OnErr result ((apply_to self.old request.now).0 ≡ Okay) }
         ensures unchanged { OnErr result (self.new ≡ self.old) }
     {
         let number = request.process();
@@ -164,8 +160,7 @@ impl<T: FileTree> World<T> {
     /// and where members alone ask, each row that the process couldn't touch with `c` stays, if the
     /// table asks for `c` where a name is taken away.
     pub fn run(&mut self, alloc: Global, script: &Script) -> Result<Vec<Answer>, WorldFault>
-        ensures served { IfOk result
-            (λ answers. AreServed self.old script.now answers.items self.new) }
+        ensures served { IfOk result (λ answers. (answers.items, self.new) ≡ run_to self.old script.now) }
         ensures held { IfOk result (λ _. AreHeld self.old script.now self.new) }
         ensures trees { IfOk result (λ _. HaveTrees self.old script.now) }
         ensures in_part { OnErr result (AreServedInPart self.old script.now self.new) }
@@ -197,9 +192,7 @@ impl<T: FileTree> World<T> {
 
 /// Process 1 alone, which is new.
 fn first_process(alloc: Global) -> Result<IndexMap<u32, Process>, OutOfMemory>
-    ensures { IfOk result (λ processes. (t : Tree) (rules : Calls) →
-        StandsForWorld (record { tree = t; table = rules; processes = processes.entries })
-        (new_world t)) }
+    ensures { IfOk result (λ processes. processes.entries ≡ (1, new_process) ∷ []) }
 {
     let process = Process::new(alloc)?;
     let mut processes = IndexMap::new(alloc);
@@ -228,21 +221,12 @@ fn serve<T: FileTree>(
 ) -> Result<Answer, WorldFault>
     requires { IsFalse (is_fork action.now) }
     ensures served { IfOk result
-        (λ answer. IsServed (record
-        { tree = T.content tree.old; table = table.now; processes = processes.old.entries })
-        (record { process = number; action = action.now }) answer
-        (record {
-          tree = T.content tree.new;
-          table = table.now;
-          processes = processes.new.entries;
-        })) }
-    ensures memory { OnErr result
-        (IsOkay (record {
-          tree = T.content tree.old;
-          table = table.now;
-          processes = processes.old.entries;
-        })
+        (λ answer. (answer, record { tree = T.content tree.new; processes = processes.new.entries })
+        ≡ apply table.now (record { tree = T.content tree.old; processes = processes.old.entries })
         (record { process = number; action = action.now })) }
+    ensures memory { OnErr result
+        ((apply table.now (record { tree = T.content tree.old; processes = processes.old.entries })
+        (record { process = number; action = action.now })).0 ≡ Okay) }
     ensures unchanged { OnErr result ((T.content tree.new ≡ T.content tree.old) ×
         (processes.new.entries ≡ processes.old.entries)) }
 {

@@ -6,11 +6,8 @@ pub use Rattle.std.proofs.lemmas.Bool.{eqb-true, false≢true}
 pub use Rattle.std.proofs.lemmas.List.{take_all}
 pub use Rattle.std.proofs.lemmas.Option.{slice_get_within}
 pub use Rattle.std.specs.Borrow.{Bor}
-pub use Rattle.std.specs.Cmp.{nat_cmp_total}
-pub use Rattle.std.specs.FinMap.{is_sorted, nat_cmp-IsAntisymmetric, put}
 pub use Rattle.std.specs.Option.{option_eq, option_map_or}
-pub use Rattle.std.specs.Ordering.{nat_cmp}
-pub use Rattle.std.specs.Prelude.{◌&&◌, ◌==◌, ◌⊎◌, if◌then◌else◌, is_some, IsTrue, not, slice_get}
+pub use Rattle.std.specs.Prelude.{◌&&◌, ◌==◌, ◌⊎◌, if◌then◌else◌, is_some, not, slice_get}
 pub use Rattle.std.specs.Slice.Iter.{iter_rest}
 pub use lib.Pointwise.{bytes_decides}
 pub use Rattle.pua_calls.specs.Calls.{CallTable}
@@ -19,23 +16,22 @@ pub use Rattle.pua_path.specs.Traces.{PathTrace, trace_of_text}
 pub use Rattle.pua_path.specs.declared.found.Found.{Found}
 pub use Rattle.pua_path.specs.declared.text.Ending.{Ending}
 pub use Rattle.pua_path.specs.declared.traced.PathFault.{PathFault}
-pub use Rattle.pua_policy.specs.History.{History, perms_kept, working_dir}
+pub use Rattle.pua_policy.specs.States.{ProcessState, perms_kept, working_dir}
 pub use Rattle.pua_policy.specs.declared.answer.Refusal.{Refusal}
 pub use Rattle.pua_policy.specs.declared.place.Place.{Place}
 pub use Rattle.pua_script.proofs.ForCallers.{by_request, one_request_more}
 pub use Rattle.pua_script.specs.AnswerTexts.{with_end}
 pub use Rattle.pua_script.specs.Decide.{Change, change_by, CopyAs, decide, NoChange}
 pub use Rattle.pua_script.specs.Family.{is_okay}
-pub use Rattle.pua_script.specs.Replay.{answer_to, answers_to, apply, Copies, Effect, Fails, history_of, Kills, Leaves, left_by, World}
+pub use Rattle.pua_script.specs.Replay.{answer_to, answers_to, apply, Copies, Effect, Fails, kept_at, Kills, Leaves, left_by, World}
 pub use Rattle.pua_script.specs.Replay.{world_after}
 pub use Rattle.pua_script.specs.Requests.{Asked}
 pub use Rattle.pua_script.specs.Scripts.{requests_of}
-pub use Rattle.pua_script.specs.Worlds.{StandsForWorld, WorldState}
+pub use Rattle.pua_script.specs.Worlds.{apply_to, state_after_all, world_of, WorldState}
 pub use Rattle.pua_script.specs.declared.answer.Answer.{Answer}
 pub use Rattle.pua_script.specs.declared.answer.Answer.TheVariants.{Failed, Gone, Killed, Okay}
 pub use Rattle.pua_script.specs.declared.request.Action.{Action}
 pub use Rattle.pua_script.specs.declared.request.Action.TheVariants.{Exit, Fork, Link, Lock, OnPath, Pledge, Rename, Symlink, Unveil}
-pub use Rattle.pua_tree.proofs.ForCallers.{put_elsewhere, put_here}
 pub use Rattle.pua_tree.specs.Names.{same_bytes}
 pub use Rattle.pua_tree.specs.Tree.{Spot, Tree}
 pub use Rattle.pua_why.specs.Facts.{Fact, facts_of}

@@ -1,6 +1,6 @@
 -- What is kept of a request that is asked about is since when it has its reason.
 use Rattle.pua_since.proofs.Common.{◌≡◌, ◌≤◌, ℕ, List, length, true, false, refl, sym, ap, subst, ◌∙◌, Option, Some, None, inl, inr, ◌⊎◌}
-use Rattle.pua_since.proofs.Common.{is_some, same_bytes, CallTable, History, Asked, World, history_of, apply, world_after, Action, Answer}
+use Rattle.pua_since.proofs.Common.{is_some, same_bytes, CallTable, ProcessState, Asked, World, kept_at, apply, world_after, Action, Answer}
 use Rattle.pua_since.proofs.Common.{Failed, Ended, reason, Test, forebear, since, date_of, reason_since, IsToldOf, IsWatched, is_told}
 use Rattle.pua_since.proofs.Common.{Question, Told, Watch}
 use Rattle.pua_path.specs.declared.errno.Errno.TheVariants.{ENOSPC}
@@ -103,9 +103,9 @@ same_key answer Granted r dated = by (granted_or_full answer)
 
 -- whoever has such a reason was made
 made_by : (table : CallTable) (w : World) (ask : Asked) → IsDated (reason table w ask) → IsMade w ask.process
-made_by table w ask dated = by (history_of w ask.process) dated
+made_by table w ask dated = by (kept_at w ask.process) dated
   where
-    by : (o : Option History) → IsDated (reason_by table w ask.action o) → is_some o ≡ true
+    by : (o : Option ProcessState) → IsDated (reason_by table w ask.action o) → is_some o ≡ true
     by None dated = absurd dated
     by (Some h) dated = refl
 

@@ -1,6 +1,6 @@
 -- What is kept of all questions holds behind a further request too.
 use Rattle.pua_since.proofs.Common.{◌≡◌, ℕ, zero, suc, ◌<◌, List, [], ◌∷◌, ◌++◌, map, length, true, false, Some, None, Option, refl, sym}
-use Rattle.pua_since.proofs.Common.{ap, subst, ◌∙◌, arith, IsTrue, slice_get, nat_cmp, is_sorted, false≢true, slice_get_within, CallTable}
+use Rattle.pua_since.proofs.Common.{ap, subst, ◌∙◌, arith, slice_get, false≢true, slice_get_within, CallTable}
 use Rattle.pua_since.proofs.Common.{Asked, World, answers_to, apply, world_after, Answer, Okay, Action, Fork, has_changed, has_forked}
 use Rattle.pua_since.proofs.Common.{AreServed, AreWatched, IsWatched, fork_seen, forks_done, forks_left, forebear, forebear_by, made_by}
 use Rattle.pua_since.proofs.Common.{Question, Watch, Watches, one_request_more}
@@ -129,10 +129,9 @@ wanted_by_set table w left watches i old new last here is each =
 -- the same by what is known of an answer
 pub told_stay : (action : Action) (answer : Answer) → LeavesAsIs action answer → has_changed action answer ≡ false →
     (table : CallTable) (w : World) (done : List Asked) (ask : Asked) (left : List Asked) (s : Watches) →
-    action ≡ ask.action → IsTrue (is_sorted nat_cmp (world_after table w done).histories) →
-    answer ≡ (apply table (world_after table w done) ask).0 →
+    action ≡ ask.action → answer ≡ (apply table (world_after table w done) ask).0 →
     AreWatched table w done (ask ∷ left) s → AreWatched table w (done ++ ask ∷ []) left s
-told_stay action answer leaves none table w done ask left s is sorted told watched =
+told_stay action answer leaves none table w done ask left s is told watched =
     let here : LeavesAsIs ask.action answer = subst (λ a. LeavesAsIs a answer) is leaves in
     stay_watched table w done ask left s watched ((λ i. has_changed (sym is i) (sym told i)) ∙ none)
-    (here table (world_after table w done) ask.process sorted told)
+    (here table (world_after table w done) ask.process told)

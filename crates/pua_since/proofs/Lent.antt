@@ -3,7 +3,7 @@ use Rattle.pua_since.proofs.Common.{◌≡◌, ◌<◌, ◌+◌, ◌++◌, ℕ, 
 use Rattle.pua_since.proofs.Common.{Bor, Place, WorldState, veils_at, with_number}
 use Rattle.std.proofs.lemmas.Grind.{flat_map-append}
 use Rattle.std.proofs.lemmas.List.{take_more, append-nil}
-use Rattle.pua_policy.specs.History.{ProcessState}
+use Rattle.pua_policy.specs.States.{ProcessState}
 use Rattle.pua_script.specs.Worlds.{process_at}
 use Rattle.pua_since.specs.Dates.{veils_of}
 

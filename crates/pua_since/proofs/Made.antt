@@ -1,38 +1,34 @@
 -- A process that was made stays made, so whoever asks in its name later on is itself.
-use Rattle.pua_since.proofs.Common.{◌≡◌, ℕ, List, [], ◌∷◌, Bool, true, false, cond, refl, ap, ◌∙◌, is_some, ◌==◌, nat_cmp, nat_cmp_total}
-use Rattle.pua_since.proofs.Common.{put, nat_cmp-IsAntisymmetric, eqb-true, put_here, put_elsewhere, CallTable, History, CopyAs, decide}
-use Rattle.pua_since.proofs.Common.{is_okay, World, Effect, Fails, Kills, Leaves, Copies, history_of, apply, left_by, answer_to, Asked}
+use Rattle.pua_since.proofs.Common.{◌≡◌, ℕ, List, [], ◌∷◌, Bool, true, false, cond, refl, ap, ◌∙◌, is_some, ◌==◌}
+use Rattle.pua_since.proofs.Common.{eqb-true, CallTable, ProcessState, CopyAs, decide}
+use Rattle.pua_since.proofs.Common.{is_okay, World, Effect, Fails, Kills, Leaves, Copies, kept_at, apply, left_by, answer_to, Asked}
 use Rattle.pua_since.proofs.Common.{Action, Fork, by_request, parent_by, came_from, forebear}
 use Rattle.std.proofs.Common.{◌||◌}
-use Rattle.std.specs.Prelude.{Ok, nat_le, length}
-use Rattle.std.specs.FinMap.{find as find_key}
-use Rattle.std.proofs.lemmas.Bool.{eqb-false}
+use Rattle.std.specs.Prelude.{Ok, Some, nat_eq, nat_le, length}
+use Rattle.std.specs.Map.{lookup}
 use Rattle.pua_path.specs.declared.errno.Errno.TheVariants.{EAGAIN}
-use Rattle.pua_policy.specs.History.{may_any}
+use Rattle.pua_policy.specs.States.{may_any}
 use Rattle.pua_calls.specs.Promises.{proc}
 use Rattle.pua_policy.specs.declared.answer.May.{May}
 use Rattle.pua_policy.specs.declared.answer.May.TheVariants as may
 use Rattle.pua_script.specs.Decide.{if_may}
 use Rattle.pua_script.specs.Limits.{most_processes}
-use Rattle.pua_script.specs.Replay.{come_of, do_decided}
+use Rattle.pua_script.specs.Replay.{come_of, do_decided, put_at}
+use Rattle.pua_script.proofs.ForCallers.{found_put}
 
--- the number has a history
+-- a process of this number was made
 abbrev pub IsMade : World → ℕ → Type 0
-IsMade w process = is_some (history_of w process) ≡ true
+IsMade w process = is_some (kept_at w process) ≡ true
 
-put_keeps : (process at : ℕ) (h : History) (w : World) → IsMade w process →
-    is_some (find_key nat_cmp process (put nat_cmp at h w.histories)) ≡ true
-put_keeps process at h w made = by (process == at) refl
+put_keeps : (process at : ℕ) (h : ProcessState) (w : World) → IsMade w process →
+    is_some (lookup (nat_eq process) (put_at at h w.processes)) ≡ true
+put_keeps process at h w made = ap is_some (found_put process at h w.processes) ∙ by (nat_eq at process)
   where
-    by : (b : Bool) → (process == at) ≡ b → is_some (find_key nat_cmp process (put nat_cmp at h w.histories)) ≡ true
-    by true e =
-        ap (λ q. is_some (find_key nat_cmp q (put nat_cmp at h w.histories))) (eqb-true process at e)
-        ∙ ap is_some (put_here nat_cmp nat_cmp_total nat_cmp-IsAntisymmetric at h w.histories)
-    by false e =
-        ap is_some (put_elsewhere nat_cmp nat_cmp_total nat_cmp-IsAntisymmetric process at h w.histories (eqb-false process at e))
-        ∙ made
+    by : (b : Bool) → is_some (cond b (Some h) (kept_at w process)) ≡ true
+    by true = refl
+    by false = made
 
-effect_keeps : (w : World) (asker process : ℕ) (h : History) (e : Effect) → IsMade w process → IsMade (left_by w asker h e) process
+effect_keeps : (w : World) (asker process : ℕ) (h : ProcessState) (e : Effect) → IsMade w process → IsMade (left_by w asker h e) process
 effect_keeps w asker process h (Fails errno) made = made
 effect_keeps w asker process h Kills made = put_keeps process asker _ w made
 effect_keeps w asker process h (Leaves t after) made = put_keeps process asker after w made
@@ -45,8 +41,8 @@ request_keeps table w ask process made =
 
 -- a number that is taken is given to no new process
 module _ (table : CallTable) (w : World) (asker new : ℕ) (made : IsMade w new) where
-  taken : (h : History) (m : May) → is_okay (do_decided w asker h (if_may m (Ok (CopyAs new)))).0 ≡ false
-  taken h may.Yes = ap (λ b. is_okay (answer_to (cond (b || nat_le most_processes (length w.histories)) (Fails EAGAIN) (Copies new)))) made
+  taken : (h : ProcessState) (m : May) → is_okay (do_decided w asker h (if_may m (Ok (CopyAs new)))).0 ≡ false
+  taken h may.Yes = ap (λ b. is_okay (answer_to (cond (b || nat_le most_processes (length w.processes)) (Fails EAGAIN) (Copies new)))) made
   taken h may.Enosys = refl
   taken h may.Death = refl
 
@@ -67,7 +63,7 @@ itself table w ask process made = by ask.action refl
     forked new e true is =
         ap (λ b. cond b ask.process process)
         ((λ i. is_okay (apply table w (record { process = ask.process; action = e i })).0)
-        ∙ fork_fails table w ask.process new (ap (λ q. is_some (history_of w q)) (eqb-true new process is) ∙ made))
+        ∙ fork_fails table w ask.process new (ap (λ q. is_some (kept_at w q)) (eqb-true new process is) ∙ made))
 
     by : (action : Action) → ask.action ≡ action → cond (is_okay (apply table w ask).0) (parent_by action ask.process process) process
         ≡ process

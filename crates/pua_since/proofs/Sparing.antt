@@ -1,10 +1,10 @@
 -- What a question is told stays, where what was touched doesn't concern it.
 use Rattle.pua_since.proofs.Common.{◌≡◌, ℕ, false, None, Option, Some, Ok, Err, refl, sym, ap, subst, ◌∙◌, if◌then◌else◌, ◌==◌}
-use Rattle.pua_since.proofs.Common.{option_eq, option_map_or, false≢true, same_bytes, CallTable, Asked, came_from, History, perms_kept}
-use Rattle.pua_since.proofs.Common.{Change, NoChange, CopyAs, World, history_of, Action, Fault, Ended, IsToldOf, is_told, kept_in, Touched}
+use Rattle.pua_since.proofs.Common.{option_eq, option_map_or, false≢true, same_bytes, CallTable, Asked, came_from, ProcessState, perms_kept}
+use Rattle.pua_since.proofs.Common.{Change, NoChange, CopyAs, World, kept_at, Action, Fault, Ended, IsToldOf, is_told, kept_in, Touched}
 use Rattle.pua_since.proofs.Common.{Question, Told}
 use Rattle.std.specs.Prelude.{nat_le}
-use Rattle.pua_policy.specs.History.{is_ended}
+use Rattle.pua_policy.specs.States.{is_ended}
 use Rattle.pua_policy.specs.Verdict.{or_fault}
 use Rattle.pua_script.specs.Limits.{most_processes}
 use Rattle.pua_script.specs.Decide.{AddNode, CutRow, ShiftRow, TieRow, BeginProgram, AddEvent, Outcome, fault_if}
@@ -58,7 +58,7 @@ module _ (table : CallTable) (w v : World) (own : ℕ) (only : ChangesProcess ow
   same_checks (Ok change) = same_fault change
   same_checks (Err fault) = refl
 
-  same_by : (action : Action) (o : Option History) → checked_by table v action o ≡ checked_by table w action o
+  same_by : (action : Action) (o : Option ProcessState) → checked_by table v action o ≡ checked_by table w action o
   same_by action None = refl
   same_by action (Some h) =
       ap (λ fault. if is_ended h then Ended else reason_of fault)
@@ -66,9 +66,9 @@ module _ (table : CallTable) (w v : World) (own : ℕ) (only : ChangesProcess ow
 
   process_same : (question : Question) → TellsSame table w v process question
   process_same (asks.Request action) = ap (checked_by table v action.now) (only.others process other)
-      ∙ same_by action.now (history_of w process)
+      ∙ same_by action.now (kept_at w process)
   process_same (asks.Veil place) =
-      ap (λ (o : Option History). option_map_or (λ h. perms_kept h place.now) o None) (only.others process other)
+      ap (λ (o : Option ProcessState). option_map_or (λ h. perms_kept h place.now) o None) (only.others process other)
 
 module _ (table : CallTable) (w v : World) (process : ℕ) (question : Question) (was : Told) where
   -- where the world is the same

@@ -1,7 +1,7 @@
 -- The lines of a run with reasons, one request after another.
 use Rattle.pua_since.proofs.Common.{◌≡◌, ◌+◌, ℕ, suc, List, [], ◌∷◌, ◌++◌, length, flat_map, refl, sym, ap, subst, ◌∙◌, append_assoc}
 use Rattle.pua_since.proofs.Common.{append-nil, Option, inl, inr, ◌⊎◌, CallTable, with_end, Asked, World, answers_to, apply, world_after}
-use Rattle.pua_since.proofs.Common.{WorldState, StandsForWorld, Answer, Okay, Failed, Killed, Gone, reason, date_of, reason_since}
+use Rattle.pua_since.proofs.Common.{WorldState, apply_to, state_after_all, world_of, Answer, Okay, Failed, Killed, Gone, reason, date_of, reason_since}
 use Rattle.pua_since.proofs.Common.{reason_tail, answer_words, ArePlacesOf, AreWatched, IsKeptThrough, Watch, Watches, one_request_more}
 use Rattle.std.proofs.Common.{add-one}
 use Rattle.std.specs.Prelude.{decimal}
@@ -12,6 +12,7 @@ use Rattle.pua_since.specs.Dates.{question_line, places_left}
 use Rattle.pua_since.proofs.Answered.{okay_is_granted}
 use Rattle.pua_since.proofs.Keeping.{kept_all, kept_twice}
 use Rattle.pua_since.proofs.Placing.{places_kept}
+use Rattle.pua_since.proofs.Replays.{state_more}
 use Rattle.pua_since.proofs.Veiled.{request_at}
 
 -- since when the next request has its reason
@@ -51,16 +52,16 @@ pub record IsTold (rules : Rules) (before : WorldState) (kept_before : Watches) 
   pub split : requests ≡ past ++ left
   pub count : n ≡ length past
   pub kept : IsKeptThrough kept_before.watches.items kept_now.watches.items
-  pub world : (w : World) → StandsForWorld before w → told ≡ answers_to before.table w requests
-      → StandsForWorld now (world_after before.table w past) × (now.table ≡ before.table) ×
-      (told_left ≡ answers_to before.table (world_after before.table w past) left)
-  pub watched : (w : World) → StandsForWorld before w → told ≡ answers_to before.table w requests →
-      AreWatched before.table w [] requests kept_before → AreWatched before.table w past left kept_now
-  pub lines : (w : World) → StandsForWorld before w → told ≡ answers_to before.table w requests →
-      AreWatched before.table w [] requests kept_before → ArePlacesOf kept_before.watches.items 0 requests told places
-      → (flat_map with_end (why_lines rules before.table w [] 1 requests) ≡ text
-      ++ flat_map with_end (why_lines rules before.table w past (suc n) left)) × ArePlacesOf kept_now.watches.items n left told_left
-      left_places
+  pub world : now ≡ state_after_all before past
+  pub answers : told ≡ answers_to before.table (world_of before) requests →
+      told_left ≡ answers_to before.table (world_after before.table (world_of before) past) left
+  pub watched : told ≡ answers_to before.table (world_of before) requests →
+      AreWatched before.table (world_of before) [] requests kept_before → AreWatched before.table (world_of before) past left kept_now
+  pub lines : told ≡ answers_to before.table (world_of before) requests →
+      AreWatched before.table (world_of before) [] requests kept_before → ArePlacesOf kept_before.watches.items 0 requests told places
+      → (flat_map with_end (why_lines rules before.table (world_of before) [] 1 requests) ≡ text
+      ++ flat_map with_end (why_lines rules before.table (world_of before) past (suc n) left)) × ArePlacesOf kept_now.watches.items n left
+      told_left left_places
 
 -- none yet
 pub none_told : (rules : Rules) (before : WorldState) (kept_before : Watches) (requests : List Asked) (told : List Answer) (places : List ℕ)
@@ -72,25 +73,31 @@ none_told rules before kept_before requests told places left told_left left_plac
   split = sym same;
   count = count;
   kept = kept_all kept_before.watches.items;
-  world = λ w stands answered. (stands, refl, same_told ∙ answered ∙ ap (answers_to before.table w) (sym same));
-  watched = λ w stands answered are. subst (λ asks. AreWatched before.table w [] asks kept_before) (sym same) are;
-  lines = λ w stands answered are at. (
-    sym (λ i. empty i ++ flat_map with_end (why_lines rules before.table w [] (suc (count i)) (same i))),
+  world = refl;
+  answers = λ answered. same_told ∙ answered ∙ ap (answers_to before.table (world_of before)) (sym same);
+  watched = λ answered are. subst (λ asks. AreWatched before.table (world_of before) [] asks kept_before) (sym same) are;
+  lines = λ answered are at. (
+    sym (λ i. empty i ++ flat_map with_end (why_lines rules before.table (world_of before) [] (suc (count i)) (same i))),
     subst (λ (X : Type 0). X) (λ i. ArePlacesOf kept_before.watches.items (sym count i) (sym same i) (sym same_told i) (sym same_places i))
         at,
   );
 }
 
+-- the line of a request, behind a text
+abbrev Tells : Rules → WorldState → Asked → Answer → Option ℕ → ℕ → List ℕ → List ℕ → Type 0
+Tells rules s ask answer line number text more = answer ≡ (apply_to s ask).0 →
+    more ≡ text ++ with_end (decimal number ++ 32 ∷ (answer_words s.table (world_of s) ask
+    ++ reason_tail rules s.table (world_of s) ask (date_of (reason s.table (world_of s) ask) line)))
+
 -- what is told and done of one more
 pub record IsTurn (rules : Rules) (now : WorldState) (kept_now : Watches) (next : WorldState) (kept_next : Watches) (ask : Asked) (answer : Answer)
     (line : Option ℕ) (number : ℕ) (text more : List ℕ) : Type 0 where
   pub kept : IsKeptThrough kept_now.watches.items kept_next.watches.items
-  pub world : (w : World) → StandsForWorld now w → StandsForWorld next (apply now.table w ask).1 × (next.table ≡ now.table)
-  pub watched : (w : World) (done left : List Asked) → StandsForWorld now (world_after now.table w done) →
-      answer ≡ (apply now.table (world_after now.table w done) ask).0 → number ≡ length done + 1
-      → AreWatched now.table w done (ask ∷ left) kept_now → AreWatched now.table w (done ++ ask ∷ []) left kept_next
-  pub told : (w : World) → StandsForWorld now w → answer ≡ (apply now.table w ask).0 →
-      more ≡ text ++ with_end (decimal number ++ 32 ∷ (answer_words now.table w ask ++ reason_tail rules now.table w ask (date_of (reason now.table w ask) line)))
+  pub world : next ≡ (apply_to now ask).1
+  pub watched : (s : WorldState) (done left : List Asked) → now ≡ state_after_all s done → answer ≡ (apply_to (state_after_all s done) ask).0 →
+      number ≡ length done + 1 → AreWatched s.table (world_of s) done (ask ∷ left) kept_now →
+      AreWatched s.table (world_of s) (done ++ ask ∷ []) left kept_next
+  pub told : Tells rules now ask answer line number text more
 
 module _ (rules : Rules) (before : WorldState) (kept_before : Watches) (requests : List Asked) (told : List Answer) (places : List ℕ) (now : WorldState)
     (kept_now : Watches) (n : ℕ) (text : List ℕ)
@@ -101,54 +108,35 @@ module _ (rules : Rules) (before : WorldState) (kept_before : Watches) (requests
   abbrev behind : List Asked
   behind = so.past ++ ask ∷ []
 
-  module _ (w : World) (stands : StandsForWorld before w) (answered : told ≡ answers_to before.table w requests) where
-    abbrev reached : World
-    reached = world_after before.table w so.past
+  abbrev w : World
+  w = world_of before
 
-    same : now.table ≡ before.table
-    same = (so.world w stands answered).1
+  abbrev reached : World
+  reached = world_after before.table (world_of before) so.past
 
+  module _ (answered : told ≡ answers_to before.table w requests) where
     first_answer : answer ≡ (apply before.table reached ask).0
-    first_answer = let both = (so.world w stands answered).2 in cc
+    first_answer = let both = so.answers answered in cc
 
     later_answers : told_more ≡ answers_to before.table (world_after before.table w behind) more
     later_answers =
-        let both : told_more ≡ answers_to before.table (apply before.table reached ask).1 more = let all = (so.world w stands answered).2 in
-        cc in
+        let both : told_more ≡ answers_to before.table (apply before.table reached ask).1 more = let all = so.answers answered in cc in
         both ∙ ap (λ v. answers_to before.table v more) (sym (one_request_more before.table w so.past ask))
-
-    turn_world : StandsForWorld next (world_after before.table w behind) × (next.table ≡ before.table) ×
-        (told_more ≡ answers_to before.table (world_after before.table w behind) more)
-    turn_world =
-        let after = turn.world reached (so.world w stands answered).0 in (
-          subst (StandsForWorld next) ((λ i. (apply (same i) reached ask).1) ∙ sym (one_request_more before.table w so.past ask)) after.0,
-          after.1 ∙ same,
-          later_answers,
-        )
-
-    turn_watched : AreWatched before.table w so.past (ask ∷ more) kept_now → AreWatched before.table w behind more kept_next
-    turn_watched are =
-        let back : before.table ≡ now.table = sym same in
-        subst (λ t. AreWatched t w behind more kept_next) same
-        (turn.watched w so.past more (subst (λ t. StandsForWorld now (world_after t w so.past)) back (so.world w stands answered).0)
-        (first_answer ∙ (λ i. (apply (back i) (world_after (back i) w so.past) ask).0)) (ap (λ k. k + 1) so.count)
-        (subst (λ t. AreWatched t w so.past (ask ∷ more) kept_now) back are))
 
     turn_lines : AreWatched before.table w [] requests kept_before → ArePlacesOf kept_before.watches.items 0 requests told places
         → (flat_map with_end (why_lines rules before.table w [] 1 requests) ≡ more_text
         ++ flat_map with_end (why_lines rules before.table w behind (suc (n + 1)) more)) ×
         ArePlacesOf kept_next.watches.items (n + 1) more told_more (places_left answer left_places)
     turn_lines are at =
-        let lines = so.lines w stands answered are at in
-        let dated = next_date before.table w so.past (ask ∷ more) kept_now (so.watched w stands answered are) ask more answer told_more
+        let lines = so.lines answered are at in
+        let line : Option ℕ = question_line kept_now.watches.items answer left_places in
+        let dated = next_date before.table w so.past (ask ∷ more) kept_now (so.watched answered are) ask more answer told_more
         left_places first_answer
         (subst (λ k. ArePlacesOf kept_now.watches.items k (ask ∷ more) (answer ∷ told_more) left_places) so.count lines.1) in
+        let says : Tells rules (state_after_all before so.past) ask answer line (n + 1) text more_text =
+        subst (λ s. Tells rules s ask answer line (n + 1) text more_text) so.world turn.told in
         let pushed : more_text ≡ text ++ with_end (decimal (n + 1) ++ 32 ∷ answer_why rules before.table w so.past ask) =
-        turn.told reached (so.world w stands answered).0 (first_answer ∙ sym (λ i. (apply (same i) reached ask).0))
-        ∙ (λ i. text ++ with_end
-        (decimal (n + 1) ++ 32
-        ∷ (answer_words (same i) reached ask
-        ++ reason_tail rules (same i) reached ask (date_of (reason (same i) reached ask) (question_line kept_now.watches.items answer left_places)))))
+        says first_answer
         ∙ ap (λ date. text ++ with_end (decimal (n + 1) ++ 32 ∷ (answer_words before.table reached ask ++ reason_tail rules before.table reached ask date))) dated in
         let rest : List ℕ = flat_map with_end (why_lines rules before.table w behind (suc (suc n)) more) in (
           lines.0
@@ -167,8 +155,10 @@ module _ (rules : Rules) (before : WorldState) (kept_before : Watches) (requests
     split = so.split ∙ sym (append_assoc so.past (ask ∷ []) more);
     count = ap (λ k. k + 1) so.count ∙ sym (length_push so.past ask);
     kept = kept_twice kept_before.watches.items kept_now.watches.items kept_next.watches.items so.kept turn.kept;
-    world = turn_world;
-    watched = λ w stands answered are. turn_watched w stands answered (so.watched w stands answered are);
+    world = turn.world ∙ ap (λ v. (apply_to v ask).1) so.world ∙ state_more before so.past ask;
+    answers = later_answers;
+    watched = λ answered are. turn.watched before so.past more so.world (first_answer answered) (ap (λ k. k + 1) so.count)
+        (so.watched answered are);
     lines = turn_lines;
   }
 
@@ -195,12 +185,12 @@ turned rules before kept_before requests told places now kept_now left told_left
 pub all_told : (rules : Rules) (before : WorldState) (kept_before : Watches) (requests : List Asked) (told : List Answer) (places : List ℕ)
     (now : WorldState) (kept_now : Watches) (left : List Asked) (told_left : List Answer) (left_places : List ℕ) (n : ℕ) (text : List ℕ)
     → IsTold rules before kept_before requests told places now kept_now left told_left left_places n text → (left ≡ []) ⊎ (told_left ≡ []) →
-    (w : World) → StandsForWorld before w → told ≡ answers_to before.table w requests → left ≡ []
-all_told rules before kept_before requests told places now kept_now [] told_left left_places n text so empty w stands answered = refl
-all_told rules before kept_before requests told places now kept_now (ask ∷ more) told_left left_places n text so (inl empty) w stands answered =
+    told ≡ answers_to before.table (world_of before) requests → left ≡ []
+all_told rules before kept_before requests told places now kept_now [] told_left left_places n text so empty answered = refl
+all_told rules before kept_before requests told places now kept_now (ask ∷ more) told_left left_places n text so (inl empty) answered =
     cc
-all_told rules before kept_before requests told places now kept_now (ask ∷ more) told_left left_places n text so (inr empty) w stands answered =
-    let all = (so.world w stands answered).2 in cc
+all_told rules before kept_before requests told places now kept_now (ask ∷ more) told_left left_places n text so (inr empty) answered =
+    let all = so.answers answered in cc
 
 pub past_all : (rules : Rules) (before : WorldState) (kept_before : Watches) (requests : List Asked) (told : List Answer) (places : List ℕ)
     (now : WorldState) (kept_now : Watches) (left : List Asked) (told_left : List Answer) (left_places : List ℕ) (n : ℕ) (text : List ℕ)

@@ -1,20 +1,20 @@
 -- A request changes no more than what it touches.
-use Rattle.pua_since.proofs.Common.{◌≡◌, ◌≢◌, ℕ, ◌∷◌, ◌+◌, Bool, true, false, cond, length, Some, Option, refl, sym, ap, subst, ◌∙◌, ◌==◌}
-use Rattle.pua_since.proofs.Common.{IsTrue, is_some, nat_cmp, nat_cmp_total, is_sorted, nat_cmp-IsAntisymmetric, false≢true}
-use Rattle.pua_since.proofs.Common.{eqb-true, put_here, put_elsewhere, Found, CallTable, History, Refusal, Call, Asked, Change}
-use Rattle.pua_since.proofs.Common.{change_by, decide, World, Effect, Fails, Kills, Leaves, Copies, apply, history_of, answer_to}
+use Rattle.pua_since.proofs.Common.{◌≡◌, ℕ, Bool, true, false, cond, length, Some, refl, sym, ap, subst, ◌∙◌}
+use Rattle.pua_since.proofs.Common.{is_some, false≢true, eqb-true, Found, CallTable, ProcessState, Refusal, Call, Asked, Change}
+use Rattle.pua_since.proofs.Common.{change_by, decide, World, Effect, Fails, Kills, Leaves, Copies, apply, kept_at, answer_to}
 use Rattle.pua_since.proofs.Common.{left_by, Answer, Okay, Action, OnPath, Symlink, Rename, Link, Pledge, Unveil, Lock, Fork, Exit}
 use Rattle.pua_since.proofs.Common.{by_request, has_forked, TouchesOnly}
 use Rattle.std.proofs.Common.{eq-eqb}
-use Rattle.std.specs.Bool.{passes}
-use Rattle.std.specs.FinMap.Entries.{length-put}
+use Rattle.std.specs.Prelude.{nat_eq}
+use Rattle.std.proofs.lemmas.Map.{length-set_value}
 use Rattle.pua_calls.specs.declared.call.Call.TheVariants as call
-use Rattle.pua_policy.specs.History.{Ended}
+use Rattle.pua_policy.specs.States.{Ended, state_after}
 use Rattle.pua_policy.specs.declared.answer.Refusal.TheVariants.{Failed, Killed}
 use Rattle.pua_script.specs.Guards.{IsDecided}
-use Rattle.pua_script.specs.Replay.{with_history, change_effect, refusal_effect}
+use Rattle.pua_script.specs.Replay.{with_process, change_effect, refusal_effect}
 use Rattle.pua_script.specs.declared.answer.Answer.TheVariants as answers
 use Rattle.pua_script.proofs.ForCallers.{by_decision, by_going, decisions_are_guarded}
+use Rattle.pua_script.proofs.ForCallers.{found_put, found_elsewhere, put_there}
 use Rattle.pua_since.specs.Concerns.{ChangesOnly, ChangesProcess, MakesNone, call_is_own, is_own, touched_by, touched_if}
 use Rattle.pua_since.specs.declared.touched.Touched.TheVariants.{Process}
 use Rattle.pua_since.proofs.Watching.{came_itself}
@@ -28,29 +28,19 @@ IsOwn w (Leaves t after) = t ≡ w.tree
 IsOwn w (Copies new) = ⊥
 IsOwn w _ = Unit {0}
 
-module _ (table : CallTable) (w : World) (process : ℕ) (sorted : IsTrue (is_sorted nat_cmp w.histories)) (h : History)
-    (here : history_of w process ≡ Some h) where
-  -- another history of the process that asks
-  own_change : (after : History) → ChangesProcess process w (with_history w process after)
+module _ (table : CallTable) (w : World) (process : ℕ) (h : ProcessState) (here : kept_at w process ≡ Some h) where
+  -- another state of the process that asks
+  own_change : (after : ProcessState) → ChangesProcess process w (with_process w process after)
   own_change after = record {
     tree = refl;
-    others = λ other differs. elsewhere other (λ same. false≢true (sym differs ∙ eq-eqb other process same));
-    there = λ other. by other (other == process) refl;
-    count = length-put nat_cmp nat_cmp_total process after w.histories (passes _ sorted)
-        ∙ ap (λ (o : Option History). cond (is_some o) (length w.histories) (length w.histories + 1)) here;
+    others = λ other differs. found_elsewhere other process after w.processes (λ same. false≢true (sym differs ∙ eq-eqb other process same));
+    there = λ other. ap is_some (found_put other process after w.processes) ∙ by other (nat_eq process other) refl;
+    count = ap length (put_there process after w.processes (ap is_some here)) ∙ length-set_value (nat_eq process) w.processes after;
   }
     where
-      elsewhere : (other : ℕ) → other ≢ process → history_of (with_history w process after) other ≡ history_of w other
-      elsewhere other differs = put_elsewhere nat_cmp nat_cmp_total nat_cmp-IsAntisymmetric other process after w.histories differs
-
-      by : (other : ℕ) (b : Bool) → (other == process) ≡ b →
-          is_some (history_of (with_history w process after) other) ≡ is_some (history_of w other)
-      by other true same =
-          let is = eqb-true other process same in
-          ap (λ q. is_some (history_of (with_history w process after) q)) is
-          ∙ ap is_some (put_here nat_cmp nat_cmp_total nat_cmp-IsAntisymmetric process after w.histories)
-          ∙ sym (ap is_some here) ∙ ap (λ q. is_some (history_of w q)) (sym is)
-      by other false differs = ap is_some (elsewhere other (λ same. false≢true (sym differs ∙ eq-eqb other process same)))
+      by : (other : ℕ) (b : Bool) → nat_eq process other ≡ b → is_some (cond b (Some after) (kept_at w other)) ≡ is_some (kept_at w other)
+      by other true same = sym (ap is_some here) ∙ ap (λ q. is_some (kept_at w q)) (eqb-true process other same)
+      by other false differs = refl
 
   by_call : (asked : Call) (object : Found) → call_is_own asked ≡ true → IsOwn w (change_effect w h (change_by table asked object))
   by_call call.Chdir object own = by_going (λ c. IsOwn w (change_effect w h c)) refl object (λ dir. refl)
@@ -70,7 +60,7 @@ module _ (table : CallTable) (w : World) (process : ℕ) (sorted : IsTrue (is_so
   by_effect : (action : Action) (e : Effect) → (is_own action ≡ true → IsOwn w e) →
       ChangesOnly (touched_by (record { process = process; action = action }) (answer_to e)) w (left_by w process h e)
   by_effect action (Fails errno) own = stays_same process w
-  by_effect action Kills own = own_change (Ended ∷ h)
+  by_effect action Kills own = own_change (state_after Ended h)
   by_effect action (Leaves t after) own = by (is_own action) own
     where
       by : (b : Bool) → (b ≡ true → t ≡ w.tree) → ChangesOnly (touched_if b process) w (left_by w process h (Leaves t after))
@@ -87,7 +77,7 @@ module _ (table : CallTable) (w : World) (process : ℕ) (sorted : IsTrue (is_so
       ChangesOnly (touched_by (record { process = process; action = action }) (answer_to (refusal_effect r))) w
       (left_by w process h (refusal_effect r))
   by_refusal action (Failed errno) = stays_same process w
-  by_refusal action Killed = own_change (Ended ∷ h)
+  by_refusal action Killed = own_change (state_after Ended h)
 
 -- who each process was stays, where no process was made
 makes_none : (table : CallTable) (w : World) (ask : Asked) (answer : Answer) → answer ≡ (apply table w ask).0 →
@@ -111,14 +101,14 @@ makes_none table w ask answer told = by ask.action answer (λ none other. came_i
     by action answers.Killed itself = itself refl
     by action answers.Gone itself = itself refl
 
-pub touches_only : (table : CallTable) (w : World) (ask : Asked) → IsTrue (is_sorted nat_cmp w.histories) →
+pub touches_only : (table : CallTable) (w : World) (ask : Asked) →
     TouchesOnly table w ask (touched_by ask (apply table w ask).0)
-touches_only table w ask sorted = record {
+touches_only table w ask = record {
   changes = by_request table w ask (λ done. ChangesOnly (touched_by ask done.0) w done.1) (stays_same ask.process w)
       λ h here. by_decision w h (λ e. ChangesOnly (touched_by ask (answer_to e)) w (left_by w ask.process h e))
       (decide table w.tree h ask.action)
-      (by_refusal table w ask.process sorted h here ask.action)
-      (λ c is. by_effect table w ask.process sorted h here ask.action (change_effect w h c)
-      (by_action table w ask.process sorted h here ask.action c (decisions_are_guarded table w.tree h ask.action c is)));
+      (by_refusal table w ask.process h here ask.action)
+      (λ c is. by_effect table w ask.process h here ask.action (change_effect w h c)
+      (by_action table w ask.process h here ask.action c (decisions_are_guarded table w.tree h ask.action c is)));
   makes_none = makes_none table w ask (apply table w ask).0 refl;
 }

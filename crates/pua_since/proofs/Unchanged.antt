@@ -1,45 +1,23 @@
 -- A request that can't have changed a world leaves it as it is.
-use Rattle.pua_since.proofs.Common.{◌≡◌, ℕ, List, false, cond, Some, Ok, refl, sym, ap, ◌∙◌, IsTrue, nat_cmp, nat_cmp_total, put, is_sorted}
-use Rattle.pua_since.proofs.Common.{nat_cmp-IsAntisymmetric, Found, CallTable, History, Call, Refusal, Asked, Change, NoChange, change_by}
-use Rattle.pua_since.proofs.Common.{decide, World, apply, Effect, Fails, Kills, Leaves, Copies, history_of, answer_to, left_by, Answer}
+use Rattle.pua_since.proofs.Common.{◌≡◌, false, Some, Ok, refl, sym, ap, ◌∙◌}
+use Rattle.pua_since.proofs.Common.{Found, CallTable, ProcessState, Call, Refusal, Asked, Change, NoChange, change_by}
+use Rattle.pua_since.proofs.Common.{decide, World, apply, Effect, Fails, Kills, Leaves, Copies, kept_at, answer_to, left_by, Answer}
 use Rattle.pua_since.proofs.Common.{Action, OnPath, Symlink, Rename, Link, Pledge, Unveil, Lock, Fork, Exit, by_request, has_changed}
-use Rattle.std.specs.Prelude.{T}
-use Rattle.std.specs.declared.cmp.Ordering.{Ordering}
-use Rattle.std.specs.declared.cmp.Ordering.TheVariants.{Less, Equal, Greater}
-use Rattle.std.specs.Ordering.{is_eq}
-use Rattle.std.specs.FinMap.{find as find_key}
-use Rattle.std.specs.FinMap.Entries.{find-put, find_tied, is_sorted-put, same_entries}
 use Rattle.pua_calls.specs.declared.call.Call.TheVariants as call
 use Rattle.pua_policy.specs.declared.answer.Refusal.TheVariants.{Failed, Killed}
-use Rattle.pua_script.specs.Replay.{change_effect}
-use Rattle.pua_script.specs.Replay.{refusal_effect}
+use Rattle.pua_script.specs.Replay.{change_effect, refusal_effect}
+use Rattle.pua_script.proofs.ForCallers.{put_back}
 use Rattle.pua_script.proofs.ForCallers.{by_decision, decisions_are_guarded}
 use Rattle.pua_since.specs.Changes.{call_changes, action_changes, LeavesAsIs}
-use Rattle.std.specs.Bool.{passes}
-
--- putting what is there
-pub put_there : (process : ℕ) (h : History) (made : List (ℕ × History)) → IsTrue (is_sorted nat_cmp made) →
-    find_key nat_cmp process made ≡ Some h → put nat_cmp process h made ≡ made
-put_there process h made sorted here =
-    let in_order : T (is_sorted nat_cmp made) = passes _ sorted in
-    same_entries nat_cmp nat_cmp_total nat_cmp-IsAntisymmetric (put nat_cmp process h made) made
-    (is_sorted-put nat_cmp nat_cmp_total process h made in_order) in_order
-    (λ q. find-put nat_cmp nat_cmp_total q process h made ∙ by q (nat_cmp q process) refl)
-  where
-    by : (q : ℕ) (o : Ordering) → nat_cmp q process ≡ o → cond (is_eq o) (Some h) (find_key nat_cmp q made) ≡ find_key nat_cmp q made
-    by q Equal tied = sym here ∙ find_tied nat_cmp nat_cmp_total q process tied made
-    by q Less tied = refl
-    by q Greater tied = refl
 
 -- the calls that change nothing
 no_change : (table : CallTable) (c : Call) (object : Found) → call_changes c ≡ false → change_by table c object ≡ NoChange
 no_change table call.Create object e = cc
 no_change table _ object e = cc
 
-module _ (table : CallTable) (w : World) (ask : Asked) (sorted : IsTrue (is_sorted nat_cmp w.histories)) (h : History)
-    (here : history_of w ask.process ≡ Some h) where
+module _ (table : CallTable) (w : World) (ask : Asked) (h : ProcessState) (here : kept_at w ask.process ≡ Some h) where
   kept : left_by w ask.process h (change_effect w h NoChange) ≡ w
-  kept = ap (λ histories. record w { histories = histories }) (put_there ask.process h w.histories sorted here)
+  kept = ap (λ processes. record w { processes = processes }) (put_back ask.process h w.processes here)
 
   by_action : (action : Action) (c : Change) → decide table w.tree h action ≡ Ok c → action_changes action ≡ false →
       left_by w ask.process h (change_effect w h c) ≡ w
@@ -66,16 +44,15 @@ module _ (table : CallTable) (w : World) (ask : Asked) (sorted : IsTrue (is_sort
   refusing (Failed errno) none = refl
   refusing Killed none = cc
 
-unchanged : (table : CallTable) (w : World) (ask : Asked) → IsTrue (is_sorted nat_cmp w.histories) →
-    has_changed ask.action (apply table w ask).0 ≡ false → (apply table w ask).1 ≡ w
-unchanged table w ask sorted =
+unchanged : (table : CallTable) (w : World) (ask : Asked) → has_changed ask.action (apply table w ask).0 ≡ false → (apply table w ask).1 ≡ w
+unchanged table w ask =
     by_request table w ask (λ done. has_changed ask.action done.0 ≡ false → done.1 ≡ w) (λ none. refl)
     λ h here. by_decision w h (λ e. has_changed ask.action (answer_to e) ≡ false → left_by w ask.process h e ≡ w)
     (decide table w.tree h ask.action)
-    (refusing table w ask sorted h here)
-    (λ c is. by_effect table w ask sorted h here (change_effect w h c) (by_action table w ask sorted h here ask.action c is))
+    (refusing table w ask h here)
+    (λ c is. by_effect table w ask h here (change_effect w h c) (by_action table w ask h here ask.action c is))
 
 -- a request that can't have changed a world leaves it as it is
 pub unchanged_stay : (action : Action) (answer : Answer) → has_changed action answer ≡ false → LeavesAsIs action answer
-unchanged_stay action answer none table w process sorted told =
-    unchanged table w (record { process = process; action = action }) sorted (ap (has_changed action) (sym told) ∙ none)
+unchanged_stay action answer none table w process told =
+    unchanged table w (record { process = process; action = action }) (ap (has_changed action) (sym told) ∙ none)

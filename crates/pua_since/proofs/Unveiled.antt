@@ -1,7 +1,7 @@
 -- What a fact tells of a veil is so, and is so since the line that is kept of it.
 use Rattle.pua_since.proofs.Common.{◌≡◌, ℕ, Bool, true, false, List, [], ◌∷◌, ◌++◌, length, map, refl, sym, ap, subst, ◌∙◌, Option, Some}
 use Rattle.pua_since.proofs.Common.{None, Result, Ok, Err, if◌then◌else◌, option_map_or, Tree, Spot, Ending, Found, PathFault, PathTrace}
-use Rattle.pua_since.proofs.Common.{trace_of_text, CallTable, History, perms_kept, working_dir, Call, Asked, World, history_of, world_after}
+use Rattle.pua_since.proofs.Common.{trace_of_text, CallTable, ProcessState, perms_kept, working_dir, Call, Asked, World, kept_at, world_after}
 use Rattle.pua_since.proofs.Common.{Action, OnPath, Symlink, Rename, Link, Pledge, Unveil, Lock, Fork, Exit, Fact, facts_of, Fault}
 use Rattle.pua_since.proofs.Common.{AreFactsAt, IsFactAt, fact_line, veil_told, AreWatched, kept_in, Watches}
 use Rattle.std.specs.Prelude.{⊤}
@@ -10,7 +10,7 @@ use Rattle.pua_path.specs.declared.text.Ending.TheVariants as ending
 use Rattle.pua_path.specs.declared.found.Last.TheVariants.{Followed}
 use Rattle.pua_calls.specs.Promises.{proc, unveil}
 use Rattle.pua_calls.specs.Calls.{PairRule, rule_of}
-use Rattle.pua_policy.specs.History.{is_locked}
+use Rattle.pua_policy.specs.States.{is_locked}
 use Rattle.pua_policy.specs.Reasons.{Promising, Holds, HasEnded, Lacks, promising, covering}
 use Rattle.pua_policy.specs.ReasonLaws.{CoveringHolds}
 use Rattle.pua_calls.specs.declared.call.Call.TheVariants as call
@@ -25,19 +25,19 @@ use Rattle.pua_why.specs.Texts.{veil_since}
 use Rattle.pua_since.specs.Dates.{letters_date}
 use Rattle.pua_since.proofs.Veiled.{veil_at}
 
-abbrev CoverKept : History → Covering → Type 0
+abbrev CoverKept : ProcessState → Covering → Type 0
 CoverKept h (By place given) = perms_kept h place ≡ Some given
 CoverKept h _ = ⊤
 
 -- the veil that a fact tells is kept
-abbrev FactKept : History → Fact → Type 0
+abbrev FactKept : ProcessState → Fact → Type 0
 FactKept h (Under side over) = CoverKept h over
 FactKept h _ = ⊤
 
-abbrev AreKept : History → List Fact → Type 0
+abbrev AreKept : ProcessState → List Fact → Type 0
 AreKept h told = AllByRecursion (FactKept h) told
 
-cover_kept : (t : Tree) (h : History) (object : Found) → CoverKept h (covering t h object)
+cover_kept : (t : Tree) (h : ProcessState) (object : Found) → CoverKept h (covering t h object)
 cover_kept t h object = by (covering t h object) (coverings_hold t h object).1
   where
     by : (over : Covering) → CoveringHolds t h object over → CoverKept h over
@@ -45,7 +45,7 @@ cover_kept t h object = by (covering t h object) (coverings_hold t h object).1
     by NoneOver holds = tt
     by (By place given) holds = holds.kept_here
 
-module _ (h : History) where
+module _ (h : ProcessState) where
   needing_kept : (set : ℕ) (more : List Fact) → AreKept h more → AreKept h (needing set more)
   needing_kept set [] are = (tt, tt)
   needing_kept set (Needs other ∷ more) are = (tt, are.1)
@@ -116,7 +116,7 @@ module _ (h : History) where
   facts_kept table t Exit = tt
 
 module _ (table : CallTable) (w : World) (done : List Asked) (s : Watches) (watched : AreWatched table w done [] s) (ask : Asked)
-    (h : History) (made : history_of (world_after table w done) ask.process ≡ Some h) where
+    (h : ProcessState) (made : kept_at (world_after table w done) ask.process ≡ Some h) where
   fact_at : (fact : Fact) (place : Option ℕ) → FactKept h fact → IsFactAt s.watches.items ask.process (length done) (veil_told fact) place →
       fact_line s.watches.items place ≡ veil_since table w done ask fact
   fact_at (Needs set) None holds at = refl
@@ -132,7 +132,7 @@ module _ (table : CallTable) (w : World) (done : List Asked) (s : Watches) (watc
   fact_at (Under side (By veil given)) None holds at = absurd at
   fact_at (Under side (By veil given)) (Some place) holds at =
       let keeps : kept_in (world_after table w done) ask.process veil ≡ Some given =
-      ap (λ o. option_map_or (λ (h : History). perms_kept h veil) o None) made ∙ holds in
+      ap (λ o. option_map_or (λ (h : ProcessState). perms_kept h veil) o None) made ∙ holds in
       veil_at table w done s watched place ask.process veil at ∙ ap (letters_date table w done ask.process veil) keeps
 
   told_at : (told : List Fact) (places : List (Option ℕ)) → AreKept h told →
@@ -148,7 +148,7 @@ pub facts_at : (table : CallTable) (w : World) (done : List Asked) (s : Watches)
     (ask : Asked) (told : List Fact) (places : List (Option ℕ)) → told ≡ facts_of table (world_after table w done) ask
     → AreFactsAt s.watches.items ask.process (length done) told places →
     map (fact_line s.watches.items) places ≡ map (veil_since table w done ask) told
-facts_at table w done s watched ask told places are at = by (history_of (world_after table w done) ask.process) refl
+facts_at table w done s watched ask told places are at = by (kept_at (world_after table w done) ask.process) refl
   where
     none : (told : List Fact) (places : List (Option ℕ)) → told ≡ [] → AreFactsAt s.watches.items ask.process (length done) told places →
         map (fact_line s.watches.items) places ≡ map (veil_since table w done ask) told
@@ -156,7 +156,7 @@ facts_at table w done s watched ask told places are at = by (history_of (world_a
     none [] (place ∷ places) e at = absurd at
     none (fact ∷ told) places e at = cc
 
-    by : (o : Option History) → history_of (world_after table w done) ask.process ≡ o →
+    by : (o : Option ProcessState) → kept_at (world_after table w done) ask.process ≡ o →
         map (fact_line s.watches.items) places ≡ map (veil_since table w done ask) told
     by None made = none told places (are ∙ rw made refl) at
     by (Some h) made =

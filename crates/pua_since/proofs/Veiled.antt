@@ -1,7 +1,7 @@
 -- What is kept at a place is since when a veil has its letters, or a request its reason.
 use Rattle.pua_since.proofs.Common.{◌≡◌, ℕ, List, [], ◌∷◌, length, map, refl, sym, ap, subst, ◌∙◌, Option, Some, None, ◌==◌, slice_get}
-use Rattle.pua_since.proofs.Common.{option_eq, option_map_or, Bor, slice_get_within, CallTable, History, perms_kept, Place, Asked, World}
-use Rattle.pua_since.proofs.Common.{history_of, world_after, reason, since, date_of, reason_since, AreVeilsAt, IsRequestAt, IsVeilAt}
+use Rattle.pua_since.proofs.Common.{option_eq, option_map_or, Bor, slice_get_within, CallTable, ProcessState, perms_kept, Place, Asked, World}
+use Rattle.pua_since.proofs.Common.{kept_at, world_after, reason, since, date_of, reason_since, AreVeilsAt, IsRequestAt, IsVeilAt}
 use Rattle.pua_since.proofs.Common.{AreWatched, IsToldOf, IsWatched, is_told, kept_in, line_at, Question, Told, Watch, Watches}
 use Rattle.std.proofs.Common.{All}
 use Rattle.std.specs.Prelude.{unwrap_or}
@@ -20,14 +20,14 @@ at_place P xs place x all stands =
 -- letters are told where a veil has them
 has_letters : (place : Place) (given : ℕ) (w : World) (process : ℕ) →
     option_eq ◌==◌ (kept_in w process place) (Some given) ≡ has_veil_on place given w process
-has_letters place given w process = by (history_of w process) refl
+has_letters place given w process = by (kept_at w process) refl
   where
-    has : (h : History) → history_of w process ≡ Some h → (o : Option ℕ) → perms_kept h place ≡ o →
+    has : (h : ProcessState) → kept_at w process ≡ Some h → (o : Option ℕ) → perms_kept h place ≡ o →
         option_eq ◌==◌ (kept_in w process place) (Some given) ≡ has_veil_on place given w process
     has h made None e = rw (made, e) refl
     has h made (Some perms) e = rw (made, e) refl
 
-    by : (o : Option History) → history_of w process ≡ o →
+    by : (o : Option ProcessState) → kept_at w process ≡ o →
         option_eq ◌==◌ (kept_in w process place) (Some given) ≡ has_veil_on place given w process
     by None e = rw e refl
     by (Some h) made = has h made (perms_kept h place) refl

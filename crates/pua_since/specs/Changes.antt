@@ -1,7 +1,5 @@
 -- Which requests may have changed a world, by their answers.
-use Rattle.std.specs.Prelude.{◌≡◌, ℕ, Bool, true, false, IsTrue}
-use Rattle.std.specs.Ordering.{nat_cmp}
-use Rattle.std.specs.FinMap.{is_sorted}
+use Rattle.std.specs.Prelude.{◌≡◌, ℕ, Bool, true, false}
 use Rattle.pua_calls.specs.Calls.{CallTable}
 use Rattle.pua_calls.specs.declared.call.Call.{Call}
 use Rattle.pua_calls.specs.declared.call.Call.TheVariants as call
@@ -41,6 +39,6 @@ has_forked action _ = false
 
 -- a request that can't have changed anything leaves each world of the replay as it is, where it is answered so
 abbrev pub LeavesAsIs : Action → Answer → Type 0
-LeavesAsIs action answer = (table : CallTable) (w : World) (process : ℕ) → IsTrue (is_sorted nat_cmp w.histories) →
+LeavesAsIs action answer = (table : CallTable) (w : World) (process : ℕ) →
     answer ≡ (apply table w (record { process = process; action = action })).0 →
     (apply table w (record { process = process; action = action })).1 ≡ w

@@ -4,7 +4,7 @@ use Rattle.pua_calls.specs.Calls.{CallTable}
 use Rattle.pua_calls.specs.declared.call.Call.{Call}
 use Rattle.pua_calls.specs.declared.call.Call.TheVariants as call
 use Rattle.pua_script.specs.Requests.{Asked}
-use Rattle.pua_script.specs.Replay.{World, history_of, apply}
+use Rattle.pua_script.specs.Replay.{World, kept_at, apply}
 use Rattle.pua_script.specs.declared.answer.Answer.{Answer}
 use Rattle.pua_script.specs.declared.answer.Answer.TheVariants.{Okay}
 use Rattle.pua_script.specs.declared.request.Action.{Action}
@@ -41,12 +41,12 @@ abbrev pub touched_by : Asked → Answer → Touched
 touched_by ask Okay = touched_if (is_own ask.action) ask.process
 touched_by ask _ = Process ask.process
 
--- the worlds differ in the history of one process alone, which is in both
+-- the worlds differ in what one process keeps alone, which is in both
 pub record ChangesProcess (process : ℕ) (w v : World) : Type 0 where
   pub tree : v.tree ≡ w.tree
-  pub others : (other : ℕ) → other == process ≡ false → history_of v other ≡ history_of w other
-  pub there : (other : ℕ) → is_some (history_of v other) ≡ is_some (history_of w other)
-  pub count : length v.histories ≡ length w.histories
+  pub others : (other : ℕ) → other == process ≡ false → kept_at v other ≡ kept_at w other
+  pub there : (other : ℕ) → is_some (kept_at v other) ≡ is_some (kept_at w other)
+  pub count : length v.processes ≡ length w.processes
 
 -- all that a touch changes
 abbrev pub ChangesOnly : Touched → World → World → Type 0

@@ -4,10 +4,10 @@ use Rattle.std.specs.Prelude.{slice_get, Option, Some, None, All}
 use Rattle.std.specs.Option.{option_eq, option_map_or}
 use Rattle.pua_tree.specs.Names.{same_bytes}
 use Rattle.pua_calls.specs.Calls.{CallTable}
-use Rattle.pua_policy.specs.History.{perms_kept}
+use Rattle.pua_policy.specs.States.{perms_kept}
 use Rattle.pua_policy.specs.declared.place.Place.{Place}
 use Rattle.pua_script.specs.Requests.{Asked}
-use Rattle.pua_script.specs.Replay.{World, history_of, answers_to, apply, world_after}
+use Rattle.pua_script.specs.Replay.{World, kept_at, answers_to, apply, world_after}
 use Rattle.pua_script.specs.declared.answer.Answer.{Answer}
 use Rattle.pua_script.specs.declared.answer.Answer.TheVariants.{Okay}
 use Rattle.pua_script.specs.declared.request.Action.{Action}
@@ -27,7 +27,7 @@ use Rattle.pua_since.specs.declared.watches.Watches.{Watches}
 
 -- the letters of the veil that a process keeps at a place
 abbrev pub kept_in : World → ℕ → Place → Option ℕ
-kept_in w process place = option_map_or (λ h. perms_kept h place) (history_of w process) None
+kept_in w process place = option_map_or (λ h. perms_kept h place) (kept_at w process) None
 
 -- what a world tells of a question about a process: the key of what the checks of a request tell, or the letters of a veil
 abbrev pub IsToldOf : CallTable → World → ℕ → Question → Told → Type 0

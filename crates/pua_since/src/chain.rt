@@ -3,9 +3,9 @@
 ghost use Rattle.std.specs.Prelude.{◌≡◌, ◌++◌, ◌∷◌, [], List, IfOk, OnOk, flat_map, map};
 ghost use Rattle.std.specs.Prelude.{option_map, string_bytes};
 ghost use Rattle.pua_script.specs.AnswerTexts.{with_end};
-ghost use Rattle.pua_script.specs.Replay.{World as Replayed, answers_to, apply, world_after};
+ghost use Rattle.pua_script.specs.Replay.{world_after};
 ghost use Rattle.pua_script.specs.Requests.{Asked};
-ghost use Rattle.pua_script.specs.Worlds.{StandsForWorld};
+ghost use Rattle.pua_script.specs.Worlds.{WorldState, apply_to, run_to, state_after_all, world_of};
 ghost use Rattle.pua_why.specs.Facts.{facts_of};
 ghost use Rattle.pua_why.specs.Seen.{fact_seen};
 ghost use Rattle.pua_why.specs.Texts.{chain};
@@ -39,11 +39,10 @@ pub fn chain_text<T: FileTree>(
     answers: &[Answer],
     request: &Request,
 ) -> Result<String, OutOfMemory>
-    ensures { IfOk result (λ text. (w : Replayed) → StandsForWorld before.old w →
-        answers.now ≡ answers_to before.old.table w requests.now →
-        StandsForWorld after.old (world_after before.old.table w requests.now) →
-        after.old.table ≡ before.old.table → string_bytes text
-        ≡ flat_map with_end (chain rules before.old.table w requests.now request.now)) }
+    ensures { IfOk result (λ text. answers.now ≡ (run_to before.old requests.now).0 →
+        after.old ≡ state_after_all before.old requests.now →
+        string_bytes text ≡ flat_map with_end
+        (chain rules before.old.table (world_of before.old) requests.now request.now)) }
 {
     let passed = facts(alloc, after, request.process(), request.action())?;
     let passed = passed.as_slice();
@@ -73,15 +72,13 @@ fn dates_of<T: FileTree>(
     request: &Request,
     passed: &[Fact],
 ) -> Result<Dates, OutOfMemory>
-    ensures dates { IfOk result (λ dates. (w : Replayed) → StandsForWorld world.old w →
-        answers.now ≡ answers_to world.old.table w requests.now →
-        map fact_seen passed.now
-        ≡ facts_of world.old.table (world_after world.old.table w requests.now) request.now →
-        AreDatesOf world.old.table w requests.now request.now (map fact_seen passed.now) dates) }
-    ensures world { OnOk result ((w : Replayed) → StandsForWorld world.old w →
-        answers.now ≡ answers_to world.old.table w requests.now →
-        StandsForWorld world.new (world_after world.old.table w requests.now)
-        × (world.new.table ≡ world.old.table)) }
+    ensures dates { IfOk result (λ dates. answers.now ≡ (run_to world.old requests.now).0 →
+        map fact_seen passed.now ≡ facts_of world.old.table
+        (world_after world.old.table (world_of world.old) requests.now) request.now →
+        AreDatesOf world.old.table (world_of world.old) requests.now request.now
+        (map fact_seen passed.now) dates) }
+    ensures world { OnOk result (answers.now ≡ (run_to world.old requests.now).0 →
+        world.new ≡ state_after_all world.old requests.now) }
 {
     let mut watches = Watches::new(alloc, requests, answers)?;
     let (process, question) = (request.process(), Question::Request(request.action()));
@@ -106,9 +103,9 @@ fn watch_facts<'a, T: FileTree>(
 ) -> Result<Vec<Option<usize>>, OutOfMemory>
     ensures places { IfOk result (λ places. AreFactsAt watches.new.watches.items process last
         (map fact_seen passed.now) places.items) }
-    ensures watched { OnOk result ((w : Replayed) (left : List Asked) →
-        StandsForWorld world.now w → AreWatched world.now.table w [] left watches.old →
-        AreWatched world.now.table w [] left watches.new) }
+    ensures watched { OnOk result ((left : List Asked) →
+        AreWatched world.now.table (world_of world.now) [] left watches.old →
+        AreWatched world.now.table (world_of world.now) [] left watches.new) }
     ensures kept { OnOk result (IsKeptThrough watches.old.watches.items
         watches.new.watches.items) }
 {
@@ -132,9 +129,9 @@ fn watch_fact<'a, T: FileTree>(
 ) -> Result<Option<usize>, OutOfMemory>
     ensures place { IfOk result (λ place. IsFactAt watches.new.watches.items process last
         (veil_told (fact_seen fact.now)) place) }
-    ensures watched { OnOk result ((w : Replayed) (left : List Asked) →
-        StandsForWorld world.now w → AreWatched world.now.table w [] left watches.old →
-        AreWatched world.now.table w [] left watches.new) }
+    ensures watched { OnOk result ((left : List Asked) →
+        AreWatched world.now.table (world_of world.now) [] left watches.old →
+        AreWatched world.now.table (world_of world.now) [] left watches.new) }
     ensures kept { OnOk result (IsKeptThrough watches.old.watches.items
         watches.new.watches.items) }
 {
@@ -188,13 +185,13 @@ fn lines_of<T: FileTree>(
     answer: Answer,
     dates: &Dates,
 ) -> Result<String, AllocError>
-    ensures { IfOk result (λ text. (w : Replayed) (done : List Asked) →
-        StandsForWorld world.now (world_after world.now.table w done) →
-        answer ≡ (apply world.now.table (world_after world.now.table w done) request.now).0 →
+    ensures { IfOk result (λ text. (s : WorldState) (done : List Asked) →
+        world.now ≡ state_after_all s done →
+        answer ≡ (apply_to (state_after_all s done) request.now).0 →
         map fact_seen passed.now
-        ≡ facts_of world.now.table (world_after world.now.table w done) request.now →
-        AreDatesOf world.now.table w done request.now (map fact_seen passed.now) dates.now →
-        string_bytes text ≡ flat_map with_end (chain rules world.now.table w done request.now)) }
+        ≡ facts_of s.table (world_after s.table (world_of s) done) request.now →
+        AreDatesOf s.table (world_of s) done request.now (map fact_seen passed.now) dates.now →
+        string_bytes text ≡ flat_map with_end (chain rules s.table (world_of s) done request.now)) }
 {
     let mut text = String::new(alloc);
     let Ok(mut paths) = TreePaths::new(alloc, world.tree()) else {

@@ -1,8 +1,7 @@
 //! Answers with their reasons, as they are written.
 
 ghost use Rattle.std.specs.Prelude.{◌≡◌, ◌++◌, OnOk, string_bytes};
-ghost use Rattle.pua_script.specs.Replay.{World as Replayed, apply};
-ghost use Rattle.pua_script.specs.Worlds.{StandsForWorld};
+ghost use Rattle.pua_script.specs.Worlds.{apply_to, world_of};
 ghost use Rattle.pua_why.specs.Reasons.{reason};
 ghost use Rattle.pua_why.specs.Seen.{reason_seen};
 ghost use Rattle.pua_why.specs.Texts.{answer_words, date_of, reason_tail, reason_text, spaced_words};
@@ -26,12 +25,14 @@ pub(crate) fn push_answer<T: FileTree>(
     answer: Answer,
     line: Option<usize>,
 ) -> Result<(), AllocError>
-    ensures { OnOk result ((w : Replayed) → StandsForWorld world.now w →
-        answer ≡ (apply world.now.table w (record { process = process; action = action.now })).0 →
+    ensures { OnOk result
+        (answer ≡ (apply_to world.now (record { process = process; action = action.now })).0 →
         string_bytes text.new ≡ string_bytes text.old
-        ++ (answer_words world.now.table w (record { process = process; action = action.now })
-        ++ reason_tail rules world.now.table w (record { process = process; action = action.now })
-        (date_of (reason world.now.table w
+        ++ (answer_words world.now.table (world_of world.now)
+        (record { process = process; action = action.now })
+        ++ reason_tail rules world.now.table (world_of world.now)
+        (record { process = process; action = action.now })
+        (date_of (reason world.now.table (world_of world.now)
         (record { process = process; action = action.now })) line))) }
 {
     if let Answer::Okay = answer {

@@ -4,11 +4,10 @@ ghost use Rattle.std.specs.Prelude.{◌≡◌, ◌++◌, ◌∷◌, [], ℕ, Lis
 ghost use Rattle.std.specs.Prelude.{string_bytes};
 ghost use Rattle.pua_calls.specs.declared.rules.Rules.{Rules};
 ghost use Rattle.pua_script.specs.AnswerTexts.{with_end};
-ghost use Rattle.pua_script.specs.Replay.{World as Replayed, answers_to, apply, world_after};
 ghost use Rattle.pua_script.specs.Requests.{Asked};
 ghost use Rattle.pua_script.specs.Scripts.{request_by, script_by};
 ghost use Rattle.std.specs.Slice.Iter.{iter_rest};
-ghost use Rattle.pua_script.specs.Worlds.{StandsForWorld};
+ghost use Rattle.pua_script.specs.Worlds.{apply_to, run_to, state_after_all, world_of};
 ghost use Rattle.pua_why.specs.Reasons.{reason};
 ghost use Rattle.pua_why.specs.Texts.{answer_words, date_of, reason_tail, why_lines};
 ghost use Rattle.pua_since.specs.Dates.{AreKnown, ArePlacesOf, IsRequestAt, question_line};
@@ -39,13 +38,13 @@ pub(crate) fn watch_lines<'a, T: FileTree>(
     answers: &[Answer],
     watches: &mut Watches<'a>,
 ) -> Result<Vec<usize>, OutOfMemory>
-    ensures places { IfOk result (λ places. (w : Replayed) (rules : Rules) →
-        StandsForWorld world.now w → script_by rules script_bytes.now ≡ Ok requests.now →
-        answers.now ≡ answers_to world.now.table w requests.now →
+    ensures places { IfOk result (λ places. (rules : Rules) →
+        script_by rules script_bytes.now ≡ Ok requests.now →
+        answers.now ≡ (run_to world.now requests.now).0 →
         ArePlacesOf watches.new.watches.items 0 requests.now answers.now places.items) }
-    ensures watched { OnOk result ((w : Replayed) (left : List Asked) →
-        StandsForWorld world.now w → AreWatched world.now.table w [] left watches.old →
-        AreWatched world.now.table w [] left watches.new) }
+    ensures watched { OnOk result ((left : List Asked) →
+        AreWatched world.now.table (world_of world.now) [] left watches.old →
+        AreWatched world.now.table (world_of world.now) [] left watches.new) }
     ensures kept { OnOk result (IsKeptThrough watches.old.watches.items
         watches.new.watches.items) }
 {
@@ -81,9 +80,9 @@ fn place_of<'a, 'l, T: FileTree>(
         AreKnown rules watches.old.watches.items known.old.entries →
         request_by rules n line.now ≡ Ok request.now →
         AreKnown rules watches.new.watches.items known.new.entries) }
-    ensures watched { OnOk result ((w : Replayed) (left : List Asked) →
-        StandsForWorld world.now w → AreWatched world.now.table w [] left watches.old →
-        AreWatched world.now.table w [] left watches.new) }
+    ensures watched { OnOk result ((left : List Asked) →
+        AreWatched world.now.table (world_of world.now) [] left watches.old →
+        AreWatched world.now.table (world_of world.now) [] left watches.new) }
     ensures kept { OnOk result (IsKeptThrough watches.old.watches.items
         watches.new.watches.items) }
 {
@@ -109,19 +108,16 @@ pub(crate) fn lines_text<T: FileTree>(
     places: &[usize],
     watches: &mut Watches<'_>,
 ) -> Result<String, OutOfMemory>
-    ensures text { IfOk result (λ text. (w : Replayed) → StandsForWorld world.old w →
-        answers.now ≡ answers_to world.old.table w requests.now →
-        AreWatched world.old.table w [] requests.now watches.old →
+    ensures text { IfOk result (λ text. answers.now ≡ (run_to world.old requests.now).0 →
+        AreWatched world.old.table (world_of world.old) [] requests.now watches.old →
         ArePlacesOf watches.old.watches.items 0 requests.now answers.now places.now →
-        string_bytes text ≡ flat_map with_end (why_lines rules world.old.table w [] 1 requests.now)) }
-    ensures watched { OnOk result ((w : Replayed) → StandsForWorld world.old w →
-        answers.now ≡ answers_to world.old.table w requests.now →
-        AreWatched world.old.table w [] requests.now watches.old →
-        AreWatched world.old.table w requests.now [] watches.new) }
-    ensures world { OnOk result ((w : Replayed) → StandsForWorld world.old w →
-        answers.now ≡ answers_to world.old.table w requests.now →
-        StandsForWorld world.new (world_after world.old.table w requests.now)
-        × (world.new.table ≡ world.old.table)) }
+        string_bytes text ≡ flat_map with_end
+        (why_lines rules world.old.table (world_of world.old) [] 1 requests.now)) }
+    ensures watched { OnOk result (answers.now ≡ (run_to world.old requests.now).0 →
+        AreWatched world.old.table (world_of world.old) [] requests.now watches.old →
+        AreWatched world.old.table (world_of world.old) requests.now [] watches.new) }
+    ensures world { OnOk result (answers.now ≡ (run_to world.old requests.now).0 →
+        world.new ≡ state_after_all world.old requests.now) }
     ensures kept { OnOk result (IsKeptThrough watches.old.watches.items
         watches.new.watches.items) }
 {
@@ -161,11 +157,11 @@ fn push_line<T: FileTree>(
     answer: Answer,
     line: Option<usize>,
 ) -> Result<(), AllocError>
-    ensures { OnOk result ((w : Replayed) → StandsForWorld world.now w →
-        answer ≡ (apply world.now.table w request.now).0 →
+    ensures { OnOk result (answer ≡ (apply_to world.now request.now).0 →
         string_bytes text.new ≡ string_bytes text.old ++ with_end (decimal number ++ 32 ∷
-        (answer_words world.now.table w request.now ++ reason_tail rules world.now.table w
-        request.now (date_of (reason world.now.table w request.now) line)))) }
+        (answer_words world.now.table (world_of world.now) request.now
+        ++ reason_tail rules world.now.table (world_of world.now) request.now
+        (date_of (reason world.now.table (world_of world.now) request.now) line)))) }
 {
     let mut digits = Buffer::new();
     text.push_str(digits.format(number))?;
@@ -188,10 +184,10 @@ pub fn reason_text<T: FileTree>(
     requests: &[Request],
     answers: &[Answer],
 ) -> Result<String, OutOfMemory>
-    ensures { IfOk result (λ text. (w : Replayed) →
-        StandsForWorld world.old w → script_by rules script_bytes.now ≡ Ok requests.now →
-        answers.now ≡ answers_to world.old.table w requests.now →
-        string_bytes text ≡ flat_map with_end (why_lines rules world.old.table w [] 1 requests.now)) }
+    ensures { IfOk result (λ text. script_by rules script_bytes.now ≡ Ok requests.now →
+        answers.now ≡ (run_to world.old requests.now).0 →
+        string_bytes text ≡ flat_map with_end
+        (why_lines rules world.old.table (world_of world.old) [] 1 requests.now)) }
 {
     let mut watches = Watches::new(alloc, requests, answers)?;
     let places = watch_lines(alloc, world, script_bytes, requests, answers, &mut watches)?;

@@ -3,10 +3,9 @@
 ghost use Rattle.std.specs.Prelude.{◌≡◌, ◌++◌, [], List, Ok, IfOk, OnOk, flat_map, map};
 ghost use Rattle.std.specs.Prelude.{string_bytes};
 ghost use Rattle.pua_script.specs.AnswerTexts.{with_end};
-ghost use Rattle.pua_script.specs.Replay.{World as Replayed, answers_to};
 ghost use Rattle.pua_script.specs.Requests.{Asked};
 ghost use Rattle.pua_script.specs.Scripts.{script_by};
-ghost use Rattle.pua_script.specs.Worlds.{StandsForWorld};
+ghost use Rattle.pua_script.specs.Worlds.{run_to, world_of};
 ghost use Rattle.pua_why.specs.Texts.{why_lines};
 ghost use Rattle.pua_since.specs.Watched.{AreWatched, IsKeptThrough, line_at};
 ghost use Rattle.pua_since.specs.Dates.{AreVeilsAt, veil_date, veil_seen, veils_at, with_number};
@@ -68,12 +67,12 @@ pub fn dated_text<T: FileTree>(
     answers: &[Answer],
     veils: &[(u32, &Place)],
 ) -> Result<(String, Vec<Option<usize>>), OutOfMemory>
-    ensures { IfOk result (λ dated. (w : Replayed) →
-        StandsForWorld world.old w → script_by rules script_bytes.now ≡ Ok requests.now →
-        answers.now ≡ answers_to world.old.table w requests.now →
+    ensures { IfOk result (λ dated. script_by rules script_bytes.now ≡ Ok requests.now →
+        answers.now ≡ (run_to world.old requests.now).0 →
         (string_bytes dated.0
-        ≡ flat_map with_end (why_lines rules world.old.table w [] 1 requests.now))
-        × (dated.1.items ≡ map (veil_date world.old.table w requests.now)
+        ≡ flat_map with_end
+        (why_lines rules world.old.table (world_of world.old) [] 1 requests.now))
+        × (dated.1.items ≡ map (veil_date world.old.table (world_of world.old) requests.now)
         (map veil_seen veils.now))) }
 {
     let mut watches = Watches::new(alloc, requests, answers)?;
@@ -102,9 +101,9 @@ fn watch_veils<'a, T: FileTree>(
 ) -> Result<Vec<usize>, OutOfMemory>
     ensures places { IfOk result (λ places.
         AreVeilsAt watches.new.watches.items last (map veil_seen veils.now) places.items) }
-    ensures watched { OnOk result ((w : Replayed) (left : List Asked) →
-        StandsForWorld world.now w → AreWatched world.now.table w [] left watches.old →
-        AreWatched world.now.table w [] left watches.new) }
+    ensures watched { OnOk result ((left : List Asked) →
+        AreWatched world.now.table (world_of world.now) [] left watches.old →
+        AreWatched world.now.table (world_of world.now) [] left watches.new) }
     ensures kept { OnOk result (IsKeptThrough watches.old.watches.items
         watches.new.watches.items) }
 {

@@ -1,8 +1,7 @@
 //! A question that is asked of each world of a replay, and since which line it is told the same.
 
 ghost use Rattle.std.specs.Prelude.{◌≡◌, IfOk, OnOk, max};
-ghost use Rattle.pua_script.specs.Replay.{World as Replayed};
-ghost use Rattle.pua_script.specs.Worlds.{StandsForWorld};
+ghost use Rattle.pua_script.specs.Worlds.{world_of};
 ghost use Rattle.pua_since.specs.Concerns.{is_concerned};
 ghost use Rattle.pua_since.specs.Watched.{IsAbout, IsAskedOnce, IsBegunIn};
 ghost use Rattle.pua_since.specs.Watched.{IsSameTopic, IsToldOf, is_same_told, kept_in};
@@ -58,8 +57,8 @@ impl<'a> Watch<'a> {
         question: Question<'a>,
         last: usize,
     ) -> Result<Watch<'a>, OutOfMemory>
-        ensures begun { IfOk result (λ watch. (w : Replayed) → StandsForWorld world.now w →
-            IsBegunIn world.now.table w asker watch) }
+        ensures begun { IfOk result
+            (λ watch. IsBegunIn world.now.table (world_of world.now) asker watch) }
         ensures about { IfOk result (IsAbout process question.entry last) }
     {
         Ok(Watch {
@@ -102,8 +101,8 @@ impl<'a> Watch<'a> {
         touched: Touched,
         line: usize,
     ) -> Result<(), OutOfMemory>
-        ensures asked { OnOk result ((w : Replayed) → StandsForWorld world.now w →
-            IsAskedOnce world.now.table w asker touched line self.old self.new) }
+        ensures asked { OnOk result (IsAskedOnce world.now.table (world_of world.now) asker
+            touched line self.old self.new) }
         ensures topic { IsSameTopic self.old self.new }
     {
         if self.last < line {
@@ -151,8 +150,8 @@ fn told_of<T: FileTree>(
     process: u32,
     question: Question<'_>,
 ) -> Result<Told, OutOfMemory>
-    ensures { IfOk result (λ told. (w : Replayed) → StandsForWorld world.now w →
-        IsToldOf world.now.table w process question.entry told) }
+    ensures { IfOk result
+        (λ told. IsToldOf world.now.table (world_of world.now) process question.entry told) }
 {
     match question {
         Question::Request(action) => match checked(alloc, world, process, action) {
@@ -165,8 +164,7 @@ fn told_of<T: FileTree>(
 
 /// The letters of the veil that a process keeps at a place.
 fn kept_by<T: FileTree>(world: &World<T>, process: u32, place: &Place) -> Option<Perms>
-    ensures { (w : Replayed) → StandsForWorld world.now w →
-        result ≡ kept_in w process place.now }
+    ensures { result ≡ kept_in (world_of world.now) process place.now }
 {
     world.process(process)?.kept(place)
 }

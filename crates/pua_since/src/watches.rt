@@ -4,7 +4,7 @@ ghost use Rattle.std.specs.Prelude.{◌≡◌, ℕ, ◌<◌, ◌+◌, ◌++◌, 
 ghost use Rattle.pua_calls.specs.Calls.{CallTable};
 ghost use Rattle.pua_script.specs.Replay.{World as Replayed, answers_to, apply, world_after};
 ghost use Rattle.pua_script.specs.Requests.{Asked};
-ghost use Rattle.pua_script.specs.Worlds.{StandsForWorld};
+ghost use Rattle.pua_script.specs.Worlds.{WorldState, apply_to, run_to, state_after_all, world_of};
 ghost use Rattle.pua_since.specs.Concerns.{TouchesOnly};
 ghost use Rattle.pua_since.specs.declared.watch.Question.{Question as Asking};
 ghost use Rattle.pua_since.specs.Watched.{AreServed, AreWatched, IsKeptThrough, IsTopicAt};
@@ -63,9 +63,9 @@ impl<'a> Watches<'a> {
     ) -> Result<usize, OutOfMemory>
         ensures place { IfOk result (λ place.
             IsTopicAt self.new.watches.items place process question.entry last) }
-        ensures watched { OnOk result ((w : Replayed) (left : List Asked) →
-            StandsForWorld world.now w → AreWatched world.now.table w [] left self.old →
-            AreWatched world.now.table w [] left self.new) }
+        ensures watched { OnOk result ((left : List Asked) →
+            AreWatched world.now.table (world_of world.now) [] left self.old →
+            AreWatched world.now.table (world_of world.now) [] left self.new) }
         ensures kept { IsKeptThrough self.old.watches.items self.new.watches.items }
     {
         let asker = forebear(&self.forks, process);
@@ -107,16 +107,13 @@ impl<'a> Watches<'a> {
         answer: Answer,
         line: usize,
     ) -> Result<(), OutOfMemory>
-        ensures watched { OnOk result ((w : Replayed) (done left : List Asked) →
-            StandsForWorld world.old (world_after world.old.table w done) →
-            answer ≡ (apply world.old.table (world_after world.old.table w done) request.now).0 →
+        ensures watched { OnOk result ((s : WorldState) (done left : List Asked) →
+            world.old ≡ state_after_all s done →
+            answer ≡ (apply_to (state_after_all s done) request.now).0 →
             line ≡ length done + 1 →
-            AreWatched world.old.table w done (request.now ∷ left) self.old →
-            AreWatched world.old.table w (done ++ request.now ∷ []) left self.new) }
-        ensures world { OnOk result ((w : Replayed) →
-            StandsForWorld world.old w →
-            StandsForWorld world.new (apply world.old.table w request.now).1
-            × (world.new.table ≡ world.old.table)) }
+            AreWatched s.table (world_of s) done (request.now ∷ left) self.old →
+            AreWatched s.table (world_of s) (done ++ request.now ∷ []) left self.new) }
+        ensures world { OnOk result (world.new ≡ (apply_to world.old request.now).1) }
         ensures kept { IsKeptThrough self.old.watches.items self.new.watches.items }
     {
         let Ok(_) = world.apply(request) else {
@@ -137,14 +134,11 @@ impl<'a> Watches<'a> {
         requests: &[Request],
         answers: &[Answer],
     ) -> Result<(), OutOfMemory>
-        ensures watched { OnOk result ((w : Replayed) → StandsForWorld world.old w →
-            answers.now ≡ answers_to world.old.table w requests.now →
-            AreWatched world.old.table w [] requests.now self.old →
-            AreWatched world.old.table w requests.now [] self.new) }
-        ensures world { OnOk result ((w : Replayed) → StandsForWorld world.old w →
-            answers.now ≡ answers_to world.old.table w requests.now →
-            StandsForWorld world.new (world_after world.old.table w requests.now)
-            × (world.new.table ≡ world.old.table)) }
+        ensures watched { OnOk result (answers.now ≡ (run_to world.old requests.now).0 →
+            AreWatched world.old.table (world_of world.old) [] requests.now self.old →
+            AreWatched world.old.table (world_of world.old) requests.now [] self.new) }
+        ensures world { OnOk result (answers.now ≡ (run_to world.old requests.now).0 →
+            world.new ≡ state_after_all world.old requests.now) }
         ensures kept { IsKeptThrough self.old.watches.items self.new.watches.items }
     {
         for (index, (request, answer)) in requests.iter().zip(answers).enumerate() {
@@ -177,13 +171,12 @@ impl<'a> Watches<'a> {
         touched: Touched,
         line: usize,
     ) -> Result<(), OutOfMemory>
-        ensures asked { OnOk result ((w : Replayed) (done : List Asked) (ask : Asked)
+        ensures asked { OnOk result ((s : WorldState) (done : List Asked) (ask : Asked)
             (left : List Asked) →
-            StandsForWorld world.now
-            (apply world.now.table (world_after world.now.table w done) ask).1 →
-            TouchesOnly world.now.table (world_after world.now.table w done) ask touched →
-            line ≡ length done + 1 → AreServed world.now.table w done ask left self.old →
-            AreWatched world.now.table w (done ++ ask ∷ []) left self.new) }
+            world.now ≡ (apply_to (state_after_all s done) ask).1 →
+            TouchesOnly s.table (world_after s.table (world_of s) done) ask touched →
+            line ≡ length done + 1 → AreServed s.table (world_of s) done ask left self.old →
+            AreWatched s.table (world_of s) (done ++ ask ∷ []) left self.new) }
         ensures kept { IsKeptThrough self.old.watches.items self.new.watches.items }
     {
         for watch in self.watches.iter_mut() {

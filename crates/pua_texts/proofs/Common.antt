@@ -16,12 +16,12 @@ pub use Rattle.pua_calls.specs.Promises.{perm_letters}
 pub use Rattle.pua_calls.specs.declared.call.Call.{Call}
 pub use Rattle.pua_calls.specs.declared.call.Call.TheVariants.{Stat}
 pub use Rattle.pua_io.specs.declared.sink.PutFault.{PutFault}
-pub use Rattle.pua_objects.specs.Items.{subject_given, SubjectFits}
+pub use Rattle.pua_objects.specs.Items.{subject_given}
 pub use Rattle.pua_objects.specs.Lines.{kind_word, lines_of}
-pub use Rattle.pua_objects.specs.Objects.{items, with_commas}
-pub use Rattle.pua_policy.specs.History.{History, ProcessState, StandsFor, veils}
+pub use Rattle.pua_objects.specs.Objects.{with_commas}
+pub use Rattle.pua_policy.specs.States.{ProcessState, veils}
 pub use Rattle.pua_policy.specs.declared.place.Place.{Place}
-pub use Rattle.pua_script.specs.Replay.{history_of}
+pub use Rattle.pua_script.specs.Replay.{kept_at}
 pub use Rattle.pua_since.specs.Dates.{veil_date, veils_at}
 pub use Rattle.pua_tree.specs.Spelling.{spelling}
 pub use Rattle.pua_tree.specs.Tree.{is_dir, Tree}
@@ -30,8 +30,8 @@ pub use Rattle.pua_texts.specs.Blocks.{Passes}
 pub use Rattle.pua_texts.specs.EverLines.{ever_lines}
 pub use Rattle.pua_texts.specs.KeptPaths.{IsKept, KeptPathState}
 pub use Rattle.pua_texts.specs.Lines.{pair_lines, with_end}
-pub use Rattle.pua_texts.specs.ObjectLines.{lists_of, object_lines}
-pub use Rattle.pua_texts.specs.States.{head_lines, or_equals, path_or_hyphen, place_dir, place_names, veil_lines}
+pub use Rattle.pua_texts.specs.ObjectLines.{lists_of}
+pub use Rattle.pua_texts.specs.States.{or_equals, path_or_hyphen, place_dir, place_names, veil_lines}
 pub use Rattle.pua_texts.specs.VeilDates.{veil_dates}
-pub use Rattle.pua_texts.specs.WhyLines.{covering_on, Posed, why_lists_of, world_left}
+pub use Rattle.pua_texts.specs.WhyLines.{Posed, why_lists_of, world_left}
 pub use Rattle.pua_texts.specs.WhyLists.{covering_behind, veils_behind}

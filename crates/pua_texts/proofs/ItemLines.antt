@@ -1,7 +1,7 @@
 -- The lines of items beside the definition's, one after another.
 use Rattle.pua_texts.proofs.Common.{◌≡◌, ℕ, ◌+◌, List, [], ◌∷◌, ◌++◌, ◌<◌, ◌≤◌, ◌∙◌, cond, refl, sym, ap, subst, map}
 use Rattle.pua_texts.proofs.Common.{take, drop, length, slice_index_or, append_assoc, append-nil, arith, filter, flat_map, option_map}
-use Rattle.pua_texts.proofs.Common.{drop_more, drop_of_length-le, Option, Bor, Tree, CallTable, Call, call_name, calls, calls_in, History, ProcessState}
+use Rattle.pua_texts.proofs.Common.{drop_more, drop_of_length-le, Option, Bor, Tree, CallTable, Call, call_name, calls, calls_in, ProcessState}
 use Rattle.pua_texts.proofs.Common.{Word, printed_path, Root, kind_word, with_commas, lines_of, subject_given}
 use Rattle.std.proofs.Common.{suc, zero}
 use Rattle.std.specs.List.{AllByRecursion}
@@ -40,7 +40,7 @@ told_at t process items item i within is all =
     at (first ∷ items) (suc i) within all = at items i (omega (arith, within)) all.1
 
 -- what stands behind a line
-module _ (t : Tree) (table : CallTable) (h : History) (behind : Line → List ℕ) where
+module _ (t : Tree) (table : CallTable) (h : ProcessState) (behind : Line → List ℕ) where
   abbrev pub told : List Item → List ℕ
   told items = flat_map (λ line. line_text t line ++ behind line) (lines_of t table h items)
 

@@ -1,10 +1,10 @@
--- What the lines of a state tell of a history.
+-- What the lines of a state tell of a process.
 use Rattle.pua_texts.proofs.Common.{◌≡◌, ℕ, Bool, true, false, List, [], ◌∷◌, ◌++◌, if◌then◌else◌, refl, sym, ap, ◌∙◌}
 use Rattle.pua_texts.proofs.Common.{append_assoc, Tree, Place}
 use Rattle.std.proofs.Common.{zero, suc, arith, cond, filter, flat_map, Option, Some, None, subst}
 use Rattle.std.specs.List.{Contains}
 use Rattle.pua_calls.specs.Promises.{holds, keyword_rows}
-use Rattle.pua_policy.specs.History.{held_for_exec, pledged_set, veils}
+use Rattle.pua_policy.specs.States.{held_for_exec, pledged_set, veils}
 use Rattle.pua_texts.specs.States.{StateIsPrinted, TellsPromises, VeilsArePrinted, living_lines, pledged_text, unveil_word, veil_line}
 use Rattle.pua_texts.specs.States.{execs_told, openings_told, rules_line, unveiled_line, veil_lines}
 use Rattle.pua_texts.proofs.States.{confined_is_printed}

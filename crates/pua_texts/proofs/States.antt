@@ -7,7 +7,7 @@ use Rattle.std.proofs.Common.{inl, inr, ◌⊎◌, true≢false}
 use Rattle.std.specs.Prelude.{◌↔◌}
 use Rattle.pua_calls.specs.Promises.{holds, keywords_of, unveil}
 use Rattle.pua_objects.specs.Objects.{with_commas}
-use Rattle.pua_policy.specs.History.{held_set, is_locked}
+use Rattle.pua_policy.specs.States.{held_set, is_locked}
 use Rattle.pua_texts.specs.States.{ConfinedIsPrinted, veil_place_text}
 unfoldable use Rattle.pua_why.specs.Texts.{promises_text}
 use Rattle.pua_why.specs.Texts.{joined_words}

@@ -1,12 +1,12 @@
 -- Since which lines the veils of a process have their letters.
-use Rattle.pua_texts.proofs.Common.{◌≡◌, ℕ, ◌+◌, ◌<◌, List, [], ◌∷◌, ◌++◌, map, take, drop, length, get_or, refl, ap, ◌∙◌, subst, arith}
+use Rattle.pua_texts.proofs.Common.{◌≡◌, ℕ, ◌+◌, ◌<◌, List, [], ◌∷◌, ◌++◌, map, take, drop, length, get_or, refl, ap, ◌∙◌, arith}
 use Rattle.pua_texts.proofs.Common.{Option, Some, None, flat_map, option_map_or, drop_more, length-map, map-append}
-use Rattle.pua_texts.proofs.Common.{History, ProcessState, StandsFor, veils, Place, history_of, veil_date, veils_at, veil_dates}
+use Rattle.pua_texts.proofs.Common.{ProcessState, Place, kept_at, veil_date, veils_at, veil_dates}
 use Rattle.pua_texts.proofs.Common.{Posed, world_left}
 use Rattle.std.proofs.Common.{inl, inr, min}
 use Rattle.std.proofs.lemmas.List.{length-append}
 use Rattle.std.proofs.Math.Seq.{take-append_seam, drop-append_seam}
-use Rattle.pua_policy.specs.History.{perms_kept}
+use Rattle.pua_policy.specs.States.{perms_kept, EachOnce}
 use Rattle.pua_objects.proofs.ForCallers.{Among}
 use Rattle.pua_ever.proofs.ForCallers.{among_kept_at}
 use Rattle.pua_script.specs.Worlds.{WorldState, process_at}
@@ -15,21 +15,20 @@ use Rattle.pua_why.specs.Texts.{has_veil_on}
 use Rattle.pua_since.specs.Dates.{letters_date, veils_of}
 use Rattle.pua_since.specs.Watched.{kept_in}
 
-module _ (p : Posed) (process : ℕ) (state : ProcessState) (h : History) (is : history_of (world_left p) process ≡ Some h)
-    (stands : StandsFor state h) where
+module _ (p : Posed) (process : ℕ) (h : ProcessState) (is : kept_at (world_left p) process ≡ Some h) (once : EachOnce h.veils) where
   at_place : (place : Place) → kept_in (world_left p) process place ≡ perms_kept h place
   at_place place = ap (λ o. option_map_or (λ h. perms_kept h place) o None) is
 
-  each_dated : (us : List (Place × ℕ)) → ((u : Place × ℕ) → Among us u → Among (veils h) u) →
+  each_dated : (us : List (Place × ℕ)) → ((u : Place × ℕ) → Among us u → Among h.veils u) →
       map (veil_date p.table p.world p.asks) (map (λ veil. (process, veil.0)) us) ≡ veil_dates p process us
   each_dated [] all = refl
   each_dated (u ∷ us) all = λ i.
-      (ap (letters_date p.table p.world p.asks process u.0) (at_place u.0 ∙ among_kept_at h u.0 u.1 (all u (inl refl)))) i
+      (ap (letters_date p.table p.world p.asks process u.0) (at_place u.0 ∙ among_kept_at h.veils once u.0 u.1 (all u (inl refl)))) i
       ∷ each_dated us (λ v a. all v (inr a)) i
 
   -- the dates of a process's veils are those of their letters
-  pub dates_are : map (veil_date p.table p.world p.asks) (veils_of process (Some state)) ≡ veil_dates p process state.veils
-  dates_are = each_dated state.veils (λ u a. subst (λ vs. Among vs u) stands.veils a)
+  pub dates_are : map (veil_date p.table p.world p.asks) (veils_of process (Some h)) ≡ veil_dates p process h.veils
+  dates_are = each_dated h.veils (λ u a. a)
 
 pub length_dates : (p : Posed) (process : ℕ) (vs : List (Place × ℕ)) → length (veil_dates p process vs) ≡ length vs
 length_dates p process vs = length-map vs (λ veil. since (has_veil_on veil.0 veil.1) p.table p.world 1 p.asks process)
@@ -50,25 +49,13 @@ module _ (p : Posed) (s : WorldState) (numbers : List ℕ) (i d : ℕ) (within :
   abbrev dates : List ℕ → List (Option ℕ)
   dates ns = map (veil_date p.table p.world p.asks) (flat_map (veils_at s) ns)
 
-  by_number : (o : Option ProcessState) → process_at s (get_or numbers i d) ≡ o → left ≡ dates (drop i numbers)
-      → left ≡ map (veil_date p.table p.world p.asks) (veils_of (get_or numbers i d) o) ++ dates (drop (i + 1) numbers)
-  by_number o is dated =
+  -- those of a process stand before those of the others
+  pub some_dated : (h : ProcessState) → process_at s (get_or numbers i d) ≡ Some h → kept_at (world_left p) (get_or numbers i d) ≡ Some h →
+      EachOnce h.veils → left ≡ map (veil_date p.table p.world p.asks) (flat_map (veils_at s) (drop i numbers))
+      → left ≡ veil_dates p (get_or numbers i d) h.veils ++ map (veil_date p.table p.world p.asks)
+      (flat_map (veils_at s) (drop (i + 1) numbers))
+  some_dated h is made once dated =
       dated ∙ ap dates (drop_more numbers i d within)
       ∙ map-append (veil_date p.table p.world p.asks) (veils_at s (get_or numbers i d)) (flat_map (veils_at s) (drop (i + 1) numbers))
-      ∙ ap (λ o. map (veil_date p.table p.world p.asks) (veils_of (get_or numbers i d) o) ++ dates (drop (i + 1) numbers)) is
-
-  -- a number that was never made has none
-  pub none_dated : process_at s (get_or numbers i d) ≡ None →
-      left ≡ map (veil_date p.table p.world p.asks) (flat_map (veils_at s) (drop i numbers))
-      → left ≡ map (veil_date p.table p.world p.asks) (flat_map (veils_at s) (drop (i + 1) numbers))
-  none_dated is dated = by_number None is dated
-
-  -- those of a process stand before those of the others
-  pub some_dated : (state : ProcessState) (h : History) → process_at s (get_or numbers i d) ≡ Some state →
-      history_of (world_left p) (get_or numbers i d) ≡ Some h → StandsFor state h
-      → left ≡ map (veil_date p.table p.world p.asks) (flat_map (veils_at s) (drop i numbers))
-      → left ≡ veil_dates p (get_or numbers i d) state.veils ++ map (veil_date p.table p.world p.asks)
-      (flat_map (veils_at s) (drop (i + 1) numbers))
-  some_dated state h is made stands dated =
-      by_number (Some state) is dated ∙
-      ap (λ own. own ++ dates (drop (i + 1) numbers)) (dates_are p (get_or numbers i d) state h made stands)
+      ∙ (λ j. (ap (λ o. map (veil_date p.table p.world p.asks) (veils_of (get_or numbers i d) o)) is ∙
+      dates_are p (get_or numbers i d) h made once) j ++ dates (drop (i + 1) numbers))

@@ -2,13 +2,13 @@
 use Rattle.pua_texts.proofs.Common.{◌≡◌, ℕ, ◌+◌, ◌<◌, ◌≤◌, List, [], ◌∷◌, ◌++◌, Bool, true, false, cond, map, drop, take, length, flat_map}
 use Rattle.pua_texts.proofs.Common.{get_or, slice_index_or, refl, sym, ap, ◌∙◌, arith, Option, Some, None, filter, bit_or, if◌then◌else◌}
 use Rattle.pua_texts.proofs.Common.{append_assoc, Bor, drop_more, take_more, map-append, length-map, drop_of_length-le, Tree, CallTable, calls, codes}
-use Rattle.pua_texts.proofs.Common.{has, History, Call, Stat, Place, resting_on, covering_behind, veils_behind, Posed, world_left, veil_dates}
+use Rattle.pua_texts.proofs.Common.{has, ProcessState, Call, Stat, Place, resting_on, covering_behind, veils_behind, Posed, world_left, veil_dates}
 use Rattle.std.proofs.Common.{suc, zero}
 use Rattle.std.specs.Prelude.{slice_get}
 use Rattle.std.specs.Int.Bits.{or_zero_r}
 use Rattle.std.proofs.lemmas.List.{get_or-map}
 use Rattle.pua_calls.specs.Calls.{rule_of}
-use Rattle.pua_policy.specs.History.{has_veil}
+use Rattle.pua_policy.specs.States.{has_veil}
 use Rattle.pua_policy.specs.Reasons.{promising}
 use Rattle.pua_policy.specs.declared.reason.Covering.TheVariants.{InView, NoneOver}
 use Rattle.pua_objects.specs.Objects.{Subject, At, Others, Line, line_text}
@@ -17,7 +17,7 @@ use Rattle.pua_why.specs.Since.{since}
 use Rattle.pua_why.specs.Texts.{has_veil_on, promises_text}
 use Rattle.pua_texts.specs.ColumnsState.{ColumnsState, columns_of, veil_column}
 use Rattle.pua_objects.specs.Veils.{covering_by, covering_over, veil_there}
-use Rattle.pua_texts.specs.WhyLines.{covering_on, why_line}
+use Rattle.pua_texts.specs.WhyLines.{covering_of, why_line}
 use Rattle.pua_texts.specs.WhyLists.{AreColumnsOf, veil_behind, veil_kept}
 use Rattle.pua_texts.proofs.States.{shown}
 use Rattle.pua_calls.proofs.ForCallers.{or_assoc}
@@ -39,7 +39,7 @@ column_is p process vs (Some index) = by vs index
     by (v ∷ vs) (suc index) = by vs index
 
 -- the promises on which calls rest, from a place among all calls on
-module _ (table : CallTable) (h : History) (set : ℕ) where
+module _ (table : CallTable) (h : ProcessState) (set : ℕ) where
   abbrev rests : List Call → ℕ
   rests cs = resting_on table h (filter (has set) cs)
 
@@ -97,30 +97,30 @@ column_next p process lent veil i line lines columns column within is dated line
         ∙ ap date (get_or-map shown lent i veil (shown veil) within ∙ ap shown (sym is))
 
 -- what stands behind a line with reasons
-abbrev pub behind : Posed → ℕ → History → Line → List ℕ
+abbrev pub behind : Posed → ℕ → ProcessState → Line → List ℕ
 behind p process h line =
-    columns p.table p.world p.asks process h line.calls (covering_on (world_left p).tree h line.subject) ++ 10 ∷ []
+    columns p.table p.world p.asks process h line.calls (covering_of (world_left p).tree h line.subject) ++ 10 ∷ []
 
 -- the column of the promises of some calls and that of a veil stand behind a line
-pub behind_is : (p : Posed) (process : ℕ) (h : History) (vs : List (Place × ℕ)) (cs : ColumnsState) (line : Line) (resting number : ℕ)
+pub behind_is : (p : Posed) (process : ℕ) (h : ProcessState) (vs : List (Place × ℕ)) (cs : ColumnsState) (line : Line) (resting number : ℕ)
     (veil : Option ℕ) → AreColumnsOf p process vs cs → get_or cs.resting number [] ≡ 32 ∷ promises_text resting
-    → resting ≡ resting_on p.table h line.calls → covering_by vs veil ≡ covering_on (world_left p).tree h line.subject
+    → resting ≡ resting_on p.table h line.calls → covering_by vs veil ≡ covering_of (world_left p).tree h line.subject
     → columns_of cs number veil ≡ behind p process h line
 behind_is p process h vs cs line resting number veil are is rests covers =
     (λ j. (is ∙ ap (λ set. 32 ∷ promises_text set) rests) j ++ veil_column (are.veils j) (are.unveiled j) veil)
     ∙ ap (λ t. (32 ∷ promises_text (resting_on p.table h line.calls)) ++ t) (column_is p process vs veil ∙
     ap (covering_behind p process) covers)
     ∙ sym (append_assoc (32 ∷ promises_text (resting_on p.table h line.calls))
-    (32 ∷ veil_columns p.table p.world p.asks process (covering_on (world_left p).tree h line.subject)) (10 ∷ []))
+    (32 ∷ veil_columns p.table p.world p.asks process (covering_of (world_left p).tree h line.subject)) (10 ∷ []))
 
 -- and so the lines are those with reasons
-pub lines_behind : (p : Posed) (process : ℕ) (h : History) (lines : List Line) →
+pub lines_behind : (p : Posed) (process : ℕ) (h : ProcessState) (lines : List Line) →
     flat_map (λ line. line_text (world_left p).tree line ++ behind p process h line) lines ≡ flat_map (why_line p process h) lines
 lines_behind p process h lines = λ i.
     flat_map (λ line. sym (append_assoc (line_text (world_left p).tree line) (columns p.table p.world p.asks process h line.calls
-    (covering_on (world_left p).tree h line.subject)) (10 ∷ [])) i) lines
+    (covering_of (world_left p).tree h line.subject)) (10 ∷ [])) i) lines
 
 -- what covers a subject is so by both definitions
-pub covering_alike : (t : Tree) (h : History) (subject : Subject) → covering_over t h subject ≡ covering_on t h subject
+pub covering_alike : (t : Tree) (h : ProcessState) (subject : Subject) → covering_over t h subject ≡ covering_of t h subject
 covering_alike t h (At found) = refl
 covering_alike t h (Others dir) = refl

@@ -3,7 +3,7 @@ use Rattle.std.specs.Prelude.{◌≡◌, ℕ, ◌+◌, Bool, List, [], ◌∷◌
 use Rattle.pua_tree.specs.Tree.{Tree}
 use Rattle.pua_calls.specs.Calls.{CallTable}
 use Rattle.pua_calls.specs.declared.rules.Rules.{Rules}
-use Rattle.pua_policy.specs.History.{History}
+use Rattle.pua_policy.specs.States.{ProcessState}
 use Rattle.pua_audit.specs.Reach.{Word}
 use Rattle.pua_ever.specs.Ever.{EverLine, Thing, ever_line_text as line_text, has_ever_calls}
 use Rattle.pua_ever.specs.EverLines.{IsThing, line_with}
@@ -20,7 +20,7 @@ abbrev pub lines_with : Tree → List (EverLine × List ℕ) → List ℕ
 lines_with t lines = flat_map (λ line. line_text t line.0 ++ line.1) lines
 
 -- the heading of a list for ever, the state of its process, and lines with what stands behind them
-abbrev pub ever_list_with : Rules → CallTable → Tree → ℕ → History → List (EverLine × List ℕ) → List ℕ
+abbrev pub ever_list_with : Rules → CallTable → Tree → ℕ → ProcessState → List (EverLine × List ℕ) → List ℕ
 ever_list_with rules table t process h lines = head_lines t (heading_ever rules (execs_of t table h) process) h ++ lines_with t lines
 
 -- Notes: rows of the code with a text for each.

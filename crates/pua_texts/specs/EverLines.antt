@@ -3,7 +3,7 @@ use Rattle.std.specs.Prelude.{ℕ, List, ◌++◌, flat_map, codes}
 use Rattle.pua_tree.specs.Tree.{Tree}
 use Rattle.pua_calls.specs.Calls.{CallTable}
 use Rattle.pua_calls.specs.declared.rules.Rules.{Rules}
-use Rattle.pua_policy.specs.History.{History}
+use Rattle.pua_policy.specs.States.{ProcessState}
 use Rattle.pua_audit.specs.Reach.{Word, printed_path}
 use Rattle.pua_audit.specs.declared.base.Base.TheVariants.{Root}
 use Rattle.pua_ever.specs.Ever.{EverLine, ever_line_text as line_text}
@@ -36,6 +36,6 @@ heading_ever rules execs process = record { span = Ever execs; rules = rules; nu
 
 -- the list for ever of a process: its heading, its state, and a line for each thing that it and what it forks can ever touch;
 -- where all that they start is bounded, what they start can touch it too
-abbrev pub ever_list : Rules → CallTable → Tree → ℕ → History → List ℕ
+abbrev pub ever_list : Rules → CallTable → Tree → ℕ → ProcessState → List ℕ
 ever_list rules table t process h =
     head_lines t (heading_ever rules (execs_of t table h) process) h ++ ever_lines t (ever_lasting t table h)

@@ -1,6 +1,6 @@
 -- What stands before the lines of a list, as the code has it.
-use Rattle.std.specs.Prelude.{◌≡◌, ℕ, List, ◌++◌}
-use Rattle.pua_policy.specs.History.{History}
+use Rattle.std.specs.Prelude.{ℕ, List, ◌++◌}
+use Rattle.pua_policy.specs.States.{ProcessState}
 use Rattle.pua_policy.specs.declared.place.Place.{Place}
 use Rattle.pua_texts.specs.States.{heading_line, own_lines, living_veils}
 use Rattle.pua_texts.specs.declared.state.Heading.{Heading}
@@ -10,7 +10,6 @@ pub record HeadState : Type 0 where
   pub text : List ℕ
   pub veils : List (Place × ℕ)
 
--- the heading and the state of a process with this history
-pub record IsHeadOf (heading : Heading) (h : History) (head : HeadState) : Type 0 where
-  pub text : head.text ≡ heading_line heading ++ own_lines heading h
-  pub veils : head.veils ≡ living_veils h
+-- the heading and the state of a process
+abbrev pub head_of : Heading → ProcessState → HeadState
+head_of heading h = record { text = heading_line heading ++ own_lines heading h; veils = living_veils h }

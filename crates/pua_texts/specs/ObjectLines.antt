@@ -4,8 +4,8 @@ use Rattle.std.specs.Option.{option_map_or}
 use Rattle.pua_tree.specs.Tree.{Tree}
 use Rattle.pua_calls.specs.Calls.{CallTable}
 use Rattle.pua_calls.specs.declared.rules.Rules.{Rules}
-use Rattle.pua_policy.specs.History.{History}
-use Rattle.pua_script.specs.Replay.{World, history_of}
+use Rattle.pua_policy.specs.States.{ProcessState}
+use Rattle.pua_script.specs.Replay.{World, kept_at}
 use Rattle.pua_objects.specs.Objects.{Line, line_text, objects}
 use Rattle.pua_texts.specs.States.{head_lines}
 use Rattle.pua_texts.specs.Lines.{with_end}
@@ -15,8 +15,8 @@ use Rattle.pua_texts.specs.declared.state.Span.TheVariants.{Now}
 abbrev pub object_lines : Tree → List Line → List ℕ
 object_lines t lines = flat_map (λ line. with_end (line_text t line)) lines
 
--- the list of a process: its heading, its state, and a line for each object on which its history allows a call
-abbrev pub process_list : Heading → CallTable → Tree → History → List ℕ
+-- the list of a process: its heading, its state, and a line for each object on which it is allowed a call
+abbrev pub process_list : Heading → CallTable → Tree → ProcessState → List ℕ
 process_list head table t h = head_lines t head h ++ object_lines t (objects t table h)
 
 -- the heading of a list of now
@@ -26,7 +26,7 @@ heading_now rules process = record { span = Now; rules = rules; number = process
 -- a number that was never made has no list
 abbrev pub object_list_of : Rules → CallTable → World → ℕ → List ℕ
 object_list_of rules table w process =
-    option_map_or (process_list (heading_now rules process) table w.tree) (history_of w process) []
+    option_map_or (process_list (heading_now rules process) table w.tree) (kept_at w process) []
 
 abbrev pub lists_of : Rules → CallTable → World → List ℕ → List ℕ
 lists_of rules table w numbers = flat_map (object_list_of rules table w) numbers

@@ -7,7 +7,7 @@ use Rattle.pua_tree.specs.Tree.{Tree, is_dir}
 use Rattle.pua_calls.specs.Promises.{holds, unveil, keyword_rows, keywords_of, no_promises, perm_letters}
 use Rattle.pua_calls.specs.declared.rules.Rules.{Rules}
 use Rattle.pua_calls.specs.declared.rules.Rules.TheVariants.{Profile, Openbsd}
-use Rattle.pua_policy.specs.History.{History, has_veil, held_set, held_for_exec, is_ended, is_locked, pledged_set, veils}
+use Rattle.pua_policy.specs.States.{ProcessState, has_veil, held_set, held_for_exec, is_ended, is_locked, pledged_set, veils}
 use Rattle.pua_policy.specs.declared.place.Place.{Place}
 use Rattle.pua_policy.specs.declared.place.Place.TheVariants.{Dir, Slot}
 use Rattle.pua_script.specs.Laws.{IsConfined}
@@ -31,7 +31,7 @@ pledged_text None = codes "-"
 pledged_text (Some promises) = or_equals (with_commas (keywords_of promises))
 
 -- whether the process may still put veils: what it held before its first pledge has `unveil`
-abbrev pub unveil_word : History → List ℕ
+abbrev pub unveil_word : ProcessState → List ℕ
 unveil_word h = if is_locked h then codes "locked" else (if holds (held_set h) unveil then codes "open" else codes "given-up")
 
 -- whose rules they are; those of the profile have no line
@@ -51,40 +51,40 @@ execs_told (Ever execs) = exec_line execs
 
 -- the promises by which something is opened: those that were pledged; and at some time each one that can still be, also by
 -- what is started, where the list has what that can touch
-abbrev pub opening_set : Span → History → ℕ
+abbrev pub opening_set : Span → ProcessState → ℕ
 opening_set Now h = unwrap_or (pledged_set h) no_promises
 opening_set (Ever Never) h = held_set h
 opening_set (Ever Bounded) h = bit_or (held_set h) (unwrap_or (held_for_exec h) no_promises)
 opening_set (Ever Open) h = held_set h
 
 -- what promises open by themselves, which the profile knows nothing of
-abbrev pub openings_told : Rules → Span → History → List ℕ
+abbrev pub openings_told : Rules → Span → ProcessState → List ℕ
 openings_told Profile span h = []
 openings_told Openbsd span h = opening_lines (keywords_of (opening_set span h))
 
 -- that there is none, where a process keeps no veil
-abbrev pub unveiled_line : History → List ℕ
+abbrev pub unveiled_line : ProcessState → List ℕ
 unveiled_line h = if has_veil (veils h) then [] else with_end (codes "no veils")
 
 -- by which rules, what a process holds, and whether it may put veils
-abbrev pub held_lines : Rules → History → List ℕ
+abbrev pub held_lines : Rules → ProcessState → List ℕ
 held_lines rules h = rules_line rules ++ with_end (codes "promises " ++ pledged_text (pledged_set h))
     ++ with_end (codes "execpromises " ++ pledged_text (held_for_exec h)) ++ with_end (codes "unveil " ++ unveil_word h)
 
 -- what becomes of a list for ever at an exec, what promises open by themselves, and that there is no veil
-abbrev pub bound_lines : Rules → Span → History → List ℕ
+abbrev pub bound_lines : Rules → Span → ProcessState → List ℕ
 bound_lines rules span h = execs_told span ++ openings_told rules span h ++ unveiled_line h
 
 -- the lines of a living process before those of its veils
-abbrev pub living_lines : Heading → History → List ℕ
+abbrev pub living_lines : Heading → ProcessState → List ℕ
 living_lines head h = with_end (codes "process alive") ++ held_lines head.rules h ++ bound_lines head.rules head.span h
 
 -- an ended process has one line
-abbrev pub own_lines : Heading → History → List ℕ
+abbrev pub own_lines : Heading → ProcessState → List ℕ
 own_lines head h = if is_ended h then with_end (codes "process ended") else living_lines head h
 
 -- the veils that a living process keeps, in the order in which their places were first kept
-abbrev pub living_veils : History → List (Place × ℕ)
+abbrev pub living_veils : ProcessState → List (Place × ℕ)
 living_veils h = if is_ended h then [] else veils h
 
 abbrev pub title_of : Span → List ℕ
@@ -127,12 +127,12 @@ abbrev pub veil_lines : Tree → List (Place × ℕ) → List ℕ
 veil_lines t vs = flat_map (veil_line t) vs
 
 -- what stands before the lines of a list: its heading, and the state of its process
-abbrev pub head_lines : Tree → Heading → History → List ℕ
+abbrev pub head_lines : Tree → Heading → ProcessState → List ℕ
 head_lines t head h = (heading_line head ++ own_lines head h) ++ veil_lines t (living_veils h)
 
 -- the laws: a process that can put no veil any more prints `locked` or `given-up`, and only such a one does
 abbrev pub ConfinedIsPrinted : Type 0
-ConfinedIsPrinted = (h : History) → IsConfined h ↔ ((unveil_word h ≡ codes "locked") ⊎ (unveil_word h ≡ codes "given-up"))
+ConfinedIsPrinted = (h : ProcessState) → IsConfined h ↔ ((unveil_word h ≡ codes "locked") ⊎ (unveil_word h ≡ codes "given-up"))
 
 -- what is printed of promises: `-` where no pledge gave any; or else the keywords of rows, in which each keyword is whose
 -- promise is among them, and no other; `=` for none
@@ -142,7 +142,7 @@ TellsPromises (Some set) text = (rows : List (List ℕ × ℕ)) × (text ≡ or_
     ((row : List ℕ × ℕ) → Contains rows row ↔ (Contains keyword_rows row × (holds set row.1 ≡ true)))
 
 -- the lines of a living process before those of its veils, and what their words say
-pub record TellsState (head : Heading) (h : History) (text : List ℕ) : Type 0 where
+pub record TellsState (head : Heading) (h : ProcessState) (text : List ℕ) : Type 0 where
   pub promises : List ℕ
   pub for_exec : List ℕ
   pub unveils : List ℕ
@@ -155,10 +155,10 @@ pub record TellsState (head : Heading) (h : History) (text : List ℕ) : Type 0 
 
 -- so do the lines that are printed of a process that has not ended
 abbrev pub StateIsPrinted : Type 0
-StateIsPrinted = (head : Heading) (h : History) → is_ended h ≡ false → TellsState head h (own_lines head h)
+StateIsPrinted = (head : Heading) (h : ProcessState) → is_ended h ≡ false → TellsState head h (own_lines head h)
 
 -- each veil that such a process keeps has its line, with where its place stands and its letters
 abbrev pub VeilsArePrinted : Type 0
-VeilsArePrinted = (t : Tree) (h : History) (place : Place) (perms : ℕ) → is_ended h ≡ false → Contains (veils h) (place, perms) →
+VeilsArePrinted = (t : Tree) (h : ProcessState) (place : Place) (perms : ℕ) → is_ended h ≡ false → Contains (veils h) (place, perms) →
     (before : List ℕ) × (after : List ℕ) × (veil_lines t (living_veils h)
     ≡ before ++ with_end (codes "veil " ++ veil_place_text t place ++ 32 ∷ or_equals (perm_letters perms)) ++ after)

@@ -4,11 +4,11 @@ use Rattle.std.specs.Option.{option_map_or}
 use Rattle.pua_tree.specs.Tree.{Tree}
 use Rattle.pua_calls.specs.Calls.{CallTable}
 use Rattle.pua_calls.specs.declared.rules.Rules.{Rules}
-use Rattle.pua_policy.specs.History.{History}
+use Rattle.pua_policy.specs.States.{ProcessState}
 use Rattle.pua_policy.specs.Reasons.{covering}
 use Rattle.pua_policy.specs.declared.reason.Covering.{Covering}
 use Rattle.pua_script.specs.Requests.{Asked}
-use Rattle.pua_script.specs.Replay.{World, history_of, world_after}
+use Rattle.pua_script.specs.Replay.{World, kept_at, world_after}
 use Rattle.pua_objects.specs.Objects.{Line, Subject, At, Others, line_text, objects}
 use Rattle.pua_why.specs.Columns.{columns, covering_in}
 use Rattle.pua_texts.specs.States.{head_lines}
@@ -27,23 +27,23 @@ abbrev pub world_left : Posed → World
 world_left p = world_after p.table p.world p.asks
 
 -- what covers what a line is about
-abbrev pub covering_on : Tree → History → Subject → Covering
-covering_on t h (At object) = covering t h object
-covering_on t h (Others dir) = covering_in t h dir
+abbrev pub covering_of : Tree → ProcessState → Subject → Covering
+covering_of t h (At object) = covering t h object
+covering_of t h (Others dir) = covering_in t h dir
 
-abbrev pub why_line : Posed → ℕ → History → Line → List ℕ
+abbrev pub why_line : Posed → ℕ → ProcessState → Line → List ℕ
 why_line p process h line =
     with_end (line_text (world_left p).tree line ++ columns p.table p.world p.asks process h line.calls
-    (covering_on (world_left p).tree h line.subject))
+    (covering_of (world_left p).tree h line.subject))
 
--- the list of a process with reasons: its heading, its state, and a line for each object on which its history allows a call
-abbrev pub why_list : Heading → Posed → History → List ℕ
+-- the list of a process with reasons: its heading, its state, and a line for each object on which it is allowed a call
+abbrev pub why_list : Heading → Posed → ProcessState → List ℕ
 why_list head p h =
     head_lines (world_left p).tree head h ++ flat_map (why_line p head.number h) (objects (world_left p).tree p.table h)
 
 -- a number that was never made has no list
 abbrev pub why_list_of : Rules → Posed → ℕ → List ℕ
-why_list_of rules p process = option_map_or (why_list (heading_now rules process) p) (history_of (world_left p) process) []
+why_list_of rules p process = option_map_or (why_list (heading_now rules process) p) (kept_at (world_left p) process) []
 
 abbrev pub why_lists_of : Rules → Posed → List ℕ → List ℕ
 why_lists_of rules p numbers = flat_map (why_list_of rules p) numbers

@@ -1,7 +1,7 @@
 //! The pairs of an audit, written in blocks behind the front of a text.
 
 ghost use Rattle.std.specs.Prelude.{◌≡◌, ◌≢◌, ◌++◌, Ok, Err, IfOk, IfErr, map, option_map};
-ghost use Rattle.pua_policy.specs.History.{History, StandsFor};
+ghost use Rattle.pua_policy.specs.States.{ProcessState};
 ghost use Rattle.pua_audit.specs.Begin.{Beginning, beginning, still_to_come};
 ghost use Rattle.pua_texts.specs.Blocks.{PassesOn};
 ghost use Rattle.pua_texts.specs.Lines.{pair_lines};
@@ -50,11 +50,11 @@ impl<'t, T: FileTree> AuditList<'t, T> {
         limit: u8,
         after: Option<&[u8]>,
     ) -> Result<AuditList<'t, T>, AuditFault>
-        ensures begun { IfOk result (λ list. (h : History) → StandsFor process.now h →
-            (b : Beginning) × (beginning (T.content tree.now) table.now h base (map
-            (λ s. s.now) candidates.now) limit (option_map (λ s. s.now) after.entry) ≡ Ok b)
+        ensures begun { IfOk result (λ list. (b : Beginning) ×
+            (beginning (T.content tree.now) table.now process.now base
+            (map (λ s. s.now) candidates.now) limit (option_map (λ s. s.now) after.entry) ≡ Ok b)
             × (list.left ≡ still_to_come b) × (list.base ≡ b.scope.base)) }
-        ensures refused { IfErr result (λ fault. fault ≢ AuditFault.OutOfMemory → (h : History) →
+        ensures refused { IfErr result (λ fault. fault ≢ AuditFault.OutOfMemory → (h : ProcessState) →
             beginning (T.content tree.now) table.now h base (map
             (λ s. s.now) candidates.now) limit (option_map (λ s. s.now) after.entry)
             ≡ Err fault) }

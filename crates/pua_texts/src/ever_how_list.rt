@@ -2,7 +2,6 @@
 
 ghost use Rattle.std.specs.Prelude.{◌≡◌, ◌++◌, [], ℕ, IfOk, List, map, string_bytes};
 ghost use Rattle.pua_calls.specs.Calls.{CallTable};
-ghost use Rattle.pua_policy.specs.History.{History, StandsFor};
 ghost use Rattle.pua_ever.specs.Ever.{EverLine};
 ghost use Rattle.pua_ever.specs.Through.{execs_of};
 ghost use Rattle.pua_texts.specs.EverHowLines.{AreToldWith, ever_list_with, lines_numbered};
@@ -38,12 +37,12 @@ pub fn write_ever_how<'t, T: FileTree, S: Sink>(
     front: &str,
     sink: &mut S,
 ) -> Result<(), TextFault>
-    ensures { (table : CallTable) (h : History) (lines : List (EverLine × List ℕ)) →
-        StandsFor process.now h → list.now.execs ≡ execs_of (T.content tree.now) table h →
+    ensures { (table : CallTable) (lines : List (EverLine × List ℕ)) →
+        list.now.execs ≡ execs_of (T.content tree.now) table process.now →
         AreToldWith (T.content tree.now) [] list.now.rows.items (map string_bytes texts.items)
         lines →
         TellsTo S.written S.failed
-        (front.now ++ ever_list_with rules table (T.content tree.now) number h lines)
+        (front.now ++ ever_list_with rules table (T.content tree.now) number process.now lines)
         result sink.old sink.new }
 {
     let heading = Heading {

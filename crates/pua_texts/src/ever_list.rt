@@ -3,7 +3,6 @@
 ghost use Rattle.std.specs.Prelude.{◌≡◌, ◌++◌, [], IfOk, List};
 ghost use Rattle.pua_calls.specs.Calls.{CallTable};
 ghost use Rattle.pua_tree.specs.Tree.{Tree};
-ghost use Rattle.pua_policy.specs.History.{History, StandsFor};
 ghost use Rattle.pua_ever.specs.Ever.{EverLine as Told};
 ghost use Rattle.pua_texts.specs.ColumnsState.{plain};
 ghost use Rattle.pua_ever.specs.EverList.{AreEverTold};
@@ -41,10 +40,9 @@ pub fn write_ever<'t, T: FileTree, S: Sink>(
     front: &str,
     sink: &mut S,
 ) -> Result<(), TextFault>
-    ensures { (table : CallTable) (h : History) → StandsFor process.now h →
-        IsLasting (T.content tree.now) table h list.now →
+    ensures { (table : CallTable) → IsLasting (T.content tree.now) table process.now list.now →
         TellsTo S.written S.failed
-        (front.now ++ ever_list rules table (T.content tree.now) number h)
+        (front.now ++ ever_list rules table (T.content tree.now) number process.now)
         result sink.old sink.new }
 {
     let heading = Heading {

@@ -1,10 +1,9 @@
 //! The heading of a list of several processes, and the state of each.
 
-ghost use Rattle.std.specs.Prelude.{◌≡◌, ◌∷◌, ◌++◌, [], ℕ, List, IfOk, OnOk, if◌then◌else◌};
+ghost use Rattle.std.specs.Prelude.{◌≡◌, ◌∷◌, ◌++◌, [], IfOk, OnOk, if◌then◌else◌};
 ghost use Rattle.std.specs.Prelude.{decimal, flat_map, map, string_bytes};
 ghost use Rattle.pua_objects.specs.Objects.{with_commas};
-ghost use Rattle.pua_policy.specs.History.{History, StandsFor};
-ghost use Rattle.pua_texts.specs.Members.{AreMembers};
+ghost use Rattle.pua_texts.specs.Members.{named_by};
 ghost use Rattle.pua_texts.specs.TogetherLines.{member_lines, together_heading};
 
 use crate::members::Member;
@@ -20,8 +19,8 @@ pub(crate) fn states_text(
     rules: Rules,
     members: &[Member<'_>],
 ) -> Result<String, AllocError>
-    ensures { IfOk result (λ text. (named : List (ℕ × History)) → AreMembers members.now named →
-        string_bytes text ≡ together_heading named ++ flat_map (member_lines rules) named) }
+    ensures { IfOk result (λ text. string_bytes text ≡ together_heading (named_by members.now)
+        ++ flat_map (member_lines rules) (named_by members.now)) }
 {
     let mut text = String::from_str(alloc, "ever ")?;
     push_numbers(&mut text, members)?;
@@ -33,7 +32,7 @@ pub(crate) fn states_text(
 /// Adds the numbers of processes with commas between them.
 fn push_numbers(text: &mut String, members: &[Member<'_>]) -> Result<(), AllocError>
     ensures { OnOk result (string_bytes text.new ≡ string_bytes text.old
-        ++ with_commas (map (λ member. decimal member.number) members.now)) }
+        ++ with_commas (map (λ member. decimal member.0) (named_by members.now))) }
 {
     let mut is_first = true;
     for member in members {
@@ -61,8 +60,8 @@ fn push_states(
     rules: Rules,
     members: &[Member<'_>],
 ) -> Result<(), AllocError>
-    ensures { OnOk result ((named : List (ℕ × History)) → AreMembers members.now named →
-        string_bytes text.new ≡ string_bytes text.old ++ flat_map (member_lines rules) named) }
+    ensures { OnOk result (string_bytes text.new ≡ string_bytes text.old
+        ++ flat_map (member_lines rules) (named_by members.now)) }
 {
     for member in members {
         push_state(alloc, text, rules, member)?;
@@ -77,8 +76,8 @@ fn push_state(
     rules: Rules,
     member: &Member<'_>,
 ) -> Result<(), AllocError>
-    ensures { OnOk result ((h : History) → StandsFor member.now.process.now h →
-        string_bytes text.new ≡ string_bytes text.old ++ member_lines rules (member.now.number, h)) }
+    ensures { OnOk result (string_bytes text.new ≡ string_bytes text.old
+        ++ member_lines rules (member.now.number, member.now.process.now)) }
 {
     if member.process.ended() {
         return writeln!(text, "process {} ended", member.number);

@@ -1,10 +1,9 @@
 //! The lines of the objects of a process, one for each item.
 
-ghost use Rattle.std.specs.Prelude.{◌≡◌, ◌≤◌, ℕ, [], IfOk, flat_map};
+ghost use Rattle.std.specs.Prelude.{◌≡◌, ℕ, [], IfOk, flat_map};
 ghost use Rattle.std.specs.List.{AllByRecursion};
 ghost use Rattle.pua_calls.specs.Calls.{rule_of};
 ghost use Rattle.pua_calls.specs.CallSets.{calls_in};
-ghost use Rattle.pua_policy.specs.History.{History, StandsFor};
 ghost use Rattle.pua_policy.specs.Reasons.{promising};
 ghost use Rattle.pua_tree.specs.Tree.{Tree};
 ghost use Rattle.pua_objects.specs.Lines.{lines_of};
@@ -32,10 +31,9 @@ pub(crate) fn object_lines<'t>(
     table: &CallTable,
     items: &[ListItem<'t>],
 ) -> Result<Vec<ListLine<'t>>, OutOfMemory>
-    ensures { IfOk result (λ lines. (t : Tree) (h : History) → StandsFor process.now h →
-        AllByRecursion (IsToldIn t process.now) items.now →
-        lines_text plain [] lines.items
-        ≡ object_lines t (lines_of t table.now h (items_told t [] items.now))) }
+    ensures { IfOk result (λ lines. (t : Tree) →
+        AllByRecursion (IsToldIn t process.now) items.now → lines_text plain [] lines.items
+        ≡ object_lines t (lines_of t table.now process.now (items_told t [] items.now))) }
 {
     let allowed = AllowedCalls::new(process, table);
     let mut lines = Vec::with_capacity(alloc, items.len())?;
@@ -64,12 +62,12 @@ pub(crate) fn why_lines<'t>(
     items: &[ListItem<'t>],
     columns: &mut Columns,
 ) -> Result<Vec<ListLine<'t>>, OutOfMemory>
-    ensures { IfOk result (λ lines. (p : Asking) (number : ℕ) (h : History) →
-        StandsFor process.now h → table.now ≡ p.table →
+    ensures { IfOk result (λ lines. (p : Asking) (number : ℕ) → table.now ≡ p.table →
         AllByRecursion (IsToldIn (world_left p).tree process.now) items.now →
         AreColumnsOf p number process.now.veils columns.old →
-        lines_text columns.new [] lines.items ≡ flat_map (why_line p number h)
-        (lines_of (world_left p).tree p.table h (items_told (world_left p).tree [] items.now))) }
+        lines_text columns.new [] lines.items ≡ flat_map (why_line p number process.now)
+        (lines_of (world_left p).tree p.table process.now
+        (items_told (world_left p).tree [] items.now))) }
 {
     let allowed = AllowedCalls::new(process, table);
     let mut lines = Vec::with_capacity(alloc, items.len())?;
@@ -92,8 +90,7 @@ pub(crate) fn why_lines<'t>(
 
 /// The promises on which calls rest: of each call the first set that is held.
 fn resting_on(process: &Process, table: &CallTable, calls: Calls) -> Promises
-    ensures { (h : History) → StandsFor process.now h →
-        result ≡ resting_on table.now h (calls_in calls) }
+    ensures { result ≡ resting_on table.now process.now (calls_in calls) }
 {
     let mut resting = Promises::NONE;
     for call in Call::ALL {
@@ -106,8 +103,7 @@ fn resting_on(process: &Process, table: &CallTable, calls: Calls) -> Promises
 
 /// The set of promises that lets a call through, and none where there is none.
 fn let_by(process: &Process, table: &CallTable, call: Call) -> Promises
-    ensures { (h : History) → StandsFor process.now h →
-        result ≡ let_by (promising h (rule_of table.now call).alternatives) }
+    ensures { result ≡ let_by (promising process.now (rule_of table.now call).alternatives) }
 {
     match process.promising(table.alternatives(call)) {
         Promising::Holds(set) => set,

@@ -1,9 +1,7 @@
 //! The lists of the objects of processes.
 
 ghost use Rattle.std.specs.Prelude.{◌≡◌, ◌++◌, IfOk};
-ghost use Rattle.pua_policy.specs.History.{History, StandsFor};
-ghost use Rattle.pua_script.specs.Replay.{World as Replayed};
-ghost use Rattle.pua_script.specs.Worlds.{StandsForWorld};
+ghost use Rattle.pua_script.specs.Worlds.{world_of};
 ghost use Rattle.pua_texts.specs.ListLines.{list_text, lists_text};
 ghost use Rattle.pua_texts.specs.ObjectLines.{lists_of, process_list};
 ghost use Rattle.pua_texts.specs.Tells.{TellsTo};
@@ -36,8 +34,8 @@ pub fn write_lists<T: FileTree, S: Sink>(
     front: &str,
     sink: &mut S,
 ) -> Result<(), TextFault>
-    ensures { (w : Replayed) → StandsForWorld world.now w →
-        TellsTo S.written S.failed (front.now ++ lists_of rules world.now.table w numbers.now)
+    ensures { TellsTo S.written S.failed
+        (front.now ++ lists_of rules world.now.table (world_of world.now) numbers.now)
         result sink.old sink.new }
 {
     let mut lists = begin_lists(alloc, world, rules, numbers)?;
@@ -51,8 +49,8 @@ fn begin_lists<'t, T: FileTree>(
     rules: Rules,
     numbers: &[u32],
 ) -> Result<VecDeque<ProcessList<'t>>, OutOfMemory>
-    ensures { IfOk result (λ lists. (w : Replayed) → StandsForWorld world.now w →
-        lists_text w.tree lists.items ≡ lists_of rules world.now.table w numbers.now) }
+    ensures { IfOk result (λ lists. lists_text world.now.tree lists.items
+        ≡ lists_of rules world.now.table (world_of world.now) numbers.now) }
 {
     let mut lists = VecDeque::new(alloc);
     for number in numbers {
@@ -80,9 +78,8 @@ fn begin_list<'t, T: FileTree>(
     heading: Heading,
     process: &'t Process,
 ) -> Result<ProcessList<'t>, OutOfMemory>
-    ensures { IfOk result (λ list. (h : History) → StandsFor process.now h →
-        list_text (T.content tree.now) list
-        ≡ process_list heading table.now (T.content tree.now) h) }
+    ensures { IfOk result (λ list. list_text (T.content tree.now) list
+        ≡ process_list heading table.now (T.content tree.now) process.now) }
 {
     let head = ProcessHead::begin(alloc, heading, process)?;
     let items = list_items(alloc, tree, process)?;

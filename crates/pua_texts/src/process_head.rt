@@ -1,10 +1,9 @@
 //! What stands before the lines of a list: its heading, and the state of its process.
 
-ghost use Rattle.std.specs.Prelude.{◌≡◌, ◌++◌, IfOk, map, string_bytes};
-ghost use Rattle.pua_policy.specs.History.{History, StandsFor};
+ghost use Rattle.std.specs.Prelude.{◌≡◌, IfOk, map, string_bytes};
 ghost use Rattle.pua_texts.specs.Blocks.{PassesOn};
 ghost use Rattle.pua_texts.specs.ListLines.{head_text};
-ghost use Rattle.pua_texts.specs.Lists.{IsHeadOf};
+ghost use Rattle.pua_texts.specs.Lists.{head_of};
 ghost use Rattle.pua_texts.specs.States.{living_veils};
 
 use crate::block::Block;
@@ -45,8 +44,7 @@ impl<'t> ProcessHead<'t> {
         heading: Heading,
         process: &'t Process,
     ) -> Result<ProcessHead<'t>, OutOfMemory>
-        ensures { IfOk result (λ head. (h : History) → StandsFor process.now h →
-            IsHeadOf heading h head) }
+        ensures { IfOk result (λ head. head ≡ head_of heading process.now) }
     {
         let Ok(text) = state_text(alloc, heading, process) else {
             return Err(OutOfMemory);
@@ -83,8 +81,8 @@ impl<'t> ProcessHead<'t> {
 
 /// The veils of a process that has not ended.
 fn veils_of_living(alloc: Global, process: &Process) -> Result<Vec<(&Place, &Perms)>, OutOfMemory>
-    ensures { IfOk result (λ veils. (h : History) → StandsFor process.now h →
-        map (λ veil. (veil.0.now, veil.1.now)) veils.items ≡ living_veils h) }
+    ensures { IfOk result (λ veils.
+        map (λ veil. (veil.0.now, veil.1.now)) veils.items ≡ living_veils process.now) }
 {
     if process.ended() {
         return Ok(Vec::new(alloc));

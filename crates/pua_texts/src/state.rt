@@ -1,7 +1,6 @@
 //! The heading of a list, and what it says of the state of its process before the veils.
 
 ghost use Rattle.std.specs.Prelude.{◌≡◌, ◌++◌, IfOk, OnOk, string_bytes};
-ghost use Rattle.pua_policy.specs.History.{History, StandsFor};
 ghost use Rattle.pua_texts.specs.States.{bound_lines, execs_told, heading_line, held_lines};
 ghost use Rattle.pua_texts.specs.States.{living_lines, opening_set};
 ghost use Rattle.pua_texts.specs.States.{openings_told, own_lines, pledged_text, rules_line, title_of};
@@ -42,8 +41,8 @@ pub(crate) fn state_text(
     heading: Heading,
     process: &Process,
 ) -> Result<String, AllocError>
-    ensures { IfOk result (λ text. (h : History) → StandsFor process.now h →
-        string_bytes text ≡ heading_line heading ++ own_lines heading h) }
+    ensures { IfOk result (λ text.
+        string_bytes text ≡ heading_line heading ++ own_lines heading process.now) }
 {
     let mut text = heading_text(alloc, heading)?;
     push_own(alloc, &mut text, heading, process)?;
@@ -75,8 +74,8 @@ fn push_own(
     heading: Heading,
     process: &Process,
 ) -> Result<(), AllocError>
-    ensures { OnOk result ((h : History) → StandsFor process.now h →
-        string_bytes text.new ≡ string_bytes text.old ++ own_lines heading h) }
+    ensures { OnOk result (string_bytes text.new
+        ≡ string_bytes text.old ++ own_lines heading process.now) }
 {
     if process.ended() {
         return push_line(text, "process ", "ended");
@@ -91,8 +90,8 @@ fn push_living(
     heading: Heading,
     process: &Process,
 ) -> Result<(), AllocError>
-    ensures { OnOk result ((h : History) → StandsFor process.now h →
-        string_bytes text.new ≡ string_bytes text.old ++ living_lines heading h) }
+    ensures { OnOk result (string_bytes text.new
+        ≡ string_bytes text.old ++ living_lines heading process.now) }
 {
     push_line(text, "process ", "alive")?;
     push_held(alloc, text, heading.rules, process)?;
@@ -107,8 +106,8 @@ pub(crate) fn push_held(
     rules: Rules,
     process: &Process,
 ) -> Result<(), AllocError>
-    ensures { OnOk result ((h : History) → StandsFor process.now h →
-        string_bytes text.new ≡ string_bytes text.old ++ held_lines rules h) }
+    ensures { OnOk result (string_bytes text.new
+        ≡ string_bytes text.old ++ held_lines rules process.now) }
 {
     let promises = spelled_promises(alloc, process.promises())?;
     let execpromises = spelled_promises(alloc, process.execpromises())?;
@@ -127,8 +126,8 @@ pub(crate) fn push_bounds(
     span: Span,
     process: &Process,
 ) -> Result<(), AllocError>
-    ensures { OnOk result ((h : History) → StandsFor process.now h →
-        string_bytes text.new ≡ string_bytes text.old ++ bound_lines rules span h) }
+    ensures { OnOk result (string_bytes text.new
+        ≡ string_bytes text.old ++ bound_lines rules span process.now) }
 {
     push_execs(text, span)?;
     push_opened(alloc, text, rules, span, process)?;
@@ -164,8 +163,8 @@ fn push_opened(
     span: Span,
     process: &Process,
 ) -> Result<(), AllocError>
-    ensures { OnOk result ((h : History) → StandsFor process.now h →
-        string_bytes text.new ≡ string_bytes text.old ++ openings_told rules span h) }
+    ensures { OnOk result (string_bytes text.new
+        ≡ string_bytes text.old ++ openings_told rules span process.now) }
 {
     match rules {
         Rules::Profile => Ok(()),
@@ -176,7 +175,7 @@ fn push_opened(
 /// The promises by which something is opened: those that were pledged; and at some time each one that
 /// can still be, also by what is started, where the list has what that can touch.
 fn opening_promises(span: Span, process: &Process) -> Promises
-    ensures { (h : History) → StandsFor process.now h → result ≡ opening_set span h }
+    ensures { result ≡ opening_set span process.now }
 {
     match span {
         Span::Now => process.promises().unwrap_or(Promises::NONE),
@@ -190,8 +189,8 @@ fn opening_promises(span: Span, process: &Process) -> Promises
 
 /// Adds that there are no veils, where the process keeps none.
 fn push_unveiled(text: &mut String, process: &Process) -> Result<(), AllocError>
-    ensures { OnOk result ((h : History) → StandsFor process.now h →
-        string_bytes text.new ≡ string_bytes text.old ++ unveiled_line h) }
+    ensures { OnOk result (string_bytes text.new
+        ≡ string_bytes text.old ++ unveiled_line process.now) }
 {
     if process.is_veiled() {
         return Ok(());
@@ -209,7 +208,7 @@ fn push_line(text: &mut String, label: &str, value: &str) -> Result<(), AllocErr
 
 /// Whether a process may still put veils.
 fn unveil_state(process: &Process) -> &'static str
-    ensures { (h : History) → StandsFor process.now h → result.now ≡ unveil_word h }
+    ensures { result.now ≡ unveil_word process.now }
 {
     let held = process.promises().unwrap_or(Promises::ALL_BUT_ERROR);
     if process.locked() {

@@ -1,11 +1,10 @@
 //! The list for ever of several processes together: its heading, their states, and what they can touch.
 
-ghost use Rattle.std.specs.Prelude.{◌≡◌, ◌++◌, ℕ, List, IfOk};
+ghost use Rattle.std.specs.Prelude.{◌≡◌, ◌++◌, IfOk};
 ghost use Rattle.pua_calls.specs.Calls.{CallTable};
 ghost use Rattle.pua_tree.specs.Tree.{Tree};
-ghost use Rattle.pua_policy.specs.History.{History};
 ghost use Rattle.pua_texts.specs.ListLines.{list_text};
-ghost use Rattle.pua_texts.specs.Members.{AreMembers, IsJointOf};
+ghost use Rattle.pua_texts.specs.Members.{IsJointOf, named_by};
 ghost use Rattle.pua_texts.specs.Tells.{TellsTo};
 ghost use Rattle.pua_texts.specs.TogetherLines.{one_of, together_list};
 
@@ -38,10 +37,10 @@ pub fn write_together<'t, T: FileTree, S: Sink>(
     front: &str,
     sink: &mut S,
 ) -> Result<(), TextFault>
-    ensures { (table : CallTable) (named : List (ℕ × History)) → AreMembers members.now named →
-        IsJointOf (T.content tree.now) table (one_of table named) joint.entry →
+    ensures { (table : CallTable) →
+        IsJointOf (T.content tree.now) table (one_of table (named_by members.now)) joint.entry →
         TellsTo S.written S.failed
-        (front.now ++ together_list rules table (T.content tree.now) named)
+        (front.now ++ together_list rules table (T.content tree.now) (named_by members.now))
         result sink.old sink.new }
 {
     let list = begin_list(alloc, rules, members, joint)?;
@@ -60,9 +59,9 @@ fn begin_list<'t>(
     members: &[Member<'_>],
     joint: Option<Joint<'t, '_>>,
 ) -> Result<ProcessList<'t>, OutOfMemory>
-    ensures { IfOk result (λ list. (t : Tree) (table : CallTable) (named : List (ℕ × History)) →
-        AreMembers members.now named → IsJointOf t table (one_of table named) joint.entry →
-        list_text t list ≡ together_list rules table t named) }
+    ensures { IfOk result (λ list. (t : Tree) (table : CallTable) →
+        IsJointOf t table (one_of table (named_by members.now)) joint.entry →
+        list_text t list ≡ together_list rules table t (named_by members.now)) }
 {
     let Ok(mut text) = states_text(alloc, rules, members) else {
         return Err(OutOfMemory);

@@ -2,8 +2,7 @@
 
 ghost use Rattle.std.specs.Prelude.{◌≡◌, ◌++◌, ℕ, List, Option, IfOk};
 ghost use Rattle.std.specs.Prelude.{flat_map, length, map};
-ghost use Rattle.pua_policy.specs.History.{History, StandsFor};
-ghost use Rattle.pua_script.specs.Worlds.{StandsForWorld};
+ghost use Rattle.pua_script.specs.Worlds.{world_of};
 ghost use Rattle.pua_since.specs.Dates.{veil_date, veils_at};
 ghost use Rattle.pua_texts.specs.ListLines.{list_text, lists_text};
 ghost use Rattle.pua_texts.specs.VeilDates.{veil_dates};
@@ -39,7 +38,7 @@ pub fn write_why_lists<T: FileTree, S: Sink>(
     front: &str,
     sink: &mut S,
 ) -> Result<(), TextFault>
-    ensures { (p : Asking) → StandsForWorld world.now (world_left p) →
+    ensures { (p : Asking) → world_of world.now ≡ world_left p →
         world.now.table ≡ p.table → lines.now
         ≡ map (veil_date p.table p.world p.asks) (flat_map (veils_at world.now) numbers.now) →
         TellsTo S.written S.failed (front.now ++ why_lists_of rules p numbers.now)
@@ -58,7 +57,7 @@ fn begin_lists<'t, T: FileTree>(
     numbers: &[u32],
     lines: &[Option<usize>],
 ) -> Result<VecDeque<ProcessList<'t>>, OutOfMemory>
-    ensures { IfOk result (λ lists. (p : Asking) → StandsForWorld world.now (world_left p) →
+    ensures { IfOk result (λ lists. (p : Asking) → world_of world.now ≡ world_left p →
         world.now.table ≡ p.table → lines.now
         ≡ map (veil_date p.table p.world p.asks) (flat_map (veils_at world.now) numbers.now) →
         lists_text (world_left p).tree lists.items ≡ why_lists_of rules p numbers.now) }
@@ -69,6 +68,7 @@ fn begin_lists<'t, T: FileTree>(
         let Some(process) = world.process(*number) else {
             continue;
         };
+        process.known();
         let (own, more) = split_lines(alloc, process, left)?;
         let heading = Heading {
             span: Span::Now,
@@ -109,11 +109,10 @@ fn begin_list<'t, T: FileTree>(
     process: &'t Process,
     lines: &[Option<usize>],
 ) -> Result<ProcessList<'t>, OutOfMemory>
-    ensures { IfOk result (λ list. (p : Asking) (h : History) →
+    ensures { IfOk result (λ list. (p : Asking) →
         T.content tree.now ≡ (world_left p).tree → table.now ≡ p.table →
-        StandsFor process.now h →
         lines.now ≡ veil_dates p heading.number process.now.veils →
-        list_text (world_left p).tree list ≡ why_list heading p h) }
+        list_text (world_left p).tree list ≡ why_list heading p process.now) }
 {
     let head = ProcessHead::begin(alloc, heading, process)?;
     let items = list_items(alloc, tree, process)?;

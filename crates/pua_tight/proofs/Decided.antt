@@ -1,7 +1,6 @@
 -- What is granted to one that asks is granted to one that is refused less, and is the same change.
 use Rattle.std.proofs.Common.{◌≡◌, ℕ, List, [], ◌∷◌, refl, sym, ap, ◌∙◌, Bool, true, false, cond, ◌||◌, ◌&&◌, subst, length}
-use Rattle.std.proofs.lemmas.Bool.{false≢true}
-use Rattle.std.specs.Prelude.{Option, Some, None, Result, Ok, Err, option_map, nat_le}
+use Rattle.std.specs.Prelude.{Option, Some, None, Result, Ok, Err, option_map, nat_le, IsTrue}
 use Rattle.pua_tree.specs.Tree.{Tree}
 use Rattle.pua_path.specs.Paths.{path_fault}
 use Rattle.pua_path.specs.Resolution.{resolution_of_text}
@@ -17,8 +16,8 @@ use Rattle.pua_calls.specs.Calls.{CallTable, PairRule, rule_of, last_of, ending_
 use Rattle.pua_calls.specs.Promises.{holds, proc, unveil, error}
 use Rattle.pua_calls.specs.declared.call.Call.{Call}
 use Rattle.pua_calls.specs.declared.call.Call.TheVariants as call
-use Rattle.pua_policy.specs.History.{History, Event, Unveiled, Pledged, state_of, working_dir, may_any, is_locked, place_fault}
-use Rattle.pua_policy.specs.History.{pledge_fault_on, is_within, unveil_fault, perms_kept, veils, most_places, held_set, pledged_set, held_for_exec}
+use Rattle.pua_policy.specs.States.{ProcessState, Unveiled, Pledged, working_dir, may_any, place_fault, has_error, veil_at}
+use Rattle.pua_policy.specs.States.{is_within, unveil_fault, most_places, held_set}
 use Rattle.pua_policy.specs.Misfits.{misfit}
 use Rattle.pua_policy.specs.Verdict.{or_fault, object_of, place_of, refusal_of}
 use Rattle.pua_policy.specs.declared.place.Place.{Place}
@@ -33,12 +32,11 @@ use Rattle.pua_script.specs.Decide.{is_unknown, given_set, unveil_errno}
 use Rattle.pua_script.specs.declared.request.Given.{Given}
 use Rattle.pua_script.specs.declared.request.Action.{Action}
 use Rattle.pua_script.specs.declared.request.Action.TheVariants.{OnPath, Symlink, Rename, Link, Pledge, Unveil, Lock, Fork, Exit}
-use Rattle.pua_tight.specs.Narrower.{SetWithin, unset, within, EventWithin, pledged, unveiled, HistoryWithin, GivenWithin, given_none, given_less, given_unknown}
+use Rattle.pua_tight.specs.Narrower.{SetWithin, unset, within, StateWithin, GivenWithin, given_none, given_less, given_unknown}
 use Rattle.pua_tight.specs.Narrower.{ActionWithin, as_given, less_pledged, less_unveiled}
 use Rattle.pua_policy.proofs.ForCallers.{holds_through}
-use Rattle.pua_tight.proofs.Sets.{asked_within}
-use Rattle.pua_tight.proofs.Histories.{pledged_within, exec_within, held_within, kept_within, locked_alike, dir_alike, veils_within, as_many}
-use Rattle.pua_tight.proofs.Histories.{cover_within, fault_within, may_within}
+use Rattle.pua_tight.proofs.Sets.{or_more, and_more, two_bools, asked_within}
+use Rattle.pua_tight.proofs.Within.{held_within, kept_within, as_many, cover_within, fault_within, may_within}
 
 -- each check that the first passes the second passes, and paths name the same to both
 pub record Easier (a b : Asking) : Type 0 where
@@ -169,7 +167,7 @@ free dir = record {
   place = λ place perms. None;
 }
 
-freer : (h : History) → Easier (asker_of h) (free (working_dir h))
+freer : (h : ProcessState) → Easier (asker_of h) (free (working_dir h))
 freer h = record {
   promises = λ sets e. refl;
   path = λ side t end text last. refl;
@@ -180,7 +178,7 @@ freer h = record {
 }
 
 -- what is granted is what it would be without checks
-pub freely : (table : CallTable) (t : Tree) (h : History) (action : Action) (c : Change) → decide table t h action ≡ Ok c →
+pub freely : (table : CallTable) (t : Tree) (h : ProcessState) (action : Action) (c : Change) → decide table t h action ≡ Ok c →
     decide_by refusals table t (free (working_dir h)) action ≡ Ok c
 freely table t h action c = granted_more table t (asker_of h) (free (working_dir h)) (freer h) c action
 
@@ -188,15 +186,6 @@ may_from : (m : May) → refusal_of m ≡ None → m ≡ may.Yes
 may_from may.Yes e = refl
 may_from may.Enosys e = cc
 may_from may.Death e = cc
-
-either : (a b c d : Bool) → (a ≡ true → b ≡ true) → (c ≡ true → d ≡ true) → (a || c) ≡ true → (b || d) ≡ true
-either true b c d first other e = ap (λ b. b || d) (first refl)
-either false true c d first other e = refl
-either false false c d first other e = other e
-
-each : (a b c d : Bool) → (a ≡ true → b ≡ true) → (c ≡ true → d ≡ true) → (a && c) ≡ true → (b && d) ≡ true
-each true b c d first other e = ap (λ b. b && d) (first refl) ∙ other e
-each false b c d first other e = absurd (false≢true e)
 
 none_if : (x : Bool) → cond {A = Option Errno} x None (Some EPERM) ≡ None → x ≡ true
 none_if true e = refl
@@ -212,39 +201,35 @@ placed (within {a = a} {b = b} less) n m perms same e =
     held true e = refl
     held false e = cc
 
-module _ (h k : History) (w : HistoryWithin h k) where
-  beyond_less : (p e : Option ℕ) → pledge_fault_on (state_of h) p e ≡ None → pledge_fault_on (state_of k) p e ≡ None
-  beyond_less p e is = ap (λ x. cond x None (Some EPERM)) (either (holds (held_set h) error) (holds (held_set k) error)
-      (is_within p (pledged_set h) && is_within e (held_for_exec h)) (is_within p (pledged_set k) && is_within e (held_for_exec k))
-      (λ has. holds_through (held_set k) (held_set h) error (held_within w) has)
-      (each (is_within p (pledged_set h)) (is_within p (pledged_set k)) (is_within e (held_for_exec h)) (is_within e (held_for_exec k))
-      (asked_within p (pledged_within w)) (asked_within e (exec_within w)))
-      (none_if (holds (held_set h) error || (is_within p (pledged_set h) && is_within e (held_for_exec h))) is))
+module _ (h k : ProcessState) (w : StateWithin h k) where
+  abbrev pub may_give : ProcessState → Option ℕ → Option ℕ → Bool
+  may_give g p e = has_error g || (is_within p g.promises && is_within e g.execpromises)
+
+  pub gives_more : (p e : Option ℕ) → may_give h p e ≡ true → may_give k p e ≡ true
+  gives_more p e = or_more (has_error h) _ (has_error k) _ (holds_through (held_set k) (held_set h) error (held_within w))
+      (and_more _ _ _ _ (asked_within p w.promises) (asked_within e w.execpromises))
 
   place_less : (place : Place) (perms : ℕ) → unveil_errno (unveil_fault h place perms) ≡ None → unveil_errno (unveil_fault k place perms) ≡ None
-  place_less place perms = by (is_locked h) (is_locked k) (locked_alike w)
-    where
-      by : (x y : Bool) → x ≡ y →
-          unveil_errno (cond x (Some NotPermitted) (place_fault (perms_kept h place) (length (veils h)) perms)) ≡ None →
-          unveil_errno (cond y (Some NotPermitted) (place_fault (perms_kept k place) (length (veils k)) perms)) ≡ None
-      by true y same e = cc
-      by false true same e = absurd (false≢true same)
-      by false false same e = placed (kept_within w place) (length (veils h)) (length (veils k)) perms (as_many (veils_within w)) e
+  place_less place perms = two_bools
+      (λ x y. unveil_errno (cond x (Some NotPermitted) (place_fault (veil_at h.veils place) (length h.veils) perms)) ≡ None →
+      unveil_errno (cond y (Some NotPermitted) (place_fault (veil_at k.veils place) (length k.veils) perms)) ≡ None) (λ e. e)
+      (placed (kept_within w.veils place) (length h.veils) (length k.veils) perms (as_many w.veils)) h.locked k.locked w.locked
 
   pub easier : Easier (asker_of h) (asker_of k)
   easier = record {
     promises = λ sets e. ap refusal_of (may_within h k w sets (may_from (may_any h sets) e));
-    path = λ side t end text last. ap (λ d. resolution_of_text t d end text last) (dir_alike w);
-    cover = λ side t object perms. fault_within (cover_within h k w t object) perms;
-    beyond = beyond_less;
-    locked = λ e. ap (λ x. fault_if x EPERM) (sym (locked_alike w)) ∙ e;
+    path = λ side t end text last. ap (λ d. resolution_of_text t d end text last) w.dir;
+    cover = λ side t object perms. fault_within (cover_within w.veils t object) perms;
+    beyond = λ p e is. ap (λ x. cond x None (Some EPERM)) (gives_more p e (none_if (may_give h p e) is));
+    locked = λ e. ap (λ x. fault_if x EPERM) (sym w.locked) ∙ e;
     place = place_less;
   }
 
--- one change, or events of which the first is within the other
+-- one change, or events of which the first gives fewer words
 pub data ChangeWithin : Change → Change → Type 0 where
   alike : {c : Change} → ChangeWithin c c
-  gives : {e f : Event} → EventWithin e f → ChangeWithin (AddEvent e) (AddEvent f)
+  pledges : {p q e f : Option ℕ} → SetWithin p q → SetWithin e f → ChangeWithin (AddEvent (Pledged p e)) (AddEvent (Pledged q f))
+  unveils : {place : Place} {a b : ℕ} → IsTrue (holds b a) → ChangeWithin (AddEvent (Unveiled place a)) (AddEvent (Unveiled place b))
 
 abbrev Granted : Change → Decision
 Granted c = Ok c
@@ -255,20 +240,20 @@ is_ok c d e = cc
 by_ok : (x y c d : Change) → ChangeWithin x y → Granted x ≡ Granted c → Granted y ≡ Granted d → ChangeWithin c d
 by_ok x y c d w e f = subst (λ z. ChangeWithin z d) (is_ok x c e) (subst (ChangeWithin x) (is_ok y d f) w)
 
-module _ (table : CallTable) (t : Tree) (h k : History) (w : HistoryWithin h k) (c d : Change) where
+module _ (table : CallTable) (t : Tree) (h k : ProcessState) (w : StateWithin h k) (c d : Change) where
   veil_within : (path : List ℕ) (a b : ℕ) → holds b a ≡ true → (r : Result Found Errno) →
       on_named refusals.failed r (λ object. Granted (AddEvent (Unveiled (place_of object) a))) ≡ Ok c →
       on_named refusals.failed r (λ object. Granted (AddEvent (Unveiled (place_of object) b))) ≡ Ok d → ChangeWithin c d
   veil_within path a b less (Ok object) e f =
-      by_ok (AddEvent (Unveiled (place_of object) a)) (AddEvent (Unveiled (place_of object) b)) c d (gives (unveiled less)) e f
+      by_ok (AddEvent (Unveiled (place_of object) a)) (AddEvent (Unveiled (place_of object) b)) c d (unveils less) e f
   veil_within path a b less (Err errno) e f = cc
 
   pledge_within : {p q x y : Given} → GivenWithin p q → GivenWithin x y → pledge_by refusals (free (working_dir h)) p x ≡ Ok c →
       pledge_by refusals (free (working_dir k)) q y ≡ Ok d → ChangeWithin c d
-  pledge_within given_none given_none e f = by_ok _ _ c d (gives (pledged unset unset)) e f
-  pledge_within (given_less less) given_none e f = by_ok _ _ c d (gives (pledged (within less) unset)) e f
-  pledge_within given_none (given_less less) e f = by_ok _ _ c d (gives (pledged unset (within less))) e f
-  pledge_within (given_less less) (given_less other) e f = by_ok _ _ c d (gives (pledged (within less) (within other))) e f
+  pledge_within given_none given_none e f = by_ok _ _ c d (pledges unset unset) e f
+  pledge_within (given_less less) given_none e f = by_ok _ _ c d (pledges (within less) unset) e f
+  pledge_within given_none (given_less less) e f = by_ok _ _ c d (pledges unset (within less)) e f
+  pledge_within (given_less less) (given_less other) e f = by_ok _ _ c d (pledges (within less) (within other)) e f
   pledge_within given_unknown other e f = cc
   pledge_within given_none given_unknown e f = cc
   pledge_within (given_less less) given_unknown e f = cc
@@ -277,12 +262,12 @@ module _ (table : CallTable) (t : Tree) (h k : History) (w : HistoryWithin h k) 
   change_within (as_given {action = action}) e f =
       let here : decide_by refusals table t (free (working_dir h)) action ≡ Ok c = freely table t h action c e in
       let there : decide_by refusals table t (free (working_dir k)) action ≡ Ok d = freely table t k action d f in
-      subst (ChangeWithin c) (is_ok c d (sym here ∙ ap (λ dir. decide_by refusals table t (free dir) action) (dir_alike w) ∙ there)) alike
+      subst (ChangeWithin c) (is_ok c d (sym here ∙ ap (λ dir. decide_by refusals table t (free dir) action) w.dir ∙ there)) alike
   change_within (less_pledged {p = p} {q = q} {e = x} {f = y} first second) e f =
       pledge_within first second (freely table t h (Pledge p x) c e) (freely table t k (Pledge q y) d f)
   change_within (less_unveiled {path = path} {a = a} {b = b} less) e f =
       veil_within path a b less (resolution_of_text t (working_dir k) ending.Dot path Followed)
       (ap (λ dir. on_named refusals.failed (resolution_of_text t dir ending.Dot path Followed)
-      (λ object. Granted (AddEvent (Unveiled (place_of object) a)))) (sym (dir_alike w))
+      (λ object. Granted (AddEvent (Unveiled (place_of object) a)))) (sym w.dir)
       ∙ freely table t h (Unveil path (Some a)) c e)
       (freely table t k (Unveil path (Some b)) d f)

@@ -1,16 +1,14 @@
--- Under which covers a thing can ever come, by a history and by one that it lies within.
+-- Under which covers a thing can ever come, by a process and by one that it lies within.
 use Rattle.std.proofs.Common.{◌≡◌, ℕ, List, [], ◌∷◌, ◌++◌, refl, sym, ap, ◌∙◌, Bool, true, false, ◌&&◌, ◌||◌, map, subst, inl, inr}
-use Rattle.std.proofs.lemmas.Bool.{and_parts, and_from, or_right}
-use Rattle.std.specs.List.{list_any, list_all}
+use Rattle.std.specs.List.{list_any}
 use Rattle.std.specs.Prelude.{Option, Some, None, not, ◌==◌, filter, is_none, if◌then◌else◌}
 use Rattle.pua_tree.specs.Tree.{Tree, Spot, look, is_dir}
 use Rattle.pua_path.specs.declared.errno.Errno.{Errno}
-use Rattle.pua_path.specs.declared.found.Found.{Found}
 use Rattle.pua_calls.specs.Calls.{CallTable, rule_of}
 use Rattle.pua_calls.specs.Promises.{holds, creating}
 use Rattle.pua_calls.specs.declared.call.Call.{Call}
-use Rattle.pua_policy.specs.History.{History, perms_kept, veils, may_any}
-use Rattle.pua_policy.specs.Verdict.{cover, cover_fault}
+use Rattle.pua_policy.specs.States.{ProcessState, may_any}
+use Rattle.pua_policy.specs.Verdict.{cover_fault}
 use Rattle.pua_policy.specs.declared.answer.Cover.{Cover}
 use Rattle.pua_policy.specs.declared.answer.Cover.TheVariants.{Only}
 use Rattle.pua_policy.specs.declared.answer.May.{May}
@@ -26,41 +24,22 @@ use Rattle.pua_ever.specs.Ever.{row_cover, is_free, can_empty, opens_at, opens_o
 use Rattle.pua_ever.specs.Ever.{is_way_in, dir_covers, veil_cover_at, name_covers, open_covers, is_yes, may_edit, edit_calls, may_rename}
 use Rattle.pua_ever.specs.Ever.{can_move, some_dir_moves, file_covers, may_link}
 use Rattle.pua_ever.proofs.ForCallers.{any_among, any_found}
-use Rattle.pua_tight.specs.Narrower.{SetWithin, HistoryWithin}
-use Rattle.pua_tight.proofs.Histories.{VeilsWithin, no_veils, veils_too, veils_within, CoverWithin, all, nothing, only, cover_within, fault_within}
-use Rattle.pua_tight.proofs.Histories.{kept_within, may_within}
-use Rattle.pua_tight.proofs.Listed.{in_within}
-
--- what holds of one of two, of both, of some and of all, where what is asked is asked of more
-pub or_more : (a b c d : Bool) → (a ≡ true → c ≡ true) → (b ≡ true → d ≡ true) → (a || b) ≡ true → (c || d) ≡ true
-or_more true b c d first second e = ap (λ x. x || d) (first refl)
-or_more false b c d first second e = or_right c d (second e)
-
-pub and_more : (a b c d : Bool) → (a ≡ true → c ≡ true) → (b ≡ true → d ≡ true) → (a && b) ≡ true → (c && d) ≡ true
-and_more a b c d first second e = let both = and_parts a b e in and_from c d (first both.0) (second both.1)
-
-pub any_more : {X : Type 0} (f g : X → Bool) → ((x : X) → f x ≡ true → g x ≡ true) → (xs : List X) → list_any f xs ≡ true →
-    list_any g xs ≡ true
-any_more f g more [] e = e
-any_more f g more (x ∷ xs) e = or_more (f x) (list_any f xs) (g x) (list_any g xs) (more x) (any_more f g more xs) e
-
-pub all_more : {X : Type 0} (f g : X → Bool) → ((x : X) → f x ≡ true → g x ≡ true) → (xs : List X) → list_all f xs ≡ true →
-    list_all g xs ≡ true
-all_more f g more [] e = e
-all_more f g more (x ∷ xs) e = and_more (f x) (list_all f xs) (g x) (list_all g xs) (more x) (all_more f g more xs) e
+use Rattle.pua_tight.specs.Narrower.{VeilsWithin, no_veils, veils_too, StateWithin}
+use Rattle.pua_tight.proofs.Sets.{or_more, and_more, any_more, all_more}
+use Rattle.pua_tight.proofs.Within.{CoverWithin, all, nothing, only, cover_within, in_within, fault_within, may_within}
 
 -- of veils at the same places
 any_veil : (f g : Place → ℕ → Bool) → ((p : Place) (a b : ℕ) → holds b a ≡ true → f p a ≡ true → g p b ≡ true) →
     {vs ws : List (Place × ℕ)} → VeilsWithin vs ws → list_any (λ veil. f veil.0 veil.1) vs ≡ true → list_any (λ veil. g veil.0 veil.1) ws ≡ true
 any_veil f g more no_veils e = e
-any_veil f g more (veils_too {p = p} {a = a} {b = b} {vs = vs} {ws = ws} less rest) e =
+any_veil f g more (veils_too {place = p} {a = a} {b = b} {vs = vs} {ws = ws} less rest) e =
     or_more (f p a) (list_any (λ veil. f veil.0 veil.1) vs) (g p b) (list_any (λ veil. g veil.0 veil.1) ws) (more p a b less)
     (any_veil f g more rest) e
 
 veil_there : {vs ws : List (Place × ℕ)} → VeilsWithin vs ws → (veil : Place × ℕ) → Among vs veil →
     (b : ℕ) × Among ws (veil.0, b) × (holds b veil.1 ≡ true)
 veil_there no_veils veil a = absurd a
-veil_there (veils_too {p = p} {b = b} {ws = ws} less rest) veil (inl same) =
+veil_there (veils_too {place = p} {b = b} {ws = ws} less rest) veil (inl same) =
     subst (λ (v : Place × ℕ). (c : ℕ) × Among ((p, b) ∷ ws) (v.0, c) × (holds c v.1 ≡ true)) same (b, inl refl, less)
 veil_there (veils_too less rest) veil (inr a) = let there = veil_there rest veil a in (there.0, inr there.1, there.2)
 
@@ -94,30 +73,24 @@ pub none_is : (o : Option Errno) → is_none o ≡ true → o ≡ None
 none_is None e = refl
 none_is (Some errno) e = cc
 
--- a history to which another one is no harder: its promises let through what those of the other do, it was given veils where the other
--- was, and each of its covers has the letters of the other's
-pub record Eases (table : CallTable) (h k : History) : Type 0 where
+-- a process to which another one is no harder: its promises let through what those of the other do, and its veils have the letters of
+-- the other's
+pub record Eases (table : CallTable) (h k : ProcessState) : Type 0 where
   pub calls : (call : Call) → may_any h (rule_of table call).alternatives ≡ may.Yes → may_any k (rule_of table call).alternatives ≡ may.Yes
   pub rename_old : may_any h table.rename.old.needs.alternatives ≡ may.Yes → may_any k table.rename.old.needs.alternatives ≡ may.Yes
   pub rename_new : may_any h table.rename.new.needs.alternatives ≡ may.Yes → may_any k table.rename.new.needs.alternatives ≡ may.Yes
   pub link_old : may_any h table.link.old.needs.alternatives ≡ may.Yes → may_any k table.link.old.needs.alternatives ≡ may.Yes
   pub link_new : may_any h table.link.new.needs.alternatives ≡ may.Yes → may_any k table.link.new.needs.alternatives ≡ may.Yes
-  pub kept : (at : Place) → SetWithin (perms_kept h at) (perms_kept k at)
-  pub veiled : VeilsWithin (veils h) (veils k)
-  pub covers : (t : Tree) (object : Found) → CoverWithin (cover t h object) (cover t k object)
-  pub dirs : (t : Tree) (dir : ℕ) → CoverWithin (cover_in t h dir) (cover_in t k dir)
+  pub veiled : VeilsWithin h.veils k.veils
 
-pub eases : (table : CallTable) (h k : History) → HistoryWithin h k → Eases table h k
+pub eases : (table : CallTable) (h k : ProcessState) → StateWithin h k → Eases table h k
 eases table h k w = record {
   calls = λ call. may_within h k w (rule_of table call).alternatives;
   rename_old = may_within h k w table.rename.old.needs.alternatives;
   rename_new = may_within h k w table.rename.new.needs.alternatives;
   link_old = may_within h k w table.link.old.needs.alternatives;
   link_new = may_within h k w table.link.new.needs.alternatives;
-  kept = kept_within w;
-  veiled = veils_within w;
-  covers = cover_within h k w;
-  dirs = in_within table h k w;
+  veiled = w.veils;
 }
 
 yes_more : (m n : May) → (m ≡ may.Yes → n ≡ may.Yes) → is_yes m ≡ true → is_yes n ≡ true
@@ -127,7 +100,7 @@ pub uncovered_more : {c d : Cover} → CoverWithin c d → (perms : ℕ) → is_
     is_none (cover_fault d perms) ≡ true
 uncovered_more {c} less perms e = ap is_none (fault_within less perms (none_is (cover_fault c perms) e))
 
-module _ (table : CallTable) (h k : History) (w : Eases table h k) where
+module _ (table : CallTable) (h k : ProcessState) (w : Eases table h k) where
   pub edits_more : may_edit table h ≡ true → may_edit table k ≡ true
   edits_more e =
       or_more _ _ _ _ (yes_more _ _ w.rename_new)
@@ -146,13 +119,13 @@ module _ (table : CallTable) (h k : History) (w : Eases table h k) where
 
   module _ (t : Tree) where
     in_dir : (dir : ℕ) → CoverWithin (cover_in t h dir) (cover_in t k dir)
-    in_dir dir = w.dirs t dir
+    in_dir dir = in_within w.veiled t dir
 
-    abbrev free_by : History → Spot → Option ℕ → Bool
+    abbrev free_by : ProcessState → Spot → Option ℕ → Bool
     free_by g spot None = true
     free_by g spot (Some x) = has_c (row_cover t g spot x)
 
-    free_is : (g : History) (spot : Spot) (o : Option ℕ) → look t spot.0 spot.1 ≡ o → is_free t g spot ≡ free_by g spot o
+    free_is : (g : ProcessState) (spot : Spot) (o : Option ℕ) → look t spot.0 spot.1 ≡ o → is_free t g spot ≡ free_by g spot o
     free_is g spot None at = rw at refl
     free_is g spot (Some x) at = rw at refl
 
@@ -161,13 +134,13 @@ module _ (table : CallTable) (h k : History) (w : Eases table h k) where
       where
         by : (o : Option ℕ) → look t spot.0 spot.1 ≡ o → is_free t k spot ≡ true
         by None at = free_is k spot None at
-        by (Some x) at = free_is k spot (Some x) at ∙ c_within (w.covers t (object_in t spot x))
+        by (Some x) at = free_is k spot (Some x) at ∙ c_within (cover_within w.veiled t (object_in t spot x))
             (sym (free_is h spot (Some x) at) ∙ e)
 
     pub empties_more : (dir : ℕ) → can_empty t h dir ≡ true → can_empty t k dir ≡ true
     empties_more dir e = all_more (λ row. not (row.0.0 == dir) || has_c (row_cover t h row.0 row.1))
         (λ row. not (row.0.0 == dir) || has_c (row_cover t k row.0 row.1))
-        (λ row. or_more _ _ _ _ (λ other. other) (c_within (w.covers t (object_in t row.0 row.1)))) t.rows e
+        (λ row. or_more _ _ _ _ (λ other. other) (c_within (cover_within w.veiled t (object_in t row.0 row.1)))) t.rows e
 
     opens_more : (dir : ℕ) (p : Place) (a b : ℕ) → holds b a ≡ true → opens_at t h dir p a ≡ true → opens_at t k dir p b ≡ true
     opens_more dir (place.Slot other name) a b less e =
@@ -235,10 +208,10 @@ module _ (table : CallTable) (h k : History) (w : Eases table h k) where
 
     pub names_more : CoversWithin (name_covers t h) (name_covers t k)
     names_more c a =
-        let from = filter_map_among (λ veil. veil_cover_at t h veil.0 veil.1) (veils h) c a in
+        let from = filter_map_among (λ veil. veil_cover_at t h veil.0 veil.1) h.veils c a in
         let there = veil_there w.veiled from.0 from.1 in
         let more = cover_at_more from.0.0 from.0.1 there.0 there.2 c from.2 in
-        (more.0, among_filter_map (λ veil. veil_cover_at t k veil.0 veil.1) (veils k) (from.0.0, there.0) more.0 there.1 more.1, more.2)
+        (more.0, among_filter_map (λ veil. veil_cover_at t k veil.0 veil.1) k.veils (from.0.0, there.0) more.0 there.1 more.1, more.2)
 
     some_more : some_dir_moves t table h ≡ true → some_dir_moves t table k ≡ true
     some_more e =

@@ -10,7 +10,6 @@ pub use Rattle.pua_tight.proofs.Pieces.{scripts_are_tightened}
 pub use Rattle.pua_tight.proofs.Written.{tight_texts_are_read}
 -- what a world has of the one that it lies within, of each process and of each future
 pub use Rattle.pua_tight.proofs.Worlds.{FoundWithin, never, made, found_within, allows_no_more, futures_within}
-pub use Rattle.pua_tight.proofs.Histories.{ended_alike}
 pub use Rattle.pua_tight.proofs.Listed.{lists_no_more}
 pub use Rattle.pua_tight.proofs.ForEver.{lists_no_more_for_ever}
 pub use Rattle.pua_tight.proofs.Lasting.{lasts_no_more}

@@ -1,4 +1,4 @@
--- The list for ever of a history lies within that of one that it lies within.
+-- The list for ever of a process lies within that of one that it lies within.
 use Rattle.std.proofs.Common.{◌≡◌, ℕ, List, [], ◌∷◌, ◌++◌, refl, sym, ap, ◌∙◌, Bool, true, false, ◌&&◌, map, subst, inl, inr}
 use Rattle.std.proofs.lemmas.Bool.{false≢true}
 use Rattle.std.specs.Prelude.{Option, Some, None, filter, flat_map, is_none, is_some, length, nat_lt, if◌then◌else◌}
@@ -9,7 +9,7 @@ use Rattle.pua_path.specs.declared.found.Way.TheVariants.{Top}
 use Rattle.pua_calls.specs.Calls.{CallTable, rule_of, calls}
 use Rattle.pua_calls.specs.declared.call.Call.{Call}
 use Rattle.pua_calls.specs.declared.call.Call.TheVariants as call
-use Rattle.pua_policy.specs.History.{History, perms_kept, veils, may_any}
+use Rattle.pua_policy.specs.States.{ProcessState, perms_kept, may_any}
 use Rattle.pua_policy.specs.Verdict.{Object, IsDir, IsFile, IsProg, IsLink, IsMissing, cover, cover_fault, covered_verdict, is_allowed}
 use Rattle.pua_policy.specs.Verdict.{object_fault, or_fault}
 use Rattle.pua_policy.specs.declared.answer.Cover.{Cover}
@@ -28,11 +28,12 @@ use Rattle.pua_ever.proofs.ForCallers.{any_among, any_found, StandsNow, items_st
 use Rattle.pua_ever.proofs.ForCallers.{dir_alike}
 use Rattle.pua_tight.specs.Narrower.{SetWithin, unset, within}
 use Rattle.pua_tight.specs.Laws.{IsListedForEver, WithinListsNoMoreForEver}
-use Rattle.pua_tight.proofs.Histories.{CoverWithin, fault_within}
+use Rattle.pua_tight.proofs.Sets.{or_more, and_more, any_more}
+use Rattle.pua_tight.proofs.Within.{CoverWithin, kept_within, cover_within, in_within, fault_within}
 use Rattle.pua_tight.proofs.Listed.{items_alike}
 use Rattle.pua_tight.proofs.Worlds.{parts, joined}
 use Rattle.pua_tight.proofs.Decided.{or_both}
-use Rattle.pua_tight.proofs.EverCovers.{Eases, eases, or_more, and_more, any_more, CoversWithin, both_lists, uncovered_more, edits_more, links_more}
+use Rattle.pua_tight.proofs.EverCovers.{Eases, eases, CoversWithin, both_lists, uncovered_more, edits_more, links_more}
 use Rattle.pua_tight.proofs.EverCovers.{moves_more, free_more, empties_more, dirs_more, names_more, files_more}
 
 -- whether something was given is the same
@@ -57,7 +58,7 @@ made_by_more p q more NewOthers e = more call.Mkdir e
 made_by_more p q more NewFile e = any_more p q more file_makers e
 made_by_more p q more NewLink e = more call.Symlink e
 
-module _ (table : CallTable) (h k : History) (w : Eases table h k) where
+module _ (table : CallTable) (h k : ProcessState) (w : Eases table h k) where
   -- what is allowed under some cover on a thing
   under_more : (xs ys : List Cover) → CoversWithin xs ys → (o p : Object) (c : Call) →
       (object_fault empty_tree c o ≡ None → object_fault empty_tree c p ≡ None) →
@@ -114,10 +115,10 @@ module _ (table : CallTable) (h k : History) (w : Eases table h k) where
         by true is a =
             let there = dirs_more table h k w t c a in
             let can : moves ≡ true = and_more _ _ (is_none (perms_kept k (place.Dir dir))) (can_move table k left)
-            (λ here. sym (set_alike (w.kept (place.Dir dir))) ∙ here) (moves_more table h k w (w.dirs t dir)) is in
+            (λ here. sym (set_alike (kept_within w.veiled (place.Dir dir))) ∙ here) (moves_more table h k w (in_within w.veiled t dir)) is in
             (there.0, subst (λ (b : Bool). Among (if b then dir_covers t k else left ∷ []) there.0) (sym can) there.1, there.2)
         by false is (inl same) =
-            (left, dir_cover t k well table dir living, subst (λ (x : Cover). CoverWithin x left) same (w.dirs t dir))
+            (left, dir_cover t k well table dir living, subst (λ (x : Cover). CoverWithin x left) same (in_within w.veiled t dir))
         by false is (inr more) = absurd more
 
     linked_more : (kind : Option Kind) {c d : Cover} → CoverWithin c d → can_link table h kind c ≡ true → can_link table k kind d ≡ true
@@ -138,7 +139,7 @@ module _ (table : CallTable) (h k : History) (w : Eases table h k) where
         left = cover t k (Slot dir name (Some x))
 
         less : CoverWithin now left
-        less = w.covers t (Slot dir name (Some x))
+        less = cover_within w.veiled t (Slot dir name (Some x))
 
         Goal : Type 0
         Goal = (d : Cover) × Among (named_covers t table k kind left) d × CoverWithin c d
@@ -175,7 +176,7 @@ module _ (table : CallTable) (h k : History) (w : Eases table h k) where
         missing x (inl same) = (
           cover t k (Slot dir name None),
           inl refl,
-          subst (λ (y : Cover). CoverWithin y (cover t k (Slot dir name None))) same (w.covers t (Slot dir name None)),
+          subst (λ (y : Cover). CoverWithin y (cover t k (Slot dir name None))) same (cover_within w.veiled t (Slot dir name None)),
         )
         missing x (inr more) = absurd more
 
@@ -222,10 +223,10 @@ module _ (table : CallTable) (h k : History) (w : Eases table h k) where
             (and_more (is_new_named new c) _ (is_new_named new c) _ (λ here. here) (new_allowed_more new c) one.1) one.0)
         by false is a = absurd a
 
-    abbrev standing : History → List EverLine
-    standing g = map (ever_line t table g) (flat_map (subjects_of t table g) (items t (veils g)))
+    abbrev standing : ProcessState → List EverLine
+    standing g = map (ever_line t table g) (flat_map (subjects_of t table g) (items t g.veils))
 
-    abbrev coming : History → List EverLine
+    abbrev coming : ProcessState → List EverLine
     coming g = map (new_line t table g) all_new
 
     freed_more : (o : Option Spot) (subject : Subject) → Among (freed_at t table h o) subject → Among (freed_at t table k o) subject
@@ -236,7 +237,7 @@ module _ (table : CallTable) (h k : History) (w : Eases table h k) where
             Among (freed_at t table k (Some spot)) subject
         by true is a =
             let can : can_be_freed t table k spot ≡ true = and_more _ _ _ _
-            (λ here. sym (some_alike (w.kept (place.Slot spot.0 spot.1))) ∙ here)
+            (λ here. sym (some_alike (kept_within w.veiled (place.Slot spot.0 spot.1))) ∙ here)
             (and_more _ _ _ _ (edits_more table h k w) (free_more table h k w t spot)) is in
             subst (λ (b : Bool). Among (if b then At (Slot spot.0 spot.1 None) ∷ [] else []) subject) (sym can) a
         by false is a = absurd a
@@ -269,12 +270,12 @@ module _ (table : CallTable) (h k : History) (w : Eases table h k) where
 
     stands_more : (line : EverLine) → Among (standing h) line → has_ever_calls line ≡ true → lists line
     stands_more line a some =
-        let from = map_among (ever_line t table h) (flat_map (subjects_of t table h) (items t (veils h))) line a in
+        let from = map_among (ever_line t table h) (flat_map (subjects_of t table h) (items t h.veils)) line a in
         let about : Word × Subject = from.0 in
-        let item = flat_among (subjects_of t table h) (items t (veils h)) about from.1 in
+        let item = flat_among (subjects_of t table h) (items t h.veils) about from.1 in
         let more = about_more item.0 (items_stand t h (length t.nodes) 0 Top [] well.root item.0 item.1) about item.2 in
-        let there : Among (items t (veils k)) item.0 =
-        subst (λ l. Among l item.0) (items_alike t (veils h) (veils k) w.veiled) item.1 in
+        let there : Among (items t k.veils) item.0 =
+        subst (λ l. Among l item.0) (items_alike t h.veils k.veils w.veiled) item.1 in
         let calls = calls_more about.1 more.1 in
         let other = ever_line t table k about in
         subst lists from.2 (record {
@@ -282,8 +283,8 @@ module _ (table : CallTable) (h k : History) (w : Eases table h k) where
           listed = contained (ever t table k) other (among_filter has_ever_calls all_lines other
               (has_more (ever_calls t table h about.1) (ever_calls t table k about.1) calls (ap has_ever_calls from.2 ∙ some))
               (among_left (standing k) (coming k) other
-              (among_map (ever_line t table k) (flat_map (subjects_of t table k) (items t (veils k))) about
-              (among_flat (subjects_of t table k) (items t (veils k)) item.0 about there more.0))));
+              (among_map (ever_line t table k) (flat_map (subjects_of t table k) (items t k.veils)) about
+              (among_flat (subjects_of t table k) (items t k.veils) item.0 about there more.0))));
           word = refl;
           thing = refl;
           calls = λ c has. contained (ever_calls t table k about.1) c (calls c (among_contained (ever_calls t table h about.1) c has));

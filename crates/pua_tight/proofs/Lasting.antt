@@ -1,29 +1,25 @@
--- The list that holds longest, of a history that lies within another one.
-use Rattle.std.proofs.Common.{◌≡◌, ℕ, List, [], ◌∷◌, ◌++◌, refl, sym, ap, ◌∙◌, Bool, true, false, cond, ◌&&◌, ◌||◌, map, subst, inl, inr}
+-- The list that holds longest, of a process that lies within another one.
+use Rattle.std.proofs.Common.{◌≡◌, ℕ, List, [], ◌++◌, refl, sym, ap, ◌∙◌, Bool, true, false, ◌&&◌, ◌||◌, map, subst, inl, inr}
 use Rattle.std.proofs.Common.{min, max, arith}
 use Rattle.std.proofs.lemmas.Bool.{and_parts, and_from, eq-eqb, eqb-true}
 use Rattle.std.proofs.lemmas.Nat.Bits.{same_from_bits, bit_at_and, bit_at_or}
 use Rattle.std.specs.Int.{bit_at}
 use Rattle.std.specs.List.{list_any}
 use Rattle.std.specs.Prelude.{Option, Some, None, bit_or, filter, flat_map, length, nat_lt, if◌then◌else◌}
-use Rattle.pua_tree.specs.Tree.{Tree, WellFormed, climb}
-use Rattle.pua_path.specs.declared.found.Found.{Found}
+use Rattle.pua_tree.specs.Tree.{Tree, WellFormed}
 use Rattle.pua_calls.specs.Promises.{holds}
 use Rattle.pua_calls.specs.Calls.{CallTable, rule_of, calls}
 use Rattle.pua_calls.specs.Tables.{NoCallNeedsError}
 use Rattle.pua_calls.specs.declared.call.Call.{Call}
-use Rattle.pua_policy.specs.History.{History, perms_kept, veils, may_any, held_set, with_both}
-use Rattle.pua_policy.specs.Verdict.{Object, IsFile, IsProg, IsLink, IsMissing, IsDir, cover, cover_fault, nearest, place_of, directories_over}
+use Rattle.pua_policy.specs.States.{ProcessState, may_any, held_set, with_both}
+use Rattle.pua_policy.specs.Verdict.{Object, IsFile, IsProg, IsLink, IsMissing, IsDir, cover_fault}
 use Rattle.pua_policy.specs.Verdict.{covered_verdict, is_allowed, object_fault, or_fault}
 use Rattle.pua_tree.specs.Tree.{empty_tree}
 use Rattle.pua_policy.specs.declared.answer.Cover.{Cover}
-use Rattle.pua_policy.specs.declared.answer.Cover.TheVariants.{All, Nothing, Only}
-use Rattle.pua_policy.specs.declared.place.Place.{Place}
-use Rattle.pua_policy.specs.declared.place.Place.TheVariants as place
-use Rattle.pua_policy.proofs.ForCallers.{holds_through, same_veils}
+use Rattle.pua_policy.proofs.ForCallers.{holds_through}
 use Rattle.pua_script.proofs.ForCallers.{IsWithin, may_yes}
 use Rattle.pua_audit.specs.Reach.{Word}
-use Rattle.pua_objects.specs.Objects.{Subject, items, cover_in, is_named_by}
+use Rattle.pua_objects.specs.Objects.{Subject, items, is_named_by}
 use Rattle.pua_objects.proofs.ForCallers.{Among, among_map, map_among, among_filter, filter_among, among_either, contained, among_contained}
 use Rattle.pua_ever.specs.Ever.{is_allowed_under, turning_calls, is_exec_call, can_allow, covers_of, ever_object, is_ever_allowed}
 use Rattle.pua_ever.specs.Ever.{New, NewDir, NewOthers, NewFile, NewLink, is_made_by, new_covers, new_object, file_covers, name_covers, dir_covers}
@@ -31,29 +27,15 @@ use Rattle.pua_ever.specs.Ever.{can_make, can_allow_new, is_new_named, is_new_al
 use Rattle.pua_ever.specs.Ever.{new_line, Thing, Stands, Comes, EverLine, has_ever_calls, ever}
 use Rattle.pua_ever.specs.Through.{is_promised_by, is_promised_by_one, can_come, let_through, only_through, ever_through, has_exec, bound_of}
 use Rattle.pua_ever.specs.Through.{ever_lasting}
-use Rattle.pua_ever.proofs.ForCallers.{any_among, any_found, within_both, any_too, kept_after, goes, along_now, may_holds, bound_parts}
+use Rattle.pua_ever.proofs.ForCallers.{any_among, any_found, within_both, goes, along_now, may_holds, bound_parts}
 use Rattle.pua_ever.proofs.ForCallers.{lasting_unbounded, lasting_alone, lasting_through}
-use Rattle.pua_tight.specs.Narrower.{SetWithin, unset, within, pledged, HistoryWithin, more}
+use Rattle.pua_tight.specs.Narrower.{SetWithin, unset, within, StateWithin}
 use Rattle.pua_tight.specs.Laws.{IsListedForEver, WithinLastsNoMore}
-use Rattle.pua_tight.proofs.Sets.{holds_self}
-use Rattle.pua_tight.proofs.Histories.{VeilsWithin, no_veils, veils_too, CoverWithin, all, nothing, only, held_within, exec_within, others_within}
+use Rattle.pua_tight.proofs.Sets.{or_more, any_more}
+use Rattle.pua_tight.proofs.Within.{all_within, veils_self, held_within}
 use Rattle.pua_tight.proofs.Worlds.{parts}
-use Rattle.pua_tight.proofs.EverCovers.{Eases, eases, or_more, any_more}
+use Rattle.pua_tight.proofs.EverCovers.{Eases, eases}
 use Rattle.pua_tight.proofs.ForEver.{ever_more, has_more, made_by_more}
-
--- each within itself
-set_same : (p : Option ℕ) → SetWithin p p
-set_same None = unset
-set_same (Some a) = within (holds_self a)
-
-veils_same : (vs : List (Place × ℕ)) → VeilsWithin vs vs
-veils_same [] = no_veils
-veils_same (v ∷ vs) = veils_too (holds_self v.1) (veils_same vs)
-
-cover_same : (c : Cover) → CoverWithin c c
-cover_same All = all
-cover_same Nothing = nothing
-cover_same (Only perms) = only (holds_self perms)
 
 -- two sets together, each of them within another one
 union_within : (a b c d : ℕ) → holds b a ≡ true → holds d c ≡ true → holds (bit_or b d) (bit_or a c) ≡ true
@@ -108,16 +90,9 @@ module _ (table : CallTable) (t : Tree) (well : WellFormed t) where
             (among_contained there.other.calls c (there.calls c (contained line.calls c a)))
 
   -- the lines of a process itself are among those through execs
-  module _ (sound : NoCallNeedsError table) (k : History) (given : ℕ) (inside : IsWithin (with_both k given) k) where
-    abbrev both : History
+  module _ (sound : NoCallNeedsError table) (k : ProcessState) (given : ℕ) (inside : IsWithin (with_both k given) k) where
+    abbrev both : ProcessState
     both = with_both k given
-
-    over : (object : Found) (u : Tree) → cover u both object ≡ cover u k object
-    over object u = λ i. cond (any_too k i) (nearest (kept_after k (place_of object) i
-        ∷ map (λ dir. kept_after k (place.Dir dir) i) (directories_over u object))) All
-
-    in_dir : (dir : ℕ) (u : Tree) → cover_in u both dir ≡ cover_in u k dir
-    in_dir dir u = λ i. cond (any_too k i) (nearest (map (λ dir. kept_after k (place.Dir dir) i) (climb u dir))) All
 
     eases_both : Eases table k both
     eases_both = record {
@@ -126,10 +101,7 @@ module _ (table : CallTable) (t : Tree) (well : WellFormed t) where
       rename_new = may_yes both k inside table.rename.new.needs.alternatives sound.rename.1;
       link_old = may_yes both k inside table.link.old.needs.alternatives sound.link.0;
       link_new = may_yes both k inside table.link.new.needs.alternatives sound.link.1;
-      kept = λ at. subst (SetWithin (perms_kept k at)) (sym (kept_after k at)) (set_same (perms_kept k at));
-      veiled = subst (VeilsWithin (veils k)) (sym (same_veils k)) (veils_same (veils k));
-      covers = λ u object. subst (CoverWithin (cover u k object)) (sym (over object u)) (cover_same (cover u k object));
-      dirs = λ u dir. subst (CoverWithin (cover_in u k dir)) (sym (in_dir dir u)) (cover_same (cover_in u k dir));
+      veiled = veils_self k.veils;
     }
 
     abbrev passes : Call → Bool
@@ -200,7 +172,7 @@ module _ (table : CallTable) (t : Tree) (well : WellFormed t) where
         ])
       where
         subjects : List (Word × Subject)
-        subjects = flat_map (subjects_of t table k) (items t (veils k))
+        subjects = flat_map (subjects_of t table k) (items t k.veils)
 
         standing : List EverLine
         standing = map (ever_line t table k) subjects
@@ -208,14 +180,14 @@ module _ (table : CallTable) (t : Tree) (well : WellFormed t) where
         kept : Among (standing ++ map (new_line t table k) all_new) line × (has_ever_calls line ≡ true)
         kept = filter_among has_ever_calls (standing ++ map (new_line t table k) all_new) line a
 
-  module _ (h k : History) (w : HistoryWithin h k) where
+  module _ (h k : ProcessState) (w : StateWithin h k) where
     ever_less : (line : EverLine) → Among (ever t table h) line → IsListedForEver (ever t table k) line
     ever_less = ever_more table h k (eases table h k w) t well
 
     -- both through execs
     module _ (a b : ℕ) (less : holds b a ≡ true) where
-      wide : HistoryWithin (with_both h a) (with_both k b)
-      wide = more (pledged (within (union_within (held_set h) (held_set k) a b (held_within w) less)) unset) (others_within w)
+      wide : StateWithin (with_both h a) (with_both k b)
+      wide = all_within (within (union_within (held_set h) (held_set k) a b (held_within w) less)) unset w.veils w.locked w.dir w.ended
 
       passes_more : (c : Call) → is_promised_by_one table h a c ≡ true → is_promised_by_one table k b c ≡ true
       passes_more c e =
@@ -308,7 +280,7 @@ module _ (table : CallTable) (t : Tree) (well : WellFormed t) where
           by (Some given) (Some handed) true bound other some =
               subst (λ (l : List EverLine). IsListedForEver l line) (sym (lasting_through t table k handed other (exec_more some)))
               (through_less given handed
-              (both_set (exec_within w) given handed (bound_parts table h given bound).set (bound_parts table k handed other).set) line
+              (both_set w.execpromises given handed (bound_parts table h given bound).set (bound_parts table k handed other).set) line
               (subst (λ (l : List EverLine). Among l line) (lasting_through t table h given bound some) there))
 
 pub lasts_no_more : WithinLastsNoMore

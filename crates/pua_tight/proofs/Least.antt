@@ -15,28 +15,29 @@ use Rattle.pua_script.specs.declared.request.Given.TheVariants.{Null, Good, Unkn
 use Rattle.pua_script.specs.declared.request.Action.{Action}
 use Rattle.pua_script.specs.declared.request.Action.TheVariants.{Pledge, Unveil}
 use Rattle.pua_script.proofs.ForCallers.{one_request_more}
-use Rattle.pua_policy.specs.History.{History}
+use Rattle.pua_policy.specs.States.{ProcessState}
 use Rattle.pua_tight.specs.Narrower.{GivenWithin, given_none, given_less, given_unknown, ActionWithin, as_given, less_pledged, less_unveiled, AskWithin}
 use Rattle.pua_tight.specs.Narrower.{AsksWithin, no_asks, asks}
 use Rattle.pua_tight.specs.Tight.{Piece, InPromises, InExecpromises, InVeil, given_without, action_without, without, Line, asks_of, same_answers}
 use Rattle.pua_tight.specs.Tight.{try_piece, thin_line, thin}
 use Rattle.pua_tight.specs.Laws.{IsPieceOf, AreOkay, without_all, LeavesOut, RestsOnOne, RestOnOne, bit_of, AreSpareable, TightIsLeast}
 use Rattle.pua_tight.proofs.Sets.{holds_self}
-use Rattle.pua_tight.proofs.Tightened.{has_lacking, without_within, action_twice, world_self, tried_same, line_within, thin_within, thin_same}
+use Rattle.pua_tight.proofs.Tightened.{given_self, without_within, action_twice, world_self, tried_same, line_within, thin_within, thin_same}
 use Rattle.pua_tight.proofs.Less.{lack_at, ask_mono, is_without, lacks_down, lacks_left, okay_less}
 use Rattle.pua_tight.proofs.Worlds.{heads, tails}
 use Rattle.pua_tight.proofs.Minimal.{compose, asks_self, prefix, same_self}
-use Rattle.pua_tight.proofs.Three.{last_two, history_three}
-use Rattle.pua_tight.proofs.ThreeWorlds.{HistoriesThree, three_nobody, three_somebody, WorldThree, GivenThree, null_three, unknown_three, good_three}
+use Rattle.pua_tight.proofs.Three.{last_two, state_three}
+use Rattle.pua_tight.proofs.ThreeWorlds.{ProcessesThree, three_nobody, three_somebody, WorldThree, GivenThree, null_three, unknown_three, good_three}
 use Rattle.pua_tight.proofs.ThreeWorlds.{ActionThree, same_three, pledge_three, unveil_three, step_three, agree_three}
 
--- `error` in a pledge's arguments
+-- `error` in the arguments of a request
 abbrev given_error : Given → Bool
 given_error (Good set) = holds set error
 given_error _ = false
 
 abbrev errors : Action → Bool × Bool
 errors (Pledge p e) = (given_error p, given_error e)
+errors (Unveil path (Some perms)) = (holds perms error, false)
 errors _ = (false, false)
 
 apart_bit : (s t e : ℕ) → s < 2 → t < 2 → e < 2 → min t e ≡ 0 → min ((s + min s t) % 2) e ≡ min s e
@@ -58,7 +59,8 @@ errors_stay : (piece : Piece) (a : Action) → bit_and (bit_of piece) error ≡ 
 errors_stay (InPromises bit) (Pledge p e) apart = ap (λ x. (x, given_error e)) (given_stays bit p apart)
 errors_stay (InExecpromises bit) (Pledge p e) apart = ap (λ x. (given_error p, x)) (given_stays bit e apart)
 errors_stay (InVeil bit) (Pledge p e) apart = refl
-errors_stay (InVeil bit) (Unveil path perms) apart = refl
+errors_stay (InVeil bit) (Unveil path (Some perms)) apart = ap (λ x. (x, false)) (error_stays bit perms apart)
+errors_stay (InVeil bit) (Unveil path None) apart = refl
 errors_stay (InPromises bit) _ apart = refl
 errors_stay (InExecpromises bit) _ apart = refl
 errors_stay (InVeil bit) _ apart = refl
@@ -158,27 +160,6 @@ decide_action (InPromises bit) _ = inl refl
 decide_action (InExecpromises bit) _ = inl refl
 decide_action (InVeil bit) _ = inl refl
 
--- kinds of three requests
-given_front : {p q : Given} → GivenWithin p q → given_error p ≡ given_error q → GivenThree p q q
-given_front given_none e = null_three
-given_front given_unknown e = unknown_three
-given_front (given_less {a = a} {b = b} less) e = good_three (holds_self b) (last_two a b) e
-
-front_three : {y x : Action} → ActionWithin y x → errors y ≡ errors x → ActionThree y x x
-front_three as_given e = same_three
-front_three (less_pledged p f) e = pledge_three (given_front p (ap (λ z. z.0) e)) (given_front f (ap (λ z. z.1) e))
-front_three (less_unveiled {a = a} {b = b} less) e = unveil_three (holds_self b) (last_two a b)
-
-given_back : {p q : Given} → GivenWithin p q → given_error p ≡ given_error q → GivenThree q p p
-given_back given_none e = null_three
-given_back given_unknown e = unknown_three
-given_back (given_less {a = a} {b = b} less) e = good_three (holds_self a) (last_two b a) (sym e)
-
-back_three : {y x : Action} → ActionWithin y x → errors y ≡ errors x → ActionThree x y y
-back_three as_given e = same_three
-back_three (less_pledged p f) e = pledge_three (given_back p (ap (λ z. z.0) e)) (given_back f (ap (λ z. z.1) e))
-back_three (less_unveiled {a = a} {b = b} less) e = unveil_three (holds_self a) (last_two b a)
-
 left_bit : (a c t : ℕ) → a < 2 → c < 2 → t < 2 → (a + min a t) % 2 ≡ a → min ((c + min c t) % 2) (min c a) ≡ min c a
 left_bit a c t p q r e = omega arith
 
@@ -195,7 +176,7 @@ given_tried : (bit : ℕ) {p q r : Given} → GivenWithin p r → GivenWithin q 
 given_tried bit given_none given_none e out = null_three
 given_tried bit given_unknown given_unknown e out = unknown_three
 given_tried bit (given_less {a = a} less) (given_less {a = c} other) e out =
-    good_three (has_lacking bit c) (left_has bit a c (ap set_in out)) e
+    good_three (left_has bit a c (ap set_in out)) e
   where
     set_in : Given → ℕ
     set_in (Good s) = s
@@ -204,7 +185,20 @@ given_tried bit (given_less {a = a} less) (given_less {a = c} other) e out =
 given_beside : {p q r : Given} → GivenWithin p r → GivenWithin q r → given_error p ≡ given_error q → GivenThree p q q
 given_beside given_none given_none e = null_three
 given_beside given_unknown given_unknown e = unknown_three
-given_beside (given_less {a = a} less) (given_less {a = c} other) e = good_three (holds_self c) (last_two a c) e
+given_beside (given_less {a = a} less) (given_less {a = c} other) e = good_three (last_two a c) e
+
+-- kinds of three requests
+front_three : {y x : Action} → ActionWithin y x → errors y ≡ errors x → ActionThree y x x
+front_three as_given e = same_three
+front_three (less_pledged {q = q} {f = f} first second) e =
+    pledge_three (given_beside first (given_self q) (ap (λ z. z.0) e)) (given_beside second (given_self f) (ap (λ z. z.1) e))
+front_three (less_unveiled {a = a} {b = b} less) e = unveil_three (last_two a b) (ap (λ z. z.0) e)
+
+back_three : {y x : Action} → ActionWithin y x → errors y ≡ errors x → ActionThree x y y
+back_three as_given e = same_three
+back_three (less_pledged {q = q} {f = f} first second) e =
+    pledge_three (given_beside (given_self q) first (ap (λ z. z.0) (sym e))) (given_beside (given_self f) second (ap (λ z. z.1) (sym e)))
+back_three (less_unveiled {a = a} {b = b} less) e = unveil_three (last_two b a) (ap (λ z. z.0) (sym e))
 
 -- a request within a pledge is a pledge, and one within an unveil of letters such an unveil
 record IsPledge (y : Action) (q f : Given) : Type 0 where
@@ -214,11 +208,6 @@ record IsPledge (y : Action) (q f : Given) : Type 0 where
   first : GivenWithin p q
   second : GivenWithin e f
 
-given_own : (g : Given) → GivenWithin g g
-given_own Null = given_none
-given_own (Good set) = given_less (holds_self set)
-given_own Unknown = given_unknown
-
 Wanted : Action → Action → Type 0
 Wanted y (Pledge q f) = IsPledge y q f
 Wanted y (Unveil path (Some b)) = (a : ℕ) × (y ≡ Unveil path (Some a)) × IsTrue (holds b a)
@@ -226,7 +215,7 @@ Wanted y x = y ≡ x
 
 wanted_self : (x : Action) → Wanted x x
 unfolding Wanted
-wanted_self (Pledge q f) = record { p = q; e = f; is = refl; first = given_own q; second = given_own f }
+wanted_self (Pledge q f) = record { p = q; e = f; is = refl; first = given_self q; second = given_self f }
 wanted_self (Unveil path (Some b)) = (b, refl, holds_self b)
 wanted_self (Unveil path None) = refl
 wanted_self _ = refl
@@ -246,11 +235,12 @@ pledge_tried (InExecpromises bit) a b c d same out =
     pledge_three (given_beside a b (ap (λ z. z.0) same)) (given_tried bit c d (ap (λ z. z.1) same) (ap second_in out))
 pledge_tried (InVeil bit) a b c d same out = pledge_three (given_beside a b (ap (λ z. z.0) same)) (given_beside c d (ap (λ z. z.1) same))
 
-veil_tried : (piece : Piece) (path : List ℕ) (a c : ℕ) → action_without piece (Unveil path (Some a)) ≡ Unveil path (Some a) →
+veil_tried : (piece : Piece) (path : List ℕ) (a c : ℕ) → holds a error ≡ holds c error →
+    action_without piece (Unveil path (Some a)) ≡ Unveil path (Some a) →
     ActionThree (Unveil path (Some a)) (action_without piece (Unveil path (Some c))) (Unveil path (Some c))
-veil_tried (InVeil bit) path a c out = unveil_three (has_lacking bit c) (left_has bit a c (ap letters_in out))
-veil_tried (InPromises bit) path a c out = unveil_three (holds_self c) (last_two a c)
-veil_tried (InExecpromises bit) path a c out = unveil_three (holds_self c) (last_two a c)
+veil_tried (InVeil bit) path a c same out = unveil_three (left_has bit a c (ap letters_in out)) same
+veil_tried (InPromises bit) path a c same out = unveil_three (last_two a c) same
+veil_tried (InExecpromises bit) path a c same out = unveil_three (last_two a c) same
 
 -- any other request has no pieces
 unchanged : (piece : Piece) (x y z : Action) → ((bit : ℕ) → action_without (InPromises bit) x ≡ x) →
@@ -279,7 +269,8 @@ tried piece y z (Unveil path (Some s)) ly lz same out =
     let b = wanted lz in
     subst (λ v. ActionThree v (action_without piece z) z) (sym a.1)
     (subst (λ v. ActionThree (Unveil path (Some a.0)) (action_without piece v) v) (sym b.1)
-    (veil_tried piece path a.0 b.0 (subst (λ v. action_without piece v ≡ v) a.1 out)))
+    (veil_tried piece path a.0 b.0 (ap (λ v. (errors v).0) (sym a.1) ∙ ap (λ z. z.0) same ∙ ap (λ v. (errors v).0) b.1)
+    (subst (λ v. action_without piece v ≡ v) a.1 out)))
 tried piece y z (Unveil path None) ly lz same out =
     unchanged piece (Unveil path None) y z (λ bit. refl) (λ bit. refl) (λ bit. refl) (wanted ly) (wanted lz)
 tried piece y z x ly lz same out = unchanged piece x y z (λ bit. refl) (λ bit. refl) (λ bit. refl) (wanted ly) (wanted lz)
@@ -302,13 +293,13 @@ all_agree table a b c w one (less_more {y = y} {x = x} {ys = ys} {xs = xs} less 
     let outer : (apply table a x).0 ≡ (apply table c y).0 = heads _ _ _ _ e in
     let inner : (apply table b y).0 ≡ (apply table c y).0 = agree_three table a b c w x y one.0 less.process less.action outer in
     let next : WorldThree (apply table a x).1 (apply table b y).1 (apply table c y).1 =
-    step_three table a b c w x y y less.process less.process (back_three less.action less.errs) (outer ∙ sym inner) inner in
+    step_three table a b c w x y y less.process less.process (back_three less.action less.errs) as_given (outer ∙ sym inner) inner in
     ap (λ v. v ∷ answers_to table (apply table b y).1 ys) inner
     ∙ ap (λ v. (apply table c y).0 ∷ v) (all_agree table (apply table a x).1 (apply table b y).1 (apply table c y).1 next one.1 rest (tails _ _ _ _ e))
 
-histories_three : (hs : List (ℕ × History)) → HistoriesThree hs hs hs
-histories_three [] = three_nobody
-histories_three (one ∷ hs) = three_somebody (history_three one.1) (histories_three hs)
+processes_three : (hs : List (ℕ × ProcessState)) → ProcessesThree hs hs hs
+processes_three [] = three_nobody
+processes_three (one ∷ hs) = three_somebody (state_three one.1) (processes_three hs)
 
 module _ (table : CallTable) (w : World) (want : List Answer) where
   module _ (before after : List Asked) where
@@ -383,6 +374,7 @@ module _ (table : CallTable) (w : World) (want : List Answer) where
         let worlds : WorldThree (apply table a y).1 (apply table over (without piece ask)).1 (apply table over ask).1 =
         step_three table a over over three y (without piece ask) ask same_process same_process
         (tried piece y.action ask.action line.ask.action less.action found.below.action (less.errs ∙ sym found.below.errs) out)
+        (without_within piece ask.action)
         (head ∙ okay ∙ sym okay_mid) (okay_mid ∙ sym okay_ask) in
         let both : answers_to table (apply table over (without piece ask)).1 after ≡ answers_to table (apply table over ask).1 after =
         all_agree table (apply table a y).1 (apply table over (without piece ask)).1 (apply table over ask).1 worlds one rest
@@ -410,7 +402,7 @@ module _ (table : CallTable) (w : World) (want : List Answer) where
       (all_without pieces line.ask (λ p among. spare.0 p (out.0.1 p among))) in
       let head : (apply table a y).0 ≡ (apply table base line.ask).0 = heads _ _ _ _ e in
       let next : WorldThree (apply table a y).1 (apply table base line.ask).1 (apply table base line.ask).1 =
-      step_three table a base base three y line.ask line.ask (sym less.process) (sym less.process) (front_three less.action less.errs) head refl in
+      step_three table a base base three y line.ask line.ask (sym less.process) (sym less.process) (front_three less.action less.errs) as_given head refl in
       let is : world_after table w (before ++ line.ask ∷ []) ≡ (apply table base line.ask).1 = one_request_more table w before line.ask in
       let rest : AsksLess after ys = least_from (before ++ line.ask ∷ []) (apply table a y).1 lines ys
       (subst (λ u. WorldThree (apply table a y).1 u u) (sym is) next) one.1
@@ -444,4 +436,4 @@ module _ (table : CallTable) (w : World) (want : List Answer) where
 pub tight_is_least : TightIsLeast
 tight_is_least table w lines less one okay spare out e =
     forget (least_from table w (answers_to table w (asks_of lines)) [] w lines less
-    (record { first = refl; last = refl; histories = histories_three w.histories }) one refl out spare okay e)
+    (record { later = world_self w; shared = record { tree = refl; processes = processes_three w.processes } }) one refl out spare okay e)

@@ -10,19 +10,18 @@ use Rattle.pua_path.specs.declared.errno.Errno.TheVariants.{EPERM}
 use Rattle.pua_path.specs.declared.found.Found.{Found}
 use Rattle.pua_path.specs.declared.found.Last.TheVariants.{Followed}
 use Rattle.pua_path.specs.declared.text.Ending.TheVariants as ending
-use Rattle.pua_calls.specs.Promises.{holds, lacking, unveil, error}
+use Rattle.pua_calls.specs.Promises.{holds, lacking, unveil}
 use Rattle.pua_calls.specs.Calls.{CallTable}
-use Rattle.pua_policy.specs.History.{History, Event, Unveiled, may_any, is_ended, is_locked, is_within, held_set, pledged_set, held_for_exec, working_dir}
-use Rattle.pua_policy.specs.History.{unveil_fault, place_fault, perms_kept, veils, most_places}
+use Rattle.pua_policy.specs.States.{ProcessState, Event, Unveiled, may_any, is_within, has_error, veil_at, working_dir}
+use Rattle.pua_policy.specs.States.{unveil_fault, place_fault, most_places}
 use Rattle.pua_policy.specs.Verdict.{refusal_of, place_of}
 use Rattle.pua_policy.specs.declared.place.Place.{Place}
 use Rattle.pua_policy.specs.declared.answer.Refusal.{Refusal}
-use Rattle.pua_policy.specs.declared.answer.Refusal.TheVariants as refusal
 use Rattle.pua_policy.specs.declared.answer.UnveilFault.TheVariants.{NotPermitted, TooManyPlaces}
 use Rattle.pua_script.specs.Requests.{Asked}
 use Rattle.pua_script.specs.Family.{is_okay}
 use Rattle.pua_script.specs.Decide.{AddEvent, Decision, decide, refusals, unless_refused, unless_failed, on_named, fault_if, given_set, unveil_errno}
-use Rattle.pua_script.specs.Replay.{World, history_of, come_of, answer_to, refusal_effect, do_decided, answer_and_world, apply}
+use Rattle.pua_script.specs.Replay.{World, kept_at, come_of, answer_to, do_decided, answer_and_world, apply}
 use Rattle.pua_script.specs.declared.answer.Answer.{Answer}
 use Rattle.pua_script.specs.declared.answer.Answer.TheVariants as answer
 use Rattle.pua_script.specs.declared.request.Given.{Given}
@@ -32,7 +31,8 @@ use Rattle.pua_script.specs.declared.request.Action.TheVariants.{OnPath, Pledge,
 use Rattle.pua_tight.specs.Narrower.{GivenWithin, given_none, given_less, given_unknown, ActionWithin, as_given, less_pledged, less_unveiled, AskWithin}
 use Rattle.pua_tight.specs.Tight.{Piece, InPromises, InExecpromises, InVeil, given_without, action_without, without}
 use Rattle.pua_policy.proofs.ForCallers.{holds_through}
-use Rattle.pua_tight.proofs.Sets.{holds_self}
+use Rattle.pua_tight.proofs.Worlds.{not_okay}
+use Rattle.pua_tight.proofs.Sets.{or_more, and_more, holds_self}
 
 pub lack_at : (bit set i : ℕ) → bit_at (lacking bit set) i ≡ (bit_at set i + min (bit_at set i) (bit_at bit i)) % 2
 lack_at bit set i = bit_at_xor set (bit_and set bit) i ∙ ap (λ b. (bit_at set i + b) % 2) (bit_at_and set bit i)
@@ -142,12 +142,8 @@ is_without piece x y w =
     ap (λ a. record { process = x.process; action = a }) (lacks_down piece w.action (lacks_left piece y.action))
 
 -- a request that is granted is granted with less
-abbrev answered : World → History → Decision → Answer
+abbrev answered : World → ProcessState → Decision → Answer
 answered w h d = answer_to (come_of w h d)
-
-not_okay : {A : Type 0} (r : Refusal) → answer_to (refusal_effect r) ≡ answer.Okay → A
-not_okay (refusal.Failed errno) e = absurd (false≢true (ap is_okay e))
-not_okay refusal.Killed e = absurd (false≢true (ap is_okay e))
 
 no_failure : {A : Type 0} (errno : Errno) → answer.Failed errno ≡ answer.Okay → A
 no_failure errno e = absurd (false≢true (ap is_okay e))
@@ -158,15 +154,7 @@ within_less given_unknown given e = e
 within_less (given_less less) None e = refl
 within_less (given_less {a = a} {b = b} less) (Some g) e = holds_through g b a e less
 
-either : (a c d : Bool) → (c ≡ true → d ≡ true) → (a || c) ≡ true → (a || d) ≡ true
-either true c d other e = refl
-either false c d other e = other e
-
-each : (a b c d : Bool) → (a ≡ true → b ≡ true) → (c ≡ true → d ≡ true) → (a && c) ≡ true → (b && d) ≡ true
-each true b c d first other e = ap (λ b. b && d) (first refl) ∙ other e
-each false b c d first other e = absurd (false≢true e)
-
-module _ (w : World) (h : History) where
+module _ (w : World) (h : ProcessState) where
   tested : (x y : Bool) (c d : Event) → (y ≡ true → x ≡ true) →
       answered w h (unless_failed refusals.failed (cond y None (Some EPERM)) (Ok (AddEvent d))) ≡ answer.Okay →
       answered w h (unless_failed refusals.failed (cond x None (Some EPERM)) (Ok (AddEvent c))) ≡ answer.Okay
@@ -175,14 +163,11 @@ module _ (w : World) (h : History) where
   tested x false c d more e = no_failure EPERM e
 
   abbrev may_give : Given → Given → Bool
-  may_give p e = holds (held_set h) error || (is_within (given_set p) (pledged_set h) && is_within (given_set e) (held_for_exec h))
+  may_give p e = has_error h || (is_within (given_set p) h.promises && is_within (given_set e) h.execpromises)
 
   gives : {p q e f : Given} → GivenWithin p q → GivenWithin e f → may_give q f ≡ true → may_give p e ≡ true
-  gives {p = p} {q = q} {e = e} {f = f} first second is =
-      either (holds (held_set h) error) (is_within (given_set q) (pledged_set h) && is_within (given_set f) (held_for_exec h))
-      (is_within (given_set p) (pledged_set h) && is_within (given_set e) (held_for_exec h))
-      (each (is_within (given_set q) (pledged_set h)) (is_within (given_set p) (pledged_set h)) (is_within (given_set f) (held_for_exec h))
-      (is_within (given_set e) (held_for_exec h)) (within_less first (pledged_set h)) (within_less second (held_for_exec h))) is
+  gives first second is = or_more (has_error h) _ (has_error h) _ (λ has. has)
+      (and_more _ _ _ _ (within_less first h.promises) (within_less second h.execpromises)) is
 
   place_gives : (place : Place) (a b : ℕ) → holds b a ≡ true → (o : Option ℕ) (l : Bool) (n : ℕ) →
       answered w h (unless_failed refusals.failed (unveil_errno (cond l (Some NotPermitted) (place_fault o n b))) (Ok (AddEvent (Unveiled place b))))
@@ -212,11 +197,11 @@ module _ (w : World) (h : History) where
 
   veil_gives : (path : List ℕ) (a b : ℕ) → holds b a ≡ true → (o : Option Refusal) (l : Option Errno) (r : Result Found Errno) →
       answered w h (veiling o l r b) ≡ answer.Okay → answered w h (veiling o l r a) ≡ answer.Okay
-  veil_gives path a b less (Some x) l r e = not_okay x e
+  veil_gives path a b less (Some x) l r e = not_okay x (ap is_okay e)
   veil_gives path a b less None (Some x) r e = no_failure x e
   veil_gives path a b less None None (Err x) e = no_failure x e
   veil_gives path a b less None None (Ok object) e =
-      place_gives (place_of object) a b less (perms_kept h (place_of object)) (is_locked h) (length (veils h)) e
+      place_gives (place_of object) a b less (veil_at h.veils (place_of object)) h.locked (length h.veils) e
 
   decided_less : (table : CallTable) {x y : Action} → ActionWithin x y → answered w h (decide table w.tree h y) ≡ answer.Okay →
       answered w h (decide table w.tree h x) ≡ answer.Okay
@@ -236,19 +221,19 @@ module _ (w : World) (h : History) where
       pledges (given_less {a = a} {b = b} less) (given_less {a = c} {b = d} other) e =
           tested (may_give (Good a) (Good c)) (may_give (Good b) (Good d)) _ _ (gives (given_less less) (given_less other)) e
   decided_less table (less_unveiled {path = path} {a = a} {b = b} less) e =
-      veil_gives path a b less (refusal_of (may_any h (unveil ∷ []))) (fault_if (is_locked h) EPERM)
+      veil_gives path a b less (refusal_of (may_any h (unveil ∷ []))) (fault_if h.locked EPERM)
       (resolution_of_text w.tree (working_dir h) ending.Dot path Followed) e
 
 pub okay_less : (table : CallTable) (w : World) (x y : Asked) → AskWithin x y → (apply table w y).0 ≡ answer.Okay → (apply table w x).0 ≡ answer.Okay
 okay_less table w x y lies =
     subst (λ n. (apply table w (record { process = n; action = y.action })).0 ≡ answer.Okay → (apply table w x).0 ≡ answer.Okay) lies.process
-    (by (history_of w x.process))
+    (by (kept_at w x.process))
   where
-    by : (o : Option History) →
+    by : (o : Option ProcessState) →
         (answer_and_world table w (record { process = x.process; action = y.action }) o).0 ≡ answer.Okay →
         (answer_and_world table w x o).0 ≡ answer.Okay
     by None e = e
-    by (Some h) e = living (is_ended h) e
+    by (Some h) e = living h.ended e
       where
         living : (b : Bool) →
             (cond {A = Answer × World} b (answer.Gone, w) (do_decided w x.process h (decide table w.tree h y.action))).0 ≡ answer.Okay →

@@ -1,34 +1,32 @@
--- The list of the objects of a history lies within that of one that it lies within.
-use Rattle.std.proofs.Common.{◌≡◌, ℕ, zero, suc, List, [], ◌∷◌, ◌++◌, refl, sym, ap, ◌∙◌, Bool, true, false, cond, ◌&&◌, map, subst, inl}
-use Rattle.std.proofs.lemmas.Bool.{true≢false, false≢true, and_parts, and_from}
-use Rattle.std.specs.List.{list_any, cons_option}
+-- The list of the objects of a process lies within that of one that it lies within.
+use Rattle.std.proofs.Common.{◌≡◌, ℕ, zero, suc, List, [], ◌∷◌, ◌++◌, refl, sym, ap, ◌∙◌, true, ◌&&◌, map, subst, inl}
+use Rattle.std.proofs.lemmas.Bool.{false≢true, and_parts, and_from}
+use Rattle.std.specs.List.{cons_option}
 use Rattle.std.specs.Prelude.{Option, Ok, flat_map, length, nat_lt}
 use Rattle.pua_path.specs.declared.errno.Errno.{Errno}
-use Rattle.pua_tree.specs.Tree.{Tree, look, climb, distinct_names}
+use Rattle.pua_tree.specs.Tree.{Tree, look, distinct_names}
 use Rattle.pua_path.specs.declared.found.Way.{Way}
 use Rattle.pua_path.specs.declared.found.Way.TheVariants.{Top}
 use Rattle.pua_path.specs.declared.found.Found.TheVariants.{Whole}
 use Rattle.pua_calls.specs.Calls.{CallTable, rule_of, calls}
 use Rattle.pua_calls.specs.declared.call.Call.{Call}
-use Rattle.pua_policy.specs.History.{History, veils, may_any}
-use Rattle.pua_policy.specs.Verdict.{IsMissing, cover_fault, or_fault, object_fault, is_allowed, is_unveil}
+use Rattle.pua_policy.specs.States.{ProcessState, may_any}
+use Rattle.pua_policy.specs.Verdict.{IsMissing, cover_fault, or_fault, object_fault, is_allowed}
 use Rattle.pua_policy.specs.declared.place.Place.{Place}
 use Rattle.pua_policy.specs.declared.answer.Cover.{Cover}
-use Rattle.pua_policy.specs.declared.answer.Cover.TheVariants.{All}
 use Rattle.pua_audit.specs.Reach.{Word}
 use Rattle.pua_objects.specs.Objects.{Subject, At, Others, Item, Line, cover_in, name_at, names_in, veiled_in, entries, items_at, items_below, items}
 use Rattle.pua_objects.specs.Objects.{subject_verdict, is_named_by, calls_on, line_of, has_calls, objects}
 use Rattle.pua_objects.proofs.ForCallers.{Among, among_map, map_among, among_filter, filter_among, contained, among_contained, some_of}
-use Rattle.pua_tight.specs.Narrower.{HistoryWithin}
+use Rattle.pua_tight.specs.Narrower.{VeilsWithin, no_veils, veils_too, StateWithin}
 use Rattle.pua_tight.specs.Laws.{IsListed, WithinListsNoMore}
-use Rattle.pua_tight.proofs.Histories.{VeilsWithin, no_veils, veils_too, veils_within, CoverWithin, all, dirs_within, fault_within, may_within}
-use Rattle.pua_tight.proofs.Histories.{veiled_alike}
+use Rattle.pua_tight.proofs.Within.{in_within, fault_within, may_within}
 use Rattle.pua_tight.proofs.Decided.{or_less}
 use Rattle.pua_tight.proofs.Worlds.{parts, joined, found_more}
 
 veiled_names : {vs ws : List (Place × ℕ)} → VeilsWithin vs ws → (dir : ℕ) → veiled_in vs dir ≡ veiled_in ws dir
 veiled_names no_veils dir = refl
-veiled_names (veils_too {p = p} {vs = vs} {ws = ws} less rest) dir = by (name_at dir p) (veiled_names rest dir)
+veiled_names (veils_too {place = p} {vs = vs} {ws = ws} less rest) dir = by (name_at dir p) (veiled_names rest dir)
   where
     by : (o : Option (List ℕ)) → veiled_in vs dir ≡ veiled_in ws dir → cons_option o (veiled_in vs dir) ≡ cons_option o (veiled_in ws dir)
     by o same = ap (cons_option o) same
@@ -47,16 +45,7 @@ module _ (t : Tree) (vs ws : List (Place × ℕ)) (less : VeilsWithin vs ws) whe
   pub items_alike : items t vs ≡ items t ws
   items_alike = below_alike (length t.nodes) 0 Top []
 
-module _ (table : CallTable) (h k : History) (w : HistoryWithin h k) (t : Tree) where
-  pub in_within : (dir : ℕ) → CoverWithin (cover_in t h dir) (cover_in t k dir)
-  in_within dir = by (list_any is_unveil h) (list_any is_unveil k) (veiled_alike w) (dirs_within h k w (climb t dir))
-    where
-      by : (x y : Bool) {c d : Cover} → x ≡ y → CoverWithin c d → CoverWithin (cond x c All) (cond y d All)
-      by true true e less = less
-      by false false e less = all
-      by true false e less = absurd (true≢false e)
-      by false true e less = absurd (false≢true e)
-
+module _ (table : CallTable) (h k : ProcessState) (w : StateWithin h k) (t : Tree) where
   subject_more : (subject : Subject) (call : Call) → is_allowed (subject_verdict t table h call subject) ≡ true →
       is_allowed (subject_verdict t table k call subject) ≡ true
   subject_more (At object) call e = found_more table h k w t call (Ok object) e
@@ -66,7 +55,7 @@ module _ (table : CallTable) (h k : History) (w : HistoryWithin h k) (t : Tree) 
       joined (may_any k (rule_of table call).alternatives) (fault (cover_in t k dir))
       (may_within h k w (rule_of table call).alternatives both.0)
       (or_less (cover_fault (cover_in t h dir) (rule_of table call).perms) (cover_fault (cover_in t k dir) (rule_of table call).perms)
-      (object_fault t call IsMissing) (fault_within (in_within dir) (rule_of table call).perms) both.1)
+      (object_fault t call IsMissing) (fault_within (in_within w.veils t dir) (rule_of table call).perms) both.1)
 
   calls_more : (subject : Subject) (call : Call) → Among (calls_on t table h subject) call → Among (calls_on t table k subject) call
   calls_more subject call a =
@@ -83,16 +72,16 @@ module _ (table : CallTable) (h k : History) (w : HistoryWithin h k) (t : Tree) 
 
   listed : (line : Line) → Among (objects t table h) line → IsListed t table k line
   listed line a =
-      let kept = filter_among has_calls (map (line_of t table h) (items t (veils h))) line a in
-      let from = map_among (line_of t table h) (items t (veils h)) line kept.0 in
+      let kept = filter_among has_calls (map (line_of t table h) (items t h.veils)) line a in
+      let from = map_among (line_of t table h) (items t h.veils) line kept.0 in
       let item : Item = from.0 in
       subst (IsListed t table k) from.2 (record {
         other = line_of t table k item;
         listed = contained (objects t table k) (line_of t table k item)
-            (among_filter has_calls (map (line_of t table k) (items t (veils k))) (line_of t table k item)
+            (among_filter has_calls (map (line_of t table k) (items t k.veils)) (line_of t table k item)
             (still item.subject (calls_on t table h item.subject) refl (ap has_calls from.2 ∙ kept.1))
-            (among_map (line_of t table k) (items t (veils k)) item
-            (subst (λ l. Among l item) (items_alike t (veils h) (veils k) (veils_within w)) from.1)));
+            (among_map (line_of t table k) (items t k.veils) item
+            (subst (λ l. Among l item) (items_alike t h.veils k.veils w.veils) from.1)));
         word = refl;
         subject = refl;
         calls = λ call has. contained (calls_on t table k item.subject) call

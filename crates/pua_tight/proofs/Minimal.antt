@@ -14,7 +14,7 @@ use Rattle.pua_path.specs.declared.text.Ending.TheVariants as ending
 use Rattle.pua_calls.specs.Promises.{unveil, proc}
 use Rattle.pua_calls.specs.Calls.{CallTable, rule_of}
 use Rattle.pua_calls.specs.declared.call.Call.TheVariants as call
-use Rattle.pua_policy.specs.History.{History, may_any, is_ended, is_locked}
+use Rattle.pua_policy.specs.States.{ProcessState, may_any}
 use Rattle.pua_policy.specs.Verdict.{refusal_of}
 use Rattle.pua_policy.specs.declared.answer.May.{May}
 use Rattle.pua_policy.specs.declared.answer.May.TheVariants as may
@@ -26,25 +26,26 @@ use Rattle.pua_script.specs.Family.{is_okay}
 use Rattle.pua_script.specs.Decide.{Change, NoChange, AddNode, CutRow, ShiftRow, TieRow, BeginProgram, AddEvent, CopyAs, Decision, decide}
 use Rattle.pua_script.specs.Decide.{refusals, unless_refused, unless_failed, change_by, adding, link_node, rename_by}
 use Rattle.pua_script.specs.Decide.{link_by, fault_if, is_unknown}
-use Rattle.pua_script.specs.Replay.{World, history_of, Fails, Copies, edit_effect, edited_tree, change_effect, refusal_effect}
+use Rattle.pua_script.specs.Replay.{World, kept_at, Fails, Copies, edit_effect, edited_tree, change_effect, refusal_effect}
 use Rattle.pua_script.specs.Replay.{come_of, answer_to, do_decided, answer_and_world, apply, answers_to, world_after}
 use Rattle.pua_script.specs.declared.answer.Answer.{Answer}
 use Rattle.pua_script.specs.declared.answer.Answer.TheVariants as answer
 use Rattle.pua_script.specs.declared.request.Action.{Action}
 use Rattle.pua_script.specs.declared.request.Action.TheVariants.{OnPath, Symlink, Rename, Link, Pledge, Unveil, Lock, Fork, Exit}
-use Rattle.pua_tight.specs.Narrower.{HistoryWithin, HistoriesWithin, WorldWithin, AskWithin, AsksWithin, no_asks, asks}
-use Rattle.pua_tight.proofs.Histories.{ended_alike}
+use Rattle.pua_tight.specs.Narrower.{StateWithin, ProcessesWithin, WorldWithin, AskWithin, AsksWithin, no_asks, asks}
+use Rattle.pua_tight.proofs.Sets.{three_bools}
 use Rattle.pua_tight.proofs.Decided.{easier, granted_more}
 use Rattle.pua_tight.proofs.Rare.{is_rare, rare, checked_plain, path_plain, locked_plain, unknown_plain, object_plain, objects_plain}
 use Rattle.pua_tight.proofs.Rare.{rename_plain, link_plain, veiling_plain}
+use Rattle.pua_tight.proofs.Agreeing.{refused}
 use Rattle.pua_tight.proofs.Between.{between}
 use Rattle.pua_tight.specs.Tight.{Piece, Line, asks_of, without, answer_number, same_answers, try_piece, thin_line, thin}
 use Rattle.pua_tight.specs.Laws.{IsPieceOf, MayLeaveOut, AreOkay, leave_out, TightIsMinimal}
 use Rattle.pua_tight.proofs.Tightened.{ask_less, ask_self, world_self, tried_same, line_within, thin_same}
 use Rattle.pua_tight.proofs.Less.{ask_mono, is_without, okay_less}
 use Rattle.pua_script.proofs.ForCallers.{one_request_more}
-use Rattle.std.specs.Prelude.{◌==◌, ◌&&◌}
-use Rattle.pua_tight.proofs.Worlds.{heads, tails, answered_alike, FoundWithin, never, made, found_within, alike_within, request_keeps}
+use Rattle.std.specs.Prelude.{◌&&◌}
+use Rattle.pua_tight.proofs.Worlds.{heads, tails, answered_alike, FoundWithin, never, made, found_within, alike_within, request_keeps, not_okay, gone_or}
 
 -- want of room
 abbrev pub is_full : Errno → Bool
@@ -80,7 +81,7 @@ beyond_plain true c = refl
 beyond_plain false c = refl
 
 -- no refusal is want of room
-pub decide_full : (table : CallTable) (t : Tree) (h : History) (action : Action) → full (decide table t h action) ≡ false
+pub decide_full : (table : CallTable) (t : Tree) (h : ProcessState) (action : Action) → full (decide table t h action) ≡ false
 decide_full table t h (OnPath c path) = promise_full (may_any h (rule_of table c).alternatives) _
     (not_full _ (object_plain table t h c path (change_by table c)))
 decide_full table t h (Symlink target path) = promise_full (may_any h (rule_of table call.Symlink).alternatives) _
@@ -95,21 +96,20 @@ decide_full table t h (Link old new) = promise_full (may_any h table.link.old.ne
 decide_full table t h (Pledge p e) = not_full _ (checked_plain (fault_if (is_unknown p || is_unknown e) EINVAL) _
     (unknown_plain (is_unknown p || is_unknown e)) (beyond_plain _ _))
 decide_full table t h (Unveil path perms) = promise_full (may_any h (unveil ∷ [])) _
-    (not_full _ (checked_plain (fault_if (is_locked h) EPERM) _ (locked_plain (is_locked h)) (veiling_plain t h path perms)))
+    (not_full _ (checked_plain (fault_if h.locked EPERM) _ (locked_plain h.locked) (veiling_plain t h path perms)))
 decide_full table t h Lock = promise_full (may_any h (unveil ∷ [])) _ refl
 decide_full table t h (Fork new) = promise_full (may_any h (proc ∷ [])) _ refl
 decide_full table t h Exit = refl
 
 okay_not : {A : Type 0} (r : Refusal) → answer.Okay ≡ answer_to (refusal_effect r) → A
-okay_not (refusal.Failed errno) e = absurd (true≢false (ap is_okay e))
-okay_not refusal.Killed e = absurd (true≢false (ap is_okay e))
+okay_not r e = not_okay r (ap is_okay (sym e))
 
 failed_is : (errno : Errno) (r : Refusal) → is_full errno ≡ true → answer.Failed errno ≡ answer_to (refusal_effect r) → full (Err r) ≡ true
 failed_is errno (refusal.Failed other) is e = sym (ap full_answer e) ∙ is
 failed_is errno refusal.Killed is e = absurd (true≢false (sym is ∙ ap full_answer e))
 
 -- a change that fails is want of room
-module _ (w : World) (h : History) (r : Refusal) where
+module _ (w : World) (h : ProcessState) (r : Refusal) where
   edit_full : (x : Result (ℕ × Tree) TreeFault) → answer_to (edit_effect h x) ≡ answer_to (refusal_effect r) → full (Err r) ≡ true
   edit_full (Ok result) e = okay_not r e
   edit_full (Err fault) e = failed_is ENOSPC r refl e
@@ -130,7 +130,7 @@ module _ (w : World) (h : History) (r : Refusal) where
   change_full (TieRow spot x) e = tree_full (tie w.tree spot.0 spot.1 x) e
   change_full (BeginProgram left) e = okay_not r e
   change_full (AddEvent event) e = okay_not r e
-  change_full (CopyAs new) e = fork_full new (is_some (history_of w new) || nat_le most_processes (length w.histories)) e
+  change_full (CopyAs new) e = fork_full new (is_some (kept_at w new) || nat_le most_processes (length w.processes)) e
 
 pub same_refusal : (r s : Refusal) → answer_to (refusal_effect r) ≡ answer_to (refusal_effect s) → r ≡ s
 same_refusal (refusal.Failed x) (refusal.Failed y) e = cc
@@ -138,17 +138,17 @@ same_refusal (refusal.Failed x) refusal.Killed e = cc
 same_refusal refusal.Killed (refusal.Failed y) e = cc
 same_refusal refusal.Killed refusal.Killed e = refl
 
-module _ (table : CallTable) (t : Tree) (hs ms ks : List (ℕ × History)) (low : HistoriesWithin hs ms) (high : HistoriesWithin ms ks) where
+module _ (table : CallTable) (t : Tree) (hs ms ks : List (ℕ × ProcessState)) (low : ProcessesWithin hs ms) (high : ProcessesWithin ms ks) where
   abbrev lo : World
-  lo = record { tree = t; histories = hs }
+  lo = record { tree = t; processes = hs }
 
   abbrev mid : World
-  mid = record { tree = t; histories = ms }
+  mid = record { tree = t; processes = ms }
 
   abbrev hi : World
-  hi = record { tree = t; histories = ks }
+  hi = record { tree = t; processes = ks }
 
-  module _ (g h k : History) (v : HistoryWithin g h) (w : HistoryWithin h k) (action : Action) where
+  module _ (g h k : ProcessState) (v : StateWithin g h) (w : StateWithin h k) (action : Action) where
     decided_between : answer_to (come_of lo g (decide table t g action)) ≡ answer_to (come_of hi k (decide table t k action)) →
         answer_to (come_of mid h (decide table t h action)) ≡ answer_to (come_of lo g (decide table t g action))
     decided_between = by (decide table t g action) (decide table t k action) refl refl
@@ -161,34 +161,27 @@ module _ (table : CallTable) (t : Tree) (hs ms ks : List (ℕ × History)) (low 
         by (Err r) (Ok c) p q e =
             absurd (true≢false (sym (change_full hi k r c (sym e)) ∙ ap full (sym p) ∙ decide_full table t g action))
         by (Err r) (Err s) p q e = ap (λ d. answer_to (come_of mid h d))
-            (between table t g h k v w action r p (q ∙ ap (λ x. Err x) (sym (same_refusal r s e))))
+            (between table t g h k v w action (ap refused p ∙ ap (λ x. Some x) (same_refusal r s e) ∙ sym (ap refused q)) ∙ q) ∙ sym e
 
-    served_between : (n : ℕ) (a b c : Bool) → a ≡ b → b ≡ c →
-        (cond {A = Answer × World} a (answer.Gone, lo) (do_decided lo n g (decide table t g action))).0
-        ≡ (cond {A = Answer × World} c (answer.Gone, hi) (do_decided hi n k (decide table t k action))).0 →
-        (cond {A = Answer × World} b (answer.Gone, mid) (do_decided mid n h (decide table t h action))).0
-        ≡ (cond {A = Answer × World} a (answer.Gone, lo) (do_decided lo n g (decide table t g action))).0
-    served_between n true true c p q e = refl
-    served_between n true false c p q e = absurd (true≢false p)
-    served_between n false true c p q e = absurd (false≢true p)
-    served_between n false false true p q e = absurd (false≢true q)
-    served_between n false false false p q e = decided_between e
-
-  found_between : (ask : Asked) {o p q : Option History} → FoundWithin o p → FoundWithin p q →
+  found_between : (ask : Asked) {o p q : Option ProcessState} → FoundWithin o p → FoundWithin p q →
       (answer_and_world table lo ask o).0 ≡ (answer_and_world table hi ask q).0 →
       (answer_and_world table mid ask p).0 ≡ (answer_and_world table lo ask o).0
   found_between ask never never e = refl
   found_between ask (made {h = g} {k = h} v) (made {k = k} w) e =
-      served_between g h k v w ask.action ask.process (is_ended g) (is_ended h) (is_ended k) (ended_alike v) (ended_alike w) e
+      three_bools (λ a b c. (gone_or a lo (do_decided lo ask.process g (decide table t g ask.action))).0
+      ≡ (gone_or c hi (do_decided hi ask.process k (decide table t k ask.action))).0 →
+      (gone_or b mid (do_decided mid ask.process h (decide table t h ask.action))).0
+      ≡ (gone_or a lo (do_decided lo ask.process g (decide table t g ask.action))).0)
+      (λ _. refl) (decided_between g h k v w ask.action) g.ended h.ended k.ended v.ended w.ended e
 
 -- one request
 request_between : (table : CallTable) (lo mid hi : World) → WorldWithin lo mid → WorldWithin mid hi → (ask : Asked) →
     (apply table lo ask).0 ≡ (apply table hi ask).0 → (apply table mid ask).0 ≡ (apply table lo ask).0
 request_between table lo mid hi low high ask =
-    subst (λ u. Goal (record { tree = u; histories = mid.histories }) hi) low.tree
-    (subst (λ u. Goal (record { tree = lo.tree; histories = mid.histories }) (record { tree = u; histories = hi.histories })) (low.tree ∙ high.tree)
-    (found_between table lo.tree lo.histories mid.histories hi.histories low.histories high.histories ask
-    (found_within low.histories ask.process) (found_within high.histories ask.process)))
+    subst (λ u. Goal (record { tree = u; processes = mid.processes }) hi) low.tree
+    (subst (λ u. Goal (record { tree = lo.tree; processes = mid.processes }) (record { tree = u; processes = hi.processes })) (low.tree ∙ high.tree)
+    (found_between table lo.tree lo.processes mid.processes hi.processes low.processes high.processes ask
+    (found_within low.processes ask.process) (found_within high.processes ask.process)))
   where
     Goal : World → World → Type 0
     Goal m h = (apply table lo ask).0 ≡ (apply table h ask).0 → (apply table m ask).0 ≡ (apply table lo ask).0
@@ -245,12 +238,9 @@ within_more : {xs ys : List Asked} → AsksWithin xs ys → (x y : Asked) → As
 within_more no_asks x y lies = asks lies no_asks
 within_more (asks first rest) x y lies = asks first (within_more rest x y lies)
 
-number_self : (n : ℕ) → (n == n) ≡ true
-number_self n = eq-eqb n n refl
-
 pub same_self : (xs : List Answer) → same_answers xs xs ≡ true
 same_self [] = refl
-same_self (x ∷ xs) = ap (λ b. b && same_answers xs xs) (number_self (answer_number x)) ∙ same_self xs
+same_self (x ∷ xs) = ap (λ b. b && same_answers xs xs) (eq-eqb (answer_number x) (answer_number x) refl) ∙ same_self xs
 
 module _ (table : CallTable) (w : World) (want : List Answer) where
   module _ (before after : List Asked) where

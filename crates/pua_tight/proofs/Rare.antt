@@ -26,7 +26,7 @@ use Rattle.pua_path.specs.declared.found.Way.TheVariants as way
 use Rattle.pua_calls.specs.Promises.{holds}
 use Rattle.pua_calls.specs.Calls.{CallTable, PairRule, rule_of, ending_of, last_of}
 use Rattle.pua_calls.specs.declared.call.Call.{Call}
-use Rattle.pua_policy.specs.History.{History, unveil_fault, working_dir}
+use Rattle.pua_policy.specs.States.{ProcessState, unveil_fault, working_dir}
 use Rattle.pua_policy.specs.Misfits.{misfit, misfit_errno}
 use Rattle.pua_policy.specs.Verdict.{cover, cover_fault, object_of, or_fault, place_of}
 use Rattle.pua_policy.specs.declared.reason.Misfit.{Misfit}
@@ -206,7 +206,7 @@ locked_plain b = if_plain b EPERM refl
 pub unknown_plain : (b : Bool) → rare_fault (fault_if b EINVAL) ≡ false
 unknown_plain b = if_plain b EINVAL refl
 
-pub object_plain : (table : CallTable) (t : Tree) (h : History) (c : Call) (path : List ℕ) (f : Found → Change) →
+pub object_plain : (table : CallTable) (t : Tree) (h : ProcessState) (c : Call) (path : List ℕ) (f : Found → Change) →
     rare (object_by refusals table t (asker_of h) c path (λ x. Ok (f x))) ≡ false
 object_plain table t h c path f = named_plain (resolution_of_text t (working_dir h) (ending_of c) path (last_of c))
     (λ x. unless_failed refusals.failed (or_fault (cover_fault (cover t h x) (rule_of table c).perms)
@@ -217,7 +217,7 @@ object_plain table t h c path f = named_plain (resolution_of_text t (working_dir
     (or_plain (cover_fault (cover t h x) (rule_of table c).perms) (option_map misfit_errno (misfit t c (object_of t x)))
     (cover_plain (cover t h x) (rule_of table c).perms) (misfit_plain (misfit t c (object_of t x)))) refl)
 
-pub objects_plain : (pair : PairRule) (t : Tree) (h : History) (end : Ending) (old new : List ℕ) (f : Found → Found → Decision) →
+pub objects_plain : (pair : PairRule) (t : Tree) (h : ProcessState) (end : Ending) (old new : List ℕ) (f : Found → Found → Decision) →
     ((x y : Found) → rare (f x y) ≡ false) → rare (objects_by refusals pair t (asker_of h) end old new f) ≡ false
 objects_plain pair t h end old new f plain = named_plain (resolution_of_text t (working_dir h) end old pair.old.last) _
     (named t (working_dir h) end old pair.old.last)
@@ -247,7 +247,7 @@ link_plain old new (Some x) =
     (or_plain (fault_if (is_whole old) EPERM) (fault_if (is_some (node_named new)) EEXIST) (if_plain (is_whole old) EPERM refl)
     (if_plain (is_some (node_named new)) EEXIST refl)) refl
 
-pub veiling_plain : (t : Tree) (h : History) (path : List ℕ) (perms : Option ℕ) → rare (veil_by refusals t (asker_of h) path perms) ≡ false
+pub veiling_plain : (t : Tree) (h : ProcessState) (path : List ℕ) (perms : Option ℕ) → rare (veil_by refusals t (asker_of h) path perms) ≡ false
 veiling_plain t h path None = refl
 veiling_plain t h path (Some perms) = named_plain (resolution_of_text t (working_dir h) ending.Dot path Followed) _
     (named t (working_dir h) ending.Dot path Followed)

@@ -5,8 +5,8 @@ use Rattle.std.proofs.lemmas.Bool.{eq-eqb, ne_eqb}
 use Rattle.std.proofs.lemmas.Option.{none-some, same_Some, slice_get-get_or}
 use Rattle.std.specs.Prelude.{Option, Some, None, option_map, slice_get, ◌==◌, ◌&&◌, is_none}
 use Rattle.pua_script.specs.Requests.{Asked}
-use Rattle.pua_script.specs.Replay.{World, apply, answers_to}
-use Rattle.pua_script.specs.Worlds.{WorldState, StandsForWorld, IsServed}
+use Rattle.pua_script.specs.Replay.{answers_to}
+use Rattle.pua_script.specs.Worlds.{WorldState, world_of, apply_to}
 use Rattle.pua_script.specs.declared.answer.Answer.{Answer}
 use Rattle.pua_script.specs.declared.answer.Answer.TheVariants.{Okay}
 use Rattle.pua_tight.specs.Tight.{answer_number, same_answers}
@@ -62,82 +62,55 @@ gone_by (x ∷ xs) (suc index) past = gone_by xs index (omega (arith, past))
 
 -- of requests so many were served in a world and answered as is wanted, and left it so
 abbrev pub IsServedTo : WorldState → List Asked → List Answer → ℕ → WorldState → Type 0
-IsServedTo before asks wanted index now = (w : World) → StandsForWorld before w →
-    (v : World) × StandsForWorld now v × (now.table ≡ before.table)
-    × (first_other (answers_to before.table w asks) wanted ≡ first_from index (answers_to before.table v (drop index asks)) (drop index wanted))
+IsServedTo before asks wanted index now = first_other (answers_to before.table (world_of before) asks) wanted
+    ≡ first_from index (answers_to now.table (world_of now) (drop index asks)) (drop index wanted)
 
 pub none_served : (before : WorldState) (asks : List Asked) (wanted : List Answer) → IsServedTo before asks wanted 0 before
-none_served before asks wanted w stands =
-    (w, stands, refl, sym (from_none (first_other (answers_to before.table w asks) wanted)))
+none_served before asks wanted = sym (from_none (first_other (answers_to before.table (world_of before) asks) wanted))
 
 module _ (before now after : WorldState) (asks : List Asked) (wanted : List Answer) (index : ℕ) (ask : Asked) (answer : Answer)
-    (there : slice_get asks index ≡ Some ask) (served : IsServed now ask answer after) (so_far : IsServedTo before asks wanted index now) where
+    (there : slice_get asks index ≡ Some ask) (served : (answer, after) ≡ apply_to now ask) (so_far : IsServedTo before asks wanted index now) where
+  abbrev more : List Answer
+  more = answers_to after.table (world_of after) (drop (index + 1) asks)
+
   -- one more was answered
-  one_more : (w : World) → StandsForWorld before w →
-      (v : World) × StandsForWorld after v × (after.table ≡ before.table)
-      × (first_other (answers_to before.table w asks) wanted
-      ≡ first_from index (answer ∷ answers_to before.table v (drop (index + 1) asks)) (drop index wanted))
-  one_more w stands =
-      let at = so_far w stands in
-      let done = served at.0 at.1 in
-      let left : World = (apply now.table at.0 ask).1 in (
-        left,
-        done.1,
-        done.2 ∙ at.2,
-        at.3
-            ∙ ap (λ l. first_from index (answers_to before.table at.0 l) (drop index wanted)) (dropped asks index ask there)
-            ∙ (λ j. first_from index ((apply (sym at.2 j) at.0 ask).0 ∷ answers_to before.table (apply (sym at.2 j) at.0 ask).1 (drop (index + 1) asks))
-            (drop index wanted))
-            ∙ ap (λ a. first_from index (a ∷ answers_to before.table left (drop (index + 1) asks)) (drop index wanted)) (sym done.0),
-      )
+  one_more : first_other (answers_to before.table (world_of before) asks) wanted ≡ first_from index (answer ∷ more) (drop index wanted)
+  one_more = so_far ∙ ap (λ l. first_from index (answers_to now.table (world_of now) l) (drop index wanted)) (dropped asks index ask there)
+      ∙ ap (λ done. first_from index (done.0 ∷ answers_to done.1.table (world_of done.1) (drop (index + 1) asks)) (drop index wanted)) (sym served)
 
   pub goes_on : (b : Answer) → slice_get wanted index ≡ Some b → b ≡ answer → IsServedTo before asks wanted (index + 1) after
-  goes_on b wants same w stands =
-      let at = one_more w stands in
-      let more : List Answer = answers_to before.table at.0 (drop (index + 1) asks) in
-      let rest : List Answer = drop (index + 1) wanted in (
-        at.0,
-        at.1,
-        at.2,
-        at.3 ∙ ap (first_from index (answer ∷ more)) (dropped wanted index b wants)
-            ∙ ap (λ x. option_map (λ n. index + n) (cond x (option_map suc (first_other more rest)) (Some 0)))
-            (eq-eqb (answer_number answer) (answer_number b) (ap answer_number (sym same)))
-            ∙ further index (first_other more rest),
-      )
+  goes_on b wants same =
+      let rest : List Answer = drop (index + 1) wanted in
+      one_more ∙ ap (first_from index (answer ∷ more)) (dropped wanted index b wants)
+      ∙ ap (λ x. option_map (λ n. index + n) (cond x (option_map suc (first_other more rest)) (Some 0)))
+      (eq-eqb (answer_number answer) (answer_number b) (ap answer_number (sym same)))
+      ∙ further index (first_other more rest)
 
   here : index + 0 ≡ index
   here = omega arith
 
-  pub stops : (b : Answer) → slice_get wanted index ≡ Some b → b ≢ answer → (w : World) → StandsForWorld before w →
-      Some index ≡ first_other (answers_to before.table w asks) wanted
-  stops b wants other w stands =
-      let at = one_more w stands in
-      let more : List Answer = answers_to before.table at.0 (drop (index + 1) asks) in
+  pub stops : (b : Answer) → slice_get wanted index ≡ Some b → b ≢ answer →
+      Some index ≡ first_other (answers_to before.table (world_of before) asks) wanted
+  stops b wants other =
       let rest : List Answer = drop (index + 1) wanted in
-      sym (at.3 ∙ ap (first_from index (answer ∷ more)) (dropped wanted index b wants)
+      sym (one_more ∙ ap (first_from index (answer ∷ more)) (dropped wanted index b wants)
       ∙ ap (λ x. option_map (λ n. index + n) (cond x (option_map suc (first_other more rest)) (Some 0)))
       (ne_eqb (answer_number answer) (answer_number b) (λ e. other (sym (same_number answer b e))))
       ∙ ap Some here)
 
-  pub stops_beyond : length wanted ≤ index → (w : World) → StandsForWorld before w →
-      Some index ≡ first_other (answers_to before.table w asks) wanted
-  stops_beyond past w stands =
-      let at = one_more w stands in
-      let more : List Answer = answers_to before.table at.0 (drop (index + 1) asks) in
-      sym (at.3 ∙ ap (first_from index (answer ∷ more)) (gone_by wanted index past) ∙ ap Some here)
+  pub stops_beyond : length wanted ≤ index → Some index ≡ first_other (answers_to before.table (world_of before) asks) wanted
+  stops_beyond past = sym (one_more ∙ ap (first_from index (answer ∷ more)) (gone_by wanted index past) ∙ ap Some here)
 
 -- all were served
 module _ (before now : WorldState) (asks : List Asked) (wanted : List Answer) (index : ℕ) (so_far : IsServedTo before asks wanted index now)
-    (past : length asks ≤ index) (w : World) (stands : StandsForWorld before w) where
-  at_end : first_other (answers_to before.table w asks) wanted ≡ first_from index [] (drop index wanted)
-  at_end =
-      let at = so_far w stands in
-      at.3 ∙ ap (λ l. first_from index (answers_to before.table at.0 l) (drop index wanted)) (gone_by asks index past)
+    (past : length asks ≤ index) where
+  at_end : first_other (answers_to before.table (world_of before) asks) wanted ≡ first_from index [] (drop index wanted)
+  at_end = so_far ∙ ap (λ l. first_from index (answers_to now.table (world_of now) l) (drop index wanted)) (gone_by asks index past)
 
-  pub all_wanted : length wanted ≤ index → None ≡ first_other (answers_to before.table w asks) wanted
+  pub all_wanted : length wanted ≤ index → None ≡ first_other (answers_to before.table (world_of before) asks) wanted
   all_wanted few = sym (at_end ∙ ap (first_from index []) (gone_by wanted index few))
 
-  pub more_wanted : index < length wanted → Some index ≡ first_other (answers_to before.table w asks) wanted
+  pub more_wanted : index < length wanted → Some index ≡ first_other (answers_to before.table (world_of before) asks) wanted
   more_wanted less =
       let none : index + 0 ≡ index = omega arith in
       let first : Answer = get_or wanted index Okay in

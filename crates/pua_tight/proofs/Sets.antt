@@ -1,13 +1,43 @@
--- Sets within sets.
-use Rattle.std.proofs.Common.{◌≡◌, ℕ, refl, sym, ap, ◌∙◌, true, Bool, cond}
-use Rattle.std.proofs.lemmas.Bool.{eqb-true, eq-eqb}
+-- Sets within sets, and tests that are passed where others are.
+use Rattle.std.proofs.Common.{◌≡◌, ℕ, List, [], ◌∷◌, refl, sym, ap, ◌∙◌, true, false, Bool, cond, ◌||◌, ◌&&◌, subst}
+use Rattle.std.proofs.lemmas.Bool.{true≢false, false≢true, eqb-true, eq-eqb, and_parts, and_from, or_right}
+use Rattle.std.specs.List.{list_any, list_all}
 use Rattle.std.proofs.lemmas.Nat.{and_assoc, and_comm}
 use Rattle.std.specs.Int.Bits.{and_self}
-use Rattle.std.specs.Prelude.{bit_and, Option, Some, None, unwrap_or, false}
+use Rattle.std.specs.Prelude.{bit_and, Option, Some, None, unwrap_or}
 use Rattle.pua_calls.specs.Promises.{holds}
-use Rattle.pua_policy.specs.History.{meet, is_within}
+use Rattle.pua_policy.specs.States.{is_within, narrowed_set}
 use Rattle.pua_policy.proofs.ForCallers.{holds_through}
 use Rattle.pua_tight.specs.Narrower.{SetWithin, unset, within}
+
+-- what holds of one of two, of both, of some and of all, where what is asked is asked of more
+pub or_more : (a b c d : Bool) → (a ≡ true → c ≡ true) → (b ≡ true → d ≡ true) → (a || b) ≡ true → (c || d) ≡ true
+or_more true b c d first second e = ap (λ x. x || d) (first refl)
+or_more false b c d first second e = or_right c d (second e)
+
+pub and_more : (a b c d : Bool) → (a ≡ true → c ≡ true) → (b ≡ true → d ≡ true) → (a && b) ≡ true → (c && d) ≡ true
+and_more a b c d first second e = let both = and_parts a b e in and_from c d (first both.0) (second both.1)
+
+pub any_more : {X : Type 0} (f g : X → Bool) → ((x : X) → f x ≡ true → g x ≡ true) → (xs : List X) → list_any f xs ≡ true →
+    list_any g xs ≡ true
+any_more f g more [] e = e
+any_more f g more (x ∷ xs) e = or_more (f x) (list_any f xs) (g x) (list_any g xs) (more x) (any_more f g more xs) e
+
+pub all_more : {X : Type 0} (f g : X → Bool) → ((x : X) → f x ≡ true → g x ≡ true) → (xs : List X) → list_all f xs ≡ true →
+    list_all g xs ≡ true
+all_more f g more [] e = e
+all_more f g more (x ∷ xs) e = and_more (f x) (list_all f xs) (g x) (list_all g xs) (more x) (all_more f g more xs) e
+
+-- what is so of `true` and of `false`, of equal ones
+pub two_bools : (P : Bool → Bool → Type 0) → P true true → P false false → (a b : Bool) → a ≡ b → P a b
+two_bools P on off true true e = on
+two_bools P on off false false e = off
+two_bools P on off true false e = absurd (true≢false e)
+two_bools P on off false true e = absurd (false≢true e)
+
+pub three_bools : (P : Bool → Bool → Bool → Type 0) → P true true true → P false false false → (a b c : Bool) → a ≡ b → b ≡ c → P a b c
+three_bools P on off a b c p q =
+    two_bools (λ x y. y ≡ c → P x y c) (λ e. subst (P true true) e on) (λ e. subst (P false false) e off) a b p q
 
 pub holds_self : (a : ℕ) → holds a a ≡ true
 holds_self a = eq-eqb _ _ (and_self a)
@@ -21,9 +51,15 @@ holds_both a b c d first second =
     ∙ ap (bit_and b) (sym (and_assoc c d a) ∙ ap (λ x. bit_and x c) (and_comm d a) ∙ and_assoc c a d ∙ ap (bit_and a) it)
     ∙ sym (and_assoc c b a) ∙ ap (λ x. bit_and x c) is)
 
-pub meet_within : (a b : ℕ) {p q : Option ℕ} → holds b a ≡ true → SetWithin p q → SetWithin (Some (meet a p)) (Some (meet b q))
-meet_within a b less unset = within less
-meet_within a b less (within {a = c} {b = d} other) = within (holds_both a b c d less other)
+pub set_self : (p : Option ℕ) → SetWithin p p
+set_self None = unset
+set_self (Some a) = within (holds_self a)
+
+-- what is given after a request within another one
+pub narrowed_within : {p q x y : Option ℕ} → SetWithin p q → SetWithin x y → SetWithin (narrowed_set p x) (narrowed_set q y)
+narrowed_within given unset = given
+narrowed_within unset (within less) = within less
+narrowed_within (within {a = c} {b = d} other) (within {a = a} {b = b} less) = within (holds_both a b c d less other)
 
 -- what is held, where nothing was given by a set of its own
 pub default_within : (d : ℕ) {p q : Option ℕ} → SetWithin p q → holds (unwrap_or q d) (unwrap_or p d) ≡ true

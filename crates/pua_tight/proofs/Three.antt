@@ -1,25 +1,25 @@
--- Three histories: the middle one lacks of the last one only what the first one lacks too.
+-- Three processes: the middle one lacks of the last one only what the first one lacks too.
 use Rattle.std.proofs.Common.{◌≡◌, ℕ, List, [], ◌∷◌, refl, sym, ap, ◌∙◌, Bool, true, false, cond, min, arith}
-use Rattle.std.proofs.lemmas.Bool.{true≢false, false≢true, eq-eqb}
+use Rattle.std.proofs.lemmas.Bool.{eq-eqb}
 use Rattle.std.proofs.lemmas.Nat.{and_assoc, and_comm}
 use Rattle.std.proofs.lemmas.Nat.Bits.{bit_at_and, same_from_bits}
 use Rattle.std.specs.Int.{bit_at}
 use Rattle.std.specs.Int.Bits.{and_self}
-use Rattle.std.specs.List.{list_any}
-use Rattle.std.specs.Prelude.{Option, Some, None, IsTrue, not, filter, map, ◌-◌, bit_and, unwrap_or}
+use Rattle.std.specs.Prelude.{Option, Some, None, IsTrue, map, ◌-◌, bit_and, unwrap_or}
 use Rattle.pua_tree.specs.Tree.{Tree}
 use Rattle.pua_path.specs.declared.found.Found.{Found}
 use Rattle.pua_calls.specs.Promises.{holds, all_promises, error}
-use Rattle.pua_policy.specs.History.{History, Event, Pledged, Unveiled, Locked, Moved, Ended, pledged_set, held_for_exec, held_set, meet}
-use Rattle.pua_policy.specs.History.{perms_kept, is_locked, is_ended, working_dir, same_place, has_error, is_pledge}
-use Rattle.pua_policy.specs.Verdict.{is_unveil, cover, nearest, directories_over, place_of}
+use Rattle.pua_calls.specs.declared.rules.ExecPromises.{ExecPromises}
+use Rattle.pua_calls.specs.declared.rules.ExecPromises.TheVariants.{Unset, Stay}
+use Rattle.pua_policy.specs.States.{ProcessState, Event, Pledged, Unveiled, Locked, Moved, Ended, state_after, state_by_exec, after_exec}
+use Rattle.pua_policy.specs.States.{left_for_exec, narrowed_set, held_set, has_error, has_veil, veil_at, with_veil, same_place}
+use Rattle.pua_policy.specs.Verdict.{cover_with, nearest, directories_over, place_of}
 use Rattle.pua_policy.specs.declared.place.Place.{Place}
 use Rattle.pua_policy.specs.declared.place.Place.TheVariants.{Dir}
 use Rattle.pua_policy.specs.declared.answer.Cover.{Cover}
 use Rattle.pua_policy.specs.declared.answer.Cover.TheVariants.{All, Nothing, Only}
 use Rattle.pua_policy.proofs.ForCallers.{holds_through, second_holds}
-use Rattle.pua_tight.specs.Narrower.{SetWithin, unset, within, pledged, unveiled, locked, moved, ended, HistoryWithin, none, more}
-use Rattle.pua_tight.proofs.Sets.{holds_self, holds_both}
+use Rattle.pua_tight.proofs.Sets.{holds_both}
 
 pub first_holds : (a b w : ℕ) → holds (bit_and a b) w ≡ true → holds a w ≡ true
 first_holds a b w e = second_holds b a w (ap (λ x. holds x w) (and_comm b a) ∙ e)
@@ -52,181 +52,149 @@ met_error a b c d p q = same_truth _ _
     (λ e. both_hold c d error (sym p ∙ first_holds a b error e) (sym q ∙ second_holds a b error e))
     (λ e. both_hold a b error (p ∙ first_holds c d error e) (q ∙ second_holds c d error e))
 
-pub data SetThree : Option ℕ → Option ℕ → Option ℕ → Type 0 where
-  three_unset : SetThree None None None
-  three_some : {a b c : ℕ} → IsTrue (holds c b) → IsTrue (holds b (bit_and c a)) → holds a error ≡ holds c error →
-      SetThree (Some a) (Some b) (Some c)
-
-pub data EventThree : Event → Event → Event → Type 0 where
-  three_pledged : {p q r e f g : Option ℕ} → SetThree p q r → SetThree e f g → EventThree (Pledged p e) (Pledged q f) (Pledged r g)
-  three_unveiled : {place : Place} {a b c : ℕ} → IsTrue (holds c b) → IsTrue (holds b (bit_and c a)) →
-      EventThree (Unveiled place a) (Unveiled place b) (Unveiled place c)
-  three_locked : EventThree Locked Locked Locked
-  three_moved : {dir : ℕ} → EventThree (Moved dir) (Moved dir) (Moved dir)
-  three_ended : EventThree Ended Ended Ended
-
-pub data HistoryThree : History → History → History → Type 0 where
-  three_none : HistoryThree [] [] []
-  three_more : {x y z : Event} {l m s : History} → EventThree x y z → HistoryThree l m s → HistoryThree (x ∷ l) (y ∷ m) (z ∷ s)
-
 pub last_two : (a c : ℕ) → holds c (bit_and c a) ≡ true
 last_two a c = eq-eqb _ _ (sym (and_assoc a c c) ∙ ap (λ x. bit_and x a) (and_self c))
 
-pub set_self : (p : Option ℕ) → SetThree p p p
-set_self None = three_unset
-set_self (Some a) = three_some (holds_self a) (last_two a a) refl
+-- sets, of which the first and the last have `error` alike
+pub data SetThree : Option ℕ → Option ℕ → Option ℕ → Type 0 where
+  three_unset : SetThree None None None
+  three_some : {a b c : ℕ} → IsTrue (holds b (bit_and c a)) → holds a error ≡ holds c error → SetThree (Some a) (Some b) (Some c)
 
-pub event_three : (e : Event) → EventThree e e e
-event_three (Pledged p e) = three_pledged (set_self p) (set_self e)
-event_three (Unveiled place a) = three_unveiled (holds_self a) (last_two a a)
-event_three Locked = three_locked
-event_three (Moved d) = three_moved
-event_three Ended = three_ended
+pub set_three : (p : Option ℕ) → SetThree p p p
+set_three None = three_unset
+set_three (Some a) = three_some (last_two a a) refl
 
-pub history_three : (h : History) → HistoryThree h h h
-history_three [] = three_none
-history_three (e ∷ h) = three_more (event_three e) (history_three h)
+-- what is given after three requests
+narrowed_three : {p q r x y z : Option ℕ} → SetThree p q r → SetThree x y z →
+    SetThree (narrowed_set p x) (narrowed_set q y) (narrowed_set r z)
+narrowed_three given three_unset = given
+narrowed_three three_unset (three_some has same) = three_some has same
+narrowed_three (three_some {a = x} {b = y} {c = z} h e) (three_some {a = a} {b = b} {c = c} has same) =
+    three_some (ap (holds (bit_and b y)) (cross c z a x) ∙ holds_both (bit_and c a) b (bit_and z x) y has h) (met_error a x c z same e)
 
-set_later : {p q r : Option ℕ} → SetThree p q r → SetWithin q r
-set_later three_unset = unset
-set_later (three_some less has same) = within less
+-- veils of the same places in one order, of which the first and the last have `error` alike too
+pub data VeilsThree : List (Place × ℕ) → List (Place × ℕ) → List (Place × ℕ) → Type 0 where
+  three_no_veils : VeilsThree [] [] []
+  three_veils : {place : Place} {a b c : ℕ} {us vs ws : List (Place × ℕ)} → IsTrue (holds b (bit_and c a)) → holds a error ≡ holds c error →
+      VeilsThree us vs ws → VeilsThree ((place, a) ∷ us) ((place, b) ∷ vs) ((place, c) ∷ ws)
 
-pub later_two : {l m s : History} → HistoryThree l m s → HistoryWithin m s
-later_two three_none = none
-later_two (three_more (three_pledged p e) rest) = more (pledged (set_later p) (set_later e)) (later_two rest)
-later_two (three_more (three_unveiled less has) rest) = more (unveiled less) (later_two rest)
-later_two (three_more three_locked rest) = more locked (later_two rest)
-later_two (three_more three_moved rest) = more moved (later_two rest)
-later_two (three_more three_ended rest) = more ended (later_two rest)
+-- all else is the same in the first two; that the last one has all of the middle one is said apart (StateWithin)
+pub record StateThree (l m s : ProcessState) : Type 0 where
+  pub promises : SetThree l.promises m.promises s.promises
+  pub execpromises : SetThree l.execpromises m.execpromises s.execpromises
+  pub veils : VeilsThree l.veils m.veils s.veils
+  pub locked : l.locked ≡ m.locked
+  pub dir : l.dir ≡ m.dir
+  pub ended : l.ended ≡ m.ended
 
-meet_three : (a b c : ℕ) {p q r : Option ℕ} → holds c b ≡ true → holds b (bit_and c a) ≡ true → holds a error ≡ holds c error →
-    SetThree p q r → SetThree (Some (meet a p)) (Some (meet b q)) (Some (meet c r))
-meet_three a b c less has same three_unset = three_some less has same
-meet_three a b c less has same (three_some {a = x} {b = y} {c = z} l h e) = three_some (holds_both b c y z less l)
-    (ap (holds (bit_and b y)) (cross c z a x) ∙ holds_both (bit_and c a) b (bit_and z x) y has h) (met_error a x c z same e)
+all_three : {p q r e f g : Option ℕ} {us vs ws : List (Place × ℕ)} {a b c x y z : Bool} {i j k : ℕ} → SetThree p q r → SetThree e f g →
+    VeilsThree us vs ws → a ≡ b → i ≡ j → x ≡ y →
+    StateThree (record { promises = p; execpromises = e; veils = us; locked = a; dir = i; ended = x })
+    (record { promises = q; execpromises = f; veils = vs; locked = b; dir = j; ended = y })
+    (record { promises = r; execpromises = g; veils = ws; locked = c; dir = k; ended = z })
+all_three p e veils locked dir ended =
+    record { promises = p; execpromises = e; veils = veils; locked = locked; dir = dir; ended = ended }
 
-pub pledged_three : {l m s : History} → HistoryThree l m s → SetThree (pledged_set l) (pledged_set m) (pledged_set s)
-pledged_three three_none = three_unset
-pledged_three (three_more (three_pledged three_unset e) rest) = pledged_three rest
-pledged_three (three_more (three_pledged (three_some {a = a} {b = b} {c = c} less has same) e) rest) =
-    meet_three a b c less has same (pledged_three rest)
-pledged_three (three_more (three_unveiled less has) rest) = pledged_three rest
-pledged_three (three_more three_locked rest) = pledged_three rest
-pledged_three (three_more three_moved rest) = pledged_three rest
-pledged_three (three_more three_ended rest) = pledged_three rest
+veils_three : (vs : List (Place × ℕ)) → VeilsThree vs vs vs
+veils_three [] = three_no_veils
+veils_three (v ∷ vs) = three_veils (last_two v.1 v.1) refl (veils_three vs)
 
-pub exec_three : {l m s : History} → HistoryThree l m s → SetThree (held_for_exec l) (held_for_exec m) (held_for_exec s)
-exec_three three_none = three_unset
-exec_three (three_more (three_pledged p three_unset) rest) = exec_three rest
-exec_three (three_more (three_pledged p (three_some {a = a} {b = b} {c = c} less has same)) rest) =
-    meet_three a b c less has same (exec_three rest)
-exec_three (three_more (three_unveiled less has) rest) = exec_three rest
-exec_three (three_more three_locked rest) = exec_three rest
-exec_three (three_more three_moved rest) = exec_three rest
-exec_three (three_more three_ended rest) = exec_three rest
+pub state_three : (h : ProcessState) → StateThree h h h
+state_three h = all_three (set_three h.promises) (set_three h.execpromises) (veils_three h.veils) refl refl refl
+
+-- after three events of one kind
+pub pledged_three : {l m s : ProcessState} {p q r e f g : Option ℕ} → SetThree p q r → SetThree e f g → StateThree l m s →
+    StateThree (state_after (Pledged p e) l) (state_after (Pledged q f) m) (state_after (Pledged r g) s)
+pledged_three p e w = all_three (narrowed_three w.promises p) (narrowed_three w.execpromises e) w.veils w.locked w.dir w.ended
+
+veil_put : (place : Place) (a b c : ℕ) {us vs ws : List (Place × ℕ)} → holds b (bit_and c a) ≡ true → holds a error ≡ holds c error →
+    VeilsThree us vs ws → VeilsThree (with_veil place a us) (with_veil place b vs) (with_veil place c ws)
+veil_put place a b c has same three_no_veils = three_veils has same three_no_veils
+veil_put place a b c has same (three_veils {place = p} {a = x} {b = y} {c = z} {us = us} {vs = vs} {ws = ws} h e rest) =
+    by (same_place place p) (veil_put place a b c has same rest)
+  where
+    by : (k : Bool) → VeilsThree (with_veil place a us) (with_veil place b vs) (with_veil place c ws) →
+        VeilsThree (cond k ((p, a) ∷ us) ((p, x) ∷ with_veil place a us)) (cond k ((p, b) ∷ vs) ((p, y) ∷ with_veil place b vs))
+        (cond k ((p, c) ∷ ws) ((p, z) ∷ with_veil place c ws))
+    by true further = three_veils has same rest
+    by false further = three_veils h e further
+
+pub unveiled_three : {l m s : ProcessState} (place : Place) (a b c : ℕ) → holds b (bit_and c a) ≡ true → holds a error ≡ holds c error →
+    StateThree l m s → StateThree (state_after (Unveiled place a) l) (state_after (Unveiled place b) m) (state_after (Unveiled place c) s)
+unveiled_three place a b c has same w = all_three w.promises w.execpromises (veil_put place a b c has same w.veils) w.locked w.dir w.ended
+
+pub after_three : (event : Event) {l m s : ProcessState} → StateThree l m s →
+    StateThree (state_after event l) (state_after event m) (state_after event s)
+after_three (Pledged p e) w = pledged_three (set_three p) (set_three e) w
+after_three (Unveiled place a) w = unveiled_three place a a a (last_two a a) refl w
+after_three Locked w = all_three w.promises w.execpromises w.veils refl w.dir w.ended
+after_three (Moved dir) w = all_three w.promises w.execpromises w.veils w.locked refl w.ended
+after_three Ended w = all_three w.promises w.execpromises w.veils w.locked w.dir refl
+
+-- and after an exec
+pub exec_three : (left : ExecPromises) {l m s : ProcessState} → StateThree l m s →
+    StateThree (after_exec left l) (after_exec left m) (after_exec left s)
+exec_three left {l = l} {m = m} {s = s} w = by w.execpromises
+  where
+    by : {p q r : Option ℕ} → SetThree p q r → StateThree (state_by_exec left p l) (state_by_exec left q m) (state_by_exec left r s)
+    by three_unset = all_three three_unset three_unset three_no_veils refl w.dir refl
+    by (three_some {a = a} {b = b} {c = c} has same) = all_three (three_some has same) (stays left) w.veils w.locked w.dir w.ended
+      where
+        stays : (left : ExecPromises) → SetThree (left_for_exec left a) (left_for_exec left b) (left_for_exec left c)
+        stays Unset = three_unset
+        stays Stay = three_some has same
 
 default_three : (d : ℕ) {p q r : Option ℕ} → SetThree p q r → holds (unwrap_or q d) (bit_and (unwrap_or r d) (unwrap_or p d)) ≡ true
 default_three d three_unset = last_two d d
-default_three d (three_some less has same) = has
+default_three d (three_some has same) = has
 
 default_error : (d : ℕ) {p q r : Option ℕ} → SetThree p q r → holds (unwrap_or p d) error ≡ holds (unwrap_or r d) error
 default_error d three_unset = refl
-default_error d (three_some less has same) = same
+default_error d (three_some has same) = same
 
-pub held_three : {l m s : History} → HistoryThree l m s → holds (held_set m) (bit_and (held_set s) (held_set l)) ≡ true
-held_three w = default_three (all_promises - error) (pledged_three w)
+pub held_three : {l m s : ProcessState} → StateThree l m s → holds (held_set m) (bit_and (held_set s) (held_set l)) ≡ true
+held_three w = default_three (all_promises - error) w.promises
 
-pub error_outer : {l m s : History} → HistoryThree l m s → has_error l ≡ has_error s
-error_outer w = default_error (all_promises - error) (pledged_three w)
-
-pub ended_three : {l m s : History} → HistoryThree l m s → is_ended l ≡ is_ended m
-ended_three three_none = refl
-ended_three (three_more three_ended rest) = refl
-ended_three (three_more (three_pledged p e) rest) = ended_three rest
-ended_three (three_more (three_unveiled less has) rest) = ended_three rest
-ended_three (three_more three_locked rest) = ended_three rest
-ended_three (three_more three_moved rest) = ended_three rest
-
-pub locked_three : {l m s : History} → HistoryThree l m s → is_locked l ≡ is_locked m
-locked_three three_none = refl
-locked_three (three_more three_locked rest) = refl
-locked_three (three_more (three_pledged p e) rest) = locked_three rest
-locked_three (three_more (three_unveiled less has) rest) = locked_three rest
-locked_three (three_more three_ended rest) = locked_three rest
-locked_three (three_more three_moved rest) = locked_three rest
-
-pub dir_three : {l m s : History} → HistoryThree l m s → working_dir l ≡ working_dir m
-dir_three three_none = refl
-dir_three (three_more three_moved rest) = refl
-dir_three (three_more (three_pledged p e) rest) = dir_three rest
-dir_three (three_more (three_unveiled less has) rest) = dir_three rest
-dir_three (three_more three_ended rest) = dir_three rest
-dir_three (three_more three_locked rest) = dir_three rest
-
-veiled_three : {l m s : History} → HistoryThree l m s → (list_any is_unveil l ≡ list_any is_unveil m) × (list_any is_unveil m ≡ list_any is_unveil s)
-veiled_three three_none = (refl, refl)
-veiled_three (three_more (three_unveiled less has) rest) = (refl, refl)
-veiled_three (three_more (three_pledged p e) rest) = veiled_three rest
-veiled_three (three_more three_moved rest) = veiled_three rest
-veiled_three (three_more three_ended rest) = veiled_three rest
-veiled_three (three_more three_locked rest) = veiled_three rest
+pub error_outer : {l m s : ProcessState} → StateThree l m s → has_error l ≡ has_error s
+error_outer w = default_error (all_promises - error) w.promises
 
 -- letters
-pub data LettersThree : Option ℕ → Option ℕ → Option ℕ → Type 0 where
-  no_letters : LettersThree None None None
-  letters : {a b c : ℕ} → IsTrue (holds c b) → IsTrue (holds b (bit_and c a)) → LettersThree (Some a) (Some b) (Some c)
+chosen_three : (x : Bool) {a b c : ℕ} {p q r : Option ℕ} → SetThree (Some a) (Some b) (Some c) → SetThree p q r →
+    SetThree (cond x (Some a) p) (cond x (Some b) q) (cond x (Some c) r)
+chosen_three true here rest = here
+chosen_three false here rest = rest
 
-chosen_three : (x : Bool) (a b c : ℕ) {p q r : Option ℕ} → holds c b ≡ true → holds b (bit_and c a) ≡ true → LettersThree p q r →
-    LettersThree (cond x (Some a) p) (cond x (Some b) q) (cond x (Some c) r)
-chosen_three true a b c less has rest = letters less has
-chosen_three false a b c less has rest = rest
-
-pub kept_three : {l m s : History} → HistoryThree l m s → (place : Place) → LettersThree (perms_kept l place) (perms_kept m place) (perms_kept s place)
-kept_three three_none place = no_letters
-kept_three (three_more (three_unveiled {place = other} {a = a} {b = b} {c = c} less has) rest) place =
-    chosen_three (same_place other place) a b c less has (kept_three rest place)
-kept_three (three_more (three_pledged p e) rest) place = kept_three rest place
-kept_three (three_more three_locked rest) place = kept_three rest place
-kept_three (three_more three_moved rest) place = kept_three rest place
-kept_three (three_more three_ended rest) place = kept_three rest place
+pub kept_three : {us vs ws : List (Place × ℕ)} → VeilsThree us vs ws → (place : Place) →
+    SetThree (veil_at us place) (veil_at vs place) (veil_at ws place)
+kept_three three_no_veils place = three_unset
+kept_three (three_veils {place = other} has same rest) place =
+    chosen_three (same_place place other) (three_some has same) (kept_three rest place)
 
 pub data CoverThree : Cover → Cover → Cover → Type 0 where
   three_all : CoverThree All All All
   three_nothing : CoverThree Nothing Nothing Nothing
-  three_only : {a b c : ℕ} → IsTrue (holds c b) → IsTrue (holds b (bit_and c a)) → CoverThree (Only a) (Only b) (Only c)
+  three_only : {a b c : ℕ} → IsTrue (holds b (bit_and c a)) → CoverThree (Only a) (Only b) (Only c)
 
-picked : {p q r : Option ℕ} (xs ys zs : List (Option ℕ)) → LettersThree p q r → CoverThree (nearest xs) (nearest ys) (nearest zs) →
+picked : {p q r : Option ℕ} (xs ys zs : List (Option ℕ)) → SetThree p q r → CoverThree (nearest xs) (nearest ys) (nearest zs) →
     CoverThree (nearest (p ∷ xs)) (nearest (q ∷ ys)) (nearest (r ∷ zs))
-picked xs ys zs no_letters further = further
-picked xs ys zs (letters less has) further = three_only less has
+picked xs ys zs three_unset further = further
+picked xs ys zs (three_some has same) further = three_only has
 
-module _ (l m s : History) (w : HistoryThree l m s) where
-  abbrev at_dirs : History → List ℕ → List (Option ℕ)
-  at_dirs g dirs = map (λ dir. perms_kept g (Dir dir)) dirs
+where_veiled : {us vs ws : List (Place × ℕ)} → VeilsThree us vs ws → {c d e : Cover} → CoverThree c d e →
+    CoverThree (cond (has_veil us) c All) (cond (has_veil vs) d All) (cond (has_veil ws) e All)
+where_veiled three_no_veils less = three_all
+where_veiled (three_veils _ _ _) less = less
 
-  dirs_three : (dirs : List ℕ) → CoverThree (nearest (at_dirs l dirs)) (nearest (at_dirs m dirs)) (nearest (at_dirs s dirs))
+module _ {us vs ws : List (Place × ℕ)} (w : VeilsThree us vs ws) where
+  abbrev at_dirs : List (Place × ℕ) → List ℕ → List (Option ℕ)
+  at_dirs veils dirs = map (λ dir. veil_at veils (Dir dir)) dirs
+
+  dirs_three : (dirs : List ℕ) → CoverThree (nearest (at_dirs us dirs)) (nearest (at_dirs vs dirs)) (nearest (at_dirs ws dirs))
   dirs_three [] = three_nothing
-  dirs_three (dir ∷ dirs) = picked (at_dirs l dirs) (at_dirs m dirs) (at_dirs s dirs) (kept_three w (Dir dir)) (dirs_three dirs)
+  dirs_three (dir ∷ dirs) = picked (at_dirs us dirs) (at_dirs vs dirs) (at_dirs ws dirs) (kept_three w (Dir dir)) (dirs_three dirs)
 
-  pub cover_three : (t : Tree) (object : Found) → CoverThree (cover t l object) (cover t m object) (cover t s object)
+  pub cover_three : (t : Tree) (object : Found) → CoverThree (cover_with (has_veil us) (veil_at us) t object)
+      (cover_with (has_veil vs) (veil_at vs) t object) (cover_with (has_veil ws) (veil_at ws) t object)
   cover_three t object =
       let over : List ℕ = directories_over t object in
-      by (list_any is_unveil l) (list_any is_unveil m) (list_any is_unveil s) (veiled_three w).0 (veiled_three w).1
-      (picked (at_dirs l over) (at_dirs m over) (at_dirs s over) (kept_three w (place_of object)) (dirs_three over))
-    where
-      by : (x y z : Bool) {c d e : Cover} → x ≡ y → y ≡ z → CoverThree c d e → CoverThree (cond x c All) (cond y d All) (cond z e All)
-      by true true true p q less = less
-      by false false false p q less = three_all
-      by true false z p q less = absurd (true≢false p)
-      by false true z p q less = absurd (false≢true p)
-      by true true false p q less = absurd (true≢false q)
-      by false false true p q less = absurd (false≢true q)
-
-pub others_three : {l m s : History} → HistoryThree l m s →
-    HistoryThree (filter (λ event. not (is_pledge event)) l) (filter (λ event. not (is_pledge event)) m) (filter (λ event. not (is_pledge event)) s)
-others_three three_none = three_none
-others_three (three_more (three_pledged p e) rest) = others_three rest
-others_three (three_more (three_unveiled less has) rest) = three_more (three_unveiled less has) (others_three rest)
-others_three (three_more three_moved rest) = three_more three_moved (others_three rest)
-others_three (three_more three_ended rest) = three_more three_ended (others_three rest)
-others_three (three_more three_locked rest) = three_more three_locked (others_three rest)
+      where_veiled w (picked (at_dirs us over) (at_dirs vs over) (at_dirs ws over) (kept_three w (place_of object)) (dirs_three over))

@@ -18,14 +18,14 @@ use Rattle.pua_script.specs.declared.request.Given.TheVariants.{Null, Good, Unkn
 use Rattle.pua_script.specs.declared.request.Action.{Action}
 use Rattle.pua_script.specs.declared.request.Action.TheVariants.{Pledge, Unveil}
 use Rattle.pua_tight.specs.Narrower.{GivenWithin, given_none, given_less, given_unknown, ActionWithin, as_given, less_pledged, less_unveiled, AskWithin}
-use Rattle.pua_tight.specs.Narrower.{AsksWithin, no_asks, asks, WorldWithin, HistoriesWithin, nobody, somebody, HistoryWithin, none, more}
-use Rattle.pua_policy.specs.History.{History}
+use Rattle.pua_tight.specs.Narrower.{AsksWithin, no_asks, asks, WorldWithin, ProcessesWithin, nobody, somebody}
+use Rattle.pua_policy.specs.States.{ProcessState}
 use Rattle.pua_tight.specs.Tight.{Piece, InPromises, InExecpromises, InVeil, given_without, action_without, without, Line, asks_of}
 use Rattle.pua_tight.specs.Tight.{answer_number, same_answers, try_piece, thin_line, thin, tight}
 use Rattle.pua_tight.specs.Laws.{TightensScripts}
 use Rattle.pua_policy.proofs.ForCallers.{holds_through}
 use Rattle.pua_tight.proofs.Sets.{holds_self}
-use Rattle.pua_tight.proofs.Histories.{event_self}
+use Rattle.pua_tight.proofs.Within.{state_self}
 use Rattle.pua_tight.proofs.Worlds.{scripts_keep}
 
 -- a set has what is left of it
@@ -125,16 +125,12 @@ same_sound [] (y ∷ ys) e = absurd (false≢true e)
 same_sound (x ∷ xs) [] e = absurd (false≢true e)
 
 -- a world lies within itself
-history_self : (h : History) → HistoryWithin h h
-history_self [] = none
-history_self (e ∷ h) = more (event_self e) (history_self h)
-
-histories_self : (hs : List (ℕ × History)) → HistoriesWithin hs hs
-histories_self [] = nobody
-histories_self (one ∷ hs) = somebody (history_self one.1) (histories_self hs)
+processes_self : (hs : List (ℕ × ProcessState)) → ProcessesWithin hs hs
+processes_self [] = nobody
+processes_self (one ∷ hs) = somebody (state_self one.1) (processes_self hs)
 
 pub world_self : (w : World) → WorldWithin w w
-world_self w = record { tree = refl; histories = histories_self w.histories }
+world_self w = record { tree = refl; processes = processes_self w.processes }
 
 module _ (table : CallTable) (w : World) (want : List Answer) where
   module _ (before after : List Asked) where

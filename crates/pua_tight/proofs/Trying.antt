@@ -219,15 +219,6 @@ fault_of {A = A} rules make tree_bytes script_bytes fault e = by (listing tree_b
     by (Ok t) (Err f) e = ap (λ r. Err (fault_or fault r)) e
     by (Ok t) (Ok asks) e = absurd (Err≢Ok fault asks (sym e))
 
--- a listing's fault
-pub listing_fault : (rules : Rules) (tree_bytes script_bytes : List ℕ) (fault : TightFault) → as_listing (listing tree_bytes) ≡ Err fault →
-    IsFaultOf rules tree_bytes script_bytes fault
-listing_fault rules tree_bytes script_bytes fault e = ap (λ l. l >>= λ t. as_script (script_by rules script_bytes)) e
-
-pub script_fault : (rules : Rules) (tree_bytes script_bytes : List ℕ) (t : Tree) (fault : TightFault) → listing tree_bytes ≡ Ok t →
-    as_script (script_by rules script_bytes) ≡ Err fault → IsFaultOf rules tree_bytes script_bytes fault
-script_fault rules tree_bytes script_bytes t fault listed e = ap (λ l. as_listing l >>= λ t. as_script (script_by rules script_bytes)) listed ∙ e
-
 -- one more of some that are mapped
 pub mapped_turn : {X Y : Type 0} (f : X → Y) (xs : List X) (index : ℕ) (x : X) → index < length xs → x ≡ get_or xs index x →
     map f (take index xs) ++ f x ∷ [] ≡ map f (take (index + 1) xs)
@@ -329,31 +320,26 @@ pub words_all : (asked : ℕ) (asks : List Asked) (answers : List Answer) (index
 words_all asked asks answers index words past so_far =
     words_done (lines_by asked asks answers) index words (omega (arith, past, as_many_lines asked asks answers)) so_far
 
--- a script was tightened by a table and over a listing that are those that were given
-module _ (rules : Rules) (table own_table : CallTable) (tree_bytes own_bytes script_bytes : List ℕ) (answers : List Answer) (asks left : List Asked)
-    (same_table : own_table ≡ table) (same_bytes : own_bytes ≡ tree_bytes) (given : IsGiven rules table tree_bytes script_bytes answers asks)
-    (tight : (t : Tree) → listing own_bytes ≡ Ok t → answers ≡ answers_to own_table (new_world t) asks → left ≡ tightened own_table t asks) where
-  own_listed : listing own_bytes ≡ Ok given.tree
-  own_listed = ap listing same_bytes ∙ given.listed
-
-  is_tight : left ≡ tightened table given.tree asks
+-- a script was tightened by a table that is the one that was given
+module _ (rules : Rules) (table own_table : CallTable) (tree_bytes script_bytes : List ℕ) (t : Tree) (answers : List Answer)
+    (asks left : List Asked) (same_table : own_table ≡ table) (given : IsGiven rules table tree_bytes script_bytes t answers asks)
+    (tight : answers ≡ answers_to own_table (new_world t) asks → left ≡ tightened own_table t asks) where
+  is_tight : left ≡ tightened table t asks
   is_tight =
-      tight given.tree own_listed (given.told ∙ ap (λ own. answers_to own (new_world given.tree) asks) (sym same_table))
-      ∙ ap (λ own. tightened own given.tree asks) same_table
+      tight (given.told ∙ ap (λ own. answers_to own (new_world t) asks) (sym same_table)) ∙ ap (λ own. tightened own t asks) same_table
 
   -- what is written of it
   pub text_made : (text : List ℕ) → text ≡ thinned_text left script_bytes → text_over rules table tree_bytes script_bytes ≡ Ok text
   text_made text is =
-      made_of rules (λ t asks. thinned_text (tightened table t asks) script_bytes) tree_bytes script_bytes given.tree asks given.listed given.read
+      made_of rules (λ t asks. thinned_text (tightened table t asks) script_bytes) tree_bytes script_bytes t asks given.listed given.read
       ∙ ap Ok (ap (λ l. thinned_text l script_bytes) (sym is_tight) ∙ sym is)
 
   -- what its words are needed for
   pub uses_made : (words : List Trial) (told : List WordUse) → words ≡ words_from 0 (lines_by (asked_for table) asks answers) →
-      ((t : Tree) → listing own_bytes ≡ Ok t → answers_to own_table (new_world t) left ≡ answers →
-      told ≡ map (use_by own_table (new_world t) answers left) words) →
+      (answers_to own_table (new_world t) left ≡ answers → told ≡ map (use_by own_table (new_world t) answers left) words) →
       uses_over rules table tree_bytes script_bytes ≡ Ok told
   uses_made words told are is =
-      let w : World = new_world given.tree in
+      let w : World = new_world t in
       let lines : List Line = lines_of table w asks in
       let own : asks_of lines ≡ asks = (scripts_are_tightened table w asks).asks in
       let all : words ≡ words_from 0 lines =
@@ -361,8 +347,8 @@ module _ (rules : Rules) (table own_table : CallTable) (tree_bytes own_bytes scr
       let wanted : answers ≡ answers_to table w (asks_of lines) = given.told ∙ ap (answers_to table w) (sym own) in
       let same : answers_to own_table w left ≡ answers =
       (λ j. answers_to (same_table j) w (is_tight j)) ∙ (tightens table w lines).same ∙ sym wanted in
-      made_of rules (λ t asks. uses table (new_world t) (lines_of table (new_world t) asks)) tree_bytes script_bytes given.tree asks given.listed given.read
-      ∙ ap Ok (sym (is given.tree own_listed same ∙ ap (λ t. map (use_by t w answers left) words) same_table
+      made_of rules (λ t asks. uses table (new_world t) (lines_of table (new_world t) asks)) tree_bytes script_bytes t asks given.listed given.read
+      ∙ ap Ok (sym (is same ∙ ap (λ own. map (use_by own w answers left) words) same_table
       ∙ ap (λ l. map (use_by table w answers left) l) all
       ∙ ap (λ l. map (use_by table w l left) (words_from 0 lines)) wanted
       ∙ ap (λ l. map (use_by table w (answers_to table w (asks_of lines)) l) (words_from 0 lines)) is_tight))
@@ -376,9 +362,3 @@ pub no_uses : (rules : Rules) (table : CallTable) (tree_bytes script_bytes : Lis
     uses_over rules table tree_bytes script_bytes ≡ Err fault
 no_uses rules table tree_bytes script_bytes fault e =
     fault_of rules (λ t asks. uses table (new_world t) (lines_of table (new_world t) asks)) tree_bytes script_bytes fault e
-
--- a fault of the listing, told of bytes that are those that were given
-pub own_fault : (rules : Rules) (own_bytes tree_bytes script_bytes : List ℕ) (fault : TightFault) → own_bytes ≡ tree_bytes →
-    as_listing (listing own_bytes) ≡ Err fault → IsFaultOf rules tree_bytes script_bytes fault
-own_fault rules own_bytes tree_bytes script_bytes fault same e =
-    listing_fault rules tree_bytes script_bytes fault (ap (λ l. as_listing (listing l)) (sym same) ∙ e)

@@ -1,12 +1,8 @@
 -- One request, and then a script, in two worlds of which one lies within the other.
 use Rattle.std.proofs.Common.{◌≡◌, ℕ, List, [], ◌∷◌, refl, sym, ap, ◌∙◌, Bool, true, false, cond, ◌||◌, subst, length, suc}
-use Rattle.std.proofs.lemmas.Bool.{true≢false, false≢true}
-use Rattle.std.specs.Prelude.{Option, Some, None, Result, Ok, Err, nat_le, is_some, not, filter}
-use Rattle.std.specs.Ordering.{nat_cmp, eq_by_cmp}
-use Rattle.std.specs.FinMap.{put, find as find_key}
-use Rattle.std.specs.FinMap.Entries.{by_order}
-use Rattle.std.specs.declared.cmp.Ordering.{Ordering}
-use Rattle.std.specs.declared.cmp.Ordering.TheVariants.{Less, Equal, Greater}
+use Rattle.std.proofs.lemmas.Bool.{false≢true}
+use Rattle.std.specs.Prelude.{Option, Some, None, Result, Ok, Err, nat_eq, nat_le, is_some}
+use Rattle.std.specs.Map.{lookup}
 use Rattle.pua_tree.specs.Tree.{Tree}
 use Rattle.pua_tree.specs.Edits.{add, tie, cut, shift}
 use Rattle.pua_tree.specs.declared.fault.TreeFault.{TreeFault}
@@ -16,10 +12,7 @@ use Rattle.pua_path.specs.declared.found.Found.{Found}
 use Rattle.pua_calls.specs.Calls.{CallTable, rule_of, ending_of, last_of}
 use Rattle.pua_path.specs.Resolution.{resolution_of_text}
 use Rattle.pua_calls.specs.declared.call.Call.{Call}
-use Rattle.pua_calls.specs.declared.rules.ExecPromises.{ExecPromises}
-use Rattle.pua_calls.specs.declared.rules.ExecPromises.TheVariants.{Unset, Stay}
-use Rattle.pua_policy.specs.History.{History, Pledged, Moved, is_ended, after_exec, held_for_exec, left_for_exec, is_pledge}
-use Rattle.pua_policy.specs.History.{working_dir, may_any}
+use Rattle.pua_policy.specs.States.{ProcessState, Ended, working_dir, may_any}
 use Rattle.pua_policy.specs.Verdict.{allowed_unless, if_promised, verdict_of, is_allowed, found_fault, cover, cover_fault}
 use Rattle.pua_policy.specs.Verdict.{object_fault, object_of, object_named}
 use Rattle.pua_policy.specs.declared.answer.May.{May}
@@ -31,22 +24,22 @@ use Rattle.pua_script.specs.Limits.{most_processes}
 use Rattle.pua_script.specs.Requests.{Asked}
 use Rattle.pua_script.specs.Family.{is_okay}
 use Rattle.pua_script.specs.Decide.{Change, NoChange, AddNode, CutRow, ShiftRow, TieRow, BeginProgram, AddEvent, CopyAs, Decision, decide}
-use Rattle.pua_script.specs.Replay.{World, history_of, Effect, Fails, Kills, Leaves, Copies, edit_effect, edited_tree, change_effect}
+use Rattle.pua_script.specs.Replay.{World, put_at, Effect, Fails, Kills, Leaves, Copies, edit_effect, edited_tree, change_effect}
 use Rattle.pua_script.specs.Replay.{refusal_effect, come_of, answer_to, left_by, do_decided, answer_and_world, apply, answers_to}
 use Rattle.pua_script.specs.declared.request.Action.{Action}
 use Rattle.pua_script.specs.declared.answer.Answer.{Answer}
 use Rattle.pua_script.specs.declared.answer.Answer.TheVariants.{Okay, Gone}
-use Rattle.pua_tight.specs.Narrower.{SetWithin, unset, within, pledged, moved, ended, HistoryWithin, none, more, HistoriesWithin}
-use Rattle.pua_tight.specs.Narrower.{nobody, somebody, WorldWithin, ActionWithin, no_asks, asks}
+use Rattle.pua_tight.specs.Narrower.{StateWithin, ProcessesWithin, nobody, somebody, WorldWithin, ActionWithin, no_asks, asks}
 use Rattle.pua_tight.specs.Laws.{RequestKeepsWithin, ScriptsKeepWithin, WithinAllowsNoMore, WithinGrantsNoMore, FuturesAreWithin}
-use Rattle.pua_tight.proofs.Histories.{event_self, exec_within, dir_alike, ended_alike, others_within, cover_within, fault_within, may_within}
-use Rattle.pua_tight.proofs.Decided.{ChangeWithin, alike, gives, change_within, easier, granted_more, or_less}
+use Rattle.pua_tight.proofs.Sets.{two_bools}
+use Rattle.pua_tight.proofs.Within.{pledged_within, unveiled_within, after_within, exec_within, cover_within, fault_within, may_within}
+use Rattle.pua_tight.proofs.Decided.{ChangeWithin, alike, pledges, unveils, change_within, easier, granted_more, or_less}
 
--- effects of one kind, with one tree and a history within the other's
+-- effects of one kind, with one tree and a process within the other
 pub data EffectWithin : Effect → Effect → Type 0 where
   fails : {errno : Errno} → EffectWithin (Fails errno) (Fails errno)
   kills : EffectWithin Kills Kills
-  leaves : {t : Tree} {h k : History} → HistoryWithin h k → EffectWithin (Leaves t h) (Leaves t k)
+  leaves : {t : Tree} {h k : ProcessState} → StateWithin h k → EffectWithin (Leaves t h) (Leaves t k)
   copies : {new : ℕ} → EffectWithin (Copies new) (Copies new)
 
 pub answered_alike : {e f : Effect} → EffectWithin e f → answer_to e ≡ answer_to f
@@ -55,80 +48,58 @@ answered_alike kills = refl
 answered_alike (leaves w) = refl
 answered_alike copies = refl
 
--- the program that an exec begins
-abbrev program : ExecPromises → History → Option ℕ → History
-program left h (Some promises) = Pledged (Some promises) (left_for_exec left promises) ∷ filter (λ event. not (is_pledge event)) h
-program left h None = Moved (working_dir h) ∷ []
-
-program_within : (left : ExecPromises) {h k : History} → HistoryWithin h k → {p q : Option ℕ} → SetWithin p q →
-    HistoryWithin (program left h p) (program left k q)
-program_within left {h = h} {k = k} w unset =
-    subst (λ d. HistoryWithin (Moved (working_dir h) ∷ []) (Moved d ∷ [])) (dir_alike w) (more moved none)
-program_within left w (within {a = a} {b = b} less) = more (pledged (within less) (stays left)) (others_within w)
-  where
-    stays : (left : ExecPromises) → SetWithin (left_for_exec left a) (left_for_exec left b)
-    stays Unset = unset
-    stays Stay = within less
-
-program_is : (left : ExecPromises) (h : History) → program left h (held_for_exec h) ≡ after_exec left h
-program_is left h = refl
-
-exec_leaves : (left : ExecPromises) {h k : History} → HistoryWithin h k → HistoryWithin (after_exec left h) (after_exec left k)
-exec_leaves left {h = h} {k = k} w =
-    subst (HistoryWithin (after_exec left h)) (program_is left k)
-    (subst (λ g. HistoryWithin g (program left k (held_for_exec k))) (program_is left h) (program_within left w (exec_within w)))
+-- what a process is told, unless it ended
+abbrev pub gone_or : Bool → World → Answer × World → Answer × World
+gone_or ended w done = cond ended (Gone, w) done
 
 -- whether a number was made
-pub data FoundWithin : Option History → Option History → Type 0 where
+pub data FoundWithin : Option ProcessState → Option ProcessState → Type 0 where
   never : FoundWithin None None
-  made : {h k : History} → HistoryWithin h k → FoundWithin (Some h) (Some k)
+  made : {h k : ProcessState} → StateWithin h k → FoundWithin (Some h) (Some k)
 
-pub found_within : {hs ks : List (ℕ × History)} → HistoriesWithin hs ks → (n : ℕ) → FoundWithin (find_key nat_cmp n hs) (find_key nat_cmp n ks)
+pub found_within : {hs ks : List (ℕ × ProcessState)} → ProcessesWithin hs ks → (n : ℕ) → FoundWithin (lookup (nat_eq n) hs) (lookup (nat_eq n) ks)
 found_within nobody n = never
-found_within (somebody {process = process} {h = h} {k = k} {hs = hs} {ks = ks} w rest) n =
-    by (eq_by_cmp nat_cmp n process) (found_within rest n)
+found_within (somebody {process = process} {h = h} {k = k} {hs = hs} {ks = ks} w rest) n = by (nat_eq n process) (found_within rest n)
   where
-    by : (b : Bool) → FoundWithin (find_key nat_cmp n hs) (find_key nat_cmp n ks) →
-        FoundWithin (cond b (Some h) (find_key nat_cmp n hs)) (cond b (Some k) (find_key nat_cmp n ks))
+    by : (b : Bool) → FoundWithin (lookup (nat_eq n) hs) (lookup (nat_eq n) ks) →
+        FoundWithin (cond b (Some h) (lookup (nat_eq n) hs)) (cond b (Some k) (lookup (nat_eq n) ks))
     by true further = made w
     by false further = further
 
-made_alike : {o p : Option History} → FoundWithin o p → is_some o ≡ is_some p
+made_alike : {o p : Option ProcessState} → FoundWithin o p → is_some o ≡ is_some p
 made_alike never = refl
 made_alike (made w) = refl
 
-as_many : {hs ks : List (ℕ × History)} → HistoriesWithin hs ks → length hs ≡ length ks
+as_many : {hs ks : List (ℕ × ProcessState)} → ProcessesWithin hs ks → length hs ≡ length ks
 as_many nobody = refl
 as_many (somebody w rest) = ap suc (as_many rest)
 
-put_within : (n : ℕ) {h k : History} → HistoryWithin h k → {hs ks : List (ℕ × History)} → HistoriesWithin hs ks →
-    HistoriesWithin (put nat_cmp n h hs) (put nat_cmp n k ks)
+put_within : (n : ℕ) {h k : ProcessState} → StateWithin h k → {hs ks : List (ℕ × ProcessState)} → ProcessesWithin hs ks →
+    ProcessesWithin (put_at n h hs) (put_at n k ks)
 put_within n w nobody = somebody w nobody
 put_within n {h = h} {k = k} w (somebody {process = process} {h = g} {k = l} {hs = hs} {ks = ks} first rest) =
-    by (nat_cmp n process) (put_within n w rest)
+    by (nat_eq n process) (put_within n w rest)
   where
-    by : (o : Ordering) → HistoriesWithin (put nat_cmp n h hs) (put nat_cmp n k ks) →
-        HistoriesWithin (by_order o ((n, h) ∷ (process, g) ∷ hs) ((process, h) ∷ hs) ((process, g) ∷ put nat_cmp n h hs))
-        (by_order o ((n, k) ∷ (process, l) ∷ ks) ((process, k) ∷ ks) ((process, l) ∷ put nat_cmp n k ks))
-    by Less further = somebody w (somebody first rest)
-    by Equal further = somebody w rest
-    by Greater further = somebody first further
+    by : (b : Bool) → ProcessesWithin (put_at n h hs) (put_at n k ks) →
+        ProcessesWithin (cond b ((process, h) ∷ hs) ((process, g) ∷ put_at n h hs)) (cond b ((process, k) ∷ ks) ((process, l) ∷ put_at n k ks))
+    by true further = somebody w rest
+    by false further = somebody first further
 
 pub not_okay : {A : Type 0} (r : Refusal) → is_okay (answer_to (refusal_effect r)) ≡ true → A
 not_okay (refusal.Failed errno) e = absurd (false≢true e)
 not_okay refusal.Killed e = absurd (false≢true e)
 
-module _ (t : Tree) (hs ks : List (ℕ × History)) (all : HistoriesWithin hs ks) where
+module _ (t : Tree) (hs ks : List (ℕ × ProcessState)) (all : ProcessesWithin hs ks) where
   abbrev less : World
-  less = record { tree = t; histories = hs }
+  less = record { tree = t; processes = hs }
 
   abbrev given : World
-  given = record { tree = t; histories = ks }
+  given = record { tree = t; processes = ks }
 
   same_worlds : WorldWithin less given
-  same_worlds = record { tree = refl; histories = all }
+  same_worlds = record { tree = refl; processes = all }
 
-  module _ (h k : History) (w : HistoryWithin h k) where
+  module _ (h k : ProcessState) (w : StateWithin h k) where
     edited : (r : Result (ℕ × Tree) TreeFault) → EffectWithin (edit_effect h r) (edit_effect k r)
     edited (Ok result) = leaves w
     edited (Err fault) = fails
@@ -137,39 +108,28 @@ module _ (t : Tree) (hs ks : List (ℕ × History)) (all : HistoriesWithin hs ks
     retied (Ok u) = leaves w
     retied (Err fault) = fails
 
-    forked : (new : ℕ) (a b : Bool) (n m : ℕ) → a ≡ b → n ≡ m → EffectWithin (cond (a || nat_le most_processes n) (Fails EAGAIN) (Copies new))
-        (cond (b || nat_le most_processes m) (Fails EAGAIN) (Copies new))
-    forked new a b n m same many =
-        subst (λ x. EffectWithin (cond (a || nat_le most_processes n) (Fails EAGAIN) (Copies new))
-        (cond (x || nat_le most_processes m) (Fails EAGAIN) (Copies new))) same
-        (subst (λ x. EffectWithin (cond (a || nat_le most_processes n) (Fails EAGAIN) (Copies new))
-        (cond (a || nat_le most_processes x) (Fails EAGAIN) (Copies new))) many (by (a || nat_le most_processes n)))
-      where
-        by : (x : Bool) → EffectWithin (cond x (Fails EAGAIN) (Copies new)) (cond x (Fails EAGAIN) (Copies new))
-        by true = fails
-        by false = copies
-
     pub alike_within : (c : Change) → EffectWithin (change_effect less h c) (change_effect given k c)
     alike_within NoChange = leaves w
     alike_within (AddNode spot node) = edited (add t spot.0 spot.1 node)
     alike_within (CutRow spot) = edited (cut t spot.0 spot.1)
     alike_within (ShiftRow old new) = retied (shift t old.0 old.1 new.0 new.1)
     alike_within (TieRow spot x) = retied (tie t spot.0 spot.1 x)
-    alike_within (BeginProgram left) = leaves (exec_leaves left w)
-    alike_within (AddEvent event) = leaves (more (event_self event) w)
-    alike_within (CopyAs new) = forked new (is_some (history_of less new)) (is_some (history_of given new)) (length hs) (length ks)
-        (made_alike (found_within all new)) (as_many all)
+    alike_within (BeginProgram left) = leaves (exec_within left w)
+    alike_within (AddEvent event) = leaves (after_within event w)
+    alike_within (CopyAs new) = two_bools (λ a b. EffectWithin (cond a (Fails EAGAIN) (Copies new)) (cond b (Fails EAGAIN) (Copies new)))
+        fails copies _ _ (λ i. made_alike (found_within all new) i || nat_le most_processes (as_many all i))
 
     effect_within : {c d : Change} → ChangeWithin c d → EffectWithin (change_effect less h c) (change_effect given k d)
     effect_within (alike {c = c}) = alike_within c
-    effect_within (gives event) = leaves (more event w)
+    effect_within (pledges p e) = leaves (pledged_within p e w)
+    effect_within (unveils {place = place} {a = a} {b = b} less) = leaves (unveiled_within place a b less w)
 
     -- the worlds that they leave
     left_within : (n : ℕ) {e f : Effect} → EffectWithin e f → WorldWithin (left_by less n h e) (left_by given n k f)
     left_within n fails = same_worlds
-    left_within n kills = record { tree = refl; histories = put_within n (more ended w) all }
-    left_within n (leaves v) = record { tree = refl; histories = put_within n v all }
-    left_within n (copies {new = new}) = record { tree = refl; histories = put_within new w all }
+    left_within n kills = record { tree = refl; processes = put_within n (after_within Ended w) all }
+    left_within n (leaves v) = record { tree = refl; processes = put_within n v all }
+    left_within n (copies {new = new}) = record { tree = refl; processes = put_within new w all }
 
     left_alike : (n : ℕ) (e f : Effect) → answer_to e ≡ answer_to f → (is_okay (answer_to e) ≡ true → EffectWithin e f) →
         WorldWithin (left_by less n h e) (left_by given n k f)
@@ -198,16 +158,6 @@ module _ (t : Tree) (hs ks : List (ℕ × History)) (all : HistoriesWithin hs ks
               (λ okay. not_okay r (ap is_okay (sym same) ∙ okay))
           by (Err r) f is it same = left_alike n (refusal_effect r) (come_of given k f) same (λ okay. not_okay r okay)
 
-      served : (n : ℕ) (a b : Bool) → a ≡ b →
-          (cond {A = Answer × World} a (Gone, less) (do_decided less n h (decide table t h x))).0
-          ≡ (cond {A = Answer × World} b (Gone, given) (do_decided given n k (decide table t k y))).0 →
-          WorldWithin (cond {A = Answer × World} a (Gone, less) (do_decided less n h (decide table t h x))).1
-          (cond {A = Answer × World} b (Gone, given) (do_decided given n k (decide table t k y))).1
-      served n true true ends same = same_worlds
-      served n false false ends same = decided n same
-      served n true false ends same = absurd (true≢false ends)
-      served n false true ends same = absurd (false≢true ends)
-
     -- what is granted to the one is granted to the other
     module _ (table : CallTable) (x : Action) where
       granted : (n : ℕ) → answer_to (come_of less h (decide table t h x)) ≡ Okay →
@@ -225,44 +175,45 @@ module _ (t : Tree) (hs ks : List (ℕ × History)) (all : HistoriesWithin hs ks
               (sym (answered_alike (alike_within c)) ∙ okay, left_within n (alike_within c))
           by (Err r) is okay = not_okay r (ap is_okay okay)
 
-      let_go : (n : ℕ) (a b : Bool) → a ≡ b →
-          (cond {A = Answer × World} a (Gone, less) (do_decided less n h (decide table t h x))).0 ≡ Okay →
-          ((cond {A = Answer × World} b (Gone, given) (do_decided given n k (decide table t k x))).0 ≡ Okay)
-          × WorldWithin (cond {A = Answer × World} a (Gone, less) (do_decided less n h (decide table t h x))).1
-          (cond {A = Answer × World} b (Gone, given) (do_decided given n k (decide table t k x))).1
-      let_go n false false ends okay = granted n okay
-      let_go n true b ends okay = cc
-      let_go n false true ends okay = absurd (false≢true ends)
-
-  kept : (table : CallTable) (n : ℕ) (x y : Action) → ActionWithin x y → {o p : Option History} → FoundWithin o p →
+  kept : (table : CallTable) (n : ℕ) (x y : Action) → ActionWithin x y → {o p : Option ProcessState} → FoundWithin o p →
       (answer_and_world table less (record { process = n; action = x }) o).0 ≡ (answer_and_world table given (record { process = n; action = y }) p).0 →
       WorldWithin (answer_and_world table less (record { process = n; action = x }) o).1
       (answer_and_world table given (record { process = n; action = y }) p).1
   kept table n x y thinner never same = same_worlds
-  kept table n x y thinner (made {h = h} {k = k} w) same = served h k w table x y thinner n (is_ended h) (is_ended k) (ended_alike w) same
+  kept table n x y thinner (made {h = h} {k = k} w) same = two_bools
+      (λ a b. (gone_or a less (do_decided less n h (decide table t h x))).0 ≡ (gone_or b given (do_decided given n k (decide table t k y))).0 →
+      WorldWithin (gone_or a less (do_decided less n h (decide table t h x))).1 (gone_or b given (do_decided given n k (decide table t k y))).1)
+      (λ _. same_worlds) (decided h k w table x y thinner n) h.ended k.ended w.ended same
 
-  grants : (table : CallTable) (n : ℕ) (x : Action) → {o p : Option History} → FoundWithin o p →
+  grants : (table : CallTable) (n : ℕ) (x : Action) → {o p : Option ProcessState} → FoundWithin o p →
       (answer_and_world table less (record { process = n; action = x }) o).0 ≡ Okay →
       ((answer_and_world table given (record { process = n; action = x }) p).0 ≡ Okay)
       × WorldWithin (answer_and_world table less (record { process = n; action = x }) o).1
       (answer_and_world table given (record { process = n; action = x }) p).1
   grants table n x never okay = cc
-  grants table n x (made {h = h} {k = k} w) okay = let_go h k w table x n (is_ended h) (is_ended k) (ended_alike w) okay
+  grants table n x (made {h = h} {k = k} w) okay = two_bools
+      (λ a b. (gone_or a less (do_decided less n h (decide table t h x))).0 ≡ Okay →
+      ((gone_or b given (do_decided given n k (decide table t k x))).0 ≡ Okay)
+      × WorldWithin (gone_or a less (do_decided less n h (decide table t h x))).1 (gone_or b given (do_decided given n k (decide table t k x))).1)
+      (λ gone. no_answer gone) (granted h k w table x n) h.ended k.ended w.ended okay
+    where
+      no_answer : {A : Type 0} → Gone ≡ Okay → A
+      no_answer e = cc
 
 pub request_keeps : RequestKeepsWithin
 request_keeps table tight given x y w thinner =
-    subst (λ u. Kept (record { tree = u; histories = given.histories }) y) w.tree
-    (subst (λ n. Kept (record { tree = tight.tree; histories = given.histories }) (record { process = n; action = y.action })) thinner.process
-    (kept tight.tree tight.histories given.histories w.histories table x.process x.action y.action thinner.action
-    (found_within w.histories x.process)))
+    subst (λ u. Kept (record { tree = u; processes = given.processes }) y) w.tree
+    (subst (λ n. Kept (record { tree = tight.tree; processes = given.processes }) (record { process = n; action = y.action })) thinner.process
+    (kept tight.tree tight.processes given.processes w.processes table x.process x.action y.action thinner.action
+    (found_within w.processes x.process)))
   where
     Kept : World → Asked → Type 0
     Kept b z = (apply table tight x).0 ≡ (apply table b z).0 → WorldWithin (apply table tight x).1 (apply table b z).1
 
 pub grants_no_more : WithinGrantsNoMore
 grants_no_more table tight given ask w =
-    subst (λ u. Granted (record { tree = u; histories = given.histories })) w.tree
-    (grants tight.tree tight.histories given.histories w.histories table ask.process ask.action (found_within w.histories ask.process))
+    subst (λ u. Granted (record { tree = u; processes = given.processes })) w.tree
+    (grants tight.tree tight.processes given.processes w.processes table ask.process ask.action (found_within w.processes ask.process))
   where
     Granted : World → Type 0
     Granted b = (apply table tight ask).0 ≡ Okay →
@@ -302,20 +253,20 @@ failed may.Yes errno e = absurd (false≢true e)
 failed may.Enosys errno e = absurd (false≢true e)
 failed may.Death errno e = absurd (false≢true e)
 
-module _ (table : CallTable) (h k : History) (w : HistoryWithin h k) (t : Tree) (call : Call) where
+module _ (table : CallTable) (h k : ProcessState) (w : StateWithin h k) (t : Tree) (call : Call) where
   pub found_more : (r : Result Found Errno) → is_allowed (verdict_of t table h call r) ≡ true → is_allowed (verdict_of t table k call r) ≡ true
   found_more (Ok object) e =
       let both = parts (may_any h (rule_of table call).alternatives) (found_fault t table h call object) e in
       joined (may_any k (rule_of table call).alternatives) (found_fault t table k call object)
       (may_within h k w (rule_of table call).alternatives both.0)
       (or_less (cover_fault (cover t h object) (rule_of table call).perms) (cover_fault (cover t k object) (rule_of table call).perms)
-      (object_fault t call (object_of t object)) (fault_within (cover_within h k w t object) (rule_of table call).perms) both.1)
+      (object_fault t call (object_of t object)) (fault_within (cover_within w.veils t object) (rule_of table call).perms) both.1)
   found_more (Err errno) e = failed (may_any h (rule_of table call).alternatives) errno e
 
 pub allows_no_more : WithinAllowsNoMore
 allows_no_more table tight given w t call text e =
     found_more table tight given w t call (object_named t given call text)
-    (subst (λ r. is_allowed (verdict_of t table tight call r) ≡ true) (named (dir_alike w)) e)
+    (subst (λ r. is_allowed (verdict_of t table tight call r) ≡ true) (named w.dir) e)
   where
     named : working_dir tight ≡ working_dir given → object_named t tight call text ≡ object_named t given call text
     named same = ap (λ d. resolution_of_text t d (ending_of call) text (last_of call)) same

@@ -7,7 +7,7 @@ use Rattle.pua_calls.specs.declared.rules.Rules.TheVariants.{Profile}
 use Rattle.pua_calls.specs.Promises.{error}
 use Rattle.pua_calls.specs.declared.call.Call.{Call}
 use Rattle.pua_calls.specs.declared.call.Call.TheVariants as call
-use Rattle.pua_policy.specs.History.{History}
+use Rattle.pua_policy.specs.States.{ProcessState}
 use Rattle.std.specs.List.{Contains, list_any}
 use Rattle.pua_calls.specs.Tables.{NoCallNeedsError}
 use Rattle.pua_objects.specs.Objects as objects
@@ -19,7 +19,7 @@ use Rattle.pua_script.specs.Replay.{World, new_world, apply, answers_to, world_a
 use Rattle.pua_script.specs.declared.answer.Answer.TheVariants.{Okay}
 use Rattle.pua_script.specs.declared.request.Action.{Action}
 use Rattle.pua_script.specs.declared.request.Action.TheVariants.{OnPath, Symlink, Rename, Link}
-use Rattle.pua_tight.specs.Narrower.{WorldWithin, HistoryWithin, AskWithin, AsksWithin}
+use Rattle.pua_tight.specs.Narrower.{WorldWithin, StateWithin, AskWithin, AsksWithin}
 use Rattle.pua_script.specs.Scripts.{script_by}
 use Rattle.pua_tight.specs.Texts.{thinned_text, tight_text}
 use Rattle.pua_tight.specs.Tight.{Piece, InPromises, InExecpromises, InVeil, Line, asks_of, lines_of, without, tight}
@@ -34,13 +34,13 @@ abbrev pub ScriptsKeepWithin : Type 0
 ScriptsKeepWithin = (table : CallTable) (tight given : World) (xs ys : List Asked) → WorldWithin tight given → AsksWithin xs ys →
     answers_to table tight xs ≡ answers_to table given ys → WorldWithin (world_after table tight xs) (world_after table given ys)
 
--- a call that is allowed by a history is allowed by one that it lies within: over each tree, on each path
+-- a call that is allowed to a process is allowed to one that it lies within: over each tree, on each path
 abbrev pub WithinAllowsNoMore : Type 0
-WithinAllowsNoMore = (table : CallTable) (tight given : History) → HistoryWithin tight given → (t : Tree) (call : Call) (text : List ℕ) →
+WithinAllowsNoMore = (table : CallTable) (tight given : ProcessState) → StateWithin tight given → (t : Tree) (call : Call) (text : List ℕ) →
     IsTrue (is_allowed (verdict_on t table tight call text)) → IsTrue (is_allowed (verdict_on t table given call text))
 
 -- a line of one list of objects has one in the other: by the same names, about the same thing, with all of its calls
-pub record IsListed (t : Tree) (table : CallTable) (h : History) (line : objects.Line) : Type 0 where
+pub record IsListed (t : Tree) (table : CallTable) (h : ProcessState) (line : objects.Line) : Type 0 where
   pub other : objects.Line
   pub listed : Contains (objects.objects t table h) other
   pub word : other.word ≡ line.word
@@ -48,7 +48,7 @@ pub record IsListed (t : Tree) (table : CallTable) (h : History) (line : objects
   pub calls : (call : Call) → Contains line.calls call → Contains other.calls call
 
 abbrev pub WithinListsNoMore : Type 0
-WithinListsNoMore = (table : CallTable) (tight given : History) → HistoryWithin tight given → (t : Tree) (line : objects.Line) →
+WithinListsNoMore = (table : CallTable) (tight given : ProcessState) → StateWithin tight given → (t : Tree) (line : objects.Line) →
     Contains (objects.objects t table tight) line → IsListed t table given line
 
 -- so of the list for ever of one's own doing: by the same names, about the same thing, with all of its calls
@@ -60,12 +60,12 @@ pub record IsListedForEver (lines : List EverLine) (line : EverLine) : Type 0 wh
   pub calls : (call : Call) → Contains line.calls call → Contains other.calls call
 
 abbrev pub WithinListsNoMoreForEver : Type 0
-WithinListsNoMoreForEver = (table : CallTable) (tight given : History) → HistoryWithin tight given → (t : Tree) → WellFormed t →
+WithinListsNoMoreForEver = (table : CallTable) (tight given : ProcessState) → StateWithin tight given → (t : Tree) → WellFormed t →
     (line : EverLine) → Contains (ever t table tight) line → IsListedForEver (ever t table given) line
 
 -- and of the list that holds longest, unless what is started is bounded in the inner one alone, which then has what that can touch too
 abbrev pub WithinLastsNoMore : Type 0
-WithinLastsNoMore = (table : CallTable) → NoCallNeedsError table → (tight given : History) → HistoryWithin tight given →
+WithinLastsNoMore = (table : CallTable) → NoCallNeedsError table → (tight given : ProcessState) → StateWithin tight given →
     (t : Tree) → WellFormed t → (bound_of table given ≡ None → bound_of table tight ≡ None) →
     (line : EverLine) → Contains (ever_lasting t table tight) line → IsListedForEver (ever_lasting t table given) line
 

@@ -70,8 +70,8 @@ lines_by asked (ask ∷ asks) [] = record { ask = ask; pieces = pieces_by asked 
 lines_by asked (ask ∷ asks) (answer ∷ answers) = record { ask = ask; pieces = pieces_by asked ask (Some answer) } ∷ lines_by asked asks answers
 
 -- a listing and a script were read, and the script was answered over the tree
-pub record IsGiven (rules : Rules) (table : CallTable) (tree_bytes script_bytes : List ℕ) (answers : List Answer) (asks : List Asked) : Type 0 where
-  pub tree : Tree
+pub record IsGiven (rules : Rules) (table : CallTable) (tree_bytes script_bytes : List ℕ) (tree : Tree) (answers : List Answer)
+    (asks : List Asked) : Type 0 where
   pub listed : listing tree_bytes ≡ Ok tree
   pub read : script_by rules script_bytes ≡ Ok asks
   pub told : answers ≡ answers_to table (new_world tree) asks

@@ -10,6 +10,5 @@ pub mod Uses
 -- What the code's fields say.
 pub mod Left
 pub mod Several
-pub mod Shadows
 -- Worked rows, which hold by computation.
 pub mod Examples

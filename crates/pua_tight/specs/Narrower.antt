@@ -1,8 +1,8 @@
 -- When a script, and the world that it leaves, has nothing beyond another's: the same requests but for keywords of pledges and
--- letters of unveils that are left out, and the same events but for what these gave.
+-- letters of unveils that are left out, and processes that keep the same but for what these gave.
 use Rattle.std.specs.Prelude.{◌≡◌, ℕ, List, [], ◌∷◌, Option, Some, None, IsTrue}
 use Rattle.pua_calls.specs.Promises.{holds}
-use Rattle.pua_policy.specs.History.{History, Event, Pledged, Unveiled, Locked, Moved, Ended}
+use Rattle.pua_policy.specs.States.{ProcessState}
 use Rattle.pua_policy.specs.declared.place.Place.{Place}
 use Rattle.pua_script.specs.Requests.{Asked}
 use Rattle.pua_script.specs.Replay.{World}
@@ -16,29 +16,31 @@ pub data SetWithin : Option ℕ → Option ℕ → Type 0 where
   unset : SetWithin None None
   within : {a b : ℕ} → IsTrue (holds b a) → SetWithin (Some a) (Some b)
 
--- events of one kind: a pledge of fewer keywords, an unveil of the same place with fewer letters, or the same
-pub data EventWithin : Event → Event → Type 0 where
-  pledged : {p q e f : Option ℕ} → SetWithin p q → SetWithin e f → EventWithin (Pledged p e) (Pledged q f)
-  unveiled : {place : Place} {a b : ℕ} → IsTrue (holds b a) → EventWithin (Unveiled place a) (Unveiled place b)
-  locked : EventWithin Locked Locked
-  moved : {dir : ℕ} → EventWithin (Moved dir) (Moved dir)
-  ended : EventWithin Ended Ended
+-- veils of the same places in one order, each with letters within the other's
+pub data VeilsWithin : List (Place × ℕ) → List (Place × ℕ) → Type 0 where
+  no_veils : VeilsWithin [] []
+  veils_too : {place : Place} {a b : ℕ} {vs ws : List (Place × ℕ)} → IsTrue (holds b a) → VeilsWithin vs ws →
+      VeilsWithin ((place, a) ∷ vs) ((place, b) ∷ ws)
 
--- event by event
-pub data HistoryWithin : History → History → Type 0 where
-  none : HistoryWithin [] []
-  more : {e f : Event} {h k : History} → EventWithin e f → HistoryWithin h k → HistoryWithin (e ∷ h) (f ∷ k)
+-- what a process keeps, and what one keeps that has all of it: fewer promises and letters, and all else the same
+pub record StateWithin (tight given : ProcessState) : Type 0 where
+  pub promises : SetWithin tight.promises given.promises
+  pub execpromises : SetWithin tight.execpromises given.execpromises
+  pub veils : VeilsWithin tight.veils given.veils
+  pub locked : tight.locked ≡ given.locked
+  pub dir : tight.dir ≡ given.dir
+  pub ended : tight.ended ≡ given.ended
 
--- the same processes, each with a history within the other's
-pub data HistoriesWithin : List (ℕ × History) → List (ℕ × History) → Type 0 where
-  nobody : HistoriesWithin [] []
-  somebody : {process : ℕ} {h k : History} {hs ks : List (ℕ × History)} → HistoryWithin h k → HistoriesWithin hs ks →
-      HistoriesWithin ((process, h) ∷ hs) ((process, k) ∷ ks)
+-- processes of the same numbers in one order, each within the other
+pub data ProcessesWithin : List (ℕ × ProcessState) → List (ℕ × ProcessState) → Type 0 where
+  nobody : ProcessesWithin [] []
+  somebody : {process : ℕ} {h k : ProcessState} {hs ks : List (ℕ × ProcessState)} → StateWithin h k → ProcessesWithin hs ks →
+      ProcessesWithin ((process, h) ∷ hs) ((process, k) ∷ ks)
 
--- one tree, and such histories
+-- one tree, and such processes
 pub record WorldWithin (tight given : World) : Type 0 where
   pub tree : tight.tree ≡ given.tree
-  pub histories : HistoriesWithin tight.histories given.histories
+  pub processes : ProcessesWithin tight.processes given.processes
 
 -- an argument of pledge with fewer keywords; NULL and one with an unknown keyword stay
 pub data GivenWithin : Given → Given → Type 0 where

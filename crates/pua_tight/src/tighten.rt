@@ -1,7 +1,6 @@
 //! A script without the words that none of its answers needs.
 
 ghost use Rattle.std.specs.Prelude.{◌≡◌, ◌≢◌, Err, IfOk, IfErr, Ok};
-ghost use Rattle.pua_tree.specs.Tree.{Tree};
 ghost use Rattle.pua_tree.specs.Listing.{listing};
 ghost use Rattle.pua_script.specs.Replay.{answers_to, new_world};
 ghost use Rattle.pua_script.specs.Scripts.{script_by};
@@ -13,10 +12,11 @@ use crate::fault::TightFault;
 use crate::text::thinned_text;
 use crate::together::try_all;
 use crate::trial::trials_of;
-use crate::wanted::{Wanted, begun};
+use crate::wanted::Wanted;
 use pua_calls::{CallTable, Rules};
 use pua_script::{Request, Script, ScriptFault, read_script_by};
-use std::alloc::{AllocError, Global};
+use pua_tree::{ListingFault, OutOfMemory, SlabTree, read_listing_slab};
+use std::alloc::Global;
 
 /// The bytes of a script without the promises and letters that none of its answers needs, where it is
 /// read by these rules and served over the tree of a listing by a table. From the last line to the
@@ -40,52 +40,56 @@ pub fn tight_text(
 {
     let (wanted, mut requests) = begin(alloc, tree_bytes, script_bytes, rules, table)?;
     tighten(&wanted, &mut requests)?;
-    match thinned_text(alloc, requests.as_slice(), script_bytes) {
-        Ok(text) => Ok(text),
-        Err(AllocError) => Err(TightFault::OutOfMemory),
-    }
+    Ok(thinned_text(alloc, requests.as_slice(), script_bytes)?)
 }
 
 /// The requests of a script that is read by these rules, and what they are answered over the tree of a
 /// listing.
 pub(crate) fn begin<'a>(
     alloc: Global,
-    tree_bytes: &'a [u8],
+    tree_bytes: &[u8],
     script_bytes: &[u8],
     rules: Rules,
     table: &'a CallTable,
 ) -> Result<(Wanted<'a>, Vec<Request>), TightFault>
-    ensures tree { IfOk result (λ given. given.0.tree_bytes.now ≡ tree_bytes.now) }
     ensures table { IfOk result (λ given. given.0.table.now ≡ table.now) }
     ensures given { IfOk result (λ given. IsGiven rules table.now tree_bytes.now script_bytes.now
-        given.0.answers.items given.1.items) }
+        given.0.tree given.0.answers.items given.1.items) }
     ensures refused { IfErr result (λ fault. fault ≢ TightFault.OutOfMemory →
         IsFaultOf rules tree_bytes.now script_bytes.now fault) }
 {
-    let world = begun(alloc, tree_bytes, table)?;
+    let tree = read_tree(alloc, tree_bytes)?;
     let script = read_requests(alloc, rules, script_bytes)?;
-    let wanted = Wanted::of(alloc, world, tree_bytes, table, &script)?;
+    let wanted = Wanted::of(alloc, tree, table, &script)?;
     Ok((wanted, script.into_requests()))
 }
 
 /// Leaves out of requests what none of their answers needs.
-pub(crate) fn tighten(wanted: &Wanted<'_>, requests: &mut Vec<Request>) -> Result<(), TightFault>
-    ensures done { IfOk result (λ _. (t : Tree) → listing wanted.now.tree_bytes.now ≡ Ok t →
-        wanted.now.answers.items
-        ≡ answers_to wanted.now.table.now (new_world t) requests.old.items →
-        requests.new.items ≡ tightened wanted.now.table.now t requests.old.items) }
-    ensures refused { IfErr result (λ fault. fault ≢ TightFault.OutOfMemory →
-        (as_listing (listing wanted.now.tree_bytes.now) ≡ Err fault)) }
+pub(crate) fn tighten(wanted: &Wanted<'_>, requests: &mut Vec<Request>) -> Result<(), OutOfMemory>
+    ensures { IfOk result (λ _. wanted.now.answers.items
+        ≡ answers_to wanted.now.table.now (new_world wanted.now.tree) requests.old.items →
+        requests.new.items ≡ tightened wanted.now.table.now wanted.now.tree requests.old.items) }
 {
     let asked = asked_for(wanted.table);
-    match trials_of(
+    let trials = trials_of(
         wanted.alloc,
         asked,
         requests.as_slice(),
         wanted.answers.as_slice(),
-    ) {
-        Ok(trials) => try_all(wanted, trials.as_slice(), requests),
-        Err(AllocError) => Err(TightFault::OutOfMemory),
+    )?;
+    try_all(wanted, trials.as_slice(), requests)
+}
+
+/// The tree of a listing.
+fn read_tree(alloc: Global, bytes: &[u8]) -> Result<SlabTree, TightFault>
+    ensures read { IfOk result (λ tree. listing bytes.now ≡ Ok tree) }
+    ensures refused { IfErr result (λ fault. fault ≢ TightFault.OutOfMemory →
+        (as_listing (listing bytes.now) ≡ Err fault)) }
+{
+    match read_listing_slab(alloc, bytes) {
+        Ok(tree) => Ok(tree),
+        Err(ListingFault::OutOfMemory) => Err(TightFault::OutOfMemory),
+        Err(fault) => Err(TightFault::Listing(fault)),
     }
 }
 

@@ -1,25 +1,18 @@
 //! Trials of several words at once: what a script is answered as before without all of, it is answered
 //! as before without each.
 
-ghost use Rattle.std.specs.Prelude.{◌≡◌, ◌≢◌, ◌≤◌, ◌<◌, Err, IfOk, IfErr, Ok, if◌then◌else◌, length};
-ghost use Rattle.pua_script.specs.Replay.{World as ReplayWorld, answers_to, new_world};
-ghost use Rattle.pua_tree.specs.Tree.{Tree};
-ghost use Rattle.pua_tree.specs.Listing.{listing};
+ghost use Rattle.std.specs.Prelude.{◌≡◌, ◌≤◌, ◌<◌, IfOk, if◌then◌else◌, length};
+ghost use Rattle.pua_script.specs.Replay.{answers_to, new_world};
 ghost use Rattle.pua_tight.specs.Tight.{same_answers};
-ghost use Rattle.pua_tight.specs.Texts.{as_listing};
 ghost use Rattle.pua_tight.specs.Several.{AreDone, IsToTry, all_back, all_left};
 ghost use Rattle.pua_tight.specs.Trials.{all_tried};
 
 use crate::arguments::Arguments;
-use crate::fault::TightFault;
-use crate::needed::without_needed;
 use crate::trial::{Trial, leave_out, put_back};
 use crate::wanted::Wanted;
 use pua_script::Request;
+use pua_tree::OutOfMemory;
 use std::alloc::{AllocError, Global};
-
-/// So many pieces' shadows are followed at once: each takes the memory of a process.
-const AT_ONCE: usize = 64;
 
 /// The arguments that a line had.
 #[derive(Clone, Copy)]
@@ -34,75 +27,11 @@ pub(crate) fn try_all(
     wanted: &Wanted<'_>,
     trials: &[Trial],
     requests: &mut Vec<Request>,
-) -> Result<(), TightFault>
-    ensures tried { IfOk result (λ _. (t : Tree) → listing wanted.now.tree_bytes.now ≡ Ok t →
-        IsToTry wanted.now.table.now (new_world t) wanted.now.answers.items trials.now
-        requests.old.items → requests.new.items ≡ all_tried wanted.now.table.now (new_world t)
-        wanted.now.answers.items trials.now requests.old.items) }
-    ensures refused { IfErr result (λ fault. fault ≢ TightFault.OutOfMemory →
-        (as_listing (listing wanted.now.tree_bytes.now) ≡ Err fault)) }
-{
-    let mut done = 0;
-    while done < trials.len() {
-        done += try_next(wanted, &trials[done..], requests)?;
-    }
-    Ok(())
-}
-
-/// Tries the first pieces, up to the first that can't be left out, and so many behind it: of these those
-/// that are needed are found without a trial of each. Answers how many are done.
-fn try_next(
-    wanted: &Wanted<'_>,
-    trials: &[Trial],
-    requests: &mut Vec<Request>,
-) -> Result<usize, TightFault>
-    ensures done { IfOk result (λ done. (t : Tree) → listing wanted.now.tree_bytes.now ≡ Ok t →
-        IsToTry wanted.now.table.now (new_world t) wanted.now.answers.items trials.now
-        requests.old.items → AreDone wanted.now.table.now (new_world t) wanted.now.answers.items
-        trials.now done requests.old.items requests.new.items) }
-    ensures some { IfOk result (λ done. 0 < length trials.now → 0 < done) }
-    ensures within { IfOk result (λ done. done ≤ length trials.now) }
-    ensures refused { IfErr result (λ fault. fault ≢ TightFault.OutOfMemory →
-        (as_listing (listing wanted.now.tree_bytes.now) ≡ Err fault)) }
-{
-    let done = try_front(wanted, trials, requests)?;
-    let more = AT_ONCE.min(trials.len() - done);
-    try_some(wanted, &trials[done..done + more], requests)?;
-    Ok(done + more)
-}
-
-/// Leaves pieces out of a script that are not needed.
-fn try_some(
-    wanted: &Wanted<'_>,
-    trials: &[Trial],
-    requests: &mut Vec<Request>,
-) -> Result<(), TightFault>
-    ensures tried { IfOk result (λ _. (t : Tree) → listing wanted.now.tree_bytes.now ≡ Ok t →
-        IsToTry wanted.now.table.now (new_world t) wanted.now.answers.items trials.now
-        requests.old.items → requests.new.items ≡ all_tried wanted.now.table.now (new_world t)
-        wanted.now.answers.items trials.now requests.old.items) }
-    ensures refused { IfErr result (λ fault. fault ≢ TightFault.OutOfMemory →
-        (as_listing (listing wanted.now.tree_bytes.now) ≡ Err fault)) }
-{
-    if trials.is_empty() {
-        return Ok(());
-    }
-    let rest = without_needed(wanted, requests.as_slice(), trials)?;
-    try_each(wanted, rest.as_slice(), requests)
-}
-
-/// Leaves them out, by trials alone.
-fn try_each(
-    wanted: &Wanted<'_>,
-    trials: &[Trial],
-    requests: &mut Vec<Request>,
-) -> Result<(), TightFault>
-    ensures tried { IfOk result (λ _. (t : Tree) → listing wanted.now.tree_bytes.now ≡ Ok t →
-        IsToTry wanted.now.table.now (new_world t) wanted.now.answers.items trials.now
-        requests.old.items → requests.new.items ≡ all_tried wanted.now.table.now (new_world t)
-        wanted.now.answers.items trials.now requests.old.items) }
-    ensures refused { IfErr result (λ fault. fault ≢ TightFault.OutOfMemory →
-        (as_listing (listing wanted.now.tree_bytes.now) ≡ Err fault)) }
+) -> Result<(), OutOfMemory>
+    ensures { IfOk result (λ _. IsToTry wanted.now.table.now (new_world wanted.now.tree)
+        wanted.now.answers.items trials.now requests.old.items → requests.new.items
+        ≡ all_tried wanted.now.table.now (new_world wanted.now.tree) wanted.now.answers.items
+        trials.now requests.old.items) }
 {
     let mut done = 0;
     while done < trials.len() {
@@ -117,15 +46,13 @@ fn try_front(
     wanted: &Wanted<'_>,
     trials: &[Trial],
     requests: &mut Vec<Request>,
-) -> Result<usize, TightFault>
-    ensures done { IfOk result (λ done. (t : Tree) → listing wanted.now.tree_bytes.now ≡ Ok t →
-        IsToTry wanted.now.table.now (new_world t) wanted.now.answers.items trials.now
-        requests.old.items → AreDone wanted.now.table.now (new_world t) wanted.now.answers.items
+) -> Result<usize, OutOfMemory>
+    ensures done { IfOk result (λ done. IsToTry wanted.now.table.now (new_world wanted.now.tree)
+        wanted.now.answers.items trials.now requests.old.items →
+        AreDone wanted.now.table.now (new_world wanted.now.tree) wanted.now.answers.items
         trials.now done requests.old.items requests.new.items) }
     ensures some { IfOk result (λ done. 0 < length trials.now → 0 < done) }
     ensures within { IfOk result (λ done. done ≤ length trials.now) }
-    ensures refused { IfErr result (λ fault. fault ≢ TightFault.OutOfMemory →
-        (as_listing (listing wanted.now.tree_bytes.now) ≡ Err fault)) }
 {
     let mut spare = 0;
     let mut most = trials.len();
@@ -145,18 +72,14 @@ fn try_together(
     wanted: &Wanted<'_>,
     trials: &[Trial],
     requests: &mut Vec<Request>,
-) -> Result<bool, TightFault>
-    ensures told { IfOk result (λ spare. (t : Tree) → listing wanted.now.tree_bytes.now ≡ Ok t →
-        spare ≡ same_answers (answers_to wanted.now.table.now (new_world t)
+) -> Result<bool, OutOfMemory>
+    ensures told { IfOk result (λ spare. spare ≡ same_answers
+        (answers_to wanted.now.table.now (new_world wanted.now.tree)
         (all_left trials.now requests.old.items)) wanted.now.answers.items) }
     ensures left { IfOk result (λ spare. requests.new.items
         ≡ (if spare then all_left trials.now requests.old.items else requests.old.items)) }
-    ensures refused { IfErr result (λ fault. fault ≢ TightFault.OutOfMemory →
-        (as_listing (listing wanted.now.tree_bytes.now) ≡ Err fault)) }
 {
-    let Ok(kept) = leave_all(wanted.alloc, trials, requests) else {
-        return Err(TightFault::OutOfMemory);
-    };
+    let kept = leave_all(wanted.alloc, trials, requests)?;
     if wanted.first_other(requests.as_slice())?.is_none() {
         return Ok(true);
     }

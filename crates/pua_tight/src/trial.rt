@@ -1,22 +1,19 @@
 //! Trials: a script without a word, where all of it is then answered as before.
 
-ghost use Rattle.std.specs.Prelude.{◌≡◌, ◌≢◌, ◌++◌, map, Err, IfOk, IfErr, IsFalse, Ok};
-ghost use Rattle.pua_tree.specs.Tree.{Tree};
-ghost use Rattle.pua_tree.specs.Listing.{listing};
+ghost use Rattle.std.specs.Prelude.{◌≡◌, ◌++◌, map, IfOk, IsFalse};
 ghost use Rattle.pua_script.specs.Replay.{answers_to, new_world};
-ghost use Rattle.pua_tight.specs.Texts.{as_listing};
 ghost use Rattle.pua_tight.specs.Laws.{leave_out};
 ghost use Rattle.pua_tight.specs.Trials.{trials_from};
 ghost use Rattle.pua_tight.specs.Uses.{first_other};
 ghost use Rattle.pua_tight.specs.Left.{lines_by, put_back_at};
 
 use crate::arguments::Arguments;
-use crate::fault::TightFault;
 use crate::line_pieces::line_pieces;
 use crate::piece::Piece;
 use crate::wanted::Wanted;
 use pua_calls::Promises;
 use pua_script::{Answer, Request};
+use pua_tree::OutOfMemory;
 use std::alloc::{AllocError, Global};
 
 /// A piece of the line at an index.
@@ -68,15 +65,13 @@ pub(crate) fn other_without(
     wanted: &Wanted<'_>,
     trial: &Trial,
     requests: &mut Vec<Request>,
-) -> Result<Option<usize>, TightFault>
-    ensures other { IfOk result (λ other. (t : Tree) → listing wanted.now.tree_bytes.now ≡ Ok t →
-        answers_to wanted.now.table.now (new_world t) requests.old.items
+) -> Result<Option<usize>, OutOfMemory>
+    ensures other { IfOk result (λ other.
+        answers_to wanted.now.table.now (new_world wanted.now.tree) requests.old.items
         ≡ wanted.now.answers.items →
-        other ≡ first_other (answers_to wanted.now.table.now (new_world t)
+        other ≡ first_other (answers_to wanted.now.table.now (new_world wanted.now.tree)
         (leave_out trial.now.line trial.now.piece requests.old.items)) wanted.now.answers.items) }
     ensures kept { IfOk result (λ _. requests.new.items ≡ requests.old.items) }
-    ensures refused { IfErr result (λ fault. fault ≢ TightFault.OutOfMemory →
-        (as_listing (listing wanted.now.tree_bytes.now) ≡ Err fault)) }
 {
     if !has_piece(trial, requests.as_slice()) {
         return Ok(None);

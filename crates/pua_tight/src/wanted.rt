@@ -1,111 +1,79 @@
 //! What a script is wanted to be answered, and where it is first answered otherwise.
 
-ghost use Rattle.std.specs.Prelude.{◌≡◌, ◌≢◌, Err, IfOk, IfErr, Ok};
-ghost use Rattle.pua_tree.specs.Tree.{Tree};
-ghost use Rattle.pua_tree.specs.Listing.{listing};
-ghost use Rattle.pua_script.specs.Replay.{World as ReplayWorld, answers_to, new_world};
-ghost use Rattle.pua_script.specs.Worlds.{StandsForWorld};
-ghost use Rattle.pua_tight.specs.Texts.{as_listing};
+ghost use Rattle.std.specs.Prelude.{◌≡◌, IfOk};
+ghost use Rattle.pua_script.specs.Replay.{answers_to, new_world};
+ghost use Rattle.pua_script.specs.Worlds.{with_table, world_of};
 ghost use Rattle.pua_tight.specs.Uses.{first_other};
 
-use crate::fault::TightFault;
 use pua_calls::CallTable;
 use pua_script::{Answer, Request, Script, World, WorldFault};
-use pua_tree::{ListingFault, SlabTree, read_listing_slab};
+use pua_tree::{OutOfMemory, SlabTree};
 use std::alloc::Global;
 
-/// A tree's listing, a table, and what a script is answered by it over that tree.
+/// A tree, a table, and what a script is answered by it over that tree. The only error of its functions
+/// is that a growth was refused.
 #[derive(Drop)]
 pub(crate) struct Wanted<'a> {
     pub(crate) alloc: Global,
-    pub(crate) tree_bytes: &'a [u8],
+    pub(crate) tree: SlabTree,
     pub(crate) table: &'a CallTable,
     pub(crate) answers: Vec<Answer>,
 }
 
 impl<'a> Wanted<'a> {
-    /// What a script is answered in a new world over the tree of a listing.
+    /// What a script is answered in a new world over a tree.
     pub(crate) fn of(
         alloc: Global,
-        world: World<SlabTree>,
-        tree_bytes: &'a [u8],
+        tree: SlabTree,
         table: &'a CallTable,
         script: &Script,
-    ) -> Result<Wanted<'a>, TightFault>
-        ensures tree { IfOk result (λ wanted. wanted.tree_bytes.now ≡ tree_bytes.now) }
+    ) -> Result<Wanted<'a>, OutOfMemory>
+        ensures tree { IfOk result (λ wanted. wanted.tree ≡ tree) }
         ensures table { IfOk result (λ wanted. wanted.table.now ≡ table.now) }
-        ensures answers { IfOk result (λ wanted. (w : ReplayWorld) → StandsForWorld world w →
-            wanted.answers.items ≡ answers_to world.table w script.now) }
-        ensures memory { IfErr result (λ fault. fault ≡ TightFault.OutOfMemory) }
+        ensures answers { IfOk result (λ wanted. wanted.answers.items
+            ≡ answers_to table.now (new_world tree) script.now) }
     {
-        let mut world = world;
+        let mut world = begun(alloc, &tree, table)?;
         let answers = world.run(alloc, script);
         release(world);
         let Ok(answers) = answers else {
-            return Err(TightFault::OutOfMemory);
+            return Err(OutOfMemory);
         };
         Ok(Wanted {
             alloc,
-            tree_bytes,
+            tree,
             table,
             answers,
         })
     }
 
     /// The index of the first of these requests that is answered otherwise, if there is one.
-    pub(crate) fn first_other(&self, requests: &[Request]) -> Result<Option<usize>, TightFault>
-        ensures other { IfOk result (λ other. (t : Tree) → listing self.now.tree_bytes.now ≡ Ok t →
-            other ≡ first_other (answers_to self.now.table.now (new_world t) requests.now)
+    pub(crate) fn first_other(&self, requests: &[Request]) -> Result<Option<usize>, OutOfMemory>
+        ensures { IfOk result (λ other. other ≡ first_other
+            (answers_to self.now.table.now (new_world self.now.tree) requests.now)
             self.now.answers.items) }
-        ensures refused { IfErr result (λ fault. fault ≢ TightFault.OutOfMemory →
-            (as_listing (listing self.now.tree_bytes.now) ≡ Err fault)) }
     {
-        let mut world = begun(self.alloc, self.tree_bytes, self.table)?;
+        let mut world = begun(self.alloc, &self.tree, self.table)?;
         let other = served_otherwise(&mut world, requests, self.answers.as_slice());
         release(world);
         match other {
             Ok(other) => Ok(other),
-            Err(WorldFault::OutOfMemory) => Err(TightFault::OutOfMemory),
+            Err(WorldFault::OutOfMemory) => Err(OutOfMemory),
         }
     }
 }
 
-/// A new world over the tree of a listing.
-pub(crate) fn begun(
-    alloc: Global,
-    tree_bytes: &[u8],
-    table: &CallTable,
-) -> Result<World<SlabTree>, TightFault>
-    ensures listed { IfOk result (λ world. listing tree_bytes.now ≡ Ok world.tree) }
-    ensures begun { IfOk result (λ world. (t : Tree) → listing tree_bytes.now ≡ Ok t →
-        StandsForWorld world (new_world t)) }
-    ensures table { IfOk result (λ world. world.table ≡ table.now) }
-    ensures refused { IfErr result (λ fault. fault ≢ TightFault.OutOfMemory →
-        (as_listing (listing tree_bytes.now) ≡ Err fault)) }
+/// A new world over a copy of a tree.
+fn begun(alloc: Global, tree: &SlabTree, table: &CallTable) -> Result<World<SlabTree>, OutOfMemory>
+    ensures { IfOk result (λ world. world ≡ with_table table.now (new_world tree.now)) }
 {
-    let tree = read_tree(alloc, tree_bytes)?;
-    match World::new(alloc, tree, *table) {
-        Ok(world) => Ok(world),
-        Err(_refused) => Err(TightFault::OutOfMemory),
-    }
-}
-
-/// The tree of a listing.
-fn read_tree(alloc: Global, bytes: &[u8]) -> Result<SlabTree, TightFault>
-    ensures read { IfOk result (λ tree. listing bytes.now ≡ Ok tree) }
-    ensures refused { IfErr result (λ fault. fault ≢ TightFault.OutOfMemory →
-        (as_listing (listing bytes.now) ≡ Err fault)) }
-{
-    match read_listing_slab(alloc, bytes) {
-        Ok(tree) => Ok(tree),
-        Err(ListingFault::OutOfMemory) => Err(TightFault::OutOfMemory),
-        Err(fault) => Err(TightFault::Listing(fault)),
-    }
+    let tree = tree.copy()?;
+    World::new(alloc, tree, *table)
 }
 
 /// Gives back the memory of a world: one call, where the world's drop would else be walked and proved
 /// at each exit behind it.
-pub(crate) fn release(world: World<SlabTree>) {}
+fn release(world: World<SlabTree>) {}
 
 /// Serves requests in a world up to the first that is answered otherwise than is wanted, and answers its
 /// index. Where the lists have other lengths, it is the first that only one of them has.
@@ -114,8 +82,8 @@ fn served_otherwise(
     requests: &[Request],
     wanted: &[Answer],
 ) -> Result<Option<usize>, WorldFault>
-    ensures { IfOk result (λ other. (w : ReplayWorld) → StandsForWorld world.old w →
-        other ≡ first_other (answers_to world.old.table w requests.now) wanted.now) }
+    ensures { IfOk result (λ other. other
+        ≡ first_other (answers_to world.old.table (world_of world.old) requests.now) wanted.now) }
 {
     for (index, request) in requests.iter().enumerate() {
         let answer = world.apply(request)?;

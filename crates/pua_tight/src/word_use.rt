@@ -1,10 +1,7 @@
 //! What each word of a script is needed for.
 
 ghost use Rattle.std.specs.Prelude.{◌≡◌, ◌≢◌, Err, IfOk, IfErr, Ok, map};
-ghost use Rattle.pua_tree.specs.Tree.{Tree};
-ghost use Rattle.pua_tree.specs.Listing.{listing};
 ghost use Rattle.pua_script.specs.Replay.{answers_to, new_world};
-ghost use Rattle.pua_tight.specs.Texts.{as_listing};
 ghost use Rattle.pua_tight.specs.Uses.{use_by, uses_over, words_from};
 ghost use Rattle.pua_tight.specs.Left.{lines_by};
 
@@ -17,6 +14,7 @@ use crate::trial::{Trial, add_trials, other_without};
 use crate::wanted::Wanted;
 use pua_calls::{CallTable, Promises, Rules};
 use pua_script::{Answer, Request};
+use pua_tree::OutOfMemory;
 use std::alloc::{AllocError, Global};
 
 /// A word of a script that may be left out, and what needs it.
@@ -52,12 +50,9 @@ pub fn word_uses(
         asked_for(table),
         requests.as_slice(),
         wanted.answers.as_slice(),
-    );
-    let Ok(words) = words else {
-        return Err(TightFault::OutOfMemory);
-    };
+    )?;
     tighten(&wanted, &mut requests)?;
-    uses_of(alloc, &wanted, words.as_slice(), &mut requests)
+    Ok(uses_of(alloc, &wanted, words.as_slice(), &mut requests)?)
 }
 
 /// The words that may be left out of a script's requests, where some call asks for these promises.
@@ -84,14 +79,12 @@ fn uses_of(
     wanted: &Wanted<'_>,
     words: &[Trial],
     requests: &mut Vec<Request>,
-) -> Result<Vec<WordUse>, TightFault>
-    ensures done { IfOk result (λ uses. (t : Tree) → listing wanted.now.tree_bytes.now ≡ Ok t →
-        answers_to wanted.now.table.now (new_world t) requests.old.items
+) -> Result<Vec<WordUse>, OutOfMemory>
+    ensures { IfOk result (λ uses.
+        answers_to wanted.now.table.now (new_world wanted.now.tree) requests.old.items
         ≡ wanted.now.answers.items →
-        uses.items ≡ map (use_by wanted.now.table.now (new_world t) wanted.now.answers.items
-        requests.old.items) words.now) }
-    ensures refused { IfErr result (λ fault. fault ≢ TightFault.OutOfMemory →
-        (as_listing (listing wanted.now.tree_bytes.now) ≡ Err fault)) }
+        uses.items ≡ map (use_by wanted.now.table.now (new_world wanted.now.tree)
+        wanted.now.answers.items requests.old.items) words.now) }
 {
     let mut uses = Vec::new(alloc);
     for word in words {
@@ -101,9 +94,7 @@ fn uses_of(
             word: word.piece,
             needed_by,
         };
-        let Ok(()) = uses.push(word) else {
-            return Err(TightFault::OutOfMemory);
-        };
+        uses.push(word)?;
     }
     Ok(uses)
 }

@@ -1,6 +1,6 @@
 -- Calls with their numbers of steps, one after another.
 use Rattle.pua_tool.proofs.Common.{◌≡◌, ℕ, List, [], ◌∷◌, ◌++◌, ◌∙◌, map, refl, sym, subst, ap, Option, Some, None}
-use Rattle.pua_tool.proofs.Common.{History, Ok, Replayed, Result, ToolFault}
+use Rattle.pua_tool.proofs.Common.{ProcessState, Replayed}
 use Rattle.std.proofs.Common.{Bool, true, false, cond, ◌+◌, ◌<◌, ◌≤◌, take, get_or}
 use Rattle.std.specs.Prelude.{IfSome, filter}
 use Rattle.std.specs.List.{AllByRecursion}
@@ -72,14 +72,13 @@ one_counted P [] count all is = (is, tt)
 one_counted P (other ∷ counts) count all is = (all.0, one_counted P counts count all.1 is)
 
 -- with the steps that were found to one call more
-module _ (done : Replayed) (process : ℕ) (h : History) (asking : Asking) (kind : ObjectKind) (things : List Target)
+module _ (done : Replayed) (process : ℕ) (h : ProcessState) (asking : Asking) (kind : ObjectKind) (things : List Target)
     (asked : IsAskedBy done.world.tree h asking (Some kind) things) where
-  pub steps_counted : (served : Result Replayed ToolFault) → served ≡ Ok done → (counts : List Count) (call : Call) (found : Option ℕ) →
+  pub steps_counted : (Served : Type 0) → Served → (counts : List Count) (call : Call) (found : Option ℕ) →
       AllByRecursion (IsCount done process h asking kind) counts →
-      IfSome found (λ steps. (other : Replayed) → served ≡ Ok other → AreStepsTo other process things call steps) →
+      IfSome found (λ steps. Served → AreStepsTo done process things call steps) →
       AllByRecursion (IsCount done process h asking kind) (counts ++ (call, found) ∷ [])
-  steps_counted served is counts call found all steps =
+  steps_counted Served is counts call found all steps =
       one_counted (IsCount done process h asking kind) counts (call, found) all
       (count_is done process h asking kind things asked call found
-      (λ n same. when_some (λ steps. (other : Replayed) → served ≡ Ok other → AreStepsTo other process things call steps) found steps n same
-      done is))
+      (λ n same. when_some (λ steps. Served → AreStepsTo done process things call steps) found steps n same is))

@@ -1,6 +1,6 @@
 -- The text of the list for ever with the numbers of steps, step by step.
 use Rattle.pua_tool.proofs.Common.{◌≡◌, ◌≢◌, ℕ, List, [], ◌++◌, ◌∙◌, refl, sym, subst, ap, Result, ◌>>=◌, Option, Some, None, Ok, Err}
-use Rattle.pua_tool.proofs.Common.{History, history_of, Chosen, Replayed, replay_of, ToolFault, OutOfMemory, Write, answer_lines, AnswersTo}
+use Rattle.pua_tool.proofs.Common.{ProcessState, kept_at, Chosen, Replayed, replay_of, ToolFault, OutOfMemory, Write, answer_lines, AnswersTo}
 use Rattle.pua_tool.proofs.Common.{unless_reason}
 use Rattle.std.proofs.Common.{◌⊎◌, inl, inr}
 use Rattle.std.specs.Prelude.{ok_or}
@@ -20,20 +20,20 @@ memory_or_other fault = inr (λ same. cc)
 
 module _ (rules : Rules) (done : Replayed) (process : ℕ) where
   -- the list of what was found behind a script
-  pub list_after : (h : History) (list : List ℕ) (answer : Result (List ℕ) ToolFault) → history_of done.world process ≡ Some h →
+  pub list_after : (h : ProcessState) (list : List ℕ) (answer : Result (List ℕ) ToolFault) → kept_at done.world process ≡ Some h →
       refusal done.table h ≡ None → IsEverHowList rules done process h list → answer ≡ Ok (answer_lines 1 done.answers ++ list) →
       IsEverHowAfter rules done process answer
   list_after h list answer here none is told = record {
     list = list;
-    sound = λ other there unrefused. subst (λ (g : History). IsEverHowList rules done process g list) (same_Some h other (sym here ∙ there)) is;
+    sound = λ other there unrefused. subst (λ (g : ProcessState). IsEverHowList rules done process g list) (same_Some h other (sym here ∙ there)) is;
     is =
         told
         ∙ sym (ap (λ reason. unless_reason process reason (answer_lines 1 done.answers ++ list)) none)
-        ∙ sym (ap (λ (o : Option History). ok_or o NoProcess >>= λ g. unless_reason process (refusal done.table g)
+        ∙ sym (ap (λ (o : Option ProcessState). ok_or o NoProcess >>= λ g. unless_reason process (refusal done.table g)
         (answer_lines 1 done.answers ++ list)) here);
   }
 
-  some_list : (h : History) → (list : List ℕ) × IsEverHowList rules done process h list
+  some_list : (h : ProcessState) → (list : List ℕ) × IsEverHowList rules done process h list
   some_list h =
       let all = some_columns done process h (ever_lasting done.world.tree done.table h) in (
         ever_list_with rules done.table done.world.tree process h all.0,
@@ -42,13 +42,13 @@ module _ (rules : Rules) (done : Replayed) (process : ℕ) where
 
   abbrev whole : List ℕ → Result (List ℕ) ToolFault
   whole list =
-      ok_or (history_of done.world process) NoProcess
+      ok_or (kept_at done.world process) NoProcess
       >>= λ h. unless_reason process (refusal done.table h) (answer_lines 1 done.answers ++ list)
 
   some_after : (answer : Result (List ℕ) ToolFault) × IsEverHowAfter rules done process answer
-  some_after = by (history_of done.world process) refl
+  some_after = by (kept_at done.world process) refl
     where
-      by : (o : Option History) → history_of done.world process ≡ o → (answer : Result (List ℕ) ToolFault) × IsEverHowAfter rules done process answer
+      by : (o : Option ProcessState) → kept_at done.world process ≡ o → (answer : Result (List ℕ) ToolFault) × IsEverHowAfter rules done process answer
       by None here = (
         whole [],
         record { list = []; sound = λ h there unrefused. absurd (None≢Some h (sym here ∙ there)); is = refl },
@@ -59,31 +59,31 @@ module _ (rules : Rules) (done : Replayed) (process : ℕ) where
             record {
               list = some.0;
               sound = λ other there unrefused.
-                  subst (λ (g : History). IsEverHowList rules done process g some.0) (same_Some h other (sym here ∙ there)) some.1;
+                  subst (λ (g : ProcessState). IsEverHowList rules done process g some.0) (same_Some h other (sym here ∙ there)) some.1;
               is = refl;
             },
           )
 
   -- what refuses the list
-  pub no_process : history_of done.world process ≡ None → IsEverHowAfter rules done process (Err NoProcess)
+  pub no_process : kept_at done.world process ≡ None → IsEverHowAfter rules done process (Err NoProcess)
   no_process here = record {
     list = [];
     sound = λ h there unrefused. absurd (None≢Some h (sym here ∙ there));
-    is = sym (ap (λ (o : Option History). ok_or o NoProcess >>= λ g. unless_reason process (refusal done.table g)
+    is = sym (ap (λ (o : Option ProcessState). ok_or o NoProcess >>= λ g. unless_reason process (refusal done.table g)
         (answer_lines 1 done.answers ++ [])) here);
   }
 
-  pub refused_after : (h : History) (fault : ToolFault) → history_of done.world process ≡ Some h →
+  pub refused_after : (h : ProcessState) (fault : ToolFault) → kept_at done.world process ≡ Some h →
       ((text : List ℕ) → unless_reason process (refusal done.table h) text ≡ Err fault) → IsEverHowAfter rules done process (Err fault)
   refused_after h fault here refuses =
       let some = some_list h in
       record {
         list = some.0;
         sound = λ other there unrefused.
-            subst (λ (g : History). IsEverHowList rules done process g some.0) (same_Some h other (sym here ∙ there)) some.1;
+            subst (λ (g : ProcessState). IsEverHowList rules done process g some.0) (same_Some h other (sym here ∙ there)) some.1;
         is =
             sym (refuses (answer_lines 1 done.answers ++ some.0))
-            ∙ sym (ap (λ (o : Option History). ok_or o NoProcess >>= λ g. unless_reason process (refusal done.table g)
+            ∙ sym (ap (λ (o : Option ProcessState). ok_or o NoProcess >>= λ g. unless_reason process (refusal done.table g)
             (answer_lines 1 done.answers ++ some.0)) here);
       }
 

@@ -1,19 +1,19 @@
 -- What a tightened script that was written is.
 use Rattle.pua_tool.proofs.Common.{◌≡◌, ◌∙◌, ℕ, List, ap, refl, sym, subst, Err, Ok, Option, Some, None, Result, ◌>>=◌, Tree, listing}
 use Rattle.pua_tool.proofs.Common.{CallTable, Asked, script_by, World, new_world, answers_to, world_after, answer_lines, Chosen}
-use Rattle.pua_tool.proofs.Common.{table_by, as_listing, as_script, History}
+use Rattle.pua_tool.proofs.Common.{table_by, as_listing, as_script, ProcessState}
 use Rattle.std.specs.Prelude.{is_some}
 use Rattle.pua_tree.proofs.ForCallers.{same_Ok}
 use Rattle.pua_calls.specs.Calls.{table_by_rules}
 use Rattle.pua_calls.specs.Tables.{NoCallNeedsError}
 use Rattle.pua_script.proofs.ForCallers.{replays_keep_byte_trees, listings_list_byte_trees, scripts_ask_in_bytes}
 use Rattle.pua_script.specs.declared.fault.ScriptFault.{ScriptFault}
-use Rattle.pua_tight.specs.Narrower.{AsksWithin, HistoryWithin, WorldWithin}
+use Rattle.pua_tight.specs.Narrower.{AsksWithin, StateWithin, WorldWithin}
 use Rattle.pua_tight.specs.Tight.{Line, lines_of, tight}
 use Rattle.pua_tight.specs.Texts as texts
 use Rattle.pua_tight.specs.Laws.{IsTightened, IsScriptOfLines, RestOnOne}
 use Rattle.pua_tight.proofs.ForCallers.{tightens, scripts_are_tightened, tight_is_minimal, tight_is_least, rules_rest, tight_texts_are_read}
-use Rattle.pua_tight.proofs.ForCallers.{FoundWithin, never, made, found_within, allows_no_more, futures_within, ended_alike, lists_no_more}
+use Rattle.pua_tight.proofs.ForCallers.{FoundWithin, never, made, found_within, allows_no_more, futures_within, lists_no_more}
 use Rattle.pua_tight.proofs.ForCallers.{lists_no_more_for_ever, lasts_no_more}
 use Rattle.pua_tool.specs.Texts.{run_text}
 use Rattle.pua_tool.specs.TightTexts.{as_tight, tight_text}
@@ -21,11 +21,11 @@ use Rattle.pua_tool.specs.Fewest.{MayDoNoMore, LeavesNoMore, IsTightWritten, Tig
 use Rattle.pua_tool.proofs.Replays.{replayed_is}
 use Rattle.pua_tool.proofs.Tables.{tables_need_no_error}
 
--- a process whose events lie within those of another
-may_do_no_more : (table : CallTable) → NoCallNeedsError table → (less given : History) → HistoryWithin less given →
+-- a process that lies within another
+may_do_no_more : (table : CallTable) → NoCallNeedsError table → (less given : ProcessState) → StateWithin less given →
     MayDoNoMore table less given
 may_do_no_more table sound less given inside = record {
-  ended = ended_alike inside;
+  ended = inside.ended;
   calls = allows_no_more table less given inside;
   listed = lists_no_more table less given inside;
   ever = lists_no_more_for_ever table less given inside;
@@ -33,24 +33,24 @@ may_do_no_more table sound less given inside = record {
 }
 
 -- what two worlds have of one number, where one lies within the other
-made_alike : {o p : Option History} → FoundWithin o p → is_some o ≡ is_some p
+made_alike : {o p : Option ProcessState} → FoundWithin o p → is_some o ≡ is_some p
 made_alike never = refl
 made_alike (made inside) = refl
 
-both_within : {o p : Option History} → FoundWithin o p → (h k : History) → o ≡ Some h → p ≡ Some k → HistoryWithin h k
+both_within : {o p : Option ProcessState} → FoundWithin o p → (h k : ProcessState) → o ≡ Some h → p ≡ Some k → StateWithin h k
 both_within never h k here there = cc
 both_within (made {h = g} {k = l} inside) h k here there =
     let inner : g ≡ h = cc in
     let outer : l ≡ k = cc in
-    subst (λ (events : History). HistoryWithin events k) inner (subst (HistoryWithin g) outer inside)
+    subst (λ (h : ProcessState). StateWithin h k) inner (subst (StateWithin g) outer inside)
 
 leaves_no_more : (table : CallTable) → NoCallNeedsError table → (less given : World) → WorldWithin less given →
     LeavesNoMore table less given
 leaves_no_more table sound less given inside = record {
   tree = inside.tree;
-  made = λ process. made_alike (found_within inside.histories process);
+  made = λ process. made_alike (found_within inside.processes process);
   processes = λ process h k here there.
-      may_do_no_more table sound h k (both_within (found_within inside.histories process) h k here there);
+      may_do_no_more table sound h k (both_within (found_within inside.processes process) h k here there);
 }
 
 -- a text of a script without a fault

@@ -1,5 +1,5 @@
--- What a family reaches and changes, by what its histories allow.
-use Rattle.pua_tool.proofs.Common.{◌≡◌, ℕ, List, [], ◌∷◌, ◌++◌, map, refl, sym, ap, subst, ◌∙◌, Tree, listing, CallTable, History, Asked}
+-- What a family reaches and changes, by what its processes allow.
+use Rattle.pua_tool.proofs.Common.{◌≡◌, ℕ, List, [], ◌∷◌, ◌++◌, map, refl, sym, ap, subst, ◌∙◌, Tree, listing, CallTable, ProcessState, Asked}
 use Rattle.pua_tool.proofs.Common.{script_by, new_world, world_after}
 use Rattle.std.proofs.Common.{codes, Bool, true}
 use Rattle.std.specs.Prelude.{Ok}
@@ -7,7 +7,7 @@ use Rattle.std.proofs.lemmas.Bool.{and_parts}
 use Rattle.std.proofs.lemmas.List.Folds.{list_all-append}
 use Rattle.pua_tree.specs.Tree.{distinct_names}
 use Rattle.pua_path.specs.Paths.{is_absolute}
-use Rattle.pua_policy.specs.History.{working_dir}
+use Rattle.pua_policy.specs.States.{working_dir}
 use Rattle.pua_audit.specs.Reach.{path_of, alphabet_of}
 use Rattle.pua_audit.specs.SubLists.{SubList}
 use Rattle.pua_audit.specs.declared.base.Base.{Base}
@@ -25,16 +25,16 @@ root_path : (word : List (List ℕ)) → is_absolute (path_of Root word) ≡ tru
 root_path [] = refl
 root_path (letter ∷ word) = refl
 
-reaches_no_more : (table : CallTable) (t : Tree) (now last : History) (still : Bool) → AllowsNoMore table now last →
+reaches_no_more : (table : CallTable) (t : Tree) (now last : ProcessState) (still : Bool) → AllowsNoMore table now last →
     (still ≡ true → working_dir last ≡ working_dir now) → ReachesNoMore table t now last still
 reaches_no_more table t now last still allows dirs = record {
   root = λ alphabet limit. fewer_reach_less
-      (record { tree = t; table = table; history = last; base = Root; alphabet = alphabet; limit = limit })
-      (record { tree = t; table = table; history = now; base = Root; alphabet = alphabet; limit = limit }) refl refl
+      (record { tree = t; table = table; process = last; base = Root; alphabet = alphabet; limit = limit })
+      (record { tree = t; table = table; process = now; base = Root; alphabet = alphabet; limit = limit }) refl refl
       (λ pair e. allows.absolute t pair.1 (path_of Root pair.0) (root_path pair.0) e);
   cwd = λ is alphabet limit. fewer_reach_less
-      (record { tree = t; table = table; history = last; base = Cwd; alphabet = alphabet; limit = limit })
-      (record { tree = t; table = table; history = now; base = Cwd; alphabet = alphabet; limit = limit }) refl refl
+      (record { tree = t; table = table; process = last; base = Cwd; alphabet = alphabet; limit = limit })
+      (record { tree = t; table = table; process = now; base = Cwd; alphabet = alphabet; limit = limit }) refl refl
       (λ pair e. allows.relative (dirs is) t pair.1 (path_of Cwd pair.0) e);
 }
 
@@ -44,15 +44,15 @@ narrowing table sound w process now asks here confined none member belongs =
     (one.0, one.1, (one.2.tightens, λ t. reaches_no_more table t now one.0 _ (one.2.allows sound) one.2.dir))
 
 -- over a tree with the same rows and nodes the same letters, and so the same reach
-same_reach : (table : CallTable) (h : History) (base : Base) (candidates : List (List ℕ)) (limit : ℕ) (t u : Tree) → u.rows ≡ t.rows →
+same_reach : (table : CallTable) (h : ProcessState) (base : Base) (candidates : List (List ℕ)) (limit : ℕ) (t u : Tree) → u.rows ≡ t.rows →
     u.nodes ≡ t.nodes →
     reach_over u table h base (alphabet_of u candidates) limit ≡ reach_over t table h base (alphabet_of t candidates) limit
 same_reach table h base candidates limit t u rows nodes =
     ap (λ all. reach_over u table h base (distinct_names (codes ".." ∷ candidates ++ map (λ row. row.0.1) all)) limit) rows
-    ∙ reach_needs_rows (record { tree = t; table = table; history = h; base = base; alphabet = alphabet_of t candidates; limit = limit }) u
+    ∙ reach_needs_rows (record { tree = t; table = table; process = h; base = base; alphabet = alphabet_of t candidates; limit = limit }) u
     rows nodes
 
-at_base : (table : CallTable) (t : Tree) (now last : History) (still : Bool) → ReachesNoMore table t now last still → (base : Base) →
+at_base : (table : CallTable) (t : Tree) (now last : ProcessState) (still : Bool) → ReachesNoMore table t now last still → (base : Base) →
     (base ≡ Cwd → still ≡ true) →
     (alphabet : List (List ℕ)) (limit : ℕ) →
     SubList (reach_over t table last base alphabet limit) (reach_over t table now base alphabet limit)

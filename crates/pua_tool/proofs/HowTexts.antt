@@ -1,8 +1,8 @@
 -- The text of a way, step by step.
 use Rattle.pua_tool.proofs.Common.{◌≡◌, ◌≢◌, ℕ, List, [], ◌∷◌, ◌∙◌, map, refl, sym, subst, ap, Result, ◌>>=◌, Option, Some, None, Ok, Err}
-use Rattle.pua_tool.proofs.Common.{History, Tree, CallTable, history_of, StandsForWorld, Chosen, Replayed, replay_of, ToolFault, OutOfMemory, Write}
+use Rattle.pua_tool.proofs.Common.{ProcessState, Tree, CallTable, kept_at, as_replayed, Chosen, Replayed, replay_of, ToolFault, OutOfMemory, Write}
 use Rattle.pua_tool.proofs.Common.{with_end, arith, AnswersTo}
-use Rattle.std.proofs.Common.{◌⊎◌, inl, inr, length}
+use Rattle.std.proofs.Common.{◌⊎◌, false, inl, inr, length}
 use Rattle.std.specs.Prelude.{string_bytes, ok_or, option_copied, option_map, IfSome}
 use Rattle.std.specs.Borrow.{Bor}
 use Rattle.std.specs.List.{AllByRecursion, Contains}
@@ -13,24 +13,23 @@ use Rattle.pua_calls.specs.declared.rules.Rules.{Rules}
 use Rattle.pua_ever.specs.Refusals.{refusal}
 use Rattle.pua_ever.specs.declared.refusal.Refusal.{Refusal}
 use Rattle.pua_script.specs.Scripts.{request_by}
-use Rattle.pua_script.specs.Worlds.{WorldState}
 use Rattle.pua_how.specs.Asking.{Asking, asking_of, targets_of}
 use Rattle.pua_how.specs.Outlooks.{IsOutlook}
 use Rattle.pua_how.specs.Served.{AreWay, IsLine, asks_of}
-use Rattle.pua_how.specs.Ways.{IsWay}
 use Rattle.pua_how.specs.declared.line.WayLine.{WayLine}
 use Rattle.pua_how.specs.declared.target.Target.{Target}
 use Rattle.pua_tool.specs.EverTexts.{ever_fault}
-use Rattle.pua_tool.specs.HowTexts.{HowWanted, IsFoundFor, IsHowAfter, IsHowAsked, IsHowText, Question, question_of}
+use Rattle.pua_tool.specs.HowTexts.{HowWanted, IsFoundFor, IsHowAfter, IsHowAsked, IsHowText, Question, follows_link, question_of}
 use Rattle.pua_tool.specs.HowTexts.{some_thing, things_asked, told_without, way_text}
 use Rattle.pua_tool.specs.Questions.{AreMeant, AreWayTo, IsQuestion, text_told, texts_of}
 use Rattle.pua_tool.specs.declared.fault.ToolFault.TheVariants.{NoProcess, HowCall, HowPath, HowThing}
 use Rattle.pua_tool.specs.declared.how.Question as given
+use Rattle.pua_tool.specs.declared.script.Replay.{Replay}
 use Rattle.pua_tool.proofs.TextAnswers.{answers_refused}
 
 -- ---- what may be meant
 
-module _ (t : Tree) (h : History) (wanted : HowWanted) (last : ℕ) where
+module _ (t : Tree) (h : ProcessState) (wanted : HowWanted) (last : ℕ) where
   abbrev of_asking : Option Asking → Result (List Target) ToolFault
   of_asking asking = ok_or asking HowPath >>= λ asking. some_thing (targets_of t h last asking wanted.kind)
 
@@ -54,25 +53,26 @@ module _ (t : Tree) (h : History) (wanted : HowWanted) (last : ℕ) where
         by (thing ∷ more) some = refl
 
 module _ (done : Replayed) (wanted : HowWanted) (last : ℕ) where
-  pub question_made : (h : History) (call : Call) (things : List Target) → history_of done.world wanted.process ≡ Some h →
+  pub question_made : (h : ProcessState) (call : Call) (things : List Target) → kept_at done.world wanted.process ≡ Some h →
       refusal done.table h ≡ None → call_in done.table wanted.call ≡ Some call → things_asked done.world.tree h wanted last ≡ Ok things →
-      question_of done wanted last ≡ Ok (record { history = h; call = call; things = things })
-  question_made h call things here none read asked = rw here (rw none (rw read (rw asked refl)))
+      follows_link done.world.tree call things ≡ false →
+      question_of done wanted last ≡ Ok (record { process = h; call = call; things = things })
+  question_made h call things here none read asked kept = rw here (rw none (rw read (rw asked (rw kept refl))))
 
   -- ---- the first fault
 
-  pub no_process : history_of done.world wanted.process ≡ None → question_of done wanted last ≡ Err NoProcess
+  pub no_process : kept_at done.world wanted.process ≡ None → question_of done wanted last ≡ Err NoProcess
   no_process here = rw here refl
 
-  pub no_list : (h : History) (reason : Refusal) → history_of done.world wanted.process ≡ Some h → refusal done.table h ≡ Some reason →
+  pub no_list : (h : ProcessState) (reason : Refusal) → kept_at done.world wanted.process ≡ Some h → refusal done.table h ≡ Some reason →
       question_of done wanted last ≡ Err (ever_fault wanted.process reason)
   no_list h reason here some = rw here (rw some refl)
 
-  pub no_call : (h : History) → history_of done.world wanted.process ≡ Some h → refusal done.table h ≡ None → call_in done.table wanted.call ≡ None →
+  pub no_call : (h : ProcessState) → kept_at done.world wanted.process ≡ Some h → refusal done.table h ≡ None → call_in done.table wanted.call ≡ None →
       question_of done wanted last ≡ Err HowCall
   no_call h here none unread = rw here (rw none (rw unread refl))
 
-  pub no_thing : (h : History) (call : Call) (fault : ToolFault) → history_of done.world wanted.process ≡ Some h →
+  pub no_thing : (h : ProcessState) (call : Call) (fault : ToolFault) → kept_at done.world wanted.process ≡ Some h →
       refusal done.table h ≡ None → call_in done.table wanted.call ≡ Some call → things_asked done.world.tree h wanted last ≡ Err fault →
       question_of done wanted last ≡ Err fault
   no_thing h call fault here none read asked = rw here (rw none (rw read (rw asked refl)))
@@ -119,7 +119,7 @@ read_all rules process (line ∷ lines) all = λ i. all.0.read i ∷ read_all ru
 
 module _ (rules : Rules) (done : Replayed) (wanted : HowWanted) (q : given.Question) (is : IsQuestion done wanted q) where
   abbrev there : Question
-  there = record { history = is.history; call = q.call; things = q.meant.targets.items }
+  there = record { process = is.process; call = q.call; things = q.meant.targets.items }
 
   found_for : (found : Option (List WayLine)) → ((lines : List WayLine) → found ≡ Some lines → AreWayTo rules done wanted.process q lines) →
       IsFoundFor rules done wanted.process is.last there (texts_of found)
@@ -154,36 +154,26 @@ module _ (rules : Rules) (done : Replayed) (wanted : HowWanted) (q : given.Quest
 
 -- ---- what the code keeps of a question
 
-module _ (done : Replayed) (wanted : HowWanted) (q : given.Question) (h : History) (t : Tree) (table : CallTable) where
+module _ (done : Replayed) (wanted : HowWanted) (q : given.Question) (h : ProcessState) (t : Tree) (table : CallTable) where
   abbrev things : List Target
   things = q.meant.targets.items
 
-  pub question_is : t ≡ done.world.tree → table ≡ done.table → history_of done.world wanted.process ≡ Some h → refusal table h ≡ None →
+  pub question_is : t ≡ done.world.tree → table ≡ done.table → kept_at done.world wanted.process ≡ Some h → refusal table h ≡ None →
       call_in table wanted.call ≡ Some q.call → AreMeant t h wanted things → (asked : List Target) → asked ≡ things →
-      IsOutlook t table h asked q.call q.outlook → IsQuestion done wanted q
-  question_is at ruled here none read meant asked all outlook =
+      follows_link t q.call asked ≡ false → IsOutlook t table h asked q.call q.outlook → IsQuestion done wanted q
+  question_is at ruled here none read meant asked all kept outlook =
       let are = subst (λ (t : Tree). AreMeant t h wanted things) at meant in
       record {
         last = are.last;
         above = are.above;
-        history = h;
+        process = h;
         asked = question_made done wanted are.last h q.call things here (subst (λ (table : CallTable). refusal table h ≡ None) ruled none)
-            (subst (λ (table : CallTable). call_in table wanted.call ≡ Some q.call) ruled read) are.are;
+            (subst (λ (table : CallTable). call_in table wanted.call ≡ Some q.call) ruled read) are.are
+            ((λ i. follows_link (sym at i) q.call (sym all i)) ∙ kept);
         outlook = subst (λ (table : CallTable). IsOutlook done.world.tree table h things q.call q.outlook) ruled
             (subst (λ (t : Tree). IsOutlook t table h things q.call q.outlook) at
             (subst (λ (asked : List Target). IsOutlook t table h asked q.call q.outlook) all outlook));
       }
-
--- a way in a world behind the script is one in that of the replay
-pub way_behind : (rules : Rules) (done : Replayed) (before : WorldState) (process : ℕ) (q : given.Question) (lines : List WayLine) (thing : Target) →
-    before.table ≡ done.table → StandsForWorld before done.world → Contains q.meant.targets.items thing →
-    AreWay rules before process q.call thing lines → AreWayTo rules done process q lines
-way_behind rules done before process q lines thing ruled stands meant way = record {
-  thing = thing;
-  meant = meant;
-  are = way.are;
-  way = subst (λ (table : CallTable). IsWay table done.world process q.call thing (asks_of lines)) ruled (way.way done.world stands);
-}
 
 -- ---- what is told
 
@@ -216,14 +206,13 @@ module _ {V : Type 0} (items : V → List WayLine) (choice : Chosen) (tree_bytes
   AreFound v = (done : Replayed) → replay_of choice tree_bytes script_bytes ≡ Ok done → AreWayTo choice.rules done process q (items v)
 
   -- what a plan came to in a world behind the script
-  pub served_found : (done : Replayed) (before : WorldState) → replay_of choice tree_bytes script_bytes ≡ Ok done → before.table ≡ done.table →
-      StandsForWorld before done.world → (found : Option V) →
-      IfSome found (λ v. (thing : Target) × Contains q.meant.targets.items thing × AreWay choice.rules before process q.call thing (items v)) →
+  pub served_found : (replay : Replay) → replay_of choice tree_bytes script_bytes ≡ Ok (as_replayed replay) → (found : Option V) →
+      IfSome found (λ v. (thing : Target) × Contains q.meant.targets.items thing × AreWay choice.rules replay.world process q.call thing (items v)) →
       IfSome found AreFound
-  served_found done before is ruled stands None way = tt
-  served_found done before is ruled stands (Some v) way = λ other again.
-      subst (λ (d : Replayed). AreWayTo choice.rules d process q (items v)) (same_Ok done other (sym is ∙ again))
-      (way_behind choice.rules done before process q (items v) way.0 ruled stands way.1 way.2)
+  served_found replay is None way = tt
+  served_found replay is (Some v) way = λ other again.
+      subst (λ (d : Replayed). AreWayTo choice.rules d process q (items v)) (same_Ok (as_replayed replay) other (sym is ∙ again))
+      (record { thing = way.0; meant = way.1; are = way.2.are; way = way.2.way })
 
   pub found_ways : (found : Option V) → IfSome found AreFound → (done : Replayed) → replay_of choice tree_bytes script_bytes ≡ Ok done →
       (lines : List WayLine) → option_map items found ≡ Some lines → AreWayTo choice.rules done process q lines

@@ -3,9 +3,10 @@ pub mod Replays
 pub mod Tables
 pub mod Futures
 pub mod Alike
-pub mod ObjectTexts
+pub mod Numbers
 pub mod TextAnswers
 pub mod Written
+pub mod ListWritten
 pub mod Stops
 pub mod Ends
 pub mod WhyTexts
@@ -18,3 +19,4 @@ pub mod ActingNext
 pub mod TogetherTexts
 pub mod TightTexts
 pub mod Fewest
+pub mod Headline

@@ -1,5 +1,5 @@
 -- What stands at names now, as lines are about it.
-use Rattle.pua_tool.proofs.Common.{◌≡◌, ℕ, List, [], ◌∷◌, ◌∙◌, refl, sym, subst, ap, arith, map, Option, Some, None, Tree, History, CallTable}
+use Rattle.pua_tool.proofs.Common.{◌≡◌, ℕ, List, [], ◌∷◌, ◌∙◌, refl, sym, subst, ap, arith, map, Option, Some, None, Tree, ProcessState, CallTable}
 use Rattle.std.proofs.Common.{true, false, length, ◌&&◌}
 use Rattle.std.specs.Prelude.{option_map, IfSome}
 use Rattle.std.proofs.lemmas.Bool.{eq-eqb}
@@ -83,13 +83,13 @@ module _ (t : Tree) where
   found_is_fit (At found) fits = fits.0
   found_is_fit (Others dir) fits = fits
 
-  covered : WellFormed t → (h : History) → (subject : Subject) → SubjectFits t subject → cover t h (found_for subject) ≡ cover_on t h subject
+  covered : WellFormed t → (h : ProcessState) → (subject : Subject) → SubjectFits t subject → cover t h (found_for subject) ≡ cover_on t h subject
   covered fit h (At found) fits = refl
   covered fit h (Others dir) fits = (covers_descend t h fit).directory dir Top fits
 
   -- ---- the calls on it
 
-  module _ (table : CallTable) (h : History) where
+  module _ (table : CallTable) (h : ProcessState) where
     pub now_at : (about : Thing) (kind : ObjectKind) (word : Word) (o : Option Subject) → IsThing t about (told.Stands kind) →
         o ≡ subject_at t kind word → (call : Call) → is_now t table h o call ≡ is_now t table h (subject_now t kind word about) call
     now_at (Stands subject) kind word o is at call = ap (λ other. is_now t table h other call) at

@@ -1,14 +1,8 @@
 -- What is replayed, step by step.
-use Rattle.pua_tool.proofs.Common.{◌≡◌, ℕ, List, subst, Result, Tree, listing, ◌>>=◌, CallTable, Asked, script_by, World, new_world}
-use Rattle.pua_tool.proofs.Common.{answers_to, world_after, StandsForWorld, Chosen, Replayed, as_listing, as_script, table_by, replay_of}
+use Rattle.pua_tool.proofs.Common.{◌≡◌, ℕ, List, Result, Tree, listing, ◌>>=◌, CallTable, Asked, script_by, new_world}
+use Rattle.pua_tool.proofs.Common.{answers_to, world_after, Chosen, Replayed, as_listing, as_script, table_by, replay_of}
 use Rattle.pua_tool.proofs.Common.{ToolFault}
 use Rattle.std.specs.Prelude.{Ok, Err}
-use Rattle.pua_script.specs.Worlds.{WorldState}
-
--- a world that stands for what one table leaves stands for what the same table leaves
-pub left_by_same : {state : WorldState} (a b : CallTable) (w : World) (asks : List Asked) → a ≡ b →
-    StandsForWorld state (world_after a w asks) → StandsForWorld state (world_after b w asks)
-left_by_same {state} a b w asks same = subst (λ (t : CallTable). StandsForWorld state (world_after t w asks)) same
 
 module _ (choice : Chosen) (tree_bytes script_bytes : List ℕ) where
   abbrev left_by : CallTable → Tree → List Asked → Replayed

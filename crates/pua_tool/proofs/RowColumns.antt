@@ -1,6 +1,6 @@
 -- The columns of a list for ever, row by row.
-use Rattle.pua_tool.proofs.Common.{◌≡◌, ℕ, List, [], ◌∷◌, ◌++◌, ◌∙◌, map, refl, sym, subst, ap, History, Replayed, Option, Some, None}
-use Rattle.pua_tool.proofs.Common.{CallTable, StandsForWorld, Tree, with_end}
+use Rattle.pua_tool.proofs.Common.{◌≡◌, ℕ, List, [], ◌∷◌, ◌++◌, ◌∙◌, map, refl, sym, subst, ap, ProcessState, Replayed, Option, Some, None}
+use Rattle.pua_tool.proofs.Common.{CallTable, Tree, as_replayed, with_end}
 use Rattle.std.proofs.Common.{Bool, true, false, cond, length, ◌+◌, ◌<◌, take, get_or}
 use Rattle.std.specs.Prelude.{filter, not, ◌&&◌}
 use Rattle.std.specs.List.{AllByRecursion, Contains}
@@ -11,7 +11,6 @@ use Rattle.pua_calls.specs.CallSets.{calls_in, has}
 use Rattle.pua_calls.specs.declared.call.Call.{Call}
 use Rattle.pua_calls.specs.declared.rules.Rules.{Rules}
 use Rattle.pua_policy.specs.Verdict.{Object, IsDir, IsFile, IsProg, IsLink, IsMissing, object_of}
-use Rattle.pua_script.specs.Worlds.{WorldState}
 use Rattle.pua_audit.specs.Reach.{Word}
 use Rattle.pua_objects.specs.Lines.{kind_word}
 use Rattle.pua_objects.specs.Objects.{At, Others, object_word}
@@ -27,30 +26,29 @@ use Rattle.pua_ever.specs.declared.list.EverRow.{EverRow}
 use Rattle.pua_how.specs.Asked.{IsAskedBy}
 use Rattle.pua_how.specs.Asking.{Asking}
 use Rattle.pua_how.specs.Served.{AreWay, asks_of}
-use Rattle.pua_how.specs.Ways.{IsWay}
 use Rattle.pua_how.specs.declared.line.WayLine.{WayLine}
 use Rattle.pua_how.specs.declared.target.Target.{Target}
 use Rattle.pua_texts.specs.EverHowLines.{AreToldWith, has_calls_with}
 use Rattle.pua_texts.specs.EverLines.{kind_of}
+use Rattle.pua_tool.specs.declared.script.Replay.{Replay}
 use Rattle.pua_tool.specs.RowColumns.{AreColumns, AreStepsTo, IsColumnAt}
 use Rattle.pua_tool.specs.EverHowTexts.{IsColumn, IsCount, asking_by, counts_text, is_now, lacking, subject_now, thing_word}
 
 -- ---- steps
 
--- lines that are a way in a world which stands for the one that the script left are so many steps
-pub steps_of : (rules : Rules) (done : Replayed) (process : ℕ) (things : List Target) (call : Call) (thing : Target) (before : WorldState) (lines : List WayLine) →
-    before.table ≡ done.table → StandsForWorld before done.world → Contains things thing → AreWay rules before process call thing lines →
-    AreStepsTo done process things call (length lines)
-steps_of rules done process things call thing before lines same stands meant way = record {
+-- lines that are a way in the world that the script left are so many steps
+pub steps_of : (rules : Rules) (replay : Replay) (process : ℕ) (things : List Target) (call : Call) (thing : Target) (lines : List WayLine) →
+    Contains things thing → AreWay rules replay.world process call thing lines → AreStepsTo (as_replayed replay) process things call (length lines)
+steps_of rules replay process things call thing lines meant way = record {
   thing = thing;
   meant = meant;
   asks = asks_of lines;
-  way = subst (λ table. IsWay table done.world process call thing (asks_of lines)) same (way.way done.world stands);
+  way = way.way;
   long = length-map lines (λ line. line.request);
 }
 
 -- so they are to what a path and a kind mean
-module _ (done : Replayed) (process : ℕ) (h : History) (asking : Asking) (kind : ObjectKind) (things : List Target)
+module _ (done : Replayed) (process : ℕ) (h : ProcessState) (asking : Asking) (kind : ObjectKind) (things : List Target)
     (asked : IsAskedBy done.world.tree h asking (Some kind) things) where
   pub count_is : (call : Call) (found : Option ℕ) → ((steps : ℕ) → found ≡ Some steps → AreStepsTo done process things call steps) →
       IsCount done process h asking kind (call, found)
@@ -80,7 +78,7 @@ both_pass p q (c ∷ cs) = by (p c) (both_pass p q cs)
     by true rest = ap (λ more. cond (q c) (c ∷ more) more) rest
 
 -- what is left of a line's calls without those of now are the calls that the list of now lacks
-pub lacking_is : (t : Tree) (table : CallTable) (h : History) (word : Word) (about : Thing) (line : given.EverLine) (left now : ℕ) →
+pub lacking_is : (t : Tree) (table : CallTable) (h : ProcessState) (word : Word) (about : Thing) (line : given.EverLine) (left now : ℕ) →
     ((call : Call) → has left call ≡ (has line.calls call && not (has now call))) →
     ((call : Call) → has now call ≡ is_now t table h (subject_now t (kind_of line.thing) word about) call) →
     calls_in left ≡ lacking t table h (kind_of line.thing) (line_with word about line)
@@ -97,7 +95,7 @@ kind_told t (Stands subject) (told.Comes kind) is = absurd is
 kind_told t (Comes new) (told.Stands kind) is = absurd is
 
 -- the column of one line
-module _ (done : Replayed) (process : ℕ) (h : History) (word : Word) (about : Thing) (line : given.EverLine)
+module _ (done : Replayed) (process : ℕ) (h : ProcessState) (word : Word) (about : Thing) (line : given.EverLine)
     (thing : IsThing done.world.tree about line.thing) where
   abbrev pub NowBy : Tree → CallTable → ℕ → Type 0
   NowBy t table now = (call : Call) → has now call ≡ is_now t table h (subject_now t (kind_of line.thing) word about) call
@@ -124,7 +122,7 @@ module _ (done : Replayed) (process : ℕ) (h : History) (word : Word) (about : 
 
 -- ---- rows, one after another
 
-module _ (done : Replayed) (process : ℕ) (h : History) where
+module _ (done : Replayed) (process : ℕ) (h : ProcessState) where
   columns_more : (before : Word) (rows : List EverRow) (texts : List (List ℕ)) (row : EverRow) (text : List ℕ) →
       AreColumns done process h before rows texts → IsColumnAt done process h (word_of_row (last_row_word before rows) row) row.line text →
       AreColumns done process h before (rows ++ row ∷ []) (texts ++ text ∷ [])
@@ -159,14 +157,14 @@ row_names rows row i within is before after at next =
 -- ---- lines with their columns
 
 -- lines of the definition, each with its column, which rows and texts tell
-pub record AreLinesWith (done : Replayed) (process : ℕ) (h : History) (before : Word) (rows : List EverRow) (texts : List (List ℕ))
+pub record AreLinesWith (done : Replayed) (process : ℕ) (h : ProcessState) (before : Word) (rows : List EverRow) (texts : List (List ℕ))
     (lines : List EverLine) : Type 0 where
   pub told : List (EverLine × List ℕ)
   pub are : AreToldWith done.world.tree before rows texts told
   pub lines_are : map (λ line. line.0) told ≡ lines
   pub columns : AllByRecursion (λ (line : EverLine × List ℕ). IsColumn done process h line.0 line.1) told
 
-module _ (done : Replayed) (process : ℕ) (h : History) where
+module _ (done : Replayed) (process : ℕ) (h : ProcessState) where
   first_lines : (b : Bool) (line : EverLine × List ℕ) (rest : List (EverLine × List ℕ)) →
       map (λ line. line.0) (cond b (line ∷ []) [] ++ rest) ≡ cond b (line.0 ∷ []) [] ++ map (λ line. line.0) rest
   first_lines true line rest = refl
@@ -221,7 +219,7 @@ of_thing t (Comes NewOthers) = (kind.Other, refl)
 of_thing t (Comes NewFile) = (kind.File, refl)
 of_thing t (Comes NewLink) = (kind.Link, refl)
 
-module _ (done : Replayed) (process : ℕ) (h : History) where
+module _ (done : Replayed) (process : ℕ) (h : ProcessState) where
   uncounted : (about : Asking) (kind : ObjectKind) (cs : List Call) →
       AllByRecursion (IsCount done process h about kind) (map (λ call. (call, None)) cs)
   uncounted about kind [] = tt

@@ -1,6 +1,6 @@
 -- The texts with reasons, step by step.
-use Rattle.pua_tool.proofs.Common.{◌≡◌, ℕ, List, ◌∷◌, ◌++◌, ◌∙◌, map, sym, subst, ap, Result, flat_map, Tree, listing, ◌>>=◌}
-use Rattle.pua_tool.proofs.Common.{CallTable, Asked, script_by, World, new_world, world_after, StandsForWorld, Chosen, as_listing}
+use Rattle.pua_tool.proofs.Common.{◌≡◌, ℕ, List, ◌∷◌, ◌++◌, ◌∙◌, map, sym, ap, Result, flat_map, Tree, listing, ◌>>=◌}
+use Rattle.pua_tool.proofs.Common.{CallTable, Asked, script_by, new_world, Chosen, as_listing}
 use Rattle.pua_tool.proofs.Common.{as_script, table_by, ToolFault}
 use Rattle.std.proofs.Common.{◌+◌, ◌<◌, ◌≤◌, get_or, drop, length, append-nil}
 use Rattle.std.proofs.Common.{append_assoc}
@@ -8,22 +8,15 @@ use Rattle.std.specs.Prelude.{Ok, Err}
 use Rattle.std.specs.Borrow.{Bor}
 use Rattle.std.proofs.lemmas.List.{drop_more}
 use Rattle.std.proofs.Math.ListN.{drop_of_length-le}
-use Rattle.pua_script.specs.Worlds.{WorldState}
 use Rattle.pua_script.specs.declared.fault.ScriptFault.{ScriptFault}
 use Rattle.pua_texts.specs.WhyLines.{Posed}
-use Rattle.pua_tool.specs.WhyTexts.{posed_script}
-use Rattle.pua_tool.proofs.Replays.{left_by_same}
+use Rattle.pua_script.specs.Scripts.{request_by}
+use Rattle.pua_tool.specs.WhyTexts.{as_request, chain_lines, posed_script, request_line, why_text}
 
 -- what is read of a script without a fault
 pub script_is : (read : Result (List Asked) ScriptFault) (asks : List Asked) → as_script read ≡ Ok asks → read ≡ Ok asks
 script_is (Ok others) asks is = let same : others ≡ asks = cc in ap Ok same
 script_is (Err fault) asks is = cc
-
--- a world that stands for what one table leaves of some requests stands for what the same table leaves of the same requests
-pub left_by_these : {state : WorldState} (a b : CallTable) (w : World) (asks others : List Asked) → a ≡ b → asks ≡ others →
-    StandsForWorld state (world_after a w asks) → StandsForWorld state (world_after b w others)
-left_by_these {state} a b w asks others same alike stands =
-    subst (λ (those : List Asked). StandsForWorld state (world_after b w those)) alike (left_by_same a b w asks same stands)
 
 module _ (choice : Chosen) (tree_bytes script_bytes : List ℕ) where
   abbrev posed_by : CallTable → Tree → List Asked → Posed
@@ -58,6 +51,13 @@ module _ (choice : Chosen) (tree_bytes script_bytes : List ℕ) where
       → posed_script choice tree_bytes script_bytes ≡ Err fault
   unfolding posed_script
   script_refuses table t fault b l s = λ i. b i >>= λ table. l i >>= λ t. asked table t (s i)
+
+  -- a request that is read is what is asked
+  pub asked_is : (process : ℕ) (fields : List (List ℕ)) (p : Posed) (ask : Asked) → posed_script choice tree_bytes script_bytes ≡ Ok p →
+      as_request (request_by choice.rules 1 (request_line process fields)) ≡ Ok ask →
+      why_text choice tree_bytes script_bytes process fields ≡ Ok (chain_lines choice.rules p ask)
+  unfolding why_text
+  asked_is process fields p ask posed read = λ i. posed i >>= λ p. read i >>= λ ask. Ok (chain_lines choice.rules p ask)
 
 -- what a line has still to come from a field on: a blank and the field, for each
 abbrev pub fields_left : List (Bor (List ℕ)) → ℕ → List ℕ

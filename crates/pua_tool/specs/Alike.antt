@@ -2,10 +2,10 @@
 use Rattle.std.specs.Prelude.{◌≡◌, List, Some, Ok}
 use Rattle.pua_tree.specs.Tree.{Tree}
 use Rattle.pua_calls.specs.Calls.{CallTable}
-use Rattle.pua_policy.specs.History.{History, ProcessState, StandsFor}
+use Rattle.pua_policy.specs.States.{ProcessState}
 use Rattle.pua_script.specs.Requests.{Asked}
 use Rattle.pua_script.specs.Replay.{new_world}
-use Rattle.pua_script.specs.Worlds.{WorldState, StandsForWorld, AreServed, process_at}
+use Rattle.pua_script.specs.Worlds.{WorldState, process_at, run_to, with_table}
 use Rattle.pua_script.specs.declared.answer.Answer.{Answer}
 use Rattle.pua_audit.specs.AuditState.{AuditState}
 use Rattle.pua_audit.specs.Begin.{Beginning, beginning, still_to_come}
@@ -13,11 +13,8 @@ use Rattle.pua_tool.specs.Texts.{Wanted}
 use Rattle.pua_texts.specs.Lines.{pair_lines}
 
 -- a script was served over a tree, by a world that was new and answers by this table
-pub record IsRunOver (rules : CallTable) (t : Tree) (asks : List Asked) (answers : List Answer) (after : WorldState) : Type 0 where
-  pub before : WorldState
-  pub new : StandsForWorld before (new_world t)
-  pub table : before.table ≡ rules
-  pub served : AreServed before asks answers after
+abbrev pub IsRunOver : CallTable → Tree → List Asked → List Answer → WorldState → Type 0
+IsRunOver rules t asks answers after = (answers, after) ≡ run_to (with_table rules (new_world t)) asks
 
 -- and then an audit of a process began, over the tree that was left
 pub record IsAuditedOver (rules : CallTable) (t : Tree) (asks : List Asked) (wanted : Wanted) (audit : AuditState) : Type 0 where
@@ -26,8 +23,9 @@ pub record IsAuditedOver (rules : CallTable) (t : Tree) (asks : List Asked) (wan
   pub run : IsRunOver rules t asks answers after
   pub process : ProcessState
   pub there : process_at after wanted.process ≡ Some process
-  pub begun : (h : History) → StandsFor process h → (b : Beginning) ×
-      (beginning after.tree rules h wanted.base wanted.candidates wanted.limit wanted.after ≡ Ok b) × (audit.left ≡ still_to_come b)
+  pub start : Beginning
+  pub begun : beginning after.tree rules process wanted.base wanted.candidates wanted.limit wanted.after ≡ Ok start
+  pub left : audit.left ≡ still_to_come start
   pub base : audit.base ≡ wanted.base
 
 -- over both trees the answers are the same, and so are the trees that are left

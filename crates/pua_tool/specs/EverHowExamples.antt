@@ -8,12 +8,12 @@ use Rattle.pua_objects.specs.Objects.{Others}
 use Rattle.pua_objects.specs.declared.kind.ObjectKind.{ObjectKind}
 use Rattle.pua_objects.specs.declared.kind.ObjectKind.TheVariants as kind
 use Rattle.pua_ever.specs.Ever.{EverLine, Stands, Comes, NewFile}
-use Rattle.pua_how.specs.Examples.{pid_history, pid_tree}
+use Rattle.pua_how.specs.Examples.{pid_now, pid_tree}
 use Rattle.pua_tool.specs.EverHowTexts.{counts_text, lacking}
 
 -- which calls of a line the list of now lacks, where `/etc/conf` may be read, and `/run/pid` read, written and replaced
 abbrev pub lacked : ObjectKind → EverLine → List Call
-lacked kind line = lacking pid_tree openbsd_table pid_history kind line
+lacked kind line = lacking pid_tree openbsd_table pid_now kind line
 
 abbrev pub line_at : List (List ℕ) → List Call → EverLine
 line_at word calls = record { word = word; thing = Stands (Others 0); calls = calls }

@@ -10,10 +10,10 @@ use Rattle.pua_path.specs.declared.found.Way.TheVariants.{Named, Top}
 use Rattle.pua_calls.specs.Calls.{CallTable, call_name}
 use Rattle.pua_calls.specs.declared.call.Call.{Call}
 use Rattle.pua_calls.specs.declared.rules.Rules.{Rules}
-use Rattle.pua_policy.specs.History.{History}
+use Rattle.pua_policy.specs.States.{ProcessState}
 use Rattle.pua_policy.specs.Verdict.{is_allowed}
 use Rattle.pua_script.specs.Requests.{Asked}
-use Rattle.pua_script.specs.Replay.{history_of}
+use Rattle.pua_script.specs.Replay.{kept_at}
 use Rattle.pua_audit.specs.Reach.{Word}
 use Rattle.pua_objects.specs.Lines.{kind_word}
 use Rattle.pua_objects.specs.Objects.{Subject, At, Others, is_named_by, subject_verdict, subject_word}
@@ -74,12 +74,12 @@ subject_now t kind word (Stands subject) = subject_at t kind word
 subject_now t kind word (Comes new) = None
 
 -- the list of now has the call on it
-abbrev pub is_now : Tree → CallTable → History → Option Subject → Call → Bool
+abbrev pub is_now : Tree → CallTable → ProcessState → Option Subject → Call → Bool
 is_now t table h None call = false
 is_now t table h (Some subject) call = is_named_by t call subject && is_allowed (subject_verdict t table h call subject)
 
 -- the calls of a line that the list of now lacks
-abbrev pub lacking : Tree → CallTable → History → ObjectKind → EverLine → List Call
+abbrev pub lacking : Tree → CallTable → ProcessState → ObjectKind → EverLine → List Call
 lacking t table h kind line = filter (λ call. not (is_now t table h (subject_now t kind line.word line.thing) call)) line.calls
 
 -- the path of a line, as a way is asked for by it
@@ -92,7 +92,7 @@ thing_word t (Stands subject) = subject_word t subject
 thing_word t (Comes new) = new_word new
 
 -- so many requests are a way to a call on what is meant by a path and a kind
-pub record IsWayOf (done : Replayed) (process : ℕ) (h : History) (asking : Asking) (kind : ObjectKind) (call : Call) (steps : ℕ) : Type 0
+pub record IsWayOf (done : Replayed) (process : ℕ) (h : ProcessState) (asking : Asking) (kind : ObjectKind) (call : Call) (steps : ℕ) : Type 0
   where
     pub last : ℕ
     pub above : IsLast done.world.tree last
@@ -103,7 +103,7 @@ pub record IsWayOf (done : Replayed) (process : ℕ) (h : History) (asking : Ask
     pub long : length asks ≡ steps
 
 -- a number of steps is that of a way; without one nothing is said
-abbrev pub IsCount : Replayed → ℕ → History → Asking → ObjectKind → Call × Option ℕ → Type 0
+abbrev pub IsCount : Replayed → ℕ → ProcessState → Asking → ObjectKind → Call × Option ℕ → Type 0
 IsCount done process h asking kind count = by count.1
   where
     by : Option ℕ → Type 0
@@ -125,7 +125,7 @@ counts_text mark (count ∷ more) = (mark ∷ count_text count) ++ counts_text 4
 
 -- what stands behind the calls of a line: those that the list of now lacks, in their order, each with the number of steps of a way to
 -- it on what the line's path and kind mean, behind a blank; and LF
-pub record IsColumn (done : Replayed) (process : ℕ) (h : History) (line : EverLine) (text : List ℕ) : Type 0 where
+pub record IsColumn (done : Replayed) (process : ℕ) (h : ProcessState) (line : EverLine) (text : List ℕ) : Type 0 where
   pub kind : ObjectKind
   pub told : kind_word kind ≡ thing_word done.world.tree line.thing
   pub counts : List (Call × Option ℕ)
@@ -134,7 +134,7 @@ pub record IsColumn (done : Replayed) (process : ℕ) (h : History) (line : Ever
   pub is : text ≡ with_end (counts_text 32 counts)
 
 -- the list for ever of a process, and behind the calls of each line its column
-pub record IsEverHowList (rules : Rules) (done : Replayed) (process : ℕ) (h : History) (text : List ℕ) : Type 0 where
+pub record IsEverHowList (rules : Rules) (done : Replayed) (process : ℕ) (h : ProcessState) (text : List ℕ) : Type 0 where
   pub lines : List (EverLine × List ℕ)
   pub are : map (λ line. line.0) lines ≡ ever_lasting done.world.tree done.table h
   pub columns : AllByRecursion (λ line. IsColumn done process h line.0 line.1) lines
@@ -143,9 +143,9 @@ pub record IsEverHowList (rules : Rules) (done : Replayed) (process : ℕ) (h : 
 -- the answers, and then such a list, or what refuses it: the process was never made, or there is a reason for none
 pub record IsEverHowAfter (rules : Rules) (done : Replayed) (process : ℕ) (answer : Result (List ℕ) ToolFault) : Type 0 where
   pub list : List ℕ
-  pub sound : (h : History) → history_of done.world process ≡ Some h → refusal done.table h ≡ None → IsEverHowList rules done process h list
+  pub sound : (h : ProcessState) → kept_at done.world process ≡ Some h → refusal done.table h ≡ None → IsEverHowList rules done process h list
   pub is : answer
-      ≡ (ok_or (history_of done.world process) NoProcess
+      ≡ (ok_or (kept_at done.world process) NoProcess
       >>= λ h. unless_reason process (refusal done.table h) (answer_lines 1 done.answers ++ list))
 
 -- the same of a script over a listing, by the table that is chosen, or the first fault: the table's, the listing's, or the script's

@@ -2,7 +2,7 @@
 use Rattle.std.specs.Prelude.{ℕ, List, ◌++◌, Option, Some, None, Result, Ok, Err, ok_or}
 use Rattle.pua_tree.specs.Steps.{◌>>=◌}
 use Rattle.pua_calls.specs.declared.rules.Rules.{Rules}
-use Rattle.pua_script.specs.Replay.{history_of}
+use Rattle.pua_script.specs.Replay.{kept_at}
 use Rattle.pua_ever.specs.Refusals.{refusal}
 use Rattle.pua_ever.specs.declared.refusal.Refusal.{Refusal}
 use Rattle.pua_ever.specs.declared.refusal.Refusal.TheVariants as refused
@@ -27,7 +27,7 @@ unless_reason process (Some reason) text = Err (ever_fault process reason)
 -- the answers, and then the list for ever of a process, or what refuses it: it was never made, or there is a reason for none
 abbrev pub ever_after : Rules → Replayed → ℕ → Result (List ℕ) ToolFault
 ever_after rules done process =
-    ok_or (history_of done.world process) NoProcess
+    ok_or (kept_at done.world process) NoProcess
     >>= λ h. unless_reason process (refusal done.table h)
     (answer_lines 1 done.answers ++ ever_list rules done.table done.world.tree process h)
 

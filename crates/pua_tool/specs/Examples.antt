@@ -1,14 +1,17 @@
 -- Worked examples of whole texts.
-use Rattle.std.specs.Prelude.{◌≡◌, ℕ, List, [], ◌∷◌, None, Some, Result, Ok, Err, codes, refl}
+use Rattle.std.specs.Prelude.{◌≡◌, ℕ, List, [], ◌∷◌, Option, None, Some, Result, Ok, Err, codes, refl}
 use Rattle.std.specs.Fmt.{digits}
 use Rattle.pua_tree.specs.Examples.{text_of_lines}
 use Rattle.pua_tree.specs.Steps.{◌>>=◌}
 use Rattle.pua_tree.specs.declared.fault.ListingFault.TheVariants.{BadLine}
 use Rattle.pua_path.specs.Traces.{trace_from}
+use Rattle.pua_calls.specs.declared.call.Call.TheVariants.{OpenRead}
 use Rattle.pua_calls.specs.declared.rules.Rules.TheVariants.{Openbsd}
 use Rattle.pua_script.specs.declared.fault.ScriptFault.TheVariants.{BadCall}
 use Rattle.pua_audit.specs.declared.base.Base.TheVariants.{Root, Cwd}
 use Rattle.pua_audit.specs.declared.fault.AuditFault.TheVariants.{BadResume}
+use Rattle.pua_objects.specs.declared.kind.ObjectKind.{ObjectKind}
+use Rattle.pua_objects.specs.declared.kind.ObjectKind.TheVariants as kind
 use Rattle.pua_why.specs.Texts.{promises_text}
 use Rattle.pua_words.specs.declared.command.Members.TheVariants as members
 use Rattle.pua_words.specs.declared.command.Processes.TheVariants.{One, All}
@@ -21,6 +24,7 @@ use Rattle.pua_tool.specs.WhyTexts.{objects_why_text, posed_script, run_why_text
 use Rattle.pua_tool.specs.TightTexts.{tight_text, tight_why_text, words_by}
 use Rattle.pua_tool.specs.declared.fault.ToolFault.{ToolFault}
 use Rattle.pua_tool.specs.declared.fault.ToolFault.TheVariants.{Listing, Script, NoProcess, Audit, CanUnveil, OtherVeils, HowCall, HowPath, HowThing}
+use Rattle.pua_tool.specs.declared.fault.ToolFault.TheVariants.{HowLink}
 
 abbrev pub root_listing : List ℕ
 root_listing = text_of_lines (codes "tree 1" ∷ codes "0 dir" ∷ [])
@@ -246,11 +250,14 @@ unfolding digits trace_from promises_text posed_script why_text objects_why_text
 reason_text_rows = record { run_by_openbsd = refl; another_process = refl; dated_veils = refl }
 
 -- what is said where no way is found, and what refuses the question
-abbrev pub without_way : List ℕ → List ℕ → List ℕ → List ℕ → Result (List ℕ) ToolFault
-without_way tree_bytes script_bytes call path =
+abbrev pub without_way_of : Option ObjectKind → List ℕ → List ℕ → List ℕ → List ℕ → Result (List ℕ) ToolFault
+without_way_of kind tree_bytes script_bytes call path =
     replay_of by_standard tree_bytes script_bytes
-    >>= λ done. question_of done (record { process = 1; call = call; path = path; kind = None }) 0
+    >>= λ done. question_of done (record { process = 1; call = call; path = path; kind = kind }) 0
     >>= λ q. Ok (way_text done q None)
+
+abbrev pub without_way : List ℕ → List ℕ → List ℕ → List ℕ → Result (List ℕ) ToolFault
+without_way = without_way_of None
 
 pub record HowTextRows : Type 0 where
   pub never : without_way root_listing locking (codes "stat") (codes "/") ≡ Ok (text_of_lines (codes "never" ∷ []))
@@ -259,7 +266,11 @@ pub record HowTextRows : Type 0 where
   pub bad_call : without_way root_listing locking (codes "rename") (codes "/..") ≡ Err HowCall
   pub bad_path : without_way root_listing locking (codes "stat") (codes "/..") ≡ Err HowPath
   pub no_thing : without_way root_listing locking (codes "stat") (codes "/a/b") ≡ Err HowThing
+  pub link : without_way link_and_file locking (codes "open-r") (codes "/a") ≡ Err (HowLink OpenRead)
+  pub kept_link : without_way link_and_file locking (codes "readlink") (codes "/a") ≡ Ok (text_of_lines (codes "never" ∷ []))
+  pub new_link : without_way_of (Some kind.Link) root_listing locking (codes "open-r") (codes "new") ≡ Err (HowLink OpenRead)
+  pub new_things : without_way root_listing locking (codes "open-r") (codes "new") ≡ Ok (text_of_lines (codes "never" ∷ []))
 
 pub how_text_rows : HowTextRows
 unfolding replay_of
-how_text_rows = record { never = refl; unfound = refl; can_unveil = refl; bad_call = refl; bad_path = refl; no_thing = refl }
+how_text_rows = record { never = refl; unfound = refl; can_unveil = refl; bad_call = refl; bad_path = refl; no_thing = refl; link = refl; kept_link = refl; new_link = refl; new_things = refl }

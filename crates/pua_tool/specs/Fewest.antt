@@ -6,11 +6,11 @@ use Rattle.pua_tree.specs.Listing.{listing}
 use Rattle.pua_calls.specs.Calls.{CallTable}
 use Rattle.pua_calls.specs.declared.call.Call.{Call}
 use Rattle.pua_calls.specs.declared.rules.Rules.TheVariants.{Profile}
-use Rattle.pua_policy.specs.History.{History, is_ended}
+use Rattle.pua_policy.specs.States.{ProcessState, is_ended}
 use Rattle.pua_policy.specs.Verdict.{verdict_on, is_allowed}
 use Rattle.pua_script.specs.Requests.{Asked}
 use Rattle.pua_script.specs.Scripts.{script_by}
-use Rattle.pua_script.specs.Replay.{World, new_world, history_of, answers_to, world_after}
+use Rattle.pua_script.specs.Replay.{World, new_world, kept_at, answers_to, world_after}
 use Rattle.pua_script.specs.declared.answer.Answer.TheVariants.{Okay}
 use Rattle.pua_objects.specs.Objects.{Line, objects}
 use Rattle.pua_ever.specs.Ever.{EverLine, ever}
@@ -25,7 +25,7 @@ use Rattle.pua_tool.specs.TightTexts.{tight_text}
 -- a process has ended where another has, and whatever is allowed to it is allowed to the other: over each tree each call on each
 -- path, and of its list of objects and of its lists for ever each line with all of its calls; of the one that is printed unless what
 -- it starts is bounded and what the other one starts is not
-pub record MayDoNoMore (table : CallTable) (less given : History) : Type 0 where
+pub record MayDoNoMore (table : CallTable) (less given : ProcessState) : Type 0 where
   pub ended : is_ended less ≡ is_ended given
   pub calls : (t : Tree) (call : Call) (text : List ℕ) → IsTrue (is_allowed (verdict_on t table less call text)) →
       IsTrue (is_allowed (verdict_on t table given call text))
@@ -37,8 +37,8 @@ pub record MayDoNoMore (table : CallTable) (less given : History) : Type 0 where
 -- one tree, and the same processes, each of which may do no more
 pub record LeavesNoMore (table : CallTable) (less given : World) : Type 0 where
   pub tree : less.tree ≡ given.tree
-  pub made : (process : ℕ) → is_some (history_of less process) ≡ is_some (history_of given process)
-  pub processes : (process : ℕ) (h k : History) → history_of less process ≡ Some h → history_of given process ≡ Some k →
+  pub made : (process : ℕ) → is_some (kept_at less process) ≡ is_some (kept_at given process)
+  pub processes : (process : ℕ) (h k : ProcessState) → kept_at less process ≡ Some h → kept_at given process ≡ Some k →
       MayDoNoMore table h k
 
 pub record IsTightWritten (choice : Chosen) (tree_bytes script_bytes : List ℕ) (table : CallTable) (t : Tree) (given : List Asked)

@@ -1,38 +1,45 @@
 -- What the list for ever that a command writes says of the future.
-use Rattle.std.specs.Prelude.{◌≡◌, ◌≢◌, ◌⊎◌, ℕ, true, List, [], ◌∷◌, ◌++◌, None, Some, Ok, IsTrue}
+use Rattle.std.specs.Prelude.{◌≡◌, ◌≢◌, ◌⊎◌, ℕ, true, List, [], ◌∷◌, ◌++◌, Some, Ok, IsTrue}
 use Rattle.pua_tree.specs.Tree.{Tree}
 use Rattle.pua_tree.specs.Listing.{listing}
 use Rattle.pua_calls.specs.Calls.{CallTable}
 use Rattle.pua_calls.specs.declared.rules.Rules.{Rules}
-use Rattle.pua_policy.specs.History.{History, is_ended}
+use Rattle.pua_policy.specs.States.{ProcessState, is_ended}
 use Rattle.pua_script.specs.Requests.{Asked}
 use Rattle.pua_script.specs.Scripts.{script_by}
-use Rattle.pua_script.specs.Replay.{World, new_world, history_of, answers_to, world_after}
+use Rattle.pua_script.specs.Replay.{World, new_world, kept_at, answers_to, world_after}
 use Rattle.pua_script.specs.Bytes.{are_in_bytes}
-use Rattle.pua_script.specs.Family.{family, is_member, is_exec, none_done, HasHistoryOf}
+use Rattle.pua_script.specs.Family.{family, is_member, is_exec, none_done, HasKept}
+use Rattle.std.specs.List.{Contains}
+use Rattle.pua_ever.specs.Ever.{EverLine, ever_line_text}
 use Rattle.pua_ever.specs.Laws.{ForeseesIn, MembersEdit}
-use Rattle.pua_ever.specs.Through.{bound_of, ever_lasting}
+use Rattle.pua_ever.specs.Through.{ever_lasting, execs_of}
+use Rattle.pua_ever.specs.declared.lasting_list.ExecBound.TheVariants.{Open}
 use Rattle.pua_texts.specs.Lines.{answer_lines}
 use Rattle.pua_texts.specs.EverLines.{ever_list}
+use Rattle.pua_tool.specs.Listed.{HasLine}
 use Rattle.pua_tool.specs.Texts.{Chosen, table_by}
 use Rattle.pua_tool.specs.EverTexts.{ever_text}
 
--- whatever is asked behind a world, in bytes, as long as nobody but a process and its family changes the tree, and all that they
--- start is bounded or no exec of a member is answered ok: each call that is then allowed to a member has its line
-abbrev pub IsForeseenBehind : CallTable → World → ℕ → History → Type 0
+-- whatever is asked behind a world, in bytes, as long as nobody but a process and its family changes the tree, and the list doesn't
+-- say `exec open` or no exec of a member is answered ok: each call that is then allowed to a member has its line
+abbrev pub IsForeseenBehind : CallTable → World → ℕ → ProcessState → Type 0
 IsForeseenBehind table w process now = (asks : List Asked) → IsTrue (are_in_bytes asks) →
-    (bound_of table now ≢ None) ⊎ IsTrue (none_done is_exec table w asks (process ∷ [])) → MembersEdit table w asks (process ∷ []) →
+    (execs_of w.tree table now ≢ Open) ⊎ IsTrue (none_done is_exec table w asks (process ∷ [])) → MembersEdit table w asks (process ∷ []) →
     (member : ℕ) → IsTrue (is_member (family table w asks (process ∷ [])) member) →
     let after = world_after table w asks in
-    HasHistoryOf after member (ForeseesIn (ever_lasting w.tree table now) w.tree table now after.tree)
+    HasKept after member (ForeseesIn (ever_lasting w.tree table now) w.tree table now after.tree)
 
 -- the text is the answers and the list of the process, and the list is complete; or the process has ended
 pub record IsEverWritten (rules : Rules) (table : CallTable) (t : Tree) (first : List Asked) (process : ℕ) (text : List ℕ) : Type 0 where
-  pub now : History
-  pub here : history_of (world_after table (new_world t) first) process ≡ Some now
+  pub now : ProcessState
+  pub here : kept_at (world_after table (new_world t) first) process ≡ Some now
   pub is_text : text ≡ answer_lines 1 (answers_to table (new_world t) first)
       ++ ever_list rules table (world_after table (new_world t) first).tree process now
   pub complete : IsForeseenBehind table (world_after table (new_world t) first) process now ⊎ (is_ended now ≡ true)
+  -- and each line of it stands in the text
+  pub printed : (line : EverLine) → Contains (ever_lasting (world_after table (new_world t) first).tree table now) line →
+      HasLine text (ever_line_text (world_after table (new_world t) first).tree line)
 
 abbrev pub EverAsWritten : Type 0
 EverAsWritten = (choice : Chosen) (tree_bytes script_bytes : List ℕ) (table : CallTable) (t : Tree) (first : List Asked)

@@ -1,15 +1,17 @@
 -- The text of a way, and what refuses it. Which way is found is in no contract: what is, is that it is one, and when none is looked
 -- for.
-use Rattle.std.specs.Prelude.{◌≡◌, ⊤, ℕ, Bool, true, false, List, [], ◌∷◌, map, flat_map, Option, Some, None, Result, Ok, Err, ok_or, codes}
+use Rattle.std.specs.Prelude.{◌≡◌, ⊤, ℕ, Bool, true, false, ◌&&◌, not, List, [], ◌∷◌, map, flat_map, Option, Some, None, Result, Ok, Err, ok_or, codes}
 use Rattle.std.specs.List.{Contains, list_any}
 use Rattle.pua_tree.specs.Steps.{◌>>=◌}
-use Rattle.pua_tree.specs.Tree.{Tree}
+use Rattle.pua_tree.specs.Tree.{Tree, kind_at}
+use Rattle.pua_path.specs.Fits.{is_link_kind}
 use Rattle.pua_calls.specs.Calls.{call_in}
+use Rattle.pua_calls.specs.CallSets.{keeps_link}
 use Rattle.pua_calls.specs.declared.call.Call.{Call}
 use Rattle.pua_calls.specs.declared.rules.Rules.{Rules}
-use Rattle.pua_policy.specs.History.{History}
+use Rattle.pua_policy.specs.States.{ProcessState}
 use Rattle.pua_script.specs.Requests.{Asked}
-use Rattle.pua_script.specs.Replay.{history_of}
+use Rattle.pua_script.specs.Replay.{kept_at}
 use Rattle.pua_script.specs.Scripts.{request_by}
 use Rattle.pua_objects.specs.declared.kind.ObjectKind.{ObjectKind}
 use Rattle.pua_ever.specs.Refusals.{refusal}
@@ -21,11 +23,12 @@ use Rattle.pua_how.specs.Asking.{asking_of, targets_of}
 use Rattle.pua_how.specs.Targets.{IsLast, is_listed}
 use Rattle.pua_how.specs.Ways.{IsWay}
 use Rattle.pua_how.specs.declared.target.Target.{Target}
+use Rattle.pua_how.specs.declared.target.Target.TheVariants.{Node, NewLink}
 use Rattle.pua_texts.specs.Lines.{with_end}
 use Rattle.pua_tool.specs.EverTexts.{ever_fault}
 use Rattle.pua_tool.specs.Texts.{Chosen, Replayed, replay_of}
 use Rattle.pua_tool.specs.declared.fault.ToolFault.{ToolFault}
-use Rattle.pua_tool.specs.declared.fault.ToolFault.TheVariants.{NoProcess, HowCall, HowPath, HowThing}
+use Rattle.pua_tool.specs.declared.fault.ToolFault.TheVariants.{NoProcess, HowCall, HowPath, HowThing, HowLink}
 use Rattle.pua_words.specs.declared.command.HowWords.{HowWords}
 
 -- what a way is asked for: of which process, by which call, to what, and of which kind that is
@@ -38,9 +41,9 @@ pub record HowWanted : Type 0 where
 abbrev pub way_wanted : HowWords → HowWanted
 way_wanted words = record { process = words.process; call = words.call.now; path = words.path.now; kind = words.kind }
 
--- what is asked about behind a script: the history of the process, the call, and all that may be meant
+-- what is asked about behind a script: what the process keeps, the call, and all that may be meant
 pub record Question : Type 0 where
-  pub history : History
+  pub process : ProcessState
   pub call : Call
   pub things : List Target
 
@@ -56,23 +59,39 @@ some_thing (thing ∷ more) = Ok (thing ∷ more)
 
 -- all that may be meant in a tree, by the last number of the nodes that live there, or a fault: a path that no list prints, or one by
 -- which nothing is meant
-abbrev pub things_asked : Tree → History → HowWanted → ℕ → Result (List Target) ToolFault
+abbrev pub things_asked : Tree → ProcessState → HowWanted → ℕ → Result (List Target) ToolFault
 things_asked t h wanted last =
     ok_or (asking_of wanted.path) HowPath >>= λ asking. some_thing (targets_of t h last asking wanted.kind)
 
+-- a link is meant: one that stands there, whatever else its name may mean, or only such as can be made
+abbrev pub is_link_meant : Tree → List Target → Bool
+is_link_meant t (Node node ∷ more) = is_link_kind (kind_at t node)
+is_link_meant t (NewLink last ∷ more) = true
+is_link_meant t _ = false
+
+-- a link is meant, and the call is on what a link leads to, never on the link
+abbrev pub follows_link : Tree → Call → List Target → Bool
+follows_link t call things = not (keeps_link call) && is_link_meant t things
+
+-- that the call is on what is meant, and not on what a link leads to
+abbrev pub unless_followed : Call → Bool → Result (Unit {0}) ToolFault
+unless_followed call true = Err (HowLink call)
+unless_followed call false = Ok tt
+
 -- the question behind a script, or the first fault: a process never made, a reason against its list for ever, a call that the
--- table doesn't have, or that of the path
+-- table doesn't have, that of the path, or a link that the call follows
 abbrev pub question_of : Replayed → HowWanted → ℕ → Result Question ToolFault
 question_of done wanted last = do
-  h ← ok_or (history_of done.world wanted.process) NoProcess
+  h ← ok_or (kept_at done.world wanted.process) NoProcess
   unrefused ← unless_refused wanted.process (refusal done.table h)
   call ← ok_or (call_in done.table wanted.call) HowCall
   things ← things_asked done.world.tree h wanted last
-  Ok (record { history = h; call = call; things = things })
+  unfollowed ← unless_followed call (follows_link done.world.tree call things)
+  Ok (record { process = h; call = call; things = things })
 
 -- whether a line of the list for ever about it has the call
 abbrev pub may_come : Replayed → Question → Bool
-may_come done q = list_any (λ thing. is_listed (ever_lasting done.world.tree done.table q.history) thing q.call) q.things
+may_come done q = list_any (λ thing. is_listed (ever_lasting done.world.tree done.table q.process) thing q.call) q.things
 
 -- what is said where there is no way: none is looked for where no line has the call, which may change once a program is started
 abbrev pub told_without : Bool → ExecBound → List ℕ
@@ -83,7 +102,7 @@ told_without false _ = codes "never"
 -- the lines of a way, or what is said without one
 abbrev pub way_text : Replayed → Question → Option (List (List ℕ)) → List ℕ
 way_text done q (Some lines) = flat_map with_end lines
-way_text done q None = with_end (told_without (may_come done q) (execs_of done.world.tree done.table q.history))
+way_text done q None = with_end (told_without (may_come done q) (execs_of done.world.tree done.table q.process))
 
 -- lines of a script that is read by rules, which are a way to the call on something that is meant, and this is the last number of
 -- the nodes that live

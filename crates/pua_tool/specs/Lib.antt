@@ -14,8 +14,10 @@ pub mod Performed
 -- What is proved of these.
 pub mod Futures
 pub mod Alike
+pub mod Listed
 pub mod Forever
 pub mod Fewest
+pub mod Headline
 -- Worked rows, which hold by computation.
 pub mod Examples
 pub mod EverHowExamples

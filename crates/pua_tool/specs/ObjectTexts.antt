@@ -1,9 +1,12 @@
 -- The text of the lists of processes, and what refuses it.
-use Rattle.std.specs.Prelude.{ℕ, List, [], ◌∷◌, ◌++◌, map, option_map, Result, Ok, ok_or}
+use Rattle.std.specs.Prelude.{ℕ, List, [], ◌∷◌, ◌++◌, option_map, Result, Ok, ok_or}
+use Rattle.std.specs.FinMap.{put}
+use Rattle.std.specs.Map.{keys_of}
+use Rattle.std.specs.Ordering.{nat_cmp}
 use Rattle.pua_tree.specs.Steps.{◌>>=◌}
 use Rattle.pua_calls.specs.Calls.{CallTable}
 use Rattle.pua_calls.specs.declared.rules.Rules.{Rules}
-use Rattle.pua_script.specs.Replay.{World, history_of}
+use Rattle.pua_script.specs.Replay.{World, kept_at}
 use Rattle.pua_script.specs.declared.answer.Answer.{Answer}
 use Rattle.pua_words.specs.declared.command.Processes.{Processes}
 use Rattle.pua_words.specs.declared.command.Processes.TheVariants.{One, All}
@@ -13,10 +16,19 @@ use Rattle.pua_tool.specs.declared.fault.ToolFault.{ToolFault}
 use Rattle.pua_tool.specs.declared.fault.ToolFault.TheVariants.{NoProcess}
 use Rattle.pua_texts.specs.ObjectLines.{lists_of}
 
--- the number that is asked for, if it was made; or those of all processes that were ever made, in ascending order
+-- entries in the order of their numbers
+abbrev pub in_order : {X : Type 0} → List (ℕ × X) → List (ℕ × X)
+in_order [] = []
+in_order (made ∷ more) = put nat_cmp made.0 made.1 (in_order more)
+
+-- the numbers of all processes that were ever made, in ascending order
+abbrev pub numbers_of : World → List ℕ
+numbers_of w = keys_of (in_order w.processes)
+
+-- the number that is asked for, if it was made; or those of all
 abbrev pub numbers_asked : World → Processes → Result (List ℕ) ToolFault
-numbers_asked w (One process) = ok_or (option_map (λ h. process ∷ []) (history_of w process)) NoProcess
-numbers_asked w All = Ok (map (λ made. made.0) w.histories)
+numbers_asked w (One process) = ok_or (option_map (λ h. process ∷ []) (kept_at w process)) NoProcess
+numbers_asked w All = Ok (numbers_of w)
 
 -- the answers, and then the lists
 abbrev pub objects_after : Rules → CallTable → List Answer → World → List ℕ → List ℕ

@@ -4,6 +4,7 @@ use Rattle.std.specs.Borrow.{Bor}
 use Rattle.std.specs.Io.KnownBytes.{Keeps}
 use Rattle.pua_words.specs.Commands.{AsksSoundly}
 use Rattle.pua_words.specs.Usages.{AsksAbout}
+use Rattle.pua_words.specs.Plain.{IsMeantBy}
 use Rattle.pua_words.specs.declared.command.Command.{Command}
 use Rattle.pua_words.specs.declared.command.Text.{Text}
 use Rattle.pua_words.specs.declared.command.Text.TheVariants.{Run, RunWhy, Why, Audit, Objects, ObjectsWhy, Ever, EverHow, Together}
@@ -134,23 +135,28 @@ IsStopped held command (Usage line) old new before after = ⊥
 IsStopped held command (Unreadable name) old new before after = Lacks held command name.now × (new ≡ old)
 IsStopped held command (Tool fault) old new before after = IsUnwritten held command fault old new before after
 
+-- words ask for a command: its numbers are those of processes, and of words in a plain form it is the one that they name
+pub record IsAskedBy (words : List (List ℕ)) (command : Command) : Type 0 where
+  pub sound : AsksSoundly command.text
+  pub meant : IsMeantBy words command
+
 -- what words that are done have written: the whole text of a command or, where one of the words asks for that, a text of
 -- some bytes about the program
 abbrev pub HasAnswered : List (List ℕ) → Held → Option (List ℕ) → Option (List ℕ) → Type 0
-HasAnswered words held old new = ((command : Command) × AsksSoundly command.text × IsDone held command old new)
+HasAnswered words held old new = ((command : Command) × IsAskedBy words command × IsDone held command old new)
     ⊎ (AsksAbout words × ((text : List ℕ) × (0 < length text) × Adds text old new))
 
 -- why words ended with a device's status: a command's input is missing and nothing was written, or a put failed and a
 -- front of a command's text was written, or of one about the program where one of the words asks for that
 abbrev pub HasHalted : List (List ℕ) → Held → Option (List ℕ) → Option (List ℕ) → ℕ → ℕ → Type 0
 HasHalted words held old new before after =
-    ((command : Command) × AsksSoundly command.text ×
+    ((command : Command) × IsAskedBy words command ×
     ((LacksInput held command × (new ≡ old)) ⊎ IsCutShort held command old new before after))
     ⊎ (AsksAbout words × ((text : List ℕ) × AddsFront text old new × HasFailed before after))
 
 -- the same after the output was handed on, or could not be: where nothing was written, known bytes stay, and a front may be the whole text
 abbrev pub HasEnded : List (List ℕ) → Held → Option (List ℕ) → Option (List ℕ) → ℕ → ℕ → Type 0
 HasEnded words held old new before after =
-    ((command : Command) × AsksSoundly command.text ×
+    ((command : Command) × IsAskedBy words command ×
     ((LacksInput held command × Keeps old new) ⊎ IsCutShort held command old new before after))
     ⊎ (AsksAbout words × ((text : List ℕ) × AddsFront text old new × HasFailed before after))

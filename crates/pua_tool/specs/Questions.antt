@@ -3,7 +3,7 @@ use Rattle.std.specs.Prelude.{◌≡◌, ℕ, List, map, flat_map, Option, Some,
 use Rattle.std.specs.List.{AllByRecursion, Contains}
 use Rattle.pua_tree.specs.Tree.{Tree}
 use Rattle.pua_calls.specs.declared.rules.Rules.{Rules}
-use Rattle.pua_policy.specs.History.{History}
+use Rattle.pua_policy.specs.States.{ProcessState}
 use Rattle.pua_how.specs.Outlooks.{IsOutlook}
 use Rattle.pua_how.specs.declared.outlook.Outlook.{Outlook}
 use Rattle.pua_how.specs.Served.{IsLine, asks_of}
@@ -20,9 +20,9 @@ use Rattle.pua_tool.specs.declared.how.Question as given
 pub record IsQuestion (done : Replayed) (wanted : HowWanted) (q : given.Question) : Type 0 where
   pub last : ℕ
   pub above : IsLast done.world.tree last
-  pub history : History
-  pub asked : question_of done wanted last ≡ Ok (record { history = history; call = q.call; things = q.meant.targets.items })
-  pub outlook : IsOutlook done.world.tree done.table history q.meant.targets.items q.call q.outlook
+  pub process : ProcessState
+  pub asked : question_of done wanted last ≡ Ok (record { process = process; call = q.call; things = q.meant.targets.items })
+  pub outlook : IsOutlook done.world.tree done.table process q.meant.targets.items q.call q.outlook
 
 -- lines of a process, which rules read, that are a way to one of some things
 pub record AreWayTo (rules : Rules) (done : Replayed) (process : ℕ) (q : given.Question) (lines : List WayLine) : Type 0 where
@@ -32,7 +32,7 @@ pub record AreWayTo (rules : Rules) (done : Replayed) (process : ℕ) (q : given
   pub way : IsWay done.table done.world process q.call thing (asks_of lines)
 
 -- all that may be meant in a tree
-pub record AreMeant (t : Tree) (h : History) (wanted : HowWanted) (things : List Target) : Type 0 where
+pub record AreMeant (t : Tree) (h : ProcessState) (wanted : HowWanted) (things : List Target) : Type 0 where
   pub last : ℕ
   pub above : IsLast t last
   pub are : things_asked t h wanted last ≡ Ok things

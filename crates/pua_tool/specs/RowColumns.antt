@@ -5,7 +5,7 @@ use Rattle.pua_calls.specs.declared.call.Call.{Call}
 use Rattle.pua_script.specs.Requests.{Asked}
 use Rattle.pua_how.specs.Ways.{IsWay}
 use Rattle.pua_how.specs.declared.target.Target.{Target}
-use Rattle.pua_policy.specs.History.{History, ProcessState, StandsFor}
+use Rattle.pua_policy.specs.States.{ProcessState}
 use Rattle.pua_audit.specs.Reach.{Word}
 use Rattle.pua_objects.specs.Objects.{Subject, At, Others}
 use Rattle.pua_path.specs.declared.found.Found.{Found}
@@ -16,7 +16,7 @@ use Rattle.pua_ever.specs.EverLines.{IsThing, line_with}
 use Rattle.pua_ever.specs.EverList.{word_of_row}
 use Rattle.pua_ever.specs.declared.line.EverLine.{EverLine}
 use Rattle.pua_ever.specs.declared.list.EverRow.{EverRow}
-use Rattle.pua_tool.specs.Begun.{IsReplay}
+use Rattle.pua_tool.specs.Begun.{as_replayed}
 use Rattle.pua_tool.specs.EverHowTexts.{IsColumn}
 use Rattle.pua_tool.specs.Texts.{Replayed, choice_of, replay_of}
 use Rattle.pua_tool.specs.declared.columns.Behind.{Behind}
@@ -31,11 +31,13 @@ found_for (Others dir) = Whole dir Top
 abbrev pub served_by : Behind → Result Replayed ToolFault
 served_by behind = replay_of (choice_of behind.table) behind.tree_bytes.now behind.script_bytes.now
 
--- the script was served, and the process has this history behind it
-pub record IsBehind (behind : Behind) (process : ProcessState) (done : Replayed) (h : History) : Type 0 where
-  pub served : served_by behind ≡ Ok done
-  pub replay : IsReplay behind.replay.now done
-  pub history : StandsFor process h
+-- what it left when it was served before
+abbrev pub done_behind : Behind → Replayed
+done_behind behind = as_replayed behind.replay.now
+
+-- which is the same
+abbrev pub IsBehind : Behind → Type 0
+IsBehind behind = served_by behind ≡ Ok (done_behind behind)
 
 -- so many requests are a way to a call on one of some things
 pub record AreStepsTo (done : Replayed) (process : ℕ) (things : List Target) (call : Call) (steps : ℕ) : Type 0 where
@@ -46,12 +48,12 @@ pub record AreStepsTo (done : Replayed) (process : ℕ) (things : List Target) (
   pub long : length asks ≡ steps
 
 -- a text is the column of a line of the code, at these names
-abbrev pub IsColumnAt : Replayed → ℕ → History → Word → EverLine → List ℕ → Type 0
+abbrev pub IsColumnAt : Replayed → ℕ → ProcessState → Word → EverLine → List ℕ → Type 0
 IsColumnAt done process h word line text =
     (about : Thing) → IsThing done.world.tree about line.thing → IsColumn done process h (line_with word about line) text
 
 -- texts are the columns of rows, by the names that lead to the row before
-abbrev pub AreColumns : Replayed → ℕ → History → Word → List EverRow → List (List ℕ) → Type 0
+abbrev pub AreColumns : Replayed → ℕ → ProcessState → Word → List EverRow → List (List ℕ) → Type 0
 AreColumns done process h before [] [] = ⊤
 AreColumns done process h before (row ∷ rows) (text ∷ texts) =
     IsColumnAt done process h (word_of_row before row) row.line text

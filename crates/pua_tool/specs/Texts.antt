@@ -10,10 +10,10 @@ use Rattle.pua_calls.specs.TableTexts.{table_over}
 use Rattle.pua_calls.specs.declared.rules.Rules.{Rules}
 use Rattle.pua_calls.specs.declared.rules.Rules.TheVariants.{Profile}
 use Rattle.pua_calls.specs.declared.table.read.TableFault.{TableFault}
-use Rattle.pua_policy.specs.History.{History}
+use Rattle.pua_policy.specs.States.{ProcessState}
 use Rattle.pua_script.specs.Requests.{Asked}
 use Rattle.pua_script.specs.Scripts.{script_by}
-use Rattle.pua_script.specs.Replay.{World, new_world, history_of, answers_to, world_after}
+use Rattle.pua_script.specs.Replay.{World, new_world, kept_at, answers_to, world_after}
 use Rattle.pua_script.specs.declared.answer.Answer.{Answer}
 use Rattle.pua_script.specs.declared.fault.ScriptFault.{ScriptFault}
 use Rattle.pua_audit.specs.Begin.{Beginning, beginning, still_to_come}
@@ -122,8 +122,8 @@ run_text choice tree_bytes script_bytes = do
   done ← replay_of choice tree_bytes script_bytes
   Ok (answer_lines 1 done.answers)
 
--- where the audit begins that is asked for, of a process with this history over a tree
-abbrev pub beginning_of : Tree → CallTable → History → Wanted → Result Beginning AuditFault
+-- where the audit begins that is asked for, of a process over a tree
+abbrev pub beginning_of : Tree → CallTable → ProcessState → Wanted → Result Beginning AuditFault
 beginning_of t table h wanted = beginning t table h wanted.base wanted.candidates wanted.limit wanted.after
 
 -- the front, and a line for each pair that is still to come
@@ -133,7 +133,7 @@ pairs_after wanted answers b = front_of wanted.after wanted.process answers ++ p
 -- the audit of a process where a replay ends, or why there is none: a process never made, or what no audit begins with
 abbrev pub audit_after : Replayed → Wanted → Result (List ℕ) ToolFault
 audit_after done wanted =
-    ok_or (history_of done.world wanted.process) NoProcess
+    ok_or (kept_at done.world wanted.process) NoProcess
     >>= λ h. as_audit (beginning_of done.world.tree done.table h wanted)
     >>= λ b. Ok (pairs_after wanted done.answers b)
 

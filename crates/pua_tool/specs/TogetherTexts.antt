@@ -4,9 +4,9 @@ use Rattle.std.specs.Prelude.{Result, Ok, Err, ok_or}
 use Rattle.pua_tree.specs.Steps.{◌>>=◌}
 use Rattle.pua_calls.specs.Calls.{CallTable}
 use Rattle.pua_calls.specs.declared.rules.Rules.{Rules}
-use Rattle.pua_policy.specs.History.{History, perms_kept, veils}
+use Rattle.pua_policy.specs.States.{ProcessState, perms_kept, veils}
 use Rattle.pua_policy.specs.declared.place.Place.{Place}
-use Rattle.pua_script.specs.Replay.{World, history_of}
+use Rattle.pua_script.specs.Replay.{World, kept_at}
 use Rattle.pua_ever.specs.Refusals.{refusal}
 use Rattle.pua_ever.specs.declared.refusal.Refusal.{Refusal}
 use Rattle.pua_words.specs.declared.command.Members.{Members}
@@ -15,18 +15,19 @@ use Rattle.pua_texts.specs.Lines.{answer_lines}
 use Rattle.pua_texts.specs.TogetherLines.{living, together_list}
 use Rattle.pua_tool.specs.Texts.{Chosen, Replayed, replay_of}
 use Rattle.pua_tool.specs.EverTexts.{ever_fault}
+use Rattle.pua_tool.specs.ObjectTexts.{numbers_of}
 use Rattle.pua_tool.specs.declared.fault.ToolFault.{ToolFault}
 use Rattle.pua_tool.specs.declared.fault.ToolFault.TheVariants.{NoProcess, OtherVeils}
 
 -- the numbers that are asked for, or those of all processes that were ever made, in ascending order
 abbrev pub numbers_in : World → Members → List ℕ
 numbers_in w (Named numbers) = numbers.items
-numbers_in w All = map (λ made. made.0) w.histories
+numbers_in w All = numbers_of w
 
--- the processes of these numbers, each with its history, or that one was never made
-abbrev pub all_made : World → List ℕ → Result (List (ℕ × History)) ToolFault
+-- these numbers, each with what its process keeps, or that one was never made
+abbrev pub all_made : World → List ℕ → Result (List (ℕ × ProcessState)) ToolFault
 all_made w [] = Ok []
-all_made w (process ∷ more) = ok_or (history_of w process) NoProcess >>= λ h. all_made w more >>= λ rest. Ok ((process, h) ∷ rest)
+all_made w (process ∷ more) = ok_or (kept_at w process) NoProcess >>= λ h. all_made w more >>= λ rest. Ok ((process, h) ∷ rest)
 
 -- why there is no list of a process, or else a later one's fault
 abbrev pub refused_or : ℕ → Option Refusal → Option ToolFault → Option ToolFault
@@ -34,7 +35,7 @@ refused_or process (Some reason) later = Some (ever_fault process reason)
 refused_or process None later = later
 
 -- why there is no list of the first of them of which there is none
-abbrev pub first_refused : CallTable → List (ℕ × History) → Option ToolFault
+abbrev pub first_refused : CallTable → List (ℕ × ProcessState) → Option ToolFault
 first_refused table [] = None
 first_refused table (member ∷ more) = refused_or member.0 (refusal table member.1) (first_refused table more)
 
@@ -43,26 +44,26 @@ abbrev pub are_kept : Option ℕ → ℕ → Bool
 are_kept None perms = false
 are_kept (Some kept) perms = kept == perms
 
-abbrev pub keeps_all : History → List (Place × ℕ) → Bool
+abbrev pub keeps_all : ProcessState → List (Place × ℕ) → Bool
 keeps_all h [] = true
 keeps_all h (veil ∷ more) = are_kept (perms_kept h veil.0) veil.1 && keeps_all h more
 
 -- the same places have veils, with the same letters, in any order
-abbrev pub same_veils : History → History → Bool
+abbrev pub same_veils : ProcessState → ProcessState → Bool
 same_veils g h = keeps_all h (veils g) && keeps_all g (veils h)
 
 -- the first of them that has other veils
-abbrev pub first_other : History → List (ℕ × History) → Option ℕ
+abbrev pub first_other : ProcessState → List (ℕ × ProcessState) → Option ℕ
 first_other h [] = None
 first_other h (member ∷ more) = if same_veils h member.1 then first_other h more else Some member.0
 
 -- the first that lives, and the first behind it that lives and has other veils
-abbrev pub other_veils : List (ℕ × History) → Option ToolFault
+abbrev pub other_veils : List (ℕ × ProcessState) → Option ToolFault
 other_veils [] = None
 other_veils (first ∷ more) = option_map (λ other. OtherVeils first.0 other) (first_other first.1 more)
 
 -- why there is no list of these processes together
-abbrev pub together_fault : CallTable → List (ℕ × History) → Option ToolFault
+abbrev pub together_fault : CallTable → List (ℕ × ProcessState) → Option ToolFault
 together_fault table members = by (first_refused table members)
   where
     by : Option ToolFault → Option ToolFault
@@ -75,10 +76,10 @@ unless_fault None text = Ok text
 unless_fault (Some fault) text = Err fault
 
 -- the answers, and then the list for ever of these processes together
-abbrev pub together_lines : Rules → Replayed → List (ℕ × History) → List ℕ
+abbrev pub together_lines : Rules → Replayed → List (ℕ × ProcessState) → List ℕ
 together_lines rules done members = answer_lines 1 done.answers ++ together_list rules done.table done.world.tree members
 
-abbrev pub together_of : Rules → Replayed → List (ℕ × History) → Result (List ℕ) ToolFault
+abbrev pub together_of : Rules → Replayed → List (ℕ × ProcessState) → Result (List ℕ) ToolFault
 together_of rules done members = unless_fault (together_fault done.table members) (together_lines rules done members)
 
 -- the answers, and then the list of the processes that are asked for, or what refuses it: one was never made, there is a reason

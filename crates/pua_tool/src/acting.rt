@@ -1,10 +1,8 @@
 //! The processes that are asked for together, and why there is no list of them.
 
-ghost use Rattle.std.specs.Prelude.{◌≡◌, ◌≢◌, ℕ, List, None, Some, Ok, Err, IfOk, IfErr, OnOk, map};
-ghost use Rattle.pua_policy.specs.History.{History, StandsFor};
-ghost use Rattle.pua_script.specs.Replay.{World as Replayed};
-ghost use Rattle.pua_script.specs.Worlds.{StandsForWorld};
-ghost use Rattle.pua_texts.specs.Members.{AreMembers};
+ghost use Rattle.std.specs.Prelude.{◌≡◌, ◌≢◌, None, Some, Ok, Err, IfOk, IfErr, OnOk, map};
+ghost use Rattle.pua_script.specs.Worlds.{world_of};
+ghost use Rattle.pua_texts.specs.Members.{named_by};
 ghost use Rattle.pua_texts.specs.TogetherLines.{living};
 ghost use Rattle.pua_tool.specs.TogetherTexts.{all_made, first_other, first_refused, keeps_all};
 ghost use Rattle.pua_tool.specs.TogetherTexts.{numbers_in, other_veils, same_veils};
@@ -22,16 +20,17 @@ use std::alloc::Global;
 
 /// The processes that are asked for: `NoProcess` where one was never made. The only other fault is
 /// `OutOfMemory`, where a growth was refused.
+#[tactic(auto, using(crate::proofs::Numbers::numbers_are))]
 pub(crate) fn members_of<'t, T: FileTree>(
     alloc: Global,
     world: &'t World<T>,
     which: &Members,
 ) -> Result<Vec<Member<'t>>, ToolFault>
-    ensures made { IfOk result (λ members. (w : Replayed) → StandsForWorld world.now w →
-        (named : List (ℕ × History)) × (all_made w (numbers_in w which.now) ≡ Ok named)
-        × AreMembers members.items named) }
-    ensures refused { IfErr result (λ fault. fault ≢ ToolFault.OutOfMemory → (w : Replayed) →
-        StandsForWorld world.now w → all_made w (numbers_in w which.now) ≡ Err fault) }
+    ensures made { IfOk result (λ members.
+        all_made (world_of world.now) (numbers_in (world_of world.now) which.now)
+        ≡ Ok (named_by members.items)) }
+    ensures refused { IfErr result (λ fault. fault ≢ ToolFault.OutOfMemory →
+        all_made (world_of world.now) (numbers_in (world_of world.now) which.now) ≡ Err fault) }
     ensures unwritten { IfErr result (λ fault. fault ≢ ToolFault.Write) }
 {
     match which {
@@ -51,11 +50,10 @@ fn made_of<'t, T: FileTree>(
     world: &'t World<T>,
     numbers: &[u32],
 ) -> Result<Vec<Member<'t>>, ToolFault>
-    ensures made { IfOk result (λ members. (w : Replayed) → StandsForWorld world.now w →
-        (named : List (ℕ × History)) × (all_made w numbers.now ≡ Ok named)
-        × AreMembers members.items named) }
-    ensures refused { IfErr result (λ fault. fault ≢ ToolFault.OutOfMemory → (w : Replayed) →
-        StandsForWorld world.now w → all_made w numbers.now ≡ Err fault) }
+    ensures made { IfOk result (λ members.
+        all_made (world_of world.now) numbers.now ≡ Ok (named_by members.items)) }
+    ensures refused { IfErr result (λ fault. fault ≢ ToolFault.OutOfMemory →
+        all_made (world_of world.now) numbers.now ≡ Err fault) }
     ensures unwritten { IfErr result (λ fault. fault ≢ ToolFault.Write) }
 {
     let mut members = Vec::new(alloc);
@@ -76,10 +74,9 @@ fn made_of<'t, T: FileTree>(
 
 /// Answers why there is no list of the first of these processes of which there is none.
 pub(crate) fn check_members(members: &[Member<'_>], table: &CallTable) -> Result<(), ToolFault>
-    ensures listed { OnOk result ((named : List (ℕ × History)) → AreMembers members.now named →
-        first_refused table.now named ≡ None) }
-    ensures refused { IfErr result (λ fault. (named : List (ℕ × History)) →
-        AreMembers members.now named → first_refused table.now named ≡ Some fault) }
+    ensures listed { OnOk result (first_refused table.now (named_by members.now) ≡ None) }
+    ensures refused { IfErr result (λ fault.
+        first_refused table.now (named_by members.now) ≡ Some fault) }
     ensures unwritten { IfErr result (λ fault. fault ≢ ToolFault.Write) }
 {
     for member in members {
@@ -95,8 +92,7 @@ pub(crate) fn living_of<'t>(
     alloc: Global,
     members: &[Member<'t>],
 ) -> Result<Vec<Member<'t>>, ToolFault>
-    ensures living { IfOk result (λ left. (named : List (ℕ × History)) →
-        AreMembers members.now named → AreMembers left.items (living named)) }
+    ensures living { IfOk result (λ left. named_by left.items ≡ living (named_by members.now)) }
     ensures memory { IfErr result (λ fault. fault ≡ ToolFault.OutOfMemory) }
     ensures unwritten { IfErr result (λ fault. fault ≢ ToolFault.Write) }
 {
@@ -115,11 +111,9 @@ pub(crate) fn living_of<'t>(
 /// Answers `OtherVeils` where one of these processes, which live, has other veils than the first. The
 /// only other fault is that a growth was refused.
 pub(crate) fn check_veils(alloc: Global, members: &[Member<'_>]) -> Result<(), ToolFault>
-    ensures alike { OnOk result ((named : List (ℕ × History)) → AreMembers members.now named →
-        other_veils named ≡ None) }
+    ensures alike { OnOk result (other_veils (named_by members.now) ≡ None) }
     ensures refused { IfErr result (λ fault. fault ≢ ToolFault.OutOfMemory →
-        (named : List (ℕ × History)) → AreMembers members.now named →
-        other_veils named ≡ Some fault) }
+        other_veils (named_by members.now) ≡ Some fault) }
     ensures unwritten { IfErr result (λ fault. fault ≢ ToolFault.Write) }
 {
     let Some((first, more)) = members.split_first() else {
@@ -139,8 +133,7 @@ fn first_other(
     first: &Process,
     members: &[Member<'_>],
 ) -> Result<Option<u32>, OutOfMemory>
-    ensures { IfOk result (λ other. (g : History) (named : List (ℕ × History)) →
-        StandsFor first.now g → AreMembers members.now named → other ≡ first_other g named) }
+    ensures { IfOk result (λ other. other ≡ first_other first.now (named_by members.now)) }
 {
     for member in members {
         let alike = have_same_veils(alloc, first, member.process)?;
@@ -154,8 +147,7 @@ fn first_other(
 /// Whether two processes keep veils on the same places, with the same letters. The only error is that a
 /// growth was refused.
 fn have_same_veils(alloc: Global, first: &Process, other: &Process) -> Result<bool, OutOfMemory>
-    ensures { IfOk result (λ same. (g h : History) → StandsFor first.now g →
-        StandsFor other.now h → same ≡ same_veils g h) }
+    ensures { IfOk result (λ same. same ≡ same_veils first.now other.now) }
 {
     let of_first = first.veils(alloc)?;
     let of_other = other.veils(alloc)?;
@@ -164,8 +156,7 @@ fn have_same_veils(alloc: Global, first: &Process, other: &Process) -> Result<bo
 
 /// Whether a process keeps each of these veils, with the same letters.
 fn keeps_all(process: &Process, veils: &[(&Place, &Perms)]) -> bool
-    ensures { (h : History) → StandsFor process.now h →
-        result ≡ keeps_all h (map (λ veil. (veil.0.now, veil.1.now)) veils.now) }
+    ensures { result ≡ keeps_all process.now (map (λ veil. (veil.0.now, veil.1.now)) veils.now) }
 {
     match veils.split_first() {
         Some((veil, more)) => {

@@ -1,12 +1,11 @@
 //! The text of an audit.
 
 ghost use Rattle.std.specs.Prelude.{◌≡◌, ◌≢◌, Ok, Err, IfOk, IfErr};
-ghost use Rattle.pua_policy.specs.History.{History, StandsFor};
 ghost use Rattle.pua_audit.specs.Begin.{Beginning, still_to_come};
 ghost use Rattle.pua_calls.specs.declared.rules.Rules.TheVariants as rule;
-ghost use Rattle.pua_tool.specs.Begun.{IsReplay};
+ghost use Rattle.pua_tool.specs.Begun.{as_replayed};
 ghost use Rattle.pua_tool.specs.Answers.{AnswersTo};
-ghost use Rattle.pua_tool.specs.Texts.{Replayed, as_audit, audit_after, audit_text};
+ghost use Rattle.pua_tool.specs.Texts.{as_audit, audit_after, audit_text};
 ghost use Rattle.pua_tool.specs.Texts.{beginning_of, by_job, wants_of};
 
 use crate::fault::ToolFault;
@@ -78,9 +77,8 @@ fn pairs_to<S: Sink>(
     job: &Job<'_>,
     sink: &mut S,
 ) -> Result<(), ToolFault>
-    ensures { (done : Replayed) → IsReplay replay.now done →
-        AnswersTo S.written S.failed
-        (audit_after done (wants_of job.now)) result sink.old sink.new }
+    ensures { AnswersTo S.written S.failed
+        (audit_after (as_replayed replay.now) (wants_of job.now)) result sink.old sink.new }
 {
     let world = &replay.world;
     let Some(process) = world.process(job.process) else {
@@ -101,11 +99,12 @@ fn begin<'t, T: FileTree>(
     table: &CallTable,
     job: &Job<'_>,
 ) -> Result<AuditList<'t, T>, ToolFault>
-    ensures begun { IfOk result (λ list. (h : History) → StandsFor process.now h →
-        (b : Beginning) × (beginning_of (T.content tree.now) table.now h (wants_of job.now) ≡ Ok b)
+    ensures begun { IfOk result (λ list. (b : Beginning)
+        × (beginning_of (T.content tree.now) table.now process.now (wants_of job.now) ≡ Ok b)
         × (list.left ≡ still_to_come b) × (list.base ≡ b.scope.base)) }
-    ensures refused { IfErr result (λ fault. fault ≢ ToolFault.OutOfMemory → (h : History) →
-        as_audit (beginning_of (T.content tree.now) table.now h (wants_of job.now)) ≡ Err fault) }
+    ensures refused { IfErr result (λ fault. fault ≢ ToolFault.OutOfMemory →
+        as_audit (beginning_of (T.content tree.now) table.now process.now (wants_of job.now))
+        ≡ Err fault) }
     ensures unwritten { IfErr result (λ fault. fault ≢ ToolFault.Write) }
 {
     let list = AuditList::begin(

@@ -4,9 +4,8 @@ ghost use Rattle.std.specs.Prelude.{◌≡◌, ◌≢◌, ◌≤◌, [], OnErr, 
 ghost use Rattle.std.specs.Io.Buffered.{writer_buffer, writer_contents};
 ghost use Rattle.std.specs.Io.KnownBytes.{Keeps};
 ghost use Rattle.pua_words.specs.Usages.{line_for, usage_line_text};
-ghost use Rattle.pua_words.specs.Commands.{AsksSoundly};
 ghost use Rattle.pua_words.specs.declared.command.Command.{Command};
-ghost use Rattle.pua_tool.specs.Performed.{HasAnswered, HasEnded, HasHalted, IsRefused};
+ghost use Rattle.pua_tool.specs.Performed.{HasAnswered, HasEnded, HasHalted, IsAskedBy, IsRefused};
 ghost use Rattle.pua_io.specs.Sinks.{Adds, AddsFront, HasFailed};
 ghost use Rattle.pua_texts.specs.Lines.{with_end};
 ghost use Rattle.pua_tool.specs.Told.{IsLineTold, Shows, ShowsFront, TellsStatus, TellsUsage};
@@ -34,8 +33,8 @@ pub fn program<I: Inputs, W: Write + Drop, E: Sink>(
     ensures done { result ≡ DONE →
         HasAnswered (map (λ word. word.now) words.now) (I.holds inputs.old)
         (writer_contents W.contents out.old.0) (writer_contents W.contents out.new.0) }
-    ensures refused { result ≡ REFUSED → (c : Command) × AsksSoundly c.text
-        × IsRefused (I.holds inputs.old) c }
+    ensures refused { result ≡ REFUSED → (c : Command)
+        × IsAskedBy (map (λ word. word.now) words.now) c × IsRefused (I.holds inputs.old) c }
     ensures usage { result ≡ USAGE →
         IsLineTold (with_end (usage_line_text (line_for (map (λ word. word.now) words.now))))
         (E.written err.old) (E.written err.new) (E.failed err.old) (E.failed err.new) }
@@ -78,8 +77,9 @@ fn at_end<E: Sink>(status: u8, flushed: Result<(), PutFault>, err: &mut E) -> u8
 }
 
 /// Does what the words after the program's name ask for: [`perform`], of the command that they say,
-/// or a text about the program, for words alone of which one asks for that. Which command words say,
-/// and which words are none, is `clap`'s to say and in no contract.
+/// or a text about the program, for words alone of which one asks for that. Of words in a plain form
+/// ([`read_words`] says which) the command is the one that they name; which other words are one, and which
+/// are none, is `clap`'s to say and in no contract.
 ///
 /// It answers the status: [`DONE`] where it is done, [`REFUSED`] where an input was refused,
 /// [`USAGE`] where the words are no command, [`DEVICE`] where a file can't be read or the text can't
@@ -96,8 +96,8 @@ pub fn command<I: Inputs, O: Sink, E: Sink>(
     ensures done { result ≡ DONE →
         HasAnswered (map (λ word. word.now) words.now) (I.holds inputs.old)
         (O.written out.old) (O.written out.new) }
-    ensures refused { result ≡ REFUSED → (c : Command) × AsksSoundly c.text
-        × IsRefused (I.holds inputs.old) c }
+    ensures refused { result ≡ REFUSED → (c : Command)
+        × IsAskedBy (map (λ word. word.now) words.now) c × IsRefused (I.holds inputs.old) c }
     ensures usage { result ≡ USAGE →
         IsLineTold (with_end (usage_line_text (line_for (map (λ word. word.now) words.now))))
         (E.written err.old) (E.written err.new) (E.failed err.old) (E.failed err.new) }

@@ -1,22 +1,21 @@
 //! What stands behind the calls of a line of a list for ever: how many steps a way has to each call that
 //! the list of now lacks.
 
-ghost use Rattle.std.specs.Prelude.{◌≡◌, ◌&&◌, ◌++◌, ◌∷◌, [], IfErr, IfOk, IfSome, OnOk, Ok, Some};
+ghost use Rattle.std.specs.Prelude.{◌≡◌, ◌&&◌, ◌++◌, ◌∷◌, [], IfErr, IfOk, IfSome, OnOk, Some};
 ghost use Rattle.std.specs.Prelude.{map, not, string_bytes};
 ghost use Rattle.std.specs.List.{AllByRecursion};
 ghost use Rattle.pua_tree.specs.Tree.{Tree};
 ghost use Rattle.pua_calls.specs.CallSets.{calls_in, has};
 ghost use Rattle.pua_calls.specs.declared.call.Call.{Call as AnyCall};
-ghost use Rattle.pua_policy.specs.History.{History, StandsFor};
 ghost use Rattle.pua_ever.specs.Ever.{Thing};
 ghost use Rattle.pua_ever.specs.EverLines.{IsThing};
 ghost use Rattle.pua_ever.specs.EverList.{word_of_row};
 ghost use Rattle.pua_how.specs.Asked.{IsAskedBy, asking_given};
 ghost use Rattle.pua_texts.specs.EverLines.{kind_of};
 ghost use Rattle.pua_texts.specs.Lines.{with_end};
-ghost use Rattle.pua_tool.specs.RowColumns.{AreColumns, AreStepsTo, IsBehind, IsColumnAt, served_by};
+ghost use Rattle.pua_tool.specs.RowColumns.{AreColumns, AreStepsTo, IsBehind, IsColumnAt};
+ghost use Rattle.pua_tool.specs.RowColumns.{done_behind};
 ghost use Rattle.pua_tool.specs.EverHowTexts.{IsCount, asking_by, count_text, counts_text};
-ghost use Rattle.pua_tool.specs.Texts.{Replayed};
 
 use crate::fault::ToolFault;
 use crate::now::calls_now;
@@ -48,21 +47,17 @@ pub(crate) fn columns_of(
     process: &Process,
     rows: &[EverRow<'_>],
 ) -> Result<Vec<String>, ToolFault>
-    ensures columns { IfOk result (λ columns. (done : Replayed) (h : History) →
-        IsBehind behind.now process.now done h →
-        AreColumns done behind.now.number h [] rows.now (map string_bytes columns.items)) }
+    ensures columns { IfOk result (λ columns. IsBehind behind.now →
+        AreColumns (done_behind behind.now) behind.now.number process.now [] rows.now
+        (map string_bytes columns.items)) }
     ensures memory { IfErr result (λ fault. fault ≡ ToolFault.OutOfMemory) }
 {
     let mut names = Vec::new(alloc);
     let mut columns = Vec::new(alloc);
     for row in rows {
-        let Ok(()) = go_to(&mut names, row) else {
-            return Err(ToolFault::OutOfMemory);
-        };
+        go_to(&mut names, row)?;
         let column = column_of(alloc, behind, process, names.as_slice(), &row.line)?;
-        let Ok(()) = columns.push(column) else {
-            return Err(ToolFault::OutOfMemory);
-        };
+        columns.push(column)?;
     }
     Ok(columns)
 }
@@ -87,20 +82,16 @@ fn column_of(
     names: &[&Name],
     line: &EverLine,
 ) -> Result<String, ToolFault>
-    ensures column { IfOk result (λ text. (done : Replayed) (h : History) →
-        IsBehind behind.now process.now done h →
-        IsColumnAt done behind.now.number h (map (λ name. name.now) names.now) line.now
-        (string_bytes text)) }
+    ensures column { IfOk result (λ text. IsBehind behind.now →
+        IsColumnAt (done_behind behind.now) behind.now.number process.now
+        (map (λ name. name.now) names.now) line.now (string_bytes text)) }
     ensures memory { IfErr result (λ fault. fault ≡ ToolFault.OutOfMemory) }
 {
     let world = &behind.replay.world;
     let now = calls_now(world.tree(), process, world.table(), names, line.thing);
     let lacking = without(line.calls, now);
     let counts = counts_on(alloc, behind, process, names, line.thing, lacking)?;
-    match text_of(alloc, counts.as_slice()) {
-        Ok(text) => Ok(text),
-        Err(AllocError) => Err(ToolFault::OutOfMemory),
-    }
+    Ok(text_of(alloc, counts.as_slice())?)
 }
 
 /// Its calls but for the others.
@@ -133,9 +124,9 @@ fn counts_on(
     thing: EverThing,
     calls: Calls,
 ) -> Result<Vec<(Call, Option<usize>)>, ToolFault>
-    ensures counts { IfOk result (λ counts. (done : Replayed) (h : History) (about : Thing) →
-        IsBehind behind.now process.now done h → IsThing done.world.tree about thing →
-        AllByRecursion (IsCount done behind.now.number h
+    ensures counts { IfOk result (λ counts. (about : Thing) → IsBehind behind.now →
+        IsThing (done_behind behind.now).world.tree about thing →
+        AllByRecursion (IsCount (done_behind behind.now) behind.now.number process.now
         (asking_by (map (λ name. name.now) names.now) about) (kind_of thing)) counts.items) }
     ensures calls { IfOk result (λ counts. map (λ count. count.0) counts.items ≡ calls_in calls) }
     ensures memory { IfErr result (λ fault. fault ≡ ToolFault.OutOfMemory) }
@@ -148,9 +139,7 @@ fn counts_on(
     for call in Call::ALL {
         if calls.contains(call) {
             let steps = steps_to(alloc, behind, process, call, &meant)?;
-            let Ok(()) = counts.push((call, steps)) else {
-                return Err(ToolFault::OutOfMemory);
-            };
+            counts.push((call, steps))?;
         }
     }
     Ok(counts)
@@ -164,19 +153,14 @@ fn meant_on<T: FileTree>(
     names: &[&Name],
     thing: EverThing,
 ) -> Result<Meant, ToolFault>
-    ensures meant { IfOk result (λ meant. (h : History) (about : Thing) →
-        StandsFor process.now h → IsThing (T.content tree.now) about thing →
-        IsAskedBy (T.content tree.now) h (asking_by (map (λ name. name.now) names.now) about)
+    ensures meant { IfOk result (λ meant. (about : Thing) →
+        IsThing (T.content tree.now) about thing →
+        IsAskedBy (T.content tree.now) process.now (asking_by (map (λ name. name.now) names.now) about)
         (Some (kind_of thing)) meant.targets.items) }
     ensures memory { IfErr result (λ fault. fault ≡ ToolFault.OutOfMemory) }
 {
-    let Ok(asking) = asking_on(alloc, names, thing) else {
-        return Err(ToolFault::OutOfMemory);
-    };
-    match find_meant(alloc, tree, process, &asking, Some(kind_in(thing))) {
-        Ok(meant) => Ok(meant),
-        Err(OutOfMemory) => Err(ToolFault::OutOfMemory),
-    }
+    let asking = asking_on(alloc, names, thing)?;
+    Ok(find_meant(alloc, tree, process, &asking, Some(kind_in(thing)))?)
 }
 
 /// The kind of what a line is about.
@@ -211,16 +195,13 @@ fn steps_to(
     call: Call,
     meant: &Meant,
 ) -> Result<Option<usize>, ToolFault>
-    ensures steps { IfOk result (λ found. IfSome found (λ steps. (done : Replayed) →
-        served_by behind.now ≡ Ok done →
-        AreStepsTo done behind.now.number meant.now.targets.items call steps)) }
+    ensures steps { IfOk result (λ found. IfSome found (λ steps. IsBehind behind.now →
+        AreStepsTo (done_behind behind.now) behind.now.number meant.now.targets.items call
+        steps)) }
     ensures memory { IfErr result (λ fault. fault ≡ ToolFault.OutOfMemory) }
 {
     let world = &behind.replay.world;
-    let plans = find_plans(alloc, world.tree(), process, world.table(), call, meant);
-    let Ok(plans) = plans else {
-        return Err(ToolFault::OutOfMemory);
-    };
+    let plans = find_plans(alloc, world.tree(), process, world.table(), call, meant)?;
     match steps_by(alloc, behind, call, meant, plans.first.as_ref())? {
         Some(steps) => Ok(Some(steps)),
         None => steps_by(alloc, behind, call, meant, plans.second.as_ref()),
@@ -236,9 +217,9 @@ fn steps_by(
     meant: &Meant,
     plan: Option<&Plan>,
 ) -> Result<Option<usize>, ToolFault>
-    ensures steps { IfOk result (λ found. IfSome found (λ steps. (done : Replayed) →
-        served_by behind.now ≡ Ok done →
-        AreStepsTo done behind.now.number meant.now.targets.items call steps)) }
+    ensures steps { IfOk result (λ found. IfSome found (λ steps. IsBehind behind.now →
+        AreStepsTo (done_behind behind.now) behind.now.number meant.now.targets.items call
+        steps)) }
     ensures memory { IfErr result (λ fault. fault ≡ ToolFault.OutOfMemory) }
 {
     let Some(plan) = plan else {

@@ -1,9 +1,9 @@
 //! The text of the list for ever of a process.
 
-ghost use Rattle.pua_tool.specs.Begun.{IsReplay};
+ghost use Rattle.pua_tool.specs.Begun.{as_replayed};
 ghost use Rattle.pua_tool.specs.Answers.{AnswersTo};
 ghost use Rattle.pua_tool.specs.EverTexts.{ever_after, ever_text};
-ghost use Rattle.pua_tool.specs.Texts.{Replayed, choice_of};
+ghost use Rattle.pua_tool.specs.Texts.{choice_of};
 
 use crate::ever_fault::fault_of;
 use crate::fault::ToolFault;
@@ -62,8 +62,8 @@ fn list_to<S: Sink>(
     number: u32,
     sink: &mut S,
 ) -> Result<(), ToolFault>
-    ensures { (done : Replayed) → IsReplay replay.now done →
-        AnswersTo S.written S.failed (ever_after rules done number) result sink.old sink.new }
+    ensures { AnswersTo S.written S.failed (ever_after rules (as_replayed replay.now) number)
+        result sink.old sink.new }
 {
     let world = &replay.world;
     let Some(process) = world.process(number) else {

@@ -2,10 +2,9 @@
 
 ghost use Rattle.std.specs.Prelude.{◌≡◌, ℕ, List, Ok, Result};
 ghost use Rattle.pua_tool.specs.Answers.{AnswersTo};
-ghost use Rattle.pua_tool.specs.Begun.{IsReplay};
 ghost use Rattle.pua_tool.specs.EverHowTexts.{IsEverHowAfter, IsEverHowText};
-ghost use Rattle.pua_tool.specs.RowColumns.{served_by};
-ghost use Rattle.pua_tool.specs.Texts.{Replayed, choice_of};
+ghost use Rattle.pua_tool.specs.RowColumns.{IsBehind, done_behind};
+ghost use Rattle.pua_tool.specs.Texts.{choice_of};
 
 use crate::columns::{Behind, columns_of};
 use crate::ever_fault::fault_of;
@@ -56,10 +55,8 @@ pub fn ever_how_to<S: Sink>(
 /// Writes the answers of a script, and then the list for ever of the process where the script ends, with
 /// its columns. Every fault but `Write` is answered before anything is written.
 fn list_to<S: Sink>(alloc: Global, behind: &Behind<'_>, sink: &mut S) -> Result<(), ToolFault>
-    ensures { (done : Replayed) → served_by behind.now ≡ Ok done →
-        IsReplay behind.now.replay.now done →
-        (answer : Result (List ℕ) ToolFault)
-        × IsEverHowAfter behind.now.table.rules done behind.now.number answer
+    ensures { IsBehind behind.now → (answer : Result (List ℕ) ToolFault)
+        × IsEverHowAfter behind.now.table.rules (done_behind behind.now) behind.now.number answer
         × AnswersTo S.written S.failed answer result sink.old sink.new }
 {
     let (number, world) = (behind.number, &behind.replay.world);

@@ -8,7 +8,8 @@ use crate::status::{DEVICE, MEMORY, REFUSED};
 use pua_audit::AuditFault;
 use pua_calls::{Call, TableFault};
 use pua_script::ScriptFault;
-use pua_tree::ListingFault;
+use pua_tree::{ListingFault, OutOfMemory};
+use std::alloc::{AllocError, AllocFailed};
 use thiserror::Error;
 
 /// The line of a put that failed, without its end.
@@ -76,6 +77,42 @@ pub enum ToolFault {
     /// asked for.
     #[error("pua: how: no such thing")]
     HowThing,
+    /// A link is meant, and this call is on what a link leads to, never on the link.
+    #[error("pua: how: a link, which {} follows: ask about what it leads to", .0.name())]
+    HowLink(Call),
+}
+
+impl From<AllocError> for ToolFault {
+    ghost use Rattle.std.specs.Prelude.{◌≡◌};
+    ghost use Rattle.pua_tool.specs.declared.fault.ToolFault.TheVariants as tool_fault;
+
+    ghost from_gives = { λ _ fault. fault ≡ tool_fault.OutOfMemory };
+
+    fn from(_refused: AllocError) -> ToolFault {
+        ToolFault::OutOfMemory
+    }
+}
+
+impl<T: Drop> From<AllocFailed<T>> for ToolFault {
+    ghost use Rattle.std.specs.Prelude.{◌≡◌};
+    ghost use Rattle.pua_tool.specs.declared.fault.ToolFault.TheVariants as tool_fault;
+
+    ghost from_gives = { λ _ fault. fault ≡ tool_fault.OutOfMemory };
+
+    fn from(_refused: AllocFailed<T>) -> ToolFault {
+        ToolFault::OutOfMemory
+    }
+}
+
+impl From<OutOfMemory> for ToolFault {
+    ghost use Rattle.std.specs.Prelude.{◌≡◌};
+    ghost use Rattle.pua_tool.specs.declared.fault.ToolFault.TheVariants as tool_fault;
+
+    ghost from_gives = { λ _ fault. fault ≡ tool_fault.OutOfMemory };
+
+    fn from(_refused: OutOfMemory) -> ToolFault {
+        ToolFault::OutOfMemory
+    }
 }
 
 impl ToolFault {

@@ -2,13 +2,12 @@
 
 ghost use Rattle.std.specs.Prelude.{◌≡◌, ◌≢◌, ◌++◌, ℕ, List, Ok, Err, IfErr, IfOk, IfSome, OnOk, Result};
 ghost use Rattle.std.specs.Prelude.{flat_map, map, option_map, string_bytes};
-ghost use Rattle.pua_policy.specs.History.{History, StandsFor};
 ghost use Rattle.pua_texts.specs.Lines.{with_end};
 ghost use Rattle.pua_how.specs.Outlooks.{IsOutlook};
 ghost use Rattle.pua_tool.specs.Answers.{AnswersTo};
-ghost use Rattle.pua_tool.specs.Begun.{IsReplay};
-ghost use Rattle.pua_tool.specs.HowTexts.{IsHowText, question_of, things_asked, told_without};
-ghost use Rattle.pua_tool.specs.HowTexts.{way_wanted};
+ghost use Rattle.pua_tool.specs.Begun.{as_replayed};
+ghost use Rattle.pua_tool.specs.HowTexts.{IsHowText, follows_link as is_link_followed, question_of};
+ghost use Rattle.pua_tool.specs.HowTexts.{things_asked, told_without, way_wanted};
 ghost use Rattle.pua_tool.specs.Questions.{AreMeant, AreWayTo, IsQuestion, text_told, texts_of};
 ghost use Rattle.pua_tool.specs.Texts.{Replayed, choice_of, replay_of};
 
@@ -23,8 +22,9 @@ use pua_how::{
     Asking, BestPlans, Meant, Outlook, Plan, Target, WayLine, find_meant, find_outlook, find_plans,
 };
 use pua_io::Sink;
+use pua_path::Last;
 use pua_policy::Process;
-use pua_tree::FileTree;
+use pua_tree::{FileTree, Kind};
 use pua_words::HowWords;
 use std::alloc::{AllocError, Global};
 
@@ -39,9 +39,9 @@ use std::alloc::{AllocError, Global};
 /// says nothing.
 ///
 /// The first that holds of `Table`, `Listing`, `Script`, `NoProcess`, `CanUnveil`, `LacksC`,
-/// `RenameLacksC`, `LinkLacksC`, `HowCall`, `HowPath` and `HowThing` is answered before anything is
-/// written. So is `OutOfMemory`, wherever a growth was refused. `Write` is answered only where a put
-/// failed in this call, and a front of the text is then written.
+/// `RenameLacksC`, `LinkLacksC`, `HowCall`, `HowPath`, `HowThing` and `HowLink` is answered before
+/// anything is written. So is `OutOfMemory`, wherever a growth was refused. `Write` is answered only
+/// where a put failed in this call, and a front of the text is then written.
 pub fn how_to<S: Sink>(
     alloc: Global,
     tree_bytes: &[u8],
@@ -116,11 +116,10 @@ fn asked_behind(
 
 /// What is asked about where a replay ends.
 fn asked_of(alloc: Global, replay: &Replay, words: &HowWords<'_>) -> Result<Question, ToolFault>
-    ensures asked { IfOk result (λ question. (done : Replayed) → IsReplay replay.now done →
-        IsQuestion done (way_wanted words.now) question) }
-    ensures refused { IfErr result (λ fault. fault ≢ ToolFault.OutOfMemory →
-        (done : Replayed) → IsReplay replay.now done → (last : ℕ)
-        × (question_of done (way_wanted words.now) last ≡ Err fault)) }
+    ensures asked { IfOk result (λ question.
+        IsQuestion (as_replayed replay.now) (way_wanted words.now) question) }
+    ensures refused { IfErr result (λ fault. fault ≢ ToolFault.OutOfMemory → (last : ℕ)
+        × (question_of (as_replayed replay.now) (way_wanted words.now) last ≡ Err fault)) }
     ensures unwritten { IfErr result (λ fault. fault ≢ ToolFault.Write) }
 {
     let world = &replay.world;
@@ -136,6 +135,9 @@ fn asked_of(alloc: Global, replay: &Replay, words: &HowWords<'_>) -> Result<Ques
     };
     let meant = meant_by(alloc, tree, process, words)?;
     let things = meant.targets.as_slice();
+    if follows_link(tree, call, things) {
+        return Err(ToolFault::HowLink(call));
+    }
     let outlook = outlook_of(alloc, tree, process, table, things, call)?;
     let Ok(plans) = find_plans(alloc, tree, process, table, call, &meant) else {
         return Err(ToolFault::OutOfMemory);
@@ -155,11 +157,11 @@ fn meant_by<T: FileTree>(
     process: &Process,
     words: &HowWords<'_>,
 ) -> Result<Meant, ToolFault>
-    ensures meant { IfOk result (λ meant. (h : History) → StandsFor process.now h →
-        AreMeant (T.content tree.now) h (way_wanted words.now) meant.targets.items) }
+    ensures meant { IfOk result (λ meant.
+        AreMeant (T.content tree.now) process.now (way_wanted words.now) meant.targets.items) }
     ensures refused { IfErr result (λ fault. fault ≢ ToolFault.OutOfMemory →
-        (h : History) → StandsFor process.now h → (last : ℕ)
-        × (things_asked (T.content tree.now) h (way_wanted words.now) last ≡ Err fault)) }
+        (last : ℕ)
+        × (things_asked (T.content tree.now) process.now (way_wanted words.now) last ≡ Err fault)) }
     ensures unwritten { IfErr result (λ fault. fault ≢ ToolFault.Write) }
 {
     let Ok(asking) = Asking::read(alloc, words.path) else {
@@ -177,6 +179,19 @@ fn meant_by<T: FileTree>(
     Ok(meant)
 }
 
+/// Whether a link is meant and the call is on what a link leads to. What stands at a name is the first that
+/// may be meant by it.
+fn follows_link<T: FileTree>(tree: &T, call: Call, things: &[Target]) -> bool
+    ensures { result ≡ is_link_followed (T.content tree.now) call things.now }
+{
+    let is_link = match things.first() {
+        Some(Target::Node(node)) => matches!(tree.kind(*node), Some(Kind::Link)),
+        Some(Target::NewLink(_)) => true,
+        _ => false,
+    };
+    is_link && matches!(call.last(), Last::Followed)
+}
+
 /// What the list for ever says of it. `OutOfMemory` where a growth was refused.
 fn outlook_of<T: FileTree>(
     alloc: Global,
@@ -186,8 +201,8 @@ fn outlook_of<T: FileTree>(
     things: &[Target],
     call: Call,
 ) -> Result<Outlook, ToolFault>
-    ensures told { IfOk result (λ found. (h : History) → StandsFor process.now h →
-        IsOutlook (T.content tree.now) table.now h things.now call found) }
+    ensures told { IfOk result (λ found.
+        IsOutlook (T.content tree.now) table.now process.now things.now call found) }
     ensures memory { IfErr result (λ fault. fault ≡ ToolFault.OutOfMemory) }
     ensures unwritten { IfErr result (λ fault. fault ≢ ToolFault.Write) }
 {

@@ -7,11 +7,15 @@ ghost use Rattle.pua_tool.specs.EverHowExamples.{EverHowRows};
 ghost use Rattle.pua_tool.specs.Examples.{HowTextRows, ReasonTextRows, TextRows, TightTextRows};
 ghost use Rattle.pua_tool.specs.Fewest.{TightAsWritten};
 ghost use Rattle.pua_tool.specs.Forever.{EverAsWritten};
+ghost use Rattle.pua_tool.specs.Listed.{ObjectsAsWritten};
+ghost use Rattle.pua_tool.specs.Headline.{IsOfHistories};
 ghost use Rattle.pua_tool.specs.Futures.{Confinement, ConfinementAsRead, Narrowing};
 ghost use Rattle.pua_tool.specs.Futures.{NarrowingAsRead, NarrowingNow};
 ghost use Rattle.pua_script.specs.Futures.{RulesNarrow};
 ghost use Rattle.pua_script.specs.Tightening.{OthersLeave, OthersLeaveAlways};
 
+use pua_objects::{completeness_law, soundness_law};
+use pua_script::pasts_law;
 use pua_tree::FileTree;
 
 /// Examples of whole texts, and of what refuses them.
@@ -25,11 +29,11 @@ pub fn text_examples()
 
 /// Narrowing ("Every future of a locked process" in docs/DEFINITIONS.md): over each tree the later
 /// reach of each member of the family of a process that can put no veil any more lies within the
-/// reach that the process has over the same tree by its history now, as long as no member's exec
+/// reach that the process has over the same tree now, as long as no member's exec
 /// succeeds; from the working directory it does where no member's chdir succeeds. This is so for
 /// each table of calls in which no call needs `error`. It is no bound on what is reached as the
 /// tree changes. What a command reads meets it without a condition, and a request of another
-/// process leaves a process its history.
+/// process leaves a process what it keeps.
 pub fn narrowing()
     ensures reach { Narrowing }
     ensures now { NarrowingNow }
@@ -39,7 +43,7 @@ pub fn narrowing()
 {}
 
 /// Confinement (in the same place): where such a family alone asks, and no member's exec succeeds,
-/// each row whose object the process can't touch with `c` by its history now stays, and where the
+/// each row whose object the process can't touch with `c` now stays, and where the
 /// process doesn't hold cpath the tree does. Which tables this is so of is said there; the standard
 /// rules and those of OpenBSD are such, so both hold of what a command reads without a table of its
 /// own. A row that stays says nothing of its file's contents.
@@ -48,6 +52,16 @@ pub fn confined()
     ensures read { ConfinementAsRead }
     ensures rules { RulesNarrow }
 {}
+
+/// Where there is a text of a list of objects of a process, it is the answers and the list of the process, each line of which stands
+/// in it; and whatever path is spelled, if a call is allowed on it, what it names has a line with the call.
+/// And each call of each line is allowed on the line's own path, or on that of each further name.
+pub fn objects_text_law()
+    ensures { ObjectsAsWritten }
+{
+    completeness_law();
+    soundness_law();
+}
 
 /// Where there is a text of a list for ever, it is the answers and the list of the process, which is complete: whatever is
 /// asked behind the script, as long as nobody else changes the tree, and all that the family starts is bounded or no exec of
@@ -64,6 +78,15 @@ pub fn ever_text_law()
 pub fn tight_text_law()
     ensures { TightAsWritten }
 {}
+
+/// What `narrowing`, `confined`, and the laws of texts say of what processes keep is so of histories: wherever a
+/// script ends, what a process keeps is what is left of its history, by a replay that keeps the events of each
+/// process. So a reader who believes histories alone has each of them, word by word.
+pub fn headline_law()
+    ensures { IsOfHistories }
+{
+    pasts_law();
+}
 
 /// Over any two trees of the same content, however each is kept, a script is answered the same by a
 /// table of calls and leaves the same tree, and an audit of a process where it ends has the same

@@ -5,7 +5,6 @@ ghost use Rattle.pua_tree.specs.Tree.{Tree, WellFormed, is_dir as lives_as_dir, 
 ghost use Rattle.pua_path.specs.declared.found.Found.TheVariants.{Whole};
 ghost use Rattle.pua_calls.specs.CallSets.{has};
 ghost use Rattle.pua_calls.specs.declared.call.Call.{Call};
-ghost use Rattle.pua_policy.specs.History.{History, StandsFor};
 ghost use Rattle.pua_how.specs.Asking.{directory_at_name};
 ghost use Rattle.pua_objects.specs.Items.{SubjectFits, object_on as is_object_on};
 ghost use Rattle.pua_objects.specs.Items.{subject_given};
@@ -34,9 +33,8 @@ pub(crate) fn calls_now<T: FileTree>(
     names: &[&Name],
     thing: EverThing,
 ) -> Calls
-    ensures { (h : History) (about : Thing) → StandsFor process.now h →
-        IsThing (T.content tree.now) about thing → (call : Call) → has result call
-        ≡ is_now (T.content tree.now) table.now h (subject_now (T.content tree.now)
+    ensures { (about : Thing) → IsThing (T.content tree.now) about thing → (call : Call) →
+        has result call ≡ is_now (T.content tree.now) table.now process.now (subject_now (T.content tree.now)
         (kind_of thing) (map (λ name. name.now) names.now) about) call }
 {
     let EverThing::Stands(kind) = thing else {

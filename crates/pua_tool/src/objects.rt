@@ -1,14 +1,13 @@
 //! The text of the lists of processes.
 
 ghost use Rattle.std.specs.Prelude.{◌≡◌, ◌≢◌, ℕ, List, Option, Ok, Err, IfOk, IfErr};
-ghost use Rattle.pua_script.specs.Replay.{World as Replayed};
-ghost use Rattle.pua_script.specs.Worlds.{StandsForWorld};
+ghost use Rattle.pua_script.specs.Worlds.{world_of};
 ghost use Rattle.pua_words.specs.declared.command.Processes.TheVariants as which;
 ghost use Rattle.pua_tool.specs.ObjectTexts.{lists_asked, numbers_asked, objects_text};
 ghost use Rattle.pua_texts.specs.Tells.{Tells};
-ghost use Rattle.pua_tool.specs.Begun.{IsReplay};
+ghost use Rattle.pua_tool.specs.Begun.{as_replayed};
 ghost use Rattle.pua_tool.specs.Answers.{Answers, AnswersTo};
-ghost use Rattle.pua_tool.specs.Texts.{Replayed as Served, choice_of};
+ghost use Rattle.pua_tool.specs.Texts.{choice_of};
 
 use crate::fault::ToolFault;
 use crate::script::{Replay, replay_script};
@@ -69,8 +68,8 @@ fn asked_to<S: Sink>(
     processes: Processes,
     sink: &mut S,
 ) -> Result<(), ToolFault>
-    ensures { (done : Served) → IsReplay replay.now done →
-        AnswersTo S.written S.failed (lists_asked rules done processes) result sink.old sink.new }
+    ensures { AnswersTo S.written S.failed
+        (lists_asked rules (as_replayed replay.now) processes) result sink.old sink.new }
 {
     let numbers = numbers_of(alloc, &replay.world, processes)?;
     let Ok(front) = answer_text(alloc, replay.answers.as_slice()) else {
@@ -93,10 +92,10 @@ pub(crate) fn numbers_of<T: FileTree>(
     world: &World<T>,
     processes: Processes,
 ) -> Result<Vec<u32>, ToolFault>
-    ensures asked { IfOk result (λ numbers. (w : Replayed) → StandsForWorld world.now w →
-        numbers_asked w processes ≡ Ok numbers.items) }
-    ensures refused { IfErr result (λ fault. fault ≢ ToolFault.OutOfMemory → (w : Replayed) →
-        StandsForWorld world.now w → numbers_asked w processes ≡ Err fault) }
+    ensures asked { IfOk result (λ numbers.
+        numbers_asked (world_of world.now) processes ≡ Ok numbers.items) }
+    ensures refused { IfErr result (λ fault. fault ≢ ToolFault.OutOfMemory →
+        numbers_asked (world_of world.now) processes ≡ Err fault) }
     ensures unwritten { IfErr result (λ fault. fault ≢ ToolFault.Write) }
 {
     match processes {
@@ -114,10 +113,10 @@ fn one_number<T: FileTree>(
     world: &World<T>,
     number: u32,
 ) -> Result<Vec<u32>, ToolFault>
-    ensures asked { IfOk result (λ numbers. (w : Replayed) → StandsForWorld world.now w →
-        numbers_asked w (which.One number) ≡ Ok numbers.items) }
-    ensures refused { IfErr result (λ fault. fault ≢ ToolFault.OutOfMemory → (w : Replayed) →
-        StandsForWorld world.now w → numbers_asked w (which.One number) ≡ Err fault) }
+    ensures asked { IfOk result (λ numbers.
+        numbers_asked (world_of world.now) (which.One number) ≡ Ok numbers.items) }
+    ensures refused { IfErr result (λ fault. fault ≢ ToolFault.OutOfMemory →
+        numbers_asked (world_of world.now) (which.One number) ≡ Err fault) }
     ensures unwritten { IfErr result (λ fault. fault ≢ ToolFault.Write) }
 {
     if world.process(number).is_none() {

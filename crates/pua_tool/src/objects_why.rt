@@ -3,9 +3,9 @@
 ghost use Rattle.std.specs.Prelude.{◌≡◌, ◌++◌, Ok};
 ghost use Rattle.pua_script.specs.Scripts.{script_by};
 ghost use Rattle.pua_tool.specs.Texts.{choice_of};
-ghost use Rattle.pua_tool.specs.PosedScripts.{IsPosed};
+ghost use Rattle.pua_tool.specs.PosedScripts.{IsPosed, as_asking};
 ghost use Rattle.pua_texts.specs.Tells.{TellsTo};
-ghost use Rattle.pua_texts.specs.WhyLines.{Posed as Asking, why_lists_of};
+ghost use Rattle.pua_texts.specs.WhyLines.{why_lists_of};
 ghost use Rattle.pua_tool.specs.Answers.{AnswersTo};
 ghost use Rattle.pua_tool.specs.WhyTexts.{objects_why_text, reason_lines, why_lists_asked};
 
@@ -65,8 +65,9 @@ fn write_asked<S: Sink>(
     processes: Processes,
     sink: &mut S,
 ) -> Result<(), ToolFault>
-    ensures { (p : Asking) → script_by rules script_bytes.now ≡ Ok p.asks → IsPosed posed.old p →
-        AnswersTo S.written S.failed (why_lists_asked rules p processes) result sink.old sink.new }
+    ensures { script_by rules script_bytes.now ≡ Ok posed.old.script → IsPosed posed.old →
+        AnswersTo S.written S.failed (why_lists_asked rules (as_asking posed.old) processes)
+        result sink.old sink.new }
 {
     let numbers = numbers_of(alloc, &posed.after, processes)?;
     let numbers = numbers.as_slice();
@@ -84,9 +85,9 @@ fn write_all<S: Sink>(
     numbers: &[u32],
     sink: &mut S,
 ) -> Result<(), TextFault>
-    ensures { (p : Asking) → script_by rules script_bytes.now ≡ Ok p.asks → IsPosed posed.old p →
-        TellsTo S.written S.failed (reason_lines rules p ++ why_lists_of rules p numbers.now)
-        result sink.old sink.new }
+    ensures { script_by rules script_bytes.now ≡ Ok posed.old.script → IsPosed posed.old →
+        TellsTo S.written S.failed (reason_lines rules (as_asking posed.old)
+        ++ why_lists_of rules (as_asking posed.old) numbers.now) result sink.old sink.new }
 {
     let (requests, answers) = (posed.script.requests(), posed.answers.as_slice());
     let veils = veils_of(alloc, &posed.after, numbers)?;

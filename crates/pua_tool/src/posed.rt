@@ -2,12 +2,11 @@
 
 ghost use Rattle.std.specs.Prelude.{◌≡◌, ◌≢◌, Ok, Err, IfOk, IfErr};
 ghost use Rattle.pua_tree.specs.Listing.{listing};
-ghost use Rattle.pua_tree.specs.Tree.{Tree};
+ghost use Rattle.pua_script.specs.Replay.{new_world};
 ghost use Rattle.pua_script.specs.Scripts.{script_by};
-ghost use Rattle.pua_script.specs.Worlds.{StandsForWorld};
+ghost use Rattle.pua_script.specs.Worlds.{with_table};
 ghost use Rattle.pua_tool.specs.Texts.{as_listing, as_script, choice_of};
-ghost use Rattle.pua_tool.specs.PosedScripts.{IsNewOver, IsPosed};
-ghost use Rattle.pua_texts.specs.WhyLines.{Posed as Asking};
+ghost use Rattle.pua_tool.specs.PosedScripts.{IsNewOver, IsPosed, as_asking, asked_over};
 ghost use Rattle.pua_tool.specs.WhyTexts.{posed_script};
 
 use crate::fault::ToolFault;
@@ -15,10 +14,11 @@ use crate::script::{ProgramTree, read_requests, read_table, read_tree, release};
 use crate::table::TableChoice;
 use pua_calls::{CallTable, Rules};
 use pua_script::{Answer, Script, World};
+use pua_tree::OutOfMemory;
 use std::alloc::Global;
 
-/// A script, what its lines were answered, and the worlds before and after it. A tree has no copy, so
-/// the listing is read for each of the two.
+/// A script, what its lines were answered, and the worlds before and after it. The listing is read once,
+/// and the second world has a copy of the first one's tree.
 #[derive(Drop)]
 pub(crate) struct Posed {
     pub(crate) script: Script,
@@ -44,9 +44,10 @@ pub(crate) fn pose(
     script_bytes: &[u8],
     choice: TableChoice<'_>,
 ) -> Result<Posed, ToolFault>
-    ensures done { IfOk result (λ done. (p : Asking)
-        × (posed_script (choice_of choice.entry) tree_bytes.now script_bytes.now ≡ Ok p)
-        × (script_by choice.entry.rules script_bytes.now ≡ Ok p.asks) × IsPosed done p) }
+    ensures done { IfOk result (λ done.
+        (posed_script (choice_of choice.entry) tree_bytes.now script_bytes.now
+        ≡ Ok (as_asking done))
+        × (script_by choice.entry.rules script_bytes.now ≡ Ok done.script) × IsPosed done) }
     ensures refused { IfErr result (λ fault. fault ≢ ToolFault.OutOfMemory →
         (posed_script (choice_of choice.entry) tree_bytes.now script_bytes.now ≡ Err fault)) }
     ensures unwritten { IfErr result (λ fault. fault ≢ ToolFault.Write) }
@@ -54,7 +55,7 @@ pub(crate) fn pose(
     let rules = choice.rules;
     let table = read_table(alloc, choice)?;
     let before = world_of(alloc, tree_bytes, table)?;
-    match read_both(alloc, tree_bytes, rules, script_bytes, table) {
+    match read_both(alloc, before.tree(), rules, script_bytes, table) {
         Ok((requests, after)) => serve(alloc, requests, before, after),
         Err(fault) => {
             release(before);
@@ -63,25 +64,37 @@ pub(crate) fn pose(
     }
 }
 
-/// The requests of a script that is read by these rules, and a world before it, over the tree of a
-/// listing that is known to be one.
+/// The requests of a script that is read by these rules, and a new world over a copy of a tree.
 fn read_both(
     alloc: Global,
-    tree_bytes: &[u8],
+    tree: &ProgramTree,
     rules: Rules,
     script_bytes: &[u8],
     table: CallTable,
 ) -> Result<(Script, World<ProgramTree>), ToolFault>
     ensures script { IfOk result (λ read. as_script (script_by rules script_bytes.now) ≡ Ok read.0) }
-    ensures world { IfOk result (λ read. IsNewOver tree_bytes.now table read.1) }
-    ensures refused { IfErr result (λ fault. fault ≢ ToolFault.OutOfMemory → (t : Tree) →
-        as_listing (listing tree_bytes.now) ≡ Ok t →
-        as_script (script_by rules script_bytes.now) ≡ Err fault) }
+    ensures world { IfOk result (λ read. read.1 ≡ with_table table (new_world tree.now)) }
+    ensures refused { IfErr result (λ fault. fault ≢ ToolFault.OutOfMemory →
+        (as_script (script_by rules script_bytes.now) ≡ Err fault)) }
     ensures unwritten { IfErr result (λ fault. fault ≢ ToolFault.Write) }
 {
     let requests = read_requests(alloc, rules, script_bytes)?;
-    let after = world_of(alloc, tree_bytes, table)?;
-    Ok((requests, after))
+    match world_over(alloc, tree, table) {
+        Ok(world) => Ok((requests, world)),
+        Err(_) => Err(ToolFault::OutOfMemory),
+    }
+}
+
+/// A new world over a copy of a tree.
+fn world_over(
+    alloc: Global,
+    tree: &ProgramTree,
+    table: CallTable,
+) -> Result<World<ProgramTree>, OutOfMemory>
+    ensures { IfOk result (λ world. world ≡ with_table table (new_world tree.now)) }
+{
+    let copy = tree.copy()?;
+    World::new(alloc, copy, table)
 }
 
 /// Serves requests in the second of two worlds that are alike. `OutOfMemory` where a growth was refused.
@@ -91,9 +104,8 @@ fn serve(
     before: World<ProgramTree>,
     mut after: World<ProgramTree>,
 ) -> Result<Posed, ToolFault>
-    ensures done { IfOk result (λ done. (p : Asking) → requests ≡ p.asks →
-        StandsForWorld before p.world → before.table ≡ p.table →
-        StandsForWorld after p.world → after.table ≡ p.table → IsPosed done p) }
+    ensures done { IfOk result (λ done. (as_asking done ≡ asked_over before requests)
+        × (after ≡ before → IsPosed done)) }
     ensures memory { IfErr result (λ fault. fault ≡ ToolFault.OutOfMemory) }
     ensures unwritten { IfErr result (λ fault. fault ≢ ToolFault.Write) }
 {

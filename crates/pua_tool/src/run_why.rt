@@ -4,8 +4,7 @@ ghost use Rattle.std.specs.Prelude.{◌≡◌, Ok, IfOk, string_bytes};
 ghost use Rattle.pua_script.specs.Scripts.{script_by};
 ghost use Rattle.pua_tool.specs.Answers.{AnswersTo};
 ghost use Rattle.pua_tool.specs.Texts.{choice_of};
-ghost use Rattle.pua_tool.specs.PosedScripts.{IsPosed};
-ghost use Rattle.pua_texts.specs.WhyLines.{Posed as Asking};
+ghost use Rattle.pua_tool.specs.PosedScripts.{IsPosed, as_asking};
 ghost use Rattle.pua_tool.specs.WhyTexts.{reason_lines, run_why_text};
 
 use crate::fault::ToolFault;
@@ -55,8 +54,8 @@ fn text_of(
     script_bytes: &[u8],
     posed: &mut Posed,
 ) -> Result<String, OutOfMemory>
-    ensures { IfOk result (λ text. (p : Asking) → script_by rules script_bytes.now ≡ Ok p.asks →
-        IsPosed posed.old p → string_bytes text ≡ reason_lines rules p) }
+    ensures { IfOk result (λ text. script_by rules script_bytes.now ≡ Ok posed.old.script →
+        IsPosed posed.old → string_bytes text ≡ reason_lines rules (as_asking posed.old)) }
 {
     let (requests, answers) = (posed.script.requests(), posed.answers.as_slice());
     reason_text(

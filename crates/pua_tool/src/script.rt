@@ -4,9 +4,9 @@ ghost use Rattle.std.specs.Prelude.{◌≡◌, ◌≢◌, List, Ok, Err, IfOk, I
 ghost use Rattle.pua_tree.specs.Listing.{listing};
 ghost use Rattle.pua_script.specs.Requests.{Asked};
 ghost use Rattle.pua_script.specs.Scripts.{script_by};
-ghost use Rattle.pua_tool.specs.Texts.{Replayed, as_listing, as_script, choice_of, replay_of};
+ghost use Rattle.pua_tool.specs.Texts.{as_listing, as_script, choice_of, replay_of};
 ghost use Rattle.pua_tool.specs.Texts.{table_by};
-ghost use Rattle.pua_tool.specs.Begun.{IsReplay, replay_by};
+ghost use Rattle.pua_tool.specs.Begun.{as_replayed, replay_by};
 
 use crate::fault::ToolFault;
 use crate::table::TableChoice;
@@ -45,9 +45,9 @@ pub(crate) fn replay_script(
     script_bytes: &[u8],
     table: TableChoice<'_>,
 ) -> Result<Replay, ToolFault>
-    ensures done { IfOk result (λ replay. (done : Replayed)
-        × (replay_of (choice_of table.entry) tree_bytes.now script_bytes.now ≡ Ok done)
-        × IsReplay replay done) }
+    ensures done { IfOk result (λ replay.
+        replay_of (choice_of table.entry) tree_bytes.now script_bytes.now
+        ≡ Ok (as_replayed replay)) }
     ensures refused { IfErr result (λ fault. fault ≢ ToolFault.OutOfMemory →
         (replay_of (choice_of table.entry) tree_bytes.now script_bytes.now ≡ Err fault)) }
     ensures unwritten { IfErr result (λ fault. fault ≢ ToolFault.Write) }
@@ -69,7 +69,7 @@ fn replay_over(
 ) -> Result<Replay, ToolFault>
     ensures done { IfOk result (λ replay. (asks : List Asked)
         × (as_script (script_by rules script_bytes.now) ≡ Ok asks)
-        × IsReplay replay (replay_by table tree asks)) }
+        × (as_replayed replay ≡ replay_by table tree asks)) }
     ensures refused { IfErr result (λ fault. fault ≢ ToolFault.OutOfMemory →
         (as_script (script_by rules script_bytes.now) ≡ Err fault)) }
     ensures unwritten { IfErr result (λ fault. fault ≢ ToolFault.Write) }
@@ -85,7 +85,7 @@ fn replay_requests(
     table: CallTable,
     requests: &Script,
 ) -> Result<Replay, ToolFault>
-    ensures done { IfOk result (λ replay. IsReplay replay (replay_by table tree requests.now)) }
+    ensures done { IfOk result (λ replay. as_replayed replay ≡ replay_by table tree requests.now) }
     ensures memory { IfErr result (λ fault. fault ≡ ToolFault.OutOfMemory) }
     ensures unwritten { IfErr result (λ fault. fault ≢ ToolFault.Write) }
 {

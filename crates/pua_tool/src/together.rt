@@ -1,15 +1,11 @@
 //! The text of what several processes can ever touch together.
 
-ghost use Rattle.std.specs.Prelude.{◌≡◌, ◌≢◌, ◌∷◌, ◌++◌, ℕ, List, None, Ok, IfSome, IfOk, IfErr};
-ghost use Rattle.pua_calls.specs.Calls.{CallTable as AnyTable};
-ghost use Rattle.pua_policy.specs.History.{History, StandsFor};
-ghost use Rattle.pua_script.specs.Replay.{World as AnyWorld};
-ghost use Rattle.pua_script.specs.Worlds.{StandsForWorld};
-ghost use Rattle.pua_texts.specs.Members.{AreMembers};
+ghost use Rattle.std.specs.Prelude.{◌≡◌, ◌≢◌, ◌∷◌, ◌++◌, None, Some, Ok, IfOk, IfErr};
+ghost use Rattle.pua_texts.specs.Members.{named_by};
 ghost use Rattle.pua_texts.specs.TogetherLines.{living, one_for, together_list};
 ghost use Rattle.pua_tool.specs.Answers.{AnswersTo};
-ghost use Rattle.pua_tool.specs.Begun.{IsReplay};
-ghost use Rattle.pua_tool.specs.Texts.{Replayed, choice_of};
+ghost use Rattle.pua_tool.specs.Begun.{as_replayed};
+ghost use Rattle.pua_tool.specs.Texts.{choice_of};
 ghost use Rattle.pua_tool.specs.TogetherTexts.{first_refused, together_after, together_of};
 ghost use Rattle.pua_tool.specs.TogetherTexts.{together_text};
 
@@ -71,9 +67,8 @@ fn members_to<S: Sink>(
     which: &Members,
     sink: &mut S,
 ) -> Result<(), ToolFault>
-    ensures { (done : Replayed) → IsReplay replay.now done →
-        AnswersTo S.written S.failed (together_after rules done which.now) result sink.old
-        sink.new }
+    ensures { AnswersTo S.written S.failed
+        (together_after rules (as_replayed replay.now) which.now) result sink.old sink.new }
 {
     let members = members_of(alloc, &replay.world, which)?;
     list_to(alloc, replay, rules, members.as_slice(), sink)
@@ -88,9 +83,9 @@ fn list_to<S: Sink>(
     members: &[Member<'_>],
     sink: &mut S,
 ) -> Result<(), ToolFault>
-    ensures { (done : Replayed) (named : List (ℕ × History)) → IsReplay replay.now done →
-        AreMembers members.now named →
-        AnswersTo S.written S.failed (together_of rules done named) result sink.old sink.new }
+    ensures { AnswersTo S.written S.failed
+        (together_of rules (as_replayed replay.now) (named_by members.now))
+        result sink.old sink.new }
 {
     check_members(members, replay.world.table())?;
     let living = living_of(alloc, members)?;
@@ -131,12 +126,11 @@ fn joint_to<S: Sink>(
     front: &str,
     sink: &mut S,
 ) -> Result<(), ToolFault>
-    ensures { (table : AnyTable) (w : AnyWorld) (named : List (ℕ × History)) →
-        world.now.table ≡ table → StandsForWorld world.now w → AreMembers members.now named →
-        AreMembers (first.now ∷ more.now) (living named) →
-        first_refused table named ≡ None →
-        AnswersTo S.written S.failed
-        (Ok (front.now ++ together_list rules table w.tree named)) result sink.old sink.new }
+    ensures { named_by (first.now ∷ more.now) ≡ living (named_by members.now) →
+        first_refused world.now.table (named_by members.now) ≡ None →
+        AnswersTo S.written S.failed (Ok (front.now
+        ++ together_list rules world.now.table world.now.tree (named_by members.now)))
+        result sink.old sink.new }
 {
     let (tree, table) = (world.tree(), world.table());
     let one = join_all(alloc, first, more, table)?;
@@ -161,9 +155,8 @@ fn join_all(
     more: &[Member<'_>],
     table: &CallTable,
 ) -> Result<Process, ToolFault>
-    ensures joined { IfOk result (λ one. (named : List (ℕ × History)) →
-        AreMembers (first.now ∷ more.now) named →
-        IfSome (one_for table.now named) (StandsFor one)) }
+    ensures joined { IfOk result (λ one.
+        one_for table.now (named_by (first.now ∷ more.now)) ≡ Some one) }
     ensures memory { IfErr result (λ fault. fault ≡ ToolFault.OutOfMemory) }
     ensures unwritten { IfErr result (λ fault. fault ≢ ToolFault.Write) }
 {

@@ -4,10 +4,9 @@ ghost use Rattle.std.specs.Prelude.{◌≡◌, ◌≢◌, ◌++◌, ◌∷◌, O
 ghost use Rattle.std.specs.Prelude.{string_bytes};
 ghost use Rattle.pua_script.specs.Requests.{Asked};
 ghost use Rattle.pua_script.specs.Scripts.{request_by};
-ghost use Rattle.pua_tool.specs.PosedScripts.{IsPosed};
+ghost use Rattle.pua_tool.specs.PosedScripts.{IsPosed, as_asking};
 ghost use Rattle.pua_tool.specs.Answers.{AnswersTo};
 ghost use Rattle.pua_tool.specs.Texts.{choice_of};
-ghost use Rattle.pua_texts.specs.WhyLines.{Posed as Asking};
 ghost use Rattle.pua_tool.specs.WhyTexts.{as_request, chain_lines, request_line};
 ghost use Rattle.pua_tool.specs.WhyTexts.{why_text};
 
@@ -62,10 +61,10 @@ fn asked_text(
     process: u32,
     fields: &[&[u8]],
 ) -> Result<String, ToolFault>
-    ensures done { IfOk result (λ text. (p : Asking) → IsPosed posed.old p → (ask : Asked)
+    ensures done { IfOk result (λ text. IsPosed posed.old → (ask : Asked)
         × (as_request (request_by rules 1 (request_line process
         (map (λ field. field.now) fields.now))) ≡ Ok ask) × (string_bytes text
-        ≡ chain_lines rules p ask)) }
+        ≡ chain_lines rules (as_asking posed.old) ask)) }
     ensures refused { IfErr result (λ fault. fault ≢ ToolFault.OutOfMemory →
         as_request (request_by rules 1 (request_line process
         (map (λ field. field.now) fields.now))) ≡ Err fault) }
@@ -132,8 +131,8 @@ fn text_of(
     posed: &mut Posed,
     request: &Request,
 ) -> Result<String, OutOfMemory>
-    ensures { IfOk result (λ text. (p : Asking) → IsPosed posed.old p →
-        string_bytes text ≡ chain_lines rules p request.now) }
+    ensures { IfOk result (λ text. IsPosed posed.old →
+        string_bytes text ≡ chain_lines rules (as_asking posed.old) request.now) }
 {
     let (requests, answers) = (posed.script.requests(), posed.answers.as_slice());
     let (before, after) = (&mut posed.before, &mut posed.after);

@@ -6,7 +6,7 @@ use Rattle.std.specs.Ordering.{nat_cmp, is_eq}
 use Rattle.std.specs.FinMap.{find as find_key, put}
 use Rattle.std.specs.FinMap.Entries.{where_key}
 use Rattle.indexmap.specs.IndexMap.{get, index_map_len, spare}
-use Rattle.slab.specs.Slab.{get as slot_get, slab_len, HasRoomFor}
+use Rattle.slab.specs.Slab.{get as slot_get, slab_len, HasRoomFor, IsSlabClone}
 use Rattle.pua_tree.specs.Tree as tree
 use Rattle.pua_tree.specs.Tree.{spot_cmp}
 use Rattle.pua_tree.specs.declared.node.Kind.TheVariants.{Dir}
@@ -159,3 +159,14 @@ pub record IsNew (s : Slots) (x : ℕ) : Type 0 where
 abbrev pub with_made : ℕ → Option tree.Node → List (ℕ × tree.Node) → List (ℕ × tree.Node)
 with_made x None nodes = nodes
 with_made x (Some made) nodes = put nat_cmp x made nodes
+
+-- a copy of a node: the same kind and target, and it stands alike
+pub record IsNodeCopy (node copy : SlotNode) : Type 0 where
+  pub made : made_of copy ≡ made_of node
+  pub standing : copy.standing ≡ node.standing
+
+-- a copy of rows and nodes: the same entries, and a copy of each node in its slot
+pub record AreCopied (s copy : Slots) : Type 0 where
+  pub rows : copy.rows.entries ≡ s.rows.entries
+  pub numbers : copy.numbers.entries ≡ s.numbers.entries
+  pub nodes : IsSlabClone IsNodeCopy s.nodes copy.nodes

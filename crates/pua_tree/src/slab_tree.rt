@@ -33,6 +33,21 @@ impl Model for SlabTree {
     ghost invariant = { λ a. WellFormed (held_in_slots a.slots a.next) × AreConsistent a.slots };
 }
 
+ghost use Rattle.std.specs.Prelude.{◌≡◌, IfOk};
+
+impl SlabTree {
+    /// A copy, which from then on is a tree of its own. The only error is that a growth was refused.
+    pub fn copy(&self) -> Result<SlabTree, OutOfMemory>
+        ensures { IfOk result (λ copy. copy ≡ self.now) }
+    {
+        let slots = self.slots.copy()?;
+        Ok(SlabTree {
+            slots,
+            next: self.next,
+        })
+    }
+}
+
 impl FileTree for SlabTree {
     ghost content = { λ t. t };
 

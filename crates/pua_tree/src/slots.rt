@@ -18,6 +18,24 @@ pub(crate) struct SlotNode {
     pub(crate) standing: Stance,
 }
 
+impl Clone for SlotNode {
+    ghost use Rattle.pua_tree.specs.Slots.{IsNodeCopy};
+
+    ghost is_clone = { IsNodeCopy };
+
+    fn clone(&self) -> Result<SlotNode, AllocError> {
+        let target = match &self.target {
+            Some(target) => Some(target.clone()?),
+            None => None,
+        };
+        Ok(SlotNode {
+            kind: self.kind,
+            target,
+            standing: self.standing,
+        })
+    }
+}
+
 /// How a node stands in the tree: the spot to which it came last, which is that of a directory but
 /// the root, how many rows a directory has, and how many names the node has.
 #[derive(Clone, Copy)]
@@ -59,7 +77,7 @@ ghost use Rattle.pua_tree.specs.Reading.{Follows, said_node, entry_at, tree_with
 ghost use Rattle.pua_tree.specs.LentRows.{lent_entry};
 ghost use Rattle.pua_tree.specs.Slots.{held_rows, held_nodes, held_in_slots, names_of, IsNew};
 ghost use Rattle.pua_tree.specs.Slots.{with_made, row_in, row_at, slot_of, node_in};
-ghost use Rattle.pua_tree.specs.Slots.{HasRow, MayEnter, MayMove, HasNodeRoom};
+ghost use Rattle.pua_tree.specs.Slots.{HasRow, MayEnter, MayMove, HasNodeRoom, AreCopied};
 ghost use Rattle.pua_tree.specs.Slots.{AreConsistent, Restands, row_gained, row_lost, name_gained};
 ghost use Rattle.pua_tree.specs.Slots.{name_lost, IsFiled, standing_of_dir};
 
@@ -222,6 +240,20 @@ impl Slots {
         ensures { result ≡ slot_of self.now id }
     {
         self.numbers.get(&id).copied()
+    }
+
+    /// A copy. The only error is that a growth was refused.
+    pub(crate) fn copy(&self) -> Result<Slots, AllocError>
+        ensures { IfOk result (λ copy. AreCopied self.now copy) }
+    {
+        let rows = self.rows.clone()?;
+        let numbers = self.numbers.clone()?;
+        let nodes = self.nodes.clone()?;
+        Ok(Slots {
+            rows,
+            numbers,
+            nodes,
+        })
     }
 
     /// How many rows there are.

@@ -1,14 +1,15 @@
 -- What a chain tells.
 use Rattle.pua_why.proofs.Common.{◌≡◌, ℕ, suc, ◌+◌, Bool, true, false, List, [], ◌∷◌, ◌++◌, map, length, Some, None, refl, sym, ap, ◌∙◌}
-use Rattle.pua_why.proofs.Common.{append_assoc, append-nil, arith, Result, Ok, Err, Option, if◌then◌else◌, decimal, option_map, list_any}
-use Rattle.pua_why.proofs.Common.{Tree, Spot, climb, Found, Ending, PathTrace, PathFault, CallTable, PairRule, rule_of, History, perms_kept}
+use Rattle.pua_why.proofs.Common.{append_assoc, append-nil, arith, Result, Ok, Err, Option, if◌then◌else◌, decimal, option_map}
+use Rattle.pua_why.proofs.Common.{Tree, Spot, climb, Found, Ending, PathTrace, PathFault, CallTable, PairRule, rule_of, ProcessState, perms_kept}
 use Rattle.pua_why.proofs.Common.{object_of, or_fault, Call, Change, Outcome, Side, Sole, Old, New, unless_refused, unless_failed, on_named}
 use Rattle.pua_why.proofs.Common.{change_by, pair_by, misfit, InView, Promising, Holds, HasEnded, Lacks, promising, covering, Fault, Unfit}
 use Rattle.pua_why.proofs.Common.{unpromised_fault, told_path, uncovered_fault, faults, faults_of, Fact, Needs, Follows, facts_promised}
 use Rattle.pua_why.proofs.Common.{facts_named, facts_under, call_trace, name_trace, Place}
 use Rattle.std.specs.Prelude.{bit_or}
 use Rattle.pua_path.specs.declared.text.Ending.TheVariants as ending
-use Rattle.pua_policy.specs.Verdict.{is_unveil, nearest}
+use Rattle.pua_policy.specs.States.{has_veil}
+use Rattle.pua_policy.specs.Verdict.{nearest}
 use Rattle.pua_policy.specs.declared.place.Place.TheVariants.{Dir}
 use Rattle.pua_policy.specs.declared.answer.Cover.TheVariants.{All}
 use Rattle.pua_policy.specs.Reasons.{kept_or, first_kept, cover_of}
@@ -34,7 +35,7 @@ chains_end rules table w done (first ∷ asks) ask n =
     plus_one m k = omega arith
 
 -- the first place with a veil, as a cover
-first_covers : (h : History) (places : List Place) → cover_of (first_kept (perms_kept h) places) ≡ nearest (map (perms_kept h) places)
+first_covers : (h : ProcessState) (places : List Place) → cover_of (first_kept (perms_kept h) places) ≡ nearest (map (perms_kept h) places)
 first_covers h [] = refl
 first_covers h (place ∷ places) = by (perms_kept h place) (first_covers h places)
   where
@@ -43,12 +44,12 @@ first_covers h (place ∷ places) = by (perms_kept h place) (first_covers h plac
     by (Some perms) e = refl
     by None e = e
 
-at_dirs : (h : History) (ds : List ℕ) → map (perms_kept h) (map Dir ds) ≡ map (λ dir. perms_kept h (Dir dir)) ds
+at_dirs : (h : ProcessState) (ds : List ℕ) → map (perms_kept h) (map Dir ds) ≡ map (λ dir. perms_kept h (Dir dir)) ds
 at_dirs h [] = refl
 at_dirs h (d ∷ ds) = ap (λ more. perms_kept h (Dir d) ∷ more) (at_dirs h ds)
 
 pub coverings_in : CoveringsIn
-coverings_in t h dir = by (list_any is_unveil h)
+coverings_in t h dir = by (has_veil h.veils)
   where
     by : (v : Bool) → cover_of (if v then first_kept (perms_kept h) (map Dir (climb t dir)) else InView)
         ≡ (if v then nearest (map (λ over. perms_kept h (Dir over)) (climb t dir)) else All)
@@ -70,7 +71,7 @@ needing_first : (side : Side) (set : ℕ) (links : List Spot) (object : Found) (
 needing_first side set [] object more = refl
 needing_first side set (spot ∷ links) object more = refl
 
-module _ (t : Tree) (table : CallTable) (h : History) (call : Call) (text : List ℕ) where
+module _ (t : Tree) (table : CallTable) (h : ProcessState) (call : Call) (text : List ℕ) where
   abbrev perms : ℕ
   perms = (rule_of table call).perms
 
@@ -119,7 +120,7 @@ second_none None b e = e
 second_none (Some fault) b e = cc
 
 -- two paths
-module _ (pair : PairRule) (t : Tree) (h : History) (end : Ending) (a b : List ℕ) where
+module _ (pair : PairRule) (t : Tree) (h : ProcessState) (end : Ending) (a b : List ℕ) where
   abbrev first : PathTrace
   first = name_trace pair.old t h end a
 

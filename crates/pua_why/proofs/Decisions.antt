@@ -2,10 +2,10 @@
 use Rattle.pua_why.proofs.Common.{◌≡◌, ℕ, Bool, true, false, List, [], ◌∷◌, length, Some, None, refl, ap, ◌∙◌, Result, Ok, Err, Option}
 use Rattle.pua_why.proofs.Common.{if◌then◌else◌, ◌||◌, not, is_some, nat_le, option_map, Tree, Spot, add, cut, tie, shift, TreeFault}
 use Rattle.pua_why.proofs.Common.{spot_named, node_named, Ending, Followed, Found, Whole, Slot, text_fault, trace_of_text, TextFault}
-use Rattle.pua_why.proofs.Common.{PathFault, holds, unveil, CallTable, PairRule, rule_of, History, is_ended, is_locked, perms_kept}
+use Rattle.pua_why.proofs.Common.{PathFault, holds, unveil, CallTable, PairRule, rule_of, ProcessState, is_ended, is_locked, perms_kept}
 use Rattle.pua_why.proofs.Common.{working_dir, object_of, or_fault, Place, Call, most_processes, Change, NoChange, AddNode, CutRow}
 use Rattle.pua_why.proofs.Common.{ShiftRow, TieRow, BeginProgram, AddEvent, CopyAs, Outcome, Side, Sole, Old, New, unless_refused}
-use Rattle.pua_why.proofs.Common.{unless_failed, on_named, adding, link_node, change_by, shifting, fault_if, pair_by, World, history_of}
+use Rattle.pua_why.proofs.Common.{unless_failed, on_named, adding, link_node, change_by, shifting, fault_if, pair_by, World, kept_at}
 use Rattle.pua_why.proofs.Common.{change_effect, come_of, edit_effect, edited_tree, OnPath, Symlink, Rename, Link, Pledge, Unveil, Lock}
 use Rattle.pua_why.proofs.Common.{Fork, Exit, Answer, lacking, misfit, InView, By, Promising, Holds, HasEnded, Lacks, promising, covering}
 use Rattle.pua_why.proofs.Common.{Fault, LacksLetters, Unfit, IsLocked, NumberTaken, NoProcessLeft, unpromised_fault, told_path}
@@ -24,8 +24,8 @@ use Rattle.pua_path.specs.Traces.{text_errno, object_or_errno}
 use Rattle.pua_path.proofs.ForCallers.{text_traces_answer}
 use Rattle.pua_calls.specs.Promises.{proc}
 use Rattle.pua_calls.specs.Calls.{last_of, ending_of}
-use Rattle.pua_policy.specs.History.{pledged_set, held_for_exec, has_error, is_within, veils}
-use Rattle.pua_policy.specs.History.{place_fault, most_places, unveil_fault, pledge_fault, may_any}
+use Rattle.pua_policy.specs.States.{pledged_set, held_for_exec, has_error, is_within, veils}
+use Rattle.pua_policy.specs.States.{place_fault, most_places, unveil_fault, pledge_fault, may_any}
 use Rattle.pua_policy.specs.Verdict.{place_of, object_fault, object_named, cover, cover_fault, found_fault}
 use Rattle.pua_policy.specs.Verdict.{allowed_unless, if_promised, refusal_of, refusal_verdict, verdict_of}
 use Rattle.pua_calls.specs.declared.call.Call.TheVariants as call
@@ -124,7 +124,7 @@ unpromised_told HasEnded = refl
 unpromised_told (Lacks true sets) = refl
 unpromised_told (Lacks false sets) = refl
 
-promises_told : (h : History) (sets : List ℕ) → Told (unpromised_fault (promising h sets)) ≡ refusal_of (may_any h sets)
+promises_told : (h : ProcessState) (sets : List ℕ) → Told (unpromised_fault (promising h sets)) ≡ refusal_of (may_any h sets)
 promises_told h sets = unpromised_told (promising h sets) ∙ ap refusal_of (promisings_answer h sets)
 
 target_told : (target : List ℕ) → Told (option_map BadTarget (text_fault target)) ≡ Failing (path_fault target)
@@ -150,7 +150,7 @@ wrong_told : (object : Found) (wrong : Option Misfit) →
 wrong_told object None = refl
 wrong_told object (Some wrong) = refl
 
-module _ (t : Tree) (h : History) where
+module _ (t : Tree) (h : ProcessState) where
   cover_told : (side : Side) (object : Found) (perms : ℕ) →
       Told (uncovered_fault side object perms (covering t h object)) ≡ Failing (cover_fault (cover t h object) perms)
   cover_told side object perms = uncovered_told side object perms (covering t h object) ∙
@@ -243,7 +243,7 @@ link_told a b (Some x) = failed_told _ _ _ (Ok (tying x (spot_named b)))
     (when_told (is_some (node_named b)) (Unfit New b Exists) (misfit_errno Exists) refl)) refl
 
 -- a pledge
-pledge_told : (h : History) (p x : Option ℕ) → Told (pledge_beyond h p x) ≡ Failing (pledge_fault h p x)
+pledge_told : (h : ProcessState) (p x : Option ℕ) → Told (pledge_beyond h p x) ≡ Failing (pledge_fault h p x)
 pledge_told h p x = by (has_error h) (is_within p (pledged_set h)) (is_within x (held_for_exec h))
   where
     by : (w u v : Bool) →
@@ -270,7 +270,7 @@ place_told place None places perms = by (nat_le most_places places)
     by true = refl
     by false = refl
 
-unveil_told : (h : History) (place : Place) (perms : ℕ) →
+unveil_told : (h : ProcessState) (place : Place) (perms : ℕ) →
     Told (unveil_beyond h place perms) ≡ Failing (unveil_errno (unveil_fault h place perms))
 unveil_told h place perms = by (is_locked h)
   where
@@ -279,7 +279,7 @@ unveil_told h place perms = by (is_locked h)
     by true = refl
     by false = place_told place (perms_kept h place) (length (veils h)) perms
 
-veil_told : (t : Tree) (h : History) (path : List ℕ) (letters : Option ℕ) →
+veil_told : (t : Tree) (h : ProcessState) (path : List ℕ) (letters : Option ℕ) →
     decision_of (veil_by faults t (faults_of h) path letters) ≡ veil_by refusals t (asker_of h) path letters
 veil_told t h path None = refl
 veil_told t h path (Some perms) =
@@ -315,11 +315,11 @@ verdict_told : (d : Outcome Fault) → verdict_by d ≡ verdict_as (decision_of 
 verdict_told (Ok change) = refl
 verdict_told (Err fault) = refl
 
-abbrev verdict_for : Tree → CallTable → History → Call → May → Result Found Errno → Verdict
+abbrev verdict_for : Tree → CallTable → ProcessState → Call → May → Result Found Errno → Verdict
 verdict_for t table h c m (Ok x) = if_promised m (allowed_unless (found_fault t table h c x))
 verdict_for t table h c m (Err errno) = if_promised m (verdict.Failed errno)
 
-decided_as : (t : Tree) (table : CallTable) (h : History) (c : Call) (m : May) (r : Result Found Errno) →
+decided_as : (t : Tree) (table : CallTable) (h : ProcessState) (c : Call) (m : May) (r : Result Found Errno) →
     verdict_as (unless_refused (refusal_of m) (on_named (λ errno. refusal.Failed errno) r λ x. unless_failed (λ errno. refusal.Failed errno)
     (found_fault t table h c x) (Ok (change_by table c x))))
     ≡ verdict_for t table h c m r
@@ -334,7 +334,7 @@ decided_as t table h c may.Enosys (Err errno) = refl
 decided_as t table h c may.Death (Ok x) = refl
 decided_as t table h c may.Death (Err errno) = refl
 
-verdict_is : (t : Tree) (table : CallTable) (h : History) (c : Call) (r : Result Found Errno) →
+verdict_is : (t : Tree) (table : CallTable) (h : ProcessState) (c : Call) (r : Result Found Errno) →
     verdict_for t table h c (may_any h (rule_of table c).alternatives) r ≡ verdict_of t table h c r
 verdict_is t table h c (Ok x) = refl
 verdict_is t table h c (Err errno) = refl
@@ -349,15 +349,15 @@ reasons_give_verdicts t table h c text =
 abbrev told : Option Fault → Answer
 told fault = answer_of (reason_of fault)
 
-edited_told : (h : History) (r : Result (ℕ × Tree) TreeFault) → told (no_room (edit_effect h r)) ≡ answer_to (edit_effect h r)
+edited_told : (h : ProcessState) (r : Result (ℕ × Tree) TreeFault) → told (no_room (edit_effect h r)) ≡ answer_to (edit_effect h r)
 edited_told h (Ok x) = refl
 edited_told h (Err fault) = refl
 
-edited_tree_told : (h : History) (r : Result Tree TreeFault) → told (no_room (edited_tree h r)) ≡ answer_to (edited_tree h r)
+edited_tree_told : (h : ProcessState) (r : Result Tree TreeFault) → told (no_room (edited_tree h r)) ≡ answer_to (edited_tree h r)
 edited_tree_told h (Ok x) = refl
 edited_tree_told h (Err fault) = refl
 
-made_told : (w : World) (h : History) (change : Change) → told (room_fault w h change) ≡ answer_to (change_effect w h change)
+made_told : (w : World) (h : ProcessState) (change : Change) → told (room_fault w h change) ≡ answer_to (change_effect w h change)
 made_told w h NoChange = refl
 made_told w h (AddNode spot node) = edited_told h (add w.tree spot.0 spot.1 node)
 made_told w h (CutRow spot) = edited_told h (cut w.tree spot.0 spot.1)
@@ -365,7 +365,7 @@ made_told w h (ShiftRow old new) = edited_tree_told h (shift w.tree old.0 old.1 
 made_told w h (TieRow spot x) = edited_tree_told h (tie w.tree spot.0 spot.1 x)
 made_told w h (BeginProgram left) = refl
 made_told w h (AddEvent event) = refl
-made_told w h (CopyAs new) = by (is_some (history_of w new)) (nat_le most_processes (length w.histories))
+made_told w h (CopyAs new) = by (is_some (kept_at w new)) (nat_le most_processes (length w.processes))
   where
     by : (u v : Bool) → told (or_fault (fault_if u (NumberTaken new)) (fault_if v NoProcessLeft))
         ≡ answer_to (if u || v then replay.Fails EAGAIN else replay.Copies new)
@@ -377,14 +377,14 @@ refusal_told : (r : Refusal) → refusal_answer r ≡ answer_to (replay.refusal_
 refusal_told (refusal.Failed errno) = refl
 refusal_told refusal.Killed = refl
 
-outcome_told : (w : World) (h : History) (d : Outcome Fault) → told (outcome_fault w h d) ≡ answer_to (come_of w h (decision_of d))
+outcome_told : (w : World) (h : ProcessState) (d : Outcome Fault) → told (outcome_fault w h d) ≡ answer_to (come_of w h (decision_of d))
 outcome_told w h (Ok change) = made_told w h change
 outcome_told w h (Err fault) = refusal_told (fault_refusal fault)
 
 pub reasons_give_answers : ReasonsGiveAnswers
-reasons_give_answers table w ask = by (history_of w ask.process)
+reasons_give_answers table w ask = by (kept_at w ask.process)
   where
-    living : (h : History) (v : Bool) →
+    living : (h : ProcessState) (v : Bool) →
         answer_of (if v then reasons.Ended else reason_of (outcome_fault w h (change_or_fault table w.tree h ask.action)))
         ≡ (if◌then◌else◌ {A = Answer × World} v (Gone, w) (
           answer_to (come_of w h (decide table w.tree h ask.action)),
@@ -394,6 +394,6 @@ reasons_give_answers table w ask = by (history_of w ask.process)
     living h false = outcome_told w h (change_or_fault table w.tree h ask.action) ∙
         ap (λ d. answer_to (come_of w h d)) (reasons_give_decisions table w.tree h ask.action)
 
-    by : (o : Option History) → answer_of (reason_by table w ask.action o) ≡ (answer_and_world table w ask o).0
+    by : (o : Option ProcessState) → answer_of (reason_by table w ask.action o) ≡ (answer_and_world table w ask o).0
     by None = refl
     by (Some h) = living h (is_ended h)

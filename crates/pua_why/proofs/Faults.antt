@@ -1,6 +1,6 @@
 -- What a fault of a call on a path says is so.
 use Rattle.pua_why.proofs.Common.{◌≡◌, ℕ, List, Some, None, refl, Ok, Err, Option, subst, option_map, Tree, Found, CallTable, rule_of}
-use Rattle.pua_why.proofs.Common.{History, object_of, Call, Change, Sole, change_by, misfit, covering, Fault, Unfit, faults, faults_of}
+use Rattle.pua_why.proofs.Common.{ProcessState, object_of, Call, Change, Sole, change_by, misfit, covering, Fault, Unfit, faults, faults_of}
 use Rattle.pua_why.proofs.Common.{call_trace}
 use Rattle.std.specs.Prelude.{IfSome}
 use Rattle.pua_script.specs.Decide.{object_by}
@@ -10,7 +10,7 @@ use Rattle.pua_why.specs.Laws.{CallFaultHolds, CallFaultsHold}
 use Rattle.pua_why.proofs.Steps.{refused_true, failed_true, named_true, either_true, unpromised_true, uncovered_true}
 use Rattle.pua_policy.proofs.ForCallers.{misfits_hold}
 
-module _ (t : Tree) (table : CallTable) (h : History) (c : Call) (text : List ℕ) where
+module _ (t : Tree) (table : CallTable) (h : ProcessState) (c : Call) (text : List ℕ) where
   abbrev Is : Fault → Type 0
   Is = CallFaultHolds t table h c text
 

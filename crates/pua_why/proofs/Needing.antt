@@ -1,12 +1,11 @@
 -- What a request passed, as it is told one after another.
 use Rattle.pua_why.proofs.Common.{◌≡◌, ℕ, false, List, [], ◌∷◌, ◌++◌, map, Some, None, refl, sym, ap, ◌∙◌, append_assoc, Result, Ok, Err}
-use Rattle.pua_why.proofs.Common.{Option, if◌then◌else◌, is_some, option_map, Spot, Found, PathFault, PathTrace, History, Place, IsLocked}
-use Rattle.pua_why.proofs.Common.{place_beyond, faults_of, Promising, Holds, Outcome, Side, unless_refused, unless_failed, TextFault}
+use Rattle.pua_why.proofs.Common.{Option, if◌then◌else◌, is_some, option_map, Spot, Found, PathFault, PathTrace, ProcessState, Place, IsLocked}
+use Rattle.pua_why.proofs.Common.{place_beyond, Promising, Holds, Outcome, Side, unless_refused, unless_failed, TextFault}
 use Rattle.pua_why.proofs.Common.{fault_seen, refused_by, Fact, Needs, Follows, facts_promised, facts_named}
 use Rattle.std.specs.Prelude.{bit_or, length}
-use Rattle.pua_policy.specs.History.{ProcessState, StandsFor, veil_at}
-use Rattle.pua_policy.proofs.ForCallers.{keeps, kept_by, covering_by}
-use Rattle.pua_why.specs.Reasons.{unveil_beyond_on, faults_by, faults_on}
+use Rattle.pua_policy.specs.States.{veil_at}
+use Rattle.pua_why.specs.Reasons.{unveil_beyond}
 use Rattle.pua_why.specs.declared.told.Fault as told
 use Rattle.pua_why.specs.Reasons as reasons
 use Rattle.pua_why.specs.Facts.{needing, facts_found}
@@ -45,7 +44,7 @@ both_named old one final set other side trace more p q held held_too first rest 
 
 -- what is kept at a place decides, where the veils are not locked
 pub kept_beyond : (p : ProcessState) (place : Place) (perms given : ℕ) → false ≡ p.locked → Some given ≡ veil_at p.veils place →
-    place_beyond place (Some given) (length p.veils) perms ≡ unveil_beyond_on p (veil_at p.veils) place perms
+    place_beyond place (Some given) (length p.veils) perms ≡ unveil_beyond p place perms
 kept_beyond p place perms given unlocked at = λ i. if unlocked i then Some IsLocked else place_beyond place (at i) (length p.veils) perms
 
 -- held promises let the further checks decide
@@ -60,7 +59,3 @@ pub target_passed : (further : Option told.Fault) (o : Option TextFault) (d : Ou
     → option_map fault_seen further ≡ refused_by d →
     option_map fault_seen further ≡ refused_by (unless_failed (λ fault. fault) (option_map reasons.BadTarget o) d)
 target_passed further o d none rest = rest ∙ ap (λ q. refused_by (unless_failed (λ fault. fault) (option_map reasons.BadTarget q) d)) none
-
--- a process is told faults as its history is
-pub faults_stand : (p : ProcessState) (h : History) → StandsFor p h → faults_on p ≡ faults_of h
-faults_stand p h s = λ i. faults_by (keeps p h s i) (λ t object. sym (covering_by p h s t object) i) (λ place. sym (kept_by p h s place) i)

@@ -1,6 +1,6 @@
 -- A request that is no fork is granted no further process.
 use Rattle.pua_why.proofs.Common.{◌≡◌, ℕ, Some, None, refl, sym, ap, ◌∙◌, Ok, Err, Option, Tree, Spot, spot_named, node_named, Found, Whole}
-use Rattle.pua_why.proofs.Common.{Slot, CallTable, History, Call, Change, NoChange, Outcome, shifting, link_node, change_by, World, OnPath}
+use Rattle.pua_why.proofs.Common.{Slot, CallTable, ProcessState, Call, Change, NoChange, Outcome, shifting, link_node, change_by, World, OnPath}
 use Rattle.pua_why.proofs.Common.{Symlink, Rename, Link, Pledge, Unveil, Lock, Fork, Exit, Fault, change_or_fault, decision_of, refused_by}
 use Rattle.std.proofs.Common.{inl, inr, ◌⊎◌, true≢false}
 use Rattle.std.specs.Prelude.{IsFalse}
@@ -47,7 +47,7 @@ module _ (w : World) where
   is_plain : (change other : Change) → change ≡ other → Plain other → Plain change
   is_plain change other is plain = ap (process_fault w) is ∙ plain
 
-  plain_decided : (table : CallTable) (t : Tree) (h : History) (action : Action) (change : Change) → IsFalse (is_fork action) →
+  plain_decided : (table : CallTable) (t : Tree) (h : ProcessState) (action : Action) (change : Change) → IsFalse (is_fork action) →
       IsDecided table t h action change → Plain change
   plain_decided table t h (OnPath c path) change other d = is_plain change _ d.2 (plain_change table c d.0)
   plain_decided table t h (Symlink target path) change other d =
@@ -64,7 +64,7 @@ module _ (w : World) where
   plain_decided table t h (Fork new) change other d = absurd (true≢false other)
   plain_decided table t h Exit change other d = is_plain change _ d refl
 
-  pub plain_checks : (table : CallTable) (t : Tree) (h : History) (action : Action) → IsFalse (is_fork action) →
+  pub plain_checks : (table : CallTable) (t : Tree) (h : ProcessState) (action : Action) → IsFalse (is_fork action) →
       checks_fault w (change_or_fault table t h action) ≡ refused_by (change_or_fault table t h action)
   plain_checks table t h action other = by (change_or_fault table t h action) refl
     where

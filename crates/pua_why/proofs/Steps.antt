@@ -1,6 +1,6 @@
 -- A check that fails does so with what is true, or the checks behind it fail.
 use Rattle.pua_why.proofs.Common.{◌≡◌, ℕ, Bool, true, false, List, Some, None, refl, Result, Ok, Err, Option, subst, if◌then◌else◌, Found}
-use Rattle.pua_why.proofs.Common.{PathFault, holds, History, is_ended, or_fault, Place, Outcome, Side, unless_refused, unless_failed}
+use Rattle.pua_why.proofs.Common.{PathFault, holds, ProcessState, is_ended, or_fault, Place, Outcome, Side, unless_refused, unless_failed}
 use Rattle.pua_why.proofs.Common.{on_named, fault_if, lacking, InView, By, Promising, Holds, HasEnded, Lacks, promising, Fault}
 use Rattle.pua_why.proofs.Common.{LacksLetters, unpromised_fault, told_path, uncovered_fault}
 use Rattle.pua_policy.specs.declared.reason.Covering.{Covering}
@@ -42,7 +42,7 @@ pub when_true : (v : Bool) (said bad : Fault) (Is : Fault → Type 0) → (v ≡
 when_true true said bad Is is e = let same : said ≡ bad = cc in subst Is same (is refl)
 when_true false said bad Is is e = cc
 
-pub unpromised_true : (h : History) (sets : List ℕ) (bad : Fault) (Is : Fault → Type 0) →
+pub unpromised_true : (h : ProcessState) (sets : List ℕ) (bad : Fault) (Is : Fault → Type 0) →
     (is_ended h ≡ true → Is Ends) → ((error : Bool) (lacks : List ℕ) → PromisingHolds h sets (Lacks error lacks) →
     Is (LacksPromises error lacks)) →
     unpromised_fault (promising h sets) ≡ Some bad → Is bad

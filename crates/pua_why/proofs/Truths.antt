@@ -2,10 +2,10 @@
 use Rattle.pua_why.proofs.Common.{◌≡◌, ℕ, Bool, true, false, List, [], ◌∷◌, length, Some, None, refl, sym, Result, Ok, Err, Option, subst}
 use Rattle.pua_why.proofs.Common.{ap, ◌∙◌, if◌then◌else◌, not, ◌||◌, is_some, nat_le, option_map, Tree, Spot, add, cut, tie, shift}
 use Rattle.pua_why.proofs.Common.{TreeFault, spot_named, node_named, Ending, Followed, Found, Whole, Slot, text_fault, trace_of_text}
-use Rattle.pua_why.proofs.Common.{TextFault, holds, unveil, CallTable, PairRule, rule_of, History, is_locked, perms_kept, working_dir}
+use Rattle.pua_why.proofs.Common.{TextFault, holds, unveil, CallTable, PairRule, rule_of, ProcessState, is_locked, perms_kept, working_dir}
 use Rattle.pua_why.proofs.Common.{or_fault, Place, most_processes, Change, NoChange, AddNode, CutRow, ShiftRow, TieRow, BeginProgram}
 use Rattle.pua_why.proofs.Common.{AddEvent, CopyAs, Outcome, Side, Sole, Old, New, unless_refused, unless_failed, adding, link_node}
-use Rattle.pua_why.proofs.Common.{shifting, pair_by, World, history_of, change_effect, come_of, edit_effect, edited_tree, OnPath, Symlink}
+use Rattle.pua_why.proofs.Common.{shifting, pair_by, World, kept_at, change_effect, come_of, edit_effect, edited_tree, OnPath, Symlink}
 use Rattle.pua_why.proofs.Common.{Rename, Link, Pledge, Unveil, Lock, Fork, Exit, lacking, By, promising, covering, Fault, LacksLetters}
 use Rattle.pua_why.proofs.Common.{Unfit, IsLocked, NumberTaken, NoProcessLeft, unpromised_fault, place_beyond, faults, faults_of}
 use Rattle.pua_why.proofs.Common.{change_or_fault, no_room, room_fault, outcome_fault, name_trace, decision_of}
@@ -16,8 +16,8 @@ use Rattle.pua_path.specs.declared.errno.Errno.TheVariants.{ENOSPC}
 use Rattle.pua_path.specs.declared.text.Ending.TheVariants as ending
 use Rattle.pua_path.specs.declared.found.Way.TheVariants as way
 use Rattle.pua_calls.specs.Promises.{proc}
-use Rattle.pua_policy.specs.History.{pledged_set, held_for_exec, has_error, is_within, veils}
-use Rattle.pua_policy.specs.History.{most_places}
+use Rattle.pua_policy.specs.States.{pledged_set, held_for_exec, has_error, is_within, veils}
+use Rattle.pua_policy.specs.States.{most_places}
 use Rattle.pua_policy.specs.Verdict.{place_of}
 use Rattle.pua_calls.specs.declared.call.Call.TheVariants as call
 use Rattle.pua_script.specs.Decide.{dots_by, top_by, kinds_by, inside_by, is_whole}
@@ -40,7 +40,7 @@ use Rattle.pua_why.proofs.Faults.{object_true, call_faults_hold}
 use Rattle.std.proofs.lemmas.Bool.{not-true}
 
 -- a symlink: a fault of a call on its path, or of its target
-by_target : (table : CallTable) (t : Tree) (h : History) (target path : List ℕ) (fault : Fault) →
+by_target : (table : CallTable) (t : Tree) (h : ProcessState) (target path : List ℕ) (fault : Fault) →
     CallFaultHolds t table h call.Symlink path fault → SymlinkFaultHolds table t h target path fault
 by_target table t h target path Ends is = is
 by_target table t h target path (LacksPromises error sets) is = is
@@ -60,7 +60,7 @@ by_target table t h target path (NumberTaken n) is = is
 by_target table t h target path NoProcessLeft is = is
 by_target table t h target path NoRoom is = is
 
-target_true : (table : CallTable) (t : Tree) (h : History) (target path : List ℕ) (bad : Fault) →
+target_true : (table : CallTable) (t : Tree) (h : ProcessState) (target path : List ℕ) (bad : Fault) →
     option_map BadTarget (text_fault target) ≡ Some bad → SymlinkFaultHolds table t h target path bad
 target_true table t h target path bad e = by (text_fault target) refl e
   where
@@ -68,7 +68,7 @@ target_true table t h target path bad e = by (text_fault target) refl e
     by None o e = cc
     by (Some fault) o e = let same : BadTarget fault ≡ bad = cc in subst (SymlinkFaultHolds table t h target path) same o
 
-symlink_true : (table : CallTable) (t : Tree) (h : History) (target path : List ℕ) (fault : Fault) →
+symlink_true : (table : CallTable) (t : Tree) (h : ProcessState) (target path : List ℕ) (fault : Fault) →
     change_or_fault table t h (Symlink target path) ≡ Err fault → SymlinkFaultHolds table t h target path fault
 symlink_true table t h target path fault e =
     refused_true _ _ fault (SymlinkFaultHolds table t h target path)
@@ -78,7 +78,7 @@ symlink_true table t h target path fault e =
     (λ e. by_target table t h target path fault (object_true t table h call.Symlink path (adding (link_node target)) fault e)) e) e
 
 -- two paths
-module _ (pair : PairRule) (t : Tree) (h : History) (end : Ending) (a b : List ℕ) where
+module _ (pair : PairRule) (t : Tree) (h : ProcessState) (end : Ending) (a b : List ℕ) where
   abbrev Pair : Fault → Type 0
   Pair = PairFaultHolds pair t h end a b
 
@@ -177,14 +177,14 @@ module _ (pair : PairRule) (t : Tree) (h : History) (end : Ending) (a b : List �
       (λ e. each old new o n e) e) e) e) e) e
 
 -- a pledge
-asks_true : (h : History) (p x : Given) (of_exec : Bool) (request given : Option ℕ) (bad : Fault) →
+asks_true : (h : ProcessState) (p x : Given) (of_exec : Bool) (request given : Option ℕ) (bad : Fault) →
     (is_within request given ≡ false → PledgeFaultHolds h p x (AsksPromises of_exec (beyond request given))) →
     asks_beyond of_exec request given ≡ Some bad → PledgeFaultHolds h p x bad
 asks_true h p x of_exec request given bad is e =
     when_true (not (is_within request given)) (AsksPromises of_exec (beyond request given)) bad (PledgeFaultHolds h p x)
     (λ v. is (not-true (is_within request given) v)) e
 
-pledge_true : (table : CallTable) (t : Tree) (h : History) (p x : Given) (fault : Fault) →
+pledge_true : (table : CallTable) (t : Tree) (h : ProcessState) (p x : Given) (fault : Fault) →
     change_or_fault table t h (Pledge p x) ≡ Err fault → PledgeFaultHolds h p x fault
 pledge_true table t h p x fault e =
     failed_true _ _ fault (PledgeFaultHolds h p x)
@@ -206,7 +206,7 @@ pledge_true table t h p x fault e =
         (asks_true h p x true (given_set x) (held_for_exec h) bad (λ lacks. (v, lacks, refl))) e
 
 -- an unveil
-module _ (t : Tree) (h : History) (path : List ℕ) where
+module _ (t : Tree) (h : ProcessState) (path : List ℕ) where
   abbrev Veil : Option ℕ → Fault → Type 0
   Veil letters = UnveilFaultHolds t h path letters
 
@@ -240,7 +240,7 @@ module _ (t : Tree) (h : History) (path : List ℕ) where
       named_true Sole (trace_of_text t (working_dir h) ending.Dot path Followed).outcome _ fault (Veil (Some perms)) (λ bad o. o)
       (λ object o e. failed_true _ _ fault (Veil (Some perms)) (λ bad e. beyond_true (place_of object) perms bad e) (λ granted. cc) e) e
 
-unveil_true : (table : CallTable) (t : Tree) (h : History) (path : List ℕ) (letters : Option ℕ) (fault : Fault) →
+unveil_true : (table : CallTable) (t : Tree) (h : ProcessState) (path : List ℕ) (letters : Option ℕ) (fault : Fault) →
     change_or_fault table t h (Unveil path letters) ≡ Err fault → UnveilFaultHolds t h path letters fault
 unveil_true table t h path letters fault e =
     refused_true _ _ fault (UnveilFaultHolds t h path letters)
@@ -250,7 +250,7 @@ unveil_true table t h path letters fault e =
     e) e
 
 -- promises alone
-promise_true : (h : History) (sets : List ℕ) (change : Change) (fault : Fault) →
+promise_true : (h : ProcessState) (sets : List ℕ) (change : Change) (fault : Fault) →
     unless_refused (unpromised_fault (promising h sets)) (Ok change) ≡ Err fault → PromiseFaultHolds h sets fault
 promise_true h sets change fault e =
     refused_true _ _ fault (PromiseFaultHolds h sets)
@@ -272,17 +272,17 @@ check_faults_hold table t h (Fork new) fault e = promise_true h (proc ∷ []) _ 
 check_faults_hold table t h Exit fault e = cc
 
 -- the room of a change
-edited_true : (w : World) (h : History) (fault : Fault) (r : Result (ℕ × Tree) TreeFault) → no_room (edit_effect h r) ≡ Some fault →
+edited_true : (w : World) (h : ProcessState) (fault : Fault) (r : Result (ℕ × Tree) TreeFault) → no_room (edit_effect h r) ≡ Some fault →
     (fault ≡ NoRoom) × (edit_effect h r ≡ Fails ENOSPC)
 edited_true w h fault (Ok x) e = cc
 edited_true w h fault (Err bad) e = (cc, refl)
 
-edited_tree_true : (w : World) (h : History) (fault : Fault) (r : Result Tree TreeFault) → no_room (edited_tree h r) ≡ Some fault →
+edited_tree_true : (w : World) (h : ProcessState) (fault : Fault) (r : Result Tree TreeFault) → no_room (edited_tree h r) ≡ Some fault →
     (fault ≡ NoRoom) × (edited_tree h r ≡ Fails ENOSPC)
 edited_tree_true w h fault (Ok x) e = cc
 edited_tree_true w h fault (Err bad) e = (cc, refl)
 
-room_true : (w : World) (h : History) (change : Change) (fault : Fault) → room_fault w h change ≡ Some fault →
+room_true : (w : World) (h : ProcessState) (change : Change) (fault : Fault) → room_fault w h change ≡ Some fault →
     RoomFaultHolds w h change fault
 room_true w h NoChange fault e = cc
 room_true w h (AddNode spot node) fault e = let f = edited_true w h fault (add w.tree spot.0 spot.1 node) e in
@@ -297,8 +297,8 @@ room_true w h (BeginProgram left) fault e = cc
 room_true w h (AddEvent event) fault e = cc
 room_true w h (CopyAs new) fault e =
     either_true _ _ fault (RoomFaultHolds w h (CopyAs new))
-    (when_true (is_some (history_of w new)) (NumberTaken new) fault (RoomFaultHolds w h (CopyAs new)) (λ v. (refl, v)))
-    (when_true (nat_le most_processes (length w.histories)) NoProcessLeft fault (RoomFaultHolds w h (CopyAs new)) (λ v. v)) e
+    (when_true (is_some (kept_at w new)) (NumberTaken new) fault (RoomFaultHolds w h (CopyAs new)) (λ v. (refl, v)))
+    (when_true (nat_le most_processes (length w.processes)) NoProcessLeft fault (RoomFaultHolds w h (CopyAs new)) (λ v. v)) e
 
 pub request_faults_hold : RequestFaultsHold
 request_faults_hold table w h action fault e = by (change_or_fault table w.tree h action) refl e
@@ -310,7 +310,7 @@ request_faults_hold table w h action fault e = by (change_or_fault table w.tree 
         inl (check_faults_hold table w.tree h action fault (is ∙ ap (λ (x : Fault). Err x) same))
 
 -- no check is told to lack room
-never_full : (table : CallTable) (t : Tree) (h : History) (action : Action) → CheckFaultHolds table t h action NoRoom → ⊥
+never_full : (table : CallTable) (t : Tree) (h : ProcessState) (action : Action) → CheckFaultHolds table t h action NoRoom → ⊥
 never_full table t h (OnPath c path) is = is
 never_full table t h (Symlink target path) is = is
 never_full table t h (Rename old new) is = is
@@ -321,7 +321,7 @@ never_full table t h Lock is = is
 never_full table t h (Fork new) is = is
 never_full table t h Exit is = is
 
-full_made : (w : World) (h : History) (change : Change) → RoomFaultHolds w h change NoRoom → change_effect w h change ≡ Fails ENOSPC
+full_made : (w : World) (h : ProcessState) (change : Change) → RoomFaultHolds w h change NoRoom → change_effect w h change ≡ Fails ENOSPC
 full_made w h NoChange is = is
 full_made w h (AddNode spot node) is = is
 full_made w h (CutRow spot) is = is

@@ -2,12 +2,12 @@
 use Rattle.std.specs.Prelude.{◌≡◌, if◌then◌else◌, length, nat_le, Option, Some, None, Ok, Err, is_some}
 use Rattle.pua_path.specs.declared.errno.Errno.TheVariants.{ENOSPC}
 use Rattle.pua_calls.specs.Calls.{CallTable}
-use Rattle.pua_policy.specs.History.{History, is_ended}
+use Rattle.pua_policy.specs.States.{ProcessState, is_ended}
 use Rattle.pua_policy.specs.Verdict.{or_fault}
 use Rattle.pua_script.specs.Limits.{most_processes}
 use Rattle.pua_script.specs.Requests.{Asked}
 use Rattle.pua_script.specs.Decide.{Change, CopyAs, Outcome, fault_if}
-use Rattle.pua_script.specs.Replay.{World, history_of, apply}
+use Rattle.pua_script.specs.Replay.{World, kept_at, apply}
 use Rattle.pua_script.specs.declared.request.Action.{Action}
 use Rattle.pua_script.specs.declared.answer.Answer.{Answer}
 use Rattle.pua_script.specs.declared.answer.Answer.TheVariants.{Failed}
@@ -22,19 +22,19 @@ refused_by (Err fault) = Some fault
 -- of a change, that no further process is made
 abbrev pub process_fault : World → Change → Option Fault
 process_fault w (CopyAs new) =
-    or_fault (fault_if (is_some (history_of w new)) (NumberTaken new)) (fault_if (nat_le most_processes (length w.histories)) NoProcessLeft)
+    or_fault (fault_if (is_some (kept_at w new)) (NumberTaken new)) (fault_if (nat_le most_processes (length w.processes)) NoProcessLeft)
 process_fault w _ = None
 
 abbrev pub checks_fault : World → Outcome Fault → Option Fault
 checks_fault w (Ok change) = process_fault w change
 checks_fault w (Err fault) = Some fault
 
-abbrev pub checked_by : CallTable → World → Action → Option History → Reason
+abbrev pub checked_by : CallTable → World → Action → Option ProcessState → Reason
 checked_by table w action None = NeverMade
 checked_by table w action (Some h) = if is_ended h then Ended else reason_of (checks_fault w (change_or_fault table w.tree h action))
 
 abbrev pub reason_checked : CallTable → World → Asked → Reason
-reason_checked table w ask = checked_by table w ask.action (history_of w ask.process)
+reason_checked table w ask = checked_by table w ask.action (kept_at w ask.process)
 
 -- the reason of an answer, by what the checks tell: what they granted lacked room, where the answer says so
 abbrev pub granted_by : Answer → Reason

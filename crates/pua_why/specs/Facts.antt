@@ -9,11 +9,11 @@ use Rattle.pua_path.specs.Traces.{PathTrace, trace_of_text}
 use Rattle.pua_path.specs.declared.traced.PathFault.{PathFault}
 use Rattle.pua_calls.specs.Promises.{proc, unveil}
 use Rattle.pua_calls.specs.Calls.{CallTable, NameRule, PairRule, rule_of, last_of, ending_of}
-use Rattle.pua_policy.specs.History.{History, working_dir, is_locked}
+use Rattle.pua_policy.specs.States.{ProcessState, working_dir, is_locked}
 use Rattle.pua_calls.specs.declared.call.Call.{Call}
 use Rattle.pua_calls.specs.declared.call.Call.TheVariants as call
 use Rattle.pua_script.specs.Requests.{Asked}
-use Rattle.pua_script.specs.Replay.{World, history_of}
+use Rattle.pua_script.specs.Replay.{World, kept_at}
 use Rattle.pua_script.specs.declared.request.Action.{Action}
 use Rattle.pua_script.specs.declared.request.Action.TheVariants.{OnPath, Symlink, Rename, Link, Pledge, Unveil, Lock, Fork, Exit}
 use Rattle.pua_policy.specs.declared.reason.Covering.{Covering}
@@ -50,41 +50,41 @@ abbrev pub facts_covered : Side → Covering → Option Fault → List Fact → 
 facts_covered side over None more = Under side over ∷ more
 facts_covered side over (Some fault) more = []
 
-abbrev pub facts_under : Side → Tree → History → Found → ℕ → List Fact → List Fact
+abbrev pub facts_under : Side → Tree → ProcessState → Found → ℕ → List Fact → List Fact
 facts_under side t h object perms more =
     facts_covered side (covering t h object) (uncovered_fault side object perms (covering t h object)) more
 
 -- the links that a call's path follows, and what it names
-abbrev pub call_trace : Tree → History → Call → List ℕ → PathTrace
+abbrev pub call_trace : Tree → ProcessState → Call → List ℕ → PathTrace
 call_trace t h call path = trace_of_text t (working_dir h) (ending_of call) path (last_of call)
 
-abbrev pub call_facts : CallTable → Tree → History → Call → List ℕ → List Fact
+abbrev pub call_facts : CallTable → Tree → ProcessState → Call → List ℕ → List Fact
 call_facts table t h call path =
     facts_promised (promising h (rule_of table call).alternatives)
     (facts_named Sole (call_trace t h call path) λ object. facts_under Sole t h object (rule_of table call).perms [])
 
 -- of a path of two
-abbrev pub name_trace : NameRule → Tree → History → Ending → List ℕ → PathTrace
+abbrev pub name_trace : NameRule → Tree → ProcessState → Ending → List ℕ → PathTrace
 name_trace name t h ending path = trace_of_text t (working_dir h) ending path name.last
 
 -- what both paths name, and what covers both
-abbrev pub names_facts : PairRule → Tree → History → Ending → List ℕ → List ℕ → List Fact
+abbrev pub names_facts : PairRule → Tree → ProcessState → Ending → List ℕ → List ℕ → List Fact
 names_facts pair t h ending old_path new_path =
     facts_named Old (name_trace pair.old t h ending old_path) λ old.
     facts_named New (name_trace pair.new t h ending new_path) λ new.
     facts_under Old t h old pair.old.needs.perms (facts_under New t h new pair.new.needs.perms [])
 
-abbrev pub pair_facts : PairRule → Tree → History → Ending → List ℕ → List ℕ → List Fact
+abbrev pub pair_facts : PairRule → Tree → ProcessState → Ending → List ℕ → List ℕ → List Fact
 pair_facts pair t h ending old_path new_path =
     facts_promised (promising h pair.old.needs.alternatives)
     (facts_promised (promising h pair.new.needs.alternatives) (names_facts pair t h ending old_path new_path))
 
-abbrev pub unveil_facts : Tree → History → List ℕ → List Fact
+abbrev pub unveil_facts : Tree → ProcessState → List ℕ → List Fact
 unveil_facts t h path =
     facts_promised (promising h (unveil ∷ []))
     (if is_locked h then [] else facts_named Sole (trace_of_text t (working_dir h) ending.Dot path Followed) λ object. [])
 
-abbrev pub facts : CallTable → Tree → History → Action → List Fact
+abbrev pub facts : CallTable → Tree → ProcessState → Action → List Fact
 facts table t h (OnPath call path) = call_facts table t h call path
 facts table t h (Symlink target path) = call_facts table t h call.Symlink path
 facts table t h (Rename old new) = pair_facts table.rename t h ending.Dropped old new
@@ -96,8 +96,8 @@ facts table t h (Fork new) = facts_promised (promising h (proc ∷ [])) []
 facts table t h Exit = []
 
 abbrev pub facts_of : CallTable → World → Asked → List Fact
-facts_of table w ask = by (history_of w ask.process)
+facts_of table w ask = by (kept_at w ask.process)
   where
-    by : Option History → List Fact
+    by : Option ProcessState → List Fact
     by None = []
     by (Some h) = facts table w.tree h ask.action

@@ -7,7 +7,7 @@ use Rattle.pua_path.specs.declared.found.Found.{Found}
 use Rattle.pua_calls.specs.Promises.{holds}
 use Rattle.pua_calls.specs.Calls.{CallTable, PairRule, rule_of}
 use Rattle.pua_calls.specs.declared.rules.Rules.{Rules}
-use Rattle.pua_policy.specs.History.{History, is_ended}
+use Rattle.pua_policy.specs.States.{ProcessState, is_ended}
 use Rattle.pua_policy.specs.Verdict.{object_of, verdict_on}
 use Rattle.pua_policy.specs.ReasonLaws.{LackSome, MisfitHolds}
 use Rattle.pua_calls.specs.declared.call.Call.{Call}
@@ -40,7 +40,7 @@ decision_of (Err fault) = Err (fault_refusal fault)
 
 -- the decision is a function of what is reasoned
 abbrev pub ReasonsGiveDecisions : Type 0
-ReasonsGiveDecisions = (table : CallTable) (t : Tree) (h : History) (action : Action) →
+ReasonsGiveDecisions = (table : CallTable) (t : Tree) (h : ProcessState) (action : Action) →
     decision_of (change_or_fault table t h action) ≡ decide table t h action
 
 abbrev pub verdict_by : Outcome Fault → Verdict
@@ -49,7 +49,7 @@ verdict_by (Err fault) = refusal_verdict (fault_refusal fault)
 
 -- a reason never contradicts the verdict
 abbrev pub ReasonsGiveVerdicts : Type 0
-ReasonsGiveVerdicts = (t : Tree) (table : CallTable) (h : History) (call : Call) (text : List ℕ) →
+ReasonsGiveVerdicts = (t : Tree) (table : CallTable) (h : ProcessState) (call : Call) (text : List ℕ) →
     verdict_by (change_or_fault table t h (OnPath call text)) ≡ verdict_on t table h call text
 
 -- nor the answer of a request
@@ -80,7 +80,7 @@ ChainsEnd = (rules : Rules) (table : CallTable) (w : World) (done asks : List As
     ++ (decimal (n + length asks) ++ 32 ∷ answer_why rules table w (done ++ asks) ask) ∷ []
 
 -- the chain of a call that is granted tells the promises, the links, the object and the veil on which it rests
-pub record FactsOf (t : Tree) (table : CallTable) (h : History) (call : Call) (text : List ℕ) : Type 0 where
+pub record FactsOf (t : Tree) (table : CallTable) (h : ProcessState) (call : Call) (text : List ℕ) : Type 0 where
   pub promises : ℕ
   pub object : Found
   pub over : Covering
@@ -91,11 +91,11 @@ pub record FactsOf (t : Tree) (table : CallTable) (h : History) (call : Call) (t
   pub covered : covering t h object ≡ over
 
 abbrev pub GrantsAreTold : Type 0
-GrantsAreTold = (t : Tree) (table : CallTable) (h : History) (call : Call) (text : List ℕ) (change : Change) →
+GrantsAreTold = (t : Tree) (table : CallTable) (h : ProcessState) (call : Call) (text : List ℕ) (change : Change) →
     change_or_fault table t h (OnPath call text) ≡ Ok change → FactsOf t table h call text
 
 -- and of a request with two paths those of both names
-pub record PairFactsOf (pair : PairRule) (t : Tree) (h : History) (ending : Ending) (old_path new_path : List ℕ) : Type 0 where
+pub record PairFactsOf (pair : PairRule) (t : Tree) (h : ProcessState) (ending : Ending) (old_path new_path : List ℕ) : Type 0 where
   pub old_promises : ℕ
   pub new_promises : ℕ
   pub old : Found
@@ -110,13 +110,13 @@ pub record PairFactsOf (pair : PairRule) (t : Tree) (h : History) (ending : Endi
   pub named_new : (name_trace pair.new t h ending new_path).outcome ≡ Ok new
 
 pub record PairsAreTold : Type 0 where
-  pub renames : (t : Tree) (table : CallTable) (h : History) (old new : List ℕ) (change : Change) →
+  pub renames : (t : Tree) (table : CallTable) (h : ProcessState) (old new : List ℕ) (change : Change) →
       change_or_fault table t h (Rename old new) ≡ Ok change → PairFactsOf table.rename t h ending.Dropped old new
-  pub links : (t : Tree) (table : CallTable) (h : History) (old new : List ℕ) (change : Change) →
+  pub links : (t : Tree) (table : CallTable) (h : ProcessState) (old new : List ℕ) (change : Change) →
       change_or_fault table t h (Link old new) ≡ Ok change → PairFactsOf table.link t h ending.Dot old new
 
 -- what a fault of a call on a path says is so; a call on a path has no other faults
-abbrev pub CallFaultHolds : Tree → CallTable → History → Call → List ℕ → Fault → Type 0
+abbrev pub CallFaultHolds : Tree → CallTable → ProcessState → Call → List ℕ → Fault → Type 0
 CallFaultHolds t table h call text Ends = is_ended h ≡ true
 CallFaultHolds t table h call text (LacksPromises error sets) = LackSome h (rule_of table call).alternatives sets
 CallFaultHolds t table h call text (BadPath Sole fault) = (call_trace t h call text).outcome ≡ Err fault
@@ -131,7 +131,7 @@ CallFaultHolds t table h call text (Unfit Sole object wrong) =
 CallFaultHolds t table h call text _ = ⊥
 
 abbrev pub CallFaultsHold : Type 0
-CallFaultsHold = (t : Tree) (table : CallTable) (h : History) (call : Call) (text : List ℕ) (fault : Fault) →
+CallFaultsHold = (t : Tree) (table : CallTable) (h : ProcessState) (call : Call) (text : List ℕ) (fault : Fault) →
     change_or_fault table t h (OnPath call text) ≡ Err fault → CallFaultHolds t table h call text fault
 
 -- of a request that is not allowed: whoever asked it before the line that is told had a reason of another key, and from

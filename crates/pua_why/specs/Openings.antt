@@ -1,7 +1,7 @@
 -- What a promise opens by itself, by the rules of OpenBSD's kernel as its manual pages and its sources are known; no kernel was
 -- tried. Lists and reasons tell of it, and no answer and no line of an object asks it.
 use Rattle.std.specs.Prelude.{ℕ, List, [], ◌∷◌, ◌++◌, Bool, true, false, ◌&&◌, ◌==◌, codes, find, if◌then◌else◌, length, nat_lt, Option}
-use Rattle.std.specs.Prelude.{Some, None, option_map, unwrap_or, Result, Ok, Err}
+use Rattle.std.specs.Prelude.{Some, None, unwrap_or, Result, Ok, Err}
 use Rattle.std.specs.List.{ends_with, list_any, starts_with}
 use Rattle.pua_tree.specs.Names.{same_bytes}
 use Rattle.pua_tree.specs.Tree.{Tree}
@@ -12,13 +12,13 @@ use Rattle.pua_calls.specs.declared.call.Call.{Call}
 use Rattle.pua_calls.specs.declared.call.Call.TheVariants.{Stat, OpenRead, OpenWrite, OpenBoth, Create, Unlink}
 use Rattle.pua_calls.specs.declared.rules.Rules.{Rules}
 use Rattle.pua_calls.specs.declared.rules.Rules.TheVariants.{Profile, Openbsd}
-use Rattle.pua_policy.specs.History.{ProcessState, state_of}
+use Rattle.pua_policy.specs.States.{ProcessState}
 use Rattle.pua_script.specs.Decide.{Asker, NoChange, Outcome, object_by}
-use Rattle.pua_script.specs.Replay.{World, history_of}
+use Rattle.pua_script.specs.Replay.{World, kept_at}
 use Rattle.pua_script.specs.Requests.{Asked}
 use Rattle.pua_script.specs.declared.request.Action.{Action}
 use Rattle.pua_script.specs.declared.request.Action.TheVariants.{OnPath}
-use Rattle.pua_why.specs.Reasons.{Fault, LacksPromises, Uncovered, LacksLetters, Reason, Refused, faults, faults_on}
+use Rattle.pua_why.specs.Reasons.{Fault, LacksPromises, Uncovered, LacksLetters, Reason, Refused, faults, faults_of}
 
 -- the calls that a promise allows on a path, whatever promises are held beside it
 pub record Opening : Type 0 where
@@ -83,8 +83,8 @@ abbrev pub uncovered_by : Asker Fault Fault → Asker Fault Fault
 uncovered_by asker = record asker { cover = λ side t object perms. None }
 
 abbrev pub asker_past : Bool → ProcessState → Asker Fault Fault
-asker_past true p = faults_on p
-asker_past false p = uncovered_by (faults_on p)
+asker_past true p = faults_of p
+asker_past false p = uncovered_by (faults_of p)
 
 -- what is told of a call whose promises are not asked, and, where the veils are not, no cover either
 abbrev pub opened_outcome : Bool → CallTable → Tree → ProcessState → Call → List ℕ → Outcome Fault
@@ -110,7 +110,7 @@ opener_at table t action None = None
 opener_at table t action (Some p) = opener_on table t action p
 
 abbrev pub opener : CallTable → World → Asked → Option (List ℕ)
-opener table w ask = opener_at table w.tree ask.action (option_map state_of (history_of w ask.process))
+opener table w ask = opener_at table w.tree ask.action ((kept_at w ask.process))
 
 -- promises, a cover or letters are lacking
 abbrev pub is_lack : Fault → Bool

@@ -9,7 +9,7 @@ use Rattle.pua_path.specs.declared.traced.TextFault.{TextFault}
 use Rattle.pua_path.specs.declared.traced.PathFault.{PathFault}
 use Rattle.pua_calls.specs.Promises.{holds, error}
 use Rattle.pua_calls.specs.Calls.{CallTable}
-use Rattle.pua_policy.specs.History.{History, ProcessState, state_of, held_on, is_within, is_ended, perms_kept, veil_at, most_places}
+use Rattle.pua_policy.specs.States.{ProcessState, held_set, is_within, is_ended, perms_kept, most_places}
 use Rattle.pua_policy.specs.Verdict.{or_fault}
 use Rattle.pua_policy.specs.declared.place.Place.{Place}
 use Rattle.pua_policy.specs.declared.answer.Refusal.{Refusal}
@@ -17,13 +17,13 @@ use Rattle.pua_policy.specs.declared.answer.Refusal.TheVariants as refusal
 use Rattle.pua_calls.specs.Promises.{lacking}
 use Rattle.pua_policy.specs.declared.reason.Covering.{Covering}
 use Rattle.pua_policy.specs.declared.reason.Covering.TheVariants.{InView, NoneOver, By}
-use Rattle.pua_policy.specs.Reasons.{Promising, Holds, HasEnded, Lacks, promising_on, covering, covering_on}
+use Rattle.pua_policy.specs.Reasons.{Promising, Holds, HasEnded, Lacks, promising, covering}
 use Rattle.pua_script.specs.Limits.{most_processes}
 use Rattle.pua_script.specs.Requests.{Asked}
 use Rattle.pua_script.specs.Decide.{Change, CopyAs, Outcome, Side, Telling, Asker, fault_if, decide_by}
 use Rattle.pua_policy.specs.Misfits.{misfit_errno}
 use Rattle.pua_policy.specs.declared.reason.Misfit.{Misfit}
-use Rattle.pua_script.specs.Replay.{World, Effect, Fails, history_of, change_effect}
+use Rattle.pua_script.specs.Replay.{World, Effect, Fails, kept_at, change_effect}
 use Rattle.pua_script.specs.declared.request.Action.{Action}
 use Rattle.pua_script.specs.declared.answer.Answer.{Answer}
 use Rattle.pua_script.specs.declared.answer.Answer.TheVariants.{Okay, Failed, Killed, Gone}
@@ -95,24 +95,18 @@ abbrev pub asks_beyond : Bool → Option ℕ → Option ℕ → Option Fault
 asks_beyond of_exec request given = fault_if (not (is_within request given)) (AsksPromises of_exec (beyond request given))
 
 -- a pledge that asks for more: its promises first
-abbrev pub pledge_beyond_on : ProcessState → Option ℕ → Option ℕ → Option Fault
-pledge_beyond_on p promises execpromises =
-    if holds (held_on p) error then None
+abbrev pub pledge_beyond : ProcessState → Option ℕ → Option ℕ → Option Fault
+pledge_beyond p promises execpromises =
+    if holds (held_set p) error then None
     else or_fault (asks_beyond false promises p.promises) (asks_beyond true execpromises p.execpromises)
-
-abbrev pub pledge_beyond : History → Option ℕ → Option ℕ → Option Fault
-pledge_beyond h promises execpromises = pledge_beyond_on (state_of h) promises execpromises
 
 -- permissions at a place, by what is kept there and by the number of places
 abbrev pub place_beyond : Place → Option ℕ → ℕ → ℕ → Option Fault
 place_beyond place (Some given) places perms = if holds given perms then None else Some (AsksLetters place given (lacking given perms))
 place_beyond place None places perms = if nat_le most_places places then Some NoPlaceLeft else None
 
-abbrev pub unveil_beyond_on : ProcessState → (Place → Option ℕ) → Place → ℕ → Option Fault
-unveil_beyond_on p kept_at place perms = if p.locked then Some IsLocked else place_beyond place (kept_at place) (length p.veils) perms
-
-abbrev pub unveil_beyond : History → Place → ℕ → Option Fault
-unveil_beyond h place perms = unveil_beyond_on (state_of h) (perms_kept h) place perms
+abbrev pub unveil_beyond : ProcessState → Place → ℕ → Option Fault
+unveil_beyond p place perms = if p.locked then Some IsLocked else place_beyond place (perms_kept p place) (length p.veils) perms
 
 -- a fault is told of each check that fails
 abbrev pub faults : Telling Fault Fault
@@ -125,26 +119,19 @@ faults = record {
   unknown_letter = UnknownLetter;
 }
 
--- of a process, by what it keeps, by which veils cover objects and by what is kept at each place
-abbrev pub faults_by : ProcessState → (Tree → Found → Covering) → (Place → Option ℕ) → Asker Fault Fault
-faults_by p coverings kept_at = record {
-  promises = λ sets. unpromised_fault (promising_on p sets);
+-- and of a process, by what it keeps
+abbrev pub faults_of : ProcessState → Asker Fault Fault
+faults_of p = record {
+  promises = λ sets. unpromised_fault (promising p sets);
   path = λ side t ending text last. told_path side (trace_of_text t p.dir ending text last).outcome;
-  cover = λ side t object perms. uncovered_fault side object perms (coverings t object);
-  beyond = pledge_beyond_on p;
+  cover = λ side t object perms. uncovered_fault side object perms (covering t p object);
+  beyond = pledge_beyond p;
   locked = fault_if p.locked IsLocked;
-  place = unveil_beyond_on p kept_at;
+  place = unveil_beyond p;
 }
 
-abbrev pub faults_on : ProcessState → Asker Fault Fault
-faults_on p = faults_by p (λ t object. covering_on t p object) (veil_at p.veils)
-
--- and by its history
-abbrev pub faults_of : History → Asker Fault Fault
-faults_of h = faults_by (state_of h) (λ t object. covering t h object) (perms_kept h)
-
 -- what a living process's request changes, or the fault for which it is refused
-abbrev pub change_or_fault : CallTable → Tree → History → Action → Outcome Fault
+abbrev pub change_or_fault : CallTable → Tree → ProcessState → Action → Outcome Fault
 change_or_fault table t h action = decide_by faults table t (faults_of h) action
 
 -- of a change, that there is no room for it
@@ -152,17 +139,17 @@ abbrev pub no_room : Effect → Option Fault
 no_room (Fails errno) = Some NoRoom
 no_room _ = None
 
-abbrev pub room_fault : World → History → Change → Option Fault
+abbrev pub room_fault : World → ProcessState → Change → Option Fault
 room_fault w h (CopyAs new) =
-    or_fault (fault_if (is_some (history_of w new)) (NumberTaken new)) (fault_if (nat_le most_processes (length w.histories)) NoProcessLeft)
+    or_fault (fault_if (is_some (kept_at w new)) (NumberTaken new)) (fault_if (nat_le most_processes (length w.processes)) NoProcessLeft)
 room_fault w h change = no_room (change_effect w h change)
 
-abbrev pub outcome_fault : World → History → Outcome Fault → Option Fault
+abbrev pub outcome_fault : World → ProcessState → Outcome Fault → Option Fault
 outcome_fault w h (Ok change) = room_fault w h change
 outcome_fault w h (Err fault) = Some fault
 
 -- the fault of a living process's request, if it has one
-abbrev pub request_fault : CallTable → World → History → Action → Option Fault
+abbrev pub request_fault : CallTable → World → ProcessState → Action → Option Fault
 request_fault table w h action = outcome_fault w h (change_or_fault table w.tree h action)
 
 -- why a request is answered as it is: the process was never made, or has ended, or it is refused, or granted
@@ -176,12 +163,12 @@ abbrev pub reason_of : Option Fault → Reason
 reason_of None = Granted
 reason_of (Some fault) = Refused fault
 
-abbrev pub reason_by : CallTable → World → Action → Option History → Reason
+abbrev pub reason_by : CallTable → World → Action → Option ProcessState → Reason
 reason_by table w action None = NeverMade
 reason_by table w action (Some h) = if is_ended h then Ended else reason_of (request_fault table w h action)
 
 abbrev pub reason : CallTable → World → Asked → Reason
-reason table w ask = reason_by table w ask.action (history_of w ask.process)
+reason table w ask = reason_by table w ask.action (kept_at w ask.process)
 
 -- the answer that a reason gives
 abbrev pub refusal_answer : Refusal → Answer

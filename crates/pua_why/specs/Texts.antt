@@ -16,7 +16,7 @@ use Rattle.pua_path.specs.declared.traced.PathFault.TheVariants.{InText, NoStart
 use Rattle.pua_calls.specs.Promises.{keywords_of, perm_letters}
 use Rattle.pua_calls.specs.Calls.{CallTable}
 use Rattle.pua_calls.specs.declared.rules.Rules.{Rules}
-use Rattle.pua_policy.specs.History.{History, perms_kept}
+use Rattle.pua_policy.specs.States.{ProcessState, perms_kept}
 use Rattle.pua_policy.specs.Limits.{most_places}
 use Rattle.pua_policy.specs.Verdict.{Object, IsDir, IsFile, IsProg, IsLink, IsMissing, object_of}
 use Rattle.pua_policy.specs.declared.place.Place.{Place}
@@ -24,7 +24,7 @@ use Rattle.pua_policy.specs.declared.place.Place.TheVariants as place
 use Rattle.pua_script.specs.AnswerTexts.{answer_text}
 use Rattle.pua_script.specs.Limits.{most_processes}
 use Rattle.pua_script.specs.Requests.{Asked}
-use Rattle.pua_script.specs.Replay.{World, history_of, world_after}
+use Rattle.pua_script.specs.Replay.{World, kept_at, world_after}
 use Rattle.pua_policy.specs.declared.reason.Covering.{Covering}
 use Rattle.pua_policy.specs.declared.reason.Covering.TheVariants.{InView, NoneOver, By}
 use Rattle.pua_script.specs.Decide.{Side, Sole, Old, New}
@@ -206,13 +206,13 @@ why_lines rules table w done n (ask ∷ asks) =
 
 -- a veil has been on a place, with these permissions
 abbrev pub has_veil_on : Place → ℕ → Test
-has_veil_on place given w process = by (history_of w process)
+has_veil_on place given w process = by (kept_at w process)
   where
     is : Option ℕ → Bool
     is None = false
     is (Some perms) = perms == given
 
-    by : Option History → Bool
+    by : Option ProcessState → Bool
     by None = false
     by (Some h) = is (perms_kept h place)
 

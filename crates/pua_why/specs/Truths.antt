@@ -16,15 +16,15 @@ use Rattle.pua_path.specs.declared.traced.PathFault.{PathFault}
 use Rattle.pua_calls.specs.Promises.{holds, proc, unveil}
 use Rattle.pua_policy.specs.ReasonLaws.{LackSome}
 use Rattle.pua_calls.specs.Calls.{CallTable, PairRule}
-use Rattle.pua_policy.specs.History.{History, pledged_set, held_for_exec, has_error, is_within, is_ended, is_locked, perms_kept, veils}
-use Rattle.pua_policy.specs.History.{working_dir, most_places}
+use Rattle.pua_policy.specs.States.{ProcessState, pledged_set, held_for_exec, has_error, is_within, is_ended, is_locked, perms_kept, veils}
+use Rattle.pua_policy.specs.States.{working_dir, most_places}
 use Rattle.pua_calls.specs.declared.call.Call.TheVariants as call
 use Rattle.pua_script.specs.Limits.{most_processes}
 use Rattle.pua_script.specs.Decide.{Change, CopyAs, Side, Sole, Old, New, given_set, is_unknown, is_whole}
 use Rattle.pua_policy.specs.declared.reason.Misfit.{Misfit}
 use Rattle.pua_policy.specs.declared.reason.Misfit.TheVariants.{Missing, Exists, IsDirectory, IsNoFile, IsNoDirectory, IsNotEmpty, ByDot}
 use Rattle.pua_policy.specs.declared.reason.Misfit.TheVariants.{ByDotDot, ByNothing}
-use Rattle.pua_script.specs.Replay.{World, Fails, history_of, change_effect}
+use Rattle.pua_script.specs.Replay.{World, Fails, kept_at, change_effect}
 use Rattle.pua_script.specs.Laws.{LacksRoom}
 use Rattle.pua_script.specs.declared.request.Given.{Given}
 use Rattle.pua_script.specs.declared.request.Action.{Action}
@@ -39,17 +39,17 @@ use Rattle.pua_why.specs.Facts.{name_trace}
 use Rattle.pua_why.specs.Laws.{CallFaultHolds}
 
 -- the promises that a request other than a call of the table needs
-abbrev pub PromiseFaultHolds : History → List ℕ → Fault → Type 0
+abbrev pub PromiseFaultHolds : ProcessState → List ℕ → Fault → Type 0
 PromiseFaultHolds h sets Ends = is_ended h ≡ true
 PromiseFaultHolds h sets (LacksPromises error lacks) = LackSome h sets lacks
 PromiseFaultHolds h sets _ = ⊥
 
-abbrev pub SymlinkFaultHolds : CallTable → Tree → History → List ℕ → List ℕ → Fault → Type 0
+abbrev pub SymlinkFaultHolds : CallTable → Tree → ProcessState → List ℕ → List ℕ → Fault → Type 0
 SymlinkFaultHolds table t h target path (BadTarget fault) = text_fault target ≡ Some fault
 SymlinkFaultHolds table t h target path fault = CallFaultHolds t table h call.Symlink path fault
 
 -- what a side of two paths named, or why it named nothing, and the permissions that it needs
-abbrev pub side_outcome : PairRule → Tree → History → Ending → List ℕ → List ℕ → Side → Result Found PathFault
+abbrev pub side_outcome : PairRule → Tree → ProcessState → Ending → List ℕ → List ℕ → Side → Result Found PathFault
 side_outcome pair t h ending old new New = (name_trace pair.new t h ending new).outcome
 side_outcome pair t h ending old new _ = (name_trace pair.old t h ending old).outcome
 
@@ -78,7 +78,7 @@ pub record IsInside (t : Tree) (old new : Found) : Type 0 where
   pub is_spot : spot_named new ≡ Some spot
   pub inside : is_inside t node spot.0 ≡ true
 
-abbrev pub PairFaultHolds : PairRule → Tree → History → Ending → List ℕ → List ℕ → Fault → Type 0
+abbrev pub PairFaultHolds : PairRule → Tree → ProcessState → Ending → List ℕ → List ℕ → Fault → Type 0
 PairFaultHolds pair t h ending old new Ends = is_ended h ≡ true
 PairFaultHolds pair t h ending old new (LacksPromises error lacks) =
     LackSome h pair.old.needs.alternatives lacks ⊎ LackSome h pair.new.needs.alternatives lacks
@@ -94,7 +94,7 @@ PairFaultHolds pair t h ending old new (Inside a b) =
     (side_outcome pair t h ending old new Old ≡ Ok a) × (side_outcome pair t h ending old new New ≡ Ok b) × IsInside t a b
 PairFaultHolds pair t h ending old new _ = ⊥
 
-abbrev pub PledgeFaultHolds : History → Given → Given → Fault → Type 0
+abbrev pub PledgeFaultHolds : ProcessState → Given → Given → Fault → Type 0
 PledgeFaultHolds h promises execpromises (UnknownPromise false) = is_unknown promises ≡ true
 PledgeFaultHolds h promises execpromises (UnknownPromise true) = is_unknown execpromises ≡ true
 PledgeFaultHolds h promises execpromises (AsksPromises false lacks) =
@@ -104,7 +104,7 @@ PledgeFaultHolds h promises execpromises (AsksPromises true lacks) =
     (lacks ≡ beyond (given_set execpromises) (held_for_exec h))
 PledgeFaultHolds h promises execpromises _ = ⊥
 
-abbrev pub UnveilFaultHolds : Tree → History → List ℕ → Option ℕ → Fault → Type 0
+abbrev pub UnveilFaultHolds : Tree → ProcessState → List ℕ → Option ℕ → Fault → Type 0
 UnveilFaultHolds t h path letters IsLocked = is_locked h ≡ true
 UnveilFaultHolds t h path letters UnknownLetter = letters ≡ None
 UnveilFaultHolds t h path letters (BadPath Sole fault) = (trace_of_text t (working_dir h) ending.Dot path Followed).outcome ≡ Err fault
@@ -114,7 +114,7 @@ UnveilFaultHolds t h path letters NoPlaceLeft = nat_le most_places (length (veil
 UnveilFaultHolds t h path letters fault = PromiseFaultHolds h (unveil ∷ []) fault
 
 -- what a fault of a check says is so
-abbrev pub CheckFaultHolds : CallTable → Tree → History → Action → Fault → Type 0
+abbrev pub CheckFaultHolds : CallTable → Tree → ProcessState → Action → Fault → Type 0
 CheckFaultHolds table t h (OnPath call path) fault = CallFaultHolds t table h call path fault
 CheckFaultHolds table t h (Symlink target path) fault = SymlinkFaultHolds table t h target path fault
 CheckFaultHolds table t h (Rename old new) fault = PairFaultHolds table.rename t h ending.Dropped old new fault
@@ -126,32 +126,32 @@ CheckFaultHolds table t h (Fork new) fault = PromiseFaultHolds h (proc ∷ []) f
 CheckFaultHolds table t h Exit fault = ⊥
 
 abbrev pub CheckFaultsHold : Type 0
-CheckFaultsHold = (table : CallTable) (t : Tree) (h : History) (action : Action) (fault : Fault) →
+CheckFaultsHold = (table : CallTable) (t : Tree) (h : ProcessState) (action : Action) (fault : Fault) →
     change_or_fault table t h action ≡ Err fault → CheckFaultHolds table t h action fault
 
 -- what a fault of a change says is so
-abbrev pub RoomFaultHolds : World → History → Change → Fault → Type 0
-RoomFaultHolds w h (CopyAs new) (NumberTaken n) = (n ≡ new) × (is_some (history_of w new) ≡ true)
-RoomFaultHolds w h (CopyAs new) NoProcessLeft = nat_le most_processes (length w.histories) ≡ true
+abbrev pub RoomFaultHolds : World → ProcessState → Change → Fault → Type 0
+RoomFaultHolds w h (CopyAs new) (NumberTaken n) = (n ≡ new) × (is_some (kept_at w new) ≡ true)
+RoomFaultHolds w h (CopyAs new) NoProcessLeft = nat_le most_processes (length w.processes) ≡ true
 RoomFaultHolds w h (CopyAs new) _ = ⊥
 RoomFaultHolds w h change NoRoom = change_effect w h change ≡ Fails ENOSPC
 RoomFaultHolds w h _ _ = ⊥
 
 -- of a change that was granted
-pub record ChangeFaultHolds (table : CallTable) (w : World) (h : History) (action : Action) (fault : Fault) : Type 0 where
+pub record ChangeFaultHolds (table : CallTable) (w : World) (h : ProcessState) (action : Action) (fault : Fault) : Type 0 where
   pub change : Change
   pub granted : change_or_fault table w.tree h action ≡ Ok change
   pub holds : RoomFaultHolds w h change fault
 
-abbrev pub RequestFaultHolds : CallTable → World → History → Action → Fault → Type 0
+abbrev pub RequestFaultHolds : CallTable → World → ProcessState → Action → Fault → Type 0
 RequestFaultHolds table w h action fault = CheckFaultHolds table w.tree h action fault ⊎ ChangeFaultHolds table w h action fault
 
 -- what a fault says is so, and a request has no other faults than its own
 abbrev pub RequestFaultsHold : Type 0
-RequestFaultsHold = (table : CallTable) (w : World) (h : History) (action : Action) (fault : Fault) →
+RequestFaultsHold = (table : CallTable) (w : World) (h : ProcessState) (action : Action) (fault : Fault) →
     request_fault table w h action ≡ Some fault → RequestFaultHolds table w h action fault
 
 -- a tree that is told to be full lacks the room that the change wants
 abbrev pub FullTreesAreFull : Type 0
-FullTreesAreFull = (table : CallTable) (w : World) (h : History) (action : Action) → WellFormed w.tree →
+FullTreesAreFull = (table : CallTable) (w : World) (h : ProcessState) (action : Action) → WellFormed w.tree →
     request_fault table w h action ≡ Some NoRoom → LacksRoom table w.tree h action

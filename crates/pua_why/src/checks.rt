@@ -4,16 +4,15 @@ ghost use Rattle.std.specs.Prelude.{◌≡◌, ◌∷◌, [], ℕ, IfOk, Ok, Som
 ghost use Rattle.pua_path.specs.Fits.{FoundFits, StandsAsNamed};
 ghost use Rattle.pua_path.specs.Traces.{trace_of_text};
 ghost use Rattle.pua_path.specs.declared.found.Found as founds;
-ghost use Rattle.pua_policy.specs.History.{veil_at};
-ghost use Rattle.pua_policy.specs.Reasons.{covering_on, promising_on};
+ghost use Rattle.pua_policy.specs.Reasons.{covering, promising};
 ghost use Rattle.pua_policy.specs.Verdict.{place_of};
 ghost use Rattle.pua_policy.specs.declared.reason.Covering.TheVariants.{By};
 ghost use Rattle.pua_script.specs.Decide.{Change, call_by, object_by, symlink_by, unveil_by};
 ghost use Rattle.pua_script.specs.Decide.{veil_by};
 ghost use Rattle.pua_why.specs.Checked.{refused_by};
 ghost use Rattle.pua_why.specs.Openings.{uncovered_by};
-ghost use Rattle.pua_why.specs.Reasons.{faults, faults_on, place_beyond, uncovered_fault};
-ghost use Rattle.pua_why.specs.Reasons.{unpromised_fault, unveil_beyond_on};
+ghost use Rattle.pua_why.specs.Reasons.{faults, faults_of, place_beyond, uncovered_fault};
+ghost use Rattle.pua_why.specs.Reasons.{unpromised_fault, unveil_beyond};
 ghost use Rattle.pua_why.specs.Seen.{fault_seen, side_seen};
 
 use crate::told::{Fault, Side};
@@ -56,7 +55,7 @@ pub(crate) fn traced<'t, P: Probe<'t>>(
 /// The fault of promises: none of these sets is held.
 pub(crate) fn promises_fault<'s>(process: &Process, sets: &'s [Promises]) -> Option<Fault<'s>>
     ensures { option_map fault_seen result
-        ≡ unpromised_fault (promising_on process.now sets.now) }
+        ≡ unpromised_fault (promising process.now sets.now) }
 {
     match process.promising(sets) {
         Promising::Holds(_) => None,
@@ -68,7 +67,7 @@ pub(crate) fn promises_fault<'s>(process: &Process, sets: &'s [Promises]) -> Opt
 /// The fault of promises: this one set is not held.
 pub(crate) fn promise_fault<'s>(process: &Process, set: Promises) -> Option<Fault<'s>>
     ensures { option_map fault_seen result
-        ≡ unpromised_fault (promising_on process.now (set ∷ [])) }
+        ≡ unpromised_fault (promising process.now (set ∷ [])) }
 {
     match process.promising(&[set]) {
         Promising::Holds(_) => None,
@@ -90,7 +89,7 @@ pub(crate) fn cover_fault<'s, 't, P: Probe<'t>>(
 ) -> Option<Fault<'s>>
     ensures exact { FoundFits (P.tree probe.old) found.now → option_map fault_seen result
         ≡ uncovered_fault (side_seen side) found.now perms
-        (covering_on (P.tree probe.old) process.now found.now) }
+        (covering (P.tree probe.old) process.now found.now) }
     ensures tree { P.tree probe.new ≡ P.tree probe.old }
 {
     let over = process.covering(probe, found);
@@ -135,7 +134,7 @@ pub(crate) fn object_fault<'s, T: FileTree>(
     links: &mut Links,
 ) -> Option<Fault<'s>>
     ensures { (change : founds.Found → Change) → option_map fault_seen result
-        ≡ refused_by (object_by faults table.now (T.content tree.now) (faults_on process.now) call
+        ≡ refused_by (object_by faults table.now (T.content tree.now) (faults_of process.now) call
         path.now (λ object. Ok (change object))) }
 {
     let mut probe = Counted::new(tree);
@@ -163,7 +162,7 @@ pub(crate) fn fit_fault<'s, T: FileTree>(
 ) -> Option<Fault<'s>>
     ensures { (change : founds.Found → Change) → option_map fault_seen result
         ≡ refused_by (object_by faults table.now (T.content tree.now)
-        (uncovered_by (faults_on process.now)) call path.now (λ object. Ok (change object))) }
+        (uncovered_by (faults_of process.now)) call path.now (λ object. Ok (change object))) }
 {
     let mut probe = Counted::new(tree);
     let last = call.last();
@@ -185,7 +184,7 @@ pub(crate) fn call_fault<'s, T: FileTree>(
     links: &mut Links,
 ) -> Option<Fault<'s>>
     ensures { option_map fault_seen result
-        ≡ refused_by (call_by faults table.now (T.content tree.now) (faults_on process.now) call
+        ≡ refused_by (call_by faults table.now (T.content tree.now) (faults_of process.now) call
         path.now) }
 {
     let fault = promises_fault(process, table.alternatives(call));
@@ -205,7 +204,7 @@ pub(crate) fn symlink_fault<'s, T: FileTree>(
     links: &mut Links,
 ) -> Option<Fault<'s>>
     ensures { option_map fault_seen result
-        ≡ refused_by (symlink_by faults table.now (T.content tree.now) (faults_on process.now)
+        ≡ refused_by (symlink_by faults table.now (T.content tree.now) (faults_of process.now)
         target.now path.now) }
 {
     let fault = promises_fault(process, table.alternatives(Call::Symlink));
@@ -228,7 +227,7 @@ pub(crate) fn unveil_fault<'s, T: FileTree>(
     links: &mut Links,
 ) -> Result<Option<Fault<'s>>, OutOfMemory>
     ensures { IfOk result (λ fault. option_map fault_seen fault
-        ≡ refused_by (unveil_by faults (T.content tree.now) (faults_on process.now) path.now
+        ≡ refused_by (unveil_by faults (T.content tree.now) (faults_of process.now) path.now
         perms)) }
 {
     let fault = promise_fault(process, Promises::UNVEIL);
@@ -251,7 +250,7 @@ fn veil_fault<'s, T: FileTree>(
     links: &mut Links,
 ) -> Result<Option<Fault<'s>>, OutOfMemory>
     ensures { IfOk result (λ fault. option_map fault_seen fault
-        ≡ refused_by (veil_by faults (T.content tree.now) (faults_on process.now) path.now
+        ≡ refused_by (veil_by faults (T.content tree.now) (faults_of process.now) path.now
         perms)) }
 {
     let Some(perms) = perms else {
@@ -279,7 +278,7 @@ fn place_fault<'s>(
     perms: Perms,
 ) -> Result<Option<Fault<'s>>, OutOfMemory>
     ensures { IfOk result (λ fault. option_map fault_seen fault
-        ≡ unveil_beyond_on process.now (veil_at process.now.veils) place perms) }
+        ≡ unveil_beyond process.now place perms) }
 {
     if process.locked() {
         return Ok(Some(Fault::IsLocked));

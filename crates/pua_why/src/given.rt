@@ -3,10 +3,9 @@
 ghost use Rattle.std.specs.Prelude.{◌≡◌, ℕ, IfOk, option_map};
 ghost use Rattle.pua_script.specs.Decide.{CopyAs, fork_by, given_set, is_unknown};
 ghost use Rattle.pua_script.specs.Decide.{lock_by, pledge_by};
-ghost use Rattle.pua_script.specs.Replay.{World as Replayed};
-ghost use Rattle.pua_script.specs.Worlds.{StandsForWorld};
+ghost use Rattle.pua_script.specs.Worlds.{world_of};
 ghost use Rattle.pua_why.specs.Checked.{process_fault, refused_by};
-ghost use Rattle.pua_why.specs.Reasons.{asks_beyond, faults, faults_on, pledge_beyond_on};
+ghost use Rattle.pua_why.specs.Reasons.{asks_beyond, faults, faults_of, pledge_beyond};
 ghost use Rattle.pua_why.specs.Seen.{fault_seen};
 
 use crate::checks::promise_fault;
@@ -25,7 +24,7 @@ pub(crate) fn pledge_fault<'s>(
     execpromises: &Given,
 ) -> Option<Fault<'s>>
     ensures { option_map fault_seen result
-        ≡ refused_by (pledge_by faults (faults_on process.now) promises.now execpromises.now) }
+        ≡ refused_by (pledge_by faults (faults_of process.now) promises.now execpromises.now) }
 {
     if is_unknown(promises) {
         return Some(Fault::UnknownPromise { of_exec: false });
@@ -42,7 +41,7 @@ fn beyond_given<'s>(
     promises: Option<Promises>,
     execpromises: Option<Promises>,
 ) -> Option<Fault<'s>>
-    ensures { option_map fault_seen result ≡ pledge_beyond_on process.now promises execpromises }
+    ensures { option_map fault_seen result ≡ pledge_beyond process.now promises execpromises }
 {
     if process.held().contains(Promises::ERROR) {
         return None;
@@ -73,7 +72,7 @@ fn asks_beyond<'s>(
 
 /// The fault of an unveil with two NULLs.
 pub(crate) fn lock_fault<'s>(process: &Process) -> Option<Fault<'s>>
-    ensures { option_map fault_seen result ≡ refused_by (lock_by (faults_on process.now)) }
+    ensures { option_map fault_seen result ≡ refused_by (lock_by (faults_of process.now)) }
 {
     promise_fault(process, Promises::UNVEIL)
 }
@@ -81,7 +80,7 @@ pub(crate) fn lock_fault<'s>(process: &Process) -> Option<Fault<'s>>
 /// The fault of a fork: the promise.
 pub(crate) fn fork_fault<'s>(process: &Process) -> Option<Fault<'s>>
     ensures { (new : ℕ) →
-        option_map fault_seen result ≡ refused_by (fork_by (faults_on process.now) new) }
+        option_map fault_seen result ≡ refused_by (fork_by (faults_of process.now) new) }
 {
     promise_fault(process, Promises::PROC)
 }
@@ -92,8 +91,8 @@ pub(crate) fn process_fault<'s, T: FileTree>(
     world: &World<T>,
     new: u32,
 ) -> Result<Option<Fault<'s>>, OutOfMemory>
-    ensures { IfOk result (λ fault. (w : Replayed) → StandsForWorld world.now w →
-        option_map fault_seen fault ≡ process_fault w (CopyAs new)) }
+    ensures { IfOk result (λ fault.
+        option_map fault_seen fault ≡ process_fault (world_of world.now) (CopyAs new)) }
 {
     if world.process(new).is_some() {
         return Ok(Some(Fault::NumberTaken(new)));

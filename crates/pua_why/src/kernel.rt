@@ -3,8 +3,7 @@
 ghost use Rattle.std.specs.Prelude.{◌≡◌, ◌++◌, find, IfOk, map, OnOk, option_map, Some};
 ghost use Rattle.std.specs.Prelude.{string_bytes};
 ghost use Rattle.pua_calls.specs.Promises.{promises_of};
-ghost use Rattle.pua_script.specs.Replay.{World as Replayed};
-ghost use Rattle.pua_script.specs.Worlds.{StandsForWorld};
+ghost use Rattle.pua_script.specs.Worlds.{world_of};
 ghost use Rattle.pua_why.specs.Checked.{refused_by};
 ghost use Rattle.pua_why.specs.Openings.{has_call, holds_named, is_lack, is_opened, is_opening};
 ghost use Rattle.pua_why.specs.Openings.{opened_by, opened_outcome, opener, opener_by, opener_if};
@@ -255,9 +254,9 @@ fn opener<T: FileTree>(
     number: u32,
     action: &Action,
 ) -> Result<Option<&'static str>, OutOfMemory>
-    ensures { IfOk result (λ promise. (w : Replayed) → StandsForWorld world.now w →
-        option_map (λ keyword. keyword.now) promise
-        ≡ opener world.now.table w (record { process = number; action = action.now })) }
+    ensures { IfOk result (λ promise. option_map (λ keyword. keyword.now) promise
+        ≡ opener world.now.table (world_of world.now)
+        (record { process = number; action = action.now })) }
 {
     let Some(process) = world.process(number) else {
         return Ok(None);
@@ -286,9 +285,9 @@ fn opener_if<T: FileTree>(
     action: &Action,
     reason: &Reason<'_>,
 ) -> Result<Option<&'static str>, OutOfMemory>
-    ensures { IfOk result (λ promise. (w : Replayed) → StandsForWorld world.now w →
-        option_map (λ keyword. keyword.now) promise
-        ≡ opener_if world.now.table w (record { process = number; action = action.now })
+    ensures { IfOk result (λ promise. option_map (λ keyword. keyword.now) promise
+        ≡ opener_if world.now.table (world_of world.now)
+        (record { process = number; action = action.now })
         (reason_seen reason.now)) }
 {
     match reason {
@@ -308,9 +307,9 @@ pub fn push_opener<T: FileTree>(
     action: &Action,
     reason: &Reason<'_>,
 ) -> Result<(), AllocError>
-    ensures { OnOk result ((w : Replayed) → StandsForWorld world.now w →
-        string_bytes text.new ≡ string_bytes text.old ++ opener_text (opened_by rules
-        world.now.table w (record { process = number; action = action.now })
+    ensures { OnOk result (string_bytes text.new ≡ string_bytes text.old
+        ++ opener_text (opened_by rules
+        world.now.table (world_of world.now) (record { process = number; action = action.now })
         (reason_seen reason.now))) }
 {
     match rules {
@@ -329,9 +328,8 @@ fn push_opened<T: FileTree>(
     action: &Action,
     reason: &Reason<'_>,
 ) -> Result<(), AllocError>
-    ensures { OnOk result ((w : Replayed) → StandsForWorld world.now w →
-        string_bytes text.new ≡ string_bytes text.old ++ opener_text (opener_if
-        world.now.table w (record { process = number; action = action.now })
+    ensures { OnOk result (string_bytes text.new ≡ string_bytes text.old ++ opener_text (opener_if
+        world.now.table (world_of world.now) (record { process = number; action = action.now })
         (reason_seen reason.now))) }
 {
     match opener_if(alloc, world, number, action, reason) {

@@ -10,7 +10,7 @@ ghost use Rattle.pua_script.specs.Decide.{New, Outcome, covers_by, dots_by, insi
 ghost use Rattle.pua_script.specs.Decide.{kinds_by, link_by, objects_by, pair_by, rename_by};
 ghost use Rattle.pua_script.specs.Decide.{top_by, ways_by};
 ghost use Rattle.pua_why.specs.Checked.{refused_by};
-ghost use Rattle.pua_why.specs.Reasons.{Fault as Meant, faults, faults_on};
+ghost use Rattle.pua_why.specs.Reasons.{Fault as Meant, faults, faults_of};
 ghost use Rattle.pua_why.specs.Seen.{fault_seen, on_found, side_seen};
 
 use crate::checks::{cover_fault, promises_fault, traced};
@@ -37,7 +37,7 @@ pub(crate) fn rename_fault<'s, T: FileTree>(
     links: &mut Links,
 ) -> Option<Fault<'s>>
     ensures { option_map fault_seen result
-        ≡ refused_by (pair_by faults table.now.rename (T.content tree.now) (faults_on process.now)
+        ≡ refused_by (pair_by faults table.now.rename (T.content tree.now) (faults_of process.now)
         endings.Dropped old.now new.now
         (λ a b. rename_by faults (T.content tree.now) a b (node_named a))) }
 {
@@ -65,7 +65,7 @@ pub(crate) fn link_fault<'s, T: FileTree>(
     links: &mut Links,
 ) -> Option<Fault<'s>>
     ensures { option_map fault_seen result
-        ≡ refused_by (pair_by faults table.now.link (T.content tree.now) (faults_on process.now)
+        ≡ refused_by (pair_by faults table.now.link (T.content tree.now) (faults_of process.now)
         endings.Dot old.now new.now (λ a b. link_by faults a b (node_named a))) }
 {
     match judged(tree, table.link(), process, Ending::Dot, old, new, links) {
@@ -86,7 +86,7 @@ fn judged<'s, T: FileTree>(
     links: &mut Links,
 ) -> Result<Pair, Fault<'s>>
     ensures exact { (further : founds.Found → founds.Found → Outcome Meant) →
-        pair_by faults need.now (T.content tree.now) (faults_on process.now) ending old.now new.now
+        pair_by faults need.now (T.content tree.now) (faults_of process.now) ending old.now new.now
         further
         ≡ on_found result (λ pair. further pair.old pair.new) }
     ensures named { IfOk result (λ pair. StandsAsNamed (T.content tree.now) pair.new) }
@@ -111,7 +111,7 @@ fn objects<'s, T: FileTree>(
     links: &mut Links,
 ) -> Result<Pair, Fault<'s>>
     ensures exact { (further : founds.Found → founds.Found → Outcome Meant) →
-        objects_by faults need.now (T.content tree.now) (faults_on process.now) ending old.now
+        objects_by faults need.now (T.content tree.now) (faults_of process.now) ending old.now
         new.now further
         ≡ on_found result (λ pair. further pair.old pair.new) }
     ensures named { IfOk result (λ pair. StandsAsNamed (T.content tree.now) pair.new) }
@@ -142,7 +142,7 @@ fn covers_fault<'s, 't, P: Probe<'t>>(
 ) -> Option<Fault<'s>>
     ensures { FoundFits (P.tree probe.old) old.now → FoundFits (P.tree probe.old) new.now →
         option_map fault_seen result
-        ≡ covers_by need.now (P.tree probe.old) (faults_on process.now) old.now new.now }
+        ≡ covers_by need.now (P.tree probe.old) (faults_of process.now) old.now new.now }
 {
     let fault = cover_fault(probe, process, Side::Old, old, need.old_name().perms());
     if fault.is_some() {

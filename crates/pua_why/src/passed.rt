@@ -6,11 +6,9 @@ ghost use Rattle.pua_path.specs.Fits.{FoundFits};
 ghost use Rattle.pua_path.specs.Traces.{trace_of_text};
 ghost use Rattle.pua_path.specs.declared.found.Found as founds;
 ghost use Rattle.pua_calls.specs.Calls.{rule_of};
-ghost use Rattle.pua_policy.specs.History.{History, StandsFor};
 ghost use Rattle.pua_policy.specs.Reasons.{promising};
 ghost use Rattle.pua_script.specs.Decide.{New, Old, Side as Seen, Sole};
-ghost use Rattle.pua_script.specs.Replay.{World as Replayed};
-ghost use Rattle.pua_script.specs.Worlds.{StandsForWorld};
+ghost use Rattle.pua_script.specs.Worlds.{world_of};
 ghost use Rattle.pua_why.specs.Facts.{Fact as Meant, Follows, call_facts, call_trace, facts};
 ghost use Rattle.pua_why.specs.Facts.{facts_named, facts_of, facts_promised, facts_under};
 ghost use Rattle.pua_why.specs.Facts.{names_facts, pair_facts, unveil_facts};
@@ -53,9 +51,9 @@ pub fn facts<T: FileTree>(
     number: u32,
     action: &Action,
 ) -> Result<Vec<Fact>, OutOfMemory>
-    ensures { IfOk result (λ told. (w : Replayed) → StandsForWorld world.now w →
-        map fact_seen told.items
-        ≡ facts_of world.now.table w (record { process = number; action = action.now })) }
+    ensures { IfOk result (λ told. map fact_seen told.items
+        ≡ facts_of world.now.table (world_of world.now)
+        (record { process = number; action = action.now })) }
 {
     let mut passed = Passed::new(alloc)?;
     if let Some(process) = world.process(number) {
@@ -84,8 +82,8 @@ impl Passed {
         process: &Process,
         action: &Action,
     ) -> Result<(), OutOfMemory>
-        ensures { OnOk result ((h : History) → StandsFor process.now h →
-            self.new ≡ self.old ++ facts table.now (T.content tree.now) h action.now) }
+        ensures { OnOk result (self.new ≡ self.old
+            ++ facts table.now (T.content tree.now) process.now action.now) }
     {
         match action {
             Action::OnPath(call, path) => {
@@ -118,8 +116,8 @@ impl Passed {
         call: Call,
         path: &[u8],
     ) -> Result<(), OutOfMemory>
-        ensures { OnOk result ((h : History) → StandsFor process.now h →
-            self.new ≡ self.old ++ call_facts table.now (T.content tree.now) h call path.now) }
+        ensures { OnOk result (self.new ≡ self.old
+            ++ call_facts table.now (T.content tree.now) process.now call path.now) }
     {
         match process.promising(table.alternatives(call)) {
             Promising::Holds(set) => {
@@ -139,9 +137,10 @@ impl Passed {
         call: Call,
         path: &[u8],
     ) -> Result<(), OutOfMemory>
-        ensures { OnOk result ((h : History) → StandsFor process.now h → self.new ≡ self.old
-            ++ facts_named Sole (call_trace (T.content tree.now) h call path.now) (λ object.
-            facts_under Sole (T.content tree.now) h object (rule_of table.now call).perms [])) }
+        ensures { OnOk result (self.new ≡ self.old
+            ++ facts_named Sole (call_trace (T.content tree.now) process.now call path.now)
+            (λ object. facts_under Sole (T.content tree.now) process.now object
+            (rule_of table.now call).perms [])) }
     {
         let mut probe = Counted::new(tree);
         let (dir, last) = (process.dir(), call.last());
@@ -164,8 +163,8 @@ impl Passed {
         old: &[u8],
         new: &[u8],
     ) -> Result<(), OutOfMemory>
-        ensures { OnOk result ((h : History) → StandsFor process.now h → self.new ≡ self.old
-            ++ pair_facts need.now (T.content tree.now) h ending old.now new.now) }
+        ensures { OnOk result (self.new ≡ self.old
+            ++ pair_facts need.now (T.content tree.now) process.now ending old.now new.now) }
     {
         let Promising::Holds(set) = process.promising(need.old_name().alternatives()) else {
             return Ok(());
@@ -187,8 +186,8 @@ impl Passed {
         old: &[u8],
         new: &[u8],
     ) -> Result<(), OutOfMemory>
-        ensures { OnOk result ((h : History) → StandsFor process.now h → self.new ≡ self.old
-            ++ names_facts need.now (T.content tree.now) h ending old.now new.now) }
+        ensures { OnOk result (self.new ≡ self.old
+            ++ names_facts need.now (T.content tree.now) process.now ending old.now new.now) }
     {
         let mut probe = Counted::new(tree);
         let dir = process.dir();
@@ -214,9 +213,9 @@ impl Passed {
     ) -> Result<(), OutOfMemory>
         ensures { OnOk result (FoundFits (P.tree probe.old) old.now →
             FoundFits (P.tree probe.old) new.now →
-            (h : History) → StandsFor process.now h → self.new ≡ self.old
-            ++ facts_under Old (P.tree probe.old) h old.now need.now.old.needs.perms
-            (facts_under New (P.tree probe.old) h new.now need.now.new.needs.perms [])) }
+            self.new ≡ self.old
+            ++ facts_under Old (P.tree probe.old) process.now old.now need.now.old.needs.perms
+            (facts_under New (P.tree probe.old) process.now new.now need.now.new.needs.perms [])) }
     {
         if self.add_cover(probe, process, Side::Old, old, need.old_name().perms())? {
             return self.add_last_cover(probe, process, Side::New, new, need.new_name().perms());
@@ -231,8 +230,8 @@ impl Passed {
         process: &Process,
         path: &[u8],
     ) -> Result<(), OutOfMemory>
-        ensures { OnOk result ((h : History) → StandsFor process.now h →
-            self.new ≡ self.old ++ unveil_facts (T.content tree.now) h path.now) }
+        ensures { OnOk result (self.new ≡ self.old
+            ++ unveil_facts (T.content tree.now) process.now path.now) }
     {
         let Promising::Holds(set) = process.promising(&[Promises::UNVEIL]) else {
             return Ok(());
@@ -249,8 +248,8 @@ impl Passed {
 
     /// Adds promises, if they are held.
     fn add_promise(&mut self, process: &Process, set: Promises) -> Result<(), OutOfMemory>
-        ensures { OnOk result ((h : History) → StandsFor process.now h →
-            self.new ≡ self.old ++ facts_promised (promising h (set ∷ [])) []) }
+        ensures { OnOk result (self.new ≡ self.old
+            ++ facts_promised (promising process.now (set ∷ [])) []) }
     {
         match process.promising(&[set]) {
             Promising::Holds(set) => self.add(Fact::Needs(set)),
@@ -295,8 +294,8 @@ impl Passed {
         perms: Perms,
     ) -> Result<(), OutOfMemory>
         ensures { OnOk result (FoundFits (P.tree probe.old) found.now →
-            (h : History) → StandsFor process.now h → self.new ≡ self.old
-            ++ facts_under (side_seen side) (P.tree probe.old) h found.now perms []) }
+            self.new ≡ self.old
+            ++ facts_under (side_seen side) (P.tree probe.old) process.now found.now perms []) }
     {
         self.add_cover(probe, process, side, found, perms)?;
         Ok(())
@@ -312,9 +311,9 @@ impl Passed {
         perms: Perms,
     ) -> Result<bool, OutOfMemory>
         ensures exact { IfOk result (λ covered. FoundFits (P.tree probe.old) found.now →
-            (h : History) → StandsFor process.now h → (more : List Meant) →
+            (more : List Meant) →
             self.new ++ (if covered then more else []) ≡ self.old
-            ++ facts_under (side_seen side) (P.tree probe.old) h found.now perms more) }
+            ++ facts_under (side_seen side) (P.tree probe.old) process.now found.now perms more) }
         ensures tree { P.tree probe.new ≡ P.tree probe.old }
     {
         let over = process.covering(probe, found);

@@ -1,12 +1,11 @@
 //! Why a request is answered as it is.
 
 ghost use Rattle.std.specs.Prelude.{◌≡◌, IfOk, None, option_map};
-ghost use Rattle.pua_policy.specs.History.{History, StandsFor};
+ghost use Rattle.pua_policy.specs.States.{ProcessState};
 ghost use Rattle.pua_script.specs.Decide.{decide_by};
-ghost use Rattle.pua_script.specs.Replay.{World as Replayed, apply};
-ghost use Rattle.pua_script.specs.Worlds.{StandsForWorld};
+ghost use Rattle.pua_script.specs.Worlds.{apply_to, world_of};
 ghost use Rattle.pua_why.specs.Checked.{reason_checked, checks_fault, granted_by, refused_by};
-ghost use Rattle.pua_why.specs.Reasons.{change_or_fault, faults, faults_on, reason};
+ghost use Rattle.pua_why.specs.Reasons.{change_or_fault, faults, faults_of, reason};
 ghost use Rattle.pua_why.specs.Seen.{fault_seen, reason_seen};
 
 use crate::checks::{call_fault, symlink_fault, unveil_fault};
@@ -30,9 +29,9 @@ pub fn checked<'w, T: FileTree>(
     number: u32,
     action: &Action,
 ) -> Result<Reason<'w>, OutOfMemory>
-    ensures { IfOk result (λ reason. (w : Replayed) → StandsForWorld world.now w →
-        reason_seen reason
-        ≡ reason_checked world.now.table w (record { process = number; action = action.now })) }
+    ensures { IfOk result (λ reason. reason_seen reason
+        ≡ reason_checked world.now.table (world_of world.now)
+        (record { process = number; action = action.now })) }
 {
     let Some(process) = world.process(number) else {
         return Ok(Reason::NeverMade);
@@ -57,10 +56,11 @@ pub fn reason<'w, T: FileTree>(
     action: &Action,
     answer: Answer,
 ) -> Result<Reason<'w>, OutOfMemory>
-    ensures { IfOk result (λ told. (w : Replayed) → StandsForWorld world.now w →
-        answer ≡ (apply world.now.table w (record { process = number; action = action.now })).0 →
+    ensures { IfOk result (λ told.
+        answer ≡ (apply_to world.now (record { process = number; action = action.now })).0 →
         reason_seen told
-        ≡ reason world.now.table w (record { process = number; action = action.now })) }
+        ≡ reason world.now.table (world_of world.now)
+        (record { process = number; action = action.now })) }
 {
     match checked(alloc, world, number, action) {
         Ok(Reason::NeverMade) => Ok(Reason::NeverMade),
@@ -82,16 +82,15 @@ fn granted_by<'s>(answer: Answer) -> Reason<'s>
 }
 
 /// The check of a living process's request that fails.
-#[tactic(auto, using(crate::proofs::Needing::faults_stand))]
 fn request_fault<'w, T: FileTree>(
     alloc: Global,
     world: &'w World<T>,
     process: &Process,
     action: &Action,
 ) -> Result<Option<Fault<'w>>, OutOfMemory>
-    ensures { IfOk result (λ fault. (w : Replayed) (h : History) →
-        StandsForWorld world.now w → StandsFor process.now h → option_map fault_seen fault
-        ≡ checks_fault w (change_or_fault world.now.table w.tree h action.now)) }
+    ensures { IfOk result (λ fault. option_map fault_seen fault
+        ≡ checks_fault (world_of world.now)
+        (change_or_fault world.now.table world.now.tree process.now action.now)) }
 {
     match fault_of(alloc, world.tree(), world.table(), process, action) {
         Ok(None) => further_fault(alloc, world, action),
@@ -107,10 +106,11 @@ fn further_fault<'s, T: FileTree>(
     world: &World<T>,
     action: &Action,
 ) -> Result<Option<Fault<'s>>, OutOfMemory>
-    ensures { IfOk result (λ fault. (w : Replayed) (h : History) → StandsForWorld world.now w →
-        None ≡ refused_by (change_or_fault world.now.table w.tree h action.now) →
+    ensures { IfOk result (λ fault. (h : ProcessState) →
+        None ≡ refused_by (change_or_fault world.now.table world.now.tree h action.now) →
         option_map fault_seen fault
-        ≡ checks_fault w (change_or_fault world.now.table w.tree h action.now)) }
+        ≡ checks_fault (world_of world.now)
+        (change_or_fault world.now.table world.now.tree h action.now)) }
 {
     match action {
         Action::Fork(new) => process_fault(alloc, world, *new),
@@ -127,7 +127,7 @@ fn fault_of<'s, T: FileTree>(
     action: &Action,
 ) -> Result<Option<Fault<'s>>, OutOfMemory>
     ensures { IfOk result (λ fault. option_map fault_seen fault
-        ≡ refused_by (decide_by faults table.now (T.content tree.now) (faults_on process.now)
+        ≡ refused_by (decide_by faults table.now (T.content tree.now) (faults_of process.now)
         action.now)) }
 {
     let mut links = Links::new(alloc)?;

@@ -1,7 +1,10 @@
 -- What the words of a command line may ask for.
-use Rattle.std.specs.Prelude.{ℕ, ◌≡◌, ◌≤◌, ◌==◌, ⊤, Bool, true, false, List, map, Option, Some, None, codes}
+use Rattle.std.specs.Prelude.{ℕ, ◌≡◌, ◌≤◌, ◌==◌, ⊤, Bool, true, false, List, [], ◌∷◌, map, Option, Some, None, codes}
+use Rattle.std.specs.Prelude.{option_map, unwrap_or}
 use Rattle.std.specs.List.{All, slice_split}
-use Rattle.std.specs.Str.Parse.{digits_value, without_leading_plus}
+use Rattle.std.specs.Str.Parse.{IsNumeral, digits_value, without_leading_plus}
+use Rattle.clap.specs.Matches.{matched_of, raw_values}
+use Rattle.clap.specs.declared.parser.matches.Found.{Found}
 use Rattle.pua_words.specs.declared.command.Text.{Text}
 use Rattle.pua_words.specs.declared.command.Text.TheVariants.{Run, RunWhy, Why, Audit, Objects, ObjectsWhy, Ever, EverHow, Together}
 use Rattle.pua_words.specs.declared.command.Text.TheVariants.{Tight, TightWhy, How}
@@ -28,6 +31,26 @@ abbrev pub IsTextOf : Option (List ℕ) → Processes → Type 0
 IsTextOf None processes = ⊥
 IsTextOf (Some text) (One process) = digits_value 10 (without_leading_plus text) ≡ process
 IsTextOf (Some text) processes.All = text ≡ codes "all"
+
+-- the text has a number that a process may have, in decimal digits, of which zeros and a plus may stand first
+abbrev pub IsNumberText : Option (List ℕ) → ℕ → Type 0
+IsNumberText None process = ⊥
+IsNumberText (Some text) process =
+    IsNumeral 10 (without_leading_plus text) × (digits_value 10 (without_leading_plus text) ≡ process) × IsProcessNumber process
+
+-- the text, without a minus, has the limit in decimal digits
+abbrev pub IsLimitText : Option (List ℕ) → ℕ → Type 0
+IsLimitText None limit = ⊥
+IsLimitText (Some text) limit = digits_value 10 (without_leading_plus text) ≡ limit
+
+-- the values that were found of an id, in their order; none where it has no entry
+abbrev pub values_found : Found → List ℕ → List (List ℕ)
+values_found found id = unwrap_or (option_map raw_values (matched_of found id)) []
+
+-- the fields of a request are its call, and behind it its arguments
+abbrev pub AreFieldsOf : Option (List ℕ) → List (List ℕ) → List (List ℕ) → Type 0
+AreFieldsOf None arguments fields = ⊥
+AreFieldsOf (Some call) arguments fields = fields ≡ call ∷ arguments
 
 -- a list of several together is asked of processes that may have been made, or of all
 abbrev pub MayBeMembers : Members → Type 0

@@ -248,7 +248,10 @@ Example: pua how TREE SCRIPT open-r /in/secret",
                        chown with `--rules openbsd`
   how: bad path        PATH is neither `new` nor `/` with names, as in a list
   how: no such thing   what stands before the last name of PATH is no directory,
-                       or nothing there is of this KIND"
+                       or nothing there is of this KIND
+  how: a link, which CALL follows
+                       CALL is on what the link at PATH leads to: ask about the
+                       path of that"
 );
 
 pub(crate) const OBJECTS_OUTPUT: &str = with_calls_and_faults!(

@@ -1,12 +1,29 @@
 //! The words of the command line, read by `clap`.
 
 ghost use Rattle.std.specs.Prelude.{◌≡◌, ◌↔◌, IfErr, IfOk, IfSome, Some, codes, map, option_map};
-ghost use Rattle.std.specs.Prelude.{true};
+ghost use Rattle.std.specs.Prelude.{◌++◌, ℕ, [], Bool, None, OnOk, Option, true, unwrap_or};
 ghost use Rattle.std.specs.List.{All};
-ghost use Rattle.clap.specs.Matches.{first_value, found_of};
+ghost use Rattle.clap.specs.Matches.{first_value, found_of, one_text};
 ghost use Rattle.pua_objects.specs.Lines.{kind_word};
-ghost use Rattle.pua_words.specs.Commands.{AreIn, AsksSoundly, IsProcessNumber, IsTextOf, MayBeAsked};
+ghost use Rattle.pua_words.specs.Commands.{AreFieldsOf, AreIn, AsksSoundly, IsLimitText};
+ghost use Rattle.pua_words.specs.Commands.{IsNumberText, IsProcessNumber, IsTextOf, MayBeAsked};
+ghost use Rattle.pua_words.specs.Commands.{values_found};
 ghost use Rattle.pua_words.specs.Commands.{how_list_asked, list_asked, run_asked, tight_asked};
+ghost use Rattle.clap.specs.Walk.{Rule};
+ghost use Rattle.clap.specs.Simple.{App, new_app, with_rule, with_subcommand};
+ghost use Rattle.clap.specs.declared.builder.value_parser.ValueParser.{ValueParser};
+ghost use Rattle.pua_words.specs.Grammar.{IsArg, IsBuilt, Parsers, audit_app, by_default};
+ghost use Rattle.pua_words.specs.Grammar.{flag_rule, how_app, input_rules};
+ghost use Rattle.pua_words.specs.Grammar.{judged, objects_app, operand_rule};
+ghost use Rattle.pua_words.specs.Grammar.{operands_rule, option_rule, process_rule, program_app};
+ghost use Rattle.pua_words.specs.Grammar.{pua_app, required, run_app, tight_app, walk_rules};
+ghost use Rattle.pua_words.specs.Grammar.{limit_rule, why_app, with_rules};
+ghost use Rattle.pua_words.specs.Reading.{IsAuditOf, IsCommandOf, IsFlag, IsListOf, IsListText};
+ghost use Rattle.pua_words.specs.Reading.{HasInputsOf, IsReadAs, IsWhyOf, list_meant};
+ghost use Rattle.pua_words.specs.declared.command.AuditWords.{AuditWords};
+ghost use Rattle.pua_words.specs.declared.command.Text.TheVariants.{Audit, Why};
+ghost use Rattle.pua_words.specs.declared.command.WhyWords.{WhyWords};
+ghost use Rattle.pua_words.specs.Plain.{IsMeantBy};
 ghost use Rattle.pua_words.specs.Usages.{AsksAbout, IsStop, is_about};
 
 use crate::command::{
@@ -51,9 +68,17 @@ impl From<AllocError> for Stop {
 
 /// What the words after the program's name ask for. `Usage` where they are not in the form of the
 /// lines of [`UsageLine`], as `clap` reads them: which words those are is in no contract.
+///
+/// Where words in a plain form are a command, it is the one that they name, of the inputs that they
+/// name, by the rules of the profile: `run` and `tight`, with `--why` or without; `objects`, with
+/// its other options or without, of process 1, or behind these `--process` with a number or `all`;
+/// `why` and `how`, of process 1, with the call and what stands behind it; and `audit --limit N`, of
+/// process 1, from the root, with the names behind it. There each word beside the options begins
+/// with no hyphen.
 pub fn read_words<'a>(alloc: Global, words: &'a [&'a str]) -> Result<Command<'a>, Stop>
     ensures process { IfOk result (λ command. AsksSoundly command.text) }
     ensures stop { IfErr result (IsStop (map (λ word. word.now) words.now)) }
+    ensures meant { IfOk result (IsMeantBy (map (λ word. word.now) words.now)) }
 {
     let found = match pua_command(alloc)?.try_get_matches_from(words) {
         Ok(found) => found,
@@ -68,7 +93,9 @@ fn read_command<'a>(
     alloc: Global,
     found: &ArgMatches<'a>,
 ) -> Result<Option<Command<'a>>, AllocError>
-    ensures { IfOk result (λ command. IfSome command (λ command. AsksSoundly command.text)) }
+    ensures process { IfOk result
+        (λ command. IfSome command (λ command. AsksSoundly command.text)) }
+    ensures read { IfOk result (λ command. IfSome command (IsCommandOf found.now)) }
 {
     let Some((name, inner)) = found.subcommand() else {
         return Ok(None);
@@ -85,22 +112,49 @@ fn read_text<'a>(
     name: &str,
     found: &ArgMatches<'a>,
 ) -> Result<Option<Text<'a>>, AllocError>
-    ensures { IfOk result (λ text. IfSome text AsksSoundly) }
+    ensures process { IfOk result (λ text. IfSome text AsksSoundly) }
+    ensures read { IfOk result (λ text. IfSome text (IsReadAs name.now (found_of found.now))) }
 {
-    Ok(match name {
-        "run" => Some(run_of(found.get_flag("why"))),
-        "objects" => read_objects(alloc, found)?,
-        "why" => read_why(alloc, found)?.map(Text::Why),
-        "tight" => Some(tight_of(found.get_flag("why"))),
-        "how" => read_how(found).map(Text::How),
-        _ => read_audit(alloc, found)?.map(Text::Audit),
-    })
+    match name {
+        "run" => Ok(Some(run_of(flag_of(found, "why")))),
+        "objects" => read_objects(alloc, found),
+        "why" => why_of(alloc, found),
+        "tight" => Ok(Some(tight_of(flag_of(found, "why")))),
+        "how" => Ok(read_how(found).map(Text::How)),
+        _ => audit_of(alloc, found),
+    }
+}
+
+/// What decides the request that is asked about.
+fn why_of<'a>(alloc: Global, found: &ArgMatches<'a>) -> Result<Option<Text<'a>>, AllocError>
+    ensures process { IfOk result (λ text. IfSome text AsksSoundly) }
+    ensures read { IfOk result (λ text. IfSome text (λ text.
+        (words : WhyWords) × (text ≡ Why words) × IsWhyOf (found_of found.now) words)) }
+{
+    match read_why(alloc, found)? {
+        Some(words) => Ok(Some(Text::Why(words))),
+        None => Ok(None),
+    }
+}
+
+/// The audit that is asked for.
+fn audit_of<'a>(alloc: Global, found: &ArgMatches<'a>) -> Result<Option<Text<'a>>, AllocError>
+    ensures process { IfOk result (λ text. IfSome text AsksSoundly) }
+    ensures read { IfOk result (λ text. IfSome text (λ text.
+        (words : AuditWords) × (text ≡ Audit words) × IsAuditOf (found_of found.now) words)) }
+{
+    match read_audit(alloc, found)? {
+        Some(words) => Ok(Some(Text::Audit(words))),
+        None => Ok(None),
+    }
 }
 
 /// A command with what was added to it, unless a growth was refused.
 type Built<'a> = Result<clap::Command<'a>, AllocError>;
 
-fn pua_command<'a>(alloc: Global) -> Built<'a> {
+fn pua_command<'a>(alloc: Global) -> Built<'a>
+    ensures { (parsers : Parsers) × IsBuilt (pua_app parsers) result }
+{
     let pua = with_command(program(alloc), run_command(alloc));
     let pua = with_command(pua, objects_command(alloc));
     let pua = with_command(pua, why_command(alloc));
@@ -110,7 +164,9 @@ fn pua_command<'a>(alloc: Global) -> Built<'a> {
 }
 
 /// The program, without its commands.
-fn program<'a>(alloc: Global) -> Built<'a> {
+fn program<'a>(alloc: Global) -> Built<'a>
+    ensures { IsBuilt program_app result }
+{
     clap::Command::new(alloc, "pua")
         .no_binary_name(true)
         .version(VERSION)
@@ -120,13 +176,17 @@ fn program<'a>(alloc: Global) -> Built<'a> {
         .bin_name("pua")
 }
 
-fn run_command<'a>(alloc: Global) -> Built<'a> {
+fn run_command<'a>(alloc: Global) -> Built<'a>
+    ensures { (rules : Option ValueParser) × IsBuilt (run_app rules) result }
+{
     let run = command(alloc, "run", help::RUN, help::RUN_OUTPUT);
     let run = with(run, flag(alloc, "why", help::RUN_WHY));
     with_inputs(alloc, run)
 }
 
-fn objects_command<'a>(alloc: Global) -> Built<'a> {
+fn objects_command<'a>(alloc: Global) -> Built<'a>
+    ensures { (rules : Option ValueParser) × IsBuilt (objects_app rules) result }
+{
     let objects = command(alloc, "objects", help::OBJECTS, help::OBJECTS_OUTPUT);
     let objects = with(objects, flag(alloc, "ever", help::EVER));
     let objects = with(objects, flag(alloc, "how", help::EVER_HOW));
@@ -135,7 +195,9 @@ fn objects_command<'a>(alloc: Global) -> Built<'a> {
     with_inputs(alloc, objects)
 }
 
-fn why_command<'a>(alloc: Global) -> Built<'a> {
+fn why_command<'a>(alloc: Global) -> Built<'a>
+    ensures { (process rules : Option ValueParser) × IsBuilt (why_app process rules) result }
+{
     let why = command(alloc, "why", help::WHY, help::WHY_OUTPUT);
     let why = with_inputs(alloc, with(why, process(alloc)));
     let why = with(
@@ -145,13 +207,18 @@ fn why_command<'a>(alloc: Global) -> Built<'a> {
     with(why, operands(alloc, "arguments", "ARG", help::ARGUMENTS))
 }
 
-fn tight_command<'a>(alloc: Global) -> Built<'a> {
+fn tight_command<'a>(alloc: Global) -> Built<'a>
+    ensures { (rules : Option ValueParser) × IsBuilt (tight_app rules) result }
+{
     let tight = command(alloc, "tight", help::TIGHT, help::TIGHT_OUTPUT);
     let tight = with(tight, flag(alloc, "why", help::TIGHT_WHY));
     with_inputs(alloc, tight)
 }
 
-fn how_command<'a>(alloc: Global) -> Built<'a> {
+fn how_command<'a>(alloc: Global) -> Built<'a>
+    ensures { (process rules kind : Option ValueParser)
+        × IsBuilt (how_app process rules kind) result }
+{
     let how = command(alloc, "how", help::HOW, help::HOW_OUTPUT);
     let how = with_inputs(alloc, with(how, process(alloc)));
     let how = with(
@@ -165,14 +232,21 @@ fn how_command<'a>(alloc: Global) -> Built<'a> {
     with(how, kind(alloc))
 }
 
-fn audit_command<'a>(alloc: Global) -> Built<'a> {
+fn audit_command<'a>(alloc: Global) -> Built<'a>
+    ensures { (process base rules : Option ValueParser)
+        × IsBuilt (audit_app process base rules) result }
+{
     let audit = command(alloc, "audit", help::AUDIT, help::AUDIT_OUTPUT);
     let audit = with_inputs(alloc, with_walk(alloc, audit));
     with(audit, operands(alloc, "names", "NAME", help::NAMES))
 }
 
 /// Adds what an audit asks for beside its inputs.
-fn with_walk<'a>(alloc: Global, audit: Built<'a>) -> Built<'a> {
+fn with_walk<'a>(alloc: Global, audit: Built<'a>) -> Built<'a>
+    ensures { (app : App) → IsBuilt app audit.entry
+        → (process base : Option ValueParser)
+        × IsBuilt (with_rules app (walk_rules process base)) result }
+{
     let audit = with(audit, limit(alloc));
     let audit = with(audit, process(alloc));
     let audit = with(audit, base(alloc));
@@ -180,7 +254,10 @@ fn with_walk<'a>(alloc: Global, audit: Built<'a>) -> Built<'a> {
 }
 
 /// Adds the words for the inputs that all commands have, in the order of help.
-fn with_inputs<'a>(alloc: Global, command: Built<'a>) -> Built<'a> {
+fn with_inputs<'a>(alloc: Global, command: Built<'a>) -> Built<'a>
+    ensures { (app : App) → IsBuilt app command.entry
+        → (rules : Option ValueParser) × IsBuilt (with_rules app (input_rules rules)) result }
+{
     let command = with(command, rules(alloc));
     let command = with(command, option(alloc, "table", "FILE", help::TABLE));
     let command = with(
@@ -194,7 +271,9 @@ fn with_inputs<'a>(alloc: Global, command: Built<'a>) -> Built<'a> {
 }
 
 /// A command of this name, with a line about it and what stands behind its help.
-fn command<'a>(alloc: Global, name: &'a str, about: &'a str, output: &'a str) -> Built<'a> {
+fn command<'a>(alloc: Global, name: &'a str, about: &'a str, output: &'a str) -> Built<'a>
+    ensures { IsBuilt (new_app name.entry.now) result }
+{
     Ok(
         clap::Command::new(alloc, name)
             .about(about)
@@ -203,17 +282,25 @@ fn command<'a>(alloc: Global, name: &'a str, about: &'a str, output: &'a str) ->
 }
 
 /// Adds a command to the program, unless a growth was refused before.
-fn with_command<'a>(pua: Built<'a>, command: Built<'a>) -> Built<'a> {
+fn with_command<'a>(pua: Built<'a>, command: Built<'a>) -> Built<'a>
+    ensures { (app added : App) → IsBuilt app pua.entry → IsBuilt added command.entry
+        → IsBuilt (with_subcommand app added.top) result }
+{
     pua?.subcommand(command?)
 }
 
 /// Adds words to a command, unless a growth was refused before.
-fn with<'a>(command: Built<'a>, arg: Arg<'a>) -> Built<'a> {
+fn with<'a>(command: Built<'a>, arg: Arg<'a>) -> Built<'a>
+    ensures { (app : App) (rule : Rule) → IsBuilt app command.entry → IsArg rule arg.entry
+        → IsBuilt (with_rule app rule) result }
+{
     command?.arg(arg)
 }
 
 /// An option without a value.
-fn flag<'a>(alloc: Global, name: &'a str, help: &'a str) -> Arg<'a> {
+fn flag<'a>(alloc: Global, name: &'a str, help: &'a str) -> Arg<'a>
+    ensures { IsArg (flag_rule name.entry.now) result }
+{
     Arg::new(alloc, name)
         .long(name)
         .action(ArgAction::SetTrue)
@@ -221,55 +308,75 @@ fn flag<'a>(alloc: Global, name: &'a str, help: &'a str) -> Arg<'a> {
 }
 
 /// An option with one value.
-fn option<'a>(alloc: Global, name: &'a str, value: &'a str, help: &'a str) -> Arg<'a> {
+fn option<'a>(alloc: Global, name: &'a str, value: &'a str, help: &'a str) -> Arg<'a>
+    ensures { IsArg (option_rule name.entry.now) result }
+{
     operand(alloc, name, value, help)
         .long(name)
         .action(ArgAction::Set)
 }
 
 /// A word that has its meaning by its place.
-fn operand<'a>(alloc: Global, name: &'a str, value: &'a str, help: &'a str) -> Arg<'a> {
+fn operand<'a>(alloc: Global, name: &'a str, value: &'a str, help: &'a str) -> Arg<'a>
+    ensures { IsArg (operand_rule name.entry.now) result }
+{
     Arg::new(alloc, name).value_name(value).help(help)
 }
 
 /// All words that are left.
-fn operands<'a>(alloc: Global, name: &'a str, value: &'a str, help: &'a str) -> Arg<'a> {
+fn operands<'a>(alloc: Global, name: &'a str, value: &'a str, help: &'a str) -> Arg<'a>
+    ensures { IsArg (operands_rule name.entry.now) result }
+{
     operand(alloc, name, value, help)
         .action(ArgAction::Append)
         .num_args(0..)
 }
 
-fn limit<'a>(alloc: Global) -> Arg<'a> {
+fn limit<'a>(alloc: Global) -> Arg<'a>
+    ensures { IsArg limit_rule result }
+{
     option(alloc, "limit", "N", help::LIMIT)
         .required(true)
         .value_parser(value_parser!(u8))
 }
 
-fn process<'a>(alloc: Global) -> Arg<'a> {
+fn process<'a>(alloc: Global) -> Arg<'a>
+    ensures { IsArg (process_rule result.value_parser) result }
+{
     option(alloc, "process", "P", help::PROCESS)
         .default_value("1")
         .value_parser(value_parser!(u32).range(1..=i64::from(MOST_NUMBER)))
 }
 
-fn processes<'a>(alloc: Global) -> Arg<'a> {
+fn processes<'a>(alloc: Global) -> Arg<'a>
+    ensures { IsArg (by_default (codes "1") (option_rule (codes "process"))) result }
+{
     option(alloc, "process", "P,...|all", help::PROCESSES).default_value("1")
 }
 
-fn base<'a>(alloc: Global) -> Arg<'a> {
+fn base<'a>(alloc: Global) -> Arg<'a>
+    ensures { IsArg (judged result.value_parser
+        (by_default (codes "root") (option_rule (codes "base")))) result }
+{
     option(alloc, "base", "root|cwd", help::BASE)
         .hide_possible_values(true)
         .default_value("root")
         .value_parser(["root", "cwd"].as_slice())
 }
 
-fn rules<'a>(alloc: Global) -> Arg<'a> {
+fn rules<'a>(alloc: Global) -> Arg<'a>
+    ensures { IsArg (judged result.value_parser
+        (by_default (codes "profile") (option_rule (codes "rules")))) result }
+{
     option(alloc, "rules", "RULES", help::RULES)
         .hide_possible_values(true)
         .default_value("profile")
         .value_parser(["profile", "openbsd"].as_slice())
 }
 
-fn kind<'a>(alloc: Global) -> Arg<'a> {
+fn kind<'a>(alloc: Global) -> Arg<'a>
+    ensures { IsArg (judged result.value_parser (operand_rule (codes "kind"))) result }
+{
     operand(alloc, "kind", "KIND", help::HOW_KIND)
         .hide_possible_values(true)
         .value_parser(["dir", "file", "prog", "link", "missing", "other"].as_slice())
@@ -319,6 +426,13 @@ fn is_about(word: &str) -> bool
     word == "help" || word == "--help" || word == "-h" || word == "--version" || word == "-V"
 }
 
+/// Whether an option without a value was given.
+fn flag_of(found: &ArgMatches<'_>, id: &str) -> bool
+    ensures { (given : Bool) → IsFlag (found_of found.now) id.now given → result ≡ given }
+{
+    found.get_flag(id)
+}
+
 /// The inputs that all commands have, and the text that is asked for.
 fn read_inputs<'a>(found: &ArgMatches<'a>, text: Text<'a>) -> Option<Command<'a>>
     ensures text { IfSome result (λ command. command.text ≡ text.entry) }
@@ -330,6 +444,7 @@ fn read_inputs<'a>(found: &ArgMatches<'a>, text: Text<'a>) -> Option<Command<'a>
         ↔ (first_value (found_of found.now) (codes "rules") ≡ Some (codes "openbsd"))) }
     ensures table { IfSome result (λ command. option_map (λ name. name.now) command.table
         ≡ first_value (found_of found.now) (codes "table")) }
+    ensures inputs { IfSome result (HasInputsOf (found_of found.now)) }
 {
     let (Some(tree), Some(script)) = (found.get_str("tree"), found.get_str("script")) else {
         return None;
@@ -363,12 +478,23 @@ fn tight_of<'a>(why: bool) -> Text<'a>
 /// and where a list for ever is asked for with reasons, or one of now of several numbers, or the steps of
 /// ways of any other list than that for ever of one process.
 fn read_objects<'a>(alloc: Global, found: &ArgMatches<'a>) -> Result<Option<Text<'a>>, AllocError>
-    ensures { IfOk result (λ text. IfSome text AsksSoundly) }
+    ensures process { IfOk result (λ text. IfSome text AsksSoundly) }
+    ensures list { (ever how why : Bool) → IsFlag (found_of found.now) (codes "ever") ever
+        → IsFlag (found_of found.now) (codes "how") how
+        → IsFlag (found_of found.now) (codes "why") why
+        → (processes : Processes)
+        → IsListText (first_value (found_of found.now) (codes "process")) processes
+        → IfOk result (λ text. text ≡ list_meant ever how why processes) }
+    ensures form { (ever how why : Bool) → IsFlag (found_of found.now) (codes "ever") ever
+        → IsFlag (found_of found.now) (codes "how") how
+        → IsFlag (found_of found.now) (codes "why") why
+        → IfOk result (λ text. IfSome text
+        (IsListOf ever how why (first_value (found_of found.now) (codes "process")))) }
 {
-    let ever = found.get_flag("ever");
-    let why = found.get_flag("why");
+    let ever = flag_of(found, "ever");
+    let why = flag_of(found, "why");
     let process = found.get_str("process");
-    if found.get_flag("how") {
+    if flag_of(found, "how") {
         return Ok(how_list_of(ever, why, read_processes(process)));
     }
     if let Some(processes) = read_processes(process) {
@@ -440,17 +566,30 @@ fn read_processes(text: Option<&str>) -> Option<Processes>
     ensures all { (result ≡ Some Processes.All) ↔ (option_map (λ s. s.now) text.entry
         ≡ Some (codes "all")) }
     ensures text { IfSome result (IsTextOf (option_map (λ s. s.now) text.entry)) }
+    ensures each { (processes : Processes)
+        → IsListText (option_map (λ s. s.now) text.entry) processes → result ≡ Some processes }
 {
     match text {
         Some("all") => Some(Processes::All),
-        Some(number) => match number.parse::<u32>() {
-            Ok(process @ 1..=MOST_NUMBER) => Some(Processes::One(process)),
-            _ => None,
-        },
-        None => None,
+        other => Some(Processes::One(read_process(other)?)),
     }
 }
 
+/// The number of a process, in decimal digits; None for any other text. All commands read a
+/// process by this, and a list of several alone by the decimals of scripts.
+fn read_process(text: Option<&str>) -> Option<u32>
+    ensures sound { IfSome result IsProcessNumber }
+    ensures text { IfSome result (IsNumberText (option_map (λ s. s.now) text.entry)) }
+    ensures each { (process : ℕ)
+        → IsNumberText (option_map (λ s. s.now) text.entry) process → result ≡ Some process }
+{
+    match text?.parse::<u32>() {
+        Ok(process @ 1..=MOST_NUMBER) => Some(process),
+        _ => None,
+    }
+}
+
+/// What an audit is asked for: names, limit and process as they were found, to the byte.
 fn read_audit<'a>(
     alloc: Global,
     found: &ArgMatches<'a>,
@@ -462,33 +601,63 @@ fn read_audit<'a>(
     ensures after { IfOk result (λ words. IfSome words (λ words.
         option_map (λ pair. pair.now) words.after
         ≡ first_value (found_of found.now) (codes "after"))) }
+    ensures number { IfOk result (λ words. IfSome words (λ words.
+        IsNumberText (first_value (found_of found.now) (codes "process")) words.process)) }
+    ensures limit { IfOk result (λ words. IfSome words (λ words.
+        IsLimitText (one_text (found_of found.now) (codes "limit")) words.limit)) }
+    ensures names { IfOk result (λ words. IfSome words (λ words.
+        map (λ name. name.now) words.names.items
+        ≡ values_found (found_of found.now) (codes "names"))) }
 {
-    let (Some(limit), Some(process)) = (found.get_one::<u8>("limit"), read_process(found)) else {
+    let process = read_process(found.get_str("process"));
+    let (Some(limit), Some(process)) = (found.get_one::<u8>("limit"), process) else {
         return Ok(None);
     };
-    let names = found.get_strs("names").unwrap_or(&[]);
+    let mut names = Vec::new(alloc);
+    push_texts(&mut names, found.get_strs("names"))?;
     Ok(Some(AuditWords {
         limit,
         process,
         base: read_base(found.get_str("base")),
         after: found.get_str("after").map(|text| text.as_bytes()),
-        names: names.iter().map(|name| name.as_bytes()).collect(alloc)?,
+        names,
     }))
 }
 
-/// The request that is asked about: the call, and behind it its arguments.
+/// The request that is asked about: the call, and behind it its arguments, each to the byte.
 fn read_why<'a>(alloc: Global, found: &ArgMatches<'a>) -> Result<Option<WhyWords<'a>>, AllocError>
-    ensures { IfOk result (λ words. IfSome words (λ words. IsProcessNumber words.process)) }
+    ensures process { IfOk result
+        (λ words. IfSome words (λ words. IsProcessNumber words.process)) }
+    ensures number { IfOk result (λ words. IfSome words (λ words.
+        IsNumberText (first_value (found_of found.now) (codes "process")) words.process)) }
+    ensures fields { IfOk result (λ words. IfSome words (λ words.
+        AreFieldsOf (first_value (found_of found.now) (codes "call"))
+        (values_found (found_of found.now) (codes "arguments"))
+        (map (λ field. field.now) words.fields.items))) }
 {
-    let (Some(call), Some(process)) = (found.get_str("call"), read_process(found)) else {
+    let process = read_process(found.get_str("process"));
+    let (Some(call), Some(process)) = (found.get_str("call"), process) else {
         return Ok(None);
     };
     let mut fields = Vec::new(alloc);
     fields.push(call.as_bytes())?;
-    for argument in found.get_strs("arguments").unwrap_or(&[]) {
-        fields.push(argument.as_bytes())?;
-    }
+    push_texts(&mut fields, found.get_strs("arguments"))?;
     Ok(Some(WhyWords { process, fields }))
+}
+
+/// Adds the bytes of these texts, in their order; of None there are none.
+fn push_texts<'a>(fields: &mut Vec<&'a [u8]>, texts: Option<&[&'a str]>) -> Result<(), AllocError>
+    ensures { OnOk result (map (λ field. field.now) fields.new.items
+        ≡ map (λ field. field.now) fields.old.items
+        ++ unwrap_or (option_map (λ texts. map (λ text. text.now) texts.now) texts.entry) []) }
+{
+    let Some(more) = texts else {
+        return Ok(());
+    };
+    for text in more {
+        fields.push(text.as_bytes())?;
+    }
+    Ok(())
 }
 
 /// The call to which a way is asked for, and on what.
@@ -500,13 +669,15 @@ fn read_how<'a>(found: &ArgMatches<'a>) -> Option<HowWords<'a>>
         Some words.path.now ≡ first_value (found_of found.now) (codes "path")) }
     ensures kind { IfSome result (λ words. option_map kind_word words.kind
         ≡ first_value (found_of found.now) (codes "kind")) }
+    ensures number { IfSome result (λ words.
+        IsNumberText (first_value (found_of found.now) (codes "process")) words.process) }
 {
     let kind = match found.get_str("kind") {
         Some(text) => Some(read_kind(text)?),
         None => None,
     };
     Some(HowWords {
-        process: read_process(found)?,
+        process: read_process(found.get_str("process"))?,
         call: found.get_str("call")?.as_bytes(),
         path: found.get_str("path")?.as_bytes(),
         kind,
@@ -525,17 +696,6 @@ fn read_kind(text: &str) -> Option<ObjectKind>
         "link" => Some(ObjectKind::Link),
         "missing" => Some(ObjectKind::Missing),
         "other" => Some(ObjectKind::Other),
-        _ => None,
-    }
-}
-
-/// The number of the process. clap has judged it by the same range, but no contract says what clap
-/// takes.
-fn read_process(found: &ArgMatches<'_>) -> Option<u32>
-    ensures { IfSome result IsProcessNumber }
-{
-    match found.get_one::<u32>("process") {
-        Some(process @ 1..=MOST_NUMBER) => Some(process),
         _ => None,
     }
 }

@@ -8,7 +8,6 @@ ghost use Rattle.pua_path.specs.declared.found.Found.TheVariants.{Whole};
 ghost use Rattle.pua_calls.specs.CallSets.{has};
 ghost use Rattle.pua_calls.specs.declared.call.Call.{Call};
 ghost use Rattle.pua_audit.specs.Bounds.{pairs_cost};
-ghost use Rattle.pua_audit.specs.Past.{plain_history};
 ghost use Rattle.pua_audit.specs.Coming.{pairs_resumed, pairs_at};
 ghost use Rattle.pua_audit.specs.Reach.{Pair, rest_after};
 ghost use Rattle.pua_audit.specs.Judge.{Start, base_dir, base_way, is_open};
@@ -164,8 +163,8 @@ impl Terms {
 
     /// The base itself, as it is found.
     fn base_found(&self) -> Found
-        ensures { result ≡ Whole (base_dir self.now.base (plain_history self.now.process))
-            (base_way self.now.base) }
+        ensures { result
+            ≡ Whole (base_dir self.now.base self.now.process) (base_way self.now.base) }
     {
         Found::Whole {
             dir: self.base_dir(),

@@ -7,10 +7,9 @@ ghost use Rattle.pua_path.specs.declared.found.Found.TheVariants.{Whole};
 ghost use Rattle.pua_path.specs.declared.found.Part.TheVariants as parts;
 ghost use Rattle.pua_path.specs.declared.found.Way.TheVariants.{DotDot};
 ghost use Rattle.pua_policy.specs.Descent.{cover_in};
-ghost use Rattle.pua_policy.specs.History.{History, StandsFor};
+ghost use Rattle.pua_policy.specs.States.{ProcessState};
 ghost use Rattle.pua_policy.specs.Verdict.{cover};
 ghost use Rattle.pua_audit.specs.Covers.{AreCovered};
-ghost use Rattle.pua_audit.specs.Past.{plain_history};
 
 use crate::table::directories::Directories;
 use crate::terms::Terms;
@@ -32,11 +31,11 @@ impl Terms {
         requires tree { P.tree probe.old ≡ self.now.seen.tree }
         requires fits { FoundsFit self.now.seen.tree found.now }
         ensures exact { IfOk found.now (StandsAsNamed self.now.seen.tree) →
-            AreCovered self.now.seen.tree (plain_history self.now.process) dirs.now →
+            AreCovered self.now.seen.tree self.now.process dirs.now →
             IsTrue (is_dir self.now.seen.tree from) →
             IfOk found.now (λ object. part.now ≡ parts.DotDot →
             object ≡ Whole (above self.now.seen.tree from) DotDot) → IfOk found.now
-            (λ object. result ≡ cover self.now.seen.tree (plain_history self.now.process) object) }
+            (λ object. result ≡ cover self.now.seen.tree self.now.process object) }
         ensures tree { P.tree probe.new ≡ P.tree probe.old }
         ensures cost { P.count probe.new ≤ P.count probe.old + length self.now.seen.tree.nodes }
     {
@@ -56,11 +55,11 @@ impl Directories {
     /// What the veils of a process leave of what a part named in a directory, if a directory that has
     /// a place tells it.
     fn handed(&self, process: &Process, from: NodeId, part: &Part, found: &Found) -> Option<Cover>
-        ensures { IfSome result (λ left. (t : Tree) (h : History) → WellFormed t →
-            StandsFor process.now h → FoundFits t found.now → StandsAsNamed t found.now
-            → AreCovered t h self.now → IsTrue (is_dir t from) →
+        ensures { IfSome result (λ left. (t : Tree) → WellFormed t →
+            FoundFits t found.now → StandsAsNamed t found.now →
+            AreCovered t process.now self.now → IsTrue (is_dir t from) →
             (part.now ≡ parts.DotDot → found.now ≡ Whole (above t from) DotDot) →
-            left ≡ cover t h found.now) }
+            left ≡ cover t process.now found.now) }
     {
         if let Some(cover) = self.handed_down(process, found) {
             return Some(cover);
@@ -74,9 +73,9 @@ impl Directories {
     /// What the veils of a process leave of the names in the directory above one that has a place and
     /// no veil of its own: both have the same cover.
     fn handed_up(&self, process: &Process, from: NodeId) -> Option<Cover>
-        ensures { IfSome result (λ left. (t : Tree) (h : History) → WellFormed t →
-            StandsFor process.now h → AreCovered t h self.now → IsTrue (is_dir t from)
-            → left ≡ cover_in t h (above t from)) }
+        ensures { IfSome result (λ left. (t : Tree) → WellFormed t →
+            AreCovered t process.now self.now → IsTrue (is_dir t from) →
+            left ≡ cover_in t process.now (above t from)) }
     {
         match process.kept(&Place::Dir(from)) {
             Some(_) => None,
@@ -87,9 +86,9 @@ impl Directories {
     /// What the veils of a process leave of what was found, if the directory over it has a place; of a
     /// directory that was found by no name, if it has a place itself.
     fn handed_down(&self, process: &Process, found: &Found) -> Option<Cover>
-        ensures { IfSome result (λ left. (t : Tree) (h : History) → WellFormed t →
-            StandsFor process.now h → FoundFits t found.now → StandsAsNamed t found.now
-            → AreCovered t h self.now → left ≡ cover t h found.now) }
+        ensures { IfSome result (λ left. (t : Tree) → WellFormed t →
+            FoundFits t found.now → StandsAsNamed t found.now →
+            AreCovered t process.now self.now → left ≡ cover t process.now found.now) }
     {
         match *found {
             Found::Whole { dir, way } => match way {

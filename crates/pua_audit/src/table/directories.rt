@@ -5,7 +5,7 @@ ghost use Rattle.std.specs.Prelude.{IfNone};
 ghost use Rattle.indexmap.specs.IndexSet.{insert_key};
 ghost use Rattle.pua_tree.specs.Tree.{Tree};
 ghost use Rattle.pua_policy.specs.Descent.{cover_in};
-ghost use Rattle.pua_policy.specs.History.{History};
+ghost use Rattle.pua_policy.specs.States.{ProcessState};
 ghost use Rattle.pua_audit.specs.Covers.{AreCovered};
 
 use indexmap::IndexSet;
@@ -51,8 +51,8 @@ impl Directories {
         ensures place { IfOk result (λ place. (place < length self.new.numbers) ×
             (get_or self.new.numbers place 0 ≡ dir)) }
         ensures all { IfOk result (λ _. self.new.numbers ≡ insert_key nat_eq self.old.numbers dir) }
-        ensures covered { IfOk result (λ _. (t : Tree) (h : History) → cover ≡ cover_in t h dir →
-            AreCovered t h self.old → AreCovered t h self.new) }
+        ensures covered { IfOk result (λ _. (t : Tree) (h : ProcessState) →
+            cover ≡ cover_in t h dir → AreCovered t h self.old → AreCovered t h self.new) }
     {
         let (place, added) = self.numbers.insert_full(dir.number())?;
         let place = place as u32;
@@ -77,7 +77,7 @@ impl Directories {
     /// The cover of the directory at a place.
     pub(crate) fn cover_at(&self, place: usize) -> Cover
         requires { place < length self.now.covers }
-        ensures { (t : Tree) (h : History) → AreCovered t h self.now →
+        ensures { (t : Tree) (h : ProcessState) → AreCovered t h self.now →
             result ≡ cover_in t h (get_or self.now.numbers place 0) }
     {
         self.covers[place]
@@ -85,7 +85,7 @@ impl Directories {
 
     /// The cover of a directory, if it has a place.
     pub(crate) fn cover_in(&self, dir: NodeId) -> Option<Cover>
-        ensures { IfSome result (λ cover. (t : Tree) (h : History) → AreCovered t h self.now →
+        ensures { IfSome result (λ cover. (t : Tree) (h : ProcessState) → AreCovered t h self.now →
             cover ≡ cover_in t h dir) }
     {
         let place = self.numbers.get_index_of(&dir.number())?;

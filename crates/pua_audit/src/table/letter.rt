@@ -9,14 +9,13 @@ ghost use Rattle.pua_path.specs.Bounds.{part_cost};
 ghost use Rattle.pua_path.specs.Resolution.{follow, last};
 ghost use Rattle.pua_path.specs.declared.found.Last.TheVariants.{Kept};
 ghost use Rattle.pua_policy.specs.declared.place.Place.TheVariants.{Slot};
-ghost use Rattle.pua_policy.specs.History.{perms_kept};
+ghost use Rattle.pua_policy.specs.States.{perms_kept};
 ghost use Rattle.pua_calls.specs.CallSets.{has, keeps_link};
 ghost use Rattle.pua_calls.specs.declared.call.Call.{Call};
 ghost use Rattle.pua_policy.specs.Descent.{cover_in};
 ghost use Rattle.pua_policy.specs.Verdict.{FoundsFit, cover, verdict_of, is_allowed};
 ghost use Rattle.pua_audit.specs.Bounds.{letter_cost, object_cost};
 ghost use Rattle.pua_audit.specs.Covers.{AreCovered};
-ghost use Rattle.pua_audit.specs.Past.{plain_history};
 ghost use Rattle.pua_audit.specs.Ready.{judge_in};
 ghost use Rattle.pua_audit.specs.Entries.{AreWithin, links_of, found_of, leads_to};
 ghost use Rattle.pua_audit.specs.Spots.{IsNamed};
@@ -62,15 +61,14 @@ impl Terms {
     ) -> Letter
         requires tree { P.tree probe.old ≡ self.now.seen.tree }
         requires living { IsTrue (is_dir self.now.seen.tree dir) }
-        ensures exact { AreWithin self.now.seen.tree self.now.table
-            (plain_history self.now.process) dir within.now →
-            AreCovered self.now.seen.tree (plain_history self.now.process) dirs.now →
+        ensures exact { AreWithin self.now.seen.tree self.now.table self.now.process dir within.now →
+            AreCovered self.now.seen.tree self.now.process dirs.now →
             IsLetter (judge_in self.now) dir letter.now
             result.all result.kept result.links result.leads }
         ensures lives { IfSome result.leads (λ to. IsTrue (is_dir self.now.seen.tree to)) }
-        ensures covered { AreCovered self.now.seen.tree (plain_history self.now.process) dirs.now →
+        ensures covered { AreCovered self.now.seen.tree self.now.process dirs.now →
             IfSome result.leads
-            (λ to. result.cover ≡ cover_in self.now.seen.tree (plain_history self.now.process) to) }
+            (λ to. result.cover ≡ cover_in self.now.seen.tree self.now.process to) }
         ensures tree { P.tree probe.new ≡ P.tree probe.old }
         ensures cost { P.count probe.new ≤ P.count probe.old + letter_cost self.now.seen.tree }
     {
@@ -96,12 +94,10 @@ impl Terms {
     ) -> Option<Calls>
         requires tree { P.tree probe.old ≡ self.now.seen.tree }
         ensures exact { IfSome result (λ calls. IsTrue (is_dir self.now.seen.tree dir) →
-            AreWithin self.now.seen.tree self.now.table (plain_history self.now.process) dir
-            within.now → (kept : ℕ) →
-            IsLetter (judge_in self.now) dir letter.now calls kept 0 None) }
+            AreWithin self.now.seen.tree self.now.table self.now.process dir within.now →
+            (kept : ℕ) → IsLetter (judge_in self.now) dir letter.now calls kept 0 None) }
         ensures none { IfNone result (IsNamed letter.now →
-            perms_kept (plain_history self.now.process) (Slot dir letter.now) ≡ None →
-            (node : ℕ) (kind : Kind) →
+            perms_kept self.now.process (Slot dir letter.now) ≡ None → (node : ℕ) (kind : Kind) →
             found_at self.now.seen.tree dir letter.now ≡ Some (node, kind) →
             is_file kind ≡ false) }
         ensures tree { P.tree probe.new ≡ P.tree probe.old }
@@ -118,10 +114,10 @@ impl Terms {
 
     /// Whether a veil is kept at a name in a directory.
     fn has_veil(&self, dir: NodeId, name: LentName<'_>) -> bool
-        ensures none { result ≡ false → perms_kept (plain_history self.now.process)
-            (Slot dir name.entry.bytes.now) ≡ None }
-        ensures kept { result ≡ true → perms_kept (plain_history self.now.process)
-            (Slot dir name.entry.bytes.now) ≢ None }
+        ensures none { result ≡ false →
+            perms_kept self.now.process (Slot dir name.entry.bytes.now) ≡ None }
+        ensures kept { result ≡ true →
+            perms_kept self.now.process (Slot dir name.entry.bytes.now) ≢ None }
     {
         let place = Place::Slot(dir, name.name());
         self.process.kept(&place).is_some()
@@ -137,13 +133,13 @@ impl Terms {
     ) -> Letter
         requires tree { P.tree probe.old ≡ self.now.seen.tree }
         requires living { IsTrue (is_dir self.now.seen.tree dir) }
-        ensures exact { AreCovered self.now.seen.tree (plain_history self.now.process) dirs.now →
+        ensures exact { AreCovered self.now.seen.tree self.now.process dirs.now →
             IsLetter (judge_in self.now) dir letter.now
             result.all result.kept result.links result.leads }
         ensures lives { IfSome result.leads (λ to. IsTrue (is_dir self.now.seen.tree to)) }
-        ensures covered { AreCovered self.now.seen.tree (plain_history self.now.process) dirs.now →
+        ensures covered { AreCovered self.now.seen.tree self.now.process dirs.now →
             IfSome result.leads
-            (λ to. result.cover ≡ cover_in self.now.seen.tree (plain_history self.now.process) to) }
+            (λ to. result.cover ≡ cover_in self.now.seen.tree self.now.process to) }
         ensures tree { P.tree probe.new ≡ P.tree probe.old }
         ensures cost { P.count probe.new ≤ P.count probe.old
             + 2 * (part_cost self.now.seen.tree + object_cost self.now.seen.tree) }
@@ -177,14 +173,13 @@ impl Terms {
     ) -> Calls
         requires tree { P.tree probe.old ≡ self.now.seen.tree }
         requires living { IsTrue (is_dir self.now.seen.tree dir) }
-        ensures exact { AreCovered self.now.seen.tree (plain_history self.now.process) dirs.now →
+        ensures exact { AreCovered self.now.seen.tree self.now.process dirs.now →
             followed.now ≡ found_of (follow self.now.seen.tree dir part.now) →
             links ≡ links_of (follow self.now.seen.tree dir part.now) →
             ((call : Call) → has near call ≡ is_allowed
-            (verdict_of self.now.seen.tree self.now.table (plain_history self.now.process) call
-            followed.now)) → (call : Call) →
-            has result call ≡ is_allowed
-            (verdict_of self.now.seen.tree self.now.table (plain_history self.now.process) call
+            (verdict_of self.now.seen.tree self.now.table self.now.process call followed.now)) →
+            (call : Call) → has result call ≡ is_allowed
+            (verdict_of self.now.seen.tree self.now.table self.now.process call
             (last self.now.seen.tree dir 0 part.now Kept)) }
         ensures tree { P.tree probe.new ≡ P.tree probe.old }
         ensures cost { P.count probe.new ≤ P.count probe.old
@@ -207,11 +202,9 @@ impl Terms {
     ) -> Calls
         requires tree { P.tree probe.old ≡ self.now.seen.tree }
         ensures exact { FoundsFit self.now.seen.tree found.now → IfOk found.now
-            (λ object. left.now
-            ≡ cover self.now.seen.tree (plain_history self.now.process) object) → (call : Call) →
-            has result call ≡ is_allowed
-            (verdict_of self.now.seen.tree self.now.table (plain_history self.now.process) call
-            found.now) }
+            (λ object. left.now ≡ cover self.now.seen.tree self.now.process object) →
+            (call : Call) → has result call ≡ is_allowed
+            (verdict_of self.now.seen.tree self.now.table self.now.process call found.now) }
         ensures tree { P.tree probe.new ≡ P.tree probe.old }
         ensures cost { P.count probe.new ≤ P.count probe.old + 1 }
     {

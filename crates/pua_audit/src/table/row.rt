@@ -4,11 +4,10 @@ ghost use Rattle.std.specs.Prelude.{◌≡◌, ◌<◌, ◌≤◌, ◌+◌, ℕ,
 ghost use Rattle.std.specs.Prelude.{option_map, Option, None, IfOk, IfSome, IsTrue};
 ghost use Rattle.pua_tree.specs.Tree.{Tree, is_dir};
 ghost use Rattle.pua_policy.specs.Descent.{cover_in};
-ghost use Rattle.pua_policy.specs.History.{History};
+ghost use Rattle.pua_policy.specs.States.{ProcessState};
 ghost use Rattle.pua_audit.specs.Bounds.{row_cost};
 ghost use Rattle.pua_audit.specs.Covers.{AreCovered};
 ghost use Rattle.pua_audit.specs.Judge.{Judge};
-ghost use Rattle.pua_audit.specs.Past.{plain_history};
 ghost use Rattle.pua_audit.specs.Ready.{judge_in};
 ghost use Rattle.pua_audit.specs.Rows.{AreLiving, IsGrown, IsJudgedRow};
 ghost use Rattle.pua_audit.specs.Table.{IsLetter};
@@ -37,19 +36,18 @@ impl Spots<'_> {
     ) -> Result<Row, OutOfMemory>
         requires tree { P.tree probe.old ≡ self.now.terms.now.seen.tree }
         requires living { IsTrue (is_dir self.now.terms.now.seen.tree dir) }
-        ensures row { IfOk result (λ row. AreCovered self.now.terms.now.seen.tree
-            (plain_history self.now.terms.now.process) dirs.old →
-            over ≡ cover_in self.now.terms.now.seen.tree
-            (plain_history self.now.terms.now.process) dir → IsJudgedRow
-            (judge_in self.now.terms.now) self.now.terms.now.letters dirs.new.numbers dir
-            (length self.now.terms.now.letters) row.missing row.entries.items) }
+        ensures row { IfOk result (λ row.
+            AreCovered self.now.terms.now.seen.tree self.now.terms.now.process dirs.old →
+            over ≡ cover_in self.now.terms.now.seen.tree self.now.terms.now.process dir →
+            IsJudgedRow (judge_in self.now.terms.now) self.now.terms.now.letters dirs.new.numbers
+            dir (length self.now.terms.now.letters) row.missing row.entries.items) }
         ensures grown { IfOk result (λ _. IsGrown dirs.old.numbers dirs.new.numbers) }
         ensures living { IfOk result
             (λ _. AreLiving self.now.terms.now.seen.tree dirs.old.numbers →
             AreLiving self.now.terms.now.seen.tree dirs.new.numbers) }
-        ensures covered { IfOk result (λ _. AreCovered self.now.terms.now.seen.tree
-            (plain_history self.now.terms.now.process) dirs.old → AreCovered
-            self.now.terms.now.seen.tree (plain_history self.now.terms.now.process) dirs.new) }
+        ensures covered { IfOk result (λ _.
+            AreCovered self.now.terms.now.seen.tree self.now.terms.now.process dirs.old →
+            AreCovered self.now.terms.now.seen.tree self.now.terms.now.process dirs.new) }
         ensures tree { P.tree probe.new ≡ P.tree probe.old }
         ensures cost { P.count probe.new ≤ P.count probe.old
             + row_cost self.now.terms.now.seen.tree (length self.now.terms.now.letters) }
@@ -90,7 +88,7 @@ impl Letter {
         ensures living { IfOk result (λ _. (t : Tree) →
             IfSome self.now.leads (λ d. IsTrue (is_dir t d)) → AreLiving t dirs.old.numbers →
             AreLiving t dirs.new.numbers) }
-        ensures covered { IfOk result (λ _. (t : Tree) (h : History) →
+        ensures covered { IfOk result (λ _. (t : Tree) (h : ProcessState) →
             IfSome self.now.leads (λ d. self.now.cover ≡ cover_in t h d) → AreCovered t h dirs.old →
             AreCovered t h dirs.new) }
     {
@@ -126,7 +124,7 @@ impl Letter {
         ensures living { IfOk result (λ _. (t : Tree) →
             IfSome self.now.leads (λ d. IsTrue (is_dir t d)) → AreLiving t dirs.old.numbers →
             AreLiving t dirs.new.numbers) }
-        ensures covered { IfOk result (λ _. (t : Tree) (h : History) →
+        ensures covered { IfOk result (λ _. (t : Tree) (h : ProcessState) →
             IfSome self.now.leads (λ d. self.now.cover ≡ cover_in t h d) → AreCovered t h dirs.old →
             AreCovered t h dirs.new) }
     {

@@ -5,7 +5,6 @@ ghost use Rattle.std.specs.List.{AllByRecursion, list_any};
 ghost use Rattle.std.specs.List.Sorted.{IsNonDecreasingBy};
 ghost use Rattle.pua_tree.specs.LentRows.{lent_entry};
 ghost use Rattle.pua_policy.specs.declared.place.Place.TheVariants.{Slot};
-ghost use Rattle.pua_audit.specs.Past.{plain_history};
 ghost use Rattle.std.proofs.Props.{props};
 ghost use Rattle.pua_audit.specs.Spots.{AreApartFrom, AreAtLetters, AreLetterSpots, AreLettersIn};
 ghost use Rattle.pua_audit.specs.Spots.{AreUnveiled, IsApart, IsNamed, IsNowhere, IsUnmarked};
@@ -33,10 +32,10 @@ pub(crate) struct Spots<'l> {
     pub(crate) names: Vec<LetterSpot>,
     /// The directories in which a veil is kept at a name.
     pub(crate) veiled: Vec<NodeId>,
-    pub(crate) ghost told: { AreLetterSpots terms.now.seen.tree (plain_history terms.now.process)
+    pub(crate) ghost told: { AreLetterSpots terms.now.seen.tree terms.now.process
         terms.now.letters dots.items names.items } by { Prim.hlevel props },
     pub(crate) ghost unveiled: { (dir : ℕ) → IsApart dir veiled.items →
-        AreUnveiled (plain_history terms.now.process) dir },
+        AreUnveiled terms.now.process dir },
 }
 
 impl Terms {

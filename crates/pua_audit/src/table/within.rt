@@ -6,13 +6,12 @@ ghost use Rattle.pua_path.specs.Kinds.{is_file};
 ghost use Rattle.pua_calls.specs.CallSets.{has};
 ghost use Rattle.pua_calls.specs.Calls.{CallTable};
 ghost use Rattle.pua_policy.specs.Descent.{cover_in};
-ghost use Rattle.pua_policy.specs.History.{History};
+ghost use Rattle.pua_policy.specs.States.{ProcessState};
 ghost use Rattle.pua_policy.specs.Objects.{object_seen};
 ghost use Rattle.pua_policy.specs.Verdict as judged;
 ghost use Rattle.pua_policy.specs.Verdict.{covered_verdict, is_allowed, object_of_kind};
 ghost use Rattle.pua_calls.specs.declared.call.Call.{Call};
 ghost use Rattle.pua_audit.specs.Entries.{AreWithin, allowed_within};
-ghost use Rattle.pua_audit.specs.Past.{plain_history};
 ghost use Rattle.pua_audit.specs.Spots.{AreUnveiled};
 
 use crate::terms::Terms;
@@ -36,10 +35,9 @@ impl Terms {
     /// and in which a name has a veil of its own only if that is said here.
     pub(crate) fn within(&self, cover: Cover, veiled: bool) -> Within
         ensures { (dir : ℕ) → IsTrue (is_dir self.now.seen.tree dir) →
-            cover ≡ cover_in self.now.seen.tree (plain_history self.now.process) dir →
-            (veiled ≡ false → AreUnveiled (plain_history self.now.process) dir)
-            → AreWithin self.now.seen.tree self.now.table
-            (plain_history self.now.process) dir result }
+            cover ≡ cover_in self.now.seen.tree self.now.process dir →
+            (veiled ≡ false → AreUnveiled self.now.process dir) →
+            AreWithin self.now.seen.tree self.now.table self.now.process dir result }
     {
         Within {
             missing: self.calls_over(&cover, Object::Missing),
@@ -53,8 +51,7 @@ impl Terms {
     fn calls_over(&self, cover: &Cover, object: Object) -> Calls
         ensures { (t : Tree) (judged : judged.Object) → object ≡ object_seen t judged →
             (call : Call) → has result call
-            ≡ is_allowed (covered_verdict t self.now.table (plain_history self.now.process) call
-            cover.now judged) }
+            ≡ is_allowed (covered_verdict t self.now.table self.now.process call cover.now judged) }
     {
         self.allowed.on(*cover, object)
     }
@@ -65,7 +62,7 @@ impl Within {
     pub(crate) fn on(&self, kind: Kind) -> Option<Calls>
         ensures none { IfNone result (is_file kind ≡ false) }
         ensures file { IfSome result (λ _. is_file kind ≡ true) }
-        ensures calls { IfSome result (λ calls. (t : Tree) (table : CallTable) (h : History)
+        ensures calls { IfSome result (λ calls. (t : Tree) (table : CallTable) (h : ProcessState)
             (dir : ℕ) → AreWithin t table h dir self.now → (call : Call) →
             has calls call ≡ allowed_within t table h dir (object_of_kind (Some kind)) call) }
     {

@@ -21,7 +21,6 @@ fn locked_process_takes_a_veil(alloc: Global) {
 
 /// A place that is kept already is never one too many.
 fn kept_place_counts_anew(process: &mut Process, place: Place) {
-    process.known();
     if process.kept(&place) != Some(Perms::READ) {
         return;
     }
@@ -32,7 +31,6 @@ fn kept_place_counts_anew(process: &mut Process, place: Place) {
 
 /// Where 127 places are kept, there is room for one more.
 fn place_128_refused(alloc: Global, process: &mut Process, place: Place) {
-    process.known();
     let Ok(places) = process.places(alloc) else {
         return;
     };
@@ -48,7 +46,6 @@ fn place_128_refused(alloc: Global, process: &mut Process, place: Place) {
 
 /// Where 128 places are kept, no new one is taken.
 fn place_129_accepted(alloc: Global, process: &mut Process, place: Place) {
-    process.known();
     let Ok(places) = process.places(alloc) else {
         return;
     };

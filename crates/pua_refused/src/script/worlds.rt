@@ -109,7 +109,6 @@ fn process_257_made(alloc: Global, world: &mut World<ListTree>, request: &Reques
     let Action::Fork(_) = request.action() else {
         return;
     };
-    world.known();
     if let Ok(Answer::Okay) = world.apply(request) {
         unreachable!()
     }

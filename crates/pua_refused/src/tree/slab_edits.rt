@@ -98,3 +98,13 @@ fn slab_freed_number_given_again(alloc: Global) {
         }
     }
 }
+
+/// A copy finds what the tree finds that it is of.
+fn slab_copy_without_a_row(tree: &SlabTree, dir: NodeId, name: &Name) {
+    let Ok(copy) = tree.copy() else {
+        return;
+    };
+    if copy.look(dir, name) != tree.look(dir, name) {
+        unreachable!()
+    }
+}

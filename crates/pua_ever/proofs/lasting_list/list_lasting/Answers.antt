@@ -8,10 +8,11 @@ use Rattle.pua_ever.proofs.Chosen.{lasting_through, lasting_unbounded, lasting_u
 use Rattle.pua_ever.proofs.lasting_list.list_lasting.Goals as goal
 
 pub returns-then-not-some_exec-clause-list : goal.returns-then-not-some_exec-clause-list
-returns-then-not-some_exec-clause-list g c = λ h stands whose.
+returns-then-not-some_exec-clause-list g c = λ whose.
+    let h = c.args.process.now in
     let t = g.T.FileTree.content c.args.tree.now in
     let table = c.args.table.now in
-    let told = c.in_ok-rows.ensures.rows h stands in
+    let told = c.in_ok-rows.ensures.rows in
     let none : has_exec (ever t table h) ≡ false =
     sym (c.some_exec.ensures t (ever t table h) (subst (λ rows. AreEverTold t [] rows (ever t table h) []) (sym c.as_slice.ensures.value) told))
     ∙ c.if-not-some_exec.true in
@@ -21,10 +22,11 @@ returns-then-not-some_exec-clause-list g c = λ h stands whose.
     }
 
 pub returns-in_default-clause-list : goal.returns-in_default-clause-list
-returns-in_default-clause-list g c = λ h stands whose.
+returns-in_default-clause-list g c = λ whose.
+    let h = c.args.process.now in
     let t = g.T.FileTree.content c.args.tree.now in
     let table = c.args.table.now in
-    let told = c.in_ok-rows.ensures.rows h stands in
+    let told = c.in_ok-rows.ensures.rows in
     let unbound = subst (λ o. IsBothOf table h (option_copied o)) c.in_default.is whose in
     let some : has_exec (ever t table h) ≡ true =
     sym (c.some_exec.ensures t (ever t table h) (subst (λ rows. AreEverTold t [] rows (ever t table h) []) (sym c.as_slice.ensures.value) told))
@@ -35,10 +37,11 @@ returns-in_default-clause-list g c = λ h stands whose.
     }
 
 pub returns-clause-list : goal.returns-clause-list
-returns-clause-list g c = λ h stands whose.
+returns-clause-list g c = λ whose.
+    let h = c.args.process.now in
     let t = g.T.FileTree.content c.args.tree.now in
     let table = c.args.table.now in
-    let told = c.in_ok-rows.ensures.rows h stands in
+    let told = c.in_ok-rows.ensures.rows in
     let here = subst (λ o. IsBothOf table h (option_copied o)) c.in-Some.is whose in
     let some : has_exec (ever t table h) ≡ true =
     sym (c.some_exec.ensures t (ever t table h) (subst (λ rows. AreEverTold t [] rows (ever t table h) []) (sym c.as_slice.ensures.value) told))
@@ -54,21 +57,21 @@ returns-clause-list g c = λ h stands whose.
 pub returns-in_err-rows-clause-refused : goal.returns-in_err-rows-clause-refused
 returns-in_err-rows-clause-refused g c =
     let p = err_from_is_err_and c.from_residual.result c.from_residual.ensures.1 in
-    rw (p.1, p.2) (λ h stands whose. c.in_err-rows.ensures.refused h stands)
+    rw (p.1, p.2) (λ whose. c.in_err-rows.ensures.refused)
 
 pub returns-then-not-some_exec-clause-refused : goal.returns-then-not-some_exec-clause-refused
-returns-then-not-some_exec-clause-refused g c = λ h stands whose. c.in_ok-rows.ensures.refused h stands
+returns-then-not-some_exec-clause-refused g c = λ whose. c.in_ok-rows.ensures.refused
 
 pub returns-in_default-clause-refused : goal.returns-in_default-clause-refused
-returns-in_default-clause-refused g c = λ h stands whose. c.in_ok-rows.ensures.refused h stands
+returns-in_default-clause-refused g c = λ whose. c.in_ok-rows.ensures.refused
 
 pub returns-in_err-through-clause-refused : goal.returns-in_err-through-clause-refused
 returns-in_err-through-clause-refused g c =
     let p = err_from_is_err_and c.from_residual-in_err-through.result c.from_residual-in_err-through.ensures.1 in
-    rw (p.1, p.2) (λ h stands whose.
-    let here = subst (λ o. IsBothOf c.args.table.now h (option_copied o)) c.in-Some.is whose in
-    let none = c.in_ok-rows.ensures.refused h stands in
-    none ∙ sym (c.in_err-through.ensures.unrefused h here none))
+    rw (p.1, p.2) (λ whose.
+    let here = subst (λ o. IsBothOf c.args.table.now c.args.process.now (option_copied o)) c.in-Some.is whose in
+    let none = c.in_ok-rows.ensures.refused in
+    none ∙ sym (c.in_err-through.ensures.unrefused c.args.process.now here none))
 
 pub returns-clause-refused : goal.returns-clause-refused
-returns-clause-refused g c = λ h stands whose. c.in_ok-rows.ensures.refused h stands
+returns-clause-refused g c = λ whose. c.in_ok-rows.ensures.refused

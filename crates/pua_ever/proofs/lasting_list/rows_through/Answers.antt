@@ -1,7 +1,8 @@
-use Rattle.pua_ever.proofs.Common.{◌∷◌, [], sym, subst, ◌∙◌, ever}
+use Rattle.pua_ever.proofs.Common.{[], sym, ap, subst, ◌∙◌, ever}
 use Rattle.std.proofs.lemmas.Result.{err_from_is_err_and}
-use Rattle.pua_policy.specs.History.{Locked, with_both}
+use Rattle.pua_policy.specs.States.{with_both}
 use Rattle.pua_ever.specs.EverList.{AreEverTold}
+use Rattle.pua_ever.specs.Refusals.{refusal}
 use Rattle.pua_ever.proofs.Chosen.{through_lines, unrefused_both}
 use Rattle.pua_ever.proofs.lasting_list.rows_through.Goals as goal
 
@@ -13,10 +14,10 @@ returns-in-Ok-clause-rows g c = λ h is.
     subst (λ lines. AreEverTold t [] c.in-Ok.through.items lines [])
     (through_lines t table h is.given c.args.both.now.passes is.passes)
     (c.in-Ok.ensures t both (subst (λ rows. AreEverTold t [] rows both []) (sym c.as_slice.ensures.value)
-    (c.in_ok-rows.ensures.rows (Locked ∷ with_both h is.given) is.stands)))
+    (subst (λ p. AreEverTold t [] c.in_ok-rows.rows.items (ever t table p) []) is.process c.in_ok-rows.ensures.rows)))
 
 pub returns-in_err-rows-clause-unrefused : goal.returns-in_err-rows-clause-unrefused
 returns-in_err-rows-clause-unrefused g c =
     let p = err_from_is_err_and c.from_residual.result c.from_residual.ensures.1 in
     rw (p.1, p.2) (λ h is none.
-    sym (c.in_err-rows.ensures.refused (Locked ∷ with_both h is.given) is.stands) ∙ unrefused_both c.args.table.now h is.given none)
+    sym c.in_err-rows.ensures.refused ∙ ap (refusal c.args.table.now) is.process ∙ unrefused_both c.args.table.now h is.given none)

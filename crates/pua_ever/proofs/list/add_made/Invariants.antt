@@ -1,4 +1,4 @@
-use Rattle.pua_ever.proofs.Common.{Some, List, Tree, CallTable, History, length, made_left}
+use Rattle.pua_ever.proofs.Common.{Some, List, Tree, CallTable, ProcessState, length, made_left}
 use Rattle.pua_objects.specs.declared.list.ListItem.{ListItem}
 use Rattle.pua_ever.specs.EverList.{AreRowsBut}
 use Rattle.pua_ever.specs.Prospects.{IsProspects}
@@ -7,7 +7,7 @@ use Rattle.pua_ever.proofs.list.add_made.Given as goal
 
 abbrev pub invariant-loop-coming : goal.invariant-loop-coming
 invariant-loop-coming l = record {
-  told : (t : Tree) (table : CallTable) (h : History) (items : List ListItem) → IsProspects t table h l.prospects →
+  told : (t : Tree) (table : CallTable) (h : ProcessState) (items : List ListItem) → IsProspects t table h l.prospects →
       AreRowsBut t table h items l.fn.rows.items (Some made.Dir) → AreRowsBut t table h items l.rows.items l.coming;
 }
 

@@ -1,4 +1,4 @@
-use Rattle.pua_ever.proofs.Common.{◌++◌, [], sym, ap, subst, ◌∙◌, Some, flat_map, items, ever_lines_of, both_of, made_left}
+use Rattle.pua_ever.proofs.Common.{◌++◌, [], sym, ap, subst, ◌∙◌, Some, flat_map, ever_lines_of, both_of, made_left}
 use Rattle.std.specs.List.{AllByRecursion}
 use Rattle.pua_objects.specs.ListItems.{AreNear, IsToldIn, items_told}
 use Rattle.pua_ever.specs.EverList.{AreEverTold}
@@ -7,15 +7,16 @@ use Rattle.pua_ever.proofs.Lined.{lines_first}
 use Rattle.pua_ever.proofs.list.list_ever.Goals as goal
 
 pub returns-clause-rows : goal.returns-clause-rows
-returns-clause-rows g c = λ h stands.
+returns-clause-rows g c =
+    let h = c.args.process.now in
     let t = g.T.FileTree.content c.args.tree.now in
     let table = c.args.table.now in
     let same = c.deref.ensures.value in
     let given = c.in-Ok-list_items.ensures in
-    let found = c.in-Ok.ensures h stands in
+    let found = c.in-Ok.ensures in
     subst (λ lines. AreEverTold t [] c.add_made.new.rows.items lines [])
     (ap (λ xs. ever_lines_of t table h (flat_map both_of xs ++ made_left (Some Dir)))
-    (ap (items_told t []) same ∙ given.items ∙ ap (items t) stands.veils) ∙ lines_first t table h)
+    (ap (items_told t []) same ∙ given.items) ∙ lines_first t table h)
     (c.in-Ok-add_made.ensures t table h c.deref.result.now found
-    (c.in-Ok-rows_of.ensures t h c.known.ensures (c.why_refused.ensures.none c.in_default.is) stands found
+    (c.in-Ok-rows_of.ensures t c.known.ensures (c.why_refused.ensures.none c.in_default.is) found
     (subst (AllByRecursion (IsToldIn t c.args.process.now)) (sym same) given.told) (subst (AreNear []) (sym same) given.near)))

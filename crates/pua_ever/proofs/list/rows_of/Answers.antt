@@ -11,8 +11,8 @@ use Rattle.pua_ever.proofs.list.rows_of.Goals as goal
 
 pub loop-item-preserved : goal.loop-item-preserved
 loop-item-preserved c = record {
-  told = λ t h fits needs stands found all near.
-      let p = c.args.process.now in
+  told = λ t fits needs found all near.
+      let h = c.args.process.now in
       let table = c.args.table.now in
       let items = c.args.items.now in
       let i = c.loop-item.item-index in
@@ -22,21 +22,22 @@ loop-item-preserved c = record {
       let now : AreRowsSoFar t table h items (take i items) (item ∷ drop (i + 1) items) rows =
       subst (λ left. AreRowsSoFar t table h items (take i items) left rows)
       (drop_more items i item within ∙ ap (λ x. x ∷ drop (i + 1) items) (sym c.item-item.is))
-      (c.loop-item.invariant.told t h fits needs stands found all near) in
+      (c.loop-item.invariant.told t fits needs found all near) in
       let taken : take (i + 1) items ≡ take i items ++ item ∷ [] =
       ap (λ n. take n items) (add-one i) ∙ take-suc items i item within ∙ ap (λ x. take i items ++ x ∷ []) (sym c.item-item.is) in
-      let here : IsToldIn t p item = subst (IsToldIn t p) (sym c.item-item.is) (told_at (IsToldIn t p) items i item all within) in
+      let here : IsToldIn t h item = subst (IsToldIn t h) (sym c.item-item.is) (told_at (IsToldIn t h) items i item all within) in
       let close : item.depth ≤ length (last_word [] (take i items)) =
       subst (λ (x : ListItem). x.depth ≤ length (last_word [] (take i items))) (sym c.item-item.is) (near_at [] items i item near within) in
       subst (λ so_far. AreRowsSoFar t table h items so_far (drop (i + 1) items) c.push-in-loop-item.new.self.items) (sym taken)
-      (both_told t table h p items (take i items) (drop (i + 1) items) item rows c.stands_row-stands.result c.freed_row-freed.result now close
-      c.stands_row-stands.ensures.at (c.stands_row-stands.ensures.row t h fits needs stands found here) c.freed_row-freed.ensures.at
-      c.freed_row-freed.ensures.thing (c.freed_row-freed.ensures.calls t h fits stands found here) c.push-in-loop-item.new.self.items
+      (both_told t table h h items (take i items) (drop (i + 1) items) item rows c.stands_row-stands.result c.freed_row-freed.result now close
+      c.stands_row-stands.ensures.at (c.stands_row-stands.ensures.row t fits needs found here) c.freed_row-freed.ensures.at
+      c.freed_row-freed.ensures.thing (c.freed_row-freed.ensures.calls t fits found here) c.push-in-loop-item.new.self.items
       (c.in-Ok-push.ensures.items ∙ ap (λ rs. rs ++ c.freed_row-freed.result ∷ []) c.in-Ok.ensures.items));
 }
 
 pub returns : goal.returns
-returns c = λ t h fits needs stands found all near.
+returns c = λ t fits needs found all near.
+    let h = c.args.process.now in
     let table = c.args.table.now in
     let items = c.args.items.now in
     let i = c.loop-item.item-index in
@@ -45,4 +46,4 @@ returns c = λ t h fits needs stands found all near.
     (ever_lines_of t table h (flat_map both_of (items_told t [] items) ++ made_left (Some Dir)))
     (ever_lines_of t table h (flat_map both_of (items_told t word left) ++ made_left (Some Dir))))
     (drop_of_length-le items (omega (arith, c.loop-item-test.false)))
-    (c.loop-item.invariant.told t h fits needs stands found all near).told
+    (c.loop-item.invariant.told t fits needs found all near).told

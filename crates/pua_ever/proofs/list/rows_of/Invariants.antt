@@ -1,4 +1,4 @@
-use Rattle.pua_ever.proofs.Common.{[], take, Tree, WellFormed, History, StandsFor, EditsNeedC}
+use Rattle.pua_ever.proofs.Common.{[], take, Tree, WellFormed, EditsNeedC}
 use Rattle.std.proofs.Common.{drop}
 use Rattle.std.specs.List.{AllByRecursion}
 use Rattle.pua_objects.specs.ListItems.{AreNear, IsToldIn}
@@ -8,7 +8,7 @@ use Rattle.pua_ever.proofs.list.rows_of.Given as goal
 
 abbrev pub invariant-loop-item : goal.invariant-loop-item
 invariant-loop-item l = record {
-  told : (t : Tree) (h : History) → WellFormed t → EditsNeedC l.table → StandsFor l.process h → IsProspects t l.table h l.prospects →
+  told : (t : Tree) → WellFormed t → EditsNeedC l.table → IsProspects t l.table l.process l.prospects →
       AllByRecursion (IsToldIn t l.process) l.items → AreNear [] l.items →
-      AreRowsSoFar t l.table h l.items (take l.item-index l.items) (drop l.item-index l.items) l.rows.items;
+      AreRowsSoFar t l.table l.process l.items (take l.item-index l.items) (drop l.item-index l.items) l.rows.items;
 }

@@ -5,24 +5,25 @@ use Rattle.pua_ever.proofs.Under.{some_moves, under_dirs, under_files, under_mad
 use Rattle.pua_ever.proofs.movable.calls_by_object.Goals as goal
 
 pub returns : goal.returns
-returns c = λ t h stands dirs names opens.
+returns c = λ t dirs names opens.
+    let h = c.args.process.now in
     let table = c.args.table.now in
     let found = c.args.found.now in
-    let moves = c.moves_any-moves.ensures h stands ∙ ap (list_any (can_move table h)) c.deref.ensures.value
+    let moves = c.moves_any-moves.ensures ∙ ap (list_any (can_move table h)) c.deref.ensures.value
     ∙ some_moves t table h found.dirs.items found.entrances.items found.names.items dirs IsMissing Stat names opens in
     record {
-      dir = λ call. c.on_dirs-dir.ensures h lasting_dir stands refl call ∙
+      dir = λ call. c.on_dirs-dir.ensures lasting_dir refl call ∙
           under_dirs t table h found.dirs.items found.entrances.items found.names.items dirs lasting_dir call;
-      emptied = λ call. c.on_dirs-emptied.ensures h removable_dir stands refl call ∙
+      emptied = λ call. c.on_dirs-emptied.ensures removable_dir refl call ∙
           under_dirs t table h found.dirs.items found.entrances.items found.names.items dirs removable_dir call;
-      others = λ call. c.on_dirs-others.ensures h IsMissing stands refl call ∙
+      others = λ call. c.on_dirs-others.ensures IsMissing refl call ∙
           under_dirs t table h found.dirs.items found.entrances.items found.names.items dirs IsMissing call;
-      file = λ call. c.on_files-file.ensures h IsFile stands refl call ∙
+      file = λ call. c.on_files-file.ensures IsFile refl call ∙
           under_files t table h found.dirs.items found.entrances.items found.names.items dirs IsFile call names opens c.moves_any-moves.result moves;
-      program = λ call. c.on_files-program.ensures h IsProg stands refl call ∙
+      program = λ call. c.on_files-program.ensures IsProg refl call ∙
           under_files t table h found.dirs.items found.entrances.items found.names.items dirs IsProg call names opens c.moves_any-moves.result moves;
-      link = λ call. c.on_files-link.ensures h IsLink stands refl call ∙
+      link = λ call. c.on_files-link.ensures IsLink refl call ∙
           under_files t table h found.dirs.items found.entrances.items found.names.items dirs IsLink call names opens c.moves_any-moves.result moves;
-      made = λ call. c.on_names-made.ensures h stands call ∙
+      made = λ call. c.on_names-made.ensures call ∙
           under_made t table h found.dirs.items found.entrances.items found.names.items dirs IsMissing call names;
     }

@@ -1,12 +1,8 @@
-use Rattle.pua_ever.proofs.Common.{◌≡◌, rules, tests, YieldsList-from_slice, History, StandsFor, can_move}
+use Rattle.pua_ever.proofs.Common.{rules, tests, YieldsList-from_slice, can_move}
 use Rattle.std.proofs.lemmas.Iterator.Search.{any_from_yields_List}
 use Rattle.pua_ever.proofs.moving.moves_any.Goals as goal
 
 pub returns : goal.returns
-returns c = λ h stands.
-    any_from_yields_List (can_move c.args.table.now h) _ _ _ c.any.ensures.ran (YieldsList-from_slice c.args.covers.now cc)
-    (λ x b q k. (
-      search (rules, tests),
-      let all : (h : History) → StandsFor c.args.process.now h → b ≡ can_move c.args.table.now h x.now = search (rules, tests) in
-          all h stands,
-    ))
+returns c =
+    any_from_yields_List (can_move c.args.table.now c.args.process.now) _ _ _ c.any.ensures.ran
+    (YieldsList-from_slice c.args.covers.now cc) (λ x b q k. search (rules, tests))

@@ -5,10 +5,11 @@ use Rattle.pua_ever.proofs.openings.gathered.Goals as goal
 use Rattle.pua_ever.proofs.openings.gathered.Goals.{then-not-is_veiled+in_ok-push, else-not-is_veiled}
 
 pub returns-clause-dirs : goal.returns-clause-dirs
-returns-clause-dirs g c = λ h stands.
+returns-clause-dirs g c =
+    let h = c.args.process.now in
     let t = g.T.FileTree.content c.args.tree.now in
     let given = filter_map (dir_opening t h) (map (λ place. place.now) c.args.places.now) in
-    let own : c.in_ok-dirs.dirs.items ≡ given = c.in_ok-dirs.ensures h stands in
+    let own : c.in_ok-dirs.dirs.items ≡ given = c.in_ok-dirs.ensures in
     elim c.if-not-is_veiled.branch [
       | then-not-is_veiled+in_ok-push w ↦
           let none : has_veil c.args.process.now.veils ≡ false = sym c.is_veiled.ensures ∙ w.if-not-is_veiled.true in
@@ -19,8 +20,9 @@ returns-clause-dirs g c = λ h stands.
     ]
 
 pub returns-clause-entrances : goal.returns-clause-entrances
-returns-clause-entrances g c = λ h stands.
+returns-clause-entrances g c =
+    let h = c.args.process.now in
     let t = g.T.FileTree.content c.args.tree.now in
     let places = map (λ place. place.now) c.args.places.now in
-    let opened : c.in_ok-opened.opened.dirs.items ≡ filter_map (opened_dir h) places = c.in_ok-opened.ensures h stands in
-    c.in_ok-entrances.ensures h stands ∙ (λ i. filter_map (entrance_cover t h (c.deref.ensures.value i) (opened i)) places)
+    let opened : c.in_ok-opened.opened.dirs.items ≡ filter_map (opened_dir h) places = c.in_ok-opened.ensures in
+    c.in_ok-entrances.ensures ∙ (λ i. filter_map (entrance_cover t h (c.deref.ensures.value i) (opened i)) places)

@@ -14,4 +14,4 @@ cover-requires g c = λ k.
     )
 
 pub returns : goal.returns
-returns g c = λ h stands. c.cover.ensures.exact h stands ∙ (λ i. cover (c.new.ensures.tree i) h (c.found_in-found.ensures i))
+returns g c = c.cover.ensures.exact ∙ (λ i. cover (c.new.ensures.tree i) c.args.process.now (c.found_in-found.ensures i))

@@ -1,14 +1,9 @@
-use Rattle.pua_ever.proofs.Common.{◌≡◌, rules, tests, YieldsList-from_slice, rule_of, History, StandsFor, may_any, is_yes}
+use Rattle.pua_ever.proofs.Common.{rules, tests, YieldsList-from_slice, rule_of, may_any, is_yes}
 use Rattle.std.proofs.lemmas.Iterator.Search.{any_from_yields_List}
 use Rattle.pua_ever.specs.Ever.{edit_calls}
 use Rattle.pua_ever.proofs.prospects.may_call.Goals as goal
 
 pub returns : goal.returns
-returns c = λ h stands.
-    any_from_yields_List (λ edit. is_yes (may_any h (rule_of c.args.table.now edit).alternatives)) _ _ _ c.any.ensures.ran
-    (YieldsList-from_slice edit_calls cc)
-    (λ x b q k. (
-      search (rules, tests),
-      let all : (h : History) → StandsFor c.args.process.now h →
-          b ≡ is_yes (may_any h (rule_of c.args.table.now x.now).alternatives) = search (rules, tests) in all h stands,
-    ))
+returns c =
+    any_from_yields_List (λ edit. is_yes (may_any c.args.process.now (rule_of c.args.table.now edit).alternatives)) _ _ _ c.any.ensures.ran
+    (YieldsList-from_slice edit_calls cc) (λ x b q k. search (rules, tests))

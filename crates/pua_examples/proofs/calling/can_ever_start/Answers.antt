@@ -8,8 +8,8 @@ use Rattle.pua_examples.proofs.Starts.{never_starts, none_has_exec}
 use Rattle.pua_examples.proofs.calling.can_ever_start.Goals as goal
 
 pub returns-clause-never : goal.returns-clause-never
-returns-clause-never g c = λ none h stands.
-    none_has_exec (g.T.FileTree.content c.args.tree.now) c.args.table.now h c.in_ok-rows.rows.items (c.in_ok-rows.ensures.rows h stands)
+returns-clause-never g c = λ none.
+    none_has_exec (g.T.FileTree.content c.args.tree.now) c.args.table.now c.args.process.now c.in_ok-rows.rows.items c.in_ok-rows.ensures.rows
     (sym (any_from_yields_List (λ row. has row.line.calls Exec) _ _ _ c.any.ensures.ran (YieldsList-from_slice c.in_ok-rows.rows.items cc)
     (λ x b q k. search (rules, tests))) ∙ none)
 

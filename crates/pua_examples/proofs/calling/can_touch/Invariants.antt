@@ -1,7 +1,5 @@
-use Rattle.pua_examples.proofs.Common.{◌≡◌}
-use Rattle.std.proofs.Common.{drop}
+use Rattle.std.proofs.Common.{◌≡◌, drop}
 use Rattle.std.specs.List.{AllByRecursion}
-use Rattle.pua_policy.specs.History.{History, StandsFor}
 use Rattle.pua_audit.specs.Reach.{Word}
 use Rattle.pua_objects.specs.ListItems.{IsToldIn, items_told}
 use Rattle.pua_objects.specs.Objects.{objects}
@@ -12,7 +10,7 @@ use Rattle.pua_examples.proofs.calling.can_touch.Given as goal
 abbrev pub invariant-loop-item : goal.invariant-loop-item
 invariant-loop-item g l = record {
   told : AllByRecursion (IsToldIn (g.T.FileTree.content l.fn.tree) l.fn.process) (drop l.item-index l.item-items);
-  left : (h : History) → StandsFor l.fn.process h → (word : Word) × (objects (g.T.FileTree.content l.fn.tree) l.fn.table h
-      ≡ lines_of (g.T.FileTree.content l.fn.tree) l.fn.table h
+  left : (word : Word) × (objects (g.T.FileTree.content l.fn.tree) l.fn.table l.fn.process
+      ≡ lines_of (g.T.FileTree.content l.fn.tree) l.fn.table l.fn.process
       (items_told (g.T.FileTree.content l.fn.tree) word (drop l.item-index l.item-items)));
 }

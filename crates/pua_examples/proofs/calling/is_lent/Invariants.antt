@@ -1,5 +1,4 @@
-use Rattle.pua_examples.proofs.Common.{◌≡◌}
-use Rattle.std.proofs.Common.{nat_eq, length}
+use Rattle.std.proofs.Common.{◌≡◌, nat_eq, length}
 use Rattle.std.specs.List.{list_any}
 use Rattle.pua_calls.specs.Calls.{call_number}
 use Rattle.pua_examples.proofs.calling.is_lent.Given as goal

@@ -2,7 +2,7 @@ use Rattle.pua_how.proofs.Coming.{never_comes, never_comes_through, ways_are_lis
 use Rattle.pua_how.proofs.laws.how_law.Goals as goal
 
 pub returns-clause-never : goal.returns-clause-never
-returns-clause-never c = never_comes c.ever_law.ensures.complete
+returns-clause-never c = never_comes
 
 pub returns-clause-through : goal.returns-clause-through
 returns-clause-through c = never_comes_through c.through_law.ensures.lasts

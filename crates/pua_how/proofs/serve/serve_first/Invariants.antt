@@ -6,5 +6,5 @@ use Rattle.pua_how.proofs.serve.serve_first.Given as goal
 abbrev pub invariant-loop-step : goal.invariant-loop-step
 invariant-loop-step g l = record {
   granted : AreGranted l.rules l.fn.world l.process l.lines.items l.world;
-  on : AreOn l.rules l.fn.world l.process l.steps l.step-index l.lines.items l.made;
+  on : AreOn l.rules l.fn.world l.process l.steps l.step-index l.world l.made;
 }

@@ -1,8 +1,8 @@
-use Rattle.std.proofs.Common.{List, Option, sym, subst}
+use Rattle.std.proofs.Common.{List, Option, sym, subst, ◌∙◌}
 use Rattle.std.specs.Prelude.{IfSome}
 use Rattle.pua_how.specs.Served.{AreWay, IsLine}
 use Rattle.pua_how.specs.declared.line.WayLine.{WayLine}
-use Rattle.pua_how.proofs.Granting.{last_one}
+use Rattle.pua_how.proofs.Granting.{asked_by, last_one}
 use Rattle.pua_how.proofs.serve.serve_last.Goals as goal
 
 pub returns-clause-way : goal.returns-clause-way
@@ -11,4 +11,4 @@ returns-clause-way g c = λ before granted.
     (last_one c.args.rules before c.args.world.now c.answered.new.world c.args.process c.args.served.lines.items c.in-Some.line granted
     (subst (λ (o : Option WayLine). IfSome o (IsLine c.args.rules c.args.process)) c.in-Some.is c.in_ok-line.ensures.own)
     c.in_ok-answered.field-0 c.in-Okay.is c.in_ok-answered.ensures c.args.call c.args.target.now
-    (c.is_asked.ensures.call c.if-not-is_asked.false))
+    (asked_by c.args.world.now c.args.process c.args.call c.args.target.now c.in-Some.line.request (sym c.is_asked.ensures ∙ c.if-not-is_asked.false)))

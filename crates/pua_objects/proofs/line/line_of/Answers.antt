@@ -1,4 +1,4 @@
 use Rattle.pua_objects.proofs.line.line_of.Goals as goal
 
 pub returns : goal.returns
-returns c = λ t h subject stands. c.line_with.ensures t c.args.table.now h subject (λ judged. c.allowed.ensures t h judged stands)
+returns c = λ t subject. c.line_with.ensures t c.args.table.now c.args.process.now subject (c.allowed.ensures t)

@@ -1,4 +1,4 @@
-use Rattle.pua_objects.proofs.Common.{◌≡◌, ◌++◌, map, ap, sym, subst, ◌∙◌, filter_map, veils, spot_now, veil_spot, AreAtNames, AreInOrder}
+use Rattle.pua_objects.proofs.Common.{◌≡◌, ◌++◌, map, ap, sym, subst, ◌∙◌, filter_map, spot_now, veil_spot, AreAtNames, AreInOrder}
 use Rattle.std.proofs.lemmas.Simd.{map-map}
 use Rattle.pua_tree.specs.LentRows.{lent_entry}
 use Rattle.pua_objects.specs.Spots.{row_spot}
@@ -21,7 +21,8 @@ returns-clause-spots c = λ t all.
     spots_of t vs spots (subst (λ given. AreInOrder given spots) both c.in_ok-distinct_spots.ensures.spots)
 
 pub returns-clause-places : goal.returns-clause-places
-returns-clause-places c = λ h stands.
-    let is : map (λ place. place.now) c.deref.result.now ≡ map (λ veil. veil.0) (veils h) =
-    ap (map (λ place. place.now)) c.deref.ensures.value ∙ c.in_ok-places.ensures ∙ ap (map (λ veil. veil.0)) stands.veils in
-    at_names (veils h) (subst AreAtNames is c.in_ok-distinct_spots.ensures.places)
+returns-clause-places c =
+    let vs = c.args.process.now.veils in
+    let is : map (λ place. place.now) c.deref.result.now ≡ map (λ veil. veil.0) vs =
+    ap (map (λ place. place.now)) c.deref.ensures.value ∙ c.in_ok-places.ensures in
+    at_names vs (subst AreAtNames is c.in_ok-distinct_spots.ensures.places)

@@ -9,18 +9,18 @@ use Rattle.pua_policy.proofs.judge.allowed.Goals as goal
 
 pub loop-call-init : goal.loop-call-init
 loop-call-init c = record {
-  decided = λ t h judged stands seen. decides_none (λ call. is_allowed (covered_verdict t c.args.table.now h call c.args.cover judged));
+  decided = λ t judged seen. decides_none (λ call. is_allowed (covered_verdict t c.args.table.now c.args.process.now call c.args.cover judged));
 }
 
 pub loop-call-preserved : goal.loop-call-preserved
 loop-call-preserved c = record {
-  decided = λ t h judged stands seen.
-      let f : Call → Bool = λ call. is_allowed (covered_verdict t c.args.table.now h call c.args.cover judged) in
+  decided = λ t judged seen.
+      let f : Call → Bool = λ call. is_allowed (covered_verdict t c.args.table.now c.args.process.now call c.args.cover judged) in
       let i : ℕ = c.loop-call.call-index in
       let call : Call = get_or calls i Stat in
       let at = bit_of_call_at i c.loop-call-test.true in
-      let decided : Decides f c.loop-call.calls i = c.loop-call.invariant.decided t h judged stands seen in
-      let own : f call ≡ c.allows.result = sym (c.allows.ensures t h judged stands seen) in
+      let decided : Decides f c.loop-call.calls i = c.loop-call.invariant.decided t judged seen in
+      let own : f call ≡ c.allows.result = sym (c.allows.ensures t judged seen) in
       elim c.if-allows.branch [
         | then-allows w ↦
             let with : c.if-allows.calls ≡ w.with-calls.result = w.calls-is in
@@ -31,6 +31,6 @@ loop-call-preserved c = record {
 }
 
 pub returns : goal.returns
-returns c = λ t h judged stands seen.
-    decides_all (λ call. is_allowed (covered_verdict t c.args.table.now h call c.args.cover judged)) c.loop-call.calls
-    c.loop-call.call-index (c.loop-call.invariant.decided t h judged stands seen) c.loop-call-test.false
+returns c = λ t judged seen.
+    decides_all (λ call. is_allowed (covered_verdict t c.args.table.now c.args.process.now call c.args.cover judged)) c.loop-call.calls
+    c.loop-call.call-index (c.loop-call.invariant.decided t judged seen) c.loop-call-test.false

@@ -1,5 +1,5 @@
-use Rattle.pua_policy.proofs.Narrowing.{held_never_grows, pledges_narrow}
+use Rattle.pua_policy.proofs.Narrowing.{state_never_grows, pledges_narrow}
 use Rattle.pua_policy.proofs.laws.promise_laws.Goals as goal
 
 pub returns : goal.returns
-returns c = record { held = held_never_grows; allowed = pledges_narrow }
+returns c = record { held = state_never_grows; allowed = pledges_narrow }

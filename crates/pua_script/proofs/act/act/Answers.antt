@@ -1,5 +1,5 @@
-use Rattle.pua_script.proofs.Common.{sym, ap, ◌∙◌, Ok, asker_on}
-use Rattle.pua_script.specs.Decide.{decide_on}
+use Rattle.pua_script.proofs.Common.{sym, ap, ◌∙◌, Ok, asker_of}
+use Rattle.pua_script.specs.Decide.{decide}
 use Rattle.pua_script.specs.declared.granted.Granted.TheVariants as granted
 use Rattle.pua_script.proofs.Acting.{acts}
 use Rattle.pua_script.proofs.act.act.Goals as goal
@@ -8,19 +8,22 @@ pub returns-in-Pledge-clause-exact : goal.returns-in-Pledge-clause-exact
 returns-in-Pledge-clause-exact g c =
     let t = g.T.FileTree.content c.args.tree.now in
     acts c.args.table.now t c.args.process.now c.args.action.now c.decide_pledge.result
-    (c.decide_pledge.ensures (asker_on c.args.process.now)
-    ∙ sym (ap (decide_on c.args.table.now t c.args.process.now) c.in-Pledge.is)) _ _ c.answer.result c.answer.ensures.exact
+    (c.decide_pledge.ensures (asker_of c.args.process.now)
+    ∙ sym (ap (decide c.args.table.now t c.args.process.now) c.in-Pledge.is)) _ _ c.answer.result c.answer.ensures.exact
 
 pub returns-in-Lock-clause-exact : goal.returns-in-Lock-clause-exact
 returns-in-Lock-clause-exact g c =
     let t = g.T.FileTree.content c.args.tree.now in
     acts c.args.table.now t c.args.process.now c.args.action.now c.decide_lock-granted.result
-    (c.decide_lock-granted.ensures ∙ sym (ap (decide_on c.args.table.now t c.args.process.now) c.in-Lock.is)) _ _
+    (c.decide_lock-granted.ensures ∙ sym (ap (decide c.args.table.now t c.args.process.now) c.in-Lock.is)) _ _
     c.answer-in-Lock.result c.answer-in-Lock.ensures.exact
 
 pub returns-in-Exit-clause-exact : goal.returns-in-Exit-clause-exact
 returns-in-Exit-clause-exact g c =
     let t = g.T.FileTree.content c.args.tree.now in
     acts c.args.table.now t c.args.process.now c.args.action.now (Ok granted.Exit)
-    (sym (ap (decide_on c.args.table.now t c.args.process.now) c.in-Exit.is)) _ _ c.answer-in-Exit.result
+    (sym (ap (decide c.args.table.now t c.args.process.now) c.in-Exit.is)) _ _ c.answer-in-Exit.result
     c.answer-in-Exit.ensures.exact
+
+pub returns-in-Unveil-clause-exact : goal.returns-in-Unveil-clause-exact
+returns-in-Unveil-clause-exact g c = rw (c.in-Unveil.is, ← c.bytes-in-Unveil.ensures) (c.unveil.ensures.exact c.args.table.now)

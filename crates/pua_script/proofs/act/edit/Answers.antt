@@ -1,4 +1,4 @@
-use Rattle.pua_script.proofs.Common.{sym, ap, ◌∙◌, option_map, node_named, asker_on, OnPath}
+use Rattle.pua_script.proofs.Common.{sym, ap, ◌∙◌, option_map, node_named, asker_of, OnPath}
 use Rattle.std.specs.Prelude.{Ok, Err}
 use Rattle.pua_path.specs.Walks.{found_seen, founds_seen}
 use Rattle.pua_path.specs.declared.found.Found.{Found}
@@ -36,7 +36,7 @@ returns-clause-exact g c = λ allowed kind.
     let further : Found → Decision = λ object. Ok (change_by c.args.table.now c.args.call object) in
     let object = found_seen c.in-Ok.lent in
     acts c.args.table.now _ c.args.process.now (OnPath c.args.call c.args.path.now) (Ok c.editing.result)
-    (c.editing.ensures (asker_on c.args.process.now)
+    (c.editing.ensures (asker_of c.args.process.now)
     ∙ ap Ok (at_spot (edit_by c.args.call) object c.in-Some.spot.dir c.in-Some.spot.name.bytes.now c.name-name.result
     c.node_named-there.result (ap (option_map spot_now) (sym c.in-Some.is) ∙ c.spot_named.ensures) c.name-name.ensures
     c.node_named-there.ensures

@@ -1,4 +1,4 @@
-use Rattle.pua_script.proofs.Common.{sym, ap, ◌∙◌, node_named, asker_on, decide_link, Ok, Err, Dot, Link, TieRow}
+use Rattle.pua_script.proofs.Common.{sym, ap, ◌∙◌, node_named, asker_of, decide_link, Ok, Err, Dot, Link, TieRow}
 use Rattle.pua_script.specs.Judged.{tied}
 use Rattle.pua_script.specs.declared.granted.Granted.TheVariants as granted
 use Rattle.pua_script.proofs.Acting.{acts}
@@ -41,6 +41,6 @@ returns-clause-exact g c =
     acts c.args.table.now t p (Link c.args.old.now c.args.new.now) (Ok c.naming-granted.result)
     (pair_held c.args.table.now.link _ c.link-need.ensures t p Dot c.args.old.now c.args.new.now
     (λ a b. decide_link a b (node_named a)) _ c.promised_pair.ensures _ c.in-Ok.is _
-    (c.naming-granted.ensures (asker_on p) ∙ (λ i. Ok (TieRow (c.in-Ok-Some.tie.dir, c.name-name.ensures i) c.in-Ok-Some.tie.node))
+    (c.naming-granted.ensures (asker_of p) ∙ (λ i. Ok (TieRow (c.in-Ok-Some.tie.dir, c.name-name.ensures i) c.in-Ok-Some.tie.node))
     ∙ rw c.in-Ok-Some.field-0-is at c.in-Ok-Some.ensures))
     _ _ c.answer-2.result c.answer-2.ensures.exact

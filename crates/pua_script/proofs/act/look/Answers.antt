@@ -1,4 +1,4 @@
-use Rattle.pua_script.proofs.Common.{sym, ap, ◌∙◌, asker_on, OnPath}
+use Rattle.pua_script.proofs.Common.{sym, ap, ◌∙◌, asker_of, OnPath}
 use Rattle.std.specs.Prelude.{Ok, Err}
 use Rattle.pua_path.specs.Walks.{founds_seen}
 use Rattle.pua_path.specs.declared.found.Found.{Found}
@@ -12,7 +12,7 @@ pub returns-in-Ok-clause-exact : goal.returns-in-Ok-clause-exact
 returns-in-Ok-clause-exact g c = λ allowed kind.
     let further : Found → Decision = λ object. Ok (change_by c.args.table.now c.args.call object) in
     acts c.args.table.now _ c.args.process.now (OnPath c.args.call c.args.path.now) (Ok c.looking-granted.result)
-    (c.looking-granted.ensures kind (asker_on c.args.process.now)
+    (c.looking-granted.ensures kind (asker_of c.args.process.now)
     ∙ ap (λ r. if_named (founds_seen r) further) (sym c.in-Ok.is) ∙ sym (c.judge_object.ensures further)
     ∙ sym (promises_allow _ _ allowed))
     _ _ c.answer.result c.answer.ensures.exact

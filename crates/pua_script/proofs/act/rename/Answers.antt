@@ -1,4 +1,4 @@
-use Rattle.pua_script.proofs.Common.{sym, ap, ◌∙◌, node_named, asker_on, decide_rename, Ok, Err, Dropped, Rename, ShiftRow}
+use Rattle.pua_script.proofs.Common.{sym, ap, ◌∙◌, node_named, asker_of, decide_rename, Ok, Err, Dropped, Rename, ShiftRow}
 use Rattle.pua_script.specs.Judged.{shifted}
 use Rattle.pua_script.specs.declared.granted.Granted.TheVariants as granted
 use Rattle.pua_script.proofs.Acting.{acts}
@@ -41,6 +41,6 @@ returns-clause-exact g c =
     acts c.args.table.now t p (Rename c.args.old.now c.args.new.now) (Ok c.moving-granted.result)
     (pair_held c.args.table.now.rename _ c.rename-need.ensures t p Dropped c.args.old.now c.args.new.now
     (λ a b. decide_rename t a b (node_named a)) _ c.promised_pair.ensures _ c.in-Ok.is _
-    (c.moving-granted.ensures (asker_on p) ∙ (λ i. Ok (ShiftRow (c.in-Ok-Some.shift.from, c.name-name.ensures i) (c.in-Ok-Some.shift.to, c.name-new_name.ensures i)))
+    (c.moving-granted.ensures (asker_of p) ∙ (λ i. Ok (ShiftRow (c.in-Ok-Some.shift.from, c.name-name.ensures i) (c.in-Ok-Some.shift.to, c.name-new_name.ensures i)))
     ∙ rw c.in-Ok-Some.field-0-is at c.in-Ok-Some.ensures))
     _ _ c.answer-2.result c.answer-2.ensures.exact

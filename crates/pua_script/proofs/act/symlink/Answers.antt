@@ -1,4 +1,4 @@
-use Rattle.pua_script.proofs.Common.{◌≡◌, option_map, Some, node_named, sym, ap, subst, ◌∙◌, asker_on, Symlink}
+use Rattle.pua_script.proofs.Common.{◌≡◌, option_map, Some, node_named, sym, ap, subst, ◌∙◌, asker_of, Symlink}
 use Rattle.std.specs.Prelude.{Ok, Err, IfOk}
 use Rattle.pua_calls.specs.declared.call.Call.TheVariants as call
 use Rattle.pua_script.specs.Decide.{Decision, adding, decide_object, if_named, link_node, placing}
@@ -17,7 +17,7 @@ returns-in-None-clause-exact g c =
     let target = c.args.target.now in
     let object = found_seen c.in-Ok-judge_object.lent in
     let linked : Found → Decision = λ object. Ok (adding (link_node target) object) in
-    let further = decide_object c.args.table.now t (asker_on c.args.process.now) call.Symlink c.args.path.now linked in
+    let further = decide_object c.args.table.now t (asker_of c.args.process.now) call.Symlink c.args.path.now linked in
     acts c.args.table.now t c.args.process.now (Symlink target c.args.path.now) (Ok granted.NoChange)
     (ap (λ s. Ok (placing (link_node target) s (node_named object)))
     (ap (option_map spot_now) (sym c.in-None.is) ∙ c.spot_named.ensures)
@@ -32,9 +32,9 @@ returns-clause-exact g c =
     let target = c.args.target.now in
     let object = found_seen c.in-Ok-judge_object.lent in
     let linked : Found → Decision = λ object. Ok (adding (link_node target) object) in
-    let further = decide_object c.args.table.now t (asker_on c.args.process.now) call.Symlink c.args.path.now linked in
+    let further = decide_object c.args.table.now t (asker_of c.args.process.now) call.Symlink c.args.path.now linked in
     acts c.args.table.now t c.args.process.now (Symlink target c.args.path.now) (Ok c.adding.result)
-    (c.adding.ensures (asker_on c.args.process.now)
+    (c.adding.ensures (asker_of c.args.process.now)
     ∙ ap (λ b. Ok (placing (link_node b) (Some (c.in-Some.spot.dir, c.name-name.result)) c.node_named-there.result))
     (subst (λ r. IfOk r (λ text. text.bytes ≡ target)) c.in-Ok.is c.judge_target.ensures.text)
     ∙ ap Ok (at_spot (placing (link_node target)) object c.in-Some.spot.dir c.in-Some.spot.name.bytes.now c.name-name.result
@@ -49,7 +49,7 @@ pub returns-in-Err-judge_object-clause-exact : goal.returns-in-Err-judge_object-
 returns-in-Err-judge_object-clause-exact g c =
     let t = g.T.FileTree.content c.args.tree.now in
     let linked : Found → Decision = λ object. Ok (adding (link_node c.args.target.now) object) in
-    let further = decide_object c.args.table.now t (asker_on c.args.process.now) call.Symlink c.args.path.now linked in
+    let further = decide_object c.args.table.now t (asker_of c.args.process.now) call.Symlink c.args.path.now linked in
     acts c.args.table.now t c.args.process.now (Symlink c.args.target.now c.args.path.now) (Err (Failed c.in-Err-judge_object.errno))
     (ap (λ r. if_named (founds_seen r) linked) (sym c.in-Err-judge_object.is)
     ∙ sym (c.judge_object.ensures linked)
@@ -59,7 +59,7 @@ returns-in-Err-judge_object-clause-exact g c =
 pub returns-in-Err-clause-exact : goal.returns-in-Err-clause-exact
 returns-in-Err-clause-exact g c =
     let t = g.T.FileTree.content c.args.tree.now in
-    let further = decide_object c.args.table.now t (asker_on c.args.process.now) call.Symlink c.args.path.now
+    let further = decide_object c.args.table.now t (asker_of c.args.process.now) call.Symlink c.args.path.now
     (λ object. Ok (adding (link_node c.args.target.now) object)) in
     acts c.args.table.now t c.args.process.now (Symlink c.args.target.now c.args.path.now) (Err c.in-Err.refusal)
     (ap (λ r. on_judged r (λ _. further)) (sym c.in-Err.is) ∙ c.judge_target.ensures.exact further)

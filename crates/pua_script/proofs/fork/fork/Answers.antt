@@ -1,7 +1,6 @@
-use Rattle.pua_script.proofs.Common.{◌∷◌, [], sym, ap, ◌∙◌, refl, Ok, may_any, proc, CopyAs, come_of, WorldState, Fork}
-use Rattle.std.proofs.Common.{is_some}
+use Rattle.pua_script.proofs.Common.{◌∷◌, [], sym, ap, ◌∙◌, refl, Ok, may_any, proc, CopyAs, come_of, World, Fork}
 use Rattle.pua_script.proofs.Doing.{as_same, promises_refuse}
-use Rattle.pua_script.proofs.Serving.{serves, forks, same_entries}
+use Rattle.pua_script.proofs.Serving.{serves, forks, fork_fails, unserved, same_entries}
 use Rattle.pua_script.proofs.fork.fork.Goals as goal
 
 -- a process that may fork stays as it was, so all do
@@ -18,23 +17,30 @@ returns-in_default-insert-clause-unchanged c =
 
 pub returns-in-Err-clause-served : goal.returns-in-Err-clause-served
 returns-in-Err-clause-served c = λ t table.
-    let wrote = c.get_mut.follows.holds c.refuse.new.process in
-    let there = c.in-Some.ensures.value in
-    let s : WorldState = record { tree = t; table = table; processes = c.args.processes.now.entries } in
-    serves s (record { process = c.args.number; action = Fork c.args.new }) c.refuse.result t c.in-Some.process.now c.refuse.new.process _
-    (sym there) (sym c.ended.ensures.state ∙ c.if-ended.false) (wrote.3 (sym (ap is_some there))).0 wrote.2
-    (λ w h stands own. as_same t t h _ _ _ _
-    (ap (come_of w h) (promises_refuse (may_any h (proc ∷ [])) c.in-Err.refusal (Ok (CopyAs c.args.new)) (c.in-Err.ensures.exact h own)))
-    (c.refuse.ensures h t own))
+    let p = c.in-Some.process.now in
+    let w : World = record { tree = t; processes = c.args.processes.now.entries } in
+    serves table t c.args.processes.now.entries (record { process = c.args.number; action = Fork c.args.new }) p (sym c.in-Some.ensures.value)
+    (sym c.ended.ensures.state ∙ c.if-ended.false) c.refuse.result t c.refuse.new.process _
+    (c.get_mut.follows.holds c.refuse.new.process).0 (as_same t t p _ _ _ _
+    (ap (come_of w p) (promises_refuse (may_any p (proc ∷ [])) c.in-Err.refusal (Ok (CopyAs c.args.new)) (sym c.in-Err.ensures.state)))
+    (c.refuse.ensures t))
 
 pub returns-clause-served : goal.returns-clause-served
 returns-clause-served c = λ t table.
     let there = c.in-Some.ensures.value in
-    let inserted = c.in-Ok-insert.ensures in
     let same = same_entries c.args.number c.in-Some.process.now c.in-Some.process.now c.args.processes.now.entries _ there
     (c.get_mut.follows.holds c.in-Some.process.now).0 refl in
-    forks (record { tree = t; table = table; processes = c.args.processes.now.entries }) c.args.number c.args.new c.in-Some.process.now
-    c.in-Ok-fork.copy _ _ c.in-Ok-insert.field-0
-    (sym there) (sym c.ended.ensures.state ∙ c.if-ended.false) c.in-Ok.ensures.exact (sym c.is_refused-is_refused.ensures ∙
-    c.if-is_refused.false)
-    c.in-Ok-fork.ensures same inserted.updates.0 inserted.old inserted.len
+    forks table t c.args.processes.now.entries c.args.number c.args.new c.in-Some.process.now c.in-Ok-fork.copy _ _
+    (sym there) (sym c.ended.ensures.state ∙ c.if-ended.false) (sym c.in-Ok.ensures.state)
+    (sym c.is_refused-is_refused.ensures ∙ c.if-is_refused.false) c.in-Ok-fork.ensures same c.in-Ok-insert.ensures.entries
+
+pub returns-then-ended-clause-served : goal.returns-then-ended-clause-served
+returns-then-ended-clause-served c = λ t table.
+    unserved table t c.args.processes.now.entries (record { process = c.args.number; action = Fork c.args.new }) c.in-Some.process.now _
+    c.in-Some.ensures.value (sym c.ended.ensures.state ∙ c.if-ended.true) (c.get_mut.follows.holds c.in-Some.process.now).0
+
+pub returns-then-is_refused-clause-served : goal.returns-then-is_refused-clause-served
+returns-then-is_refused-clause-served c = λ t table.
+    fork_fails table t c.args.processes.now.entries c.args.number c.args.new c.in-Some.process.now _
+    c.in-Some.ensures.value (sym c.ended.ensures.state ∙ c.if-ended.false) (sym c.in-Ok.ensures.state)
+    (sym c.is_refused-is_refused.ensures ∙ c.if-is_refused.true) (c.get_mut.follows.holds c.in-Some.process.now).0

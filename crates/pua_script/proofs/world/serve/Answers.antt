@@ -1,16 +1,13 @@
-use Rattle.pua_script.proofs.Common.{sym, ap, ◌∙◌}
-use Rattle.std.proofs.Common.{is_some}
-use Rattle.pua_script.proofs.Serving.{all_serve, all_okay, all_kept}
+use Rattle.pua_script.proofs.Common.{sym, ◌∙◌}
+use Rattle.pua_script.proofs.Serving.{all_serve, all_okay, all_kept, unserved}
 use Rattle.pua_script.proofs.world.serve.Goals as goal
 
 pub returns-in-Some-clause-served : goal.returns-in-Some-clause-served
 returns-in-Some-clause-served g c =
-    let wrote = c.get_mut.follows.holds c.act.new.process in
-    let there = c.in-Some.ensures.value in
-    all_serve (record { tree = g.T.FileTree.content c.args.tree.now; table = c.args.table.now; processes = c.args.processes.now.entries })
-    (record { process = c.args.number; action = c.args.action.now })
-    c.act.result _ c.in-Some.process.now c.act.new.process _ there (sym c.ended.ensures.state ∙
-    c.if-not-ended.true) (wrote.3 (sym (ap is_some there))).0 wrote.2 c.act.ensures.exact
+    all_serve c.args.table.now (g.T.FileTree.content c.args.tree.now) c.args.processes.now.entries
+    (record { process = c.args.number; action = c.args.action.now }) c.in-Some.process.now (sym c.in-Some.ensures.value)
+    (sym c.ended.ensures.state ∙ c.if-not-ended.true) c.act.result _ c.act.new.process _ (c.get_mut.follows.holds c.act.new.process).0
+    c.act.ensures.exact
 
 pub returns-in-Some-clause-unchanged : goal.returns-in-Some-clause-unchanged
 returns-in-Some-clause-unchanged g c =
@@ -19,7 +16,12 @@ returns-in-Some-clause-unchanged g c =
 
 pub returns-in-Some-clause-memory : goal.returns-in-Some-clause-memory
 returns-in-Some-clause-memory g c =
-    all_okay (record { tree = g.T.FileTree.content c.args.tree.now; table = c.args.table.now; processes = c.args.processes.now.entries })
-    (record { process = c.args.number; action = c.args.action.now })
-    c.act.result _ c.in-Some.process.now c.act.new.process c.in-Some.ensures.value (sym c.ended.ensures.state ∙
-    c.if-not-ended.true) c.act.ensures.exact
+    all_okay c.args.table.now (g.T.FileTree.content c.args.tree.now) c.args.processes.now.entries
+    (record { process = c.args.number; action = c.args.action.now }) c.in-Some.process.now (sym c.in-Some.ensures.value)
+    (sym c.ended.ensures.state ∙ c.if-not-ended.true) c.act.result _ c.act.new.process c.act.ensures.exact
+
+pub returns-in_default-clause-served : goal.returns-in_default-clause-served
+returns-in_default-clause-served g c =
+    unserved c.args.table.now (g.T.FileTree.content c.args.tree.now) c.args.processes.now.entries
+    (record { process = c.args.number; action = c.args.action.now }) c.in-Some.process.now _ c.in-Some.ensures.value
+    (sym c.ended.ensures.state ∙ c.if-not-ended.false) (c.get_mut.follows.holds c.in-Some.process.now).0

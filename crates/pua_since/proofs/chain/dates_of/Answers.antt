@@ -1,4 +1,4 @@
-use Rattle.pua_since.proofs.Common.{◌≡◌, ◌∙◌, ap, map, length, [], subst, CallTable, world_after, reason, fact_seen, date_of, AreFactsAt}
+use Rattle.pua_since.proofs.Common.{◌≡◌, ◌∙◌, ap, map, length, [], subst, CallTable, world_after, world_of, reason, fact_seen, date_of, AreFactsAt}
 use Rattle.pua_since.proofs.Common.{IsRequestAt, fact_line, AreWatched}
 use Rattle.pua_since.proofs.Keeping.{asked_at, facts_kept, kept_twice, request_kept}
 use Rattle.pua_since.proofs.Veiled.{request_at}
@@ -6,11 +6,12 @@ use Rattle.pua_since.proofs.Unveiled.{facts_at}
 use Rattle.pua_since.proofs.chain.dates_of.Goals as goal
 
 pub returns-clause-dates : goal.returns-clause-dates
-returns-clause-dates g c w stands told are =
+returns-clause-dates g c told are =
     let table : CallTable = c.args.world.now.table in
+    let w = world_of c.args.world.now in
     let s = c.serve_all.new.self in
-    let watched : AreWatched table w c.args.requests.now [] s = c.in_ok-serve_all.ensures.watched w stands told
-    (c.in_ok-veils.ensures.watched w c.args.requests.now stands (c.in_ok-own.ensures.watched w c.args.requests.now stands
+    let watched : AreWatched table w c.args.requests.now [] s = c.in_ok-serve_all.ensures.watched told
+    (c.in_ok-veils.ensures.watched c.args.requests.now (c.in_ok-own.ensures.watched c.args.requests.now
     (c.in_ok-watches.ensures.watched table w told))) in
     let own : IsRequestAt s.watches.items c.in_ok-own.own c.args.request.now (length c.args.requests.now) =
     request_kept c.add.new.self.watches.items s.watches.items c.in_ok-own.own c.args.request.now (length c.args.requests.now)

@@ -1,5 +1,6 @@
 use Rattle.pua_since.proofs.Common.{◌≡◌, ◌∙◌, ◌++◌, ◌∷◌, [], sym, ap, map, flat_map, append_assoc, append-nil, string_bytes, inl, inr, ◌⊎◌}
-use Rattle.pua_since.proofs.Common.{iter_rest, with_end, apply, world_after, Asked, reason, fact_seen, date_of, reason_tail, answer_words}
+use Rattle.pua_since.proofs.Common.{iter_rest, with_end, WorldState, apply_to, state_after_all, world_of, Asked, reason, fact_seen, date_of}
+use Rattle.pua_since.proofs.Common.{reason_tail, answer_words, subst}
 use Rattle.std.proofs.lemmas.Slice.Zip.{Zip-more, either_empty_from_Zip}
 use Rattle.pua_why.specs.Texts.{fact_dated}
 use Rattle.pua_since.proofs.Chained.{chained, dated_lines, none_left, one_line}
@@ -36,10 +37,8 @@ loop-fact-preserved g c =
     }
 
 pub returns : goal.returns
-returns g c w done stands told are dated =
+returns g c s done at told are dated =
     let t = c.args.world.now.tree in
-    let table = c.args.world.now.table in
-    let left = world_after table w done in
     let asked : Asked = record { process = c.process-process.result; action = c.action-action.result.now } in
     let same : asked ≡ c.args.request.now =
     λ i. record { process = c.process-process.ensures.process i; action = c.action-action.ensures.action i } in
@@ -49,16 +48,16 @@ returns g c w done stands told are dated =
     ≡ string_bytes c.loop-fact.text =
     c.loop-fact.invariant.told ∙ ap (λ lines. string_bytes c.loop-fact.text ++ flat_map with_end lines) (none_left t _ _ empty) ∙
     append-nil (string_bytes c.loop-fact.text) in
-    let answered : string_bytes c.push_answer.new.text ≡ string_bytes c.loop-fact.text
-    ++ (answer_words table left asked ++ reason_tail c.args.rules table left asked (date_of (reason table left asked) c.args.dates.now.answer)) =
-    c.in_ok-push_answer.ensures left stands (told ∙ sym (λ i. (apply table left (same i)).0)) in
+    let Says : WorldState → Asked → Type 0 = λ v ask. c.args.answer ≡ (apply_to v ask).0 → string_bytes c.push_answer.new.text ≡ string_bytes c.loop-fact.text
+    ++ (answer_words v.table (world_of v) ask
+    ++ reason_tail c.args.rules v.table (world_of v) ask (date_of (reason v.table (world_of v) ask) c.args.dates.now.answer)) in
+    let answered : Says (state_after_all s done) c.args.request.now =
+    subst (λ (X : Type 0). X) (λ i. Says (at i) (same i)) c.in_ok-push_answer.ensures in
     c.in_ok-push_str-2.ensures.bytes
-    ∙ ap (λ text. text ++ 10 ∷ []) (answered ∙
-    (λ i. string_bytes c.loop-fact.text
-    ++ (answer_words table left (same i) ++ reason_tail c.args.rules table left (same i) (date_of (reason table left (same i)) c.args.dates.now.answer))))
+    ∙ ap (λ text. text ++ 10 ∷ []) (answered told)
     ∙ append_assoc (string_bytes c.loop-fact.text) _ (10 ∷ [])
-    ∙ chained c.args.rules table w done c.args.request.now (map fact_seen c.args.passed.now) c.args.dates.now t (string_bytes c.loop-fact.text)
-    stands.tree are dated (sym so_far)
+    ∙ chained c.args.rules s.table (world_of s) done c.args.request.now (map fact_seen c.args.passed.now) c.args.dates.now t
+    (string_bytes c.loop-fact.text) (ap (λ v. v.tree) at) are dated (sym so_far)
   where
     by : (iter_rest c.loop-fact.fact-iterator.a ≡ []) ⊎ (iter_rest c.loop-fact.fact-iterator.b ≡ []) →
         (map fact_seen (iter_rest c.loop-fact.fact-iterator.a) ≡ []) ⊎ (iter_rest c.loop-fact.fact-iterator.b ≡ [])

@@ -10,7 +10,7 @@ loop-fact-preserved g c = record {
       c.fact-item.result c.in_ok-place.place c.loop-fact-test.true c.fact-item.is c.in_ok-push.ensures.items
       (c.loop-fact.invariant.places later (kept_twice _ _ later c.in_ok-place.ensures.kept kept))
       (fact_kept _ later c.args.process c.args.last (veil_told (fact_seen c.fact-item.result)) _ kept c.in_ok-place.ensures.place);
-  watched = λ w left stands before. c.in_ok-place.ensures.watched w left stands (c.loop-fact.invariant.watched w left stands before);
+  watched = λ left before. c.in_ok-place.ensures.watched left (c.loop-fact.invariant.watched left before);
   kept = kept_twice _ _ _ c.loop-fact.invariant.kept c.in_ok-place.ensures.kept;
 }
 

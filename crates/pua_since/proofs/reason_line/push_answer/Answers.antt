@@ -1,4 +1,4 @@
-use Rattle.pua_since.proofs.Common.{◌≡◌, ◌∙◌, ap, sym, ◌++◌, string_bytes, Asked}
+use Rattle.pua_since.proofs.Common.{◌≡◌, ◌∙◌, ap, sym, ◌++◌, string_bytes, Asked, world_of}
 use Rattle.std.proofs.lemmas.Result.{on_ok_weaker}
 use Rattle.pua_script.specs.AnswerTexts.{answer_text}
 use Rattle.pua_why.specs.Seen.{reason_seen}
@@ -8,9 +8,9 @@ use Rattle.pua_since.proofs.Answered.{okay_told, told_in_parts}
 use Rattle.pua_since.proofs.reason_line.push_answer.Goals as goal
 
 pub returns-in-Okay : goal.returns-in-Okay
-returns-in-Okay g c = pushed_so c.push_str.result _ _ _ c.push_str.ensures.bytes λ pushed w stands told.
+returns-in-Okay g c = pushed_so c.push_str.result _ _ _ c.push_str.ensures.bytes λ pushed told.
     let ask : Asked = record { process = c.args.process; action = c.args.action.now } in
-    pushed ∙ ap (λ text. string_bytes c.args.text.now ++ text) (sym (okay_told c.args.rules c.args.world.now.table w ask c.args.line (sym c.in-Okay.is ∙
+    pushed ∙ ap (λ text. string_bytes c.args.text.now ++ text) (sym (okay_told c.args.rules c.args.world.now.table (world_of c.args.world.now) ask c.args.line (sym c.in-Okay.is ∙
     told)))
 
 pub returns : goal.returns
@@ -22,9 +22,8 @@ returns g c =
     c.in_ok-write.ensures.bytes in
     let worded : string_bytes c.push_words.new.text ≡ string_bytes c.write.new.self
     ++ spaced_words (reason_text c.args.world.now.tree (reason_seen c.in-Ok.reason)) = c.in_ok-push_words.ensures in
-    on_ok_weaker c.push_opener.result (λ opened w stands told.
-    told_in_parts c.args.rules c.args.world.now.table w ask c.args.line c.args.answer (reason_seen c.in-Ok.reason)
+    on_ok_weaker c.push_opener.result (λ opened told.
+    told_in_parts c.args.rules c.args.world.now.table (world_of c.args.world.now) ask c.args.line c.args.answer (reason_seen c.in-Ok.reason)
     (string_bytes c.args.text.now) (string_bytes c.write.new.self) (string_bytes c.push_words.new.text) (string_bytes c.push_since.new.text)
-    (string_bytes c.push_opener.new.text) told (c.in-Ok.ensures w stands told) answered
-    (worded ∙ ap (λ t. string_bytes c.write.new.self ++ spaced_words (reason_text t (reason_seen c.in-Ok.reason))) stands.tree)
-    (dated ∙ ap (λ line. string_bytes c.push_words.new.text ++ since_text line) c.date_of.ensures) (opened w stands)) c.push_opener.ensures
+    (string_bytes c.push_opener.new.text) told (c.in-Ok.ensures told) answered worded
+    (dated ∙ ap (λ line. string_bytes c.push_words.new.text ++ since_text line) c.date_of.ensures) opened) c.push_opener.ensures

@@ -1,5 +1,5 @@
 use Rattle.pua_since.proofs.Common.{◌≡◌, ◌++◌, ◌+◌, ◌∙◌, [], suc, sym, ap, subst, flat_map, append-nil, string_bytes, inl, inr, ◌⊎◌}
-use Rattle.pua_since.proofs.Common.{iter_rest, with_end, world_after, StandsForWorld, AreWatched}
+use Rattle.pua_since.proofs.Common.{iter_rest, with_end, state_after_all, world_of, AreWatched}
 use Rattle.pua_why.specs.Texts.{why_lines}
 use Rattle.pua_since.proofs.Telling.{IsTurn, all_told, none_told, past_all, turned}
 use Rattle.pua_since.proofs.reason_lines.lines_text.Goals as goal
@@ -42,20 +42,19 @@ returns g c =
     let empty : (iter_rest c.loop-done.done-iterator.iter.a ≡ []) ⊎ (iter_rest c.loop-done.done-iterator.iter.b ≡ []) =
     elim steps.0 [ inl x ↦ inl (nil_from_length _ x.1.0) | inr x ↦ inr (nil_from_length _ x.1.0) ] in
     record {
-      text = λ w stands told are at.
-          let none = all_told _ _ _ _ _ _ _ _ _ _ _ _ _ so empty w stands told in
-          sym ((so.lines w stands told are at).0
+      text = λ told are at.
+          let none = all_told _ _ _ _ _ _ _ _ _ _ _ _ _ so empty told in
+          sym ((so.lines told are at).0
           ∙ ap (λ left. string_bytes c.loop-done.text
-          ++ flat_map with_end (why_lines c.args.rules c.args.world.now.table w so.past (suc c.loop-done.done-iterator.count) left)) none
+          ++ flat_map with_end (why_lines c.args.rules c.args.world.now.table (world_of c.args.world.now) so.past (suc c.loop-done.done-iterator.count) left)) none
           ∙ append-nil (string_bytes c.loop-done.text));
-      watched = λ w stands told are.
-          let none = all_told _ _ _ _ _ _ _ _ _ _ _ _ _ so empty w stands told in
+      watched = λ told are.
+          let none = all_told _ _ _ _ _ _ _ _ _ _ _ _ _ so empty told in
           let all = past_all _ _ _ _ _ _ _ _ _ _ _ _ _ so none in
-          subst (λ (X : Type 0). X) (λ i. AreWatched c.args.world.now.table w (all i) (none i) c.loop-done.watches)
-          (so.watched w stands told are);
-      world = λ w stands told.
-          let all = past_all _ _ _ _ _ _ _ _ _ _ _ _ _ so (all_told _ _ _ _ _ _ _ _ _ _ _ _ _ so empty w stands told) in
-          let world = so.world w stands told in
-          (subst (λ asks. StandsForWorld c.loop-done.world (world_after c.args.world.now.table w asks)) all world.0, world.1);
+          subst (λ (X : Type 0). X) (λ i. AreWatched c.args.world.now.table (world_of c.args.world.now) (all i) (none i) c.loop-done.watches)
+          (so.watched told are);
+      world = λ told.
+          let all = past_all _ _ _ _ _ _ _ _ _ _ _ _ _ so (all_told _ _ _ _ _ _ _ _ _ _ _ _ _ so empty told) in
+          so.world ∙ ap (state_after_all c.args.world.now) all;
       kept = so.kept;
     }

@@ -21,7 +21,7 @@ loop-done-init g c =
           subst (λ places. ArePlacesOf later 0 c.args.requests.now c.args.answers.now places)
           (sym (ap (λ places. places ++ rest) c.new-places.ensures.items))
           (subst (λ (X : Type 0). X) (λ i. ArePlacesOf later (count i) (requests i) (told i) rest) at);
-      watched = λ w left stands before. before;
+      watched = λ left before. before;
       kept = kept_all c.args.watches.now.watches.items;
     }
 
@@ -74,7 +74,7 @@ loop-done-preserved g c =
           (placed later c.loop-done.done-iterator.count c.next.new.self.count c.in-Some.request.now c.in-Some.answer.now _ _ _ _
           c.in_ok-place.place rest steps.0.1.0 steps.0.1.1 c.in_default.not-Okay steps.2
           (subst (λ n. IsRequestAt later c.in_ok-place.place c.in-Some.request.now n) steps.1 own) at));
-      watched = λ w left stands before. c.in_ok-place.ensures.watched w left stands (so.watched w left stands before);
+      watched = λ left before. c.in_ok-place.ensures.watched left (so.watched left before);
       kept = kept_twice c.args.watches.now.watches.items c.loop-done.watches.watches.items c.place_of.new.watches.watches.items so.kept
           kept_now;
     }
@@ -84,7 +84,7 @@ returns g c =
     let steps = c.in-None.ensures.steps in
     let so = c.loop-done.invariant in
     record {
-      places = λ w rules stands read told.
+      places = λ rules read told.
           let empty : (iter_rest c.loop-done.done-iterator.iter.b.a ≡ []) ⊎ (iter_rest c.loop-done.done-iterator.iter.b.b ≡ []) =
           elim steps.0 [
             | inl x ↦ inl (none_read rules (so.lines rules read).0 _ (sym (ap (requests_of rules (so.lines rules read).0) x.1.0) ∙ (so.lines rules read).1))

@@ -1,6 +1,5 @@
-use Rattle.pua_since.proofs.Common.{◌≡◌, ◌++◌, ℕ, List, [], Ok, iter_rest, Asked, requests_of, StandsForWorld, ArePlacesOf, AreWatched}
+use Rattle.pua_since.proofs.Common.{◌≡◌, ◌++◌, ℕ, List, [], Ok, iter_rest, Asked, requests_of, world_of, ArePlacesOf, AreWatched}
 use Rattle.pua_since.proofs.Common.{IsKeptThrough, Watch}
-use Rattle.pua_script.specs.Replay.{World as Replayed}
 use Rattle.pua_calls.specs.declared.rules.Rules.{Rules}
 use Rattle.pua_script.specs.Scripts.{script_by}
 use Rattle.pua_since.specs.Dates.{AreKnown}
@@ -15,7 +14,7 @@ invariant-loop-done g l = record {
   places : (rules : Rules) → script_by rules l.fn.script_bytes ≡ Ok l.fn.requests → (later : List Watch) (rest : List ℕ) → IsKeptThrough l.watches.watches.items later
       → ArePlacesOf later l.done-iterator.count (iter_rest l.done-iterator.iter.b.a) (iter_rest l.done-iterator.iter.b.b) rest →
       ArePlacesOf later 0 l.fn.requests l.fn.answers (l.places.items ++ rest);
-  watched : (w : Replayed) (left : List Asked) → StandsForWorld l.world w → AreWatched l.world.table w [] left l.fn.watches →
-      AreWatched l.world.table w [] left l.watches;
+  watched : (left : List Asked) → AreWatched l.world.table (world_of l.world) [] left l.fn.watches →
+      AreWatched l.world.table (world_of l.world) [] left l.watches;
   kept : IsKeptThrough l.fn.watches.watches.items l.watches.watches.items;
 }

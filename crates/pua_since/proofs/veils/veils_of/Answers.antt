@@ -10,6 +10,6 @@ loop-number-preserved g c =
     added
     ∙ ap (λ front. front ++ map (with_number number) c.as_slice.result.now) c.loop-number.invariant
     ∙ ap (λ lent. flat_map (veils_at c.args.world.now) (take c.loop-number.number-index c.args.numbers.now) ++ lent)
-    (lent_at c.args.world.now number c.in-Some.process.now c.as_slice.result.now (sym c.in-Some.ensures.state)
+    (lent_at c.args.world.now number c.in-Some.process.now c.as_slice.result.now (sym c.in-Some.ensures)
     (ap (map (λ place. place.now)) c.as_slice.ensures.value ∙ c.in_ok-places.ensures))
     ∙ sym (flat_more (veils_at c.args.world.now) c.args.numbers.now c.loop-number.number-index 0 c.loop-number-test.true)

@@ -11,7 +11,7 @@ loop-number-preserved g c = record {
       c.loop-number-item.result c.in_ok-place.place c.loop-number-test.true c.loop-number-item.is c.in_ok-push.ensures.items
       (c.loop-number.invariant.places later (kept_twice _ _ later c.add.ensures.kept kept))
       (record { question = asks.Veil c.loop-number-item.result.1; stands = kept _ _ _ _ c.in_ok-place.ensures.place; asks = refl });
-  watched = λ w left stands before. c.in_ok-place.ensures.watched w left stands (c.loop-number.invariant.watched w left stands before);
+  watched = λ left before. c.in_ok-place.ensures.watched left (c.loop-number.invariant.watched left before);
   kept = kept_twice _ _ _ c.loop-number.invariant.kept c.add.ensures.kept;
 }
 

@@ -1,4 +1,4 @@
-use Rattle.pua_texts.proofs.Common.{◌≡◌, ◌++◌, ◌∷◌, ◌∙◌, [], ap, append-nil, List, map, refl, string_bytes, subst, sym, Tree, ℕ, veil_lines}
+use Rattle.pua_texts.proofs.Common.{◌≡◌, ◌++◌, ◌∷◌, ◌∙◌, [], ap, append-nil, List, map, refl, string_bytes, subst, sym, Tree, ℕ}
 use Rattle.pua_ever.specs.Through.{execs_of}
 use Rattle.pua_texts.specs.EverHowLines.{AreToldWith, ever_list_with, lines_with}
 use Rattle.pua_texts.specs.EverLines.{heading_ever}
@@ -9,11 +9,11 @@ use Rattle.pua_texts.proofs.EverHowLines.{told_with}
 use Rattle.pua_texts.proofs.ever_how_list.write_ever_how.Goals as goal
 
 pub returns : goal.returns
-returns g c = λ table h told stands execs are.
+returns g c = λ table told execs are.
+    let h = c.args.process.now in
     let t : Tree = g.T.FileTree.content c.args.tree.now in
-    let begun = c.in_ok-head.ensures h stands in
     let headed : head_text t c.in_ok-head.head ≡ head_lines t (heading_ever c.args.rules (execs_of t table h) c.args.number) h =
-    (λ j. begun.text j ++ veil_lines t (begun.veils j))
+    ap (head_text t) c.in_ok-head.ensures
     ∙ ap (λ e. head_lines t (heading_ever c.args.rules e c.args.number) h) execs in
     let texts = map string_bytes c.args.texts.items in
     let lines : lines_text c.of_lines.result [] c.in_ok-lines.lines.items ≡ lines_with t told =

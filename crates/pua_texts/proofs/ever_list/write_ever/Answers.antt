@@ -1,4 +1,4 @@
-use Rattle.pua_texts.proofs.Common.{◌≡◌, ◌++◌, ◌∷◌, ◌∙◌, [], ap, append-nil, List, subst, sym, Tree, ℕ, veil_lines}
+use Rattle.pua_texts.proofs.Common.{◌≡◌, ◌++◌, ◌∷◌, ◌∙◌, [], ap, append-nil, List, subst, sym, Tree, ℕ}
 use Rattle.pua_ever.specs.EverList.{AreEverTold}
 use Rattle.pua_ever.specs.Through.{ever_lasting, execs_of}
 use Rattle.pua_texts.specs.ColumnsState.{ColumnsState}
@@ -9,11 +9,11 @@ use Rattle.pua_texts.specs.Tells.{TellsTo}
 use Rattle.pua_texts.proofs.ever_list.write_ever.Goals as goal
 
 pub returns : goal.returns
-returns g c = λ table h stands lasting.
+returns g c = λ table lasting.
+    let h = c.args.process.now in
     let t : Tree = g.T.FileTree.content c.args.tree.now in
-    let begun = c.in_ok-head.ensures h stands in
     let headed : head_text t c.in_ok-head.head ≡ head_lines t (heading_ever c.args.rules (execs_of t table h) c.args.number) h =
-    (λ j. begun.text j ++ veil_lines t (begun.veils j))
+    ap (head_text t) c.in_ok-head.ensures
     ∙ ap (λ e. head_lines t (heading_ever c.args.rules e c.args.number) h) lasting.execs in
     let lines = ap (λ (s : ColumnsState). lines_text s [] c.in_ok-lines.lines.items) c.plain.ensures ∙
     c.in_ok-lines.ensures t (ever_lasting t table h)

@@ -1,5 +1,6 @@
 use Rattle.pua_texts.proofs.Common.{◌∷◌, ◌++◌, [], List, ℕ, if◌then◌else◌, map, sym, ap, ◌∙◌, append-nil, arith, string_bytes}
 use Rattle.std.specs.Prelude.{decimal}
+use Rattle.pua_texts.specs.Members.{named_by}
 use Rattle.pua_texts.proofs.MembersNext.{number_next, numbers_done}
 use Rattle.pua_texts.proofs.ObjectLines.{joined_is}
 use Rattle.pua_texts.proofs.member_states.push_numbers.Goals as goal
@@ -20,4 +21,4 @@ returns c =
       c.loop-member-test.false,
     ))))
     ∙ c.loop-member.invariant
-    ∙ ap (λ t. string_bytes c.args.text.now ++ t) (sym (joined_is (map (λ member. decimal member.number) members)))
+    ∙ ap (λ t. string_bytes c.args.text.now ++ t) (sym (joined_is (map (λ member. decimal member.0) (named_by members))))

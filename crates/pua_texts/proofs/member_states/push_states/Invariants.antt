@@ -1,9 +1,8 @@
-use Rattle.pua_texts.proofs.Common.{◌++◌, ℕ, List, drop, flat_map, string_bytes, History}
-use Rattle.pua_texts.specs.Members.{AreMembers}
-use Rattle.pua_texts.specs.TogetherLines.{member_lines}
-use Rattle.pua_texts.proofs.MembersNext.{StatesGo}
+use Rattle.pua_texts.proofs.Common.{◌≡◌, ◌++◌, string_bytes}
+use Rattle.pua_texts.proofs.MembersNext.{states_left}
 use Rattle.pua_texts.proofs.member_states.push_states.Given as goal
 
+-- the states so far are added, and the others are still to come
 abbrev pub invariant-loop-member : goal.invariant-loop-member
-invariant-loop-member l = (named : List (ℕ × History)) → AreMembers l.members named →
-    StatesGo l.rules (drop l.member-index l.members) (string_bytes l.text) (string_bytes l.fn.text ++ flat_map (member_lines l.rules) named)
+invariant-loop-member l = string_bytes l.text ++ states_left l.rules l.members l.member-index
+    ≡ string_bytes l.fn.text ++ states_left l.rules l.members 0

@@ -1,4 +1,4 @@
-use Rattle.pua_texts.proofs.Common.{◌≡◌, ◌∷◌, ◌++◌, [], drop, Tree, History, StandsFor}
+use Rattle.pua_texts.proofs.Common.{◌≡◌, ◌∷◌, ◌++◌, [], drop, Tree}
 use Rattle.std.specs.List.{AllByRecursion}
 use Rattle.pua_texts.specs.ColumnsState.{plain}
 use Rattle.pua_objects.specs.ListItems.{IsToldIn, items_told}
@@ -8,6 +8,6 @@ use Rattle.pua_texts.proofs.object_lines.object_lines.Given as goal
 
 -- the lines so far, and those of the other items, are all lines
 abbrev pub invariant-loop-item : goal.invariant-loop-item
-invariant-loop-item l = (t : Tree) (h : History) → StandsFor l.process h → AllByRecursion (IsToldIn t l.process) l.items →
-    lines_text plain [] l.lines.items ++ told t l.table h (λ line. 10 ∷ []) (items_told t (last_word [] l.lines.items) (drop l.item-index
-    l.items)) ≡ told t l.table h (λ line. 10 ∷ []) (items_told t [] l.items)
+invariant-loop-item l = (t : Tree) → AllByRecursion (IsToldIn t l.process) l.items →
+    lines_text plain [] l.lines.items ++ told t l.table l.process (λ line. 10 ∷ []) (items_told t (last_word [] l.lines.items)
+    (drop l.item-index l.items)) ≡ told t l.table l.process (λ line. 10 ∷ []) (items_told t [] l.items)

@@ -10,19 +10,20 @@ loop-call-preserved c =
     let i = c.loop-call.call-index in
     let set = c.args.calls in
     let table = c.args.table.now in
+    let h = c.args.process.now in
     elim c.if-contains.branch [
-      | then-contains w ↦ rw w.resting-is (λ h stands.
+      | then-contains w ↦ rw w.resting-is (
           ap (λ r. bit_or r (resting_on table h (filter (has set) (drop (i + 1) calls)))) w.union-resting.ensures
           ∙ sym (rest_taken table h set c.loop-call.resting w.let_by.result i c.loop-call-test.true (sym c.contains.ensures ∙
-          w.if-contains.true) (w.let_by.ensures h stands))
-          ∙ c.loop-call.invariant h stands)
+          w.if-contains.true) w.let_by.ensures)
+          ∙ c.loop-call.invariant)
       | else-contains w ↦ rw w.resting-is
-          (λ h stands. sym (rest_passed table h set c.loop-call.resting i c.loop-call-test.true (sym c.contains.ensures ∙
-          w.if-contains.false)) ∙ c.loop-call.invariant h stands)
+          (sym (rest_passed table h set c.loop-call.resting i c.loop-call-test.true (sym c.contains.ensures ∙
+          w.if-contains.false)) ∙ c.loop-call.invariant)
     ]
 
 pub returns : goal.returns
-returns c = λ h stands.
+returns c =
     let i = c.loop-call.call-index in
     let past : call_count ≤ i = omega (arith, c.loop-call-test.false) in
-    sym (rest_done c.args.table.now h c.args.calls c.loop-call.resting i past) ∙ c.loop-call.invariant h stands
+    sym (rest_done c.args.table.now c.args.process.now c.args.calls c.loop-call.resting i past) ∙ c.loop-call.invariant

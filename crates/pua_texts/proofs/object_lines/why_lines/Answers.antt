@@ -30,33 +30,35 @@ loop-item-preserved c =
             ap length num.grows,
             length-append old.resting num.more,
           )) inv.numbered) num.within);
-      lines = λ p number h stands ruled all are.
+      lines = λ p number ruled all are.
+          let h = c.args.process.now in
           let t = (world_left p).tree in
-          let here = told_at t c.args.process.now items item i c.loop-item-test.true c.item-item.is all in
+          let here = told_at t h items item i c.loop-item-test.true c.item-item.is all in
           let subject = subject_given t item.item.subject in
           let line = c.allowed_line-line.result in
           let on : IsLineOn t p.table h subject line =
           subst (λ (table : CallTable). IsLineOn t table h subject line) ruled
-          (c.allowed_line-line.ensures c.args.process.now c.args.table.now t h subject c.new-allowed.ensures stands (here.tells h stands))
+          (c.allowed_line-line.ensures h c.args.table.now t subject c.new-allowed.ensures here.tells)
           in
-          let own : AreColumnsOf p number c.args.process.now.veils new = record {
+          let own : AreColumnsOf p number h.veils new = record {
             veils = num.veils ∙ inv.veils ∙ are.veils;
             unveiled = num.unveiled ∙ inv.unveiled ∙ are.unveiled;
           } in
-          let rests = c.resting_on.ensures h stands ∙ ap (λ (table : CallTable). resting_on table h (calls_in line.calls)) ruled in
+          let rests = c.resting_on.ensures ∙ ap (λ (table : CallTable). resting_on table h (calls_in line.calls)) ruled in
           subst (λ (lines : List ListLine). lines_text new [] lines ++ told t p.table h (behind p number h)
           (items_told t (last_word [] lines) (drop (i + 1) items)) ≡ told t p.table h (behind p number h) (items_told t [] items))
           (sym c.in-Ok.ensures.items)
           (told_more t p.table h (behind p number h) new items item i c.loop-item-test.true c.item-item.is c.name.result c.name.ensures line on
           c.in_ok-resting.resting item.veil lines _
-          (λ word. behind_is p number h c.args.process.now.veils new (line_on word subject line) c.resting_on.result c.in_ok-resting.resting
-          item.veil own num.is rests (here.veil h stands ∙ covering_alike t h subject))
+          (λ word. behind_is p number h h.veils new (line_on word subject line) c.resting_on.result c.in_ok-resting.resting
+          item.veil own num.is rests (here.veil ∙ covering_alike t h subject))
           (ap (λ s. s ++ told t p.table h (behind p number h) (items_told t (last_word [] lines) (drop i items)))
-          (lines_grown old new num.more num.grows num.veils num.unveiled [] lines inv.numbered) ∙ inv.lines p number h stands ruled all are));
+          (lines_grown old new num.more num.grows num.veils num.unveiled [] lines inv.numbered) ∙ inv.lines p number ruled all are));
     }
 
 pub returns : goal.returns
-returns c = λ p number h stands ruled all are.
+returns c = λ p number ruled all are.
+    let h = c.args.process.now in
     told_all (world_left p).tree p.table h (behind p number h) c.loop-item.columns c.args.items.now c.loop-item.item-index
-    c.loop-item.lines.items _ (omega (arith, c.loop-item-test.false)) (c.loop-item.invariant.lines p number h stands ruled all are)
+    c.loop-item.lines.items _ (omega (arith, c.loop-item-test.false)) (c.loop-item.invariant.lines p number ruled all are)
     ∙ lines_behind p number h _

@@ -7,14 +7,15 @@ use Rattle.pua_tight.proofs.Several.{to_try}
 use Rattle.pua_tight.proofs.Trying.{tightens_all}
 use Rattle.pua_tight.proofs.tighten.tighten.Goals as goal
 
-pub returns-in-Ok-clause-done : goal.returns-in-Ok-clause-done
-returns-in-Ok-clause-done c =
+pub returns : goal.returns
+returns c =
     let table = c.args.wanted.now.table.now in
+    let t = c.args.wanted.now.tree in
     let answers = c.args.wanted.now.answers.items in
-    let trials = c.as_slice-in-Ok.result.now in
+    let trials = c.as_slice-3.result.now in
     let are : trials ≡ trials_from 0 (lines_by (asked_for table) c.args.requests.now.items answers) =
-    c.as_slice-in-Ok.ensures.value ∙ c.in-Ok.ensures
+    c.as_slice-3.ensures.value ∙ c.in_ok-trials.ensures
     ∙ (λ j. trials_from 0 (lines_by (c.asked_for-asked.ensures j) (c.as_slice.ensures.value j) (c.as_slice-2.ensures.value j))) in
-    IfOk-weaker c.try_all.result _ _ (λ x done t listed told.
+    IfOk-weaker c.try_all.result _ _ (λ x done told.
     tightens_all table t answers trials c.args.requests.now.items c.try_all.new.requests.items told are
-    (done t listed (to_try table t answers trials c.args.requests.now.items told are))) c.try_all.ensures.tried
+    (done (to_try table t answers trials c.args.requests.now.items told are))) c.try_all.ensures

@@ -8,7 +8,7 @@ use Rattle.pua_tight.proofs.together.try_all.Goals as goal
 pub loop-done-init : goal.loop-done-init
 loop-done-init c = record {
   within = omega arith;
-  told = λ t listed to_try. none_done c.args.wanted.now.table.now (new_world t) c.args.wanted.now.answers.items c.args.trials.now
+  told = λ to_try. none_done c.args.wanted.now.table.now (new_world c.args.wanted.now.tree) c.args.wanted.now.answers.items c.args.trials.now
       c.args.requests.now.items c.args.requests.now.items c.args.requests.now.items to_try;
 }
 
@@ -26,12 +26,12 @@ loop-done-preserved c =
         length-drop done trials,
         c.loop-done-test.true,
       );
-      told = λ t listed to_try. more_done c.args.wanted.now.table.now (new_world t) c.args.wanted.now.answers.items trials
-          c.args.requests.now.items c.loop-done.requests.items c.try_next.new.requests.items done _ rest are
-          (c.loop-done.invariant.told t listed to_try) (c.in_ok-done.ensures.done t listed);
+      told = λ to_try. more_done c.args.wanted.now.table.now (new_world c.args.wanted.now.tree) c.args.wanted.now.answers.items trials
+          c.args.requests.now.items c.loop-done.requests.items c.try_front.new.requests.items done _ rest are
+          (c.loop-done.invariant.told to_try) c.in_ok-done.ensures.done;
     }
 
-pub returns-clause-tried : goal.returns-clause-tried
-returns-clause-tried c = λ t listed to_try.
-    all_done c.args.wanted.now.table.now (new_world t) c.args.wanted.now.answers.items c.args.trials.now c.args.requests.now.items
-    c.loop-done.requests.items c.loop-done.requests.items c.loop-done.done c.loop-done-test.false (c.loop-done.invariant.told t listed to_try)
+pub returns : goal.returns
+returns c = λ to_try.
+    all_done c.args.wanted.now.table.now (new_world c.args.wanted.now.tree) c.args.wanted.now.answers.items c.args.trials.now c.args.requests.now.items
+    c.loop-done.requests.items c.loop-done.requests.items c.loop-done.done c.loop-done-test.false (c.loop-done.invariant.told to_try)

@@ -1,6 +1,6 @@
 use Rattle.std.proofs.Common.{◌≡◌, ◌+◌, ◌-◌, ◌∙◌, ap, arith, cond, take, drop, List}
 use Rattle.pua_script.specs.Requests.{Asked}
-use Rattle.pua_script.specs.Replay.{answers_to, new_world}
+use Rattle.pua_script.specs.Replay.{World, answers_to, new_world}
 use Rattle.pua_tight.specs.Tight.{same_answers}
 use Rattle.pua_tight.specs.Several.{all_left}
 use Rattle.pua_tight.specs.Trials.{Trial}
@@ -24,8 +24,8 @@ loop-spare-preserved-then-branch c =
       order = omega (arith, c.min-more.ensures, c.loop-spare-test.true);
       within = inv.within;
       left = left ∙ reached;
-      told = λ t listed to_try. front_more c.args.wanted.now.table.now (new_world t) c.args.wanted.now.answers.items trials given
-          c.loop-spare.most now some _ _ (inv.told t listed to_try) (c.in_ok-try_together.ensures.told t listed) c.if-branch.true left;
+      told = λ to_try. front_more c.args.wanted.now.table.now (new_world c.args.wanted.now.tree) c.args.wanted.now.answers.items trials given
+          c.loop-spare.most now some _ _ (inv.told to_try) c.in_ok-try_together.ensures.told c.if-branch.true left;
     }
 
 pub loop-spare-preserved : goal.loop-spare-preserved
@@ -47,23 +47,24 @@ loop-spare-preserved c =
       order = omega arith;
       within = omega (arith, c.min-more.ensures, c.loop-spare-test.true, inv.within);
       left = left ∙ inv.left;
-      told = λ t listed to_try. front_fewer c.args.wanted.now.table.now (new_world t) c.args.wanted.now.answers.items trials given
-          c.loop-spare.most (spare + more - 1) now some _ _ (inv.told t listed to_try) (c.in_ok-try_together.ensures.told t listed)
+      told = λ to_try. front_fewer c.args.wanted.now.table.now (new_world c.args.wanted.now.tree) c.args.wanted.now.answers.items trials given
+          c.loop-spare.most (spare + more - 1) now some _ _ (inv.told to_try) c.in_ok-try_together.ensures.told
           c.if-branch.false left reached;
     }
 
 pub returns-clause-done : goal.returns-clause-done
-returns-clause-done c = λ t listed to_try.
+returns-clause-done c = λ to_try.
     let table = c.args.wanted.now.table.now in
+    let w : World = new_world c.args.wanted.now.tree in
     let want = c.args.wanted.now.answers.items in
     let trials : List Trial = c.args.trials.now in
     let given : List Asked = c.args.requests.now.items in
     let spare = c.loop-spare.spare in
     let inv = c.loop-spare.invariant in
-    let front = inv.told t listed to_try in
+    let front = inv.told to_try in
     let all : spare ≡ c.loop-spare.most = omega (arith, c.loop-spare-test.false, inv.order) in
-    front_done table (new_world t) want trials given c.loop-spare.requests.items to_try spare inv.left front.answered
+    front_done table w want trials given c.loop-spare.requests.items to_try spare inv.left front.answered
     (omega (arith, inv.order, inv.within))
-    (λ less. ap (λ n. same_answers (answers_to table (new_world t) (all_left (take (n + 1) trials) given)) want) all
+    (λ less. ap (λ n. same_answers (answers_to table w (all_left (take (n + 1) trials) given)) want) all
     ∙ front.needed (omega (arith, all, less)))
     c.min.result (omega (arith, c.min.ensures))

@@ -1,7 +1,4 @@
 use Rattle.std.proofs.Common.{◌≡◌, ◌≤◌, ◌-◌, length, take}
-use Rattle.std.specs.Prelude.{Ok}
-use Rattle.pua_tree.specs.Tree.{Tree}
-use Rattle.pua_tree.specs.Listing.{listing}
 use Rattle.pua_script.specs.Replay.{new_world}
 use Rattle.pua_tight.specs.Several.{IsToTry, all_left}
 use Rattle.pua_tight.proofs.Several.{IsFront}
@@ -13,9 +10,8 @@ invariant-loop-spare l = record {
   order : l.spare ≤ l.most;
   within : l.most ≤ length l.trials;
   left : l.requests.items ≡ all_left (take l.spare l.trials) l.fn.requests.items;
-  told : (t : Tree) → listing l.wanted.tree_bytes.now ≡ Ok t →
-      IsToTry l.wanted.table.now (new_world t) l.wanted.answers.items l.trials l.fn.requests.items →
-      IsFront l.wanted.table.now (new_world t) l.wanted.answers.items l.trials l.fn.requests.items l.most l.requests.items;
+  told : IsToTry l.wanted.table.now (new_world l.wanted.tree) l.wanted.answers.items l.trials l.fn.requests.items →
+      IsFront l.wanted.table.now (new_world l.wanted.tree) l.wanted.answers.items l.trials l.fn.requests.items l.most l.requests.items;
 }
 
 abbrev pub decreases-loop-spare : goal.decreases-loop-spare

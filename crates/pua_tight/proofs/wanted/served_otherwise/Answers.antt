@@ -5,11 +5,11 @@ use Rattle.pua_tight.proofs.Served.{goes_on, more_wanted, stops}
 use Rattle.pua_tight.proofs.wanted.served_otherwise.Goals as goal
 
 pub returns-then-requests-wanted : goal.returns-then-requests-wanted
-returns-then-requests-wanted c = λ w stands.
+returns-then-requests-wanted c =
     let gone : length c.args.requests.now ≡ c.loop-index.index = omega (arith, c.loop-index-test.false, c.loop-index.auto.index-end) in
     ap Some gone
     ∙ more_wanted c.args.world.now c.loop-index.world c.args.requests.now c.args.wanted.now c.loop-index.index c.loop-index.invariant
-    c.loop-index-test.false w stands (omega (arith, gone, c.if-requests-wanted.true))
+    c.loop-index-test.false (omega (arith, gone, c.if-requests-wanted.true))
 
 pub returns-in_default : goal.returns-in_default
 returns-in_default c =

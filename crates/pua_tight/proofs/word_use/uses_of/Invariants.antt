@@ -1,7 +1,4 @@
 use Rattle.std.proofs.Common.{◌≡◌, map, take}
-use Rattle.std.specs.Prelude.{Ok}
-use Rattle.pua_tree.specs.Tree.{Tree}
-use Rattle.pua_tree.specs.Listing.{listing}
 use Rattle.pua_script.specs.Replay.{answers_to, new_world}
 use Rattle.pua_tight.specs.Uses.{use_by}
 use Rattle.pua_tight.proofs.word_use.uses_of.Given as goal
@@ -10,7 +7,6 @@ use Rattle.pua_tight.proofs.word_use.uses_of.Given as goal
 abbrev pub invariant-loop-word : goal.invariant-loop-word
 invariant-loop-word l = record {
   kept : l.requests.items ≡ l.fn.requests.items;
-  told : (t : Tree) → listing l.wanted.tree_bytes.now ≡ Ok t →
-      answers_to l.wanted.table.now (new_world t) l.fn.requests.items ≡ l.wanted.answers.items →
-      l.uses.items ≡ map (use_by l.wanted.table.now (new_world t) l.wanted.answers.items l.fn.requests.items) (take l.word-index l.words);
+  told : answers_to l.wanted.table.now (new_world l.wanted.tree) l.fn.requests.items ≡ l.wanted.answers.items →
+      l.uses.items ≡ map (use_by l.wanted.table.now (new_world l.wanted.tree) l.wanted.answers.items l.fn.requests.items) (take l.word-index l.words);
 }

@@ -1,8 +1,8 @@
 use Rattle.std.proofs.Common.{◌∙◌}
-use Rattle.std.proofs.lemmas.Result.{IfErr-weaker, IfOk-weaker, err_from_is_err_and}
+use Rattle.std.proofs.lemmas.Result.{err_from_is_err_and}
 use Rattle.pua_tight.specs.Left.{lines_by}
 use Rattle.pua_tight.specs.Uses.{words_from}
-use Rattle.pua_tight.proofs.Trying.{no_uses, own_fault, uses_made}
+use Rattle.pua_tight.proofs.Trying.{no_uses, uses_made}
 use Rattle.pua_tight.proofs.word_use.word_uses.Goals as goal
 
 pub returns-in_err-wanted-clause-refused : goal.returns-in_err-wanted-clause-refused
@@ -11,27 +11,11 @@ returns-in_err-wanted-clause-refused c =
     rw (p.1, p.2) (λ some.
     no_uses c.args.rules c.args.table.now c.args.tree_bytes.now c.args.script_bytes.now _ (c.in_err-wanted.ensures.refused some))
 
-pub returns-in_err-tighten-clause-refused : goal.returns-in_err-tighten-clause-refused
-returns-in_err-tighten-clause-refused c =
-    let p = err_from_is_err_and c.from_residual-in_err-tighten.result c.from_residual-in_err-tighten.ensures.1 in
-    rw (p.1, p.2) (λ some.
-    no_uses c.args.rules c.args.table.now c.args.tree_bytes.now c.args.script_bytes.now _
-    (own_fault c.args.rules c.in_ok-wanted.wanted.tree_bytes.now c.args.tree_bytes.now c.args.script_bytes.now _ c.in_ok-wanted.ensures.tree
-    (c.in_err-tighten.ensures.refused some)))
-
 pub returns-clause-done : goal.returns-clause-done
 returns-clause-done c =
     let wanted = c.in_ok-wanted.wanted in
-    IfOk-weaker c.uses_of.result _ _ (λ told is.
-    uses_made c.args.rules c.args.table.now wanted.table.now c.args.tree_bytes.now wanted.tree_bytes.now c.args.script_bytes.now wanted.answers.items
-    c.in_ok-wanted.requests.items c.tighten.new.requests.items c.in_ok-wanted.ensures.table c.in_ok-wanted.ensures.tree
-    c.in_ok-wanted.ensures.given c.in_ok-tighten.ensures.done c.as_slice-3.result.now told.items
-    (c.as_slice-3.ensures.value ∙ c.in-Ok.ensures
-    ∙ (λ j. words_from 0 (lines_by (c.asked_for.ensures j) (c.as_slice.ensures.value j) (c.as_slice-2.ensures.value j)))) is)
-    c.uses_of.ensures.done
-
-pub returns-clause-refused : goal.returns-clause-refused
-returns-clause-refused c =
-    IfErr-weaker c.uses_of.result _ _ (λ fault told some. no_uses c.args.rules c.args.table.now c.args.tree_bytes.now c.args.script_bytes.now fault
-    (own_fault c.args.rules c.in_ok-wanted.wanted.tree_bytes.now c.args.tree_bytes.now c.args.script_bytes.now fault c.in_ok-wanted.ensures.tree
-    (told some))) c.uses_of.ensures.refused
+    uses_made c.args.rules c.args.table.now wanted.table.now c.args.tree_bytes.now c.args.script_bytes.now wanted.tree wanted.answers.items
+    c.in_ok-wanted.requests.items c.tighten.new.requests.items c.in_ok-wanted.ensures.table c.in_ok-wanted.ensures.given
+    c.in_ok-tighten.ensures c.as_slice-3.result.now c.in_ok-uses_of.field-0.items
+    (c.as_slice-3.ensures.value ∙ c.in_ok-words.ensures
+    ∙ (λ j. words_from 0 (lines_by (c.asked_for.ensures j) (c.as_slice.ensures.value j) (c.as_slice-2.ensures.value j)))) c.in_ok-uses_of.ensures

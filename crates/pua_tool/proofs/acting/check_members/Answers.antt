@@ -1,22 +1,24 @@
-use Rattle.pua_tool.proofs.Common.{refl, sym, ap, ◌∙◌, arith, Some}
-use Rattle.pua_tool.proofs.ActingNext.{refused_done, refused_here, refused_next}
+use Rattle.pua_tool.proofs.Common.{sym, ap, ◌∙◌, arith, Some}
+use Rattle.std.proofs.Math.ListN.{drop_of_length-le}
+use Rattle.pua_texts.specs.Members.{named_by}
+use Rattle.pua_tool.specs.TogetherTexts.{first_refused}
+use Rattle.pua_tool.proofs.ActingNext.{refused_here, refused_next}
 use Rattle.pua_tool.proofs.acting.check_members.Goals as goal
 
-pub loop-member-init : goal.loop-member-init
-loop-member-init c = λ named are. record { rest = named; are = are; same = refl }
-
 pub loop-member-preserved : goal.loop-member-preserved
-loop-member-preserved c = λ named are.
-    refused_next c.args.table.now c.args.members.now c.member-item.result c.loop-member.member-index c.loop-member-test.true c.member-item.is _
-    (c.loop-member.invariant named are) (λ h stands. sym c.in_default.is ∙ c.why_refused.ensures.exact h stands)
+loop-member-preserved c =
+    refused_next c.args.members.now c.member-item.result c.loop-member.member-index c.loop-member-test.true c.member-item.is c.args.table.now
+    (sym c.in_default.is ∙ c.why_refused.ensures.exact)
+    ∙ c.loop-member.invariant
 
 pub returns-in-Some-clause-refused : goal.returns-in-Some-clause-refused
-returns-in-Some-clause-refused c = λ named are.
-    refused_here c.args.table.now c.args.members.now c.member-item.result c.loop-member.member-index c.loop-member-test.true c.member-item.is _
-    (c.loop-member.invariant named are) c.in-Some.reason (λ h stands. sym c.in-Some.is ∙ c.why_refused.ensures.exact h stands)
+returns-in-Some-clause-refused c =
+    sym (refused_here c.args.members.now c.member-item.result c.loop-member.member-index c.loop-member-test.true c.member-item.is c.args.table.now
+    c.in-Some.reason (sym c.in-Some.is ∙ c.why_refused.ensures.exact)
+    ∙ c.loop-member.invariant)
     ∙ ap (λ fault. Some fault) (sym c.reason_of.ensures.told)
 
 pub returns-clause-listed : goal.returns-clause-listed
-returns-clause-listed c = λ named are.
-    refused_done c.args.table.now c.args.members.now c.loop-member.member-index _ (omega (arith, c.loop-member-test.false))
-    (c.loop-member.invariant named are)
+returns-clause-listed c =
+    sym c.loop-member.invariant
+    ∙ ap (λ ms. first_refused c.args.table.now (named_by ms)) (drop_of_length-le c.args.members.now (omega (arith, c.loop-member-test.false)))

@@ -1,5 +1,5 @@
-use Rattle.pua_tool.proofs.Common.{◌≡◌, ℕ, List, ◌++◌, Ok, Err, ap, subst, sym, ◌∙◌, err_from_is_err_and, ◌>>=◌, history_of, Tells, as_audit}
-use Rattle.pua_tool.proofs.Common.{is_made}
+use Rattle.pua_tool.proofs.Common.{◌≡◌, ℕ, List, ◌++◌, Ok, Err, ap, subst, sym, ◌∙◌, err_from_is_err_and, ◌>>=◌, kept_at, Tells, as_audit}
+use Rattle.pua_tool.proofs.Common.{as_replayed}
 use Rattle.std.specs.Prelude.{ok_or}
 use Rattle.pua_texts.specs.Lines.{front_of, pair_lines}
 use Rattle.pua_tool.specs.Texts.{beginning_of, pairs_after, wants_of}
@@ -9,31 +9,28 @@ use Rattle.pua_tool.proofs.audit.pairs_to.Goals as goal
 
 pub returns-in_err-list : goal.returns-in_err-list
 returns-in_err-list g c =
+    let done = as_replayed c.args.replay.now in
     let w = wants_of c.args.job.now in
+    let h = c.in-Some.process.now in
     let p = err_from_is_err_and c.from_residual.result c.from_residual.ensures.1 in
-    rw (p.1, p.2) (λ done replay.
-    let made = is_made c.in-Some.process.now (history_of done.world w.process) (c.in-Some.ensures.history done.world replay.stands) in
-    let h = made.history in
-    next_answers g.S.Sink.written g.S.Sink.failed (ok_or (history_of done.world w.process) NoProcess)
+    rw (p.1, p.2) (next_answers g.S.Sink.written g.S.Sink.failed (ok_or (kept_at done.world w.process) NoProcess)
     (λ h. as_audit (beginning_of done.world.tree done.table h w) >>= λ b. Ok (pairs_after w done.answers b)) h
-    (Err c.in_err-list.field-0.0) c.args.sink.now c.args.sink.now (ap (λ made. ok_or made NoProcess) made.is)
+    (Err c.in_err-list.field-0.0) c.args.sink.now c.args.sink.now (ap (λ made. ok_or made NoProcess) (sym c.in-Some.ensures))
     (first_refuses g.S.Sink.written g.S.Sink.failed (as_audit (beginning_of done.world.tree done.table h w))
     (λ b. Ok (pairs_after w done.answers b)) c.in_err-list.field-0.0 c.args.sink.now c.in_err-list.ensures.unwritten
-    (λ other.
-    (λ i. as_audit (beginning_of (sym (c.tree.ensures ∙ replay.stands.tree) i) (sym (c.table.ensures ∙ replay.table) i) h w))
-    ∙ c.in_err-list.ensures.refused other h)))
+    (λ other. (λ i. as_audit (beginning_of (sym c.tree.ensures i) (sym c.table.ensures i) h w)) ∙ c.in_err-list.ensures.refused other)))
 
 pub returns : goal.returns
-returns g c = λ done replay.
+returns g c =
+    let done = as_replayed c.args.replay.now in
     let w = wants_of c.args.job.now in
-    let made = is_made c.in-Some.process.now (history_of done.world w.process) (c.in-Some.ensures.history done.world replay.stands) in
-    let h = made.history in
-    let begins = c.in_ok-list.ensures.begun h made.stands in
+    let h = c.in-Some.process.now in
+    let begins = c.in_ok-list.ensures.begun in
     let b = begins.0 in
     let same : beginning_of done.world.tree done.table h w ≡ Ok b =
-    (λ i. beginning_of (sym (c.tree.ensures ∙ replay.stands.tree) i) (sym (c.table.ensures ∙ replay.table) i) h w) ∙ begins.1 in
+    (λ i. beginning_of (sym c.tree.ensures i) (sym c.table.ensures i) h w) ∙ begins.1 in
     let front : c.as_str.result.now ≡ front_of w.after w.process done.answers = c.as_str.ensures.value ∙ c.in-Ok.ensures ∙
-    ap (front_of w.after w.process) (c.as_slice.ensures.value ∙ replay.answers) in
+    ap (front_of w.after w.process) c.as_slice.ensures.value in
     let text = pairs_after w done.answers b in
     let written : Tells text c.write_audit.result (g.S.Sink.written c.args.sink.now) (g.S.Sink.written c.write_audit.new.sink)
     (g.S.Sink.failed c.args.sink.now) (g.S.Sink.failed c.write_audit.new.sink) =
@@ -41,9 +38,9 @@ returns g c = λ done replay.
     (g.S.Sink.failed c.args.sink.now) (g.S.Sink.failed c.write_audit.new.sink))
     (λ i. front i ++ pair_lines (begins.3 i) (begins.2 i))
     c.write_audit.ensures in
-    next_answers g.S.Sink.written g.S.Sink.failed (ok_or (history_of done.world w.process) NoProcess)
+    next_answers g.S.Sink.written g.S.Sink.failed (ok_or (kept_at done.world w.process) NoProcess)
     (λ h. as_audit (beginning_of done.world.tree done.table h w) >>= λ b. Ok (pairs_after w done.answers b)) h c.told.result c.args.sink.now
-    c.write_audit.new.sink (ap (λ made. ok_or made NoProcess) made.is)
+    c.write_audit.new.sink (ap (λ made. ok_or made NoProcess) (sym c.in-Some.ensures))
     (next_answers g.S.Sink.written g.S.Sink.failed (as_audit (beginning_of done.world.tree done.table h w))
     (λ b. Ok (pairs_after w done.answers b)) b c.told.result c.args.sink.now c.write_audit.new.sink (ap as_audit same)
     (c.told.ensures text (g.S.Sink.written c.args.sink.now) (g.S.Sink.written c.write_audit.new.sink) (g.S.Sink.failed c.args.sink.now)

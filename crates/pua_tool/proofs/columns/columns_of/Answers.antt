@@ -5,7 +5,7 @@ use Rattle.std.specs.Prelude.{string_bytes}
 use Rattle.pua_audit.specs.Reach.{Word}
 use Rattle.pua_ever.specs.EverList.{word_of_row}
 use Rattle.pua_ever.specs.declared.list.EverRow.{EverRow}
-use Rattle.pua_tool.specs.RowColumns.{AreColumns, IsColumnAt}
+use Rattle.pua_tool.specs.RowColumns.{AreColumns, IsColumnAt, done_behind}
 use Rattle.pua_tool.proofs.RowColumns.{row_column, row_names}
 use Rattle.pua_tool.proofs.columns.columns_of.Goals as goal
 
@@ -15,24 +15,27 @@ loop-row-preserved c =
     let row : EverRow = c.row-item.result in
     let i : ℕ = c.loop-row.row-index in
     let n : ℕ = c.args.behind.now.number in
+    let done = done_behind c.args.behind.now in
+    let h = c.args.process.now in
     let before : Word = map (λ name. name.now) c.loop-row.names.items in
     let word : Word = map (λ name. name.now) c.go_to.new.names.items in
     let texts : List (List ℕ) = map string_bytes c.loop-row.columns.items in
     let text : List ℕ = string_bytes c.in_ok-column.column in
-    let at : word ≡ word_of_row before row = c.in-Ok.ensures in
+    let at : word ≡ word_of_row before row = c.in_ok-go_to.ensures in
     record {
       names = row_names rows row i c.loop-row-test.true c.row-item.is before word c.loop-row.invariant.names at;
-      columns = λ done h behind.
+      columns = λ behind.
           subst (λ (texts : List (List ℕ)). AreColumns done n h [] (take (i + 1) rows) texts)
-          (sym (ap (map string_bytes) c.in-Ok-push.ensures.items ∙ map-append string_bytes c.loop-row.columns.items (c.in_ok-column.column ∷ [])))
+          (sym (ap (map string_bytes) c.in_ok-push.ensures.items ∙ map-append string_bytes c.loop-row.columns.items (c.in_ok-column.column ∷ [])))
           (row_column done n h rows row i c.loop-row-test.true c.row-item.is word (at ∙ ap (λ w. word_of_row w row) c.loop-row.invariant.names)
-          texts text (c.loop-row.invariant.columns done h behind)
+          texts text (c.loop-row.invariant.columns behind)
           (subst (λ names. IsColumnAt done n h (map (λ name. name.now) names) row.line text) c.as_slice.ensures.value
-          (c.in_ok-column.ensures.column done h behind)));
+          (c.in_ok-column.ensures.column behind)));
     }
 
 pub returns-clause-columns : goal.returns-clause-columns
-returns-clause-columns c = λ done h behind.
+returns-clause-columns c = λ behind.
     let past : length c.args.rows.now ≤ c.loop-row.row-index = omega (arith, c.loop-row-test.false) in
-    subst (λ (rows : List EverRow). AreColumns done c.args.behind.now.number h [] rows (map string_bytes c.loop-row.columns.items))
-    (take_all c.loop-row.row-index c.args.rows.now past) (c.loop-row.invariant.columns done h behind)
+    subst (λ (rows : List EverRow). AreColumns (done_behind c.args.behind.now) c.args.behind.now.number c.args.process.now [] rows
+    (map string_bytes c.loop-row.columns.items))
+    (take_all c.loop-row.row-index c.args.rows.now past) (c.loop-row.invariant.columns behind)

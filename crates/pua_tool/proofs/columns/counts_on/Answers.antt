@@ -9,9 +9,9 @@ use Rattle.pua_how.specs.Asked.{IsAskedBy}
 use Rattle.pua_ever.specs.EverLines.{IsThing}
 use Rattle.pua_texts.specs.EverLines.{kind_of}
 use Rattle.pua_tool.specs.EverHowTexts.{IsCount, asking_by}
-use Rattle.pua_tool.specs.RowColumns.{served_by}
+use Rattle.pua_tool.specs.RowColumns.{IsBehind, done_behind}
 use Rattle.pua_tool.proofs.Counts.{Count, all_counted, call_counted, call_passed, calls_of, steps_counted}
-use Rattle.pua_tool.proofs.columns.counts_on.Goals.{then-contains+in_ok-steps+in-Ok, else-contains}
+use Rattle.pua_tool.proofs.columns.counts_on.Goals.{then-contains+in_ok-steps+in_ok-push, else-contains}
 use Rattle.pua_tool.proofs.columns.counts_on.Goals as goal
 
 pub loop-call-preserved : goal.loop-call-preserved
@@ -22,23 +22,25 @@ loop-call-preserved c =
     let word : Word = map (λ name. name.now) c.args.names.now in
     let behind = c.args.behind.now in
     let n : ℕ = behind.number in
+    let done = done_behind behind in
+    let h = c.args.process.now in
     let of = c.args.thing in
     let counts : List Count = c.loop-call.counts.items in
     let things = c.in_ok-meant.meant.targets.items in
     elim c.if-contains.branch [
-      | then-contains+in_ok-steps+in-Ok w ↦
+      | then-contains+in_ok-steps+in_ok-push w ↦
           let found : Option ℕ = w.in_ok-steps.steps in
-          let all : w.push.new.self.items ≡ counts ++ (call, found) ∷ [] = w.in-Ok.ensures.items in
+          let all : w.push.new.self.items ≡ counts ++ (call, found) ∷ [] = w.in_ok-push.ensures.items in
           rw w.counts-is (record {
             calls = ap calls_of all ∙ call_counted set i c.loop-call-test.true counts found (sym c.contains.ensures ∙ w.if-contains.true)
                 c.loop-call.invariant.calls;
-            counted = λ done h about is thing.
-                let at = c.tree.ensures ∙ is.replay.stands.tree in
+            counted = λ about is thing.
+                let at = c.tree.ensures in
                 let asked = subst (λ (t : Tree). IsAskedBy t h (asking_by word about) (Some (kind_of of)) things) at
-                (c.in_ok-meant.ensures.meant h about is.history (subst (λ (t : Tree). IsThing t about of) (sym at) thing)) in
+                (c.in_ok-meant.ensures.meant about (subst (λ (t : Tree). IsThing t about of) (sym at) thing)) in
                 subst (AllByRecursion (IsCount done n h (asking_by word about) (kind_of of))) (sym all)
-                (steps_counted done n h (asking_by word about) (kind_of of) things asked (served_by behind) is.served counts call found
-                (c.loop-call.invariant.counted done h about is thing) w.in_ok-steps.ensures.steps);
+                (steps_counted done n h (asking_by word about) (kind_of of) things asked (IsBehind behind) is counts call found
+                (c.loop-call.invariant.counted about is thing) w.in_ok-steps.ensures.steps);
           })
       | else-contains w ↦ rw w.counts-is (record {
         calls = call_passed set i c.loop-call-test.true counts (sym c.contains.ensures ∙ w.if-contains.false) c.loop-call.invariant.calls;

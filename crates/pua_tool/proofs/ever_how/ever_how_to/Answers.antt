@@ -1,4 +1,4 @@
-use Rattle.pua_tool.proofs.Common.{choice_of, err_from_is_err_and}
+use Rattle.pua_tool.proofs.Common.{choice_of, err_from_is_err_and, as_replayed}
 use Rattle.pua_tool.proofs.EverHowTexts.{after_done, fault_told}
 use Rattle.pua_tool.proofs.ever_how.ever_how_to.Goals as goal
 
@@ -13,11 +13,11 @@ returns-in_err-replay g c =
 pub returns : goal.returns
 returns g c =
     let served = c.in_ok-replay.ensures.done in
-    let listed = c.list_to-written.ensures served.0 served.1 served.2 in
+    let listed = c.list_to-written.ensures served in
     record {
       text = (
         listed.0,
-        after_done (choice_of c.args.table) c.args.tree_bytes.now c.args.script_bytes.now c.args.process served.0 listed.0 served.1 listed.1,
+        after_done (choice_of c.args.table) c.args.tree_bytes.now c.args.script_bytes.now c.args.process (as_replayed c.in_ok-replay.replay) listed.0 served listed.1,
         listed.2,
       );
     }

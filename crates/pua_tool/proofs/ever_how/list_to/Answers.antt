@@ -1,13 +1,12 @@
-use Rattle.pua_tool.proofs.Common.{◌≡◌, ◌≢◌, ℕ, List, [], ◌++◌, ◌∙◌, map, ap, sym, subst, refl, None, Ok, History, Tree, CallTable, history_of}
-use Rattle.pua_tool.proofs.Common.{answer_lines, is_made, err_from_is_err_and, OutOfMemory, Tells, Write, unless_reason}
+use Rattle.pua_tool.proofs.Common.{◌≡◌, ◌≢◌, ℕ, List, [], ◌++◌, ◌∙◌, map, ap, sym, subst, refl, None, Ok, ProcessState, Tree, CallTable}
+use Rattle.pua_tool.proofs.Common.{answer_lines, err_from_is_err_and, OutOfMemory, Tells, Write, unless_reason}
 use Rattle.std.specs.Prelude.{string_bytes}
-use Rattle.pua_script.proofs.ForCallers.{none_made}
 use Rattle.pua_ever.specs.LastingList.{IsBothOf, IsLasting}
 use Rattle.pua_ever.specs.Refusals.{refusal}
 use Rattle.pua_ever.specs.Through.{ever_lasting}
 use Rattle.pua_ever.specs.declared.list.EverRow.{EverRow}
 use Rattle.pua_texts.specs.EverHowLines.{AreToldWith, ever_list_with}
-use Rattle.pua_tool.specs.RowColumns.{AreColumns}
+use Rattle.pua_tool.specs.RowColumns.{AreColumns, done_behind}
 use Rattle.pua_tool.specs.declared.fault.ToolFault.TheVariants.{NoProcess}
 use Rattle.pua_tool.proofs.EverHowTexts.{fault_after, list_after, no_process, refused_after}
 use Rattle.pua_tool.proofs.RowColumns.{lines_told}
@@ -15,29 +14,30 @@ use Rattle.pua_tool.proofs.TextAnswers.{answers_told}
 use Rattle.pua_tool.proofs.ever_how.list_to.Goals as goal
 
 pub returns-in_default : goal.returns-in_default
-returns-in_default g c = λ done served replay.
+returns-in_default g c = λ served.
     let behind = c.args.behind.now in
+    let done = done_behind behind in
     fault_after behind.table.rules done behind.number g.S.Sink.written g.S.Sink.failed NoProcess c.args.sink.now (λ same. cc)
-    (λ other. no_process behind.table.rules done behind.number
-    (none_made (history_of done.world behind.number) (c.in_default.ensures.history done.world replay.stands)))
+    (λ other. no_process behind.table.rules done behind.number (sym c.in_default.ensures))
 
 pub returns-in_default-both_of : goal.returns-in_default-both_of
-returns-in_default-both_of g c = λ done served replay.
+returns-in_default-both_of g c = λ served.
     let behind = c.args.behind.now in
+    let done = done_behind behind in
     fault_after behind.table.rules done behind.number g.S.Sink.written g.S.Sink.failed OutOfMemory c.args.sink.now (λ same. cc)
     (λ other. absurd (other refl))
 
 pub returns-in-Err : goal.returns-in-Err
-returns-in-Err g c = λ done served replay.
+returns-in-Err g c = λ served.
     let behind = c.args.behind.now in
+    let done = done_behind behind in
     let n : ℕ = behind.number in
     let fault = c.fault_of.result in
-    let made = is_made c.in-Some.process.now (history_of done.world n) (c.in-Some.ensures.history done.world replay.stands) in
-    let h = made.history in
-    let whose = subst (IsBothOf c.table-table.result.now h) (sym c.as_ref.ensures.value) (c.in-Ok.ensures h made.stands) in
-    let reason = (λ i. refusal (sym (c.table-table.ensures ∙ replay.table) i) h) ∙ c.in-Err.ensures.refused h made.stands whose in
+    let h = c.in-Some.process.now in
+    let whose = subst (IsBothOf c.table-table.result.now h) (sym c.as_ref.ensures.value) c.in-Ok.ensures in
+    let reason = (λ i. refusal (sym c.table-table.ensures i) h) ∙ c.in-Err.ensures.refused whose in
     fault_after behind.table.rules done n g.S.Sink.written g.S.Sink.failed fault c.args.sink.now c.fault_of.ensures.unwritten
-    (λ other. refused_after behind.table.rules done n h fault made.is
+    (λ other. refused_after behind.table.rules done n h fault (sym c.in-Some.ensures)
     (λ text. ap (λ reason. unless_reason n reason text) reason ∙ c.fault_of.ensures.told text other))
 
 pub returns-in_err-columns : goal.returns-in_err-columns
@@ -47,39 +47,40 @@ returns-in_err-columns g c =
     let fault = c.in_err-columns.field-0.0 in
     let memory : fault ≡ OutOfMemory = c.in_err-columns.ensures.memory in
     let unwritten : fault ≢ Write = λ same. cc in
-    rw (p.1, p.2) (λ done served replay.
-    fault_after behind.table.rules done behind.number g.S.Sink.written g.S.Sink.failed fault c.args.sink.now unwritten
+    rw (p.1, p.2) (λ served.
+    fault_after behind.table.rules (done_behind behind) behind.number g.S.Sink.written g.S.Sink.failed fault c.args.sink.now unwritten
     (λ other. absurd (other memory)))
 
 pub returns-in_default-answer_text : goal.returns-in_default-answer_text
-returns-in_default-answer_text g c = λ done served replay.
+returns-in_default-answer_text g c = λ served.
     let behind = c.args.behind.now in
+    let done = done_behind behind in
     fault_after behind.table.rules done behind.number g.S.Sink.written g.S.Sink.failed OutOfMemory c.args.sink.now (λ same. cc)
     (λ other. absurd (other refl))
 
 pub returns : goal.returns
-returns g c = λ done served replay.
+returns g c = λ served.
     let behind = c.args.behind.now in
+    let done = done_behind behind in
     let n : ℕ = behind.number in
-    let made = is_made c.in-Some.process.now (history_of done.world n) (c.in-Some.ensures.history done.world replay.stands) in
-    let h : History = made.history in
+    let h : ProcessState = c.in-Some.process.now in
     let table : CallTable = c.table-table.result.now in
     let t : Tree = c.tree-tree.result.now in
-    let ruled : table ≡ done.table = c.table-table.ensures ∙ replay.table in
-    let at = c.tree-tree.ensures ∙ replay.stands.tree in
-    let whose = subst (IsBothOf table h) (sym c.as_ref.ensures.value) (c.in-Ok.ensures h made.stands) in
+    let ruled : table ≡ done.table = c.table-table.ensures in
+    let at : t ≡ done.world.tree = c.tree-tree.ensures in
+    let whose = subst (IsBothOf table h) (sym c.as_ref.ensures.value) c.in-Ok.ensures in
     let list = c.in-Ok-list_lasting.list in
     let rows : List EverRow = list.rows.items in
     let texts : List (List ℕ) = map string_bytes c.in_ok-columns.columns.items in
-    let lasting = c.in-Ok-list_lasting.ensures.list h made.stands whose in
+    let lasting = c.in-Ok-list_lasting.ensures.list whose in
     let there = subst (λ (table : CallTable). IsLasting done.world.tree table h list) ruled
     (subst (λ (t : Tree). IsLasting t table h list) at lasting) in
     let columns = subst (λ (rows : List EverRow). AreColumns done n h [] rows texts) c.as_slice.ensures.value
-    (c.in_ok-columns.ensures.columns done h (record { served = served; replay = replay; history = made.stands })) in
+    (c.in_ok-columns.ensures.columns served) in
     let lines = lines_told done n h [] rows texts (ever_lasting done.world.tree done.table h) there.rows columns in
-    let none : refusal done.table h ≡ None = (λ i. refusal (sym ruled i) h) ∙ c.in-Ok-list_lasting.ensures.refused h made.stands whose in
+    let none : refusal done.table h ≡ None = (λ i. refusal (sym ruled i) h) ∙ c.in-Ok-list_lasting.ensures.refused whose in
     let front : c.as_str-front.result.now ≡ answer_lines 1 done.answers = c.as_str-front.ensures.value ∙ c.in-Ok-answer_text.ensures ∙
-    ap (answer_lines 1) (c.as_slice-2.ensures.value ∙ replay.answers) in
+    ap (answer_lines 1) c.as_slice-2.ensures.value in
     let told : List ℕ = ever_list_with behind.table.rules done.table done.world.tree n h lines.told in
     let text : List ℕ = answer_lines 1 done.answers ++ told in
     let written : Tells text c.write_ever_how.result (g.S.Sink.written c.args.sink.now) (g.S.Sink.written c.write_ever_how.new.sink)
@@ -87,10 +88,10 @@ returns g c = λ done served replay.
     subst (λ (text : List ℕ). Tells text c.write_ever_how.result (g.S.Sink.written c.args.sink.now) (g.S.Sink.written c.write_ever_how.new.sink)
     (g.S.Sink.failed c.args.sink.now) (g.S.Sink.failed c.write_ever_how.new.sink))
     (λ i. front i ++ ever_list_with behind.table.rules (ruled i) (at i) n h lines.told)
-    (c.write_ever_how.ensures table h lines.told made.stands lasting.execs
+    (c.write_ever_how.ensures table lines.told lasting.execs
     (subst (λ (t : Tree). AreToldWith t [] rows texts lines.told) (sym at) lines.are)) in (
       Ok text,
-      list_after behind.table.rules done n h told (Ok text) made.is none
+      list_after behind.table.rules done n h told (Ok text) (sym c.in-Some.ensures) none
           (record { lines = lines.told; are = lines.lines_are; columns = lines.columns; is = refl }) refl,
       answers_told g.S.Sink.written g.S.Sink.failed (Ok text) text c.told.result c.args.sink.now c.write_ever_how.new.sink refl
           (c.told.ensures text (g.S.Sink.written c.args.sink.now) (g.S.Sink.written c.write_ever_how.new.sink)

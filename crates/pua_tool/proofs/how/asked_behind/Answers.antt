@@ -1,4 +1,4 @@
-use Rattle.pua_tool.proofs.Common.{◌≢◌, Err, err_from_is_err_and, if_err, if_ok, choice_of, OutOfMemory}
+use Rattle.pua_tool.proofs.Common.{◌≢◌, Err, err_from_is_err_and, if_err, if_ok, choice_of, as_replayed, OutOfMemory}
 use Rattle.pua_tool.specs.HowTexts.{IsHowText, way_wanted}
 use Rattle.pua_tool.proofs.HowTexts.{after_done, after_refused, fault_asked}
 use Rattle.pua_tool.proofs.how.asked_behind.Goals as goal
@@ -14,15 +14,14 @@ returns-in_err-replay-clause-refused c =
     rw (p.1, p.2) refuses
 
 pub returns-clause-asked : goal.returns-clause-asked
-returns-clause-asked c =
-    let done = c.in_ok-replay.ensures.done in
-    if_ok c.asked_of-question.result (λ question asked. (done.0, done.1, asked done.0 done.2)) c.asked_of-question.ensures.asked
+returns-clause-asked c = if_ok c.asked_of-question.result (λ question asked. (as_replayed c.in_ok-replay.replay, c.in_ok-replay.ensures.done, asked))
+    c.asked_of-question.ensures.asked
 
 pub returns-clause-refused : goal.returns-clause-refused
 returns-clause-refused c =
-    let done = c.in_ok-replay.ensures.done in
+    let done = as_replayed c.in_ok-replay.replay in
     let wanted = way_wanted c.args.words.now in
     if_err c.asked_of-question.result (λ fault refused other.
-    let asked = refused other done.0 done.2 in
-    after_done (choice_of c.args.table) c.args.tree_bytes.now c.args.script_bytes.now wanted done.0 (Err fault) done.1
-    (fault_asked done.0 wanted asked.0 (choice_of c.args.table).rules fault asked.1)) c.asked_of-question.ensures.refused
+    let asked = refused other in
+    after_done (choice_of c.args.table) c.args.tree_bytes.now c.args.script_bytes.now wanted done (Err fault) c.in_ok-replay.ensures.done
+    (fault_asked done wanted asked.0 (choice_of c.args.table).rules fault asked.1)) c.asked_of-question.ensures.refused

@@ -8,33 +8,33 @@ use Rattle.pua_tool.proofs.HowTexts.{bad_path, none_meant, some_meant}
 use Rattle.pua_tool.proofs.how.meant_by.Goals as goal
 
 pub returns-in_default-asking-clause-refused : goal.returns-in_default-asking-clause-refused
-returns-in_default-asking-clause-refused g c = λ other h stands. (
+returns-in_default-asking-clause-refused g c = λ other. (
   0,
-  bad_path (g.T.FileTree.content c.args.tree.now) h (way_wanted c.args.words.now) 0
+  bad_path (g.T.FileTree.content c.args.tree.now) c.args.process.now (way_wanted c.args.words.now) 0
       (sym c.in-Ok.ensures ∙ ap (option_map asking_given) c.in_default-asking.is),
 )
 
 pub returns-then-is_empty-clause-refused : goal.returns-then-is_empty-clause-refused
-returns-then-is_empty-clause-refused g c = λ other h stands.
+returns-then-is_empty-clause-refused g c = λ other.
     let targets = c.in-Ok-find_meant.meant.targets in
     let read : asking_of c.args.words.now.path.now ≡ Some (asking_given c.in-Some.asking) =
     sym c.in-Ok.ensures ∙ ap (option_map asking_given) c.in-Some.is in
-    let meant = c.in-Ok-find_meant.ensures h stands in (
+    let meant = c.in-Ok-find_meant.ensures in (
       meant.last,
-      none_meant (g.T.FileTree.content c.args.tree.now) h (way_wanted c.args.words.now) meant.last (asking_given c.in-Some.asking) targets.items read
+      none_meant (g.T.FileTree.content c.args.tree.now) c.args.process.now (way_wanted c.args.words.now) meant.last (asking_given c.in-Some.asking) targets.items read
           meant.are (sym targets.ok.0 ∙ eqb-true targets.len 0 (sym c.if-is_empty.ensures)),
     )
 
 pub returns-clause-meant : goal.returns-clause-meant
-returns-clause-meant g c = λ h stands.
+returns-clause-meant g c =
     let targets = c.in-Ok-find_meant.meant.targets in
     let read : asking_of c.args.words.now.path.now ≡ Some (asking_given c.in-Some.asking) =
     sym c.in-Ok.ensures ∙ ap (option_map asking_given) c.in-Some.is in
-    let meant = c.in-Ok-find_meant.ensures h stands in
+    let meant = c.in-Ok-find_meant.ensures in
     record {
       last = meant.last;
       above = meant.above;
-      are = some_meant (g.T.FileTree.content c.args.tree.now) h (way_wanted c.args.words.now) meant.last (asking_given c.in-Some.asking)
+      are = some_meant (g.T.FileTree.content c.args.tree.now) c.args.process.now (way_wanted c.args.words.now) meant.last (asking_given c.in-Some.asking)
           targets.items read meant.are
           (λ none. false≢true (c.if-is_empty.ensures ∙ ap (λ (n : ℕ). n == 0) (targets.ok.0 ∙ none)));
     }

@@ -14,16 +14,18 @@ use Rattle.pua_tool.proofs.NowThere.{found_is_fit, line_now, none_made, now_at}
 use Rattle.pua_tool.proofs.now.calls_now.Goals as goal
 
 pub returns-in_default : goal.returns-in_default
-returns-in_default g c = λ h about stands is call.
+returns-in_default g c = λ about is call.
     let t : Tree = g.T.FileTree.content c.args.tree.now in
+    let h = c.args.process.now in
     let word : Word = map (λ name. name.now) c.args.names.now in
     let thing = c.in_default.is in
     has_none call ∙ none_made t c.args.table.now h about c.in_default.field-0 word (subst (IsThing t about) thing is) call
     ∙ ap (λ (thing : EverThing). is_now t c.args.table.now h (subject_now t (kind_of thing) word about) call) (sym thing)
 
 pub returns-in_default-subject_of : goal.returns-in_default-subject_of
-returns-in_default-subject_of g c = λ h about stands is call.
+returns-in_default-subject_of g c = λ about is call.
     let t : Tree = g.T.FileTree.content c.args.tree.now in
+    let h = c.args.process.now in
     let word : Word = map (λ name. name.now) c.args.names.now in
     let thing = c.in-Stands.is in
     let none : None ≡ subject_at t c.in-Stands.kind word =
@@ -41,8 +43,9 @@ cover-cover-requires g c κs =
     )
 
 pub returns : goal.returns
-returns g c = λ h about stands is call.
+returns g c = λ about is call.
     let t : Tree = g.T.FileTree.content c.args.tree.now in
+    let h = c.args.process.now in
     let word : Word = map (λ name. name.now) c.args.names.now in
     let thing = c.in-Stands.is in
     let subject = c.in-Some.subject in
@@ -50,5 +53,5 @@ returns g c = λ h about stands is call.
     line_now t c.args.table.now h c.known.ensures about c.in-Stands.kind word
     (record { subject = subject; object = c.object_on-object.result; cover = c.cover-cover.result }) c.found_for-found.result c.line_of.result
     c.in-Some.ensures.fits (subst (IsThing t about) thing is) here c.found_for-found.ensures (c.object_on-object.ensures c.found_for-found.ensures)
-    (c.cover-cover.ensures.exact h stands ∙ ap (λ (t : Tree). cover t h c.found_for-found.result) c.new-probe.ensures.tree) (λ other item. c.line_of.ensures t h other stands item) call
+    (c.cover-cover.ensures.exact ∙ ap (λ (t : Tree). cover t h c.found_for-found.result) c.new-probe.ensures.tree) (λ other item. c.line_of.ensures t other item) call
     ∙ ap (λ (thing : EverThing). is_now t c.args.table.now h (subject_now t (kind_of thing) word about) call) (sym thing)

@@ -1,29 +1,31 @@
-use Rattle.pua_tool.proofs.Common.{◌≡◌, Ok, List, ℕ, ap, ◌∙◌, err_from_is_err_and, answer_lines, Tells}
+use Rattle.pua_tool.proofs.Common.{◌≡◌, ◌++◌, Ok, List, ℕ, ap, subst, ◌∙◌, err_from_is_err_and, answer_lines, Tells, as_replayed}
+use Rattle.pua_texts.specs.ObjectLines.{lists_of}
 use Rattle.pua_tool.specs.ObjectTexts.{numbers_asked, objects_after}
 use Rattle.pua_tool.proofs.TextAnswers.{first_refuses, next_answers}
-use Rattle.pua_tool.proofs.ObjectTexts.{told_as}
 use Rattle.pua_tool.proofs.objects.asked_to.Goals as goal
 
 pub returns-in_err-numbers : goal.returns-in_err-numbers
 returns-in_err-numbers g c =
+    let done = as_replayed c.args.replay.now in
     let p = err_from_is_err_and c.from_residual.result c.from_residual.ensures.1 in
-    rw (p.1, p.2) (λ done replay. first_refuses g.S.Sink.written g.S.Sink.failed (numbers_asked done.world c.args.processes)
+    rw (p.1, p.2) (first_refuses g.S.Sink.written g.S.Sink.failed (numbers_asked done.world c.args.processes)
     (λ numbers. Ok (objects_after c.args.rules done.table done.answers done.world numbers)) c.in_err-numbers.field-0.0 c.args.sink.now
-    c.in_err-numbers.ensures.unwritten (λ other. c.in_err-numbers.ensures.refused other done.world replay.stands))
+    c.in_err-numbers.ensures.unwritten c.in_err-numbers.ensures.refused)
 
 pub returns : goal.returns
-returns g c = λ done replay.
+returns g c =
+    let done = as_replayed c.args.replay.now in
     let numbers : List ℕ = c.in_ok-numbers.numbers.items in
     let a = g.S.Sink.written c.args.sink.now in
     let b = g.S.Sink.written c.write_lists.new.sink in
     let n = g.S.Sink.failed c.args.sink.now in
     let m = g.S.Sink.failed c.write_lists.new.sink in
     let front : c.as_str.result.now ≡ answer_lines 1 done.answers = c.as_str.ensures.value ∙ c.in-Ok.ensures ∙
-    ap (answer_lines 1) (c.as_slice.ensures.value ∙ replay.answers) in
+    ap (answer_lines 1) c.as_slice.ensures.value in
     let written : Tells (objects_after c.args.rules done.table done.answers done.world numbers) c.write_lists.result a b n m =
-    told_as c.as_str.result.now (answer_lines 1 done.answers) c.args.rules _ done.table done.world c.as_slice-2.result.now numbers c.write_lists.result a
-    b n m front replay.table c.as_slice-2.ensures.value (c.write_lists.ensures done.world replay.stands) in
+    subst (λ (text : List ℕ). Tells text c.write_lists.result a b n m)
+    (λ i. front i ++ lists_of c.args.rules done.table done.world (c.as_slice-2.ensures.value i)) c.write_lists.ensures in
     next_answers g.S.Sink.written g.S.Sink.failed (numbers_asked done.world c.args.processes)
     (λ numbers. Ok (objects_after c.args.rules done.table done.answers done.world numbers)) numbers c.told.result c.args.sink.now c.write_lists.new.sink
-    (c.in_ok-numbers.ensures.asked done.world replay.stands)
+    c.in_ok-numbers.ensures.asked
     (c.told.ensures (objects_after c.args.rules done.table done.answers done.world numbers) a b n m written)

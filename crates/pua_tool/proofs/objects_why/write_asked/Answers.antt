@@ -1,19 +1,23 @@
-use Rattle.pua_tool.proofs.Common.{◌++◌, Ok, List, ℕ, subst, err_from_is_err_and, Tells}
+use Rattle.pua_tool.proofs.Common.{◌≡◌, ◌++◌, ◌∙◌, Ok, List, ℕ, World, ap, sym, subst, world_of, err_from_is_err_and, Tells}
 use Rattle.pua_texts.specs.WhyLines.{why_lists_of, world_left}
 use Rattle.pua_tool.specs.ObjectTexts.{numbers_asked}
+use Rattle.pua_tool.specs.PosedScripts.{as_asking}
 use Rattle.pua_tool.specs.WhyTexts.{reason_lines}
 use Rattle.pua_tool.proofs.TextAnswers.{first_refuses, next_answers}
 use Rattle.pua_tool.proofs.objects_why.write_asked.Goals as goal
 
 pub returns-in_err-numbers : goal.returns-in_err-numbers
 returns-in_err-numbers g c =
+    let q = as_asking c.args.posed.now in
     let p = err_from_is_err_and c.from_residual.result c.from_residual.ensures.1 in
-    rw (p.1, p.2) (λ q read is. first_refuses g.S.Sink.written g.S.Sink.failed (numbers_asked (world_left q) c.args.processes)
+    rw (p.1, p.2) (λ read is. first_refuses g.S.Sink.written g.S.Sink.failed (numbers_asked (world_left q) c.args.processes)
     (λ numbers. Ok (reason_lines c.args.rules q ++ why_lists_of c.args.rules q numbers)) c.in_err-numbers.field-0.0 c.args.sink.now
-    c.in_err-numbers.ensures.unwritten (λ other. c.in_err-numbers.ensures.refused other (world_left q) is.after))
+    c.in_err-numbers.ensures.unwritten
+    (λ other. (λ i. numbers_asked (world_of (sym is.after i)) c.args.processes) ∙ c.in_err-numbers.ensures.refused other))
 
 pub returns : goal.returns
-returns g c = λ q read is.
+returns g c = λ read is.
+    let q = as_asking c.args.posed.now in
     let numbers : List ℕ = c.in_ok-numbers.numbers.items in
     let a = g.S.Sink.written c.args.sink.now in
     let b = g.S.Sink.written c.write_all.new.sink in
@@ -21,7 +25,7 @@ returns g c = λ q read is.
     let m = g.S.Sink.failed c.write_all.new.sink in
     next_answers g.S.Sink.written g.S.Sink.failed (numbers_asked (world_left q) c.args.processes)
     (λ numbers. Ok (reason_lines c.args.rules q ++ why_lists_of c.args.rules q numbers)) numbers c.told.result c.args.sink.now c.write_all.new.sink
-    (c.in_ok-numbers.ensures.asked (world_left q) is.after)
+    ((λ i. numbers_asked (world_of (sym is.after i)) c.args.processes) ∙ c.in_ok-numbers.ensures.asked)
     (c.told.ensures (reason_lines c.args.rules q ++ why_lists_of c.args.rules q numbers) a b n m
     (subst (λ (lent : List ℕ). Tells (reason_lines c.args.rules q ++ why_lists_of c.args.rules q lent) c.write_all.result a b n m) c.as_slice-numbers.ensures.value
-    (c.write_all.ensures q read is)))
+    (c.write_all.ensures read is)))

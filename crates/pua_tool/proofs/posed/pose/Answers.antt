@@ -1,5 +1,7 @@
-use Rattle.pua_tool.proofs.Common.{◌≡◌, ◌≢◌, Err, refl, subst, sym, ◌∙◌, rules, Tree, script_by, new_world, StandsForWorld, choice_of}
+use Rattle.pua_tool.proofs.Common.{◌≡◌, ◌≢◌, Ok, Err, ap, sym, ◌∙◌, rules, Tree, script_by, new_world, choice_of}
 use Rattle.pua_tool.proofs.Common.{OutOfMemory, if_err, if_ok}
+use Rattle.pua_script.specs.Worlds.{WorldState, with_table}
+use Rattle.pua_tool.specs.PosedScripts.{asked_over}
 use Rattle.pua_tool.specs.WhyTexts.{posed_script}
 use Rattle.pua_tool.proofs.WhyTexts.{posed_is, table_refuses, listing_refuses, script_refuses, script_is}
 use Rattle.pua_tool.proofs.posed.pose.Goals as goal
@@ -24,25 +26,25 @@ returns-in_err-before-clause-refused c =
 pub returns-in-Err-clause-refused : goal.returns-in-Err-clause-refused
 returns-in-Err-clause-refused c = λ other.
     let before = c.in_ok-before.ensures.new in
-    script_refuses (choice_of c.args.choice) c.args.tree_bytes.now c.args.script_bytes.now c.in_ok-table.table before.0 c.in-Err.fault
-    c.in_ok-table.ensures.read before.1 (c.in-Err.ensures.refused other before.0 before.1)
+    script_refuses (choice_of c.args.choice) c.args.tree_bytes.now c.args.script_bytes.now c.in_ok-table.table c.in_ok-before.before.tree
+    c.in-Err.fault c.in_ok-table.ensures.read before.read (c.in-Err.ensures.refused other)
 
 pub returns-in-Ok-clause-done : goal.returns-in-Ok-clause-done
 returns-in-Ok-clause-done c =
     let rules = c.in_ok-table.table in
     let asks = c.in-Ok.requests in
     let before = c.in_ok-before.ensures.new in
-    let after = c.in-Ok.ensures.world in
-    let tree = before.0 in
-    let same : after.0 ≡ tree = let read = sym after.1 ∙ before.1 in cc in
-    let stands : StandsForWorld c.in-Ok.after (new_world tree) =
-    subst (λ (t : Tree). StandsForWorld c.in-Ok.after (new_world t)) same after.2 in
+    let tree = c.in_ok-before.before.tree in
+    let alike : c.in-Ok.after ≡ c.in_ok-before.before =
+    c.in-Ok.ensures.world ∙ ap (λ (t : Tree). with_table rules (new_world t)) c.tree.ensures ∙ sym before.new in
+    let read = script_is (script_by c.args.choice.rules c.args.script_bytes.now) asks c.in-Ok.ensures.script in
+    let asked = posed_is (choice_of c.args.choice) c.args.tree_bytes.now c.args.script_bytes.now rules tree asks c.in_ok-table.ensures.read
+    before.read c.in-Ok.ensures.script
+    ∙ ap (λ (s : WorldState). Ok (asked_over s asks)) (sym before.new) in
     if_ok c.serve.result (λ done served. (
-      record { table = rules; world = new_world tree; asks = asks },
-      posed_is (choice_of c.args.choice) c.args.tree_bytes.now c.args.script_bytes.now rules tree asks c.in_ok-table.ensures.read before.1
-          c.in-Ok.ensures.script,
-      script_is (script_by c.args.choice.rules c.args.script_bytes.now) asks c.in-Ok.ensures.script,
-      served (record { table = rules; world = new_world tree; asks = asks }) refl before.2 before.3 stands after.3,
+      asked ∙ ap Ok (sym served.0),
+      read ∙ ap (λ p. Ok p.asks) (sym served.0),
+      served.1 alike,
     )) c.serve.ensures.done
 
 pub returns-in-Ok-clause-refused : goal.returns-in-Ok-clause-refused

@@ -1,15 +1,12 @@
-use Rattle.pua_tool.proofs.Common.{◌∙◌, answers_to}
-use Rattle.pua_tool.proofs.WhyTexts.{left_by_these}
+use Rattle.pua_tool.proofs.Common.{◌≡◌, ◌∙◌, ap, refl, List}
+use Rattle.pua_script.specs.Worlds.{WorldState, run_to}
+use Rattle.pua_script.specs.declared.answer.Answer.{Answer}
 use Rattle.pua_tool.proofs.posed.serve.Goals as goal
 
 pub returns-clause-done : goal.returns-clause-done
-returns-clause-done c = λ p asks stands ruled stands_after ruled_after.
-    let served = c.in-Ok.ensures.served p.world stands_after in
-    record {
-      script = asks;
-      answers = served.0 ∙ (λ i. answers_to (ruled_after i) p.world (asks i));
-      before = stands;
-      after = left_by_these c.args.after.table p.table p.world c.args.requests p.asks ruled_after asks served.1;
-      table_before = ruled;
-      table_after = served.2 ∙ ruled_after;
-    }
+returns-clause-done c = (
+  refl,
+  λ same.
+      let served : ◌≡◌ {A = List Answer × WorldState} _ _ = c.in-Ok.ensures.served ∙ ap (λ (s : WorldState). run_to s c.args.requests) same in
+      record { answers = ap (λ (ran : List Answer × WorldState). ran.0) served; after = ap (λ (ran : List Answer × WorldState). ran.1) served },
+)

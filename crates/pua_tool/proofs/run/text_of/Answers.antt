@@ -13,6 +13,5 @@ returns-in_err-replay-clause-refused c =
 
 pub returns-in-Ok-clause-done : goal.returns-in-Ok-clause-done
 returns-in-Ok-clause-done c =
-    let done = c.in_ok-replay.ensures.done in
-    (λ i. done.1 i >>= λ done. Ok (answer_lines 1 done.answers))
-    ∙ ap Ok (sym (c.in-Ok.ensures ∙ ap (answer_lines 1) (c.as_slice.ensures.value ∙ done.2.answers)))
+    (λ i. c.in_ok-replay.ensures.done i >>= λ done. Ok (answer_lines 1 done.answers))
+    ∙ ap Ok (sym (c.in-Ok.ensures ∙ ap (answer_lines 1) c.as_slice.ensures.value))

@@ -1,15 +1,10 @@
-use Rattle.pua_tool.proofs.Common.{◌≡◌, ap, ◌∙◌, CallTable, new_world, answers_to}
-use Rattle.pua_tool.proofs.Replays.{left_by_same}
+use Rattle.pua_tool.proofs.Common.{◌≡◌, ap, ◌∙◌, List, world_of}
+use Rattle.pua_script.specs.Worlds.{WorldState, run_to}
+use Rattle.pua_script.specs.declared.answer.Answer.{Answer}
 use Rattle.pua_tool.proofs.script.replay_requests.Goals as goal
 
 pub returns-clause-done : goal.returns-clause-done
 returns-clause-done c =
-    let tree = c.args.tree in
-    let asks = c.args.requests.now in
-    let table : c.in-Ok.world.table ≡ c.args.table = c.in-Ok.ensures.table in
-    let served = c.in-Ok-run.ensures.served (new_world tree) c.in-Ok.ensures.replay in
-    record {
-      answers = served.0 ∙ ap (λ (t : CallTable). answers_to t (new_world tree) asks) table;
-      table = served.2 ∙ table;
-      stands = left_by_same c.in-Ok.world.table c.args.table (new_world tree) asks table served.1;
-    }
+    let served : ◌≡◌ {A = List Answer × WorldState} _ _ =
+    c.in-Ok-run.ensures.served ∙ ap (λ (s : WorldState). run_to s c.args.requests.now) c.in-Ok.ensures in
+    ap (λ (ran : List Answer × WorldState). record { table = ran.1.table; answers = ran.0; world = world_of ran.1 }) served

@@ -1,5 +1,4 @@
-use Rattle.pua_tool.proofs.Common.{◌≡◌, ◌≢◌, Ok, Err, rules, CallTable, if_err, if_ok, choice_of, replay_of, table_by, OutOfMemory}
-use Rattle.pua_tool.specs.Begun.{replay_by}
+use Rattle.pua_tool.proofs.Common.{◌≡◌, ◌≢◌, ◌∙◌, Ok, Err, ap, sym, rules, CallTable, if_err, if_ok, choice_of, replay_of, table_by, OutOfMemory}
 use Rattle.pua_tool.proofs.Replays.{replayed_is, table_refuses, listing_refuses, script_refuses}
 use Rattle.pua_tool.proofs.script.replay_script.Goals as goal
 
@@ -27,9 +26,7 @@ returns-clause-refused c = if_err c.replay_over.result (λ fault refused other.
     c.in_ok-table.ensures.read c.in_ok-tree.ensures.read (refused other)) c.replay_over.ensures.refused
 
 pub returns-clause-done : goal.returns-clause-done
-returns-clause-done c = if_ok c.replay_over.result (λ replay done. (
-  replay_by c.in_ok-table.table c.in_ok-tree.tree done.0,
-  replayed_is (choice_of c.args.table) c.args.tree_bytes.now c.args.script_bytes.now c.in_ok-table.table c.in_ok-tree.tree done.0
-      c.in_ok-table.ensures.read c.in_ok-tree.ensures.read done.1,
-  done.2,
-)) c.replay_over.ensures.done
+returns-clause-done c = if_ok c.replay_over.result (λ replay done.
+    replayed_is (choice_of c.args.table) c.args.tree_bytes.now c.args.script_bytes.now c.in_ok-table.table c.in_ok-tree.tree done.0
+    c.in_ok-table.ensures.read c.in_ok-tree.ensures.read done.1
+    ∙ ap Ok (sym done.2)) c.replay_over.ensures.done

@@ -1,10 +1,7 @@
-use Rattle.pua_tool.proofs.Common.{ℕ, List, History}
-use Rattle.std.proofs.Common.{drop}
-use Rattle.pua_texts.specs.Members.{AreMembers}
-use Rattle.pua_tool.proofs.ActingNext.{LentGo}
+use Rattle.pua_tool.proofs.Common.{◌≡◌, map}
+use Rattle.std.proofs.Common.{take}
 use Rattle.pua_tool.proofs.together.join_all.Given as goal
 
--- those so far are lent, and the others are still to come
+-- those so far are lent
 abbrev pub invariant-loop-member : goal.invariant-loop-member
-invariant-loop-member l = (named : List (ℕ × History)) → AreMembers l.more named →
-    LentGo (drop l.member-index l.more) l.others.items named
+invariant-loop-member l = l.others.items ≡ map (λ member. member.process) (take l.member-index l.more)

@@ -1,5 +1,5 @@
 use Rattle.pua_audit.proofs.Common.{◌≡◌, ◌≤◌, ◌+◌, ◌*◌, refl, arith, subst, ℕ, suc, List, [], sym, ap, ◌∙◌, map, length, Result, Ok}
-use Rattle.pua_audit.proofs.Common.{Err, IfSome, lent_entry, Tree, part_cost, plain_history, Scope, rest_after, live_states, scope_in}
+use Rattle.pua_audit.proofs.Common.{Err, IfSome, lent_entry, Tree, part_cost, Scope, rest_after, live_states, scope_in}
 use Rattle.pua_audit.proofs.Common.{AreLetters, AuditFault, Terms}
 use Rattle.std.specs.Prelude.{option_map}
 use Rattle.pua_path.specs.Counts.{one_more}
@@ -7,19 +7,17 @@ use Rattle.pua_steps.specs.Limits.{search_cost}
 use Rattle.pua_audit.specs.Begin.{Beginning, beginning}
 use Rattle.pua_audit.specs.Bounds.{begin_cost, letter_count, pairs_cost}
 use Rattle.pua_audit.specs.Starting.{pair_in, scope_with, beginning_with}
-use Rattle.pua_audit.proofs.Pasts.{stands_for_past, rest_by_process, live_by_process}
 use Rattle.pua_audit.proofs.audit.Audit.begin.Goals as goal
 
 pub returns-clause-begun : goal.returns-clause-begun
-returns-clause-begun g c = λ h stands.
-    let p = c.args.process.now in
+returns-clause-begun g c =
+    let h = c.args.process.now in
     let t : Tree = g.P.Probe.tree c.args.probe.now in
     let base = c.args.base in
     let limit = c.args.limit in
     let after = c.in_ok-letters.field-0.after in
     let letters : List (List ℕ) = c.in_ok-letters.field-0.letters in
     let b : Beginning = beginning_with t c.args.table.now h base limit c.in_ok-letters.field-0 in
-    let past = stands_for_past p c.known.ensures.history c.known.ensures.stands in
     let known : c.in_ok-terms.terms.letters ≡ letters = c.in_ok-terms.ensures.letters in (
       b,
       (
@@ -30,10 +28,8 @@ returns-clause-begun g c = λ h stands.
         c.in_ok-pairs.ensures.left
             ∙ ap (λ (ls : List (List ℕ)). rest_after (scope_in c.in_ok-terms.terms) (option_map (pair_in ls) after)) known
             ∙ ap (λ (s : Scope). rest_after s (option_map (pair_in letters) after)) c.in_ok-terms.ensures.scope
-            ∙ ap (λ (u : Tree). rest_after (scope_with u c.args.table.now (plain_history p) base limit letters)
-            (option_map (pair_in letters) after)) c.in_ok-rows.ensures.tree
-            ∙ rest_by_process t c.args.table.now base letters limit p (plain_history p) h past stands
-            (option_map (pair_in letters) after),
+            ∙ ap (λ (u : Tree). rest_after (scope_with u c.args.table.now h base limit letters)
+            (option_map (pair_in letters) after)) c.in_ok-rows.ensures.tree,
         refl,
       ),
     )
@@ -59,17 +55,14 @@ live_in (Ok b) = length (live_states b.scope)
 live_in (Err fault) = 0
 
 pub returns-clause-live : goal.returns-clause-live
-returns-clause-live g c = λ h stands b is.
-    let p = c.args.process.now in
-    let t : Tree = g.P.Probe.tree c.args.probe.now in
+returns-clause-live g c = λ b is.
+    let h = c.args.process.now in
     let base = c.args.base in
     let limit = c.args.limit in
     let letters : List (List ℕ) = c.in_ok-letters.field-0.letters in
-    let past = stands_for_past p c.known.ensures.history c.known.ensures.stands in
     c.in_ok-pairs.ensures.live
     ∙ ap (λ (s : Scope). length (live_states s)) c.in_ok-terms.ensures.scope
-    ∙ ap (λ (u : Tree). length (live_states (scope_with u c.args.table.now (plain_history p) base limit letters))) c.in_ok-rows.ensures.tree
-    ∙ ap length (live_by_process t c.args.table.now base letters limit p (plain_history p) h past stands)
+    ∙ ap (λ (u : Tree). length (live_states (scope_with u c.args.table.now h base limit letters))) c.in_ok-rows.ensures.tree
     ∙ ap live_in (sym ((subst (λ (u : Tree). beginning u c.args.table.now h c.args.base (map (λ s. s.now) c.args.candidates.now)
     c.args.limit (option_map (λ s. s.now) c.args.after)
     ≡ Ok (beginning_with u c.args.table.now h c.args.base c.args.limit c.in_ok-letters.field-0)) c.in_ok-rows.ensures.tree

@@ -8,7 +8,7 @@ returns-clause-ready g c =
     let got = c.in_ok-walk.ensures in
     let t = c.args.terms in
     record {
-      sound = record { tree = t.tree; stands = t.stands; short = t.short };
+      sound = record { tree = t.tree; short = t.short };
       walk = got.ready;
       limit = got.limit;
       letters = got.letters;

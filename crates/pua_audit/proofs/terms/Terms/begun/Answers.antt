@@ -1,6 +1,6 @@
 use Rattle.pua_audit.proofs.Common.{◌≡◌, ◌<◌, ◌≤◌, ◌∙◌, ◌+◌, ◌*◌, ℕ, List, Option, None, Some, length, map, refl, sym, ap, subst, arith}
-use Rattle.pua_audit.proofs.Common.{AllByRecursion, true, Tree, is_dir, Found, has, cover_in, History, cover, is_allowed, Call, pairs_at}
-use Rattle.pua_audit.proofs.Common.{pair_in_numbers, pair_in_letters, Judge, base_dir, plain_history, reach, judge_in, scope_in, IfSome}
+use Rattle.pua_audit.proofs.Common.{AllByRecursion, true, Tree, is_dir, Found, has, cover_in, ProcessState, cover, is_allowed, Call, pairs_at}
+use Rattle.pua_audit.proofs.Common.{pair_in_numbers, pair_in_letters, Judge, base_dir, reach, judge_in, scope_in, IfSome}
 use Rattle.pua_audit.proofs.Common.{IsTrue, AreLetters, IsTableOf, live_count, IsPair, Steps}
 use Rattle.pua_path.specs.Fits.{FoundFits}
 use Rattle.pua_policy.specs.Verdict.{verdict}
@@ -25,11 +25,11 @@ table-requires g c κs =
     let a = c.args.self.now in
     let opened : is_open (scope_in a) ≡ true = sym c.is_open.ensures.open ∙ c.if-not-is_open.false in
     let t : Tree = a.seen.tree in
-    let h : History = plain_history a.process in
+    let h : ProcessState = a.process in
     let base : ℕ = base_dir a.base h in
     let there : IsTrue (is_dir t base) = lives a opened in
     let covered : c.cover-cover.result ≡ cover_in t h c.base_dir.result =
-    c.cover-cover.ensures.exact h a.stands ∙ ap (λ (u : Tree). cover u h c.base_found.result) (c.is_open.ensures.tree ∙ c.requires.tree) ∙
+    c.cover-cover.ensures.exact ∙ ap (λ (u : Tree). cover u h c.base_found.result) (c.is_open.ensures.tree ∙ c.requires.tree) ∙
     ap (cover t h) c.base_found.ensures
     ∙ (covers_descend t h a.tree).directory base (base_way a.base) there ∙ ap (cover_in t h) (sym c.base_dir.ensures) in (
       (refl, tt),
@@ -51,11 +51,11 @@ returns-clause-pairs g c =
     let set : ℕ = c.bits-calls.result in
     let fit : FoundFits a.seen.tree c.base_found-2.result =
     subst (FoundFits a.seen.tree) (sym c.base_found-2.ensures) (lives a opened) in
-    let left = c.cover-cover.ensures.exact (plain_history a.process) a.stands
-    ∙ ap (λ (u : Tree). cover u (plain_history a.process) c.base_found.result) (c.is_open.ensures.tree ∙ c.requires.tree)
-    ∙ ap (cover a.seen.tree (plain_history a.process)) (c.base_found.ensures ∙ sym c.base_found-2.ensures) in
+    let left = c.cover-cover.ensures.exact
+    ∙ ap (λ (u : Tree). cover u a.process c.base_found.result) (c.is_open.ensures.tree ∙ c.requires.tree)
+    ∙ ap (cover a.seen.tree a.process) (c.base_found.ensures ∙ sym c.base_found-2.ensures) in
     let own = λ (call : Call). ap (λ (n : ℕ). has n call) c.bits-calls.ensures.number ∙ c.calls_on-calls.ensures.exact fit left call ∙
-    ap (λ (f : Found). is_allowed (verdict a.seen.tree a.table (plain_history a.process) call f)) c.base_found-2.ensures in
+    ap (λ (f : Found). is_allowed (verdict a.seen.tree a.table a.process call f)) c.base_found-2.ensures in
     let first = ap (λ (d : ℕ). Some (record { dir = d; used = 0 })) (sym (made.1.3 ∙ c.base_dir.ensures)) in
     let ps : List graph.Pair = graph.graph_reach (graph_of t) a.limit set (Some (record { dir = 0; used = 0 })) in
     let same : map pair_in_numbers (reach (scope_in a)) ≡ map (pair_in_letters a.letters) ps =
@@ -92,11 +92,11 @@ returns-clause-live g c =
     let made = c.in_ok-steps.ensures.table in
     let fit : FoundFits a.seen.tree c.base_found-2.result =
     subst (FoundFits a.seen.tree) (sym c.base_found-2.ensures) (lives a opened) in
-    let left = c.cover-cover.ensures.exact (plain_history a.process) a.stands
-    ∙ ap (λ (u : Tree). cover u (plain_history a.process) c.base_found.result) (c.is_open.ensures.tree ∙ c.requires.tree)
-    ∙ ap (cover a.seen.tree (plain_history a.process)) (c.base_found.ensures ∙ sym c.base_found-2.ensures) in
+    let left = c.cover-cover.ensures.exact
+    ∙ ap (λ (u : Tree). cover u a.process c.base_found.result) (c.is_open.ensures.tree ∙ c.requires.tree)
+    ∙ ap (cover a.seen.tree a.process) (c.base_found.ensures ∙ sym c.base_found-2.ensures) in
     let own = λ (call : Call). ap (λ (n : ℕ). has n call) c.bits-calls.ensures.number ∙ c.calls_on-calls.ensures.exact fit left call ∙
-    ap (λ (f : Found). is_allowed (verdict a.seen.tree a.table (plain_history a.process) call f)) c.base_found-2.ensures in
+    ap (λ (f : Found). is_allowed (verdict a.seen.tree a.table a.process call f)) c.base_found-2.ensures in
     let first = ap (λ (d : ℕ). Some (record { dir = d; used = 0 })) (sym (made.1.3 ∙ c.base_dir.ensures)) in
     c.in_ok-live.ensures ∙
     ap (λ (t : Steps). live_count (graph_of t) (length t.rows.items) a.limit (Some (record { dir = 0; used = 0 })) a.limit)

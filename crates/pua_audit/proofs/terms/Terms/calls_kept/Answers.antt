@@ -1,5 +1,5 @@
 use Rattle.pua_audit.proofs.Common.{◌≡◌, ◌≤◌, ◌+◌, ◌∙◌, ℕ, length, refl, sym, ap, subst, arith, IfOk, Result, Tree, Errno, Found, part_cost}
-use Rattle.pua_audit.proofs.Common.{FoundsFit, StandsAsNamed, follow, last, Kept, verdict_of, is_allowed, object_cost, plain_history}
+use Rattle.pua_audit.proofs.Common.{FoundsFit, StandsAsNamed, follow, last, Kept, verdict_of, is_allowed, object_cost}
 use Rattle.std.specs.Prelude.{is_ok}
 use Rattle.pua_audit.proofs.Covers.{kept_above}
 use Rattle.pua_audit.proofs.Told.{kept_unlinked}
@@ -13,7 +13,7 @@ returns-then-is_ok-clause-exact g c = λ covered followed links near call.
     let alike = kept_unlinked t c.args.dir c.args.part.now (follow t c.args.dir c.args.part.now) refl (sym links ∙
     c.if-links-eq0.true) (ap is_ok (sym followed) ∙ sym c.is_ok.ensures.value ∙ c.if-is_ok.true) in
     near call ∙
-    ap (λ (x : Result Found Errno). is_allowed (verdict_of t a.table (plain_history a.process) call x)) (followed ∙
+    ap (λ (x : Result Found Errno). is_allowed (verdict_of t a.table a.process call x)) (followed ∙
     sym alike)
 
 pub cover_of-cover-requires : goal.cover_of-cover-requires
@@ -36,7 +36,7 @@ returns-clause-exact g c = λ covered followed links near call.
     let left = c.cover_of-cover.ensures.exact named covered c.requires.living (kept_above t c.args.dir c.args.part.now kept is) in
     let fit : FoundsFit t kept = subst (λ (u : Tree). FoundsFit u kept) c.requires.tree c.last-kept.ensures.fits in
     c.calls_on.ensures.exact fit left call
-    ∙ ap (λ (x : Result Found Errno). is_allowed (verdict_of t a.table (plain_history a.process) call x)) is
+    ∙ ap (λ (x : Result Found Errno). is_allowed (verdict_of t a.table a.process call x)) is
 
 -- the looks at the tree
 

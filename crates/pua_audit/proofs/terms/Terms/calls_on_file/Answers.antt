@@ -1,6 +1,6 @@
-use Rattle.pua_audit.proofs.Common.{◌≡◌, ◌∙◌, ℕ, List, Some, None, sym, ap, subst, Tree, History, plain_history}
+use Rattle.pua_audit.proofs.Common.{◌≡◌, ◌∙◌, ℕ, List, Some, None, sym, ap, subst, Tree, ProcessState}
 use Rattle.pua_tree.specs.Tree.{found_at}
-use Rattle.pua_policy.specs.History.{perms_kept}
+use Rattle.pua_policy.specs.States.{perms_kept}
 use Rattle.pua_policy.specs.declared.place.Place.TheVariants as place
 use Rattle.pua_audit.proofs.Bare.{file_told}
 use Rattle.pua_audit.proofs.terms.Terms.calls_on_file.Goals as goal
@@ -10,7 +10,7 @@ pub returns-clause-exact : goal.returns-clause-exact
 returns-clause-exact g c = λ living within kept.
     let a = c.args.self.now in
     let t : Tree = a.seen.tree in
-    let h : History = plain_history a.process in
+    let h : ProcessState = a.process in
     let letter : List ℕ = c.args.letter.now in
     let found : found_at t c.args.dir letter ≡ Some (c.in_ok-kind.field-0-0, c.in_ok-kind.kind) =
     sym (c.in_ok-kind.ensures.found ∙ ap (λ (u : Tree). found_at u c.args.dir c.in_ok-name.name.bytes.now) c.requires.tree ∙

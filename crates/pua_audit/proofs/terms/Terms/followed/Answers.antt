@@ -1,6 +1,6 @@
 use Rattle.pua_audit.proofs.Common.{◌≡◌, ◌∙◌, ℕ, List, Bool, not, ◌&&◌, ◌||◌, Option, refl, sym, ap, subst, arith, IfOk, IfSome}
 use Rattle.pua_audit.proofs.Common.{Result, Tree, part_cost, FoundsFit, StandsAsNamed, part_of, follow, last, Errno, Found, Followed, Kept}
-use Rattle.pua_audit.proofs.Common.{Part, last_of, has, keeps_link, cover_in, History, verdict_of, is_allowed, Call, plain_history}
+use Rattle.pua_audit.proofs.Common.{Part, last_of, has, keeps_link, cover_in, ProcessState, verdict_of, is_allowed, Call}
 use Rattle.pua_audit.proofs.Common.{judge_in, links_of, found_of, leads_to, allowed_kept, allowed_near, allowed_far, IsLetter}
 use Rattle.pua_path.specs.Fits.{FoundFits}
 use Rattle.pua_audit.proofs.Covers.{covered_lead, founds_are, founds_of, named_above}
@@ -32,7 +32,7 @@ pub returns-clause-exact : goal.returns-clause-exact
 returns-clause-exact g c = λ covered.
     let a = c.args.self.now in
     let t : Tree = a.seen.tree in
-    let h : History = plain_history a.process in
+    let h : ProcessState = a.process in
     let dir : ℕ = c.args.dir in
     let letter : List ℕ = c.args.letter.now in
     let r : Result (Found × ℕ) Errno = follow t dir (part_of letter) in
@@ -78,7 +78,7 @@ returns-clause-exact g c = λ covered.
 pub returns-clause-covered : goal.returns-clause-covered
 returns-clause-covered g c = λ covered.
     let a = c.args.self.now in
-    let h : History = plain_history a.process in
+    let h : ProcessState = a.process in
     let fit : FoundsFit a.seen.tree c.counted-followed.result.0 =
     subst (FoundsFit a.seen.tree) (sym c.counted-followed.ensures.found)
     (founds_of a.seen.tree c.follow.result (subst (λ (u : Tree). IfOk c.follow.result (λ found. FoundFits u found.0)) c.requires.tree

@@ -1,7 +1,6 @@
-use Rattle.pua_audit.proofs.Common.{◌≡◌, ◌≢◌, ◌<◌, ◌∙◌, ℕ, List, [], length, map, get_or, sym, ap, subst, rules, lent_entry, Spot, veil_at}
-use Rattle.pua_audit.proofs.Common.{Place, plain_history, AreApartFrom, AreAtLetters, IsNowhere, IsUnmarked, LetterSpot}
+use Rattle.pua_audit.proofs.Common.{◌≡◌, ◌≢◌, ◌<◌, ◌∙◌, ℕ, List, [], length, map, get_or, sym, ap, subst, rules, lent_entry, Spot}
+use Rattle.pua_audit.proofs.Common.{Place, AreApartFrom, AreAtLetters, IsNowhere, IsUnmarked, LetterSpot}
 use Rattle.std.proofs.lemmas.List.Sorted.{Contains-permutation, IsPermutation-sym, IsNonDecreasingBy-from_sort_by_key}
-use Rattle.pua_policy.proofs.ForCallers.{veils_are_kept}
 use Rattle.pua_policy.specs.declared.place.Place.TheVariants.{Slot}
 use Rattle.pua_audit.proofs.Lists.{all_among}
 use Rattle.pua_audit.proofs.Spotted.{nowhere_found, apart_kept}
@@ -14,7 +13,6 @@ invariant_of-result c =
     let rows : map lent_entry c.args.rows.now ≡ a.seen.tree.rows = c.requires.rows in
     let places : map (λ place. place.now) c.as_slice-places.result.now ≡ map (λ veil. veil.0) a.process.veils =
     ap (map (λ place. place.now)) c.as_slice-places.ensures.value ∙ c.in_ok-places.ensures in
-    let h = plain_history a.process in
     let names : List LetterSpot = c.add_veils.new.spots.items in
     let sorted : List LetterSpot = c.sort_unstable_by_key.new.self.items in
     let lent : c.in_ok-letters.letters ≡ a.letters = c.in_ok-letters.ensures in
@@ -48,15 +46,13 @@ invariant_of-result c =
         unveiled = λ dir letter low unsorted.
             let unmarked = still dir letter unsorted in
             let place : Place = Slot dir (name letter) in
-            sym (veils_are_kept h place) ∙ ap (λ vs. veil_at vs place) (sym c.args.self.now.stands.veils)
-            ∙ apart_kept place a.process.veils (subst (λ (ps : List Place). AreApartFrom place ps) places
+            apart_kept place a.process.veils (subst (λ (ps : List Place). AreApartFrom place ps) places
             (veils_at dir letter low unmarked));
         rise = IsNonDecreasingBy-from_sort_by_key (λ (s : LetterSpot). s.dir) sorted c.sort_unstable_by_key.ensures.sorted
             (λ a r q k. search rules);
       };
       unveiled = λ dir apart called.
           let place : Place = Slot dir called in
-          sym (veils_are_kept h place) ∙ ap (λ vs. veil_at vs place) (sym c.args.self.now.stands.veils)
-          ∙ apart_kept place a.process.veils (subst (λ (ps : List Place). AreApartFrom place ps) places
+          apart_kept place a.process.veils (subst (λ (ps : List Place). AreApartFrom place ps) places
           (c.in_ok-veiled.ensures dir called apart));
     }

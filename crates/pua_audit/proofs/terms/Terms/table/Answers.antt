@@ -1,6 +1,6 @@
 use Rattle.pua_audit.proofs.Common.{◌≡◌, ◌<◌, ◌≤◌, ◌∙◌, ◌+◌, ◌*◌, ◌-◌, ℕ, suc, nat_eq, List, [], ◌∷◌, ◌++◌, length, map, get_or, arith}
 use Rattle.pua_audit.proofs.Common.{refl, sym, ap, subst, AllByRecursion, IsTrue, length-append, length-map, insert_key, Tree, is_dir}
-use Rattle.pua_audit.proofs.Common.{cover_in, History, row_cost, AreCovered, DirectoriesState, Judge, plain_history, judge_in, AreNumbers}
+use Rattle.pua_audit.proofs.Common.{cover_in, ProcessState, row_cost, AreCovered, DirectoriesState, Judge, judge_in, AreNumbers}
 use Rattle.pua_audit.proofs.Common.{IsJudgedRow, IsTableOf, Steps, Terms}
 use Rattle.pua_audit.specs.Bounds.{table_cost}
 use Rattle.pua_audit.proofs.Costs.{next_within, one_row_more, rows_few, rows_within}
@@ -17,10 +17,10 @@ loop-dir-preserved g c =
     let rows : List Row = l.rows.items in
     let row : Row = c.in_ok-row.row in
     let at = c.in-Some.ensures in
-    let over : c.cover_at-over.result ≡ cover_in a.seen.tree (plain_history a.process) c.in-Some.dir =
-    c.cover_at-over.ensures a.seen.tree (plain_history a.process) l.invariant.covered
-    ∙ ap (λ (n : ℕ). cover_in a.seen.tree (plain_history a.process) (get_or l.dirs.numbers n 0)) (c.len-in-Some.ensures ∙ sym c.len.ensures)
-    ∙ ap (cover_in a.seen.tree (plain_history a.process)) (sym at.dir) in
+    let over : c.cover_at-over.result ≡ cover_in a.seen.tree a.process c.in-Some.dir =
+    c.cover_at-over.ensures a.seen.tree a.process l.invariant.covered
+    ∙ ap (λ (n : ℕ). cover_in a.seen.tree a.process (get_or l.dirs.numbers n 0)) (c.len-in-Some.ensures ∙ sym c.len.ensures)
+    ∙ ap (cover_in a.seen.tree a.process) (sym at.dir) in
     let grown = c.in_ok-row.ensures.grown in
     let inside : length rows < length l.dirs.numbers = omega (arith, at.within, c.len.ensures) in
     let count : c.len.result ≡ length rows = omega (arith, c.len.ensures) in
@@ -127,7 +127,7 @@ pub loop-dir-init : goal.loop-dir-init
 loop-dir-init g c =
     let a : Terms = c.in_ok-spots.spots.terms.now in
     let t : Tree = a.seen.tree in
-    let h : History = plain_history a.process in
+    let h : ProcessState = a.process in
     let new = c.place.new.self in
     let same : a ≡ c.args.self.now = c.in_ok-spots.ensures in
     let placed = c.in_ok-place.ensures in
@@ -140,7 +140,7 @@ loop-dir-init g c =
       first = ap (λ (ns : List ℕ). get_or ns 0 0) alone;
       living = subst (AllByRecursion (λ (d : ℕ). IsTrue (is_dir t d))) (sym alone)
           (subst (λ (u : Terms). IsTrue (is_dir u.seen.tree c.args.base)) (sym same) c.requires.living, tt);
-      covered = placed.covered t h (subst (λ (u : Terms). c.args.cover ≡ cover_in u.seen.tree (plain_history u.process) c.args.base)
+      covered = placed.covered t h (subst (λ (u : Terms). c.args.cover ≡ cover_in u.seen.tree u.process c.args.base)
           (sym same) c.requires.covered)
           (c.new-dirs.ensures.covers ∙ ap (map (cover_in t h)) (sym c.new-dirs.ensures.numbers));
       tree = c.requires.tree ∙ ap (λ (u : Terms). u.seen.tree) (sym same);
@@ -149,7 +149,7 @@ loop-dir-init g c =
 
 -- one row more
 
-cover_below : (t : Tree) (h : History) (dirs : DirectoriesState) (place other : ℕ) → AreCovered t h dirs → place ≡ other
+cover_below : (t : Tree) (h : ProcessState) (dirs : DirectoriesState) (place other : ℕ) → AreCovered t h dirs → place ≡ other
     → other < length dirs.numbers → place < length dirs.covers
 cover_below t h dirs place other covered same low =
     let many : length dirs.covers ≡ length dirs.numbers = ap length covered ∙ length-map dirs.numbers (cover_in t h) in
@@ -158,7 +158,7 @@ cover_below t h dirs place other covered same low =
 pub cover_at-over-requires : goal.cover_at-over-requires
 cover_at-over-requires g c =
     let a : Terms = c.in_ok-spots.spots.terms.now in
-    cover_below a.seen.tree (plain_history a.process) c.loop-dir.dirs c.len-in-Some.result c.len.result c.loop-dir.invariant.covered
+    cover_below a.seen.tree a.process c.loop-dir.dirs c.len-in-Some.result c.len.result c.loop-dir.invariant.covered
     (c.len-in-Some.ensures ∙ sym c.len.ensures) c.in-Some.ensures.within
 
 pub row-requires : goal.row-requires

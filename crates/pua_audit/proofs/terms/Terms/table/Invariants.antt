@@ -1,4 +1,4 @@
-use Rattle.pua_audit.proofs.Common.{◌≡◌, ◌<◌, ◌≤◌, ◌+◌, ◌*◌, ◌-◌, suc, length, get_or, row_cost, AreCovered, plain_history, judge_in}
+use Rattle.pua_audit.proofs.Common.{◌≡◌, ◌<◌, ◌≤◌, ◌+◌, ◌*◌, ◌-◌, suc, length, get_or, row_cost, AreCovered, judge_in}
 use Rattle.pua_audit.proofs.Common.{AreLiving}
 use Rattle.pua_audit.proofs.Made.{AreRows}
 use Rattle.pua_audit.proofs.terms.Terms.table.Given as goal
@@ -11,7 +11,7 @@ invariant-loop-dir g l = record {
   some : 0 < length l.dirs.numbers;
   first : get_or l.dirs.numbers 0 0 ≡ l.fn.base;
   living : AreLiving l.spots.terms.now.seen.tree l.dirs.numbers;
-  covered : AreCovered l.spots.terms.now.seen.tree (plain_history l.spots.terms.now.process) l.dirs;
+  covered : AreCovered l.spots.terms.now.seen.tree l.spots.terms.now.process l.dirs;
   tree : g.P.Probe.tree l.probe ≡ l.spots.terms.now.seen.tree;
   cost : g.P.Probe.count l.probe ≤ g.P.Probe.count l.fn.probe
       + suc (length l.rows.items * row_cost l.spots.terms.now.seen.tree (length l.spots.terms.now.letters));

@@ -5,28 +5,31 @@ use Rattle.pua_ever.proofs.Named.{name_calls}
 use Rattle.pua_ever.proofs.prospects.Prospects.calls_on.Goals as goal
 
 pub returns-in-Root : goal.returns-in-Root
-returns-in-Root c = λ t h about well needs stands found fits on call.
+returns-in-Root c = λ t about well needs found fits on call.
+    let h = c.args.process.now in
     let same : At (Whole 0 Top) ≡ about = sym (ap (subject_given t) c.in-Root.is) ∙ on.subject in
-    c.on_dir.ensures t h Top needs stands found well.root refl
+    c.on_dir.ensures t Top needs found well.root refl
     (on.cover ∙ ap (cover_on t h) (sym same) ∙ (covers_descend t h well).directory 0 Top well.root)
     (on.object ∙ ap (object_on t) (sym same))
     call
     ∙ ap (λ s. is_ever_allowed t c.args.table.now h s call) same
 
 pub returns-in-Dir : goal.returns-in-Dir
-returns-in-Dir c = λ t h about well needs stands found fits on call.
+returns-in-Dir c = λ t about well needs found fits on call.
+    let h = c.args.process.now in
     let dir = c.in-Dir.dir in
     let way = Named c.in-Dir.field-1 c.in-Dir.field-2.now in
     let same : At (Whole dir way) ≡ about = sym (ap (subject_given t) c.in-Dir.is) ∙ on.subject in
     let here : SubjectFits t (At (Whole dir way)) = subst (SubjectFits t) (sym same) fits in
-    c.on_dir-in-Dir.ensures t h way needs stands found here.0 refl
+    c.on_dir-in-Dir.ensures t way needs found here.0 refl
     (on.cover ∙ ap (cover_on t h) (sym same) ∙ (covers_descend t h well).directory dir way here.0)
     (on.object ∙ ap (object_on t) (sym same))
     call
     ∙ ap (λ s. is_ever_allowed t c.args.table.now h s call) same
 
 pub returns-in-Name : goal.returns-in-Name
-returns-in-Name c = λ t h about well needs stands found fits on call.
+returns-in-Name c = λ t about well needs found fits on call.
+    let h = c.args.process.now in
     let dir = c.in-Name.field-0 in
     let name = c.in-Name.field-1.now in
     let same : At (Slot dir name (look t dir name)) ≡ about = sym (ap (subject_given t) c.in-Name.is) ∙ on.subject in
@@ -34,6 +37,6 @@ returns-in-Name c = λ t h about well needs stands found fits on call.
     c.args.item.now.cover c.on_name.result
     (on.object ∙ ap (object_on t) (sym same))
     (on.cover ∙ ap (cover_on t h) (sym same))
-    (λ kind seen call. c.on_name.ensures t h kind stands found seen call)
+    (λ kind seen call. c.on_name.ensures t kind found seen call)
     call
     ∙ ap (λ s. is_ever_allowed t c.args.table.now h s call) same

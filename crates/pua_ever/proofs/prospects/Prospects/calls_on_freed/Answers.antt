@@ -3,24 +3,27 @@ use Rattle.pua_ever.proofs.Named.{own_name_is, no_name, not_freed, freed}
 use Rattle.pua_ever.proofs.prospects.Prospects.calls_on_freed.Goals as goal
 
 pub returns-in_default : goal.returns-in_default
-returns-in_default c = λ t h about well stands found fits on.
+returns-in_default c = λ t about well found fits on.
+    let h = c.args.process.now in
     no_name t well c.args.table.now h (own_spot about) (c.in_default.ensures ∙
     own_name_is t well c.args.table.now h about c.args.item.now fits on)
 
 pub returns-in_default-kept : goal.returns-in_default-kept
-returns-in_default-kept c = λ t h about well stands found fits on.
+returns-in_default-kept c = λ t about well found fits on.
+    let h = c.args.process.now in
     let table = c.args.table.now in
     let spot : Spot = (c.in-Some.own.0, c.in-Some.own.1.now) in
     not_freed t well table h about spot fits (c.in-Some.ensures ∙ own_name_is t well table h about c.args.item.now fits on)
-    (ap (λ o. is_some o && (may_edit table h && is_free t h spot)) (sym (c.in_default-kept.ensures.history h stands)))
+    (ap (λ o. is_some o && (may_edit table h && is_free t h spot)) (sym c.in_default-kept.ensures.state))
 
 pub returns : goal.returns
-returns c = λ t h about well stands found fits on.
+returns c = λ t about well found fits on.
+    let h = c.args.process.now in
     let table = c.args.table.now in
     let item = c.args.item.now in
     freed t well table h about (c.in-Some.own.0, c.in-Some.own.1.now) fits (c.in-Some.ensures ∙
     own_name_is t well table h about item fits on) item.cover c.in-Some-kept.perms c.allowed.result
     on.cover
-    (sym (c.in-Some-kept.ensures.history h stands))
+    (sym c.in-Some-kept.ensures.state)
     (and_from (may_edit table h) _ (sym found.edits ∙ c.if-not-self.false) (sym c.has_c.ensures ∙ c.if-not-has_c.false))
-    (λ call. c.allowed.ensures empty_tree h IsMissing stands refl call)
+    (λ call. c.allowed.ensures empty_tree IsMissing refl call)

@@ -1,4 +1,4 @@
-use Rattle.pua_refused.proofs.Common.{◌≡◌, false, refl, sym, ◌∙◌, false≢true, empty_tree, new_history}
+use Rattle.pua_refused.proofs.Common.{◌≡◌, false, refl, sym, ◌∙◌, false≢true, empty_tree}
 use Rattle.pua_path.specs.declared.found.Way.TheVariants.{Top}
 use Rattle.pua_policy.specs.Verdict.{IsDir, covered_verdict, is_allowed}
 use Rattle.pua_policy.specs.declared.answer.Cover.TheVariants.{All}
@@ -7,8 +7,8 @@ use Rattle.pua_refused.proofs.policy.allowed.full_directory_removed.Goals as goa
 
 pub unreachable-requires : goal.unreachable-requires
 unreachable-requires c =
-    let fault : is_allowed (covered_verdict empty_tree c.standard.result new_history Rmdir All (IsDir 0 Top)) ≡ false =
-    rw c.standard.ensures refl in
-    let not_allowed = c.contains.ensures ∙ c.allowed-calls.ensures empty_tree new_history (IsDir 0 Top) c.in-Ok.ensures refl Rmdir ∙
+    let fault : is_allowed (covered_verdict empty_tree c.standard.result c.in-Ok.process Rmdir All (IsDir 0 Top)) ≡ false =
+    rw (c.standard.ensures, c.in-Ok.ensures.state) refl in
+    let not_allowed = c.contains.ensures ∙ c.allowed-calls.ensures empty_tree (IsDir 0 Top) refl Rmdir ∙
     fault in
     false≢true (sym not_allowed ∙ c.if-contains.true)

@@ -8,10 +8,10 @@ returns-in_err-answer-clause-narrows g c =
 
 pub returns-clause-narrows : goal.returns-clause-narrows
 returns-clause-narrows g c =
-    is_narrowing c.args.self.now c.args.request.now c.in_ok-answer.answer c.answer.new.self c.in_ok-answer.ensures.served
+    is_narrowing c.args.self.now c.args.request.now c.answer.new.self c.in_ok-answer.answer c.in_ok-answer.ensures.served
 
 pub returns-clause-spares : goal.returns-clause-spares
-returns-clause-spares g c = is_sparing c.args.self.now c.args.request.now c.in_ok-answer.answer c.answer.new.self
+returns-clause-spares g c = is_sparing c.args.self.now c.args.request.now c.answer.new.self c.in_ok-answer.answer
     (subst WellFormed (ap (λ (s : WorldState). s.tree) c.self.view_is) c.known.ensures)
     (subst WellFormed (ap (λ (s : WorldState). s.tree) c.self-2.view_is) c.known-2.ensures) c.in_ok-answer.ensures.served
 

@@ -1,11 +1,5 @@
-use Rattle.pua_script.proofs.Common.{rules}
-use Rattle.pua_script.specs.Replay.{new_world}
+use Rattle.pua_script.proofs.Common.{ap}
 use Rattle.pua_script.proofs.world.World.new.Goals as goal
 
-pub invariant_of-result : goal.invariant_of-result
-invariant_of-result g c =
-    let t = g.T.FileTree.content c.args.tree in
-    record { world = new_world t; stands = c.in_ok-processes.ensures t c.args.table }
-
-pub returns-clause-table : goal.returns-clause-table
-returns-clause-table g c = search rules
+pub returns : goal.returns
+returns g c = ap (λ processes. record { tree = g.T.FileTree.content c.args.tree; table = c.args.table; processes = processes }) c.in_ok-processes.ensures

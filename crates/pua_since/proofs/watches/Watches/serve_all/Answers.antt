@@ -34,8 +34,8 @@ returns-clause-watched g c =
     (YieldsList-at source (YieldsList-from_zip (YieldsList-from_slice asks cc) (YieldsList-from_slice told cc))) (cc) in
     let ended = YieldsList-end road done c.loop-index.index-iterator c.loop-index.yielded_by c.next.result c.next.new.self c.in-None.is
     c.next.ensures.steps in
-    λ w stands is watched. all_watched c.args.world.now start asks told (length done) c.loop-index.world c.loop-index.self
-    c.loop-index.invariant ended.1 w stands is watched
+    λ is watched. all_watched c.args.world.now start asks told (length done) c.loop-index.world c.loop-index.self
+    c.loop-index.invariant ended.1 is watched
 
 pub returns-clause-world : goal.returns-clause-world
 returns-clause-world g c =
@@ -48,5 +48,5 @@ returns-clause-world g c =
     (YieldsList-at source (YieldsList-from_zip (YieldsList-from_slice asks cc) (YieldsList-from_slice told cc))) (cc) in
     let ended = YieldsList-end road done c.loop-index.index-iterator c.loop-index.yielded_by c.next.result c.next.new.self c.in-None.is
     c.next.ensures.steps in
-    λ w stands is. all_moved c.args.world.now start asks told (length done) c.loop-index.world c.loop-index.self c.loop-index.invariant
-    ended.1 w stands is
+    λ is. all_moved c.args.world.now start asks told (length done) c.loop-index.world c.loop-index.self c.loop-index.invariant
+    ended.1 is

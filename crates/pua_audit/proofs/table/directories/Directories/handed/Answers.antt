@@ -6,6 +6,6 @@ use Rattle.pua_audit.proofs.table.directories.Directories.handed.Goals as goal
 pub returns-in-DotDot : goal.returns-in-DotDot
 returns-in-DotDot c =
     some_leads
-    (λ left is. λ t h fits stands fit named covered living dots. is t h fits stands covered living ∙
-    handed_self t h fits c.args.found.now fit (above t c.args.from) DotDot (dots c.in-DotDot.is))
+    (λ left is. λ t fits fit named covered living dots. is t fits covered living ∙
+    handed_self t c.args.process.now fits c.args.found.now fit (above t c.args.from) DotDot (dots c.in-DotDot.is))
     c.handed_up.result c.handed_up.ensures

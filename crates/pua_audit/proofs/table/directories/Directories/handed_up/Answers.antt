@@ -4,6 +4,6 @@ use Rattle.pua_audit.proofs.table.directories.Directories.handed_up.Goals as goa
 
 pub returns-in-None : goal.returns-in-None
 returns-in-None c =
-    some_leads (λ left is. λ t h fits stands covered living. is t h covered ∙
-    handed_above t h fits c.args.from living (sym (c.kept.ensures.history h stands) ∙ c.in-None.is)) c.cover_in.result
+    some_leads (λ left is. λ t fits covered living. is t c.args.process.now covered ∙
+    handed_above t c.args.process.now fits c.args.from living (sym c.kept.ensures.state ∙ c.in-None.is)) c.cover_in.result
     c.cover_in.ensures

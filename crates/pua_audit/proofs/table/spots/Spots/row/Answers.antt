@@ -1,4 +1,4 @@
-use Rattle.pua_audit.proofs.Common.{◌≡◌, ◌<◌, ◌^◌, ◌∙◌, ℕ, suc, List, length, arith, refl, sym, subst, add-one, letter_cost, plain_history}
+use Rattle.pua_audit.proofs.Common.{◌≡◌, ◌<◌, ◌^◌, ◌∙◌, ℕ, suc, List, length, arith, refl, sym, subst, add-one, letter_cost}
 use Rattle.pua_audit.proofs.Common.{AreCovered, cover_in, judge_in, IsJudgedRow, IsLetter, call_count, get_or, rules, []}
 use Rattle.std.proofs.Common.{suc-mul}
 use Rattle.pua_audit.specs.Spots.{AreLettersIn}
@@ -18,10 +18,10 @@ loop-letter-init g c =
     let ns : List ℕ = c.deref-letter-items.result.now in
     let among : AreLettersIn c.args.dir s.dots.items s.names.items ns =
     subst (AreLettersIn c.args.dir s.dots.items s.names.items) (sym c.deref-letter-items.ensures.value) c.in_ok-letters.ensures in
-    let told = λ (over : c.args.over ≡ cover_in a.seen.tree (plain_history a.process) c.args.dir).
+    let told = λ (over : c.args.over ≡ cover_in a.seen.tree a.process c.args.dir).
     c.within-within.ensures c.args.dir c.requires.living over
     (λ no. s.unveiled c.args.dir (apart_none c.args.dir s.veiled.items (sym c.has_veil_in-veiled.ensures ∙ no))) in
-    let bare = λ (over : c.args.over ≡ cover_in a.seen.tree (plain_history a.process) c.args.dir).
+    let bare = λ (over : c.args.over ≡ cover_in a.seen.tree a.process c.args.dir).
     letters_bare a c.args.dir missing s.dots.items s.names.items ns c.requires.living (told over).missing s.told among in
     record {
       row = λ covered over n low reached.
@@ -77,10 +77,10 @@ loop-letter-preserved g c =
     let ns : List ℕ = c.deref-letter-items.result.now in
     let among : AreLettersIn c.args.dir s.dots.items s.names.items ns =
     subst (AreLettersIn c.args.dir s.dots.items s.names.items) (sym c.deref-letter-items.ensures.value) c.in_ok-letters.ensures in
-    let told = λ (over : c.args.over ≡ cover_in a.seen.tree (plain_history a.process) c.args.dir).
+    let told = λ (over : c.args.over ≡ cover_in a.seen.tree a.process c.args.dir).
     c.within-within.ensures c.args.dir c.requires.living over
     (λ no. s.unveiled c.args.dir (apart_none c.args.dir s.veiled.items (sym c.has_veil_in-veiled.ensures ∙ no))) in
-    let bare = λ (over : c.args.over ≡ cover_in a.seen.tree (plain_history a.process) c.args.dir).
+    let bare = λ (over : c.args.over ≡ cover_in a.seen.tree a.process c.args.dir).
     letters_bare a c.args.dir missing s.dots.items s.names.items ns c.requires.living (told over).missing s.told among in
     let at = all_at_index (λ n. n < length a.letters) ns 0 (among.within (length a.letters) s.told.dotted
     s.told.within) k c.loop-letter-test.true in
@@ -89,8 +89,8 @@ loop-letter-preserved g c =
     letter_read a.letters c.as_slice-components.result.now (get_or ns k 0) letter c.as_slice-components.ensures.letters at
     c.index-components-letter.is in
     let found = c.letter-found.result in
-    let exact = λ (covered : AreCovered a.seen.tree (plain_history a.process) c.args.dirs.now)
-    (over : c.args.over ≡ cover_in a.seen.tree (plain_history a.process) c.args.dir).
+    let exact = λ (covered : AreCovered a.seen.tree a.process c.args.dirs.now)
+    (over : c.args.over ≡ cover_in a.seen.tree a.process c.args.dir).
     subst (λ (l : List ℕ). IsLetter (judge_in a) c.args.dir l found.all found.kept found.links found.leads) is
     (c.letter-found.ensures.exact (told over) (l.invariant.covered covered)) in
     record {
@@ -102,7 +102,7 @@ loop-letter-preserved g c =
       grown = grown_further c.args.dirs.now.numbers l.dirs.numbers c.put.new.dirs.numbers l.invariant.grown c.in_ok-put.ensures.grown;
       living = λ living. c.in_ok-put.ensures.living a.seen.tree c.letter-found.ensures.lives (l.invariant.living living);
       covered = λ covered.
-          c.in_ok-put.ensures.covered a.seen.tree (plain_history a.process)
+          c.in_ok-put.ensures.covered a.seen.tree a.process
           (c.letter-found.ensures.covered (l.invariant.covered covered)) (l.invariant.covered covered);
       tree = c.letter-found.ensures.tree ∙ l.invariant.tree;
       cost = omega (arith, l.invariant.cost, c.letter-found.ensures.cost, suc-mul k (letter_cost a.seen.tree));

@@ -1,0 +1,23 @@
+-- The laws are the theorems.
+use Rattle.pua_ever.proofs.JointlyDone.{jointly_within, jointly_complete, jointly_through, jointly_after_read}
+use Rattle.pua_ever.proofs.JointlyLasts.{jointly_lasts}
+use Rattle.pua_ever.proofs.JointlyGrows.{jointly_grows}
+use Rattle.pua_ever.proofs.laws.jointly_law.Goals as goal
+
+pub returns-clause-within : goal.returns-clause-within
+returns-clause-within c = jointly_within
+
+pub returns-clause-complete : goal.returns-clause-complete
+returns-clause-complete c = jointly_complete
+
+pub returns-clause-through : goal.returns-clause-through
+returns-clause-through c = jointly_through
+
+pub returns-clause-read : goal.returns-clause-read
+returns-clause-read c = jointly_after_read
+
+pub returns-clause-lasts : goal.returns-clause-lasts
+returns-clause-lasts c = jointly_lasts
+
+pub returns-clause-grows : goal.returns-clause-grows
+returns-clause-grows c = jointly_grows

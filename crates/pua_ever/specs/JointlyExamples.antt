@@ -1,0 +1,35 @@
+-- Worked rows on what processes with veils of their own can ever touch together, in the tree of the rows through execs.
+use Rattle.std.specs.Prelude.{true, List, [], ◌∷◌, Some, codes}
+use Rattle.pua_path.specs.declared.found.Found.TheVariants.{Slot}
+use Rattle.pua_calls.specs.Promises.{rpath, cpath, reading, creating}
+use Rattle.pua_calls.specs.Calls.{standard_table}
+use Rattle.pua_calls.specs.declared.call.Call.TheVariants as call
+use Rattle.pua_policy.specs.States.{ProcessState, new_process}
+use Rattle.pua_policy.specs.declared.place.Place.TheVariants as place
+use Rattle.pua_objects.specs.Objects.{At}
+use Rattle.pua_ever.specs.Ever.{Thing, Stands}
+use Rattle.pua_ever.specs.ThroughExamples.{started_tree}
+use Rattle.pua_ever.specs.Jointly.{IsJointlyAllowed}
+
+-- who moves from /in to /out and reads nothing, and who reads in /out and sees nothing else
+abbrev pub mover : ProcessState
+mover = record new_process {
+  promises = Some cpath;
+  veils = (place.Dir 1, creating) ∷ (place.Dir 2, creating) ∷ [];
+  locked = true;
+}
+
+abbrev pub reader : ProcessState
+reader = record new_process { promises = Some rpath; veils = (place.Dir 2, reading) ∷ []; locked = true }
+
+abbrev pub crew : List ProcessState
+crew = mover ∷ reader ∷ []
+
+-- the file s in /in
+abbrev pub file_in : Thing
+file_in = Stands (At (Slot 1 (codes "s") (Some 3)))
+
+pub record JointlyRows : Type 0 where
+  -- the reader comes to read what the mover brings, which has no promise to read it
+  pub brought : IsJointlyAllowed started_tree standard_table crew reader file_in call.OpenRead
+  pub unread : IsJointlyAllowed started_tree standard_table crew mover file_in call.OpenRead → ⊥

@@ -1,0 +1,57 @@
+-- What the list of objects that a command writes says of the present.
+use Rattle.std.specs.Prelude.{◌≡◌, ℕ, List, ◌++◌, Some, Ok}
+use Rattle.std.specs.List.{Contains}
+use Rattle.pua_tree.specs.Tree.{Tree}
+use Rattle.pua_tree.specs.Listing.{listing}
+use Rattle.pua_path.specs.Resolution.{resolution_of_text}
+use Rattle.pua_calls.specs.Calls.{CallTable, ending_of, last_of}
+use Rattle.pua_calls.specs.declared.call.Call.{Call}
+use Rattle.pua_calls.specs.declared.rules.Rules.{Rules}
+use Rattle.pua_policy.specs.States.{ProcessState}
+use Rattle.pua_policy.specs.Verdict.{verdict_of}
+use Rattle.pua_policy.specs.declared.answer.Verdict.TheVariants.{Allowed}
+use Rattle.pua_script.specs.Requests.{Asked}
+use Rattle.pua_script.specs.Scripts.{script_by}
+use Rattle.pua_script.specs.Replay.{new_world, kept_at, answers_to, world_after}
+use Rattle.pua_objects.specs.Objects.{Line, objects, line_text}
+use Rattle.pua_objects.specs.Laws.{IsCallTold, IsListed}
+use Rattle.pua_texts.specs.Lines.{answer_lines, with_end}
+use Rattle.pua_texts.specs.ObjectLines.{process_list, heading_now}
+use Rattle.pua_words.specs.declared.command.Processes.TheVariants.{One}
+use Rattle.pua_tool.specs.Texts.{Chosen, table_by}
+use Rattle.pua_tool.specs.ObjectTexts.{objects_text}
+
+-- a line stands in a text
+abbrev pub HasLine : List ℕ → List ℕ → Type 0
+HasLine text line = (before : List ℕ) × (after : List ℕ) × (text ≡ before ++ with_end line ++ after)
+
+-- whatever path is spelled, from whatever directory: where a call is allowed on it, what it names has a line with the call
+abbrev pub IsListComplete : CallTable → Tree → ProcessState → Type 0
+IsListComplete table t now = (from : ℕ) (call : Call) (path : List ℕ) →
+    let named = resolution_of_text t from (ending_of call) path (last_of call) in
+    verdict_of t table now call named ≡ Allowed → IsListed t table now call named
+
+-- and each line stands in the text
+abbrev pub AreLinesPrinted : CallTable → Tree → ProcessState → List ℕ → Type 0
+AreLinesPrinted table t now text = (line : Line) → Contains (objects t table now) line → HasLine text (line_text t line)
+
+-- each call of each line is allowed on the line's own path, or on that of each further name
+abbrev pub AreLinesSound : CallTable → Tree → ProcessState → Type 0
+AreLinesSound table t now = (line : Line) → Contains (objects t table now) line → (call : Call) → Contains line.calls call →
+    IsCallTold t table now call line.word line.subject
+
+-- the text is the answers and the list of the process, and the list is complete, and has nothing by mistake
+pub record IsListWritten (rules : Rules) (table : CallTable) (t : Tree) (first : List Asked) (process : ℕ) (text : List ℕ) : Type 0 where
+  pub now : ProcessState
+  pub here : kept_at (world_after table (new_world t) first) process ≡ Some now
+  pub is_text : text ≡ answer_lines 1 (answers_to table (new_world t) first)
+      ++ process_list (heading_now rules process) table (world_after table (new_world t) first).tree now
+  pub complete : IsListComplete table (world_after table (new_world t) first).tree now
+  pub sound : AreLinesSound table (world_after table (new_world t) first).tree now
+  pub printed : AreLinesPrinted table (world_after table (new_world t) first).tree now text
+
+abbrev pub ObjectsAsWritten : Type 0
+ObjectsAsWritten = (choice : Chosen) (tree_bytes script_bytes : List ℕ) (table : CallTable) (t : Tree) (first : List Asked)
+    (process : ℕ) (text : List ℕ) →
+    table_by choice ≡ Ok table → listing tree_bytes ≡ Ok t → script_by choice.rules script_bytes ≡ Ok first →
+    objects_text choice tree_bytes script_bytes (One process) ≡ Ok text → IsListWritten choice.rules table t first process text
