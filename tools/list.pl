@@ -86,8 +86,10 @@ my ($go_on, $each_link);   # whether -k and -v were given
 my %left_out;              # by path: what this -x left out, `name` or `directory`; empty: nothing
 my %passed_over;           # by path: that -k passed it over
 my %walked;                # by a directory's path: that all in it was taken
-my %nodes  = ('' => { kind => 'dir' });    # what is listed, by its path; the root's is empty
-my %inside = ('' => {});                   # by a directory's path: the names listed in it
+
+# What is listed, by its path; the root's is empty. Each is a string to keep memory small: `KIND
+# DEVICE:INODE NAMES`, NAMES being how many names it has, and behind that a link's target.
+my %nodes = ('' => 'dir');
 
 sub report { print STDERR "$NAME: @_\n"; return }
 
@@ -104,7 +106,7 @@ sub pass_over {
 # Bytes that aren't visible, and backslashes, as a backslash and three octal digits.
 sub spelled {
     my ($bytes) = @_;
-    $bytes =~ s/([^\x21-\x7e]|\\)/sprintf '\\%03o', ord $1/ge;
+    $bytes =~ s/([^\x21-\x5b\x5d-\x7e])/sprintf '\\%03o', ord $1/ge;
     return $bytes;
 }
 
@@ -112,7 +114,14 @@ sub spelled {
 sub shown { my ($path) = @_; return $path eq '' ? '/' : spelled($path) }
 
 # The directory in which a path stands; the root stands in itself.
-sub above { my ($path) = @_; $path =~ s{/[^/]*\z}{}; return $path }
+sub above { my ($path) = @_; return substr $path, 0, rindex $path, '/' }
+
+# The last component of a path.
+sub last_of { my ($path) = @_; return substr $path, 1 + rindex $path, '/' }
+
+# The kind of what is listed at a path, and the target of a link.
+sub kind { my ($path) = @_; return (split / /, $nodes{$path}, 2)[0] }
+sub target { my ($path) = @_; return (split / /, $nodes{$path}, 4)[3] }
 
 # The components of a path.
 sub parts { return grep { $_ ne '' } split m{/}, $_[0] }
@@ -134,31 +143,28 @@ sub found { my ($path) = @_; return lstat($path eq '' && $root eq '' ? '/' : "$r
 # kind, and an empty one where it is passed over.
 sub take {
     my ($path) = @_;
-    return $nodes{$path}{kind} if $nodes{$path};
-    my @stat = found($path);
-    if (!@stat) {
+    return kind($path) if $nodes{$path};
+    my ($device, $inode, $mode, $names) = found($path);
+    if (!defined $device) {
         pass_over($path, $!);
         return '';
     }
-    my %node = (kind => 'file', file => "$stat[0]:$stat[1]", names => $stat[3]);
+    my ($kind, $more) = ('file', '');
     if (-l _) {
-        $node{kind} = 'link';
-        $node{target} = readlink "$root$path";
-        my $fault = defined $node{target} ? target_fault($node{target}) : "$!";
+        my $target = readlink "$root$path";
+        my $fault = defined $target ? target_fault($target) : "$!";
         if ($fault) {
             pass_over($path, $fault);
             return '';
         }
+        ($kind, $more) = ('link', " $target");
     } elsif (-d _) {
-        $node{kind} = 'dir';
-        $inside{$path} = {};
-    } elsif (-f _ && $stat[2] & 0111) {
-        $node{kind} = 'prog';
+        $kind = 'dir';
+    } elsif (-f _ && $mode & 0111) {
+        $kind = 'prog';
     }
-    my ($name) = $path =~ m{([^/]*)\z};
-    $inside{ above($path) }{$name} = 1;
-    $nodes{$path} = \%node;
-    return $node{kind};
+    $nodes{$path} = "$kind $device:$inode $names$more";
+    return $kind;
 }
 
 # Why pua reads no such target, or nothing.
@@ -235,7 +241,7 @@ sub follow {
             return ($path, spelled($operand) . ': too many links') if ++$links > $MOST_LINKS;
             take_way($next);
             return ($path) if take($next) ne 'link';
-            my $target = $nodes{$next}{target};
+            my $target = target($next);
             $path = '' if $target =~ m{\A/};
             unshift @parts, grep { $_ ne '.' } parts($target);
         } elsif (-d _ || !@parts) {
@@ -425,7 +431,7 @@ sub judge_size {
 # The path, not listed but there on the disk, to which a link leads; undef where there is none.
 sub outside {
     my ($link) = @_;
-    my ($path, $links, @parts) = (above($link), 0, $link =~ m{([^/]*)\z});
+    my ($path, $links, @parts) = (above($link), 0, last_of($link));
     while (defined(my $part = shift @parts)) {
         next if $part eq '.';
         if ($part eq '..') {
@@ -433,13 +439,14 @@ sub outside {
             next;
         }
         my $next = "$path/$part";
-        my $node = $nodes{$next};
-        return found($next) ? $next : undef unless $node;
-        if ($node->{kind} eq 'link') {
+        return found($next) ? $next : undef unless $nodes{$next};
+        my $kind = kind($next);
+        if ($kind eq 'link') {
             return if ++$links > $MOST_LINKS;
-            $path = '' if $node->{target} =~ m{\A/};
-            unshift @parts, parts($node->{target});
-        } elsif ($node->{kind} eq 'dir') {
+            my $target = target($next);
+            $path = '' if $target =~ m{\A/};
+            unshift @parts, parts($target);
+        } elsif ($kind eq 'dir') {
             $path = $next;
         } else {
             return;
@@ -448,47 +455,58 @@ sub outside {
     return;
 }
 
-# What a line has for a node, in which $parent is the number of its directory and $made that of
-# the same file under an earlier name, if there is one.
-sub fields {
-    my ($node, $parent, $name, $made) = @_;
-    return ('hard', $parent, $name, $made) if defined $made;
-    my @target = defined $node->{target} ? spelled($node->{target}) : ();
-    return ($node->{kind}, $parent, $name, @target);
+# What is listed below the root, in the order of the listing: a name, then what is in it.
+sub in_order {
+    my @paths = grep { $_ ne '' } keys %nodes;
+    tr{/}{\0} for @paths;    # so the end of a name comes before each byte of a longer one
+    @paths = sort @paths;
+    tr{\0}{/} for @paths;
+    return \@paths;
 }
 
-# The lines of the listing, and the paths in their order.
-sub lines {
-    my (@lines, @order, %made);    # %made has the number of a node, by its device and inode
-    my ($header, %number) = ('tree 1', '' => 0);
-    my @paths = map { "/$_" } sort keys %{ $inside{''} };
-    while (defined(my $path = shift @paths)) {
-        my $node = $nodes{$path};
-        my $made = $node->{kind} eq 'dir' ? undef : $made{ $node->{file} };
-        my ($name) = $path =~ m{([^/]*)\z};
-        push @order, $path;
-        $number{$path} = @order;
-        $header = 'tree 2' if defined $made;
-        $made{ $node->{file} } = $number{$path} unless defined $made;
-        push @lines,
-            join(' ', $number{$path}, fields($node, $number{ above($path) }, spelled($name), $made))
-            . "\n";
-        unshift @paths, map { "$path/$_" } sort keys %{ $inside{$path} || {} };
+# By the number of each further name of a file, the number of its first one.
+sub further_names {
+    my ($order) = @_;
+    my ($number, %first, %further) = (0);
+    for my $path (@$order) {
+        $number++;
+        my ($kind, $file) = split / /, $nodes{$path}, 3;
+        next if $kind eq 'dir';
+        if ($first{$file}) { $further{$number} = $first{$file} }
+        else               { $first{$file} = $number }
     }
-    return (["$header\n", "0 dir\n", @lines], \@order);
+    return \%further;
+}
+
+# Prints the listing.
+sub print_listing {
+    my ($order, $further) = @_;
+    my ($number, %number) = (0, '' => 0);    # %number has those of directories
+    print %$further ? "tree 2\n" : "tree 1\n", "0 dir\n" or return;
+    for my $path (@$order) {
+        $number++;
+        my ($kind, undef, undef, $target) = split / /, $nodes{$path}, 4;
+        $number{$path} = $number if $kind eq 'dir';
+        my $line = $number{ above($path) } . ' ' . spelled(last_of($path));
+        if    ($further->{$number}) { $line = "hard $line $further->{$number}" }
+        elsif (defined $target)     { $line = "$kind $line " . spelled($target) }
+        else                        { $line = "$kind $line" }
+        print "$number $line\n" or return;
+    }
+    return 1;
 }
 
 # Reports the links that lead out of the listing, by where they lead to, or with -v one by one.
 sub report_links {
     my ($order) = @_;
     my %leading;    # by what isn't listed: the links that lead there
-    for my $link (grep { $nodes{$_}{kind} eq 'link' } @$order) {
+    for my $link (grep { $nodes{$_} =~ /\Alink / } @$order) {
         my $outside = outside($link);
         push @{ $leading{ $each_link ? $link : $outside } }, [$link, $outside] if defined $outside;
     }
     for my $links (map { $leading{$_} } sort keys %leading) {
         my ($link, $outside) = @{ $links->[0] };
-        my $what = 'the link to ' . spelled($nodes{$link}{target}) . ' leads to ' . shown($outside)
+        my $what = 'the link to ' . spelled(target($link)) . ' leads to ' . shown($outside)
             . ', which is not listed';
         $what .= '; so do further links: ' . (@$links - 1) if @$links > 1;
         report(shown($link) . ": $what");
@@ -523,16 +541,16 @@ sub write_manifest {
 
 # Reports, in the order of the listing, the names of what has several.
 sub report_names {
-    my ($order) = @_;
-    my %names;
-    push @{ $names{ $nodes{$_}{file} } }, $_ for grep { $nodes{$_}{kind} ne 'dir' } @$order;
+    my ($order, $further) = @_;
+    my ($number, %listed) = (0);    # %listed has how many names are listed, beside the first
+    $listed{$_}++ for values %$further;
     for my $path (@$order) {
-        my $node = $nodes{$path};
-        next if $node->{kind} eq 'dir';
-        my ($first, @others) = @{ $names{ $node->{file} } };
-        report(shown($path) . ': a further name of ' . shown($first)) if $path ne $first;
+        my $first = $further->{ ++$number };
+        report(shown($path) . ': a further name of ' . shown($order->[$first - 1])) if $first;
+        next if $first || $nodes{$path} =~ /\Adir /;
+        my $names = (split / /, $nodes{$path}, 4)[2];
         report(shown($path) . ': the file has a further name, which is not listed')
-            if $path eq $first && $node->{names} > 1 + @others;
+            if $names > 1 + ($listed{$number} || 0);
     }
     return;
 }
@@ -562,12 +580,13 @@ my @requests = defined $script ? requests($script) : ();
 take_operand($_) for @ARGV;
 take_script(@requests);
 judge_size();
-my ($lines, $order) = lines();
+my $order = in_order();
 report_links($order);
-report_names($order);
+my $further = further_names($order);
+report_names($order, $further);
 report_gaps();
 report_unveiled(@requests) if defined $script;
 write_manifest($manifest) if defined $manifest;
 binmode STDOUT;
-print @$lines or fail("standard output: $!");
+print_listing($order, $further) or fail("standard output: $!");
 close STDOUT or fail("standard output: $!");
