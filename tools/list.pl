@@ -1,20 +1,23 @@
 #!/usr/bin/perl
 # Prints the listing of real files and directories, as pua reads it:
 #
-#     list.pl [-kv] [-m FILE] [-r ROOT] [-s SCRIPT] [-x PATH]... [PATH]...
+#     list.pl [-kv] [-f PATHS] [-m FILE] [-r ROOT] [-s SCRIPT] [-x PATH]... [PATH]...
 #
 # Each PATH is listed at its own place below the root, with all that is in it; of the directories
 # on the way to it, only what leads there is listed. What isn't listed, pua takes for missing. For
 # a script that is made of a trace take the listing before the run: afterwards the files are what
 # the run left.
 #
+#     -f PATHS   lists what the lines of the file PATHS name, a path each as find(1) prints it, and
+#                the directories on the way; of a directory nothing that is in it. Each byte stands
+#                for itself. PATHS may be `-` for standard input.
 #     -k         goes on where a file, a directory or a link can't be read or listed. A directory
 #                that can't be read is listed as an empty one.
 #     -m FILE    writes into FILE what isn't listed though it was asked for: a line `left-out
 #                PATH` for what a -x left out, and `passed-over PATH` for what -k did. It is kept
 #                beside the listing, which doesn't show it; page.pl and glance.pl do.
 #     -r ROOT    takes the directory ROOT for the root, as after chroot(2); every other path is
-#                then one below ROOT. With neither PATH nor SCRIPT, all of ROOT is listed.
+#                then one below ROOT. With no PATH, SCRIPT or PATHS, all of ROOT is listed.
 #     -s SCRIPT  lists what a script for pua can be about: for each path that it names the
 #                directories on the way, the links and what they lead to, and what stands there.
 #                Of a directory that it veils, opens, renames or removes, or to whose name it
@@ -42,10 +45,10 @@
 # veil and holds a promise about paths, and how many names aren't listed. To count these, -s reads
 # the directories below the root then, up to 100,000 names.
 #
-# Status 0: the listing was printed. Status 1: a file, a directory, a link or the script can't be
-# read, the script isn't one, there are more than 4,096 names (how many, and in which directories
-# most of them are, is reported), or a link's target is longer than pua reads; then nothing was
-# printed. Status 2: the words are no use of it.
+# Status 0: the listing was printed. Status 1: a file, a directory, a link, the script or PATHS
+# can't be read, the script isn't one, a line of PATHS is no path, there are more than 4,096 names
+# (how many, and in which directories most of them are, is reported), or a link's target is longer
+# than pua reads; then nothing was printed. Status 2: the words are no use of it.
 use strict;
 use warnings;
 use Cwd qw(getcwd);
@@ -53,7 +56,8 @@ use Errno qw(ENOENT ENOTDIR ENAMETOOLONG);
 use Getopt::Long qw(:config posix_default no_ignore_case bundling);
 
 my ($NAME) = $0 =~ m{([^/]*)\z};
-my $USAGE = "usage: $NAME [-kv] [-m FILE] [-r ROOT] [-s SCRIPT] [-x PATH]... [PATH]...\n";
+my $USAGE = "usage: $NAME [-kv] [-f PATHS] [-m FILE] [-r ROOT] [-s SCRIPT] [-x PATH]..."
+    . " [PATH]...\n";
 
 my $MOST_LISTED = 4096;    # names, the root among them
 my $MOST_TARGET = 1023;    # bytes in a link's target
@@ -224,8 +228,8 @@ sub take_way {
 
 # Follows a path on the disk, and takes the links by which it leads on. With $follows a link at
 # its end leads on too. Answers the path of what is there, and nothing where a -x left it out;
-# where the path leads nowhere, how far it leads, why it doesn't go on, and the path and the error
-# there.
+# where the path leads nowhere, how far it leads, at which path it doesn't go on and why, and the
+# error of the system there.
 sub follow {
     my ($operand, $follows) = @_;
     my ($path, $links, @parts) = ('', 0, parts(whole($operand)));
@@ -236,9 +240,9 @@ sub follow {
         }
         my $next = "$path/$part";
         return leave_out($next) if exists $left_out{$next};
-        found($next) or return ($path, shown($next) . ": $!", $next, $!);
+        found($next) or return ($path, $next, "$!", $! + 0);
         if (-l _ && (@parts || $follows)) {
-            return ($path, spelled($operand) . ': too many links') if ++$links > $MOST_LINKS;
+            return ($path, $operand, 'too many links') if ++$links > $MOST_LINKS;
             take_way($next);
             return ($path) if take($next) ne 'link';
             my $target = target($next);
@@ -247,7 +251,7 @@ sub follow {
         } elsif (-d _ || !@parts) {
             $path = $next;
         } else {
-            return ($next, shown($next) . ': not a directory');
+            return ($next, $next, 'not a directory');
         }
     }
     return ($path);
@@ -257,11 +261,34 @@ sub follow {
 # operand leads to it.
 sub take_operand {
     my ($operand) = @_;
-    my ($path, $fault) = follow($operand, 0);
-    fail($fault) if defined $fault;
+    my ($path, $at, $why) = follow($operand, 0);
+    fail(shown($at) . ": $why") if defined $why;
     return unless defined $path;
     take_way($path);
     take_all($path);
+    return;
+}
+
+# Takes what the lines of a file name, each by itself.
+sub take_lines {
+    my ($file) = @_;
+    my ($number, $in) = (0, \*STDIN);
+    $file eq '-' or open $in, '<', $file or fail(spelled($file) . ": $!");
+    binmode $in;
+    while (defined(my $line = <$in>)) {
+        $number++;
+        chomp $line;
+        fail(spelled($file) . ": line $number: bad path") if $line eq '' || $line =~ /\0/;
+        my $named = whole($line);
+        my ($path, undef, $why) = follow($named, 0);
+        if (defined $why) {
+            pass_over($named, $why);
+        } elsif (defined $path) {
+            take_way($path);
+            take($path);
+        }
+    }
+    fail(spelled($file) . ': it cannot be read') if $in->error;
     return;
 }
 
@@ -269,16 +296,16 @@ sub take_operand {
 # why it leads nowhere, if nothing is there that has to be.
 sub take_named {
     my ($named, $role) = @_;
-    my ($path, $fault, $at, $error) = follow($named, 1);
+    my ($path, $at, $why, $error) = follow($named, 1);
     return unless defined $path;
     take_way($path);
     take($path);
-    if (!defined $fault) {
+    if (!defined $why) {
         take_all($path) if $role =~ /tree/;
-    } elsif (defined $error && !grep { $error == $_ } ENOENT, ENOTDIR, ENAMETOOLONG) {
-        pass_over($at, "$error");
+    } elsif ($error && !grep { $error == $_ } ENOENT, ENOTDIR, ENAMETOOLONG) {
+        pass_over($at, $why);
     } elsif ($role !~ /new/) {
-        return $fault;
+        return shown($at) . ": $why";
     }
     return;
 }
@@ -555,8 +582,9 @@ sub report_names {
     return;
 }
 
-my ($script, $manifest, @exclusions);
+my ($script, $paths, $manifest, @exclusions);
 my $understood = GetOptions(
+    'f=s' => \$paths,
     'k'   => \$go_on,
     'm=s' => \$manifest,
     'r=s' => \$given,
@@ -564,20 +592,23 @@ my $understood = GetOptions(
     'v'   => \$each_link,
     'x=s' => \@exclusions,
 );
-my @words = (@ARGV, @exclusions, grep { defined } $manifest);
-if (!$understood || !(@ARGV || defined $given || defined $script) || grep { $_ eq '' } @words) {
+my @words = (@ARGV, @exclusions, grep { defined } $manifest, $paths);
+my $names_some = @ARGV || defined $script || defined $paths;
+if (!$understood || !($names_some || defined $given) || grep { $_ eq '' } @words) {
     print STDERR $USAGE;
     exit 2;
 }
-utf8::is_utf8($_) && utf8::encode($_) for @ARGV, @exclusions, grep { defined } $given, $script;
+utf8::is_utf8($_) && utf8::encode($_)
+    for @ARGV, @exclusions, grep { defined } $given, $script, $paths;
 if (defined $given) {
     fail(spelled($given) . ': not a directory') unless -d $given;
     ($root = $given =~ m{\A/} ? $given : here() . "/$given") =~ s{/+\z}{};
-    @ARGV = ('/') unless @ARGV || defined $script;
+    @ARGV = ('/') unless $names_some;
 }
 $left_out{ whole($_) } = '' for @exclusions;
 my @requests = defined $script ? requests($script) : ();
 take_operand($_) for @ARGV;
+take_lines($paths) if defined $paths;
 take_script(@requests);
 judge_size();
 my $order = in_order();
