@@ -1,7 +1,7 @@
 #!/usr/bin/perl
 # Prints the listing of real files and directories, as pua reads it:
 #
-#     list.pl [-kv] [-f PATHS] [-m FILE] [-r ROOT] [-s SCRIPT] [-x PATH]... [PATH]...
+#     list.pl [-kv] [-f PATHS] [-m FILE] [-n N] [-r ROOT] [-s SCRIPT] [-x PATH]... [PATH]...
 #
 # Each PATH is listed at its own place below the root, with all that is in it; of the directories
 # on the way to it, only what leads there is listed. What isn't listed, pua takes for missing. For
@@ -16,6 +16,10 @@
 #     -m FILE    writes into FILE what isn't listed though it was asked for: a line `left-out
 #                PATH` for what a -x left out, and `passed-over PATH` for what -k did. It is kept
 #                beside the listing, which doesn't show it; page.pl and glance.pl do.
+#     -n N       lists of what is in a directory all directories, and at most N files: the first
+#                ones in the order of the listing. Links, sockets and so on count as files. What a
+#                PATH, SCRIPT or PATHS names by itself, and links on the way, are listed anyhow. How
+#                many files aren't listed is reported; FILE of -m has none of them.
 #     -r ROOT    takes the directory ROOT for the root, as after chroot(2); every other path is
 #                then one below ROOT. With no PATH, SCRIPT or PATHS, all of ROOT is listed.
 #     -s SCRIPT  lists what a script for pua can be about: for each path that it names the
@@ -40,10 +44,11 @@
 # there but isn't listed, summed up by where they lead to; each further name of what is listed,
 # which a veil on the first one doesn't cover; that something has a name which isn't listed; a
 # directory that was left out, and a -x that left nothing out; with -k what was passed over, and
-# how much; with -s what the script names in vain, each name once and no name that the script
-# makes, how many relative paths are taken from the root, and each process that is left without a
-# veil and holds a promise about paths, and how many names aren't listed. To count these, -s reads
-# the directories below the root then, up to 100,000 names.
+# how much; with -n how many files aren't listed, and in how many directories; with -s what the
+# script names in vain, each name once and no name that the script makes, how many relative paths
+# are taken from the root, and each process that is left without a veil and holds a promise about
+# paths, and how many names aren't listed. To count these, -s reads the directories below the root
+# then, up to 100,000 names.
 #
 # Status 0: the listing was printed. Status 1: a file, a directory, a link, the script or PATHS
 # can't be read, the script isn't one, a line of PATHS is no path, there are more than 4,096 names
@@ -54,10 +59,11 @@ use warnings;
 use Cwd qw(getcwd);
 use Errno qw(ENOENT ENOTDIR ENAMETOOLONG);
 use Getopt::Long qw(:config posix_default no_ignore_case bundling);
+use List::Util qw(sum0);
 
 my ($NAME) = $0 =~ m{([^/]*)\z};
-my $USAGE = "usage: $NAME [-kv] [-f PATHS] [-m FILE] [-r ROOT] [-s SCRIPT] [-x PATH]..."
-    . " [PATH]...\n";
+my $USAGE = "usage: $NAME [-kv] [-f PATHS] [-m FILE] [-n N] [-r ROOT] [-s SCRIPT]"
+    . " [-x PATH]... [PATH]...\n";
 
 my $MOST_LISTED = 4096;    # names, the root among them
 my $MOST_TARGET = 1023;    # bytes in a link's target
@@ -87,9 +93,11 @@ my %arguments = (
 my $given;                 # ROOT, where it was given
 my $root = '';             # the directory that is taken for the root, without a slash at its end
 my ($go_on, $each_link);   # whether -k and -v were given
+my $most_files;            # N, where it was given
 my %left_out;              # by path: what this -x left out, `name` or `directory`; empty: nothing
 my %passed_over;           # by path: that -k passed it over
 my %walked;                # by a directory's path: that all in it was taken
+my %beyond;                # by the path of what is beyond the first N of its directory: no value
 
 # What is listed, by its path; the root's is empty. Each is a string to keep memory small: `KIND
 # DEVICE:INODE NAMES`, NAMES being how many names it has, and behind that a link's target.
@@ -211,9 +219,23 @@ sub take_all {
         next if take($path) ne 'dir' || $walked{$path}++;
         my ($names, $fault) = names_in($path);
         pass_over($path, $fault) if $fault;
-        push @paths, map { "$path/$_" } sort @$names;
+        my @inside = map { "$path/$_" } sort @$names;
+        push @paths, defined $most_files ? first_of(@inside) : @inside;
     }
     return;
+}
+
+# What -n lists of the paths in a directory; the others are noted.
+sub first_of {
+    my ($files, @first) = (0);
+    for my $path (@_) {
+        if (exists $left_out{$path} || !found($path) || -d _ || ++$files <= $most_files) {
+            push @first, $path;
+        } else {
+            $beyond{$path} = undef;
+        }
+    }
+    return @first;
 }
 
 # Takes the directories that lead to a path.
@@ -541,7 +563,7 @@ sub report_links {
     return;
 }
 
-# Reports what was left out, and what was passed over.
+# Reports what was left out, what was passed over, and how much is beyond the first files.
 sub report_gaps {
     for my $path (sort keys %left_out) {
         report(shown($path) . ': nothing was left out') unless $left_out{$path};
@@ -550,6 +572,11 @@ sub report_gaps {
     }
     report('passed over, since they could not be read or listed: ' . keys %passed_over)
         if %passed_over;
+    my %directories;
+    $directories{ above($_) }++ for grep { !$nodes{$_} } keys %beyond;
+    my $beyond = sum0(values %directories);
+    report("files that are not listed, beyond the first $most_files of a directory: $beyond, in "
+        . 'so many directories: ' . keys %directories) if $beyond;
     return;
 }
 
@@ -587,6 +614,7 @@ my $understood = GetOptions(
     'f=s' => \$paths,
     'k'   => \$go_on,
     'm=s' => \$manifest,
+    'n=s' => \$most_files,
     'r=s' => \$given,
     's=s' => \$script,
     'v'   => \$each_link,
@@ -594,6 +622,7 @@ my $understood = GetOptions(
 );
 my @words = (@ARGV, @exclusions, grep { defined } $manifest, $paths);
 my $names_some = @ARGV || defined $script || defined $paths;
+$understood &&= !defined $most_files || $most_files =~ /\A[0-9]{1,9}\z/;
 if (!$understood || !($names_some || defined $given) || grep { $_ eq '' } @words) {
     print STDERR $USAGE;
     exit 2;

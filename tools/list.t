@@ -355,13 +355,14 @@ sub refuses {
     my $root = room();
     make_path('d');
     file('f');
-    my $usage = qr/^usage: list\.pl \[-kv\] \[-f PATHS\] \[-m FILE\] \[-r ROOT\] \[-s SCRIPT\] \[-x PATH\]\.\.\. \[PATH\]\.\.\.\n\z/m;
+    my $usage = qr/^usage: list\.pl \[-kv\] \[-f PATHS\] \[-m FILE\] \[-n N\] \[-r ROOT\] \[-s SCRIPT\] \[-x PATH\]\.\.\. \[PATH\]\.\.\.\n\z/m;
     refuses('no words',          [],                     2, $usage);
     refuses('an unknown option', ['-q', '/etc'],         2, $usage);
     refuses('no path',           ['-x', '/etc'],         2, $usage);
     refuses('an empty path',     ['/etc', ''],           2, $usage);
     refuses('an empty manifest', ['-m', '', '/etc'],     2, $usage);
     refuses('no file of paths',  ['-f', '', '/etc'],     2, $usage);
+    refuses('-n of no number', ['-n', $_, '/etc'], 2, $usage) for '', '-1', 'x', '1.5', "1\n";
     refuses('a missing path',    ['-r', $root, '/none'], 1, qr/\Alist\.pl: \/none: \S.*\n\z/);
     refuses('a file on the way', ['-r', $root, '/f/x'],  1, qr/\Alist\.pl: \/f(\/x)?: \S.*\n\z/);
     refuses('a missing root',    ['-r', "$root/none"],   1, qr/: not a directory\n\z/);
@@ -573,6 +574,54 @@ for my $seed (1 .. 40) {
     put('in', join '', map { "$_\n" } shuffle(@paths));
     is_deeply([list('-r', $root, '-f', '-')], [$status, $out, $err], "random tree $seed, " . @paths . ' names: -f gives the walk');
     unlink "$room/in";
+    is_deeply([list('-r', $root, '-n', 100)], [$status, $out, $err], "random tree $seed: -n of many files too");
+
+    # By what the walk lists, what -n lists of it.
+    my $most = int rand 3;
+    my (%files, @first);
+    for my $path (@paths) {
+        my ($directory) = $path =~ m{(.*)/};
+        push @first, $path if !-l "$root$path" && -d _ || ++$files{$directory} <= $most;
+    }
+    ($status, $out, $err) = list('-r', $root, '-n', $most);
+    is_deeply([paths_of($out)], \@first, "random tree $seed: -n $most");
+    my $rest = @paths - @first;
+    my $in = grep { $_ > $most } values %files;
+    is(join('', $err =~ /^(.*beyond.*\n)/mg), $rest
+        ? "list.pl: files that are not listed, beyond the first $most of a directory: $rest, in so many directories: $in\n"
+        : '', "random tree $seed: what -n $most leaves");
+}
+
+# Of each directory the first files.
+{
+    my $root = room();
+    make_path('a/b', 'a/z', 'd');
+    file($_) for 'a/1', 'a/2', 'a/3', 'a/b/1', 'a/b/2', 'd/x';
+    symlink '1', 'a/0' or die;
+    my $rest = sub {
+        my ($most, $count, $in) = @_;
+        return "files that are not listed, beyond the first $most of a directory: $count, in so many directories: $in";
+    };
+    lists('-n 0', ['-r', $root, '-n', 0], ['1 dir 0 a', '2 dir 1 b', '3 dir 1 z', '4 dir 0 d'], $rest->(0, 7, 3));
+    my @one = ('1 dir 0 a', '2 link 1 0 1', '3 dir 1 b', '4 file 3 1');
+    lists('-n 1', ['-r', $root, '-n', 1], [@one, '5 dir 1 z', '6 dir 0 d', '7 file 6 x'],
+        '/a/0: the link to 1 leads to /a/1, which is not listed', $rest->(1, 4, 2));
+    my @named = ('1 dir 0 a', '2 link 1 0 1', '3 file 1 1', '4 file 1 3', '5 dir 1 b', '6 file 5 1', '7 dir 1 z');
+    lists('-n 1, and names', ['-r', $root, '-n', 1, '/a/3', '/a', '/a/1'], \@named, $rest->(1, 2, 2));
+    put('in', "/a/1\n/a/3\n");
+    lists('-n 1, and paths', ['-r', $root, '-n', 1, '-f', '-', '/a'], \@named, $rest->(1, 2, 2));
+    unlink "$room/in";
+    lists('-n 1, and a file that is left out', ['-r', $root, '-n', 1, '-x', '/a/0', '-x', '/a/b', '/a'],
+        ['1 dir 0 a', '2 file 1 1', '3 dir 1 b', '4 dir 1 z'], '/a/b: left out, and listed as an empty directory', $rest->(1, 2, 1));
+    lists('-n 4', ['-r', $root, '-n', 4], ['1 dir 0 a', '2 link 1 0 1', '3 file 1 1', '4 file 1 2', '5 file 1 3',
+        '6 dir 1 b', '7 file 6 1', '8 file 6 2', '9 dir 1 z', '10 dir 0 d', '11 file 10 x']);
+    put('in', "1 unveil /a r\n");
+    lists('-n 1, and a script', ['-r', $root, '-n', 1, '-s', "$room/in"], [@one, '5 dir 1 z'],
+        '/a/0: the link to 1 leads to /a/1, which is not listed', $rest->(1, 4, 2));
+    unlink "$room/in";
+    file("d/f$_") for 1 .. 5000;
+    my ($status, $out) = list('-r', $root, '-n', 1);
+    is($status, 0, '-n lists of a directory with more names than may be');
 }
 
 # What isn't listed is counted up to 100,000.
