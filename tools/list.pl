@@ -1,20 +1,27 @@
 #!/usr/bin/perl
 # Prints the listing of real files and directories, as pua reads it:
 #
-#     list.pl [-kv] [-m FILE] [-r ROOT] [-s SCRIPT] [-x PATH]... [PATH]...
+#     list.pl [-kv] [-f PATHS] [-m FILE] [-n N] [-r ROOT] [-s SCRIPT] [-x PATH]... [PATH]...
 #
 # Each PATH is listed at its own place below the root, with all that is in it; of the directories
 # on the way to it, only what leads there is listed. What isn't listed, pua takes for missing. For
 # a script that is made of a trace take the listing before the run: afterwards the files are what
 # the run left.
 #
+#     -f PATHS   lists what the lines of the file PATHS name, a path each as find(1) prints it, and
+#                the directories on the way; of a directory nothing that is in it. Each byte stands
+#                for itself. PATHS may be `-` for standard input.
 #     -k         goes on where a file, a directory or a link can't be read or listed. A directory
 #                that can't be read is listed as an empty one.
 #     -m FILE    writes into FILE what isn't listed though it was asked for: a line `left-out
 #                PATH` for what a -x left out, and `passed-over PATH` for what -k did. It is kept
 #                beside the listing, which doesn't show it; page.pl and glance.pl do.
+#     -n N       lists of what is in a directory all directories, and at most N files: the first
+#                ones in the order of the listing. Links, sockets and so on count as files. What a
+#                PATH, SCRIPT or PATHS names by itself, and links on the way, are listed anyhow. How
+#                many files aren't listed is reported; FILE of -m has none of them.
 #     -r ROOT    takes the directory ROOT for the root, as after chroot(2); every other path is
-#                then one below ROOT. With neither PATH nor SCRIPT, all of ROOT is listed.
+#                then one below ROOT. With no PATH, SCRIPT or PATHS, all of ROOT is listed.
 #     -s SCRIPT  lists what a script for pua can be about: for each path that it names the
 #                directories on the way, the links and what they lead to, and what stands there.
 #                Of a directory that it veils, opens, renames or removes, or to whose name it
@@ -37,23 +44,26 @@
 # there but isn't listed, summed up by where they lead to; each further name of what is listed,
 # which a veil on the first one doesn't cover; that something has a name which isn't listed; a
 # directory that was left out, and a -x that left nothing out; with -k what was passed over, and
-# how much; with -s what the script names in vain, each name once and no name that the script
-# makes, how many relative paths are taken from the root, and each process that is left without a
-# veil and holds a promise about paths, and how many names aren't listed. To count these, -s reads
-# the directories below the root then, up to 100,000 names.
+# how much; with -n how many files aren't listed, and in how many directories; with -s what the
+# script names in vain, each name once and no name that the script makes, how many relative paths
+# are taken from the root, and each process that is left without a veil and holds a promise about
+# paths, and how many names aren't listed. To count these, -s reads the directories below the root
+# then, up to 100,000 names.
 #
-# Status 0: the listing was printed. Status 1: a file, a directory, a link or the script can't be
-# read, the script isn't one, there are more than 4,096 names (how many, and in which directories
-# most of them are, is reported), or a link's target is longer than pua reads; then nothing was
-# printed. Status 2: the words are no use of it.
+# Status 0: the listing was printed. Status 1: a file, a directory, a link, the script or PATHS
+# can't be read, the script isn't one, a line of PATHS is no path, there are more than 4,096 names
+# (how many, and in which directories most of them are, is reported), or a link's target is longer
+# than pua reads; then nothing was printed. Status 2: the words are no use of it.
 use strict;
 use warnings;
 use Cwd qw(getcwd);
 use Errno qw(ENOENT ENOTDIR ENAMETOOLONG);
 use Getopt::Long qw(:config posix_default no_ignore_case bundling);
+use List::Util qw(sum0);
 
 my ($NAME) = $0 =~ m{([^/]*)\z};
-my $USAGE = "usage: $NAME [-kv] [-m FILE] [-r ROOT] [-s SCRIPT] [-x PATH]... [PATH]...\n";
+my $USAGE = "usage: $NAME [-kv] [-f PATHS] [-m FILE] [-n N] [-r ROOT] [-s SCRIPT]"
+    . " [-x PATH]... [PATH]...\n";
 
 my $MOST_LISTED = 4096;    # names, the root among them
 my $MOST_TARGET = 1023;    # bytes in a link's target
@@ -83,11 +93,15 @@ my %arguments = (
 my $given;                 # ROOT, where it was given
 my $root = '';             # the directory that is taken for the root, without a slash at its end
 my ($go_on, $each_link);   # whether -k and -v were given
+my $most_files;            # N, where it was given
 my %left_out;              # by path: what this -x left out, `name` or `directory`; empty: nothing
 my %passed_over;           # by path: that -k passed it over
 my %walked;                # by a directory's path: that all in it was taken
-my %nodes  = ('' => { kind => 'dir' });    # what is listed, by its path; the root's is empty
-my %inside = ('' => {});                   # by a directory's path: the names listed in it
+my %beyond;                # by the path of what is beyond the first N of its directory: no value
+
+# What is listed, by its path; the root's is empty. Each is a string to keep memory small: `KIND
+# DEVICE:INODE NAMES`, NAMES being how many names it has, and behind that a link's target.
+my %nodes = ('' => 'dir');
 
 sub report { print STDERR "$NAME: @_\n"; return }
 
@@ -104,7 +118,7 @@ sub pass_over {
 # Bytes that aren't visible, and backslashes, as a backslash and three octal digits.
 sub spelled {
     my ($bytes) = @_;
-    $bytes =~ s/([^\x21-\x7e]|\\)/sprintf '\\%03o', ord $1/ge;
+    $bytes =~ s/([^\x21-\x5b\x5d-\x7e])/sprintf '\\%03o', ord $1/ge;
     return $bytes;
 }
 
@@ -112,7 +126,14 @@ sub spelled {
 sub shown { my ($path) = @_; return $path eq '' ? '/' : spelled($path) }
 
 # The directory in which a path stands; the root stands in itself.
-sub above { my ($path) = @_; $path =~ s{/[^/]*\z}{}; return $path }
+sub above { my ($path) = @_; return substr $path, 0, rindex $path, '/' }
+
+# The last component of a path.
+sub last_of { my ($path) = @_; return substr $path, 1 + rindex $path, '/' }
+
+# The kind of what is listed at a path, and the target of a link.
+sub kind { my ($path) = @_; return (split / /, $nodes{$path}, 2)[0] }
+sub target { my ($path) = @_; return (split / /, $nodes{$path}, 4)[3] }
 
 # The components of a path.
 sub parts { return grep { $_ ne '' } split m{/}, $_[0] }
@@ -134,31 +155,28 @@ sub found { my ($path) = @_; return lstat($path eq '' && $root eq '' ? '/' : "$r
 # kind, and an empty one where it is passed over.
 sub take {
     my ($path) = @_;
-    return $nodes{$path}{kind} if $nodes{$path};
-    my @stat = found($path);
-    if (!@stat) {
+    return kind($path) if $nodes{$path};
+    my ($device, $inode, $mode, $names) = found($path);
+    if (!defined $device) {
         pass_over($path, $!);
         return '';
     }
-    my %node = (kind => 'file', file => "$stat[0]:$stat[1]", names => $stat[3]);
+    my ($kind, $more) = ('file', '');
     if (-l _) {
-        $node{kind} = 'link';
-        $node{target} = readlink "$root$path";
-        my $fault = defined $node{target} ? target_fault($node{target}) : "$!";
+        my $target = readlink "$root$path";
+        my $fault = defined $target ? target_fault($target) : "$!";
         if ($fault) {
             pass_over($path, $fault);
             return '';
         }
+        ($kind, $more) = ('link', " $target");
     } elsif (-d _) {
-        $node{kind} = 'dir';
-        $inside{$path} = {};
-    } elsif (-f _ && $stat[2] & 0111) {
-        $node{kind} = 'prog';
+        $kind = 'dir';
+    } elsif (-f _ && $mode & 0111) {
+        $kind = 'prog';
     }
-    my ($name) = $path =~ m{([^/]*)\z};
-    $inside{ above($path) }{$name} = 1;
-    $nodes{$path} = \%node;
-    return $node{kind};
+    $nodes{$path} = "$kind $device:$inode $names$more";
+    return $kind;
 }
 
 # Why pua reads no such target, or nothing.
@@ -201,9 +219,23 @@ sub take_all {
         next if take($path) ne 'dir' || $walked{$path}++;
         my ($names, $fault) = names_in($path);
         pass_over($path, $fault) if $fault;
-        push @paths, map { "$path/$_" } sort @$names;
+        my @inside = map { "$path/$_" } sort @$names;
+        push @paths, defined $most_files ? first_of(@inside) : @inside;
     }
     return;
+}
+
+# What -n lists of the paths in a directory; the others are noted.
+sub first_of {
+    my ($files, @first) = (0);
+    for my $path (@_) {
+        if (exists $left_out{$path} || !found($path) || -d _ || ++$files <= $most_files) {
+            push @first, $path;
+        } else {
+            $beyond{$path} = undef;
+        }
+    }
+    return @first;
 }
 
 # Takes the directories that lead to a path.
@@ -218,8 +250,8 @@ sub take_way {
 
 # Follows a path on the disk, and takes the links by which it leads on. With $follows a link at
 # its end leads on too. Answers the path of what is there, and nothing where a -x left it out;
-# where the path leads nowhere, how far it leads, why it doesn't go on, and the path and the error
-# there.
+# where the path leads nowhere, how far it leads, at which path it doesn't go on and why, and the
+# error of the system there.
 sub follow {
     my ($operand, $follows) = @_;
     my ($path, $links, @parts) = ('', 0, parts(whole($operand)));
@@ -230,18 +262,18 @@ sub follow {
         }
         my $next = "$path/$part";
         return leave_out($next) if exists $left_out{$next};
-        found($next) or return ($path, shown($next) . ": $!", $next, $!);
+        found($next) or return ($path, $next, "$!", $! + 0);
         if (-l _ && (@parts || $follows)) {
-            return ($path, spelled($operand) . ': too many links') if ++$links > $MOST_LINKS;
+            return ($path, $operand, 'too many links') if ++$links > $MOST_LINKS;
             take_way($next);
             return ($path) if take($next) ne 'link';
-            my $target = $nodes{$next}{target};
+            my $target = target($next);
             $path = '' if $target =~ m{\A/};
             unshift @parts, grep { $_ ne '.' } parts($target);
         } elsif (-d _ || !@parts) {
             $path = $next;
         } else {
-            return ($next, shown($next) . ': not a directory');
+            return ($next, $next, 'not a directory');
         }
     }
     return ($path);
@@ -251,11 +283,34 @@ sub follow {
 # operand leads to it.
 sub take_operand {
     my ($operand) = @_;
-    my ($path, $fault) = follow($operand, 0);
-    fail($fault) if defined $fault;
+    my ($path, $at, $why) = follow($operand, 0);
+    fail(shown($at) . ": $why") if defined $why;
     return unless defined $path;
     take_way($path);
     take_all($path);
+    return;
+}
+
+# Takes what the lines of a file name, each by itself.
+sub take_lines {
+    my ($file) = @_;
+    my ($number, $in) = (0, \*STDIN);
+    $file eq '-' or open $in, '<', $file or fail(spelled($file) . ": $!");
+    binmode $in;
+    while (defined(my $line = <$in>)) {
+        $number++;
+        chomp $line;
+        fail(spelled($file) . ": line $number: bad path") if $line eq '' || $line =~ /\0/;
+        my $named = whole($line);
+        my ($path, undef, $why) = follow($named, 0);
+        if (defined $why) {
+            pass_over($named, $why);
+        } elsif (defined $path) {
+            take_way($path);
+            take($path);
+        }
+    }
+    fail(spelled($file) . ': it cannot be read') if $in->error;
     return;
 }
 
@@ -263,16 +318,16 @@ sub take_operand {
 # why it leads nowhere, if nothing is there that has to be.
 sub take_named {
     my ($named, $role) = @_;
-    my ($path, $fault, $at, $error) = follow($named, 1);
+    my ($path, $at, $why, $error) = follow($named, 1);
     return unless defined $path;
     take_way($path);
     take($path);
-    if (!defined $fault) {
+    if (!defined $why) {
         take_all($path) if $role =~ /tree/;
-    } elsif (defined $error && !grep { $error == $_ } ENOENT, ENOTDIR, ENAMETOOLONG) {
-        pass_over($at, "$error");
+    } elsif ($error && !grep { $error == $_ } ENOENT, ENOTDIR, ENAMETOOLONG) {
+        pass_over($at, $why);
     } elsif ($role !~ /new/) {
-        return $fault;
+        return shown($at) . ": $why";
     }
     return;
 }
@@ -425,7 +480,7 @@ sub judge_size {
 # The path, not listed but there on the disk, to which a link leads; undef where there is none.
 sub outside {
     my ($link) = @_;
-    my ($path, $links, @parts) = (above($link), 0, $link =~ m{([^/]*)\z});
+    my ($path, $links, @parts) = (above($link), 0, last_of($link));
     while (defined(my $part = shift @parts)) {
         next if $part eq '.';
         if ($part eq '..') {
@@ -433,13 +488,14 @@ sub outside {
             next;
         }
         my $next = "$path/$part";
-        my $node = $nodes{$next};
-        return found($next) ? $next : undef unless $node;
-        if ($node->{kind} eq 'link') {
+        return found($next) ? $next : undef unless $nodes{$next};
+        my $kind = kind($next);
+        if ($kind eq 'link') {
             return if ++$links > $MOST_LINKS;
-            $path = '' if $node->{target} =~ m{\A/};
-            unshift @parts, parts($node->{target});
-        } elsif ($node->{kind} eq 'dir') {
+            my $target = target($next);
+            $path = '' if $target =~ m{\A/};
+            unshift @parts, parts($target);
+        } elsif ($kind eq 'dir') {
             $path = $next;
         } else {
             return;
@@ -448,47 +504,58 @@ sub outside {
     return;
 }
 
-# What a line has for a node, in which $parent is the number of its directory and $made that of
-# the same file under an earlier name, if there is one.
-sub fields {
-    my ($node, $parent, $name, $made) = @_;
-    return ('hard', $parent, $name, $made) if defined $made;
-    my @target = defined $node->{target} ? spelled($node->{target}) : ();
-    return ($node->{kind}, $parent, $name, @target);
+# What is listed below the root, in the order of the listing: a name, then what is in it.
+sub in_order {
+    my @paths = grep { $_ ne '' } keys %nodes;
+    tr{/}{\0} for @paths;    # so the end of a name comes before each byte of a longer one
+    @paths = sort @paths;
+    tr{\0}{/} for @paths;
+    return \@paths;
 }
 
-# The lines of the listing, and the paths in their order.
-sub lines {
-    my (@lines, @order, %made);    # %made has the number of a node, by its device and inode
-    my ($header, %number) = ('tree 1', '' => 0);
-    my @paths = map { "/$_" } sort keys %{ $inside{''} };
-    while (defined(my $path = shift @paths)) {
-        my $node = $nodes{$path};
-        my $made = $node->{kind} eq 'dir' ? undef : $made{ $node->{file} };
-        my ($name) = $path =~ m{([^/]*)\z};
-        push @order, $path;
-        $number{$path} = @order;
-        $header = 'tree 2' if defined $made;
-        $made{ $node->{file} } = $number{$path} unless defined $made;
-        push @lines,
-            join(' ', $number{$path}, fields($node, $number{ above($path) }, spelled($name), $made))
-            . "\n";
-        unshift @paths, map { "$path/$_" } sort keys %{ $inside{$path} || {} };
+# By the number of each further name of a file, the number of its first one.
+sub further_names {
+    my ($order) = @_;
+    my ($number, %first, %further) = (0);
+    for my $path (@$order) {
+        $number++;
+        my ($kind, $file) = split / /, $nodes{$path}, 3;
+        next if $kind eq 'dir';
+        if ($first{$file}) { $further{$number} = $first{$file} }
+        else               { $first{$file} = $number }
     }
-    return (["$header\n", "0 dir\n", @lines], \@order);
+    return \%further;
+}
+
+# Prints the listing.
+sub print_listing {
+    my ($order, $further) = @_;
+    my ($number, %number) = (0, '' => 0);    # %number has those of directories
+    print %$further ? "tree 2\n" : "tree 1\n", "0 dir\n" or return;
+    for my $path (@$order) {
+        $number++;
+        my ($kind, undef, undef, $target) = split / /, $nodes{$path}, 4;
+        $number{$path} = $number if $kind eq 'dir';
+        my $line = $number{ above($path) } . ' ' . spelled(last_of($path));
+        if    ($further->{$number}) { $line = "hard $line $further->{$number}" }
+        elsif (defined $target)     { $line = "$kind $line " . spelled($target) }
+        else                        { $line = "$kind $line" }
+        print "$number $line\n" or return;
+    }
+    return 1;
 }
 
 # Reports the links that lead out of the listing, by where they lead to, or with -v one by one.
 sub report_links {
     my ($order) = @_;
     my %leading;    # by what isn't listed: the links that lead there
-    for my $link (grep { $nodes{$_}{kind} eq 'link' } @$order) {
+    for my $link (grep { $nodes{$_} =~ /\Alink / } @$order) {
         my $outside = outside($link);
         push @{ $leading{ $each_link ? $link : $outside } }, [$link, $outside] if defined $outside;
     }
     for my $links (map { $leading{$_} } sort keys %leading) {
         my ($link, $outside) = @{ $links->[0] };
-        my $what = 'the link to ' . spelled($nodes{$link}{target}) . ' leads to ' . shown($outside)
+        my $what = 'the link to ' . spelled(target($link)) . ' leads to ' . shown($outside)
             . ', which is not listed';
         $what .= '; so do further links: ' . (@$links - 1) if @$links > 1;
         report(shown($link) . ": $what");
@@ -496,7 +563,7 @@ sub report_links {
     return;
 }
 
-# Reports what was left out, and what was passed over.
+# Reports what was left out, what was passed over, and how much is beyond the first files.
 sub report_gaps {
     for my $path (sort keys %left_out) {
         report(shown($path) . ': nothing was left out') unless $left_out{$path};
@@ -505,6 +572,11 @@ sub report_gaps {
     }
     report('passed over, since they could not be read or listed: ' . keys %passed_over)
         if %passed_over;
+    my %directories;
+    $directories{ above($_) }++ for grep { !$nodes{$_} } keys %beyond;
+    my $beyond = sum0(values %directories);
+    report("files that are not listed, beyond the first $most_files of a directory: $beyond, in "
+        . 'so many directories: ' . keys %directories) if $beyond;
     return;
 }
 
@@ -523,51 +595,58 @@ sub write_manifest {
 
 # Reports, in the order of the listing, the names of what has several.
 sub report_names {
-    my ($order) = @_;
-    my %names;
-    push @{ $names{ $nodes{$_}{file} } }, $_ for grep { $nodes{$_}{kind} ne 'dir' } @$order;
+    my ($order, $further) = @_;
+    my ($number, %listed) = (0);    # %listed has how many names are listed, beside the first
+    $listed{$_}++ for values %$further;
     for my $path (@$order) {
-        my $node = $nodes{$path};
-        next if $node->{kind} eq 'dir';
-        my ($first, @others) = @{ $names{ $node->{file} } };
-        report(shown($path) . ': a further name of ' . shown($first)) if $path ne $first;
+        my $first = $further->{ ++$number };
+        report(shown($path) . ': a further name of ' . shown($order->[$first - 1])) if $first;
+        next if $first || $nodes{$path} =~ /\Adir /;
+        my $names = (split / /, $nodes{$path}, 4)[2];
         report(shown($path) . ': the file has a further name, which is not listed')
-            if $path eq $first && $node->{names} > 1 + @others;
+            if $names > 1 + ($listed{$number} || 0);
     }
     return;
 }
 
-my ($script, $manifest, @exclusions);
+my ($script, $paths, $manifest, @exclusions);
 my $understood = GetOptions(
+    'f=s' => \$paths,
     'k'   => \$go_on,
     'm=s' => \$manifest,
+    'n=s' => \$most_files,
     'r=s' => \$given,
     's=s' => \$script,
     'v'   => \$each_link,
     'x=s' => \@exclusions,
 );
-my @words = (@ARGV, @exclusions, grep { defined } $manifest);
-if (!$understood || !(@ARGV || defined $given || defined $script) || grep { $_ eq '' } @words) {
+my @words = (@ARGV, @exclusions, grep { defined } $manifest, $paths);
+my $names_some = @ARGV || defined $script || defined $paths;
+$understood &&= !defined $most_files || $most_files =~ /\A[0-9]{1,9}\z/;
+if (!$understood || !($names_some || defined $given) || grep { $_ eq '' } @words) {
     print STDERR $USAGE;
     exit 2;
 }
-utf8::is_utf8($_) && utf8::encode($_) for @ARGV, @exclusions, grep { defined } $given, $script;
+utf8::is_utf8($_) && utf8::encode($_)
+    for @ARGV, @exclusions, grep { defined } $given, $script, $paths;
 if (defined $given) {
     fail(spelled($given) . ': not a directory') unless -d $given;
     ($root = $given =~ m{\A/} ? $given : here() . "/$given") =~ s{/+\z}{};
-    @ARGV = ('/') unless @ARGV || defined $script;
+    @ARGV = ('/') unless $names_some;
 }
 $left_out{ whole($_) } = '' for @exclusions;
 my @requests = defined $script ? requests($script) : ();
 take_operand($_) for @ARGV;
+take_lines($paths) if defined $paths;
 take_script(@requests);
 judge_size();
-my ($lines, $order) = lines();
+my $order = in_order();
 report_links($order);
-report_names($order);
+my $further = further_names($order);
+report_names($order, $further);
 report_gaps();
 report_unveiled(@requests) if defined $script;
 write_manifest($manifest) if defined $manifest;
 binmode STDOUT;
-print @$lines or fail("standard output: $!");
+print_listing($order, $further) or fail("standard output: $!");
 close STDOUT or fail("standard output: $!");

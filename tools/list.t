@@ -9,6 +9,7 @@ use File::Copy qw(copy);
 use File::Path qw(make_path);
 use File::Temp qw(tempdir);
 use IO::Socket::UNIX;
+use List::Util qw(shuffle);
 use POSIX qw(mkfifo);
 use Test::More;
 
@@ -45,13 +46,61 @@ sub content {
     return defined $bytes ? $bytes : '';
 }
 
+# Writes a file beside the directories.
+sub put {
+    my ($name, $text) = @_;
+    open my $out, '>:raw', "$room/$name" or die "$name: $!";
+    print $out $text;
+    close $out or die "$name: $!";
+    return;
+}
+
+# Fills a directory with directories, files, links and further names, by chance.
+sub random_tree {
+    my ($root) = @_;
+    my (@directories, @others) = ($root);
+    my @bytes = ('a' .. 'd', '!', '.', ' ', '0', '\\', "\xff", "\t");
+    for (1 .. 10 + rand 60) {
+        my $directory = $directories[rand @directories];
+        my $name = join '', map { $bytes[rand @bytes] } 0 .. rand 3;
+        my $path = "$directory/$name";
+        next if $name eq '.' || $name eq '..' || lstat $path;
+        my $chance = rand;
+        if ($chance < 0.3) {
+            mkdir $path or die "$path: $!";
+            push @directories, $path;
+            next;
+        }
+        my @targets = ($name, "../$name", '/' . substr($directory, length $root), map { /([^\/]+)\z/ } @others);
+        if    ($chance < 0.5)             { symlink $targets[rand @targets], $path or die "$path: $!" }
+        elsif ($chance < 0.6 && @others)  { link $others[rand @others], $path or die "$path: $!" }
+        else                              { file($path, $chance < 0.8 ? 0644 : 0755) }
+        push @others, $path if !-l $path;
+    }
+    return;
+}
+
+# The paths in a listing.
+sub paths_of {
+    my ($listing) = @_;
+    my @paths = ('');
+    for my $line (split /\n/, $listing) {
+        my (undef, $parent, $name) = $line =~ /\A[0-9]+ ([a-z]+) ([0-9]+) (\S+)/ or next;
+        $name =~ s/\\([0-7]{3})/chr oct $1/ge;
+        push @paths, "$paths[$parent]/$name";
+    }
+    return @paths[1 .. $#paths];
+}
+
 # Runs list.pl as for foreign text, with these words: its status, and what it wrote on both outputs.
+# What it reads is in the file `in`, if one was put there.
 sub list {
     my @words = @_;
-    my ($out, $err) = ("$room/out", "$room/err");
+    my ($in, $out, $err) = map { "$room/$_" } qw(in out err);
     my $child = fork;
     die "fork: $!" unless defined $child;
     if (!$child) {
+        open STDIN, '<', -e $in ? $in : '/dev/null' or POSIX::_exit(99);
         open STDOUT, '>', $out or POSIX::_exit(99);
         open STDERR, '>', $err or POSIX::_exit(99);
         exec $^X, '-T', '-w', $LIST, @words or POSIX::_exit(99);
@@ -306,12 +355,14 @@ sub refuses {
     my $root = room();
     make_path('d');
     file('f');
-    my $usage = qr/^usage: list\.pl \[-kv\] \[-m FILE\] \[-r ROOT\] \[-s SCRIPT\] \[-x PATH\]\.\.\. \[PATH\]\.\.\.\n\z/m;
+    my $usage = qr/^usage: list\.pl \[-kv\] \[-f PATHS\] \[-m FILE\] \[-n N\] \[-r ROOT\] \[-s SCRIPT\] \[-x PATH\]\.\.\. \[PATH\]\.\.\.\n\z/m;
     refuses('no words',          [],                     2, $usage);
     refuses('an unknown option', ['-q', '/etc'],         2, $usage);
     refuses('no path',           ['-x', '/etc'],         2, $usage);
     refuses('an empty path',     ['/etc', ''],           2, $usage);
     refuses('an empty manifest', ['-m', '', '/etc'],     2, $usage);
+    refuses('no file of paths',  ['-f', '', '/etc'],     2, $usage);
+    refuses('-n of no number', ['-n', $_, '/etc'], 2, $usage) for '', '-1', 'x', '1.5', "1\n";
     refuses('a missing path',    ['-r', $root, '/none'], 1, qr/\Alist\.pl: \/none: \S.*\n\z/);
     refuses('a file on the way', ['-r', $root, '/f/x'],  1, qr/\Alist\.pl: \/f(\/x)?: \S.*\n\z/);
     refuses('a missing root',    ['-r', "$root/none"],   1, qr/: not a directory\n\z/);
@@ -467,6 +518,110 @@ SKIP: {
     lists('a manifest of nothing', ['-m', $kept, '-r', "$root/a/c"], ['1 file 0 2']);
     is(content($kept), '', 'a manifest of nothing: what it has');
     refuses('a manifest that can not be written', ['-m', "$root/none/m", '-r', "$root/a/c"], 1, qr{\Alist\.pl: \S+/none/m: \S.*\n\z});
+}
+
+# What the lines of a file name.
+{
+    my $root = room();
+    make_path('etc/ssl/deep', 'var/log');
+    file($_) for 'etc/passwd', 'etc/ssl/key', 'var/log/a b', 'var/log/\\040', 'var/log/l';
+    symlink '../etc/ssl', 'var/to' or die;
+    symlink 'self', 'self' or die;
+    my $gives = sub {
+        my ($what, $text, $words, $lines, @reports) = @_;
+        put('in', $text);
+        lists("-f: $what", ['-r', $root, '-f', '-', @$words], $lines, @reports);
+        lists("-f: $what, in a file", ['-r', $root, '-f', "$room/in", @$words], $lines, @reports);
+        return;
+    };
+    my @ssl = ('1 dir 0 etc', '2 dir 1 ssl');
+    $gives->('a file', "/etc/ssl/key\n", [], [@ssl, '3 file 2 key']);
+    $gives->('of a directory nothing in it', "/etc/ssl\n", [], \@ssl);
+    $gives->('in another order, twice, and without an end', "var/log/l\n./etc/ssl/\n//etc/./ssl", [],
+        [@ssl, '3 dir 0 var', '4 dir 3 log', '5 file 4 l']);
+    $gives->('bytes stand for themselves', "/var/log/a b\n/var/log/\\040\n", [],
+        ['1 dir 0 var', '2 dir 1 log', '3 file 2 \134040', '4 file 2 a\040b']);
+    $gives->('no line', '', [], []);
+    $gives->('the root', "/\n", [], []);
+    $gives->('a link, and through it', "/var/to/key\n/self\n", [],
+        [@ssl, '3 file 2 key', '4 link 0 self self', '5 dir 0 var', '6 link 5 to ../etc/ssl']);
+    $gives->('beside an operand', "/etc/passwd\n", ['/var/log'],
+        ['1 dir 0 etc', '2 file 1 passwd', '3 dir 0 var', '4 dir 3 log', '5 file 4 \134040', '6 file 4 a\040b', '7 file 4 l']);
+    $gives->('without what is left out', "/etc/ssl/key\n/etc/passwd\n/var\n", ['-x', '/etc/ssl', '-x', '/etc/passwd'],
+        [@ssl, '3 dir 0 var'], '/etc/ssl: left out, and listed as an empty directory');
+    $gives->('what is not there is passed over', "/none\n/etc/none/x\n/etc/passwd/x\n/self/x\n/none\n/var\n", ['-k', '-m', "$room/manifest"],
+        ['1 link 0 self self', '2 dir 0 var'], '/none: No such file or directory; passed over',
+        '/etc/none/x: No such file or directory; passed over', '/etc/passwd/x: not a directory; passed over', '/self/x: too many links; passed over',
+        'passed over, since they could not be read or listed: 4');
+    is(content("$room/manifest"), join('', map { "passed-over $_\n" } qw(/etc/none/x /etc/passwd/x /none /self/x)), '-f: what was passed over');
+    for my $bad (["/etc\n/none\n", qr{/none: No such file}], ["/etc/passwd/x\n", qr{/etc/passwd/x: not a directory}],
+        ["/self/x\n", qr{/self/x: too many links}], ["/etc\n\n", qr{-: line 2: bad path}], ["/etc\0\n", qr{-: line 1: bad path}]) {
+        put('in', $bad->[0]);
+        refuses('-f: a bad line', ['-r', $root, '-f', '-'], 1, qr/\Alist\.pl: $bad->[1]/);
+    }
+    refuses('-f: no such file', ['-r', $root, '-f', "$root/none"], 1, qr/\Alist\.pl: \S+: No such file/);
+    refuses('-f: a directory', ['-r', $root, '-f', $root], 1, qr/\Alist\.pl: \S+: it cannot be read/);
+    unlink "$room/in";
+}
+
+# Random trees: all paths of a walk give the same listing and reports as the walk.
+for my $seed (1 .. 40) {
+    srand $seed;
+    my $root = room();
+    random_tree($root);
+    my ($status, $out, $err) = list('-r', $root);
+    my @paths = paths_of($out);
+    put('in', join '', map { "$_\n" } shuffle(@paths));
+    is_deeply([list('-r', $root, '-f', '-')], [$status, $out, $err], "random tree $seed, " . @paths . ' names: -f gives the walk');
+    unlink "$room/in";
+    is_deeply([list('-r', $root, '-n', 100)], [$status, $out, $err], "random tree $seed: -n of many files too");
+
+    # By what the walk lists, what -n lists of it.
+    my $most = int rand 3;
+    my (%files, @first);
+    for my $path (@paths) {
+        my ($directory) = $path =~ m{(.*)/};
+        push @first, $path if !-l "$root$path" && -d _ || ++$files{$directory} <= $most;
+    }
+    ($status, $out, $err) = list('-r', $root, '-n', $most);
+    is_deeply([paths_of($out)], \@first, "random tree $seed: -n $most");
+    my $rest = @paths - @first;
+    my $in = grep { $_ > $most } values %files;
+    is(join('', $err =~ /^(.*beyond.*\n)/mg), $rest
+        ? "list.pl: files that are not listed, beyond the first $most of a directory: $rest, in so many directories: $in\n"
+        : '', "random tree $seed: what -n $most leaves");
+}
+
+# Of each directory the first files.
+{
+    my $root = room();
+    make_path('a/b', 'a/z', 'd');
+    file($_) for 'a/1', 'a/2', 'a/3', 'a/b/1', 'a/b/2', 'd/x';
+    symlink '1', 'a/0' or die;
+    my $rest = sub {
+        my ($most, $count, $in) = @_;
+        return "files that are not listed, beyond the first $most of a directory: $count, in so many directories: $in";
+    };
+    lists('-n 0', ['-r', $root, '-n', 0], ['1 dir 0 a', '2 dir 1 b', '3 dir 1 z', '4 dir 0 d'], $rest->(0, 7, 3));
+    my @one = ('1 dir 0 a', '2 link 1 0 1', '3 dir 1 b', '4 file 3 1');
+    lists('-n 1', ['-r', $root, '-n', 1], [@one, '5 dir 1 z', '6 dir 0 d', '7 file 6 x'],
+        '/a/0: the link to 1 leads to /a/1, which is not listed', $rest->(1, 4, 2));
+    my @named = ('1 dir 0 a', '2 link 1 0 1', '3 file 1 1', '4 file 1 3', '5 dir 1 b', '6 file 5 1', '7 dir 1 z');
+    lists('-n 1, and names', ['-r', $root, '-n', 1, '/a/3', '/a', '/a/1'], \@named, $rest->(1, 2, 2));
+    put('in', "/a/1\n/a/3\n");
+    lists('-n 1, and paths', ['-r', $root, '-n', 1, '-f', '-', '/a'], \@named, $rest->(1, 2, 2));
+    unlink "$room/in";
+    lists('-n 1, and a file that is left out', ['-r', $root, '-n', 1, '-x', '/a/0', '-x', '/a/b', '/a'],
+        ['1 dir 0 a', '2 file 1 1', '3 dir 1 b', '4 dir 1 z'], '/a/b: left out, and listed as an empty directory', $rest->(1, 2, 1));
+    lists('-n 4', ['-r', $root, '-n', 4], ['1 dir 0 a', '2 link 1 0 1', '3 file 1 1', '4 file 1 2', '5 file 1 3',
+        '6 dir 1 b', '7 file 6 1', '8 file 6 2', '9 dir 1 z', '10 dir 0 d', '11 file 10 x']);
+    put('in', "1 unveil /a r\n");
+    lists('-n 1, and a script', ['-r', $root, '-n', 1, '-s', "$room/in"], [@one, '5 dir 1 z'],
+        '/a/0: the link to 1 leads to /a/1, which is not listed', $rest->(1, 4, 2));
+    unlink "$room/in";
+    file("d/f$_") for 1 .. 5000;
+    my ($status, $out) = list('-r', $root, '-n', 1);
+    is($status, 0, '-n lists of a directory with more names than may be');
 }
 
 # What isn't listed is counted up to 100,000.
