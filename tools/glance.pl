@@ -16,7 +16,8 @@
 # process: /dev/null, /etc/localtime and /usr/share/zoneinfo; and which veils it can move below
 # another one, where a kernel may go on by what covered them before.
 #
-#     -m MANIFEST  what list.pl -m wrote: says first what the listing doesn't have.
+#     -m MANIFEST  what list.pl -m wrote: says first what the listing doesn't have, and of which
+#                  directories it doesn't have all files.
 #     -o HELD      what trace.pl -o wrote: says of each process what it holds open.
 #
 # Status 0: it was printed. Status 1: a file can't be read, or is no list of objects; then nothing
@@ -190,7 +191,10 @@ my @lines;
 eval {
     my $missing = defined $manifest ? manifest_of($manifest) : {};
     my $opened  = defined $held     ? held_of($held)         : {};
-    push @lines, 'not in the listing ' . some(sort keys %$missing) if %$missing;
+    my @not_all = grep { $missing->{$_} eq 'not-all' } sort keys %$missing;
+    my @not_in  = grep { $missing->{$_} ne 'not-all' } sort keys %$missing;
+    push @lines, 'not in the listing ' . some(@not_in) if @not_in;
+    push @lines, 'not all listed in ' . some(@not_all) if @not_all;
     push @lines, (@files > 1 ? "$_:" : ()), lines_in($_, $opened) for @files;
     1;
 } or do {

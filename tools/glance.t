@@ -313,12 +313,14 @@ OUT
         (map { "veil /s$_ w" } 1 .. 7));
     file('other', '1 ok', 'objects 1', 'process ended', 'objects 2', 'process alive',
         'promises =', 'execpromises -', 'unveil locked');
-    file('manifest', 'left-out /usr/include', 'passed-over /root', 'left-out /a\\040b');
+    file('manifest', 'left-out /usr/include', 'passed-over /root', 'left-out /a\\040b',
+        'not-all /var', 'not-all /');
     file('held', 'held 2 open-r /etc/ssl since line 3', 'held 2 open-rw - since line -',
         'held 1 open-w /x since line 4');
     my ($status, $out, $err) = glance('-m', 'manifest', '-o', 'held', 'list', 'other');
     is($out, <<'END', 'two files, a manifest, and what is held');
 not in the listing /a\040b, /root, /usr/include
+not all listed in /, /var
 list:
 answers: none
 process 1: veils 7, locked; read 0, written 0, executed 0, made 0, removed 0

@@ -619,6 +619,21 @@ for my $seed (1 .. 40) {
     lists('-n 1, and a script', ['-r', $root, '-n', 1, '-s', "$room/in"], [@one, '5 dir 1 z'],
         '/a/0: the link to 1 leads to /a/1, which is not listed', $rest->(1, 4, 2));
     unlink "$room/in";
+    my $kept = "$room/manifest";
+    my $writes = sub {
+        my ($what, $words, @lines) = @_;
+        is((list('-r', $root, '-m', $kept, @$words))[0], 0, "$what: the status");
+        is(content($kept), join('', map { "$_\n" } @lines), "$what: the manifest");
+    };
+    $writes->('-n 0', ['-n', 0], 'not-all /a', 'not-all /a/b', 'not-all /d');
+    $writes->('-n 2', ['-n', 2], 'not-all /a');
+    $writes->('-n 4', ['-n', 4]);
+    $writes->('-n 1, and all names', ['-n', 1, '/a', '/a/1', '/a/2', '/a/3'], 'not-all /a/b');
+    $writes->('-n 1, and what is left out', ['-n', 1, '-x', '/a/1', '-x', '/a/b'],
+        'not-all /a', 'left-out /a/1', 'left-out /a/b');
+    file('0');
+    $writes->('-n 0, in the root', ['-n', 0], 'not-all /', 'not-all /a', 'not-all /a/b', 'not-all /d');
+    unlink '0';
     file("d/f$_") for 1 .. 5000;
     my ($status, $out) = list('-r', $root, '-n', 1);
     is($status, 0, '-n lists of a directory with more names than may be');

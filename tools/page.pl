@@ -13,7 +13,8 @@
 # columns, a create of what is there among what is written, and a connect too.
 #
 # EVER is a list for ever of a process whose list of now is in OBJECTS: it follows that one, and
-# what it has more is marked. What MANIFEST has, as list.pl -m writes it, is marked as not listed.
+# what it has more is marked. What MANIFEST has, as list.pl -m writes it, is marked as not listed,
+# or as a directory of which not all is listed.
 #
 # The tree is that of the listing, before the script, with what the list adds; such a name is
 # marked `not listed`. What the script removed stands there still, as something that can't be
@@ -170,6 +171,7 @@ sub add_rows {
     my $first = text($name) . ($kind eq 'dir' || %$in ? '/' : " <small>$kind</small>");
     $first .= ' ' . text($node->{note}) if defined $node->{note};
     $first .= ' <small>not listed</small>' if !$node->{listed} && $kind ne 'missing';
+    $first .= ' <small>not all listed</small>' if $node->{is_part};
     $first .= " <b class=\"$_->[0]\">" . text($_->[1]) . '</b>' for @$badges;
     my ($names, $beside, $touched) = (0, 0, $node->{other} ? 1 : 0);
     my @parts;    # of each name in it whether it or what is below it can be touched, and the rows
@@ -295,8 +297,11 @@ sub page_of {
     for my $list (@lists, grep { !$listed{ $_->{process} } } @later) {
         for my $told ($list, grep { $_ != $list && $_->{process} == $list->{process} } @later) {
             my $root = tree($tree, @listing);
-            push @{ node($root, $_)->{badges} }, ['alarm', $MISSING{ $missing->{$_} }]
-                for sort keys %$missing;
+            for my $path (sort keys %$missing) {
+                my ($node, $why) = (node($root, $path), $missing->{$path});
+                if ($MISSING{$why}) { push @{ $node->{badges} }, ['alarm', $MISSING{$why}] }
+                else                { $node->{is_part} = 1 }
+            }
             my $is_later = $told != $list && $told->{ever} && !$list->{ever};
             add_list(\@page, $root, $told, $is_later ? $list : undef);
         }

@@ -197,6 +197,12 @@ my @site = ('1 dir 0 www', '2 dir 1 site', '3 file 2 index', '4 file 1 key', '5 
     is_deeply([rows($out)], ['0 | /', '1 | d/', '2 | n4 file | read: stat', '2 | o/ left out of the listing names in it, none to be touched: 1',
         '3 | p file', '2 | names beside these, none to be touched: 5', (map { "3 | n$_ file" } 2, 3, 5 .. 7),
         '1 | x/ not listed', '2 | y  not listed passed over by the listing'], 'what the listing lacks is never folded');
+    file('manifest', 'not-all /d/o');
+    ($status, $out, $err) = page('-m', 'manifest', 'tree', 'objects');
+    is("$status $err", '0 ', 'not all listed: the status');
+    is_deeply([rows($out)], ['0 | /', '1 | d/', '2 | n4 file | read: stat', '2 | names beside these, none to be touched: 7',
+        (map { "3 | n$_ file" } 2, 3, 5 .. 7), '3 | o/ not all listed names in it, none to be touched: 1', '4 | p file'],
+        'a directory of which not all is listed is folded as others are');
 }
 
 # What a list for ever has more than the list of now.
