@@ -205,6 +205,24 @@ my @site = ('1 dir 0 www', '2 dir 1 site', '3 file 2 index', '4 file 1 key', '5 
         'a directory of which not all is listed is folded as others are');
 }
 
+# With -d directories are folded from a depth on, with how many names in them can be touched.
+{
+    file('tree', 'tree 1', '0 dir', '1 dir 0 a', '2 dir 1 b', '3 file 2 x', '4 file 2 y', '5 file 1 z', '6 file 0 f', '7 dir 0 g', '8 file 7 h');
+    file('objects', 'objects 1', 'veil /a/b r', 'dir /a stat', 'file /a/b/x stat', 'other /a/b create', 'file /f stat');
+    my $folds = sub {
+        my ($status, $out, $err) = page('-d', @_, 'tree', 'objects');
+        is("$status $err", '0 ', "-d $_[0]: the status");
+        my @folds = map { /<details( open)?><summary class="[a-z ]*"><span>([^ <]*)/ ? ($2 . ($1 || '')) : () } split /^/, $out;
+        return join ', ', @folds, map { /names in it: (.*)<\/small>/ ? $1 : () } split /^/, $out;
+    };
+    is($folds->(0), '/, a/, b/, g/, 8, to be touched: 4, 4, to be touched: 2, 2, to be touched: 1', '-d 0: all are folded');
+    is($folds->(1), '/ open, a/, b/, g/, 4, to be touched: 2, 2, to be touched: 1', '-d 1: those in the root are');
+    is($folds->(2), '/ open, a/ open, b/, g/, 2, to be touched: 1', '-d 2: those in these are');
+    is($folds->(3), '/ open, a/ open, b/ open, g/', '-d 3: none is, but what has nothing to be touched');
+    my @without = page('tree', 'objects');
+    is_deeply([page('-d', 3, 'tree', 'objects')], \@without, '-d of what is not as deep changes nothing');
+}
+
 # What a list for ever has more than the list of now.
 {
     file('tree', 'tree 1', '0 dir', @site);
@@ -286,8 +304,8 @@ my @site = ('1 dir 0 www', '2 dir 1 site', '3 file 2 index', '4 file 1 key', '5 
         my ($what, $listing, $objects, $says) = @$fault;
         is_deeply([page($listing, $objects)], [1, '', "page.pl: $says\n"], $what);
     }
-    for my $words ([], [$tree, $list, $list, $list], [$tree, ''], ['-m', '', $tree]) {
-        my $usage = "usage: page.pl [-m MANIFEST] TREE [OBJECTS [EVER]]\n";
+    for my $words ([], [$tree, $list, $list, $list], [$tree, ''], ['-m', '', $tree], ['-d', '', $tree], ['-d', 'x', $tree], ['-d', '-1', $tree]) {
+        my $usage = "usage: page.pl [-d DEPTH] [-m MANIFEST] TREE [OBJECTS [EVER]]\n";
         is_deeply([page(@$words)], [2, '', $usage], 'words that are no use of it: ' . @$words);
     }
     is(system("$^X -T $PAGE $tree < $list > piped && $^X -T $PAGE $tree $list | cmp -s - piped"), 0,
