@@ -24,6 +24,7 @@
 #     -m MANIFEST  what list.pl -m wrote: says first what the listing doesn't have, and of which
 #                  directories it doesn't have all files.
 #     -o HELD      what trace.pl -o wrote: says of each process what it holds open.
+#     --help       prints this text.
 #
 # A list is read a line at a time, and takes no more memory where it is longer, but for its regions.
 #
@@ -38,6 +39,7 @@ BEGIN {
 }
 use Getopt::Long qw(:config posix_default no_ignore_case bundling);
 use Pua::Calls qw(%BY_VEILS %OPENINGS);
+use Pua::Help qw(help_of);
 use Pua::Lists qw(@COLUMNS columns has_promise held_of holds manifest_of read_lists state_of);
 use Pua::Regions;
 
@@ -210,7 +212,13 @@ sub lines_in {
 sub fail { print STDERR "$NAME: @_\n"; exit 1 }
 
 my ($manifest, $held);
-my $understood = GetOptions('d' => \$by_regions, 'm=s' => \$manifest, 'o=s' => \$held);
+my $understood = GetOptions(
+    'd' => \$by_regions, 'm=s' => \$manifest, 'o=s' => \$held, 'help' => \my $help,
+);
+if ($understood && $help) {
+    print help_of(__FILE__, $NAME);
+    exit 0;
+}
 if (!$understood || grep { $_ eq '' } @ARGV, grep { defined } $manifest, $held) {
     print STDERR "usage: $NAME [-d] [-m MANIFEST] [-o HELD] [LIST]...\n";
     exit 2;

@@ -33,6 +33,7 @@
 #     -v         reports each link that leads out of the listing by itself.
 #     -x PATH    leaves PATH out, with all that is in it; a directory is listed as an empty one.
 #                It may be given several times. Links in it are not followed.
+#     --help     prints this text.
 #
 # Directories are listed as `dir`, symbolic links as `link`, plain files that someone may execute
 # as `prog`, and all else as `file`: plain files, sockets, fifos and devices. What has several
@@ -113,6 +114,18 @@ my ($marked, $marked_again) = ('', '');
 sub report { print STDERR "$NAME: @_\n"; return }
 
 sub fail { report(@_); exit 1 }
+
+# Prints the head of this file; it asks no module, so that the file can be used alone.
+sub help {
+    open my $in, '<', __FILE__ or fail(__FILE__ . ": $!");
+    my (undef, @lines) = <$in>;
+    for my $line (@lines) {
+        last if $line !~ s/\A# ?//;
+        $line =~ s/\b([a-z]+)\.pl\b/pua-$1/g if $NAME =~ /\Apua-/;
+        print $line;
+    }
+    return;
+}
 
 # What can't be read or listed, and why: the end, or with -k passed over.
 sub pass_over {
@@ -685,7 +698,12 @@ my $understood = GetOptions(
     's=s' => \$script,
     'v'   => \$each_link,
     'x=s' => \@exclusions,
+    'help' => \my $help,
 );
+if ($understood && $help) {
+    help();
+    exit 0;
+}
 my @words = (@ARGV, @exclusions, grep { defined } $manifest, $paths);
 my $names_some = @ARGV || defined $script || defined $paths;
 $understood &&= !defined $most_files || $most_files =~ /\A[0-9]{1,9}\z/;

@@ -13,7 +13,7 @@
 # columns, a create of what is there among what is written, and a connect too.
 #
 # With -d each directory that has DEPTH names or more in its path is folded too, and has how many
-# names in it can be touched.
+# names in it can be touched. With --help this text is printed.
 #
 # EVER is a list for ever of a process whose list of now is in OBJECTS: it follows that one, and
 # what it has more is marked. What MANIFEST has, as list.pl -m writes it, is marked as not listed,
@@ -34,6 +34,7 @@ BEGIN {
     unshift @INC, map { ($here || './') . $_ } '../share/pua/perl', 'lib';
 }
 use Getopt::Long qw(:config posix_default no_ignore_case bundling);
+use Pua::Help qw(help_of);
 use Pua::Lists qw(@COLUMNS columns holds lines_of lists_of manifest_of state_of);
 
 my ($NAME) = $0 =~ m{([^/]*)\z};
@@ -320,7 +321,11 @@ sub page_of {
 }
 
 my $manifest;
-my $understood = GetOptions('d=s' => \$depth, 'm=s' => \$manifest);
+my $understood = GetOptions('d=s' => \$depth, 'm=s' => \$manifest, 'help' => \my $help);
+if ($understood && $help) {
+    print help_of(__FILE__, $NAME);
+    exit 0;
+}
 $understood &&= !defined $depth || $depth =~ /\A[0-9]{1,9}\z/;
 my @words = (@ARGV, grep { defined } $manifest);
 if (!$understood || @ARGV < 1 || @ARGV > 3 || grep { $_ eq '' } @words) {

@@ -6,18 +6,19 @@ use warnings;
 use Exporter qw(import);
 our @EXPORT_OK = qw(help_of);
 
-# The comment at the beginning of a tool's file, under the name by which the tool was called.
+# The comment at the beginning of a tool's file. Tools that are installed are called pua-NAME there,
+# and not NAME.pl, as the one is that has $name.
 sub help_of {
     my ($file, $name) = @_;
-    my ($own) = $file =~ m{([^/]*)\z};
     open my $in, '<', $file or die "$file: $!\n";
-    my @lines;
-    while (defined(my $line = <$in>)) {
-        next if $line =~ /\A#!/;
+    my (undef, @lines) = <$in>;
+    my @head;
+    for my $line (@lines) {
         last if $line !~ s/\A# ?//;
-        push @lines, $line =~ s/\b\Q$own\E\b/$name/gr;
+        $line =~ s/\b([a-z]+)\.pl\b/pua-$1/g if $name =~ /\Apua-/;
+        push @head, $line;
     }
-    return @lines;
+    return @head;
 }
 
 1;
