@@ -2,50 +2,16 @@
 # Tests of glance.pl: perl tools/glance.t
 use strict;
 use warnings;
-use Cwd qw(abs_path);
-use File::Basename qw(dirname);
-use File::Temp qw(tempdir);
-use POSIX ();
+use FindBin qw($Bin);
+use lib "$Bin/lib";
 use Test::More;
+use Tried;
 
-my $TOOLS  = dirname(abs_path(__FILE__));
-my $GLANCE = "$TOOLS/glance.pl";
-my $room   = tempdir(CLEANUP => 1);
-chdir $room or die "$room: $!";
+my $GLANCE = "$Bin/glance.pl";
+enter_room();
 
-sub file {
-    my ($name, @lines) = @_;
-    open my $out, '>', $name or die "$name: $!";
-    print $out map { "$_\n" } @lines;
-    close $out or die "$name: $!";
-    return $name;
-}
-
-# The whole content of a file.
-sub content {
-    my ($name) = @_;
-    open my $in, '<:raw', $name or die "$name: $!";
-    local $/ = undef;
-    my $bytes = <$in>;
-    close $in;
-    return defined $bytes ? $bytes : '';
-}
-
-# Runs glance.pl as for foreign text, with these words and, as its input, the file `list`: its
-# status, and what it wrote on both outputs.
-sub glance {
-    my @words = @_;
-    my $child = fork;
-    die "fork: $!" unless defined $child;
-    if (!$child) {
-        open STDIN,  '<', 'list' or POSIX::_exit(99);
-        open STDOUT, '>', 'out'  or POSIX::_exit(99);
-        open STDERR, '>', 'err'  or POSIX::_exit(99);
-        exec $^X, '-T', '-w', $GLANCE, @words or POSIX::_exit(99);
-    }
-    waitpid $child, 0;
-    return ($? >> 8, content('out'), content('err'));
-}
+# Runs glance.pl with these words and, as its input, the file `list`.
+sub glance { return ran($GLANCE, { in => 'list' }, @_) }
 
 # That these lists are told by these lines.
 sub tells {
@@ -57,9 +23,9 @@ sub tells {
     return;
 }
 
-for my $option ('-wc', '-Twc') {
-    like(`$^X $option $GLANCE 2>&1`, qr/\A\S+ syntax OK\n\z/, "perl $option has nothing to say");
-}
+is_clean($GLANCE, '-wc', '-Twc');
+file('list');
+helps($GLANCE, 'Prints at a glance');
 
 # One line a process, whatever its list.
 tells('a site', <<'END', 'answers: ENOENT 1, ok 2', 'process 1: veils 1, locked; read 3, written 2, executed 0, made 2, removed 1');
@@ -464,7 +430,7 @@ END
 }
 
 # Each list of the examples is told, with a line for each process that it has.
-for my $output (glob "$TOOLS/../examples/*/*{objects,all,ever}*-output") {
+for my $output (glob "$Bin/../examples/*/*{objects,all,ever}*-output") {
     my $text = content($output);
     my ($status, $out, $err) = glance($output);
     my @processes = $text =~ /^(?:objects|ever) [0-9]+$/mg;

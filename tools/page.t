@@ -2,48 +2,20 @@
 # Tests of page.pl: perl tools/page.t
 use strict;
 use warnings;
-use Cwd qw(abs_path);
 use File::Basename qw(dirname);
-use File::Temp qw(tempdir);
-use POSIX ();
+use FindBin qw($Bin);
+use lib "$Bin/lib";
 use Test::More;
+use Tried;
 
-my $TOOLS = dirname(abs_path(__FILE__));
-my $PAGE  = "$TOOLS/page.pl";
-my $room  = tempdir(CLEANUP => 1);
-chdir $room or die "$room: $!";
+my $PAGE = "$Bin/page.pl";
+enter_room();
 
-sub file {
-    my ($name, @lines) = @_;
-    open my $out, '>', $name or die "$name: $!";
-    print $out map { "$_\n" } @lines;
-    close $out or die "$name: $!";
-    return $name;
-}
+# Runs page.pl with these words.
+sub page { return ran($PAGE, {}, @_) }
 
-# The whole content of a file.
-sub content {
-    my ($name) = @_;
-    open my $in, '<:raw', $name or die "$name: $!";
-    local $/ = undef;
-    my $bytes = <$in>;
-    close $in;
-    return defined $bytes ? $bytes : '';
-}
-
-# Runs page.pl as for foreign text, with these words: its status, and what it wrote on both outputs.
-sub page {
-    my @words = @_;
-    my $child = fork;
-    die "fork: $!" unless defined $child;
-    if (!$child) {
-        open STDOUT, '>', "$room/out" or POSIX::_exit(99);
-        open STDERR, '>', "$room/err" or POSIX::_exit(99);
-        exec $^X, '-T', '-w', $PAGE, @words or POSIX::_exit(99);
-    }
-    waitpid $child, 0;
-    return ($? >> 8, content("$room/out"), content("$room/err"));
-}
+is_clean($PAGE, '-wc', '-Twc');
+helps($PAGE, 'Writes a page');
 
 # The page of a listing and of what `pua objects` printed, which has to be written without a report.
 sub page_of {
@@ -325,7 +297,7 @@ my @site = ('1 dir 0 www', '2 dir 1 site', '3 file 2 index', '4 file 1 key', '5 
 
 # Each story that pua is tested with: each line about an object is a row with something in it, each other
 # line stands above, and each opening and each veil whose place is there stands in the tree too.
-for my $output (glob "$TOOLS/../examples/*/{objects,all,openbsd}-output") {
+for my $output (glob "$Bin/../examples/*/{objects,all,openbsd}-output") {
     my ($story, $text) = (dirname($output), content($output));
     my ($status, $page, $err) = page("$story/listing", $output);
     my @counts = map { my $pattern = $_; scalar(() = $page =~ /$pattern/g) } 'class="row">', '<li>', '<b class="veil">';
