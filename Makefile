@@ -12,8 +12,8 @@ PERLDIR = $(DESTDIR)$(PREFIX)/share/pua/perl
 PROGRAM = crates/pua/out/pua
 
 # Each tool is installed as pua-NAME, for tools/NAME.pl, and has a page man/pua-NAME.1.
-TOOLS = list trace page glance conform
-MODULES = Calls Kdump Kernel Lists Perform Process Reports Trials
+TOOLS = list trace page glance keep conform
+MODULES = Calls Help Kdump Kernel Lists Perform Process Regions Reports Trials
 
 all:
 	cd crates/pua && rt run -- --version

@@ -45,6 +45,7 @@ use File::Spec ();
 use File::Temp qw(tempdir);
 use Getopt::Long qw(:config posix_default no_ignore_case);
 use POSIX ();
+use Pua::Help qw(help_of);
 use Pua::Kernel qw(has_pledge has_unveil);
 use Pua::Perform qw(perform);
 use Pua::Trials qw(listing_of script_of trials_in);
@@ -58,18 +59,6 @@ my %NEEDS = (pledge => 'OpenBSD::Pledge', unveil => 'OpenBSD::Unveil');
 
 sub fail { print STDERR "$NAME: @_\n"; exit 1 }
 sub misused { print STDERR $USAGE; exit 2 }
-
-# The head of this file is its help.
-sub help {
-    open my $in, '<', __FILE__ or fail(__FILE__ . ": $!");
-    my @lines = <$in>;
-    shift @lines;
-    for my $line (@lines) {
-        last if $line !~ s/\A# ?//;
-        print $line;
-    }
-    return;
-}
 
 sub content {
     my ($name) = @_;
@@ -185,7 +174,10 @@ sub report_on {
 my @words = @ARGV;
 my %how;
 GetOptions(\%how, 'builtins', 'left', 'help', 'helper=s', 'room=s', 'trials=s') or misused();
-if ($how{help}) { help(); exit 0 }
+if ($how{help}) {
+    print help_of(__FILE__, $NAME);
+    exit 0;
+}
 misused() if @ARGV != (defined $how{trials} ? 0 : 2);
 misused() if grep { defined && $_ eq '' } @how{qw(helper room trials)};
 fail('it has to be root, for chroot(2)') if $> != 0;

@@ -2,7 +2,7 @@
 # Prints at a glance what `pua objects` printed: a line for each process, and what no line of an
 # object shows:
 #
-#     glance.pl [-m MANIFEST] [-o HELD] [LIST]...
+#     glance.pl [-d] [-m MANIFEST] [-o HELD] [LIST]...
 #
 # LIST is the output of `pua objects`, of now or with `--ever`; standard input if it is left out.
 # What is kept of several, or of all processes by `--process all`, comes one after the other.
@@ -16,8 +16,17 @@
 # process: /dev/null, /etc/localtime and /usr/share/zoneinfo; and which veils it can move below
 # another one, where a kernel may go on by what covered them before.
 #
-#     -m MANIFEST  what list.pl -m wrote: says first what the listing doesn't have.
+#     -d           says of each list which regions it has, below the lines of its process. A region
+#                  is a directory with all below it that the same veil covers and whose directories
+#                  may be treated alike: by the calls on them, but rmdir, and those on further
+#                  names in them. It has how many objects of a kind have which calls, the most
+#                  first, or their paths, where they are three at most.
+#     -m MANIFEST  what list.pl -m wrote: says first what the listing doesn't have, and of which
+#                  directories it doesn't have all files.
 #     -o HELD      what trace.pl -o wrote: says of each process what it holds open.
+#     --help       prints this text.
+#
+# A list is read a line at a time, and takes no more memory where it is longer, but for its regions.
 #
 # Status 0: it was printed. Status 1: a file can't be read, or is no list of objects; then nothing
 # was printed. Status 2: the words are no use of it.
@@ -30,8 +39,9 @@ BEGIN {
 }
 use Getopt::Long qw(:config posix_default no_ignore_case bundling);
 use Pua::Calls qw(%BY_VEILS %OPENINGS);
-use Pua::Lists qw(@COLUMNS columns has_promise held_of holds lines_of lists_of manifest_of
-    state_of);
+use Pua::Help qw(help_of);
+use Pua::Lists qw(@COLUMNS columns has_promise held_of holds manifest_of read_lists state_of);
+use Pua::Regions;
 
 my ($NAME) = $0 =~ m{([^/]*)\z};
 my $MOST_NAMED = 5;    # paths that a line names
@@ -39,28 +49,40 @@ my $MOST_NAMED = 5;    # paths that a line names
 my @ABOUT_PATHS = qw(rpath wpath cpath dpath tmppath exec fattr chown unix);    # promises
 my @NETWORK     = qw(inet mcast dns bpf pf route wroute vmm);
 
+my $by_regions;    # whether -d was given
+
 my %BY_STDIO = map { $_ => 1 } @{ $OPENINGS{stdio} };
 
-# The first of some things, and how many more there are.
-sub some {
-    my @things = @_;
-    my @more = splice @things, @things > $MOST_NAMED ? $MOST_NAMED : @things;
-    return join(', ', @things) . (@more ? ' and ' . @more . ' more' : '');
+# The first of some things, and how many more there are of $count.
+sub some_of {
+    my ($count, @first) = @_;
+    splice @first, $MOST_NAMED if @first > $MOST_NAMED;
+    return join(', ', @first) . ($count > @first ? ' and ' . ($count - @first) . ' more' : '');
 }
 
-# How many objects of a list have a call under each head, and those that have a call of this name.
-sub counts {
-    my ($list) = @_;
-    my %counts = map { $_ => 0 } @COLUMNS;
-    for my $object (@{ $list->{objects} }) {
-        $counts{$_}++ for keys %{ columns($object->[0], $object->[2]) };
+sub some { return some_of(scalar @_, @_) }
+
+# Adds a line of an object to what is known of its list: how many have a call under each head, the
+# first paths that can be connected to and those where something is bound, and which veils stand at
+# something that is no directory.
+sub take {
+    my ($list, $kind, $path, $calls) = @_;
+    $list->{place} ||= { map { $_->[0] => $_->[1] } @{ state_of($list)->{veils} } };
+    my $known = $list->{known}{"$kind $calls"} ||= [
+        [keys %{ columns($kind, $calls) }],
+        [grep { $_ eq 'connect' || $_ eq 'bind' } split /,/, $calls],
+    ];
+    $list->{counts}{$_}++ for @{ $known->[0] };
+    for my $call (@{ $known->[1] }) {
+        my $with = $list->{with}{$call} ||= { count => 0, paths => [] };
+        push @{ $with->{paths} }, $path if $with->{count}++ < $MOST_NAMED;
     }
-    return \%counts;
-}
-
-sub paths_with {
-    my ($list, $call) = @_;
-    return map { $_->[1] } grep { $_->[2] =~ /(?:\A|,)\Q$call\E(?:,|\z)/ } @{ $list->{objects} };
+    $list->{is_name}{$path} = 1
+        if exists $list->{place}{$path} && $kind =~ /\A(?:file|prog|link|missing)\z/;
+    return if !$by_regions;
+    $list->{regions} ||= Pua::Regions->new($list->{place});
+    $list->{regions}->take($kind, $path, $calls);
+    return;
 }
 
 # What is to be said of programs that are started.
@@ -79,10 +101,10 @@ sub about_sockets {
     my ($list, $state) = @_;
     return if !holds($state, 'unix');
     if ($state->{sockets}) {
-        my @connects = paths_with($list, 'connect');
-        my @binds = paths_with($list, 'bind');
-        return ((@connects ? 'connects, if these are sockets, to ' . some(@connects) : ()),
-            (@binds ? 'binds sockets in ' . some(@binds) : ()));
+        my ($connects, $binds) = map { $_ && some_of($_->{count}, @{ $_->{paths} }) }
+            @{ $list->{with} }{qw(connect bind)};
+        return (($connects ? "connects, if these are sockets, to $connects" : ()),
+            ($binds ? "binds sockets in $binds" : ()));
     }
     return 'connects to each socket, and binds sockets anywhere: no line shows it'
         unless @{ $state->{veils} };
@@ -124,12 +146,10 @@ sub cover_of {
 sub about_moves {
     my ($list, $state) = @_;
     return if !holds($state, 'cpath');
-    my %is_name = map { $_->[0] =~ /\A(?:file|prog|link|missing)\z/ ? ($_->[1] => 1) : () }
-        @{ $list->{objects} };
     my $moves = $state->{sockets} ? qr/r.*c/ : qr/c/;    # by OpenBSD's rules rename asks for r too
     my @moved;
     for my $place (map { $_->[0] } @{ $state->{veils} }) {
-        my $first = $is_name{$place} ? $place =~ s{/[^/]*\z}{}r : $place;
+        my $first = $list->{is_name}{$place} ? $place =~ s{/[^/]*\z}{}r : $place;
         for (my $path = $first; $path =~ m{\A/.}; $path =~ s{/[^/]*\z}{}) {
             my $cover = cover_of($state, $path);
             next if !$cover || $cover->[1] !~ $moves;
@@ -146,7 +166,7 @@ sub about_moves {
 # The lines of a process.
 sub lines_about {
     my ($list, $held) = @_;
-    my ($state, $counts) = (state_of($list), counts($list));
+    my ($state, $counts) = (state_of($list), $list->{counts});
     my $name = "process $list->{process}" . ($list->{ever} ? ' ever' : '');
     return "$name: ended" if $state->{ended};
     my $veils = @{ $state->{veils} };
@@ -162,6 +182,7 @@ sub lines_about {
     push @says, about_openings($state), about_moves($list, $state);
     push @says, 'holds open ' . some(@{ $held->{ $list->{process} } })
         if $held->{ $list->{process} };
+    push @says, $list->{regions}->lines if $list->{regions};
     return ("$name: veils $veils, " . ($state->{unveil} || 'lock not told') . '; '
         . join(', ', map { "$_ $counts->{$_}" } @COLUMNS),
         map { "    $_" } @says);
@@ -170,9 +191,20 @@ sub lines_about {
 # The lines of a file.
 sub lines_in {
     my ($file, $held) = @_;
-    my ($answers, @lists) = lists_of($file, lines_of($file));
-    my %answers;
-    $answers{ (split / /, $_)[1] }++ for @$answers;
+    my (%answers, @lists);
+    read_lists($file, {
+        answer => sub { $answers{ (split / /, $_[0])[1] }++ },
+        list => sub {
+            my ($process, $ever) = @_;
+            delete @{ $lists[-1] }{qw(known place)} if @lists;
+            push @lists, {
+                process => $process, ever => $ever, state => [], with => {}, is_name => {},
+                counts => { map { $_ => 0 } @COLUMNS },
+            };
+        },
+        state  => sub { push @{ $lists[-1]{state} }, @_ },
+        object => sub { take($lists[-1], @_) },
+    });
     return ('answers: ' . (join(', ', map { "$_ $answers{$_}" } sort keys %answers) || 'none'),
         map { lines_about($_, $held) } @lists);
 }
@@ -180,9 +212,15 @@ sub lines_in {
 sub fail { print STDERR "$NAME: @_\n"; exit 1 }
 
 my ($manifest, $held);
-my $understood = GetOptions('m=s' => \$manifest, 'o=s' => \$held);
+my $understood = GetOptions(
+    'd' => \$by_regions, 'm=s' => \$manifest, 'o=s' => \$held, 'help' => \my $help,
+);
+if ($understood && $help) {
+    print help_of(__FILE__, $NAME);
+    exit 0;
+}
 if (!$understood || grep { $_ eq '' } @ARGV, grep { defined } $manifest, $held) {
-    print STDERR "usage: $NAME [-m MANIFEST] [-o HELD] [LIST]...\n";
+    print STDERR "usage: $NAME [-d] [-m MANIFEST] [-o HELD] [LIST]...\n";
     exit 2;
 }
 my @files = @ARGV ? @ARGV : '/dev/stdin';
@@ -190,7 +228,10 @@ my @lines;
 eval {
     my $missing = defined $manifest ? manifest_of($manifest) : {};
     my $opened  = defined $held     ? held_of($held)         : {};
-    push @lines, 'not in the listing ' . some(sort keys %$missing) if %$missing;
+    my @not_all = grep { $missing->{$_} eq 'not-all' } sort keys %$missing;
+    my @not_in  = grep { $missing->{$_} ne 'not-all' } sort keys %$missing;
+    push @lines, 'not in the listing ' . some(@not_in) if @not_in;
+    push @lines, 'not all listed in ' . some(@not_all) if @not_all;
     push @lines, (@files > 1 ? "$_:" : ()), lines_in($_, $opened) for @files;
     1;
 } or do {

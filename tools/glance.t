@@ -2,50 +2,16 @@
 # Tests of glance.pl: perl tools/glance.t
 use strict;
 use warnings;
-use Cwd qw(abs_path);
-use File::Basename qw(dirname);
-use File::Temp qw(tempdir);
-use POSIX ();
+use FindBin qw($Bin);
+use lib "$Bin/lib";
 use Test::More;
+use Tried;
 
-my $TOOLS  = dirname(abs_path(__FILE__));
-my $GLANCE = "$TOOLS/glance.pl";
-my $room   = tempdir(CLEANUP => 1);
-chdir $room or die "$room: $!";
+my $GLANCE = "$Bin/glance.pl";
+enter_room();
 
-sub file {
-    my ($name, @lines) = @_;
-    open my $out, '>', $name or die "$name: $!";
-    print $out map { "$_\n" } @lines;
-    close $out or die "$name: $!";
-    return $name;
-}
-
-# The whole content of a file.
-sub content {
-    my ($name) = @_;
-    open my $in, '<:raw', $name or die "$name: $!";
-    local $/ = undef;
-    my $bytes = <$in>;
-    close $in;
-    return defined $bytes ? $bytes : '';
-}
-
-# Runs glance.pl as for foreign text, with these words and, as its input, the file `list`: its
-# status, and what it wrote on both outputs.
-sub glance {
-    my @words = @_;
-    my $child = fork;
-    die "fork: $!" unless defined $child;
-    if (!$child) {
-        open STDIN,  '<', 'list' or POSIX::_exit(99);
-        open STDOUT, '>', 'out'  or POSIX::_exit(99);
-        open STDERR, '>', 'err'  or POSIX::_exit(99);
-        exec $^X, '-T', '-w', $GLANCE, @words or POSIX::_exit(99);
-    }
-    waitpid $child, 0;
-    return ($? >> 8, content('out'), content('err'));
-}
+# Runs glance.pl with these words and, as its input, the file `list`.
+sub glance { return ran($GLANCE, { in => 'list' }, @_) }
 
 # That these lists are told by these lines.
 sub tells {
@@ -57,9 +23,9 @@ sub tells {
     return;
 }
 
-for my $option ('-wc', '-Twc') {
-    like(`$^X $option $GLANCE 2>&1`, qr/\A\S+ syntax OK\n\z/, "perl $option has nothing to say");
-}
+is_clean($GLANCE, '-wc', '-Twc');
+file('list');
+helps($GLANCE, 'Prints at a glance');
 
 # One line a process, whatever its list.
 tells('a site', <<'END', 'answers: ENOENT 1, ok 2', 'process 1: veils 1, locked; read 3, written 2, executed 0, made 2, removed 1');
@@ -313,12 +279,14 @@ OUT
         (map { "veil /s$_ w" } 1 .. 7));
     file('other', '1 ok', 'objects 1', 'process ended', 'objects 2', 'process alive',
         'promises =', 'execpromises -', 'unveil locked');
-    file('manifest', 'left-out /usr/include', 'passed-over /root', 'left-out /a\\040b');
+    file('manifest', 'left-out /usr/include', 'passed-over /root', 'left-out /a\\040b',
+        'not-all /var', 'not-all /');
     file('held', 'held 2 open-r /etc/ssl since line 3', 'held 2 open-rw - since line -',
         'held 1 open-w /x since line 4');
     my ($status, $out, $err) = glance('-m', 'manifest', '-o', 'held', 'list', 'other');
     is($out, <<'END', 'two files, a manifest, and what is held');
 not in the listing /a\040b, /root, /usr/include
+not all listed in /, /var
 list:
 answers: none
 process 1: veils 7, locked; read 0, written 0, executed 0, made 0, removed 0
@@ -335,6 +303,101 @@ END
     file('held');
     is((glance('-m', 'manifest', '-o', 'held', 'other'))[1], (glance('other'))[1],
         'an empty manifest, and nothing that is held');
+}
+
+# Regions. A directory begins one where another veil covers it, where its calls are others, and where
+# the one that it is in has no line; a veil on a file begins none, and is told with its calls.
+{
+    file('list', split /\n/, <<'END');
+1 ok
+objects 1
+process alive
+rules openbsd
+promises cpath,rpath,stdio,wpath
+execpromises -
+unveil locked
+veil / r
+veil /etc/key rw
+veil /var rwc
+veil /a/b/c x
+veil - r
+dir / stat,open-r
+dir /etc stat,open-r
+file /etc/hosts stat,open-r
+file /etc/key stat,open-r,open-w
+file /etc/motd stat,open-r
+dir /etc/ssl stat,open-r
+file /etc/ssl/cert stat,open-r
+link /etc/ssl/old lstat
+file /etc/ssl/other stat,open-r
+file /motd stat,open-r
+dir /var stat,open-r
+other /var create
+dir /var/empty stat,open-r,rmdir
+other /var/empty create
+dir /var/log stat,open-r
+other /var/log create
+file /var/log/a open-w
+file /var/log/b open-w
+file /var/log/c open-w
+file /var/log/d open-w
+dir /var/odd stat
+file /var/odd/x stat
+dir /variant stat,open-r
+file /variant/y stat,open-r
+file /gone/deep/z stat
+prog /a/b/c exec
+ever 2
+process alive
+promises cpath,rpath,stdio
+execpromises -
+unveil locked
+no veils
+dir / stat
+other / mkdir
+missing /x mkdir
+dir new stat,rmdir
+other new mkdir
+link new lstat
+objects 3
+process ended
+END
+    my ($status, $out, $err) = glance('-d', 'list');
+    is("$status $err", '0 ', '-d: the status');
+    is($out, <<'END', '-d: the regions');
+answers: ok 1
+process 1: veils 5, locked; read 18, written 5, executed 1, made 3, removed 1
+    below / (veil r): 12 lines, and regions inside: 1
+        6 file stat,open-r
+        4 dir stat,open-r
+        file stat,open-r,open-w (veil rw): /etc/key
+        link lstat: /etc/ssl/old
+    below /var (veil rwc): 10 lines, and regions inside: 1
+        4 file open-w
+        other create: /var, /var/empty, /var/log
+        dir stat,open-r: /var, /var/log
+        dir stat,open-r,rmdir: /var/empty
+    below /var/odd (veil rwc on /var): 2 lines
+        dir stat: /var/odd
+        file stat: /var/odd/x
+    below /gone/deep (veil r on /): 1 line
+        file stat: /gone/deep/z
+    below /a/b (veil r on /): 1 line
+        prog exec (veil x): /a/b/c
+process 2 ever: veils 0, locked; read 3, written 0, executed 0, made 3, removed 1
+    no veils at all: it touches what is not listed too
+    below / (no veil): 3 lines
+        dir stat: /
+        missing mkdir: /x
+        other mkdir: /
+    what is made: 3 lines
+        dir stat,rmdir
+        link lstat
+        other mkdir
+process 3: ended
+END
+    my $plain = join '', grep { !/\A {4}(?:below|what is made)|\A {8}/ } split /^/, $out;
+    is((glance('list'))[1], $plain, 'without -d there is all else');
 }
 
 # Faults: nothing is written, and one line says why.
@@ -354,7 +417,7 @@ END
     );
     is_deeply([glance(@{ $_->[0] })], [1, '', "glance.pl: $_->[1]\n"], "a fault: $_->[1]")
         for @faults;
-    my $usage = "usage: glance.pl [-m MANIFEST] [-o HELD] [LIST]...\n";
+    my $usage = "usage: glance.pl [-d] [-m MANIFEST] [-o HELD] [LIST]...\n";
     for my $words ([''], ['-m', ''], ['-o', '', 'list'], ['-q'], ['-m']) {
         my ($status, $out, $err) = glance(@$words);
         is("$status$out", '2', "no use of it: @$words");
@@ -367,12 +430,21 @@ END
 }
 
 # Each list of the examples is told, with a line for each process that it has.
-for my $output (glob "$TOOLS/../examples/*/*{objects,all,ever}*-output") {
+for my $output (glob "$Bin/../examples/*/*{objects,all,ever}*-output") {
     my $text = content($output);
     my ($status, $out, $err) = glance($output);
     my @processes = $text =~ /^(?:objects|ever) [0-9]+$/mg;
     my @told = $out =~ /^process [0-9]+/mg;
     is("$status $err" . @told, '0 ' . @processes, ($output =~ m{([^/]*/[^/]*)\z})[0]);
+    ($status, $out, $err) = glance('-d', $output);
+    my @objects = $text =~ m{^(?!veil |opening |promises |execpromises )[a-z]+ (?:/\S*|new) \S}mg;
+    my ($in_regions, $in_groups) = (0, 0);
+    $in_regions += $_ for $out =~ /^    (?:below \S+ \(.*?\)|what is made): ([0-9]+) line/mg;
+    for my $group ($out =~ /^ {8}(.*)/mg) {
+        $in_groups += $group =~ /\A([0-9]+) /      ? $1
+            : $group =~ /: (.*)/ ? scalar split(/, /, $1) : 1;
+    }
+    is("$in_regions $in_groups", "@{[scalar @objects]} @{[scalar @objects]}", '-d: each line is in one');
 }
 chdir '/';
 done_testing;

@@ -96,6 +96,9 @@ chdir $to or die "cannot enter $to: $!\n";
 for my $tool (@tools) {
     my $said = `$to/root/usr/bin/pua-$tool -? 2>&1`;
     like $said, qr/^usage: pua-$tool /m, "pua-$tool finds its modules and tells its name";
+    my $help = `$to/root/usr/bin/pua-$tool --help 2>&1`;
+    like $help, qr/\A[A-Z].*^ +pua-$tool .*^Status 0: .*\n\z/ms, "pua-$tool knows --help";
+    is $?, 0, "pua-$tool --help: the status";
 }
 chdir $top or die "cannot enter $top: $!\n";
 

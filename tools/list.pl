@@ -14,12 +14,13 @@
 #     -k         goes on where a file, a directory or a link can't be read or listed. A directory
 #                that can't be read is listed as an empty one.
 #     -m FILE    writes into FILE what isn't listed though it was asked for: a line `left-out
-#                PATH` for what a -x left out, and `passed-over PATH` for what -k did. It is kept
-#                beside the listing, which doesn't show it; page.pl and glance.pl do.
+#                PATH` for what a -x left out, `passed-over PATH` for what -k did, and `not-all
+#                PATH` for a directory of which -n left files out. It is kept beside the listing,
+#                which doesn't show it; page.pl and glance.pl do.
 #     -n N       lists of what is in a directory all directories, and at most N files: the first
 #                ones in the order of the listing. Links, sockets and so on count as files. What a
 #                PATH, SCRIPT or PATHS names by itself, and links on the way, are listed anyhow. How
-#                many files aren't listed is reported; FILE of -m has none of them.
+#                many files aren't listed is reported; FILE of -m has their directories.
 #     -r ROOT    takes the directory ROOT for the root, as after chroot(2); every other path is
 #                then one below ROOT. With no PATH, SCRIPT or PATHS, all of ROOT is listed.
 #     -s SCRIPT  lists what a script for pua can be about: for each path that it names the
@@ -32,6 +33,7 @@
 #     -v         reports each link that leads out of the listing by itself.
 #     -x PATH    leaves PATH out, with all that is in it; a directory is listed as an empty one.
 #                It may be given several times. Links in it are not followed.
+#     --help     prints this text.
 #
 # Directories are listed as `dir`, symbolic links as `link`, plain files that someone may execute
 # as `prog`, and all else as `file`: plain files, sockets, fifos and devices. What has several
@@ -71,6 +73,7 @@ my $MOST_NAME   = 255;     # bytes in a component
 my $MOST_LINKS  = 32;      # links followed in one resolution
 my $MOST_NAMED  = 10;      # directories that are named where there are too many names
 my $MOST_COUNTED = 100_000;    # names that are counted beside the listing
+my $PLACES = 1 << 24;          # bits in which files are marked
 
 # The promises by which something is touched by a path.
 my @ABOUT_PATHS = qw(rpath wpath cpath dpath tmppath exec fattr chown unix);
@@ -97,15 +100,32 @@ my $most_files;            # N, where it was given
 my %left_out;              # by path: what this -x left out, `name` or `directory`; empty: nothing
 my %passed_over;           # by path: that -k passed it over
 my %walked;                # by a directory's path: that all in it was taken
-my %beyond;                # by the path of what is beyond the first N of its directory: no value
+my %beyond;                # by a directory's path: the names beyond its first N, joined by `/`
 
-# What is listed, by its path; the root's is empty. Each is a string to keep memory small: `KIND
-# DEVICE:INODE NAMES`, NAMES being how many names it has, and behind that a link's target.
-my %nodes = ('' => 'dir');
+# What is listed but the root, by the path of its directory, which is empty for the root, and by its
+# name. Each is a string to keep memory small: `KIND DEVICE:INODE NAMES`, NAMES being how many names
+# it has, and behind that a link's target.
+my %inside;
+my $listed = 1;    # how many these are, and the root
+
+# Bits at the places of files: whether a name of such a file was taken, and whether another one was.
+my ($marked, $marked_again) = ('', '');
 
 sub report { print STDERR "$NAME: @_\n"; return }
 
 sub fail { report(@_); exit 1 }
+
+# Prints the head of this file; it asks no module, so that the file can be used alone.
+sub help {
+    open my $in, '<', __FILE__ or fail(__FILE__ . ": $!");
+    my (undef, @lines) = <$in>;
+    for my $line (@lines) {
+        last if $line !~ s/\A# ?//;
+        $line =~ s/\b([a-z]+)\.pl\b/pua-$1/g if $NAME =~ /\Apua-/;
+        print $line;
+    }
+    return;
+}
 
 # What can't be read or listed, and why: the end, or with -k passed over.
 sub pass_over {
@@ -131,9 +151,24 @@ sub above { my ($path) = @_; return substr $path, 0, rindex $path, '/' }
 # The last component of a path.
 sub last_of { my ($path) = @_; return substr $path, 1 + rindex $path, '/' }
 
+# What is listed at a path; undef where nothing is.
+sub node {
+    my ($path) = @_;
+    return 'dir' if $path eq '';
+    my $slash = rindex $path, '/';
+    my $names = $inside{ substr $path, 0, $slash } or return;
+    return $names->{ substr $path, $slash + 1 };
+}
+
 # The kind of what is listed at a path, and the target of a link.
-sub kind { my ($path) = @_; return (split / /, $nodes{$path}, 2)[0] }
-sub target { my ($path) = @_; return (split / /, $nodes{$path}, 4)[3] }
+sub kind { my ($path) = @_; return (split / /, node($path), 2)[0] }
+sub target { my ($path) = @_; return (split / /, node($path), 4)[3] }
+
+# Where a file has its bit. Two files may have the same one.
+sub place_of {
+    my ($device, $inode) = @_;
+    return ($inode + 7919 * $device) % $PLACES;
+}
 
 # The components of a path.
 sub parts { return grep { $_ ne '' } split m{/}, $_[0] }
@@ -155,7 +190,7 @@ sub found { my ($path) = @_; return lstat($path eq '' && $root eq '' ? '/' : "$r
 # kind, and an empty one where it is passed over.
 sub take {
     my ($path) = @_;
-    return kind($path) if $nodes{$path};
+    return kind($path) if node($path);
     my ($device, $inode, $mode, $names) = found($path);
     if (!defined $device) {
         pass_over($path, $!);
@@ -175,7 +210,13 @@ sub take {
     } elsif (-f _ && $mode & 0111) {
         $kind = 'prog';
     }
-    $nodes{$path} = "$kind $device:$inode $names$more";
+    $inside{ above($path) }{ last_of($path) } = "$kind $device:$inode $names$more";
+    $listed++;
+    if ($kind ne 'dir') {
+        my $place = place_of($device, $inode);
+        if (vec $marked, $place, 1) { vec($marked_again, $place, 1) = 1 }
+        else                        { vec($marked, $place, 1) = 1 }
+    }
     return $kind;
 }
 
@@ -208,33 +249,45 @@ sub leave_out {
     return;
 }
 
-# Takes a path, with all that is in it.
+# Takes a path, with all that is in it: what is in one directory, then what is in the directories
+# in it. What is still to be taken of a directory is one string, with a `/` before each name.
 sub take_all {
-    my @paths = @_;
-    while (defined(my $path = shift @paths)) {
-        if (exists $left_out{$path}) {
-            leave_out($path);
-            next;
+    my ($path) = @_;
+    my @directories = [$path, take_with_names($path)];
+    while (my $directory = shift @directories) {
+        my ($above, $names) = @$directory;
+        for my $inside (map { "$above/$_" } parts($names)) {
+            my $below = take_with_names($inside);
+            push @directories, [$inside, $below] if $below ne '';
         }
-        next if take($path) ne 'dir' || $walked{$path}++;
-        my ($names, $fault) = names_in($path);
-        pass_over($path, $fault) if $fault;
-        my @inside = map { "$path/$_" } sort @$names;
-        push @paths, defined $most_files ? first_of(@inside) : @inside;
     }
     return;
 }
 
-# What -n lists of the paths in a directory; the others are noted.
-sub first_of {
-    my ($files, @first) = (0);
-    for my $path (@_) {
-        if (exists $left_out{$path} || !found($path) || -d _ || ++$files <= $most_files) {
-            push @first, $path;
-        } else {
-            $beyond{$path} = undef;
-        }
+# Takes a path, and answers the names of what has to be taken in it.
+sub take_with_names {
+    my ($path) = @_;
+    if (exists $left_out{$path}) {
+        leave_out($path);
+        return '';
     }
+    return '' if take($path) ne 'dir' || $walked{$path}++;
+    my ($names, $fault) = names_in($path);
+    pass_over($path, $fault) if $fault;
+    my @names = sort @$names;
+    return join '', map { "/$_" } defined $most_files ? first_of($path, @names) : @names;
+}
+
+# What -n lists of the names in a directory; the others are noted.
+sub first_of {
+    my ($directory, @names) = @_;
+    my ($files, @first, @beyond) = (0);
+    for my $name (@names) {
+        my $path = "$directory/$name";
+        my $is_listed = exists $left_out{$path} || !found($path) || -d _ || ++$files <= $most_files;
+        push @{ $is_listed ? \@first : \@beyond }, $name;
+    }
+    $beyond{$directory} = join '/', @beyond if @beyond;
     return @first;
 }
 
@@ -242,7 +295,7 @@ sub first_of {
 sub take_way {
     my ($path) = @_;
     my $above = above($path);
-    return if $nodes{$above};
+    return if node($above);
     take_way($above);
     take($above);
     return;
@@ -456,7 +509,7 @@ sub names_there {
 sub report_unveiled {
     my %unveiled = unveiled(@_) or return;
     my $count = names_there();
-    my $left = $count > $MOST_COUNTED ? "more than $MOST_COUNTED" : $count - keys %nodes;
+    my $left = $count > $MOST_COUNTED ? "more than $MOST_COUNTED" : $count - $listed;
     report("process $_ has no veil, and may touch all by path ($unveiled{$_}); "
         . "names that are not listed: $left") for sort { $a <=> $b } keys %unveiled;
     return;
@@ -464,12 +517,12 @@ sub report_unveiled {
 
 # Ends where there are more names than pua reads, and reports where most of them are.
 sub judge_size {
-    my $count = keys %nodes;
-    return if $count <= $MOST_LISTED;
-    report("$count names, and pua reads at most $MOST_LISTED; leave some out with -x");
+    return if $listed <= $MOST_LISTED;
+    report("$listed names, and pua reads at most $MOST_LISTED; leave some out with -x");
     my %below;
-    for my $path (keys %nodes) {
-        while (($path = above($path)) ne '') { $below{$path}++ }
+    for my $directory (keys %inside) {
+        my $names = keys %{ $inside{$directory} };
+        for (my $path = $directory; $path ne ''; $path = above($path)) { $below{$path} += $names }
     }
     my @largest = sort { $below{$b} <=> $below{$a} || $a cmp $b } keys %below;
     splice @largest, $MOST_NAMED if @largest > $MOST_NAMED;
@@ -488,7 +541,7 @@ sub outside {
             next;
         }
         my $next = "$path/$part";
-        return found($next) ? $next : undef unless $nodes{$next};
+        return found($next) ? $next : undef unless node($next);
         my $kind = kind($next);
         if ($kind eq 'link') {
             return if ++$links > $MOST_LINKS;
@@ -504,52 +557,67 @@ sub outside {
     return;
 }
 
-# What is listed below the root, in the order of the listing: a name, then what is in it.
-sub in_order {
-    my @paths = grep { $_ ne '' } keys %nodes;
-    tr{/}{\0} for @paths;    # so the end of a name comes before each byte of a longer one
-    @paths = sort @paths;
-    tr{\0}{/} for @paths;
-    return \@paths;
-}
-
-# By the number of each further name of a file, the number of its first one.
-sub further_names {
-    my ($order) = @_;
-    my ($number, %first, %further) = (0);
-    for my $path (@$order) {
-        $number++;
-        my ($kind, $file) = split / /, $nodes{$path}, 3;
-        next if $kind eq 'dir';
-        if ($first{$file}) { $further{$number} = $first{$file} }
-        else               { $first{$file} = $number }
-    }
-    return \%further;
-}
-
-# Prints the listing.
-sub print_listing {
-    my ($order, $further) = @_;
-    my ($number, %number) = (0, '' => 0);    # %number has those of directories
-    print %$further ? "tree 2\n" : "tree 1\n", "0 dir\n" or return;
-    for my $path (@$order) {
-        $number++;
-        my ($kind, undef, undef, $target) = split / /, $nodes{$path}, 4;
-        $number{$path} = $number if $kind eq 'dir';
-        my $line = $number{ above($path) } . ' ' . spelled(last_of($path));
-        if    ($further->{$number}) { $line = "hard $line $further->{$number}" }
-        elsif (defined $target)     { $line = "$kind $line " . spelled($target) }
-        else                        { $line = "$kind $line" }
-        print "$number $line\n" or return;
+# Calls a function for all that is listed below the root, in the order of the listing: a name, then
+# what is in it. The function is given the path, the name, what stands there, its number, and that
+# of its directory; where it answers 0, that is the end.
+sub for_each_listed {
+    my ($use) = @_;
+    my ($number, @ways) = (0, ['', 0, reverse sort keys %{ $inside{''} || {} }]);
+    while (@ways) {
+        my $way = $ways[-1];    # a directory, its number, and which names are left, the last first
+        if (@$way == 2) {
+            pop @ways;
+            next;
+        }
+        my ($name, $directory) = (pop @$way, $way->[0]);
+        my $path = "$directory/$name";
+        $use->($path, $name, $inside{$directory}{$name}, ++$number, $way->[1]) or return 0;
+        push @ways, [$path, $number, reverse sort keys %{ $inside{$path} }] if $inside{$path};
     }
     return 1;
 }
 
+# What reports and lines have to know of all that is listed: the paths of the `links`; by the number
+# of each `further` name of a file that of its first one; and of these and of what has several names
+# on the disk, as `several`, the path, the number, how many names it has and, of a further name, the
+# path of the first one.
+sub survey {
+    my (%first, %further, @links, @several);
+    for_each_listed(sub {
+        my ($path, undef, $node, $number) = @_;
+        my ($kind, $file, $names) = split / /, $node, 4;
+        return 1 if $kind eq 'dir';
+        push @links, $path if $kind eq 'link';
+        my $first;
+        if (vec $marked_again, place_of(split /:/, $file), 1) {
+            if ($first{$file}) { ($further{$number}, $first) = @{ $first{$file} } }
+            else               { $first{$file} = [$number, $path] }
+        }
+        push @several, [$path, $number, $names, $first] if $first || $names > 1;
+        return 1;
+    });
+    return { links => \@links, further => \%further, several => \@several };
+}
+
+# Prints the listing.
+sub print_listing {
+    my ($further) = @_;
+    print %$further ? "tree 2\n" : "tree 1\n", "0 dir\n" or return 0;
+    return for_each_listed(sub {
+        my (undef, $name, $node, $number, $directory) = @_;
+        my ($kind, undef, undef, $target) = split / /, $node, 4;
+        my $line = "$directory " . spelled($name);
+        if    ($further->{$number}) { $line = "hard $line $further->{$number}" }
+        elsif (defined $target)     { $line = "$kind $line " . spelled($target) }
+        else                        { $line = "$kind $line" }
+        return print "$number $line\n";
+    });
+}
+
 # Reports the links that lead out of the listing, by where they lead to, or with -v one by one.
 sub report_links {
-    my ($order) = @_;
     my %leading;    # by what isn't listed: the links that lead there
-    for my $link (grep { $nodes{$_} =~ /\Alink / } @$order) {
+    for my $link (@_) {
         my $outside = outside($link);
         push @{ $leading{ $each_link ? $link : $outside } }, [$link, $outside] if defined $outside;
     }
@@ -563,6 +631,16 @@ sub report_links {
     return;
 }
 
+# By the path of a directory, how many of its files -n left out, and nothing else listed.
+sub not_all {
+    my %count;
+    for my $directory (keys %beyond) {
+        my $count = grep { !node("$directory/$_") } parts($beyond{$directory});
+        $count{$directory} = $count if $count;
+    }
+    return %count;
+}
+
 # Reports what was left out, what was passed over, and how much is beyond the first files.
 sub report_gaps {
     for my $path (sort keys %left_out) {
@@ -572,11 +650,10 @@ sub report_gaps {
     }
     report('passed over, since they could not be read or listed: ' . keys %passed_over)
         if %passed_over;
-    my %directories;
-    $directories{ above($_) }++ for grep { !$nodes{$_} } keys %beyond;
-    my $beyond = sum0(values %directories);
+    my %beyond = not_all();
+    my $beyond = sum0(values %beyond);
     report("files that are not listed, beyond the first $most_files of a directory: $beyond, in "
-        . 'so many directories: ' . keys %directories) if $beyond;
+        . 'so many directories: ' . keys %beyond) if $beyond;
     return;
 }
 
@@ -584,7 +661,9 @@ sub report_gaps {
 sub write_manifest {
     my ($name) = @_;
     my ($file) = $name =~ /\A(.*)\z/s;    # the user's own word, also under -T
-    my %lines = map { $_ => 'passed-over' } keys %passed_over;
+    my %not_all = not_all();
+    my %lines = map { $_ => 'not-all' } keys %not_all;
+    $lines{$_} = 'passed-over' for keys %passed_over;
     $lines{$_} = 'left-out' for grep { $left_out{$_} } keys %left_out;
     open my $out, '>', $file or fail(spelled($file) . ": $!");
     print {$out} map { "$lines{$_} " . shown($_) . "\n" } sort keys %lines
@@ -595,16 +674,16 @@ sub write_manifest {
 
 # Reports, in the order of the listing, the names of what has several.
 sub report_names {
-    my ($order, $further) = @_;
-    my ($number, %listed) = (0);    # %listed has how many names are listed, beside the first
+    my ($several, $further) = @_;
+    my %listed;    # by the number of a first name, how many further ones are listed
     $listed{$_}++ for values %$further;
-    for my $path (@$order) {
-        my $first = $further->{ ++$number };
-        report(shown($path) . ': a further name of ' . shown($order->[$first - 1])) if $first;
-        next if $first || $nodes{$path} =~ /\Adir /;
-        my $names = (split / /, $nodes{$path}, 4)[2];
-        report(shown($path) . ': the file has a further name, which is not listed')
-            if $names > 1 + ($listed{$number} || 0);
+    for my $file (@$several) {
+        my ($path, $number, $names, $first) = @$file;
+        if (defined $first) {
+            report(shown($path) . ': a further name of ' . shown($first));
+        } elsif ($names > 1 + ($listed{$number} || 0)) {
+            report(shown($path) . ': the file has a further name, which is not listed');
+        }
     }
     return;
 }
@@ -619,7 +698,12 @@ my $understood = GetOptions(
     's=s' => \$script,
     'v'   => \$each_link,
     'x=s' => \@exclusions,
+    'help' => \my $help,
 );
+if ($understood && $help) {
+    help();
+    exit 0;
+}
 my @words = (@ARGV, @exclusions, grep { defined } $manifest, $paths);
 my $names_some = @ARGV || defined $script || defined $paths;
 $understood &&= !defined $most_files || $most_files =~ /\A[0-9]{1,9}\z/;
@@ -640,13 +724,12 @@ take_operand($_) for @ARGV;
 take_lines($paths) if defined $paths;
 take_script(@requests);
 judge_size();
-my $order = in_order();
-report_links($order);
-my $further = further_names($order);
-report_names($order, $further);
+my $survey = survey();
+report_links(@{ $survey->{links} });
+report_names(@$survey{qw(several further)});
 report_gaps();
 report_unveiled(@requests) if defined $script;
 write_manifest($manifest) if defined $manifest;
 binmode STDOUT;
-print_listing($order, $further) or fail("standard output: $!");
+print_listing($survey->{further}) or fail("standard output: $!");
 close STDOUT or fail("standard output: $!");

@@ -4,18 +4,19 @@
 use strict;
 use warnings;
 use Cwd qw(abs_path);
-use File::Basename qw(dirname);
 use File::Copy qw(copy);
 use File::Path qw(make_path);
-use File::Temp qw(tempdir);
+use FindBin qw($Bin);
+use lib "$Bin/lib";
 use IO::Socket::UNIX;
 use List::Util qw(shuffle);
 use POSIX qw(mkfifo);
 use Test::More;
+use Tried qw(content enter_room helps is_clean ran);
 
-my $LIST = dirname(abs_path(__FILE__)) . '/list.pl';
+my $LIST = "$Bin/list.pl";
 my $PUA  = defined $ENV{PUA} ? abs_path($ENV{PUA}) : undef;
-my $room = tempdir(CLEANUP => 1);
+my $room = enter_room();
 chmod 0755, $room or die "$room: $!";
 umask 022;
 
@@ -34,16 +35,6 @@ sub file {
     close $out or die "$name: $!";
     chmod $mode, $name or die "$name: $!" if defined $mode;
     return;
-}
-
-# The whole content of a file.
-sub content {
-    my ($name) = @_;
-    open my $in, '<:raw', $name or die "$name: $!";
-    local $/ = undef;
-    my $bytes = <$in>;
-    close $in;
-    return defined $bytes ? $bytes : '';
 }
 
 # Writes a file beside the directories.
@@ -92,22 +83,8 @@ sub paths_of {
     return @paths[1 .. $#paths];
 }
 
-# Runs list.pl as for foreign text, with these words: its status, and what it wrote on both outputs.
-# What it reads is in the file `in`, if one was put there.
-sub list {
-    my @words = @_;
-    my ($in, $out, $err) = map { "$room/$_" } qw(in out err);
-    my $child = fork;
-    die "fork: $!" unless defined $child;
-    if (!$child) {
-        open STDIN, '<', -e $in ? $in : '/dev/null' or POSIX::_exit(99);
-        open STDOUT, '>', $out or POSIX::_exit(99);
-        open STDERR, '>', $err or POSIX::_exit(99);
-        exec $^X, '-T', '-w', $LIST, @words or POSIX::_exit(99);
-    }
-    waitpid $child, 0;
-    return ($? >> 8, content($out), content($err));
-}
+# Runs list.pl with these words. What it reads is in the file `in`, if one was put there.
+sub list { return ran($LIST, { in => -e "$room/in" ? "$room/in" : undef }, @_) }
 
 # A listing with these lines; its header is that of listings with hard links, where there is one.
 sub lines {
@@ -619,6 +596,21 @@ for my $seed (1 .. 40) {
     lists('-n 1, and a script', ['-r', $root, '-n', 1, '-s', "$room/in"], [@one, '5 dir 1 z'],
         '/a/0: the link to 1 leads to /a/1, which is not listed', $rest->(1, 4, 2));
     unlink "$room/in";
+    my $kept = "$room/manifest";
+    my $writes = sub {
+        my ($what, $words, @lines) = @_;
+        is((list('-r', $root, '-m', $kept, @$words))[0], 0, "$what: the status");
+        is(content($kept), join('', map { "$_\n" } @lines), "$what: the manifest");
+    };
+    $writes->('-n 0', ['-n', 0], 'not-all /a', 'not-all /a/b', 'not-all /d');
+    $writes->('-n 2', ['-n', 2], 'not-all /a');
+    $writes->('-n 4', ['-n', 4]);
+    $writes->('-n 1, and all names', ['-n', 1, '/a', '/a/1', '/a/2', '/a/3'], 'not-all /a/b');
+    $writes->('-n 1, and what is left out', ['-n', 1, '-x', '/a/1', '-x', '/a/b'],
+        'not-all /a', 'left-out /a/1', 'left-out /a/b');
+    file('0');
+    $writes->('-n 0, in the root', ['-n', 0], 'not-all /', 'not-all /a', 'not-all /a/b', 'not-all /d');
+    unlink '0';
     file("d/f$_") for 1 .. 5000;
     my ($status, $out) = list('-r', $root, '-n', 1);
     is($status, 0, '-n lists of a directory with more names than may be');
@@ -641,5 +633,8 @@ for my $seed (1 .. 40) {
     like($err, qr/not listed: 99998\n\z/, 'up to there it is exact');
 }
 
+is_clean($LIST, '-wc', '-Twc');
+unlink "$room/in";
+helps($LIST, 'Prints the listing of real files');
 chdir '/';
 done_testing();

@@ -1,7 +1,7 @@
 #!/usr/bin/perl
 # Writes a page of what a process can touch, from a listing and what `pua objects` prints:
 #
-#     page.pl [-m MANIFEST] TREE [OBJECTS [EVER]]
+#     page.pl [-d DEPTH] [-m MANIFEST] TREE [OBJECTS [EVER]]
 #
 # TREE is the listing, and OBJECTS the output of `pua objects` over it, of now or with `--ever`;
 # standard input if it is left out. What is written is one HTML file, without scripts, that loads
@@ -12,8 +12,12 @@
 # no veil stands, and so are more than four such names beside others. An open-rw stands in two
 # columns, a create of what is there among what is written, and a connect too.
 #
+# With -d each directory that has DEPTH names or more in its path is folded too, and has how many
+# names in it can be touched. With --help this text is printed.
+#
 # EVER is a list for ever of a process whose list of now is in OBJECTS: it follows that one, and
-# what it has more is marked. What MANIFEST has, as list.pl -m writes it, is marked as not listed.
+# what it has more is marked. What MANIFEST has, as list.pl -m writes it, is marked as not listed,
+# or as a directory of which not all is listed.
 #
 # The tree is that of the listing, before the script, with what the list adds; such a name is
 # marked `not listed`. What the script removed stands there still, as something that can't be
@@ -30,10 +34,12 @@ BEGIN {
     unshift @INC, map { ($here || './') . $_ } '../share/pua/perl', 'lib';
 }
 use Getopt::Long qw(:config posix_default no_ignore_case bundling);
+use Pua::Help qw(help_of);
 use Pua::Lists qw(@COLUMNS columns holds lines_of lists_of manifest_of state_of);
 
 my ($NAME) = $0 =~ m{([^/]*)\z};
 
+my $depth;              # DEPTH, where it was given
 my $MOST_BESIDE = 4;    # names that can't be touched and still stand unfolded beside others
 
 my %FIELDS = (dir => 4, file => 4, prog => 4, link => 5, hard => 5);    # of a line of a listing
@@ -161,34 +167,40 @@ sub flat {
     return @flat;
 }
 
-# Adds to the page the rows of a node and of what is in it, as lists in it; answers how many names
-# these are, and whether one can be touched, has a veil or was left out. Many names that are
-# nothing of these are folded.
+# Adds to the page the rows of a node and of what is in it, as lists in it; $deep is how many names
+# its path has. Answers how many names are here, and how many of them can be touched, have a veil
+# or were left out. Many names that are nothing of these are folded.
 sub add_rows {
-    my ($page, $name, $node) = @_;
+    my ($page, $name, $node, $deep) = @_;
     my ($kind, $in, $badges) = ($node->{kind}, $node->{in} || {}, $node->{badges} || []);
     my $first = text($name) . ($kind eq 'dir' || %$in ? '/' : " <small>$kind</small>");
     $first .= ' ' . text($node->{note}) if defined $node->{note};
     $first .= ' <small>not listed</small>' if !$node->{listed} && $kind ne 'missing';
+    $first .= ' <small>not all listed</small>' if $node->{is_part};
     $first .= " <b class=\"$_->[0]\">" . text($_->[1]) . '</b>' for @$badges;
-    my ($names, $beside, $touched) = (0, 0, $node->{other} ? 1 : 0);
+    my ($names, $beside, $touched) = (0, 0, 0);
     my @parts;    # of each name in it whether it or what is below it can be touched, and the rows
     my %bytes = map { my $row = $_; ($row => $row =~ s/\\([0-7]{3})/chr oct $1/ger) } keys %$in;
     for my $row (sort { $bytes{$a} cmp $bytes{$b} } keys %bytes) {
         my @below;
-        my ($more, $is_touched) = add_rows(\@below, $row, $in->{$row});
-        push @parts, [$is_touched, \@below];
+        my ($more, $touched_there) = add_rows(\@below, $row, $in->{$row}, $deep + 1);
+        push @parts, [$touched_there, \@below];
         $names += $more;
-        $beside += $more unless $is_touched;
-        $touched ||= $is_touched;
+        $beside += $more unless $touched_there;
+        $touched += $touched_there;
     }
-    $first .= " <small>names in it, none to be touched: $names</small>" if $names && !$touched;
-    my $folds = $names || $node->{other};
+    my $is_deep = defined $depth && $deep >= $depth;
+    my $folds   = $names || $node->{other};
+    my $is_open = ($touched || $node->{other}) && !$is_deep;
+    $first .= " <small>names in it, none to be touched: $names</small>"
+        if $names && !$touched && !$node->{other};
+    $first .= " <small>names in it: $names, to be touched: $touched</small>"
+        if $is_deep && $touched;
     my $row = row_of($folds ? 'summary' : 'div', $first, $kind, [$node->{said} || ()]);
-    push @$page, $folds ? '<details' . ($touched ? ' open' : '') . ">$row" : $row;
+    push @$page, $folds ? '<details' . ($is_open ? ' open' : '') . ">$row" : $row;
     push @$page, row_of('div', '<i>any other name</i>', 'other', [$node->{other}])
         if $node->{other};
-    my $is_folded = $touched && $beside > $MOST_BESIDE;
+    my $is_folded = ($touched || $node->{other}) && $beside > $MOST_BESIDE;
     push @$page, map { $_->[1] } grep { $_->[0] || !$is_folded } @parts;
     if ($is_folded) {
         push @$page, '<details>' . row('summary',
@@ -200,7 +212,8 @@ sub add_rows {
     push @$page,
         row_of('div', text($name) . ' <small>once it is free</small>', 'missing', [$node->{freed}])
         if $node->{freed};
-    return (1 + $names, $touched || $node->{said} || @$badges ? 1 : 0);
+    my $is_touched = $node->{said} || $node->{other} || @$badges;
+    return (1 + $names, $touched + ($is_touched ? 1 : 0));
 }
 
 # What is to be said of a line of the state.
@@ -277,7 +290,7 @@ sub add_list {
             @$node{qw(kind said)} = ($kind, $said);
         }
     }
-    add_rows($page, '', $tree);
+    add_rows($page, '', $tree, 0);
     return;
 }
 
@@ -295,8 +308,11 @@ sub page_of {
     for my $list (@lists, grep { !$listed{ $_->{process} } } @later) {
         for my $told ($list, grep { $_ != $list && $_->{process} == $list->{process} } @later) {
             my $root = tree($tree, @listing);
-            push @{ node($root, $_)->{badges} }, ['alarm', $MISSING{ $missing->{$_} }]
-                for sort keys %$missing;
+            for my $path (sort keys %$missing) {
+                my ($node, $why) = (node($root, $path), $missing->{$path});
+                if ($MISSING{$why}) { push @{ $node->{badges} }, ['alarm', $MISSING{$why}] }
+                else                { $node->{is_part} = 1 }
+            }
             my $is_later = $told != $list && $told->{ever} && !$list->{ever};
             add_list(\@page, $root, $told, $is_later ? $list : undef);
         }
@@ -305,10 +321,15 @@ sub page_of {
 }
 
 my $manifest;
-my $understood = GetOptions('m=s' => \$manifest);
+my $understood = GetOptions('d=s' => \$depth, 'm=s' => \$manifest, 'help' => \my $help);
+if ($understood && $help) {
+    print help_of(__FILE__, $NAME);
+    exit 0;
+}
+$understood &&= !defined $depth || $depth =~ /\A[0-9]{1,9}\z/;
 my @words = (@ARGV, grep { defined } $manifest);
 if (!$understood || @ARGV < 1 || @ARGV > 3 || grep { $_ eq '' } @words) {
-    print STDERR "usage: $NAME [-m MANIFEST] TREE [OBJECTS [EVER]]\n";
+    print STDERR "usage: $NAME [-d DEPTH] [-m MANIFEST] TREE [OBJECTS [EVER]]\n";
     exit 2;
 }
 my @page = eval { page_of($ARGV[0], @ARGV > 1 ? $ARGV[1] : '/dev/stdin', $ARGV[2], $manifest) };

@@ -2,48 +2,20 @@
 # Tests of page.pl: perl tools/page.t
 use strict;
 use warnings;
-use Cwd qw(abs_path);
 use File::Basename qw(dirname);
-use File::Temp qw(tempdir);
-use POSIX ();
+use FindBin qw($Bin);
+use lib "$Bin/lib";
 use Test::More;
+use Tried;
 
-my $TOOLS = dirname(abs_path(__FILE__));
-my $PAGE  = "$TOOLS/page.pl";
-my $room  = tempdir(CLEANUP => 1);
-chdir $room or die "$room: $!";
+my $PAGE = "$Bin/page.pl";
+enter_room();
 
-sub file {
-    my ($name, @lines) = @_;
-    open my $out, '>', $name or die "$name: $!";
-    print $out map { "$_\n" } @lines;
-    close $out or die "$name: $!";
-    return $name;
-}
+# Runs page.pl with these words.
+sub page { return ran($PAGE, {}, @_) }
 
-# The whole content of a file.
-sub content {
-    my ($name) = @_;
-    open my $in, '<:raw', $name or die "$name: $!";
-    local $/ = undef;
-    my $bytes = <$in>;
-    close $in;
-    return defined $bytes ? $bytes : '';
-}
-
-# Runs page.pl as for foreign text, with these words: its status, and what it wrote on both outputs.
-sub page {
-    my @words = @_;
-    my $child = fork;
-    die "fork: $!" unless defined $child;
-    if (!$child) {
-        open STDOUT, '>', "$room/out" or POSIX::_exit(99);
-        open STDERR, '>', "$room/err" or POSIX::_exit(99);
-        exec $^X, '-T', '-w', $PAGE, @words or POSIX::_exit(99);
-    }
-    waitpid $child, 0;
-    return ($? >> 8, content("$room/out"), content("$room/err"));
-}
+is_clean($PAGE, '-wc', '-Twc');
+helps($PAGE, 'Writes a page');
 
 # The page of a listing and of what `pua objects` printed, which has to be written without a report.
 sub page_of {
@@ -197,6 +169,30 @@ my @site = ('1 dir 0 www', '2 dir 1 site', '3 file 2 index', '4 file 1 key', '5 
     is_deeply([rows($out)], ['0 | /', '1 | d/', '2 | n4 file | read: stat', '2 | o/ left out of the listing names in it, none to be touched: 1',
         '3 | p file', '2 | names beside these, none to be touched: 5', (map { "3 | n$_ file" } 2, 3, 5 .. 7),
         '1 | x/ not listed', '2 | y  not listed passed over by the listing'], 'what the listing lacks is never folded');
+    file('manifest', 'not-all /d/o');
+    ($status, $out, $err) = page('-m', 'manifest', 'tree', 'objects');
+    is("$status $err", '0 ', 'not all listed: the status');
+    is_deeply([rows($out)], ['0 | /', '1 | d/', '2 | n4 file | read: stat', '2 | names beside these, none to be touched: 7',
+        (map { "3 | n$_ file" } 2, 3, 5 .. 7), '3 | o/ not all listed names in it, none to be touched: 1', '4 | p file'],
+        'a directory of which not all is listed is folded as others are');
+}
+
+# With -d directories are folded from a depth on, with how many names in them can be touched.
+{
+    file('tree', 'tree 1', '0 dir', '1 dir 0 a', '2 dir 1 b', '3 file 2 x', '4 file 2 y', '5 file 1 z', '6 file 0 f', '7 dir 0 g', '8 file 7 h');
+    file('objects', 'objects 1', 'veil /a/b r', 'dir /a stat', 'file /a/b/x stat', 'other /a/b create', 'file /f stat');
+    my $folds = sub {
+        my ($status, $out, $err) = page('-d', @_, 'tree', 'objects');
+        is("$status $err", '0 ', "-d $_[0]: the status");
+        my @folds = map { /<details( open)?><summary class="[a-z ]*"><span>([^ <]*)/ ? ($2 . ($1 || '')) : () } split /^/, $out;
+        return join ', ', @folds, map { /names in it: (.*)<\/small>/ ? $1 : () } split /^/, $out;
+    };
+    is($folds->(0), '/, a/, b/, g/, 8, to be touched: 4, 4, to be touched: 2, 2, to be touched: 1', '-d 0: all are folded');
+    is($folds->(1), '/ open, a/, b/, g/, 4, to be touched: 2, 2, to be touched: 1', '-d 1: those in the root are');
+    is($folds->(2), '/ open, a/ open, b/, g/, 2, to be touched: 1', '-d 2: those in these are');
+    is($folds->(3), '/ open, a/ open, b/ open, g/', '-d 3: none is, but what has nothing to be touched');
+    my @without = page('tree', 'objects');
+    is_deeply([page('-d', 3, 'tree', 'objects')], \@without, '-d of what is not as deep changes nothing');
 }
 
 # What a list for ever has more than the list of now.
@@ -280,8 +276,8 @@ my @site = ('1 dir 0 www', '2 dir 1 site', '3 file 2 index', '4 file 1 key', '5 
         my ($what, $listing, $objects, $says) = @$fault;
         is_deeply([page($listing, $objects)], [1, '', "page.pl: $says\n"], $what);
     }
-    for my $words ([], [$tree, $list, $list, $list], [$tree, ''], ['-m', '', $tree]) {
-        my $usage = "usage: page.pl [-m MANIFEST] TREE [OBJECTS [EVER]]\n";
+    for my $words ([], [$tree, $list, $list, $list], [$tree, ''], ['-m', '', $tree], ['-d', '', $tree], ['-d', 'x', $tree], ['-d', '-1', $tree]) {
+        my $usage = "usage: page.pl [-d DEPTH] [-m MANIFEST] TREE [OBJECTS [EVER]]\n";
         is_deeply([page(@$words)], [2, '', $usage], 'words that are no use of it: ' . @$words);
     }
     is(system("$^X -T $PAGE $tree < $list > piped && $^X -T $PAGE $tree $list | cmp -s - piped"), 0,
@@ -301,7 +297,7 @@ my @site = ('1 dir 0 www', '2 dir 1 site', '3 file 2 index', '4 file 1 key', '5 
 
 # Each story that pua is tested with: each line about an object is a row with something in it, each other
 # line stands above, and each opening and each veil whose place is there stands in the tree too.
-for my $output (glob "$TOOLS/../examples/*/{objects,all,openbsd}-output") {
+for my $output (glob "$Bin/../examples/*/{objects,all,openbsd}-output") {
     my ($story, $text) = (dirname($output), content($output));
     my ($status, $page, $err) = page("$story/listing", $output);
     my @counts = map { my $pattern = $_; scalar(() = $page =~ /$pattern/g) } 'class="row">', '<li>', '<b class="veil">';

@@ -26,6 +26,7 @@
 #                    nothing is known to be there.
 #     -v             names each report.
 #     -x             keeps exits, and what comes after the end of a process.
+#     --help         prints this text.
 #
 # Descriptors are followed, over copies, forks and execs. So a path that begins at a directory's
 # descriptor is written whole, fchdir is a chdir, and fchmod and its like are about the path that
@@ -63,6 +64,7 @@ BEGIN {
 use Getopt::Long qw(:config posix_default no_ignore_case bundling);
 use Pua::Calls qw(%ABOUT %BITS %CALLS %FLAGS_AT %FROM %FURTHER $HERE %LIKE @MODES %NEEDS %OPENINGS
     descriptor flags flags_of_open is_null opens promises);
+use Pua::Help qw(help_of);
 use Pua::Kdump;
 use Pua::Process qw($START moved plain tidy);
 use Pua::Reports qw($WRONG $MATTERS $REST spelled);
@@ -656,8 +658,12 @@ sub write_file {
 
 my $understood = GetOptions(
     'c=s' => \$only, 'd=s' => \$directory, 'e=s' => \$answers_to, 'o=s' => \$held_to,
-    'k' => \$further, 'l' => \$loaders, 'v' => \$verbose, 'x' => \$exits,
+    'k' => \$further, 'l' => \$loaders, 'v' => \$verbose, 'x' => \$exits, 'help' => \my $help,
 );
+if ($understood && $help) {
+    print help_of(__FILE__, $NAME);
+    exit 0;
+}
 if (!$understood || @ARGV > 1 || grep({ $_ eq '' } @ARGV, grep { defined } $answers_to, $held_to)
     || grep { !m{\A/} } grep { defined } $only, $directory) {
     print STDERR $USAGE;

@@ -5,19 +5,19 @@
 use strict;
 use warnings;
 use Cwd qw(abs_path);
-use File::Basename qw(basename dirname);
-use File::Temp qw(tempdir);
-use POSIX ();
+use File::Basename qw(basename);
+use FindBin qw($Bin);
+use lib "$Bin/lib";
 use Test::More;
+use Tried;
 
-my $TOOLS = dirname(abs_path(__FILE__));
-my $TRACE = "$TOOLS/trace.pl";
+my $TRACE = "$Bin/trace.pl";
 my $PUA   = defined $ENV{PUA} ? abs_path($ENV{PUA}) : undef;
-my $room  = tempdir(CLEANUP => 1);
-chdir $room or die "$room: $!";
+enter_room();
+file('tree', 'tree 1', '0 dir');
 
-# Writes a file.
-sub file {
+# Writes a file of these bytes.
+sub put {
     my ($name, $bytes) = @_;
     open my $out, '>:raw', $name or die "$name: $!";
     print {$out} $bytes or die "$name: $!";
@@ -25,33 +25,8 @@ sub file {
     return;
 }
 
-# The whole content of a file.
-sub content {
-    my ($name) = @_;
-    open my $in, '<:raw', $name or die "$name: $!";
-    local $/ = undef;
-    my $bytes = <$in>;
-    close $in;
-    return defined $bytes ? $bytes : '';
-}
-
-file('tree', "tree 1\n0 dir\n");
-
-# Runs trace.pl with these words and, as its input, the file `trace`: its status, and what it wrote.
-# All that it reads is foreign to it (-T), and it has to run without a warning of perl's.
-sub trace {
-    my @words = @_;
-    my $child = fork;
-    die "fork: $!" unless defined $child;
-    if (!$child) {
-        open STDIN,  '<', 'trace' or POSIX::_exit(99);
-        open STDOUT, '>', 'out'   or POSIX::_exit(99);
-        open STDERR, '>', 'err'   or POSIX::_exit(99);
-        exec $^X, '-T', '-w', $TRACE, @words or POSIX::_exit(99);
-    }
-    waitpid $child, 0;
-    return ($? >> 8, content('out'), content('err'));
-}
+# Runs trace.pl with these words and, as its input, the file `trace`.
+sub trace { return ran($TRACE, { in => 'trace' }, @_) }
 
 # The text of kdump for a short one: `7 CALL  fork()` is a record of process 7, `7 stat(A,B) = 0 "/a"` a call
 # with its NAMI records and its return, and what follows a `|` stands as it is.
@@ -89,7 +64,7 @@ sub gives_all {
         push @script, "$request\n";
         push @answers, @script . " $answer\n";
     }
-    file('trace', $trace);
+    put('trace', $trace);
     unlink 'answers';
     my ($status, $out, $err) = trace('-vx', '-e', 'answers');
     is($out, join('', @script), "$what: the script");
@@ -110,11 +85,13 @@ sub gives {
 
 # The tool itself, and its modules.
 for my $option ('-wc', '-Twc') {
-    for my $file ($TRACE, glob "$TOOLS/lib/Pua/*.pm") {
-        my $said = `$^X $option -I$TOOLS/lib $file 2>&1`;
+    for my $file ($TRACE, glob "$Bin/lib/Pua/*.pm") {
+        my $said = `$^X $option -I$Bin/lib $file 2>&1`;
         like($said, qr/\A\S+ syntax OK\n\z/, "perl $option has nothing to say of " . basename($file));
     }
 }
+
+helps($TRACE, 'Prints the script of a trace');
 
 # A daemon, from its start to its end.
 my $DAEMON = <<'END';
@@ -936,13 +913,13 @@ END
 
 # Traces of whole daemons. Each file NAME-RUN.expected has the words of a run over NAME.kdump, and, apart from
 # each other by `--`, the script with its answers, the reports, and what is held.
-for my $file (glob "$TOOLS/../tests/data/traces/*.expected") {
+for my $file (glob "$Bin/../tests/data/traces/*.expected") {
     my ($name, $run) = basename($file) =~ /\A(\w+)-(\w+)\.expected\z/;
     my ($words, $expected) = split /\n/, content($file), 2;
     my ($lines, $reports, $held) = split /^--\n/m, $expected, 3;
     unlink 'answers', 'held';
     my ($status, $out, $err) =
-        trace('-e', 'answers', '-o', 'held', split(/ /, $words), "$TOOLS/../tests/data/traces/$name.kdump");
+        trace('-e', 'answers', '-o', 'held', split(/ /, $words), "$Bin/../tests/data/traces/$name.kdump");
     my $number = 0;
     is($out, $lines =~ s/ : \S+$//gmr, "$name, $run: the script");
     is(content('answers'), $lines =~ s/^.* : (\S+)$/++$number . " $1"/gmer, "$name, $run: the answers");
@@ -1002,12 +979,12 @@ line 10: left out: stat, of which the trace ends before it returns (1 in all)
 END
 
 {
-    file('trace', 'x' x 3_000_000);
+    put('trace', 'x' x 3_000_000);
     my ($status, $out, $err) = trace();
     is($status, 1,  'a line without an end: the status');
     is($out,    '', 'a line without an end: nothing is printed');
     like($err, qr/\Atrace\.pl: no record of kdump in the trace; /, 'a line without an end: the report');
-    file('trace', kdump(qq(7 stat(0x1c60,0x1d60) = 0 "/a"\n) x 60_001));
+    put('trace', kdump(qq(7 stat(0x1c60,0x1d60) = 0 "/a"\n) x 60_001));
     ($status, $out, $err) = trace();
     is(said_of_lines($err), "trace.pl: the script has 60001 lines, and pua reads at most 60000\n", 'more lines than pua reads');
 }
@@ -1026,39 +1003,39 @@ END
 # The words.
 {
     my $usage = "usage: trace.pl [-klvx] [-c ROOT] [-d DIRECTORY] [-e FILE] [-o FILE] [TRACE]\n";
-    file('trace', kdump('7 CALL  exit(0)'));
+    put('trace', kdump('7 CALL  exit(0)'));
     for my $words (['a', 'b'], [''], ['-e', ''], ['-e'], ['-d', 'home'], ['-d', ''], ['-c', 'www'], ['-c', ''], ['-o', ''], ['-q']) {
         my ($status, $out, $err) = trace(@$words);
         is("$status$out", '2', "no use of it: @$words");
         like($err, qr/\Q$usage\E\z/, "no use of it: @$words: the report");
     }
-    file('trace', kdump("7 fork() = 8\n" . '8 stat(0x1c60,0x1d60) = 0 "a"'));
+    put('trace', kdump("7 fork() = 8\n" . '8 stat(0x1c60,0x1d60) = 0 "a"'));
     my ($status, $out, $err) = trace('-d', '/my home', '-e', 'answers');
     is($status . $out . said_of_lines($err), "01 chdir /my\\040home\n1 fork 2\n2 stat a\n", 'a working directory');
     is(content('answers'), "1 ok\n2 ok\n3 ok\n", 'a working directory: the answers');
-    file('trace', kdump('7 CALL  exit(0)'));
+    put('trace', kdump('7 CALL  exit(0)'));
     ($status, $out, $err) = trace('-x', 'trace');
     is($status . $out . said_of_lines($err), "01 exit\n", 'a file that is named');
     ($status, $out, $err) = trace("no\nne");
     like("$status$out$err", qr/\A1trace\.pl: no\\012ne: \S.*\n\z/, 'a file that is not there');
-    file('trace', kdump(join "\n", '7 CALL  unveil(0x1c60,0x1d60)', '7 STRU  flags="r"', '7 NAMI  "/www"', '7 RET   unveil 0',
+    put('trace', kdump(join "\n", '7 CALL  unveil(0x1c60,0x1d60)', '7 STRU  flags="r"', '7 NAMI  "/www"', '7 RET   unveil 0',
         '7 chroot(0x1c60) = 0 "/www"', '7 chdir(0x1c60) = 0 "/"', '7 stat(0x1c60,0x1d60) = 0 "a"'));
     ($status, $out, $err) = trace('-c', '/www');
     is($status . $out . said_of_lines($err), "01 chdir /\n1 stat a\ntrace.pl: line 5: may be wrong: "
         . "what was unveiled before the chroot is not in this script (1 in all)\n", 'a veil that is older than the root');
     ($status, $out, $err) = trace('-c', '/ww');
     is($status . $out . said_of_lines($err), "0trace.pl: no process had the root /ww, but: /, /www\n", 'a root that none had');
-    file('trace', kdump(join '', map { "7 fork() = $_\n" } 1000 .. 1254));
+    put('trace', kdump(join '', map { "7 fork() = $_\n" } 1000 .. 1254));
     ($status, $out, $err) = trace('-v');
     is(said_of_lines($err), '', '256 processes');
-    file('trace', kdump(join '', map { "7 fork() = $_\n" } 1000 .. 1255));
+    put('trace', kdump(join '', map { "7 fork() = $_\n" } 1000 .. 1255));
     ($status, $out, $err) = trace('-v');
     is(said_of_lines($err), "trace.pl: the script has 257 processes, and pua makes at most 256\n", 'more than pua makes');
     ($status, $out, $err) = trace('-e', 'none/answers');
     like("$status$out$err", qr{\A1trace\.pl: none/answers: \S.*\n\z}, 'answers that can not be written');
     ($status, $out, $err) = trace('.');
     like("$status$out$err", qr/\A1trace\.pl: .*\n\z/, 'a directory');
-    file('trace', '');
+    put('trace', '');
     ($status, $out, $err) = trace('-e', 'answers');
     like("$status$out$err", qr/\A1trace\.pl: no record of kdump in the trace; /, 'an empty trace');
 }
