@@ -147,7 +147,7 @@ A fault is one line on standard error. It says, or most often comes from:
                        a slash in a name; a byte is not written as it has to be
   bad node             a `hard` line for a directory, or for a `hard` line
   name taken           the directory has this name: a line stands there twice
-  too many nodes       TREE has more than 4096, the root among them
+  too many nodes       TREE has more than 4096: begin it with `tree 3`
   bad call             `open` for `open-r`, blanks between promises, or the
                        second argument of pledge or unveil was left out
   bad list             a comma too many, or `-` for no letters, which is `=`
