@@ -20,8 +20,8 @@ use Rattle.pua_calls.specs.declared.call.Call.TheVariants.{Stat, Lstat, Readlink
 use Rattle.pua_policy.specs.declared.object.Object.TheVariants as see
 use Rattle.pua_policy.specs.declared.place.Place.TheVariants.{Dir, Slot}
 use Rattle.pua_policy.specs.declared.reason.Covering.TheVariants.{InView, NoneOver, By}
-use Rattle.pua_policy.specs.declared.reason.Misfit.TheVariants.{Exists, IsDirectory, IsNoFile, IsNoDirectory, IsNoLink, IsNoProgram}
-use Rattle.pua_policy.specs.declared.reason.Misfit.TheVariants.{IsNotEmpty, IsNoSocket, InUse}
+use Rattle.pua_calls.specs.declared.fits.Misfit.TheVariants.{Exists, IsDirectory, IsNoFile, IsNoDirectory, IsNoLink, IsNoProgram}
+use Rattle.pua_calls.specs.declared.fits.Misfit.TheVariants.{IsNotEmpty, IsNoSocket, InUse}
 use Rattle.pua_policy.specs.declared.answer.UnveilFault.TheVariants.{NotPermitted}
 use Rattle.pua_policy.specs.declared.answer.Cover.TheVariants.{Only}
 use Rattle.pua_policy.specs.declared.answer.May.TheVariants as may
