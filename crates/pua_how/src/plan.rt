@@ -21,10 +21,10 @@ use crate::plan::sketch::{By, Goal, Shortest, Sketch, goal_at};
 use crate::plan::source::Source;
 use crate::step::{Plans, Step};
 use crate::target::Target;
-use pua_calls::{Call, CallTable};
+use pua_calls::{Call, CallTable, Effect};
 use pua_objects::{ListItem, list_items};
 use pua_policy::{Cover, Process};
-use pua_tree::{FileTree, Name, NodeId, OutOfMemory};
+use pua_tree::{FileTree, Kind, Name, NodeId, OutOfMemory};
 use std::alloc::{AllocError, Global};
 
 /// The steps by which a call of a process may come to be granted on what is asked about: those of the
@@ -91,12 +91,8 @@ fn lay(
         Target::Name(dir, name) => lay_name(ground, items, *dir, name, shortest),
         Target::NewDirectory(_) => lay_made_dir(ground, End::Itself, shortest),
         Target::NewOthers(_) => lay_made_dir(ground, End::Further, shortest),
-        Target::NewFile(_) => {
-            lay_made(ground, Call::Create, shortest)?;
-            lay_made(ground, Call::Bind, shortest)?;
-            lay_made(ground, Call::Mknod, shortest)
-        }
-        Target::NewLink(_) => lay_made(ground, Call::Symlink, shortest),
+        Target::NewFile(_) => lay_made(ground, Kind::File, shortest),
+        Target::NewLink(_) => lay_made(ground, Kind::Link, shortest),
     }
 }
 
@@ -225,8 +221,26 @@ fn lay_made_dir(ground: &Ground, end: End, shortest: &mut Shortest) -> Result<()
     ground.dir_forms(&asked, shortest)
 }
 
-/// Lays plans for a file or a link that is made.
-fn lay_made(ground: &Ground, maker: Call, shortest: &mut Shortest) -> Result<(), AllocError> {
+/// Lays plans for a file or a link that is made, by each call that makes one.
+fn lay_made(ground: &Ground, made: Kind, shortest: &mut Shortest) -> Result<(), AllocError> {
+    for call in Call::ALL {
+        if makes(call, made) {
+            lay_made_by(ground, call, shortest)?;
+        }
+    }
+    Ok(())
+}
+
+/// Whether a call makes a node of this kind.
+fn makes(call: Call, made: Kind) -> bool {
+    match call.effect() {
+        Effect::Makes(kind) => kind == made,
+        _ => false,
+    }
+}
+
+/// Lays plans for a file or a link that a call makes.
+fn lay_made_by(ground: &Ground, maker: Call, shortest: &mut Shortest) -> Result<(), AllocError> {
     lay_from(ground, Source::Made(maker), shortest)?;
     lay_from(ground, Source::Brought(maker, By::Rename), shortest)?;
     lay_from(ground, Source::Brought(maker, By::Link), shortest)

@@ -5,9 +5,9 @@ use crate::plan::ground::{Ground, Spot};
 use crate::plan::rooms::Seat;
 use crate::plan::sketch::{By, Goal, Sketch, Whither, goal_at};
 use crate::step::Dir;
-use pua_calls::Call;
+use pua_calls::{Call, Effect};
 use pua_policy::{Cover, Object};
-use pua_tree::NodeId;
+use pua_tree::{Kind, NodeId};
 use std::alloc::AllocError;
 
 /// From where something comes.
@@ -41,9 +41,9 @@ impl Source {
 
 /// What a call makes.
 fn object_made(call: Call) -> Object {
-    match call {
-        Call::Symlink => Object::Link,
-        Call::Mkdir => Object::Removable,
+    match call.effect() {
+        Effect::Makes(Kind::Link) => Object::Link,
+        Effect::Makes(Kind::Dir) => Object::Removable,
         _ => Object::File,
     }
 }
