@@ -21,17 +21,17 @@ use Rattle.pua_calls.specs.declared.effect.Effect.TheVariants.{Looks, Makes, Rem
 use Rattle.pua_tree.specs.declared.node.Kind.TheVariants.{File, Dir, Link}
 use Rattle.pua_calls.specs.declared.call.Call.{Call}
 use Rattle.pua_calls.specs.declared.call.Call.TheVariants.{Stat, Lstat, Readlink, OpenRead, OpenWrite, OpenBoth, Create, Mkdir, Rmdir}
-use Rattle.pua_calls.specs.declared.call.Call.TheVariants.{Unlink, Symlink, Chmod, Chdir, Exec, Connect, Bind, Mknod, Chown}
+use Rattle.pua_calls.specs.declared.call.Call.TheVariants.{Unlink, Symlink, Chmod, Chdir, Exec, Connect, Bind, Mknod, Chown, CreateBoth}
 
 -- in the order of their numbers
 abbrev pub calls : List Call
 calls =
     Stat ∷ Lstat ∷ Readlink ∷ OpenRead ∷ OpenWrite ∷ OpenBoth ∷ Create ∷ Mkdir ∷ Rmdir ∷ Unlink ∷ Symlink ∷ Chmod ∷ Chdir ∷ Exec ∷ Connect ∷ Bind
-    ∷ Mknod ∷ Chown ∷ []
+    ∷ Mknod ∷ Chown ∷ CreateBoth ∷ []
 
 -- how many there are
 abbrev pub call_count : ℕ
-call_count = 18
+call_count = 19
 
 -- what a call needs: one of the sets of promises, and each of the permissions
 pub record Rule : Type 0 where
@@ -270,6 +270,18 @@ about Chown = record {
   fits = each_standing;
   effect = Looks;
   turns = false;
+}
+about CreateBoth = record {
+  number = 19;
+  name = codes "create-rw";
+  standard = [];
+  openbsd = (rpath + wpath + cpath) ∷ [];
+  perms = reading + writing + creating;
+  last = Followed;
+  ending = Dot;
+  fits = record each_standing { directory = Some IsDirectory; missing = None };
+  effect = Makes File;
+  turns = true;
 }
 
 -- a set of promises that there may be, as alternatives

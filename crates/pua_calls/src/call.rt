@@ -47,6 +47,8 @@ pub enum Call {
     Mknod,
     /// chown(2), which OpenBSD's rules alone have.
     Chown,
+    /// open(2) with `O_RDWR | O_CREAT`, which OpenBSD's rules alone have.
+    CreateBoth,
 }
 
 /// A blank, the name of any call and LF have at most so many bytes.
@@ -95,7 +97,7 @@ impl Call {
     ghost use Rattle.pua_calls.specs.Calls.{call_named_by, is_known, last_of, table_by_rules};
 
     /// How many calls there are.
-    pub const COUNT: usize = 18;
+    pub const COUNT: usize = 19;
 
     /// Every call, in the order of their numbers.
     pub const ALL: [Call; Call::COUNT] = [
@@ -117,6 +119,7 @@ impl Call {
         Call::Bind,
         Call::Mknod,
         Call::Chown,
+        Call::CreateBoth,
     ];
 
     /// Its number, from 1 to `COUNT`.
@@ -405,6 +408,25 @@ impl Call {
                 fits: Fits::STANDING,
                 effect: Effect::Looks,
                 turns: false,
+            },
+            Call::CreateBoth => Facts {
+                name: "create-rw",
+                line: b" create-rw\n     ",
+                standard: None,
+                openbsd: Promises::RPATH
+                    .union(Promises::WPATH)
+                    .union(Promises::CPATH),
+                other: None,
+                perms: Perms::READ.union(Perms::WRITE).union(Perms::CREATE),
+                last: Last::Followed,
+                ending: Ending::Dot,
+                fits: Fits {
+                    directory: Some(Misfit::IsDirectory),
+                    missing: None,
+                    ..Fits::STANDING
+                },
+                effect: Effect::Makes(Kind::File),
+                turns: true,
             },
         }
     }

@@ -388,13 +388,13 @@ pub record EverRows : Type 0 where
       ∷ []
   pub aliases : lines_by_openbsd aliases_tree aliases_process ≡
       codes "dir /mail stat,lstat,open-r,chdir"
-      ∷ codes "file /mail/aliases stat,lstat,open-r,open-w,open-rw,create,unlink,chmod,chown"
+      ∷ codes "file /mail/aliases stat,lstat,open-r,open-w,open-rw,create,unlink,chmod,chown,create-rw"
       ∷ codes "link /mail/l lstat,readlink"
       ∷ codes "dir /spool stat,lstat,open-r,rmdir,chmod,chdir,chown"
-      ∷ codes "other /spool create,mkdir,symlink"
+      ∷ codes "other /spool create,mkdir,symlink,create-rw"
       ∷ codes "dir new stat,lstat,open-r,rmdir,chmod,chdir,chown"
-      ∷ codes "other new create,mkdir,symlink"
-      ∷ codes "file new stat,lstat,open-r,open-w,open-rw,create,unlink,chmod,chown"
+      ∷ codes "other new create,mkdir,symlink,create-rw"
+      ∷ codes "file new stat,lstat,open-r,open-w,open-rw,create,unlink,chmod,chown,create-rw"
       ∷ codes "link new lstat,readlink,unlink"
       ∷ []
   pub standard_aliases : lines aliases_tree aliases_process ≡
@@ -418,12 +418,12 @@ pub record EverRows : Type 0 where
       ∷ []
   pub two_ways : lines_by_openbsd two_ways_tree two_ways_process ≡
       codes "dir /bin stat,lstat,open-r,chdir"
-      ∷ codes "prog /bin/p stat,lstat,open-r,open-w,open-rw,create,unlink,chmod,exec,chown"
+      ∷ codes "prog /bin/p stat,lstat,open-r,open-w,open-rw,create,unlink,chmod,exec,chown,create-rw"
       ∷ codes "dir /spool stat,lstat,open-r,rmdir,chmod,chdir,chown"
-      ∷ codes "other /spool create,mkdir,symlink"
+      ∷ codes "other /spool create,mkdir,symlink,create-rw"
       ∷ codes "dir new stat,lstat,open-r,rmdir,chmod,chdir,chown"
-      ∷ codes "other new create,mkdir,symlink"
-      ∷ codes "file new stat,lstat,open-r,open-w,open-rw,create,unlink,chmod,chown"
+      ∷ codes "other new create,mkdir,symlink,create-rw"
+      ∷ codes "file new stat,lstat,open-r,open-w,open-rw,create,unlink,chmod,chown,create-rw"
       ∷ codes "link new lstat,readlink,unlink"
       ∷ []
   pub standard_rules : refusal standard_table no_veil_process ≡ None
@@ -492,10 +492,10 @@ pub record MovedRows : Type 0 where
       ∷ codes "other /in create,mkdir,symlink"
       ∷ codes "file /in/f open-w,create,unlink,chmod,chown"
       ∷ codes "dir /tmp stat,lstat,open-r,rmdir,chmod,chdir,chown"
-      ∷ codes "other /tmp create,mkdir,symlink"
+      ∷ codes "other /tmp create,mkdir,symlink,create-rw"
       ∷ codes "dir new stat,lstat,open-r,rmdir,chmod,chdir,chown"
-      ∷ codes "other new create,mkdir,symlink"
-      ∷ codes "file new stat,lstat,open-r,open-w,open-rw,create,unlink,chmod,chown"
+      ∷ codes "other new create,mkdir,symlink,create-rw"
+      ∷ codes "file new stat,lstat,open-r,open-w,open-rw,create,unlink,chmod,chown,create-rw"
       ∷ codes "link new lstat,readlink,unlink"
       ∷ []
   pub openbsd_name_and_area : lines_by_openbsd name_and_area_tree name_and_area_process ≡
@@ -503,11 +503,11 @@ pub record MovedRows : Type 0 where
       ∷ codes "dir /a rmdir,chmod,chown"
       ∷ codes "other /a create,mkdir,symlink"
       ∷ codes "prog /a/p open-w,create,unlink,chmod,chown"
-      ∷ codes "prog /f stat,lstat,open-r,open-w,open-rw,create,unlink,chmod,chown"
-      ∷ codes "missing /f create,mkdir,symlink"
+      ∷ codes "prog /f stat,lstat,open-r,open-w,open-rw,create,unlink,chmod,chown,create-rw"
+      ∷ codes "missing /f create,mkdir,symlink,create-rw"
       ∷ codes "dir new stat,lstat,open-r,rmdir,chmod,chdir,chown"
       ∷ codes "other new create,mkdir,symlink"
-      ∷ codes "file new stat,lstat,open-r,open-w,open-rw,create,unlink,chmod,chown"
+      ∷ codes "file new stat,lstat,open-r,open-w,open-rw,create,unlink,chmod,chown,create-rw"
       ∷ codes "link new lstat,readlink,unlink"
       ∷ []
 
