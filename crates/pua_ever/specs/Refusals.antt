@@ -1,5 +1,5 @@
 -- Why there is no list of what a process can ever touch.
-use Rattle.std.specs.Prelude.{Bool, not, ◌&&◌, if◌then◌else◌, List, ◌++◌, filter, Option, Some, None, find}
+use Rattle.std.specs.Prelude.{Bool, not, ◌&&◌, if◌then◌else◌, List, [], ◌∷◌, ◌++◌, filter, Option, Some, None, find}
 use Rattle.pua_calls.specs.Promises.{holds, creating, unveil}
 use Rattle.pua_calls.specs.Calls.{CallTable, PairRule, rule_of, calls, effect_of}
 use Rattle.pua_calls.specs.Effects.{makes, removes}
