@@ -37,4 +37,4 @@ pub use name::{LentName, Name};
 pub use node::{Kind, NodeId};
 pub use slab_tree::SlabTree;
 pub use spelling::{SpelledByte, are_plain, byte_spelling, unspelled};
-pub use tree::{FileTree, LentRow, LentSpot, MOST_NAMES, MOST_WIDE_NAMES, NUMBER_END};
+pub use tree::{CopiedTree, FileTree, LentRow, LentSpot, MOST_NAMES, MOST_WIDE_NAMES, NUMBER_END};

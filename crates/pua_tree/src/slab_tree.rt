@@ -9,7 +9,7 @@ use crate::node::{Kind, NodeId};
 use crate::numbering::Numbering;
 use crate::slots::Slots;
 use crate::spot::Spot;
-use crate::tree::{FileTree, LentRow, LentSpot};
+use crate::tree::{CopiedTree, FileTree, LentRow, LentSpot};
 use std::alloc::Global;
 use std::marker::Model;
 
@@ -32,21 +32,6 @@ impl Model for SlabTree {
     ghost view = { λ a. held_in_slots a.slots a.numbering };
 
     ghost invariant = { λ a. WellFormed (held_in_slots a.slots a.numbering) × AreConsistent a.slots };
-}
-
-ghost use Rattle.std.specs.Prelude.{◌≡◌, IfOk};
-
-impl SlabTree {
-    /// A copy, which from then on is a tree of its own. The only error is that a growth was refused.
-    pub fn copy(&self) -> Result<SlabTree, OutOfMemory>
-        ensures { IfOk result (λ copy. copy ≡ self.now) }
-    {
-        let slots = self.slots.copy()?;
-        Ok(SlabTree {
-            slots,
-            numbering: self.numbering,
-        })
-    }
 }
 
 impl FileTree for SlabTree {
@@ -165,6 +150,16 @@ impl FileTree for SlabTree {
             None => self.slots.move_row(from, name, to, new_name, node),
         }
         Ok(())
+    }
+}
+
+impl CopiedTree for SlabTree {
+    fn copy(&self) -> Result<SlabTree, OutOfMemory> {
+        let slots = self.slots.copy()?;
+        Ok(SlabTree {
+            slots,
+            numbering: self.numbering,
+        })
     }
 }
 

@@ -168,3 +168,12 @@ pub trait FileTree {
             MatchResult result (λ _. rule ≡ Ok (content self.new)) (Refuses rule) }
         ensures unchanged { OnErr result (content self.new ≡ content self.old) };
 }
+
+/// A tree that can be copied.
+pub trait CopiedTree: FileTree {
+    ghost use Rattle.std.specs.Prelude.{◌≡◌, IfOk};
+
+    /// A copy, which from then on is a tree of its own. The only error is that a growth was refused.
+    fn copy(&self) -> Result<Self, OutOfMemory>
+        ensures { IfOk result (λ copy. Self.content copy ≡ Self.content self.now) };
+}

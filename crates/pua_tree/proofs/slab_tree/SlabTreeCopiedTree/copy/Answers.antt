@@ -1,6 +1,6 @@
 use Rattle.pua_tree.proofs.Common.{sym, subst, ◌∙◌, WellFormed}
 use Rattle.pua_tree.proofs.SlotsCopied.{copied_held, copied_kept}
-use Rattle.pua_tree.proofs.slab_tree.SlabTree.copy.Goals as goal
+use Rattle.pua_tree.proofs.slab_tree.SlabTreeCopiedTree.copy.Goals as goal
 
 pub invariant_of-result : goal.invariant_of-result
 invariant_of-result c = let copied = c.in_ok-slots.ensures in (
