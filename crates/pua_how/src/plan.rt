@@ -27,32 +27,55 @@ use pua_policy::{Cover, Process};
 use pua_tree::{FileTree, Kind, Name, NodeId, OutOfMemory};
 use std::alloc::{AllocError, Global};
 
-/// The steps by which a call of a process may come to be granted on what is asked about: those of the
-/// two forms with the fewest steps. Of further names the path ends with the name that is given. The only
-/// error is that a growth was refused.
-pub(crate) fn plan_for<T: FileTree>(
+/// What the plans of a process are laid by: made once, and then asked for each call on each thing.
+#[derive(Drop)]
+pub struct Planner<'t> {
     alloc: Global,
-    tree: &T,
-    process: &Process,
-    table: &CallTable,
-    call: Call,
-    target: &Target,
-    name: Option<&Name>,
-) -> Result<Plans, OutOfMemory> {
-    let items = list_items(alloc, tree, process)?;
-    let mut ground = Ground::new(alloc, tree, process, table, items.as_slice())?;
-    ground.call = call;
-    ground.followed = followed(target);
-    let further = match name {
-        Some(_) => End::Named,
-        None => End::Further,
-    };
-    let mut shortest = Shortest::new();
-    lay(&ground, items.as_slice(), target, further, &mut shortest)?;
-    Ok(Plans {
-        first: steps_of(alloc, items.as_slice(), &shortest.first, name)?,
-        second: steps_of(alloc, items.as_slice(), &shortest.second, name)?,
-    })
+    items: Vec<ListItem<'t>>,
+    ground: Ground,
+}
+
+impl<'t> Planner<'t> {
+    /// Walks all that stands or could stand in a tree, by the veils of a process. The only error is that
+    /// a growth was refused.
+    pub fn new<T: FileTree>(
+        alloc: Global,
+        tree: &'t T,
+        process: &'t Process,
+        table: &CallTable,
+    ) -> Result<Planner<'t>, OutOfMemory> {
+        let items = list_items(alloc, tree, process)?;
+        let ground = Ground::new(alloc, tree, process, table, items.as_slice())?;
+        Ok(Planner {
+            alloc,
+            items,
+            ground,
+        })
+    }
+
+    /// The steps by which a call of the process may come to be granted on what is asked about: those of
+    /// the two forms with the fewest steps. Of further names the path ends with the name that is given.
+    /// The only error is that a growth was refused.
+    pub(crate) fn plan_for(
+        &mut self,
+        call: Call,
+        target: &Target,
+        name: Option<&Name>,
+    ) -> Result<Plans, OutOfMemory> {
+        self.ground.call = call;
+        self.ground.followed = followed(target);
+        let further = match name {
+            Some(_) => End::Named,
+            None => End::Further,
+        };
+        let items = self.items.as_slice();
+        let mut shortest = Shortest::new();
+        lay(&self.ground, items, target, further, &mut shortest)?;
+        Ok(Plans {
+            first: steps_of(self.alloc, items, &shortest.first, name)?,
+            second: steps_of(self.alloc, items, &shortest.second, name)?,
+        })
+    }
 }
 
 /// The steps of a sketch, if there is one.
