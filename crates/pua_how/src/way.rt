@@ -38,17 +38,13 @@ impl Planner<'_> {
     /// Lays plans by which the process may come to a call on something that is meant. Nothing is promised
     /// of them: what a plan comes to is seen when it is served. The only error is that a growth was
     /// refused.
-    pub fn find_plans(&mut self, call: Call, meant: &Meant) -> Result<BestPlans, OutOfMemory> {
+    pub fn find_plans(&self, call: Call, meant: &Meant) -> Result<BestPlans, OutOfMemory> {
         let mut best = BestPlans {
             first: None,
             second: None,
         };
-        let mut place = 0usize;
-        for target in &meant.targets {
-            let plans = self.plan_for(call, target, meant.name.as_ref())?;
-            best.offer(place, plans.first);
-            best.offer(place, plans.second);
-            place = place.saturating_add(1);
+        for (place, target) in meant.targets.iter().enumerate() {
+            self.offer_plans(call, target, meant.name.as_ref(), place, &mut best)?;
         }
         Ok(best)
     }
@@ -85,10 +81,7 @@ impl BestPlans {
     }
 
     /// Keeps steps if they are among the two shortest so far.
-    fn offer(&mut self, place: usize, steps: Option<Vec<Step>>) {
-        let Some(steps) = steps else {
-            return;
-        };
+    pub(crate) fn offer(&mut self, place: usize, steps: Vec<Step>) {
         let plan = Plan { place, steps };
         if plan.is_shorter(&self.first) {
             self.second = self.first.take();
