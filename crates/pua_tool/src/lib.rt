@@ -38,7 +38,7 @@ pub use how::how_to;
 pub use job::Job;
 pub use laws::{
     column_examples, confined, ever_text_law, headline_law, narrowing, objects_text_law,
-    text_examples, tight_text_law, trees_alike,
+    reasons_text_law, text_examples, tight_text_law, together_text_law, trees_alike,
 };
 pub use objects::objects_to;
 pub use objects_why::objects_why_to;
