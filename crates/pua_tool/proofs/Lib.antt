@@ -19,6 +19,7 @@ pub mod EverHowTexts
 pub mod ActingNext
 pub mod TogetherTexts
 pub mod Several
+pub mod Never
 pub mod TightTexts
 pub mod Fewest
 pub mod Headline

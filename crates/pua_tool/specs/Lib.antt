@@ -17,6 +17,7 @@ pub mod Alike
 pub mod Listed
 pub mod Forever
 pub mod Several
+pub mod Never
 pub mod Reasoned
 pub mod Fewest
 pub mod Headline

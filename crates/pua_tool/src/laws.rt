@@ -8,6 +8,7 @@ ghost use Rattle.pua_tool.specs.Examples.{HowTextRows, ReasonTextRows, TextRows,
 ghost use Rattle.pua_tool.specs.Fewest.{TightAsWritten};
 ghost use Rattle.pua_tool.specs.Forever.{EverAsWritten};
 ghost use Rattle.pua_tool.specs.Listed.{ObjectsAsWritten};
+ghost use Rattle.pua_tool.specs.Never.{NeverAsWritten};
 ghost use Rattle.pua_tool.specs.Reasoned.{ReasonsAsWritten};
 ghost use Rattle.pua_tool.specs.Several.{TogetherAsWritten};
 ghost use Rattle.pua_tool.specs.Headline.{IsOfHistories};
@@ -89,6 +90,14 @@ pub fn together_text_law()
 #[tactic(auto, using(crate::proofs::Reasoned::reasons_as_written))]
 pub fn reasons_text_law()
     ensures { ReasonsAsWritten }
+{}
+
+/// Where the text of a way says `never`, or `never before an exec`, the call is allowed to no member of the process's family on anything
+/// that is meant, by whatever path from wherever: whatever is asked behind the script, as long as nobody else changes the tree; and where
+/// it says the latter, as long as no exec of theirs succeeds.
+#[tactic(auto, using(crate::proofs::Never::never_as_written))]
+pub fn never_text_law()
+    ensures { NeverAsWritten }
 {}
 
 /// Where there is a text of a tightened script, it is a script again, the given one but for words that were left out: its run has
