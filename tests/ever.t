@@ -51,7 +51,7 @@ my @PERMISSIONS = qw(rwxc rwxc rwc wc rc xc c c r r rw rx x w =);
 my @RULES = qw(profile profile openbsd table);
 
 # The calls that have to need c, in the order in which the program says that one doesn't.
-my @NEED_C = qw(rmdir unlink create mkdir symlink bind mknod);
+my @NEED_C = qw(rmdir unlink create mkdir symlink bind mknod create-rw);
 
 my $worlds = Worlds->new($SEED);
 my %counts = map { $_ => 0 } qw(lists answers calls met execs bounded started tries plays);
@@ -454,7 +454,7 @@ sub refusals {
         'pua: processes 1 and 2 have other veils', '--process', 'all');
     for my $call (@NEED_C) {
         my $files = { script => "1 unveil - -\n", table => table_without_c($call) };
-        my @rules = $call =~ /\A(?:bind|mknod)\z/ ? ('--rules', 'openbsd') : ();
+        my @rules = $call =~ /\A(?:bind|mknod|create-rw)\z/ ? ('--rules', 'openbsd') : ();
         is_refused("a table by which $call needs no c", $files, "pua: table: $call: no c", @rules, '--table', 'table');
     }
     $worlds->by('profile');

@@ -41,7 +41,7 @@ my @CLAIMS = (
     [ \&name_fault,   'names without c stay' ],
 );
 
-my %EDITS = map { $_ => 1 } qw(create mkdir rmdir unlink symlink bind mknod rename link);
+my %EDITS = map { $_ => 1 } qw(create mkdir rmdir unlink symlink bind mknod create-rw rename link);
 
 my $worlds = Worlds->new($SEED);
 my %counts = map { $_ => 0 } qw(edits lists alike audits children names);

@@ -43,6 +43,27 @@ my @FURTHER = (
         script => "1 unveil /top r\n1 unveil /top/d c\n1 unveil /o c\n1 unveil - -\n1 pledge stdio,rpath,cpath -\n",
         question => { call => 'open-r', path => '/top/d/f', kind => 'file' },
     },
+    {
+        name => 'what is made inside the directory that stands at the name comes to it once that has left',
+        rules => 'profile',
+        listing => "tree 2\n0 dir\n1 dir 0 b\n2 file 1 a\n3 dir 0 c\n4 file 3 c\n5 file 3 b\n6 dir 0 z6\n",
+        script => "1 unveil / rwxc\n1 unveil /a rxc\n1 rename /z6 /a\n1 unveil /b xc\n1 unveil /a wc\n1 unveil / rwx\n1 unveil - -\n1 pledge cpath,exec,fattr,rpath,wpath -\n",
+        question => { call => 'lstat', path => 'new', kind => 'file' },
+    },
+    {
+        name => 'so it does where that directory leaves to another name',
+        rules => 'profile',
+        listing => "tree 2\n0 dir\n1 dir 0 z1\n2 dir 1 a\n3 prog 0 a\n4 file 2 a\n5 file 2 b\n",
+        script => "1 unveil / rwxc\n1 unveil /c rc\n1 rename /z1 /c\n1 unveil /c wc\n1 unveil /a c\n1 unveil / =\n1 unveil - -\n1 pledge cpath,exec,fattr,rpath,wpath -\n",
+        question => { call => 'open-r', path => 'new', kind => 'file' },
+    },
+    {
+        name => 'what is made at the name to which its carrier goes then is moved into that before',
+        rules => 'profile',
+        listing => "tree 2\n0 dir\n1 dir 0 z1\n2 dir 1 z2\n3 file 2 a\n4 dir 2 z4\n5 prog 4 a\n6 file 1 a\n",
+        script => "1 unveil / rwxc\n1 unveil /c c\n1 rename /z1 /c\n1 unveil /c/b wc\n1 rename /c/z2 /c/b\n1 unveil /c/b/c wc\n1 rename /c/b/z4 /c/b/c\n1 unveil /c/b c\n1 unveil /c/b/c =\n1 unveil /c =\n1 unveil /c/b/a rc\n1 unveil /c/b/c/a c\n1 unveil /a wc\n1 unveil / rw\n1 unveil - -\n1 pledge cpath,fattr,rpath,wpath -\n",
+        question => { call => 'open-rw', path => 'new', kind => 'file' },
+    },
 );
 
 my $PUA    = program_in(@ARGV);

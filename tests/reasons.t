@@ -42,7 +42,7 @@ my %NEEDS = (
 # What is otherwise by OpenBSD's rules.
 my %OPENBSD = (
     chmod => ['rpath,fattr'], connect => ['unix'], bind => ['unix'], mknod => ['dpath'],
-    chown => [ 'rpath,chown', 'rpath,fattr' ],
+    chown => [ 'rpath,chown', 'rpath,fattr' ], 'create-rw' => ['rpath,wpath,cpath'],
 );
 
 # What is otherwise by a table, which has what no rules have: a call without promises, and calls with several

@@ -39,7 +39,7 @@
 # as `prog`, and all else as `file`: plain files, sockets, fifos and devices. What has several
 # names, by its device and inode, is listed once, under the first of them in the order of the
 # listing; each other one is a `hard` line, and the listing's first line is then `tree 2`, else
-# `tree 1`. Links are not followed, except on the way to a PATH; mount points are crossed. Names
+# `tree 1`, and `tree 3` where there are more than 4,096 names. Links are not followed, except on the way to a PATH; mount points are crossed. Names
 # come in the order of their bytes, so two runs over the same files print the same.
 #
 # Lines on standard error report what a reader of the listing has to know: links whose target is
@@ -53,9 +53,9 @@
 # then, up to 100,000 names.
 #
 # Status 0: the listing was printed. Status 1: a file, a directory, a link, the script or PATHS
-# can't be read, the script isn't one, a line of PATHS is no path, there are more than 4,096 names
-# (how many, and in which directories most of them are, is reported), or a link's target is longer
-# than pua reads; then nothing was printed. Status 2: the words are no use of it.
+# can't be read, the script isn't one, a line of PATHS is no path, there are more than 1,000,000
+# names (how many, and in which directories most of them are, is reported), or a link's target is
+# longer than pua reads; then nothing was printed. Status 2: the words are no use of it.
 use strict;
 use warnings;
 use Cwd qw(getcwd);
@@ -67,7 +67,8 @@ my ($NAME) = $0 =~ m{([^/]*)\z};
 my $USAGE = "usage: $NAME [-kv] [-f PATHS] [-m FILE] [-n N] [-r ROOT] [-s SCRIPT]"
     . " [-x PATH]... [PATH]...\n";
 
-my $MOST_LISTED = 4096;    # names, the root among them
+my $MOST_LISTED = 1_000_000;    # names, the root among them
+my $MOST_SMALL  = 4096;         # under `tree 1` and `tree 2`
 my $MOST_TARGET = 1023;    # bytes in a link's target
 my $MOST_NAME   = 255;     # bytes in a component
 my $MOST_LINKS  = 32;      # links followed in one resolution
@@ -83,7 +84,7 @@ my @ABOUT_PATHS = qw(rpath wpath cpath dpath tmppath exec fattr chown unix);
 my %arguments = (
     (map { $_ => ['path'] } qw(stat lstat readlink unlink chmod chdir exec connect chown)),
     (map { $_ => ['tree'] } qw(open-r open-w open-rw rmdir)),
-    (map { $_ => ['new path'] } qw(create mkdir bind mknod)),
+    (map { $_ => ['new path'] } qw(create create-rw mkdir bind mknod)),
     symlink => ['text', 'new path'],
     rename  => ['tree', 'new tree'],
     link    => ['path', 'new path'],
@@ -602,7 +603,8 @@ sub survey {
 # Prints the listing.
 sub print_listing {
     my ($further) = @_;
-    print %$further ? "tree 2\n" : "tree 1\n", "0 dir\n" or return 0;
+    my $form = $listed > $MOST_SMALL ? 3 : %$further ? 2 : 1;
+    print "tree $form\n", "0 dir\n" or return 0;
     return for_each_listed(sub {
         my (undef, $name, $node, $number, $directory) = @_;
         my ($kind, undef, undef, $target) = split / /, $node, 4;

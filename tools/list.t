@@ -6,6 +6,7 @@ use warnings;
 use Cwd qw(abs_path);
 use File::Copy qw(copy);
 use File::Path qw(make_path);
+use File::Temp qw(tempdir);
 use FindBin qw($Bin);
 use lib "$Bin/lib";
 use IO::Socket::UNIX;
@@ -86,9 +87,20 @@ sub paths_of {
 # Runs list.pl with these words. What it reads is in the file `in`, if one was put there.
 sub list { return ran($LIST, { in => -e "$room/in" ? "$room/in" : undef }, @_) }
 
-# A listing with these lines; its header is that of listings with hard links, where there is one.
+# A copy of the tool, which reads 4,096 names at most.
+sub small_list {
+    my $folder = tempdir(CLEANUP => 1);
+    my $text   = content($LIST);
+    $text =~ s/^my \$MOST_LISTED = 1_000_000;/my \$MOST_LISTED = 4096;/m or die 'no limit';
+    open my $out, '>:raw', "$folder/list.pl" or die "$folder: $!";
+    print {$out} $text;
+    close $out or die "$folder: $!";
+    return "$folder/list.pl";
+}
+
+# A listing with these lines; its header is that of a listing with so many names, or with hard links.
 sub lines {
-    my $header = grep({ /\A[0-9]+ hard / } @_) ? 'tree 2' : 'tree 1';
+    my $header = @_ > 4095 ? 'tree 3' : grep({ /\A[0-9]+ hard / } @_) ? 'tree 2' : 'tree 1';
     return join '', map { "$_\n" } $header, '0 dir', @_;
 }
 
@@ -356,18 +368,26 @@ sub refuses {
         'passed over, since they could not be read or listed: 1');
 }
 
-# As many names as may be, and one more, also where it is a further name.
+# As many names as the first two forms have, and one more, also where it is a further name.
 {
     my $root = room();
     file("f$_") for 1 .. 4095;
     my ($status, $out) = list('-r', $root);
     is($status, 0, '4,096 names: the status');
     is(() = $out =~ /\n/g, 4097, '4,096 names: the lines');
+    like($out, qr/\Atree 1\n0 dir\n/, '4,096 names: the form');
     link 'f1', 'more' or die "link: $!";
-    refuses('4,097 names of 4,096 nodes', ['-r', $root], 1, qr/\Alist\.pl: 4097 names, and pua reads at most 4096/);
+    ($status, $out) = list('-r', $root);
+    like($out, qr/\Atree 3\n0 dir\n.*^4096 hard 0 more 1\n\z/ms, '4,097 names of 4,096 nodes: the form');
     unlink 'more';
     file('more');
-    refuses('4,097 names', ['-r', $root], 1, qr/\Alist\.pl: 4097 names, and pua reads at most 4096/);
+    ($status, $out) = list('-r', $root);
+    like($out, qr/\Atree 3\n0 dir\n.*^4096 file 0 more\n\z/ms, '4,097 names: the form');
+
+    # A tool that reads as many names at most says where most of them are.
+    my $all = $LIST;
+    $LIST = small_list();
+    refuses('4,097 names where there may be 4,096', ['-r', $root], 1, qr/\Alist\.pl: 4097 names, and pua reads at most 4096/);
     ($status, $out) = list('-r', $root, '-x', '/f7');
     is($status, 0, 'all of them except one');
     for my $directory ('big/a', 'big/b', map { "d$_" } 1 .. 12) {
@@ -377,6 +397,7 @@ sub refuses {
     my @most = ('/big: 62', '/big/a: 30', '/big/b: 30', map { "/$_: 5" } qw(d1 d10 d11 d12 d2 d3 d4));
     refuses('where most of them are', ['-r', $root], 1,
         qr/\Alist\.pl: 4232 names, and pua reads at most 4096; .*\n@{[ join '', map { "list\\.pl: $_ names in it\\n" } @most ]}\z/);
+    $LIST = $all;
 }
 
 # What a script can be about.

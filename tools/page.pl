@@ -94,7 +94,7 @@ sub text { my ($text) = @_; $text =~ s/([&<>"'])/'&#' . ord($1) . ';'/ge; return
 # The tree of a listing: a node has a kind, and by their names the nodes that are `in` it.
 sub tree {
     my ($name, @lines) = @_;
-    die "$name: it is no listing\n" if @lines < 2 || "@lines[0, 1]" !~ /\Atree [12] 0 dir\z/;
+    die "$name: it is no listing\n" if @lines < 2 || "@lines[0, 1]" !~ /\Atree [123] 0 dir\z/;
     my %nodes = (0 => { kind => 'dir', listed => 1 });
     for my $number (3 .. @lines) {
         my ($where, @fields) = ("$name: line $number", split / /, $lines[ $number - 1 ]);

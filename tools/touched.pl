@@ -12,7 +12,7 @@
 #
 # To see what a further one of a kind has to go through, ask for one that is there:
 #
-#   perl tools/touched.pl Mkdir                        # a call
+#   perl tools/touched.pl Mknod                        # a call
 #   perl tools/touched.pl -t open-w OpenWrite          # a call whose text is not its name
 #   perl tools/touched.pl RPATH rpath                  # a promise
 #   perl tools/touched.pl ENOTEMPTY                    # an errno
@@ -51,9 +51,11 @@ else        { @texts = map { lc, /^[A-Z0-9]+\z/ ? $_ : () } grep { /[A-Za-z]/ } 
 my $text = any('(?<![\w-])', '(?![\w-])', @texts);
 my $wanted = any('', '', @words, @texts, map { join ', ', map { "b'$_'" } split // } @texts);
 
-# The groups in their order. In the first, code is told from texts; in data a number says nothing.
+# The groups in their order; a file is in the first that has it. In code what is code is told from
+# texts; in data a number says nothing.
 my @GROUPS = (
     ['code', qr{^crates/(?!pua_refused|pua_examples)\w+/src/(.*\.rt)\z}],
+    ['worked rows', qr{^crates/(?!pua_refused|pua_examples)\w+/specs/(\w*Examples\.antt)\z}],
     ['definitions', qr{^crates/(?!pua_refused|pua_examples)\w+/specs/(.*\.antt)\z}],
     ['proofs', qr{^crates/(?!pua_refused|pua_examples)\w+/proofs/(.*\.antt)\z}],
     ['edits', qr{^crates/\w+/must-fail/(.*)\z}],

@@ -17,8 +17,9 @@
 #                    the root.
 #     -e FILE        writes into FILE what the kernel answered to the lines of the script, as `pua
 #                    run` does: so `pua run TREE SCRIPT | diff FILE -` shows where the two differ.
-#     -k             writes connect, bind, mknod (mkfifo too) and chown as lines of their own,
-#                    which `pua` knows as calls by `--rules openbsd` alone.
+#     -k             writes connect, bind, mknod (mkfifo too), chown and create-rw (an open with
+#                    O_RDWR and O_CREAT) as lines of their own, which `pua` knows as calls by
+#                    `--rules openbsd` alone.
 #     -l             keeps what ld.so opens for a program.
 #     -o FILE        writes into FILE what each process still had open at its end, or at the end
 #                    of the trace, though it was opened before the last pledge or lock of the
@@ -39,10 +40,10 @@
 # lines `gone`: what a promise opens by itself, such as /etc/resolv.conf for dns; and a call about a
 # descriptor, where the process doesn't hold the promises that the call needs by a path.
 #
-# open is open-r, open-w, open-rw or create by its flags; access, statfs, pathconf and realpath
-# are stat; truncate is open-w; utimes and chflags are chmod. A relative path stays as it is. An
-# execve that fails is no line. Where pledge refused a call before its path was recorded, the path
-# is written as the empty one: it decides nothing.
+# open is open-r, open-w, open-rw, create or, with -k, create-rw by its flags; access, statfs,
+# pathconf and realpath are stat; truncate is open-w; utimes and chflags are chmod. A relative path
+# stays as it is. An execve that fails is no line. Where pledge refused a call before its path was
+# recorded, the path is written as the empty one: it decides nothing.
 #
 # Standard error has first whether the trace begins in the middle of a process; then what makes
 # lines wrong; then what was left out and might matter; then the count of all other reports; and
@@ -255,13 +256,14 @@ sub kind_of_open {
         if $create && $mode == 0;
     note($REST, $call->{line},
         "$name with O_CREAT and O_RDWR is written create, which asks for neither rpath nor r")
-        if $create && $mode == $BITS{O_RDWR};
+        if $create && $mode == $BITS{O_RDWR} && !$further;
     for my $flag (qw(O_EXCL O_NOFOLLOW O_DIRECTORY O_SHLOCK O_EXLOCK)) {
         note($REST, $call->{line}, "$name with $flag is written without it")
             if $flags & $BITS{$flag};
     }
     note($REST, $call->{line}, "$name with O_TRUNC that doesn't write is written open-r")
         if $flags & $BITS{O_TRUNC} && $mode == 0;
+    return 'create-rw' if $create && $mode == $BITS{O_RDWR} && $further;
     return $create ? 'create' : $MODES[$mode];
 }
 

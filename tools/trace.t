@@ -262,6 +262,20 @@ line 16: open with O_EXLOCK is written without it (1 in all)
 line 19: open with O_SHLOCK is written without it (1 in all)
 END
 
+# With -k an open that reads what it may make is a line of its own.
+file('trace', kdump(<<'END'));
+7 open(0x1c60,0x202<O_RDWR|O_CREAT>,0644) = 3 "/a"
+7 open(0x1c60,0xa02<O_RDWR|O_CREAT|O_EXCL>,0600) = 3 "/b"
+7 open(0x1c60,0x201<O_WRONLY|O_CREAT>,0600) = 3 "/c"
+END
+{
+    my ($status, $out, $err) = trace('-kv');
+    is($out, "1 create-rw /a\n1 create-rw /b\n1 create /c\n", 'create-rw: the script');
+    is(said_of_lines($err), "trace.pl: line 4: open with O_EXCL is written without it (1 in all)\n",
+        'create-rw: the reports');
+    is($status, 0, 'create-rw: the status');
+}
+
 gives('calls with two paths', <<'END');
 7 rename(0x1c60,0x1d60) = 0 "/a" "/b"
 7 link(0x1c60,0x1d60) = 0 "/b" "/c"

@@ -139,6 +139,10 @@ const ROOT: u32 = 0;
 const MOST_NAMES: usize = 65_535;
 const MOST_LINES: usize = 4_096;
 
+// Of a listing under `tree 3`.
+const MOST_WIDE_NAMES: usize = 1_065_535;
+const MOST_WIDE_LINES: usize = 1_000_000;
+
 #[derive(Clone, Copy, PartialEq)]
 enum Kind {
     Dir,
@@ -160,6 +164,7 @@ struct Node {
 struct Tree {
     nodes: Vec<Node>,
     names: usize,
+    room: usize,
 }
 
 #[derive(Clone, Copy)]
@@ -192,8 +197,8 @@ fn first_part(text: &[u8]) -> (&[u8], &[u8]) {
 }
 
 impl Tree {
-    fn new() -> Tree {
-        let mut tree = Tree { nodes: Vec::new(), names: 1 };
+    fn new(room: usize) -> Tree {
+        let mut tree = Tree { nodes: Vec::new(), names: 1, room };
         tree.make(Kind::Dir, ROOT, &[]);
         tree.nodes[0].links = 1;
         tree
@@ -218,7 +223,7 @@ impl Tree {
     }
 
     fn is_full(&self) -> bool {
-        self.names == MOST_NAMES
+        self.names == self.room
     }
 
     fn tie(&mut self, dir: u32, name: &[u8], node: u32) {
@@ -336,21 +341,24 @@ impl<'a> Found<'a> {
 /// The tree of a listing, or the fault of a line with its number from 1.
 fn read_listing(text: &[u8]) -> Result<Tree, String> {
     let mut lines = lines(text).enumerate();
-    let Some((_, header @ (b"tree 1" | b"tree 2"))) = lines.next() else {
+    let Some((_, header @ (b"tree 1" | b"tree 2" | b"tree 3"))) = lines.next() else {
         return Err("pua: listing: bad header".into());
     };
     if !matches!(lines.next(), Some((_, b"0 dir"))) {
         return Err("pua: listing: line 2: bad line".into());
     }
-    let mut tree = Tree::new();
+    let is_wide = header == b"tree 3";
+    let mut tree = Tree::new(if is_wide { MOST_WIDE_NAMES } else { MOST_NAMES });
+    let most_lines = if is_wide { MOST_WIDE_LINES } else { MOST_LINES };
     let mut nodes = Map::from_iter([(0, ROOT)]);
     let (mut fields, mut before) = (Vec::new(), 0);
     for (at, line) in lines {
         let read = if split(line, &mut fields) {
-            read_node(&mut tree, &mut nodes, &mut before, &fields, header == b"tree 2", at)
+            read_node(&mut tree, &mut nodes, &mut before, &fields, header != b"tree 1")
         } else {
             Err("bad line")
         };
+        let read = read.and_then(|put| if at > most_lines { Err("too many nodes") } else { Ok(put) });
         read.map_err(|fault| format!("pua: listing: line {}: {fault}", at + 1))?;
     }
     Ok(tree)
@@ -362,7 +370,6 @@ fn read_node(
     before: &mut u32,
     fields: &[&[u8]],
     has_hard: bool,
-    at: usize,
 ) -> Result<(), &'static str> {
     let (kind, count) = match fields.get(1) {
         Some(&b"dir") => (Some(Kind::Dir), 4),
@@ -389,9 +396,6 @@ fn read_node(
     };
     if tree.node(parent).rows.contains_key(&*name) {
         return Err("name taken");
-    }
-    if at > MOST_LINES {
-        return Err("too many nodes");
     }
     match kind {
         Some(kind) => drop(nodes.insert(id, tree.add(parent, &name, kind, &to))),

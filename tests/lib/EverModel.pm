@@ -7,20 +7,21 @@ use Model;
 
 # What each call suits. A `gone` directory is one that rmdir may find empty.
 my %SUITS = (
-    create => 'missing file prog', connect => 'file', (map { $_ => 'missing' } qw(mkdir symlink bind mknod)),
+    (map { $_ => 'missing file prog' } qw(create create-rw)), connect => 'file',
+    (map { $_ => 'missing' } qw(mkdir symlink bind mknod)),
     unlink => 'file prog link', rmdir => 'gone', exec => 'prog', readlink => 'link',
     chdir => 'dir gone', lstat => 'dir gone file prog link',
     (map { $_ => 'dir gone file prog' } qw(stat open-r chmod chown)),
     (map { $_ => 'file prog' } qw(open-w open-rw)),
 );
 
-my @EDITS = qw(create mkdir rmdir unlink symlink bind mknod);
+my @EDITS = qw(create mkdir rmdir unlink symlink bind mknod create-rw);
 
 # What can be made, by its kind: the calls that make it, and what it is.
 my @NEW = (
     { kind => 'dir', calls => ['mkdir'], is => 'gone' },
     { kind => 'other', calls => ['mkdir'], is => 'missing' },
-    { kind => 'file', calls => ['create', 'bind', 'mknod'], is => 'file' },
+    { kind => 'file', calls => ['create', 'bind', 'mknod', 'create-rw'], is => 'file' },
     { kind => 'link', calls => ['symlink'], is => 'link' },
 );
 
@@ -246,7 +247,7 @@ sub lets {
 sub _line {
     my ($ever, $kind, $path, $is, @covers) = @_;
     my %has = map { $_ => $ever->_is_allowed($_, $is, @covers) } @Model::CALLS;
-    my $turns = $is eq 'file' && ($path eq 'new' || grep { $has{$_} } qw(open-w open-rw create chmod));
+    my $turns = $is eq 'file' && ($path eq 'new' || grep { $has{$_} } qw(open-w open-rw create create-rw chmod));
     $has{exec} = 1 if $turns && $ever->_is_allowed('exec', 'prog', @covers);
     my @calls = grep { $has{$_} } @Model::CALLS;
     return @calls ? "$kind $path " . join(',', @calls) : ();

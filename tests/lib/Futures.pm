@@ -9,7 +9,7 @@ use Things;
 
 my @EDITS = (
     ('rename') x 7, ('link') x 2, ('mkdir') x 3, ('create') x 2, ('symlink') x 1, ('unlink') x 2, ('rmdir') x 2,
-    ('bind') x 2, ('mknod') x 2,
+    ('bind') x 2, ('mknod') x 2, ('create-rw') x 1,
 );
 my @LOOKS = qw(stat lstat readlink open-r open-w open-rw chmod chdir chdir chdir connect chown);
 
@@ -73,7 +73,7 @@ sub _request {
     return 'link ' . $futures->_any('file', 'prog', 'link') . ' ' . $futures->_new if $call eq 'link';
     return 'symlink ' . $futures->{worlds}->path . ' ' . $futures->_new if $call eq 'symlink';
     return "$call " . $futures->_new                             if $call =~ /\A(?:mkdir|bind|mknod)\z/;
-    return "$call " . $futures->_place                           if $call eq 'create';
+    return "$call " . $futures->_place                           if $call =~ /\Acreate/;
     return "$call " . $futures->_old('file', 'prog', 'link')     if $call eq 'unlink';
     return "$call " . $futures->_old('dir')                      if $call eq 'rmdir' || $call eq 'chdir';
     return "$call " . $futures->_old;

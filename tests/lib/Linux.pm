@@ -33,7 +33,7 @@ our @RULES = (
 my @NAMES = map { $_->[0] } @RULES;
 
 my %MAKES = map { $_ => 1 } qw(symlink mknod bind);
-my %FOLLOWS = map { $_ => 1 } qw(stat open-r open-w open-rw create chmod chdir exec connect chown);
+my %FOLLOWS = map { $_ => 1 } qw(stat open-r open-w open-rw create create-rw chmod chdir exec connect chown);
 my %DROPS = map { $_ => 1 } qw(mkdir rmdir);
 
 # A world of a listing, in which these rules are Linux's; all, if none is named.
@@ -94,7 +94,7 @@ sub resolve {
     my $dir = $text =~ m{\A/} ? 0 : $from;
     return 'ENOENT' unless $linux->{kind}{$dir} || $by->{'dead-cwd'};
     my $is_made = $by->{'made-slash'} && ($MAKES{$call} || $call eq 'new name of link' || $call eq 'unlink');
-    my $creates = $call eq 'create';
+    my $creates = $call =~ /\Acreate(?:-rw)?\z/;
     my ($way, $links) = ('', 0);
     my @parts = _parts_of($text, $drops || $is_made, $creates && $by->{'made-slash'});
     while (defined(my $part = shift @parts)) {

@@ -25,7 +25,7 @@ my $ERROR = 'error';
 # The calls on one path, in their order.
 our @CALLS = qw(
     stat lstat readlink open-r open-w open-rw create mkdir rmdir unlink symlink chmod chdir exec connect bind
-    mknod chown
+    mknod chown create-rw
 );
 
 # What each needs: sets of promises, of which one has to be held; and letters.
@@ -48,6 +48,7 @@ my %STANDARD = (
     bind     => [[], 'c'],
     mknod    => [[], 'c'],
     chown    => [[], 'w'],
+    'create-rw' => [[], 'rwc'],
     'old name of rename' => [['cpath'], 'c'],
     'new name of rename' => [['cpath'], 'c'],
     'old name of link'   => [['cpath'], 'c'],
@@ -61,12 +62,13 @@ my %OPENBSD = (
     bind                 => [['unix'], 'c'],
     mknod                => [['dpath'], 'c'],
     chown                => [['rpath,chown', 'rpath,fattr'], 'w'],
+    'create-rw'          => [['rpath,wpath,cpath'], 'rwc'],
     'old name of rename' => [['rpath,cpath'], 'rc'],
     'old name of link'   => [['rpath'], 'r'],
 );
 
 # The calls that follow a link at their path's end, and those that drop a slash there.
-my %FOLLOWS = map { $_ => 1 } qw(stat open-r open-w open-rw create chmod chdir exec connect chown);
+my %FOLLOWS = map { $_ => 1 } qw(stat open-r open-w open-rw create create-rw chmod chdir exec connect chown);
 my %DROPS   = map { $_ => 1 } qw(mkdir rmdir rename);
 
 # What becomes of a call on each kind of thing. An errno refuses it; `way` asks how a directory was named.
@@ -79,6 +81,7 @@ my %MISFITS = (
     'open-w'   => { missing => 'ENOENT', dir => 'EISDIR' },
     'open-rw'  => { missing => 'ENOENT', dir => 'EISDIR' },
     create     => { dir => 'EISDIR' },
+    'create-rw' => { dir => 'EISDIR' },
     mkdir      => { map { $_ => 'EEXIST' } qw(dir file prog link) },
     symlink    => { map { $_ => 'EEXIST' } qw(dir file prog link) },
     rmdir      => { missing => 'ENOENT', dir => 'way', file => 'ENOTDIR', prog => 'ENOTDIR', link => 'ENOTDIR' },
@@ -240,7 +243,7 @@ sub _call {
     my ($answer, $found) = $model->verdict($process, $call, unspelled($path));
     return $answer if $answer;
     $model->_make($call eq 'mkdir' ? 'dir' : 'file', $found)
-        if $call =~ /\A(?:create|mkdir|bind|mknod)\z/ && $model->_kind($found) eq 'missing';
+        if $call =~ /\A(?:create|create-rw|mkdir|bind|mknod)\z/ && $model->_kind($found) eq 'missing';
     $model->_cut(@{ $model->{above}{ $found->{dir} } }) if $call eq 'rmdir';
     $model->_cut($found->{in}, $found->{name}) if $call eq 'unlink';
     $process->{dir} = $found->{dir} if $call eq 'chdir';

@@ -17,6 +17,7 @@ my %NEEDS = (
 my %OPENBSD = (
     chmod => ['rpath', 'fattr'], rename => ['rpath', 'cpath'], link => ['rpath', 'cpath'],
     connect => ['unix'], bind => ['unix'], mknod => ['dpath'], chown => ['rpath', 'chown', 'fattr'],
+    'create-rw' => ['rpath', 'wpath', 'cpath'],
 );
 
 my @LETTERS = qw(r w x c);

@@ -22,10 +22,10 @@ use Rattle.pua_policy.specs.declared.answer.Cover.TheVariants.{All}
 use Rattle.pua_policy.specs.declared.place.Place.TheVariants.{Dir}
 use Rattle.pua_audit.specs.Renumbering.{ReachNeedsRows}
 
-module _ (t : Tree) (n : ℕ) where
-  -- the tree with another next number
+module _ (t : Tree) (n room : ℕ) where
+  -- the tree with another next number, and other room
   abbrev v : Tree
-  v = record t { next = n }
+  v = record t { next = n; room = room }
 
   same_above : (d : ℕ) → above v d ≡ above t d
   same_above zero = refl
@@ -139,11 +139,12 @@ module _ {A : Type 0} (p q : A → Bool) (alike : (x : A) → p x ≡ q x) where
   same_filter [] = refl
   same_filter (x ∷ xs) = λ i. cond (alike x i) (x ∷ same_filter xs i) (same_filter xs i)
 
-renumbered : (s : Scope) (n : ℕ) → reach (record s { tree = record s.tree { next = n } }) ≡ reach s
-renumbered s n =
-    same_filter (is_reached (record s { tree = record s.tree { next = n } })) (is_reached s)
-    (λ pair. ap is_allowed (same_on s.tree n s.table s.process pair.1 (path_of s.base pair.0))) (pairs s.alphabet s.limit)
+renumbered : (s : Scope) (n room : ℕ) → reach (record s { tree = record s.tree { next = n; room = room } }) ≡ reach s
+renumbered s n room =
+    same_filter (is_reached (record s { tree = record s.tree { next = n; room = room } })) (is_reached s)
+    (λ pair. ap is_allowed (same_on s.tree n room s.table s.process pair.1 (path_of s.base pair.0))) (pairs s.alphabet s.limit)
 
 pub reach_needs_rows : ReachNeedsRows
 reach_needs_rows s u rows nodes =
-    ap (λ (t : Tree). reach (record s { tree = t })) (λ i. record { rows = rows i; nodes = nodes i; next = u.next }) ∙ renumbered s u.next
+    ap (λ (t : Tree). reach (record s { tree = t })) (λ i. record { rows = rows i; nodes = nodes i; next = u.next; room = u.room }) ∙
+    renumbered s u.next u.room

@@ -56,7 +56,7 @@ one_written_file = state_after (Pledged (Some fattr) None) (state_after (Unveile
 
 -- a link to its own directory, and one that goes through it 31 times, so that it follows 32 links
 abbrev pub tree_of_32_links : Tree
-tree_of_32_links = record {
+tree_of_32_links = record empty_tree {
   rows = ((0, codes "f"), 1) ∷ ((0, codes "k"), 2) ∷ ((0, codes "l"), 3) ∷ [];
   nodes = (0, record { kind = Dir; target = None }) ∷ (1, record { kind = File; target = None }) ∷ (
     2,
@@ -68,7 +68,7 @@ tree_of_32_links = record {
 
 -- a file in a directory to which a link leads too
 abbrev pub tree_of_two_paths : Tree
-tree_of_two_paths = record {
+tree_of_two_paths = record empty_tree {
   rows = ((0, codes "d"), 1) ∷ ((0, codes "l"), 2) ∷ ((1, codes "f"), 3) ∷ [];
   nodes = (0, record { kind = Dir; target = None }) ∷ (1, record { kind = Dir; target = None }) ∷ (
     2,

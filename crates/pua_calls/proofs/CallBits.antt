@@ -1,7 +1,7 @@
 -- Sets of calls by their bits. What computing tells of each call has one arm for all: after the first, that for the others.
 use Rattle.pua_calls.proofs.Common.{◌≡◌, ℕ, zero, suc, ◌<◌, ◌≤◌, ◌^◌, Bool, true, false, refl, sym, ap, ◌∙◌, arith, get_or, ◌*◌, ◌==◌}
 use Rattle.pua_calls.proofs.Common.{bit_or, bit_at, or_lt, calls, Call, Stat}
-use Rattle.std.proofs.Common.{◌+◌, max, min, nat_lt, map, sum, if◌then◌else◌}
+use Rattle.std.proofs.Common.{◌+◌, max, min, nat_lt}
 use Rattle.std.proofs.Common.{◌%◌, inl, inr}
 use Rattle.std.proofs.lemmas.Bool.{cases_eq, cases_lt, lt-ltb, le-ltb}
 use Rattle.std.specs.Prelude.{◌≢◌, ◌&&◌, ◌||◌, not, bit_and}
@@ -10,7 +10,7 @@ use Rattle.std.proofs.lemmas.List.FromFn.{get_or-range_with_len}
 use Rattle.std.proofs.lemmas.Nat.{and_le_l}
 use Rattle.std.proofs.lemmas.Nat.Bits.{bit_at_or, bit_at_and, bit_at-lt, bit_at-zero}
 use Rattle.pua_calls.specs.Calls.{call_count}
-use Rattle.pua_calls.specs.CallSets.{bit_of, has, keeps_link}
+use Rattle.pua_calls.specs.CallSets.{bit_of, has}
 
 one_of : (x y : ℕ) → x < 2 → y < 2 → (max x y == 1) ≡ ((x == 1) || (y == 1))
 one_of zero zero low high = refl
@@ -45,24 +45,6 @@ or_below a b = or_lt call_count a b
 
 pub and_below : (a b : ℕ) → a < 2 ^ call_count → bit_and a b < 2 ^ call_count
 and_below a b low = omega (arith, and_le_l a b, low)
-
--- the set of the calls that pass a test
-abbrev pub set_of : (Call → Bool) → ℕ
-set_of f = sum (map (λ c. if f c then 2 ^ bit_of c else 0) calls)
-
-has_keeping : (call : Call) → has (set_of keeps_link) call ≡ keeps_link call
-has_keeping Stat = refl
-has_keeping _ = refl
-
-has_following : (call : Call) → has (set_of (λ c. not (keeps_link c))) call ≡ not (keeps_link call)
-has_following Stat = refl
-has_following _ = refl
-
-pub kept_of : (set : ℕ) (call : Call) → has (bit_and set (set_of keeps_link)) call ≡ (has set call && keeps_link call)
-kept_of set call = has_and set (set_of keeps_link) call ∙ ap (λ b. has set call && b) (has_keeping call)
-
-pub followed_of : (set : ℕ) (call : Call) → has (bit_and set (set_of (λ c. not (keeps_link c)))) call ≡ (has set call && not (keeps_link call))
-followed_of set call = has_and set (set_of (λ c. not (keeps_link c))) call ∙ ap (λ b. has set call && b) (has_following call)
 
 -- each call is at its bit's place in the list of all
 pub call_at_bit : (call : Call) → get_or calls (bit_of call) Stat ≡ call

@@ -1,20 +1,25 @@
--- The standard table, row by row.
-use Rattle.pua_calls.proofs.Common.{◌≡◌, ℕ, ◌<◌, List, length, get_or, sym, ap, ◌∙◌, arith, Rule, CallTable, calls, Stat}
+-- The tables that a command names, row by row.
+use Rattle.pua_calls.proofs.Common.{◌≡◌, ℕ, ◌<◌, List, length, get_or, map, refl, sym, ap, ◌∙◌, arith, Call, Rule, CallTable, calls, Stat}
 use Rattle.std.proofs.lemmas.List.{same_lists, get_or-map}
-use Rattle.pua_calls.specs.Calls.{call_count, standard_pair, standard_rule, standard_table}
-use Rattle.pua_calls.specs.declared.rules.ExecPromises.TheVariants.{Unset}
+use Rattle.pua_calls.specs.Calls.{call_count, PairRule, rule_of, standard_rule, standard_table}
+use Rattle.pua_calls.specs.declared.rules.ExecPromises.{ExecPromises}
 
--- rules that are each call's standard one are those of the standard table
-pub is_standard : (rows : List Rule) → length rows ≡ call_count →
-    ((i : ℕ) (e : Rule) → i < call_count → get_or rows i e ≡ standard_rule (get_or calls i Stat)) → rows ≡ standard_table.rules
-is_standard rows long each = same_lists rows standard_table.rules long (λ i d below.
+-- rows that are what a rule says of each call are those that it says of all
+pub rows_by : (rule : Call → Rule) (rows : List Rule) → length rows ≡ call_count →
+    ((i : ℕ) (e : Rule) → i < call_count → get_or rows i e ≡ rule (get_or calls i Stat)) → rows ≡ map rule calls
+rows_by rule rows long each = same_lists rows (map rule calls) long (λ i d below.
     let in_calls : i < call_count = omega (arith, below, long) in
-    each i d in_calls ∙ sym (get_or-map standard_rule calls i Stat d in_calls))
+    each i d in_calls ∙ sym (get_or-map rule calls i Stat d in_calls))
 
--- and with those of rename and of link they are that table
-pub with_standard_pairs : (rows : List Rule) → rows ≡ standard_table.rules →
-    (record { rules = rows; rename = standard_pair; link = standard_pair; execpromises = Unset }) ≡ standard_table
-with_standard_pairs rows is = ap with_pairs is
-  where
-    with_pairs : List Rule → CallTable
-    with_pairs rules = record { rules = rules; rename = standard_pair; link = standard_pair; execpromises = Unset }
+-- and with what rename and link need, and what an exec leaves, they are a table
+abbrev pub table_with : PairRule → PairRule → ExecPromises → List Rule → CallTable
+table_with rename link left rows = record { rules = rows; rename = rename; link = link; execpromises = left }
+
+pub with_rows : (rename link : PairRule) (left : ExecPromises) (rows others : List Rule) → rows ≡ others →
+    table_with rename link left rows ≡ table_with rename link left others
+with_rows rename link left rows others is = ap (table_with rename link left) is
+
+-- what the standard table has for a call
+pub standard_is : (call : Call) → rule_of standard_table call ≡ standard_rule call
+standard_is Stat = refl
+standard_is _ = refl

@@ -1,5 +1,5 @@
 -- Sets of calls as numbers, a bit for each call.
-use Rattle.std.specs.Prelude.{ℕ, ◌-◌, ◌==◌, Bool, true, false, List, filter}
+use Rattle.std.specs.Prelude.{ℕ, ◌-◌, ◌==◌, Bool, true, false, not, List, filter}
 use Rattle.std.specs.Int.{bit_at}
 use Rattle.pua_path.specs.declared.found.Last.{Last}
 use Rattle.pua_path.specs.declared.found.Last.TheVariants.{Followed, Kept}
@@ -20,6 +20,11 @@ calls_in set = filter (has set) calls
 abbrev pub is_kept : Last → Bool
 is_kept Kept = true
 is_kept Followed = false
+
+-- whether one is the other
+abbrev pub is_last : Last → Last → Bool
+is_last Kept last = is_kept last
+is_last Followed last = not (is_kept last)
 
 -- a link that its path's last part names is what the call is on
 abbrev pub keeps_link : Call → Bool

@@ -1,6 +1,6 @@
 -- The calls with one path, and what each of them needs; what rename and link need, which have two; and what an exec leaves of
 -- execpromises.
-use Rattle.std.specs.Prelude.{ℕ, ◌+◌, ◌-◌, ◌==◌, Bool, not, List, [], ◌∷◌, length, map, Option, codes, find, slice_index_or}
+use Rattle.std.specs.Prelude.{ℕ, ◌+◌, ◌-◌, ◌==◌, Bool, true, false, not, List, [], ◌∷◌, length, map, Option, Some, None, codes, find, slice_index_or}
 use Rattle.pua_tree.specs.Names.{same_bytes}
 use Rattle.pua_tree.specs.Listing.{only_if}
 use Rattle.pua_calls.specs.Promises.{rpath, wpath, cpath, dpath, fattr, chown, exec, unix, reading, writing, executing, creating}
@@ -12,181 +12,282 @@ use Rattle.pua_calls.specs.declared.rules.ExecPromises.{ExecPromises}
 use Rattle.pua_calls.specs.declared.rules.ExecPromises.TheVariants.{Unset, Stay}
 use Rattle.pua_calls.specs.declared.rules.Rules.{Rules}
 use Rattle.pua_calls.specs.declared.rules.Rules.TheVariants.{Profile, Openbsd}
+use Rattle.pua_calls.specs.declared.fits.Misfit.TheVariants.{Exists, IsDirectory, IsNoFile, IsNoDirectory, IsNoLink, IsNoProgram}
+use Rattle.pua_calls.specs.declared.fits.Misfit.TheVariants.{IsNoSocket, InUse}
+use Rattle.pua_calls.specs.Misfits.{each_standing, none_standing, free_names}
+use Rattle.pua_calls.specs.declared.fits.Fits.{Fits}
+use Rattle.pua_calls.specs.declared.effect.Effect.{Effect}
+use Rattle.pua_calls.specs.declared.effect.Effect.TheVariants.{Looks, Makes, Removes, Enters, Starts}
+use Rattle.pua_tree.specs.declared.node.Kind.TheVariants.{File, Dir, Link}
 use Rattle.pua_calls.specs.declared.call.Call.{Call}
 use Rattle.pua_calls.specs.declared.call.Call.TheVariants.{Stat, Lstat, Readlink, OpenRead, OpenWrite, OpenBoth, Create, Mkdir, Rmdir}
-use Rattle.pua_calls.specs.declared.call.Call.TheVariants.{Unlink, Symlink, Chmod, Chdir, Exec, Connect, Bind, Mknod, Chown}
+use Rattle.pua_calls.specs.declared.call.Call.TheVariants.{Unlink, Symlink, Chmod, Chdir, Exec, Connect, Bind, Mknod, Chown, CreateBoth}
 
 -- in the order of their numbers
 abbrev pub calls : List Call
 calls =
     Stat ∷ Lstat ∷ Readlink ∷ OpenRead ∷ OpenWrite ∷ OpenBoth ∷ Create ∷ Mkdir ∷ Rmdir ∷ Unlink ∷ Symlink ∷ Chmod ∷ Chdir ∷ Exec ∷ Connect ∷ Bind
-    ∷ Mknod ∷ Chown ∷ []
+    ∷ Mknod ∷ Chown ∷ CreateBoth ∷ []
 
 -- how many there are
 abbrev pub call_count : ℕ
-call_count = 18
+call_count = 19
 
 -- what a call needs: one of the sets of promises, and each of the permissions
 pub record Rule : Type 0 where
   pub alternatives : List ℕ
   pub perms : ℕ
 
--- what is said of a call, in one place: its number and its name; what it needs by the standard table and by that of OpenBSD's
--- rules, where one without a set of promises is never allowed; whether the last part of its path is followed if it is a link, and
--- what a slash at the path's end means
+-- what is said of a call, in one place: its number and its name; the sets of promises of which it needs one by the standard table
+-- and by that of OpenBSD's rules, where one without a set is never allowed, and its permissions by both; whether the last part of
+-- its path is followed if it is a link, and what a slash at the path's end means; which objects it is on; what it does where it is
+-- allowed; and whether a file can come to be a program by it, since a kernel starts what was written, once its mode lets it
 pub record About : Type 0 where
   pub number : ℕ
   pub name : List ℕ
-  pub standard : Rule
-  pub openbsd : Rule
+  pub standard : List ℕ
+  pub openbsd : List ℕ
+  pub perms : ℕ
   pub last : Last
   pub ending : Ending
+  pub fits : Fits
+  pub effect : Effect
+  pub turns : Bool
 
 abbrev pub about : Call → About
 about Stat = record {
   number = 1;
   name = codes "stat";
-  standard = record { alternatives = rpath ∷ []; perms = reading };
-  openbsd = record { alternatives = rpath ∷ []; perms = reading };
+  standard = rpath ∷ [];
+  openbsd = rpath ∷ [];
+  perms = reading;
   last = Followed;
   ending = Dot;
+  fits = each_standing;
+  effect = Looks;
+  turns = false;
 }
 about Lstat = record {
   number = 2;
   name = codes "lstat";
-  standard = record { alternatives = rpath ∷ []; perms = reading };
-  openbsd = record { alternatives = rpath ∷ []; perms = reading };
+  standard = rpath ∷ [];
+  openbsd = rpath ∷ [];
+  perms = reading;
   last = Kept;
   ending = Dot;
+  fits = each_standing;
+  effect = Looks;
+  turns = false;
 }
 about Readlink = record {
   number = 3;
   name = codes "readlink";
-  standard = record { alternatives = rpath ∷ []; perms = reading };
-  openbsd = record { alternatives = rpath ∷ []; perms = reading };
+  standard = rpath ∷ [];
+  openbsd = rpath ∷ [];
+  perms = reading;
   last = Kept;
   ending = Dot;
+  fits = record (none_standing IsNoLink) { link = None };
+  effect = Looks;
+  turns = false;
 }
 about OpenRead = record {
   number = 4;
   name = codes "open-r";
-  standard = record { alternatives = rpath ∷ []; perms = reading };
-  openbsd = record { alternatives = rpath ∷ []; perms = reading };
+  standard = rpath ∷ [];
+  openbsd = rpath ∷ [];
+  perms = reading;
   last = Followed;
   ending = Dot;
+  fits = each_standing;
+  effect = Looks;
+  turns = false;
 }
 about OpenWrite = record {
   number = 5;
   name = codes "open-w";
-  standard = record { alternatives = wpath ∷ []; perms = writing };
-  openbsd = record { alternatives = wpath ∷ []; perms = writing };
+  standard = wpath ∷ [];
+  openbsd = wpath ∷ [];
+  perms = writing;
   last = Followed;
   ending = Dot;
+  fits = record each_standing { directory = Some IsDirectory };
+  effect = Looks;
+  turns = true;
 }
 about OpenBoth = record {
   number = 6;
   name = codes "open-rw";
-  standard = record { alternatives = (rpath + wpath) ∷ []; perms = reading + writing };
-  openbsd = record { alternatives = (rpath + wpath) ∷ []; perms = reading + writing };
+  standard = (rpath + wpath) ∷ [];
+  openbsd = (rpath + wpath) ∷ [];
+  perms = reading + writing;
   last = Followed;
   ending = Dot;
+  fits = record each_standing { directory = Some IsDirectory };
+  effect = Looks;
+  turns = true;
 }
 about Create = record {
   number = 7;
   name = codes "create";
-  standard = record { alternatives = (wpath + cpath) ∷ []; perms = writing + creating };
-  openbsd = record { alternatives = (wpath + cpath) ∷ []; perms = writing + creating };
+  standard = (wpath + cpath) ∷ [];
+  openbsd = (wpath + cpath) ∷ [];
+  perms = writing + creating;
   last = Followed;
   ending = Dot;
+  fits = record each_standing { directory = Some IsDirectory; missing = None };
+  effect = Makes File;
+  turns = true;
 }
 about Mkdir = record {
   number = 8;
   name = codes "mkdir";
-  standard = record { alternatives = cpath ∷ []; perms = creating };
-  openbsd = record { alternatives = cpath ∷ []; perms = creating };
+  standard = cpath ∷ [];
+  openbsd = cpath ∷ [];
+  perms = creating;
   last = Kept;
   ending = Dropped;
+  fits = free_names Exists;
+  effect = Makes Dir;
+  turns = false;
 }
 about Rmdir = record {
   number = 9;
   name = codes "rmdir";
-  standard = record { alternatives = cpath ∷ []; perms = creating };
-  openbsd = record { alternatives = cpath ∷ []; perms = creating };
+  standard = cpath ∷ [];
+  openbsd = cpath ∷ [];
+  perms = creating;
   last = Kept;
   ending = Dropped;
+  fits = record (none_standing IsNoDirectory) { directory = None; by_way = true };
+  effect = Removes;
+  turns = false;
 }
 about Unlink = record {
   number = 10;
   name = codes "unlink";
-  standard = record { alternatives = cpath ∷ []; perms = creating };
-  openbsd = record { alternatives = cpath ∷ []; perms = creating };
+  standard = cpath ∷ [];
+  openbsd = cpath ∷ [];
+  perms = creating;
   last = Kept;
   ending = Dot;
+  fits = record each_standing { directory = Some IsNoFile };
+  effect = Removes;
+  turns = false;
 }
 about Symlink = record {
   number = 11;
   name = codes "symlink";
-  standard = record { alternatives = cpath ∷ []; perms = creating };
-  openbsd = record { alternatives = cpath ∷ []; perms = creating };
+  standard = cpath ∷ [];
+  openbsd = cpath ∷ [];
+  perms = creating;
   last = Kept;
   ending = Dot;
+  fits = free_names Exists;
+  effect = Makes Link;
+  turns = false;
 }
 about Chmod = record {
   number = 12;
   name = codes "chmod";
-  standard = record { alternatives = fattr ∷ []; perms = writing };
-  openbsd = record { alternatives = (rpath + fattr) ∷ []; perms = writing };
+  standard = fattr ∷ [];
+  openbsd = (rpath + fattr) ∷ [];
+  perms = writing;
   last = Followed;
   ending = Dot;
+  fits = each_standing;
+  effect = Looks;
+  turns = true;
 }
 about Chdir = record {
   number = 13;
   name = codes "chdir";
-  standard = record { alternatives = rpath ∷ []; perms = reading };
-  openbsd = record { alternatives = rpath ∷ []; perms = reading };
+  standard = rpath ∷ [];
+  openbsd = rpath ∷ [];
+  perms = reading;
   last = Followed;
   ending = Dot;
+  fits = record (none_standing IsNoDirectory) { directory = None };
+  effect = Enters;
+  turns = false;
 }
 about Exec = record {
   number = 14;
   name = codes "exec";
-  standard = record { alternatives = exec ∷ []; perms = executing };
-  openbsd = record { alternatives = exec ∷ []; perms = executing };
+  standard = exec ∷ [];
+  openbsd = exec ∷ [];
+  perms = executing;
   last = Followed;
   ending = Dot;
+  fits = record (none_standing IsNoProgram) { program = None };
+  effect = Starts;
+  turns = false;
 }
 about Connect = record {
   number = 15;
   name = codes "connect";
-  standard = record { alternatives = []; perms = writing };
-  openbsd = record { alternatives = unix ∷ []; perms = writing };
+  standard = [];
+  openbsd = unix ∷ [];
+  perms = writing;
   last = Followed;
   ending = Dot;
+  fits = record (none_standing IsNoSocket) { file = None };
+  effect = Looks;
+  turns = false;
 }
 about Bind = record {
   number = 16;
   name = codes "bind";
-  standard = record { alternatives = []; perms = creating };
-  openbsd = record { alternatives = unix ∷ []; perms = creating };
+  standard = [];
+  openbsd = unix ∷ [];
+  perms = creating;
   last = Kept;
   ending = Dot;
+  fits = free_names InUse;
+  effect = Makes File;
+  turns = false;
 }
 about Mknod = record {
   number = 17;
   name = codes "mknod";
-  standard = record { alternatives = []; perms = creating };
-  openbsd = record { alternatives = dpath ∷ []; perms = creating };
+  standard = [];
+  openbsd = dpath ∷ [];
+  perms = creating;
   last = Kept;
   ending = Dot;
+  fits = free_names Exists;
+  effect = Makes File;
+  turns = false;
 }
 about Chown = record {
   number = 18;
   name = codes "chown";
-  standard = record { alternatives = []; perms = writing };
-  openbsd = record { alternatives = (rpath + chown) ∷ (rpath + fattr) ∷ []; perms = writing };
+  standard = [];
+  openbsd = (rpath + chown) ∷ (rpath + fattr) ∷ [];
+  perms = writing;
   last = Followed;
   ending = Dot;
+  fits = each_standing;
+  effect = Looks;
+  turns = false;
 }
+about CreateBoth = record {
+  number = 19;
+  name = codes "create-rw";
+  standard = [];
+  openbsd = (rpath + wpath + cpath) ∷ [];
+  perms = reading + writing + creating;
+  last = Followed;
+  ending = Dot;
+  fits = record each_standing { directory = Some IsDirectory; missing = None };
+  effect = Makes File;
+  turns = true;
+}
+
+-- a set of promises that there may be, as alternatives
+abbrev pub listed : Option ℕ → List ℕ
+listed (Some set) = set ∷ []
+listed None = []
 
 abbrev pub call_number : Call → ℕ
 call_number call = (about call).number
@@ -195,10 +296,10 @@ abbrev pub call_name : Call → List ℕ
 call_name call = (about call).name
 
 abbrev pub standard_rule : Call → Rule
-standard_rule call = (about call).standard
+standard_rule call = record { alternatives = (about call).standard; perms = (about call).perms }
 
 abbrev pub openbsd_rule : Call → Rule
-openbsd_rule call = (about call).openbsd
+openbsd_rule call = record { alternatives = (about call).openbsd; perms = (about call).perms }
 
 -- whether the last part is followed if it is a link
 abbrev pub last_of : Call → Last
@@ -207,6 +308,10 @@ last_of call = (about call).last
 -- what a slash at the end of the call's path means
 abbrev pub ending_of : Call → Ending
 ending_of call = (about call).ending
+
+-- what it does where it is allowed
+abbrev pub effect_of : Call → Effect
+effect_of call = (about call).effect
 
 abbrev pub call_of_name : List ℕ → Option Call
 call_of_name word = find (λ call. same_bytes (call_name call) word) calls

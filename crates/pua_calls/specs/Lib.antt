@@ -1,5 +1,7 @@
 -- The claim, in reading order: what a reader has to believe of promises, calls and what they need.
 pub mod Promises
+pub mod Misfits
+pub mod Effects
 pub mod Calls
 pub mod CallSets
 pub mod Tables

@@ -1,9 +1,12 @@
 //! The calls with one path.
 
+use crate::effect::Effect;
+use crate::fits::{Fits, Misfit};
 use crate::perms::Perms;
 use crate::promises::Promises;
 use crate::rules::Rules;
 use pua_path::{Ending, Last};
+use pua_tree::Kind;
 
 /// A call with one path, in the order of the calls' numbers.
 #[derive(Clone, Copy, Debug, PartialEq, Eq, PartialOrd, Ord, Hash)]
@@ -44,7 +47,12 @@ pub enum Call {
     Mknod,
     /// chown(2), which OpenBSD's rules alone have.
     Chown,
+    /// open(2) with `O_RDWR | O_CREAT`, which OpenBSD's rules alone have.
+    CreateBoth,
 }
+
+/// A blank, the name of any call and LF have at most so many bytes.
+pub const MOST_CALL_LINE: usize = 16;
 
 /// What a call needs: all of these promises, all of these permissions, and whether its path's last
 /// part is followed if it is a link (this profile).
@@ -55,28 +63,41 @@ pub struct Need {
     pub last: Last,
 }
 
-/// What is said of a call, in one place: its name; by the standard table the promises and permissions that it
-/// needs, or where it has none there the first set of those that OpenBSD's rules have; whether the standard
-/// table has it; whether the last part of its path is followed if it is a link; and what a slash at the
-/// path's end means.
+/// What is said of a call, in one place.
 #[derive(Clone, Copy)]
 pub(crate) struct Facts {
+    /// Its name.
     pub(crate) name: &'static str,
-    pub(crate) promises: Promises,
+    /// A blank, its name and LF, with blanks after them.
+    pub(crate) line: &'static [u8],
+    /// The promises that it needs by the standard table, if that has it.
+    pub(crate) standard: Option<Promises>,
+    /// Those that it needs by OpenBSD's rules.
+    pub(crate) openbsd: Promises,
+    /// Those by which it is allowed there too, if there are such.
+    pub(crate) other: Option<Promises>,
+    /// The permissions that it needs.
     pub(crate) perms: Perms,
-    pub(crate) is_standard: bool,
+    /// Whether the last part of its path is followed if it is a link.
     pub(crate) last: Last,
+    /// What a slash at the end of its path means.
     pub(crate) ending: Ending,
+    /// What is wrong with each kind of object for it.
+    pub(crate) fits: Fits,
+    /// What it does where it is allowed.
+    pub(crate) effect: Effect,
+    /// Whether a file can come to be a program by it.
+    pub(crate) turns: bool,
 }
 
 impl Call {
-    ghost use Rattle.std.specs.Prelude.{◌≡◌, [], ◌∷◌, take, IsTrue, IsFalse};
-    ghost use Rattle.pua_calls.specs.Calls.{about, standard_table};
+    ghost use Rattle.std.specs.Prelude.{◌≡◌, ◌≤◌, ◌+◌, [], ◌∷◌, ◌++◌, length, take};
+    ghost use Rattle.pua_calls.specs.Calls.{about, effect_of, listed};
     ghost use Rattle.pua_calls.specs.Calls.{call_number, call_name, call_of_name, call_named};
     ghost use Rattle.pua_calls.specs.Calls.{call_named_by, is_known, last_of, table_by_rules};
 
     /// How many calls there are.
-    pub const COUNT: usize = 18;
+    pub const COUNT: usize = 19;
 
     /// Every call, in the order of their numbers.
     pub const ALL: [Call; Call::COUNT] = [
@@ -98,6 +119,7 @@ impl Call {
         Call::Bind,
         Call::Mknod,
         Call::Chown,
+        Call::CreateBoth,
     ];
 
     /// Its number, from 1 to `COUNT`.
@@ -110,159 +132,301 @@ impl Call {
     /// What is said of it.
     pub(crate) fn facts(self) -> Facts
         ensures name { result.name.now ≡ (about self).name }
-        ensures standard { IsTrue result.is_standard →
-            (about self).standard.alternatives ≡ result.promises ∷ [] }
-        ensures further { IsFalse result.is_standard →
-            take 1 (about self).openbsd.alternatives ≡ result.promises ∷ [] }
-        ensures known { result.is_standard ≡ is_known standard_table self }
-        ensures perms { result.perms ≡ (about self).standard.perms }
+        ensures line { take (length (about self).name + 2) result.line.now
+            ≡ 32 ∷ (about self).name ++ 10 ∷ [] }
+        ensures width { length result.line.now ≡ MOST_CALL_LINE }
+        ensures short { length (about self).name + 2 ≤ MOST_CALL_LINE }
+        ensures standard { (about self).standard ≡ listed result.standard }
+        ensures openbsd { (about self).openbsd ≡ result.openbsd ∷ listed result.other }
+        ensures perms { result.perms ≡ (about self).perms }
         ensures last { result.last ≡ (about self).last }
         ensures ending { result.ending ≡ (about self).ending }
+        ensures fits { result.fits ≡ (about self).fits }
+        ensures effect { result.effect ≡ (about self).effect }
+        ensures turns { result.turns ≡ (about self).turns }
     {
         match self {
             Call::Stat => Facts {
                 name: "stat",
-                promises: Promises::RPATH,
+                line: b" stat\n          ",
+                standard: Some(Promises::RPATH),
+                openbsd: Promises::RPATH,
+                other: None,
                 perms: Perms::READ,
-                is_standard: true,
                 last: Last::Followed,
                 ending: Ending::Dot,
+                fits: Fits::STANDING,
+                effect: Effect::Looks,
+                turns: false,
             },
             Call::Lstat => Facts {
                 name: "lstat",
-                promises: Promises::RPATH,
+                line: b" lstat\n         ",
+                standard: Some(Promises::RPATH),
+                openbsd: Promises::RPATH,
+                other: None,
                 perms: Perms::READ,
-                is_standard: true,
                 last: Last::Kept,
                 ending: Ending::Dot,
+                fits: Fits::STANDING,
+                effect: Effect::Looks,
+                turns: false,
             },
             Call::Readlink => Facts {
                 name: "readlink",
-                promises: Promises::RPATH,
+                line: b" readlink\n      ",
+                standard: Some(Promises::RPATH),
+                openbsd: Promises::RPATH,
+                other: None,
                 perms: Perms::READ,
-                is_standard: true,
                 last: Last::Kept,
                 ending: Ending::Dot,
+                fits: Fits {
+                    link: None,
+                    ..Fits::none(Misfit::IsNoLink)
+                },
+                effect: Effect::Looks,
+                turns: false,
             },
             Call::OpenRead => Facts {
                 name: "open-r",
-                promises: Promises::RPATH,
+                line: b" open-r\n        ",
+                standard: Some(Promises::RPATH),
+                openbsd: Promises::RPATH,
+                other: None,
                 perms: Perms::READ,
-                is_standard: true,
                 last: Last::Followed,
                 ending: Ending::Dot,
+                fits: Fits::STANDING,
+                effect: Effect::Looks,
+                turns: false,
             },
             Call::OpenWrite => Facts {
                 name: "open-w",
-                promises: Promises::WPATH,
+                line: b" open-w\n        ",
+                standard: Some(Promises::WPATH),
+                openbsd: Promises::WPATH,
+                other: None,
                 perms: Perms::WRITE,
-                is_standard: true,
                 last: Last::Followed,
                 ending: Ending::Dot,
+                fits: Fits {
+                    directory: Some(Misfit::IsDirectory),
+                    ..Fits::STANDING
+                },
+                effect: Effect::Looks,
+                turns: true,
             },
             Call::OpenBoth => Facts {
                 name: "open-rw",
-                promises: Promises::RPATH.union(Promises::WPATH),
+                line: b" open-rw\n       ",
+                standard: Some(Promises::RPATH.union(Promises::WPATH)),
+                openbsd: Promises::RPATH.union(Promises::WPATH),
+                other: None,
                 perms: Perms::READ.union(Perms::WRITE),
-                is_standard: true,
                 last: Last::Followed,
                 ending: Ending::Dot,
+                fits: Fits {
+                    directory: Some(Misfit::IsDirectory),
+                    ..Fits::STANDING
+                },
+                effect: Effect::Looks,
+                turns: true,
             },
             Call::Create => Facts {
                 name: "create",
-                promises: Promises::WPATH.union(Promises::CPATH),
+                line: b" create\n        ",
+                standard: Some(Promises::WPATH.union(Promises::CPATH)),
+                openbsd: Promises::WPATH.union(Promises::CPATH),
+                other: None,
                 perms: Perms::WRITE.union(Perms::CREATE),
-                is_standard: true,
                 last: Last::Followed,
                 ending: Ending::Dot,
+                fits: Fits {
+                    directory: Some(Misfit::IsDirectory),
+                    missing: None,
+                    ..Fits::STANDING
+                },
+                effect: Effect::Makes(Kind::File),
+                turns: true,
             },
             Call::Mkdir => Facts {
                 name: "mkdir",
-                promises: Promises::CPATH,
+                line: b" mkdir\n         ",
+                standard: Some(Promises::CPATH),
+                openbsd: Promises::CPATH,
+                other: None,
                 perms: Perms::CREATE,
-                is_standard: true,
                 last: Last::Kept,
                 ending: Ending::Dropped,
+                fits: Fits::free(Misfit::Exists),
+                effect: Effect::Makes(Kind::Dir),
+                turns: false,
             },
             Call::Rmdir => Facts {
                 name: "rmdir",
-                promises: Promises::CPATH,
+                line: b" rmdir\n         ",
+                standard: Some(Promises::CPATH),
+                openbsd: Promises::CPATH,
+                other: None,
                 perms: Perms::CREATE,
-                is_standard: true,
                 last: Last::Kept,
                 ending: Ending::Dropped,
+                fits: Fits {
+                    directory: None,
+                    by_way: true,
+                    ..Fits::none(Misfit::IsNoDirectory)
+                },
+                effect: Effect::Removes,
+                turns: false,
             },
             Call::Unlink => Facts {
                 name: "unlink",
-                promises: Promises::CPATH,
+                line: b" unlink\n        ",
+                standard: Some(Promises::CPATH),
+                openbsd: Promises::CPATH,
+                other: None,
                 perms: Perms::CREATE,
-                is_standard: true,
                 last: Last::Kept,
                 ending: Ending::Dot,
+                fits: Fits {
+                    directory: Some(Misfit::IsNoFile),
+                    ..Fits::STANDING
+                },
+                effect: Effect::Removes,
+                turns: false,
             },
             Call::Symlink => Facts {
                 name: "symlink",
-                promises: Promises::CPATH,
+                line: b" symlink\n       ",
+                standard: Some(Promises::CPATH),
+                openbsd: Promises::CPATH,
+                other: None,
                 perms: Perms::CREATE,
-                is_standard: true,
                 last: Last::Kept,
                 ending: Ending::Dot,
+                fits: Fits::free(Misfit::Exists),
+                effect: Effect::Makes(Kind::Link),
+                turns: false,
             },
             Call::Chmod => Facts {
                 name: "chmod",
-                promises: Promises::FATTR,
+                line: b" chmod\n         ",
+                standard: Some(Promises::FATTR),
+                openbsd: Promises::RPATH.union(Promises::FATTR),
+                other: None,
                 perms: Perms::WRITE,
-                is_standard: true,
                 last: Last::Followed,
                 ending: Ending::Dot,
+                fits: Fits::STANDING,
+                effect: Effect::Looks,
+                turns: true,
             },
             Call::Chdir => Facts {
                 name: "chdir",
-                promises: Promises::RPATH,
+                line: b" chdir\n         ",
+                standard: Some(Promises::RPATH),
+                openbsd: Promises::RPATH,
+                other: None,
                 perms: Perms::READ,
-                is_standard: true,
                 last: Last::Followed,
                 ending: Ending::Dot,
+                fits: Fits {
+                    directory: None,
+                    ..Fits::none(Misfit::IsNoDirectory)
+                },
+                effect: Effect::Enters,
+                turns: false,
             },
             Call::Exec => Facts {
                 name: "exec",
-                promises: Promises::EXEC,
+                line: b" exec\n          ",
+                standard: Some(Promises::EXEC),
+                openbsd: Promises::EXEC,
+                other: None,
                 perms: Perms::EXEC,
-                is_standard: true,
                 last: Last::Followed,
                 ending: Ending::Dot,
+                fits: Fits {
+                    program: None,
+                    ..Fits::none(Misfit::IsNoProgram)
+                },
+                effect: Effect::Starts,
+                turns: false,
             },
             Call::Connect => Facts {
                 name: "connect",
-                promises: Promises::UNIX,
+                line: b" connect\n       ",
+                standard: None,
+                openbsd: Promises::UNIX,
+                other: None,
                 perms: Perms::WRITE,
-                is_standard: false,
                 last: Last::Followed,
                 ending: Ending::Dot,
+                fits: Fits {
+                    file: None,
+                    ..Fits::none(Misfit::IsNoSocket)
+                },
+                effect: Effect::Looks,
+                turns: false,
             },
             Call::Bind => Facts {
                 name: "bind",
-                promises: Promises::UNIX,
+                line: b" bind\n          ",
+                standard: None,
+                openbsd: Promises::UNIX,
+                other: None,
                 perms: Perms::CREATE,
-                is_standard: false,
                 last: Last::Kept,
                 ending: Ending::Dot,
+                fits: Fits::free(Misfit::InUse),
+                effect: Effect::Makes(Kind::File),
+                turns: false,
             },
             Call::Mknod => Facts {
                 name: "mknod",
-                promises: Promises::DPATH,
+                line: b" mknod\n         ",
+                standard: None,
+                openbsd: Promises::DPATH,
+                other: None,
                 perms: Perms::CREATE,
-                is_standard: false,
                 last: Last::Kept,
                 ending: Ending::Dot,
+                fits: Fits::free(Misfit::Exists),
+                effect: Effect::Makes(Kind::File),
+                turns: false,
             },
             Call::Chown => Facts {
                 name: "chown",
-                promises: Promises::RPATH.union(Promises::CHOWN),
+                line: b" chown\n         ",
+                standard: None,
+                openbsd: Promises::RPATH.union(Promises::CHOWN),
+                other: Some(Promises::RPATH.union(Promises::FATTR)),
                 perms: Perms::WRITE,
-                is_standard: false,
                 last: Last::Followed,
                 ending: Ending::Dot,
+                fits: Fits::STANDING,
+                effect: Effect::Looks,
+                turns: false,
+            },
+            Call::CreateBoth => Facts {
+                name: "create-rw",
+                line: b" create-rw\n     ",
+                standard: None,
+                openbsd: Promises::RPATH
+                    .union(Promises::WPATH)
+                    .union(Promises::CPATH),
+                other: None,
+                perms: Perms::READ.union(Perms::WRITE).union(Perms::CREATE),
+                last: Last::Followed,
+                ending: Ending::Dot,
+                fits: Fits {
+                    directory: Some(Misfit::IsDirectory),
+                    missing: None,
+                    ..Fits::STANDING
+                },
+                effect: Effect::Makes(Kind::File),
+                turns: true,
             },
         }
     }
@@ -281,6 +445,38 @@ impl Call {
         self.facts().last
     }
 
+    /// A blank, its name and LF, with blanks after them: `MOST_CALL_LINE` bytes.
+    pub fn line(self) -> &'static [u8]
+        ensures line { take (length (call_name self) + 2) result.now
+            ≡ 32 ∷ call_name self ++ 10 ∷ [] }
+        ensures width { length result.now ≡ MOST_CALL_LINE }
+        ensures short { length (call_name self) + 2 ≤ MOST_CALL_LINE }
+    {
+        self.facts().line
+    }
+
+    /// What is wrong with each kind of object for it (which kind a call is on: this profile).
+    pub fn fits(self) -> Fits
+        ensures { result ≡ (about self).fits }
+    {
+        self.facts().fits
+    }
+
+    /// What it does where it is allowed.
+    pub fn effect(self) -> Effect
+        ensures { result ≡ effect_of self }
+    {
+        self.facts().effect
+    }
+
+    /// Whether a file can come to be a program by it: a kernel starts what was written, once its mode
+    /// lets it.
+    pub fn turns(self) -> bool
+        ensures { result ≡ (about self).turns }
+    {
+        self.facts().turns
+    }
+
     /// The call of this name that there is by rules, if there is one: this project's own have the first
     /// fourteen, OpenBSD's have all.
     pub fn read_by(rules: Rules, word: &[u8]) -> Option<Call>
@@ -295,7 +491,7 @@ impl Call {
         ensures { result ≡ is_known (table_by_rules rules) self }
     {
         match rules {
-            Rules::Profile => self.facts().is_standard,
+            Rules::Profile => self.facts().standard.is_some(),
             Rules::Openbsd => true,
         }
     }
@@ -311,38 +507,9 @@ impl Call {
     pub(crate) fn of_name(word: &[u8]) -> Option<Call>
         ensures { result ≡ call_of_name word.now }
     {
-        let likely = Call::likely(word);
-        if likely.name().as_bytes() == word {
-            return Some(likely);
-        }
         Call::ALL
             .iter()
             .find(|call| call.name().as_bytes() == word)
             .copied()
-    }
-
-    /// The call that a word names, if it names one: its first and its last byte tell which. No contract
-    /// rests on it, since whoever asks compares the names.
-    fn likely(word: &[u8]) -> Call {
-        match word {
-            [b's', .., b't'] => Call::Stat,
-            [b's', ..] => Call::Symlink,
-            [b'l', ..] => Call::Lstat,
-            [b'o', .., b'r'] => Call::OpenRead,
-            [b'o', _, _, _, _, _] => Call::OpenWrite,
-            [b'o', ..] => Call::OpenBoth,
-            [b'c', .., b'e'] => Call::Create,
-            [b'c', .., b'd'] => Call::Chmod,
-            [b'c', .., b't'] => Call::Connect,
-            [b'c', .., b'n'] => Call::Chown,
-            [b'c', ..] => Call::Chdir,
-            [b'b', ..] => Call::Bind,
-            [b'm', .., b'd'] => Call::Mknod,
-            [b'm', ..] => Call::Mkdir,
-            [b'r', .., b'r'] => Call::Rmdir,
-            [b'r', ..] => Call::Readlink,
-            [b'u', ..] => Call::Unlink,
-            _ => Call::Exec,
-        }
     }
 }

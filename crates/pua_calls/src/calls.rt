@@ -23,31 +23,15 @@ impl Model for Calls {
 
 ghost use Rattle.std.specs.Prelude.{◌≡◌, ◌≢◌, ◌↔◌, ◌<◌, ◌^◌, []};
 ghost use Rattle.std.specs.Prelude.{◌&&◌, ◌||◌, not, IsTrue};
-ghost use Rattle.pua_calls.specs.Calls.{call_count};
-ghost use Rattle.pua_calls.specs.CallSets.{has, calls_in, keeps_link};
+ghost use Rattle.pua_calls.specs.Calls.{call_count, last_of};
+ghost use Rattle.pua_calls.specs.CallSets.{has, calls_in, is_last, keeps_link};
 
 use crate::call::Call;
+use pua_path::Last;
 
 impl Calls {
     /// No call.
     pub const NONE: Calls = Calls { bits: 0 };
-
-    /// The calls on a link itself.
-    const KEEPING: Calls = Calls {
-        bits: 1 << Call::Lstat as u32
-            | 1 << Call::Readlink as u32
-            | 1 << Call::Mkdir as u32
-            | 1 << Call::Rmdir as u32
-            | 1 << Call::Unlink as u32
-            | 1 << Call::Symlink as u32
-            | 1 << Call::Bind as u32
-            | 1 << Call::Mknod as u32,
-    };
-
-    /// The others: the calls on what a link leads to.
-    const FOLLOWING: Calls = Calls {
-        bits: ((1 << Call::COUNT) - 1) & !Calls::KEEPING.bits,
-    };
 
     /// Whether it has a call.
     pub fn contains(self, call: Call) -> bool
@@ -102,22 +86,39 @@ impl Calls {
     }
 
     /// Its calls that are on a link itself, where their path's last part names one.
-    #[tactic(auto, using(crate::proofs::CallBits::kept_of))]
     pub fn keeping(self) -> Calls
         ensures { (call : Call) → has result call ≡ (has self call && keeps_link call) }
     {
-        Calls {
-            bits: self.bits & Calls::KEEPING.bits,
-        }
+        self.intersection(Calls::by_last(Last::Kept))
     }
 
     /// Its calls that are on what a link leads to, where their path's last part names one.
-    #[tactic(auto, using(crate::proofs::CallBits::followed_of))]
     pub fn following(self) -> Calls
         ensures { (call : Call) → has result call ≡ (has self call && not (keeps_link call)) }
     {
-        Calls {
-            bits: self.bits & Calls::FOLLOWING.bits,
+        self.intersection(Calls::by_last(Last::Followed))
+    }
+
+    /// The calls of which a link at the end of their path is followed, or the others.
+    fn by_last(last: Last) -> Calls
+        ensures { (call : Call) → has result call ≡ is_last last (last_of call) }
+    {
+        let mut calls = Calls::NONE;
+        for call in Call::ALL {
+            if is_last(call, last) {
+                calls = calls.with(call);
+            }
         }
+        calls
+    }
+}
+
+/// Whether a link at the end of a call's path is followed, or kept.
+fn is_last(call: Call, last: Last) -> bool
+    ensures { result ≡ is_last last (last_of call) }
+{
+    match (last, call.last()) {
+        (Last::Kept, Last::Kept) | (Last::Followed, Last::Followed) => true,
+        (Last::Kept, Last::Followed) | (Last::Followed, Last::Kept) => false,
     }
 }

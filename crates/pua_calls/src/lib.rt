@@ -3,6 +3,8 @@
 
 mod call;
 mod calls;
+mod effect;
+mod fits;
 mod laws;
 pub mod needs;
 mod perms;
@@ -10,8 +12,10 @@ mod promises;
 mod rules;
 mod table;
 
-pub use call::{Call, Need};
+pub use call::{Call, MOST_CALL_LINE, Need};
 pub use calls::Calls;
+pub use effect::Effect;
+pub use fits::{Fits, Misfit};
 pub use laws::{
     limits_law, permission_constants, promise_bounds, promise_constants, table_examples,
 };

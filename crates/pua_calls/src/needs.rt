@@ -19,7 +19,7 @@ pub fn need(call: Call) -> Need
 {
     let facts = call.facts();
     Need {
-        promises: facts.promises,
+        promises: facts.standard.unwrap_or(facts.openbsd),
         perms: facts.perms,
         last: facts.last,
     }

@@ -4,7 +4,6 @@ mod pair;
 mod read;
 
 use crate::call::Call;
-use crate::needs;
 use crate::perms::Perms;
 use crate::promises::Promises;
 use crate::rules::{ExecPromises, Rules};
@@ -83,7 +82,7 @@ impl Model for CallTable {
 }
 
 ghost use Rattle.std.specs.Prelude.{◌≡◌, ◌<◌, [], ◌∷◌, ◌++◌, length};
-ghost use Rattle.pua_calls.specs.Calls.{standard_rule, standard_table, openbsd_table};
+ghost use Rattle.pua_calls.specs.Calls.{standard_rule, standard_table, openbsd_rule, openbsd_table};
 ghost use Rattle.pua_calls.specs.Calls.{call_count, call_in, table_by_rules, rule_of};
 ghost use Rattle.pua_calls.specs.Tables.{NeedsNoError, NoCallNeedsError, most_alternatives};
 ghost use Rattle.pua_calls.specs.TableTexts.{with_rule};
@@ -129,14 +128,26 @@ impl RuleRow {
     fn standard(call: Call) -> RuleRow
         ensures { result ≡ standard_rule call }
     {
-        let need = needs::need(call);
-        if call.is_by(Rules::Profile) {
-            return RuleRow::one(need.promises, need.perms);
+        let facts = call.facts();
+        match facts.standard {
+            Some(promises) => RuleRow::one(promises, facts.perms),
+            None => RuleRow {
+                perms: facts.perms,
+                ..RuleRow::NONE
+            },
         }
-        RuleRow {
-            perms: need.perms,
-            ..RuleRow::NONE
+    }
+
+    /// What a call needs by OpenBSD's rules.
+    fn openbsd(call: Call) -> RuleRow
+        ensures { result ≡ openbsd_rule call }
+    {
+        let facts = call.facts();
+        let mut row = RuleRow::one(facts.openbsd, facts.perms);
+        if let Some(other) = facts.other {
+            row.add(other);
         }
+        row
     }
 }
 
@@ -163,22 +174,11 @@ impl CallTable {
     pub fn openbsd() -> CallTable
         ensures { result ≡ openbsd_table }
     {
-        let mut table = CallTable::standard();
-        table.set(
-            Call::Chmod,
-            RuleRow::one(Promises::RPATH.union(Promises::FATTR), Perms::WRITE),
-        );
-        table.set(Call::Connect, RuleRow::one(Promises::UNIX, Perms::WRITE));
-        table.set(Call::Bind, RuleRow::one(Promises::UNIX, Perms::CREATE));
-        table.set(Call::Mknod, RuleRow::one(Promises::DPATH, Perms::CREATE));
-        let mut chown = RuleRow::one(Promises::RPATH.union(Promises::CHOWN), Perms::WRITE);
-        chown.add(Promises::RPATH.union(Promises::FATTR));
-        table.set(Call::Chown, chown);
         CallTable {
+            rows: Call::ALL.map(RuleRow::openbsd),
             rename: PairNeed::openbsd_rename(),
             link: PairNeed::openbsd_link(),
             execpromises: ExecPromises::Stay,
-            ..table
         }
     }
 

@@ -39,7 +39,7 @@ pub use Rattle.pua_policy.specs.declared.answer.Cover.{Cover}
 pub use Rattle.pua_policy.specs.declared.answer.Cover.TheVariants.{All, Only}
 pub use Rattle.pua_policy.specs.declared.answer.May.{May}
 pub use Rattle.pua_policy.specs.declared.place.Place.{Place}
-pub use Rattle.pua_policy.specs.declared.reason.Misfit.TheVariants.{IsNotEmpty}
+pub use Rattle.pua_calls.specs.declared.fits.Misfit.TheVariants.{IsNotEmpty}
 pub use Rattle.pua_script.proofs.Entries.{found_here, found_put}
 pub use Rattle.pua_script.proofs.ForCallers.{by_going, first_tree, IsWithin, Members, members_then, verdicts_within}
 pub use Rattle.pua_script.specs.Confinement.{has_c, TreesAlong, UncoveredStay}

@@ -23,3 +23,11 @@ pub use Rattle.pua_ever.proofs.Ways.{any_among, any_found}
 -- who holds both sets
 pub use Rattle.pua_ever.proofs.Through.{within_both}
 pub use Rattle.pua_ever.proofs.Holding.{goes, along_now, may_holds, bound_parts}
+-- what promises allow
+pub use Rattle.pua_ever.proofs.Complete.{yes_is}
+-- what lives has a number that was given
+pub use Rattle.pua_ever.proofs.Covers.{below_next}
+-- two sets are within both
+pub use Rattle.pua_ever.proofs.Through.{first_of, second_of}
+-- what is so of a new process is so of each in a new world
+pub use Rattle.pua_ever.proofs.Leaving.{first_so as first_new}

@@ -21,6 +21,7 @@ use Rattle.pua_policy.specs.States.{has_error, after_exec, meet, state_by_exec, 
 use Rattle.pua_policy.specs.declared.answer.May.TheVariants.{Yes, Enosys, Death}
 use Rattle.pua_policy.proofs.ForCallers.{state_never_grows, second_holds}
 use Rattle.pua_script.specs.Family.{family, HasKept}
+use Rattle.pua_script.proofs.ForCallers.{still_ended}
 use Rattle.pua_script.specs.Laws.{IsConfined}
 use Rattle.pua_ever.specs.Through.{AreWithin, HandsDown, HoldsOne, IsAlong, GoesAlong, FamiliesGoAlong, is_promised_by, is_bounded}
 use Rattle.pua_ever.specs.Through.{stays, is_confined_through, bound_of, GoAlong}
@@ -30,20 +31,13 @@ use Rattle.pua_ever.proofs.Keeping.{Keeps, Are, alone_are, own_kept, then_kept, 
 alike : {a b c : ProcessState} → a.veils ≡ b.veils → SameVeils b c → SameVeils a c
 alike e same = record { any = ap has_veil e ∙ same.any; kept = λ place. ap (λ vs. veil_at vs place) e ∙ same.kept place }
 
--- who is locked stays so, and who lives then lived
+-- who is locked stays so
 locked_more : (event : Event) (h : ProcessState) → is_locked h ≡ true → is_locked (state_after event h) ≡ true
 locked_more Locked h locked = refl
 locked_more (Pledged p e) h locked = locked
 locked_more (Unveiled place perms) h locked = locked
 locked_more (Moved dir) h locked = locked
 locked_more Ended h locked = locked
-
-lives_before : (event : Event) (h : ProcessState) → is_ended (state_after event h) ≡ false → is_ended h ≡ false
-lives_before (Unveiled place perms) h lives = lives
-lives_before (Pledged p e) h lives = lives
-lives_before Locked h lives = lives
-lives_before (Moved dir) h lives = lives
-lives_before Ended h lives = absurd (true≢false lives)
 
 -- promises never grow, but for `error`
 within_more : (event : Event) (h : ProcessState) (others : ℕ) → AreWithin (held_set h) others → AreWithin (held_set (state_after event h)) others
@@ -129,7 +123,7 @@ module _ (table : CallTable) (sound : NoCallNeedsError table) (now : ProcessStat
   along_more event h same k = record {
     unveils = alike same k.unveils;
     lock = lock_more event h k.lock;
-    ended = λ lives. k.ended (lives_before event h lives);
+    ended = λ lives. k.ended (still_ended event h lives);
     promises = holds_more event h k.promises;
   }
 
@@ -137,7 +131,7 @@ module _ (table : CallTable) (sound : NoCallNeedsError table) (now : ProcessStat
   goes_more event h same k = record {
     unveils = alike same k.unveils;
     lock = lock_more event h k.lock;
-    ended = λ lives. k.ended (lives_before event h lives);
+    ended = λ lives. k.ended (still_ended event h lives);
     promises = elim k.promises [
       | inl one ↦ inl (holds_more event h one)
       | inr none ↦ inr (within_more event h (held_set now) none.0, starts_none event h none.1)

@@ -1,17 +1,18 @@
 -- Where nothing refuses the list.
 use Rattle.pua_ever.proofs.Common.{◌≡◌, ◌⊎◌, List, [], ◌∷◌, Bool, true, false, cond, refl, sym, ◌∙◌, inl, inr, Option, Some, None, not}
 use Rattle.pua_ever.proofs.Common.{◌&&◌, ◌||◌, if◌then◌else◌, false≢true, and_parts, Some≢None, CallTable, ProcessState, Call, is_yes}
-use Rattle.pua_ever.proofs.Common.{EditsNeedC, Among, among_filter, among_left, among_right, filter, ap, and_from}
+use Rattle.pua_ever.proofs.Common.{EditsNeedC, Among, among_filter, among_left, among_right, filter, ap, subst}
 use Rattle.std.specs.Prelude.{find}
 use Rattle.std.proofs.lemmas.Bool.{not-false}
 use Rattle.pua_calls.specs.Promises.{holds, creating, unveil}
 use Rattle.pua_policy.specs.States.{held_set, has_error, is_locked, is_ended}
 use Rattle.pua_policy.specs.declared.answer.May.TheVariants.{Yes, Enosys, Death}
-use Rattle.pua_calls.specs.Calls.{calls}
+use Rattle.pua_calls.specs.Calls.{calls, effect_of}
+use Rattle.pua_calls.specs.Effects.{makes, removes}
 use Rattle.pua_script.specs.Confinement.{changes_names}
 use Rattle.pua_objects.proofs.ForCallers.{one_of_calls}
 use Rattle.pua_script.specs.Laws.{IsConfined}
-use Rattle.pua_ever.specs.Refusals.{can_unveil, lacks_c, takes_name, changing_calls, new_needs_c, both_need_c, table_refusal, refusal}
+use Rattle.pua_ever.specs.Refusals.{can_unveil, lacks_c, changing_calls, new_needs_c, both_need_c, table_refusal, refusal}
 use Rattle.pua_ever.specs.declared.refusal.Refusal.TheVariants.{CanUnveil, LacksC, RenameLacksC, LinkLacksC}
 
 none_in : (p : Call → Bool) (c : Call) (cs : List Call) → find p (c ∷ cs) ≡ None → (p c ≡ false) × (find p cs ≡ None)
@@ -28,16 +29,19 @@ none_among p (d ∷ cs) c e (inr a) = none_among p cs c (none_in p d cs e).1 a
 
 -- a call that makes a name or takes one away is one of those that are asked
 among_changing : (c : Call) → changes_names c ≡ true → Among changing_calls c
-among_changing c changes = by (takes_name c) refl
+among_changing c changes = by (makes (effect_of c)) refl
   where
-    by : (b : Bool) → takes_name c ≡ b → Among changing_calls c
-    by true takes =
-        among_left (filter takes_name calls) (filter (λ edit. changes_names edit && not (takes_name edit)) calls) c
-        (among_filter takes_name calls c takes (one_of_calls c))
+    removing : List Call
+    removing = filter (λ call. removes (effect_of call)) calls
+
+    making : List Call
+    making = filter (λ call. makes (effect_of call)) calls
+
+    by : (b : Bool) → makes (effect_of c) ≡ b → Among changing_calls c
+    by true is = among_right removing making c (among_filter (λ call. makes (effect_of call)) calls c is (one_of_calls c))
     by false other =
-        among_right (filter takes_name calls) (filter (λ edit. changes_names edit && not (takes_name edit)) calls) c
-        (among_filter (λ edit. changes_names edit && not (takes_name edit)) calls c (and_from (changes_names c) (not (takes_name c)) changes
-        (ap not other)) (one_of_calls c))
+        let taken : removes (effect_of c) ≡ true = subst (λ b. (b || removes (effect_of c)) ≡ true) other changes in
+        among_left removing making c (among_filter (λ call. removes (effect_of call)) calls c taken (one_of_calls c))
 
 -- of two tests each passed
 both : (a b : Bool) → (if a then (if b then None else Some LinkLacksC) else Some RenameLacksC) ≡ None → (a ≡ true) × (b ≡ true)

@@ -9,6 +9,7 @@ use Rattle.pua_ever.proofs.Common.{is_ever_allowed, can_make, New, NewDir, NewOt
 use Rattle.pua_ever.proofs.Common.{new_line, subjects_of, all_new, has_ever_calls, ever, VeilsStand}
 use Rattle.std.specs.List.{Contains}
 use Rattle.pua_tree.specs.declared.node.Kind.TheVariants as kind
+use Rattle.pua_calls.specs.Calls.{about}
 use Rattle.pua_calls.specs.declared.call.Call.TheVariants as call
 use Rattle.pua_policy.specs.Verdict.{IsFile, IsProg}
 use Rattle.pua_objects.proofs.ForCallers.{among_either, one_of_calls, some_of}
@@ -37,11 +38,14 @@ plainly false true p e = absurd (false≢true e)
 plainly false false p e = absurd (false≢true e)
 
 no_exec : (turning : Call) → Among turning_calls turning → is_exec_call turning ≡ false
-no_exec turning (inl e) = ap is_exec_call (sym e)
-no_exec turning (inr (inl e)) = ap is_exec_call (sym e)
-no_exec turning (inr (inr (inl e))) = ap is_exec_call (sym e)
-no_exec turning (inr (inr (inr (inl e)))) = ap is_exec_call (sym e)
-no_exec turning (inr (inr (inr (inr a)))) = absurd a
+no_exec turning a = apart turning (filter_among turns calls turning a).1
+  where
+    turns : Call → Bool
+    turns call = (about call).turns
+
+    apart : (call : Call) → (about call).turns ≡ true → is_exec_call call ≡ false
+    apart call.Exec is = absurd (false≢true is)
+    apart _ is = refl
 
 module _ (table : CallTable) (t : Tree) (h : ProcessState) where
   abbrev standing_lines : List EverLine

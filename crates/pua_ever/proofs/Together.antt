@@ -2,7 +2,7 @@
 use Rattle.pua_ever.proofs.Common.{◌≡◌, ◌⊎◌, ℕ, List, [], ◌∷◌, Bool, true, false, cond, map, refl, sym, ap, subst, ◌∙◌, inl, inr, Option}
 use Rattle.pua_ever.proofs.Common.{Some, None, same_Some, not, ◌&&◌, ◌||◌, ◌==◌, CallTable, ProcessState}
 use Rattle.pua_ever.proofs.Common.{false≢true, and_parts, eqb-true, World, world_after, kept_at, is_member}
-use Rattle.pua_ever.proofs.Common.{VeilsStand, Among, ever, first_tree}
+use Rattle.pua_ever.proofs.Common.{VeilsStand, Among, ever, first_tree, Asked, EditsNeedC, NoCallNeedsError, ◌≢◌}
 use Rattle.std.specs.List.{AllByRecursion}
 use Rattle.std.specs.Prelude.{bit_or}
 use Rattle.pua_calls.specs.Promises.{holds, unveil}
@@ -10,13 +10,17 @@ use Rattle.pua_calls.specs.declared.call.Call.TheVariants as call
 use Rattle.pua_policy.specs.States.{held_set, held_for_exec, is_locked}
 use Rattle.pua_policy.proofs.ForCallers.{holds_through}
 use Rattle.pua_script.specs.Replay.{new_world}
-use Rattle.pua_script.specs.Family.{HasKept}
+use Rattle.pua_script.specs.Bytes.{IsByteTree, are_in_bytes}
+use Rattle.pua_script.specs.Confinement.{TreesAlong}
+use Rattle.pua_script.specs.Family.{HasKept, is_exec, none_done}
 use Rattle.pua_script.proofs.ForCallers.{replays_keep_trees, replays_keep_byte_trees, listings_list_byte_trees, scripts_ask_in_bytes}
-use Rattle.pua_ever.specs.Laws.{ActsWithin, ForeseesIn, PlacesStand}
+use Rattle.pua_ever.specs.Laws.{ActsWithin, ForeseesIn, MembersEdit, PlacesStand}
 use Rattle.pua_ever.specs.Through.{AreWithin, HandsDown, HoldsOne, GoesAlong, GoAlong, is_promised_by, bound_of, has_exec}
-use Rattle.pua_ever.specs.Through.{ever_through}
-use Rattle.pua_ever.specs.Together.{Joint, handed_down, either_given, joint_of, with_one, joint_after, confined_part, joined, IsOneOf}
+use Rattle.pua_ever.specs.Through.{ever_lasting, ever_through, execs_of}
+use Rattle.pua_ever.specs.declared.lasting_list.ExecBound.TheVariants.{Open}
+use Rattle.pua_ever.specs.Together.{Joint, handed_down, either_given, joint_of, with_one, joint_after, confined_part, joined, ActTogether, IsOneOf}
 use Rattle.pua_ever.specs.Together.{EverTogether, TogetherLasts, TogetherAfterRead}
+use Rattle.pua_ever.proofs.Chosen.{lasting_unbounded, starts_open}
 use Rattle.pua_ever.proofs.Complete.{all_within, ever_beside}
 use Rattle.pua_ever.proofs.NoExec.{none_along}
 use Rattle.pua_ever.proofs.Origins.{at_first}
@@ -215,6 +219,18 @@ ever_together table sound needs w asks members first more acts stand trees none 
     ever_beside table sound needs w asks members (joined table first more) (acts_within table first more acts.alike w members acts.processes)
     stand trees none edits member belongs
 
+-- where no line has exec, none of theirs can succeed
+none_together : (table : CallTable) → NoCallNeedsError table → EditsNeedC table →
+    (w : World) (asks : List Asked) (members : List ℕ) (first : ProcessState) (more : List ProcessState) → ActTogether w members first more →
+    VeilsStand w.tree (joined table first more) → TreesAlong table w asks → MembersEdit table w asks members →
+    has_exec (ever w.tree table (joined table first more)) ≡ false → none_done is_exec table w asks members ≡ true
+none_together table sound needs w asks members first more acts stand trees edits quiet =
+    let one = joined table first more in
+    let within = acts_within table first more acts.alike w members acts.processes in
+    let well = first_tree table w asks trees in
+    none_along table sound needs w.tree one well stand (no_line w.tree table one quiet) asks w members
+    (all_within w members one within) edits trees (at_first table w.tree one well stand) (inr refl)
+
 pub together_lasts : TogetherLasts
 together_lasts table sound needs w asks members first more acts given bound stand trees edits member belongs =
     rw bound (by (has_exec (ever w.tree table (joined table first more))) refl)
@@ -226,11 +242,8 @@ together_lasts table sound needs w asks members first more acts given bound stan
         ever_through_execs table sound needs w asks members (joined table first more) given (bound_parts table (joined table first more) given bound).bounded
         (go_along table first more acts.alike given bound w members acts.processes) stand trees edits member belongs
     by false is =
-        let within = acts_within table first more acts.alike w members acts.processes in
-        let well = first_tree table w asks trees in
-        let none = none_along table sound needs w.tree (joined table first more) well stand (no_line w.tree table (joined table first more) is) asks w members
-        (all_within w members (joined table first more) within) edits trees (at_first table w.tree (joined table first more) well stand) (inr refl) in
-        ever_beside table sound needs w asks members (joined table first more) within stand trees none edits member belongs
+        ever_together table sound needs w asks members first more acts stand trees
+        (none_together table sound needs w asks members first more acts stand trees edits is) edits member belongs
 
 -- the veils of each stand
 veils_stand : (w : World) → PlacesStand w → (members : List ℕ) (hs : List ProcessState) → map (kept_at w) members ≡ map Some hs →
@@ -244,14 +257,40 @@ veils_stand w places (m ∷ members) (h ∷ hs) e = (
 )
 
 pub together_after_read : TogetherAfterRead
-together_after_read table sound needs rules tree_bytes script_bytes t before asks listed scripted bytes members first more acts given bound edits
-    member belongs =
-    let w = world_after table (new_world t) before in
-    let said = scripts_ask_in_bytes rules script_bytes before scripted in
-    let tree = listings_list_byte_trees tree_bytes t listed in
-    let left = replays_keep_byte_trees table (new_world t) before tree said in
-    let places = replays_keep_places table needs (new_world t) before (replays_keep_trees table (new_world t) before tree said)
-    (new_places t) in
-    together_lasts table sound needs w asks members first more acts given bound
-    (veils_stand w places members (first ∷ more) acts.processes).0
-    (replays_keep_trees table w asks left bytes) edits member belongs
+together_after_read table sound needs rules tree_bytes script_bytes t before asks listed scripted bytes members first more acts held edits
+    member belongs = by (bound_of table one) refl
+  where
+    w : World
+    w = world_after table (new_world t) before
+
+    one : ProcessState
+    one = joined table first more
+
+    said : are_in_bytes before ≡ true
+    said = scripts_ask_in_bytes rules script_bytes before scripted
+
+    tree : IsByteTree t
+    tree = listings_list_byte_trees tree_bytes t listed
+
+    trees : TreesAlong table w asks
+    trees = replays_keep_trees table w asks (replays_keep_byte_trees table (new_world t) before tree said) bytes
+
+    stand : VeilsStand w.tree one
+    stand = (veils_stand w (replays_keep_places table needs (new_world t) before (replays_keep_trees table (new_world t) before tree said)
+        (new_places t)) members (first ∷ more) acts.processes).0
+
+    -- none of theirs is answered ok, where nothing is bounded
+    quiet : bound_of table one ≡ None → (b : Bool) → has_exec (ever w.tree table one) ≡ b →
+        (execs_of w.tree table one ≢ Open) ⊎ (none_done is_exec table w asks members ≡ true) → none_done is_exec table w asks members ≡ true
+    quiet unbound b is (inr alone) = alone
+    quiet unbound true is (inl shut) = absurd (shut (starts_open w.tree table one is unbound))
+    quiet unbound false is (inl shut) = none_together table sound needs w asks members first more acts stand trees edits is
+
+    by : (o : Option ℕ) → bound_of table one ≡ o →
+        HasKept (world_after table w asks) member (ForeseesIn (ever_lasting w.tree table one) w.tree table one (world_after table w asks).tree)
+    by (Some given) bound = together_lasts table sound needs w asks members first more acts given bound stand trees edits member belongs
+    by None unbound =
+        subst (λ lines. HasKept (world_after table w asks) member (ForeseesIn lines w.tree table one (world_after table w asks).tree))
+        (sym (lasting_unbounded w.tree table one unbound))
+        (ever_together table sound needs w asks members first more acts stand trees
+        (quiet unbound (has_exec (ever w.tree table one)) refl held) edits member belongs)

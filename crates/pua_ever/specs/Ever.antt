@@ -13,7 +13,7 @@ use Rattle.pua_path.specs.Fits.{is_link_kind}
 use Rattle.pua_path.specs.declared.found.Found.TheVariants.{Whole, Slot}
 use Rattle.pua_path.specs.declared.found.Way.{Way}
 use Rattle.pua_path.specs.declared.found.Way.TheVariants.{Named, Top}
-use Rattle.pua_calls.specs.Calls.{CallTable, rule_of, calls, call_name}
+use Rattle.pua_calls.specs.Calls.{CallTable, about, rule_of, calls, call_name}
 use Rattle.pua_calls.specs.CallSets.{keeps_link, is_kept}
 use Rattle.pua_policy.specs.States.{ProcessState, perms_kept, veils, may_any}
 use Rattle.pua_policy.specs.declared.answer.May.{May}
@@ -210,7 +210,7 @@ is_allowed_under table h covers object call =
 -- by these calls a file can come to be a program: a kernel starts what was written, once its mode lets it. In a script a
 -- kind never changes
 abbrev pub turning_calls : List Call
-turning_calls = call.OpenWrite ∷ call.OpenBoth ∷ call.Create ∷ call.Chmod ∷ []
+turning_calls = filter (λ call. (about call).turns) calls
 
 abbrev pub is_exec_call : Call → Bool
 is_exec_call call.Exec = true

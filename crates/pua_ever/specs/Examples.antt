@@ -1,6 +1,6 @@
 -- Worked rows on what can ever be touched, by the standard table and by OpenBSD's rules, and on where there is no list.
 use Rattle.std.specs.Prelude.{◌≡◌, ◌+◌, ℕ, true, List, [], ◌∷◌, map, Some, None, codes, refl}
-use Rattle.pua_tree.specs.Tree.{Tree, Node}
+use Rattle.pua_tree.specs.Tree.{Tree, Node, empty_tree}
 use Rattle.pua_tree.specs.declared.node.Kind.TheVariants.{Dir, File, Link, Prog}
 use Rattle.pua_calls.specs.Promises.{rpath, wpath, cpath, dpath, fattr, exec, unix, reading, writing, executing, creating}
 use Rattle.pua_calls.specs.Calls.{CallTable, NameRule, standard_name, standard_pair, standard_table, openbsd_table}
@@ -40,7 +40,7 @@ locked_with veils = locked_by (rpath + wpath + cpath + fattr + exec) veils
 
 -- `/a` has rwc and `/b` has c: what stands in `/b` can be moved into `/a`, and be read there
 abbrev pub moved_on_tree : Tree
-moved_on_tree = record {
+moved_on_tree = record empty_tree {
   rows = ((0, codes "a"), 1) ∷ ((0, codes "b"), 2) ∷ ((2, codes "x"), 3) ∷ ((3, codes "f"), 4) ∷ [];
   nodes = (0, directory) ∷ (1, directory) ∷ (2, directory) ∷ (3, directory) ∷ (4, file) ∷ [];
   next = 5;
@@ -56,7 +56,7 @@ moved_on_process =
 -- `/` has rx, `/a` and `/b` have c: a directory in one can take the place of the other, and then stands under the veil
 -- of `/`, where the program in it can be run
 abbrev pub in_the_place_tree : Tree
-in_the_place_tree = record {
+in_the_place_tree = record empty_tree {
   rows = ((0, codes "a"), 1) ∷ ((0, codes "b"), 2) ∷ ((1, codes "x"), 3) ∷ ((3, codes "p"), 4) ∷ [];
   nodes = (0, directory) ∷ (1, directory) ∷ (2, directory) ∷ (3, directory) ∷ (4, program) ∷ [];
   next = 5;
@@ -72,7 +72,7 @@ in_the_place_process =
 
 -- `/` has rx and `/a` has rwc: nothing outside of `/a` has c, so nothing takes its place, and the program in it is never run
 abbrev pub one_area_tree : Tree
-one_area_tree = record {
+one_area_tree = record empty_tree {
   rows = ((0, codes "a"), 1) ∷ ((1, codes "x"), 2) ∷ ((2, codes "p"), 3) ∷ [];
   nodes = (0, directory) ∷ (1, directory) ∷ (2, directory) ∷ (3, program) ∷ [];
   next = 4;
@@ -87,7 +87,7 @@ one_area_process =
 
 -- `/` has rx and the name `/f` has rwc: a file there has the letters of the name, and a directory made there is covered as `/` is
 abbrev pub name_alone_tree : Tree
-name_alone_tree = record {
+name_alone_tree = record empty_tree {
   rows = ((0, codes "f"), 1) ∷ [];
   nodes = (0, directory) ∷ (1, program) ∷ [];
   next = 2;
@@ -102,7 +102,7 @@ name_alone_process =
 
 -- and `/a` has wc: the program in it can be moved to the name, and in a directory to where x is
 abbrev pub name_and_area_tree : Tree
-name_and_area_tree = record {
+name_and_area_tree = record empty_tree {
   rows = ((0, codes "a"), 2) ∷ ((0, codes "f"), 1) ∷ ((2, codes "p"), 3) ∷ [];
   nodes = (0, directory) ∷ (1, program) ∷ (2, directory) ∷ (3, program) ∷ [];
   next = 4;
@@ -118,7 +118,7 @@ name_and_area_process =
 
 -- a name with rwc that is taken by a directory without c: nothing else ever comes there
 abbrev pub dead_name_tree : Tree
-dead_name_tree = record {
+dead_name_tree = record empty_tree {
   rows = ((0, codes "a"), 2) ∷ ((0, codes "n"), 1) ∷ ((2, codes "f"), 3) ∷ [];
   nodes = (0, directory) ∷ (1, directory) ∷ (2, directory) ∷ (3, file) ∷ [];
   next = 4;
@@ -133,7 +133,7 @@ dead_name_process =
 
 -- a file with two names, one of them under c: by that name it is moved to where everything is allowed
 abbrev pub second_name_tree : Tree
-second_name_tree = record {
+second_name_tree = record empty_tree {
   rows = ((0, codes "a"), 2) ∷ ((0, codes "b"), 3) ∷ ((0, codes "k"), 1) ∷ ((2, codes "k"), 1) ∷ [];
   nodes = (0, directory) ∷ (1, file) ∷ (2, directory) ∷ (3, directory) ∷ [];
   next = 4;
@@ -149,7 +149,7 @@ second_name_process =
 
 -- everything has rwc but the file `/a/k`, which has r: so `/a` never comes to be empty
 abbrev pub one_that_stays_tree : Tree
-one_that_stays_tree = record {
+one_that_stays_tree = record empty_tree {
   rows = ((0, codes "a"), 1) ∷ ((0, codes "b"), 3) ∷ ((1, codes "k"), 2) ∷ ((3, codes "k"), 4) ∷ [];
   nodes = (0, directory) ∷ (1, directory) ∷ (2, file) ∷ (3, directory) ∷ (4, file) ∷ [];
   next = 5;
@@ -164,7 +164,7 @@ one_that_stays_process =
 
 -- the same of a directory in the place of the file
 abbrev pub dir_that_stays_tree : Tree
-dir_that_stays_tree = record {
+dir_that_stays_tree = record empty_tree {
   rows = ((0, codes "a"), 1) ∷ ((1, codes "b"), 2) ∷ [];
   nodes = (0, directory) ∷ (1, directory) ∷ (2, directory) ∷ [];
   next = 3;
@@ -179,7 +179,7 @@ dir_that_stays_process =
 
 -- no veil at all
 abbrev pub no_veil_tree : Tree
-no_veil_tree = record {
+no_veil_tree = record empty_tree {
   rows = ((0, codes "a"), 1) ∷ ((1, codes "k"), 2) ∷ [];
   nodes = (0, directory) ∷ (1, directory) ∷ (2, file) ∷ [];
   next = 3;
@@ -190,7 +190,7 @@ no_veil_process = locked_with []
 
 -- no veil, and no promise to change the tree
 abbrev pub no_cpath_tree : Tree
-no_cpath_tree = record {
+no_cpath_tree = record empty_tree {
   rows = ((0, codes "a"), 1) ∷ ((1, codes "k"), 2) ∷ [];
   nodes = (0, directory) ∷ (1, directory) ∷ (2, file) ∷ [];
   next = 3;
@@ -209,7 +209,7 @@ dpath_process = locked_by (rpath + dpath) []
 -- `/mail` has r and `/spool` has rwc: by OpenBSD's rules what stands in `/mail` can be given a further name in
 -- `/spool`, and be written by that. So it isn't with the link in it, which link follows
 abbrev pub aliases_tree : Tree
-aliases_tree = record {
+aliases_tree = record empty_tree {
   rows = ((0, codes "mail"), 1) ∷ ((0, codes "spool"), 2) ∷ ((1, codes "aliases"), 3) ∷ ((1, codes "l"), 4) ∷ [];
   nodes = (0, directory) ∷ (1, directory) ∷ (2, directory) ∷ (3, file) ∷ (4, record { kind = Link; target = Some (codes "x") }) ∷ [];
   next = 5;
@@ -227,7 +227,7 @@ unread_aliases_process = locked_by (wpath + cpath + fattr) aliases_veils
 
 -- `/bin` has rx and `/spool` has rwc: by a further name in `/spool` the program in `/bin` can be written, and by its own it is run
 abbrev pub two_ways_tree : Tree
-two_ways_tree = record {
+two_ways_tree = record empty_tree {
   rows = ((0, codes "bin"), 1) ∷ ((0, codes "spool"), 2) ∷ ((1, codes "p"), 3) ∷ [];
   nodes = (0, directory) ∷ (1, directory) ∷ (2, directory) ∷ (3, program) ∷ [];
   next = 4;
@@ -388,13 +388,13 @@ pub record EverRows : Type 0 where
       ∷ []
   pub aliases : lines_by_openbsd aliases_tree aliases_process ≡
       codes "dir /mail stat,lstat,open-r,chdir"
-      ∷ codes "file /mail/aliases stat,lstat,open-r,open-w,open-rw,create,unlink,chmod,chown"
+      ∷ codes "file /mail/aliases stat,lstat,open-r,open-w,open-rw,create,unlink,chmod,chown,create-rw"
       ∷ codes "link /mail/l lstat,readlink"
       ∷ codes "dir /spool stat,lstat,open-r,rmdir,chmod,chdir,chown"
-      ∷ codes "other /spool create,mkdir,symlink"
+      ∷ codes "other /spool create,mkdir,symlink,create-rw"
       ∷ codes "dir new stat,lstat,open-r,rmdir,chmod,chdir,chown"
-      ∷ codes "other new create,mkdir,symlink"
-      ∷ codes "file new stat,lstat,open-r,open-w,open-rw,create,unlink,chmod,chown"
+      ∷ codes "other new create,mkdir,symlink,create-rw"
+      ∷ codes "file new stat,lstat,open-r,open-w,open-rw,create,unlink,chmod,chown,create-rw"
       ∷ codes "link new lstat,readlink,unlink"
       ∷ []
   pub standard_aliases : lines aliases_tree aliases_process ≡
@@ -418,12 +418,12 @@ pub record EverRows : Type 0 where
       ∷ []
   pub two_ways : lines_by_openbsd two_ways_tree two_ways_process ≡
       codes "dir /bin stat,lstat,open-r,chdir"
-      ∷ codes "prog /bin/p stat,lstat,open-r,open-w,open-rw,create,unlink,chmod,exec,chown"
+      ∷ codes "prog /bin/p stat,lstat,open-r,open-w,open-rw,create,unlink,chmod,exec,chown,create-rw"
       ∷ codes "dir /spool stat,lstat,open-r,rmdir,chmod,chdir,chown"
-      ∷ codes "other /spool create,mkdir,symlink"
+      ∷ codes "other /spool create,mkdir,symlink,create-rw"
       ∷ codes "dir new stat,lstat,open-r,rmdir,chmod,chdir,chown"
-      ∷ codes "other new create,mkdir,symlink"
-      ∷ codes "file new stat,lstat,open-r,open-w,open-rw,create,unlink,chmod,chown"
+      ∷ codes "other new create,mkdir,symlink,create-rw"
+      ∷ codes "file new stat,lstat,open-r,open-w,open-rw,create,unlink,chmod,chown,create-rw"
       ∷ codes "link new lstat,readlink,unlink"
       ∷ []
   pub standard_rules : refusal standard_table no_veil_process ≡ None
@@ -460,7 +460,7 @@ ever_rows = record {
 -- `/in` has wc and `/tmp` has rwc: what stands in `/in` can be moved to where it is read, but not by OpenBSD's rules, where
 -- rename asks `r` of the old name too
 abbrev pub drop_box_tree : Tree
-drop_box_tree = record {
+drop_box_tree = record empty_tree {
   rows = ((0, codes "in"), 1) ∷ ((0, codes "tmp"), 2) ∷ ((1, codes "f"), 3) ∷ [];
   nodes = (0, directory) ∷ (1, directory) ∷ (2, directory) ∷ (3, file) ∷ [];
   next = 4;
@@ -492,10 +492,10 @@ pub record MovedRows : Type 0 where
       ∷ codes "other /in create,mkdir,symlink"
       ∷ codes "file /in/f open-w,create,unlink,chmod,chown"
       ∷ codes "dir /tmp stat,lstat,open-r,rmdir,chmod,chdir,chown"
-      ∷ codes "other /tmp create,mkdir,symlink"
+      ∷ codes "other /tmp create,mkdir,symlink,create-rw"
       ∷ codes "dir new stat,lstat,open-r,rmdir,chmod,chdir,chown"
-      ∷ codes "other new create,mkdir,symlink"
-      ∷ codes "file new stat,lstat,open-r,open-w,open-rw,create,unlink,chmod,chown"
+      ∷ codes "other new create,mkdir,symlink,create-rw"
+      ∷ codes "file new stat,lstat,open-r,open-w,open-rw,create,unlink,chmod,chown,create-rw"
       ∷ codes "link new lstat,readlink,unlink"
       ∷ []
   pub openbsd_name_and_area : lines_by_openbsd name_and_area_tree name_and_area_process ≡
@@ -503,11 +503,11 @@ pub record MovedRows : Type 0 where
       ∷ codes "dir /a rmdir,chmod,chown"
       ∷ codes "other /a create,mkdir,symlink"
       ∷ codes "prog /a/p open-w,create,unlink,chmod,chown"
-      ∷ codes "prog /f stat,lstat,open-r,open-w,open-rw,create,unlink,chmod,chown"
-      ∷ codes "missing /f create,mkdir,symlink"
+      ∷ codes "prog /f stat,lstat,open-r,open-w,open-rw,create,unlink,chmod,chown,create-rw"
+      ∷ codes "missing /f create,mkdir,symlink,create-rw"
       ∷ codes "dir new stat,lstat,open-r,rmdir,chmod,chdir,chown"
       ∷ codes "other new create,mkdir,symlink"
-      ∷ codes "file new stat,lstat,open-r,open-w,open-rw,create,unlink,chmod,chown"
+      ∷ codes "file new stat,lstat,open-r,open-w,open-rw,create,unlink,chmod,chown,create-rw"
       ∷ codes "link new lstat,readlink,unlink"
       ∷ []
 
@@ -516,7 +516,7 @@ moved_rows = record { drop_box = refl; openbsd_drop_box = refl; openbsd_name_and
 
 -- `/tmp` has rwxc: what is made there, and the file that stands there, can be made programs
 abbrev pub job_tree : Tree
-job_tree = record {
+job_tree = record empty_tree {
   rows = ((0, codes "tmp"), 1) ∷ ((1, codes "job"), 2) ∷ [];
   nodes = (0, directory) ∷ (1, directory) ∷ (2, file) ∷ [];
   next = 3;
@@ -534,7 +534,7 @@ no_exec_process = locked_by (rpath + wpath + cpath + fattr) job_veils
 
 -- `/bin` has rx and `/tmp` has rwc: nothing writes the file in `/bin`, and nothing that is written comes under x
 abbrev pub plain_file_tree : Tree
-plain_file_tree = record {
+plain_file_tree = record empty_tree {
   rows = ((0, codes "bin"), 1) ∷ ((0, codes "tmp"), 2) ∷ ((1, codes "f"), 3) ∷ [];
   nodes = (0, directory) ∷ (1, directory) ∷ (2, directory) ∷ (3, file) ∷ [];
   next = 4;

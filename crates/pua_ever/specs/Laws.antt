@@ -87,8 +87,8 @@ pub record IsForeseenIn (lines : List EverLine) (t : Tree) (h : ProcessState)
 abbrev pub IsForeseen : Tree → CallTable → ProcessState → Tree → Call → Result Found Errno → Type 0
 IsForeseen t table h later call named = IsForeseenIn (ever t table h) t h later call named
 
--- over a later tree: whatever path is spelled, of whatever length, from whatever directory, if a call is
--- allowed on it to a process, the line of what it names has the call
+-- over a later tree: whatever path is spelled, of any number of components, from whatever directory, if a call is allowed on it to a
+-- process, the line of what it names has the call; a path of more bytes than a request can have names nothing
 abbrev pub ForeseesIn : List EverLine → Tree → CallTable → ProcessState → Tree → ProcessState → Type 0
 ForeseesIn lines t table now later last =
     (from : ℕ) (call : Call) (text : List ℕ) →

@@ -1,11 +1,10 @@
 -- Why there is no list of what a process can ever touch.
-use Rattle.std.specs.Prelude.{Bool, true, false, not, ◌&&◌, if◌then◌else◌, List, [], ◌∷◌, ◌++◌, filter, Option, Some, None, find}
+use Rattle.std.specs.Prelude.{Bool, not, ◌&&◌, if◌then◌else◌, List, [], ◌∷◌, ◌++◌, filter, Option, Some, None, find}
 use Rattle.pua_calls.specs.Promises.{holds, creating, unveil}
-use Rattle.pua_calls.specs.Calls.{CallTable, PairRule, rule_of, calls}
+use Rattle.pua_calls.specs.Calls.{CallTable, PairRule, rule_of, calls, effect_of}
+use Rattle.pua_calls.specs.Effects.{makes, removes}
 use Rattle.pua_policy.specs.States.{ProcessState, is_locked, may_any}
 use Rattle.pua_calls.specs.declared.call.Call.{Call}
-use Rattle.pua_calls.specs.declared.call.Call.TheVariants as call
-use Rattle.pua_script.specs.Confinement.{changes_names}
 use Rattle.pua_ever.specs.Ever.{is_yes}
 use Rattle.pua_ever.specs.declared.fault.EverFault.{EverFault}
 use Rattle.pua_ever.specs.declared.fault.EverFault.TheVariants.{Refused, OutOfMemory}
@@ -21,13 +20,8 @@ abbrev pub lacks_c : CallTable → Call → Bool
 lacks_c table call = not (holds (rule_of table call).perms creating)
 
 -- the calls that take a name away, and those that make one
-abbrev pub takes_name : Call → Bool
-takes_name call.Rmdir = true
-takes_name call.Unlink = true
-takes_name _ = false
-
 abbrev pub changing_calls : List Call
-changing_calls = filter takes_name calls ++ filter (λ edit. changes_names edit && not (takes_name edit)) calls
+changing_calls = filter (λ call. removes (effect_of call)) calls ++ filter (λ call. makes (effect_of call)) calls
 
 -- the new name of a request with two paths needs it, or both names
 abbrev pub new_needs_c : PairRule → Bool

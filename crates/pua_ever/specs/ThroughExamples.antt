@@ -1,6 +1,6 @@
 -- Worked rows on what can ever be touched through execs.
 use Rattle.std.specs.Prelude.{◌≡◌, ◌+◌, ℕ, true, false, List, [], ◌∷◌, map, Some, None, codes, refl}
-use Rattle.pua_tree.specs.Tree.{Tree, Node}
+use Rattle.pua_tree.specs.Tree.{Tree, Node, empty_tree}
 use Rattle.pua_tree.specs.declared.node.Kind.TheVariants.{Dir, File, Prog}
 use Rattle.pua_calls.specs.Promises.{rpath, wpath, cpath, exec, proc, unveil, reading, writing, executing, creating}
 use Rattle.pua_calls.specs.Calls.{CallTable, standard_table, openbsd_table}
@@ -22,7 +22,7 @@ program = record { kind = Prog; target = None }
 
 -- `/in` has c, `/out` has rc, and the program `/p` the letters
 abbrev pub started_tree : Tree
-started_tree = record {
+started_tree = record empty_tree {
   rows = ((0, codes "in"), 1) ∷ ((0, codes "out"), 2) ∷ ((0, codes "p"), 4) ∷ ((1, codes "s"), 3) ∷ [];
   nodes = (0, directory) ∷ (1, directory) ∷ (2, directory) ∷ (3, file) ∷ (4, program) ∷ [];
   next = 5;

@@ -1,6 +1,6 @@
 -- What several processes with the same veils can ever touch together: what one could that holds what any of them holds, and
 -- hands down what any of them hands down. It is more than each could: what the one can move, the other can read.
-use Rattle.std.specs.Prelude.{◌≡◌, ℕ, Bool, true, false, not, ◌&&◌, ◌||◌, if◌then◌else◌, List, [], ◌∷◌, map, bit_or, Option, Some, None, Ok, IsTrue}
+use Rattle.std.specs.Prelude.{◌≡◌, ◌≢◌, ◌⊎◌, ℕ, Bool, true, false, not, ◌&&◌, ◌||◌, if◌then◌else◌, List, [], ◌∷◌, map, bit_or, Option, Some, None, Ok, IsTrue}
 use Rattle.std.specs.List.{AllByRecursion}
 use Rattle.pua_tree.specs.Tree.{Tree}
 use Rattle.pua_tree.specs.Listing.{listing}
@@ -18,7 +18,8 @@ use Rattle.pua_script.specs.Family.{family, is_member, none_done, is_exec, HasKe
 use Rattle.pua_script.specs.Tightening.{NoCallNeedsError}
 use Rattle.pua_script.specs.Confinement.{TreesAlong}
 use Rattle.pua_ever.specs.Laws.{EditsNeedC, VeilsStand, MembersEdit, Foresees, ForeseesIn}
-use Rattle.pua_ever.specs.Through.{is_promised_by, bound_of, ever_lasting}
+use Rattle.pua_ever.specs.Through.{is_promised_by, bound_of, ever_lasting, execs_of}
+use Rattle.pua_ever.specs.declared.lasting_list.ExecBound.TheVariants.{Open}
 
 -- some processes as one: whether all of them are locked, what any of them holds, and what any of them hands down
 pub record Joint : Type 0 where
@@ -102,7 +103,8 @@ TogetherLasts =
     let after = world_after table w asks in
     HasKept after member (ForeseesIn (ever_lasting w.tree table one) w.tree table one after.tree)
 
--- a listing and a script as a command reads them by any rules, and behind them any list of requests in bytes
+-- a listing and a script as a command reads them by any rules, and behind them any list of requests in bytes, as long as the list
+-- doesn't say `exec open`, or no exec of theirs is answered ok
 abbrev pub TogetherAfterRead : Type 0
 TogetherAfterRead =
     (table : CallTable) → NoCallNeedsError table → EditsNeedC table →
@@ -111,7 +113,7 @@ TogetherAfterRead =
     let w = world_after table (new_world t) before in
     (members : List ℕ) (first : ProcessState) (more : List ProcessState) → ActTogether w members first more →
     let one = joined table first more in
-    (given : ℕ) → bound_of table one ≡ Some given → MembersEdit table w asks members →
+    (execs_of w.tree table one ≢ Open) ⊎ IsTrue (none_done is_exec table w asks members) → MembersEdit table w asks members →
     (member : ℕ) → IsTrue (is_member (family table w asks members) member) →
     let after = world_after table w asks in
     HasKept after member (ForeseesIn (ever_lasting w.tree table one) w.tree table one after.tree)

@@ -1,14 +1,17 @@
 //! What can be made.
 
 ghost use Rattle.std.specs.Prelude.{◌≡◌, ◌∷◌, Some};
+ghost use Rattle.std.specs.List.{list_any};
 ghost use Rattle.pua_objects.specs.Lines.{kind_word};
 ghost use Rattle.pua_calls.specs.CallSets.{has};
-ghost use Rattle.pua_ever.specs.Ever.{is_made_by, new_word};
+ghost use Rattle.pua_script.specs.Decide.{made_by};
+ghost use Rattle.pua_ever.specs.Ever.{file_makers, is_made_by, is_some_file, new_word};
 ghost use Rattle.pua_ever.specs.EverLines as left;
 ghost use Rattle.pua_ever.specs.EverLines.{made_left, new_of};
 
-use pua_calls::{Call, Calls};
+use pua_calls::{Call, Calls, Effect};
 use pua_objects::ObjectKind;
+use pua_tree::Kind;
 
 /// What can be made.
 #[derive(Clone, Copy)]
@@ -42,11 +45,7 @@ impl Made {
     {
         match self {
             Made::Dir | Made::Others => calls.contains(Call::Mkdir),
-            Made::File => {
-                calls.contains(Call::Create)
-                    || calls.contains(Call::Bind)
-                    || calls.contains(Call::Mknod)
-            }
+            Made::File => makes_file(calls),
             Made::Link => calls.contains(Call::Symlink),
         }
     }
@@ -62,4 +61,21 @@ impl Made {
             Made::Link => ObjectKind::Link,
         }
     }
+}
+
+/// Whether a call that makes a file is among these.
+fn makes_file(calls: Calls) -> bool
+    ensures { result ≡ list_any (has calls) file_makers }
+{
+    Call::ALL
+        .iter()
+        .filter(|call| makes_a_file(**call))
+        .any(|call| calls.contains(*call))
+}
+
+/// Whether a call makes a file.
+fn makes_a_file(call: Call) -> bool
+    ensures { result ≡ is_some_file (made_by call) }
+{
+    matches!(call.effect(), Effect::Makes(Kind::File))
 }

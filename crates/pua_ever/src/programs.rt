@@ -35,6 +35,8 @@ pub(crate) fn on_new_file(as_file: Calls, as_program: Calls) -> Calls
 fn can_turn(calls: Calls) -> bool
     ensures { result ≡ list_any (has calls) turning_calls }
 {
-    const TURNING: [Call; 4] = [Call::OpenWrite, Call::OpenBoth, Call::Create, Call::Chmod];
-    TURNING.iter().any(|call| calls.contains(*call))
+    Call::ALL
+        .iter()
+        .filter(|call| call.turns())
+        .any(|call| calls.contains(*call))
 }

@@ -100,17 +100,9 @@ fn may_call(process: &Process, table: &CallTable) -> bool
     ensures { result ≡ list_any (λ edit.
         says_yes (may_any_of process.now (rule_of table.now edit).alternatives)) edit_calls }
 {
-    const EDITS: [Call; 7] = [
-        Call::Create,
-        Call::Mkdir,
-        Call::Rmdir,
-        Call::Unlink,
-        Call::Symlink,
-        Call::Bind,
-        Call::Mknod,
-    ];
-    EDITS
+    Call::ALL
         .iter()
+        .filter(|call| call.effect().edits())
         .any(|call| may_any(process, table.alternatives(*call)))
 }
 

@@ -76,17 +76,10 @@ fn new_needs_c(pair: &PairNeed) -> bool
 fn first_without_c(table: &CallTable) -> Option<Call>
     ensures { result ≡ find (lacks_c table.now) changing_calls }
 {
-    const CHANGING: [Call; 7] = [
-        Call::Rmdir,
-        Call::Unlink,
-        Call::Create,
-        Call::Mkdir,
-        Call::Symlink,
-        Call::Bind,
-        Call::Mknod,
-    ];
-    CHANGING
-        .iter()
+    let removing = Call::ALL.iter().filter(|call| call.effect().removes());
+    let making = Call::ALL.iter().filter(|call| call.effect().makes());
+    removing
+        .chain(making)
         .find(|call| !table.perms(**call).contains(Perms::CREATE))
         .copied()
 }

@@ -44,7 +44,7 @@ same_some : {A : Type 0} (a b : A) → Some a ≡ Some b → a ≡ b
 same_some a b e = cc
 
 -- what no line has is not allowed where each call that is allowed has its line
-unforeseen : (lines : List EverLine) (t u : Tree) (table : CallTable) (now last : ProcessState) → WellFormed t →
+pub unforeseen : (lines : List EverLine) (t u : Tree) (table : CallTable) (now last : ProcessState) → WellFormed t →
     ((line : EverLine) → Contains lines line → LivesThing t line.thing) → ForeseesIn lines t table now u last →
     (asked : Target) (call : Call) → IsGiven t asked → is_listed lines asked call ≡ false →
     (from : ℕ) (text : List ℕ) (object : Found) → resolution_of_text u from (ending_of call) text (last_of call) ≡ Ok object →

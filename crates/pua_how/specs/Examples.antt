@@ -1,7 +1,7 @@
 -- Worked rows on what is asked about, and on ways to it.
 use Rattle.std.specs.Prelude.{◌≡◌, ◌+◌, ℕ, true, false, [], ◌∷◌, Some, None, codes, refl}
 use Rattle.std.specs.Fmt.{digits}
-use Rattle.pua_tree.specs.Tree.{Tree, Node}
+use Rattle.pua_tree.specs.Tree.{Tree, Node, empty_tree}
 use Rattle.pua_tree.specs.declared.node.Kind.TheVariants.{Dir, File}
 use Rattle.pua_path.specs.declared.found.Found.TheVariants.{Whole, Slot}
 use Rattle.pua_path.specs.declared.found.Way.TheVariants.{DotDot}
@@ -38,7 +38,7 @@ file = record { kind = File; target = None }
 
 -- `/etc/conf` may be read, and `/run/pid` read, written and replaced
 abbrev pub pid_tree : Tree
-pid_tree = record {
+pid_tree = record empty_tree {
   rows = ((0, codes "etc"), 1) ∷ ((0, codes "run"), 3) ∷ ((1, codes "conf"), 2) ∷ ((3, codes "pid"), 4) ∷ [];
   nodes = (0, directory) ∷ (1, directory) ∷ (2, file) ∷ (3, directory) ∷ (4, file) ∷ [];
   next = 5;
@@ -46,7 +46,7 @@ pid_tree = record {
 
 -- the same once `/run/pid` was made anew
 abbrev pub made_tree : Tree
-made_tree = record {
+made_tree = record empty_tree {
   rows = ((0, codes "etc"), 1) ∷ ((0, codes "run"), 3) ∷ ((1, codes "conf"), 2) ∷ ((3, codes "pid"), 5) ∷ [];
   nodes = (0, directory) ∷ (1, directory) ∷ (2, file) ∷ (3, directory) ∷ (5, file) ∷ [];
   next = 6;

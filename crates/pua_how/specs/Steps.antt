@@ -1,5 +1,5 @@
 -- What the steps of a plan ask for, and whether they come to a call when they are served one after another.
-use Rattle.std.specs.Prelude.{ℕ, Bool, false, ◌&&◌, ◌==◌, if◌then◌else◌, List, [], ◌∷◌, ◌++◌, Option, Some, None, Result, Ok, Err}
+use Rattle.std.specs.Prelude.{ℕ, Bool, false, ◌&&◌, ◌||◌, ◌==◌, if◌then◌else◌, List, [], ◌∷◌, ◌++◌, Option, Some, None, Result, Ok, Err}
 use Rattle.std.specs.Prelude.{codes, decimal, slice_get, unwrap_or}
 use Rattle.pua_tree.specs.Tree.{Tree, look}
 use Rattle.pua_path.specs.declared.errno.Errno.{Errno}
@@ -26,6 +26,7 @@ use Rattle.pua_how.specs.declared.step.Dir.TheVariants as dir
 use Rattle.pua_how.specs.declared.step.Step.{Step}
 use Rattle.pua_how.specs.declared.step.Step.TheVariants as step
 use Rattle.pua_how.specs.declared.target.Target.{Target}
+use Rattle.pua_how.specs.declared.way.BestPlans.{BestPlans}
 use Rattle.pua_how.specs.declared.way.Plan.{Plan}
 
 -- the number of a directory, by that of the one that was made last
@@ -106,3 +107,9 @@ module _ (rules : Rules) (table : CallTable) (process : ℕ) (call : Call) (targ
 abbrev pub plan_comes : Rules → CallTable → ℕ → Call → List Target → Plan → World → Bool
 plan_comes rules table process call things plan w =
     is_some_by (λ target. comes rules table process call target plan.steps.items w 0) (slice_get things plan.place)
+
+-- one of two plans comes to it
+abbrev pub some_plan_comes : Rules → CallTable → ℕ → Call → List Target → BestPlans → World → Bool
+some_plan_comes rules table process call things plans w =
+    is_some_by (λ plan. plan_comes rules table process call things plan w) plans.first
+    || is_some_by (λ plan. plan_comes rules table process call things plan w) plans.second

@@ -1,239 +1,266 @@
 //! Plans: steps by which a call may come to be granted on what is asked about. Nothing is promised of
 //! them: what a plan comes to is seen when it is served.
 
-mod asked;
 mod clear;
-mod dir_forms;
-mod entrances;
-mod finish;
-mod ground;
-mod node_forms;
+mod draft;
+mod forms;
+mod places;
+mod planner;
 mod rights;
-mod rooms;
-mod sketch;
-mod source;
 
-use crate::plan::asked::{Asked, End};
-use crate::plan::clear::Coming;
-use crate::plan::finish::{finished, is_named};
-use crate::plan::ground::{Ground, Over, Row, Spot};
-use crate::plan::sketch::{By, Goal, Shortest, Sketch, goal_at};
-use crate::plan::source::Source;
-use crate::step::{Plans, Step};
+use crate::plan::draft::{Draft, Stop};
+use crate::plan::forms::{Carrier, Destination, Form, Origin, Source};
+use crate::plan::planner::{Row, Veil};
+use crate::plan::rights::By;
+use crate::step::{At, Dir};
 use crate::target::Target;
-use pua_calls::{Call, CallTable};
-use pua_objects::{ListItem, list_items};
-use pua_policy::{Cover, Process};
-use pua_tree::{FileTree, Name, NodeId, OutOfMemory};
-use std::alloc::{AllocError, Global};
+use crate::way::BestPlans;
+pub use planner::Planner;
+use pua_calls::Call;
+use pua_policy::{Cover, Object};
+use pua_tree::{Name, NodeId};
+use std::alloc::AllocError;
 
-/// The steps by which a call of a process may come to be granted on what is asked about: those of the
-/// two forms with the fewest steps. Of further names the path ends with the name that is given. The only
-/// error is that a growth was refused.
-pub(crate) fn plan_for<T: FileTree>(
-    alloc: Global,
-    tree: &T,
-    process: &Process,
-    table: &CallTable,
+/// On what the call is to be.
+#[derive(Clone, Copy)]
+enum End {
+    /// On the thing that comes.
+    Thing,
+    /// On this name, or else a new one, in a directory.
+    Inside(Dir, Option<Name>),
+    /// On the name where it makes the thing.
+    Made,
+}
+
+/// A search for plans for a call on one thing.
+#[derive(Drop)]
+pub(crate) struct Search<'p, 't> {
+    planner: &'p Planner<'t>,
     call: Call,
-    target: &Target,
-    name: Option<&Name>,
-) -> Result<Plans, OutOfMemory> {
-    let items = list_items(alloc, tree, process)?;
-    let mut ground = Ground::new(alloc, tree, process, table, items.as_slice())?;
-    ground.call = call;
-    ground.followed = followed(target);
-    let further = match name {
-        Some(_) => End::Named,
-        None => End::Further,
-    };
-    let mut shortest = Shortest::new();
-    lay(&ground, items.as_slice(), target, further, &mut shortest)?;
-    Ok(Plans {
-        first: steps_of(alloc, items.as_slice(), &shortest.first, name)?,
-        second: steps_of(alloc, items.as_slice(), &shortest.second, name)?,
-    })
-}
-
-/// The steps of a sketch, if there is one.
-fn steps_of(
-    alloc: Global,
-    items: &[ListItem<'_>],
-    sketch: &Option<Sketch>,
-    name: Option<&Name>,
-) -> Result<Option<Vec<Step>>, AllocError> {
-    match sketch {
-        Some(sketch) => finished(alloc, items, sketch, name),
-        None => Ok(None),
-    }
-}
-
-/// The node that is followed, where the thing is one.
-fn followed(target: &Target) -> Option<NodeId> {
-    match target {
-        Target::Directory(node) | Target::Others(node) | Target::Node(node) => Some(*node),
-        _ => None,
-    }
-}
-
-/// Lays plans for what is asked about.
-fn lay(
-    ground: &Ground,
-    items: &[ListItem<'_>],
-    target: &Target,
-    further: End,
-    shortest: &mut Shortest,
-) -> Result<(), AllocError> {
-    match target {
-        Target::Directory(dir) => lay_dir(ground, *dir, End::Itself, shortest),
-        Target::Others(dir) => lay_dir(ground, *dir, further, shortest),
-        Target::Node(node) => lay_node(ground, *node, shortest),
-        Target::Name(dir, name) => lay_name(ground, items, *dir, name, shortest),
-        Target::NewDirectory(_) => lay_made_dir(ground, End::Itself, shortest),
-        Target::NewOthers(_) => lay_made_dir(ground, End::Further, shortest),
-        Target::NewFile(_) => {
-            lay_made(ground, Call::Create, shortest)?;
-            lay_made(ground, Call::Bind, shortest)?;
-            lay_made(ground, Call::Mknod, shortest)
-        }
-        Target::NewLink(_) => lay_made(ground, Call::Symlink, shortest),
-    }
-}
-
-/// Lays plans for a directory, or for a name in it.
-fn lay_dir(
-    ground: &Ground,
-    dir: NodeId,
+    /// The node that is asked about, which is moved along and never deleted; None where it is none.
+    followed: Option<NodeId>,
     end: End,
-    shortest: &mut Shortest,
-) -> Result<(), AllocError> {
-    let Some(cover) = ground.cover_of(dir) else {
-        return Ok(());
-    };
-    let asked = Asked {
-        source: Source::Dir(dir),
-        end,
-    };
-    ground.standing_forms(&asked, dir, &cover, shortest)
+    forms: Vec<Form>,
 }
 
-/// Lays plans for a file, program or link, by its names: of those that are covered alike, and have no
-/// veils of their own, by one that goes along with its directory and by one that does not.
-fn lay_node(ground: &Ground, node: NodeId, shortest: &mut Shortest) -> Result<(), AllocError> {
-    let mut seen: Vec<(Cover, bool)> = Vec::new(ground.alloc);
-    for (other, place) in ground.nodes_from(node) {
-        if *other != node {
-            break;
+impl Planner<'_> {
+    /// Offers the plans for a call on what is asked about, which is at this place among all that is meant.
+    /// Of further names the path ends with the name that is given. The only error is that a growth was
+    /// refused.
+    pub(crate) fn offer_plans(
+        &self,
+        call: Call,
+        target: &Target,
+        name: Option<&Name>,
+        place: usize,
+        best: &mut BestPlans,
+    ) -> Result<(), AllocError> {
+        let (followed, end) = match target {
+            Target::Directory(node) | Target::Node(node) => (Some(*node), End::Thing),
+            Target::Others(dir) => (Some(*dir), End::Inside(Dir::Standing(*dir), name.copied())),
+            Target::NewOthers(_) => (None, End::Inside(Dir::Made, None)),
+            Target::Name(_, _) => (None, End::Made),
+            _ => (None, End::Thing),
+        };
+        let mut search = Search {
+            planner: self,
+            call,
+            followed,
+            end,
+            forms: Vec::new(self.alloc),
+        };
+        search.add_forms(target)?;
+        for form in &search.forms {
+            if let Some(draft) = search.draft_of(form)? {
+                best.offer(place, draft.steps);
+            }
         }
-        let Some(row) = ground.rows.get(*place) else {
-            continue;
-        };
-        let Some(spot) = row.spot(*place) else {
-            continue;
-        };
-        let alike = (row.cover, ground.goes_along(&spot));
-        if ground.is_veiled(&Over::Name(spot)) || !seen.contains(&alike) {
-            seen.push(alike)?;
-            lay_row(ground, row, &spot, shortest)?;
-        }
+        Ok(())
     }
-    Ok(())
 }
 
-/// Lays plans for a file, program or link, by one of its names.
-fn lay_row(
-    ground: &Ground,
-    row: &Row,
-    spot: &Spot,
-    shortest: &mut Shortest,
-) -> Result<(), AllocError> {
-    if ground.suffices(&row.cover) {
-        return lay_now(ground, &goal_at(spot), shortest);
-    }
-    let by = if ground.rights.moves(&row.cover) {
-        By::Rename
-    } else if ground.rights.links(&row.cover, row.object) {
-        By::Link
-    } else {
-        return Ok(());
-    };
-    let asked = Asked {
-        source: Source::Row(*spot, by),
-        end: End::Itself,
-    };
-    ground.node_forms(&asked, shortest)
-}
-
-/// Lays the plan of the call alone.
-fn lay_now(ground: &Ground, goal: &Goal, shortest: &mut Shortest) -> Result<(), AllocError> {
-    let mut sketch = Sketch::new(ground.alloc);
-    sketch.on(ground.call, goal)?;
-    shortest.offer(sketch);
-    Ok(())
-}
-
-/// Lays the plan for a name with a veil of its own: it is freed.
-fn lay_name(
-    ground: &Ground,
-    items: &[ListItem<'_>],
-    dir: NodeId,
-    name: &Name,
-    shortest: &mut Shortest,
-) -> Result<(), AllocError> {
-    for veil in ground.veils.iter() {
-        let Over::Name(spot) = &veil.over else {
-            continue;
-        };
-        let Some(item) = items.get(spot.place) else {
-            continue;
-        };
-        if spot.dir == dir && is_named(item, name) {
-            return lay_freed(ground, spot, &veil.perms, shortest);
+impl Search<'_, '_> {
+    /// Adds the forms for what is asked about. The only error is that a growth was refused, as of all that
+    /// add.
+    fn add_forms(&mut self, target: &Target) -> Result<(), AllocError> {
+        match target {
+            Target::Directory(node) | Target::Others(node) | Target::Node(node) => {
+                self.add_standing(*node)
+            }
+            Target::Name(dir, name) => self.add_name(*dir, name),
+            Target::NewDirectory(_) | Target::NewOthers(_) => self.add_made(Call::Mkdir),
+            Target::NewFile(_) => {
+                self.add_made(Call::Create)?;
+                self.add_made(Call::Bind)?;
+                self.add_made(Call::Mknod)
+            }
+            Target::NewLink(_) => self.add_made(Call::Symlink),
         }
     }
-    Ok(())
-}
 
-/// Lays the plan for a name that is freed.
-fn lay_freed(
-    ground: &Ground,
-    spot: &Spot,
-    perms: &Cover,
-    shortest: &mut Shortest,
-) -> Result<(), AllocError> {
-    if !ground.suffices(perms) {
-        return Ok(());
+    /// Adds those for what stands, by its names: of those that are covered alike, and have no veils of their
+    /// own, by one that goes along with its directory and by one that does not.
+    fn add_standing(&mut self, node: NodeId) -> Result<(), AllocError> {
+        let planner = self.planner;
+        let mut seen: Vec<(Cover, bool)> = Vec::new(planner.alloc);
+        let places = planner.nodes_from(node).iter();
+        for (_, place) in places.take_while(|other| other.0 == node) {
+            let Some(row) = planner.rows.get(*place) else {
+                continue;
+            };
+            let (goes_along, is_veiled) = match row.slot {
+                Some(slot) => (self.goes_along(&slot), planner.is_veiled_at(&slot)),
+                None => (false, false),
+            };
+            let alike = (row.cover, goes_along);
+            if is_veiled || !seen.contains(&alike) {
+                seen.push(alike)?;
+                self.add_row(row)?;
+            }
+        }
+        Ok(())
     }
-    let mut sketch = Sketch::new(ground.alloc);
-    if !ground.free(&mut sketch, spot, perms, Coming::Made)? {
-        return Ok(());
+
+    /// Adds those for what stands, by one of its names: of the call alone, where it is granted now.
+    fn add_row(&mut self, row: &Row) -> Result<(), AllocError> {
+        let (origin, is_bound) = match (row.is_dir, row.node, row.slot) {
+            (true, Some(dir), slot) => {
+                let is_bound = slot.is_none() || self.planner.is_veiled(dir);
+                (Origin::Dir(dir), is_bound)
+            }
+            (false, _, Some(slot)) => (Origin::Name(slot), false),
+            _ => return Ok(()),
+        };
+        let is_dir = row.is_dir;
+        let is_link = row.object == Object::Link;
+        let links = self.planner.rights.gives(By::Link, is_link);
+        let is_moved = is_dir || self.is_movable(row);
+        let by = if is_moved { By::Rename } else { By::Link };
+        let source = Source { origin, by, is_dir };
+        if self.suffices(&row.cover) {
+            return self.add(source, Carrier::Nothing, Destination::Here);
+        }
+        if !is_bound && (self.is_movable(row) || (!is_dir && links.is_met(&row.cover))) {
+            return self.add_source(source);
+        }
+        Ok(())
     }
-    sketch.on(ground.call, &goal_at(spot))?;
-    shortest.offer(sketch);
-    Ok(())
+
+    /// Adds that for a name with a veil of its own: it is freed.
+    fn add_name(&mut self, dir: NodeId, name: &Name) -> Result<(), AllocError> {
+        let source = Source {
+            origin: Origin::Made(self.call),
+            by: By::Call(self.call),
+            is_dir: false,
+        };
+        for veil in &self.planner.veils {
+            let is_it = veil.slot.dir == dir && self.planner.name(veil.slot.place) == Some(name);
+            if is_it && self.is_form(&source, Carrier::Nothing, veil) {
+                self.add(source, Carrier::Nothing, Destination::Name(*veil))?;
+            }
+        }
+        Ok(())
+    }
+
+    /// Adds those for what a call makes: right where it is to be, or elsewhere.
+    fn add_made(&mut self, call: Call) -> Result<(), AllocError> {
+        self.add_source(made_by(call, By::Call(call)))?;
+        self.add_source(made_by(call, By::Rename))?;
+        if call == Call::Mkdir {
+            return Ok(());
+        }
+        self.add_source(made_by(call, By::Link))
+    }
+
+    /// Adds those for what comes from one source: into a directory in which the call is granted, or by a
+    /// veil.
+    fn add_source(&mut self, source: Source) -> Result<(), AllocError> {
+        if let Some(dir) = self.open_dir(&source)? {
+            let to = Destination::Inside(Dir::Standing(dir));
+            self.add(source, Carrier::Nothing, to)?;
+        }
+        for veil in &self.planner.veils {
+            self.add_by_veil(source, veil)?;
+        }
+        Ok(())
+    }
+
+    /// Adds those to the name of a veil.
+    fn add_by_veil(&mut self, source: Source, veil: &Veil) -> Result<(), AllocError> {
+        for carrier in [Carrier::Nothing, Carrier::Parent, Carrier::Made] {
+            if self.is_form(&source, carrier, veil) {
+                self.add(source, carrier, Destination::Name(*veil))?;
+            }
+        }
+        Ok(())
+    }
+
+    /// Adds a form.
+    fn add(&mut self, source: Source, carrier: Carrier, to: Destination) -> Result<(), AllocError> {
+        Ok(
+            self.forms.push(Form {
+                source,
+                carrier,
+                to,
+            })?,
+        )
+    }
+
+    /// The nearest directory in which the call is granted on what comes there from a source: one that isn't
+    /// in the source, or else any.
+    fn open_dir(&self, source: &Source) -> Result<Option<NodeId>, AllocError> {
+        let rights = &self.planner.rights;
+        let need = rights.call(self.call).and(rights.takes(source.by));
+        let mut draft = Draft::new(self.planner.alloc);
+        let any = self.nearest(&draft, &need);
+        if let Origin::Dir(dir) = source.origin {
+            draft.close(self.planner.extent(dir))?;
+        }
+        Ok(self.nearest(&draft, &need).or(any))
+    }
+
+    /// The draft of a form, if it comes to one: what is made elsewhere is made before all else, where there
+    /// is none otherwise.
+    fn draft_of(&self, form: &Form) -> Result<Option<Draft>, AllocError> {
+        let draft = match (self.draft(form, false), form.source.origin, form.source.by) {
+            (Err(Stop::NoWay), Origin::Made(_), By::Rename | By::Link) => self.draft(form, true),
+            (draft, _, _) => draft,
+        };
+        match draft {
+            Ok(draft) => Ok(Some(draft)),
+            Err(Stop::NoWay) => Ok(None),
+            Err(Stop::OutOfMemory) => Err(AllocError),
+        }
+    }
+
+    /// Whether a cover leaves what the call needs.
+    fn suffices(&self, cover: &Cover) -> bool {
+        self.planner.rights.call(self.call).is_met(cover)
+    }
+
+    /// Whether it is a directory that is to be removed.
+    fn removes(&self) -> bool {
+        self.call == Call::Rmdir && matches!(self.end, End::Thing)
+    }
+
+    /// Ends a draft with the call, on what has come somewhere, or on a name in it.
+    fn end(&self, mut draft: Draft, thing: At) -> Result<Draft, Stop> {
+        let at = match self.end {
+            End::Thing => thing,
+            End::Inside(dir, Some(name)) => At::Name(dir, name),
+            End::Inside(dir, None) => self.new_in(&mut draft, dir)?,
+            End::Made => return Ok(draft),
+        };
+        draft.call(self.call, &at)?;
+        Ok(draft)
+    }
 }
 
-/// Lays plans for a directory that is made, or for a name in it.
-fn lay_made_dir(ground: &Ground, end: End, shortest: &mut Shortest) -> Result<(), AllocError> {
-    let made = Source::Made(Call::Mkdir);
-    let brought = Source::Brought(Call::Mkdir, By::Rename);
-    ground.dir_forms(&Asked { source: made, end }, shortest)?;
-    let asked = Asked {
-        source: brought,
-        end,
-    };
-    ground.dir_forms(&asked, shortest)
-}
-
-/// Lays plans for a file or a link that is made.
-fn lay_made(ground: &Ground, maker: Call, shortest: &mut Shortest) -> Result<(), AllocError> {
-    lay_from(ground, Source::Made(maker), shortest)?;
-    lay_from(ground, Source::Brought(maker, By::Rename), shortest)?;
-    lay_from(ground, Source::Brought(maker, By::Link), shortest)
-}
-
-/// Lays plans for a file or a link that is made, from one source.
-fn lay_from(ground: &Ground, source: Source, shortest: &mut Shortest) -> Result<(), AllocError> {
-    let end = End::Itself;
-    ground.node_forms(&Asked { source, end }, shortest)
+/// What a call makes.
+fn made_by(call: Call, by: By) -> Source {
+    Source {
+        origin: Origin::Made(call),
+        by,
+        is_dir: call == Call::Mkdir,
+    }
 }

@@ -31,10 +31,3 @@ pub enum Step {
     /// The name of a node, and then its further name.
     Link(At, At),
 }
-
-/// The plans of ways to a call on one thing, the best first: at most two are served.
-#[derive(Drop)]
-pub(crate) struct Plans {
-    pub(crate) first: Option<Vec<Step>>,
-    pub(crate) second: Option<Vec<Step>>,
-}

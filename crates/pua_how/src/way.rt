@@ -4,19 +4,18 @@ ghost use Rattle.std.specs.Prelude.{◌≡◌, IfOk, IfSome, is_some};
 ghost use Rattle.std.specs.List.{Contains};
 ghost use Rattle.pua_script.specs.Worlds.{world_of};
 ghost use Rattle.pua_how.specs.Served.{AreWay};
-ghost use Rattle.pua_how.specs.Steps.{plan_comes};
+ghost use Rattle.pua_how.specs.Steps.{plan_comes, some_plan_comes};
 ghost use Rattle.pua_how.specs.declared.target.Target.{Target as Thing};
 
 use crate::asking::Meant;
 use crate::line::WayLine;
-use crate::plan::plan_for;
+use crate::plan::Planner;
 use crate::serve::serve_way;
 use crate::step::Step;
 use crate::target::Target;
-use pua_calls::{Call, CallTable, Rules};
-use pua_policy::Process;
+use pua_calls::{Call, Rules};
 use pua_script::World;
-use pua_tree::{FileTree, OutOfMemory};
+use pua_tree::{CopiedTree, OutOfMemory};
 use std::alloc::Global;
 
 /// Steps that may come to a call on one of the things that are meant.
@@ -35,44 +34,54 @@ pub struct BestPlans {
     pub second: Option<Plan>,
 }
 
-/// Lays plans by which a process may come to a call on something that is meant. Nothing is promised of
-/// them: what a plan comes to is seen when it is served. The only error is that a growth was refused.
-pub fn find_plans<T: FileTree>(
-    alloc: Global,
-    tree: &T,
-    process: &Process,
-    table: &CallTable,
-    call: Call,
-    meant: &Meant,
-) -> Result<BestPlans, OutOfMemory> {
-    let mut best = BestPlans {
-        first: None,
-        second: None,
-    };
-    let mut place = 0usize;
-    for target in &meant.targets {
-        let plans = plan_for(
-            alloc,
-            tree,
-            process,
-            table,
-            call,
-            target,
-            meant.name.as_ref(),
-        )?;
-        best.offer(place, plans.first);
-        best.offer(place, plans.second);
-        place = place.saturating_add(1);
+impl Planner<'_> {
+    /// Lays plans by which the process may come to a call on something that is meant. Nothing is promised
+    /// of them: what a plan comes to is seen when it is served. The only error is that a growth was
+    /// refused.
+    pub fn find_plans(&self, call: Call, meant: &Meant) -> Result<BestPlans, OutOfMemory> {
+        let mut best = BestPlans {
+            first: None,
+            second: None,
+        };
+        for (place, target) in meant.targets.iter().enumerate() {
+            self.offer_plans(call, target, meant.name.as_ref(), place, &mut best)?;
+        }
+        Ok(best)
     }
-    Ok(best)
 }
 
 impl BestPlans {
+    /// Serves the plans, each in a copy of a world, until one comes to a way, as [`Plan::serve`] says. None
+    /// exactly where neither does. The only error is that a growth was refused.
+    pub fn serve<T: CopiedTree + Drop>(
+        &self,
+        alloc: Global,
+        rules: Rules,
+        world: &World<T>,
+        process: u32,
+        call: Call,
+        meant: &Meant,
+    ) -> Result<Option<Vec<WayLine>>, OutOfMemory>
+        ensures way { IfOk result (λ served. IfSome served (λ lines. (thing : Thing)
+            × Contains meant.now.targets.items thing
+            × AreWay rules world.now process call thing lines.items)) }
+        ensures found { IfOk result (λ served. is_some served
+            ≡ some_plan_comes rules world.now.table process call
+            meant.now.targets.items self.now (world_of world.now)) }
+    {
+        if let Some(plan) = &self.first {
+            if let Some(lines) = plan.serve(alloc, rules, world, process, call, meant)? {
+                return Ok(Some(lines));
+            }
+        }
+        match &self.second {
+            Some(plan) => plan.serve(alloc, rules, world, process, call, meant),
+            None => Ok(None),
+        }
+    }
+
     /// Keeps steps if they are among the two shortest so far.
-    fn offer(&mut self, place: usize, steps: Option<Vec<Step>>) {
-        let Some(steps) = steps else {
-            return;
-        };
+    pub(crate) fn offer(&mut self, place: usize, steps: Vec<Step>) {
         let plan = Plan { place, steps };
         if plan.is_shorter(&self.first) {
             self.second = self.first.take();
@@ -92,31 +101,31 @@ impl Plan {
         }
     }
 
-    /// Serves the plan for a process in a world: a way to the call on something that is meant, if each
-    /// step is answered `ok`, none but the last is an exec, and the last is that call, on a path that
+    /// Serves the plan for a process in a copy of a world: a way to the call on something that is meant, if
+    /// each step is answered `ok`, none but the last is an exec, and the last is that call, on a path that
     /// names this thing when it is served. Its lines are read by these rules. None exactly where this is
-    /// not so, and the world then has served some of the steps. The only error is that a growth was
-    /// refused.
-    pub fn serve<T: FileTree>(
+    /// not so. The only error is that a growth was refused.
+    pub fn serve<T: CopiedTree + Drop>(
         &self,
         alloc: Global,
         rules: Rules,
-        world: &mut World<T>,
+        world: &World<T>,
         process: u32,
         call: Call,
         meant: &Meant,
     ) -> Result<Option<Vec<WayLine>>, OutOfMemory>
         ensures way { IfOk result (λ served. IfSome served (λ lines. (thing : Thing)
             × Contains meant.now.targets.items thing
-            × AreWay rules world.old process call thing lines.items)) }
+            × AreWay rules world.now process call thing lines.items)) }
         ensures found { IfOk result (λ served. is_some served
-            ≡ plan_comes rules world.old.table process call
-            meant.now.targets.items self.now (world_of world.old)) }
+            ≡ plan_comes rules world.now.table process call
+            meant.now.targets.items self.now (world_of world.now)) }
     {
         let Some(target) = meant.targets.get(self.place) else {
             return Ok(None);
         };
         let steps = self.steps.as_slice();
-        serve_way(alloc, rules, world, process, call, target, steps)
+        let mut copy = world.copy()?;
+        serve_way(alloc, rules, &mut copy, process, call, target, steps)
     }
 }

@@ -1,6 +1,6 @@
 -- Worked rows on resolution over the example tree, and paths that meet many links.
 use Rattle.std.specs.Prelude.{◌≡◌, [], ◌∷◌, Some, None, Ok, Err, codes, refl}
-use Rattle.pua_tree.specs.Tree.{Tree}
+use Rattle.pua_tree.specs.Tree.{Tree, empty_tree}
 use Rattle.pua_tree.specs.Examples.{example_tree}
 use Rattle.pua_tree.specs.declared.node.Kind.TheVariants.{Dir, File, Link}
 use Rattle.pua_path.specs.Resolution.{resolution, step, last, follow}
@@ -17,7 +17,7 @@ use Rattle.pua_path.specs.declared.traced.PathFault.TheVariants.{InText, NoStart
 
 -- a file, and a link to it whose target ends in a slash
 abbrev pub tree_of_slash : Tree
-tree_of_slash = record {
+tree_of_slash = record empty_tree {
   rows = ((0, codes "f"), 1) ∷ ((0, codes "l"), 2) ∷ [];
   nodes = (0, record { kind = Dir; target = None }) ∷ (1, record { kind = File; target = None }) ∷ (
     2,

@@ -14,9 +14,9 @@ use Rattle.pua_calls.specs.declared.call.Call.{Call}
 use Rattle.pua_policy.specs.declared.place.Place.{Place}
 use Rattle.pua_policy.specs.declared.reason.Covering.{Covering}
 use Rattle.pua_policy.specs.declared.reason.Covering.TheVariants.{InView, NoneOver, By}
-use Rattle.pua_policy.specs.declared.reason.Misfit.{Misfit}
-use Rattle.pua_policy.specs.declared.reason.Misfit.TheVariants.{Missing, Exists, IsDirectory, IsNoFile, IsNoDirectory, IsNoLink}
-use Rattle.pua_policy.specs.declared.reason.Misfit.TheVariants.{IsNoProgram, IsNotEmpty, ByDot, ByDotDot, ByNothing, IsNoSocket, InUse}
+use Rattle.pua_calls.specs.declared.fits.Misfit.{Misfit}
+use Rattle.pua_calls.specs.declared.fits.Misfit.TheVariants.{Missing, Exists, IsDirectory, IsNoFile, IsNoDirectory, IsNoLink}
+use Rattle.pua_calls.specs.declared.fits.Misfit.TheVariants.{IsNoProgram, IsNotEmpty, ByDot, ByDotDot, ByNothing, IsNoSocket, InUse}
 
 -- what is told of promises is so: the set is one of those asked for, and held; or of each set some is not held, and with just that it were
 pub record LacksSome (p : ProcessState) (set some : ℕ) : Type 0 where

@@ -1,6 +1,6 @@
 //! The verdict on a call.
 
-ghost use Rattle.std.specs.Prelude.{◌≡◌, ◌+◌, ◌≤◌, [], ◌∷◌, ℕ, length};
+ghost use Rattle.std.specs.Prelude.{◌≡◌, ◌+◌, ◌≤◌, [], ◌∷◌, length};
 ghost use Rattle.std.specs.Prelude.{None, Some, is_none, MatchResult};
 ghost use Rattle.std.specs.Result.{result_err};
 ghost use Rattle.pua_tree.specs.Tree.{Tree};
@@ -11,16 +11,14 @@ ghost use Rattle.pua_policy.specs.Objects.{object_seen};
 ghost use Rattle.pua_policy.specs.Verdict.{FoundFits, FoundsFit, verdict, verdict_of};
 ghost use Rattle.pua_policy.specs.Verdict.{covered_verdict, is_allowed, refusal_of, found_fault};
 ghost use Rattle.pua_policy.specs.Verdict.{cover_fault, object_fault, object_of, object_of_kind};
-ghost use Rattle.pua_policy.specs.Verdict.{Object as Judged, IsDir};
-ghost use Rattle.pua_policy.specs.Misfits.{misfit, rmdir_misfit};
+ghost use Rattle.pua_policy.specs.Verdict.{Object as Judged};
+ghost use Rattle.pua_policy.specs.Misfits.{misfit, misfit_by, rmdir_misfit};
 ghost use Rattle.pua_path.specs.Walks.{found_seen, way_seen};
-ghost use Rattle.pua_path.specs.declared.found.Way as way;
 
 use crate::answer::{Cover, May, Refusal, Verdict};
 use crate::object::Object;
 use crate::process::Process;
-use crate::reason::Misfit;
-use pua_calls::{Call, CallTable, Calls, Perms, Promises};
+use pua_calls::{Call, CallTable, Calls, Fits, Misfit, Perms, Promises};
 use pua_path::{Errno, Found, LentFound, LentWay, Probe};
 use pua_tree::{Kind, NodeId};
 
@@ -251,11 +249,12 @@ fn misfit_lent<'t, P: Probe<'t>>(probe: &mut P, call: Call, found: &LentFound<'_
     ensures tree { P.tree probe.new ≡ P.tree probe.old }
     ensures cost { P.count probe.new ≤ P.count probe.old + 1 }
 {
+    let fits = call.fits();
     match found {
-        LentFound::Whole { dir, way } if call == Call::Rmdir => rmdir_misfit(probe, *dir, way),
-        LentFound::Whole { .. } => directory_misfit(call),
-        LentFound::Slot { node: Some(id), .. } => slot_misfit(call, probe.kind(*id)),
-        LentFound::Slot { node: None, .. } => slot_misfit(call, None),
+        LentFound::Whole { dir, way } if fits.by_way => rmdir_misfit(probe, *dir, way),
+        LentFound::Whole { .. } => fits.directory,
+        LentFound::Slot { node: Some(id), .. } => slot_misfit(&fits, probe.kind(*id)),
+        LentFound::Slot { node: None, .. } => fits.missing,
     }
 }
 
@@ -264,34 +263,16 @@ fn suits(call: Call, object: Object) -> bool
     ensures { (t : Tree) (judged : Judged) → object ≡ object_seen t judged →
         result ≡ is_none (object_fault t call judged) }
 {
+    let fits = call.fits();
     let misfit = match object {
-        Object::Missing => slot_misfit(call, None),
-        Object::File => slot_misfit(call, Some(Kind::File)),
-        Object::Program => slot_misfit(call, Some(Kind::Prog)),
-        Object::Link => slot_misfit(call, Some(Kind::Link)),
-        Object::Directory if call == Call::Rmdir => return false,
-        Object::Directory | Object::Removable => directory_misfit(call),
+        Object::Missing => fits.missing,
+        Object::File => fits.file,
+        Object::Program => fits.program,
+        Object::Link => fits.link,
+        Object::Directory | Object::Removable if fits.by_way => return object == Object::Removable,
+        Object::Directory | Object::Removable => fits.directory,
     };
     misfit.is_none()
-}
-
-/// What is wrong with a directory, which may be removed if the call is rmdir.
-fn directory_misfit(call: Call) -> Option<Misfit>
-    ensures { (t : Tree) (dir : ℕ) (how : way.Way) →
-        (call ≡ Call.Rmdir → rmdir_misfit t dir how ≡ None) →
-        result ≡ misfit t call (IsDir dir how) }
-{
-    match call {
-        Call::Stat | Call::Lstat | Call::OpenRead | Call::Rmdir | Call::Chdir => None,
-        Call::Chmod | Call::Chown => None,
-        Call::Readlink => Some(Misfit::IsNoLink),
-        Call::OpenWrite | Call::OpenBoth | Call::Create => Some(Misfit::IsDirectory),
-        Call::Mkdir | Call::Symlink | Call::Mknod => Some(Misfit::Exists),
-        Call::Unlink => Some(Misfit::IsNoFile),
-        Call::Exec => Some(Misfit::IsNoProgram),
-        Call::Connect => Some(Misfit::IsNoSocket),
-        Call::Bind => Some(Misfit::InUse),
-    }
 }
 
 /// What is wrong with removing a directory.
@@ -310,22 +291,13 @@ fn rmdir_misfit<'t, P: Probe<'t>>(probe: &mut P, dir: NodeId, way: &LentWay<'_>)
 }
 
 /// What is wrong with a name where no directory stands; None where nothing stands there.
-fn slot_misfit(call: Call, kind: Option<Kind>) -> Option<Misfit>
-    ensures { (t : Tree) → result ≡ misfit t call (object_of_kind kind) }
+fn slot_misfit(fits: &Fits, kind: Option<Kind>) -> Option<Misfit>
+    ensures { (t : Tree) → result ≡ misfit_by t fits.now (object_of_kind kind) }
 {
-    let Some(kind) = kind else {
-        return match call {
-            Call::Create | Call::Mkdir | Call::Symlink | Call::Bind | Call::Mknod => None,
-            _ => Some(Misfit::Missing),
-        };
-    };
-    match call {
-        Call::Readlink if kind != Kind::Link => Some(Misfit::IsNoLink),
-        Call::Mkdir | Call::Symlink | Call::Mknod => Some(Misfit::Exists),
-        Call::Rmdir | Call::Chdir => Some(Misfit::IsNoDirectory),
-        Call::Exec if kind != Kind::Prog => Some(Misfit::IsNoProgram),
-        Call::Connect if matches!(kind, Kind::Prog | Kind::Link) => Some(Misfit::IsNoSocket),
-        Call::Bind => Some(Misfit::InUse),
-        _ => None,
+    match kind {
+        Some(Kind::Prog) => fits.program,
+        Some(Kind::Link) => fits.link,
+        Some(Kind::File | Kind::Dir) => fits.file,
+        None => fits.missing,
     }
 }

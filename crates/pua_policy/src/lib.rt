@@ -21,4 +21,5 @@ pub use laws::{
 pub use object::Object;
 pub use place::Place;
 pub use process::{MOST_PLACES, Process};
-pub use reason::{Covering, Misfit, Promising};
+pub use pua_calls::Misfit;
+pub use reason::{Covering, Promising};

@@ -1,5 +1,6 @@
 //! Wrong bodies of `pua_calls`.
 
+mod effects;
 mod keywords;
 mod names;
 mod needs;

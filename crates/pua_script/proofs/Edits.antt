@@ -9,7 +9,7 @@ use Rattle.pua_tree.specs.Tree.{has_no_row, kind_at}
 use Rattle.pua_tree.specs.declared.node.Kind.TheVariants as kinds
 use Rattle.pua_tree.specs.declared.fault.TreeFault.TheVariants as faults
 use Rattle.pua_policy.specs.Misfits.{misfit_errno}
-use Rattle.pua_policy.specs.declared.reason.Misfit.TheVariants.{IsNotEmpty}
+use Rattle.pua_calls.specs.declared.fits.Misfit.TheVariants.{IsNotEmpty}
 use Rattle.pua_path.specs.declared.found.Way.TheVariants as ways
 use Rattle.pua_policy.specs.Verdict.{object_of_kind}
 use Rattle.pua_calls.specs.declared.call.Call.TheVariants as calls

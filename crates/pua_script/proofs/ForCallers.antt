@@ -12,6 +12,10 @@ pub use Rattle.pua_script.proofs.Served.{rules_narrow}
 pub use Rattle.pua_script.proofs.Others.{others_leave, others_leave_always, forks_copy}
 -- a process within another: the same covers, and no more is allowed
 pub use Rattle.pua_script.proofs.Allowing.{IsWithin, same_cover, may_yes, verdicts_within}
+-- who lives after an event lived before it
+pub use Rattle.pua_script.proofs.Tightening.{still_ended}
+-- who keeps each other's veils has the same veils
+pub use Rattle.pua_script.proofs.SameVeils.{is_kept, veils_kept, veils_alike}
 -- the members of a family, one request after another
 pub use Rattle.pua_script.proofs.Families.{Belongs, Members, begins, members_then, members_after}
 -- what one request leaves of the rows without `c`, or two of them, and what it leaves by other processes with the same veils

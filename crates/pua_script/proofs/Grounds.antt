@@ -6,6 +6,8 @@ use Rattle.pua_script.proofs.Common.{Yes, Call, is_bytes, is_in_bytes, Change, N
 use Rattle.pua_script.proofs.Common.{AddEvent, CopyAs, shifting, is_whole, is_exec, is_chdir, IsShift, Action, OnPath, and_from, and_parts}
 use Rattle.pua_tree.specs.declared.node.Kind.{Kind}
 use Rattle.pua_calls.specs.declared.call.Call.TheVariants as call
+use Rattle.pua_calls.specs.Calls.{effect_of}
+use Rattle.pua_calls.specs.Effects.{makes as makes_name, removes}
 use Rattle.pua_script.specs.Decide.{plain_node}
 use Rattle.pua_script.specs.Decide.{link_node, placing, cutting, tying, change_by, adding, removing, made_by, making}
 use Rattle.pua_script.specs.Guards.{OnOne, OnTwo}
@@ -13,13 +15,10 @@ use Rattle.pua_script.specs.Laws.{adds_node, lacks_room}
 
 -- the calls that make a name, and those that take one away
 abbrev pub makes : Call → Bool
-makes call.Symlink = true
-makes call = adds_node call
+makes call = makes_name (effect_of call)
 
 abbrev pub takes : Call → Bool
-takes call.Rmdir = true
-takes call.Unlink = true
-takes _ = false
+takes call = removes (effect_of call)
 
 abbrev pub LeadsToBytes : Node → Type 0
 LeadsToBytes node = (target : List ℕ) → node.target ≡ Some target → is_bytes target ≡ true

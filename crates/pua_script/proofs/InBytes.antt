@@ -5,7 +5,8 @@ use Rattle.pua_script.proofs.Common.{node_at, Kind, None≢Some, Asked, apply, i
 use Rattle.std.specs.Prelude.{filter_map, option_and_then}
 use Rattle.std.specs.List.{cons_option}
 use Rattle.pua_tree.specs.Tree.{target_at}
-use Rattle.pua_tree.specs.Listing.{Entry, made_entry}
+use Rattle.pua_tree.specs.declared.form.Form.{Form}
+use Rattle.pua_tree.specs.Listing.{Entry, made_entry, knows_hard}
 use Rattle.pua_tree.specs.Grammar.{entry_fits, entries_fit, made_fits, target_stands}
 use Rattle.pua_tree.specs.declared.node.Kind.TheVariants.{Dir, File, Prog, Link as LinkKind}
 use Rattle.pua_tree.proofs.ForCallers.{all_found, listings_are_read, listings_list_trees, fits_parts}
@@ -38,13 +39,13 @@ made_leads hard earlier e (Some node) rest fits all =
     and_from (leads_to_bytes node.target) _
     (stands_in_bytes node.kind node.target (and_parts _ (target_stands node.kind node.target) fits).1) all
 
-entries_lead : (hard : Bool) (earlier es : List Entry) → entries_fit hard earlier es ≡ true →
+entries_lead : (form : Form) (earlier es : List Entry) → entries_fit form earlier es ≡ true →
     list_all node_leads (filter_map made_entry es) ≡ true
-entries_lead hard earlier [] fit = refl
-entries_lead hard earlier (e ∷ es) fit =
-    let parts = and_parts (entry_fits hard earlier e) (entries_fit hard (earlier ++ e ∷ []) es) fit in
-    made_leads hard earlier e e.made (filter_map made_entry es) (fits_parts hard earlier e parts.0).made
-    (entries_lead hard (earlier ++ e ∷ []) es parts.1)
+entries_lead form earlier [] fit = refl
+entries_lead form earlier (e ∷ es) fit =
+    let parts = and_parts (entry_fits form earlier e) (entries_fit form (earlier ++ e ∷ []) es) fit in
+    made_leads (knows_hard form) earlier e e.made (filter_map made_entry es) (fits_parts form earlier e parts.0).made
+    (entries_lead form (earlier ++ e ∷ []) es parts.1)
 
 targets_lead : (t : Tree) → list_all node_leads t.nodes ≡ true → (x : ℕ) (target : List ℕ) → target_at t x ≡ Some target →
     is_bytes target ≡ true

@@ -30,7 +30,7 @@ same_dir Locked h step = refl
 same_dir (Moved dir) h step = absurd (false≢true step)
 same_dir Ended h step = refl
 
-still_ended : (event : Event) (h : ProcessState) → is_ended (state_after event h) ≡ false → is_ended h ≡ false
+pub still_ended : (event : Event) (h : ProcessState) → is_ended (state_after event h) ≡ false → is_ended h ≡ false
 still_ended (Unveiled place perms) h lives = lives
 still_ended (Pledged p e) h lives = lives
 still_ended Locked h lives = lives

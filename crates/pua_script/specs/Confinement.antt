@@ -1,12 +1,13 @@
 -- The second part of narrowing: what a process can't touch with `c` stays, whatever it asks for.
-use Rattle.std.specs.Prelude.{◌≡◌, ℕ, Bool, true, false, if◌then◌else◌, List, [], ◌∷◌, Some, IsTrue, IsFalse, is_some}
+use Rattle.std.specs.Prelude.{◌≡◌, ℕ, Bool, true, false, if◌then◌else◌, List, [], ◌∷◌, Some, IsTrue, IsFalse}
 use Rattle.std.specs.List.{AllByRecursion, list_any}
 use Rattle.pua_tree.specs.Tree.{Tree, WellFormed, Spot, is_dir, look, node_at}
 use Rattle.pua_path.specs.declared.found.Found.{Found}
 use Rattle.pua_path.specs.declared.found.Found.TheVariants.{Whole, Slot}
 use Rattle.pua_path.specs.declared.found.Way.TheVariants.{Named}
 use Rattle.pua_calls.specs.Promises.{holds, creating}
-use Rattle.pua_calls.specs.Calls.{Rule, CallTable, rule_of}
+use Rattle.pua_calls.specs.Calls.{Rule, CallTable, rule_of, effect_of}
+use Rattle.pua_calls.specs.Effects.{edits}
 use Rattle.pua_calls.specs.Tables.{NamesNoError}
 use Rattle.pua_policy.specs.States.{ProcessState, held_set}
 use Rattle.pua_policy.specs.Verdict.{cover}
@@ -15,7 +16,6 @@ use Rattle.pua_policy.specs.declared.answer.Cover.TheVariants.{All, Nothing, Onl
 use Rattle.pua_calls.specs.declared.call.Call.{Call}
 use Rattle.pua_calls.specs.declared.call.Call.TheVariants as call
 use Rattle.pua_script.specs.Requests.{Asked}
-use Rattle.pua_script.specs.Decide.{made_by}
 use Rattle.pua_script.specs.Replay.{World, kept_at, apply, world_after}
 use Rattle.pua_script.specs.Laws.{IsConfined}
 use Rattle.pua_script.specs.Family.{is_exec, none_done, members_alone}
@@ -38,10 +38,7 @@ NamesOne promises rule = AllByRecursion (λ set. IsTrue (list_any (holds set) pr
 
 -- the calls that make a name or take one away
 abbrev pub changes_names : Call → Bool
-changes_names call.Symlink = true
-changes_names call.Rmdir = true
-changes_names call.Unlink = true
-changes_names call = is_some (made_by call)
+changes_names call = edits (effect_of call)
 
 -- these need one of some promises
 abbrev pub CallsNeed : List ℕ → CallTable → Type 0

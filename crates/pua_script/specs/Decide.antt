@@ -8,14 +8,14 @@ use Rattle.pua_path.specs.Paths.{path_fault}
 use Rattle.pua_path.specs.Resolution.{resolution_of_text}
 use Rattle.pua_path.specs.Fits.{spot_named, node_named}
 use Rattle.pua_calls.specs.Promises.{proc, unveil}
-use Rattle.pua_calls.specs.Calls.{CallTable, NameRule, PairRule, rule_of, last_of, ending_of}
+use Rattle.pua_calls.specs.Calls.{CallTable, NameRule, PairRule, rule_of, last_of, ending_of, effect_of}
 use Rattle.pua_policy.specs.States.{ProcessState, Event, Pledged, Unveiled, Locked, Moved, Ended, working_dir, may_any, pledge_fault}
 use Rattle.pua_policy.specs.States.{unveil_fault}
 use Rattle.pua_policy.specs.Verdict.{place_of, cover, cover_fault, or_fault, object_of, refusal_of}
 use Rattle.pua_policy.specs.Misfits.{misfit, misfit_errno}
-use Rattle.pua_policy.specs.declared.reason.Misfit.{Misfit}
-use Rattle.pua_policy.specs.declared.reason.Misfit.TheVariants.{Missing, Exists, IsDirectory, IsNoFile, IsNoDirectory, IsNotEmpty, ByDot}
-use Rattle.pua_policy.specs.declared.reason.Misfit.TheVariants.{ByDotDot, ByNothing}
+use Rattle.pua_calls.specs.declared.fits.Misfit.{Misfit}
+use Rattle.pua_calls.specs.declared.fits.Misfit.TheVariants.{Missing, Exists, IsDirectory, IsNoFile, IsNoDirectory, IsNotEmpty, ByDot}
+use Rattle.pua_calls.specs.declared.fits.Misfit.TheVariants.{ByDotDot, ByNothing}
 use Rattle.pua_tree.specs.declared.node.Kind.{Kind}
 use Rattle.pua_tree.specs.declared.node.Kind.TheVariants as kind
 use Rattle.pua_path.specs.declared.errno.Errno.{Errno}
@@ -29,6 +29,8 @@ use Rattle.pua_path.specs.declared.found.Found.TheVariants.{Whole, Slot}
 use Rattle.pua_path.specs.declared.found.Last.{Last}
 use Rattle.pua_calls.specs.declared.rules.ExecPromises.{ExecPromises}
 use Rattle.pua_policy.specs.declared.place.Place.{Place}
+use Rattle.pua_calls.specs.declared.effect.Effect.{Effect}
+use Rattle.pua_calls.specs.declared.effect.Effect.TheVariants as effect
 use Rattle.pua_calls.specs.declared.call.Call.{Call}
 use Rattle.pua_calls.specs.declared.call.Call.TheVariants as call
 use Rattle.pua_policy.specs.declared.answer.UnveilFault.{UnveilFault}
@@ -138,13 +140,14 @@ abbrev pub going : Found → Change
 going (Whole dir way) = AddEvent (Moved dir)
 going _ = NoChange
 
--- the kind of the node that a call makes, by its path alone
+-- the kind of the node that a call makes by its path alone: a link needs a target too
+abbrev pub made_in : Effect → Option Kind
+made_in (effect.Makes kind.File) = Some kind.File
+made_in (effect.Makes kind.Dir) = Some kind.Dir
+made_in _ = None
+
 abbrev pub made_by : Call → Option Kind
-made_by call.Create = Some kind.File
-made_by call.Bind = Some kind.File
-made_by call.Mknod = Some kind.File
-made_by call.Mkdir = Some kind.Dir
-made_by _ = None
+made_by call = made_in (effect_of call)
 
 -- such a node at a spot, if the call makes one
 abbrev pub making : Option Kind → Option Spot → Option ℕ → Change
@@ -152,12 +155,14 @@ making (Some made) spot there = placing (plain_node made) spot there
 making None spot there = NoChange
 
 -- what an allowed call changes, by what was found
+abbrev pub change_in : CallTable → Effect → Found → Change
+change_in table effect.Removes object = removing object
+change_in table effect.Enters object = going object
+change_in table effect.Starts object = BeginProgram table.execpromises
+change_in table does object = making (made_in does) (spot_named object) (node_named object)
+
 abbrev pub change_by : CallTable → Call → Found → Change
-change_by table call.Rmdir object = removing object
-change_by table call.Unlink object = removing object
-change_by table call.Chdir object = going object
-change_by table call.Exec object = BeginProgram table.execpromises
-change_by table call object = making (made_by call) (spot_named object) (node_named object)
+change_by table call object = change_in table (effect_of call) object
 
 abbrev pub is_whole : Found → Bool
 is_whole (Whole dir way) = true

@@ -1,20 +1,22 @@
 -- What the code decides, by the definitions.
-use Rattle.std.specs.Prelude.{ℕ, List, Bool, true, Option, Some, None, Result, Ok, Err, is_some}
+use Rattle.std.specs.Prelude.{ℕ, List, Bool, Option, Some, None, Result, Ok, Err}
 use Rattle.pua_tree.specs.Tree.{Node, Tree, Spot}
 use Rattle.pua_tree.specs.declared.node.Kind.TheVariants as kind
 use Rattle.pua_path.specs.Fits.{FoundFits, StandsAsNamed}
 use Rattle.pua_path.specs.Resolution.{resolution_of_text}
 use Rattle.pua_path.specs.declared.text.Ending.{Ending}
 use Rattle.pua_path.specs.declared.found.Found.{Found}
-use Rattle.pua_calls.specs.Calls.{PairRule}
+use Rattle.pua_calls.specs.Calls.{PairRule, effect_of}
+use Rattle.pua_calls.specs.Effects.{edits}
+use Rattle.pua_calls.specs.declared.effect.Effect.{Effect}
+use Rattle.pua_calls.specs.declared.effect.Effect.TheVariants as effect
 use Rattle.pua_calls.specs.declared.call.Call.{Call}
-use Rattle.pua_calls.specs.declared.call.Call.TheVariants as call
 use Rattle.pua_policy.specs.States.{Locked, Moved, Ended, ProcessState}
 use Rattle.pua_policy.specs.Verdict.{place_of}
 use Rattle.pua_policy.specs.declared.answer.Refusal.{Refusal}
 use Rattle.pua_script.specs.Decide.{NoChange, AddNode, CutRow, ShiftRow, TieRow, BeginProgram, AddEvent, Asking, Change, Decision, pledging}
 use Rattle.pua_script.specs.Decide.{veiling}
-use Rattle.pua_script.specs.Decide.{plain_node, link_node, made_by, making, cutting, if_named, unless_fault, covers_by, asker_of}
+use Rattle.pua_script.specs.Decide.{plain_node, link_node, made_in, making, cutting, if_named, unless_fault, covers_by, asker_of}
 use Rattle.pua_script.specs.declared.granted.Granted.{Granted}
 use Rattle.pua_script.specs.declared.granted.Granted.TheVariants as granted
 use Rattle.pua_script.specs.declared.granted.NewNode.{NewNode}
@@ -54,15 +56,15 @@ decision_by asker granted.Exit = Ok (AddEvent Ended)
 
 -- a call that makes a name or takes one away
 abbrev pub is_edit : Call → Bool
-is_edit call.Rmdir = true
-is_edit call.Unlink = true
-is_edit call = is_some (made_by call)
+is_edit call = edits (effect_of call)
 
 -- what such a call changes, by the spot that its path named and by what stands there
+abbrev pub edit_in : Effect → Option Spot → Option ℕ → Change
+edit_in effect.Removes spot there = cutting spot there
+edit_in does spot there = making (made_in does) spot there
+
 abbrev pub edit_by : Call → Option Spot → Option ℕ → Change
-edit_by call.Rmdir spot there = cutting spot there
-edit_by call.Unlink spot there = cutting spot there
-edit_by call spot there = making (made_by call) spot there
+edit_by call spot there = edit_in (effect_of call) spot there
 
 -- what a rename and a link change, as a decision
 abbrev pub shifted : Result (Option Shift) Refusal → Decision

@@ -19,8 +19,7 @@ use crate::answer::Answer;
 use crate::fault::WorldFault;
 use crate::granted::{Granted, NewNode, make};
 use crate::judged::{
-    adding, editing, grant_unveil, is_edit, judge_letters, judge_object, judge_target, looking,
-    veil_named,
+    adding, editing, grant_unveil, judge_letters, judge_object, judge_target, looking, veil_named,
 };
 use crate::link::{judge_link, naming};
 use crate::pair::{node_named, promised_pair, spot_named};
@@ -82,7 +81,7 @@ fn call_on<T: FileTree>(
     if let Err(refusal) = promised_for(process, table, call) {
         return answer(tree, process, &Err(refusal));
     }
-    if is_edit(call) {
+    if call.effect().edits() {
         edit(tree, table, process, call, path)
     } else {
         look(tree, table, process, call, path)

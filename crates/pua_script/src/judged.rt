@@ -20,11 +20,11 @@ ghost use Rattle.pua_script.specs.Judged.{node_made, on_judged};
 
 use crate::granted::{Granted, NewNode};
 use pua_calls::needs::ending;
-use pua_calls::{Call, CallTable, Perms, Promises};
+use pua_calls::{Call, CallTable, Effect, Perms, Promises};
 use pua_path::{Counted, Ending, Errno, Found, Last, LentFound, PathText, Probe, resolve_lent};
 use pua_policy::judge::{object_verdict_lent, promised, promised_for};
 use pua_policy::{Process, Refusal};
-use pua_tree::{FileTree, Name, NodeId};
+use pua_tree::{FileTree, Kind, Name, NodeId};
 
 /// What a path names from a directory.
 pub(crate) fn named<'t, P: Probe<'t>>(
@@ -71,24 +71,14 @@ pub(crate) fn looking<'g>(table: &CallTable, call: Call, found: &LentFound<'_>) 
     ensures { is_edit call ≡ false → (asker : Asking) →
         decision_by asker result ≡ Ok (change_by table.now call (found_seen found.now)) }
 {
-    match call {
-        Call::Chdir => match found {
+    match call.effect() {
+        Effect::Enters => match found {
             LentFound::Whole { dir, .. } => Granted::Enter(*dir),
             LentFound::Slot { .. } => Granted::NoChange,
         },
-        Call::Exec => Granted::BeginProgram(table.execpromises()),
-        _ => Granted::NoChange,
+        Effect::Starts => Granted::BeginProgram(table.execpromises()),
+        Effect::Looks | Effect::Makes(_) | Effect::Removes => Granted::NoChange,
     }
-}
-
-/// Whether a call makes a name or takes one away.
-pub(crate) fn is_edit(call: Call) -> bool
-    ensures { result ≡ is_edit call }
-{
-    matches!(
-        call,
-        Call::Create | Call::Bind | Call::Mknod | Call::Mkdir | Call::Rmdir | Call::Unlink
-    )
 }
 
 /// What the path of a call names, whose promises are held: where the veils leave enough of it, and
@@ -125,11 +115,12 @@ pub(crate) fn editing<'a>(
     ensures { (asker : Asking) →
         decision_by asker result ≡ Ok (edit_by call (Some (dir, name.now)) there) }
 {
-    match call {
-        Call::Create | Call::Bind | Call::Mknod => adding(NewNode::File, dir, name, there),
-        Call::Mkdir => adding(NewNode::Directory, dir, name, there),
-        Call::Rmdir | Call::Unlink => removing(dir, name, there),
-        _ => Granted::NoChange,
+    match call.effect() {
+        Effect::Makes(Kind::File) => adding(NewNode::File, dir, name, there),
+        Effect::Makes(Kind::Dir) => adding(NewNode::Directory, dir, name, there),
+        Effect::Removes => removing(dir, name, there),
+        Effect::Makes(Kind::Prog | Kind::Link) => Granted::NoChange,
+        Effect::Looks | Effect::Enters | Effect::Starts => Granted::NoChange,
     }
 }
 

@@ -9,7 +9,7 @@ use crate::script::Script;
 use indexmap::IndexMap;
 use pua_calls::CallTable;
 use pua_policy::Process;
-use pua_tree::{FileTree, OutOfMemory};
+use pua_tree::{CopiedTree, FileTree, OutOfMemory};
 use std::alloc::{AllocError, Global};
 use std::marker::Model;
 
@@ -187,6 +187,24 @@ impl<T: FileTree> World<T> {
             };
         }
         Ok(answers)
+    }
+}
+
+impl<T: CopiedTree> World<T> {
+    /// A copy, which from then on is a world of its own. `OutOfMemory` where a growth was refused.
+    pub fn copy(&self) -> Result<World<T>, OutOfMemory>
+    where
+        T: Drop,
+        ensures { IfOk result (λ copy. copy ≡ self.now) }
+    {
+        let processes = self.processes.clone()?;
+        let tree = self.tree.copy()?;
+        Ok(World {
+            tree,
+            table: self.table,
+            processes,
+            alloc: self.alloc,
+        })
     }
 }
 

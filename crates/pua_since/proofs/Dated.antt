@@ -5,8 +5,8 @@ use Rattle.pua_since.proofs.Common.{Failed, Ended, reason, Test, forebear, since
 use Rattle.pua_since.proofs.Common.{Question, Told, Watch}
 use Rattle.pua_path.specs.declared.errno.Errno.TheVariants.{ENOSPC}
 use Rattle.pua_path.specs.declared.found.Found.{Found}
-use Rattle.pua_policy.specs.declared.reason.Misfit.{Misfit}
-use Rattle.pua_policy.specs.declared.reason.Misfit.TheVariants.{Missing}
+use Rattle.pua_calls.specs.declared.fits.Misfit.{Misfit}
+use Rattle.pua_calls.specs.declared.fits.Misfit.TheVariants.{Missing}
 use Rattle.pua_script.specs.Decide.{Side}
 use Rattle.pua_why.specs.Checked.{reason_checked, granted_by, told_by}
 use Rattle.pua_why.specs.Keys.{reason_key}

@@ -1,8 +1,9 @@
 -- Which requests may have changed a world, by their answers.
 use Rattle.std.specs.Prelude.{◌≡◌, ℕ, Bool, true, false}
-use Rattle.pua_calls.specs.Calls.{CallTable}
+use Rattle.pua_calls.specs.Calls.{CallTable, effect_of}
+use Rattle.pua_calls.specs.declared.effect.Effect.{Effect}
+use Rattle.pua_calls.specs.declared.effect.Effect.TheVariants as effect
 use Rattle.pua_calls.specs.declared.call.Call.{Call}
-use Rattle.pua_calls.specs.declared.call.Call.TheVariants as call
 use Rattle.pua_script.specs.Replay.{World, apply}
 use Rattle.pua_script.specs.Worlds.{is_fork}
 use Rattle.pua_script.specs.declared.answer.Answer.{Answer}
@@ -10,18 +11,13 @@ use Rattle.pua_script.specs.declared.answer.Answer.TheVariants.{Okay, Killed}
 use Rattle.pua_script.specs.declared.request.Action.{Action}
 use Rattle.pua_script.specs.declared.request.Action.TheVariants.{OnPath}
 
--- the calls that change something where they are done
+-- what changes something where it is done
+abbrev pub does_change : Effect → Bool
+does_change effect.Looks = false
+does_change _ = true
+
 abbrev pub call_changes : Call → Bool
-call_changes call.Create = true
-call_changes call.Bind = true
-call_changes call.Mknod = true
-call_changes call.Mkdir = true
-call_changes call.Rmdir = true
-call_changes call.Unlink = true
-call_changes call.Symlink = true
-call_changes call.Chdir = true
-call_changes call.Exec = true
-call_changes _ = false
+call_changes call = does_change (effect_of call)
 
 abbrev pub action_changes : Action → Bool
 action_changes (OnPath call path) = call_changes call

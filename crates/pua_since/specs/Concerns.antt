@@ -1,8 +1,8 @@
 -- What a request that was served touches of a world, and which questions that concerns.
-use Rattle.std.specs.Prelude.{◌≡◌, ⊤, ℕ, Bool, true, false, ◌==◌, if◌then◌else◌, length, is_some}
-use Rattle.pua_calls.specs.Calls.{CallTable}
+use Rattle.std.specs.Prelude.{◌≡◌, ⊤, ℕ, Bool, true, false, not, ◌==◌, if◌then◌else◌, length, is_some}
+use Rattle.pua_calls.specs.Calls.{CallTable, effect_of}
+use Rattle.pua_calls.specs.Effects.{edits}
 use Rattle.pua_calls.specs.declared.call.Call.{Call}
-use Rattle.pua_calls.specs.declared.call.Call.TheVariants as call
 use Rattle.pua_script.specs.Requests.{Asked}
 use Rattle.pua_script.specs.Replay.{World, kept_at, apply}
 use Rattle.pua_script.specs.declared.answer.Answer.{Answer}
@@ -15,14 +15,7 @@ use Rattle.pua_since.specs.declared.touched.Touched.TheVariants.{Process, Anythi
 
 -- a call that changes no more than the process that asks: it makes no name, and takes none away
 abbrev pub call_is_own : Call → Bool
-call_is_own call.Create = false
-call_is_own call.Bind = false
-call_is_own call.Mknod = false
-call_is_own call.Mkdir = false
-call_is_own call.Rmdir = false
-call_is_own call.Unlink = false
-call_is_own call.Symlink = false
-call_is_own _ = true
+call_is_own call = not (edits (effect_of call))
 
 abbrev pub is_own : Action → Bool
 is_own (OnPath call path) = call_is_own call

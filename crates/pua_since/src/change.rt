@@ -4,7 +4,7 @@ ghost use Rattle.std.specs.Prelude.{◌≡◌, IsFalse};
 ghost use Rattle.pua_since.specs.Changes.{LeavesAsIs, action_changes, call_changes, has_changed};
 ghost use Rattle.pua_since.specs.Changes.{has_forked};
 
-use pua_calls::Call;
+use pua_calls::{Call, Effect};
 use pua_script::{Action, Answer};
 
 /// Whether a request that was answered so may have changed anything. One that failed changed
@@ -41,16 +41,5 @@ fn action_changes(action: &Action) -> bool
 fn call_changes(call: Call) -> bool
     ensures { result ≡ call_changes call }
 {
-    matches!(
-        call,
-        Call::Create
-            | Call::Bind
-            | Call::Mknod
-            | Call::Mkdir
-            | Call::Rmdir
-            | Call::Unlink
-            | Call::Symlink
-            | Call::Chdir
-            | Call::Exec
-    )
+    !matches!(call.effect(), Effect::Looks)
 }

@@ -40,14 +40,5 @@ fn is_own(action: &Action) -> bool
 fn call_is_own(call: Call) -> bool
     ensures { result ≡ call_is_own call }
 {
-    !matches!(
-        call,
-        Call::Create
-            | Call::Bind
-            | Call::Mknod
-            | Call::Mkdir
-            | Call::Rmdir
-            | Call::Unlink
-            | Call::Symlink
-    )
+    !call.effect().edits()
 }

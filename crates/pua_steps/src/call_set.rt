@@ -1,7 +1,7 @@
 //! A set of calls that is taken apart.
 
 use crate::calls::take_first;
-use crate::limits::CALL_COUNT;
+use pua_calls::Call;
 use std::marker::Model;
 
 /// A set of calls by their numbers, from 0 on. Contracts see a number with a bit for each call, the
@@ -35,7 +35,7 @@ impl CallSet {
         ensures { calls_of result ≡ calls_of bits }
     {
         CallSet {
-            bits: bits % (1 << CALL_COUNT),
+            bits: bits % (1 << Call::COUNT),
         }
     }
 

@@ -2,6 +2,3 @@
 
 /// The most symbolic links that are followed on one path, after which it is ELOOP.
 pub(crate) const MOST_LINKS: u8 = 32;
-
-/// How many calls there are.
-pub(crate) const CALL_COUNT: u8 = 18;

@@ -24,6 +24,10 @@ pub is_line : (calls : List Call) (text : List ℕ) → calls ≢ [] → text �
 is_line [] text some = absurd (some refl)
 is_line (call ∷ calls) text some = refl
 
+-- and one without calls is none
+pub no_line : (calls : List Call) (text : List ℕ) → calls ≡ [] → [] ≡ unless_none calls text
+no_line calls text none = sym (ap (λ (left : List Call). unless_none left text) none)
+
 -- as many names as were taken are those that were taken
 take_length : {A : Type 0} (n : ℕ) (xs : List A) → take (length (take n xs)) xs ≡ take n xs
 take_length zero xs = refl

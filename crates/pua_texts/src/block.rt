@@ -13,7 +13,7 @@ use crate::copies::copy_all;
 use crate::fault::TextFault;
 use crate::line::copy_lines;
 use pua_audit::PathLines;
-use pua_calls::Call;
+use pua_calls::{Call, MOST_CALL_LINE};
 use pua_io::{PutFault, Sink, put_all};
 use pua_path::MOST_PATH;
 use pua_tree::OutOfMemory;
@@ -22,7 +22,7 @@ use std::marker::Model;
 
 /// How many bytes are copied for the end of a line: a blank, the name of a call and LF, and blanks
 /// after them.
-pub(crate) const MOST_END: usize = 16;
+pub(crate) const MOST_END: usize = MOST_CALL_LINE;
 
 /// How many bytes a line takes at most while it is written: each byte of its path may be spelled by
 /// four, and those that are copied for its end stand after it.

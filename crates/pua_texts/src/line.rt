@@ -13,13 +13,13 @@ ghost use Rattle.pua_texts.specs.Blocks.{PassesOn};
 use crate::block::{BLOCK, Block, MOST_END, MOST_LINE, MOST_LINES};
 use crate::copies::{copy_front, overwrite};
 use pua_audit::{Audit, PathLines};
-use pua_calls::Call;
+use pua_calls::{Call, MOST_CALL_LINE};
 use pua_io::{PutFault, Sink};
 use pua_path::Probe;
 use pua_tree::{are_plain, byte_spelling};
 
 /// How many bytes the name of a call has at most.
-pub(crate) const MOST_CALL_NAME: usize = 8;
+pub(crate) const MOST_CALL_NAME: usize = MOST_CALL_LINE - 2;
 
 /// Adds a line for each pair that an audit has still to give to a block, which is put where the next
 /// line might not fit. Its memory is used again.
@@ -77,7 +77,7 @@ fn add_line<S: Sink>(
 {
     block.make_room(sink)?;
     spell(block, path);
-    block.push(&padded_end(call)[..call.name().len() + 2]);
+    block.push(&call.line()[..call.name().len() + 2]);
     Ok(())
 }
 
@@ -113,7 +113,7 @@ fn copy_line(buffer: &mut [u8], at: usize, path: &[u8], call: Call) -> usize
     ensures short { at + (length path.now + MOST_END) ≤ length buffer.old →
         result ≤ at + (length path.now + MOST_END) }
 {
-    let padded = padded_end(call);
+    let padded = call.line();
     let room = path.len() + MOST_END;
     if room > buffer.len() || at > buffer.len() - room {
         return at;
@@ -122,34 +122,6 @@ fn copy_line(buffer: &mut [u8], at: usize, path: &[u8], call: Call) -> usize
     overwrite(&mut buffer[at..end], path);
     copy_front::<MOST_END>(&mut buffer[end..end + MOST_END], 0, padded);
     end + (call.name().len() + 2)
-}
-
-/// A blank, the name of a call and LF, with blanks after them.
-fn padded_end(call: Call) -> &'static [u8]
-    ensures end { take (length (call_name call) + 2) result.now ≡ with_end (32 ∷ call_name call) }
-    ensures width { length result.now ≡ MOST_END }
-    ensures short { length (call_name call) + 2 ≤ MOST_END }
-{
-    match call {
-        Call::Stat => b" stat\n          ",
-        Call::Lstat => b" lstat\n         ",
-        Call::Readlink => b" readlink\n      ",
-        Call::OpenRead => b" open-r\n        ",
-        Call::OpenWrite => b" open-w\n        ",
-        Call::OpenBoth => b" open-rw\n       ",
-        Call::Create => b" create\n        ",
-        Call::Mkdir => b" mkdir\n         ",
-        Call::Rmdir => b" rmdir\n         ",
-        Call::Unlink => b" unlink\n        ",
-        Call::Symlink => b" symlink\n       ",
-        Call::Chmod => b" chmod\n         ",
-        Call::Chdir => b" chdir\n         ",
-        Call::Exec => b" exec\n          ",
-        Call::Connect => b" connect\n       ",
-        Call::Bind => b" bind\n          ",
-        Call::Mknod => b" mknod\n         ",
-        Call::Chown => b" chown\n         ",
-    }
 }
 
 /// Adds a path, or a name of one, to a block as it is printed. Where each byte is spelled by itself, it

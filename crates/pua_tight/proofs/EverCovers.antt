@@ -23,7 +23,7 @@ use Rattle.pua_objects.proofs.ForCallers.{filter_map_among, among_filter_map}
 use Rattle.pua_ever.specs.Ever.{row_cover, is_free, can_empty, opens_at, opens_outside, has_c_outside, directories, gives_way}
 use Rattle.pua_ever.specs.Ever.{is_way_in, dir_covers, veil_cover_at, name_covers, open_covers, is_yes, may_edit, edit_calls, may_rename}
 use Rattle.pua_ever.specs.Ever.{can_move, some_dir_moves, file_covers, may_link}
-use Rattle.pua_ever.proofs.ForCallers.{any_among, any_found}
+use Rattle.pua_ever.proofs.ForCallers.{any_among, any_found, yes_is}
 use Rattle.pua_tight.specs.Narrower.{VeilsWithin, no_veils, veils_too, StateWithin}
 use Rattle.pua_tight.proofs.Sets.{or_more, and_more, any_more, all_more}
 use Rattle.pua_tight.proofs.Within.{CoverWithin, all, nothing, only, cover_within, in_within, fault_within, may_within}
@@ -63,11 +63,6 @@ pub c_within : {c d : Cover} → CoverWithin c d → has_c c ≡ true → has_c 
 c_within all e = refl
 c_within nothing e = e
 c_within (only {a = a} {b = b} less) e = holds_through b a creating less e
-
-yes_is : (m : May) → is_yes m ≡ true → m ≡ may.Yes
-yes_is may.Yes e = refl
-yes_is may.Enosys e = cc
-yes_is may.Death e = cc
 
 pub none_is : (o : Option Errno) → is_none o ≡ true → o ≡ None
 none_is None e = refl

@@ -29,9 +29,9 @@ use Rattle.pua_calls.specs.declared.call.Call.{Call}
 use Rattle.pua_policy.specs.States.{ProcessState, unveil_fault, working_dir}
 use Rattle.pua_policy.specs.Misfits.{misfit, misfit_errno}
 use Rattle.pua_policy.specs.Verdict.{cover, cover_fault, object_of, or_fault, place_of}
-use Rattle.pua_policy.specs.declared.reason.Misfit.{Misfit}
-use Rattle.pua_policy.specs.declared.reason.Misfit.TheVariants.{Missing, Exists, IsDirectory, IsNoFile, IsNoDirectory, IsNoLink}
-use Rattle.pua_policy.specs.declared.reason.Misfit.TheVariants.{IsNoProgram, IsNotEmpty, ByDot, ByDotDot, ByNothing, IsNoSocket, InUse}
+use Rattle.pua_calls.specs.declared.fits.Misfit.{Misfit}
+use Rattle.pua_calls.specs.declared.fits.Misfit.TheVariants.{Missing, Exists, IsDirectory, IsNoFile, IsNoDirectory, IsNoLink}
+use Rattle.pua_calls.specs.declared.fits.Misfit.TheVariants.{IsNoProgram, IsNotEmpty, ByDot, ByDotDot, ByNothing, IsNoSocket, InUse}
 use Rattle.pua_policy.specs.declared.answer.Cover.{Cover}
 use Rattle.pua_policy.specs.declared.answer.Cover.TheVariants as covers
 use Rattle.pua_policy.specs.declared.answer.UnveilFault.{UnveilFault}

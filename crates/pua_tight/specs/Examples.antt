@@ -68,7 +68,7 @@ pub record WrittenRows : Type 0 where
       ≡ Some (codes "1 unveil /etc r" ++ 13 ∷ 10 ∷ codes "1 unveil - -" ++ 10 ∷ codes "1 stat /etc")
   pub spelling_stays : written (text_of_lines (codes "1 unveil /a\\040b rw" ∷ codes "1 pledge nothing -" ∷ []))
       ≡ Some (text_of_lines (codes "1 unveil /a\\040b =" ∷ codes "1 pledge nothing -" ∷ []))
-  pub bad_listing : text_over Profile standard_table (codes "tree 3") (codes "1 say") ≡ Err (Listing BadHeader)
+  pub bad_listing : text_over Profile standard_table (codes "tree 4") (codes "1 say") ≡ Err (Listing BadHeader)
   pub bad_script : text_over Profile standard_table (text_of_lines example) (codes "1 say") ≡ Err (Script (BadCall 1))
 
 pub written_rows : WrittenRows

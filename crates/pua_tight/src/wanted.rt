@@ -7,7 +7,7 @@ ghost use Rattle.pua_tight.specs.Uses.{first_other};
 
 use pua_calls::CallTable;
 use pua_script::{Answer, Request, Script, World, WorldFault};
-use pua_tree::{OutOfMemory, SlabTree};
+use pua_tree::{CopiedTree, OutOfMemory, SlabTree};
 use std::alloc::Global;
 
 /// A tree, a table, and what a script is answered by it over that tree. The only error of its functions

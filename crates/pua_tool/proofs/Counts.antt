@@ -74,11 +74,8 @@ one_counted P (other ∷ counts) count all is = (all.0, one_counted P counts cou
 -- with the steps that were found to one call more
 module _ (done : Replayed) (process : ℕ) (h : ProcessState) (asking : Asking) (kind : ObjectKind) (things : List Target)
     (asked : IsAskedBy done.world.tree h asking (Some kind) things) where
-  pub steps_counted : (Served : Type 0) → Served → (counts : List Count) (call : Call) (found : Option ℕ) →
-      AllByRecursion (IsCount done process h asking kind) counts →
-      IfSome found (λ steps. Served → AreStepsTo done process things call steps) →
-      AllByRecursion (IsCount done process h asking kind) (counts ++ (call, found) ∷ [])
-  steps_counted Served is counts call found all steps =
+  pub steps_counted : (counts : List Count) (call : Call) (found : Option ℕ) → AllByRecursion (IsCount done process h asking kind) counts →
+      IfSome found (AreStepsTo done process things call) → AllByRecursion (IsCount done process h asking kind) (counts ++ (call, found) ∷ [])
+  steps_counted counts call found all steps =
       one_counted (IsCount done process h asking kind) counts (call, found) all
-      (count_is done process h asking kind things asked call found
-      (λ n same. when_some (λ steps. Served → AreStepsTo done process things call steps) found steps n same is))
+      (count_is done process h asking kind things asked call found (when_some (AreStepsTo done process things call) found steps))

@@ -200,25 +200,23 @@ module _ {A : Type 0} (written : A → Option (List ℕ)) (failed : A → ℕ) (
 
 -- ---- what was found
 
-module _ {V : Type 0} (items : V → List WayLine) (choice : Chosen) (tree_bytes script_bytes : List ℕ) (process : ℕ) (q : given.Question) where
-  -- lines that are a way behind the script, whatever it left
+module _ {V : Type 0} (items : V → List WayLine) (rules : Rules) (replay : Replay) (process : ℕ) (q : given.Question) where
+  -- lines that are a way behind the script
   abbrev pub AreFound : V → Type 0
-  AreFound v = (done : Replayed) → replay_of choice tree_bytes script_bytes ≡ Ok done → AreWayTo choice.rules done process q (items v)
+  AreFound v = AreWayTo rules (as_replayed replay) process q (items v)
 
-  -- what a plan came to in a world behind the script
-  pub served_found : (replay : Replay) → replay_of choice tree_bytes script_bytes ≡ Ok (as_replayed replay) → (found : Option V) →
-      IfSome found (λ v. (thing : Target) × Contains q.meant.targets.items thing × AreWay choice.rules replay.world process q.call thing (items v)) →
+  -- what plans came to in copies of the world that the script left
+  pub served_found : (found : Option V) →
+      IfSome found (λ v. (thing : Target) × Contains q.meant.targets.items thing × AreWay rules replay.world process q.call thing (items v)) →
       IfSome found AreFound
-  served_found replay is None way = tt
-  served_found replay is (Some v) way = λ other again.
-      subst (λ (d : Replayed). AreWayTo choice.rules d process q (items v)) (same_Ok (as_replayed replay) other (sym is ∙ again))
-      (record { thing = way.0; meant = way.1; are = way.2.are; way = way.2.way })
+  served_found None way = tt
+  served_found (Some v) way = record { thing = way.0; meant = way.1; are = way.2.are; way = way.2.way }
 
-  pub found_ways : (found : Option V) → IfSome found AreFound → (done : Replayed) → replay_of choice tree_bytes script_bytes ≡ Ok done →
-      (lines : List WayLine) → option_map items found ≡ Some lines → AreWayTo choice.rules done process q lines
-  found_ways None ways done is lines same = absurd (None≢Some lines same)
-  found_ways (Some v) ways done is lines same =
-      subst (λ (ls : List WayLine). AreWayTo choice.rules done process q ls) (same_Some (items v) lines same) (ways done is)
+  pub found_ways : (found : Option V) → IfSome found AreFound → (lines : List WayLine) → option_map items found ≡ Some lines →
+      AreWayTo rules (as_replayed replay) process q lines
+  found_ways None ways lines same = absurd (None≢Some lines same)
+  found_ways (Some v) ways lines same =
+      subst (λ (ls : List WayLine). AreWayTo rules (as_replayed replay) process q ls) (same_Some (items v) lines same) ways
 
 -- what is lent of something is as it is
 pub lent_items : {V : Type 0} (items : V → List WayLine) (lent : Option (Bor V)) →

@@ -10,6 +10,7 @@ pub mod ListWritten
 pub mod Stops
 pub mod Ends
 pub mod WhyTexts
+pub mod Reasoned
 pub mod HowTexts
 pub mod NowThere
 pub mod RowColumns
@@ -17,6 +18,8 @@ pub mod Counts
 pub mod EverHowTexts
 pub mod ActingNext
 pub mod TogetherTexts
+pub mod Several
+pub mod Never
 pub mod TightTexts
 pub mod Fewest
 pub mod Headline

@@ -45,31 +45,15 @@ unfolding ever_text
 ever_is choice tree_bytes script_bytes process done r = λ i. r i >>= λ done. ever_after choice.rules done process
 
 module _ (choice : Chosen) (tree_bytes script_bytes : List ℕ) (table : CallTable) (t : Tree) (first : List Asked) (process : ℕ)
-    (text : List ℕ) (given : table_by choice ≡ Ok table) (read : listing tree_bytes ≡ Ok t) (scripted : script_by choice.rules script_bytes ≡ Ok first)
-    (told : ever_text choice tree_bytes script_bytes process ≡ Ok text) where
+    (given : table_by choice ≡ Ok table) (read : listing tree_bytes ≡ Ok t) (scripted : script_by choice.rules script_bytes ≡ Ok first) where
   abbrev w : World
   w = world_after table (new_world t) first
 
   abbrev done : Replayed
   done = record { table = table; answers = answers_to table (new_world t) first; world = w }
 
-  after : ever_after choice.rules done process ≡ Ok text
-  after = sym (ever_is choice tree_bytes script_bytes process done
-      (replayed_is choice tree_bytes script_bytes table t first given (ap as_listing read) (ap as_script scripted))) ∙ told
-
-  never : kept_at w process ≡ None → ⊥
-  never is = Err≢Ok NoProcess text
-      (sym (ap (λ made. ok_or made NoProcess >>= after_by choice.rules done process) is) ∙ after)
-
-  abbrev whole : ProcessState → List ℕ
-  whole h = answer_lines 1 done.answers ++ ever_list choice.rules table w.tree process h
-
-  unless_told : (h : ProcessState) (o : Option Refusal) → unless_reason process o (whole h) ≡ Ok text → (o ≡ None) × (text ≡ whole h)
-  unless_told h None e = (refl, sym (same_Ok (whole h) text e))
-  unless_told h (Some reason) e = absurd (Err≢Ok (ever_fault process reason) text e)
-
-  foreseen_behind : (h : ProcessState) → kept_at w process ≡ Some h → refusal table h ≡ None → IsConfined h ⊎ (is_ended h ≡ true) →
-      IsForeseenBehind table w process h ⊎ (is_ended h ≡ true)
+  pub foreseen_behind : (h : ProcessState) → kept_at w process ≡ Some h → refusal table h ≡ None → IsConfined h ⊎ (is_ended h ≡ true) →
+      IsForeseenBehind table w (process ∷ []) h ⊎ (is_ended h ≡ true)
   foreseen_behind h here none (inl confined) =
       inl (λ asks bytes held edit member belongs. by asks bytes edit member belongs (bound_of table h) refl held)
     where
@@ -99,28 +83,44 @@ module _ (choice : Chosen) (tree_bytes script_bytes : List ℕ) (table : CallTab
           first asks read scripted bytes process h handed here is edit member belongs
   foreseen_behind h here none (inr ended) = inr ended
 
-  written : IsEverWritten choice.rules table t first process text
-  written = by (kept_at w process) refl
-    where
-      by : (made : Option ProcessState) → kept_at w process ≡ made → IsEverWritten choice.rules table t first process text
-      by None is = absurd (never is)
-      by (Some h) is =
-          let parts = unless_told h (refusal table h) (sym (after_made choice.rules done process h is) ∙ after) in
-          record {
-            now = h;
-            here = is;
-            is_text = parts.1;
-            complete = foreseen_behind h is parts.0 (unrefused_process table h parts.0);
-            printed = λ line listed.
-                let head = head_lines w.tree (heading_ever choice.rules (execs_of w.tree table h) process) h in
-                let found = in_lines (λ (l : EverLine). with_end (ever_line_text w.tree l)) (ever_lasting w.tree table h) line listed in (
-                  answer_lines 1 done.answers ++ head ++ found.0,
-                  found.1,
-                  parts.1 ∙ ap (λ lines. answer_lines 1 done.answers ++ (head ++ lines)) found.2
-                      ∙ behind (answer_lines 1 done.answers) head found.0 (with_end (ever_line_text w.tree line)) found.1,
-                );
-          }
+  module _ (text : List ℕ) (told : ever_text choice tree_bytes script_bytes process ≡ Ok text) where
+    after : ever_after choice.rules done process ≡ Ok text
+    after = sym (ever_is choice tree_bytes script_bytes process done
+        (replayed_is choice tree_bytes script_bytes table t first given (ap as_listing read) (ap as_script scripted))) ∙ told
+
+    never : kept_at w process ≡ None → ⊥
+    never is = Err≢Ok NoProcess text
+        (sym (ap (λ made. ok_or made NoProcess >>= after_by choice.rules done process) is) ∙ after)
+
+    abbrev whole : ProcessState → List ℕ
+    whole h = answer_lines 1 done.answers ++ ever_list choice.rules table w.tree process h
+
+    unless_told : (h : ProcessState) (o : Option Refusal) → unless_reason process o (whole h) ≡ Ok text → (o ≡ None) × (text ≡ whole h)
+    unless_told h None e = (refl, sym (same_Ok (whole h) text e))
+    unless_told h (Some reason) e = absurd (Err≢Ok (ever_fault process reason) text e)
+
+    written : IsEverWritten choice.rules table t first process text
+    written = by (kept_at w process) refl
+      where
+        by : (made : Option ProcessState) → kept_at w process ≡ made → IsEverWritten choice.rules table t first process text
+        by None is = absurd (never is)
+        by (Some h) is =
+            let parts = unless_told h (refusal table h) (sym (after_made choice.rules done process h is) ∙ after) in
+            record {
+              now = h;
+              here = is;
+              is_text = parts.1;
+              complete = foreseen_behind h is parts.0 (unrefused_process table h parts.0);
+              printed = λ line listed.
+                  let head = head_lines w.tree (heading_ever choice.rules (execs_of w.tree table h) process) h in
+                  let found = in_lines (λ (l : EverLine). with_end (ever_line_text w.tree l)) (ever_lasting w.tree table h) line listed in (
+                    answer_lines 1 done.answers ++ head ++ found.0,
+                    found.1,
+                    parts.1 ∙ ap (λ lines. answer_lines 1 done.answers ++ (head ++ lines)) found.2
+                        ∙ behind (answer_lines 1 done.answers) head found.0 (with_end (ever_line_text w.tree line)) found.1,
+                  );
+            }
 
 pub ever_as_written : EverAsWritten
 ever_as_written choice tree_bytes script_bytes table t first process text given read scripted told =
-    written choice tree_bytes script_bytes table t first process text given read scripted told
+    written choice tree_bytes script_bytes table t first process given read scripted text told

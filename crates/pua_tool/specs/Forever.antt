@@ -21,14 +21,15 @@ use Rattle.pua_tool.specs.Listed.{HasLine}
 use Rattle.pua_tool.specs.Texts.{Chosen, table_by}
 use Rattle.pua_tool.specs.EverTexts.{ever_text}
 
--- whatever is asked behind a world, in bytes, as long as nobody but a process and its family changes the tree, and the list doesn't
--- say `exec open` or no exec of a member is answered ok: each call that is then allowed to a member has its line
-abbrev pub IsForeseenBehind : CallTable → World → ℕ → ProcessState → Type 0
-IsForeseenBehind table w process now = (asks : List Asked) → IsTrue (are_in_bytes asks) →
-    (execs_of w.tree table now ≢ Open) ⊎ IsTrue (none_done is_exec table w asks (process ∷ [])) → MembersEdit table w asks (process ∷ []) →
-    (member : ℕ) → IsTrue (is_member (family table w asks (process ∷ [])) member) →
+-- whatever is asked behind a world, in bytes, as long as nobody but some processes and their families changes the tree, and their list,
+-- which is that of one, doesn't say `exec open` or no exec of a member is answered ok: each call that is then allowed to a member has
+-- its line
+abbrev pub IsForeseenBehind : CallTable → World → List ℕ → ProcessState → Type 0
+IsForeseenBehind table w processes one = (asks : List Asked) → IsTrue (are_in_bytes asks) →
+    (execs_of w.tree table one ≢ Open) ⊎ IsTrue (none_done is_exec table w asks processes) → MembersEdit table w asks processes →
+    (member : ℕ) → IsTrue (is_member (family table w asks processes) member) →
     let after = world_after table w asks in
-    HasKept after member (ForeseesIn (ever_lasting w.tree table now) w.tree table now after.tree)
+    HasKept after member (ForeseesIn (ever_lasting w.tree table one) w.tree table one after.tree)
 
 -- the text is the answers and the list of the process, and the list is complete; or the process has ended
 pub record IsEverWritten (rules : Rules) (table : CallTable) (t : Tree) (first : List Asked) (process : ℕ) (text : List ℕ) : Type 0 where
@@ -36,7 +37,7 @@ pub record IsEverWritten (rules : Rules) (table : CallTable) (t : Tree) (first :
   pub here : kept_at (world_after table (new_world t) first) process ≡ Some now
   pub is_text : text ≡ answer_lines 1 (answers_to table (new_world t) first)
       ++ ever_list rules table (world_after table (new_world t) first).tree process now
-  pub complete : IsForeseenBehind table (world_after table (new_world t) first) process now ⊎ (is_ended now ≡ true)
+  pub complete : IsForeseenBehind table (world_after table (new_world t) first) (process ∷ []) now ⊎ (is_ended now ≡ true)
   -- and each line of it stands in the text
   pub printed : (line : EverLine) → Contains (ever_lasting (world_after table (new_world t) first).tree table now) line →
       HasLine text (ever_line_text (world_after table (new_world t) first).tree line)

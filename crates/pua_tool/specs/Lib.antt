@@ -16,6 +16,9 @@ pub mod Futures
 pub mod Alike
 pub mod Listed
 pub mod Forever
+pub mod Several
+pub mod Never
+pub mod Reasoned
 pub mod Fewest
 pub mod Headline
 -- Worked rows, which hold by computation.

@@ -1,5 +1,5 @@
 -- The columns of a list for ever, as the code makes them row by row.
-use Rattle.std.specs.Prelude.{◌≡◌, ⊤, ℕ, List, [], ◌∷◌, length, Result, Ok}
+use Rattle.std.specs.Prelude.{◌≡◌, ⊤, ℕ, List, [], ◌∷◌, length}
 use Rattle.std.specs.List.{Contains}
 use Rattle.pua_calls.specs.declared.call.Call.{Call}
 use Rattle.pua_script.specs.Requests.{Asked}
@@ -18,26 +18,17 @@ use Rattle.pua_ever.specs.declared.line.EverLine.{EverLine}
 use Rattle.pua_ever.specs.declared.list.EverRow.{EverRow}
 use Rattle.pua_tool.specs.Begun.{as_replayed}
 use Rattle.pua_tool.specs.EverHowTexts.{IsColumn}
-use Rattle.pua_tool.specs.Texts.{Replayed, choice_of, replay_of}
+use Rattle.pua_tool.specs.Texts.{Replayed}
 use Rattle.pua_tool.specs.declared.columns.Behind.{Behind}
-use Rattle.pua_tool.specs.declared.fault.ToolFault.{ToolFault}
 
 -- an object that has the cover of what a line is about
 abbrev pub found_for : Subject → Found
 found_for (At found) = found
 found_for (Others dir) = Whole dir Top
 
--- what the script leaves that is served again
-abbrev pub served_by : Behind → Result Replayed ToolFault
-served_by behind = replay_of (choice_of behind.table) behind.tree_bytes.now behind.script_bytes.now
-
--- what it left when it was served before
+-- what the script left
 abbrev pub done_behind : Behind → Replayed
 done_behind behind = as_replayed behind.replay.now
-
--- which is the same
-abbrev pub IsBehind : Behind → Type 0
-IsBehind behind = served_by behind ≡ Ok (done_behind behind)
 
 -- so many requests are a way to a call on one of some things
 pub record AreStepsTo (done : Replayed) (process : ℕ) (things : List Target) (call : Call) (steps : ℕ) : Type 0 where

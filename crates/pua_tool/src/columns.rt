@@ -13,50 +13,50 @@ ghost use Rattle.pua_ever.specs.EverList.{word_of_row};
 ghost use Rattle.pua_how.specs.Asked.{IsAskedBy, asking_given};
 ghost use Rattle.pua_texts.specs.EverLines.{kind_of};
 ghost use Rattle.pua_texts.specs.Lines.{with_end};
-ghost use Rattle.pua_tool.specs.RowColumns.{AreColumns, AreStepsTo, IsBehind, IsColumnAt};
-ghost use Rattle.pua_tool.specs.RowColumns.{done_behind};
+ghost use Rattle.pua_tool.specs.RowColumns.{AreColumns, AreStepsTo, IsColumnAt, done_behind};
 ghost use Rattle.pua_tool.specs.EverHowTexts.{IsCount, asking_by, count_text, counts_text};
 
 use crate::fault::ToolFault;
 use crate::now::calls_now;
-use crate::script::{Replay, replay_script};
-use crate::table::TableChoice;
-use pua_calls::{Call, Calls};
+use crate::script::Replay;
+use pua_calls::{Call, Calls, Rules};
 use pua_ever::{EverLine, EverRow, EverThing};
-use pua_how::{Asking, Meant, Plan, find_meant, find_plans};
+use pua_how::{Asking, Meant, Planner, find_meant};
 use pua_objects::ObjectKind;
 use pua_policy::Process;
-use pua_tree::{FileTree, Name, OutOfMemory};
+use pua_tree::{FileTree, Name};
 use std::alloc::{AllocError, Global};
 
-/// What a script was served by, and what it left; and the number of the process whose list it is.
+/// What a script left, the rules by which its lines are read, and the number of the process whose list it
+/// is.
 #[derive(Clone, Copy)]
 pub(crate) struct Behind<'a> {
-    pub(crate) tree_bytes: &'a [u8],
-    pub(crate) script_bytes: &'a [u8],
-    pub(crate) table: TableChoice<'a>,
     pub(crate) replay: &'a Replay,
+    pub(crate) rules: Rules,
     pub(crate) number: u32,
 }
 
-/// The columns of rows, each with the LF at the end of its line. For each call in them the script is
-/// served once more, or twice. `OutOfMemory` where a growth was refused, as of all here.
+/// The columns of rows, each with the LF at the end of its line. Plans for each call in them are served in
+/// copies of the world that the script left. `OutOfMemory` where a growth was refused, as of all here.
 pub(crate) fn columns_of(
     alloc: Global,
     behind: &Behind<'_>,
     process: &Process,
     rows: &[EverRow<'_>],
 ) -> Result<Vec<String>, ToolFault>
-    ensures columns { IfOk result (λ columns. IsBehind behind.now →
+    ensures columns { IfOk result (λ columns.
         AreColumns (done_behind behind.now) behind.now.number process.now [] rows.now
         (map string_bytes columns.items)) }
     ensures memory { IfErr result (λ fault. fault ≡ ToolFault.OutOfMemory) }
 {
+    let world = &behind.replay.world;
+    let planner = Planner::new(alloc, world.tree(), process, world.table())?;
     let mut names = Vec::new(alloc);
     let mut columns = Vec::new(alloc);
     for row in rows {
         go_to(&mut names, row)?;
-        let column = column_of(alloc, behind, process, names.as_slice(), &row.line)?;
+        let names = names.as_slice();
+        let column = column_of(alloc, behind, process, &planner, names, &row.line)?;
         columns.push(column)?;
     }
     Ok(columns)
@@ -79,10 +79,11 @@ fn column_of(
     alloc: Global,
     behind: &Behind<'_>,
     process: &Process,
+    planner: &Planner<'_>,
     names: &[&Name],
     line: &EverLine,
 ) -> Result<String, ToolFault>
-    ensures column { IfOk result (λ text. IsBehind behind.now →
+    ensures column { IfOk result (λ text.
         IsColumnAt (done_behind behind.now) behind.now.number process.now
         (map (λ name. name.now) names.now) line.now (string_bytes text)) }
     ensures memory { IfErr result (λ fault. fault ≡ ToolFault.OutOfMemory) }
@@ -90,7 +91,7 @@ fn column_of(
     let world = &behind.replay.world;
     let now = calls_now(world.tree(), process, world.table(), names, line.thing);
     let lacking = without(line.calls, now);
-    let counts = counts_on(alloc, behind, process, names, line.thing, lacking)?;
+    let counts = counts_on(alloc, behind, process, planner, names, line.thing, lacking)?;
     Ok(text_of(alloc, counts.as_slice())?)
 }
 
@@ -120,11 +121,12 @@ fn counts_on(
     alloc: Global,
     behind: &Behind<'_>,
     process: &Process,
+    planner: &Planner<'_>,
     names: &[&Name],
     thing: EverThing,
     calls: Calls,
 ) -> Result<Vec<(Call, Option<usize>)>, ToolFault>
-    ensures counts { IfOk result (λ counts. (about : Thing) → IsBehind behind.now →
+    ensures counts { IfOk result (λ counts. (about : Thing) →
         IsThing (done_behind behind.now).world.tree about thing →
         AllByRecursion (IsCount (done_behind behind.now) behind.now.number process.now
         (asking_by (map (λ name. name.now) names.now) about) (kind_of thing)) counts.items) }
@@ -138,7 +140,7 @@ fn counts_on(
     let mut counts = Vec::new(alloc);
     for call in Call::ALL {
         if calls.contains(call) {
-            let steps = steps_to(alloc, behind, process, call, &meant)?;
+            let steps = steps_to(alloc, behind, planner, call, &meant)?;
             counts.push((call, steps))?;
         }
     }
@@ -191,51 +193,20 @@ fn asking_on(alloc: Global, names: &[&Name], thing: EverThing) -> Result<Asking,
 fn steps_to(
     alloc: Global,
     behind: &Behind<'_>,
-    process: &Process,
+    planner: &Planner<'_>,
     call: Call,
     meant: &Meant,
 ) -> Result<Option<usize>, ToolFault>
-    ensures steps { IfOk result (λ found. IfSome found (λ steps. IsBehind behind.now →
+    ensures steps { IfOk result (λ found. IfSome found (λ steps.
         AreStepsTo (done_behind behind.now) behind.now.number meant.now.targets.items call
         steps)) }
     ensures memory { IfErr result (λ fault. fault ≡ ToolFault.OutOfMemory) }
 {
-    let world = &behind.replay.world;
-    let plans = find_plans(alloc, world.tree(), process, world.table(), call, meant)?;
-    match steps_by(alloc, behind, call, meant, plans.first.as_ref())? {
-        Some(steps) => Ok(Some(steps)),
-        None => steps_by(alloc, behind, call, meant, plans.second.as_ref()),
-    }
-}
-
-/// The number of steps of a plan, if there is one and it is a way: that is seen when it is served behind
-/// the script. A script that was served once is refused for want of memory alone.
-fn steps_by(
-    alloc: Global,
-    behind: &Behind<'_>,
-    call: Call,
-    meant: &Meant,
-    plan: Option<&Plan>,
-) -> Result<Option<usize>, ToolFault>
-    ensures steps { IfOk result (λ found. IfSome found (λ steps. IsBehind behind.now →
-        AreStepsTo (done_behind behind.now) behind.now.number meant.now.targets.items call
-        steps)) }
-    ensures memory { IfErr result (λ fault. fault ≡ ToolFault.OutOfMemory) }
-{
-    let Some(plan) = plan else {
-        return Ok(None);
-    };
-    let replay = replay_script(alloc, behind.tree_bytes, behind.script_bytes, behind.table);
-    let Ok(mut replay) = replay else {
-        return Err(ToolFault::OutOfMemory);
-    };
-    let rules = behind.table.rules;
-    let served = plan.serve(alloc, rules, &mut replay.world, behind.number, call, meant);
-    replay.release();
-    match served {
-        Ok(Some(lines)) => Ok(Some(lines.len())),
-        Ok(None) => Ok(None),
-        Err(OutOfMemory) => Err(ToolFault::OutOfMemory),
+    let plans = planner.find_plans(call, meant)?;
+    let (world, rules) = (&behind.replay.world, behind.rules);
+    match plans.serve(alloc, rules, world, behind.number, call, meant)? {
+        Some(lines) => Ok(Some(lines.len())),
+        None => Ok(None),
     }
 }
 

@@ -3,7 +3,7 @@
 ghost use Rattle.std.specs.Prelude.{◌≡◌, ℕ, List, Ok, Result};
 ghost use Rattle.pua_tool.specs.Answers.{AnswersTo};
 ghost use Rattle.pua_tool.specs.EverHowTexts.{IsEverHowAfter, IsEverHowText};
-ghost use Rattle.pua_tool.specs.RowColumns.{IsBehind, done_behind};
+ghost use Rattle.pua_tool.specs.RowColumns.{done_behind};
 ghost use Rattle.pua_tool.specs.Texts.{choice_of};
 
 use crate::columns::{Behind, columns_of};
@@ -21,7 +21,7 @@ use std::alloc::Global;
 /// each line that has calls which the list of now lacks on what the line is about a blank and these
 /// calls in their order, with commas between them, each with a blank and the number of steps of a way
 /// to it on what the line's path and kind mean, as [`how_to`](crate::how_to) writes one; or `?`, where
-/// none was found. For each such call the script is served once more, or twice.
+/// none was found. Each plan is served in a copy of the world that the script left.
 ///
 /// The first that holds of `Table`, `Listing`, `Script`, `NoProcess`, `CanUnveil`, `LacksC`,
 /// `RenameLacksC` and `LinkLacksC` is answered before anything is written. So is `OutOfMemory`,
@@ -41,10 +41,8 @@ pub fn ever_how_to<S: Sink>(
 {
     let replay = replay_script(alloc, tree_bytes, script_bytes, table)?;
     let behind = Behind {
-        tree_bytes,
-        script_bytes,
-        table,
         replay: &replay,
+        rules: table.rules,
         number: process,
     };
     let written = list_to(alloc, &behind, sink);
@@ -55,8 +53,8 @@ pub fn ever_how_to<S: Sink>(
 /// Writes the answers of a script, and then the list for ever of the process where the script ends, with
 /// its columns. Every fault but `Write` is answered before anything is written.
 fn list_to<S: Sink>(alloc: Global, behind: &Behind<'_>, sink: &mut S) -> Result<(), ToolFault>
-    ensures { IsBehind behind.now → (answer : Result (List ℕ) ToolFault)
-        × IsEverHowAfter behind.now.table.rules (done_behind behind.now) behind.now.number answer
+    ensures { (answer : Result (List ℕ) ToolFault)
+        × IsEverHowAfter behind.now.rules (done_behind behind.now) behind.now.number answer
         × AnswersTo S.written S.failed answer result sink.old sink.new }
 {
     let (number, world) = (behind.number, &behind.replay.world);
@@ -75,7 +73,7 @@ fn list_to<S: Sink>(alloc: Global, behind: &Behind<'_>, sink: &mut S) -> Result<
     let Ok(front) = answer_text(alloc, behind.replay.answers.as_slice()) else {
         return Err(ToolFault::OutOfMemory);
     };
-    let (rules, front) = (behind.table.rules, front.as_str());
+    let (rules, front) = (behind.rules, front.as_str());
     told(write_ever_how(
         alloc, tree, rules, number, process, &list, columns, front, sink,
     ))

@@ -6,21 +6,20 @@ ghost use Rattle.pua_texts.specs.Lines.{with_end};
 ghost use Rattle.pua_how.specs.Outlooks.{IsOutlook};
 ghost use Rattle.pua_tool.specs.Answers.{AnswersTo};
 ghost use Rattle.pua_tool.specs.Begun.{as_replayed};
-ghost use Rattle.pua_tool.specs.HowTexts.{IsHowText, follows_link as is_link_followed, question_of};
+ghost use Rattle.pua_tool.specs.HowTexts.{IsHowAsked, IsHowText, follows_link as is_link_followed};
+ghost use Rattle.pua_tool.specs.HowTexts.{question_of};
 ghost use Rattle.pua_tool.specs.HowTexts.{things_asked, told_without, way_wanted};
 ghost use Rattle.pua_tool.specs.Questions.{AreMeant, AreWayTo, IsQuestion, text_told, texts_of};
-ghost use Rattle.pua_tool.specs.Texts.{Replayed, choice_of, replay_of};
+ghost use Rattle.pua_tool.specs.Texts.{choice_of};
 
 use crate::ever_fault::reason_of;
 use crate::fault::ToolFault;
 use crate::objects::put_text;
 use crate::script::{Replay, replay_script};
 use crate::table::TableChoice;
-use pua_calls::{Call, CallTable};
+use pua_calls::{Call, CallTable, Rules};
 use pua_ever::{ExecBound, both_of, why_refused};
-use pua_how::{
-    Asking, BestPlans, Meant, Outlook, Plan, Target, WayLine, find_meant, find_outlook, find_plans,
-};
+use pua_how::{Asking, Meant, Outlook, Planner, Target, WayLine, find_meant, find_outlook};
 use pua_io::Sink;
 use pua_path::Last;
 use pua_policy::Process;
@@ -73,45 +72,36 @@ fn how_text(
         (Err fault)) }
     ensures unwritten { IfErr result (λ fault. fault ≢ ToolFault.Write) }
 {
-    let question = asked_behind(alloc, tree_bytes, script_bytes, table, words)?;
-    let process = words.process;
-    let found = find(alloc, tree_bytes, script_bytes, table, process, &question)?;
-    match told(alloc, &question.outlook, found.as_ref()) {
-        Ok(text) => Ok(text),
-        Err(AllocError) => Err(ToolFault::OutOfMemory),
-    }
+    let replay = replay_script(alloc, tree_bytes, script_bytes, table)?;
+    let text = text_behind(alloc, &replay, table.rules, words);
+    replay.release();
+    text
 }
 
-/// What is asked about behind a script, with what may come to it.
+/// The text where a replay ends, in lines that are read by these rules.
+fn text_behind(
+    alloc: Global,
+    replay: &Replay,
+    rules: Rules,
+    words: &HowWords<'_>,
+) -> Result<String, ToolFault>
+    ensures done { IfOk result (λ text. IsHowAsked rules (as_replayed replay.now)
+        (way_wanted words.now) (Ok (string_bytes text))) }
+    ensures refused { IfErr result (λ fault. fault ≢ ToolFault.OutOfMemory →
+        IsHowAsked rules (as_replayed replay.now) (way_wanted words.now) (Err fault)) }
+    ensures unwritten { IfErr result (λ fault. fault ≢ ToolFault.Write) }
+{
+    let question = asked_of(alloc, replay, words)?;
+    let found = find(alloc, replay, rules, words.process, &question)?;
+    Ok(told(alloc, &question.outlook, found.as_ref())?)
+}
+
+/// What is asked about behind a script, with what the list for ever says of it.
 #[derive(Drop)]
 pub(crate) struct Question {
     pub(crate) call: Call,
     pub(crate) meant: Meant,
     pub(crate) outlook: Outlook,
-    plans: BestPlans,
-}
-
-/// What is asked about behind a script over the tree of a listing, or the first fault. `OutOfMemory`
-/// where a growth was refused.
-fn asked_behind(
-    alloc: Global,
-    tree_bytes: &[u8],
-    script_bytes: &[u8],
-    table: TableChoice<'_>,
-    words: &HowWords<'_>,
-) -> Result<Question, ToolFault>
-    ensures asked { IfOk result (λ question. (done : Replayed)
-        × (replay_of (choice_of table.entry) tree_bytes.now script_bytes.now ≡ Ok done)
-        × IsQuestion done (way_wanted words.now) question) }
-    ensures refused { IfErr result (λ fault. fault ≢ ToolFault.OutOfMemory →
-        IsHowText (choice_of table.entry) tree_bytes.now script_bytes.now (way_wanted words.now)
-        (Err fault)) }
-    ensures unwritten { IfErr result (λ fault. fault ≢ ToolFault.Write) }
-{
-    let replay = replay_script(alloc, tree_bytes, script_bytes, table)?;
-    let question = asked_of(alloc, &replay, words);
-    replay.release();
-    question
 }
 
 /// What is asked about where a replay ends.
@@ -139,14 +129,10 @@ fn asked_of(alloc: Global, replay: &Replay, words: &HowWords<'_>) -> Result<Ques
         return Err(ToolFault::HowLink(call));
     }
     let outlook = outlook_of(alloc, tree, process, table, things, call)?;
-    let Ok(plans) = find_plans(alloc, tree, process, table, call, &meant) else {
-        return Err(ToolFault::OutOfMemory);
-    };
     Ok(Question {
         call,
         meant,
         outlook,
-        plans,
     })
 }
 
@@ -215,88 +201,31 @@ fn outlook_of<T: FileTree>(
     Ok(outlook)
 }
 
-/// A way to what is asked about, if one of the plans is one; none is served where no line of the list for
-/// ever has the call. `OutOfMemory` where a growth was refused.
+/// A way to what is asked about, if one of the plans is one behind the script; none is laid where no line
+/// of the list for ever has the call. `OutOfMemory` where a growth was refused.
 fn find(
     alloc: Global,
-    tree_bytes: &[u8],
-    script_bytes: &[u8],
-    table: TableChoice<'_>,
-    process: u32,
+    replay: &Replay,
+    rules: Rules,
+    number: u32,
     question: &Question,
 ) -> Result<Option<Vec<WayLine>>, ToolFault>
-    ensures way { IfOk result (λ found. IfSome found (λ lines. (done : Replayed) →
-        replay_of (choice_of table.entry) tree_bytes.now script_bytes.now ≡ Ok done →
-        AreWayTo table.entry.rules done process question.now lines.items)) }
+    ensures way { IfOk result (λ found. IfSome found (λ lines.
+        AreWayTo rules (as_replayed replay.now) number question.now lines.items)) }
     ensures memory { IfErr result (λ fault. fault ≡ ToolFault.OutOfMemory) }
     ensures unwritten { IfErr result (λ fault. fault ≢ ToolFault.Write) }
 {
+    let world = &replay.world;
+    let Some(process) = world.process(number) else {
+        return Ok(None);
+    };
     if !question.outlook.listed {
         return Ok(None);
     }
-    let (first, second) = (
-        question.plans.first.as_ref(),
-        question.plans.second.as_ref(),
-    );
-    match serve(
-        alloc,
-        tree_bytes,
-        script_bytes,
-        table,
-        process,
-        question,
-        first,
-    )? {
-        Some(lines) => Ok(Some(lines)),
-        None => serve(
-            alloc,
-            tree_bytes,
-            script_bytes,
-            table,
-            process,
-            question,
-            second,
-        ),
-    }
-}
-
-/// Serves a plan in a world behind a script, if there is one. A script that was served once is refused for
-/// want of memory alone.
-fn serve(
-    alloc: Global,
-    tree_bytes: &[u8],
-    script_bytes: &[u8],
-    table: TableChoice<'_>,
-    process: u32,
-    question: &Question,
-    plan: Option<&Plan>,
-) -> Result<Option<Vec<WayLine>>, ToolFault>
-    ensures way { IfOk result (λ found. IfSome found (λ lines. (done : Replayed) →
-        replay_of (choice_of table.entry) tree_bytes.now script_bytes.now ≡ Ok done →
-        AreWayTo table.entry.rules done process question.now lines.items)) }
-    ensures memory { IfErr result (λ fault. fault ≡ ToolFault.OutOfMemory) }
-    ensures unwritten { IfErr result (λ fault. fault ≢ ToolFault.Write) }
-{
-    let Some(plan) = plan else {
-        return Ok(None);
-    };
-    let rules = table.rules;
-    let Ok(mut replay) = replay_script(alloc, tree_bytes, script_bytes, table) else {
-        return Err(ToolFault::OutOfMemory);
-    };
-    let served = plan.serve(
-        alloc,
-        rules,
-        &mut replay.world,
-        process,
-        question.call,
-        &question.meant,
-    );
-    replay.release();
-    let Ok(found) = served else {
-        return Err(ToolFault::OutOfMemory);
-    };
-    Ok(found)
+    let planner = Planner::new(alloc, world.tree(), process, world.table())?;
+    let plans = planner.find_plans(question.call, &question.meant)?;
+    let (call, meant) = (question.call, &question.meant);
+    Ok(plans.serve(alloc, rules, world, number, call, meant)?)
 }
 
 /// The lines of a way, or what is said without one.

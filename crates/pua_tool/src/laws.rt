@@ -8,12 +8,16 @@ ghost use Rattle.pua_tool.specs.Examples.{HowTextRows, ReasonTextRows, TextRows,
 ghost use Rattle.pua_tool.specs.Fewest.{TightAsWritten};
 ghost use Rattle.pua_tool.specs.Forever.{EverAsWritten};
 ghost use Rattle.pua_tool.specs.Listed.{ObjectsAsWritten};
+ghost use Rattle.pua_tool.specs.Never.{NeverAsWritten};
+ghost use Rattle.pua_tool.specs.Reasoned.{ReasonsAsWritten};
+ghost use Rattle.pua_tool.specs.Several.{TogetherAsWritten};
 ghost use Rattle.pua_tool.specs.Headline.{IsOfHistories};
 ghost use Rattle.pua_tool.specs.Futures.{Confinement, ConfinementAsRead, Narrowing};
 ghost use Rattle.pua_tool.specs.Futures.{NarrowingAsRead, NarrowingNow};
 ghost use Rattle.pua_script.specs.Futures.{RulesNarrow};
 ghost use Rattle.pua_script.specs.Tightening.{OthersLeave, OthersLeaveAlways};
 
+use pua_ever::together_law;
 use pua_objects::{completeness_law, soundness_law};
 use pua_script::pasts_law;
 use pua_tree::FileTree;
@@ -68,6 +72,32 @@ pub fn objects_text_law()
 /// theirs succeeds.
 pub fn ever_text_law()
     ensures { EverAsWritten }
+{}
+
+/// Where there is a text of a list for ever of several processes, it is the answers, their states and the list of the one that stands
+/// for those that live, which is complete: whatever these and what they fork ask for, as long as nobody else changes the tree, and all
+/// that they start is bounded or no exec of theirs succeeds, each call that is then allowed to one of them has a line in the text.
+pub fn together_text_law()
+    ensures { TogetherAsWritten }
+{
+    together_law();
+}
+
+/// Where there is a text of a run with reasons, or of the list of a process with them, each line's reason is so: its answer follows
+/// from it, what it says holds of the world behind the lines before, and since the line that it names the same request had the same
+/// reason, and just before it another. In the list each line has the promises on which its calls rest, which are held, the veil that
+/// covers it, and the line since which that veil has its letters. What is told to lack is exactly what still lacked.
+#[tactic(auto, using(crate::proofs::Reasoned::reasons_as_written))]
+pub fn reasons_text_law()
+    ensures { ReasonsAsWritten }
+{}
+
+/// Where the text of a way says `never`, or `never before an exec`, the call is allowed to no member of the process's family on anything
+/// that is meant, by whatever path from wherever: whatever is asked behind the script, as long as nobody else changes the tree; and where
+/// it says the latter, as long as no exec of theirs succeeds.
+#[tactic(auto, using(crate::proofs::Never::never_as_written))]
+pub fn never_text_law()
+    ensures { NeverAsWritten }
 {}
 
 /// Where there is a text of a tightened script, it is a script again, the given one but for words that were left out: its run has

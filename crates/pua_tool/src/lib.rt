@@ -37,8 +37,9 @@ pub use fault::ToolFault;
 pub use how::how_to;
 pub use job::Job;
 pub use laws::{
-    column_examples, confined, ever_text_law, headline_law, narrowing, objects_text_law,
-    text_examples, tight_text_law, trees_alike,
+    column_examples, confined, ever_text_law, headline_law, narrowing, never_text_law,
+    objects_text_law, reasons_text_law, text_examples, tight_text_law, together_text_law,
+    trees_alike,
 };
 pub use objects::objects_to;
 pub use objects_why::objects_why_to;

@@ -14,7 +14,7 @@ use crate::script::{ProgramTree, read_requests, read_table, read_tree, release};
 use crate::table::TableChoice;
 use pua_calls::{CallTable, Rules};
 use pua_script::{Answer, Script, World};
-use pua_tree::OutOfMemory;
+use pua_tree::{CopiedTree, OutOfMemory};
 use std::alloc::Global;
 
 /// A script, what its lines were answered, and the worlds before and after it. The listing is read once,

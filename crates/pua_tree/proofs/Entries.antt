@@ -1,4 +1,6 @@
 -- The rows and nodes of a listing's entries, looked up and added to.
+use Rattle.pua_tree.specs.declared.form.Form.{Form}
+use Rattle.pua_tree.specs.Listing.{most_names_of, knows_hard, most_listed_of}
 use Rattle.pua_tree.proofs.Common.{◌≡◌, ℕ, suc, ◌+◌, ◌<◌, ◌≤◌, Bool, true, false, cond, not, ◌&&◌, ◌||◌, T, eqb, leb, ltb, List, [], ◌∷◌}
 use Rattle.pua_tree.proofs.Common.{◌++◌, map, length, Option, Some, None, option_map, is_some, refl, sym, ap, subst, ◌∙◌, arith, append-nil}
 use Rattle.pua_tree.proofs.Common.{append_assoc, true≢false, inl, inr, IsTrue, list_all, list_any, cons_option, Equal-is, tied_itself}
@@ -54,19 +56,19 @@ seven true false c d e f g h = absurd (true≢false (sym h))
 seven false b c d e f g h = absurd (true≢false (sym h))
 
 -- what it is for an entry to fit the earlier ones, part by part
-pub record Fits (hard : Bool) (es : List Entry) (e : Entry) : Type 0 where
+pub record Fits (form : Form) (es : List Entry) (e : Entry) : Type 0 where
   pub above : last_number es < e.number
   pub small : e.number ≤ 999999
   pub in_dir : IsTrue (is_earlier_dir es e.parent)
   pub named : IsTrue (is_name e.name)
   pub free : is_taken es e.parent e.name ≡ false
-  pub room : length es + 1 < 4096
-  pub made : IsTrue (made_fits hard es e e.made)
+  pub room : length es + 1 < most_listed_of form
+  pub made : IsTrue (made_fits (knows_hard form) es e e.made)
 
-pub fits_parts : (hard : Bool) (es : List Entry) (e : Entry) → IsTrue (entry_fits hard es e) → Fits hard es e
-fits_parts hard es e h =
+pub fits_parts : (form : Form) (es : List Entry) (e : Entry) → IsTrue (entry_fits form es e) → Fits form es e
+fits_parts form es e h =
     let p = seven (ltb (last_number es) e.number) (leb e.number 999999) (is_earlier_dir es e.parent) (is_name e.name)
-    (not (is_taken es e.parent e.name)) (ltb (length es + 1) 4096) (made_fits hard es e e.made) h in
+    (not (is_taken es e.parent e.name)) (ltb (length es + 1) (most_listed_of form)) (made_fits (knows_hard form) es e e.made) h in
     record {
       above = ltb-true _ _ p.0;
       small = leb-true _ _ p.1;
@@ -77,12 +79,12 @@ fits_parts hard es e h =
       made = p.6;
     }
 
-pub fits_from : (hard : Bool) (es : List Entry) (e : Entry) → Fits hard es e → IsTrue (entry_fits hard es e)
-fits_from hard es e f =
+pub fits_from : (form : Form) (es : List Entry) (e : Entry) → Fits form es e → IsTrue (entry_fits form es e)
+fits_from form es e f =
     and_from (ltb (last_number es) e.number) _ (lt-ltb _ _ f.above) (and_from (leb e.number 999999) _ (le-leb _ _ f.small)
     (and_from (is_earlier_dir es e.parent) _ f.in_dir
     (and_from (is_name e.name) _ f.named (and_from (not (is_taken es e.parent e.name)) _ (not_from_false _ f.free)
-    (and_from (ltb (length es + 1) 4096) _ (lt-ltb _ _ f.room) f.made)))))
+    (and_from (ltb (length es + 1) (most_listed_of form)) _ (lt-ltb _ _ f.room) f.made)))))
 
 -- the numbers rise, from above the first
 abbrev pub Rising : ℕ → List Entry → Type 0
@@ -94,12 +96,12 @@ last_number_push [] e = refl
 last_number_push (x ∷ []) e = refl
 last_number_push (x ∷ y ∷ es) e = last_number_push (y ∷ es) e
 
-pub entries_rise : (hard : Bool) (earlier es : List Entry) → IsTrue (entries_fit hard earlier es) → Rising (last_number earlier) es
-entries_rise hard earlier [] h = tt
-entries_rise hard earlier (e ∷ es) h =
-    let parts = and_parts (entry_fits hard earlier e) (entries_fit hard (earlier ++ e ∷ []) es) h in (
-      (fits_parts hard earlier e parts.0).above,
-      subst (λ n. Rising n es) (last_number_push earlier e) (entries_rise hard (earlier ++ e ∷ []) es parts.1),
+pub entries_rise : (form : Form) (earlier es : List Entry) → IsTrue (entries_fit form earlier es) → Rising (last_number earlier) es
+entries_rise form earlier [] h = tt
+entries_rise form earlier (e ∷ es) h =
+    let parts = and_parts (entry_fits form earlier e) (entries_fit form (earlier ++ e ∷ []) es) h in (
+      (fits_parts form earlier e parts.0).above,
+      subst (λ n. Rising n es) (last_number_push earlier e) (entries_rise form (earlier ++ e ∷ []) es parts.1),
     )
 
 -- the node under a number, by a test that no missing node passes
@@ -146,8 +148,8 @@ other_made None = refl
 other_made (Some n) = refl
 
 -- the directories and the other nodes of the entries' tree
-pub earlier_dir_is_found : (es : List Entry) (p low : ℕ) → Rising low es → is_dir (tree_of es) p ≡ is_earlier_dir es p
-earlier_dir_is_found es p low r =
+pub earlier_dir_is_found : (form : Form) (es : List Entry) (p low : ℕ) → Rising low es → is_dir (tree_of form es) p ≡ is_earlier_dir es p
+earlier_dir_is_found form es p low r =
     let made : Option Node = find nat_cmp p (filter_map made_entry es) in
     ap (λ b. is_dir_kind (option_map (λ n. n.kind) (cond b (Some root_node) made))) (nat_tie p 0 ∙ turned p)
     ∙ elim (eqb p 0) as (λ b. is_dir_kind (option_map (λ n. n.kind) (cond b (Some root_node) made))
@@ -156,9 +158,9 @@ earlier_dir_is_found es p low r =
       | false ↦ dir_made made ∙ made_found makes_dir refl p low es r
     ]
 
-pub earlier_other_is_found : (es : List Entry) (p low : ℕ) → Rising low es →
-    (is_living (tree_of es) p && not (is_dir (tree_of es) p)) ≡ is_earlier_other es p
-earlier_other_is_found es p low r =
+pub earlier_other_is_found : (form : Form) (es : List Entry) (p low : ℕ) → Rising low es →
+    (is_living (tree_of form es) p && not (is_dir (tree_of form es) p)) ≡ is_earlier_other es p
+earlier_other_is_found form es p low r =
     let made : Option Node = find nat_cmp p (filter_map made_entry es) in
     let test : Option Node → Bool = λ o. is_some o && not (is_dir_kind (option_map (λ n. n.kind) o)) in
     ap (λ b. test (cond b (Some root_node) made)) (nat_tie p 0 ∙ turned p)
@@ -208,13 +210,13 @@ rows_push es e free =
     ∙ ap (cond (eq_by_cmp spot_cmp s (e.parent, e.name)) (Some e.node)) (sym (rows_found es s))
     ∙ sym (find-put spot_cmp spots_total s (e.parent, e.name) e.node (rows_of_entries es)))
 
-pub entries_push : (hard : Bool) (earlier es : List Entry) (e : Entry) → IsTrue (entries_fit hard earlier es) →
-    IsTrue (entry_fits hard (earlier ++ es) e) → IsTrue (entries_fit hard earlier (es ++ e ∷ []))
-entries_push hard earlier [] e h fits = and_from _ _ (subst (λ l. IsTrue (entry_fits hard l e)) (append-nil earlier) fits) refl
-entries_push hard earlier (x ∷ es) e h fits =
-    let parts = and_parts (entry_fits hard earlier x) (entries_fit hard (earlier ++ x ∷ []) es) h in
-    and_from _ _ parts.0 (entries_push hard (earlier ++ x ∷ []) es e parts.1
-    (subst (λ l. IsTrue (entry_fits hard l e)) (sym (append_assoc earlier (x ∷ []) es)) fits))
+pub entries_push : (form : Form) (earlier es : List Entry) (e : Entry) → IsTrue (entries_fit form earlier es) →
+    IsTrue (entry_fits form (earlier ++ es) e) → IsTrue (entries_fit form earlier (es ++ e ∷ []))
+entries_push form earlier [] e h fits = and_from _ _ (subst (λ l. IsTrue (entry_fits form l e)) (append-nil earlier) fits) refl
+entries_push form earlier (x ∷ es) e h fits =
+    let parts = and_parts (entry_fits form earlier x) (entries_fit form (earlier ++ x ∷ []) es) h in
+    and_from _ _ parts.0 (entries_push form (earlier ++ x ∷ []) es e parts.1
+    (subst (λ l. IsTrue (entry_fits form l e)) (sym (append_assoc earlier (x ∷ []) es)) fits))
 
 -- a key above all others stands last
 pub put_last : {X : Type 0} (k : ℕ) (v : X) (es : List (ℕ × X)) → IsTrue (list_all (λ e. ltb e.0 k) es) →
@@ -243,8 +245,8 @@ made_below n (e ∷ es) h =
       | Some m ↦ and_from _ _ parts.0 (made_below n es parts.1)
     ]
 
-node_numbers_below : (n : ℕ) (es : List Entry) → Rising 0 es → last_number es < n → IsTrue (list_all (λ e. ltb e.0 n) (tree_of es).nodes)
-node_numbers_below n es r h = and_from _ _ (lt-ltb 0 n (omega (arith, h))) (made_below n es (numbers_below 0 n es r h))
+node_numbers_below : (form : Form) (n : ℕ) (es : List Entry) → Rising 0 es → last_number es < n → IsTrue (list_all (λ e. ltb e.0 n) (tree_of form es).nodes)
+node_numbers_below form n es r h = and_from _ _ (lt-ltb 0 n (omega (arith, h))) (made_below n es (numbers_below 0 n es r h))
 
 -- a number of the entries lies between the bounds
 pub any_between : (K : Option Node → Bool) (p low n : ℕ) (es : List Entry) → Rising low es → IsTrue (list_all (λ e. ltb e.number n) es) →
@@ -259,41 +261,41 @@ any_between K p low n (e ∷ es) r a h =
     ]
 
 -- a directory's number is below those of what stands in it
-pub parent_below : (hard : Bool) (es : List Entry) (e : Entry) → Rising 0 es → Fits hard es e → e.parent < e.number
-parent_below hard es e r f =
+pub parent_below : (form : Form) (es : List Entry) (e : Entry) → Rising 0 es → Fits form es e → e.parent < e.number
+parent_below form es e r f =
     elim (or_cases (eqb e.parent 0) _ f.in_dir) [
       | inl root ↦ omega (arith, eqb-true _ _ root, f.above)
       | inr made ↦ (any_between makes_dir e.parent 0 e.number es r (numbers_below 0 e.number es r f.above) made).1
     ]
 
 -- so is that of a node of an earlier line, which is not the root
-pub earlier_below : (hard : Bool) (es : List Entry) (e : Entry) → Rising 0 es → Fits hard es e → IsTrue (is_earlier_other es e.node) →
+pub earlier_below : (form : Form) (es : List Entry) (e : Entry) → Rising 0 es → Fits form es e → IsTrue (is_earlier_other es e.node) →
     (0 < e.node) × (e.node < e.number)
-earlier_below hard es e r f h = any_between makes_other e.node 0 e.number es r (numbers_below 0 e.number es r f.above) h
+earlier_below form es e r f h = any_between makes_other e.node 0 e.number es r (numbers_below 0 e.number es r f.above) h
 
 -- a further entry, as what it makes of the tree
-pub tree_push : (hard : Bool) (es : List Entry) (e : Entry) → IsTrue (entries_fit hard [] es) → Fits hard es e →
-    tree_of (es ++ e ∷ []) ≡ tree_with (tree_of es) e
-tree_push hard es e h f = by e.made refl
+pub tree_push : (form : Form) (es : List Entry) (e : Entry) → IsTrue (entries_fit form [] es) → Fits form es e →
+    tree_of form (es ++ e ∷ []) ≡ tree_with (tree_of form es) e
+tree_push form es e h f = by e.made refl
   where
-    nodes_push : (tree_of (es ++ e ∷ [])).nodes ≡ (0, root_node) ∷ (filter_map made_entry es ++ cons_option (made_entry e) [])
+    nodes_push : (tree_of form (es ++ e ∷ [])).nodes ≡ (0, root_node) ∷ (filter_map made_entry es ++ cons_option (made_entry e) [])
     nodes_push = ap (λ l. (0, root_node) ∷ l) (filter_map-append made_entry es (e ∷ []))
 
-    next_push : (tree_of (es ++ e ∷ [])).next ≡ e.number + 1
+    next_push : (tree_of form (es ++ e ∷ [])).next ≡ e.number + 1
     next_push = ap suc (last_number_push es e) ∙ sym (add-one e.number)
 
-    by : (m : Option Node) → e.made ≡ m → tree_of (es ++ e ∷ []) ≡ grown_by (tree_of es) e m
+    by : (m : Option Node) → e.made ≡ m → tree_of form (es ++ e ∷ []) ≡ grown_by (tree_of form es) e m
     by None is =
-        let nodes : (tree_of (es ++ e ∷ [])).nodes ≡ (tree_of es).nodes =
+        let nodes : (tree_of form (es ++ e ∷ [])).nodes ≡ (tree_of form es).nodes =
         nodes_push ∙ ap (λ m. (0, root_node) ∷ (filter_map made_entry es ++ cons_option (option_map (λ made. (e.number, made)) m) [])) is ∙
         ap (λ l. (0, root_node) ∷ l) (append-nil (filter_map made_entry es)) in
-        λ i. record { rows = rows_push es e f.free i; nodes = nodes i; next = next_push i }
+        λ i. record { rows = rows_push es e f.free i; nodes = nodes i; next = next_push i; room = most_names_of form }
     by (Some made) is =
-        let own : e.node ≡ e.number = eqb-true e.node e.number (and_parts _ _ (subst (λ m. IsTrue (made_fits hard es e m)) is f.made)).0 in
-        let below = node_numbers_below e.number es (entries_rise hard [] es h) f.above in
-        let rows : (tree_of (es ++ e ∷ [])).rows ≡ put spot_cmp (e.parent, e.name) e.number (tree_of es).rows =
+        let own : e.node ≡ e.number = eqb-true e.node e.number (and_parts _ _ (subst (λ m. IsTrue (made_fits (knows_hard form) es e m)) is f.made)).0 in
+        let below = node_numbers_below form e.number es (entries_rise form [] es h) f.above in
+        let rows : (tree_of form (es ++ e ∷ [])).rows ≡ put spot_cmp (e.parent, e.name) e.number (tree_of form es).rows =
         rows_push es e f.free ∙ ap (λ x. put spot_cmp (e.parent, e.name) x (rows_of_entries es)) own in
-        let nodes : (tree_of (es ++ e ∷ [])).nodes ≡ put nat_cmp e.number made (tree_of es).nodes =
+        let nodes : (tree_of form (es ++ e ∷ [])).nodes ≡ put nat_cmp e.number made (tree_of form es).nodes =
         nodes_push ∙ ap (λ m. (0, root_node) ∷ (filter_map made_entry es ++ cons_option (option_map (λ made. (e.number, made)) m) [])) is ∙
-        sym (put_last e.number made (tree_of es).nodes below) in
-        λ i. record { rows = rows i; nodes = nodes i; next = next_push i }
+        sym (put_last e.number made (tree_of form es).nodes below) in
+        λ i. record { rows = rows i; nodes = nodes i; next = next_push i; room = most_names_of form }

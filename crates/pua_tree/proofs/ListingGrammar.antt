@@ -1,4 +1,8 @@
 -- A listing is read as the entries that its lines spell, and as nothing else.
+use Rattle.pua_tree.specs.Limits.{most_wide_names}
+use Rattle.pua_tree.specs.declared.form.Form.{Form}
+use Rattle.pua_tree.specs.declared.form.Form.TheVariants.{First, Second, Third}
+use Rattle.pua_tree.specs.Listing.{knows_hard, most_listed_of, most_lines_of}
 use Rattle.pua_tree.proofs.Common.{◌≡◌, ℕ, suc, ◌+◌, ◌<◌, ◌≤◌, Bool, true, false, cond, not, ◌&&◌, leb, ltb, List, [], ◌∷◌, ◌++◌, map}
 use Rattle.pua_tree.proofs.Common.{length, Option, Some, None, Result, Ok, Err, option_map, refl, sym, ap, subst, ◌∙◌, arith, append-nil}
 use Rattle.pua_tree.proofs.Common.{append_assoc, true≢false, IsTrue, list_all, lt-ltb, ltb-true, ltb-false, le-ltb, and_parts, and_from}
@@ -19,7 +23,7 @@ use Rattle.pua_tree.specs.Listing.{plain_kind, long_kind}
 use Rattle.pua_tree.specs.Listing.{target_in}
 use Rattle.pua_tree.specs.Listing.{entries_of, header, after_header, listing_of_lines}
 use Rattle.pua_tree.specs.Grammar.{listing_kind_word, line_word, target_field, last_field, entry_text, target_stands}
-use Rattle.pua_tree.specs.Grammar.{header_text, ListingsAreRead, SecondFormsAgree, ListingsListTrees, SpellingsAreRead}
+use Rattle.pua_tree.specs.Grammar.{header_text, ListingsAreRead, SecondFormsAgree, ThirdFormsAgree, ListingsListTrees, SpellingsAreRead}
 use Rattle.pua_tree.specs.declared.fault.ListingFault.TheVariants.{BadHeader, BadLine, BadNumber, BadParent, BadName, BadTarget, Taken}
 use Rattle.pua_tree.specs.declared.fault.ListingFault.TheVariants.{TooMany, BadNode}
 use Rattle.pua_tree.proofs.Base.{same_Some, None≢Some, Some≢None, mapped, Err≢Ok, same_Ok, past, passed, ok_or_read, result_ok_read}
@@ -145,27 +149,27 @@ module _ (hard : Bool) (earlier : List Entry) (n number parent : ℕ) (name : Li
       )
 
 -- the parts of a line, put together
-parts_read : (hard : Bool) (earlier : List Entry) (n : ℕ) (text : List ℕ) (l : ListingLine) (number parent : ℕ) (name : List ℕ) (p : ℕ ×
+parts_read : (form : Form) (earlier : List Entry) (n : ℕ) (text : List ℕ) (l : ListingLine) (number parent : ℕ) (name : List ℕ) (p : ℕ ×
     Option Node) (e : Entry) → n ≡ length earlier + 3
-    → listing_line hard text ≡ Some l → number_in earlier l ≡ Some number → parent_in earlier l ≡ Some parent → name_of l.name ≡ Ok name →
+    → listing_line (knows_hard form) text ≡ Some l → number_in earlier l ≡ Some number → parent_in earlier l ≡ Some parent → name_of l.name ≡ Ok name →
     node_of earlier n number l l.kind ≡ Ok p
     → cond (is_taken earlier parent name) (Err (Taken n))
-    (cond (ltb 4097 n) (Err (TooMany n)) (Ok (record { number = number; parent = parent; name = name; node = p.0; made = p.1 }))) ≡ Ok e
-    → (text ≡ entry_text e) × Fits hard earlier e
-parts_read hard earlier n text l number parent name p e place line_is number_is parent_is name_is node_is whole =
+    (cond (ltb (most_lines_of form) n) (Err (TooMany n)) (Ok (record { number = number; parent = parent; name = name; node = p.0; made = p.1 }))) ≡ Ok e
+    → (text ≡ entry_text e) × Fits form earlier e
+parts_read form earlier n text l number parent name p e place line_is number_is parent_is name_is node_is whole =
     let entry : Entry = record { number = number; parent = parent; name = name; node = p.0; made = p.1 } in
-    let line = line_read hard text l line_is in
+    let line = line_read (knows_hard form) text l line_is in
     let a = only_if_read (λ m. ltb (last_number earlier) m) (number_within 1 999999 l.number) number number_is in
     let b = number_read 1 999999 l.number number (omega arith) a.0 in
     let c = only_if_read (is_earlier_dir earlier) (number_within 0 999999 l.parent) parent parent_is in
     let d = number_read 0 999999 l.parent parent (omega arith) c.0 in
     let f = name_read l.name name name_is in
-    let g = node_read hard earlier n number parent name l l.kind p line.1 node_is in
+    let g = node_read (knows_hard form) earlier n number parent name l l.kind p line.1 node_is in
     let free : is_taken earlier parent name ≡ false = (past (is_taken earlier parent name) (Taken n) _ e whole).0 in
     let rest = passed (is_taken earlier parent name) (Taken n) _ e whole in
-    let small = ltb-false 4097 n ((past (ltb 4097 n) (TooMany n) _ e rest).0) in
-    let same : entry ≡ e = same_Ok entry e (passed (ltb 4097 n) (TooMany n) _ e rest) in
-    subst (λ x. (text ≡ entry_text x) × Fits hard earlier x) same (
+    let small = ltb-false (most_lines_of form) n ((past (ltb (most_lines_of form) n) (TooMany n) _ e rest).0) in
+    let same : entry ≡ e = same_Ok entry e (passed (ltb (most_lines_of form) n) (TooMany n) _ e rest) in
+    subst (λ x. (text ≡ entry_text x) × Fits form earlier x) same (
       line.0
           ∙ (λ i. b.0 i ++ 32 ∷ (line_word (sym g.0 i) ++ 32 ∷ (d.0 i ++ 32 ∷ (f.0 i ++ g.2 i))))
           ∙ sym (regrouped (decimal number) (line_word (option_map (λ m. m.kind) p.1)) (decimal parent) (spelling name)
@@ -182,15 +186,15 @@ parts_read hard earlier n text l number parent name p e place line_is number_is 
     )
 
 -- what a line says is spelled by that line alone, and fits the earlier lines
-pub entry_read : (hard : Bool) (earlier : List Entry) (n : ℕ) (text : List ℕ) (e : Entry) → n ≡ length earlier + 3 →
-    entry_of hard earlier n text ≡ Ok e → (text ≡ entry_text e) × Fits hard earlier e
-entry_read hard earlier n text e place h =
-    let line = step_read (ok_or (listing_line hard text) (BadLine n)) _ e h in
+pub entry_read : (form : Form) (earlier : List Entry) (n : ℕ) (text : List ℕ) (e : Entry) → n ≡ length earlier + 3 →
+    entry_of form earlier n text ≡ Ok e → (text ≡ entry_text e) × Fits form earlier e
+entry_read form earlier n text e place h =
+    let line = step_read (ok_or (listing_line (knows_hard form) text) (BadLine n)) _ e h in
     let number = step_read (ok_or (number_in earlier line.0) (BadNumber n)) _ e line.2 in
     let parent = step_read (ok_or (parent_in earlier line.0) (BadParent n)) _ e number.2 in
     let name = step_read (ok_or (result_ok (name_of line.0.name)) (BadName n)) _ e parent.2 in
     let node = step_read (node_of earlier n number.0 line.0 line.0.kind) _ e name.2 in
-    parts_read hard earlier n text line.0 number.0 parent.0 name.0 node.0 e place (ok_or_read _ _ _ line.1) (ok_or_read _ _ _ number.1)
+    parts_read form earlier n text line.0 number.0 parent.0 name.0 node.0 e place (ok_or_read _ _ _ line.1) (ok_or_read _ _ _ number.1)
     (ok_or_read _ _ _ parent.1) (result_ok_read _ _ (ok_or_read _ _ _ name.1)) node.1 node.2
 
 -- the last field of an entry's line
@@ -326,48 +330,48 @@ line_by e m = record {
 abbrev line_for : Entry → ListingLine
 line_for e = line_by e e.made
 
-abbrev Written : Bool → List Entry → ℕ → Entry → Option Node → Type 0
+abbrev Written : Form → List Entry → ℕ → Entry → Option Node → Type 0
 Written hard earlier n e m =
-    (listing_line hard (decimal e.number ++ 32 ∷ line_word (option_map (λ made. made.kind) m) ++ 32 ∷ decimal e.parent ++ 32
+    (listing_line (knows_hard hard) (decimal e.number ++ 32 ∷ line_word (option_map (λ made. made.kind) m) ++ 32 ∷ decimal e.parent ++ 32
     ∷ spelling e.name ++ last_field e.node m) ≡ Some (line_by e m))
     × (node_of earlier n e.number (line_by e m) (option_map (λ made. made.kind) m) ≡ Ok (e.node, m))
 
-last_written : (hard : Bool) (earlier : List Entry) (n : ℕ) (e : Entry) → IsTrue (entries_fit hard [] earlier) → Fits hard earlier e
+last_written : (form : Form) (earlier : List Entry) (n : ℕ) (e : Entry) → IsTrue (entries_fit form [] earlier) → Fits form earlier e
     → IsTrue (is_field (decimal e.number)) → IsTrue (is_field (decimal e.parent)) → IsTrue (is_field (spelling e.name))
-    → (listing_line hard (entry_text e) ≡ Some (line_for e)) × (node_of earlier n e.number (line_for e) (line_for e).kind ≡ Ok (
+    → (listing_line (knows_hard form) (entry_text e) ≡ Some (line_for e)) × (node_of earlier n e.number (line_for e) (line_for e).kind ≡ Ok (
       e.node,
       e.made,
     ))
-last_written hard earlier n e h f p q r = by e.made refl
+last_written form earlier n e h f p q r = by e.made refl
   where
-    by : (m : Option Node) → e.made ≡ m → Written hard earlier n e m
+    by : (m : Option Node) → e.made ≡ m → Written form earlier n e m
     by None is =
-        let fits = and_parts hard _ (subst (λ m. IsTrue (made_fits hard earlier e m)) is f.made) in
-        let between = earlier_below hard earlier e (entries_rise hard [] earlier h) f fits.1 in (
-          ap (listing_line hard) (regrouped (decimal e.number) (codes "hard") (decimal e.parent) (spelling e.name) (32 ∷ decimal e.node))
-              ∙ line_tied hard (decimal e.number) (decimal e.parent) (spelling e.name) e.node fits.0 p q r
+        let fits = and_parts (knows_hard form) _ (subst (λ m. IsTrue (made_fits (knows_hard form) earlier e m)) is f.made) in
+        let between = earlier_below form earlier e (entries_rise form [] earlier h) f fits.1 in (
+          ap (listing_line (knows_hard form)) (regrouped (decimal e.number) (codes "hard") (decimal e.parent) (spelling e.name) (32 ∷ decimal e.node))
+              ∙ line_tied (knows_hard form) (decimal e.number) (decimal e.parent) (spelling e.name) e.node fits.0 p q r
               (is_field-decimal e.node (omega (arith, between.1, f.small))),
           node_tied earlier n e.number e.node (line_by e None) refl fits.1 (omega (arith, between.0)) (omega (arith, between.1, f.small)),
         )
     by (Some made) is =
-        let fits = and_parts _ (target_stands made.kind made.target) (subst (λ m. IsTrue (made_fits hard earlier e m)) is f.made) in (
-          ap (listing_line hard) (regrouped (decimal e.number) (listing_kind_word made.kind) (decimal e.parent) (spelling e.name)
+        let fits = and_parts _ (target_stands made.kind made.target) (subst (λ m. IsTrue (made_fits (knows_hard form) earlier e m)) is f.made) in (
+          ap (listing_line (knows_hard form)) (regrouped (decimal e.number) (listing_kind_word made.kind) (decimal e.parent) (spelling e.name)
               (target_field made.target))
-              ∙ line_made hard (decimal e.number) (decimal e.parent) (spelling e.name) e.node made.kind made.target p q r fits.1,
+              ∙ line_made (knows_hard form) (decimal e.number) (decimal e.parent) (spelling e.name) e.node made.kind made.target p q r fits.1,
           node_made earlier n e.number e.node (line_by e (Some made)) made.kind made.target refl (eqb-true e.node e.number fits.0) fits.1,
         )
 
 -- an entry that fits is read from its line
-pub entry_written : (hard : Bool) (earlier : List Entry) (n : ℕ) (e : Entry) → n ≡ length earlier + 3 →
-    IsTrue (entries_fit hard [] earlier) → Fits hard earlier e → entry_of hard earlier n (entry_text e) ≡ Ok e
-entry_written hard earlier n e place h f =
+pub entry_written : (form : Form) (earlier : List Entry) (n : ℕ) (e : Entry) → n ≡ length earlier + 3 →
+    IsTrue (entries_fit form [] earlier) → Fits form earlier e → entry_of form earlier n (entry_text e) ≡ Ok e
+entry_written form earlier n e place h f =
     let l : ListingLine = line_for e in
-    let below : e.parent < e.number = parent_below hard earlier e (entries_rise hard [] earlier h) f in
+    let below : e.parent < e.number = parent_below form earlier e (entries_rise form [] earlier h) f in
     let name_field : IsTrue (is_field (spelling e.name)) =
     is_field-spelling e.name (name_some e.name f.named) (name_is_bytes e.name f.named) in
     let number_field : IsTrue (is_field (decimal e.number)) = is_field-decimal e.number (omega (arith, f.small)) in
     let parent_field : IsTrue (is_field (decimal e.parent)) = is_field-decimal e.parent (omega (arith, f.small, below)) in
-    let written = last_written hard earlier n e h f number_field parent_field name_field in
+    let written = last_written form earlier n e h f number_field parent_field name_field in
     let number_is : number_in earlier l ≡ Some e.number =
     ap (only_if (λ m. ltb (last_number earlier) m)) (decimal_within 1 999999 e.number (omega (arith, f.above)) f.small (omega (
       arith,
@@ -381,94 +385,98 @@ entry_written hard earlier n e place h f =
       below,
     )))
     ∙ cond-true (is_earlier_dir earlier e.parent) (Some e.parent) None f.in_dir in
-    step_from (ok_or (listing_line hard (entry_text e)) (BadLine n)) _ l e (ap (λ o. ok_or o (BadLine n)) written.0)
+    step_from (ok_or (listing_line (knows_hard form) (entry_text e)) (BadLine n)) _ l e (ap (λ o. ok_or o (BadLine n)) written.0)
     (step_from (ok_or (number_in earlier l) (BadNumber n)) _ e.number e (ap (λ o. ok_or o (BadNumber n)) number_is)
     (step_from (ok_or (parent_in earlier l) (BadParent n)) _ e.parent e (ap (λ o. ok_or o (BadParent n)) parent_is)
     (step_from (ok_or (result_ok (name_of (spelling e.name))) (BadName n)) _ e.name e
     (ap (λ r. ok_or (result_ok r) (BadName n)) (name_of-spelling e.name f.named))
     (step_from (node_of earlier n e.number l l.kind) _ (e.node, e.made) e written.1
-    (cond-false (is_taken earlier e.parent e.name) (Err (Taken n)) (cond (ltb 4097 n) (Err (TooMany n)) (Ok e)) f.free
-    ∙ cond-false (ltb 4097 n) (Err (TooMany n)) (Ok e) (le-ltb 4097 n (omega (arith, place, f.room))))))))
+    (cond-false (is_taken earlier e.parent e.name) (Err (Taken n)) (cond (ltb (most_lines_of form) n) (Err (TooMany n)) (Ok e)) f.free
+    ∙ cond-false (ltb (most_lines_of form) n) (Err (TooMany n)) (Ok e) (le-ltb (most_lines_of form) n (omega (arith, place, f.room))))))))
 
 -- the first line alone decides how the lines from it on are read
-pub entries_more : (hard : Bool) (earlier : List Entry) (n : ℕ) (text : List ℕ) (texts : List (List ℕ)) (e : Entry) →
-    entry_of hard earlier n text ≡ Ok e → entries_of hard earlier n (text ∷ texts) ≡ entries_of hard (earlier ++ e ∷ []) (suc n) texts
-entries_more hard earlier n text texts e h = ap (λ r. r >>= λ e. entries_of hard (earlier ++ e ∷ []) (suc n) texts) h
+pub entries_more : (form : Form) (earlier : List Entry) (n : ℕ) (text : List ℕ) (texts : List (List ℕ)) (e : Entry) →
+    entry_of form earlier n text ≡ Ok e → entries_of form earlier n (text ∷ texts) ≡ entries_of form (earlier ++ e ∷ []) (suc n) texts
+entries_more form earlier n text texts e h = ap (λ r. r >>= λ e. entries_of form (earlier ++ e ∷ []) (suc n) texts) h
 
-pub entries_stop : (hard : Bool) (earlier : List Entry) (n : ℕ) (text : List ℕ) (texts : List (List ℕ)) (fault : ListingFault) →
-    entry_of hard earlier n text ≡ Err fault → entries_of hard earlier n (text ∷ texts) ≡ Err fault
-entries_stop hard earlier n text texts fault h = ap (λ r. r >>= λ e. entries_of hard (earlier ++ e ∷ []) (suc n) texts) h
+pub entries_stop : (form : Form) (earlier : List Entry) (n : ℕ) (text : List ℕ) (texts : List (List ℕ)) (fault : ListingFault) →
+    entry_of form earlier n text ≡ Err fault → entries_of form earlier n (text ∷ texts) ≡ Err fault
+entries_stop form earlier n text texts fault h = ap (λ r. r >>= λ e. entries_of form (earlier ++ e ∷ []) (suc n) texts) h
 
 -- further lines say entries that fit, each spelled by its line
-pub entries_read : (hard : Bool) (earlier : List Entry) (n : ℕ) (texts : List (List ℕ)) (es : List Entry) → n ≡ length earlier + 3 →
-    entries_of hard earlier n texts ≡ Ok es
-    → (more : List Entry) × (es ≡ earlier ++ more) × (texts ≡ map entry_text more) × IsTrue (entries_fit hard earlier more)
-entries_read hard earlier n [] es place h = ([], sym (same_Ok earlier es h) ∙ sym (append-nil earlier), refl, refl)
-entries_read hard earlier n (text ∷ texts) es place h =
-    let step = step_read (entry_of hard earlier n text) (λ e. entries_of hard (earlier ++ e ∷ []) (suc n) texts) es h in
-    let first = entry_read hard earlier n text step.0 place step.1 in
-    let rest = entries_read hard (earlier ++ step.0 ∷ []) (suc n) texts es (omega (arith, place, length-append earlier (step.0 ∷ [])))
+pub entries_read : (form : Form) (earlier : List Entry) (n : ℕ) (texts : List (List ℕ)) (es : List Entry) → n ≡ length earlier + 3 →
+    entries_of form earlier n texts ≡ Ok es
+    → (more : List Entry) × (es ≡ earlier ++ more) × (texts ≡ map entry_text more) × IsTrue (entries_fit form earlier more)
+entries_read form earlier n [] es place h = ([], sym (same_Ok earlier es h) ∙ sym (append-nil earlier), refl, refl)
+entries_read form earlier n (text ∷ texts) es place h =
+    let step = step_read (entry_of form earlier n text) (λ e. entries_of form (earlier ++ e ∷ []) (suc n) texts) es h in
+    let first = entry_read form earlier n text step.0 place step.1 in
+    let rest = entries_read form (earlier ++ step.0 ∷ []) (suc n) texts es (omega (arith, place, length-append earlier (step.0 ∷ [])))
     step.2 in (
       step.0 ∷ rest.0,
       rest.1 ∙ append_assoc earlier (step.0 ∷ []) rest.0,
       (λ i. first.0 i ∷ rest.2 i),
-      and_from (entry_fits hard earlier step.0) _ (fits_from hard earlier step.0 first.1) rest.3,
+      and_from (entry_fits form earlier step.0) _ (fits_from form earlier step.0 first.1) rest.3,
     )
 
-pub entries_written : (hard : Bool) (earlier : List Entry) (n : ℕ) (more : List Entry) → n ≡ length earlier + 3 →
-    IsTrue (entries_fit hard [] earlier) → IsTrue (entries_fit hard earlier more) →
-    entries_of hard earlier n (map entry_text more) ≡ Ok (earlier ++ more)
-entries_written hard earlier n [] place h k = ap Ok (sym (append-nil earlier))
-entries_written hard earlier n (e ∷ more) place h k =
-    let parts = and_parts (entry_fits hard earlier e) (entries_fit hard (earlier ++ e ∷ []) more) k in
-    step_from (entry_of hard earlier n (entry_text e)) (λ e. entries_of hard (earlier ++ e ∷ []) (suc n) (map entry_text more)) e
-    (earlier ++ e ∷ more) (entry_written hard earlier n e place h (fits_parts hard earlier e parts.0))
-    (entries_written hard (earlier ++ e ∷ []) (suc n) more (omega (arith, place, length-append earlier (e ∷ [])))
-    (entries_push hard [] earlier e h parts.0) parts.1 ∙ ap Ok (append_assoc earlier (e ∷ []) more))
+pub entries_written : (form : Form) (earlier : List Entry) (n : ℕ) (more : List Entry) → n ≡ length earlier + 3 →
+    IsTrue (entries_fit form [] earlier) → IsTrue (entries_fit form earlier more) →
+    entries_of form earlier n (map entry_text more) ≡ Ok (earlier ++ more)
+entries_written form earlier n [] place h k = ap Ok (sym (append-nil earlier))
+entries_written form earlier n (e ∷ more) place h k =
+    let parts = and_parts (entry_fits form earlier e) (entries_fit form (earlier ++ e ∷ []) more) k in
+    step_from (entry_of form earlier n (entry_text e)) (λ e. entries_of form (earlier ++ e ∷ []) (suc n) (map entry_text more)) e
+    (earlier ++ e ∷ more) (entry_written form earlier n e place h (fits_parts form earlier e parts.0))
+    (entries_written form (earlier ++ e ∷ []) (suc n) more (omega (arith, place, length-append earlier (e ∷ [])))
+    (entries_push form [] earlier e h parts.0) parts.1 ∙ ap Ok (append_assoc earlier (e ∷ []) more))
 
 held : {A E : Type 0} (t : Bool) (f : E) (r : Result A E) (x : A) → cond t r (Err f) ≡ Ok x → IsTrue t × (r ≡ Ok x)
 held true f r x e = (refl, e)
 held false f r x e = absurd (Err≢Ok f x e)
 
 -- the first line
-header_read : (text : List ℕ) (hard : Bool) → header text ≡ Ok hard → text ≡ header_text hard
-header_read text hard e = first (same_bytes text (codes "tree 1")) (same_bytes text (codes "tree 2")) refl refl e
+header_read : (text : List ℕ) (form : Form) → header text ≡ Ok form → text ≡ header_text form
+header_read text form e =
+    first (same_bytes text (codes "tree 1")) (same_bytes text (codes "tree 2")) (same_bytes text (codes "tree 3")) refl refl refl e
   where
-    first : (a b : Bool) → same_bytes text (codes "tree 1") ≡ a → same_bytes text (codes "tree 2") ≡ b →
-        cond a (Ok false) (cond b (Ok true) (Err BadHeader)) ≡ Ok hard → text ≡ header_text hard
-    first true b p q e = same_word text _ p ∙ ap header_text (same_Ok false hard e)
-    first false true p q e = same_word text _ q ∙ ap header_text (same_Ok true hard e)
-    first false false p q e = absurd (Err≢Ok BadHeader hard e)
+    first : (a b c : Bool) → same_bytes text (codes "tree 1") ≡ a → same_bytes text (codes "tree 2") ≡ b
+        → same_bytes text (codes "tree 3") ≡ c
+        → cond a (Ok First) (cond b (Ok Second) (cond c (Ok Third) (Err BadHeader))) ≡ Ok form → text ≡ header_text form
+    first true b c p q r e = same_word text _ p ∙ ap header_text (same_Ok First form e)
+    first false true c p q r e = same_word text _ q ∙ ap header_text (same_Ok Second form e)
+    first false false true p q r e = same_word text _ r ∙ ap header_text (same_Ok Third form e)
+    first false false false p q r e = absurd (Err≢Ok BadHeader form e)
 
-header_written : (hard : Bool) (texts : List (List ℕ)) → listing_of_lines (header_text hard ∷ texts) ≡ after_header hard texts
-header_written false texts = refl
-header_written true texts = refl
+header_written : (form : Form) (texts : List (List ℕ)) → listing_of_lines (header_text form ∷ texts) ≡ after_header form texts
+header_written First texts = refl
+header_written Second texts = refl
+header_written Third texts = refl
 
 -- what is read was spelled so
-after_read : (hard : Bool) (ls : List (List ℕ)) (t : Tree) → after_header hard ls ≡ Ok t →
-    (es : List Entry) × IsTrue (entries_fit hard [] es) × (ls ≡ codes "0 dir" ∷ map entry_text es) × (t ≡ tree_of es)
-after_read hard [] t h = absurd (Err≢Ok (BadLine 2) t h)
-after_read hard (text ∷ texts) t h =
-    let root = held (same_bytes text (codes "0 dir")) (BadLine 2) (entries_of hard [] 3 texts >>= λ es. Ok (tree_of es)) t h in
-    let step = step_read (entries_of hard [] 3 texts) (λ es. Ok (tree_of es)) t root.1 in
-    let rest = entries_read hard [] 3 texts step.0 refl step.1 in
-    (rest.0, rest.3, (λ i. same_word text (codes "0 dir") root.0 i ∷ rest.2 i), sym (same_Ok (tree_of step.0) t step.2) ∙ ap tree_of rest.1)
+after_read : (form : Form) (ls : List (List ℕ)) (t : Tree) → after_header form ls ≡ Ok t →
+    (es : List Entry) × IsTrue (entries_fit form [] es) × (ls ≡ codes "0 dir" ∷ map entry_text es) × (t ≡ tree_of form es)
+after_read form [] t h = absurd (Err≢Ok (BadLine 2) t h)
+after_read form (text ∷ texts) t h =
+    let root = held (same_bytes text (codes "0 dir")) (BadLine 2) (entries_of form [] 3 texts >>= λ es. Ok (tree_of form es)) t h in
+    let step = step_read (entries_of form [] 3 texts) (λ es. Ok (tree_of form es)) t root.1 in
+    let rest = entries_read form [] 3 texts step.0 refl step.1 in
+    (rest.0, rest.3, (λ i. same_word text (codes "0 dir") root.0 i ∷ rest.2 i), sym (same_Ok (tree_of form step.0) t step.2) ∙ ap (tree_of form) rest.1)
 
 lines_read : (ls : List (List ℕ)) (t : Tree) → listing_of_lines ls ≡ Ok t →
-    (hard : Bool) × (es : List Entry) × IsTrue (entries_fit hard [] es) × (ls ≡ header_text hard ∷ codes "0 dir" ∷ map entry_text es) ×
-    (t ≡ tree_of es)
+    (form : Form) × (es : List Entry) × IsTrue (entries_fit form [] es) × (ls ≡ header_text form ∷ codes "0 dir" ∷ map entry_text es) ×
+    (t ≡ tree_of form es)
 lines_read [] t h = absurd (Err≢Ok BadHeader t h)
 lines_read (text ∷ texts) t h =
-    let first = step_read (header text) (λ hard. after_header hard texts) t h in
+    let first = step_read (header text) (λ form. after_header form texts) t h in
     let rest = after_read first.0 texts t first.2 in
     (first.0, rest.0, rest.1, (λ i. header_read text first.0 first.1 i ∷ rest.2 i), rest.3)
 
-lines_written : (hard : Bool) (es : List Entry) → IsTrue (entries_fit hard [] es) →
-    listing_of_lines (header_text hard ∷ codes "0 dir" ∷ map entry_text es) ≡ Ok (tree_of es)
-lines_written hard es h =
-    header_written hard (codes "0 dir" ∷ map entry_text es)
-    ∙ step_from (entries_of hard [] 3 (map entry_text es)) (λ es. Ok (tree_of es)) es (tree_of es)
-    (entries_written hard [] 3 es refl refl h) refl
+lines_written : (form : Form) (es : List Entry) → IsTrue (entries_fit form [] es) →
+    listing_of_lines (header_text form ∷ codes "0 dir" ∷ map entry_text es) ≡ Ok (tree_of form es)
+lines_written form es h =
+    header_written form (codes "0 dir" ∷ map entry_text es)
+    ∙ step_from (entries_of form [] 3 (map entry_text es)) (λ es. Ok (tree_of form es)) es (tree_of form es)
+    (entries_written form [] 3 es refl refl h) refl
 
 -- entries fit where hard links are known as they do where none are
 made_more : (earlier : List Entry) (e : Entry) (m : Option Node) → IsTrue (made_fits false earlier e m) →
@@ -476,13 +484,13 @@ made_more : (earlier : List Entry) (e : Entry) (m : Option Node) → IsTrue (mad
 made_more earlier e None h = absurd (true≢false (sym h))
 made_more earlier e (Some made) h = h
 
-fit_more : (earlier es : List Entry) → IsTrue (entries_fit false earlier es) → IsTrue (entries_fit true earlier es)
+fit_more : (earlier es : List Entry) → IsTrue (entries_fit First earlier es) → IsTrue (entries_fit Second earlier es)
 fit_more earlier [] h = refl
 fit_more earlier (e ∷ es) h =
-    let parts = and_parts (entry_fits false earlier e) (entries_fit false (earlier ++ e ∷ []) es) h in
-    let f = fits_parts false earlier e parts.0 in
-    and_from (entry_fits true earlier e) _
-    (fits_from true earlier e
+    let parts = and_parts (entry_fits First earlier e) (entries_fit First (earlier ++ e ∷ []) es) h in
+    let f = fits_parts First earlier e parts.0 in
+    and_from (entry_fits Second earlier e) _
+    (fits_from Second earlier e
     (record {
       above = f.above;
       small = f.small;
@@ -496,9 +504,34 @@ fit_more earlier (e ∷ es) h =
 
 pub second_forms_agree : SecondFormsAgree
 second_forms_agree texts t h =
-    let read = after_read false texts t (sym (header_written false texts) ∙ h) in
-    ap (λ (ls : List (List ℕ)). listing_of_lines (header_text true ∷ ls)) read.2 ∙ lines_written true read.0 (fit_more [] read.0 read.1) ∙
+    let read = after_read First texts t (sym (header_written First texts) ∙ h) in
+    ap (λ (ls : List (List ℕ)). listing_of_lines (header_text Second ∷ ls)) read.2 ∙ lines_written Second read.0 (fit_more [] read.0 read.1) ∙
     ap Ok (sym read.3)
+
+-- and in a listing of the third form there is room for more
+fit_wide : (earlier es : List Entry) → IsTrue (entries_fit Second earlier es) → IsTrue (entries_fit Third earlier es)
+fit_wide earlier [] h = refl
+fit_wide earlier (e ∷ es) h =
+    let parts = and_parts (entry_fits Second earlier e) (entries_fit Second (earlier ++ e ∷ []) es) h in
+    let f = fits_parts Second earlier e parts.0 in
+    and_from (entry_fits Third earlier e) _
+    (fits_from Third earlier e
+    (record {
+      above = f.above;
+      small = f.small;
+      in_dir = f.in_dir;
+      named = f.named;
+      free = f.free;
+      room = omega (arith, f.room);
+      made = f.made;
+    }))
+    (fit_wide (earlier ++ e ∷ []) es parts.1)
+
+pub third_forms_agree : ThirdFormsAgree
+third_forms_agree texts t h =
+    let read = after_read Second texts t (sym (header_written Second texts) ∙ h) in
+    ap (λ (ls : List (List ℕ)). listing_of_lines (header_text Third ∷ ls)) read.2 ∙ lines_written Third read.0 (fit_wide [] read.0 read.1) ∙
+    ap (λ (u : Tree). Ok (record u { room = most_wide_names })) (sym read.3)
 
 pub listings_are_read : ListingsAreRead
 listings_are_read bytes t = (λ h. lines_read (lines bytes) t h, λ l. ap listing_of_lines l.3 ∙ lines_written l.0 l.1 l.2 ∙ ap Ok (sym l.4))

@@ -3,6 +3,7 @@ use Rattle.pua_tree.proofs.Common.{◌≡◌, ℕ, true, false, not, ◌&&◌, �
 use Rattle.pua_tree.proofs.Common.{refl, sym, ap, ◌∙◌, eqb, option_and_then, list_any, list_all}
 use Rattle.pua_tree.proofs.Common.{false≢true, sum_by-zero, Tree, WellFormed, kind_at, is_dir, is_dir_kind, node_in}
 use Rattle.pua_tree.proofs.Common.{made_of, held_rows, held_in_slots, AreConsistent, Dir, Slots, SlotNode}
+use Rattle.pua_tree.specs.declared.numbering.Numbering.{Numbering}
 use Rattle.pua_tree.specs.Tree as tree
 use Rattle.pua_tree.specs.Tree.{target_at, spot_of, dir_spot, is_empty, has_no_row}
 use Rattle.pua_tree.specs.Tree.{found_at}
@@ -17,13 +18,13 @@ use Rattle.pua_tree.proofs.SlotsHold.{node_of_row, nodes_found, rows_found}
 use Rattle.pua_tree.proofs.Sound.{sound_from, row_of, spot_stands, dir_kind}
 
 -- a directory knows its spot
-spot_known : (s : Slots) (next d : ℕ) (n : SlotNode) → WellFormed (held_in_slots s next) → AreConsistent s →
-    is_dir (held_in_slots s next) d ≡ true → d ≢ 0 → node_in s d ≡ Some n → n.kind ≡ Dir →
-    spot_of (held_in_slots s next) d ≡ Some (n.standing.spot.dir, n.standing.spot.name)
-spot_known s next d n w kept dir below here kind =
-    let sound = sound_from (held_in_slots s next) w in
-    let row = row_of (held_in_slots s next) sound d dir below in
-    spot_stands (held_in_slots s next) sound d row.0 dir below row.1
+spot_known : (s : Slots) (numbering : Numbering) (d : ℕ) (n : SlotNode) → WellFormed (held_in_slots s numbering) → AreConsistent s →
+    is_dir (held_in_slots s numbering) d ≡ true → d ≢ 0 → node_in s d ≡ Some n → n.kind ≡ Dir →
+    spot_of (held_in_slots s numbering) d ≡ Some (n.standing.spot.dir, n.standing.spot.name)
+spot_known s numbering d n w kept dir below here kind =
+    let sound = sound_from (held_in_slots s numbering) w in
+    let row = row_of (held_in_slots s numbering) sound d dir below in
+    spot_stands (held_in_slots s numbering) sound d row.0 dir below row.1
     ∙ ap (λ (k : Spot). Some (k.dir, k.name)) (sym (kept.standing.dir_spot row.0 d n row.1 here kind))
 
 no_row_counted : (rows : List (tree.Spot × ℕ)) (d : ℕ) →
@@ -37,27 +38,27 @@ no_row_counted (r ∷ rows) d =
     ]
 
 -- and whether it has rows
-pub empty_known : (s : Slots) (next d : ℕ) (n : SlotNode) → AreConsistent s → node_in s d ≡ Some n →
-    (n.standing.rows == 0) ≡ has_no_row (held_in_slots s next) d
-empty_known s next d n kept here =
+pub empty_known : (s : Slots) (numbering : Numbering) (d : ℕ) (n : SlotNode) → AreConsistent s → node_in s d ≡ Some n →
+    (n.standing.rows == 0) ≡ has_no_row (held_in_slots s numbering) d
+empty_known s numbering d n kept here =
     ap (λ r. r == 0) (kept.standing.rows_counted d n here) ∙ sum_by-zero (λ (row : tree.Spot × ℕ). cond (row.0.0 == d) 1 0) (held_rows s) ∙
     no_row_counted (held_rows s) d
 
 -- what a tree answers, by what its slots have
-pub kind_known : (s : Slots) (next x : ℕ) → option_map (λ (n : SlotNode). n.kind) (node_in s x) ≡ kind_at (held_in_slots s next) x
-kind_known s next x = fused (node_in s x) ∙ ap (λ (o : Option tree.Node). option_map (λ n. n.kind) o) (sym (nodes_found s x))
+pub kind_known : (s : Slots) (numbering : Numbering) (x : ℕ) → option_map (λ (n : SlotNode). n.kind) (node_in s x) ≡ kind_at (held_in_slots s numbering) x
+kind_known s numbering x = fused (node_in s x) ∙ ap (λ (o : Option tree.Node). option_map (λ n. n.kind) o) (sym (nodes_found s x))
   where
     fused : (o : Option SlotNode) → option_map (λ (n : SlotNode). n.kind) o ≡ option_map (λ n. n.kind) (option_map made_of o)
     fused None = refl
     fused (Some n) = refl
 
 -- a row's node is as the row says
-pub found_known : (s : Slots) (next : ℕ) (at : tree.Spot) → WellFormed (held_in_slots s next) → AreConsistent s →
-    option_map (λ (row : RowNode). (row.node, row.kind)) (row_in s at) ≡ found_at (held_in_slots s next) at.0 at.1
-found_known s next at w kept = by (row_in s at) refl
+pub found_known : (s : Slots) (numbering : Numbering) (at : tree.Spot) → WellFormed (held_in_slots s numbering) → AreConsistent s →
+    option_map (λ (row : RowNode). (row.node, row.kind)) (row_in s at) ≡ found_at (held_in_slots s numbering) at.0 at.1
+found_known s numbering at w kept = by (row_in s at) refl
   where
     t : Tree
-    t = held_in_slots s next
+    t = held_in_slots s numbering
 
     kind_of : (o : Option SlotNode) (row : RowNode) → row_in s at ≡ Some row → node_in s row.node ≡ o → IsSome o →
         option_map (λ (n : SlotNode). n.kind) o ≡ Some row.kind
@@ -69,14 +70,14 @@ found_known s next at w kept = by (row_in s at) refl
     by None e = sym (ap (option_and_then (λ x. option_map (λ kind. (x, kind)) (kind_at t x))) (rows_found s at ∙ ap node_of_row e))
     by (Some row) e =
         let there = ap node_of_row e in
-        let lives = living_in s row.node (row_living s next at.0 row.node at.1 w there) in
-        let kind = sym (kind_known s next row.node) ∙ kind_of (node_in s row.node) row e refl lives in
+        let lives = living_in s row.node (row_living s numbering at.0 row.node at.1 w there) in
+        let kind = sym (kind_known s numbering row.node) ∙ kind_of (node_in s row.node) row e refl lives in
         sym (ap (option_and_then (λ x. option_map (λ kind. (x, kind)) (kind_at t x))) (rows_found s at ∙ there) ∙
         ap (option_map (λ k. (row.node, k))) kind)
 
-pub target_known : (s : Slots) (next x : ℕ) → option_and_then (λ (n : SlotNode). option_map (λ target. target.items) n.target) (node_in s x)
-    ≡ target_at (held_in_slots s next) x
-target_known s next x = fused (node_in s x) ∙ ap (λ (o : Option tree.Node). option_and_then (λ n. n.target) o) (sym (nodes_found s x))
+pub target_known : (s : Slots) (numbering : Numbering) (x : ℕ) → option_and_then (λ (n : SlotNode). option_map (λ target. target.items) n.target) (node_in s x)
+    ≡ target_at (held_in_slots s numbering) x
+target_known s numbering x = fused (node_in s x) ∙ ap (λ (o : Option tree.Node). option_and_then (λ n. n.target) o) (sym (nodes_found s x))
   where
     fused : (o : Option SlotNode) → option_and_then (λ (n : SlotNode). option_map (λ target. target.items) n.target) o
         ≡ option_and_then (λ n. n.target) (option_map made_of o)
@@ -84,12 +85,12 @@ target_known s next x = fused (node_in s x) ∙ ap (λ (o : Option tree.Node). o
     fused (Some n) = refl
 
 -- a directory's own slot answers the same
-module _ (s : Slots) (next d : ℕ) (w : WellFormed (held_in_slots s next)) (kept : AreConsistent s) where
+module _ (s : Slots) (numbering : Numbering) (d : ℕ) (w : WellFormed (held_in_slots s numbering)) (kept : AreConsistent s) where
   abbrev held : Tree
-  held = held_in_slots s next
+  held = held_in_slots s numbering
 
   dir_by : (o : Option SlotNode) → node_in s d ≡ o → is_dir held d ≡ is_dir_kind (option_map (λ (n : SlotNode). n.kind) o)
-  dir_by o e = ap is_dir_kind (sym (kind_known s next d) ∙ ap (λ (o : Option SlotNode). option_map (λ n. n.kind) o) e)
+  dir_by o e = ap is_dir_kind (sym (kind_known s numbering d) ∙ ap (λ (o : Option SlotNode). option_map (λ n. n.kind) o) e)
 
   pub spot_of_dir : (standing : Option Stance) → d ≢ 0 → standing ≡ option_and_then standing_of_dir (node_in s d) →
       option_map (λ (st : Stance). (st.spot.dir, st.spot.name)) standing ≡ dir_spot held d
@@ -102,7 +103,7 @@ module _ (s : Slots) (next d : ℕ) (w : WellFormed (held_in_slots s next)) (kep
           elim (is_dir_kind (Some n.kind)) as (λ b. is_dir_kind (Some n.kind) ≡ b →
           option_map (λ (st : Stance). (st.spot.dir, st.spot.name)) (cond b (Some n.standing) None) ≡ dir_spot held d) [
             | true ↦ λ k. (let dir = dir_by (Some n) e ∙ k in
-                sym (ap (λ b. cond b (spot_of held d) None) dir ∙ spot_known s next d n w kept dir below e (dir_kind n.kind k)))
+                sym (ap (λ b. cond b (spot_of held d) None) dir ∙ spot_known s numbering d n w kept dir below e (dir_kind n.kind k)))
             | false ↦ λ k. sym (ap (λ b. cond b (spot_of held d) None) (dir_by (Some n) e ∙ k))
           ] refl
 
@@ -117,6 +118,6 @@ module _ (s : Slots) (next d : ℕ) (w : WellFormed (held_in_slots s next)) (kep
       by (Some n) e =
           elim (is_dir_kind (Some n.kind)) as (λ b. is_dir_kind (Some n.kind) ≡ b →
           unwrap_or (option_map (λ (st : Stance). st.rows == 0) (cond b (Some n.standing) None)) false ≡ is_empty held d) [
-            | true ↦ λ k. empty_known s next d n kept e ∙ sym (ap (λ b. b && has_no_row held d) (dir_by (Some n) e ∙ k))
+            | true ↦ λ k. empty_known s numbering d n kept e ∙ sym (ap (λ b. b && has_no_row held d) (dir_by (Some n) e ∙ k))
             | false ↦ λ k. sym (ap (λ b. b && has_no_row held d) (dir_by (Some n) e ∙ k))
           ] refl

@@ -5,6 +5,7 @@ use Rattle.pua_tree.proofs.Common.{SlotNode, find, spot_cmp, count_by, length, �
 use Rattle.std.specs.List.{AllZip, fold}
 use Rattle.slab.specs.Slab.{get as slot_get, slab_len, IsSlotClone}
 use Rattle.std.specs.Prelude.{slice_index_or}
+use Rattle.pua_tree.specs.declared.numbering.Numbering.{Numbering}
 use Rattle.pua_tree.specs.Tree as tree
 use Rattle.pua_tree.specs.Slots.{IsNodeCopy, AreCopied, key_at, row_in}
 use Rattle.pua_tree.proofs.Base.{same_Some, None≢Some}
@@ -65,7 +66,7 @@ module _ (old new : Slots) (c : AreCopied old new) where
   node_copied x = subst (λ (o : Option ℕ). Copied (option_and_then (slot_get old.nodes) o) (node_in new x)) (slot_same x)
       (by_slot x (slot_of new x) refl)
 
-  pub copied_held : (next : ℕ) → held_in_slots new next ≡ held_in_slots old next
+  pub copied_held : (numbering : Numbering) → held_in_slots new numbering ≡ held_in_slots old numbering
   copied_held next = search (
     rows_by_entries new old c.rows,
     nodes_same old new (λ x. made_at (node_in old x) (node_in new x) (node_copied x)),

@@ -2,6 +2,7 @@
 use Rattle.pua_tree.proofs.Common.{◌≡◌, ◌==◌, ℕ, Bool, true, false, cond, not, Option, Some, None, option_map, refl, sym, ap, subst, ◌∙◌}
 use Rattle.pua_tree.proofs.Common.{eqb-true, IfSome, is_eq, nat_cmp, find, put, where_key, spot_cmp, Tree, without_unnamed}
 use Rattle.pua_tree.proofs.Common.{row_at, node_in, made_of, held_rows, held_nodes, held_in_slots, names_of, Slots, SlotNode}
+use Rattle.pua_tree.specs.declared.numbering.Numbering.{Numbering}
 use Rattle.pua_tree.specs.Tree as tree
 use Rattle.pua_tree.specs.Edits.{without_node}
 use Rattle.pua_tree.proofs.Base.{mapped}
@@ -12,21 +13,21 @@ use Rattle.pua_tree.proofs.SlotsHold.{rows_found, rows_sorted, nodes_found, node
 use Rattle.pua_tree.proofs.SlotsKeep.{each}
 
 -- a number without a node has none to take away
-none_to_take : (s : Slots) (next x : ℕ) → node_in s x ≡ None → held_in_slots s next ≡ without_node (held_in_slots s next) x
-none_to_take s next x none =
-    ap (λ nodes. record (held_in_slots s next) { nodes = nodes }) (nodes_taken s s x (λ q.
+none_to_take : (s : Slots) (numbering : Numbering) (x : ℕ) → node_in s x ≡ None → held_in_slots s numbering ≡ without_node (held_in_slots s numbering) x
+none_to_take s numbering x none =
+    ap (λ nodes. record (held_in_slots s numbering) { nodes = nodes }) (nodes_taken s s x (λ q.
     elim (q == x) as (λ b. (q == x) ≡ b → node_in s q ≡ cond b None (node_in s q)) [
       | true ↦ λ t. ap (node_in s) (eqb-true q x t) ∙ none
       | false ↦ λ _. refl
     ] refl))
 
 -- taken away where it has no name, or left
-pub unnamed_goes : (s : Slots) (next x names : ℕ) → IfSome (node_in s x) (λ _. names ≡ names_of (held_rows s) x) →
-    cond (names == 0) (without_node (held_in_slots s next) x) (held_in_slots s next) ≡ without_unnamed (held_in_slots s next) x
-unnamed_goes s next x names left = by (node_in s x) refl left
+pub unnamed_goes : (s : Slots) (numbering : Numbering) (x names : ℕ) → IfSome (node_in s x) (λ _. names ≡ names_of (held_rows s) x) →
+    cond (names == 0) (without_node (held_in_slots s numbering) x) (held_in_slots s numbering) ≡ without_unnamed (held_in_slots s numbering) x
+unnamed_goes s numbering x names left = by (node_in s x) refl left
   where
     t : Tree
-    t = held_in_slots s next
+    t = held_in_slots s numbering
 
     either : (a b : Bool) → t ≡ without_node t x → cond a (without_node t x) t ≡ cond b (without_node t x) t
     either true true e = refl
@@ -36,7 +37,7 @@ unnamed_goes s next x names left = by (node_in s x) refl left
 
     by : (o : Option SlotNode) → node_in s x ≡ o → IfSome o (λ _. names ≡ names_of (held_rows s) x) →
         cond (names == 0) (without_node t x) t ≡ without_unnamed t x
-    by None e _ = either (names == 0) (names_of (held_rows s) x == 0) (none_to_take s next x e)
+    by None e _ = either (names == 0) (names_of (held_rows s) x == 0) (none_to_take s numbering x e)
     by (Some n) e same = ap (λ count. cond (count == 0) (without_node t x) t) same
 
 -- a row that moves leaves each node as many names

@@ -5,14 +5,14 @@ use Rattle.std.specs.List.{list_any}
 use Rattle.std.specs.Ordering.{nat_cmp, is_eq}
 use Rattle.std.specs.FinMap.{put}
 use Rattle.std.specs.FinMap.Entries.{where_key}
-use Rattle.pua_tree.specs.Limits.{most_names, number_end}
+use Rattle.pua_tree.specs.Limits.{number_end}
 use Rattle.pua_tree.specs.Tree.{Node, Tree, spot_cmp, is_dir, is_living, look, has_no_row, rows_of, climb}
 use Rattle.pua_tree.specs.declared.fault.TreeFault.{TreeFault}
 use Rattle.pua_tree.specs.declared.fault.TreeFault.TheVariants.{Missing, Taken, NotDir, NotEmpty, Inside, Full, OutOfMemory, IsDir}
 
 -- a further name needs room among the names, of which the root counts as one
 abbrev pub has_name_room : Tree → Bool
-has_name_room t = nat_lt (length t.rows + 1) most_names
+has_name_room t = nat_lt (length t.rows + 1) t.room
 
 -- a further node needs a number
 abbrev pub has_number_room : Tree → Bool
@@ -37,7 +37,7 @@ without_unnamed t x = if rows_of t x == 0 then without_node t x else t
 
 -- the tree with a new node, whose number is `next`, in a new row
 abbrev pub with_new : Tree → ℕ → List ℕ → Node → Tree
-with_new t dir name node = record {
+with_new t dir name node = record t {
   rows = put spot_cmp (dir, name) t.next t.rows;
   nodes = put nat_cmp t.next node t.nodes;
   next = t.next + 1;

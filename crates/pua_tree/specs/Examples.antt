@@ -1,6 +1,8 @@
 -- Worked rows on trees and listings.
+use Rattle.pua_tree.specs.declared.form.Form.TheVariants.{First, Second, Third}
 use Rattle.std.specs.Prelude.{◌≡◌, ℕ, List, [], ◌∷◌, ◌++◌, Some, None, Ok, Err, codes, flat_map, refl, take, length, replicate}
-use Rattle.pua_tree.specs.Tree.{Node, Tree, WellFormed}
+use Rattle.pua_tree.specs.Limits.{most_wide_names}
+use Rattle.pua_tree.specs.Tree.{Node, Tree, WellFormed, empty_tree, root_alone}
 use Rattle.pua_tree.specs.Edits.{add, tie, cut, shift}
 use Rattle.pua_tree.specs.Spelling.{name_of}
 use Rattle.pua_tree.specs.Listing.{Entry, listing, entry_or_fault}
@@ -26,7 +28,7 @@ abbrev example_entry : Entry
 example_entry = record { number = 1; parent = 0; name = codes "a"; node = 1; made = Some plain }
 
 abbrev pub example_tree : Tree
-example_tree = record {
+example_tree = record empty_tree {
   rows = ((0, codes "etc"), 1) ∷ ((0, codes "t"), 4) ∷ ((0, codes "tmp"), 3) ∷ ((1, codes "passwd"), 2) ∷ (
     (3, codes "self"),
     6,
@@ -44,7 +46,7 @@ example_tree = record {
 
 -- a tree in which a file has two names
 abbrev pub tree_of_two_names : Tree
-tree_of_two_names = record {
+tree_of_two_names = record empty_tree {
   rows = ((0, codes "a"), 1) ∷ ((0, codes "b"), 2) ∷ ((1, codes "c"), 2) ∷ [];
   nodes = (0, record { kind = Dir; target = None }) ∷ (1, record { kind = Dir; target = None }) ∷ (2, record { kind = File; target = None })
       ∷ [];
@@ -69,7 +71,8 @@ pub record ListingRows : Type 0 where
   pub leading_zero : listing (text_of_lines (codes "tree 1" ∷ codes "0 dir" ∷ codes "01 dir 0 a" ∷ [])) ≡ Err (BadNumber 3)
   pub two_spaces : listing (text_of_lines (codes "tree 1" ∷ codes "0 dir" ∷ codes "1 dir  0 a" ∷ [])) ≡ Err (BadLine 3)
   pub short_line : listing (text_of_lines (codes "tree 1" ∷ codes "0 dir" ∷ codes "1 dir 0" ∷ [])) ≡ Err (BadLine 3)
-  pub other_header : listing (text_of_lines (codes "tree 3" ∷ codes "0 dir" ∷ [])) ≡ Err BadHeader
+  pub other_header : listing (text_of_lines (codes "tree 4" ∷ codes "0 dir" ∷ [])) ≡ Err BadHeader
+  pub wide : listing (text_of_lines (codes "tree 3" ∷ codes "0 dir" ∷ [])) ≡ Ok (root_alone most_wide_names)
   pub two_names : listing (text_of_lines (codes "tree 2" ∷ codes "0 dir" ∷ codes "1 dir 0 a" ∷ codes "2 file 0 b" ∷ codes "3 hard 1 c 2"
       ∷ [])) ≡ Ok (record tree_of_two_names { next = 4 })
   pub after_hard : listing (text_of_lines (codes "tree 2" ∷ codes "0 dir" ∷ codes "1 file 0 a" ∷ codes "3 hard 0 b 1" ∷ codes "3 file 0 c"
@@ -111,6 +114,7 @@ listing_rows = record {
   two_spaces = refl;
   short_line = refl;
   other_header = refl;
+  wide = refl;
   two_names = refl;
   after_hard = refl;
   hard_to_dir = refl;
@@ -132,7 +136,7 @@ listing_rows = record {
 
 -- of two faults of a line the earlier is answered, and of two lines that of the first
 pub record FaultOrderRows : Type 0 where
-  pub header_before_root : listing (text_of_lines (codes "tree 3" ∷ codes "1 dir" ∷ [])) ≡ Err BadHeader
+  pub header_before_root : listing (text_of_lines (codes "tree 4" ∷ codes "1 dir" ∷ [])) ≡ Err BadHeader
   pub root_before_entries : listing (text_of_lines (codes "tree 1" ∷ codes "0 file" ∷ codes "x" ∷ [])) ≡ Err (BadLine 2)
   pub line_before_number : listing (text_of_lines (codes "tree 1" ∷ codes "0 dir" ∷ codes "0 link 0 a" ∷ [])) ≡ Err (BadLine 3)
   pub number_before_parent : listing (text_of_lines (codes "tree 1" ∷ codes "0 dir" ∷ codes "0 dir 7 a" ∷ [])) ≡ Err (BadNumber 3)
@@ -143,9 +147,12 @@ pub record FaultOrderRows : Type 0 where
   pub name_before_node : listing (text_of_lines (codes "tree 2" ∷ codes "0 dir" ∷ codes "1 hard 0 .. 0" ∷ [])) ≡ Err (BadName 3)
   pub node_before_taken : listing (text_of_lines (codes "tree 2" ∷ codes "0 dir" ∷ codes "1 dir 0 a" ∷ codes "2 hard 0 a 1" ∷ []))
       ≡ Err (BadNode 4)
-  pub taken_before_room : entry_or_fault (example_entry ∷ []) 4098 example_entry ≡ Err (Taken 4098)
-  pub no_room : entry_or_fault [] 4098 example_entry ≡ Err (TooMany 4098)
-  pub last_room : entry_or_fault [] 4097 example_entry ≡ Ok example_entry
+  pub taken_before_room : entry_or_fault First (example_entry ∷ []) 4098 example_entry ≡ Err (Taken 4098)
+  pub no_room : entry_or_fault First [] 4098 example_entry ≡ Err (TooMany 4098)
+  pub last_room : entry_or_fault First [] 4097 example_entry ≡ Ok example_entry
+  pub no_second_room : entry_or_fault Second [] 4098 example_entry ≡ Err (TooMany 4098)
+  pub wide_room : entry_or_fault Third [] 1000001 example_entry ≡ Ok example_entry
+  pub no_wide_room : entry_or_fault Third [] 1000002 example_entry ≡ Err (TooMany 1000002)
   pub earlier_line_first : listing (text_of_lines (codes "tree 1" ∷ codes "0 dir" ∷ codes "1 dir 0 .." ∷ codes "x" ∷ [])) ≡ Err (BadName 3)
 
 pub fault_order_rows : FaultOrderRows
@@ -162,6 +169,9 @@ fault_order_rows = record {
   taken_before_room = refl;
   no_room = refl;
   last_room = refl;
+  no_second_room = refl;
+  wide_room = refl;
+  no_wide_room = refl;
   earlier_line_first = refl;
 }
 
@@ -199,7 +209,7 @@ example_is_tree = record { rows_in_order = refl; nodes_in_order = refl; root = r
 
 -- the example tree after its program came to stand where its one file stood
 abbrev pub tree_after_move : Tree
-tree_after_move = record {
+tree_after_move = record empty_tree {
   rows = ((0, codes "etc"), 1) ∷ ((0, codes "t"), 4) ∷ ((0, codes "tmp"), 3) ∷ ((1, codes "passwd"), 7) ∷ (
     (3, codes "self"),
     6,
@@ -213,7 +223,7 @@ tree_after_move = record {
 }
 
 abbrev pub small_tree : Tree
-small_tree = record {
+small_tree = record empty_tree {
   rows = ((0, codes "a"), 1) ∷ ((0, codes "b"), 2) ∷ [];
   nodes = (0, record { kind = Dir; target = None }) ∷ (1, record { kind = Dir; target = None }) ∷ (2, record { kind = File; target = None })
       ∷ [];
@@ -222,7 +232,7 @@ small_tree = record {
 
 -- the tree of two names without the first
 abbrev pub tree_of_second_name : Tree
-tree_of_second_name = record {
+tree_of_second_name = record empty_tree {
   rows = ((0, codes "a"), 1) ∷ ((1, codes "c"), 2) ∷ [];
   nodes = (0, record { kind = Dir; target = None }) ∷ (1, record { kind = Dir; target = None }) ∷ (2, record { kind = File; target = None })
       ∷ [];
@@ -233,7 +243,7 @@ tree_of_second_name = record {
 pub record EditRows : Type 0 where
   pub added : add small_tree 1 (codes "c") plain ≡ Ok (
     3,
-    record {
+    record empty_tree {
       rows = ((0, codes "a"), 1) ∷ ((0, codes "b"), 2) ∷ ((1, codes "c"), 3) ∷ [];
       nodes = (0, record { kind = Dir; target = None }) ∷ (1, record { kind = Dir; target = None }) ∷ (
         2,
@@ -255,7 +265,7 @@ pub record EditRows : Type 0 where
   pub cut_one_name : cut tree_of_two_names 0 (codes "b") ≡ Ok (2, tree_of_second_name)
   pub cut_last_name : cut tree_of_second_name 1 (codes "c") ≡ Ok (
     2,
-    record {
+    record empty_tree {
       rows = ((0, codes "a"), 1) ∷ [];
       nodes = (0, record { kind = Dir; target = None }) ∷ (1, record { kind = Dir; target = None }) ∷ [];
       next = 3;
@@ -264,7 +274,7 @@ pub record EditRows : Type 0 where
   pub between_names : shift tree_of_two_names 0 (codes "b") 1 (codes "c") ≡ Ok tree_of_two_names
   pub cut_dir : cut small_tree 0 (codes "a") ≡ Ok (
     1,
-    record {
+    record empty_tree {
       rows = ((0, codes "b"), 2) ∷ [];
       nodes = (0, record { kind = Dir; target = None }) ∷ (2, record { kind = File; target = None }) ∷ [];
       next = 3;
@@ -274,7 +284,7 @@ pub record EditRows : Type 0 where
   pub cut_nothing : cut example_tree 0 (codes "sh") ≡ Err Missing
   pub cut_full_dir : cut example_tree 0 (codes "tmp") ≡ Err NotEmpty
   pub moved : shift example_tree 3 (codes "sh") 1 (codes "passwd") ≡ Ok tree_after_move
-  pub onto_empty_dir : shift small_tree 0 (codes "b") 0 (codes "a") ≡ Ok (record {
+  pub onto_empty_dir : shift small_tree 0 (codes "b") 0 (codes "a") ≡ Ok (record empty_tree {
     rows = ((0, codes "a"), 2) ∷ [];
     nodes = (0, record { kind = Dir; target = None }) ∷ (2, record { kind = File; target = None }) ∷ [];
     next = 3;

@@ -3,10 +3,13 @@ use Rattle.std.specs.Prelude.{◌≡◌, ℕ, ◌+◌, Bool, true, false, not, �
 use Rattle.std.specs.Prelude.{None, codes, decimal, IsTrue, nat_lt, nat_le, ◌==◌, option_map, Ok, ◌↔◌}
 use Rattle.std.specs.List.{list_all}
 use Rattle.std.specs.Str.Lines.{lines}
-use Rattle.pua_tree.specs.Limits.{highest_listed, most_listed}
+use Rattle.pua_tree.specs.Limits.{highest_listed, most_wide_names}
 use Rattle.pua_tree.specs.Names.{is_name, is_target}
 use Rattle.pua_tree.specs.Spelling.{spelling, bytes_spelled}
 use Rattle.pua_tree.specs.Tree.{Node, Tree, WellFormed}
+use Rattle.pua_tree.specs.declared.form.Form.{Form}
+use Rattle.pua_tree.specs.declared.form.Form.TheVariants.{First, Second, Third}
+use Rattle.pua_tree.specs.Listing.{knows_hard, most_listed_of}
 use Rattle.pua_tree.specs.Listing.{Entry, last_number, is_earlier_dir, is_earlier_other, is_taken, tree_of, listing, listing_of_lines}
 use Rattle.pua_tree.specs.declared.node.Kind.{Kind}
 use Rattle.pua_tree.specs.declared.node.Kind.TheVariants.{Dir, File, Prog, Link}
@@ -51,23 +54,26 @@ made_fits hard earlier e (Some made) = e.node == e.number && target_stands made.
 
 -- an entry that may follow the earlier ones: its number is above theirs and at most the highest, its parent is a
 -- directory of theirs, its name is one that the parent hasn't yet, and after the root there is room for its line
-abbrev pub entry_fits : Bool → List Entry → Entry → Bool
-entry_fits hard earlier e =
+abbrev pub entry_fits : Form → List Entry → Entry → Bool
+entry_fits form earlier e =
     nat_lt (last_number earlier) e.number && (nat_le e.number highest_listed && (is_earlier_dir earlier e.parent && (is_name e.name
-    && (not (is_taken earlier e.parent e.name) && (nat_lt (length earlier + 1) most_listed && made_fits hard earlier e e.made)))))
+    && (not (is_taken earlier e.parent e.name) && (nat_lt (length earlier + 1) (most_listed_of form)
+    && made_fits (knows_hard form) earlier e e.made)))))
 
-abbrev pub entries_fit : Bool → List Entry → List Entry → Bool
-entries_fit hard earlier [] = true
-entries_fit hard earlier (e ∷ es) = entry_fits hard earlier e && entries_fit hard (earlier ++ e ∷ []) es
+abbrev pub entries_fit : Form → List Entry → List Entry → Bool
+entries_fit form earlier [] = true
+entries_fit form earlier (e ∷ es) = entry_fits form earlier e && entries_fit form (earlier ++ e ∷ []) es
 
--- the first line: hard links are known in the second form
-abbrev pub header_text : Bool → List ℕ
-header_text hard = if hard then codes "tree 2" else codes "tree 1"
+-- the first line
+abbrev pub header_text : Form → List ℕ
+header_text First = codes "tree 1"
+header_text Second = codes "tree 2"
+header_text Third = codes "tree 3"
 
 -- the bytes are a listing of the tree
 abbrev pub IsListing : List ℕ → Tree → Type 0
-IsListing bytes t = (hard : Bool) × (es : List Entry) × IsTrue (entries_fit hard [] es)
-    × (lines bytes ≡ header_text hard ∷ codes "0 dir" ∷ map entry_text es) × (t ≡ tree_of es)
+IsListing bytes t = (form : Form) × (es : List Entry) × IsTrue (entries_fit form [] es)
+    × (lines bytes ≡ header_text form ∷ codes "0 dir" ∷ map entry_text es) × (t ≡ tree_of form es)
 
 -- the reader accepts exactly the listings of a tree
 abbrev pub ListingsAreRead : Type 0
@@ -75,8 +81,13 @@ ListingsAreRead = (bytes : List ℕ) (t : Tree) → (listing bytes ≡ Ok t) ↔
 
 -- the lines of a listing of the first form list the same tree in the second
 abbrev pub SecondFormsAgree : Type 0
-SecondFormsAgree = (texts : List (List ℕ)) (t : Tree) → listing_of_lines (header_text false ∷ texts) ≡ Ok t →
-    listing_of_lines (header_text true ∷ texts) ≡ Ok t
+SecondFormsAgree = (texts : List (List ℕ)) (t : Tree) → listing_of_lines (header_text First ∷ texts) ≡ Ok t →
+    listing_of_lines (header_text Second ∷ texts) ≡ Ok t
+
+-- and those of the second form in the third, with more room
+abbrev pub ThirdFormsAgree : Type 0
+ThirdFormsAgree = (texts : List (List ℕ)) (t : Tree) → listing_of_lines (header_text Second ∷ texts) ≡ Ok t →
+    listing_of_lines (header_text Third ∷ texts) ≡ Ok (record t { room = most_wide_names })
 
 -- what a listing lists is a tree
 abbrev pub ListingsListTrees : Type 0

@@ -13,6 +13,10 @@ most_target = 1023
 abbrev pub most_names : ℕ
 most_names = 65535
 
+-- and in a tree that a listing of the third form lists
+abbrev pub most_wide_names : ℕ
+most_wide_names = 1065535
+
 -- the number that no node is given
 abbrev pub number_end : ℕ
 number_end = 4294967295
@@ -21,9 +25,9 @@ number_end = 4294967295
 abbrev pub most_listed : ℕ
 most_listed = 4096
 
--- lines of a listing with its header
-abbrev pub most_lines : ℕ
-most_lines = most_listed + 1
+-- and of one of the third form
+abbrev pub most_wide : ℕ
+most_wide = 1000000
 
 -- the greatest number of a listing
 abbrev pub highest_listed : ℕ

@@ -1,10 +1,10 @@
 -- Which bytes are a listing of which tree, and else which fault comes first.
-use Rattle.std.specs.Prelude.{ℕ, suc, Bool, true, false, not, ◌&&◌, ◌||◌, if◌then◌else◌, List, [], ◌∷◌, ◌++◌, filter_map, nat_lt, ◌==◌}
+use Rattle.std.specs.Prelude.{ℕ, suc, ◌+◌, Bool, true, false, not, ◌&&◌, ◌||◌, if◌then◌else◌, List, [], ◌∷◌, ◌++◌, filter_map, nat_lt, ◌==◌}
 use Rattle.std.specs.Prelude.{Option, Some, None, Result, Ok, Err, codes, ok_or, option_map}
 use Rattle.std.specs.List.{list_all, list_any}
 use Rattle.std.specs.Str.Lines.{lines}
 use Rattle.std.specs.FinMap.{put}
-use Rattle.pua_tree.specs.Limits.{highest_listed, most_lines}
+use Rattle.pua_tree.specs.Limits.{highest_listed, most_listed, most_wide, most_names, most_wide_names}
 use Rattle.pua_tree.specs.Names.{same_bytes, is_target}
 use Rattle.pua_tree.specs.Spelling.{bytes_spelled, name_of, fields, is_field, number_within}
 use Rattle.pua_tree.specs.Tree.{Node, Spot, Tree, spot_cmp, is_dir_kind}
@@ -12,9 +12,32 @@ use Rattle.pua_tree.specs.Steps.{◌>>=◌}
 use Rattle.std.specs.Result.{result_ok}
 use Rattle.pua_tree.specs.declared.node.Kind.{Kind}
 use Rattle.pua_tree.specs.declared.node.Kind.TheVariants.{Dir, File, Prog, Link}
+use Rattle.pua_tree.specs.declared.form.Form.{Form}
+use Rattle.pua_tree.specs.declared.form.Form.TheVariants.{First, Second, Third}
 use Rattle.pua_tree.specs.declared.fault.ListingFault.{ListingFault}
 use Rattle.pua_tree.specs.declared.fault.ListingFault.TheVariants.{BadHeader, BadLine, BadNumber, BadParent, BadName, BadTarget, Taken}
 use Rattle.pua_tree.specs.declared.fault.ListingFault.TheVariants.{TooMany, BadNode}
+
+-- whether hard links are known in a form
+abbrev pub knows_hard : Form → Bool
+knows_hard First = false
+knows_hard Second = true
+knows_hard Third = true
+
+-- lines of a listing after its header, of which the root's is the first, and with its header
+abbrev pub most_listed_of : Form → ℕ
+most_listed_of First = most_listed
+most_listed_of Second = most_listed
+most_listed_of Third = most_wide
+
+abbrev pub most_lines_of : Form → ℕ
+most_lines_of form = most_listed_of form + 1
+
+-- names in a tree that is listed so, the root counted
+abbrev pub most_names_of : Form → ℕ
+most_names_of First = most_names
+most_names_of Second = most_names
+most_names_of Third = most_wide_names
 
 -- what one line says: a row, and the node that the line makes under its number; a `hard` line makes none
 pub record Entry : Type 0 where
@@ -108,24 +131,24 @@ abbrev pub is_taken : List Entry → ℕ → List ℕ → Bool
 is_taken earlier parent name = list_any (λ e. e.parent == parent && same_bytes e.name name) earlier
 
 -- the entry of line n, if its name is free and there is room; line 2 is the root's
-abbrev pub entry_or_fault : List Entry → ℕ → Entry → Result Entry ListingFault
-entry_or_fault earlier n e =
-    if is_taken earlier e.parent e.name then Err (Taken n) else (if nat_lt most_lines n then Err (TooMany n) else Ok e)
+abbrev pub entry_or_fault : Form → List Entry → ℕ → Entry → Result Entry ListingFault
+entry_or_fault form earlier n e =
+    if is_taken earlier e.parent e.name then Err (Taken n) else (if nat_lt (most_lines_of form) n then Err (TooMany n) else Ok e)
 
 -- what line n says after the earlier ones, or its first fault
-abbrev pub entry_of : Bool → List Entry → ℕ → List ℕ → Result Entry ListingFault
-entry_of hard earlier n text = do
-  line ← ok_or (listing_line hard text) (BadLine n)
+abbrev pub entry_of : Form → List Entry → ℕ → List ℕ → Result Entry ListingFault
+entry_of form earlier n text = do
+  line ← ok_or (listing_line (knows_hard form) text) (BadLine n)
   number ← ok_or (number_in earlier line) (BadNumber n)
   parent ← ok_or (parent_in earlier line) (BadParent n)
   name ← ok_or (result_ok (name_of line.name)) (BadName n)
   node ← node_of earlier n number line line.kind
-  entry_or_fault earlier n (record { number = number; parent = parent; name = name; node = node.0; made = node.1 })
+  entry_or_fault form earlier n (record { number = number; parent = parent; name = name; node = node.0; made = node.1 })
 
 -- what further lines say after the earlier ones, or the fault of the first line that has one
-abbrev pub entries_of : Bool → List Entry → ℕ → List (List ℕ) → Result (List Entry) ListingFault
-entries_of hard earlier n [] = Ok earlier
-entries_of hard earlier n (text ∷ texts) = entry_of hard earlier n text >>= λ e. entries_of hard (earlier ++ e ∷ []) (suc n) texts
+abbrev pub entries_of : Form → List Entry → ℕ → List (List ℕ) → Result (List Entry) ListingFault
+entries_of form earlier n [] = Ok earlier
+entries_of form earlier n (text ∷ texts) = entry_of form earlier n text >>= λ e. entries_of form (earlier ++ e ∷ []) (suc n) texts
 
 -- the tree of the lines: the root, their rows and what they make, and a number above the greatest
 abbrev pub rows_of_entries : List Entry → List (Spot × ℕ)
@@ -138,27 +161,30 @@ made_entry e = option_map (λ made. (e.number, made)) e.made
 abbrev pub root_node : Node
 root_node = record { kind = Dir; target = None }
 
-abbrev pub tree_of : List Entry → Tree
-tree_of es = record {
+-- what entries list, in a form
+abbrev pub tree_of : Form → List Entry → Tree
+tree_of form es = record {
   rows = rows_of_entries es;
   nodes = (0, root_node) ∷ filter_map made_entry es;
   next = suc (last_number es);
+  room = most_names_of form;
 }
 
--- whether hard links are known, by the first line
-abbrev pub header : List ℕ → Result Bool ListingFault
+-- the form, by the first line
+abbrev pub header : List ℕ → Result Form ListingFault
 header text =
-    if same_bytes text (codes "tree 1") then Ok false
-    else (if same_bytes text (codes "tree 2") then Ok true else Err BadHeader)
+    if same_bytes text (codes "tree 1") then Ok First
+    else (if same_bytes text (codes "tree 2") then Ok Second
+    else (if same_bytes text (codes "tree 3") then Ok Third else Err BadHeader))
 
-abbrev pub after_header : Bool → List (List ℕ) → Result Tree ListingFault
-after_header hard [] = Err (BadLine 2)
-after_header hard (text ∷ texts) =
-    if same_bytes text (codes "0 dir") then (entries_of hard [] 3 texts >>= λ es. Ok (tree_of es)) else Err (BadLine 2)
+abbrev pub after_header : Form → List (List ℕ) → Result Tree ListingFault
+after_header form [] = Err (BadLine 2)
+after_header form (text ∷ texts) =
+    if same_bytes text (codes "0 dir") then (entries_of form [] 3 texts >>= λ es. Ok (tree_of form es)) else Err (BadLine 2)
 
 abbrev pub listing_of_lines : List (List ℕ) → Result Tree ListingFault
 listing_of_lines [] = Err BadHeader
-listing_of_lines (text ∷ texts) = header text >>= λ hard. after_header hard texts
+listing_of_lines (text ∷ texts) = header text >>= λ form. after_header form texts
 
 -- the tree of which the bytes are a listing, or their first fault
 abbrev pub listing : List ℕ → Result Tree ListingFault

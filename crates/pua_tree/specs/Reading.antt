@@ -9,6 +9,7 @@ use Rattle.pua_tree.specs.Edits.{add, tie, with_new, with_row, has_name_room}
 use Rattle.pua_tree.specs.Listing as listing
 use Rattle.pua_tree.specs.Listing.{last_number, tree_of}
 use Rattle.pua_tree.specs.Grammar.{entries_fit}
+use Rattle.pua_tree.specs.declared.form.Form.{Form}
 use Rattle.pua_tree.specs.declared.gathered.LineEntry.{LineEntry}
 use Rattle.pua_tree.specs.declared.gathered.Standing.{Standing}
 use Rattle.pua_tree.specs.declared.gathered.MadeNode.{MadeNode}
@@ -70,7 +71,7 @@ follows t e =
     is_dir t e.parent && (node_follows t e.number e.node e.made && row_follows t e.number e.parent e.name)
 
 -- the tree of entries each of which fits those before it, and the greatest of their numbers
-pub record Gathers (hard : Bool) (t : Tree) (greatest : ℕ) (es : List listing.Entry) : Type 0 where
-  pub fit : IsTrue (entries_fit hard [] es)
-  pub tree : t ≡ tree_of es
+pub record Gathers (form : Form) (t : Tree) (greatest : ℕ) (es : List listing.Entry) : Type 0 where
+  pub fit : IsTrue (entries_fit form [] es)
+  pub tree : t ≡ tree_of form es
   pub highest : greatest ≡ last_number es

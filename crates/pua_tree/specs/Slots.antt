@@ -10,6 +10,7 @@ use Rattle.slab.specs.Slab.{get as slot_get, slab_len, HasRoomFor, IsSlabClone}
 use Rattle.pua_tree.specs.Tree as tree
 use Rattle.pua_tree.specs.Tree.{spot_cmp}
 use Rattle.pua_tree.specs.declared.node.Kind.TheVariants.{Dir}
+use Rattle.pua_tree.specs.declared.numbering.Numbering.{Numbering}
 use Rattle.pua_tree.specs.declared.spot.Spot.{Spot}
 use Rattle.pua_tree.specs.declared.slots.Slots.{Slots}
 use Rattle.pua_tree.specs.declared.slots.SlotNode.{SlotNode}
@@ -56,8 +57,13 @@ held_rows s = in_order spot_cmp (map {B = tree.Spot × Option ℕ} (λ e. ((e.0.
 abbrev pub held_nodes : Slots → List (ℕ × tree.Node)
 held_nodes s = in_order nat_cmp (map {B = ℕ × Option tree.Node} (λ e. (e.0, option_map made_of (slot_get s.nodes e.1))) s.numbers.entries)
 
-abbrev pub held_in_slots : Slots → ℕ → tree.Tree
-held_in_slots s next = record { rows = held_rows s; nodes = held_nodes s; next = next }
+abbrev pub held_in_slots : Slots → Numbering → tree.Tree
+held_in_slots s numbering = record {
+  rows = held_rows s;
+  nodes = held_nodes s;
+  next = numbering.next;
+  room = numbering.room;
+}
 
 -- how many rows a directory has
 abbrev pub rows_in : List (tree.Spot × ℕ) → ℕ → ℕ

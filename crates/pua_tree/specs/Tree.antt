@@ -1,5 +1,5 @@
 -- A tree as rows, living nodes and the next number. Rows and nodes stand in the order of their keys,
--- so trees with the same rows, kinds, targets and next number are equal.
+-- so trees with the same rows, kinds, targets, next number and room are equal.
 use Rattle.std.specs.Prelude.{ℕ, zero, suc, Bool, true, false, not, ◌&&◌, if◌then◌else◌, List, [], ◌∷◌, length, map, nat_lt, nat_le, ◌==◌}
 use Rattle.std.specs.Prelude.{Option, Some, None, IsTrue, unwrap_or, option_map, option_and_then, count_by, is_some, is_none, find}
 use Rattle.std.specs.List.{list_all, list_any}
@@ -8,6 +8,7 @@ use Rattle.std.specs.Ordering.{nat_cmp, ordering_then}
 use Rattle.std.specs.Cmp.Lexicographic.{slice_cmp}
 use Rattle.std.specs.FinMap.{is_sorted, find as find_key}
 use Rattle.std.specs.FinMap.Entries.{by_order}
+use Rattle.pua_tree.specs.Limits.{most_names}
 use Rattle.pua_tree.specs.Names.{is_name, is_target}
 use Rattle.pua_tree.specs.declared.node.Kind.{Kind}
 use Rattle.pua_tree.specs.declared.node.Kind.TheVariants.{Dir, Link}
@@ -28,11 +29,12 @@ name_cmp = slice_cmp nat_cmp
 abbrev pub spot_cmp : Spot → Spot → Ordering
 spot_cmp a b = ordering_then (nat_cmp a.0 b.0) (name_cmp a.1 b.1)
 
--- rows from spots to nodes, the living nodes, and a number above each of them
+-- rows from spots to nodes, the living nodes, a number above each of them, and how many names the tree may have
 pub record Tree : Type 0 where
   pub rows : List (Spot × ℕ)
   pub nodes : List (ℕ × Node)
   pub next : ℕ
+  pub room : ℕ
 
 abbrev pub node_at : Tree → ℕ → Option Node
 node_at t x = find_key nat_cmp x t.nodes
@@ -145,6 +147,9 @@ pub record WellFormed (t : Tree) : Type 0 where
   pub rows_fit : IsTrue (list_all (row_fits t) t.rows)
   pub nodes_fit : IsTrue (list_all (node_fits t) t.nodes)
 
--- the root alone
+-- the root alone, with room for so many names
+abbrev pub root_alone : ℕ → Tree
+root_alone room = record { rows = []; nodes = (0, record { kind = Dir; target = None }) ∷ []; next = 1; room = room }
+
 abbrev pub empty_tree : Tree
-empty_tree = record { rows = []; nodes = (0, record { kind = Dir; target = None }) ∷ []; next = 1 }
+empty_tree = root_alone most_names

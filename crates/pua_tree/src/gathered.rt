@@ -54,13 +54,13 @@ pub(crate) struct MadeNode {
 /// out. What it holds so far is its content.
 pub(crate) trait Gathered: FileTree + Drop {
     ghost use Rattle.std.specs.Prelude.{◌≡◌, ◌≢◌, Ok, IfOk, true};
-    ghost use Rattle.pua_tree.specs.Tree.{empty_tree, look};
+    ghost use Rattle.pua_tree.specs.Tree.{root_alone as rule_root_alone, look};
     ghost use Rattle.pua_tree.specs.Reading.{follows, tree_with, entry_at};
 
-    /// The root alone, with room for so many rows. The only error is that the memory for it is
-    /// refused.
-    fn root_alone(alloc: Global, rows: usize) -> Result<Self, OutOfMemory>
-        ensures { IfOk result (λ tree. Self.content tree ≡ empty_tree) };
+    /// The root alone, in a tree of at most so many names, with memory for so many rows. The only
+    /// error is that the memory for it is refused.
+    fn root_alone(alloc: Global, rows: usize, room: u32) -> Result<Self, OutOfMemory>
+        ensures { IfOk result (λ tree. Self.content tree ≡ rule_root_alone room) };
 
     /// The node in the row at this spot.
     fn row_at(&self, spot: &Spot) -> Option<NodeId>

@@ -6,7 +6,7 @@ use crate::gathered::Standing;
 use crate::name::{LentName, Name};
 use crate::node::{Kind, NodeId};
 use crate::spot::Spot;
-use crate::tree::{LentSpot, MOST_NAMES, NUMBER_END};
+use crate::tree::{LentSpot, NUMBER_END};
 
 /// What a judgement asks of a tree. The edits of `FileTree` are judged by these answers, so it is no
 /// part of `FileTree`.
@@ -55,6 +55,10 @@ pub(crate) trait Judged {
     /// The number of the next node.
     fn next_number(&self) -> u32
         ensures { result ≡ (held self.now).next };
+
+    /// How many names there may be, the root counted as one.
+    fn room(&self) -> u32
+        ensures { result ≡ (held self.now).room };
 }
 
 ghost use Rattle.std.specs.Prelude.{◌≡◌, ◌≢◌, ◌<◌, Some, None, Ok, Err, IsTrue, IfOk, IfSome, OnOk};
@@ -338,7 +342,7 @@ fn is_full<T: Judged>(tree: &T, id: NodeId, kind: Kind) -> bool
 fn has_name_room<T: Judged>(tree: &T) -> bool
     ensures { result ≡ has_name_room (T.held tree.now) }
 {
-    tree.row_count() + 1 < MOST_NAMES
+    tree.row_count() + 1 < tree.room() as usize
 }
 
 /// Whether there is room for the name of a further node, and a number.

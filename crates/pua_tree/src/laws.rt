@@ -2,7 +2,7 @@
 //! that does nothing.
 
 ghost use Rattle.pua_tree.specs.Laws.{TreesAreTheirRows, EditsKeepTrees, LimitsAreTheirs};
-ghost use Rattle.pua_tree.specs.Grammar.{ListingsAreRead, ListingsListTrees, SecondFormsAgree};
+ghost use Rattle.pua_tree.specs.Grammar.{ListingsAreRead, ListingsListTrees, SecondFormsAgree, ThirdFormsAgree};
 ghost use Rattle.pua_tree.specs.Grammar.{SpellingsAreRead};
 ghost use Rattle.pua_tree.specs.Examples.{ListingRows, FaultOrderRows, NameRows, EditRows};
 ghost use Rattle.pua_tree.specs.Examples.{ExampleIsTree};
@@ -24,11 +24,13 @@ pub fn limits_law()
 {}
 
 /// Bytes are read as a tree exactly where they are a listing of it, and what a listing lists is a
-/// tree. A listing under `tree 1` lists the same tree under `tree 2`.
+/// tree. A listing under `tree 1` lists the same tree under `tree 2`, and so does one under `tree 2`
+/// under `tree 3`.
 pub fn listing_law()
     ensures read { ListingsAreRead }
     ensures trees { ListingsListTrees }
     ensures forms { SecondFormsAgree }
+    ensures wide { ThirdFormsAgree }
 {}
 
 /// Bytes have one spelling, and it is read as them.

@@ -6,6 +6,7 @@ use crate::judgement::{self, Judged, Moving, may_add, may_cut, may_put, may_shif
 use crate::list_edits::{copied_target, push_made, put_row, reserve_one, take_row, take_unnamed};
 use crate::name::{LentName, Name};
 use crate::node::{Kind, NodeId};
+use crate::numbering::Numbering;
 use crate::spot::Spot;
 use crate::tree::{FileTree, LentRow, LentSpot};
 use std::alloc::{AllocError, Global};
@@ -34,7 +35,7 @@ pub(crate) struct ListNode {
 pub struct ListTree {
     rows: Vec<ListRow>,
     nodes: Vec<ListNode>,
-    next: u32,
+    numbering: Numbering,
 }
 
 impl Model for ListTree {
@@ -44,9 +45,9 @@ impl Model for ListTree {
 
     ghost use Rattle.pua_tree.specs.ListTree.{held_tree};
 
-    ghost view = { λ a. held_tree a.rows.items a.nodes.items a.next };
+    ghost view = { λ a. held_tree a.rows.items a.nodes.items a.numbering };
 
-    ghost invariant = { λ a. WellFormed (held_tree a.rows.items a.nodes.items a.next) };
+    ghost invariant = { λ a. WellFormed (held_tree a.rows.items a.nodes.items a.numbering) };
 }
 
 ghost use Rattle.std.specs.Prelude.{ℕ, ◌≡◌, ◌<◌, ◌≤◌, Some, None, IsTrue, IfOk, IfErr, ◌==◌};
@@ -108,6 +109,10 @@ impl FileTree for ListTree {
         self.is_bare(dir)
     }
 
+    fn most_names(&self) -> u32 {
+        self.numbering.room
+    }
+
     fn row_count(&self) -> usize {
         self.rows.len()
     }
@@ -131,7 +136,7 @@ impl FileTree for ListTree {
         may_add(self, dir, &name)?;
         let alloc = *self.nodes.allocator();
         let target = copied_target(alloc, target)?;
-        let number = self.next;
+        let number = self.numbering.next;
         let node = NodeId::new(number);
         let made = Some(MadeNode { kind, target });
         let stands = Standing { number, node, made };
@@ -182,7 +187,7 @@ impl FileTree for ListTree {
 }
 
 impl Gathered for ListTree {
-    fn root_alone(alloc: Global, rows: usize) -> Result<ListTree, OutOfMemory> {
+    fn root_alone(alloc: Global, rows: usize, room: u32) -> Result<ListTree, OutOfMemory> {
         let rows = Vec::with_capacity(alloc, rows)?;
         let mut nodes = Vec::new(alloc);
         let root = ListNode {
@@ -194,7 +199,7 @@ impl Gathered for ListTree {
         Ok(ListTree {
             rows,
             nodes,
-            next: 1,
+            numbering: Numbering { next: 1, room },
         })
     }
 
@@ -215,7 +220,7 @@ impl Gathered for ListTree {
         };
         put_row(&mut self.rows, row);
         push_made(&mut self.nodes, node, made);
-        self.next = number + 1;
+        self.numbering.next = number + 1;
         Ok(true)
     }
 }
@@ -270,7 +275,11 @@ impl Judged for ListTree {
     }
 
     fn next_number(&self) -> u32 {
-        self.next
+        self.numbering.next
+    }
+
+    fn room(&self) -> u32 {
+        self.numbering.room
     }
 }
 

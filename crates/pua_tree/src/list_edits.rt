@@ -9,6 +9,7 @@ ghost use Rattle.std.specs.FinMap.Entries.{where_key};
 ghost use Rattle.pua_tree.specs.Tree.{spot_cmp};
 ghost use Rattle.pua_tree.specs.Edits.{without_unnamed};
 ghost use Rattle.pua_tree.specs.ListTree.{row_entry, node_entry, held_tree};
+ghost use Rattle.pua_tree.specs.declared.numbering.Numbering.{Numbering};
 ghost use Rattle.pua_tree.specs.Reading.{said_node};
 
 use crate::gathered::MadeNode;
@@ -100,9 +101,9 @@ fn take_node(nodes: &mut Vec<ListNode>, id: NodeId)
 /// Takes the node of this number away, if it stands in no row.
 pub(crate) fn take_unnamed(rows: &[ListRow], nodes: &mut Vec<ListNode>, id: NodeId)
     requires { IsTrue (is_sorted nat_cmp (map node_entry nodes.old.items)) }
-    ensures { (next : ℕ) →
-        held_tree rows.now nodes.new.items next
-        ≡ without_unnamed (held_tree rows.now nodes.old.items next) id }
+    ensures { (numbering : Numbering) →
+        held_tree rows.now nodes.new.items numbering
+        ≡ without_unnamed (held_tree rows.now nodes.old.items numbering) id }
 {
     if !has_name(rows, id) {
         take_node(nodes, id);

@@ -11,11 +11,13 @@ ghost use Rattle.pua_tree.specs.Tree.{is_dir, is_living, target_fits};
 ghost use Rattle.pua_tree.specs.Lines.{line_read};
 ghost use Rattle.pua_tree.specs.Listing.{listing, listing_of_lines, after_header, entry_of};
 ghost use Rattle.pua_tree.specs.Listing.{entries_of, entry_or_fault, only_if, node_of};
+ghost use Rattle.pua_tree.specs.Listing.{most_lines_of};
 ghost use Rattle.pua_tree.specs.Listing.{Entry as Said};
 ghost use Rattle.pua_tree.specs.Reading.{Gathers, entry_said, said_node};
 
 use crate::fault::ListingFault;
 use crate::field::number_within;
+use crate::form::Form;
 use crate::gathered::{Gathered, LineEntry, MadeNode, Standing};
 use crate::line::{ListingLine, read_line};
 use crate::link_target::is_target;
@@ -29,15 +31,8 @@ use crate::tree::FileTree;
 use bstr::{ByteSlice, Lines};
 use std::alloc::Global;
 
-/// The most lines that a listing has after its first, of which the root's is one (this program's
-/// format).
-pub const MOST_LISTED: u32 = 4096;
-
 /// The greatest number that a listing has (this program's format).
 pub const HIGHEST_LISTED: u32 = 999_999;
-
-/// The most lines that a listing has with its first.
-const MOST_LINES: u32 = MOST_LISTED + 1;
 
 /// The tree of which the bytes are a listing, under the numbers of the listing. The format is this
 /// program's own. The fault is that of the first line that has one; `ListingFault::OutOfMemory`
@@ -66,35 +61,37 @@ fn read_tree<T: Gathered>(alloc: Global, bytes: &[u8]) -> Result<T, ListingFault
         → listing bytes.now ≡ Err fault) }
 {
     let mut lines = bytes.lines();
-    let Some(hard) = take_header(&mut lines) else {
+    let Some(form) = take_header(&mut lines) else {
         return Err(ListingFault::BadHeader);
     };
     if !take_line(&mut lines, b"0 dir") {
         return Err(ListingFault::BadLine(2));
     }
-    let Reading { tree, .. } = read_entries(alloc, hard, most_rows(bytes), lines)?;
+    let Reading { tree, .. } = read_entries(alloc, form, most_rows(form, bytes), lines)?;
     Ok(tree)
 }
 
-/// As many rows as a listing of so many bytes may have, for which room is made at once: a line of a
-/// row has ten bytes or more with its end.
-fn most_rows(bytes: &[u8]) -> usize
-    ensures { result ≡ min (length bytes.now / 10) MOST_LISTED }
+/// As many rows as a listing of this form and of so many bytes may have, for which memory is taken at
+/// once: a line of a row has ten bytes or more with its end.
+fn most_rows(form: Form, bytes: &[u8]) -> usize
+    ensures { result ≡ min (length bytes.now / 10) (most_lines_of form) }
 {
-    (bytes.len() / 10).min(MOST_LISTED as usize)
+    (bytes.len() / 10).min(form.most_lines() as usize)
 }
 
-/// Takes the first line. Answers whether hard links are known in the lines after it, and None where
-/// it is not there or is no listing's.
-fn take_header(lines: &mut Lines<'_>) -> Option<bool>
+/// Takes the first line. Answers the form that it says, and None where it is not there or is no
+/// listing's.
+fn take_header(lines: &mut Lines<'_>) -> Option<Form>
     ensures { MatchOption result (listing_of_lines lines.old ≡ Err ListingFault.BadHeader)
-        (λ hard. listing_of_lines lines.old ≡ after_header hard lines.new) }
+        (λ form. listing_of_lines lines.old ≡ after_header form lines.new) }
 {
     let line = lines.next()?;
     if line == b"tree 1".as_slice() {
-        Some(false)
+        Some(Form::First)
     } else if line == b"tree 2".as_slice() {
-        Some(true)
+        Some(Form::Second)
+    } else if line == b"tree 3".as_slice() {
+        Some(Form::Third)
     } else {
         None
     }
@@ -111,11 +108,11 @@ fn take_line(lines: &mut Lines<'_>, text: &[u8]) -> bool
     }
 }
 
-/// The tree of the lines so far, the greatest number among them, and whether hard links are known.
+/// The tree of the lines so far, the greatest number among them, and the listing's form.
 /// The spot of each line is written over the one before.
 #[derive(Drop)]
 struct Reading<T> {
-    hard: bool,
+    form: Form,
     tree: T,
     greatest: u32,
     spot: Spot,
@@ -124,17 +121,17 @@ struct Reading<T> {
 /// Reads the lines after the first two, with room for so many rows.
 fn read_entries<T: Gathered>(
     alloc: Global,
-    hard: bool,
+    form: Form,
     rows: usize,
     lines: Lines<'_>,
 ) -> Result<Reading<T>, ListingFault>
     ensures ok { IfOk result (λ reading. (es : List Said)
-        × Gathers hard (T.content reading.tree) reading.greatest es
-        × (entries_of hard [] 3 lines.entry ≡ Ok es)) }
+        × Gathers form (T.content reading.tree) reading.greatest es
+        × (entries_of form [] 3 lines.entry ≡ Ok es)) }
     ensures err { IfErr result (λ fault. fault ≢ ListingFault.OutOfMemory
-        → entries_of hard [] 3 lines.entry ≡ Err fault) }
+        → entries_of form [] 3 lines.entry ≡ Err fault) }
 {
-    let mut reading = Reading::new(alloc, hard, rows)?;
+    let mut reading = Reading::new(alloc, form, rows)?;
     let mut room = [0; Name::MOST];
     let mut n = 2;
     for text in lines {
@@ -146,19 +143,19 @@ fn read_entries<T: Gathered>(
 
 impl<T: Gathered> Reading<T> {
     /// The root alone, with room for so many rows.
-    fn new(alloc: Global, hard: bool, rows: usize) -> Result<Reading<T>, ListingFault>
-        ensures ok { IfOk result (λ reading. Gathers hard (T.content reading.tree) reading.greatest
+    fn new(alloc: Global, form: Form, rows: usize) -> Result<Reading<T>, ListingFault>
+        ensures ok { IfOk result (λ reading. Gathers form (T.content reading.tree) reading.greatest
             []) }
-        ensures hard { IfOk result (λ reading. reading.hard ≡ hard) }
+        ensures form { IfOk result (λ reading. reading.form ≡ form) }
         ensures err { OnErr result (result ≡ Err ListingFault.OutOfMemory) }
     {
-        let tree = T::root_alone(alloc, rows)?;
+        let tree = T::root_alone(alloc, rows, form.most_names())?;
         let spot = Spot {
             dir: NodeId::ROOT,
             name: Name::any(),
         };
         Ok(Reading {
-            hard,
+            form,
             tree,
             greatest: 0,
             spot,
@@ -173,20 +170,21 @@ impl<T: Gathered> Reading<T> {
         text: &[u8],
         room: &mut [u8; Name::MOST],
     ) -> Result<(), ListingFault>
-        ensures room { OnOk result (n ≤ MOST_LINES) }
-        ensures hard { self.new.hard ≡ self.old.hard }
+        ensures room { OnOk result (n ≤ most_lines_of self.old.form) }
+        ensures form { self.new.form ≡ self.old.form }
         ensures exact { (es : List Said)
-            → Gathers self.old.hard (T.content self.old.tree) self.old.greatest es
+            → Gathers self.old.form (T.content self.old.tree) self.old.greatest es
             → n ≡ length es + 3 → MatchResult result
-            (λ _. (e : Said) × (entry_of self.old.hard es n text.now ≡ Ok e)
-            × Gathers self.old.hard (T.content self.new.tree) self.new.greatest (es ++ e ∷ []))
+            (λ _. (e : Said) × (entry_of self.old.form es n text.now ≡ Ok e)
+            × Gathers self.old.form (T.content self.new.tree) self.new.greatest (es ++ e ∷ []))
             (λ fault. fault ≢ ListingFault.OutOfMemory
-            → entry_of self.old.hard es n text.now ≡ Err fault) }
+            → entry_of self.old.form es n text.now ≡ Err fault) }
     {
         let entry = self.entry(alloc, n, text, room)?;
         self.spot.dir = entry.parent;
         self.spot.name.overwrite(entry.name);
-        if n > MOST_LINES {
+        let most = self.form.most_lines();
+        if n > most {
             return Err(match self.tree.row_at(&self.spot) {
                 Some(_) => ListingFault::Taken(n),
                 None => ListingFault::TooMany(n),
@@ -208,13 +206,13 @@ impl<T: Gathered> Reading<T> {
         room: &'a mut [u8; Name::MOST],
     ) -> Result<LineEntry<'a>, ListingFault>
         ensures { (es : List Said)
-            → Gathers self.now.hard (T.content self.now.tree) self.now.greatest es
+            → Gathers self.now.form (T.content self.now.tree) self.now.greatest es
             → MatchResult result
-            (λ e. entry_of self.now.hard es n text.now ≡ entry_or_fault es n (entry_said e))
+            (λ e. entry_of self.now.form es n text.now ≡ entry_or_fault self.now.form es n (entry_said e))
             (λ fault. fault ≢ ListingFault.OutOfMemory
-            → entry_of self.now.hard es n text.now ≡ Err fault) }
+            → entry_of self.now.form es n text.now ≡ Err fault) }
     {
-        let Some(line) = read_line(self.hard, text) else {
+        let Some(line) = read_line(self.form.knows_hard(), text) else {
             return Err(ListingFault::BadLine(n));
         };
         let Some(number) = number_after(self.greatest, line.number) else {
@@ -244,7 +242,7 @@ impl<T: Gathered> Reading<T> {
         line: &ListingLine<'_>,
     ) -> Result<(NodeId, Option<MadeNode>), ListingFault>
         ensures { (es : List Said)
-            → Gathers self.now.hard (T.content self.now.tree) self.now.greatest es
+            → Gathers self.now.form (T.content self.now.tree) self.now.greatest es
             → MatchResult result
             (λ found. node_of es n number (line_read line.now) line.now.kind
             ≡ Ok (found.0, option_map said_node found.1))

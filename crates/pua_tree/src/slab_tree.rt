@@ -6,9 +6,10 @@ use crate::judgement::{self, Judged, Moving, may_add, may_cut, may_put_row, may_
 use crate::list_edits::copied_target;
 use crate::name::{LentName, Name};
 use crate::node::{Kind, NodeId};
+use crate::numbering::Numbering;
 use crate::slots::Slots;
 use crate::spot::Spot;
-use crate::tree::{FileTree, LentRow, LentSpot};
+use crate::tree::{CopiedTree, FileTree, LentRow, LentSpot};
 use std::alloc::Global;
 use std::marker::Model;
 
@@ -19,7 +20,7 @@ use std::marker::Model;
 #[derive(Drop)]
 pub struct SlabTree {
     slots: Slots,
-    next: u32,
+    numbering: Numbering,
 }
 
 impl Model for SlabTree {
@@ -28,24 +29,9 @@ impl Model for SlabTree {
 
     ghost Value = { Tree };
 
-    ghost view = { λ a. held_in_slots a.slots a.next };
+    ghost view = { λ a. held_in_slots a.slots a.numbering };
 
-    ghost invariant = { λ a. WellFormed (held_in_slots a.slots a.next) × AreConsistent a.slots };
-}
-
-ghost use Rattle.std.specs.Prelude.{◌≡◌, IfOk};
-
-impl SlabTree {
-    /// A copy, which from then on is a tree of its own. The only error is that a growth was refused.
-    pub fn copy(&self) -> Result<SlabTree, OutOfMemory>
-        ensures { IfOk result (λ copy. copy ≡ self.now) }
-    {
-        let slots = self.slots.copy()?;
-        Ok(SlabTree {
-            slots,
-            next: self.next,
-        })
-    }
+    ghost invariant = { λ a. WellFormed (held_in_slots a.slots a.numbering) × AreConsistent a.slots };
 }
 
 impl FileTree for SlabTree {
@@ -92,6 +78,10 @@ impl FileTree for SlabTree {
         self.is_bare(dir)
     }
 
+    fn most_names(&self) -> u32 {
+        self.numbering.room
+    }
+
     fn row_count(&self) -> usize {
         self.slots.row_count()
     }
@@ -114,14 +104,14 @@ impl FileTree for SlabTree {
         may_add(self, dir, &name)?;
         let alloc = self.slots.allocator();
         let target = copied_target(alloc, target)?;
-        let number = self.next;
+        let number = self.numbering.next;
         let node = NodeId::new(number);
         let made = Some(MadeNode { kind, target });
         let stands = Standing { number, node, made };
         let above = self.slots.slot(dir);
         self.slots
             .put_entry(above, None, &Spot { dir, name }, stands)?;
-        self.next = number + 1;
+        self.numbering.next = number + 1;
         Ok(node)
     }
 
@@ -163,10 +153,21 @@ impl FileTree for SlabTree {
     }
 }
 
+impl CopiedTree for SlabTree {
+    fn copy(&self) -> Result<SlabTree, OutOfMemory> {
+        let slots = self.slots.copy()?;
+        Ok(SlabTree {
+            slots,
+            numbering: self.numbering,
+        })
+    }
+}
+
 impl Gathered for SlabTree {
-    fn root_alone(alloc: Global, rows: usize) -> Result<SlabTree, OutOfMemory> {
+    fn root_alone(alloc: Global, rows: usize, room: u32) -> Result<SlabTree, OutOfMemory> {
         let slots = Slots::root_alone(alloc, rows)?;
-        Ok(SlabTree { slots, next: 1 })
+        let numbering = Numbering { next: 1, room };
+        Ok(SlabTree { slots, numbering })
     }
 
     fn row_at(&self, spot: &Spot) -> Option<NodeId> {
@@ -181,7 +182,7 @@ impl Gathered for SlabTree {
             return Ok(false);
         }
         self.slots.put_entry(above, other, spot, stands)?;
-        self.next = number + 1;
+        self.numbering.next = number + 1;
         Ok(true)
     }
 }
@@ -236,6 +237,10 @@ impl Judged for SlabTree {
     }
 
     fn next_number(&self) -> u32 {
-        self.next
+        self.numbering.next
+    }
+
+    fn room(&self) -> u32 {
+        self.numbering.room
     }
 }

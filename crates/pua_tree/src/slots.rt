@@ -70,11 +70,13 @@ ghost use Rattle.std.specs.Ordering.{is_eq, nat_cmp};
 ghost use Rattle.std.specs.FinMap.{put};
 ghost use Rattle.std.specs.FinMap.Entries.{where_key};
 ghost use Rattle.indexmap.specs.IndexMap.{spare};
-ghost use Rattle.pua_tree.specs.Tree.{spot_cmp, empty_tree, distinct_names, WellFormed};
+ghost use Rattle.pua_tree.specs.Tree.{spot_cmp, root_alone, distinct_names, WellFormed};
 ghost use Rattle.pua_tree.specs.Tree.{is_dir_kind};
 ghost use Rattle.pua_tree.specs.Edits.{without_unnamed};
 ghost use Rattle.pua_tree.specs.Reading.{Follows, said_node, entry_at, tree_with};
 ghost use Rattle.pua_tree.specs.LentRows.{lent_entry};
+ghost use Rattle.pua_tree.specs.Numbering.{with_next};
+ghost use Rattle.pua_tree.specs.declared.numbering.Numbering.{Numbering};
 ghost use Rattle.pua_tree.specs.Slots.{held_rows, held_nodes, held_in_slots, names_of, IsNew};
 ghost use Rattle.pua_tree.specs.Slots.{with_made, row_in, row_at, slot_of, node_in};
 ghost use Rattle.pua_tree.specs.Slots.{HasRow, MayEnter, MayMove, HasNodeRoom, AreCopied};
@@ -443,15 +445,16 @@ impl Slots {
     ) -> Result<(), AllocError>
         ensures grown { above ≡ slot_of self.old spot.now.dir →
             (is_none stands.made ≡ true → other ≡ slot_of self.old stands.node) →
-            AreConsistent self.old → (next : ℕ) →
-            WellFormed (held_in_slots self.old next) →
+            AreConsistent self.old → (numbering : Numbering) →
+            WellFormed (held_in_slots self.old numbering) →
             let entry = entry_at spot.now.dir spot.now.name stands in
-            Follows (held_in_slots self.old next) entry →
-            OnOk result (AreConsistent self.new × (held_in_slots self.new (stands.number + 1)
-            ≡ tree_with (held_in_slots self.old next) entry)) }
+            Follows (held_in_slots self.old numbering) entry →
+            OnOk result (AreConsistent self.new × (held_in_slots self.new
+            (with_next numbering (stands.number + 1))
+            ≡ tree_with (held_in_slots self.old numbering) entry)) }
         ensures kept { OnErr result (AreConsistent self.old → AreConsistent self.new) }
-        ensures unchanged { OnErr result ((next : ℕ) →
-            held_in_slots self.new next ≡ held_in_slots self.old next) }
+        ensures unchanged { OnErr result ((numbering : Numbering) →
+            held_in_slots self.new numbering ≡ held_in_slots self.old numbering) }
     {
         self.reserve_node()?;
         let Standing { node, made, .. } = stands;
@@ -479,8 +482,8 @@ impl Slots {
         ensures rows { self.new.rows ≡ self.old.rows }
         ensures unnamed { AreConsistent self.old →
             IfSome (node_in self.old id) (λ _. names ≡ names_of (held_rows self.old) id) →
-            (next : ℕ) →
-            held_in_slots self.new next ≡ without_unnamed (held_in_slots self.old next) id }
+            (numbering : Numbering) → held_in_slots self.new numbering
+            ≡ without_unnamed (held_in_slots self.old numbering) id }
     {
         if names == 0 {
             self.drop_node(id);
@@ -490,7 +493,8 @@ impl Slots {
     /// Makes room for a further row. The only error is that memory is refused.
     pub(crate) fn reserve_row(&mut self) -> Result<(), AllocError>
         ensures kept { AreConsistent self.old → AreConsistent self.new }
-        ensures same { (next : ℕ) → held_in_slots self.new next ≡ held_in_slots self.old next }
+        ensures same { (numbering : Numbering) →
+            held_in_slots self.new numbering ≡ held_in_slots self.old numbering }
         ensures room { OnOk result (0 < spare self.new.rows) }
     {
         self.rows.reserve(1)
@@ -499,7 +503,8 @@ impl Slots {
     /// Makes room for a further row and a further node. The only error is that memory is refused.
     pub(crate) fn reserve_node(&mut self) -> Result<(), AllocError>
         ensures kept { AreConsistent self.old → AreConsistent self.new }
-        ensures same { (next : ℕ) → held_in_slots self.new next ≡ held_in_slots self.old next }
+        ensures same { (numbering : Numbering) →
+            held_in_slots self.new numbering ≡ held_in_slots self.old numbering }
         ensures slots { (x : ℕ) → slot_of self.new x ≡ slot_of self.old x }
         ensures row_room { OnOk result (0 < spare self.new.rows) }
         ensures node_room { OnOk result (HasNodeRoom self.new) }
@@ -513,7 +518,8 @@ impl Slots {
     /// memory is refused.
     pub(crate) fn root_alone(alloc: Global, rows: usize) -> Result<Slots, AllocError>
         ensures kept { IfOk result AreConsistent }
-        ensures root { IfOk result (λ slots. held_in_slots slots 1 ≡ empty_tree) }
+        ensures root { IfOk result (λ slots. (room : ℕ) →
+            held_in_slots slots (record { next = 1; room = room }) ≡ root_alone room) }
     {
         let nodes = rows.max(1);
         let mut slots = Slots {

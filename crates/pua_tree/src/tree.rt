@@ -5,9 +5,12 @@ use crate::name::{LentName, Name};
 use crate::node::{Kind, NodeId};
 use std::alloc::Global;
 
-/// How many names a tree may have, the root counted as one: its rows are fewer than this (this
-/// profile).
-pub const MOST_NAMES: usize = 65_535;
+/// How many names a tree may have, the root counted as one, if a listing of the first two forms lists
+/// it: its rows are fewer than this (this profile).
+pub const MOST_NAMES: u32 = 65_535;
+
+/// The same of a tree that a listing of the third form lists (this program's format).
+pub const MOST_WIDE_NAMES: u32 = 1_065_535;
 
 /// The number that no node is given: those of a tree's nodes are below it (this profile).
 pub const NUMBER_END: u32 = 4_294_967_295;
@@ -84,6 +87,11 @@ pub trait FileTree {
     fn is_empty(&self, dir: NodeId) -> bool
         ensures { result ≡ is_empty (content self.now) dir };
 
+    /// How many names the tree may have, the root counted as one: 65,535, or 1,065,535 where a listing
+    /// of the third form lists it.
+    fn most_names(&self) -> u32
+        ensures { result ≡ (content self.now).room };
+
     /// How many rows there are.
     fn row_count(&self) -> usize
         ensures count { result ≡ length (content self.now).rows }
@@ -103,8 +111,9 @@ pub trait FileTree {
     /// Adds a node under this name, as mkdir(2), symlink(2) and open(2) with `O_CREAT` do, and
     /// answers its number, which is the next one. A link comes with its target, and no other kind
     /// with any. The faults, of which the first that holds is answered: `NotDir` where `dir` is no
-    /// living directory, `Taken` where it has the name already, `Full` where the tree has 65,535
-    /// names, the root counted as one, or the next number is 4,294,967,295, and `OutOfMemory`.
+    /// living directory, `Taken` where it has the name already, `Full` where the tree has
+    /// `most_names` names, the root counted as one, or the next number is 4,294,967,295, and
+    /// `OutOfMemory`.
     /// After each of them the tree is as it was.
     fn add(
         &mut self,
@@ -123,7 +132,7 @@ pub trait FileTree {
     /// Gives a living node that is no directory a further name, as link(2) does; it takes no
     /// number. The faults, of which the first that holds is answered: `NotDir` where `dir` is no
     /// living directory, `Missing` where `node` is not living, `IsDir` where it is a directory,
-    /// `Taken` where `dir` has the name already, `Full` where the tree has 65,535 names, the root
+    /// `Taken` where `dir` has the name already, `Full` where the tree has `most_names` names, the root
     /// counted as one, and `OutOfMemory`. After each of them the tree is as it was.
     fn tie(&mut self, dir: NodeId, name: Name, node: NodeId) -> Result<(), TreeFault>
         ensures exact { let rule = tie (content self.old) dir name node in
@@ -158,4 +167,13 @@ pub trait FileTree {
         ensures exact { let rule = shift (content self.old) from name.now to new_name in
             MatchResult result (λ _. rule ≡ Ok (content self.new)) (Refuses rule) }
         ensures unchanged { OnErr result (content self.new ≡ content self.old) };
+}
+
+/// A tree that can be copied.
+pub trait CopiedTree: FileTree {
+    ghost use Rattle.std.specs.Prelude.{◌≡◌, IfOk};
+
+    /// A copy, which from then on is a tree of its own. The only error is that a growth was refused.
+    fn copy(&self) -> Result<Self, OutOfMemory>
+        ensures { IfOk result (λ copy. Self.content copy ≡ Self.content self.now) };
 }

@@ -40,8 +40,8 @@ use Rattle.pua_script.specs.Decide.{Decision}
 use Rattle.pua_script.specs.Decide.{tying, dots_by, top_by, ways_by, kinds_by, inside_by, is_whole, given_set, is_unknown}
 use Rattle.pua_script.specs.Decide.{object_by, rename_by, link_by, veil_by, unveil_errno, refusals, asker_of, decide}
 use Rattle.pua_policy.specs.Misfits.{misfit_errno}
-use Rattle.pua_policy.specs.declared.reason.Misfit.{Misfit}
-use Rattle.pua_policy.specs.declared.reason.Misfit.TheVariants.{IsDirectory, IsNoFile, IsNoDirectory, IsNotEmpty, Exists}
+use Rattle.pua_calls.specs.declared.fits.Misfit.{Misfit}
+use Rattle.pua_calls.specs.declared.fits.Misfit.TheVariants.{IsDirectory, IsNoFile, IsNoDirectory, IsNotEmpty, Exists}
 use Rattle.pua_script.specs.Replay as replay
 use Rattle.pua_script.specs.Replay.{answer_to, left_by}
 use Rattle.pua_script.specs.Replay.{answer_and_world}

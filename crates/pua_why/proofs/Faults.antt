@@ -4,7 +4,7 @@ use Rattle.pua_why.proofs.Common.{ProcessState, object_of, Call, Change, Sole, c
 use Rattle.pua_why.proofs.Common.{call_trace}
 use Rattle.std.specs.Prelude.{IfSome}
 use Rattle.pua_script.specs.Decide.{object_by}
-use Rattle.pua_policy.specs.declared.reason.Misfit.{Misfit}
+use Rattle.pua_calls.specs.declared.fits.Misfit.{Misfit}
 use Rattle.pua_policy.specs.ReasonLaws.{MisfitHolds}
 use Rattle.pua_why.specs.Laws.{CallFaultHolds, CallFaultsHold}
 use Rattle.pua_why.proofs.Steps.{refused_true, failed_true, named_true, either_true, unpromised_true, uncovered_true}

@@ -5,3 +5,6 @@ pub use Rattle.pua_why.proofs.Checking.{checks_tell}
 pub use Rattle.pua_why.proofs.Decisions.{reasons_give_answers}
 -- what a text got where nothing was refused
 pub use Rattle.pua_why.proofs.Adding.{pushed_so}
+-- what a fault says is so, and since when something is
+pub use Rattle.pua_why.proofs.Truths.{request_faults_hold, full_trees_are_full}
+pub use Rattle.pua_why.proofs.Sincing.{since_holds, reasons_since, so_at_first}

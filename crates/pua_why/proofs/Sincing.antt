@@ -12,7 +12,7 @@ use Rattle.pua_why.specs.Laws.{ReasonsSince}
 use Rattle.pua_why.specs.Since.{Test, forebear, later_or, since, IsSoThroughout, TurnsAt, IsSince, SinceHolds}
 
 -- what is so throughout is so at first
-so_at_first : (test : Test) (table : CallTable) (w : World) (asks : List Asked) (process : ℕ) → IsSoThroughout test table w asks process →
+pub so_at_first : (test : Test) (table : CallTable) (w : World) (asks : List Asked) (process : ℕ) → IsSoThroughout test table w asks process →
     test w (forebear table w asks process) ≡ true
 so_at_first test table w [] process so = so
 so_at_first test table w (ask ∷ asks) process so = so.0

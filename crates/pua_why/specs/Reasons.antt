@@ -22,7 +22,7 @@ use Rattle.pua_script.specs.Limits.{most_processes}
 use Rattle.pua_script.specs.Requests.{Asked}
 use Rattle.pua_script.specs.Decide.{Change, CopyAs, Outcome, Side, Telling, Asker, fault_if, decide_by}
 use Rattle.pua_policy.specs.Misfits.{misfit_errno}
-use Rattle.pua_policy.specs.declared.reason.Misfit.{Misfit}
+use Rattle.pua_calls.specs.declared.fits.Misfit.{Misfit}
 use Rattle.pua_script.specs.Replay.{World, Effect, Fails, kept_at, change_effect}
 use Rattle.pua_script.specs.declared.request.Action.{Action}
 use Rattle.pua_script.specs.declared.answer.Answer.{Answer}

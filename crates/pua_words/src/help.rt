@@ -104,8 +104,8 @@ the rules: all promises of one of some lists, and letters of a veil.
   veil = \"c\"
 
 With `--rules openbsd` chmod, rename and link need what OpenBSD is known to ask
-of them, connect and bind of a socket at a path, mknod and chown are calls, and
-execpromises stay after an exec. This was tried on no kernel.
+of them, connect and bind of a socket at a path, mknod, chown and create-rw are
+calls, and execpromises stay after an exec. This was tried on no kernel.
 
 In names and paths a backslash, and each byte that is not visible ASCII, is
 written as a backslash and three octal digits: `a\\040b`.
@@ -123,7 +123,7 @@ macro_rules! with_calls_and_faults {
 A line of SCRIPT is a process P, a call and its arguments, one blank between:
   P stat|lstat|readlink|open-r|open-w|open-rw|create PATH
   P mkdir|rmdir|unlink|chmod|chdir|exec PATH
-  P connect|bind|mknod|chown PATH (with `--rules openbsd` alone)
+  P connect|bind|mknod|chown|create-rw PATH (with `--rules openbsd` alone)
   P symlink TARGET PATH
   P rename|link OLD NEW
   P pledge PROMISES EXECPROMISES  (with commas between; - is NULL, = is none)
@@ -147,7 +147,7 @@ A fault is one line on standard error. It says, or most often comes from:
                        a slash in a name; a byte is not written as it has to be
   bad node             a `hard` line for a directory, or for a `hard` line
   name taken           the directory has this name: a line stands there twice
-  too many nodes       TREE has more than 4096, the root among them
+  too many nodes       TREE has more than 4096: begin it with `tree 3`
   bad call             `open` for `open-r`, blanks between promises, or the
                        second argument of pledge or unveil was left out
   bad list             a comma too many, or `-` for no letters, which is `=`
@@ -242,10 +242,10 @@ Example: pua how TREE SCRIPT open-r /in/secret",
   process P can still unveil
                        it has to be locked, or without the promise `unveil`
   table: CALL: no c    by the table rmdir, unlink, create, mkdir, symlink,
-                       bind, mknod, rename and link all have to need the letter
-                       c
+                       bind, mknod, create-rw, rename and link all have to need
+                       the letter c
   how: bad call        CALL is none of those from stat to exec, nor connect to
-                       chown with `--rules openbsd`
+                       create-rw with `--rules openbsd`
   how: bad path        PATH is neither `new` nor `/` with names, as in a list
   how: no such thing   what stands before the last name of PATH is no directory,
                        or nothing there is of this KIND
@@ -306,8 +306,8 @@ Example: pua objects --process all TREE SCRIPT",
                        `--ever` is for a process that is locked, or without the
                        promise `unveil`
   table: CALL: no c    `--ever` is for a table by which rmdir, unlink, create,
-                       mkdir, symlink, bind, mknod, rename and link all need
-                       `c`
+                       mkdir, symlink, bind, mknod, create-rw, rename and link
+                       all need `c`
   processes P and Q have other veils
                        `--ever` of several is for processes of the same veils"
 );

@@ -21,8 +21,6 @@ my %HAS_VEIL = map { $_ => 1 } 'letters', 'unveil asks';
 # Of these kinds it also counts how many of the paths name something.
 my %HAS_NAMES = map { $_ => 1 } 'missing', 'no directory';
 
-my %HAS_DETAILS = (%HAS_VEIL, %HAS_NAMES);
-
 # What is wrong with the line since which a request is told to have its reason: '' for nothing. In %$case are
 # its world, the script before it and its answers, the request's line, and what it is told.
 sub since_fault {
@@ -34,8 +32,8 @@ sub since_fault {
     my $does_end = $case->{told}{answer} eq 'killed';
     my $fault = $does_end ? _by_places($case, $first, $last) : _throughout($case, $first, $last);
     return $fault if $fault ne '' || !defined $since;
-    my $has_details = $HAS_DETAILS{ $case->{told}{kind} };
-    return "another reason in these words behind line $since" if $has_details && !_may_be($case, $since);
+    my $has_veil = $HAS_VEIL{ $case->{told}{kind} };
+    return "another reason in these words behind line $since" if $has_veil && !_may_be($case, $since);
     return _is_sure($case, $since - 1) ? "the same reason just before line $since" : '';
 }
 

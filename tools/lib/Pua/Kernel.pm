@@ -15,7 +15,7 @@ our @EXPORT_OK = qw(%TAKES $MOST_SOCKET answer_of_kernel execute has_pledge has_
 # How many arguments each request of a script has.
 our %TAKES = (
     (map { $_ => 1 } qw(stat lstat readlink open-r open-w open-rw create mkdir rmdir unlink)),
-    (map { $_ => 1 } qw(chmod chdir exec connect bind mknod chown fork)),
+    (map { $_ => 1 } qw(chmod chdir exec connect bind mknod chown create-rw fork)),
     (map { $_ => 2 } qw(symlink rename link pledge unveil)), exit => 0,
 );
 
@@ -25,6 +25,7 @@ our $MOST_SOCKET = 103;
 
 my %FLAGS = (
     'open-r' => O_RDONLY, 'open-w' => O_WRONLY, 'open-rw' => O_RDWR, create => O_WRONLY | O_CREAT,
+    'create-rw' => O_RDWR | O_CREAT,
 );
 
 my $PLEDGE = eval { require OpenBSD::Pledge; 1 };

@@ -42,7 +42,7 @@ sub requests_of {
 sub tree_of {
     my ($text) = @_;
     my ($head, $root, @lines) = split /\r?\n/, $text;
-    die "no listing\n" if !defined $root || $head !~ /\Atree [12]\z/ || $root ne '0 dir';
+    die "no listing\n" if !defined $root || $head !~ /\Atree [123]\z/ || $root ne '0 dir';
     my $tree = { node => {}, in => {}, names => {} };
     for my $line (@lines) {
         my ($number, $kind, $parent, $name, $end) = split / /, $line;

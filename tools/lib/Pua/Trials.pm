@@ -41,7 +41,7 @@ sub content {
 sub trial_of {
     my ($name, $text) = @_;
     my ($head, $listing, $lines)
-        = $text =~ /\A((?:#[^\n]*\n)+)(tree [12]\n0 dir\n(?:[^\n]+\n)*)\n((?:[^\n]+\n)+)\z/
+        = $text =~ /\A((?:#[^\n]*\n)+)(tree [123]\n0 dir\n(?:[^\n]+\n)*)\n((?:[^\n]+\n)+)\z/
         or die "$name: no trial\n";
     my ($title, $confidence, $why) = $head =~ /\A# (.+)\n# confidence ([0-9]+)\n#\n(.*)\z/s
         or die "$name: no head of a trial\n";

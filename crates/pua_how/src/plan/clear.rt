@@ -1,196 +1,147 @@
-//! Taking away what stands in the way: at a name, and in a directory. Each answers whether there is a
-//! way to do so; where there is none, the sketch is to be given up.
+//! Taking away what stands in the way: at a name, and in a directory.
 
-use crate::plan::ground::{About, Ground, Spot};
-use crate::plan::sketch::{Sketch, goal_at};
+use crate::plan::Search;
+use crate::plan::draft::{Draft, Stop};
+use crate::plan::forms::Source;
+use crate::plan::planner::{Row, Slot};
+use crate::plan::rights::By;
+use crate::step::{At, Dir};
 use pua_calls::Call;
-use pua_policy::Cover;
+use pua_policy::Object;
 use pua_tree::NodeId;
-use std::alloc::AllocError;
 
-/// What is to come to a name that is freed for it.
-#[derive(Clone, Copy, PartialEq, Eq)]
-pub(crate) enum Coming {
-    /// Something that is moved there and is no directory, which takes the place of another such thing.
-    Moved,
-    /// A directory that is moved there, which takes the place of an empty one.
-    MovedDir,
-    /// A further name, or something that is made: nothing may stand there.
-    Made,
+/// The call that removes what stands at a name.
+fn remover(row: &Row) -> Call {
+    if row.is_dir {
+        Call::Rmdir
+    } else {
+        Call::Unlink
+    }
 }
 
-impl Ground {
-    /// Frees a name with a veil of its own, which leaves these permissions.
-    pub(crate) fn free(
-        &self,
-        sketch: &mut Sketch,
-        spot: &Spot,
-        perms: &Cover,
-        coming: Coming,
-    ) -> Result<bool, AllocError> {
-        sketch.fill(spot)?;
-        let Some(node) = self.node_at(spot) else {
-            return Ok(true);
+impl Search<'_, '_> {
+    /// Whether what stands there is needed later: it is followed, or something waits in it.
+    fn is_kept(&self, draft: &Draft, row: &Row) -> bool {
+        match (row.node, draft.kept) {
+            (Some(node), Some(kept)) if self.planner.is_within(kept, node) => true,
+            (Some(_), _) => self.followed == row.node,
+            (None, _) => false,
+        }
+    }
+
+    /// Whether what stands there can be removed, once it is empty.
+    pub(crate) fn is_removable(&self, draft: &Draft, row: &Row) -> bool {
+        let need = self.planner.rights.call(remover(row));
+        need.is_met(&row.cover) && !self.is_kept(draft, row)
+    }
+
+    /// Whether what stands there can be moved.
+    pub(crate) fn is_movable(&self, row: &Row) -> bool {
+        self.planner
+            .rights
+            .gives(By::Rename, false)
+            .is_met(&row.cover)
+    }
+
+    /// Whether what stands there gives way to what is moved onto it, once it is empty.
+    fn gives_way(&self, draft: &Draft, row: &Row, mover: &Source) -> bool {
+        let takes = self.planner.rights.takes(By::Rename);
+        mover.by == By::Rename
+            && mover.is_dir == row.is_dir
+            && (!row.is_dir || takes.is_met(&row.cover))
+            && !self.is_kept(draft, row)
+    }
+
+    /// Frees a name with a veil of its own for what comes there.
+    pub(crate) fn free(&self, draft: &mut Draft, slot: &Slot, mover: &Source) -> Result<(), Stop> {
+        let row = self.planner.row(slot)?;
+        if !draft.is_open(slot.place) {
+            return Ok(());
+        }
+        draft.close(slot.place..slot.place.saturating_add(1))?;
+        let Some(node) = row.node else {
+            return Ok(());
         };
-        if let Some(cover) = self.cover_of(node) {
-            return self.free_of_dir(sketch, spot, node, &cover, coming);
+        if !row.is_dir && self.followed == Some(node) {
+            return Err(Stop::NoWay);
         }
-        if self.followed == Some(node) {
-            return Ok(false);
+        draft.close(self.planner.extent(node))?;
+        let gives_way = self.gives_way(draft, row, mover);
+        if self.take_away(draft, row, gives_way)? {
+            return Ok(());
         }
-        if coming == Coming::Moved {
-            return Ok(true);
-        }
-        if self.rights.grants(Call::Unlink, perms) {
-            sketch.on(Call::Unlink, &goal_at(spot))?;
-            return Ok(true);
-        }
-        let room = self.room(sketch);
-        self.move_away(sketch, spot, perms, room)
+        self.empty(draft, node)?;
+        self.remove(draft, row, gives_way)
     }
 
-    /// Frees a name of a directory, which is covered so.
-    fn free_of_dir(
-        &self,
-        sketch: &mut Sketch,
-        spot: &Spot,
-        dir: NodeId,
-        cover: &Cover,
-        coming: Coming,
-    ) -> Result<bool, AllocError> {
-        let is_empty = self.is_empty(dir);
-        let gives_way = coming == Coming::MovedDir && self.rights.takes(cover);
-        if is_empty && (gives_way || self.rights.grants(Call::Rmdir, cover)) {
-            return self.give_way(sketch, spot, gives_way);
-        }
-        sketch.close(self.extent(dir))?;
-        let room = self.room(sketch);
-        if self.move_away(sketch, spot, cover, room)? {
-            return Ok(true);
-        }
-        let ends = gives_way || self.rights.grants(Call::Rmdir, cover);
-        if !ends || self.followed == Some(dir) || !self.empty(sketch, dir)? {
-            return Ok(false);
-        }
-        self.give_way(sketch, spot, gives_way)
+    /// The name of a row in a step.
+    fn at(&self, row: &Row) -> Result<At, Stop> {
+        self.planner.at(&row.slot.ok_or(Stop::NoWay)?)
     }
 
-    /// An empty directory gives way to one that is moved onto it, or is removed.
-    fn give_way(
-        &self,
-        sketch: &mut Sketch,
-        spot: &Spot,
-        gives_way: bool,
-    ) -> Result<bool, AllocError> {
-        if !gives_way {
-            sketch.on(Call::Rmdir, &goal_at(spot))?;
+    /// Removes what stands at a name, where it doesn't give way.
+    fn remove(&self, draft: &mut Draft, row: &Row, gives_way: bool) -> Result<(), Stop> {
+        if gives_way {
+            return Ok(());
         }
-        Ok(true)
+        let slot = row.slot.ok_or(Stop::NoWay)?;
+        let name = self.planner.name(slot.place).ok_or(Stop::NoWay)?;
+        let at = At::Name(Dir::Standing(slot.dir), *name);
+        Ok(draft.call(remover(row), &at)?)
+    }
+
+    /// Takes away what stands at a name: it is removed, or moved. False where it is a directory that is to be
+    /// removed once it is emptied.
+    fn take_away(&self, draft: &mut Draft, row: &Row, gives_way: bool) -> Result<bool, Stop> {
+        let is_removed = gives_way || self.is_removable(draft, row);
+        if is_removed && row.object != Object::Directory {
+            self.remove(draft, row, gives_way)?;
+            return Ok(true);
+        }
+        match self.move_away(draft, row) {
+            Ok(()) => Ok(true),
+            Err(Stop::NoWay) if is_removed => Ok(false),
+            Err(stop) => Err(stop),
+        }
+    }
+
+    /// Moves what stands at a name to where there is room for it.
+    pub(crate) fn move_away(&self, draft: &mut Draft, row: &Row) -> Result<(), Stop> {
+        if !self.is_movable(row) {
+            return Err(Stop::NoWay);
+        }
+        let room = self.room(draft)?;
+        draft.bring(By::Rename, &self.at(row)?, &room)?;
+        if row.node == self.followed {
+            draft.from = Some(room);
+        }
+        Ok(())
     }
 
     /// Empties a directory: what stands in it is removed, or moved away, or removed with all that is
     /// below it. Nothing is put into it any more.
-    pub(crate) fn empty(&self, sketch: &mut Sketch, dir: NodeId) -> Result<bool, AllocError> {
-        let extent = self.extent(dir);
-        sketch.close(extent)?;
-        let room = self.room(sketch);
-        for place in extent.below() {
-            if !self.take_out(sketch, dir, place, room)? {
-                return Ok(false);
+    pub(crate) fn empty(&self, draft: &mut Draft, dir: NodeId) -> Result<(), Stop> {
+        draft.close(self.planner.extent(dir))?;
+        for row in self.planner.below(dir) {
+            match (row.slot, row.node) {
+                (Some(slot), Some(node)) if slot.dir == dir => self.take_out(draft, row, node)?,
+                _ => {}
             }
         }
-        Ok(true)
+        Ok(())
     }
 
-    /// Takes away from a directory what the row at a place is about, if that stands in it.
-    fn take_out(
-        &self,
-        sketch: &mut Sketch,
-        outer: NodeId,
-        place: usize,
-        room: Option<NodeId>,
-    ) -> Result<bool, AllocError> {
-        let Some(row) = self.rows.get(place) else {
-            return Ok(true);
-        };
-        match row.about {
-            About::Dir(dir, parent) if parent == outer => {
-                let spot = Spot { dir: parent, place };
-                self.take_dir(sketch, &spot, dir, &row.cover, room)
+    /// Takes what stands at a name out of its directory.
+    fn take_out(&self, draft: &mut Draft, row: &Row, node: NodeId) -> Result<(), Stop> {
+        if self.take_away(draft, row, false)? {
+            return Ok(());
+        }
+        for inner in self.planner.below(node).iter().rev() {
+            if inner.node.is_some() && !self.is_removable(draft, inner) {
+                return Err(Stop::NoWay);
             }
-            About::Name(parent, Some(node)) if parent == outer => {
-                let spot = Spot { dir: parent, place };
-                self.take_name(sketch, &spot, node, &row.cover, room)
-            }
-            _ => Ok(true),
+            self.remove(draft, inner, inner.node.is_none())?;
         }
-    }
-
-    /// Takes a directory away from the one above it.
-    fn take_dir(
-        &self,
-        sketch: &mut Sketch,
-        spot: &Spot,
-        dir: NodeId,
-        cover: &Cover,
-        room: Option<NodeId>,
-    ) -> Result<bool, AllocError> {
-        let is_removed = self.followed != Some(dir) && self.rights.grants(Call::Rmdir, cover);
-        if is_removed && self.is_empty(dir) {
-            sketch.on(Call::Rmdir, &goal_at(spot))?;
-            return Ok(true);
-        }
-        if self.move_away(sketch, spot, cover, room)? {
-            return Ok(true);
-        }
-        if !is_removed || !self.delete_below(sketch, dir)? {
-            return Ok(false);
-        }
-        sketch.on(Call::Rmdir, &goal_at(spot))?;
-        Ok(true)
-    }
-
-    /// Takes what is no directory away from a name.
-    fn take_name(
-        &self,
-        sketch: &mut Sketch,
-        spot: &Spot,
-        node: NodeId,
-        cover: &Cover,
-        room: Option<NodeId>,
-    ) -> Result<bool, AllocError> {
-        if self.is_unlinked(node, cover) {
-            sketch.on(Call::Unlink, &goal_at(spot))?;
-            return Ok(true);
-        }
-        self.move_away(sketch, spot, cover, room)
-    }
-
-    /// Removes all that is below a directory, the deepest first.
-    fn delete_below(&self, sketch: &mut Sketch, dir: NodeId) -> Result<bool, AllocError> {
-        for place in self.extent(dir).below().rev() {
-            if !self.delete(sketch, place)? {
-                return Ok(false);
-            }
-        }
-        Ok(true)
-    }
-
-    /// Removes what the row at a place is about, if that stands there: of a directory all is removed by
-    /// then.
-    fn delete(&self, sketch: &mut Sketch, place: usize) -> Result<bool, AllocError> {
-        let Some(row) = self.rows.get(place) else {
-            return Ok(true);
-        };
-        let (call, dir, node) = match row.about {
-            About::Dir(node, dir) => (Call::Rmdir, dir, node),
-            About::Name(dir, Some(node)) => (Call::Unlink, dir, node),
-            _ => return Ok(true),
-        };
-        if self.followed == Some(node) || !self.rights.grants(call, &row.cover) {
-            return Ok(false);
-        }
-        sketch.on(call, &goal_at(&Spot { dir, place }))?;
-        Ok(true)
+        self.remove(draft, row, false)
     }
 }

@@ -1,77 +1,94 @@
-//! What a process may do where something is covered so.
+//! What a process needs where something is covered, for each thing that it may do there.
 
-use pua_calls::{Call, CallTable, Calls, NameNeed, PairNeed};
+use pua_calls::{Call, CallTable, PairNeed, Perms, Promises};
 use pua_path::Last;
 use pua_policy::judge::cover_fault;
-use pua_policy::{Cover, May, Object, Process};
+use pua_policy::{Cover, May, Process};
 
-/// A table, and for what of it a process holds the promises.
+/// How something gets a name: by a rename, by a link, or by the call that makes it.
+#[derive(Clone, Copy, PartialEq, Eq)]
+pub(crate) enum By {
+    Rename,
+    Link,
+    Call(Call),
+}
+
+/// The permissions that something takes; None where the process lacks the promises for it.
 #[derive(Clone, Copy)]
-pub(crate) struct Rights {
+pub(crate) struct Need(Option<Perms>);
+
+/// A process, and what its calls need.
+#[derive(Clone, Copy)]
+pub(crate) struct Rights<'t> {
+    process: &'t Process,
     table: CallTable,
-    calls: Calls,
-    rename: bool,
-    link: bool,
 }
 
-/// Whether a process holds the promises of both names of a call.
-fn is_promised(process: &Process, need: &PairNeed) -> bool {
-    is_promised_name(process, need.old_name()) && is_promised_name(process, need.new_name())
-}
-
-/// Whether a process holds the promises of a name.
-fn is_promised_name(process: &Process, need: &NameNeed) -> bool {
-    process.may_any(need.alternatives()) == May::Yes
-}
-
-/// The calls of which a process holds the promises.
-fn promised(process: &Process, table: &CallTable) -> Calls {
-    let mut calls = Calls::NONE;
-    for call in Call::ALL {
-        if process.may_any(table.alternatives(call)) == May::Yes {
-            calls = calls.with(call);
+impl Need {
+    /// Both.
+    pub(crate) fn and(self, other: Need) -> Need {
+        match (self.0, other.0) {
+            (Some(perms), Some(more)) => Need(Some(perms.union(more))),
+            _ => Need(None),
         }
     }
-    calls
+
+    /// Whether it is met where something is covered so.
+    pub(crate) fn is_met(&self, cover: &Cover) -> bool {
+        match self.0 {
+            Some(perms) => cover_fault(*cover, perms).is_none(),
+            None => false,
+        }
+    }
 }
 
-impl Rights {
+impl<'t> Rights<'t> {
     /// Those of a process, by a table.
-    pub(crate) fn new(process: &Process, table: &CallTable) -> Rights {
-        Rights {
-            table: *table,
-            calls: promised(process, table),
-            rename: is_promised(process, table.rename()),
-            link: is_promised(process, table.link()),
+    pub(crate) fn new(process: &'t Process, table: &CallTable) -> Rights<'t> {
+        let table = *table;
+        Rights { process, table }
+    }
+
+    /// These permissions, with one of these sets of promises.
+    fn need(&self, alternatives: &[Promises], perms: Perms) -> Need {
+        match self.process.may_any(alternatives) {
+            May::Yes => Need(Some(perms)),
+            _ => Need(None),
         }
     }
 
-    /// Whether what is covered so can be moved.
-    pub(crate) fn moves(&self, cover: &Cover) -> bool {
-        self.rename && cover_fault(*cover, self.table.rename().old_name().perms()).is_none()
+    /// What a call needs on what it is on.
+    pub(crate) fn call(&self, call: Call) -> Need {
+        self.need(self.table.alternatives(call), self.table.perms(call))
     }
 
-    /// Whether something can be moved to where it is covered so.
-    pub(crate) fn takes(&self, cover: &Cover) -> bool {
-        cover_fault(*cover, self.table.rename().new_name().perms()).is_none()
-    }
-
-    /// Whether such an object that is covered so can be given a further name.
-    pub(crate) fn links(&self, cover: &Cover, object: Object) -> bool {
-        let old_name = self.table.link().old_name();
-        if object == Object::Link && old_name.last() == Last::Followed {
-            return false;
+    /// What both names of a rename or a link need.
+    fn pair(&self, by: By) -> Option<&PairNeed> {
+        match by {
+            By::Rename => Some(self.table.rename()),
+            By::Link => Some(self.table.link()),
+            By::Call(_) => None,
         }
-        self.link && cover_fault(*cover, old_name.perms()).is_none()
     }
 
-    /// Whether a further name can be given where it is covered so.
-    pub(crate) fn takes_links(&self, cover: &Cover) -> bool {
-        cover_fault(*cover, self.table.link().new_name().perms()).is_none()
+    /// What is needed of something that gets a further name: not of a link, where that is followed.
+    pub(crate) fn gives(&self, by: By, is_link: bool) -> Need {
+        let Some(pair) = self.pair(by) else {
+            return Need(None);
+        };
+        let (old_name, new_name) = (pair.old_name(), pair.new_name());
+        if by == By::Link && is_link && old_name.last() == Last::Followed {
+            return Need(None);
+        }
+        self.need(old_name.alternatives(), old_name.perms())
+            .and(self.need(new_name.alternatives(), Perms::NONE))
     }
 
-    /// Whether a call is granted on what is covered so, if its kind fits.
-    pub(crate) fn grants(&self, call: Call, cover: &Cover) -> bool {
-        self.calls.contains(call) && cover_fault(*cover, self.table.perms(call)).is_none()
+    /// What is needed where something gets a name.
+    pub(crate) fn takes(&self, by: By) -> Need {
+        match (by, self.pair(by)) {
+            (By::Call(call), _) => self.call(call),
+            (_, pair) => Need(pair.map(|pair| pair.new_name().perms())),
+        }
     }
 }

@@ -2,7 +2,7 @@
 
 use pua_calls::{CallTable, ExecPromises};
 use pua_script::{Action, Answer, MOST_PROCESSES, Request, World, read_script};
-use pua_tree::{FileTree, ListTree, Name, NodeId};
+use pua_tree::{FileTree, ListTree, Name, NodeId, SlabTree};
 use std::alloc::Global;
 
 /// A world keeps the table that it is given.
@@ -21,6 +21,16 @@ fn first_process_is_two(alloc: Global, tree: ListTree) {
         return;
     };
     if world.process(1).is_none() {
+        unreachable!()
+    }
+}
+
+/// A copy has the processes that the world has.
+fn copy_without_processes(world: &World<SlabTree>, number: u32) {
+    let Ok(copy) = world.copy() else {
+        return;
+    };
+    if copy.process(number).is_some() != world.process(number).is_some() {
         unreachable!()
     }
 }

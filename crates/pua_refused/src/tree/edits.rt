@@ -45,14 +45,14 @@ fn moved_into_its_subtree(alloc: Global) {
     }
 }
 
-/// A tree of 65,534 rows takes no further name, however few its nodes are.
+/// A tree of 65,534 rows that may have 65,535 names takes no further one, however few its nodes are.
 fn names_65536(alloc: Global, tree: &mut ListTree, dir: NodeId, name: Name, node: NodeId) {
     let Ok(rows) = tree.rows(alloc) else {
         return;
     };
     let count = rows.len();
     drop(rows);
-    if count == 65_534 && tree.tie(dir, name, node).is_ok() {
+    if tree.most_names() == 65_535 && count == 65_534 && tree.tie(dir, name, node).is_ok() {
         unreachable!()
     }
 }
@@ -64,7 +64,8 @@ fn tie_needs_a_number(alloc: Global, tree: &mut ListTree, dir: NodeId, name: Nam
     };
     let count = rows.len();
     drop(rows);
-    if count < 65_534
+    if tree.most_names() == 65_535
+        && count < 65_534
         && let Err(TreeFault::Full) = tree.tie(dir, name, node)
     {
         unreachable!()
@@ -86,5 +87,15 @@ fn freed_number_given_again(alloc: Global) {
         if node != NodeId::new(2) {
             unreachable!()
         }
+    }
+}
+
+/// A tree that a listing of the first form lists may have 65,535 names.
+fn small_tree_has_room_for_a_system(alloc: Global) {
+    let Ok(tree) = read_listing(alloc, b"tree 1\n0 dir\n") else {
+        return;
+    };
+    if tree.most_names() != 65_535 {
+        unreachable!()
     }
 }

@@ -1,6 +1,6 @@
 //! Of edits of trees in slots.
 
-use pua_tree::{FileTree, Kind, Name, NodeId, SlabTree, read_listing_slab};
+use pua_tree::{CopiedTree, FileTree, Kind, Name, NodeId, SlabTree, read_listing_slab};
 use std::alloc::Global;
 
 /// A name that is taken away is found no more, in whatever directory it stood.

@@ -1,9 +1,12 @@
 use Rattle.pua_ever.proofs.Common.{rules, tests, YieldsList-from_slice, has}
 use Rattle.std.proofs.lemmas.Iterator.Search.{any_from_yields_List}
-use Rattle.pua_ever.specs.Ever.{turning_calls}
+use Rattle.std.proofs.lemmas.Iterator.Consumers.{YieldsList-at, YieldsList-from_filter}
+use Rattle.pua_calls.specs.Calls.{about, calls}
 use Rattle.pua_ever.proofs.programs.can_turn.Goals as goal
 
 pub returns : goal.returns
 returns c =
-    any_from_yields_List (has c.args.calls) _ _ _ c.any.ensures.ran (YieldsList-from_slice turning_calls cc)
+    any_from_yields_List (has c.args.calls) _ _ _ c.any.ensures.ran
+    (YieldsList-from_filter _ (λ call. (about call).turns)
+    (YieldsList-at c.filter.ensures.source (YieldsList-from_slice calls cc)) c.filter.ensures.closure (λ x b q k. search (rules, tests)))
     (λ x b q k. search (rules, tests))

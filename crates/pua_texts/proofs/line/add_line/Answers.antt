@@ -14,7 +14,7 @@ pub returns : goal.returns
 returns g c =
     let path = c.args.path.now in
     let name = call_name c.args.call in
-    let end = ap (λ (n : List ℕ). take (length n + 2) c.padded_end.result.now) c.name.ensures ∙ c.padded_end.ensures.end in
+    let end = ap (λ (n : List ℕ). take (length n + 2) c.line.result.now) c.name.ensures ∙ c.line.ensures.line in
     passes_room (path_line path c.args.call) c.args.block.now c.make_room.new.self c.push.new.self (g.S.Sink.written c.args.sink.now)
     (g.S.Sink.written c.make_room.new.sink) (g.S.Sink.failed c.args.sink.now) (g.S.Sink.failed c.make_room.new.sink)
     c.in_ok-make_room.ensures.handed c.in_ok-make_room.ensures.unfailed

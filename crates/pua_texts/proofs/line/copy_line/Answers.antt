@@ -11,7 +11,7 @@ returns-clause-copied c = λ fits.
     let at = c.args.at in
     let path = c.args.path.now in
     let buffer = c.args.buffer.now in
-    let padded = c.padded_end-padded.result.now in
+    let padded = c.line-padded.result.now in
     let name = call_name c.args.call in
     let end = at + length path in
     let fit : at + (length path + 16) ≤ length buffer = fits in
@@ -20,15 +20,15 @@ returns-clause-copied c = λ fits.
     (c.overwrite.ensures (sym (length_part at (length path) buffer (omega (arith, fit))))) refl (omega (arith, fit)) in
     let room : end + 16 ≤ length with_path = omega (arith, fit, first.len) in
     let many = length_part end 16 with_path room in
-    let width = c.padded_end-padded.ensures.width in
+    let width = c.line-padded.ensures.width in
     let wide : 16 ≤ length padded = omega (arith, width) in
     let written : c.copy_front.new.buffer ≡ padded =
     copied_whole {text = take 16 padded} (omega (arith, length-take-le 16 padded wide, many))
     (c.copy_front.ensures (omega (arith, many)) wide) ∙ take_all 16 padded (omega (arith, width)) in
-    let second = copied_less (length name + 2) (omega (arith, room)) (omega (arith, width, c.padded_end-padded.ensures.short))
+    let second = copied_less (length name + 2) (omega (arith, room)) (omega (arith, width, c.line-padded.ensures.short))
     (copied_part end 16 with_path c.copy_front.new.buffer padded written width room) in
     let both = copied_then first second in
-    let text = ap (λ (l : List ℕ). path ++ l) c.padded_end-padded.ensures.end ∙ sym (append_assoc path (32 ∷ name) (10 ∷ [])) in
+    let text = ap (λ (l : List ℕ). path ++ l) c.line-padded.ensures.line ∙ sym (append_assoc path (32 ∷ name) (10 ∷ [])) in
     let ends : end + (length name + 2) ≡ end + (length c.name.result.now + 2) = omega (arith, ap length c.name.ensures) in
     let lines = put_mid end (end + 16 - end) with_path c.copy_front.new.buffer in
     subst (λ (l : List ℕ). Copied buffer lines at l (end + (length c.name.result.now + 2))) text

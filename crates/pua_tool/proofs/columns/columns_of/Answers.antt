@@ -24,18 +24,18 @@ loop-row-preserved c =
     let at : word ≡ word_of_row before row = c.in_ok-go_to.ensures in
     record {
       names = row_names rows row i c.loop-row-test.true c.row-item.is before word c.loop-row.invariant.names at;
-      columns = λ behind.
+      columns =
           subst (λ (texts : List (List ℕ)). AreColumns done n h [] (take (i + 1) rows) texts)
           (sym (ap (map string_bytes) c.in_ok-push.ensures.items ∙ map-append string_bytes c.loop-row.columns.items (c.in_ok-column.column ∷ [])))
           (row_column done n h rows row i c.loop-row-test.true c.row-item.is word (at ∙ ap (λ w. word_of_row w row) c.loop-row.invariant.names)
-          texts text (c.loop-row.invariant.columns behind)
-          (subst (λ names. IsColumnAt done n h (map (λ name. name.now) names) row.line text) c.as_slice.ensures.value
-          (c.in_ok-column.ensures.column behind)));
+          texts text c.loop-row.invariant.columns
+          (subst (λ names. IsColumnAt done n h (map (λ name. name.now) names) row.line text) c.as_slice-names.ensures.value
+          c.in_ok-column.ensures.column));
     }
 
 pub returns-clause-columns : goal.returns-clause-columns
-returns-clause-columns c = λ behind.
+returns-clause-columns c =
     let past : length c.args.rows.now ≤ c.loop-row.row-index = omega (arith, c.loop-row-test.false) in
     subst (λ (rows : List EverRow). AreColumns (done_behind c.args.behind.now) c.args.behind.now.number c.args.process.now [] rows
     (map string_bytes c.loop-row.columns.items))
-    (take_all c.loop-row.row-index c.args.rows.now past) (c.loop-row.invariant.columns behind)
+    (take_all c.loop-row.row-index c.args.rows.now past) c.loop-row.invariant.columns

@@ -9,7 +9,7 @@ use Rattle.pua_how.specs.Asked.{IsAskedBy}
 use Rattle.pua_ever.specs.EverLines.{IsThing}
 use Rattle.pua_texts.specs.EverLines.{kind_of}
 use Rattle.pua_tool.specs.EverHowTexts.{IsCount, asking_by}
-use Rattle.pua_tool.specs.RowColumns.{IsBehind, done_behind}
+use Rattle.pua_tool.specs.RowColumns.{done_behind}
 use Rattle.pua_tool.proofs.Counts.{Count, all_counted, call_counted, call_passed, calls_of, steps_counted}
 use Rattle.pua_tool.proofs.columns.counts_on.Goals.{then-contains+in_ok-steps+in_ok-push, else-contains}
 use Rattle.pua_tool.proofs.columns.counts_on.Goals as goal
@@ -34,13 +34,13 @@ loop-call-preserved c =
           rw w.counts-is (record {
             calls = ap calls_of all ∙ call_counted set i c.loop-call-test.true counts found (sym c.contains.ensures ∙ w.if-contains.true)
                 c.loop-call.invariant.calls;
-            counted = λ about is thing.
+            counted = λ about thing.
                 let at = c.tree.ensures in
                 let asked = subst (λ (t : Tree). IsAskedBy t h (asking_by word about) (Some (kind_of of)) things) at
                 (c.in_ok-meant.ensures.meant about (subst (λ (t : Tree). IsThing t about of) (sym at) thing)) in
                 subst (AllByRecursion (IsCount done n h (asking_by word about) (kind_of of))) (sym all)
-                (steps_counted done n h (asking_by word about) (kind_of of) things asked (IsBehind behind) is counts call found
-                (c.loop-call.invariant.counted about is thing) w.in_ok-steps.ensures.steps);
+                (steps_counted done n h (asking_by word about) (kind_of of) things asked counts call found
+                (c.loop-call.invariant.counted about thing) w.in_ok-steps.ensures.steps);
           })
       | else-contains w ↦ rw w.counts-is (record {
         calls = call_passed set i c.loop-call-test.true counts (sym c.contains.ensures ∙ w.if-contains.false) c.loop-call.invariant.calls;

@@ -13,7 +13,7 @@ returns-in_err-replay g c =
 pub returns : goal.returns
 returns g c =
     let served = c.in_ok-replay.ensures.done in
-    let listed = c.list_to-written.ensures served in
+    let listed = c.list_to-written.ensures in
     record {
       text = (
         listed.0,

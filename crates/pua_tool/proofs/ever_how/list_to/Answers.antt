@@ -14,21 +14,21 @@ use Rattle.pua_tool.proofs.TextAnswers.{answers_told}
 use Rattle.pua_tool.proofs.ever_how.list_to.Goals as goal
 
 pub returns-in_default : goal.returns-in_default
-returns-in_default g c = λ served.
+returns-in_default g c =
     let behind = c.args.behind.now in
     let done = done_behind behind in
-    fault_after behind.table.rules done behind.number g.S.Sink.written g.S.Sink.failed NoProcess c.args.sink.now (λ same. cc)
-    (λ other. no_process behind.table.rules done behind.number (sym c.in_default.ensures))
+    fault_after behind.rules done behind.number g.S.Sink.written g.S.Sink.failed NoProcess c.args.sink.now (λ same. cc)
+    (λ other. no_process behind.rules done behind.number (sym c.in_default.ensures))
 
 pub returns-in_default-both_of : goal.returns-in_default-both_of
-returns-in_default-both_of g c = λ served.
+returns-in_default-both_of g c =
     let behind = c.args.behind.now in
     let done = done_behind behind in
-    fault_after behind.table.rules done behind.number g.S.Sink.written g.S.Sink.failed OutOfMemory c.args.sink.now (λ same. cc)
+    fault_after behind.rules done behind.number g.S.Sink.written g.S.Sink.failed OutOfMemory c.args.sink.now (λ same. cc)
     (λ other. absurd (other refl))
 
 pub returns-in-Err : goal.returns-in-Err
-returns-in-Err g c = λ served.
+returns-in-Err g c =
     let behind = c.args.behind.now in
     let done = done_behind behind in
     let n : ℕ = behind.number in
@@ -36,8 +36,8 @@ returns-in-Err g c = λ served.
     let h = c.in-Some.process.now in
     let whose = subst (IsBothOf c.table-table.result.now h) (sym c.as_ref.ensures.value) c.in-Ok.ensures in
     let reason = (λ i. refusal (sym c.table-table.ensures i) h) ∙ c.in-Err.ensures.refused whose in
-    fault_after behind.table.rules done n g.S.Sink.written g.S.Sink.failed fault c.args.sink.now c.fault_of.ensures.unwritten
-    (λ other. refused_after behind.table.rules done n h fault (sym c.in-Some.ensures)
+    fault_after behind.rules done n g.S.Sink.written g.S.Sink.failed fault c.args.sink.now c.fault_of.ensures.unwritten
+    (λ other. refused_after behind.rules done n h fault (sym c.in-Some.ensures)
     (λ text. ap (λ reason. unless_reason n reason text) reason ∙ c.fault_of.ensures.told text other))
 
 pub returns-in_err-columns : goal.returns-in_err-columns
@@ -47,19 +47,19 @@ returns-in_err-columns g c =
     let fault = c.in_err-columns.field-0.0 in
     let memory : fault ≡ OutOfMemory = c.in_err-columns.ensures.memory in
     let unwritten : fault ≢ Write = λ same. cc in
-    rw (p.1, p.2) (λ served.
-    fault_after behind.table.rules (done_behind behind) behind.number g.S.Sink.written g.S.Sink.failed fault c.args.sink.now unwritten
+    rw (p.1, p.2)
+    (fault_after behind.rules (done_behind behind) behind.number g.S.Sink.written g.S.Sink.failed fault c.args.sink.now unwritten
     (λ other. absurd (other memory)))
 
 pub returns-in_default-answer_text : goal.returns-in_default-answer_text
-returns-in_default-answer_text g c = λ served.
+returns-in_default-answer_text g c =
     let behind = c.args.behind.now in
     let done = done_behind behind in
-    fault_after behind.table.rules done behind.number g.S.Sink.written g.S.Sink.failed OutOfMemory c.args.sink.now (λ same. cc)
+    fault_after behind.rules done behind.number g.S.Sink.written g.S.Sink.failed OutOfMemory c.args.sink.now (λ same. cc)
     (λ other. absurd (other refl))
 
 pub returns : goal.returns
-returns g c = λ served.
+returns g c =
     let behind = c.args.behind.now in
     let done = done_behind behind in
     let n : ℕ = behind.number in
@@ -76,22 +76,22 @@ returns g c = λ served.
     let there = subst (λ (table : CallTable). IsLasting done.world.tree table h list) ruled
     (subst (λ (t : Tree). IsLasting t table h list) at lasting) in
     let columns = subst (λ (rows : List EverRow). AreColumns done n h [] rows texts) c.as_slice.ensures.value
-    (c.in_ok-columns.ensures.columns served) in
+    c.in_ok-columns.ensures.columns in
     let lines = lines_told done n h [] rows texts (ever_lasting done.world.tree done.table h) there.rows columns in
     let none : refusal done.table h ≡ None = (λ i. refusal (sym ruled i) h) ∙ c.in-Ok-list_lasting.ensures.refused whose in
     let front : c.as_str-front.result.now ≡ answer_lines 1 done.answers = c.as_str-front.ensures.value ∙ c.in-Ok-answer_text.ensures ∙
     ap (answer_lines 1) c.as_slice-2.ensures.value in
-    let told : List ℕ = ever_list_with behind.table.rules done.table done.world.tree n h lines.told in
+    let told : List ℕ = ever_list_with behind.rules done.table done.world.tree n h lines.told in
     let text : List ℕ = answer_lines 1 done.answers ++ told in
     let written : Tells text c.write_ever_how.result (g.S.Sink.written c.args.sink.now) (g.S.Sink.written c.write_ever_how.new.sink)
     (g.S.Sink.failed c.args.sink.now) (g.S.Sink.failed c.write_ever_how.new.sink) =
     subst (λ (text : List ℕ). Tells text c.write_ever_how.result (g.S.Sink.written c.args.sink.now) (g.S.Sink.written c.write_ever_how.new.sink)
     (g.S.Sink.failed c.args.sink.now) (g.S.Sink.failed c.write_ever_how.new.sink))
-    (λ i. front i ++ ever_list_with behind.table.rules (ruled i) (at i) n h lines.told)
+    (λ i. front i ++ ever_list_with behind.rules (ruled i) (at i) n h lines.told)
     (c.write_ever_how.ensures table lines.told lasting.execs
     (subst (λ (t : Tree). AreToldWith t [] rows texts lines.told) (sym at) lines.are)) in (
       Ok text,
-      list_after behind.table.rules done n h told (Ok text) (sym c.in-Some.ensures) none
+      list_after behind.rules done n h told (Ok text) (sym c.in-Some.ensures) none
           (record { lines = lines.told; are = lines.lines_are; columns = lines.columns; is = refl }) refl,
       answers_told g.S.Sink.written g.S.Sink.failed (Ok text) text c.told.result c.args.sink.now c.write_ever_how.new.sink refl
           (c.told.ensures text (g.S.Sink.written c.args.sink.now) (g.S.Sink.written c.write_ever_how.new.sink)

@@ -48,9 +48,6 @@ returns-in_err-outlook-clause-refused c =
     let p = err_from_is_err_and c.from_residual-in_err-outlook.result c.from_residual-in_err-outlook.ensures.1 in
     rw (p.1, p.2) (λ other. absurd (other c.in_err-outlook.ensures.memory))
 
-pub returns-in_default-find_plans-clause-refused : goal.returns-in_default-find_plans-clause-refused
-returns-in_default-find_plans-clause-refused c = λ other. absurd (other refl)
-
 pub returns-clause-asked : goal.returns-clause-asked
 returns-clause-asked c =
     question_is (as_replayed c.args.replay.now) (way_wanted c.args.words.now) _ c.in-Some.process.now _ c.table-table.result.now c.tree-tree.ensures

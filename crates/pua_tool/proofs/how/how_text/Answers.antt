@@ -1,26 +1,27 @@
-use Rattle.pua_tool.proofs.Common.{◌∙◌, Ok, ap, List, Option, choice_of, err_from_is_err_and}
-use Rattle.std.specs.Prelude.{option_map, string_bytes, vec_items}
-use Rattle.pua_how.specs.declared.line.WayLine.{WayLine}
-use Rattle.pua_tool.specs.HowTexts.{way_wanted}
-use Rattle.pua_tool.specs.Questions.{text_told, texts_of}
-use Rattle.pua_tool.proofs.HowTexts.{after_done, found_ways, lent_items, told_asked}
+use Rattle.pua_tool.proofs.Common.{◌≢◌, Ok, Err, err_from_is_err_and, if_err, if_ok, choice_of, as_replayed, OutOfMemory}
+use Rattle.std.specs.Prelude.{string_bytes}
+use Rattle.pua_tool.specs.HowTexts.{IsHowText, way_wanted}
+use Rattle.pua_tool.proofs.HowTexts.{after_done, after_refused}
 use Rattle.pua_tool.proofs.how.how_text.Goals as goal
 
-pub returns-in_err-found-clause-refused : goal.returns-in_err-found-clause-refused
-returns-in_err-found-clause-refused c =
-    let p = err_from_is_err_and c.from_residual-in_err-found.result c.from_residual-in_err-found.ensures.1 in
-    rw (p.1, p.2) (λ other. absurd (other c.in_err-found.ensures.memory))
-
-pub returns-in-Ok-clause-done : goal.returns-in-Ok-clause-done
-returns-in-Ok-clause-done c =
-    let choice = choice_of c.args.table in
+pub returns-in_err-replay-clause-refused : goal.returns-in_err-replay-clause-refused
+returns-in_err-replay-clause-refused c =
+    let fault = c.in_err-replay.field-0.0 in
     let wanted = way_wanted c.args.words.now in
-    let asked = c.in_ok-question.ensures.asked in
-    let q = c.in_ok-question.question in
-    let found = c.in_ok-found.found in
-    after_done choice c.args.tree_bytes.now c.args.script_bytes.now wanted asked.0 (Ok (string_bytes c.in-Ok.text)) asked.1
-    (told_asked choice.rules asked.0 wanted q asked.2 (option_map vec_items found)
-    (found_ways vec_items choice c.args.tree_bytes.now c.args.script_bytes.now wanted.process q found c.in_ok-found.ensures.way asked.0 asked.1)
-    (string_bytes c.in-Ok.text)
-    (c.in-Ok.ensures ∙ ap (λ (lines : Option (List WayLine)). text_told q.outlook (texts_of lines))
-    (lent_items vec_items c.as_ref.result ∙ ap (option_map vec_items) c.as_ref.ensures.value)))
+    let refuses : fault ≢ OutOfMemory → IsHowText (choice_of c.args.table) c.args.tree_bytes.now c.args.script_bytes.now wanted (Err fault) =
+    λ other.
+    after_refused (choice_of c.args.table) c.args.tree_bytes.now c.args.script_bytes.now wanted fault (c.in_err-replay.ensures.refused other) in
+    let p = err_from_is_err_and c.from_residual.result c.from_residual.ensures.1 in
+    rw (p.1, p.2) refuses
+
+pub returns-clause-done : goal.returns-clause-done
+returns-clause-done c =
+    if_ok c.text_behind-text.result (λ text asked.
+    after_done (choice_of c.args.table) c.args.tree_bytes.now c.args.script_bytes.now (way_wanted c.args.words.now) (as_replayed c.in_ok-replay.replay)
+    (Ok (string_bytes text)) c.in_ok-replay.ensures.done asked) c.text_behind-text.ensures.done
+
+pub returns-clause-refused : goal.returns-clause-refused
+returns-clause-refused c =
+    if_err c.text_behind-text.result (λ fault refused other.
+    after_done (choice_of c.args.table) c.args.tree_bytes.now c.args.script_bytes.now (way_wanted c.args.words.now) (as_replayed c.in_ok-replay.replay)
+    (Err fault) c.in_ok-replay.ensures.done (refused other)) c.text_behind-text.ensures.refused

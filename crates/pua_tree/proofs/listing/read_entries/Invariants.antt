@@ -4,4 +4,4 @@ use Rattle.pua_tree.proofs.listing.read_entries.Given as goal
 
 abbrev pub invariant-loop-text : goal.invariant-loop-text
 invariant-loop-text g l =
-    (l.reading.hard ≡ l.fn.hard) × IsSoFar l.fn.hard l.fn.lines l.text-iterator l.n (g.T.FileTree.content l.reading.tree) l.reading.greatest
+    (l.reading.form ≡ l.fn.form) × IsSoFar l.fn.form l.fn.lines l.text-iterator l.n (g.T.FileTree.content l.reading.tree) l.reading.greatest

@@ -1,7 +1,26 @@
-use Rattle.pua_ever.proofs.Common.{◌≡◌, Some, None, empty_tree, has, object_seen, object_of_kind, rules, tests}
+use Rattle.pua_ever.proofs.Common.{◌≡◌, ◌∙◌, sym, Some, None, empty_tree, has, object_seen, object_of_kind, rules, tests, IsMissing, Kind}
+use Rattle.pua_tree.specs.declared.node.Kind.TheVariants.{Dir, File, Prog, Link}
+use Rattle.pua_policy.specs.declared.object.Object.TheVariants as see
 use Rattle.pua_ever.specs.Ever.{can_allow}
 use Rattle.pua_ever.specs.Prospects.{kind_covers}
 use Rattle.pua_ever.proofs.prospects.Prospects.on_plain.Goals as goal
+
+-- what stands is not missing
+not_missing : (k : Kind) → see.Missing ≡ object_seen empty_tree (object_of_kind (Some k)) → ⊥
+not_missing Dir e = cc
+not_missing File e = cc
+not_missing Prog e = cc
+not_missing Link e = cc
+
+pub returns-then-eq : goal.returns-then-eq
+returns-then-eq c = λ t kind found sees call.
+    let h = c.args.process.now in
+    let is : c.args.object ≡ see.Missing = search rules in
+    elim kind as (λ k. c.args.object ≡ object_seen empty_tree (object_of_kind k) → has c.allowed.result call
+    ≡ can_allow c.args.table.now h (kind_covers t c.args.table.now h c.args.cover.now k) (object_of_kind k) call) [
+      | None ↦ λ sees. (let allowed = c.allowed.ensures empty_tree IsMissing sees call in search (rules, allowed))
+      | Some k ↦ λ sees. absurd (not_missing k (sym is ∙ sees))
+    ] sees
 
 pub returns : goal.returns
 returns c = λ t kind found sees call.

@@ -12,16 +12,16 @@ put_row-requires-clause-order c =
 
 pub returns-in-Some-displaced-clause-exact : goal.returns-in-Some-displaced-clause-exact
 returns-in-Some-displaced-clause-exact c =
-    let next = c.self.inside.next in
+    let numbering = c.self.inside.numbering in
     let change = λ (t : tree.Tree). with_row (without_row t c.args.from c.args.name.now) c.args.to c.args.new_name c.in-Some.moving.node in
     let after = λ (there : Option ℕ). with_row_moved c.args.self.now c.args.from c.args.name.now c.args.to c.args.new_name c.in-Some.moving.node
     there in
-    let came : held_tree c.put_row.new.rows.items c.self.inside.nodes.items next ≡ change c.args.self.now =
-    row_moved c.self.inside.rows.items c.take_row.new.rows.items c.put_row.new.rows.items c.self.inside.nodes.items next c.args.from
+    let came : held_tree c.put_row.new.rows.items c.self.inside.nodes.items numbering ≡ change c.args.self.now =
+    row_moved c.self.inside.rows.items c.take_row.new.rows.items c.put_row.new.rows.items c.self.inside.nodes.items numbering c.args.from
     c.args.name.now c.args.to c.args.new_name c.in-Some.moving.node c.take_row.ensures.rows c.put_row.ensures
     ∙ ap change c.self.view_is in
-    let left : held_tree c.put_row.new.rows.items c.take_unnamed.new.nodes.items next ≡ after (Some c.in-Some-displaced.displaced) =
-    (rw c.deref.ensures.value at (c.take_unnamed.ensures next)) ∙
+    let left : held_tree c.put_row.new.rows.items c.take_unnamed.new.nodes.items numbering ≡ after (Some c.in-Some-displaced.displaced) =
+    (rw c.deref.ensures.value at (c.take_unnamed.ensures numbering)) ∙
     ap (λ (t : tree.Tree). without_unnamed t c.in-Some-displaced.displaced) came in
     (rw c.in-Some.is at c.in_ok-moving.ensures.exact)
     ∙ ap (λ (there : Option ℕ). Ok (after there)) c.in-Some-displaced.is
@@ -34,12 +34,12 @@ invariant_of-self c =
 
 pub returns-in_default-displaced-clause-exact : goal.returns-in_default-displaced-clause-exact
 returns-in_default-displaced-clause-exact c =
-    let next = c.self.inside.next in
+    let numbering = c.self.inside.numbering in
     let change = λ (t : tree.Tree). with_row (without_row t c.args.from c.args.name.now) c.args.to c.args.new_name c.in-Some.moving.node in
     let after = λ (there : Option ℕ). with_row_moved c.args.self.now c.args.from c.args.name.now c.args.to c.args.new_name c.in-Some.moving.node
     there in
-    let came : held_tree c.put_row.new.rows.items c.self.inside.nodes.items next ≡ after None =
-    row_moved c.self.inside.rows.items c.take_row.new.rows.items c.put_row.new.rows.items c.self.inside.nodes.items next c.args.from
+    let came : held_tree c.put_row.new.rows.items c.self.inside.nodes.items numbering ≡ after None =
+    row_moved c.self.inside.rows.items c.take_row.new.rows.items c.put_row.new.rows.items c.self.inside.nodes.items numbering c.args.from
     c.args.name.now c.args.to c.args.new_name c.in-Some.moving.node c.take_row.ensures.rows c.put_row.ensures
     ∙ ap change c.self.view_is in
     (rw c.in-Some.is at c.in_ok-moving.ensures.exact)

@@ -1,5 +1,6 @@
 use Rattle.pua_tree.proofs.Common.{◌≡◌, ◌∙◌, ◌++◌, [], option_map, sym, ap, subst, map, cons_option, put, WellFormed, spot_cmp, row_entry}
 use Rattle.pua_tree.proofs.Common.{◌+◌, node_entry, held_tree, Follows, tree_with, entry_at}
+use Rattle.pua_tree.specs.Numbering.{with_next}
 use Rattle.pua_tree.specs.Tree as tree
 use Rattle.pua_tree.proofs.Follows.{follows_from}
 use Rattle.pua_tree.proofs.ListEdits.{entry_came}
@@ -13,7 +14,7 @@ follows c =
     (sym c.may_put.ensures.follows ∙ c.if-not-may_put.false)
 
 grown : (c : goal.After-self-1) →
-    held_tree c.put_row.new.rows.items c.push_made.new.nodes.items (c.args.stands.number + 1)
+    held_tree c.put_row.new.rows.items c.push_made.new.nodes.items (with_next c.self.inside.numbering (c.args.stands.number + 1))
     ≡ tree_with c.args.self.now (entry_at c.args.spot.now.dir c.args.spot.now.name c.args.stands)
 grown c =
     let inside = c.self.inside in
@@ -23,7 +24,7 @@ grown c =
     rw c.reserve_one.ensures.rows at c.put_row.ensures in
     let node : map node_entry c.push_made.new.nodes.items ≡ map node_entry inside.nodes.items
     ++ cons_option (option_map (λ (m : tree.Node). (e.node, m)) e.made) [] = rw c.reserve_one.ensures.nodes at c.push_made.ensures in
-    entry_came inside.rows.items c.put_row.new.rows.items inside.nodes.items c.push_made.new.nodes.items inside.next e e.made
+    entry_came inside.rows.items c.put_row.new.rows.items inside.nodes.items c.push_made.new.nodes.items inside.numbering e e.made
     c.self.invariant still.number still.enters row node
     ∙ ap (λ (t : tree.Tree). tree_with t e) c.self.view_is
 

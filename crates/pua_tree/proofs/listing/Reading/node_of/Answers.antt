@@ -6,7 +6,7 @@ pub returns-in-Some-other_in : goal.returns-in-Some-other_in
 returns-in-Some-other_in g c = λ es h.
     let line = line_read c.args.line.now in
     let node : hard_node_in es line ≡ Some c.in-Some-other_in.node =
-    sym (node_here c.args.self.now.hard (g.T.FileTree.content c.args.self.now.tree) c.args.self.now.greatest es line h) ∙
+    sym (node_here c.args.self.now.form (g.T.FileTree.content c.args.self.now.tree) c.args.self.now.greatest es line h) ∙
     sym c.in-Some-other_in.ensures in
     tied_node es c.args.n c.args.number c.in-Some-other_in.node line c.in-None.is node
 
@@ -14,7 +14,7 @@ pub returns-in-None-other_in : goal.returns-in-None-other_in
 returns-in-None-other_in g c = λ es h _.
     let line = line_read c.args.line.now in
     let node : hard_node_in es line ≡ None =
-    sym (node_here c.args.self.now.hard (g.T.FileTree.content c.args.self.now.tree) c.args.self.now.greatest es line h) ∙
+    sym (node_here c.args.self.now.form (g.T.FileTree.content c.args.self.now.tree) c.args.self.now.greatest es line h) ∙
     sym c.in-None-other_in.ensures in
     no_node es c.args.n c.args.number line c.in-None.is node
 

@@ -1,5 +1,6 @@
 use Rattle.pua_tree.proofs.Common.{◌≡◌, ◌<◌, ◌+◌, ◌∙◌, rules, arith, sym, subst, Ok, Some, option_map, WellFormed, AreConsistent, Follows}
 use Rattle.pua_tree.proofs.Common.{Entry, true≢false, tree_with, held_in_slots}
+use Rattle.pua_tree.specs.Numbering.{with_next}
 use Rattle.pua_tree.specs.Tree as tree
 use Rattle.pua_tree.specs.Edits.{add, with_new}
 use Rattle.pua_tree.proofs.Raised.{grown_keeps}
@@ -7,26 +8,26 @@ use Rattle.pua_tree.proofs.slab_tree.SlabTreeFileTree.add.Goals as goal
 
 pub invariant_of-self : goal.invariant_of-self
 invariant_of-self c = (
-  subst WellFormed (sym (c.in_err-put_entry.ensures.unchanged c.self.inside.next)) c.self.invariant.0,
+  subst WellFormed (sym (c.in_err-put_entry.ensures.unchanged c.self.inside.numbering)) c.self.invariant.0,
   c.in_err-put_entry.ensures.kept c.self.invariant.1,
 )
 
 pub returns-in_err-put_entry-clause-unchanged : goal.returns-in_err-put_entry-clause-unchanged
-returns-in_err-put_entry-clause-unchanged c = let same = c.in_err-put_entry.ensures.unchanged c.self.inside.next ∙ c.self.view_is in
+returns-in_err-put_entry-clause-unchanged c = let same = c.in_err-put_entry.ensures.unchanged c.self.inside.numbering ∙ c.self.view_is in
     search (rules, same)
 
 -- the new node follows
 module _ (c : goal.After-self-1) where
   abbrev t : tree.Tree
-  t = held_in_slots c.self.inside.slots c.self.inside.next
+  t = held_in_slots c.self.inside.slots c.self.inside.numbering
 
   abbrev node : tree.Node
   node = record { kind = c.args.kind; target = option_map (λ bytes. bytes.items) c.in_ok-target.target }
 
   abbrev e : Entry
-  e = record { number = c.self.inside.next; parent = c.args.dir; name = c.args.name; node = c.new-node.result; made = Some node }
+  e = record { number = c.self.inside.numbering.next; parent = c.args.dir; name = c.args.name; node = c.new-node.result; made = Some node }
 
-  added : add t c.args.dir c.args.name node ≡ Ok (c.self.inside.next, with_new t c.args.dir c.args.name node)
+  added : add t c.args.dir c.args.name node ≡ Ok (c.self.inside.numbering.next, with_new t c.args.dir c.args.name node)
   added = subst (λ (u : tree.Tree). add u c.args.dir c.args.name node ≡ Ok (u.next, with_new u c.args.dir c.args.name node))
       (sym c.self.view_is) (c.in_ok-may_add.ensures.exact node)
 
@@ -38,10 +39,10 @@ module _ (c : goal.After-self-1) where
     enters = (c.new-node.ensures, rw c.in_ok-target.ensures c.requires, added);
   }
 
-  grown : AreConsistent c.put_entry.new.self × (held_in_slots c.put_entry.new.self (c.self.inside.next + 1) ≡ tree_with t e)
+  grown : AreConsistent c.put_entry.new.self × (held_in_slots c.put_entry.new.self (with_next c.self.inside.numbering (c.self.inside.numbering.next + 1)) ≡ tree_with t e)
   grown =
       c.in_ok-put_entry.ensures.grown c.slot-above.ensures (λ none. absurd (true≢false (sym none))) c.self.invariant.1
-      c.self.inside.next c.self.invariant.0 follows
+      c.self.inside.numbering c.self.invariant.0 follows
 
 pub invariant_of-self-2 : goal.invariant_of-self-2
 invariant_of-self-2 c = (subst WellFormed (sym (grown c).1) (grown_keeps (t c) (e c) c.self.invariant.0 (follows c)), (grown c).0)

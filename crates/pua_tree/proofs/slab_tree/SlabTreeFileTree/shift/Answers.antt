@@ -11,12 +11,12 @@ use Rattle.pua_tree.proofs.slab_tree.SlabTreeFileTree.shift.Goals as goal
 
 pub invariant_of-self : goal.invariant_of-self
 invariant_of-self c = (
-  subst WellFormed (sym (c.reserve_row.ensures.same c.self.inside.next)) c.self.invariant.0,
+  subst WellFormed (sym (c.reserve_row.ensures.same c.self.inside.numbering)) c.self.invariant.0,
   c.reserve_row.ensures.kept c.self.invariant.1,
 )
 
 pub returns-in_err-reserve_row-clause-unchanged : goal.returns-in_err-reserve_row-clause-unchanged
-returns-in_err-reserve_row-clause-unchanged c = grind (rules, c.reserve_row.ensures.same c.self.inside.next, c.self.view_is)
+returns-in_err-reserve_row-clause-unchanged c = grind (rules, c.reserve_row.ensures.same c.self.inside.numbering, c.self.view_is)
 
 -- room is left for the row that moves
 room : (c : goal.After-drop_unnamed) → 0 < spare c.take_row-names.new.self.rows
@@ -26,19 +26,19 @@ room c = let made = c.in_ok-reserve_row.ensures.room in omega (arith, made, c.ta
 goes : (c : goal.After-drop_unnamed) → HasRow c.reserve_row.new.self (c.args.to, c.args.new_name) c.in-Some-displaced.displaced
 goes c =
     let displaced = rw c.in-Some.is at c.in_ok-moving.ensures.displaced in
-    has_row c.reserve_row.new.self c.self.inside.next c.args.self.now c.args.to c.args.new_name c.in-Some-displaced.displaced
-    (c.reserve_row.ensures.kept c.self.invariant.1) (c.reserve_row.ensures.same c.self.inside.next ∙ c.self.view_is) (sym displaced.0 ∙
+    has_row c.reserve_row.new.self c.self.inside.numbering c.args.self.now c.args.to c.args.new_name c.in-Some-displaced.displaced
+    (c.reserve_row.ensures.kept c.self.invariant.1) (c.reserve_row.ensures.same c.self.inside.numbering ∙ c.self.view_is) (sym displaced.0 ∙
     c.in-Some-displaced.is)
 
 -- and the one that comes to its spot
 comes : (c : goal.After-drop_unnamed) →
     MayMove c.take_row-names.new.self (c.args.from, c.args.name.now) (c.args.to, c.args.new_name) c.in-Some.moving.node
 comes c =
-    let next = c.self.inside.next in
+    let numbering = c.self.inside.numbering in
     let found = rw c.in-Some.is at c.in_ok-moving.ensures.found in
     let displaced = rw c.in-Some.is at c.in_ok-moving.ensures.displaced in
-    may_move_there c.reserve_row.new.self next c.args.self.now (subst WellFormed c.self.view_is c.self.invariant.0)
-    (c.reserve_row.ensures.kept c.self.invariant.1) (c.reserve_row.ensures.same next ∙ c.self.view_is) c.args.from c.args.name.now c.args.to
+    may_move_there c.reserve_row.new.self numbering c.args.self.now (subst WellFormed c.self.view_is c.self.invariant.0)
+    (c.reserve_row.ensures.kept c.self.invariant.1) (c.reserve_row.ensures.same numbering ∙ c.self.view_is) c.args.from c.args.name.now c.args.to
     c.args.new_name c.in-Some.moving.node found c.in-Some-displaced.displaced (sym displaced.0 ∙ c.in-Some-displaced.is)
     (λ e. displaced.1 (c.in-Some-displaced.is ∙ ap Some e)) c.take_row-names.new.self (c.take_row-names.ensures.kept (goes c))
     c.take_row-names.ensures.rows (c.take_row-names.ensures.nodes (goes c))
@@ -46,23 +46,23 @@ comes c =
 pub returns-in-Some-displaced-clause-exact : goal.returns-in-Some-displaced-clause-exact
 returns-in-Some-displaced-clause-exact c =
     let s = c.reserve_row.new.self in
-    let next = c.self.inside.next in
-    let same : held_in_slots s next ≡ c.args.self.now = c.reserve_row.ensures.same next ∙ c.self.view_is in
+    let numbering = c.self.inside.numbering in
+    let same : held_in_slots s numbering ≡ c.args.self.now = c.reserve_row.ensures.same numbering ∙ c.self.view_is in
     let change = λ (t : tree.Tree). with_row (without_row t c.args.from c.args.name.now) c.args.to c.args.new_name c.in-Some.moving.node in
     let after =
     λ (o : Option ℕ). with_row_moved c.args.self.now c.args.from c.args.name.now c.args.to c.args.new_name c.in-Some.moving.node o in
-    let first : held_in_slots c.take_row-names.new.self next ≡ without_row (held_in_slots s next) c.args.to c.args.new_name =
-    λ i. record { rows = c.take_row-names.ensures.rows i; nodes = c.take_row-names.ensures.nodes (goes c) i; next = next } in
-    let second : held_in_slots c.move_row.new.self next ≡ change (held_in_slots c.take_row-names.new.self next) =
-    λ i. record { rows = c.move_row.ensures.rows (room c) i; nodes = c.move_row.ensures.nodes (comes c) i; next = next } in
-    let over : change (without_row (held_in_slots s next) c.args.to c.args.new_name) ≡ change (held_in_slots s next) =
-    λ i. record (held_in_slots s next)
+    let first : held_in_slots c.take_row-names.new.self numbering ≡ without_row (held_in_slots s numbering) c.args.to c.args.new_name =
+    λ i. record { rows = c.take_row-names.ensures.rows i; nodes = c.take_row-names.ensures.nodes (goes c) i; next = numbering.next; room = numbering.room } in
+    let second : held_in_slots c.move_row.new.self numbering ≡ change (held_in_slots c.take_row-names.new.self numbering) =
+    λ i. record { rows = c.move_row.ensures.rows (room c) i; nodes = c.move_row.ensures.nodes (comes c) i; next = numbering.next; room = numbering.room } in
+    let over : change (without_row (held_in_slots s numbering) c.args.to c.args.new_name) ≡ change (held_in_slots s numbering) =
+    λ i. record (held_in_slots s numbering)
     { rows = put_over (c.args.to, c.args.new_name) (c.args.from, c.args.name.now) c.in-Some.moving.node (held_rows s) (rows_sorted s) i } in
-    let came : held_in_slots c.move_row.new.self next ≡ change c.args.self.now = second ∙ ap change first ∙ over ∙ ap change same in
-    let left : held_in_slots c.drop_unnamed.new.self next ≡ after (Some c.in-Some-displaced.displaced) =
+    let came : held_in_slots c.move_row.new.self numbering ≡ change c.args.self.now = second ∙ ap change first ∙ over ∙ ap change same in
+    let left : held_in_slots c.drop_unnamed.new.self numbering ≡ after (Some c.in-Some-displaced.displaced) =
     c.drop_unnamed.ensures.unnamed (c.move_row.ensures.kept (room c) (comes c))
     (left_after_move c.take_row-names.new.self c.move_row.new.self (c.args.from, c.args.name.now) (c.args.to, c.args.new_name) c.in-Some.moving.node (c.move_row.ensures.rows (room c)) (c.move_row.ensures.nodes (comes c))
-    (comes c).has.there (comes c).free c.in-Some-displaced.displaced c.take_row-names.result (c.take_row-names.ensures.left (goes c))) next
+    (comes c).has.there (comes c).free c.in-Some-displaced.displaced c.take_row-names.result (c.take_row-names.ensures.left (goes c))) numbering
     ∙ ap (λ (t : tree.Tree). without_unnamed t c.in-Some-displaced.displaced) came in
     (rw c.in-Some.is at c.in_ok-moving.ensures.exact) ∙ ap (λ (o : Option ℕ). Ok (after o)) c.in-Some-displaced.is ∙
     ap (λ (t : tree.Tree). Ok t) (sym left)
@@ -78,28 +78,29 @@ invariant_of-self-in-Some-displaced c = (
 comes_alone : (c : goal.After-move_row-in-None) →
     MayMove c.reserve_row.new.self (c.args.from, c.args.name.now) (c.args.to, c.args.new_name) c.in-Some.moving.node
 comes_alone c =
-    let next = c.self.inside.next in
+    let numbering = c.self.inside.numbering in
     let found = rw c.in-Some.is at c.in_ok-moving.ensures.found in
     let displaced = rw c.in-Some.is at c.in_ok-moving.ensures.displaced in
-    may_move c.reserve_row.new.self next c.args.self.now (subst WellFormed c.self.view_is c.self.invariant.0)
-    (c.reserve_row.ensures.kept c.self.invariant.1) (c.reserve_row.ensures.same next ∙ c.self.view_is) c.args.from c.args.name.now c.args.to
+    may_move c.reserve_row.new.self numbering c.args.self.now (subst WellFormed c.self.view_is c.self.invariant.0)
+    (c.reserve_row.ensures.kept c.self.invariant.1) (c.reserve_row.ensures.same numbering ∙ c.self.view_is) c.args.from c.args.name.now c.args.to
     c.args.new_name c.in-Some.moving.node found (sym displaced.0 ∙ c.in-None.is)
 
 pub returns-in-None-clause-exact : goal.returns-in-None-clause-exact
 returns-in-None-clause-exact c =
     let s = c.reserve_row.new.self in
-    let next = c.self.inside.next in
-    let same : held_in_slots s next ≡ c.args.self.now = c.reserve_row.ensures.same next ∙ c.self.view_is in
+    let numbering = c.self.inside.numbering in
+    let same : held_in_slots s numbering ≡ c.args.self.now = c.reserve_row.ensures.same numbering ∙ c.self.view_is in
     let change = λ (t : tree.Tree). with_row (without_row t c.args.from c.args.name.now) c.args.to c.args.new_name c.in-Some.moving.node in
     let after =
     λ (o : Option ℕ). with_row_moved c.args.self.now c.args.from c.args.name.now c.args.to c.args.new_name c.in-Some.moving.node o in
-    let second : held_in_slots c.move_row-in-None.new.self next ≡ change (held_in_slots s next) =
+    let second : held_in_slots c.move_row-in-None.new.self numbering ≡ change (held_in_slots s numbering) =
     λ i. record {
       rows = c.move_row-in-None.ensures.rows c.in_ok-reserve_row.ensures.room i;
       nodes = c.move_row-in-None.ensures.nodes (comes_alone c) i;
-      next = next;
+      next = numbering.next;
+      room = numbering.room;
     } in
-    let came : held_in_slots c.move_row-in-None.new.self next ≡ after None = second ∙ ap change same in
+    let came : held_in_slots c.move_row-in-None.new.self numbering ≡ after None = second ∙ ap change same in
     (rw c.in-Some.is at c.in_ok-moving.ensures.exact) ∙ ap (λ (o : Option ℕ). Ok (after o)) c.in-None.is ∙
     ap (λ (t : tree.Tree). Ok t) (sym came)
 

@@ -7,28 +7,28 @@ use Rattle.pua_tree.proofs.slab_tree.SlabTreeFileTree.tie.Goals as goal
 
 pub invariant_of-self : goal.invariant_of-self
 invariant_of-self c = (
-  subst WellFormed (sym (c.reserve_row.ensures.same c.self.inside.next)) c.self.invariant.0,
+  subst WellFormed (sym (c.reserve_row.ensures.same c.self.inside.numbering)) c.self.invariant.0,
   c.reserve_row.ensures.kept c.self.invariant.1,
 )
 
 pub returns-in_err-reserve_row-clause-unchanged : goal.returns-in_err-reserve_row-clause-unchanged
-returns-in_err-reserve_row-clause-unchanged c = search (rules, c.reserve_row.ensures.same c.self.inside.next ∙ c.self.view_is)
+returns-in_err-reserve_row-clause-unchanged c = search (rules, c.reserve_row.ensures.same c.self.inside.numbering ∙ c.self.view_is)
 
 -- the row may come to its spot
 enters : (c : goal.After-put_row) → MayEnter c.reserve_row.new.self (c.args.dir, c.args.name) c.args.node
 enters c =
-    let next = c.self.inside.next in
-    tied_may_enter c.reserve_row.new.self next c.args.self.now c.args.dir c.args.name c.args.node
+    let numbering = c.self.inside.numbering in
+    tied_may_enter c.reserve_row.new.self numbering c.args.self.now c.args.dir c.args.name c.args.node
     (subst WellFormed c.self.view_is c.self.invariant.0) (c.reserve_row.ensures.kept c.self.invariant.1)
-    (c.reserve_row.ensures.same next ∙ c.self.view_is) c.in_ok-may_tie.ensures.free c.in_ok-may_tie.ensures.no_dir
+    (c.reserve_row.ensures.same numbering ∙ c.self.view_is) c.in_ok-may_tie.ensures.free c.in_ok-may_tie.ensures.no_dir
 
 pub returns-clause-exact : goal.returns-clause-exact
 returns-clause-exact c =
-    let next = c.self.inside.next in
-    let same : held_in_slots c.reserve_row.new.self next ≡ c.args.self.now = c.reserve_row.ensures.same next ∙ c.self.view_is in
+    let numbering = c.self.inside.numbering in
+    let same : held_in_slots c.reserve_row.new.self numbering ≡ c.args.self.now = c.reserve_row.ensures.same numbering ∙ c.self.view_is in
     let rows = c.put_row.ensures.rows c.in_ok-reserve_row.ensures.room in
-    let came : held_in_slots c.put_row.new.self next ≡ with_row c.args.self.now c.args.dir c.args.name c.args.node =
-    (λ i. record { rows = rows i; nodes = c.put_row.ensures.nodes (enters c) i; next = next }) ∙
+    let came : held_in_slots c.put_row.new.self numbering ≡ with_row c.args.self.now c.args.dir c.args.name c.args.node =
+    (λ i. record { rows = rows i; nodes = c.put_row.ensures.nodes (enters c) i; next = numbering.next; room = numbering.room }) ∙
     ap (λ (t : tree.Tree). with_row t c.args.dir c.args.name c.args.node) same in
     c.in_ok-may_tie.ensures.exact ∙ ap (λ (t : tree.Tree). Ok t) (sym came)
 

@@ -1,6 +1,8 @@
 use Rattle.pua_tree.proofs.Common.{◌≡◌, ◌+◌, ◌∙◌, ◌&&◌, ℕ, Option, true, is_some, sym, ap, subst, and_from, not, WellFormed}
 use Rattle.pua_tree.proofs.Common.{AreConsistent, Follows, entry_at, tree_with, held_in_slots, is_dir, is_dir_kind, option_map, node_in}
 use Rattle.pua_tree.proofs.Common.{Slots, SlotNode, Tree, Entry, Some, None, Bool, refl, cond, ◌==◌, is_living, made_of, slot_of, not-true}
+use Rattle.pua_tree.specs.Numbering.{with_next}
+use Rattle.pua_tree.specs.declared.numbering.Numbering.{Numbering}
 use Rattle.pua_tree.specs.Reading as reading
 use Rattle.pua_tree.specs.Reading.{node_follows, row_follows, said_node}
 use Rattle.pua_tree.specs.declared.gathered.MadeNode.{MadeNode}
@@ -15,35 +17,35 @@ use Rattle.pua_tree.proofs.slab_tree.SlabTreeGathered.put.Goals.{then-is_none-vi
 use Rattle.pua_tree.proofs.slab_tree.SlabTreeGathered.put.Goals.{then-is_none-via-else-is_none+else-not-may_stand+then-not-may_put_row}
 
 -- the directory of a spot lives where its slot was found
-slot_of_dir : (s : Slots) (next : ℕ) (t : Tree) (dir : ℕ) (slot : Option ℕ) → held_in_slots s next ≡ t →
+slot_of_dir : (s : Slots) (numbering : Numbering) (t : Tree) (dir : ℕ) (slot : Option ℕ) → held_in_slots s numbering ≡ t →
     is_some slot ≡ is_dir_kind (option_map (λ (n : SlotNode). n.kind) (node_in s dir)) → is_dir t dir ≡ is_some slot
-slot_of_dir s next t dir slot same found =
-    ap (λ (u : Tree). is_dir u dir) (sym same) ∙ ap is_dir_kind (sym (kind_known s next dir)) ∙ sym found
+slot_of_dir s numbering t dir slot same found =
+    ap (λ (u : Tree). is_dir u dir) (sym same) ∙ ap is_dir_kind (sym (kind_known s numbering dir)) ∙ sym found
 
 -- and its node may come to a row where it is made, or was found
-stands_by : (s : Slots) (next : ℕ) (t : Tree) (number x : ℕ) (made : Option MadeNode) (slot : Option ℕ) → held_in_slots s next ≡ t →
+stands_by : (s : Slots) (numbering : Numbering) (t : Tree) (number x : ℕ) (made : Option MadeNode) (slot : Option ℕ) → held_in_slots s numbering ≡ t →
     is_some slot ≡ (is_none made && (is_some (node_in s x) && not (is_dir_kind (option_map (λ (n : SlotNode). n.kind) (node_in s x))))) →
     node_follows t number x (option_map said_node made) ≡ cond (is_some made) (x == number) (is_some slot)
-stands_by s next t number x (Some made) slot same found = refl
-stands_by s next t number x None slot same found =
+stands_by s numbering t number x (Some made) slot same found = refl
+stands_by s numbering t number x None slot same found =
     ap (λ (u : Tree). is_living u x && not (is_dir u x)) (sym same)
-    ∙ (λ i. lives i && not (is_dir_kind (sym (kind_known s next x) i))) ∙ sym found
+    ∙ (λ i. lives i && not (is_dir_kind (sym (kind_known s numbering x) i))) ∙ sym found
   where
     fused : (o : Option SlotNode) → is_some (option_map made_of o) ≡ is_some o
     fused None = refl
     fused (Some n) = refl
 
-    lives : is_living (held_in_slots s next) x ≡ is_some (node_in s x)
+    lives : is_living (held_in_slots s numbering) x ≡ is_some (node_in s x)
     lives = ap is_some (nodes_found s x) ∙ fused (node_in s x)
 
 pub invariant_of-self : goal.invariant_of-self
 invariant_of-self c = (
-  subst WellFormed (sym (c.in_err-put_entry.ensures.unchanged c.self.inside.next)) c.self.invariant.0,
+  subst WellFormed (sym (c.in_err-put_entry.ensures.unchanged c.self.inside.numbering)) c.self.invariant.0,
   c.in_err-put_entry.ensures.kept c.self.invariant.1,
 )
 
 pub returns-in_err-put_entry-clause-unchanged : goal.returns-in_err-put_entry-clause-unchanged
-returns-in_err-put_entry-clause-unchanged c = λ _. c.in_err-put_entry.ensures.unchanged c.self.inside.next ∙ c.self.view_is
+returns-in_err-put_entry-clause-unchanged c = λ _. c.in_err-put_entry.ensures.unchanged c.self.inside.numbering ∙ c.self.view_is
 
 -- three tests, of which two are known
 both : {a b x y : Bool} → a ≡ x → b ≡ y → (c : Bool) → (a && (b && c)) ≡ (x && (y && c))
@@ -54,10 +56,10 @@ returns-then-is_none-clause-follows c =
     let t = c.args.self.now in
     let e = entry_at c.args.spot.now.dir c.args.spot.now.name c.args.stands in
     let found : is_dir t e.parent ≡ is_some c.dir_slot-above.result =
-    slot_of_dir c.self.inside.slots c.self.inside.next t e.parent c.dir_slot-above.result c.self.view_is c.dir_slot-above.ensures.dir in
+    slot_of_dir c.self.inside.slots c.self.inside.numbering t e.parent c.dir_slot-above.result c.self.view_is c.dir_slot-above.ensures.dir in
     let stands : node_follows t e.number e.node e.made
     ≡ cond (is_some c.args.stands.made) (e.node == e.number) (is_some c.other_slot-other.result) =
-    stands_by c.self.inside.slots c.self.inside.next t e.number e.node c.args.stands.made c.other_slot-other.result c.self.view_is
+    stands_by c.self.inside.slots c.self.inside.numbering t e.number e.node c.args.stands.made c.other_slot-other.result c.self.view_is
     c.other_slot-other.ensures.other in
     let row = row_follows t e.number e.parent e.name in
     sym (elim c.then-is_none.branch [
@@ -73,7 +75,7 @@ returns-then-is_none-clause-follows c =
 -- the entry passed the test
 module _ (c : goal.After-self-1) where
   abbrev t : Tree
-  t = held_in_slots c.self.inside.slots c.self.inside.next
+  t = held_in_slots c.self.inside.slots c.self.inside.numbering
 
   abbrev e : Entry
   e = entry_at c.args.spot.now.dir c.args.spot.now.name c.args.stands
@@ -85,9 +87,9 @@ module _ (c : goal.After-self-1) where
   stands = sym c.may_stand.ensures ∙ c.if-not-may_stand.false
 
   passed : reading.follows c.args.self.now e ≡ true
-  passed = and_from _ _ (slot_of_dir c.self.inside.slots c.self.inside.next c.args.self.now e.parent c.dir_slot-above.result c.self.view_is
+  passed = and_from _ _ (slot_of_dir c.self.inside.slots c.self.inside.numbering c.args.self.now e.parent c.dir_slot-above.result c.self.view_is
       c.dir_slot-above.ensures.dir ∙ has_slot)
-      (and_from _ _ (stands_by c.self.inside.slots c.self.inside.next c.args.self.now e.number e.node c.args.stands.made
+      (and_from _ _ (stands_by c.self.inside.slots c.self.inside.numbering c.args.self.now e.number e.node c.args.stands.made
       c.other_slot-other.result c.self.view_is c.other_slot-other.ensures.other ∙ stands)
       (sym c.may_put_row.ensures.follows ∙ c.if-not-may_put_row.false))
 
@@ -100,8 +102,8 @@ module _ (c : goal.After-self-1) where
   follows = subst (λ (u : Tree). Follows u e) (sym c.self.view_is)
       (follows_from c.args.self.now e.parent e.name c.args.stands c.may_put_row.ensures.name passed)
 
-  grown : AreConsistent c.put_entry.new.self × (held_in_slots c.put_entry.new.self (e.number + 1) ≡ tree_with t e)
-  grown = c.in_ok-put_entry.ensures.grown (c.dir_slot-above.ensures.slot has_slot) node_slot c.self.invariant.1 c.self.inside.next
+  grown : AreConsistent c.put_entry.new.self × (held_in_slots c.put_entry.new.self (with_next c.self.inside.numbering (e.number + 1)) ≡ tree_with t e)
+  grown = c.in_ok-put_entry.ensures.grown (c.dir_slot-above.ensures.slot has_slot) node_slot c.self.invariant.1 c.self.inside.numbering
       c.self.invariant.0 follows
 
 pub invariant_of-self-2 : goal.invariant_of-self-2

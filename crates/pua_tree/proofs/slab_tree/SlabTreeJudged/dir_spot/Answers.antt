@@ -13,12 +13,12 @@ returns-then-eq c =
 pub returns-in-Some : goal.returns-in-Some
 returns-in-Some c =
     ap Some c.lent.ensures
-    ∙ spot_of_dir c.self.inside.slots c.self.inside.next c.args.dir c.self.invariant.0 c.self.invariant.1 (Some c.in-Some.standing.now)
+    ∙ spot_of_dir c.self.inside.slots c.self.inside.numbering c.args.dir c.self.invariant.0 c.self.invariant.1 (Some c.in-Some.standing.now)
     (eqb-false c.args.dir 0 (sym c.eq.ensures ∙ c.if-eq.false)) (ap option_copied (sym c.in-Some.is) ∙ c.directory.ensures)
     ∙ ap (λ (t : Tree). dir_spot t c.args.dir) c.self.view_is
 
 pub returns-in-None : goal.returns-in-None
 returns-in-None c =
-    spot_of_dir c.self.inside.slots c.self.inside.next c.args.dir c.self.invariant.0 c.self.invariant.1 None
+    spot_of_dir c.self.inside.slots c.self.inside.numbering c.args.dir c.self.invariant.0 c.self.invariant.1 None
     (eqb-false c.args.dir 0 (sym c.eq.ensures ∙ c.if-eq.false)) (ap option_copied (sym c.in-None.is) ∙ c.directory.ensures)
     ∙ ap (λ (t : Tree). dir_spot t c.args.dir) c.self.view_is

@@ -7,13 +7,13 @@ use Rattle.pua_tree.proofs.slab_tree.SlabTreeJudged.found.Goals as goal
 pub returns-in-Some : goal.returns-in-Some
 returns-in-Some c =
     ap (option_map (λ (row : RowNode). (row.node, row.kind))) (sym c.in-Some.is ∙ c.found.ensures)
-    ∙ found_known c.self.inside.slots c.self.inside.next (c.args.spot.now.dir, c.args.spot.now.name) c.self.invariant.0
+    ∙ found_known c.self.inside.slots c.self.inside.numbering (c.args.spot.now.dir, c.args.spot.now.name) c.self.invariant.0
     c.self.invariant.1
     ∙ ap (λ (t : Tree). found_at t c.args.spot.now.dir c.args.spot.now.name) c.self.view_is
 
 pub returns-in-None : goal.returns-in-None
 returns-in-None c =
     ap (option_map (λ (row : RowNode). (row.node, row.kind))) (sym c.in-None.is ∙ c.found.ensures)
-    ∙ found_known c.self.inside.slots c.self.inside.next (c.args.spot.now.dir, c.args.spot.now.name) c.self.invariant.0
+    ∙ found_known c.self.inside.slots c.self.inside.numbering (c.args.spot.now.dir, c.args.spot.now.name) c.self.invariant.0
     c.self.invariant.1
     ∙ ap (λ (t : Tree). found_at t c.args.spot.now.dir c.args.spot.now.name) c.self.view_is

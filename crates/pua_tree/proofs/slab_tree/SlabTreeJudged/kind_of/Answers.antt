@@ -3,5 +3,5 @@ use Rattle.pua_tree.proofs.SlabTrees.{kind_known}
 use Rattle.pua_tree.proofs.slab_tree.SlabTreeJudged.kind_of.Goals as goal
 
 pub returns : goal.returns
-returns c = c.kind.ensures ∙ kind_known c.self.inside.slots c.self.inside.next c.args.id ∙
+returns c = c.kind.ensures ∙ kind_known c.self.inside.slots c.self.inside.numbering c.args.id ∙
     ap (λ (t : Tree). kind_at t c.args.id) c.self.view_is

@@ -9,7 +9,7 @@ returns-then-names-eq0-clause-unnamed c kept left next =
     let old = c.args.self.now in
     let rows = rows_by c.drop_node.new.self old c.drop_node.ensures.rows in
     let held = held_in_slots old next in
-    (λ i. record { rows = rows i; nodes = c.drop_node.ensures.nodes kept i; next = next })
+    (λ i. record { rows = rows i; nodes = c.drop_node.ensures.nodes kept i; next = next.next; room = next.room })
     ∙ sym (ap (λ b. cond b (without_node held c.args.id) held) (eq-eqb c.args.names 0 c.if-names-eq0.true))
     ∙ unnamed_goes old next c.args.id c.args.names left
 

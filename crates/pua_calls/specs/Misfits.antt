@@ -1,0 +1,49 @@
+-- What is wrong with an object for a call, and the errno that says so.
+use Rattle.std.specs.Prelude.{false, Some, None}
+use Rattle.pua_path.specs.declared.errno.Errno.{Errno}
+use Rattle.pua_path.specs.declared.errno.Errno.TheVariants.{EPERM, ENOENT, EACCES, EBUSY, EEXIST, ENOTDIR, EISDIR, EINVAL, ENOTEMPTY}
+use Rattle.pua_path.specs.declared.errno.Errno.TheVariants.{ENOTSOCK, EADDRINUSE}
+use Rattle.pua_calls.specs.declared.fits.Misfit.{Misfit}
+use Rattle.pua_calls.specs.declared.fits.Misfit.TheVariants.{Missing, Exists, IsDirectory, IsNoFile, IsNoDirectory, IsNoLink}
+use Rattle.pua_calls.specs.declared.fits.Misfit.TheVariants.{IsNoProgram, IsNotEmpty, ByDot, ByDotDot, ByNothing, IsNoSocket, InUse}
+use Rattle.pua_calls.specs.declared.fits.Fits.{Fits}
+
+-- of a call on whatever stands; on nothing that stands, but for what is said of some of it; and on a name that is free
+abbrev pub each_standing : Fits
+each_standing = record {
+  directory = None;
+  by_way = false;
+  file = None;
+  program = None;
+  link = None;
+  missing = Some Missing;
+}
+
+abbrev pub none_standing : Misfit → Fits
+none_standing misfit = record {
+  directory = Some misfit;
+  by_way = false;
+  file = Some misfit;
+  program = Some misfit;
+  link = Some misfit;
+  missing = Some Missing;
+}
+
+abbrev pub free_names : Misfit → Fits
+free_names misfit = record (none_standing misfit) { missing = None }
+
+-- the errno that says so, which the misfit alone decides
+abbrev pub misfit_errno : Misfit → Errno
+misfit_errno Missing = ENOENT
+misfit_errno Exists = EEXIST
+misfit_errno IsDirectory = EISDIR
+misfit_errno IsNoFile = EPERM
+misfit_errno IsNoDirectory = ENOTDIR
+misfit_errno IsNoLink = EINVAL
+misfit_errno IsNoProgram = EACCES
+misfit_errno IsNotEmpty = ENOTEMPTY
+misfit_errno ByDot = EINVAL
+misfit_errno ByDotDot = EINVAL
+misfit_errno ByNothing = EBUSY
+misfit_errno IsNoSocket = ENOTSOCK
+misfit_errno InUse = EADDRINUSE

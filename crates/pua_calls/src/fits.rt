@@ -1,0 +1,111 @@
+//! Which objects a call is on, and what is wrong with the others.
+
+ghost use Rattle.std.specs.Prelude.{◌≡◌};
+ghost use Rattle.pua_calls.specs.Misfits.{each_standing, none_standing, free_names, misfit_errno};
+
+use pua_path::Errno;
+
+/// What is wrong with what a path named, for a call.
+#[derive(Clone, Copy)]
+pub enum Misfit {
+    /// Nothing has the name.
+    Missing,
+    /// Something has the name.
+    Exists,
+    /// It is a directory, and is to be opened for writing or made.
+    IsDirectory,
+    /// It is a directory, and is to be unlinked.
+    IsNoFile,
+    /// It is no directory.
+    IsNoDirectory,
+    /// It is no link.
+    IsNoLink,
+    /// It is no program.
+    IsNoProgram,
+    /// It is a directory that has rows.
+    IsNotEmpty,
+    /// It was named by `.`.
+    ByDot,
+    /// It was named by `..`.
+    ByDotDot,
+    /// It was named by no part.
+    ByNothing,
+    /// It is no file, so it is no socket.
+    IsNoSocket,
+    /// Something has the name to which a socket is to be bound.
+    InUse,
+}
+
+impl Misfit {
+    /// The error of a call on such an object (this profile).
+    pub fn errno(self) -> Errno
+        ensures { result ≡ misfit_errno self }
+    {
+        match self {
+            Misfit::Missing => Errno::ENOENT,
+            Misfit::Exists => Errno::EEXIST,
+            Misfit::IsDirectory => Errno::EISDIR,
+            Misfit::IsNoFile => Errno::EPERM,
+            Misfit::IsNoDirectory => Errno::ENOTDIR,
+            Misfit::IsNoLink | Misfit::ByDot | Misfit::ByDotDot => Errno::EINVAL,
+            Misfit::IsNoProgram => Errno::EACCES,
+            Misfit::IsNotEmpty => Errno::ENOTEMPTY,
+            Misfit::ByNothing => Errno::EBUSY,
+            Misfit::IsNoSocket => Errno::ENOTSOCK,
+            Misfit::InUse => Errno::EADDRINUSE,
+        }
+    }
+}
+
+/// What is wrong with each kind of object for a call; None where the call is on it.
+#[derive(Clone, Copy)]
+pub struct Fits {
+    /// With a directory.
+    pub directory: Option<Misfit>,
+    /// Whether a directory may be wrong besides by how it was named, or since it has rows.
+    pub by_way: bool,
+    /// With a file, which may be a socket.
+    pub file: Option<Misfit>,
+    /// With a program.
+    pub program: Option<Misfit>,
+    /// With a link that is not followed.
+    pub link: Option<Misfit>,
+    /// With a name that nothing has.
+    pub missing: Option<Misfit>,
+}
+
+impl Fits {
+    /// Of a call on whatever stands.
+    pub(crate) const STANDING: Fits = Fits {
+        directory: None,
+        by_way: false,
+        file: None,
+        program: None,
+        link: None,
+        missing: Some(Misfit::Missing),
+    };
+
+    /// Of a call on nothing that stands, but for what is said of some of it.
+    pub(crate) fn none(misfit: Misfit) -> Fits
+        ensures { result ≡ none_standing misfit }
+    {
+        Fits {
+            directory: Some(misfit),
+            by_way: false,
+            file: Some(misfit),
+            program: Some(misfit),
+            link: Some(misfit),
+            missing: Some(Misfit::Missing),
+        }
+    }
+
+    /// Of a call on a name that is free.
+    pub(crate) fn free(misfit: Misfit) -> Fits
+        ensures { result ≡ free_names misfit }
+    {
+        Fits {
+            missing: None,
+            ..Fits::none(misfit)
+        }
+    }
+}

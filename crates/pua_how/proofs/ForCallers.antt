@@ -1,0 +1,7 @@
+-- What crates above cite of the proofs of this one, beside the definitions and the laws.
+
+-- what no line has is not allowed where each call that is allowed has its line
+pub use Rattle.pua_how.proofs.Coming.{unforeseen}
+-- what is asked about, by whichever number above all that lives, and what stands in a list for ever
+pub use Rattle.pua_how.proofs.Given.{all_given, any_listed, listed_alike}
+pub use Rattle.pua_how.proofs.Lived.{lasting_lives}
