@@ -1,16 +1,17 @@
 #!/usr/bin/perl -T
 # Prints what the libraries promise: perl tools/reference.pl [-C TOP] [CRATE]...
 #
-# Writes one page of Markdown, crate by crate and file by file, with each public item: its doc, and its
-# contract as it stands, each clause behind its name. The items are functions and methods, what traits
-# ask for, types with what is public in them, and constants. The laws of a crate come last, each with
-# its statement: the definition that its clause names, with the comment before it.
+# Writes one page of Markdown, crate by crate and file by file, with each public item: its doc, and
+# its contract as it stands, each clause behind its name. The items are functions and methods, what
+# traits ask for, types with what is public in them, and constants. The laws of a crate come last, each
+# with its statement: the definition that its clause names, and above it those that this one needs of
+# its file, where they were not printed before; each with the comment before it.
 #
 #   CRATE     prints this library alone; several may be named
 #   -C TOP    the top folder of the repository; the folder that it is run in, if none is given
 #
-# Private functions have contracts too, which no caller sees: they stand in the sources alone. The status
-# is 1 where a crate is no library, or a law's statement is not found.
+# Private functions have contracts too, which no caller sees: they stand in the sources alone. The
+# status is 1 where a crate is no library, or a law's statement is not found.
 use strict;
 use warnings;
 
@@ -34,9 +35,12 @@ binmode STDOUT, ':encoding(UTF-8)';
 my @all = libraries();
 my %wanted = map { $_ => 1 } @ARGV ? @ARGV : @all;
 my @crates = grep { delete $wanted{$_} } @all;
-die "reference.pl: no library: @{[sort keys %wanted]}\n" if %wanted;
+if (%wanted) {
+    print STDERR "reference.pl: no library: @{[sort keys %wanted]}\n";
+    exit 1;
+}
 
-my $is_wrong = 0;
+my ($is_wrong, %is_printed) = (0);
 print <<'END';
 # What the libraries promise
 
@@ -98,21 +102,26 @@ sub print_code {
     return;
 }
 
-# A law, and the statements that its clauses name. Of examples only where their rows stand.
+# A law, and the statements that its clauses name, each with what its file defines for it. Of examples
+# only where their rows stand.
 sub print_law {
     my ($law) = @_;
     print_item($law);
     my %stands = imports_of($law->{file});
     for my $name ($law->{code} =~ /^    ensures (?:\w+ )?\{ (\w+) \}$/mg) {
         my $file = $stands{$name};
-        my $statement = defined $file ? statement_in($file, $name) : undef;
-        if (!defined $statement) {
+        my @definitions = defined $file ? definitions_for($file, $name) : ();
+        if (!@definitions) {
             warn "reference.pl: $law->{path}: $name is not found\n";
             $is_wrong = 1;
             next;
         }
         print "\n`$name` is in `$file`.\n";
-        print_code($statement) if $law->{path} !~ /_examples$/;
+        next if $law->{path} =~ /_examples$/;
+        my ($statement, @needed) = @definitions;
+        print_code($_) for grep { !$is_printed{"$file $_"}++ } @needed;
+        print_code($statement);
+        $is_printed{"$file $statement"}++;
     }
     return;
 }
@@ -130,11 +139,24 @@ sub imports_of {
     return %stands;
 }
 
-# A definition of a file, with the comment before it.
-sub statement_in {
+# The definition of a name in a file, and then those of the file that it needs, in their order, each
+# with the comment before it.
+sub definitions_for {
     my ($file, $name) = @_;
     return if !-e $file;
-    my $is_it = qr/(?:abbrev |pub |record |data )+$name\b.*\n/;
-    return if text_of($file) !~ /^((?:--.*\n)*$is_it(?:(?:$name\b.*| .*)?\n)*)/m;
-    return $1 =~ s/\n+\z//r;
+    my $text = text_of($file);
+    my (%definition, @names);
+    my $head = qr/(?:(?:abbrev|unfoldable|pub|record|data) )+(\w+)\b.*\n/;
+    while ($text =~ /^((?:--.*\n)*$head(?:(?:\2\b.*| .*)?\n)*)/mg) {
+        my ($definition, $defined) = ($1, $2);
+        push @names, $defined;
+        $definition{$defined} = $definition =~ s/\n+\z//r;
+    }
+    my (%is_needed, @open);
+    @open = grep { $definition{$_} } $name;
+    while (@open) {
+        my $code = $definition{shift @open} =~ s/^--.*\n//mgr;
+        push @open, grep { $definition{$_} && !$is_needed{$_}++ } $code =~ /\w+/g;
+    }
+    return map { $definition{$_} || () } $name, grep { $is_needed{$_} && $_ ne $name } @names;
 }
