@@ -32,6 +32,12 @@ test:
 	for test in tools/*.t; do PUA=$(PROGRAM) perl $$test || exit 1; done
 	for test in tests/*.t; do perl $$test $(PROGRAM) || exit 1; done
 
+# Writes what each public item of the libraries promises: its doc and its contract, and the laws.
+reference:
+	mkdir -p out
+	perl -T tools/reference.pl > out/reference.md
+	@echo 'all of it: out/reference.md'
+
 # Performs the trials on this system, as root, and leaves one file to send back. Without a compiler
 # what has an exec is passed over.
 conform:
@@ -70,4 +76,4 @@ uninstall:
 	for module in $(MODULES); do rm -f $(PERLDIR)/Pua/$$module.pm; done
 	rm -f $(PERLDIR)/../conform.c
 
-.PHONY: all quick check test conform install install-tools dist distcheck uninstall
+.PHONY: all quick check test reference conform install install-tools dist distcheck uninstall

@@ -14,6 +14,8 @@
 # - Each path on a page is there, each link, and each heading of another page that it cites; each
 #   file in docs/ARCHITECTURE.md, and each name there and on the other pages about the code. README
 #   has at most 180 lines.
+# - docs/PROVED.md has at most 2,800 words and names each law; tools/reference.pl prints each public
+#   function that tests/data/refused names.
 # - Help, usage lines, the manual pages and README have the same options, of the program and of each
 #   tool.
 #
@@ -78,6 +80,7 @@ SKIP: {
     test_calling();
     test_architecture();
     test_claim();
+    test_proved();
 }
 test_options();
 test_tools();
@@ -436,6 +439,28 @@ sub test_claim {
     is($files, $said[0], 'ARCHITECTURE: the files of the claim');
     cmp_ok(abs($lines - $said[1]), '<=', 50, "ARCHITECTURE: the lines of the claim, $lines");
     cmp_ok(abs($why - $said[2]), '<=', 50, "ARCHITECTURE: those for reasons, $why");
+    return;
+}
+
+# What a contract says is printed, and the page on what is proved has only what stands in none. It
+# names each law, but examples and those on the limits of a crate.
+sub test_proved {
+    my $page = content('docs/PROVED.md');
+    my $words = () = $page =~ /\S+/g;
+    cmp_ok($words, '<=', 2800, "PROVED is short: $words words");
+    my $printed = `$^X -T tools/reference.pl 2>&1`;
+    is($?, 0, 'tools/reference.pl finds each statement of a law') or diag($printed =~ /^(reference\.pl: .*)/mg);
+    my %part = map { /^## `(\w+)`/ ? ($1 => $_) : () } split /^(?=## )/m, $printed;
+    my @functions = content('tests/data/refused') =~ /^(\w+::\S+)/mg;
+    my $is_printed = sub {
+        my ($crate, $name) = shift =~ /^(\w+)::(.*)/;
+        return ($part{$crate} || '') =~ /^#### `$name`$/m;
+    };
+    my @unprinted = grep { !$is_printed->($_) } @functions;
+    is("@unprinted", '', 'it prints each public function that tests/data/refused names: ' . @functions);
+    my @laws = map { /^#### `(\w+)`$/mg } $printed =~ /^### Laws of [^\n]*\n(.*?)(?=^## |\z)/msg;
+    my @unnamed = grep { !/_examples\z|\Alimits_law\z/ && $page !~ /`$_`/ } @laws;
+    is("@unnamed", '', 'PROVED names each law: ' . @laws . ' with examples');
     return;
 }
 

@@ -39,7 +39,7 @@ sub installed {
 }
 
 # Tools that read the sources are for whoever changes them, and are not installed.
-my @tools   = grep { !/\A(?:refused|touched)\z/ }
+my @tools   = grep { !/\A(?:reference|refused|touched)\z/ }
     map { m{\Atools/(\w+)\.pl\z} ? $1 : () } glob 'tools/*.pl';
 my @modules = map { m{\Atools/lib/Pua/(\w+\.pm)\z} ? $1 : () } glob 'tools/lib/Pua/*.pm';
 my %wanted_tools = (

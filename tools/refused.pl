@@ -17,6 +17,12 @@
 use strict;
 use warnings;
 
+BEGIN {
+    my ($here) = __FILE__ =~ m{\A(.*/)}s;
+    unshift @INC, ($here || './') . 'lib';
+}
+use Sources qw($CLAIM_MODULE %IS_CLAIMS crate_names files_below functions_of libraries text_of);
+
 my $top = @ARGV ? $ARGV[0] =~ /^(.*)$/s && $1 : '.';
 @ARGV > 1 and die "usage: perl tools/refused.pl [TOP]\n";
 chdir $top or die "refused.pl: $top: $!\n";
@@ -24,17 +30,8 @@ chdir $top or die "refused.pl: $top: $!\n";
 # The table.
 my $TABLE = 'tests/data/refused';
 
-# Crates of claims; in others a claim stands in a module of this name.
-my @CLAIM_CRATES = qw(pua_refused pua_refused_texts);
-my $CLAIM_MODULE = qr{/refused(?:\.rt|/)};
-
-# Libraries of tests.
-my @TEST_CRATES = qw(pua_examples_trees);
-
 my @crates = crate_names();
-my %is_claims = map { $_ => 1 } @CLAIM_CRATES;
-my %is_test = map { $_ => 1 } @CLAIM_CRATES, @TEST_CRATES;
-my %function = map { $_->{path} => $_ } map { public_functions($_) } grep { -e "crates/$_/src/lib.rt" && !$is_test{$_} } @crates;
+my %function = map { $_->{path} => $_ } map { functions_of($_) } libraries();
 my %claim = map { claims_of($_) } @crates;
 my %row = map { rows_of($_) } @crates;
 my %edit = map { edits_of($_) } @crates;
@@ -78,54 +75,10 @@ sub calls {
     return ($claim{$claim} // '') =~ /\b$name\b/;
 }
 
-# The names of the crates.
-sub crate_names {
-    opendir my $folder, 'crates' or die "refused.pl: crates: $!\n";
-    return map { /^(\w+)$/ ? $1 : () } sort readdir $folder;
-}
-
-# The files below a folder whose names end so.
-sub files_below {
-    my ($folder, $end) = @_;
-    opendir my $handle, $folder or return;
-    my @names = map { m{^([\w.-]+)$} && $1 !~ /^\.\.?$/ ? $1 : () } sort readdir $handle;
-    return map { -d "$folder/$_" ? files_below("$folder/$_", $end) : /\Q$end\E$/ ? "$folder/$_" : () } @names;
-}
-
-sub text_of {
-    my ($file) = @_;
-    open my $handle, '<:encoding(UTF-8)', $file or die "refused.pl: $file: $!\n";
-    local $/;
-    return scalar <$handle>;
-}
-
-# The public functions of a crate, those of its public traits among them: path, file, whether it is a law. Laws stand in files
-# of that name, or say so in theirs.
-sub public_functions {
-    my ($crate) = @_;
-    return map { functions_in($crate, $_) } grep { $_ !~ $CLAIM_MODULE } files_below("crates/$crate/src", '.rt');
-}
-
-sub functions_in {
-    my ($crate, $file) = @_;
-    my ($type, $is_trait, @found) = ('', 0);
-    for my $line (split /\n/, text_of($file)) {
-        if ($line =~ /^(pub )?trait (\w+)/) {
-            ($type, $is_trait) = ($2, $1 ? 1 : 0);
-        } elsif ($line =~ /^impl\b(?:<.*?>+)?\s+(?:.*?\bfor\s+)?&?(?:'\w+ )?(\w+)/) {
-            ($type, $is_trait) = ($1, 0);
-        } elsif ($line =~ /^(\s*)(pub )?(?:const )?fn (\w+)/ && ($2 || $1 && $is_trait)) {
-            my $path = join '::', $crate, $1 ? $type : (), $3;
-            push @found, { path => $path, file => $file, law => ($file =~ m{/laws\.rt$} || $path =~ /(?:_laws?|_examples)$/) ? 1 : 0 };
-        }
-    }
-    return @found;
-}
-
 # The claims of a crate, each with its text.
 sub claims_of {
     my ($crate) = @_;
-    my @files = grep { $is_claims{$crate} || $_ =~ $CLAIM_MODULE } files_below("crates/$crate/src", '.rt');
+    my @files = grep { $IS_CLAIMS{$crate} || $_ =~ $CLAIM_MODULE } files_below("crates/$crate/src", '.rt');
     return map { /^\s*(?:pub(?:\(crate\))? )?fn (\w+)/ ? ("$crate $1" => $_) : () }
         map { split /^(?=(?:pub(?:\(crate\))? )?fn )/m, text_of($_) } @files;
 }

@@ -23,7 +23,7 @@ pub fn verdict_law()
     ensures verdicts { ReasonsGiveVerdicts }
 {}
 
-/// Nor the answer of a request.
+/// The answer of a request is a function of its reason.
 pub fn answer_law()
     ensures { ReasonsGiveAnswers }
 {}
