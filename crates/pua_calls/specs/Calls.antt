@@ -21,17 +21,17 @@ use Rattle.pua_calls.specs.declared.effect.Effect.TheVariants.{Looks, Makes, Rem
 use Rattle.pua_tree.specs.declared.node.Kind.TheVariants.{File, Dir, Link}
 use Rattle.pua_calls.specs.declared.call.Call.{Call}
 use Rattle.pua_calls.specs.declared.call.Call.TheVariants.{Stat, Lstat, Readlink, OpenRead, OpenWrite, OpenBoth, Create, Mkdir, Rmdir}
-use Rattle.pua_calls.specs.declared.call.Call.TheVariants.{Unlink, Symlink, Chmod, Chdir, Exec, Connect, Bind, Mknod, Chown, CreateBoth}
+use Rattle.pua_calls.specs.declared.call.Call.TheVariants.{Unlink, Symlink, Chmod, Chdir, Exec, Connect, Bind, Mknod, Chown, CreateBoth, Fchmod, Fchown}
 
 -- in the order of their numbers
 abbrev pub calls : List Call
 calls =
     Stat ∷ Lstat ∷ Readlink ∷ OpenRead ∷ OpenWrite ∷ OpenBoth ∷ Create ∷ Mkdir ∷ Rmdir ∷ Unlink ∷ Symlink ∷ Chmod ∷ Chdir ∷ Exec ∷ Connect ∷ Bind
-    ∷ Mknod ∷ Chown ∷ CreateBoth ∷ []
+    ∷ Mknod ∷ Chown ∷ CreateBoth ∷ Fchmod ∷ Fchown ∷ []
 
 -- how many there are
 abbrev pub call_count : ℕ
-call_count = 19
+call_count = 21
 
 -- what a call needs: one of the sets of promises, and each of the permissions
 pub record Rule : Type 0 where
@@ -282,6 +282,30 @@ about CreateBoth = record {
   fits = record each_standing { directory = Some IsDirectory; missing = None };
   effect = Makes File;
   turns = true;
+}
+about Fchmod = record {
+  number = 20;
+  name = codes "fchmod";
+  standard = [];
+  openbsd = (rpath + fattr) ∷ [];
+  perms = reading;
+  last = Followed;
+  ending = Dot;
+  fits = each_standing;
+  effect = Looks;
+  turns = true;
+}
+about Fchown = record {
+  number = 21;
+  name = codes "fchown";
+  standard = [];
+  openbsd = (rpath + chown) ∷ (rpath + fattr) ∷ [];
+  perms = reading;
+  last = Followed;
+  ending = Dot;
+  fits = each_standing;
+  effect = Looks;
+  turns = false;
 }
 
 -- a set of promises that there may be, as alternatives

@@ -9,7 +9,7 @@ use Rattle.pua_tree.specs.Spelling.{bytes_spelled, fields, is_field, number_with
 use Rattle.pua_tree.specs.Steps.{◌>>=◌}
 use Rattle.pua_tree.specs.Listing.{only_if}
 use Rattle.pua_calls.specs.Promises.{promises_of, perms_of}
-use Rattle.pua_calls.specs.Calls.{call_named_by}
+use Rattle.pua_calls.specs.Neighbours.{call_asked_by}
 use Rattle.pua_calls.specs.declared.rules.Rules.{Rules}
 use Rattle.pua_calls.specs.declared.rules.Rules.TheVariants.{Profile}
 use Rattle.pua_script.specs.Limits.{most_script_lines, most_number}
@@ -68,7 +68,7 @@ abbrev pub form_of : Rules → List ℕ → List (List ℕ) → Option Form
 form_of rules word [] = if same_bytes word (codes "exit") then Some ExitForm else None
 form_of rules word (a ∷ []) =
     if same_bytes word (codes "fork") then option_map ForkForm (number_within 1 most_number a)
-    else option_map (λ call. PathForm call a) (only_if (λ call. not (is_symlink call)) (call_named_by rules word))
+    else option_map (λ call. PathForm call a) (only_if (λ call. not (is_symlink call)) (call_asked_by rules word))
 form_of rules word (a ∷ b ∷ []) =
     if same_bytes word (codes "symlink") then Some (SymlinkForm a b)
     else (if same_bytes word (codes "rename") then Some (RenameForm a b)

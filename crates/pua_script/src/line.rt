@@ -134,7 +134,7 @@ fn read_one(
             None => Err(ScriptFault::BadCall(origin.line)),
         };
     }
-    match Call::read_by(rules, word) {
+    match Call::asked_by(rules, word) {
         None | Some(Call::Symlink) => Err(ScriptFault::BadCall(origin.line)),
         Some(call) => {
             let path = read_path(alloc, origin.line, a)?;

@@ -1,4 +1,4 @@
--- By the rules that a command names each request rests on one set of promises, or is never allowed: by OpenBSD's each but a chown.
+-- By the rules that a command names each request rests on one set of promises, or is never allowed: by OpenBSD's each but a chown and an fchown.
 use Rattle.std.proofs.Common.{◌≡◌, ◌≤◌, ℕ, List, [], ◌∷◌, refl, false, inl, inr, ◌⊎◌}
 use Rattle.std.proofs.lemmas.Bool.{leb-true, or_parts, true≢false}
 use Rattle.std.specs.List.{list_any}
@@ -21,6 +21,7 @@ by_profile c = leb-true (length (rule_of standard_table c).alternatives) 1 refl
 
 by_openbsd : (c : Call) (path : List ℕ) → is_chown (OnPath c path) ≡ false → HasOneSet (rule_of openbsd_table c)
 by_openbsd call.Chown path other = absurd (true≢false other)
+by_openbsd call.Fchown path other = absurd (true≢false other)
 by_openbsd c path other = leb-true (length (rule_of openbsd_table c).alternatives) 1 refl
 
 action_rests : (rules : Rules) (action : Action) → (rules ≡ Profile) ⊎ (is_chown action ≡ false) → RestsOnOne (table_by_rules rules) action

@@ -169,12 +169,13 @@ TightIsLeast = (table : CallTable) (w : World) (lines : List Line) (less : List 
 -- an owner is changed by either of two promises, by OpenBSD's rules
 abbrev pub is_chown : Action → Bool
 is_chown (OnPath call.Chown path) = true
+is_chown (OnPath call.Fchown path) = true
 is_chown action = false
 
 abbrev pub HasNoChown : List Asked → Type 0
 HasNoChown asks = list_any (λ ask. is_chown ask.action) asks ≡ false
 
--- by the rules that a command names each script is such a one: by the profile's each, by OpenBSD's each without chown
+-- by the rules that a command names each script is such a one: by the profile's each, by OpenBSD's each without chown and fchown
 abbrev pub RulesRestOnOne : Type 0
 RulesRestOnOne = (rules : Rules) (asks : List Asked) → (rules ≡ Profile) ⊎ HasNoChown asks → RestOnOne (table_by_rules rules) asks
 

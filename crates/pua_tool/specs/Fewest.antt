@@ -65,7 +65,7 @@ pub record IsTightWritten (choice : Chosen) (tree_bytes script_bytes : List ℕ)
   -- where each request rests on one set of promises, whatever else is left out so that all is answered as before has all that it has
   pub least : RestOnOne table given → (less : List Asked) → LeavesOut less (lines_of table (new_world t) given) →
       answers_to table (new_world t) less ≡ answers_to table (new_world t) given → AsksWithin left less
-  -- which they do by the rules alone: by the profile's of every script, by OpenBSD's of every script without chown
+  -- which they do by the rules alone: by the profile's of every script, by OpenBSD's of every script without chown and fchown
   pub one_set : choice.rows ≡ None → (choice.rules ≡ Profile) ⊎ HasNoChown given → RestOnOne table given
 
 abbrev pub TightAsWritten : Type 0
