@@ -30,7 +30,7 @@ use crate::refusal::why_refused;
 use pua_calls::CallTable;
 use pua_objects::{Item, ListItem, ObjectKind, Subject, list_items};
 use pua_policy::{Object, Process};
-use pua_tree::{FileTree, Name};
+use pua_tree::{FileTree, Kind, Name};
 use std::alloc::{AllocError, Global};
 
 /// A line of the list for ever, which may have no calls. The names that lead to what it is about are so
@@ -208,9 +208,7 @@ fn kind_of(item: &Item<'_>) -> ObjectKind
     }
     match item.object {
         Object::Missing => ObjectKind::Missing,
-        Object::File => ObjectKind::File,
-        Object::Program => ObjectKind::Prog,
-        Object::Link => ObjectKind::Link,
-        Object::Directory | Object::Removable => ObjectKind::Dir,
+        Object::Node(kind) => ObjectKind::Node(kind),
+        Object::Removable => ObjectKind::Node(Kind::Dir),
     }
 }

@@ -17,6 +17,7 @@ use crate::item::{Item, Subject};
 use crate::kind::ObjectKind;
 use pua_calls::{CallTable, Calls};
 use pua_policy::{AllowedCalls, Object, Process, judge};
+use pua_tree::Kind;
 
 /// A line of the list, but for the names that lead there.
 #[derive(Clone, Copy, PartialEq, Eq)]
@@ -67,7 +68,7 @@ fn line_at(object: Object, calls: Calls) -> ObjectLine
         cover ≡ cover_of t h found → object ≡ object_seen t (object_of t found) →
         IsLineOn t table h (At found) result }
 {
-    let calls = if object == Object::Link {
+    let calls = if object == Object::Node(Kind::Link) {
         calls.keeping()
     } else {
         calls
@@ -96,9 +97,7 @@ fn kind_seen(object: Object) -> ObjectKind
 {
     match object {
         Object::Missing => ObjectKind::Missing,
-        Object::File => ObjectKind::File,
-        Object::Program => ObjectKind::Prog,
-        Object::Link => ObjectKind::Link,
-        Object::Directory | Object::Removable => ObjectKind::Dir,
+        Object::Node(kind) => ObjectKind::Node(kind),
+        Object::Removable => ObjectKind::Node(Kind::Dir),
     }
 }
