@@ -11,7 +11,7 @@ ghost use Rattle.pua_policy.specs.Objects.{object_seen};
 ghost use Rattle.pua_policy.specs.Verdict.{cover as cover_of, object_of};
 ghost use Rattle.pua_objects.specs.Objects.{Subject as About, At, Others, cover_in};
 ghost use Rattle.pua_objects.specs.Items.{IsItemOn};
-ghost use Rattle.pua_objects.specs.Lines.{AreAllowed, IsLineOn, kind_seen};
+ghost use Rattle.pua_objects.specs.Lines.{AreAllowed, IsLineOn};
 
 use crate::item::{Item, Subject};
 use crate::kind::ObjectKind;
@@ -74,7 +74,7 @@ fn line_at(object: Object, calls: Calls) -> ObjectLine
         calls
     };
     ObjectLine {
-        kind: kind_seen(object),
+        kind: ObjectKind::of(object),
         calls,
     }
 }
@@ -88,16 +88,5 @@ fn line_of_others(calls: Calls) -> ObjectLine
     ObjectLine {
         kind: ObjectKind::Other,
         calls,
-    }
-}
-
-/// What the line of an object is about.
-fn kind_seen(object: Object) -> ObjectKind
-    ensures { result ≡ kind_seen object }
-{
-    match object {
-        Object::Missing => ObjectKind::Missing,
-        Object::Node(kind) => ObjectKind::Node(kind),
-        Object::Removable => ObjectKind::Node(Kind::Dir),
     }
 }

@@ -27,4 +27,4 @@ returns c = λ t table h found left allowed covered seen.
           ap (λ set. has set call) w.calls-is ∙ judged call ∙ kept_or_not (keeps_link call) (allows call)
           ∙ ap (λ b. (keeps_link call || not b) && allows call) (sym other)
     ] in
-    lined t table h found object (record { kind = c.kind_seen.result; calls = c.if-eq.calls }) seen c.kind_seen.ensures listed
+    lined t table h found object (record { kind = c.of.result; calls = c.if-eq.calls }) seen c.of.ensures listed
