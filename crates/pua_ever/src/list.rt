@@ -29,8 +29,8 @@ use crate::prospects::{Prospects, find_prospects};
 use crate::refusal::why_refused;
 use pua_calls::CallTable;
 use pua_objects::{Item, ListItem, ObjectKind, Subject, list_items};
-use pua_policy::{Object, Process};
-use pua_tree::{FileTree, Kind, Name};
+use pua_policy::Process;
+use pua_tree::{FileTree, Name};
 use std::alloc::{AllocError, Global};
 
 /// A line of the list for ever, which may have no calls. The names that lead to what it is about are so
@@ -206,9 +206,5 @@ fn kind_of(item: &Item<'_>) -> ObjectKind
     if let Subject::Others(_) = item.subject {
         return ObjectKind::Other;
     }
-    match item.object {
-        Object::Missing => ObjectKind::Missing,
-        Object::Node(kind) => ObjectKind::Node(kind),
-        Object::Removable => ObjectKind::Node(Kind::Dir),
-    }
+    ObjectKind::of(item.object)
 }

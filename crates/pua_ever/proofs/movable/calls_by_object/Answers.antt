@@ -15,10 +15,11 @@ returns c = λ t dirs names opens.
     let found = c.args.found.now in
     let moves = c.moves_any-moves.ensures ∙ ap (list_any (can_move table h)) c.deref.ensures.value
     ∙ some_moves t table h found.dirs.items found.entrances.items found.names.items dirs IsMissing Stat names opens in
-    let on_kind : (kind : Kind) (call : Call) → has (slice_index (c.on_files-dir_node.result ∷ c.on_files-file.result
+    let OnKind : Kind → Type 0 = λ kind. (call : Call) → has (slice_index (c.on_files-dir_node.result ∷ c.on_files-file.result
     ∷ c.on_files-program.result ∷ c.on_files-link.result ∷ []) (about_kind kind).number) call
     ≡ is_allowed_under table h (found.names.items ++ (found.dirs.items ++ (if c.moves_any-moves.result then found.entrances.items else [])))
-    (Is kind) call = λ kind. elim kind [
+    (Is kind) call in
+    let on_kind : (kind : Kind) → OnKind kind = λ kind. elim kind as OnKind [
       | Dir ↦ c.on_files-dir_node.ensures (Is Dir) refl
       | File ↦ c.on_files-file.ensures (Is File) refl
       | Prog ↦ c.on_files-program.ensures (Is Prog) refl
