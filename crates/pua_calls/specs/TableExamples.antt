@@ -61,7 +61,7 @@ pub record OpenbsdRows : Type 0 where
   pub row_over : table_over openbsd_table (stat_row (codes "['']") (codes "''"))
       ≡ Ok (with_rule openbsd_table Stat (record { alternatives = 0 ∷ []; perms = 0 }))
   pub no_rename : table_over openbsd_table (text_of_lines (codes "[rename]" ∷ [])) ≡ Err BadKey
-  -- it has calls that the profile doesn't, and rows for them
+  -- it has calls that the standard rules don't, and rows for them
   pub named : call_named_by Openbsd (codes "connect") ≡ Some Connect
   pub not_named : call_named (codes "connect") ≡ None
   -- and a request may name a neighbour of a call, which is no call itself

@@ -523,7 +523,7 @@ impl Call {
         ensures { result ≡ is_known (table_by_rules rules) self }
     {
         match rules {
-            Rules::Profile => self.facts().standard.is_some(),
+            Rules::Standard => self.facts().standard.is_some(),
             Rules::Openbsd => true,
         }
     }
@@ -532,7 +532,7 @@ impl Call {
     pub fn read(word: &[u8]) -> Option<Call>
         ensures { result ≡ call_named word.now }
     {
-        Call::read_by(Rules::Profile, word)
+        Call::read_by(Rules::Standard, word)
     }
 
     /// The call of this name, if there is one by any rules.

@@ -2,6 +2,7 @@
 use Rattle.std.specs.Prelude.{◌≡◌, ◌+◌, ◌-◌, ◌^◌, true, false, [], ◌∷◌, Some, None, Ok, Err, codes, map, filter, refl}
 use Rattle.pua_tree.specs.Tree.{empty_tree}
 use Rattle.pua_tree.specs.Examples.{example_tree}
+use Rattle.pua_tree.specs.declared.node.Kind.TheVariants as kind
 use Rattle.pua_calls.specs.Promises.{promises_of, perms_of, lacking, reading, writing, rpath, wpath, error, cpath, fattr}
 use Rattle.pua_calls.specs.Calls.{call_count, calls, standard_table, openbsd_table}
 use Rattle.pua_calls.specs.CallSets.{calls_in, keeps_link}
@@ -145,10 +146,10 @@ pub record SetRows : Type 0 where
   pub no_calls : calls_in 0 ≡ []
   pub all_calls : calls_in (2 ^ call_count - 1) ≡ calls
   pub on_links : filter keeps_link calls ≡ Lstat ∷ Readlink ∷ Mkdir ∷ Rmdir ∷ Unlink ∷ Symlink ∷ Bind ∷ Mknod ∷ []
-  pub link : object_seen example_tree (object_of example_tree (found.Slot 3 (codes "up") (Some 5))) ≡ see.Link
-  pub with_rows : object_seen example_tree (IsDir 1 (way.Named 0 (codes "etc"))) ≡ see.Directory
+  pub link : object_seen example_tree (object_of example_tree (found.Slot 3 (codes "up") (Some 5))) ≡ see.Node kind.Link
+  pub with_rows : object_seen example_tree (IsDir 1 (way.Named 0 (codes "etc"))) ≡ see.Node kind.Dir
   pub without_rows : object_seen empty_tree (IsDir 0 (way.Named 0 (codes "d"))) ≡ see.Removable
-  pub by_dot : object_seen empty_tree (IsDir 0 way.Dot) ≡ see.Directory
+  pub by_dot : object_seen empty_tree (IsDir 0 way.Dot) ≡ see.Node kind.Dir
 
 pub set_rows : SetRows
 set_rows = record {

@@ -87,7 +87,7 @@ fn table_not_taken(alloc: Global) {
     let run = Command {
         tree: "T",
         script: "S",
-        rules: Rules::Profile,
+        rules: Rules::Standard,
         table: Some("C"),
         text: Text::Run,
     };
