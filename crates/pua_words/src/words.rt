@@ -6,9 +6,9 @@ ghost use Rattle.std.specs.List.{All};
 ghost use Rattle.clap.specs.Matches.{first_value, found_of, one_text};
 ghost use Rattle.pua_calls.specs.Calls.{rules_named};
 ghost use Rattle.pua_objects.specs.Lines.{kind_word};
-ghost use Rattle.pua_words.specs.Commands.{AreFieldsOf, AreIn, AsksSoundly, IsLimitText};
-ghost use Rattle.pua_words.specs.Commands.{IsNumberText, IsProcessNumber, IsTextOf, MayBeAsked};
-ghost use Rattle.pua_words.specs.Commands.{values_found};
+ghost use Rattle.pua_words.specs.Commands.{AreFieldsOf, AreIn, AsksSoundly, HasNoNumbers};
+ghost use Rattle.pua_words.specs.Commands.{IsLimitText, IsNumberText, IsProcessNumber, IsTextOf};
+ghost use Rattle.pua_words.specs.Commands.{MayBeAsked, values_found};
 ghost use Rattle.pua_words.specs.Commands.{how_list_asked, list_asked, run_asked, tight_asked};
 ghost use Rattle.clap.specs.Walk.{Rule};
 ghost use Rattle.clap.specs.Simple.{App, new_app, with_rule, with_subcommand};
@@ -547,6 +547,8 @@ fn read_numbers(alloc: Global, text: Option<&str>) -> Result<Option<Vec<u32>>, A
         All IsProcessNumber numbers.items)) }
     ensures text { IfOk result (λ numbers. IfSome numbers (λ numbers.
         AreIn (option_map (λ s. s.now) text.entry) numbers.items)) }
+    ensures none { IfOk result (λ read. read ≡ None →
+        HasNoNumbers (option_map (λ s. s.now) text.entry)) }
 {
     let Some(text) = text else {
         return Ok(None);
