@@ -4,7 +4,7 @@ use Rattle.std.specs.Option.{option_or}
 use Rattle.pua_tree.specs.Names.{same_bytes}
 use Rattle.pua_calls.specs.Calls.{call_named_by}
 use Rattle.pua_calls.specs.declared.rules.Rules.{Rules}
-use Rattle.pua_calls.specs.declared.rules.Rules.TheVariants.{Profile, Openbsd}
+use Rattle.pua_calls.specs.declared.rules.Rules.TheVariants.{Standard, Openbsd}
 use Rattle.pua_calls.specs.declared.call.Call.{Call}
 use Rattle.pua_calls.specs.declared.call.Call.TheVariants.{Stat, OpenWrite, Chmod, Mknod}
 
@@ -19,7 +19,7 @@ neighbour_of word = option_map (λ row. row.1) (find (λ row. same_bytes row.0 w
 
 -- by OpenBSD's rules alone
 abbrev pub neighbour_by : Rules → List ℕ → Option Call
-neighbour_by Profile word = None
+neighbour_by Standard word = None
 neighbour_by Openbsd word = neighbour_of word
 
 -- the call that a request asks for by this word: the one of this name, or else the one whose neighbour has it

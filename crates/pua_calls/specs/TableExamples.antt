@@ -8,7 +8,7 @@ use Rattle.pua_calls.specs.Tables.{IsCallTable}
 use Rattle.pua_calls.specs.TableTexts.{table_of, table_over, with_rule}
 use Rattle.pua_calls.specs.declared.call.Call.TheVariants.{Stat, OpenWrite, Mkdir, Unlink, Connect, Bind, Mknod, Chown, CreateBoth, Fchmod, Fchown}
 use Rattle.pua_calls.specs.Neighbours.{call_asked_by}
-use Rattle.pua_calls.specs.declared.rules.Rules.TheVariants.{Profile, Openbsd}
+use Rattle.pua_calls.specs.declared.rules.Rules.TheVariants.{Standard, Openbsd}
 use Rattle.pua_calls.specs.declared.table.read.TableFault.TheVariants.{BadToml, BadKey, BadRow, BadPromises, BadVeil}
 
 -- a text with a row of stat, of this array of promises and this veil
@@ -66,7 +66,7 @@ pub record OpenbsdRows : Type 0 where
   pub not_named : call_named (codes "connect") ≡ None
   -- and a request may name a neighbour of a call, which is no call itself
   pub asked : call_asked_by Openbsd (codes "truncate") ≡ Some OpenWrite
-  pub not_asked : call_asked_by Profile (codes "truncate") ≡ None
+  pub not_asked : call_asked_by Standard (codes "truncate") ≡ None
   pub no_neighbour : call_in openbsd_table (codes "truncate") ≡ None
   pub had : call_in openbsd_table (codes "bind") ≡ Some Bind
   pub not_had : call_in standard_table (codes "bind") ≡ None

@@ -55,7 +55,7 @@ fn neighbour_by(rules: Rules, word: &[u8]) -> Option<Call>
     ensures { result ≡ neighbour_by rules word.now }
 {
     match rules {
-        Rules::Profile => None,
+        Rules::Standard => None,
         Rules::Openbsd => neighbour_in(neighbours(), word),
     }
 }

@@ -19,7 +19,7 @@ use Rattle.pua_tree.proofs.ForCallers.{same_word, ok_or_read, step_read}
 use Rattle.pua_calls.specs.Promises.{promises_of, perms_of}
 use Rattle.pua_calls.specs.Neighbours.{call_asked_by}
 use Rattle.pua_calls.specs.declared.rules.Rules.{Rules}
-use Rattle.pua_calls.specs.declared.rules.Rules.TheVariants.{Profile, Openbsd}
+use Rattle.pua_calls.specs.declared.rules.Rules.TheVariants.{Standard, Openbsd}
 use Rattle.pua_script.specs.Requests.{is_symlink, has_no_nul}
 use Rattle.pua_script.specs.declared.request.Given.{Given}
 use Rattle.pua_script.specs.declared.request.Given.TheVariants.{Null, Good}
@@ -108,7 +108,7 @@ perms_told field _ (unknown_letter ne e) = ap (λ b. cond b (Some 0) (result_ok 
 module _ (rules : Rules) where
   -- the words of calls, of which none is `fork`
   no_fork : (named : Rules) → call_asked_by named (codes "fork") ≡ None
-  no_fork Profile = refl
+  no_fork Standard = refl
   no_fork Openbsd = refl
 
   not_fork : (word : List ℕ) (c : Call) → call_asked_by rules word ≡ Some c → same_bytes word (codes "fork") ≡ false
