@@ -1,7 +1,7 @@
 //! What a call is on, by what stands there.
 
 ghost use Rattle.std.specs.Prelude.{◌≡◌, ℕ, List};
-ghost use Rattle.pua_tree.specs.Tree.{Tree, is_dir_kind};
+ghost use Rattle.pua_tree.specs.Tree.{is_dir_kind};
 ghost use Rattle.pua_path.specs.declared.found.Way.TheVariants as way;
 ghost use Rattle.pua_policy.specs.Objects.{object_seen};
 ghost use Rattle.pua_policy.specs.Verdict.{IsDir};

@@ -1,5 +1,5 @@
 -- The kinds of nodes, and what is said of each.
-use Rattle.std.specs.Prelude.{ℕ, List, [], ◌∷◌, codes}
+use Rattle.std.specs.Prelude.{ℕ, List, codes}
 use Rattle.pua_tree.specs.declared.node.Kind.{Kind}
 use Rattle.pua_tree.specs.declared.node.Kind.TheVariants.{Dir, File, Prog, Link}
 
@@ -13,10 +13,6 @@ about_kind Dir = record { number = 0; word = codes "dir" }
 about_kind File = record { number = 1; word = codes "file" }
 about_kind Prog = record { number = 2; word = codes "prog" }
 about_kind Link = record { number = 3; word = codes "link" }
-
--- in the order of their numbers
-abbrev pub kinds : List Kind
-kinds = Dir ∷ File ∷ Prog ∷ Link ∷ []
 
 -- how many there are
 abbrev pub kind_count : ℕ

@@ -64,9 +64,6 @@ impl Kind {
     /// How many kinds there are.
     pub const COUNT: usize = 4;
 
-    /// All kinds, in the order of their numbers.
-    pub const ALL: [Kind; Kind::COUNT] = [Kind::Dir, Kind::File, Kind::Prog, Kind::Link];
-
     /// What is said of it.
     fn about(self) -> AboutKind
         ensures number { result.number ≡ (about_kind self).number }
