@@ -46,8 +46,8 @@ pub unlisted_unbounded : (table : CallTable) (h : ProcessState) → execs_unlist
 unlisted_unbounded table h = by (starts_made table h)
   where
     by : (b : Bool) → (if b then Open else Never) ≢ Bounded
-    by true ()
-    by false ()
+    by true e = cc
+    by false e = cc
 
 pub starts_open : (t : Tree) (table : CallTable) (h : ProcessState) → has_exec (ever t table h) ≡ true → bound_of table h ≡ None →
     execs_of t table h ≡ Open

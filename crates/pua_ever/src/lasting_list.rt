@@ -59,10 +59,8 @@ pub fn list_lasting<'t, T: FileTree>(
 {
     let rows = list_ever(alloc, tree, process, table)?;
     if !some_exec(rows.as_slice()) {
-        return match unlisted(alloc, process, table) {
-            Ok(execs) => Ok(LastingList { rows, execs }),
-            Err(OutOfMemory) => Err(EverFault::OutOfMemory),
-        };
+        let execs = unlisted(alloc, process, table)?;
+        return Ok(LastingList { rows, execs });
     }
     let Some(both) = both else {
         return Ok(LastingList {
@@ -99,14 +97,15 @@ fn rows_through<'t, T: FileTree>(
 }
 
 /// What a list without an exec says of execs: that none can ever succeed, unless a program can be
-/// started that it doesn't tell of. The only error is that a growth was refused.
-fn unlisted(alloc: Global, process: &Process, table: &CallTable) -> Result<ExecBound, OutOfMemory>
-    ensures { IfOk result (λ execs. execs ≡ execs_unlisted table.now process.now) }
+/// started that it doesn't tell of. The only fault is that a growth was refused.
+fn unlisted(alloc: Global, process: &Process, table: &CallTable) -> Result<ExecBound, EverFault>
+    ensures execs { IfOk result (λ execs. execs ≡ execs_unlisted table.now process.now) }
+    ensures unrefused { IfErr result (λ fault. refusal_in fault ≡ None) }
 {
-    if starts_made(alloc, process, table)? {
-        Ok(ExecBound::Open)
-    } else {
-        Ok(ExecBound::Never)
+    match starts_made(alloc, process, table) {
+        Ok(true) => Ok(ExecBound::Open),
+        Ok(false) => Ok(ExecBound::Never),
+        Err(OutOfMemory) => Err(EverFault::OutOfMemory),
     }
 }
 

@@ -7,8 +7,8 @@ use Rattle.pua_ever.specs.Through.{has_exec}
 use Rattle.pua_ever.proofs.Chosen.{lasting_through, lasting_unbounded, lasting_unstarted, starts_bounded, starts_open, starts_unlisted}
 use Rattle.pua_ever.proofs.lasting_list.list_lasting.Goals as goal
 
-pub returns-in-Ok-clause-list : goal.returns-in-Ok-clause-list
-returns-in-Ok-clause-list g c = λ whose.
+pub returns-then-not-some_exec-clause-list : goal.returns-then-not-some_exec-clause-list
+returns-then-not-some_exec-clause-list g c = λ whose.
     let h = c.args.process.now in
     let t = g.T.FileTree.content c.args.tree.now in
     let table = c.args.table.now in
@@ -18,7 +18,7 @@ returns-in-Ok-clause-list g c = λ whose.
     ∙ c.if-not-some_exec.true in
     record {
       rows = subst (λ lines. AreEverTold t [] c.in_ok-rows.rows.items lines []) (sym (lasting_unstarted t table h none)) told;
-      execs = c.in-Ok.ensures ∙ sym (starts_unlisted t table h none);
+      execs = c.in_ok-execs.ensures.execs ∙ sym (starts_unlisted t table h none);
     }
 
 pub returns-in_default-clause-list : goal.returns-in_default-clause-list
@@ -59,11 +59,13 @@ returns-in_err-rows-clause-refused g c =
     let p = err_from_is_err_and c.from_residual.result c.from_residual.ensures.1 in
     rw (p.1, p.2) (λ whose. c.in_err-rows.ensures.refused)
 
-pub returns-in-Ok-clause-refused : goal.returns-in-Ok-clause-refused
-returns-in-Ok-clause-refused g c = λ whose. c.in_ok-rows.ensures.refused
+pub returns-then-not-some_exec-clause-refused : goal.returns-then-not-some_exec-clause-refused
+returns-then-not-some_exec-clause-refused g c = λ whose. c.in_ok-rows.ensures.refused
 
-pub returns-in-Err-clause-refused : goal.returns-in-Err-clause-refused
-returns-in-Err-clause-refused g c = λ whose. c.in_ok-rows.ensures.refused
+pub returns-in_err-execs-clause-refused : goal.returns-in_err-execs-clause-refused
+returns-in_err-execs-clause-refused g c =
+    let p = err_from_is_err_and c.from_residual-in_err-execs.result c.from_residual-in_err-execs.ensures.1 in
+    rw (p.1, p.2) (λ whose. c.in_ok-rows.ensures.refused ∙ sym c.in_err-execs.ensures.unrefused)
 
 pub returns-in_default-clause-refused : goal.returns-in_default-clause-refused
 returns-in_default-clause-refused g c = λ whose. c.in_ok-rows.ensures.refused
