@@ -103,10 +103,3 @@ fn uncovered_allowed_all(alloc: Global) {
         unreachable!()
     }
 }
-
-/// What is on a program is on no other file.
-fn program_at_a_name_is_a_file() {
-    if Object::at_name(Some(Kind::Prog)) != Object::Node(Kind::Prog) {
-        unreachable!()
-    }
-}
