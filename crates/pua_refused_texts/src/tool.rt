@@ -112,7 +112,7 @@ fn further_input_taken<I: Inputs, O: Sink, E: Sink>(
     let run = Command {
         tree: "T",
         script: "S",
-        rules: Rules::Profile,
+        rules: Rules::Standard,
         table: None,
         text: Text::Run,
     };
