@@ -42,6 +42,7 @@ my @PLEDGES = (
     ('1 pledge stdio,rpath,proc,exec stdio,rpath,wpath,cpath') x 3, '1 pledge rpath,proc,exec wpath,cpath,exec,proc',
     '1 pledge rpath,wpath,cpath,exec,proc rpath,exec', '1 pledge exec,proc rpath,wpath,cpath,fattr',
     '1 pledge rpath,cpath,exec wpath,cpath', '1 pledge rpath,exec,proc rpath,cpath,unveil',
+    '1 pledge rpath,exec,tmppath,proc -', '1 pledge rpath,exec,tmppath rpath', '1 pledge rpath,fattr,exec,proc rpath',
 );
 
 # What its veils give.
@@ -269,13 +270,14 @@ sub whose {
     return @members == 1 ? ($model, @members) : (EverModel::joined($model, @members), 0);
 }
 
-# What the list for ever says of execs, and what the model does: nothing where no line has one.
+# What the list for ever says of execs, and what the model does: nothing where no line has one, unless what tmppath makes
+# may be started.
 sub exec_word { return (Lists::state_of($_[0]{ever}, 'exec'))[0] }
 
 sub exec_wanted {
     my ($world) = @_;
     my @whose = whose($world);
-    return if !grep { EverModel::has_exec($_) } EverModel::lines(@whose);
+    return EverModel::starts_made(@whose) ? 'open' : undef if !grep { EverModel::has_exec($_) } EverModel::lines(@whose);
     return EverModel::bound(@whose) ? 'bounded' : 'open';
 }
 

@@ -18,7 +18,7 @@ my $PROGRAM = program_in(@ARGV);
 my $EXAMPLES = "$Bin/../examples";
 
 # The files by which OpenBSD's rules give other objects. Where there is none, the state alone tells of these rules.
-my %BY_OPENBSD = map { $_ => 'openbsd-output' } qw(aliases dhcp-client drop-box first-run key-directory patch
+my %BY_OPENBSD = map { $_ => 'openbsd-output' } qw(aliases dhcp-client drop-box first-run key-directory links patch
     socket-server);
 
 # The words by which a text is asked for.

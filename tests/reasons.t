@@ -43,6 +43,7 @@ my %NEEDS = (
 my %OPENBSD = (
     chmod => ['rpath,fattr'], connect => ['unix'], bind => ['unix'], mknod => ['dpath'],
     chown => [ 'rpath,chown', 'rpath,fattr' ], 'create-rw' => ['rpath,wpath,cpath'],
+    fchmod => ['rpath,fattr'], fchown => [ 'rpath,chown', 'rpath,fattr' ],
 );
 
 # What is otherwise by a table, which has what no rules have: a call without promises, and calls with several

@@ -183,7 +183,7 @@ for my $number (1 .. $WORLDS) {
     $worlds->by($number % 3 == 2 ? 'openbsd' : 'profile');
     my %how = $number % 3 == 1 ? () : $number % 3 == 2 ? (rules => 'openbsd') : (table => $worlds->table);
     my $text = $number % 5 ? $worlds->script({ lines => 2 + $worlds->number(8) }) : $worlds->moving_script;
-    my $has_one_set = !$how{table} && $text !~ /^\S+\s+chown\s/m;
+    my $has_one_set = !$how{table} && $text !~ /^\S+\s+f?chown\s/m;
     is_right("world $number", Tight->new($PROGRAM, $listing, %how), $has_one_set, lines_in($text));
 }
 note "$count{words} words, of which $count{left} are left; $count{lines} lines of objects, $count{fewer} fewer after";

@@ -181,7 +181,7 @@ my @changes = (
         '-objects 2 before pledge 3: file /etc/spwd.db '
             . 'stat,lstat,open-r,open-w,open-rw,create,unlink,connect,create-rw',
         '+objects 2 before pledge 3: file /etc/spwd.db '
-            . 'stat,lstat,open-r,open-w,open-rw,create,unlink,chmod,connect,chown,create-rw'],
+            . 'stat,lstat,open-r,open-w,open-rw,create,unlink,chmod,connect,chown,create-rw,fchmod,fchown'],
     ['front', 'the second of them has one', 'script', '2 pledge stdio,unix -',
         '2 pledge stdio,rpath,unix -', 'midway',
         '+objects 2 before pledge 4: file /etc/spwd.db stat,lstat,open-r,connect'],
@@ -198,7 +198,7 @@ my @changes = (
         '1 pledge stdio,rpath,wpath,cpath,inet,fattr,proc,exec,unveil -',
         '1 pledge stdio,rpath,wpath,cpath,inet,fattr,unix,proc,exec,unveil -', 'midway',
         '+objects 1 before pledge 2: file /etc/master.passwd '
-            . 'stat,lstat,open-r,open-w,open-rw,create,unlink,chmod,connect,chown,create-rw',
+            . 'stat,lstat,open-r,open-w,open-rw,create,unlink,chmod,connect,chown,create-rw,fchmod,fchown',
         '+objects 2 before pledge 1: promises '
             . 'cpath,exec,fattr,inet,proc,rpath,stdio,unix,unveil,wpath'],
     ['cache', 'the parser may write', 'script', '2 pledge stdio,rpath -',
@@ -208,7 +208,7 @@ my @changes = (
     ['cache', 'its first pledge is lost', 'script', '3 pledge stdio,rpath,proc,exec,unveil -', '',
         'midway', '-objects 3 before pledge 2: promises exec,proc,rpath,stdio,unveil',
         '+objects 3 before unveil 1: file /etc/master.passwd '
-            . 'stat,lstat,open-r,open-w,open-rw,create,unlink,chmod,chown,create-rw'],
+            . 'stat,lstat,open-r,open-w,open-rw,create,unlink,chmod,chown,create-rw,fchmod,fchown'],
     ['cache', 'its child keeps proc before its exec', 'script', '4 pledge stdio,exec -',
         '4 pledge stdio,proc,exec -', 'midway',
         '+objects 4 before exec 1: promises exec,proc,stdio'],
@@ -255,11 +255,11 @@ my @changes = (
     ['cache', 'the process that ended had a wider veil', 'script', '1 unveil /db/rpki rwc',
         '1 unveil /db rwc', 'midway', '+objects 1 before pledge 3: veil /db rwc',
         '+objects 1 before its end: file /db/ntpd.drift '
-            . 'stat,lstat,open-r,open-w,open-rw,create,unlink,chmod,chown,create-rw'],
+            . 'stat,lstat,open-r,open-w,open-rw,create,unlink,chmod,chown,create-rw,fchmod,fchown'],
     ['cache', 'a veil more', 'script', '1 unveil /cache rwc',
         "1 unveil /cache rwc\n1 unveil /etc r", 'midway',
         '+run 1: unveil /etc r: ok', '+objects 1 before its end: veil /etc r',
-        '+objects 1 before its end: file /etc/master.passwd stat,lstat,open-r'],
+        '+objects 1 before its end: file /etc/master.passwd stat,lstat,open-r,fchmod,fchown'],
     ['cache', 'a veil for a while, which a second one on its place narrows', 'script',
         '1 unveil /cache rwc',
         "1 unveil /etc rw\n1 chdir /cache\n1 unveil /etc =\n1 unveil /cache rwc",

@@ -83,8 +83,9 @@ my @ABOUT_PATHS = qw(rpath wpath cpath dpath tmppath exec fattr chown unix);
 # stands there, and of a `tree` all that is in it matters too; with `new` nothing has to be there.
 my %arguments = (
     (map { $_ => ['path'] } qw(stat lstat readlink unlink chmod chdir exec connect chown)),
+    (map { $_ => ['path'] } qw(fchmod fchown access statfs truncate chflags utimes)),
     (map { $_ => ['tree'] } qw(open-r open-w open-rw rmdir)),
-    (map { $_ => ['new path'] } qw(create create-rw mkdir bind mknod)),
+    (map { $_ => ['new path'] } qw(create create-rw mkdir bind mknod mkfifo)),
     symlink => ['text', 'new path'],
     rename  => ['tree', 'new tree'],
     link    => ['path', 'new path'],

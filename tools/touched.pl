@@ -17,7 +17,7 @@
 #   perl tools/touched.pl RPATH rpath                  # a promise
 #   perl tools/touched.pl ENOTEMPTY                    # an errno
 #   perl tools/touched.pl Action.Rename                # a request of scripts
-#   perl tools/touched.pl -t prog Prog Program         # a kind of node
+#   perl tools/touched.pl -t prog Kind.Prog IsProg     # a kind of node
 #
 # -l prints the lines. -C TOP is the top folder of the repository, if it is not that of this file. A
 # file that takes the thing whole, and asks nothing of it, is not found, and need not change; one

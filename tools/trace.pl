@@ -17,9 +17,10 @@
 #                    the root.
 #     -e FILE        writes into FILE what the kernel answered to the lines of the script, as `pua
 #                    run` does: so `pua run TREE SCRIPT | diff FILE -` shows where the two differ.
-#     -k             writes connect, bind, mknod (mkfifo too), chown and create-rw (an open with
-#                    O_RDWR and O_CREAT) as lines of their own, which `pua` knows as calls by
-#                    `--rules openbsd` alone.
+#     -k             writes connect, bind, mknod (mkfifo too), chown, create-rw (an open with
+#                    O_RDWR and O_CREAT), and fchmod and fchown by a descriptor that was opened for
+#                    reading, as lines of their own, which `pua` knows as calls by `--rules openbsd`
+#                    alone.
 #     -l             keeps what ld.so opens for a program.
 #     -o FILE        writes into FILE what each process still had open at its end, or at the end
 #                    of the trace, though it was opened before the last pledge or lock of the
@@ -31,8 +32,9 @@
 #
 # Descriptors are followed, over copies, forks and execs. So a path that begins at a directory's
 # descriptor is written whole, fchdir is a chdir, and fchmod and its like are about the path that
-# was opened. What was renamed or removed by the same path since then is followed too. Where such
-# a path isn't known the call is left out.
+# was opened: a chmod of it, or, with -k and where it was opened for reading, an fchmod. What was
+# renamed or removed by the same path since then is followed too. Where such a path isn't known the
+# call is left out.
 #
 # After chroot(2) paths are written with the new root before them, without -c.
 #
@@ -41,8 +43,8 @@
 # descriptor, where the process doesn't hold the promises that the call needs by a path.
 #
 # open is open-r, open-w, open-rw, create or, with -k, create-rw by its flags; access, statfs,
-# pathconf and realpath are stat; truncate is open-w; utimes and chflags are chmod. A relative path
-# stays as it is. An execve that fails is no line. Where pledge refused a call before its path was
+# pathconf and realpath are stat; truncate is open-w; utimes and chflags are chmod: with -k those of
+# them for which a script has a word are written by it. A relative path stays as it is. An execve that fails is no line. Where pledge refused a call before its path was
 # recorded, the path is written as the empty one: it decides nothing.
 #
 # Standard error has first whether the trace begins in the middle of a process; then what makes
@@ -63,8 +65,8 @@ BEGIN {
     unshift @INC, map { ($here || './') . $_ } '../share/pua/perl', 'lib';
 }
 use Getopt::Long qw(:config posix_default no_ignore_case bundling);
-use Pua::Calls qw(%ABOUT %BITS %CALLS %FLAGS_AT %FROM %FURTHER $HERE %LIKE @MODES %NEEDS %OPENINGS
-    descriptor flags flags_of_open is_null opens promises);
+use Pua::Calls qw(%ABOUT %BITS %CALLS %FLAGS_AT %FROM %FURTHER $HERE %LIKE @MODES %NEEDS
+    %NEIGHBOURS %OPENINGS descriptor flags flags_of_open is_null opens promises);
 use Pua::Help qw(help_of);
 use Pua::Kdump;
 use Pua::Process qw($START moved plain tidy);
@@ -301,9 +303,21 @@ sub unveil_fields {
     return ('unveil', $at, $letters);
 }
 
+# The word that a script has for a call which it takes as another one; with -k alone.
+sub own_word { my ($call) = @_; return $further ? $NEIGHBOURS{ $call->{name} } : undef }
+
+# Whether a call sets the mode, the times, the flags or the owner of what was opened for reading.
+sub is_by_reading {
+    my ($call) = @_;
+    return 0 unless $ABOUT{ $call->{name} } && $call->{as} =~ /\A(?:chmod|chown)\z/;
+    my $file = $call->{process}{has}->file(descriptor($call, 0));
+    return $file && $file->{mode} eq 'open-r';
+}
+
 # The fields of a call on paths after the process; none where it is left out.
 sub path_fields {
     my ($call) = @_;
+    $call->{as} = "f$call->{as}" if $further && is_by_reading($call);
     my ($name, $as) = @$call{qw(name as)};
     if ($as =~ /\A(?:connect|bind)\z/ && !@{ $call->{paths} } && !defined $call->{texts}{socket}) {
         return if !refused($call);    # it is about no path
@@ -323,7 +337,7 @@ sub path_fields {
         if $as =~ /\A(?:chmod|chown)\z/ && $flags & $BITS{AT_SYMLINK_NOFOLLOW};
     $as = 'lstat' if $name eq 'fstatat'  && $flags & $BITS{AT_SYMLINK_NOFOLLOW};
     $as = 'rmdir' if $name eq 'unlinkat' && $flags & $BITS{AT_REMOVEDIR};
-    note($REST, $call->{line}, "$name is written $as") if $LIKE{$name};
+    note($REST, $call->{line}, "$name is written $as") if $LIKE{$name} && !own_word($call);
     note($REST, $call->{line}, "$name is written $as, which asks the veils too")
         if $ABOUT{$name} && $as ne 'chdir';
     return ($as, @paths);
@@ -367,7 +381,7 @@ sub fields {
     my $promise = $ABOUT{ $call->{name} } ? undef : opening($call, $as);
     return leave_out($call, "$call->{name} by the promise $promise itself", path(${ $paths[0] }))
         if $promise;
-    return ($as, @paths);
+    return (own_word($call) || $as, @paths);
 }
 
 sub follow_copy {

@@ -276,6 +276,38 @@ END
     is($status, 0, 'create-rw: the status');
 }
 
+# With -k what sets the mode or the owner of what was opened for reading is a line of its own, and so are the calls for which
+# a script has a word.
+file('trace', kdump(<<'END'));
+7 open(0x1c60,0<O_RDONLY>) = 3 "/a"
+7 open(0x1c60,0x2<O_RDWR>) = 4 "/b"
+7 fchmod(3,0755) = 0
+7 fchmod(4,0755) = 0
+7 fchown(3,0,0) = 0
+7 fchown(4,0,0) = 0
+7 futimens(3,0x1c60) = 0
+7 fchflags(4,0) = 0
+7 access(0x1c60,0x4<R_OK>) = 0 "/c"
+7 faccessat(AT_FDCWD,0x1c60,0x4<R_OK>,0<>) = 0 "/d"
+7 statfs(0x1c60,0x1d60) = 0 "/e"
+7 truncate(0x1c60,0) = 0 "/f"
+7 chflags(0x1c60,0) = 0 "/g"
+7 utimes(0x1c60,0) = 0 "/h"
+7 utimensat(AT_FDCWD,0x1c60,0x1d60,0<>) = 0 "/i"
+7 mkfifo(0x1c60,0600) = 0 "/j"
+END
+{
+    my ($status, $out, $err) = trace('-kv');
+    is($out, join('', map { "1 $_\n" } 'open-r /a', 'open-rw /b', 'fchmod /a', 'chmod /b', 'fchown /a', 'chown /b',
+        'fchmod /a', 'chmod /b', 'access /c', 'access /d', 'statfs /e', 'truncate /f', 'chflags /g', 'utimes /h',
+        'utimes /i', 'mkfifo /j'), 'by descriptors and neighbours: the script');
+    is($status, 0, 'by descriptors and neighbours: the status');
+    ($status, $out, $err) = trace('-v');
+    is($out, join('', map { "1 $_\n" } 'open-r /a', 'open-rw /b', 'chmod /a', 'chmod /b', 'chmod /a', 'chmod /b',
+        'stat /c', 'stat /d', 'stat /e', 'open-w /f', 'chmod /g', 'chmod /h', 'chmod /i'),
+        'by descriptors and neighbours: the script without -k');
+}
+
 gives('calls with two paths', <<'END');
 7 rename(0x1c60,0x1d60) = 0 "/a" "/b"
 7 link(0x1c60,0x1d60) = 0 "/b" "/c"

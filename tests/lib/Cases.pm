@@ -12,6 +12,7 @@ our @KINDS = qw(mixed links names removed rename slashes long);
 
 my @CALLS = qw(
     stat lstat readlink open-r open-w open-rw create mkdir rmdir unlink chmod chdir exec connect bind mknod chown create-rw
+    fchmod fchown
 );
 my @PLAIN = ('a' .. 'd');
 my @ODD   = ('a', 'b', 'x' x 255, 'y' x 254, "\xe9\xff", 'a b', '=b', '-', '...');

@@ -11,7 +11,7 @@ my %SUITS = (
     (map { $_ => 'missing' } qw(mkdir symlink bind mknod)),
     unlink => 'file prog link', rmdir => 'gone', exec => 'prog', readlink => 'link',
     chdir => 'dir gone', lstat => 'dir gone file prog link',
-    (map { $_ => 'dir gone file prog' } qw(stat open-r chmod chown)),
+    (map { $_ => 'dir gone file prog' } qw(stat open-r chmod chown fchmod fchown)),
     (map { $_ => 'file prog' } qw(open-w open-rw)),
 );
 
@@ -60,6 +60,16 @@ sub bound {
 }
 
 sub has_exec { return $_[0] =~ /[ ,]exec\b/ }
+
+# Whether a process may start what tmppath makes, of which no line tells: by OpenBSD's rules, where exec is let through and
+# some veil has the letters that it needs, or there is none.
+sub starts_made {
+    my ($model, $number) = @_;
+    my $process = $model->{processes}{$number};
+    return 0 if !$model->{openbsd} || !Model::_holds($process, 'tmppath') || !lets($model, $process, 'exec');
+    return 1 if !@{ $process->{veils} };
+    return scalar grep { !Model::_lacking($model->{needs}{exec}[1], $_) } values %{ $process->{letters} };
+}
 
 # The lines of a process that holds both sets, with the calls that one of the two lets through.
 sub _through {
@@ -247,7 +257,7 @@ sub lets {
 sub _line {
     my ($ever, $kind, $path, $is, @covers) = @_;
     my %has = map { $_ => $ever->_is_allowed($_, $is, @covers) } @Model::CALLS;
-    my $turns = $is eq 'file' && ($path eq 'new' || grep { $has{$_} } qw(open-w open-rw create create-rw chmod));
+    my $turns = $is eq 'file' && ($path eq 'new' || grep { $has{$_} } qw(open-w open-rw create create-rw chmod fchmod));
     $has{exec} = 1 if $turns && $ever->_is_allowed('exec', 'prog', @covers);
     my @calls = grep { $has{$_} } @Model::CALLS;
     return @calls ? "$kind $path " . join(',', @calls) : ();

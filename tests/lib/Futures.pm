@@ -11,7 +11,7 @@ my @EDITS = (
     ('rename') x 7, ('link') x 2, ('mkdir') x 3, ('create') x 2, ('symlink') x 1, ('unlink') x 2, ('rmdir') x 2,
     ('bind') x 2, ('mknod') x 2, ('create-rw') x 1,
 );
-my @LOOKS = qw(stat lstat readlink open-r open-w open-rw chmod chdir chdir chdir connect chown);
+my @LOOKS = qw(stat lstat readlink open-r open-w open-rw chmod chdir chdir chdir connect chown fchmod fchown);
 
 # Draws from a generator of worlds. %$calls has each call that can ever be allowed on something: others are drawn
 # seldom, since a process mostly ends by them. %$holds says whether the processes hold proc and exec, whether what is

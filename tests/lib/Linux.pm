@@ -33,7 +33,8 @@ our @RULES = (
 my @NAMES = map { $_->[0] } @RULES;
 
 my %MAKES = map { $_ => 1 } qw(symlink mknod bind);
-my %FOLLOWS = map { $_ => 1 } qw(stat open-r open-w open-rw create create-rw chmod chdir exec connect chown);
+my %FOLLOWS = map { $_ => 1 } qw(stat open-r open-w open-rw create create-rw chmod chdir exec connect chown
+    fchmod fchown);
 my %DROPS = map { $_ => 1 } qw(mkdir rmdir);
 
 # A world of a listing, in which these rules are Linux's; all, if none is named.

@@ -25,7 +25,7 @@ my $ERROR = 'error';
 # The calls on one path, in their order.
 our @CALLS = qw(
     stat lstat readlink open-r open-w open-rw create mkdir rmdir unlink symlink chmod chdir exec connect bind
-    mknod chown create-rw
+    mknod chown create-rw fchmod fchown
 );
 
 # What each needs: sets of promises, of which one has to be held; and letters.
@@ -49,6 +49,8 @@ my %STANDARD = (
     mknod    => [[], 'c'],
     chown    => [[], 'w'],
     'create-rw' => [[], 'rwc'],
+    fchmod   => [[], 'r'],
+    fchown   => [[], 'r'],
     'old name of rename' => [['cpath'], 'c'],
     'new name of rename' => [['cpath'], 'c'],
     'old name of link'   => [['cpath'], 'c'],
@@ -63,12 +65,15 @@ my %OPENBSD = (
     mknod                => [['dpath'], 'c'],
     chown                => [['rpath,chown', 'rpath,fattr'], 'w'],
     'create-rw'          => [['rpath,wpath,cpath'], 'rwc'],
+    fchmod               => [['rpath,fattr'], 'r'],
+    fchown               => [['rpath,chown', 'rpath,fattr'], 'r'],
     'old name of rename' => [['rpath,cpath'], 'rc'],
     'old name of link'   => [['rpath'], 'r'],
 );
 
 # The calls that follow a link at their path's end, and those that drop a slash there.
-my %FOLLOWS = map { $_ => 1 } qw(stat open-r open-w open-rw create create-rw chmod chdir exec connect chown);
+my %FOLLOWS = map { $_ => 1 } qw(stat open-r open-w open-rw create create-rw chmod chdir exec connect chown
+    fchmod fchown);
 my %DROPS   = map { $_ => 1 } qw(mkdir rmdir rename);
 
 # What becomes of a call on each kind of thing. An errno refuses it; `way` asks how a directory was named.
@@ -92,6 +97,8 @@ my %MISFITS = (
     bind       => { map { $_ => 'EADDRINUSE' } qw(dir file prog link) },
     mknod      => { map { $_ => 'EEXIST' } qw(dir file prog link) },
     chown      => { missing => 'ENOENT' },
+    fchmod     => { missing => 'ENOENT' },
+    fchown     => { missing => 'ENOENT' },
 );
 
 # The requests beside the calls on one path, and symlink, which has a target too.

@@ -17,7 +17,7 @@ my %NEEDS = (
 my %OPENBSD = (
     chmod => ['rpath', 'fattr'], rename => ['rpath', 'cpath'], link => ['rpath', 'cpath'],
     connect => ['unix'], bind => ['unix'], mknod => ['dpath'], chown => ['rpath', 'chown', 'fattr'],
-    'create-rw' => ['rpath', 'wpath', 'cpath'],
+    'create-rw' => ['rpath', 'wpath', 'cpath'], fchmod => ['rpath', 'fattr'], fchown => ['rpath', 'chown', 'fattr'],
 );
 
 my @LETTERS = qw(r w x c);

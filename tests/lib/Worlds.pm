@@ -44,7 +44,7 @@ my @SETS = ('', 'rpath', 'cpath', 'wpath', 'rpath,wpath', 'fattr', 'exec', 'stdi
 
 # The calls on one path, and those that OpenBSD's rules have beside them.
 my @CALLS = qw(stat lstat readlink open-r open-w open-rw create mkdir rmdir unlink chmod chdir exec);
-my @FURTHER = qw(connect bind mknod chown create-rw);
+my @FURTHER = qw(connect bind mknod chown create-rw fchmod fchown);
 
 # What a line asks for; the words in capitals stand for what is drawn. Most paths suit their call.
 my @REQUESTS = (
@@ -60,7 +60,7 @@ my @REQUESTS = (
 
 # What a line asks for beside these by OpenBSD's rules.
 my @MORE = (('connect FILE', 'bind NEW') x 2, 'connect PATH', 'bind PATH', ('mknod NEW', 'chown HIGH') x 2, 'mknod PATH', 'chown PATH',
-    'create-rw NEW', 'create-rw FILE');
+    'create-rw NEW', 'create-rw FILE', 'fchmod FILE', 'fchmod PATH', 'fchown HIGH');
 
 # What is drawn seldom: what is refused for its text, an end, a lock in the midst.
 my @SELDOM = (

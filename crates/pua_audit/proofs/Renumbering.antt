@@ -2,7 +2,7 @@
 use Rattle.pua_audit.proofs.Common.{◌≡◌, ℕ, zero, suc, List, [], ◌∷◌, ◌++◌, map, length, Bool, not, ◌&&◌, cond, refl, ap, ◌∙◌, Result, Ok}
 use Rattle.pua_audit.proofs.Common.{Err, filter, ◌>>=◌, Tree, is_dir, above, is_absolute, Errno, Ending, Part, Last, Found, Whole}
 use Rattle.pua_audit.proofs.Common.{Slot, CallTable, rule_of, last_of, ProcessState, perms_kept, may_any, IsMissing, cover, verdict_of}
-use Rattle.pua_audit.proofs.Common.{is_allowed, Call, Rmdir, Scope, is_reached, pairs, reach, path_of}
+use Rattle.pua_audit.proofs.Common.{is_allowed, Call, Scope, is_reached, pairs, reach, path_of}
 use Rattle.std.specs.Prelude.{Option, Some, None}
 use Rattle.pua_tree.specs.Tree.{look, climb_within}
 use Rattle.pua_path.specs.Paths.{parts_of, path_fault}
@@ -15,7 +15,7 @@ use Rattle.pua_path.specs.declared.found.Way.{Way}
 use Rattle.pua_path.specs.declared.found.Way.TheVariants as way
 use Rattle.pua_calls.specs.Calls.{ending_of}
 use Rattle.pua_policy.specs.States.{has_veil, working_dir}
-use Rattle.pua_policy.specs.Verdict.{Object, IsDir, IsFile, IsProg, IsLink, object_fault, object_of, cover_fault}
+use Rattle.pua_policy.specs.Verdict.{Object, IsDir, Is, object_fault, object_of, cover_fault}
 use Rattle.pua_policy.specs.Verdict.{or_fault, nearest, place_of, directories_over, allowed_unless, if_promised}
 use Rattle.pua_policy.specs.Verdict.{verdict_on, object_named}
 use Rattle.pua_policy.specs.declared.answer.Cover.TheVariants.{All}
@@ -108,19 +108,12 @@ module _ (t : Tree) (n room : ℕ) where
   same_object (Slot dir name (Some y)) = refl
 
   same_fault : (c : Call) (o : Object) → object_fault v c o ≡ object_fault t c o
-  same_fault Rmdir (IsDir dir way.Dot) = refl
-  same_fault Rmdir (IsDir dir way.DotDot) = refl
-  same_fault Rmdir (IsDir dir way.Top) = refl
-  same_fault Rmdir (IsDir dir (way.Named parent name)) = refl
-  same_fault _ (IsDir dir w) = refl
-  same_fault Rmdir IsFile = refl
-  same_fault _ IsFile = refl
-  same_fault Rmdir IsProg = refl
-  same_fault _ IsProg = refl
-  same_fault Rmdir IsLink = refl
-  same_fault _ IsLink = refl
-  same_fault Rmdir IsMissing = refl
-  same_fault _ IsMissing = refl
+  same_fault c (IsDir dir way.Dot) = refl
+  same_fault c (IsDir dir way.DotDot) = refl
+  same_fault c (IsDir dir way.Top) = refl
+  same_fault c (IsDir dir (way.Named parent name)) = refl
+  same_fault c (Is kind) = refl
+  same_fault c IsMissing = refl
 
   same_verdict : (table : CallTable) (h : ProcessState) (c : Call) (r : Result Found Errno) → verdict_of v table h c r ≡ verdict_of t table h c r
   same_verdict table h c (Ok x) =

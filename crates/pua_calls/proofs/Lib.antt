@@ -6,5 +6,6 @@ pub mod Rows
 pub mod TableTexts
 pub mod TableExamples
 pub mod Keywords
+pub mod Neighbours
 pub mod SoundTexts
 pub mod ForCallers

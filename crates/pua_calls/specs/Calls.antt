@@ -1,6 +1,7 @@
 -- The calls with one path, and what each of them needs; what rename and link need, which have two; and what an exec leaves of
 -- execpromises.
-use Rattle.std.specs.Prelude.{ℕ, ◌+◌, ◌-◌, ◌==◌, Bool, true, false, not, List, [], ◌∷◌, length, map, Option, Some, None, codes, find, slice_index_or}
+use Rattle.std.specs.Prelude.{ℕ, ◌+◌, ◌-◌, ◌==◌, Bool, true, false, not, List, [], ◌∷◌, length, map, Option, None, Some, codes, find}
+use Rattle.std.specs.Prelude.{slice_index_or, unwrap_or}
 use Rattle.pua_tree.specs.Names.{same_bytes}
 use Rattle.pua_tree.specs.Listing.{only_if}
 use Rattle.pua_calls.specs.Promises.{rpath, wpath, cpath, dpath, fattr, chown, exec, unix, reading, writing, executing, creating}
@@ -11,7 +12,7 @@ use Rattle.pua_path.specs.declared.found.Last.TheVariants.{Followed, Kept}
 use Rattle.pua_calls.specs.declared.rules.ExecPromises.{ExecPromises}
 use Rattle.pua_calls.specs.declared.rules.ExecPromises.TheVariants.{Unset, Stay}
 use Rattle.pua_calls.specs.declared.rules.Rules.{Rules}
-use Rattle.pua_calls.specs.declared.rules.Rules.TheVariants.{Profile, Openbsd}
+use Rattle.pua_calls.specs.declared.rules.Rules.TheVariants.{Standard, Openbsd}
 use Rattle.pua_calls.specs.declared.fits.Misfit.TheVariants.{Exists, IsDirectory, IsNoFile, IsNoDirectory, IsNoLink, IsNoProgram}
 use Rattle.pua_calls.specs.declared.fits.Misfit.TheVariants.{IsNoSocket, InUse}
 use Rattle.pua_calls.specs.Misfits.{each_standing, none_standing, free_names}
@@ -21,17 +22,17 @@ use Rattle.pua_calls.specs.declared.effect.Effect.TheVariants.{Looks, Makes, Rem
 use Rattle.pua_tree.specs.declared.node.Kind.TheVariants.{File, Dir, Link}
 use Rattle.pua_calls.specs.declared.call.Call.{Call}
 use Rattle.pua_calls.specs.declared.call.Call.TheVariants.{Stat, Lstat, Readlink, OpenRead, OpenWrite, OpenBoth, Create, Mkdir, Rmdir}
-use Rattle.pua_calls.specs.declared.call.Call.TheVariants.{Unlink, Symlink, Chmod, Chdir, Exec, Connect, Bind, Mknod, Chown, CreateBoth}
+use Rattle.pua_calls.specs.declared.call.Call.TheVariants.{Unlink, Symlink, Chmod, Chdir, Exec, Connect, Bind, Mknod, Chown, CreateBoth, Fchmod, Fchown}
 
 -- in the order of their numbers
 abbrev pub calls : List Call
 calls =
     Stat ∷ Lstat ∷ Readlink ∷ OpenRead ∷ OpenWrite ∷ OpenBoth ∷ Create ∷ Mkdir ∷ Rmdir ∷ Unlink ∷ Symlink ∷ Chmod ∷ Chdir ∷ Exec ∷ Connect ∷ Bind
-    ∷ Mknod ∷ Chown ∷ CreateBoth ∷ []
+    ∷ Mknod ∷ Chown ∷ CreateBoth ∷ Fchmod ∷ Fchown ∷ []
 
 -- how many there are
 abbrev pub call_count : ℕ
-call_count = 19
+call_count = 21
 
 -- what a call needs: one of the sets of promises, and each of the permissions
 pub record Rule : Type 0 where
@@ -283,6 +284,30 @@ about CreateBoth = record {
   effect = Makes File;
   turns = true;
 }
+about Fchmod = record {
+  number = 20;
+  name = codes "fchmod";
+  standard = [];
+  openbsd = (rpath + fattr) ∷ [];
+  perms = reading;
+  last = Followed;
+  ending = Dot;
+  fits = each_standing;
+  effect = Looks;
+  turns = true;
+}
+about Fchown = record {
+  number = 21;
+  name = codes "fchown";
+  standard = [];
+  openbsd = (rpath + chown) ∷ (rpath + fattr) ∷ [];
+  perms = reading;
+  last = Followed;
+  ending = Dot;
+  fits = each_standing;
+  effect = Looks;
+  turns = false;
+}
 
 -- a set of promises that there may be, as alternatives
 abbrev pub listed : Option ℕ → List ℕ
@@ -340,7 +365,7 @@ pub record CallTable : Type 0 where
   pub link : PairRule
   pub execpromises : ExecPromises
 
--- the rules of this project's own profile
+-- this project's own rules
 abbrev pub standard_table : CallTable
 standard_table = record { rules = map standard_rule calls; rename = standard_pair; link = standard_pair; execpromises = Unset }
 
@@ -362,10 +387,43 @@ openbsd_link = record {
 abbrev pub openbsd_table : CallTable
 openbsd_table = record { rules = map openbsd_rule calls; rename = openbsd_rename; link = openbsd_link; execpromises = Stay }
 
--- the table of the rules that a command names
+-- what is said of a set of rules, in one place: the word that names it in commands; what calls need, and what an exec leaves; the
+-- promises of which a call needs one where it changes the tree; whether lists say whose rules they are; and whether promises open
+-- paths by themselves
+pub record AboutRules : Type 0 where
+  pub word : List ℕ
+  pub table : CallTable
+  pub changing : List ℕ
+  pub is_told : Bool
+  pub has_openings : Bool
+
+abbrev pub about_rules : Rules → AboutRules
+about_rules Standard = record {
+  word = codes "profile";
+  table = standard_table;
+  changing = cpath ∷ [];
+  is_told = false;
+  has_openings = false;
+}
+about_rules Openbsd = record {
+  word = codes "openbsd";
+  table = openbsd_table;
+  changing = cpath ∷ unix ∷ dpath ∷ [];
+  is_told = true;
+  has_openings = true;
+}
+
 abbrev pub table_by_rules : Rules → CallTable
-table_by_rules Profile = standard_table
-table_by_rules Openbsd = openbsd_table
+table_by_rules rules = (about_rules rules).table
+
+-- in the order in which they are looked through for a word
+abbrev pub all_rules : List Rules
+all_rules = Standard ∷ Openbsd ∷ []
+
+-- the rules that a command names, which are the standard ones where it names none
+abbrev pub rules_named : Option (List ℕ) → Rules
+rules_named None = Standard
+rules_named (Some word) = unwrap_or (find (λ rules. same_bytes (about_rules rules).word word) all_rules) Standard
 
 abbrev pub rule_of : CallTable → Call → Rule
 rule_of table call = slice_index_or table.rules (call_number call - 1) (standard_rule call)
@@ -382,6 +440,6 @@ call_in table word = only_if (is_known table) (call_of_name word)
 abbrev pub call_named_by : Rules → List ℕ → Option Call
 call_named_by rules word = call_in (table_by_rules rules) word
 
--- and by those of the profile
+-- and by the standard ones
 abbrev pub call_named : List ℕ → Option Call
-call_named word = call_named_by Profile word
+call_named word = call_named_by Standard word

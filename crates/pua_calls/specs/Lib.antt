@@ -3,6 +3,7 @@ pub mod Promises
 pub mod Misfits
 pub mod Effects
 pub mod Calls
+pub mod Neighbours
 pub mod CallSets
 pub mod Tables
 pub mod TableTexts

@@ -1,5 +1,7 @@
 -- What is wrong with an object for a call, and the errno that says so.
-use Rattle.std.specs.Prelude.{false, Some, None}
+use Rattle.std.specs.Prelude.{false, Option, Some, None, if◌then◌else◌}
+use Rattle.pua_tree.specs.declared.node.Kind.{Kind}
+use Rattle.pua_tree.specs.declared.node.Kind.TheVariants.{Dir, File, Prog, Link}
 use Rattle.pua_path.specs.declared.errno.Errno.{Errno}
 use Rattle.pua_path.specs.declared.errno.Errno.TheVariants.{EPERM, ENOENT, EACCES, EBUSY, EEXIST, ENOTDIR, EISDIR, EINVAL, ENOTEMPTY}
 use Rattle.pua_path.specs.declared.errno.Errno.TheVariants.{ENOTSOCK, EADDRINUSE}
@@ -31,6 +33,13 @@ none_standing misfit = record {
 
 abbrev pub free_names : Misfit → Fits
 free_names misfit = record (none_standing misfit) { missing = None }
+
+-- with a node of a kind, wherever it stands: a directory is removed by the way to it, which a kind doesn't tell
+abbrev pub fits_on : Fits → Kind → Option Misfit
+fits_on fits Dir = if fits.by_way then Some Exists else fits.directory
+fits_on fits File = fits.file
+fits_on fits Prog = fits.program
+fits_on fits Link = fits.link
 
 -- the errno that says so, which the misfit alone decides
 abbrev pub misfit_errno : Misfit → Errno

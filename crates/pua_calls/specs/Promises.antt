@@ -53,6 +53,9 @@ proc = 2 ^ 17
 abbrev pub rpath : ℕ
 rpath = 2 ^ 22
 
+abbrev pub tmppath : ℕ
+tmppath = 2 ^ 27
+
 abbrev pub unix : ℕ
 unix = 2 ^ 29
 

@@ -6,8 +6,9 @@ use Rattle.pua_calls.specs.Promises.{cpath}
 use Rattle.pua_calls.specs.Calls.{calls, is_known, call_in, call_named, call_named_by, standard_table, openbsd_table, rule_of}
 use Rattle.pua_calls.specs.Tables.{IsCallTable}
 use Rattle.pua_calls.specs.TableTexts.{table_of, table_over, with_rule}
-use Rattle.pua_calls.specs.declared.call.Call.TheVariants.{Stat, Mkdir, Unlink, Connect, Bind, Mknod, Chown, CreateBoth}
-use Rattle.pua_calls.specs.declared.rules.Rules.TheVariants.{Openbsd}
+use Rattle.pua_calls.specs.declared.call.Call.TheVariants.{Stat, OpenWrite, Mkdir, Unlink, Connect, Bind, Mknod, Chown, CreateBoth, Fchmod, Fchown}
+use Rattle.pua_calls.specs.Neighbours.{call_asked_by}
+use Rattle.pua_calls.specs.declared.rules.Rules.TheVariants.{Standard, Openbsd}
 use Rattle.pua_calls.specs.declared.table.read.TableFault.TheVariants.{BadToml, BadKey, BadRow, BadPromises, BadVeil}
 
 -- a text with a row of stat, of this array of promises and this veil
@@ -60,13 +61,17 @@ pub record OpenbsdRows : Type 0 where
   pub row_over : table_over openbsd_table (stat_row (codes "['']") (codes "''"))
       ≡ Ok (with_rule openbsd_table Stat (record { alternatives = 0 ∷ []; perms = 0 }))
   pub no_rename : table_over openbsd_table (text_of_lines (codes "[rename]" ∷ [])) ≡ Err BadKey
-  -- it has calls that the profile doesn't, and rows for them
+  -- it has calls that the standard rules don't, and rows for them
   pub named : call_named_by Openbsd (codes "connect") ≡ Some Connect
   pub not_named : call_named (codes "connect") ≡ None
+  -- and a request may name a neighbour of a call, which is no call itself
+  pub asked : call_asked_by Openbsd (codes "truncate") ≡ Some OpenWrite
+  pub not_asked : call_asked_by Standard (codes "truncate") ≡ None
+  pub no_neighbour : call_in openbsd_table (codes "truncate") ≡ None
   pub had : call_in openbsd_table (codes "bind") ≡ Some Bind
   pub not_had : call_in standard_table (codes "bind") ≡ None
   pub each_known : list_all (is_known openbsd_table) calls ≡ true
-  pub further : filter (λ call. not (is_known standard_table call)) calls ≡ Connect ∷ Bind ∷ Mknod ∷ Chown ∷ CreateBoth ∷ []
+  pub further : filter (λ call. not (is_known standard_table call)) calls ≡ Connect ∷ Bind ∷ Mknod ∷ Chown ∷ CreateBoth ∷ Fchmod ∷ Fchown ∷ []
   pub further_row : table_over openbsd_table (text_of_lines (codes "[connect]" ∷ codes "promises = ['']" ∷ codes "veil = ''" ∷ []))
       ≡ Ok (with_rule openbsd_table Connect (record { alternatives = 0 ∷ []; perms = 0 }))
   pub no_further_row : table_of (text_of_lines (codes "[connect]" ∷ codes "promises = ['']" ∷ codes "veil = ''" ∷ [])) ≡ Err BadKey

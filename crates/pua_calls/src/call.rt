@@ -49,6 +49,10 @@ pub enum Call {
     Chown,
     /// open(2) with `O_RDWR | O_CREAT`, which OpenBSD's rules alone have.
     CreateBoth,
+    /// open(2) with `O_RDONLY`, and fchmod(2) by its descriptor, which OpenBSD's rules alone have.
+    Fchmod,
+    /// open(2) with `O_RDONLY`, and fchown(2) by its descriptor, which OpenBSD's rules alone have.
+    Fchown,
 }
 
 /// A blank, the name of any call and LF have at most so many bytes.
@@ -97,7 +101,7 @@ impl Call {
     ghost use Rattle.pua_calls.specs.Calls.{call_named_by, is_known, last_of, table_by_rules};
 
     /// How many calls there are.
-    pub const COUNT: usize = 19;
+    pub const COUNT: usize = 21;
 
     /// Every call, in the order of their numbers.
     pub const ALL: [Call; Call::COUNT] = [
@@ -120,6 +124,8 @@ impl Call {
         Call::Mknod,
         Call::Chown,
         Call::CreateBoth,
+        Call::Fchmod,
+        Call::Fchown,
     ];
 
     /// Its number, from 1 to `COUNT`.
@@ -428,6 +434,32 @@ impl Call {
                 effect: Effect::Makes(Kind::File),
                 turns: true,
             },
+            Call::Fchmod => Facts {
+                name: "fchmod",
+                line: b" fchmod\n        ",
+                standard: None,
+                openbsd: Promises::RPATH.union(Promises::FATTR),
+                other: None,
+                perms: Perms::READ,
+                last: Last::Followed,
+                ending: Ending::Dot,
+                fits: Fits::STANDING,
+                effect: Effect::Looks,
+                turns: true,
+            },
+            Call::Fchown => Facts {
+                name: "fchown",
+                line: b" fchown\n        ",
+                standard: None,
+                openbsd: Promises::RPATH.union(Promises::CHOWN),
+                other: Some(Promises::RPATH.union(Promises::FATTR)),
+                perms: Perms::READ,
+                last: Last::Followed,
+                ending: Ending::Dot,
+                fits: Fits::STANDING,
+                effect: Effect::Looks,
+                turns: false,
+            },
         }
     }
 
@@ -491,7 +523,7 @@ impl Call {
         ensures { result ≡ is_known (table_by_rules rules) self }
     {
         match rules {
-            Rules::Profile => self.facts().standard.is_some(),
+            Rules::Standard => self.facts().standard.is_some(),
             Rules::Openbsd => true,
         }
     }
@@ -500,7 +532,7 @@ impl Call {
     pub fn read(word: &[u8]) -> Option<Call>
         ensures { result ≡ call_named word.now }
     {
-        Call::read_by(Rules::Profile, word)
+        Call::read_by(Rules::Standard, word)
     }
 
     /// The call of this name, if there is one by any rules.

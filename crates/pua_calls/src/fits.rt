@@ -1,9 +1,10 @@
 //! Which objects a call is on, and what is wrong with the others.
 
 ghost use Rattle.std.specs.Prelude.{◌≡◌};
-ghost use Rattle.pua_calls.specs.Misfits.{each_standing, none_standing, free_names, misfit_errno};
+ghost use Rattle.pua_calls.specs.Misfits.{each_standing, none_standing, free_names, misfit_errno, fits_on};
 
 use pua_path::Errno;
+use pua_tree::Kind;
 
 /// What is wrong with what a path named, for a call.
 #[derive(Clone, Copy)]
@@ -75,6 +76,20 @@ pub struct Fits {
 }
 
 impl Fits {
+    /// What is wrong with a node of this kind, wherever it stands. What is wrong with removing a directory
+    /// rests on the way to it, which isn't asked here: something has the name.
+    pub fn on(&self, kind: Kind) -> Option<Misfit>
+        ensures { result ≡ fits_on self.now kind }
+    {
+        match kind {
+            Kind::Dir if self.by_way => Some(Misfit::Exists),
+            Kind::Dir => self.directory,
+            Kind::File => self.file,
+            Kind::Prog => self.program,
+            Kind::Link => self.link,
+        }
+    }
+
     /// Of a call on whatever stands.
     pub(crate) const STANDING: Fits = Fits {
         directory: None,

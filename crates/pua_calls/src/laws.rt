@@ -14,10 +14,10 @@ use crate::table::MOST_ALTERNATIVES;
 
 /// The constants of `Promises` that are one promise, in the order of their keywords: each is what
 /// its keyword names.
-pub fn promise_constants() -> [Promises; 11]
+pub fn promise_constants() -> [Promises; 12]
     ensures { map Ok result ≡ map promises_of (codes "chown" ∷ codes "cpath" ∷ codes "dpath"
         ∷ codes "error" ∷ codes "exec" ∷ codes "fattr" ∷ codes "proc" ∷ codes "rpath"
-        ∷ codes "unix" ∷ codes "unveil" ∷ codes "wpath" ∷ []) }
+        ∷ codes "tmppath" ∷ codes "unix" ∷ codes "unveil" ∷ codes "wpath" ∷ []) }
 {
     [
         Promises::CHOWN,
@@ -28,6 +28,7 @@ pub fn promise_constants() -> [Promises; 11]
         Promises::FATTR,
         Promises::PROC,
         Promises::RPATH,
+        Promises::TMPPATH,
         Promises::UNIX,
         Promises::UNVEIL,
         Promises::WPATH,

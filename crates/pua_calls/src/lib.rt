@@ -7,6 +7,7 @@ mod effect;
 mod fits;
 mod laws;
 pub mod needs;
+mod neighbour;
 mod perms;
 mod promises;
 mod rules;

@@ -54,6 +54,8 @@ impl Keywords {
 
     const RPATH: Keywords = Keywords(1 << 22);
 
+    const TMPPATH: Keywords = Keywords(1 << 27);
+
     const UNIX: Keywords = Keywords(1 << 29);
 
     const UNVEIL: Keywords = Keywords(1 << 30);
@@ -172,7 +174,7 @@ static KEYWORDS: [Flag<Keywords>; Promises::KEYWORDS] = [
     },
     Flag {
         name: "tmppath",
-        value: Keywords(1 << 27),
+        value: Keywords::TMPPATH,
     },
     Flag {
         name: "tty",
@@ -279,6 +281,11 @@ impl Promises {
     /// To read files, and to look at them.
     pub const RPATH: Promises = Promises {
         keywords: Keywords::RPATH,
+    };
+
+    /// To make and to remove files in `/tmp`.
+    pub const TMPPATH: Promises = Promises {
+        keywords: Keywords::TMPPATH,
     };
 
     /// To name sockets by their paths.

@@ -3,10 +3,82 @@
 /// Whose rules a command goes by: what calls need, and what an exec leaves of execpromises.
 #[derive(Clone, Copy, PartialEq, Eq)]
 pub enum Rules {
-    /// This project's own profile, which is the default everywhere.
-    Profile,
+    /// The standard rules, this project's own profile, which are the default everywhere.
+    Standard,
     /// OpenBSD's kernel, as its manual pages and its sources are known. No kernel was tried.
     Openbsd,
+}
+
+/// What is said of a set of rules, beside the table of what calls need.
+#[derive(Clone, Copy)]
+struct AboutRules {
+    word: &'static str,
+    is_told: bool,
+    has_openings: bool,
+}
+
+ghost use Rattle.std.specs.Prelude.{◌≡◌, option_map};
+ghost use Rattle.pua_calls.specs.Calls.{about_rules, rules_named};
+
+impl Rules {
+    /// All rules that a command can name.
+    pub const ALL: [Rules; 2] = [Rules::Standard, Rules::Openbsd];
+
+    /// What is said of these rules. Their table is `CallTable::of`.
+    fn about(self) -> AboutRules
+        ensures word { result.word.now ≡ (about_rules self).word }
+        ensures told { result.is_told ≡ (about_rules self).is_told }
+        ensures openings { result.has_openings ≡ (about_rules self).has_openings }
+    {
+        match self {
+            Rules::Standard => AboutRules {
+                word: "profile",
+                is_told: false,
+                has_openings: false,
+            },
+            Rules::Openbsd => AboutRules {
+                word: "openbsd",
+                is_told: true,
+                has_openings: true,
+            },
+        }
+    }
+
+    /// The word that names these rules in commands.
+    pub fn word(self) -> &'static str
+        ensures { result.now ≡ (about_rules self).word }
+    {
+        self.about().word
+    }
+
+    /// Whether lists say whose rules they are.
+    pub fn is_told(self) -> bool
+        ensures { result ≡ (about_rules self).is_told }
+    {
+        self.about().is_told
+    }
+
+    /// Whether promises open paths by themselves.
+    pub fn has_openings(self) -> bool
+        ensures { result ≡ (about_rules self).has_openings }
+    {
+        self.about().has_openings
+    }
+
+    /// The rules of this word, which are the standard ones where there is no word, and where it names
+    /// none.
+    pub fn named(word: Option<&str>) -> Rules
+        ensures { result ≡ rules_named (option_map (λ s. s.now) word.entry) }
+    {
+        let Some(word) = word else {
+            return Rules::Standard;
+        };
+        Rules::ALL
+            .iter()
+            .find(|rules| rules.word().as_bytes() == word.as_bytes())
+            .copied()
+            .unwrap_or(Rules::Standard)
+    }
 }
 
 /// What an exec leaves of execpromises that were given: they become the promises of the program

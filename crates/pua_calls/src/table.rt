@@ -187,7 +187,7 @@ impl CallTable {
         ensures { result ≡ table_by_rules rules }
     {
         match rules {
-            Rules::Profile => CallTable::standard(),
+            Rules::Standard => CallTable::standard(),
             Rules::Openbsd => CallTable::openbsd(),
         }
     }

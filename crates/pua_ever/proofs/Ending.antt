@@ -22,7 +22,7 @@ use Rattle.pua_path.specs.declared.errno.Errno.{Errno}
 use Rattle.pua_path.specs.declared.found.Last.{Last}
 use Rattle.pua_path.specs.declared.found.Last.TheVariants.{Kept}
 use Rattle.pua_calls.specs.Calls.{ending_of, last_of}
-use Rattle.pua_policy.specs.Verdict.{IsFile, IsProg, IsLink, rmdir_fault}
+use Rattle.pua_policy.specs.Verdict.{Is, IsFile, IsLink, rmdir_fault}
 use Rattle.pua_policy.specs.Verdict.{verdict}
 use Rattle.pua_calls.specs.declared.call.Call.TheVariants as call
 use Rattle.pua_policy.specs.declared.place.Place.TheVariants as place
@@ -105,11 +105,8 @@ module _ (t : Tree) (table : CallTable) (h : ProcessState) (what : Option Kind) 
 -- what is allowed on a thing as it is can be allowed on it
 pub can_from : (table : CallTable) (h : ProcessState) (covers : List Cover) (object : Object) (c : Call) →
     is_allowed_under table h covers object c ≡ true → can_allow table h covers object c ≡ true
-can_from table h covers IsFile c e = or_left (is_allowed_under table h covers IsFile c) _ e
-can_from table h covers IsProg c e = e
-can_from table h covers IsLink c e = e
-can_from table h covers IsMissing c e = e
-can_from table h covers (IsDir dir way) c e = e
+can_from table h covers (Is kind.File) c e = or_left (is_allowed_under table h covers IsFile c) _ e
+can_from table h covers _ c e = e
 
 can_new : (t : Tree) (table : CallTable) (h : ProcessState) (made : New) (c : Call) →
     is_allowed_under table h (new_covers t table h made) (new_object made) c ≡ true → can_allow_new t table h made c ≡ true

@@ -12,7 +12,8 @@ pub use Rattle.pua_ever.proofs.Refused.{unrefused_table, unrefused_process}
 pub use Rattle.pua_ever.proofs.RowsLast.{exec_told}
 pub use Rattle.pua_ever.proofs.Through.{no_line}
 -- the list that holds longest, by who holds both sets
-pub use Rattle.pua_ever.proofs.Chosen.{lasting_unbounded, lasting_alone, lasting_through, starts_open}
+pub use Rattle.pua_ever.proofs.Chosen.{lasting_unbounded, lasting_alone, lasting_through, starts_open, starts_unlisted}
+pub use Rattle.pua_ever.proofs.Chosen.{unlisted_unbounded}
 -- what an item is about stands in its tree, what covers that now is among the covers under which it can come, and which others are
 pub use Rattle.pua_ever.proofs.Now.{StandsNow, items_stand, dir_cover, file_cover}
 pub use Rattle.pua_ever.proofs.Ending.{named_moved, named_linked}

@@ -1,22 +1,13 @@
 -- The last check of a call asks for a kind, whatever the tree; rmdir alone asks more of a directory.
 use Rattle.pua_ever.proofs.Common.{◌≡◌, ℕ, Bool, true, false, cond, refl, Option, Some, None, false≢true, Tree, empty_tree, Kind, Way}
 use Rattle.pua_ever.proofs.Common.{Object, IsDir, object_of_kind, object_fault, Call, removable_dir, lasting_dir}
-use Rattle.pua_tree.specs.declared.node.Kind.TheVariants as kind
 use Rattle.pua_calls.specs.declared.call.Call.TheVariants as call
 
 -- of something but a directory
 pub plain_alike : (u : Tree) (c : Call) (k : Option Kind) →
     object_fault u c (object_of_kind k) ≡ object_fault empty_tree c (object_of_kind k)
-plain_alike u call.Stat None = refl
-plain_alike u _ None = refl
-plain_alike u call.Stat (Some kind.File) = refl
-plain_alike u _ (Some kind.File) = refl
-plain_alike u call.Stat (Some kind.Prog) = refl
-plain_alike u _ (Some kind.Prog) = refl
-plain_alike u call.Stat (Some kind.Link) = refl
-plain_alike u _ (Some kind.Link) = refl
-plain_alike u call.Stat (Some kind.Dir) = refl
-plain_alike u _ (Some kind.Dir) = refl
+plain_alike u c None = refl
+plain_alike u c (Some kind) = refl
 
 -- of a directory
 abbrev pub dir_as : Bool → Object

@@ -6,7 +6,6 @@ use Rattle.pua_ever.proofs.Common.{Named, Top, Dot, DotDot, Whole, Slot, CallTab
 use Rattle.pua_ever.proofs.Common.{IsMissing, object_of_kind, cover, covered_verdict, is_allowed, Call, Cover, Only, has_c, SubjectFits}
 use Rattle.pua_ever.proofs.Common.{subject_given, own_or, Subject, At, Others, cover_in, covers_descend, may_edit, is_allowed_under}
 use Rattle.pua_ever.proofs.Common.{is_ever_allowed, is_free, own_spot, AreOnFreed}
-use Rattle.pua_tree.specs.declared.node.Kind.TheVariants as kinds
 use Rattle.pua_policy.specs.Verdict.{object_of}
 use Rattle.pua_policy.specs.declared.place.Place.TheVariants as place
 use Rattle.pua_policy.specs.declared.object.Object as seen
@@ -23,10 +22,7 @@ use Rattle.pua_calls.proofs.ForCallers.{has_none}
 -- what stands at a name is seen alike in each tree
 seen_alike : (t : Tree) (k : Option Kind) → object_seen t (object_of_kind k) ≡ object_seen empty_tree (object_of_kind k)
 seen_alike t None = refl
-seen_alike t (Some kinds.Dir) = refl
-seen_alike t (Some kinds.File) = refl
-seen_alike t (Some kinds.Prog) = refl
-seen_alike t (Some kinds.Link) = refl
+seen_alike t (Some kind) = refl
 
 module _ (t : Tree) (well : WellFormed t) (table : CallTable) (h : ProcessState) where
   -- what stands at a name has a kind
@@ -121,10 +117,7 @@ module _ (t : Tree) (well : WellFormed t) (table : CallTable) (h : ProcessState)
       plain : (x : ℕ) (k : Option Kind) → is_some k ≡ true → object ≡ object_seen t (object_of_kind k) →
           own_given (subject.Name dir name) object ≡ Some (dir, name.now)
       plain x None some is = cc
-      plain x (Some kinds.Dir) some is = ap (own_given (subject.Name dir name)) is
-      plain x (Some kinds.File) some is = ap (own_given (subject.Name dir name)) is
-      plain x (Some kinds.Prog) some is = ap (own_given (subject.Name dir name)) is
-      plain x (Some kinds.Link) some is = ap (own_given (subject.Name dir name)) is
+      plain x (Some kind) some is = ap (own_given (subject.Name dir name)) is
 
       by : (o : Option ℕ) → look t dir name.now ≡ o → SubjectFits t (At (Slot dir name.now o)) →
           object ≡ object_on t (At (Slot dir name.now o)) → own_given (subject.Name dir name) object ≡ own_spot (At (Slot dir name.now o))

@@ -13,6 +13,7 @@ use Rattle.pua_policy.specs.declared.place.Place.TheVariants as place
 use Rattle.pua_policy.specs.declared.answer.May.TheVariants as may
 use Rattle.pua_policy.specs.declared.object.Object as seen
 use Rattle.pua_policy.specs.declared.object.Object.TheVariants as see
+use Rattle.pua_tree.specs.declared.node.Kind.TheVariants as kind
 use Rattle.pua_script.proofs.ForCallers.{c_from_cover}
 use Rattle.pua_ever.specs.Ever.{can_allow, ever_covers}
 use Rattle.pua_ever.specs.Prospects.{IsProspects}
@@ -165,15 +166,15 @@ module _ (t : Tree) (table : CallTable) (h : ProcessState) (p : Prospects) (is :
         removed : Bool
         removed = ((is_named_way way && not stays) && may_edit table h) || empty_now way
 
-        seen_as : (b : Bool) → cond b see.Removable see.Directory ≡ object_seen empty_tree (dir_as b)
+        seen_as : (b : Bool) → cond b see.Removable (see.Node kind.Dir) ≡ object_seen empty_tree (dir_as b)
         seen_as true = refl
         seen_as false = refl
 
-        own : (w : Way) → object_seen t (IsDir dir w) ≡ cond (empty_now w) see.Removable see.Directory
+        own : (w : Way) → object_seen t (IsDir dir w) ≡ cond (empty_now w) see.Removable (see.Node kind.Dir)
         own (Named parent name) = by (is_empty t dir)
           where
-            by : (b : Bool) → cond (is_none (option_map misfit_errno (cond b None (Some IsNotEmpty)))) see.Removable see.Directory
-                ≡ cond b see.Removable see.Directory
+            by : (b : Bool) → cond (is_none (option_map misfit_errno (cond b None (Some IsNotEmpty)))) see.Removable (see.Node kind.Dir)
+                ≡ cond b see.Removable (see.Node kind.Dir)
             by true = refl
             by false = refl
         own Top = refl
@@ -185,8 +186,8 @@ module _ (t : Tree) (table : CallTable) (h : ProcessState) (p : Prospects) (is :
         sees = ap (cond ((is_named_way way && not stays) && may_edit table h) see.Removable) (own way) ∙
             by ((is_named_way way && not stays) && may_edit table h) ∙ seen_as removed
           where
-            by : (b : Bool) → cond b see.Removable (cond (empty_now way) see.Removable see.Directory) ≡ cond (b || empty_now way)
-                see.Removable see.Directory
+            by : (b : Bool) → cond b see.Removable (cond (empty_now way) see.Removable (see.Node kind.Dir)) ≡ cond (b || empty_now way)
+                see.Removable (see.Node kind.Dir)
             by true = refl
             by false = refl
 

@@ -3,7 +3,7 @@ use Rattle.pua_ever.proofs.Common.{◌≡◌, Bool, true, false, not, ◌||◌, 
 use Rattle.pua_calls.specs.Promises.{holds, creating}
 use Rattle.pua_calls.specs.Calls.{openbsd_table, standard_table}
 use Rattle.pua_calls.specs.declared.call.Call.TheVariants as call
-use Rattle.pua_calls.specs.declared.rules.Rules.TheVariants.{Profile, Openbsd}
+use Rattle.pua_calls.specs.declared.rules.Rules.TheVariants.{Standard, Openbsd}
 use Rattle.pua_script.specs.Confinement.{changes_names}
 use Rattle.pua_script.proofs.ForCallers.{rules_narrow}
 use Rattle.pua_ever.specs.Laws.{RulesEditByC}
@@ -21,8 +21,8 @@ openbsd_needs_c call.Stat changes = absurd (false≢true changes)
 openbsd_needs_c c changes = either (changes_names c) (holds (rule_of openbsd_table c).perms creating) refl changes
 
 pub rules_edit_by_c : RulesEditByC
-rules_edit_by_c Profile = (
-  (rules_narrow Profile).error,
+rules_edit_by_c Standard = (
+  (rules_narrow Standard).error,
   record { calls = standard_needs_c; rename_old = refl; rename_new = refl; link_new = refl },
 )
 rules_edit_by_c Openbsd = (

@@ -18,7 +18,7 @@ use Rattle.pua_calls.specs.CallSets.{keeps_link, is_kept}
 use Rattle.pua_policy.specs.States.{ProcessState, perms_kept, veils, may_any}
 use Rattle.pua_policy.specs.declared.answer.May.{May}
 use Rattle.pua_policy.specs.declared.answer.May.TheVariants.{Yes}
-use Rattle.pua_policy.specs.Verdict.{Object, IsDir, IsFile, IsProg, IsLink, IsMissing, object_of, cover, cover_fault, covered_verdict, is_allowed}
+use Rattle.pua_policy.specs.Verdict.{Object, IsDir, Is, IsFile, IsProg, IsLink, IsMissing, object_of, cover, cover_fault, covered_verdict, is_allowed}
 use Rattle.pua_policy.specs.declared.answer.Cover.{Cover}
 use Rattle.pua_policy.specs.declared.answer.Cover.TheVariants.{Only}
 use Rattle.pua_calls.specs.declared.call.Call.{Call}
@@ -223,7 +223,7 @@ starts_under table h covers call = is_exec_call call && is_allowed_under table h
 -- a call can be allowed on such a thing under these covers: as it is, or, where it is a file that can be made a program, as
 -- that
 abbrev pub can_allow : CallTable → ProcessState → List Cover → Object → Call → Bool
-can_allow table h covers IsFile call =
+can_allow table h covers (Is kind.File) call =
     is_allowed_under table h covers IsFile call
     || (list_any (is_allowed_under table h covers IsFile) turning_calls && starts_under table h covers call)
 can_allow table h covers object call = is_allowed_under table h covers object call

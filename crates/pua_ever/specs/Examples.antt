@@ -387,14 +387,14 @@ pub record EverRows : Type 0 where
       ∷ codes "file new stat,lstat,open-r"
       ∷ []
   pub aliases : lines_by_openbsd aliases_tree aliases_process ≡
-      codes "dir /mail stat,lstat,open-r,chdir"
-      ∷ codes "file /mail/aliases stat,lstat,open-r,open-w,open-rw,create,unlink,chmod,chown,create-rw"
+      codes "dir /mail stat,lstat,open-r,chdir,fchmod,fchown"
+      ∷ codes "file /mail/aliases stat,lstat,open-r,open-w,open-rw,create,unlink,chmod,chown,create-rw,fchmod,fchown"
       ∷ codes "link /mail/l lstat,readlink"
-      ∷ codes "dir /spool stat,lstat,open-r,rmdir,chmod,chdir,chown"
+      ∷ codes "dir /spool stat,lstat,open-r,rmdir,chmod,chdir,chown,fchmod,fchown"
       ∷ codes "other /spool create,mkdir,symlink,create-rw"
-      ∷ codes "dir new stat,lstat,open-r,rmdir,chmod,chdir,chown"
+      ∷ codes "dir new stat,lstat,open-r,rmdir,chmod,chdir,chown,fchmod,fchown"
       ∷ codes "other new create,mkdir,symlink,create-rw"
-      ∷ codes "file new stat,lstat,open-r,open-w,open-rw,create,unlink,chmod,chown,create-rw"
+      ∷ codes "file new stat,lstat,open-r,open-w,open-rw,create,unlink,chmod,chown,create-rw,fchmod,fchown"
       ∷ codes "link new lstat,readlink,unlink"
       ∷ []
   pub standard_aliases : lines aliases_tree aliases_process ≡
@@ -417,13 +417,13 @@ pub record EverRows : Type 0 where
       ∷ codes "link new unlink"
       ∷ []
   pub two_ways : lines_by_openbsd two_ways_tree two_ways_process ≡
-      codes "dir /bin stat,lstat,open-r,chdir"
-      ∷ codes "prog /bin/p stat,lstat,open-r,open-w,open-rw,create,unlink,chmod,exec,chown,create-rw"
-      ∷ codes "dir /spool stat,lstat,open-r,rmdir,chmod,chdir,chown"
+      codes "dir /bin stat,lstat,open-r,chdir,fchmod,fchown"
+      ∷ codes "prog /bin/p stat,lstat,open-r,open-w,open-rw,create,unlink,chmod,exec,chown,create-rw,fchmod,fchown"
+      ∷ codes "dir /spool stat,lstat,open-r,rmdir,chmod,chdir,chown,fchmod,fchown"
       ∷ codes "other /spool create,mkdir,symlink,create-rw"
-      ∷ codes "dir new stat,lstat,open-r,rmdir,chmod,chdir,chown"
+      ∷ codes "dir new stat,lstat,open-r,rmdir,chmod,chdir,chown,fchmod,fchown"
       ∷ codes "other new create,mkdir,symlink,create-rw"
-      ∷ codes "file new stat,lstat,open-r,open-w,open-rw,create,unlink,chmod,chown,create-rw"
+      ∷ codes "file new stat,lstat,open-r,open-w,open-rw,create,unlink,chmod,chown,create-rw,fchmod,fchown"
       ∷ codes "link new lstat,readlink,unlink"
       ∷ []
   pub standard_rules : refusal standard_table no_veil_process ≡ None
@@ -491,23 +491,23 @@ pub record MovedRows : Type 0 where
       codes "dir /in rmdir,chmod,chown"
       ∷ codes "other /in create,mkdir,symlink"
       ∷ codes "file /in/f open-w,create,unlink,chmod,chown"
-      ∷ codes "dir /tmp stat,lstat,open-r,rmdir,chmod,chdir,chown"
+      ∷ codes "dir /tmp stat,lstat,open-r,rmdir,chmod,chdir,chown,fchmod,fchown"
       ∷ codes "other /tmp create,mkdir,symlink,create-rw"
-      ∷ codes "dir new stat,lstat,open-r,rmdir,chmod,chdir,chown"
+      ∷ codes "dir new stat,lstat,open-r,rmdir,chmod,chdir,chown,fchmod,fchown"
       ∷ codes "other new create,mkdir,symlink,create-rw"
-      ∷ codes "file new stat,lstat,open-r,open-w,open-rw,create,unlink,chmod,chown,create-rw"
+      ∷ codes "file new stat,lstat,open-r,open-w,open-rw,create,unlink,chmod,chown,create-rw,fchmod,fchown"
       ∷ codes "link new lstat,readlink,unlink"
       ∷ []
   pub openbsd_name_and_area : lines_by_openbsd name_and_area_tree name_and_area_process ≡
-      codes "dir / stat,lstat,open-r,chdir"
+      codes "dir / stat,lstat,open-r,chdir,fchmod,fchown"
       ∷ codes "dir /a rmdir,chmod,chown"
       ∷ codes "other /a create,mkdir,symlink"
       ∷ codes "prog /a/p open-w,create,unlink,chmod,chown"
-      ∷ codes "prog /f stat,lstat,open-r,open-w,open-rw,create,unlink,chmod,chown,create-rw"
+      ∷ codes "prog /f stat,lstat,open-r,open-w,open-rw,create,unlink,chmod,chown,create-rw,fchmod,fchown"
       ∷ codes "missing /f create,mkdir,symlink,create-rw"
-      ∷ codes "dir new stat,lstat,open-r,rmdir,chmod,chdir,chown"
+      ∷ codes "dir new stat,lstat,open-r,rmdir,chmod,chdir,chown,fchmod,fchown"
       ∷ codes "other new create,mkdir,symlink"
-      ∷ codes "file new stat,lstat,open-r,open-w,open-rw,create,unlink,chmod,chown,create-rw"
+      ∷ codes "file new stat,lstat,open-r,open-w,open-rw,create,unlink,chmod,chown,create-rw,fchmod,fchown"
       ∷ codes "link new lstat,readlink,unlink"
       ∷ []
 
@@ -551,6 +551,10 @@ plain_file_process =
 abbrev pub mode_process : ProcessState
 mode_process = locked_by (fattr + exec) ((place.Dir 1, writing + executing) ∷ [])
 
+-- and by OpenBSD's rules it is set by a descriptor that was opened for reading
+abbrev pub read_mode_process : ProcessState
+read_mode_process = locked_by (rpath + fattr + exec) ((place.Dir 1, reading + executing) ∷ [])
+
 -- what can be started that was no program: a file that is made, is written or has its mode set, where it can come under x
 pub record StartedRows : Type 0 where
   pub job : lines job_tree job_process ≡
@@ -582,6 +586,12 @@ pub record StartedRows : Type 0 where
       ∷ codes "link new lstat,readlink,unlink"
       ∷ []
   pub mode : lines plain_file_tree mode_process ≡ codes "dir /bin chmod" ∷ codes "file /bin/f chmod,exec" ∷ []
+  pub read_mode : lines_by_openbsd plain_file_tree read_mode_process ≡
+      codes "dir /bin stat,lstat,open-r,chdir,fchmod,fchown"
+      ∷ codes "file /bin/f stat,lstat,open-r,exec,fchmod,fchown"
+      ∷ []
+  pub standard_read_mode : lines plain_file_tree read_mode_process ≡
+      codes "dir /bin stat,lstat,open-r,chdir" ∷ codes "file /bin/f stat,lstat,open-r" ∷ []
 
 pub started_rows : StartedRows
-started_rows = record { job = refl; no_exec = refl; plain_file = refl; mode = refl }
+started_rows = record { job = refl; no_exec = refl; plain_file = refl; mode = refl; read_mode = refl; standard_read_mode = refl }

@@ -1,10 +1,12 @@
 -- The calls that can ever be allowed on what can be moved or made.
-use Rattle.std.specs.Prelude.{◌≡◌, ◌++◌}
+use Rattle.std.specs.Prelude.{◌≡◌, ◌++◌, slice_index}
+use Rattle.pua_tree.specs.Kinds.{about_kind}
 use Rattle.pua_tree.specs.Tree.{Tree}
+use Rattle.pua_tree.specs.declared.node.Kind.{Kind}
 use Rattle.pua_calls.specs.Calls.{CallTable}
 use Rattle.pua_calls.specs.CallSets.{has}
 use Rattle.pua_policy.specs.States.{ProcessState}
-use Rattle.pua_policy.specs.Verdict.{IsFile, IsProg, IsLink, IsMissing}
+use Rattle.pua_policy.specs.Verdict.{Is, IsMissing}
 use Rattle.pua_calls.specs.declared.call.Call.{Call}
 use Rattle.pua_ever.specs.Ever.{dir_covers, name_covers, file_covers, is_allowed_under, lasting_dir, removable_dir}
 use Rattle.pua_ever.specs.declared.movable.Movable.{Movable}
@@ -14,7 +16,6 @@ pub record IsMovable (t : Tree) (table : CallTable) (h : ProcessState) (found : 
   pub dir : (call : Call) → has found.dir call ≡ is_allowed_under table h (dir_covers t h) lasting_dir call
   pub emptied : (call : Call) → has found.emptied call ≡ is_allowed_under table h (dir_covers t h) removable_dir call
   pub others : (call : Call) → has found.others call ≡ is_allowed_under table h (dir_covers t h) IsMissing call
-  pub file : (call : Call) → has found.file call ≡ is_allowed_under table h (file_covers t table h) IsFile call
-  pub program : (call : Call) → has found.program call ≡ is_allowed_under table h (file_covers t table h) IsProg call
-  pub link : (call : Call) → has found.link call ≡ is_allowed_under table h (file_covers t table h) IsLink call
+  pub nodes : (kind : Kind) (call : Call) → has (slice_index found.nodes (about_kind kind).number) call
+      ≡ is_allowed_under table h (file_covers t table h) (Is kind) call
   pub made : (call : Call) → has found.made call ≡ is_allowed_under table h (name_covers t h ++ dir_covers t h) IsMissing call

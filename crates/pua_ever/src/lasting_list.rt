@@ -9,14 +9,14 @@ ghost use Rattle.pua_ever.specs.EverList.{AreEverTold};
 ghost use Rattle.pua_ever.specs.Both.{IsBoth};
 ghost use Rattle.pua_ever.specs.LastingList.{IsBothOf, IsLasting};
 ghost use Rattle.pua_ever.specs.Refusals.{refusal as refusal_of, refusal_in};
-ghost use Rattle.pua_ever.specs.Through.{ever_through, has_exec, only_through};
+ghost use Rattle.pua_ever.specs.Through.{ever_through, execs_unlisted, has_exec, only_through};
 
 use crate::fault::EverFault;
-use crate::lasting::Both;
+use crate::lasting::{Both, starts_made};
 use crate::list::{EverRow, list_ever};
 use pua_calls::{Call, CallTable, Calls};
 use pua_policy::Process;
-use pua_tree::FileTree;
+use pua_tree::{FileTree, OutOfMemory};
 use std::alloc::{AllocError, Global};
 
 /// What a list for ever says of execs.
@@ -26,7 +26,7 @@ pub enum ExecBound {
     Never,
     /// All that is started is bounded: the list holds through every exec.
     Bounded,
-    /// What is started isn't bounded: the list holds until a program is started.
+    /// What is started isn't bounded, or no line tells of it: the list holds until a program is started.
     Open,
 }
 
@@ -59,10 +59,8 @@ pub fn list_lasting<'t, T: FileTree>(
 {
     let rows = list_ever(alloc, tree, process, table)?;
     if !some_exec(rows.as_slice()) {
-        return Ok(LastingList {
-            rows,
-            execs: ExecBound::Never,
-        });
+        let execs = unlisted(alloc, process, table)?;
+        return Ok(LastingList { rows, execs });
     }
     let Some(both) = both else {
         return Ok(LastingList {
@@ -95,6 +93,19 @@ fn rows_through<'t, T: FileTree>(
     match let_through(alloc, rows.as_slice(), both.passes) {
         Ok(through) => Ok(through),
         Err(AllocError) => Err(EverFault::OutOfMemory),
+    }
+}
+
+/// What a list without an exec says of execs: that none can ever succeed, unless a program can be
+/// started that it doesn't tell of. The only fault is that a growth was refused.
+fn unlisted(alloc: Global, process: &Process, table: &CallTable) -> Result<ExecBound, EverFault>
+    ensures execs { IfOk result (λ execs. execs ≡ execs_unlisted table.now process.now) }
+    ensures unrefused { IfErr result (λ fault. refusal_in fault ≡ None) }
+{
+    match starts_made(alloc, process, table) {
+        Ok(true) => Ok(ExecBound::Open),
+        Ok(false) => Ok(ExecBound::Never),
+        Err(OutOfMemory) => Err(EverFault::OutOfMemory),
     }
 }
 

@@ -40,7 +40,7 @@ pub fn now_law()
 {}
 
 /// Each veil stands on a number that was given, in a new world and in each that a replay leaves; and the
-/// rules of the profile and those of OpenBSD are tables that the laws speak of.
+/// standard rules and those of OpenBSD are tables that the laws speak of.
 #[tactic(auto, using(crate::proofs::Standing::new_places, crate::proofs::Standing::replays_keep_places, crate::proofs::Rules::rules_edit_by_c))]
 pub fn premises_law()
     ensures new { NewPlacesStand }

@@ -11,6 +11,7 @@ ghost use Rattle.pua_ever.specs.Through.{can_come as comes_by, let_through as le
 use crate::made::Made;
 use pua_calls::Calls;
 use pua_objects::ObjectKind;
+use pua_tree::Kind;
 
 /// What a line is about.
 #[derive(Clone, Copy, PartialEq, Eq)]
@@ -40,8 +41,8 @@ fn is_made_by(kind: ObjectKind, calls: Calls) -> bool
         result ≡ comes_by (has calls) about }
 {
     match kind {
-        ObjectKind::File => Made::File.is_made_by(calls),
-        ObjectKind::Link => Made::Link.is_made_by(calls),
+        ObjectKind::Node(Kind::File) => Made::File.is_made_by(calls),
+        ObjectKind::Node(Kind::Link) => Made::Link.is_made_by(calls),
         _ => Made::Dir.is_made_by(calls),
     }
 }

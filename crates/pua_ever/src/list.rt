@@ -29,7 +29,7 @@ use crate::prospects::{Prospects, find_prospects};
 use crate::refusal::why_refused;
 use pua_calls::CallTable;
 use pua_objects::{Item, ListItem, ObjectKind, Subject, list_items};
-use pua_policy::{Object, Process};
+use pua_policy::Process;
 use pua_tree::{FileTree, Name};
 use std::alloc::{AllocError, Global};
 
@@ -206,11 +206,5 @@ fn kind_of(item: &Item<'_>) -> ObjectKind
     if let Subject::Others(_) = item.subject {
         return ObjectKind::Other;
     }
-    match item.object {
-        Object::Missing => ObjectKind::Missing,
-        Object::File => ObjectKind::File,
-        Object::Program => ObjectKind::Prog,
-        Object::Link => ObjectKind::Link,
-        Object::Directory | Object::Removable => ObjectKind::Dir,
-    }
+    ObjectKind::of(item.object)
 }

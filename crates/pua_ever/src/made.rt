@@ -55,10 +55,10 @@ impl Made {
         ensures { kind_word result ≡ new_word (new_of self) }
     {
         match self {
-            Made::Dir => ObjectKind::Dir,
+            Made::Dir => ObjectKind::Node(Kind::Dir),
             Made::Others => ObjectKind::Other,
-            Made::File => ObjectKind::File,
-            Made::Link => ObjectKind::Link,
+            Made::File => ObjectKind::Node(Kind::File),
+            Made::Link => ObjectKind::Node(Kind::Link),
         }
     }
 }

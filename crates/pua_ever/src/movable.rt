@@ -1,8 +1,9 @@
 //! The calls that can ever be allowed on what can be moved or made.
 
-ghost use Rattle.std.specs.Prelude.{◌≡◌, Some, ◌++◌, [], IfOk, if◌then◌else◌};
+ghost use Rattle.std.specs.Prelude.{◌≡◌, Some, ◌++◌, [], IfOk, if◌then◌else◌, slice_index};
+ghost use Rattle.pua_tree.specs.Kinds.{about_kind};
 ghost use Rattle.pua_tree.specs.Tree.{Tree, empty_tree};
-ghost use Rattle.pua_tree.specs.declared.node.Kind.{Kind};
+ghost use Rattle.pua_tree.specs.declared.node.Kind.{Kind as AnyKind};
 ghost use Rattle.pua_calls.specs.Calls.{CallTable as Table};
 ghost use Rattle.pua_calls.specs.CallSets.{has};
 ghost use Rattle.pua_calls.specs.declared.call.Call.{Call};
@@ -18,7 +19,7 @@ use crate::moving::moves_any;
 use crate::openings::{Openings, find_openings};
 use pua_calls::{CallTable, Calls};
 use pua_policy::{Cover, Object, Process, judge};
-use pua_tree::{FileTree, OutOfMemory};
+use pua_tree::{FileTree, Kind, OutOfMemory};
 use std::alloc::Global;
 
 /// The calls that can ever be allowed on what can be moved now and has no veil of its own that goes
@@ -33,12 +34,8 @@ pub struct Movable {
     pub emptied: Calls,
     /// On the further names of a directory.
     pub others: Calls,
-    /// On a file that is no program.
-    pub file: Calls,
-    /// On a program.
-    pub program: Calls,
-    /// On a link itself or on what it leads to.
-    pub link: Calls,
+    /// On what is no directory, by the number of its kind: on a link, on itself or on what it leads to.
+    pub nodes: [Calls; Kind::COUNT],
     /// On a name where something can be made.
     pub made: Calls,
 }
@@ -53,16 +50,22 @@ impl Movable {
 
     /// The calls on what is no directory and stands at a name.
     pub(crate) fn on(&self, object: Object) -> Calls
-        ensures { (t : Tree) (table : Table) (h : ProcessState) (kind : Kind) →
+        ensures { (t : Tree) (table : Table) (h : ProcessState) (kind : AnyKind) →
             IsMovable t table h self.now → object
             ≡ object_seen empty_tree (object_of_kind (Some kind)) → (call : Call) → has result call
             ≡ is_allowed_under table h (file_covers t table h) (object_of_kind (Some kind)) call }
     {
         match object {
-            Object::Program => self.program,
-            Object::Link => self.link,
-            _ => self.file,
+            Object::Node(kind) => self.on_node(kind),
+            Object::Missing | Object::Removable => Calls::NONE,
         }
+    }
+
+    /// The calls on what is of a kind, where anything but a directory can come.
+    pub(crate) fn on_node(&self, kind: Kind) -> Calls
+        ensures { result ≡ slice_index self.now.nodes (about_kind kind).number }
+    {
+        self.nodes[kind.number()]
     }
 }
 
@@ -90,21 +93,20 @@ pub(crate) fn calls_by_object(process: &Process, table: &CallTable, found: &Open
         HaveSame found.now.dirs.items (open_covers t process.now) →
         IsMovable t table.now process.now result }
 {
-    let dir = on_dirs(process, table, found, Object::Directory);
+    let dir = on_dirs(process, table, found, Object::Node(Kind::Dir));
     let emptied = on_dirs(process, table, found, Object::Removable);
     let others = on_dirs(process, table, found, Object::Missing);
     let moves = moves_any(process, table, &found.dirs);
-    let file = on_files(process, table, found, moves, Object::File);
-    let program = on_files(process, table, found, moves, Object::Program);
-    let link = on_files(process, table, found, moves, Object::Link);
+    let dir_node = on_files(process, table, found, moves, Object::Node(Kind::Dir));
+    let file = on_files(process, table, found, moves, Object::Node(Kind::File));
+    let program = on_files(process, table, found, moves, Object::Node(Kind::Prog));
+    let link = on_files(process, table, found, moves, Object::Node(Kind::Link));
     let made = on_names(process, table, found);
     Movable {
         dir,
         emptied,
         others,
-        file,
-        program,
-        link,
+        nodes: [dir_node, file, program, link],
         made,
     }
 }

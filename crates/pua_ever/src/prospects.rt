@@ -4,7 +4,7 @@ ghost use Rattle.std.specs.Prelude.{◌≡◌, ◌&&◌, Option, Some, option_ma
 ghost use Rattle.std.specs.Prelude.{if◌then◌else◌, ◌==◌, IfOk};
 ghost use Rattle.std.specs.List.{list_any};
 ghost use Rattle.pua_tree.specs.Tree.{Tree, WellFormed, empty_tree, is_dir as lives_as_dir};
-ghost use Rattle.pua_tree.specs.declared.node.Kind.{Kind};
+ghost use Rattle.pua_tree.specs.declared.node.Kind.{Kind as AnyKind};
 ghost use Rattle.pua_path.specs.declared.found.Way.{Way};
 ghost use Rattle.pua_path.specs.declared.found.Found.TheVariants.{Whole};
 ghost use Rattle.pua_calls.specs.Calls.{CallTable as Table, rule_of};
@@ -37,7 +37,7 @@ use pua_calls::{Call, CallTable, Calls};
 use pua_objects::{Item, Subject};
 use pua_path::Last;
 use pua_policy::{Cover, Object, Place, Process, judge};
-use pua_tree::{FileTree, Name, NodeId, OutOfMemory};
+use pua_tree::{FileTree, Kind, Name, NodeId, OutOfMemory};
 use std::alloc::Global;
 
 /// What decides the calls of the lines of a list for ever, beside an item's own object and cover. It is
@@ -159,12 +159,12 @@ impl Prospects {
 
     /// The calls on a name at which no directory stands, by what does.
     fn on_name(&self, process: &Process, table: &CallTable, cover: &Cover, object: Object) -> Calls
-        ensures { (t : Tree) (kind : Option Kind) → IsProspects t table.now process.now self.now →
+        ensures { (t : Tree) (kind : Option AnyKind) → IsProspects t table.now process.now self.now →
             object ≡ object_seen empty_tree (object_of_kind kind) → (call : AnyCall) →
             has result call ≡ kind_allowed t table.now process.now cover.now kind call }
     {
         let calls = self.on_plain(process, table, cover, object);
-        if object == Object::Link {
+        if object == Object::Node(Kind::Link) {
             calls.keeping()
         } else {
             calls
@@ -173,7 +173,7 @@ impl Prospects {
 
     /// The same, of a link with the calls on what it leads to.
     fn on_plain(&self, process: &Process, table: &CallTable, cover: &Cover, object: Object) -> Calls
-        ensures { (t : Tree) (kind : Option Kind) → IsProspects t table.now process.now self.now →
+        ensures { (t : Tree) (kind : Option AnyKind) → IsProspects t table.now process.now self.now →
             object ≡ object_seen empty_tree (object_of_kind kind) → (call : AnyCall) →
             has result call ≡ can_allow table.now process.now
             (kind_covers t table.now process.now cover.now kind) (object_of_kind kind) call }
@@ -186,22 +186,22 @@ impl Prospects {
 
     /// The same, of what stands there; of a file with exec, where it can be made a program.
     fn on_thing(&self, process: &Process, table: &CallTable, cover: &Cover, object: Object) -> Calls
-        ensures { (t : Tree) (kind : Kind) → IsProspects t table.now process.now self.now → object
+        ensures { (t : Tree) (kind : AnyKind) → IsProspects t table.now process.now self.now → object
             ≡ object_seen empty_tree (object_of_kind (Some kind)) → (call : AnyCall) →
             has result call ≡ can_allow table.now process.now (named_covers t table.now process.now
             (Some kind) cover.now) (object_of_kind (Some kind)) call }
     {
         let calls = self.on_seen(process, table, cover, object);
-        if object != Object::File {
+        if object != Object::Node(Kind::File) {
             return calls;
         }
-        let as_program = self.on_seen(process, table, cover, Object::Program);
+        let as_program = self.on_seen(process, table, cover, Object::Node(Kind::Prog));
         on_file(calls, as_program)
     }
 
     /// The same, of what stays what it is.
     fn on_seen(&self, process: &Process, table: &CallTable, cover: &Cover, object: Object) -> Calls
-        ensures { (t : Tree) (kind : Kind) → IsProspects t table.now process.now self.now → object
+        ensures { (t : Tree) (kind : AnyKind) → IsProspects t table.now process.now self.now → object
             ≡ object_seen empty_tree (object_of_kind (Some kind)) → (call : AnyCall) →
             has result call ≡ is_allowed_under table.now process.now
             (named_covers t table.now process.now (Some kind) cover.now) (object_of_kind
@@ -220,7 +220,7 @@ impl Prospects {
     /// Whether what is no directory and stands at a name can be given a further one by link, by what
     /// covers it.
     fn can_link(&self, table: &CallTable, cover: Cover, object: Object) -> bool
-        ensures { (t : Tree) (h : ProcessState) (kind : Kind) → IsProspects t table.now h self.now →
+        ensures { (t : Tree) (h : ProcessState) (kind : AnyKind) → IsProspects t table.now h self.now →
             object ≡ object_seen empty_tree (object_of_kind (Some kind)) → result
             ≡ gives_names table.now h (Some kind) cover }
     {
@@ -228,7 +228,7 @@ impl Prospects {
         if !self.may_link || judge::cover_fault(cover, old_name.perms()).is_some() {
             return false;
         }
-        object != Object::Link || old_name.last() == Last::Kept
+        object != Object::Node(Kind::Link) || old_name.last() == Last::Kept
     }
 
     /// The calls on the name at which an item stands, if it has a veil of its own and the item can
@@ -264,8 +264,11 @@ impl Prospects {
         match made {
             Made::Dir => self.movable.emptied,
             Made::Others => self.movable.others,
-            Made::File => on_new_file(self.movable.file, self.movable.program),
-            Made::Link => self.movable.link.keeping(),
+            Made::File => on_new_file(
+                self.movable.on_node(Kind::File),
+                self.movable.on_node(Kind::Prog),
+            ),
+            Made::Link => self.movable.on_node(Kind::Link).keeping(),
         }
     }
 

@@ -3,6 +3,7 @@ use Rattle.std.proofs.Common.{◌≡◌, ◌<◌, ℕ, Bool, true, false, List, 
 use Rattle.std.specs.List.{Contains, list_any}
 use Rattle.std.specs.Prelude.{◌&&◌, ◌||◌, filter, is_some, option_and_then, unwrap_or}
 use Rattle.pua_tree.specs.Tree.{Tree, WellFormed, is_dir, look}
+use Rattle.pua_tree.specs.declared.node.Kind.TheVariants as node
 use Rattle.pua_tree.proofs.ForCallers.{None≢Some, is_living_dir, row_says, same_Some, sound_from}
 use Rattle.pua_policy.specs.States.{ProcessState, perms_kept}
 use Rattle.pua_policy.specs.declared.place.Place.TheVariants as place
@@ -152,12 +153,12 @@ module _ (last other : ℕ) where
         || (alike (target.NewOthers last) (target.NewOthers other) about_others i
         || (alike (target.NewFile last) (target.NewFile other) about_file i
         || (alike (target.NewLink last) (target.NewLink other) about_link i || false)))
-    new_listed t (Some kind.Dir) = λ i. alike (target.NewDirectory last) (target.NewDirectory other) about_directory i || false
+    new_listed t (Some (kind.Node node.Dir)) = λ i. alike (target.NewDirectory last) (target.NewDirectory other) about_directory i || false
     new_listed t (Some kind.Other) = λ i. alike (target.NewOthers last) (target.NewOthers other) about_others i || false
-    new_listed t (Some kind.File) = λ i. alike (target.NewFile last) (target.NewFile other) about_file i || false
-    new_listed t (Some kind.Link) = λ i. alike (target.NewLink last) (target.NewLink other) about_link i || false
+    new_listed t (Some (kind.Node node.File)) = λ i. alike (target.NewFile last) (target.NewFile other) about_file i || false
+    new_listed t (Some (kind.Node node.Link)) = λ i. alike (target.NewLink last) (target.NewLink other) about_link i || false
     new_listed t (Some kind.Missing) = refl
-    new_listed t (Some kind.Prog) = refl
+    new_listed t (Some (kind.Node node.Prog)) = refl
 
     pub listed_alike : (t : Tree) (h : ProcessState) (asking : Asking) (kind : Option ObjectKind) →
         any_listed (targets_of t h last asking kind) ≡ any_listed (targets_of t h other asking kind)

@@ -28,8 +28,8 @@ use Rattle.pua_ever.specs.Ever.{own_spot, subjects_of}
 use Rattle.pua_ever.specs.Through.{bound_of, can_come, ever_lasting, ever_through, execs_of, has_exec, is_promised_by_one, let_through}
 use Rattle.pua_ever.specs.LastingList.{IsBothOf}
 use Rattle.pua_ever.specs.declared.lasting.Both.{Both}
-use Rattle.pua_ever.specs.declared.lasting_list.ExecBound.TheVariants.{Never, Bounded, Open}
-use Rattle.pua_ever.proofs.ForCallers.{lasting_alone, lasting_through, lasting_unbounded}
+use Rattle.pua_ever.specs.declared.lasting_list.ExecBound.TheVariants.{Bounded, Open}
+use Rattle.pua_ever.proofs.ForCallers.{lasting_alone, lasting_through, lasting_unbounded, starts_unlisted, unlisted_unbounded}
 use Rattle.pua_policy.specs.States.{with_both}
 use Rattle.pua_how.specs.Targets.{has_call, is_about, is_listed, line_has}
 use Rattle.pua_ever.specs.EverLines.{new_of}
@@ -42,9 +42,6 @@ use Rattle.pua_how.specs.declared.target.Target.TheVariants as target
 
 no_bound : Open ≡ Bounded → ⊥
 no_bound e = cc
-
-no_exec : Never ≡ Bounded → ⊥
-no_exec e = cc
 
 pub if_ok : {A E : Type 0} {P Q : A → Type 0} (r : Result A E) → ((x : A) → P x → Q x) → IfOk r P → IfOk r Q
 if_ok (Ok x) f p = f x p
@@ -347,12 +344,12 @@ module _ (t : Tree) (table : CallTable) (h : ProcessState) where
     where
       by : (b : Bool) → has_exec (ever t table h) ≡ b → AreLinesOf t table h None (ever_lasting t table h)
       by true some = let opened : execs_of t table h ≡ Open = rw (some, unbound) refl in absurd (no_bound (sym opened ∙ is))
-      by false none = let never : execs_of t table h ≡ Never = rw none refl in absurd (no_exec (sym never ∙ is))
+      by false none = absurd (unlisted_unbounded table h (sym (starts_unlisted t table h none) ∙ is))
   through_is (Some both) here is = by (has_exec (ever t table h)) refl
     where
       by : (b : Bool) → has_exec (ever t table h) ≡ b → AreLinesOf t table h (Some both) (ever_lasting t table h)
       by true some = (here, lasting_through t table h here.given here.bound some)
-      by false none = let never : execs_of t table h ≡ Never = rw none refl in absurd (no_exec (sym never ∙ is))
+      by false none = absurd (unlisted_unbounded table h (sym (starts_unlisted t table h none) ∙ is))
 
   pub alone_is : execs_of t table h ≢ Bounded → ever_lasting t table h ≡ ever t table h
   alone_is other = by (bound_of table h) refl

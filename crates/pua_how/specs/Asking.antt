@@ -4,16 +4,15 @@ use Rattle.std.specs.Prelude.{Result, Ok, Err, codes, unwrap_or}
 use Rattle.std.specs.List.{slice_split}
 use Rattle.pua_tree.specs.Names.{same_bytes}
 use Rattle.pua_tree.specs.Spelling.{name_of}
+use Rattle.pua_tree.specs.Kinds.{about_kind}
 use Rattle.pua_tree.specs.Tree.{Tree, is_dir, kind_at, look}
 use Rattle.pua_tree.specs.declared.fault.NameFault.{NameFault}
 use Rattle.pua_tree.specs.declared.node.Kind.{Kind}
 use Rattle.pua_tree.specs.declared.node.Kind.TheVariants as node
-use Rattle.pua_path.specs.Fits.{is_link_kind}
 use Rattle.pua_policy.specs.States.{ProcessState, perms_kept}
 use Rattle.pua_policy.specs.declared.place.Place.TheVariants as place
 use Rattle.pua_objects.specs.declared.kind.ObjectKind.{ObjectKind}
 use Rattle.pua_objects.specs.declared.kind.ObjectKind.TheVariants as kind
-use Rattle.pua_how.specs.Targets.{is_file_kind}
 use Rattle.pua_how.specs.declared.target.Target.{Target}
 use Rattle.pua_how.specs.declared.target.Target.TheVariants as target
 
@@ -70,21 +69,20 @@ abbrev pub targets_new : ℕ → List Target
 targets_new last = target.NewDirectory last ∷ target.NewOthers last ∷ target.NewFile last ∷ target.NewLink last ∷ []
 
 -- it is of a kind
-abbrev pub is_prog_kind : Option Kind → Bool
-is_prog_kind (Some node.Prog) = true
-is_prog_kind _ = false
+abbrev pub is_same_kind : Kind → Option Kind → Bool
+is_same_kind one None = false
+is_same_kind one (Some other) = (about_kind one).number == (about_kind other).number
 
 abbrev pub is_of_kind : Tree → ObjectKind → Target → Bool
-is_of_kind t kind.Dir (target.Directory asked) = true
-is_of_kind t kind.Dir (target.NewDirectory last) = true
+is_of_kind t (kind.Node node.Dir) (target.Directory asked) = true
+is_of_kind t (kind.Node node.Dir) (target.NewDirectory last) = true
 is_of_kind t kind.Other (target.Others asked) = true
 is_of_kind t kind.Other (target.NewOthers last) = true
 is_of_kind t kind.Missing (target.Name asked name) = true
-is_of_kind t kind.File (target.Node asked) = is_file_kind (kind_at t asked)
-is_of_kind t kind.File (target.NewFile last) = true
-is_of_kind t kind.Prog (target.Node asked) = is_prog_kind (kind_at t asked)
-is_of_kind t kind.Link (target.Node asked) = is_link_kind (kind_at t asked)
-is_of_kind t kind.Link (target.NewLink last) = true
+is_of_kind t (kind.Node node.File) (target.NewFile last) = true
+is_of_kind t (kind.Node node.Link) (target.NewLink last) = true
+is_of_kind t (kind.Node node.Dir) (target.Node asked) = false
+is_of_kind t (kind.Node one) (target.Node asked) = is_same_kind one (kind_at t asked)
 is_of_kind t _ _ = false
 
 abbrev pub may_be_of : Tree → Option ObjectKind → Target → Bool

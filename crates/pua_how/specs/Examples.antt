@@ -8,7 +8,7 @@ use Rattle.pua_path.specs.declared.found.Way.TheVariants.{DotDot}
 use Rattle.pua_calls.specs.Promises.{rpath, wpath, cpath, reading, writing, creating}
 use Rattle.pua_calls.specs.Calls.{standard_table, openbsd_table}
 use Rattle.pua_calls.specs.declared.call.Call.TheVariants as call
-use Rattle.pua_calls.specs.declared.rules.Rules.TheVariants.{Profile}
+use Rattle.pua_calls.specs.declared.rules.Rules.TheVariants.{Standard}
 use Rattle.pua_policy.specs.States.{ProcessState, new_process}
 use Rattle.pua_policy.specs.declared.place.Place.TheVariants as place
 use Rattle.pua_script.specs.Requests.{Asked}
@@ -170,12 +170,12 @@ conf_name = at.Name (dir.Standing 1) (codes "conf")
 pub record StepRows : Type 0 where
   pub line : step_text pid_tree 1 0 (step.Link conf_name pid_name) ≡ codes "1 link /etc/conf /run/pid"
   pub in_what_was_made : step_text pid_tree 1 3 (step.On call.Symlink (at.Name dir.Made (codes "x"))) ≡ codes "1 symlink target /run/x"
-  pub freed : comes Profile standard_table 1 call.Create (target.Name 3 (codes "pid")) (step.On call.Unlink pid_name ∷ step.On call.Create pid_name ∷ [])
+  pub freed : comes Standard standard_table 1 call.Create (target.Name 3 (codes "pid")) (step.On call.Unlink pid_name ∷ step.On call.Create pid_name ∷ [])
       pid_world 0 ≡ true
-  pub not_freed : comes Profile standard_table 1 call.Create (target.Name 3 (codes "pid")) (step.On call.Create pid_name ∷ []) pid_world 0 ≡ false
-  pub refused : comes Profile standard_table 1 call.OpenWrite (target.Node 2) (step.On call.OpenWrite conf_name ∷ []) pid_world 0 ≡ false
-  pub another_call : comes Profile standard_table 1 call.OpenRead (target.Node 2) (step.On call.Stat conf_name ∷ []) pid_world 0 ≡ false
-  pub no_step : comes Profile standard_table 1 call.OpenRead (target.Node 2) [] pid_world 0 ≡ false
+  pub not_freed : comes Standard standard_table 1 call.Create (target.Name 3 (codes "pid")) (step.On call.Create pid_name ∷ []) pid_world 0 ≡ false
+  pub refused : comes Standard standard_table 1 call.OpenWrite (target.Node 2) (step.On call.OpenWrite conf_name ∷ []) pid_world 0 ≡ false
+  pub another_call : comes Standard standard_table 1 call.OpenRead (target.Node 2) (step.On call.Stat conf_name ∷ []) pid_world 0 ≡ false
+  pub no_step : comes Standard standard_table 1 call.OpenRead (target.Node 2) [] pid_world 0 ≡ false
 
 pub step_rows : StepRows
 unfolding digits

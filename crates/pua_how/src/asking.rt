@@ -7,6 +7,7 @@ ghost use Rattle.pua_tree.specs.LentRows.{lent_entry};
 ghost use Rattle.pua_tree.specs.Tree.{is_dir};
 ghost use Rattle.pua_policy.specs.States.{ProcessState};
 ghost use Rattle.pua_how.specs.Asking.{asking_of, directory_at_name, is_of_kind as has_kind};
+ghost use Rattle.pua_how.specs.Asking.{is_same_kind};
 ghost use Rattle.pua_how.specs.Asking.{may_be_of, names_read, path_names, standing_at};
 ghost use Rattle.pua_how.specs.Asking.{targets_at, targets_by, targets_in, targets_new};
 ghost use Rattle.pua_how.specs.Targets.{IsLast};
@@ -289,15 +290,24 @@ fn is_of_kind<T: FileTree>(tree: &T, kind: ObjectKind, target: &Target) -> bool
     ensures { result ≡ has_kind (T.content tree.now) kind target.now }
 {
     match (kind, target) {
-        (ObjectKind::Dir, Target::Directory(_) | Target::NewDirectory(_)) => true,
+        (ObjectKind::Node(Kind::Dir), Target::Directory(_) | Target::NewDirectory(_)) => true,
         (ObjectKind::Other, Target::Others(_) | Target::NewOthers(_)) => true,
         (ObjectKind::Missing, Target::Name(_, _)) => true,
-        (ObjectKind::File, Target::NewFile(_)) => true,
-        (ObjectKind::Link, Target::NewLink(_)) => true,
-        (ObjectKind::File, Target::Node(node)) => matches!(tree.kind(*node), Some(Kind::File)),
-        (ObjectKind::Prog, Target::Node(node)) => matches!(tree.kind(*node), Some(Kind::Prog)),
-        (ObjectKind::Link, Target::Node(node)) => matches!(tree.kind(*node), Some(Kind::Link)),
+        (ObjectKind::Node(Kind::File), Target::NewFile(_)) => true,
+        (ObjectKind::Node(Kind::Link), Target::NewLink(_)) => true,
+        (ObjectKind::Node(Kind::Dir), Target::Node(_)) => false,
+        (ObjectKind::Node(kind), Target::Node(node)) => is_same_kind(kind, tree.kind(*node)),
         _ => false,
+    }
+}
+
+/// Whether what was found is of a kind.
+fn is_same_kind(kind: Kind, found: Option<Kind>) -> bool
+    ensures { result ≡ is_same_kind kind found }
+{
+    match found {
+        Some(found) => kind.number() == found.number(),
+        None => false,
     }
 }
 

@@ -18,7 +18,7 @@ use crate::way::BestPlans;
 pub use planner::Planner;
 use pua_calls::Call;
 use pua_policy::{Cover, Object};
-use pua_tree::{Name, NodeId};
+use pua_tree::{Kind, Name, NodeId};
 use std::alloc::AllocError;
 
 /// On what the call is to be.
@@ -132,7 +132,7 @@ impl Search<'_, '_> {
             _ => return Ok(()),
         };
         let is_dir = row.is_dir;
-        let is_link = row.object == Object::Link;
+        let is_link = row.object == Object::Node(Kind::Link);
         let links = self.planner.rights.gives(By::Link, is_link);
         let is_moved = is_dir || self.is_movable(row);
         let by = if is_moved { By::Rename } else { By::Link };

@@ -1,3 +1,4 @@
 pub mod Common
 pub mod ForCallers
 pub mod Putting
+pub mod Asking

@@ -1,8 +1,8 @@
 //! Inputs by name.
 
-ghost use Rattle.std.specs.Prelude.{◌≡◌, ◌↔◌, ◌≤◌, ℕ, List, Option, None, Some, IfOk, Err, map};
-ghost use Rattle.std.specs.Prelude.{option_map, length};
-ghost use Rattle.pua_io.specs.Held.{Holds, HoldsNothing};
+ghost use Rattle.std.specs.Prelude.{◌≡◌, ◌↔◌, ◌≤◌, ◌∷◌, [], ℕ, List, Option, None, Some, IfOk};
+ghost use Rattle.std.specs.Prelude.{Err, map, option_map, length};
+ghost use Rattle.pua_io.specs.Held.{AsksFor, Holds, HoldsNothing};
 ghost use Rattle.pua_io.specs.Named.{kept_under};
 
 use crate::source::{MOST_INPUT_BYTES, ReadSource, read_bytes};
@@ -28,13 +28,18 @@ pub trait Inputs {
     /// The bytes under each name, where they are known.
     ghost holds: { Self → Option (List ℕ → Option (List ℕ)) };
 
+    /// The names that were asked for so far, in their order, where they are known. Neither inputs in memory
+    /// nor the machine's files keep them: what is proved of any inputs asks for what its contract says.
+    ghost asked: { Self → Option (List (List ℕ)) };
+
     /// All bytes of the input of this name; `Unreadable` only where nothing is held under it. How far
     /// it was read is not said after a fault.
     fn take(&mut self, alloc: Global, name: &str) -> Result<Vec<u8>, InputFault>
         ensures held { IfOk result (λ bytes. Holds (holds self.old) name.now bytes.items) }
         ensures nothing { result ≡ Err InputFault.Unreadable →
             HoldsNothing (holds self.old) name.now }
-        ensures unchanged { holds self.new ≡ holds self.old };
+        ensures unchanged { holds self.new ≡ holds self.old }
+        ensures asks { AsksFor (asked self.old) (asked self.new) (name.now ∷ []) };
 }
 
 /// Inputs in memory. Contracts see the names with the bytes kept under them.
@@ -63,6 +68,8 @@ impl<'a> MemoryInputs<'a> {
 
 impl Inputs for MemoryInputs<'_> {
     ghost holds = { λ inputs. Some (λ name. kept_under name inputs) };
+
+    ghost asked = { λ _. None };
 
     /// A copy of the bytes kept under the name. `Unreadable` is answered exactly where there is no
     /// such name.
@@ -118,6 +125,8 @@ impl<'r, R: Files> DiskInputs<'r, R> {
 
 impl<R: Files> Inputs for DiskInputs<'_, R> {
     ghost holds = { λ _. None };
+
+    ghost asked = { λ _. None };
 
     fn take(&mut self, alloc: Global, name: &str) -> Result<Vec<u8>, InputFault> {
         read_file(alloc, self.rt, name)

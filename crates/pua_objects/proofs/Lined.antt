@@ -19,36 +19,28 @@ use Rattle.pua_objects.specs.declared.item.Subject.TheVariants as about
 use Rattle.pua_objects.specs.declared.line.ObjectLine.{ObjectLine}
 
 abbrev pub is_link_seen : seen.Object → Bool
-is_link_seen see.Link = true
+is_link_seen (see.Node kind) = is_link_kind (Some kind)
 is_link_seen _ = false
 
 abbrev seen_of : Tree → Found → seen.Object
 seen_of t found = object_seen t (object_of t found)
 
-pub no_link : (o : seen.Object) → o ≢ see.Link → is_link_seen o ≡ false
-no_link see.Missing other = refl
-no_link see.File other = refl
-no_link see.Program other = refl
-no_link see.Link other = absurd (other refl)
-no_link see.Directory other = refl
-no_link see.Removable other = refl
+pub no_link : (o : seen.Object) → o ≢ see.Node kinds.Link → is_link_seen o ≡ false
+no_link (see.Node kinds.Link) other = absurd (other refl)
+no_link (see.Node kinds.Dir) other = refl
+no_link (see.Node _) other = refl
+no_link _ other = refl
 
 link_kind : (t : Tree) (k : Option Kind) → is_link_seen (object_seen t (object_of_kind k)) ≡ is_link_kind k
 link_kind t None = refl
-link_kind t (Some kinds.Dir) = refl
-link_kind t (Some kinds.File) = refl
-link_kind t (Some kinds.Prog) = refl
-link_kind t (Some kinds.Link) = refl
+link_kind t (Some kind) = refl
 
 word_kind : (t : Tree) (k : Option Kind) → kind_word (kind_seen (object_seen t (object_of_kind k))) ≡ object_word (object_of_kind k)
 word_kind t None = refl
-word_kind t (Some kinds.Dir) = refl
-word_kind t (Some kinds.File) = refl
-word_kind t (Some kinds.Prog) = refl
-word_kind t (Some kinds.Link) = refl
+word_kind t (Some kind) = refl
 
 abbrev dir_seen : Bool → seen.Object
-dir_seen b = if b then see.Removable else see.Directory
+dir_seen b = if b then see.Removable else see.Node kinds.Dir
 
 link_dir : (b : Bool) → is_link_seen (dir_seen b) ≡ false
 link_dir true = refl

@@ -15,6 +15,7 @@ use Rattle.pua_policy.specs.Reasons.{covering}
 use Rattle.pua_policy.specs.Verdict.{IsDir, object_of}
 use Rattle.pua_policy.specs.declared.object.Object as seen
 use Rattle.pua_policy.specs.declared.object.Object.TheVariants as see
+use Rattle.pua_tree.specs.declared.node.Kind.TheVariants as kind
 use Rattle.pua_objects.specs.Items.{subject_given}
 use Rattle.pua_objects.specs.ListItems.{AreNear, IsToldIn, items_told, last_name, last_word, with_name, word_after}
 use Rattle.pua_objects.specs.Listing.{AreEnteredAt, IsEnteredAt, IsListing, IsListingBefore, after_next, item_of}
@@ -83,7 +84,7 @@ module _ (t : Tree) (fits : WellFormed t) (p : ProcessState) (spots : List Spot)
     veil = covers.veil;
   }
 
-  pub told_root : (over : Over) → OverDir over 0 → IsToldIn t p (item_of 0 about.Root see.Directory over)
+  pub told_root : (over : Over) → OverDir over 0 → IsToldIn t p (item_of 0 about.Root (see.Node kind.Dir) over)
   told_root over covers = record {
     fits = (fits.root, tt);
     tells = record {
@@ -422,18 +423,18 @@ module _ (t : Tree) (fits : WellFormed t) (p : ProcessState) (spots : List Spot)
       }
 
   pub root_made : (over up : Over) (old new : List Entered) (before own items : List ListItem) → old ≡ [] → before ≡ [] →
-      new ≡ old ++ record { dir = 0; next = 0; over = over } ∷ [] → own ≡ before ++ item_of 0 about.Root see.Directory over ∷ [] →
+      new ≡ old ++ record { dir = 0; next = 0; over = over } ∷ [] → own ≡ before ++ item_of 0 about.Root (see.Node kind.Dir) over ∷ [] →
       items ≡ own ++ item_of (length old) (about.Others 0) see.Missing over ∷ [] → IsOver p.veils up (unveiled p.veils) →
       IsHandedDown p (place.Dir 0) up over → Listed (reverse new) items
   root_made over up old new before own items no_dirs none more_dirs one more above down =
       let covers : OverDir over 0 = over_root t fits p up over above down in
       let dirs : new ≡ record { dir = 0; next = 0; over = over } ∷ [] = more_dirs ∙ ap (λ es. es ++ record { dir = 0; next = 0; over = over } ∷ [])
       no_dirs in
-      let both : items ≡ item_of 0 about.Root see.Directory over ∷ item_of 0 (about.Others 0) see.Missing over ∷ [] =
-      more ∙ (λ i. (one ∙ ap (λ xs. xs ++ item_of 0 about.Root see.Directory over ∷ []) none) i
+      let both : items ≡ item_of 0 about.Root (see.Node kind.Dir) over ∷ item_of 0 (about.Others 0) see.Missing over ∷ [] =
+      more ∙ (λ i. (one ∙ ap (λ xs. xs ++ item_of 0 about.Root (see.Node kind.Dir) over ∷ []) none) i
       ++ item_of (length (no_dirs i)) (about.Others 0) see.Missing over ∷ []) in
-      subst (Listed (reverse new)) (sym both) (subst (λ es. Listed (reverse es) (item_of 0 about.Root see.Directory over ∷ item_of 0 (about.Others 0) see.Missing over ∷ [])) (sym dirs)
-      (root_listed over (item_of 0 about.Root see.Directory over) refl refl covers (told_root over covers)))
+      subst (Listed (reverse new)) (sym both) (subst (λ es. Listed (reverse es) (item_of 0 about.Root (see.Node kind.Dir) over ∷ item_of 0 (about.Others 0) see.Missing over ∷ [])) (sym dirs)
+      (root_listed over (item_of 0 about.Root (see.Node kind.Dir) over) refl refl covers (told_root over covers)))
 
 -- ---- what was listed
 

@@ -1,6 +1,8 @@
 -- A line of the code, beside the definition's.
 use Rattle.std.specs.Prelude.{◌≡◌, List, ℕ, ◌&&◌, codes, filter, map}
+use Rattle.pua_tree.specs.Kinds.{about_kind}
 use Rattle.pua_tree.specs.Tree.{Tree}
+use Rattle.pua_tree.specs.declared.node.Kind.TheVariants.{Dir}
 use Rattle.pua_calls.specs.Calls.{CallTable}
 use Rattle.pua_calls.specs.CallSets.{has}
 use Rattle.pua_policy.specs.States.{ProcessState}
@@ -16,23 +18,17 @@ use Rattle.pua_objects.specs.declared.kind.ObjectKind.{ObjectKind}
 use Rattle.pua_objects.specs.declared.kind.ObjectKind.TheVariants as kind
 use Rattle.pua_objects.specs.declared.line.ObjectLine.{ObjectLine}
 
--- the word of a kind
+-- the word of what a line is about
 abbrev pub kind_word : ObjectKind → List ℕ
-kind_word kind.Dir = codes "dir"
-kind_word kind.File = codes "file"
-kind_word kind.Prog = codes "prog"
-kind_word kind.Link = codes "link"
+kind_word (kind.Node node) = (about_kind node).word
 kind_word kind.Missing = codes "missing"
 kind_word kind.Other = codes "other"
 
 -- what the line of an object is about
 abbrev pub kind_seen : seen.Object → ObjectKind
 kind_seen see.Missing = kind.Missing
-kind_seen see.File = kind.File
-kind_seen see.Program = kind.Prog
-kind_seen see.Link = kind.Link
-kind_seen see.Directory = kind.Dir
-kind_seen see.Removable = kind.Dir
+kind_seen (see.Node node) = kind.Node node
+kind_seen see.Removable = kind.Node Dir
 
 -- a set of the calls that are allowed on such an object wherever it stands, by what the veils leave of it
 abbrev pub AreAllowed : Tree → CallTable → ProcessState → Cover → seen.Object → ℕ → Type 0

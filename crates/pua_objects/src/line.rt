@@ -11,12 +11,13 @@ ghost use Rattle.pua_policy.specs.Objects.{object_seen};
 ghost use Rattle.pua_policy.specs.Verdict.{cover as cover_of, object_of};
 ghost use Rattle.pua_objects.specs.Objects.{Subject as About, At, Others, cover_in};
 ghost use Rattle.pua_objects.specs.Items.{IsItemOn};
-ghost use Rattle.pua_objects.specs.Lines.{AreAllowed, IsLineOn, kind_seen};
+ghost use Rattle.pua_objects.specs.Lines.{AreAllowed, IsLineOn};
 
 use crate::item::{Item, Subject};
 use crate::kind::ObjectKind;
 use pua_calls::{CallTable, Calls};
 use pua_policy::{AllowedCalls, Object, Process, judge};
+use pua_tree::Kind;
 
 /// A line of the list, but for the names that lead there.
 #[derive(Clone, Copy, PartialEq, Eq)]
@@ -67,13 +68,13 @@ fn line_at(object: Object, calls: Calls) -> ObjectLine
         cover ≡ cover_of t h found → object ≡ object_seen t (object_of t found) →
         IsLineOn t table h (At found) result }
 {
-    let calls = if object == Object::Link {
+    let calls = if object == Object::Node(Kind::Link) {
         calls.keeping()
     } else {
         calls
     };
     ObjectLine {
-        kind: kind_seen(object),
+        kind: ObjectKind::of(object),
         calls,
     }
 }
@@ -87,18 +88,5 @@ fn line_of_others(calls: Calls) -> ObjectLine
     ObjectLine {
         kind: ObjectKind::Other,
         calls,
-    }
-}
-
-/// What the line of an object is about.
-fn kind_seen(object: Object) -> ObjectKind
-    ensures { result ≡ kind_seen object }
-{
-    match object {
-        Object::Missing => ObjectKind::Missing,
-        Object::File => ObjectKind::File,
-        Object::Program => ObjectKind::Prog,
-        Object::Link => ObjectKind::Link,
-        Object::Directory | Object::Removable => ObjectKind::Dir,
     }
 }

@@ -16,10 +16,10 @@ ghost use Rattle.pua_objects.specs.declared.list.Entered.{Entered as Inner};
 
 use crate::item::{Item, Subject};
 use crate::over::{Over, outermost, over_dir, over_name};
-use crate::seen::{directory, is_directory, object_at};
+use crate::seen::{directory, is_directory};
 use crate::spots::spots;
 use pua_policy::{Object, Process};
-use pua_tree::{FileTree, Name, NodeId, OutOfMemory};
+use pua_tree::{FileTree, Kind, Name, NodeId, OutOfMemory};
 use std::alloc::{AllocError, Global};
 
 /// An item of a list. The names that lead to it are so many of those that lead to the item before, and
@@ -169,7 +169,7 @@ fn add_entry<'t, T: FileTree>(
     let kind = tree.kind(id);
     if !is_directory(kind) {
         let over = over_name(process, inner.dir, name, &inner.over);
-        return add_name(depth, inner.dir, name, object_at(kind), &over, items);
+        return add_name(depth, inner.dir, name, Object::at_name(kind), &over, items);
     }
     let over = over_dir(process, id, &inner.over);
     let own = dir_item(depth, id, inner.dir, name, directory(tree, id), &over);
@@ -244,13 +244,13 @@ fn enter(
 
 /// The root.
 fn root_item<'t>(over: &Over) -> ListItem<'t>
-    ensures { result ≡ item_of 0 about.Root Object.Directory over.now }
+    ensures { result ≡ item_of 0 about.Root (Object.Node Kind.Dir) over.now }
 {
     ListItem {
         depth: 0,
         item: Item {
             subject: Subject::Root,
-            object: Object::Directory,
+            object: Object::Node(Kind::Dir),
             cover: over.cover,
         },
         veil: over.veil,

@@ -1,10 +1,10 @@
 //! What a call is on, by what stands there.
 
 ghost use Rattle.std.specs.Prelude.{◌≡◌, ℕ, List};
-ghost use Rattle.pua_tree.specs.Tree.{Tree, is_dir_kind};
+ghost use Rattle.pua_tree.specs.Tree.{is_dir_kind};
 ghost use Rattle.pua_path.specs.declared.found.Way.TheVariants as way;
 ghost use Rattle.pua_policy.specs.Objects.{object_seen};
-ghost use Rattle.pua_policy.specs.Verdict.{IsDir, object_of_kind};
+ghost use Rattle.pua_policy.specs.Verdict.{IsDir};
 
 use pua_policy::Object;
 use pua_tree::{FileTree, Kind, NodeId};
@@ -17,7 +17,7 @@ pub(crate) fn directory<T: FileTree>(tree: &T, id: NodeId) -> Object
     if tree.is_empty(id) {
         Object::Removable
     } else {
-        Object::Directory
+        Object::Node(Kind::Dir)
     }
 }
 
@@ -26,16 +26,4 @@ pub(crate) fn is_directory(kind: Option<Kind>) -> bool
     ensures { result ≡ is_dir_kind kind }
 {
     matches!(kind, Some(Kind::Dir))
-}
-
-/// What a call is on, of a name under which no directory stands.
-pub(crate) fn object_at(kind: Option<Kind>) -> Object
-    ensures { (t : Tree) → result ≡ object_seen t (object_of_kind kind) }
-{
-    match kind {
-        Some(Kind::File | Kind::Dir) => Object::File,
-        Some(Kind::Prog) => Object::Program,
-        Some(Kind::Link) => Object::Link,
-        None => Object::Missing,
-    }
 }

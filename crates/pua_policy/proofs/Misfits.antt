@@ -4,7 +4,9 @@ use Rattle.std.specs.Prelude.{IfSome, is_some}
 use Rattle.pua_tree.specs.Tree.{Tree, is_empty}
 use Rattle.pua_path.specs.declared.found.Way.TheVariants as way
 use Rattle.pua_calls.specs.declared.call.Call.TheVariants as call
-use Rattle.pua_policy.specs.Misfits.{Object, IsDir, IsFile, IsProg, IsLink, IsMissing, misfit}
+use Rattle.pua_tree.specs.declared.node.Kind.{Kind}
+use Rattle.pua_tree.specs.declared.node.Kind.TheVariants.{Dir, File, Prog, Link}
+use Rattle.pua_policy.specs.Misfits.{Object, IsDir, Is, IsMissing, misfit}
 use Rattle.pua_calls.specs.declared.fits.Misfit.{Misfit}
 use Rattle.pua_calls.specs.declared.fits.Misfit.TheVariants.{Missing, Exists, IsDirectory, IsNoFile, IsNoDirectory, IsNoLink}
 use Rattle.pua_calls.specs.declared.fits.Misfit.TheVariants.{IsNoProgram, IsNotEmpty, IsNoSocket, InUse}
@@ -23,13 +25,19 @@ module _ (t : Tree) where
   by_kind (IsDir dir way) IsNoProgram = Some (tt, λ e. cc)
   by_kind (IsDir dir way) IsNoSocket = Some (tt, λ e. cc)
   by_kind (IsDir dir way) _ = None
+  by_kind (Is Dir) IsDirectory = Some tt
+  by_kind (Is Dir) IsNoFile = Some tt
+  by_kind (Is Dir) IsNoLink = Some (tt, λ e. cc)
+  by_kind (Is Dir) IsNoProgram = Some (tt, λ e. cc)
+  by_kind (Is Dir) IsNoSocket = Some (tt, λ e. cc)
+  by_kind (Is Dir) _ = None
   by_kind _ IsNoDirectory = Some (tt, λ x. x)
-  by_kind IsFile IsNoLink = Some (tt, λ e. cc)
-  by_kind IsProg IsNoLink = Some (tt, λ e. cc)
-  by_kind IsFile IsNoProgram = Some (tt, λ e. cc)
-  by_kind IsLink IsNoProgram = Some (tt, λ e. cc)
-  by_kind IsProg IsNoSocket = Some (tt, λ e. cc)
-  by_kind IsLink IsNoSocket = Some (tt, λ e. cc)
+  by_kind (Is File) IsNoLink = Some (tt, λ e. cc)
+  by_kind (Is Prog) IsNoLink = Some (tt, λ e. cc)
+  by_kind (Is File) IsNoProgram = Some (tt, λ e. cc)
+  by_kind (Is Link) IsNoProgram = Some (tt, λ e. cc)
+  by_kind (Is Prog) IsNoSocket = Some (tt, λ e. cc)
+  by_kind (Is Link) IsNoSocket = Some (tt, λ e. cc)
   by_kind _ _ = None
 
   abbrev is_by_kind : Object → Option Misfit → Bool
@@ -45,10 +53,15 @@ module _ (t : Tree) where
       by None e = cc
 
   -- what is told of all but directories is
-  others : (c : Call) → (is_by_kind IsFile (misfit t c IsFile) ≡ true) × (is_by_kind IsProg (misfit t c IsProg) ≡ true) ×
-      (is_by_kind IsLink (misfit t c IsLink) ≡ true) × (is_by_kind IsMissing (misfit t c IsMissing) ≡ true)
-  others call.Stat = (refl, refl, refl, refl)
-  others _ = (refl, refl, refl, refl)
+  of_kind : (c : Call) (kind : Kind) → is_by_kind (Is kind) (misfit t c (Is kind)) ≡ true
+  of_kind call.Stat Dir = refl
+  of_kind _ Dir = refl
+  of_kind call.Stat _ = refl
+  of_kind _ _ = refl
+
+  of_missing : (c : Call) → is_by_kind IsMissing (misfit t c IsMissing) ≡ true
+  of_missing call.Stat = refl
+  of_missing _ = refl
 
 pub misfits_hold : MisfitsHold
 misfits_hold t call.Rmdir (IsDir dir way.Dot) = (dir, refl)
@@ -60,7 +73,5 @@ misfits_hold t call.Rmdir (IsDir dir (way.Named parent name)) = by (is_empty t d
     by true e = tt
     by false e = (dir, parent, name, refl, e)
 misfits_hold t c (IsDir dir way) = known t (IsDir dir way) (misfit t c (IsDir dir way)) refl
-misfits_hold t c IsFile = known t IsFile (misfit t c IsFile) (others t c).0
-misfits_hold t c IsProg = known t IsProg (misfit t c IsProg) (others t c).1
-misfits_hold t c IsLink = known t IsLink (misfit t c IsLink) (others t c).2
-misfits_hold t c IsMissing = known t IsMissing (misfit t c IsMissing) (others t c).3
+misfits_hold t c (Is kind) = known t (Is kind) (misfit t c (Is kind)) (of_kind t c kind)
+misfits_hold t c IsMissing = known t IsMissing (misfit t c IsMissing) (of_missing t c)

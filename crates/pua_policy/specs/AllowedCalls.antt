@@ -1,5 +1,6 @@
 -- What is worked out once of what a process is allowed.
-use Rattle.std.specs.Prelude.{◌≡◌, ◌<◌, ℕ, slice_index}
+use Rattle.std.specs.Prelude.{◌≡◌, ◌<◌, ℕ, suc, slice_index}
+use Rattle.pua_tree.specs.Kinds.{about_kind, kind_count}
 use Rattle.pua_tree.specs.Tree.{Tree}
 use Rattle.pua_calls.specs.Calls.{CallTable, rule_of}
 use Rattle.pua_calls.specs.CallSets.{has}
@@ -15,12 +16,9 @@ use Rattle.pua_policy.specs.declared.answer.Cover.TheVariants.{All}
 
 -- where the calls on an object stand
 abbrev pub place_of_object : seen.Object → ℕ
-place_of_object see.Missing = 0
-place_of_object see.File = 1
-place_of_object see.Program = 2
-place_of_object see.Link = 3
-place_of_object see.Directory = 4
-place_of_object see.Removable = 5
+place_of_object (see.Node kind) = (about_kind kind).number
+place_of_object see.Removable = kind_count
+place_of_object see.Missing = suc kind_count
 
 -- a set of the calls that need no other permissions than these
 abbrev pub IsWithin : CallTable → ℕ → ℕ → Type 0

@@ -2,6 +2,7 @@
 use Rattle.std.specs.Prelude.{◌≡◌, ◌+◌, ◌-◌, ◌^◌, true, false, [], ◌∷◌, Some, None, Ok, Err, codes, map, filter, refl}
 use Rattle.pua_tree.specs.Tree.{empty_tree}
 use Rattle.pua_tree.specs.Examples.{example_tree}
+use Rattle.pua_tree.specs.declared.node.Kind.TheVariants as kind
 use Rattle.pua_calls.specs.Promises.{promises_of, perms_of, lacking, reading, writing, rpath, wpath, error, cpath, fattr}
 use Rattle.pua_calls.specs.Calls.{call_count, calls, standard_table, openbsd_table}
 use Rattle.pua_calls.specs.CallSets.{calls_in, keeps_link}
@@ -17,7 +18,7 @@ use Rattle.pua_path.specs.declared.errno.Errno.TheVariants.{ENOTSOCK, EADDRINUSE
 use Rattle.pua_path.specs.declared.found.Way.TheVariants as way
 use Rattle.pua_path.specs.declared.found.Found.TheVariants as found
 use Rattle.pua_calls.specs.declared.call.Call.TheVariants.{Stat, Lstat, Readlink, Mkdir, Rmdir, Unlink, Symlink, Exec, Chmod, Bind, Mknod, Chown}
-use Rattle.pua_calls.specs.declared.call.Call.TheVariants.{CreateBoth}
+use Rattle.pua_calls.specs.declared.call.Call.TheVariants.{CreateBoth, Fchmod, Fchown}
 use Rattle.pua_policy.specs.declared.object.Object.TheVariants as see
 use Rattle.pua_policy.specs.declared.place.Place.TheVariants.{Dir, Slot}
 use Rattle.pua_policy.specs.declared.reason.Covering.TheVariants.{InView, NoneOver, By}
@@ -109,18 +110,18 @@ verdict_rows = record {
 pub record LastCheckRows : Type 0 where
   pub directory : map (λ call. object_fault example_tree call (IsDir 1 (way.Named 0 (codes "etc")))) calls
       ≡ None ∷ None ∷ Some EINVAL ∷ None ∷ Some EISDIR ∷ Some EISDIR ∷ Some EISDIR ∷ Some EEXIST ∷ Some ENOTEMPTY ∷ Some EPERM ∷ Some EEXIST
-      ∷ None ∷ None ∷ Some EACCES ∷ Some ENOTSOCK ∷ Some EADDRINUSE ∷ Some EEXIST ∷ None ∷ Some EISDIR ∷ []
+      ∷ None ∷ None ∷ Some EACCES ∷ Some ENOTSOCK ∷ Some EADDRINUSE ∷ Some EEXIST ∷ None ∷ Some EISDIR ∷ None ∷ None ∷ []
   pub file : map (λ call. object_fault example_tree call IsFile) calls
       ≡ None ∷ None ∷ Some EINVAL ∷ None ∷ None ∷ None ∷ None ∷ Some EEXIST ∷ Some ENOTDIR ∷ None ∷ Some EEXIST ∷ None ∷ Some ENOTDIR
-      ∷ Some EACCES ∷ None ∷ Some EADDRINUSE ∷ Some EEXIST ∷ None ∷ None ∷ []
+      ∷ Some EACCES ∷ None ∷ Some EADDRINUSE ∷ Some EEXIST ∷ None ∷ None ∷ None ∷ None ∷ []
   pub program : map (λ call. object_fault example_tree call IsProg) calls
       ≡ None ∷ None ∷ Some EINVAL ∷ None ∷ None ∷ None ∷ None ∷ Some EEXIST ∷ Some ENOTDIR ∷ None ∷ Some EEXIST ∷ None ∷ Some ENOTDIR ∷ None
-      ∷ Some ENOTSOCK ∷ Some EADDRINUSE ∷ Some EEXIST ∷ None ∷ None ∷ []
+      ∷ Some ENOTSOCK ∷ Some EADDRINUSE ∷ Some EEXIST ∷ None ∷ None ∷ None ∷ None ∷ []
   pub link : map (λ call. object_fault example_tree call IsLink) (filter keeps_link calls)
       ≡ None ∷ None ∷ Some EEXIST ∷ Some ENOTDIR ∷ None ∷ Some EEXIST ∷ Some EADDRINUSE ∷ Some EEXIST ∷ []
   pub missing_name : map (λ call. object_fault example_tree call IsMissing) calls
       ≡ Some ENOENT ∷ Some ENOENT ∷ Some ENOENT ∷ Some ENOENT ∷ Some ENOENT ∷ Some ENOENT ∷ None ∷ None ∷ Some ENOENT ∷ Some ENOENT ∷ None
-      ∷ Some ENOENT ∷ Some ENOENT ∷ Some ENOENT ∷ Some ENOENT ∷ None ∷ None ∷ Some ENOENT ∷ None ∷ []
+      ∷ Some ENOENT ∷ Some ENOENT ∷ Some ENOENT ∷ Some ENOENT ∷ None ∷ None ∷ Some ENOENT ∷ None ∷ Some ENOENT ∷ Some ENOENT ∷ []
   pub by_dot : rmdir_fault example_tree 1 way.Dot ≡ Some EINVAL
   pub by_dots : rmdir_fault example_tree 1 way.DotDot ≡ Some EINVAL
   pub at_top : rmdir_fault example_tree 0 way.Top ≡ Some EBUSY
@@ -141,14 +142,14 @@ last_check_rows = record {
 
 -- sets of calls, and directories as a verdict sees them
 pub record SetRows : Type 0 where
-  pub first_and_last : calls_in (2 ^ 0 + 2 ^ (call_count - 1)) ≡ Stat ∷ CreateBoth ∷ []
+  pub first_and_last : calls_in (2 ^ 0 + 2 ^ (call_count - 1)) ≡ Stat ∷ Fchown ∷ []
   pub no_calls : calls_in 0 ≡ []
   pub all_calls : calls_in (2 ^ call_count - 1) ≡ calls
   pub on_links : filter keeps_link calls ≡ Lstat ∷ Readlink ∷ Mkdir ∷ Rmdir ∷ Unlink ∷ Symlink ∷ Bind ∷ Mknod ∷ []
-  pub link : object_seen example_tree (object_of example_tree (found.Slot 3 (codes "up") (Some 5))) ≡ see.Link
-  pub with_rows : object_seen example_tree (IsDir 1 (way.Named 0 (codes "etc"))) ≡ see.Directory
+  pub link : object_seen example_tree (object_of example_tree (found.Slot 3 (codes "up") (Some 5))) ≡ see.Node kind.Link
+  pub with_rows : object_seen example_tree (IsDir 1 (way.Named 0 (codes "etc"))) ≡ see.Node kind.Dir
   pub without_rows : object_seen empty_tree (IsDir 0 (way.Named 0 (codes "d"))) ≡ see.Removable
-  pub by_dot : object_seen empty_tree (IsDir 0 way.Dot) ≡ see.Directory
+  pub by_dot : object_seen empty_tree (IsDir 0 way.Dot) ≡ see.Node kind.Dir
 
 pub set_rows : SetRows
 set_rows = record {
@@ -178,9 +179,9 @@ pub record ReasonRows : Type 0 where
   pub directory : map (λ call. misfit example_tree call (IsDir 1 (way.Named 0 (codes "etc")))) calls
       ≡ None ∷ None ∷ Some IsNoLink ∷ None ∷ Some IsDirectory ∷ Some IsDirectory ∷ Some IsDirectory ∷ Some Exists ∷ Some IsNotEmpty
       ∷ Some IsNoFile ∷ Some Exists ∷ None ∷ None ∷ Some IsNoProgram ∷ Some IsNoSocket ∷ Some InUse
-      ∷ Some Exists ∷ None ∷ Some IsDirectory ∷ []
-  pub file : map (λ call. misfit example_tree call IsFile) (Rmdir ∷ Unlink ∷ Exec ∷ Bind ∷ Mknod ∷ Chown ∷ CreateBoth ∷ [])
-      ≡ Some IsNoDirectory ∷ None ∷ Some IsNoProgram ∷ Some InUse ∷ Some Exists ∷ None ∷ None ∷ []
+      ∷ Some Exists ∷ None ∷ Some IsDirectory ∷ None ∷ None ∷ []
+  pub file : map (λ call. misfit example_tree call IsFile) (Rmdir ∷ Unlink ∷ Exec ∷ Bind ∷ Mknod ∷ Chown ∷ CreateBoth ∷ Fchmod ∷ Fchown ∷ [])
+      ≡ Some IsNoDirectory ∷ None ∷ Some IsNoProgram ∷ Some InUse ∷ Some Exists ∷ None ∷ None ∷ None ∷ None ∷ []
 
 pub reason_rows : ReasonRows
 reason_rows = record {

@@ -1,10 +1,14 @@
 -- What is wrong with an object for a call, by its kind and by the way to it.
-use Rattle.std.specs.Prelude.{ℕ, if◌then◌else◌, Option, Some, None}
+use Rattle.std.specs.Prelude.{ℕ, if◌then◌else◌, List, Option, Some, None, codes}
+use Rattle.pua_tree.specs.Kinds.{about_kind}
 use Rattle.pua_tree.specs.Tree.{Tree, is_empty}
+use Rattle.pua_tree.specs.declared.node.Kind.{Kind}
+use Rattle.pua_tree.specs.declared.node.Kind.TheVariants.{Dir, File, Prog, Link}
 use Rattle.pua_path.specs.declared.found.Way.{Way}
 use Rattle.pua_path.specs.declared.found.Way.TheVariants as way
 use Rattle.pua_calls.specs.Calls.{about}
 pub use Rattle.pua_calls.specs.Misfits.{misfit_errno}
+use Rattle.pua_calls.specs.Misfits.{fits_on}
 use Rattle.pua_calls.specs.declared.call.Call.{Call}
 use Rattle.pua_calls.specs.declared.fits.Fits.{Fits}
 use Rattle.pua_calls.specs.declared.fits.Misfit.{Misfit}
@@ -13,10 +17,24 @@ use Rattle.pua_calls.specs.declared.fits.Misfit.TheVariants.{IsNotEmpty, ByDot, 
 -- what was found, as the last check sees it
 pub data Object : Type 0 where
   IsDir : ℕ → Way → Object
-  IsFile : Object
-  IsProg : Object
-  IsLink : Object
+  Is : Kind → Object
   IsMissing : Object
+
+-- what is no directory, by its kind
+abbrev pub IsFile : Object
+IsFile = Is File
+
+abbrev pub IsProg : Object
+IsProg = Is Prog
+
+abbrev pub IsLink : Object
+IsLink = Is Link
+
+-- the word of what was found, in lists and in reasons
+abbrev pub object_word : Object → List ℕ
+object_word (IsDir dir way) = (about_kind Dir).word
+object_word (Is kind) = (about_kind kind).word
+object_word IsMissing = codes "missing"
 
 -- a directory is removed by its name alone, and only if it is empty
 abbrev pub rmdir_misfit : Tree → ℕ → Way → Option Misfit
@@ -28,9 +46,7 @@ rmdir_misfit t dir (way.Named parent name) = if is_empty t dir then None else So
 -- what is wrong with an object by what a call is on
 abbrev pub misfit_by : Tree → Fits → Object → Option Misfit
 misfit_by t fits (IsDir dir way) = if fits.by_way then rmdir_misfit t dir way else fits.directory
-misfit_by t fits IsFile = fits.file
-misfit_by t fits IsProg = fits.program
-misfit_by t fits IsLink = fits.link
+misfit_by t fits (Is kind) = fits_on fits kind
 misfit_by t fits IsMissing = fits.missing
 
 -- what is wrong with an object for a call; a link that is followed is never found, and a socket is a file

@@ -1,14 +1,13 @@
 -- What a verdict goes by of an object, beside its cover.
 use Rattle.std.specs.Prelude.{if◌then◌else◌, is_none}
 use Rattle.pua_tree.specs.Tree.{Tree}
-use Rattle.pua_policy.specs.Verdict.{Object, IsDir, IsFile, IsProg, IsLink, IsMissing, rmdir_fault}
+use Rattle.pua_tree.specs.declared.node.Kind.TheVariants.{Dir}
+use Rattle.pua_policy.specs.Verdict.{Object, IsDir, Is, IsMissing, rmdir_fault}
 use Rattle.pua_policy.specs.declared.object.Object as seen
 use Rattle.pua_policy.specs.declared.object.Object.TheVariants as see
 
 -- of a directory it is asked only whether it may be removed by the name it was found by
 abbrev pub object_seen : Tree → Object → seen.Object
 object_seen t IsMissing = see.Missing
-object_seen t IsFile = see.File
-object_seen t IsProg = see.Program
-object_seen t IsLink = see.Link
-object_seen t (IsDir dir way) = if is_none (rmdir_fault t dir way) then see.Removable else see.Directory
+object_seen t (Is kind) = see.Node kind
+object_seen t (IsDir dir way) = if is_none (rmdir_fault t dir way) then see.Removable else see.Node Dir

@@ -7,7 +7,8 @@ use Rattle.pua_path.specs.declared.found.Found.{Found}
 use Rattle.pua_calls.specs.Promises.{holds, lacking}
 use Rattle.pua_policy.specs.States.{ProcessState, Unveiled, state_after, held_set, veil_at, has_veil, may_any}
 use Rattle.pua_policy.specs.Laws.{places_over}
-use Rattle.pua_policy.specs.Misfits.{Object, IsDir, IsFile, IsProg, IsLink, IsMissing, misfit}
+use Rattle.pua_policy.specs.Misfits.{Object, IsDir, Is, IsFile, IsProg, IsLink, IsMissing, misfit}
+use Rattle.pua_tree.specs.declared.node.Kind.TheVariants.{Dir}
 use Rattle.pua_policy.specs.Verdict.{cover, cover_fault}
 use Rattle.pua_policy.specs.Reasons.{Promising, Holds, HasEnded, Lacks, promising, may_of, covering, cover_of}
 use Rattle.pua_calls.specs.declared.call.Call.{Call}
@@ -76,6 +77,7 @@ LackingsHold = (set wanted : ℕ) → IsLacking set wanted
 -- what is told of an object is so
 abbrev pub IsDirectoryNow : Object → Type 0
 IsDirectoryNow (IsDir dir way) = Unit {0}
+IsDirectoryNow (Is Dir) = Unit {0}
 IsDirectoryNow _ = ⊥
 
 abbrev pub IsNoMissing : Object → Type 0

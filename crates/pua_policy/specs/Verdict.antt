@@ -3,13 +3,12 @@ use Rattle.std.specs.Prelude.{ℕ, Bool, true, false, if◌then◌else◌, List,
 use Rattle.pua_tree.specs.Tree.{Tree, kind_at, above, climb}
 use Rattle.pua_path.specs.Resolution.{resolution_of_text}
 pub use Rattle.pua_path.specs.Fits.{found_fits, FoundFits, FoundsFit, is_link_kind, is_link}
-pub use Rattle.pua_policy.specs.Misfits.{Object, IsDir, IsFile, IsProg, IsLink, IsMissing}
+pub use Rattle.pua_policy.specs.Misfits.{Object, IsDir, Is, IsFile, IsProg, IsLink, IsMissing, object_word}
 use Rattle.pua_policy.specs.Misfits.{rmdir_misfit, misfit, misfit_errno}
 use Rattle.pua_calls.specs.Promises.{holds}
 use Rattle.pua_calls.specs.Calls.{CallTable, rule_of, last_of, ending_of}
 use Rattle.pua_policy.specs.States.{ProcessState, may_any, has_veil, veil_at}
 use Rattle.pua_tree.specs.declared.node.Kind.{Kind}
-use Rattle.pua_tree.specs.declared.node.Kind.TheVariants as kind
 use Rattle.pua_path.specs.declared.errno.Errno.{Errno}
 use Rattle.pua_path.specs.declared.errno.Errno.TheVariants.{ENOENT, EACCES, ENOSYS}
 use Rattle.pua_path.specs.declared.found.Way.{Way}
@@ -52,9 +51,7 @@ abbrev pub cover : Tree → ProcessState → Found → Cover
 cover t p object = cover_with (has_veil p.veils) (veil_at p.veils) t object
 
 abbrev pub object_of_kind : Option Kind → Object
-object_of_kind (Some kind.Prog) = IsProg
-object_of_kind (Some kind.Link) = IsLink
-object_of_kind (Some _) = IsFile
+object_of_kind (Some kind) = Is kind
 object_of_kind None = IsMissing
 
 abbrev pub object_of : Tree → Found → Object

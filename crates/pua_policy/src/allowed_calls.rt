@@ -16,9 +16,10 @@ use crate::judge::allowed;
 use crate::object::Object;
 use crate::process::Process;
 use pua_calls::{Call, CallTable, Calls, Perms};
+use pua_tree::Kind;
 
-/// How many kinds of objects there are.
-const OBJECTS: usize = 6;
+/// How many objects there are: the kinds of nodes, an empty directory, and a name where nothing stands.
+const OBJECTS: usize = Kind::COUNT + 2;
 
 /// How many sets of permissions there are.
 const PERM_SETS: usize = 16;
@@ -39,12 +40,12 @@ impl AllowedCalls {
     {
         AllowedCalls {
             in_view: [
-                allowed(process, table, Cover::All, Object::Missing),
-                allowed(process, table, Cover::All, Object::File),
-                allowed(process, table, Cover::All, Object::Program),
-                allowed(process, table, Cover::All, Object::Link),
-                allowed(process, table, Cover::All, Object::Directory),
+                allowed(process, table, Cover::All, Object::Node(Kind::Dir)),
+                allowed(process, table, Cover::All, Object::Node(Kind::File)),
+                allowed(process, table, Cover::All, Object::Node(Kind::Prog)),
+                allowed(process, table, Cover::All, Object::Node(Kind::Link)),
                 allowed(process, table, Cover::All, Object::Removable),
+                allowed(process, table, Cover::All, Object::Missing),
             ],
             within: all_within(table),
         }
@@ -72,12 +73,9 @@ fn place(object: Object) -> usize
     ensures low { result < OBJECTS }
 {
     match object {
-        Object::Missing => 0,
-        Object::File => 1,
-        Object::Program => 2,
-        Object::Link => 3,
-        Object::Directory => 4,
-        Object::Removable => 5,
+        Object::Node(kind) => kind.number(),
+        Object::Removable => Kind::COUNT,
+        Object::Missing => Kind::COUNT + 1,
     }
 }
 

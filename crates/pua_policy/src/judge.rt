@@ -193,15 +193,10 @@ pub fn object<'t, P: Probe<'t>>(probe: &mut P, found: &Found) -> Object
 {
     match found {
         Found::Whole { dir, way } => match rmdir_misfit(probe, *dir, &way.lent()) {
-            Some(_) => Object::Directory,
+            Some(_) => Object::Node(Kind::Dir),
             None => Object::Removable,
         },
-        Found::Slot { node: Some(id), .. } => match probe.kind(*id) {
-            Some(Kind::Prog) => Object::Program,
-            Some(Kind::Link) => Object::Link,
-            Some(Kind::File | Kind::Dir) => Object::File,
-            None => Object::Missing,
-        },
+        Found::Slot { node: Some(id), .. } => Object::at_name(probe.kind(*id)),
         Found::Slot { node: None, .. } => Object::Missing,
     }
 }
@@ -266,11 +261,9 @@ fn suits(call: Call, object: Object) -> bool
     let fits = call.fits();
     let misfit = match object {
         Object::Missing => fits.missing,
-        Object::File => fits.file,
-        Object::Program => fits.program,
-        Object::Link => fits.link,
-        Object::Directory | Object::Removable if fits.by_way => return object == Object::Removable,
-        Object::Directory | Object::Removable => fits.directory,
+        Object::Node(kind) => fits.on(kind),
+        Object::Removable if fits.by_way => None,
+        Object::Removable => fits.directory,
     };
     misfit.is_none()
 }
@@ -295,9 +288,7 @@ fn slot_misfit(fits: &Fits, kind: Option<Kind>) -> Option<Misfit>
     ensures { (t : Tree) → result ≡ misfit_by t fits.now (object_of_kind kind) }
 {
     match kind {
-        Some(Kind::Prog) => fits.program,
-        Some(Kind::Link) => fits.link,
-        Some(Kind::File | Kind::Dir) => fits.file,
+        Some(kind) => fits.on(kind),
         None => fits.missing,
     }
 }

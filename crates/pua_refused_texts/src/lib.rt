@@ -7,6 +7,7 @@
 
 mod audit;
 mod io;
+mod objects;
 mod steps;
 mod texts;
 mod tool;

@@ -4,10 +4,13 @@ mod breaking;
 mod tables;
 mod telling;
 
+ghost use Rattle.std.specs.Prelude.{◌≡◌, ◌∷◌, [], codes};
+ghost use Rattle.pua_io.specs.Held.{AsksFor};
+
 use pua_calls::Rules;
 use pua_tool::{
-    Command, DONE, MemoryInputs, MemorySink, ReadSource, Sink, Text, command, perform, put_all,
-    read_bytes,
+    Command, DONE, Inputs, MemoryInputs, MemorySink, ReadSource, Sink, Text, command, perform,
+    put_all, read_bytes,
 };
 use std::alloc::Global;
 use std::io::{self, Read};
@@ -87,13 +90,33 @@ fn table_not_taken(alloc: Global) {
     let run = Command {
         tree: "T",
         script: "S",
-        rules: Rules::Profile,
+        rules: Rules::Standard,
         table: Some("C"),
         text: Text::Run,
     };
     if perform(alloc, &run, &mut inputs, &mut out, &mut err) == DONE {
         unreachable!()
     }
+}
+
+/// A run asks for its listing, then for its script, and for no further input.
+fn further_input_taken<I: Inputs, O: Sink, E: Sink>(
+    alloc: Global,
+    inputs: &mut I,
+    out: &mut O,
+    err: &mut E,
+) -> u8
+    ensures { result ≡ DONE →
+        AsksFor (I.asked inputs.old) (I.asked inputs.new) (codes "T" ∷ codes "S" ∷ []) }
+{
+    let run = Command {
+        tree: "T",
+        script: "S",
+        rules: Rules::Standard,
+        table: None,
+        text: Text::Run,
+    };
+    perform(alloc, &run, inputs, out, err)
 }
 
 /// Where no input is there, words that are done have written something.

@@ -54,9 +54,7 @@ module _ (t : Tree) where
   no_rmdir : (o : Option Kind) → object_fault t calls.Rmdir (object_of_kind o) ≡ None → ⊥
   no_rmdir None is = some_none _ is
   no_rmdir (Some kinds.Dir) is = some_none _ is
-  no_rmdir (Some kinds.File) is = some_none _ is
-  no_rmdir (Some kinds.Link) is = some_none _ is
-  no_rmdir (Some kinds.Prog) is = some_none _ is
+  no_rmdir (Some _) is = some_none _ is
 
   pub rmdir_removes : (object : Found) → IsFor t calls.Rmdir object → IsRemovable t object
   rmdir_removes (Whole dir (ways.Named parent name)) for =

@@ -14,12 +14,12 @@ use Rattle.pua_tree.specs.Names.{same_bytes}
 use Rattle.pua_tree.specs.Spelling.{bytes_spelled, fields, is_field, number_within}
 use Rattle.pua_tree.specs.Listing.{only_if}
 use Rattle.pua_tree.proofs.ForCallers.{same_Some, guarded, Err≢Ok, same_Ok, unspelled-spelling, spelling-unspelled}
-use Rattle.pua_tree.proofs.ForCallers.{bytes_unspelled, decimal_within, number_read, mapped, only_if_read, first_passes, other_word}
+use Rattle.pua_tree.proofs.ForCallers.{bytes_unspelled, decimal_within, number_read, mapped, only_if_read, other_word}
 use Rattle.pua_tree.proofs.ForCallers.{same_word, ok_or_read, step_read}
 use Rattle.pua_calls.specs.Promises.{promises_of, perms_of}
-use Rattle.pua_calls.specs.Calls.{calls, call_name, call_named_by, call_of_name, is_known, table_by_rules}
+use Rattle.pua_calls.specs.Neighbours.{call_asked_by}
 use Rattle.pua_calls.specs.declared.rules.Rules.{Rules}
-use Rattle.pua_calls.specs.declared.call.Call.TheVariants as call
+use Rattle.pua_calls.specs.declared.rules.Rules.TheVariants.{Standard, Openbsd}
 use Rattle.pua_script.specs.Requests.{is_symlink, has_no_nul}
 use Rattle.pua_script.specs.declared.request.Given.{Given}
 use Rattle.pua_script.specs.declared.request.Given.TheVariants.{Null, Good}
@@ -106,25 +106,30 @@ perms_told field _ (unknown_letter ne e) = ap (λ b. cond b (Some 0) (result_ok 
     ap result_ok e
 
 module _ (rules : Rules) where
-  -- the calls' names
-  call_read : (word : List ℕ) (c : Call) → call_named_by rules word ≡ Some c → word ≡ call_name c
-  call_read word c e = sym (same_word (call_name c) word (first_passes (λ d. same_bytes (call_name d) word) calls c
-      (only_if_read (is_known (table_by_rules rules)) (call_of_name word) c e).0))
+  -- the words of calls, of which none is `fork`
+  no_fork : (named : Rules) → call_asked_by named (codes "fork") ≡ None
+  no_fork Standard = refl
+  no_fork Openbsd = refl
 
-  as_known : (c : Call) (a : List ℕ) → is_symlink c ≡ false → call_named_by rules (call_name c) ≡ Some c →
-      option_map (λ d. PathForm d a) (only_if (λ d. not (is_symlink d)) (call_named_by rules (call_name c))) ≡ Some (PathForm c a)
-  as_known c a other there =
-      ap (λ o. option_map (λ d. PathForm d a) (only_if (λ d. not (is_symlink d)) o)) there
+  not_fork : (word : List ℕ) (c : Call) → call_asked_by rules word ≡ Some c → same_bytes word (codes "fork") ≡ false
+  not_fork word c there = by (same_bytes word (codes "fork")) refl
+    where
+      by : (s : Bool) → same_bytes word (codes "fork") ≡ s → s ≡ false
+      by false e = refl
+      by true e = absurd (None≢Some c (sym (no_fork rules) ∙
+          subst (λ w. call_asked_by rules w ≡ Some c) (same_word word (codes "fork") e) there))
+
+  form_of_call : (word : List ℕ) (c : Call) (a : List ℕ) → is_symlink c ≡ false → call_asked_by rules word ≡ Some c →
+      form_of rules word (a ∷ []) ≡ Some (PathForm c a)
+  form_of_call word c a other there =
+      ap (λ s. cond s (option_map ForkForm (number_within 1 999999 a))
+      (option_map (λ d. PathForm d a) (only_if (λ d. not (is_symlink d)) (call_asked_by rules word)))) (not_fork word c there)
+      ∙ ap (λ o. option_map (λ d. PathForm d a) (only_if (λ d. not (is_symlink d)) o)) there
       ∙ ap (λ b. option_map (λ d. PathForm d a) (cond (not b) (Some c) None)) other
-
-  form_of_call : (c : Call) (a : List ℕ) → is_symlink c ≡ false → call_named_by rules (call_name c) ≡ Some c →
-      form_of rules (call_name c) (a ∷ []) ≡ Some (PathForm c a)
-  form_of_call call.Symlink a other there = absurd (true≢false other)
-  form_of_call c a other there = as_known c a other there
 
   -- what a form asks for
   module _ (n : ℕ) where
-    path_form : (word a : List ℕ) (c : Call) (action : Action) → is_symlink c ≡ false → call_named_by rules word ≡ Some c →
+    path_form : (word a : List ℕ) (c : Call) (action : Action) → is_symlink c ≡ false → call_asked_by rules word ≡ Some c →
         action_of n (PathForm c a) ≡ Ok action → SpellsAction rules (word ∷ a ∷ []) action
     path_form word a c action other there e =
         let path = step_read (ok_or (path_in a) (BadPath n)) (λ p. Ok (OnPath c p)) action e in
@@ -191,7 +196,7 @@ module _ (rules : Rules) where
       where
         by : (s : Bool) → same_bytes word (codes "fork") ≡ s
             → cond s (option_map ForkForm (number_within 1 999999 a))
-            (option_map (λ c. PathForm c a) (only_if (λ c. not (is_symlink c)) (call_named_by rules word))) ≡ Some form →
+            (option_map (λ c. PathForm c a) (only_if (λ c. not (is_symlink c)) (call_asked_by rules word))) ≡ Some form →
             action_of n form ≡ Ok action → SpellsAction rules (word ∷ a ∷ []) action
         by true w e is =
             let number = mapped ForkForm (number_within 1 999999 a) form e in
@@ -199,8 +204,8 @@ module _ (rules : Rules) where
             subst (SpellsAction rules (word ∷ a ∷ [])) (same_Ok (Fork number.0) action (ap (action_of n) number.2 ∙ is))
             (fork (same_word word (codes "fork") w) read.0 read.1 read.2)
         by false w e is =
-            let named = mapped (λ c. PathForm c a) (only_if (λ c. not (is_symlink c)) (call_named_by rules word)) form e in
-            let read = only_if_read (λ c. not (is_symlink c)) (call_named_by rules word) named.0 named.1 in
+            let named = mapped (λ c. PathForm c a) (only_if (λ c. not (is_symlink c)) (call_asked_by rules word)) form e in
+            let read = only_if_read (λ c. not (is_symlink c)) (call_asked_by rules word) named.0 named.1 in
             path_form word a named.0 action (not-true (is_symlink named.0) read.1) read.0 (ap (action_of n) named.2 ∙
             is)
 
@@ -252,8 +257,7 @@ module _ (rules : Rules) where
     action_told : (more : List (List ℕ)) (action : Action) → SpellsAction rules more action → Reads more action
     action_told _ _ (on_path {word = word} {a = a} {path = path} {call = c} other there spells) = (
       PathForm c a,
-      ap (λ w. form_of rules w (a ∷ [])) (call_read word c there) ∙
-          form_of_call c a other (subst (λ w. call_named_by rules w ≡ Some c) (call_read word c there) there),
+      form_of_call word c a other there,
       ap (λ o. ok_or o (BadPath n) >>= λ p. Ok (OnPath c p)) (path_told a path spells),
     )
     action_told _ _ (symlink {a = a} {b = b} {target = x} {path = y} named first second) =

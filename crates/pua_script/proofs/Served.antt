@@ -11,7 +11,7 @@ use Rattle.pua_calls.proofs.ForCallers.{standard_needs_no_error, openbsd_needs_n
 use Rattle.pua_calls.proofs.ForCallers.{none_by_test}
 use Rattle.pua_calls.specs.Calls.{openbsd_table, standard_table}
 use Rattle.pua_calls.specs.declared.call.Call.TheVariants as call
-use Rattle.pua_calls.specs.declared.rules.Rules.TheVariants.{Profile, Openbsd}
+use Rattle.pua_calls.specs.declared.rules.Rules.TheVariants.{Standard, Openbsd}
 use Rattle.pua_script.specs.Worlds.{world_of, apply_to, run_to, state_after_all}
 use Rattle.pua_script.specs.Tightening.{IsNarrowedBy, EndsWithin}
 use Rattle.pua_script.specs.Confinement.{NeedsC, NamesOne, CallsNeed, changes_names, TreesAlong}
@@ -41,11 +41,11 @@ names_by_test promises (set ∷ sets) e =
     (parts.0, names_by_test promises sets parts.1)
 
 -- the calls that change names need one of the promises of their rules, by computing each
-standard_changes : CallsNeed (changing_promises Profile) standard_table
+standard_changes : CallsNeed (changing_promises Standard) standard_table
 standard_changes call.Stat changes = absurd (false≢true changes)
 standard_changes c changes =
-    names_by_test (changing_promises Profile) (rule_of standard_table c).alternatives
-    (if_changes (changes_names c) (each_names (changing_promises Profile) (rule_of standard_table c).alternatives) refl changes)
+    names_by_test (changing_promises Standard) (rule_of standard_table c).alternatives
+    (if_changes (changes_names c) (each_names (changing_promises Standard) (rule_of standard_table c).alternatives) refl changes)
 
 openbsd_changes : CallsNeed (changing_promises Openbsd) openbsd_table
 openbsd_changes call.Stat changes = absurd (false≢true changes)
@@ -54,7 +54,7 @@ openbsd_changes c changes =
     (if_changes (changes_names c) (each_names (changing_promises Openbsd) (rule_of openbsd_table c).alternatives) refl changes)
 
 pub rules_narrow : RulesNarrow
-rules_narrow Profile = record {
+rules_narrow Standard = record {
   error = record {
     calls = standard_needs_no_error;
     rename = (((lit< tt, refl), tt), ((lit< tt, refl), tt));
@@ -62,7 +62,7 @@ rules_narrow Profile = record {
   };
   taking = record { rmdir = refl; unlink = refl; rename_old = refl; rename_new = refl };
   changing = record {
-    no_error = none_by_test (changing_promises Profile) refl;
+    no_error = none_by_test (changing_promises Standard) refl;
     calls = standard_changes;
     rename = (refl, tt);
     link = (refl, tt);

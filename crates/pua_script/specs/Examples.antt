@@ -215,7 +215,7 @@ pub record SocketRows : Type 0 where
   -- and connect and bind need unix, whatever else is held
   pub connect_by_others : answers_by_openbsd socket_tree (codes "1 pledge rpath,wpath,cpath,error -" ∷ codes "1 connect /run/s"
       ∷ codes "1 bind /run/x" ∷ []) ≡ Okay ∷ Failed ENOSYS ∷ Failed ENOSYS ∷ []
-  -- by the profile there is no such call, and so no path of one
+  -- by the standard rules there is no such call, and so no path of one
   pub no_call : script (text_of_lines (codes "1 connect \\x" ∷ [])) ≡ Err (BadCall 1)
   pub no_path : script_by Openbsd (text_of_lines (codes "1 connect \\x" ∷ [])) ≡ Err (BadPath 1)
   pub no_further_call : script (text_of_lines (codes "1 mknod /x" ∷ [])) ≡ Err (BadCall 1)

@@ -1,10 +1,8 @@
 -- What a world's requests leave of its processes and of its tree, whichever world of the replay it stands for.
 use Rattle.std.specs.Prelude.{◌≡◌, ℕ, List, [], ◌∷◌, Some, Ok, take, IsTrue, IsFalse}
-use Rattle.pua_calls.specs.Calls.{CallTable, table_by_rules, rule_of}
+use Rattle.pua_calls.specs.Calls.{CallTable, about_rules, table_by_rules, rule_of}
 use Rattle.pua_calls.specs.TableTexts.{table_over}
 use Rattle.pua_calls.specs.declared.rules.Rules.{Rules}
-use Rattle.pua_calls.specs.declared.rules.Rules.TheVariants.{Profile, Openbsd}
-use Rattle.pua_calls.specs.Promises.{cpath, dpath, unix}
 use Rattle.pua_policy.specs.States.{ProcessState}
 use Rattle.pua_script.specs.Requests.{Asked}
 use Rattle.pua_script.specs.Tightening.{NoCallNeedsError, IsNarrowedBy, EndsWithin}
@@ -23,8 +21,7 @@ pub record TableNarrows (promises : List ℕ) (table : CallTable) : Type 0 where
 
 -- the promises by which rules let a process change the tree
 abbrev pub changing_promises : Rules → List ℕ
-changing_promises Profile = cpath ∷ []
-changing_promises Openbsd = cpath ∷ unix ∷ dpath ∷ []
+changing_promises rules = (about_rules rules).changing
 
 -- so are the rules that a command names, whichever they are
 abbrev pub RulesNarrow : Type 0

@@ -5,7 +5,7 @@ use Rattle.std.specs.List.{list_all}
 use Rattle.std.specs.Str.Lines.{lines}
 use Rattle.pua_tree.specs.Spelling.{spelling, fields, is_field}
 use Rattle.pua_calls.specs.Promises.{promises_of, perms_of}
-use Rattle.pua_calls.specs.Calls.{call_named_by}
+use Rattle.pua_calls.specs.Neighbours.{call_asked_by}
 use Rattle.pua_calls.specs.declared.rules.Rules.{Rules}
 use Rattle.pua_path.specs.declared.errno.Errno.{Errno}
 use Rattle.pua_calls.specs.declared.call.Call.{Call}
@@ -44,7 +44,7 @@ pub data SpellsPerms (field : List ℕ) : Option ℕ → Type 0 where
 
 -- the fields of a call and its arguments
 pub data SpellsAction (rules : Rules) : List (List ℕ) → Action → Type 0 where
-  on_path : {word a path : List ℕ} {call : Call} → IsFalse (is_symlink call) → call_named_by rules word ≡ Some call → SpellsPath a path →
+  on_path : {word a path : List ℕ} {call : Call} → IsFalse (is_symlink call) → call_asked_by rules word ≡ Some call → SpellsPath a path →
       SpellsAction rules (word ∷ a ∷ []) (OnPath call path)
   symlink : {word a b target path : List ℕ} → word ≡ codes "symlink" → SpellsPath a target → SpellsPath b path →
       SpellsAction rules (word ∷ a ∷ b ∷ []) (Symlink target path)

@@ -9,9 +9,9 @@ use Rattle.pua_tree.specs.Spelling.{bytes_spelled, fields, is_field, number_with
 use Rattle.pua_tree.specs.Steps.{◌>>=◌}
 use Rattle.pua_tree.specs.Listing.{only_if}
 use Rattle.pua_calls.specs.Promises.{promises_of, perms_of}
-use Rattle.pua_calls.specs.Calls.{call_named_by}
+use Rattle.pua_calls.specs.Neighbours.{call_asked_by}
 use Rattle.pua_calls.specs.declared.rules.Rules.{Rules}
-use Rattle.pua_calls.specs.declared.rules.Rules.TheVariants.{Profile}
+use Rattle.pua_calls.specs.declared.rules.Rules.TheVariants.{Standard}
 use Rattle.pua_script.specs.Limits.{most_script_lines, most_number}
 use Rattle.pua_script.specs.Requests.{Asked, is_symlink, has_no_nul}
 use Rattle.pua_path.specs.declared.errno.Errno.{Errno}
@@ -68,7 +68,7 @@ abbrev pub form_of : Rules → List ℕ → List (List ℕ) → Option Form
 form_of rules word [] = if same_bytes word (codes "exit") then Some ExitForm else None
 form_of rules word (a ∷ []) =
     if same_bytes word (codes "fork") then option_map ForkForm (number_within 1 most_number a)
-    else option_map (λ call. PathForm call a) (only_if (λ call. not (is_symlink call)) (call_named_by rules word))
+    else option_map (λ call. PathForm call a) (only_if (λ call. not (is_symlink call)) (call_asked_by rules word))
 form_of rules word (a ∷ b ∷ []) =
     if same_bytes word (codes "symlink") then Some (SymlinkForm a b)
     else (if same_bytes word (codes "rename") then Some (RenameForm a b)
@@ -123,9 +123,9 @@ request_of_fields rules n (process ∷ more) = do
 abbrev pub request_by : Rules → ℕ → List ℕ → Result Asked ScriptFault
 request_by rules n text = if list_all is_field (fields text) then request_of_fields rules n (fields text) else Err (BadLine n)
 
--- by the rules of the profile
+-- by the standard rules
 abbrev pub request_of : ℕ → List ℕ → Result Asked ScriptFault
-request_of n text = request_by Profile n text
+request_of n text = request_by Standard n text
 
 -- the requests of lines, of which the first is line n, or the fault of the first line that has one
 abbrev pub requests_of : Rules → ℕ → List (List ℕ) → Result (List Asked) ScriptFault
@@ -138,9 +138,9 @@ abbrev pub script_by : Rules → List ℕ → Result (List Asked) ScriptFault
 script_by rules bytes = requests_of rules 1 (take most_script_lines (lines bytes)) >>= λ requests. if nat_lt most_script_lines (length (lines bytes)) then
     Err TooMany else Ok requests
 
--- by the rules of the profile, which have the fourteen calls
+-- by the standard rules, which have the fourteen calls
 abbrev pub script : List ℕ → Result (List Asked) ScriptFault
-script bytes = script_by Profile bytes
+script bytes = script_by Standard bytes
 
 -- a reader answers as the definition does, unless a growth was refused
 abbrev pub IsReadAs : {A : Type 0} → Result A ScriptFault → Result A ScriptFault → Type 0

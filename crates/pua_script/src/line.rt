@@ -24,7 +24,7 @@ use std::alloc::Global;
 pub fn read_request(alloc: Global, number: u32, line: &[u8]) -> Result<Request, ScriptFault>
     ensures { IsReadAs (request_of number line.now) result }
 {
-    read_request_by(alloc, Rules::Profile, number, line)
+    read_request_by(alloc, Rules::Standard, number, line)
 }
 
 /// Reads one line of a script, whose number is told with a fault, with the calls that there are by
@@ -134,7 +134,7 @@ fn read_one(
             None => Err(ScriptFault::BadCall(origin.line)),
         };
     }
-    match Call::read_by(rules, word) {
+    match Call::asked_by(rules, word) {
         None | Some(Call::Symlink) => Err(ScriptFault::BadCall(origin.line)),
         Some(call) => {
             let path = read_path(alloc, origin.line, a)?;

@@ -53,7 +53,7 @@ pub fn read_script(alloc: Global, bytes: &[u8]) -> Result<Script, ScriptFault>
     ensures { MatchResult result (λ requests. script bytes.now ≡ Ok requests)
         (λ fault. fault ≢ ScriptFault.OutOfMemory → script bytes.now ≡ Err fault) }
 {
-    read_script_by(alloc, Rules::Profile, bytes)
+    read_script_by(alloc, Rules::Standard, bytes)
 }
 
 /// Reads a script with the calls that there are by these rules, as [`read_script`] does by those of

@@ -1,13 +1,13 @@
 -- What is written of an answer with its reason.
 use Rattle.pua_since.proofs.Common.{◌≡◌, ◌++◌, List, ℕ, refl, sym, ap, ◌∙◌, append_assoc, Option, CallTable, Refusal, Asked, World, apply}
 use Rattle.pua_since.proofs.Common.{Answer, Okay, Ended, reason, date_of, reason_tail, answer_words}
-use Rattle.std.specs.Prelude.{codes}
+use Rattle.std.specs.Prelude.{codes, Bool, true, false, if◌then◌else◌, None}
 use Rattle.pua_calls.specs.declared.rules.Rules.{Rules}
-use Rattle.pua_calls.specs.declared.rules.Rules.TheVariants.{Profile, Openbsd}
+use Rattle.pua_calls.specs.Calls.{about_rules}
 use Rattle.pua_policy.specs.declared.answer.Refusal.TheVariants as refusal
 use Rattle.pua_script.specs.AnswerTexts.{answer_text}
 use Rattle.pua_why.specs.Reasons.{Reason, NeverMade, Refused, Granted, answer_of, fault_refusal, refusal_answer}
-use Rattle.pua_why.specs.Openings.{opened_by, opener_text}
+use Rattle.pua_why.specs.Openings.{opened_by, opener_if, opener_text}
 use Rattle.pua_why.specs.Texts.{reason_text, since_text, spaced_words}
 use Rattle.pua_why.proofs.ForCallers.{reasons_give_answers}
 
@@ -30,11 +30,11 @@ pub okay_told : (rules : Rules) (table : CallTable) (w : World) (ask : Asked) (l
     answer_words table w ask ++ reason_tail rules table w ask (date_of (reason table w ask) line) ≡ codes "ok"
 okay_told rules table w ask line e =
     ap (λ r. (answer_text (answer_of r) ++ spaced_words (reason_text w.tree r)) ++ (since_text (date_of r line)
-    ++ opener_text (opened_by rules table w ask r))) (okay_is_granted table w ask e) ∙ granted_told rules
+    ++ opener_text (opened_by rules table w ask r))) (okay_is_granted table w ask e) ∙ granted_told (about_rules rules).has_openings
   where
-    granted_told : (rules : Rules) → codes "ok" ++ opener_text (opened_by rules table w ask Granted) ≡ codes "ok"
-    granted_told Profile = refl
-    granted_told Openbsd = refl
+    granted_told : (b : Bool) → codes "ok" ++ opener_text (if b then opener_if table w ask Granted else None) ≡ codes "ok"
+    granted_told true = refl
+    granted_told false = refl
 
 -- an answer, the words of its reason and the line behind it, one after another
 pub told_in_parts : (rules : Rules) (table : CallTable) (w : World) (ask : Asked) (line : Option ℕ) (answer : Answer) (r : Reason)

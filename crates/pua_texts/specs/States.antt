@@ -6,7 +6,7 @@ use Rattle.std.specs.List.{Contains}
 use Rattle.pua_tree.specs.Tree.{Tree, is_dir}
 use Rattle.pua_calls.specs.Promises.{holds, unveil, keyword_rows, keywords_of, no_promises, perm_letters}
 use Rattle.pua_calls.specs.declared.rules.Rules.{Rules}
-use Rattle.pua_calls.specs.declared.rules.Rules.TheVariants.{Profile, Openbsd}
+use Rattle.pua_calls.specs.Calls.{about_rules}
 use Rattle.pua_policy.specs.States.{ProcessState, has_veil, held_set, held_for_exec, is_ended, is_locked, pledged_set, veils}
 use Rattle.pua_policy.specs.declared.place.Place.{Place}
 use Rattle.pua_policy.specs.declared.place.Place.TheVariants.{Dir, Slot}
@@ -34,10 +34,9 @@ pledged_text (Some promises) = or_equals (with_commas (keywords_of promises))
 abbrev pub unveil_word : ProcessState → List ℕ
 unveil_word h = if is_locked h then codes "locked" else (if holds (held_set h) unveil then codes "open" else codes "given-up")
 
--- whose rules they are; those of the profile have no line
+-- whose rules they are; the standard ones have no line
 abbrev pub rules_line : Rules → List ℕ
-rules_line Profile = []
-rules_line Openbsd = with_end (codes "rules openbsd")
+rules_line rules = if (about_rules rules).is_told then with_end (codes "rules " ++ (about_rules rules).word) else []
 
 -- what a list for ever says of execs: nothing where none can ever succeed
 abbrev pub exec_line : ExecBound → List ℕ
@@ -57,10 +56,9 @@ opening_set (Ever Never) h = held_set h
 opening_set (Ever Bounded) h = bit_or (held_set h) (unwrap_or (held_for_exec h) no_promises)
 opening_set (Ever Open) h = held_set h
 
--- what promises open by themselves, which the profile knows nothing of
+-- what promises open by themselves, which the standard rules know nothing of
 abbrev pub openings_told : Rules → Span → ProcessState → List ℕ
-openings_told Profile span h = []
-openings_told Openbsd span h = opening_lines (keywords_of (opening_set span h))
+openings_told rules span h = if (about_rules rules).has_openings then opening_lines (keywords_of (opening_set span h)) else []
 
 -- that there is none, where a process keeps no veil
 abbrev pub unveiled_line : ProcessState → List ℕ

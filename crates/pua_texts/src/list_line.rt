@@ -18,7 +18,7 @@ use pua_calls::Calls;
 use pua_ever::EverThing;
 use pua_io::{PutFault, Sink};
 use pua_objects::ObjectKind;
-use pua_tree::Name;
+use pua_tree::{Kind, Name};
 
 /// What a line of a list says, beside the line before it. Without calls it is no line, and only its
 /// names are those to which the next line is put.
@@ -128,10 +128,10 @@ fn kind_bytes(kind: ObjectKind) -> &'static [u8]
     ensures short { length result.now ≤ MOST_LINE }
 {
     match kind {
-        ObjectKind::Dir => b"dir ",
-        ObjectKind::File => b"file ",
-        ObjectKind::Prog => b"prog ",
-        ObjectKind::Link => b"link ",
+        ObjectKind::Node(Kind::Dir) => b"dir ",
+        ObjectKind::Node(Kind::File) => b"file ",
+        ObjectKind::Node(Kind::Prog) => b"prog ",
+        ObjectKind::Node(Kind::Link) => b"link ",
         ObjectKind::Missing => b"missing ",
         ObjectKind::Other => b"other ",
     }

@@ -134,13 +134,14 @@ pub(crate) fn push_bounds(
     push_unveiled(text, process)
 }
 
-/// Adds whose rules they are; those of the profile have no line.
+/// Adds whose rules they are; the standard ones have no line.
 fn push_rules(text: &mut String, rules: Rules) -> Result<(), AllocError>
     ensures { OnOk result (string_bytes text.new ≡ string_bytes text.old ++ rules_line rules) }
 {
-    match rules {
-        Rules::Profile => Ok(()),
-        Rules::Openbsd => push_line(text, "rules ", "openbsd"),
+    if rules.is_told() {
+        push_line(text, "rules ", rules.word())
+    } else {
+        Ok(())
     }
 }
 
@@ -155,7 +156,7 @@ fn push_execs(text: &mut String, span: Span) -> Result<(), AllocError>
     }
 }
 
-/// Adds what promises open by themselves, of which the profile knows nothing.
+/// Adds what promises open by themselves, of which the standard rules know nothing.
 fn push_opened(
     alloc: Global,
     text: &mut String,
@@ -166,9 +167,10 @@ fn push_opened(
     ensures { OnOk result (string_bytes text.new
         ≡ string_bytes text.old ++ openings_told rules span process.now) }
 {
-    match rules {
-        Rules::Profile => Ok(()),
-        Rules::Openbsd => push_openings(alloc, text, opening_promises(span, process)),
+    if rules.has_openings() {
+        push_openings(alloc, text, opening_promises(span, process))
+    } else {
+        Ok(())
     }
 }
 

@@ -10,7 +10,8 @@ use Rattle.pua_calls.specs.Calls.{CallTable, rule_of, calls}
 use Rattle.pua_calls.specs.declared.call.Call.{Call}
 use Rattle.pua_calls.specs.declared.call.Call.TheVariants as call
 use Rattle.pua_policy.specs.States.{ProcessState, perms_kept, may_any}
-use Rattle.pua_policy.specs.Verdict.{Object, IsDir, IsFile, IsProg, IsLink, IsMissing, cover, cover_fault, covered_verdict, is_allowed}
+use Rattle.pua_tree.specs.declared.node.Kind.TheVariants.{File}
+use Rattle.pua_policy.specs.Verdict.{Object, Is, IsFile, IsProg, IsLink, IsMissing, cover, cover_fault, covered_verdict, is_allowed}
 use Rattle.pua_policy.specs.Verdict.{object_fault, or_fault}
 use Rattle.pua_policy.specs.declared.answer.Cover.{Cover}
 use Rattle.pua_policy.specs.declared.place.Place.TheVariants as place
@@ -79,14 +80,11 @@ module _ (table : CallTable) (h k : ProcessState) (w : Eases table h k) where
 
   allow_more : (xs ys : List Cover) → CoversWithin xs ys → (o : Object) (c : Call) → can_allow table h xs o c ≡ true →
       can_allow table k ys o c ≡ true
-  allow_more xs ys less IsFile c e =
+  allow_more xs ys less (Is File) c e =
       or_more _ _ _ _ (under_more xs ys less IsFile IsFile c (λ fine. fine))
       (and_more _ _ _ _ (any_more (is_allowed_under table h xs IsFile) (is_allowed_under table k ys IsFile)
       (λ turning. under_more xs ys less IsFile IsFile turning (λ fine. fine)) turning_calls) (starts_more xs ys less c)) e
-  allow_more xs ys less IsProg c e = under_more xs ys less IsProg IsProg c (λ fine. fine) e
-  allow_more xs ys less IsLink c e = under_more xs ys less IsLink IsLink c (λ fine. fine) e
-  allow_more xs ys less IsMissing c e = under_more xs ys less IsMissing IsMissing c (λ fine. fine) e
-  allow_more xs ys less (IsDir dir way) c e = under_more xs ys less (IsDir dir way) (IsDir dir way) c (λ fine. fine) e
+  allow_more xs ys less o c e = under_more xs ys less o o c (λ fine. fine) e
 
   -- a directory that can be removed is allowed what one that can't is
   dir_more : (xs ys : List Cover) → CoversWithin xs ys → (a b : Bool) → (a ≡ true → b ≡ true) → (c : Call) →

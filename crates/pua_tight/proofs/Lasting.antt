@@ -12,7 +12,8 @@ use Rattle.pua_calls.specs.Calls.{CallTable, rule_of, calls}
 use Rattle.pua_calls.specs.Tables.{NoCallNeedsError}
 use Rattle.pua_calls.specs.declared.call.Call.{Call}
 use Rattle.pua_policy.specs.States.{ProcessState, may_any, held_set, with_both}
-use Rattle.pua_policy.specs.Verdict.{Object, IsFile, IsProg, IsLink, IsMissing, IsDir, cover_fault}
+use Rattle.pua_policy.specs.Verdict.{Object, Is, IsFile, IsProg, IsLink, IsMissing, cover_fault}
+use Rattle.pua_tree.specs.declared.node.Kind.TheVariants.{File}
 use Rattle.pua_policy.specs.Verdict.{covered_verdict, is_allowed, object_fault, or_fault}
 use Rattle.pua_tree.specs.Tree.{empty_tree}
 use Rattle.pua_policy.specs.declared.answer.Cover.{Cover}
@@ -125,12 +126,9 @@ module _ (table : CallTable) (t : Tree) (well : WellFormed t) where
         promised xs IsProg c (and_parts (is_exec_call c) _ (and_parts turned _ e).1).1
 
     promised_on : (xs : List Cover) (o : Object) (c : Call) → can_allow table k xs o c ≡ true → passes c ≡ true
-    promised_on xs IsFile c e = one_way (is_allowed_under table k xs IsFile c) _ c (promised xs IsFile c)
+    promised_on xs (Is File) c e = one_way (is_allowed_under table k xs IsFile c) _ c (promised xs IsFile c)
         (started xs (list_any (is_allowed_under table k xs IsFile) turning_calls) c) e
-    promised_on xs IsProg c e = promised xs IsProg c e
-    promised_on xs IsLink c e = promised xs IsLink c e
-    promised_on xs IsMissing c e = promised xs IsMissing c e
-    promised_on xs (IsDir dir way) c e = promised xs (IsDir dir way) c e
+    promised_on xs o c e = promised xs o c e
 
     promised_new : (new : New) (c : Call) → can_allow_new t table k new c ≡ true → passes c ≡ true
     promised_new NewFile c e = one_way (is_allowed_under table k (file_covers t table k) IsFile c) _ c

@@ -5,7 +5,7 @@ use Rattle.pua_tree.specs.Examples.{text_of_lines}
 use Rattle.pua_tree.specs.declared.fault.ListingFault.TheVariants.{BadHeader}
 use Rattle.pua_calls.specs.Calls.{standard_table, table_by_rules}
 use Rattle.pua_calls.specs.declared.rules.Rules.{Rules}
-use Rattle.pua_calls.specs.declared.rules.Rules.TheVariants.{Profile, Openbsd}
+use Rattle.pua_calls.specs.declared.rules.Rules.TheVariants.{Standard, Openbsd}
 use Rattle.pua_calls.specs.Promises.{exec, rpath, wpath, reading, writing}
 use Rattle.pua_script.specs.Examples.{example}
 use Rattle.pua_script.specs.Scripts.{script}
@@ -21,7 +21,7 @@ abbrev pub written_by : Rules → List ℕ → Option (List ℕ)
 written_by rules bytes = result_ok (text_over rules (table_by_rules rules) (text_of_lines example) bytes)
 
 abbrev pub written : List ℕ → Option (List ℕ)
-written bytes = written_by Profile bytes
+written bytes = written_by Standard bytes
 
 -- which words go
 pub record TightRows : Type 0 where
@@ -68,8 +68,8 @@ pub record WrittenRows : Type 0 where
       ≡ Some (codes "1 unveil /etc r" ++ 13 ∷ 10 ∷ codes "1 unveil - -" ++ 10 ∷ codes "1 stat /etc")
   pub spelling_stays : written (text_of_lines (codes "1 unveil /a\\040b rw" ∷ codes "1 pledge nothing -" ∷ []))
       ≡ Some (text_of_lines (codes "1 unveil /a\\040b =" ∷ codes "1 pledge nothing -" ∷ []))
-  pub bad_listing : text_over Profile standard_table (codes "tree 4") (codes "1 say") ≡ Err (Listing BadHeader)
-  pub bad_script : text_over Profile standard_table (text_of_lines example) (codes "1 say") ≡ Err (Script (BadCall 1))
+  pub bad_listing : text_over Standard standard_table (codes "tree 4") (codes "1 say") ≡ Err (Listing BadHeader)
+  pub bad_script : text_over Standard standard_table (text_of_lines example) (codes "1 say") ≡ Err (Script (BadCall 1))
 
 pub written_rows : WrittenRows
 written_rows = record {
@@ -98,7 +98,7 @@ without_rows = record { letter = refl; promise = refl; execpromise = refl }
 
 -- what the words of a script over the example tree are needed for
 abbrev pub used : List ℕ → Option (List WordUse)
-used bytes = result_ok (uses_over Profile standard_table (text_of_lines example) bytes)
+used bytes = result_ok (uses_over Standard standard_table (text_of_lines example) bytes)
 
 abbrev pub word : ℕ → Piece → Option ℕ → WordUse
 word line piece needed_by = record { line = line; word = piece; needed_by = needed_by }

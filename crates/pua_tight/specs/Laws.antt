@@ -3,7 +3,7 @@ use Rattle.std.specs.Prelude.{None, Ok, ◌≡◌, ◌≢◌, ◌≤◌, ℕ, ze
 use Rattle.pua_tree.specs.Tree.{Tree, WellFormed}
 use Rattle.pua_calls.specs.Calls.{CallTable, Rule, rule_of, table_by_rules}
 use Rattle.pua_calls.specs.declared.rules.Rules.{Rules}
-use Rattle.pua_calls.specs.declared.rules.Rules.TheVariants.{Profile}
+use Rattle.pua_calls.specs.declared.rules.Rules.TheVariants.{Standard}
 use Rattle.pua_calls.specs.Promises.{error}
 use Rattle.pua_calls.specs.declared.call.Call.{Call}
 use Rattle.pua_calls.specs.declared.call.Call.TheVariants as call
@@ -169,14 +169,15 @@ TightIsLeast = (table : CallTable) (w : World) (lines : List Line) (less : List 
 -- an owner is changed by either of two promises, by OpenBSD's rules
 abbrev pub is_chown : Action → Bool
 is_chown (OnPath call.Chown path) = true
+is_chown (OnPath call.Fchown path) = true
 is_chown action = false
 
 abbrev pub HasNoChown : List Asked → Type 0
 HasNoChown asks = list_any (λ ask. is_chown ask.action) asks ≡ false
 
--- by the rules that a command names each script is such a one: by the profile's each, by OpenBSD's each without chown
+-- by the rules that a command names each script is such a one: by the standard ones each, by OpenBSD's each without chown and fchown
 abbrev pub RulesRestOnOne : Type 0
-RulesRestOnOne = (rules : Rules) (asks : List Asked) → (rules ≡ Profile) ⊎ HasNoChown asks → RestOnOne (table_by_rules rules) asks
+RulesRestOnOne = (rules : Rules) (asks : List Asked) → (rules ≡ Standard) ⊎ HasNoChown asks → RestOnOne (table_by_rules rules) asks
 
 -- what may be left out of a script's requests meets what these laws ask of lines
 pub record IsScriptOfLines (table : CallTable) (w : World) (more : List Asked) : Type 0 where

@@ -56,6 +56,27 @@ ended_by_halt words held flushed a b c before between after same rises keeps (in
 ended_by_halt words held flushed a b c before between after same rises keeps (inr (asks, (text, front, failed))) =
     inr (asks, (text, front_still text a b c front keeps, failed_still flushed before between after same rises failed))
 
+-- a command that was done, and a flush after it
+kept_answer : (words : List (List ℕ)) (held : Held) (a b c : Option (List ℕ)) → Keeps b c → HasAnswered words held a b → HasAnswered words held a c
+kept_answer words held a b c keeps (inl (command, sound, done)) =
+    inl (
+      command,
+      sound,
+      record { text = done.text; asks = done.asks; adds = Appends-kept a b c done.text done.adds keeps },
+    )
+kept_answer words held a b c keeps (inr (asks, (text, some, adds))) = inr (asks, (text, some, Appends-kept a b c text adds keeps))
+
+-- a result that is done is that of a command that was
+pub answered_by_status : (words : List (List ℕ)) (held : Held) (status result : ℕ) (a b c : Option (List ℕ))
+    → (status ≢ DONE → result ≡ status) → Keeps b c → (status ≡ DONE → HasAnswered words held a b) → result ≡ DONE → HasAnswered words held a c
+answered_by_status words held status result a b c stopped keeps answered same =
+    kept_answer words held a b c keeps (answered (by_order (cases_order status 0)))
+  where
+    by_order : (status ≡ 0) ⊎ ((status < 0) ⊎ (0 < status)) → status ≡ 0
+    by_order (inl done) = done
+    by_order (inr (inl less)) = absurd (omega (arith, less))
+    by_order (inr (inr more)) = sym (stopped (λ done. omega (arith, more, done))) ∙ same
+
 -- a command that was done, and a flush that failed
 pub ended_by_flush : (words : List (List ℕ)) (held : Held) (a b c : Option (List ℕ)) (before between after : ℕ)
     → between ≡ before → after ≡ next_count between → Keeps b c → HasAnswered words held a b → HasEnded words held a c before after

@@ -11,7 +11,7 @@ use Rattle.pua_tree.proofs.ForCallers.{None≢Some, same_Ok, same_Some, Err≢Ok
 use Rattle.pua_calls.specs.Calls.{call_in}
 use Rattle.pua_calls.specs.declared.call.Call.{Call}
 use Rattle.pua_calls.specs.declared.rules.Rules.{Rules}
-use Rattle.pua_calls.specs.declared.rules.Rules.TheVariants.{Profile, Openbsd}
+use Rattle.pua_calls.specs.declared.rules.Rules.TheVariants.{Standard, Openbsd}
 use Rattle.pua_policy.specs.States.{is_ended}
 use Rattle.pua_script.specs.Bytes.{IsByteTree}
 use Rattle.pua_script.specs.Family.{is_exec, none_done}
@@ -133,11 +133,11 @@ module _ (rules : Rules) (word : List ℕ) (clean : has_no_end word ≡ true) (u
       unread ask (ap (request_by rules 1) (sym same) ∙ ap (first_or (Ok ask)) read)
 
 unread_never : (rules : Rules) (ask : Asked) → request_by rules 1 (codes "never") ≡ Ok ask → ⊥
-unread_never Profile ask e = Err≢Ok _ ask e
+unread_never Standard ask e = Err≢Ok _ ask e
 unread_never Openbsd ask e = Err≢Ok _ ask e
 
 unread_before : (rules : Rules) (ask : Asked) → request_by rules 1 (codes "never before an exec") ≡ Ok ask → ⊥
-unread_before Profile ask e = Err≢Ok _ ask e
+unread_before Standard ask e = Err≢Ok _ ask e
 unread_before Openbsd ask e = Err≢Ok _ ask e
 
 -- so no line has the call, and `never` alone says nothing of execs

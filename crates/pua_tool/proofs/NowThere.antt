@@ -22,6 +22,7 @@ use Rattle.pua_objects.specs.declared.item.Subject as given
 use Rattle.pua_objects.specs.declared.line.ObjectLine.{ObjectLine}
 use Rattle.pua_objects.specs.declared.kind.ObjectKind.{ObjectKind}
 use Rattle.pua_objects.specs.declared.kind.ObjectKind.TheVariants as kind
+use Rattle.pua_tree.specs.declared.node.Kind.TheVariants.{Dir}
 use Rattle.pua_ever.specs.Ever.{Thing, Stands, Comes}
 use Rattle.pua_ever.specs.EverLines.{IsThing}
 use Rattle.pua_ever.specs.declared.line.EverThing.TheVariants as told
@@ -50,22 +51,17 @@ module _ (t : Tree) where
 
   module _ (dir : ℕ) (name : List ℕ) (node : ℕ) (over : is_dir t dir ≡ true) (here : look t dir name ≡ Some node) where
     dir_fits : is_dir t node ≡ true → (kind : ObjectKind) (subject : Subject) → dir_there kind dir name node ≡ Some subject → SubjectFits t subject
-    dir_fits living kind.Dir subject is = subst (SubjectFits t) (same_Some (At (Whole node (Named dir name))) subject is) (living, (over, here))
+    dir_fits living (kind.Node Dir) subject is = subst (SubjectFits t) (same_Some (At (Whole node (Named dir name))) subject is) (living, (over, here))
     dir_fits living kind.Other subject is = subst (SubjectFits t) (same_Some (Others node) subject is) living
-    dir_fits living kind.File subject is = absurd (None≢Some subject is)
-    dir_fits living kind.Prog subject is = absurd (None≢Some subject is)
-    dir_fits living kind.Link subject is = absurd (None≢Some subject is)
-    dir_fits living kind.Missing subject is = absurd (None≢Some subject is)
+    dir_fits living _ subject is = absurd (None≢Some subject is)
 
     slot_fits : is_dir t node ≡ false → SubjectFits t (At (Slot dir name (Some node)))
     slot_fits plain = (rw (over, here, plain) (ap (λ b. b && true) (eq-eqb node node refl)), (over, here))
 
     node_fits : is_dir t node ≡ false → (kind : ObjectKind) (subject : Subject) → node_there kind dir name node ≡ Some subject →
         SubjectFits t subject
-    node_fits plain kind.File subject is = subst (SubjectFits t) (same_Some (At (Slot dir name (Some node))) subject is) (slot_fits plain)
-    node_fits plain kind.Prog subject is = subst (SubjectFits t) (same_Some (At (Slot dir name (Some node))) subject is) (slot_fits plain)
-    node_fits plain kind.Link subject is = subst (SubjectFits t) (same_Some (At (Slot dir name (Some node))) subject is) (slot_fits plain)
-    node_fits plain kind.Dir subject is = absurd (None≢Some subject is)
+    node_fits plain (kind.Node Dir) subject is = absurd (None≢Some subject is)
+    node_fits plain (kind.Node _) subject is = subst (SubjectFits t) (same_Some (At (Slot dir name (Some node))) subject is) (slot_fits plain)
     node_fits plain kind.Other subject is = absurd (None≢Some subject is)
     node_fits plain kind.Missing subject is = absurd (None≢Some subject is)
 

@@ -10,7 +10,8 @@ use Rattle.pua_calls.specs.Calls.{calls}
 use Rattle.pua_calls.specs.CallSets.{calls_in, has}
 use Rattle.pua_calls.specs.declared.call.Call.{Call}
 use Rattle.pua_calls.specs.declared.rules.Rules.{Rules}
-use Rattle.pua_policy.specs.Verdict.{Object, IsDir, IsFile, IsProg, IsLink, IsMissing, object_of}
+use Rattle.pua_policy.specs.Verdict.{Object, IsDir, Is, IsMissing, object_of}
+use Rattle.pua_tree.specs.declared.node.Kind.TheVariants as node
 use Rattle.pua_audit.specs.Reach.{Word}
 use Rattle.pua_objects.specs.Lines.{kind_word}
 use Rattle.pua_objects.specs.Objects.{At, Others, object_word}
@@ -205,19 +206,17 @@ abbrev OfWord : List ℕ → Type 0
 OfWord word = (kind : ObjectKind) × (kind_word kind ≡ word)
 
 of_object : (object : Object) → OfWord (object_word object)
-of_object (IsDir dir way) = (kind.Dir, refl)
-of_object IsFile = (kind.File, refl)
-of_object IsProg = (kind.Prog, refl)
-of_object IsLink = (kind.Link, refl)
+of_object (IsDir dir way) = (kind.Node node.Dir, refl)
+of_object (Is of) = (kind.Node of, refl)
 of_object IsMissing = (kind.Missing, refl)
 
 of_thing : (t : Tree) (thing : Thing) → OfWord (thing_word t thing)
 of_thing t (Stands (At found)) = of_object (object_of t found)
 of_thing t (Stands (Others dir)) = (kind.Other, refl)
-of_thing t (Comes NewDir) = (kind.Dir, refl)
+of_thing t (Comes NewDir) = (kind.Node node.Dir, refl)
 of_thing t (Comes NewOthers) = (kind.Other, refl)
-of_thing t (Comes NewFile) = (kind.File, refl)
-of_thing t (Comes NewLink) = (kind.Link, refl)
+of_thing t (Comes NewFile) = (kind.Node node.File, refl)
+of_thing t (Comes NewLink) = (kind.Node node.Link, refl)
 
 module _ (done : Replayed) (process : ℕ) (h : ProcessState) where
   uncounted : (about : Asking) (kind : ObjectKind) (cs : List Call) →

@@ -7,6 +7,7 @@ use Rattle.pua_calls.specs.declared.call.Call.TheVariants as call
 use Rattle.pua_objects.specs.Objects.{Others}
 use Rattle.pua_objects.specs.declared.kind.ObjectKind.{ObjectKind}
 use Rattle.pua_objects.specs.declared.kind.ObjectKind.TheVariants as kind
+use Rattle.pua_tree.specs.declared.node.Kind.TheVariants.{File}
 use Rattle.pua_ever.specs.Ever.{EverLine, Stands, Comes, NewFile}
 use Rattle.pua_how.specs.Examples.{pid_now, pid_tree}
 use Rattle.pua_tool.specs.EverHowTexts.{counts_text, lacking}
@@ -19,11 +20,11 @@ abbrev pub line_at : List (List ℕ) → List Call → EverLine
 line_at word calls = record { word = word; thing = Stands (Others 0); calls = calls }
 
 pub record EverHowRows : Type 0 where
-  pub linked : lacked kind.File (line_at (codes "etc" ∷ codes "conf" ∷ []) (call.Stat ∷ call.OpenRead ∷ call.OpenWrite ∷ []))
+  pub linked : lacked (kind.Node File) (line_at (codes "etc" ∷ codes "conf" ∷ []) (call.Stat ∷ call.OpenRead ∷ call.OpenWrite ∷ []))
       ≡ call.OpenWrite ∷ []
-  pub now : lacked kind.File (line_at (codes "run" ∷ codes "pid" ∷ []) (call.Stat ∷ call.OpenWrite ∷ call.Unlink ∷ [])) ≡ []
+  pub now : lacked (kind.Node File) (line_at (codes "run" ∷ codes "pid" ∷ []) (call.Stat ∷ call.OpenWrite ∷ call.Unlink ∷ [])) ≡ []
   pub freed : lacked kind.Missing (line_at (codes "run" ∷ codes "pid" ∷ []) (call.Create ∷ [])) ≡ call.Create ∷ []
-  pub made : lacked kind.File (record { word = []; thing = Comes NewFile; calls = call.Stat ∷ [] }) ≡ call.Stat ∷ []
+  pub made : lacked (kind.Node File) (record { word = []; thing = Comes NewFile; calls = call.Stat ∷ [] }) ≡ call.Stat ∷ []
   pub counted : counts_text 32 ((call.OpenWrite, Some 2) ∷ (call.Chmod, None) ∷ []) ≡ codes " open-w 2,chmod ?"
   pub none : counts_text 32 [] ≡ []
 

@@ -19,6 +19,7 @@ use Rattle.pua_objects.specs.Lines.{kind_word}
 use Rattle.pua_objects.specs.Objects.{Subject, At, Others, is_named_by, subject_verdict, subject_word}
 use Rattle.pua_objects.specs.declared.kind.ObjectKind.{ObjectKind}
 use Rattle.pua_objects.specs.declared.kind.ObjectKind.TheVariants as kind
+use Rattle.pua_tree.specs.declared.node.Kind.TheVariants.{Dir}
 use Rattle.pua_ever.specs.Ever.{EverLine, Thing, Stands, Comes, new_word}
 use Rattle.pua_ever.specs.Refusals.{refusal}
 use Rattle.pua_ever.specs.Through.{ever_lasting}
@@ -36,12 +37,12 @@ use Rattle.pua_tool.specs.declared.fault.ToolFault.TheVariants.{NoProcess}
 -- what stands at a name now, as a line of a kind is about it: a directory or its further names, what is no directory, or the name
 -- where nothing stands; nothing, where a line of this kind is about what doesn't stand there now
 abbrev pub dir_there : ObjectKind → ℕ → List ℕ → ℕ → Option Subject
-dir_there kind.Dir dir name node = Some (At (Whole node (Named dir name)))
+dir_there (kind.Node Dir) dir name node = Some (At (Whole node (Named dir name)))
 dir_there kind.Other dir name node = Some (Others node)
 dir_there _ dir name node = None
 
 abbrev pub node_there : ObjectKind → ℕ → List ℕ → ℕ → Option Subject
-node_there kind.Dir dir name node = None
+node_there (kind.Node Dir) dir name node = None
 node_there kind.Other dir name node = None
 node_there kind.Missing dir name node = None
 node_there _ dir name node = Some (At (Slot dir name (Some node)))
@@ -60,7 +61,7 @@ subject_in t kind dir name (next ∷ more) = option_and_then (λ node. subject_i
 
 -- the same at the end of names, which lead there from the root; without a name that is the root
 abbrev pub root_subject : ObjectKind → Option Subject
-root_subject kind.Dir = Some (At (Whole 0 Top))
+root_subject (kind.Node Dir) = Some (At (Whole 0 Top))
 root_subject kind.Other = Some (Others 0)
 root_subject _ = None
 

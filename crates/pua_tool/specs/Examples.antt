@@ -12,6 +12,7 @@ use Rattle.pua_audit.specs.declared.base.Base.TheVariants.{Root, Cwd}
 use Rattle.pua_audit.specs.declared.fault.AuditFault.TheVariants.{BadResume}
 use Rattle.pua_objects.specs.declared.kind.ObjectKind.{ObjectKind}
 use Rattle.pua_objects.specs.declared.kind.ObjectKind.TheVariants as kind
+use Rattle.pua_tree.specs.declared.node.Kind.TheVariants.{Link}
 use Rattle.pua_why.specs.Texts.{promises_text}
 use Rattle.pua_words.specs.declared.command.Members.TheVariants as members
 use Rattle.pua_words.specs.declared.command.Processes.TheVariants.{One, All}
@@ -268,7 +269,7 @@ pub record HowTextRows : Type 0 where
   pub no_thing : without_way root_listing locking (codes "stat") (codes "/a/b") ≡ Err HowThing
   pub link : without_way link_and_file locking (codes "open-r") (codes "/a") ≡ Err (HowLink OpenRead)
   pub kept_link : without_way link_and_file locking (codes "readlink") (codes "/a") ≡ Ok (text_of_lines (codes "never" ∷ []))
-  pub new_link : without_way_of (Some kind.Link) root_listing locking (codes "open-r") (codes "new") ≡ Err (HowLink OpenRead)
+  pub new_link : without_way_of (Some (kind.Node Link)) root_listing locking (codes "open-r") (codes "new") ≡ Err (HowLink OpenRead)
   pub new_things : without_way root_listing locking (codes "open-r") (codes "new") ≡ Ok (text_of_lines (codes "never" ∷ []))
 
 pub how_text_rows : HowTextRows

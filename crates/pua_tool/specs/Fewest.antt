@@ -5,7 +5,7 @@ use Rattle.pua_tree.specs.Tree.{Tree, WellFormed}
 use Rattle.pua_tree.specs.Listing.{listing}
 use Rattle.pua_calls.specs.Calls.{CallTable}
 use Rattle.pua_calls.specs.declared.call.Call.{Call}
-use Rattle.pua_calls.specs.declared.rules.Rules.TheVariants.{Profile}
+use Rattle.pua_calls.specs.declared.rules.Rules.TheVariants.{Standard}
 use Rattle.pua_policy.specs.States.{ProcessState, is_ended}
 use Rattle.pua_policy.specs.Verdict.{verdict_on, is_allowed}
 use Rattle.pua_script.specs.Requests.{Asked}
@@ -65,8 +65,8 @@ pub record IsTightWritten (choice : Chosen) (tree_bytes script_bytes : List ℕ)
   -- where each request rests on one set of promises, whatever else is left out so that all is answered as before has all that it has
   pub least : RestOnOne table given → (less : List Asked) → LeavesOut less (lines_of table (new_world t) given) →
       answers_to table (new_world t) less ≡ answers_to table (new_world t) given → AsksWithin left less
-  -- which they do by the rules alone: by the profile's of every script, by OpenBSD's of every script without chown
-  pub one_set : choice.rows ≡ None → (choice.rules ≡ Profile) ⊎ HasNoChown given → RestOnOne table given
+  -- which they do by the rules alone: by the standard ones of every script, by OpenBSD's of every script without chown and fchown
+  pub one_set : choice.rows ≡ None → (choice.rules ≡ Standard) ⊎ HasNoChown given → RestOnOne table given
 
 abbrev pub TightAsWritten : Type 0
 TightAsWritten = (choice : Chosen) (tree_bytes script_bytes : List ℕ) (table : CallTable) (t : Tree) (given : List Asked) (text : List ℕ) →

@@ -1,5 +1,5 @@
 -- What the performance of a command promises.
-use Rattle.std.specs.Prelude.{◌≡◌, ◌<◌, ◌⊎◌, ⊤, ℕ, List, length, map, Option, Some, None, Result, Ok, Err}
+use Rattle.std.specs.Prelude.{◌≡◌, ◌<◌, ◌⊎◌, ⊤, ℕ, List, [], ◌∷◌, length, map, Option, Some, None, Result, Ok, Err}
 use Rattle.std.specs.Borrow.{Bor}
 use Rattle.std.specs.Io.KnownBytes.{Keeps}
 use Rattle.pua_words.specs.Commands.{AsksSoundly}
@@ -14,7 +14,7 @@ use Rattle.pua_tool.specs.declared.fault.ToolFault.TheVariants.{Write, OutOfMemo
 use Rattle.pua_tool.specs.declared.outcome.CommandFault.{CommandFault}
 use Rattle.pua_tool.specs.declared.outcome.CommandFault.TheVariants.{Usage, Unreadable, Tool}
 use Rattle.pua_tool.specs.declared.status.TheConstants.{REFUSED}
-use Rattle.pua_io.specs.Held.{Held, Holds, HoldsNothing}
+use Rattle.pua_io.specs.Held.{Asked, AsksFor, AsksForFront, Held, Holds, HoldsNothing}
 use Rattle.pua_io.specs.Sinks.{Adds, AddsFront, HasFailed}
 use Rattle.pua_tool.specs.Statuses.{status_of}
 use Rattle.pua_tool.specs.Texts.{Chosen, given_bytes, run_text, audit_text, wanted_by}
@@ -49,6 +49,14 @@ HoldsTable held None None = ⊤
 HoldsTable held None (Some bytes) = ⊥
 HoldsTable held (Some name) None = ⊥
 HoldsTable held (Some name) (Some bytes) = Holds held name.now bytes
+
+-- the names of a command's inputs, in the order in which they are asked for: the tree's, the script's, and the table's if one is named
+abbrev pub table_names : Option (Bor (List ℕ)) → List (List ℕ)
+table_names None = []
+table_names (Some name) = name.now ∷ []
+
+abbrev pub inputs_of : Command → List (List ℕ)
+inputs_of command = command.tree.now ∷ command.script.now ∷ table_names command.table
 
 -- what is asked for, of the bytes that are held under the command's names
 pub record Asks (held : Held) (command : Command) (answer : Result (List ℕ) ToolFault) : Type 0 where
@@ -139,6 +147,11 @@ IsStopped held command (Tool fault) old new before after = IsUnwritten held comm
 pub record IsAskedBy (words : List (List ℕ)) (command : Command) : Type 0 where
   pub sound : AsksSoundly command.text
   pub meant : IsMeantBy words command
+
+-- what words ask for of the inputs: those of a command that they name, or the first of these, or none
+abbrev pub HasAsked : List (List ℕ) → Asked → Asked → Type 0
+HasAsked words old new =
+    ((command : Command) × IsAskedBy words command × AsksForFront old new (inputs_of command)) ⊎ AsksFor old new []
 
 -- what words that are done have written: the whole text of a command or, where one of the words asks for that, a text of
 -- some bytes about the program

@@ -8,7 +8,7 @@ use Rattle.std.specs.Borrow.{Bor}
 use Rattle.pua_calls.specs.Calls.{CallTable, table_by_rules}
 use Rattle.pua_calls.specs.TableTexts.{table_over}
 use Rattle.pua_calls.specs.declared.rules.Rules.{Rules}
-use Rattle.pua_calls.specs.declared.rules.Rules.TheVariants.{Profile}
+use Rattle.pua_calls.specs.declared.rules.Rules.TheVariants.{Standard}
 use Rattle.pua_calls.specs.declared.table.read.TableFault.{TableFault}
 use Rattle.pua_policy.specs.States.{ProcessState}
 use Rattle.pua_script.specs.Requests.{Asked}
@@ -68,14 +68,14 @@ pub record Chosen : Type 0 where
 
 -- the standard table, without a text
 abbrev pub by_standard : Chosen
-by_standard = record { rules = Profile; rows = None }
+by_standard = record { rules = Standard; rows = None }
 
 abbrev pub choice_of : TableChoice → Chosen
 choice_of table = record { rules = table.rules; rows = given_bytes table.rows }
 
--- the rules of the profile, with a text
+-- the standard rules, with a text
 abbrev pub by_profile : Option (List ℕ) → Chosen
-by_profile text = record { rules = Profile; rows = text }
+by_profile text = record { rules = Standard; rows = text }
 
 -- what the job of an audit chooses by these rules
 abbrev pub by_job : Rules → Job → Chosen

@@ -21,7 +21,7 @@ use pua_texts::{AuditList, front_text, write_audit};
 use pua_tree::FileTree;
 use std::alloc::Global;
 
-/// Writes the text of an audit by the rules of the profile. It answers what `audit_by` does.
+/// Writes the text of an audit by the standard rules. It answers what `audit_by` does.
 pub fn audit_to<S: Sink>(
     alloc: Global,
     tree_bytes: &[u8],
@@ -30,10 +30,10 @@ pub fn audit_to<S: Sink>(
     sink: &mut S,
 ) -> Result<(), ToolFault>
     ensures text { AnswersTo S.written S.failed
-        (audit_text (by_job rule.Profile job.now) tree_bytes.now script_bytes.now
+        (audit_text (by_job rule.Standard job.now) tree_bytes.now script_bytes.now
         (wants_of job.now)) result sink.old sink.new }
 {
-    audit_by(alloc, tree_bytes, script_bytes, Rules::Profile, job, sink)
+    audit_by(alloc, tree_bytes, script_bytes, Rules::Standard, job, sink)
 }
 
 /// Writes the text of an audit: for each line of the script its number and what it was answered,

@@ -5,7 +5,8 @@ ghost use Rattle.std.specs.Io.Buffered.{writer_buffer, writer_contents};
 ghost use Rattle.std.specs.Io.KnownBytes.{Keeps};
 ghost use Rattle.pua_words.specs.Usages.{line_for, usage_line_text};
 ghost use Rattle.pua_words.specs.declared.command.Command.{Command};
-ghost use Rattle.pua_tool.specs.Performed.{HasAnswered, HasEnded, HasHalted, IsAskedBy, IsRefused};
+ghost use Rattle.pua_tool.specs.Performed.{HasAnswered, HasAsked, HasEnded, HasHalted, IsAskedBy};
+ghost use Rattle.pua_tool.specs.Performed.{IsRefused};
 ghost use Rattle.pua_io.specs.Sinks.{Adds, AddsFront, HasFailed};
 ghost use Rattle.pua_texts.specs.Lines.{with_end};
 ghost use Rattle.pua_tool.specs.Told.{IsLineTold, Shows, ShowsFront, TellsStatus, TellsUsage};
@@ -50,6 +51,8 @@ pub fn program<I: Inputs, W: Write + Drop, E: Sink>(
     ensures unfailed { result ≡ DONE → out.new.1 ≡ out.old.1 }
     ensures quiet { result ≡ DONE → err.new ≡ err.old }
     ensures statuses { result ≤ MEMORY }
+    ensures asks { HasAsked (map (λ word. word.now) words.now) (I.asked inputs.old)
+        (I.asked inputs.new) }
 {
     let status = command(alloc, words, inputs, out, err);
     let flushed = out.flush();
@@ -110,6 +113,8 @@ pub fn command<I: Inputs, O: Sink, E: Sink>(
     ensures unwritten { result ≢ DONE → result ≢ DEVICE → O.written out.new ≡ O.written out.old }
     ensures unfailed { result ≡ DONE → O.failed out.new ≡ O.failed out.old }
     ensures quiet { result ≡ DONE → err.new ≡ err.old }
+    ensures asks { HasAsked (map (λ word. word.now) words.now) (I.asked inputs.old)
+        (I.asked inputs.new) }
 {
     match read_words(alloc, words) {
         Ok(command) => perform(alloc, &command, inputs, out, err),

@@ -103,7 +103,8 @@ pub fn never_text_law()
 /// Where there is a text of a tightened script, it is a script again, the given one but for words that were left out: its run has
 /// the same text, each process may do no more, and without any one word more some line is answered otherwise. Where each request
 /// rests on one set of promises, whatever else is left out so that all is answered as before has all that it has: by the rules
-/// alone, without a table's rows, by the profile's of every script, by OpenBSD's of every script without chown.
+/// alone, without a table's rows, by the standard ones of every script, by OpenBSD's of every script without chown and
+/// fchown.
 #[tactic(auto, using(crate::proofs::Fewest::tight_as_written))]
 pub fn tight_text_law()
     ensures { TightAsWritten }

@@ -84,7 +84,7 @@ fn root_of<'t>(kind: ObjectKind) -> Option<Subject<'t>>
         SubjectFits t (subject_given t subject)) }
 {
     match kind {
-        ObjectKind::Dir => Some(Subject::Root),
+        ObjectKind::Node(Kind::Dir) => Some(Subject::Root),
         ObjectKind::Other => Some(Subject::Others(NodeId::ROOT)),
         _ => None,
     }
@@ -154,7 +154,7 @@ fn dir_there<'t>(dir: NodeId, name: &'t Name, node: NodeId, kind: ObjectKind) ->
         ≡ is_dir_there kind dir name.now node }
 {
     match kind {
-        ObjectKind::Dir => Some(Subject::Dir(node, dir, name)),
+        ObjectKind::Node(Kind::Dir) => Some(Subject::Dir(node, dir, name)),
         ObjectKind::Other => Some(Subject::Others(node)),
         _ => None,
     }
@@ -166,7 +166,8 @@ fn node_there<'t>(dir: NodeId, name: &'t Name, kind: ObjectKind) -> Option<Subje
         option_map (subject_given t) result ≡ is_node_there kind dir name.now node }
 {
     match kind {
-        ObjectKind::File | ObjectKind::Prog | ObjectKind::Link => Some(Subject::Name(dir, name)),
+        ObjectKind::Node(Kind::Dir) => None,
+        ObjectKind::Node(_) => Some(Subject::Name(dir, name)),
         _ => None,
     }
 }

@@ -13,7 +13,7 @@ use pua_io::Sink;
 use pua_texts::answer_text;
 use std::alloc::{AllocError, Global};
 
-/// Writes the text of a run by the rules of the profile, where a text with rows may stand in the place
+/// Writes the text of a run by the standard rules, where a text with rows may stand in the place
 /// of some. It answers what `run_by` does.
 pub fn run_to<S: Sink>(
     alloc: Global,
@@ -27,7 +27,7 @@ pub fn run_to<S: Sink>(
         result sink.old sink.new }
 {
     let choice = TableChoice {
-        rules: Rules::Profile,
+        rules: Rules::Standard,
         rows: table,
     };
     run_by(alloc, tree_bytes, script_bytes, choice, sink)

@@ -1,12 +1,12 @@
 //! What a command asks for, done: its inputs are taken, and its text is written.
 
-ghost use Rattle.std.specs.Prelude.{◌≡◌, ◌≢◌, ◌≤◌, ◌⊎◌, ℕ, List, Result, OnOk, IfOk, IfErr};
-ghost use Rattle.std.specs.Prelude.{option_map};
-ghost use Rattle.pua_io.specs.Held.{Holds};
+ghost use Rattle.std.specs.Prelude.{◌≡◌, ◌≢◌, ◌≤◌, ◌⊎◌, ◌∷◌, [], ℕ, List, Result, OnOk, IfOk};
+ghost use Rattle.std.specs.Prelude.{IfErr, option_map};
+ghost use Rattle.pua_io.specs.Held.{AsksFor, AsksForFront, Holds};
 ghost use Rattle.pua_tool.specs.Answers.{AnswersTo};
 ghost use Rattle.pua_tool.specs.Performed.{HoldsTable, IsCutShort, IsDone, IsRefused, IsStopped};
 ghost use Rattle.pua_tool.specs.Performed.{IsTableUnheld, IsUnheld, IsUntaken, LacksInput};
-ghost use Rattle.pua_tool.specs.Performed.{IsTextAsked};
+ghost use Rattle.pua_tool.specs.Performed.{IsTextAsked, inputs_of, table_names};
 ghost use Rattle.pua_tool.specs.Statuses.{fault_status};
 ghost use Rattle.pua_tool.specs.Texts.{given_bytes};
 ghost use Rattle.pua_tool.specs.Told.{IsFaultTold};
@@ -37,7 +37,8 @@ use std::alloc::Global;
 /// Does what a command asks for: the text of a run, of an audit, of a list of objects, of now or for
 /// ever, of a way, or of a tightened script goes to `out`, and of a fault one line goes to `err`, which
 /// is dropped where it can't be written. The inputs are taken, first the tree's, then the script's, then
-/// the table's where one is named, before any of them is read as a listing, a script or a table.
+/// the table's where one is named, before any of them is read as a listing, a script or a table; none
+/// behind one that can't be taken, and no others.
 ///
 /// It answers the status. [`DONE`]: the text that is asked for, of the bytes that the inputs hold
 /// under the command's names, was written, and nothing to `err`; of a way it is one of several, as
@@ -71,6 +72,9 @@ pub fn perform<I: Inputs, O: Sink, E: Sink>(
         (E.failed err.new) }
     ensures statuses { result ≤ MEMORY }
     ensures words { result ≢ USAGE }
+    ensures inputs { result ≡ DONE →
+        AsksFor (I.asked inputs.old) (I.asked inputs.new) (inputs_of command.now) }
+    ensures asks { AsksForFront (I.asked inputs.old) (I.asked inputs.new) (inputs_of command.now) }
 {
     finish(serve(alloc, command, inputs, out), err)
 }
@@ -87,6 +91,9 @@ fn serve<'c, I: Inputs, O: Sink>(
     ensures unfailed { OnOk result (O.failed out.new ≡ O.failed out.old) }
     ensures stopped { IfErr result (λ fault. IsStopped (I.holds inputs.old) command.now fault
         (O.written out.old) (O.written out.new) (O.failed out.old) (O.failed out.new)) }
+    ensures inputs { OnOk result
+        (AsksFor (I.asked inputs.old) (I.asked inputs.new) (inputs_of command.now)) }
+    ensures asks { AsksForFront (I.asked inputs.old) (I.asked inputs.new) (inputs_of command.now) }
 {
     let taken = take_all(alloc, command, inputs)?;
     match write_text(alloc, command.rules, &taken, &command.text, out) {
@@ -116,6 +123,9 @@ fn take_all<'c, I: Inputs>(
     ensures table { IfOk result (λ taken. HoldsTable (I.holds inputs.old) command.now.table
         (option_map (λ bytes. bytes.items) taken.table)) }
     ensures untaken { IfErr result (λ fault. IsUntaken (I.holds inputs.old) command.now fault) }
+    ensures inputs { OnOk result
+        (AsksFor (I.asked inputs.old) (I.asked inputs.new) (inputs_of command.now)) }
+    ensures asks { AsksForFront (I.asked inputs.old) (I.asked inputs.new) (inputs_of command.now) }
 {
     let tree = take_named(alloc, command.tree, inputs)?;
     let script = take_named(alloc, command.script, inputs)?;
@@ -137,6 +147,7 @@ fn take_table<'c, I: Inputs>(
         (λ bytes. bytes.items) bytes)) }
     ensures unheld { IfErr result (λ fault. IsTableUnheld (I.holds inputs.old)
         (given_bytes name.entry) fault) }
+    ensures asks { AsksFor (I.asked inputs.old) (I.asked inputs.new) (table_names name.entry) }
 {
     match name {
         Some(name) => Ok(Some(take_named(alloc, name, inputs)?)),
@@ -153,6 +164,7 @@ fn take_named<'c, I: Inputs>(
     ensures held { IfOk result (λ bytes. Holds (I.holds inputs.old) name.now bytes.items) }
     ensures unheld { IfErr result (λ fault. IsUnheld (I.holds inputs.old) name.now fault) }
     ensures unchanged { I.holds inputs.new ≡ I.holds inputs.old }
+    ensures asks { AsksFor (I.asked inputs.old) (I.asked inputs.new) (name.now ∷ []) }
 {
     match inputs.take(alloc, name) {
         Ok(bytes) => Ok(bytes),

@@ -15,7 +15,7 @@ pub struct TableChoice<'a> {
 impl TableChoice<'static> {
     /// The standard table, without a text: what is gone by where nothing else is asked for.
     pub const STANDARD: TableChoice<'static> = TableChoice {
-        rules: Rules::Profile,
+        rules: Rules::Standard,
         rows: None,
     };
 }

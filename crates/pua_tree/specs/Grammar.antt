@@ -6,6 +6,7 @@ use Rattle.std.specs.Str.Lines.{lines}
 use Rattle.pua_tree.specs.Limits.{highest_listed, most_wide_names}
 use Rattle.pua_tree.specs.Names.{is_name, is_target}
 use Rattle.pua_tree.specs.Spelling.{spelling, bytes_spelled}
+use Rattle.pua_tree.specs.Kinds.{about_kind}
 use Rattle.pua_tree.specs.Tree.{Node, Tree, WellFormed}
 use Rattle.pua_tree.specs.declared.form.Form.{Form}
 use Rattle.pua_tree.specs.declared.form.Form.TheVariants.{First, Second, Third}
@@ -15,10 +16,7 @@ use Rattle.pua_tree.specs.declared.node.Kind.{Kind}
 use Rattle.pua_tree.specs.declared.node.Kind.TheVariants.{Dir, File, Prog, Link}
 
 abbrev pub listing_kind_word : Kind → List ℕ
-listing_kind_word Dir = codes "dir"
-listing_kind_word File = codes "file"
-listing_kind_word Prog = codes "prog"
-listing_kind_word Link = codes "link"
+listing_kind_word kind = (about_kind kind).word
 
 -- the word of a line: the kind of what it makes, if it makes something
 abbrev pub line_word : Option Kind → List ℕ

@@ -18,7 +18,8 @@ impl Model for NodeId {
     ghost inverse = { λ n. record { number = n } };
 }
 
-ghost use Rattle.std.specs.Prelude.{◌≡◌};
+ghost use Rattle.std.specs.Prelude.{◌≡◌, ◌<◌};
+ghost use Rattle.pua_tree.specs.Kinds.{about_kind, kind_count};
 
 impl NodeId {
     /// The root of every tree.
@@ -40,7 +41,7 @@ impl NodeId {
 }
 
 /// What a node is.
-#[derive(Clone, Copy, PartialEq, Eq)]
+#[derive(Clone, Copy, PartialEq, Eq, Hash)]
 pub enum Kind {
     /// A directory.
     Dir,
@@ -50,4 +51,57 @@ pub enum Kind {
     Prog,
     /// A symbolic link, which has a target.
     Link,
+}
+
+/// What is said of a kind, in one place.
+#[derive(Clone, Copy)]
+struct AboutKind {
+    number: usize,
+    word: &'static str,
+}
+
+impl Kind {
+    /// How many kinds there are.
+    pub const COUNT: usize = 4;
+
+    /// What is said of it.
+    fn about(self) -> AboutKind
+        ensures number { result.number ≡ (about_kind self).number }
+        ensures low { result.number < kind_count }
+        ensures word { result.word.now ≡ (about_kind self).word }
+    {
+        match self {
+            Kind::Dir => AboutKind {
+                number: 0,
+                word: "dir",
+            },
+            Kind::File => AboutKind {
+                number: 1,
+                word: "file",
+            },
+            Kind::Prog => AboutKind {
+                number: 2,
+                word: "prog",
+            },
+            Kind::Link => AboutKind {
+                number: 3,
+                word: "link",
+            },
+        }
+    }
+
+    /// Its number, counted from 0.
+    pub fn number(self) -> usize
+        ensures number { result ≡ (about_kind self).number }
+        ensures low { result < kind_count }
+    {
+        self.about().number
+    }
+
+    /// Its word in listings, lists and reasons.
+    pub fn word(self) -> &'static str
+        ensures { result.now ≡ (about_kind self).word }
+    {
+        self.about().word
+    }
 }

@@ -2,11 +2,11 @@
 use Rattle.pua_why.proofs.Common.{◌≡◌, ℕ, suc, List, [], ◌∷◌, ◌++◌, Some, None, refl, sym, ap, ◌∙◌, append_assoc, Option, subst, decimal}
 use Rattle.pua_why.proofs.Common.{CallTable, World, Answer, Bool, true, false, if◌then◌else◌, Tree, Sole, Old, New, Fault, LacksLetters}
 use Rattle.pua_calls.specs.declared.rules.Rules.{Rules}
-use Rattle.pua_calls.specs.declared.rules.Rules.TheVariants.{Profile, Openbsd}
 use Rattle.pua_script.specs.AnswerTexts.{answer_text}
 use Rattle.pua_script.specs.Requests.{Asked}
 use Rattle.pua_script.specs.Replay.{answers_to, world_after}
-use Rattle.pua_why.specs.Openings.{is_lack, opened_by, opener, opener_text}
+use Rattle.pua_calls.specs.Calls.{about_rules}
+use Rattle.pua_why.specs.Openings.{is_lack, opened_by, opener, opener_if, opener_text}
 use Rattle.pua_why.specs.Reasons.{LacksPromises, Uncovered, Reason, Refused, reason, answer_of}
 use Rattle.pua_why.specs.Texts.{answer_why, fault_text, reason_since, reason_tail, reason_text, since_text, spaced_words, why_lines}
 use Rattle.pua_why.specs.Laws.{IsTail, TellMore, WhyLinesTellMore}
@@ -39,13 +39,19 @@ lack_told t _ lack none = cc
 -- what has no words is told no opening
 none_opened : (rules : Rules) (table : CallTable) (w : World) (ask : Asked) (r : Reason) → reason_text w.tree r ≡ [] →
     opener_text (opened_by rules table w ask r) ≡ []
-none_opened Profile table w ask r none = refl
-none_opened Openbsd table w ask (Refused fault) none = by (is_lack fault) refl
+none_opened rules table w ask r none = if_asked (about_rules rules).has_openings
   where
-    by : (b : Bool) → is_lack fault ≡ b → opener_text (if b then opener table w ask else None) ≡ []
-    by true lack = absurd (lack_told w.tree fault lack none)
-    by false lack = refl
-none_opened Openbsd table w ask _ none = refl
+    told : (r : Reason) → reason_text w.tree r ≡ [] → opener_text (opener_if table w ask r) ≡ []
+    told (Refused fault) none = by (is_lack fault) refl
+      where
+        by : (b : Bool) → is_lack fault ≡ b → opener_text (if b then opener table w ask else None) ≡ []
+        by true lack = absurd (lack_told w.tree fault lack none)
+        by false lack = refl
+    told _ none = refl
+
+    if_asked : (b : Bool) → opener_text (if b then opener_if table w ask r else None) ≡ []
+    if_asked true = told r none
+    if_asked false = refl
 
 why_tells : (rules : Rules) (table : CallTable) (w : World) (done : List Asked) (ask : Asked) →
     Tells (answer_of (reason table (world_after table w done) ask)) (answer_why rules table w done ask)

@@ -9,7 +9,7 @@ use Rattle.pua_tree.specs.declared.fault.ListingFault.{ListingFault}
 use Rattle.pua_path.specs.Traces.{trace_from}
 use Rattle.pua_calls.specs.Calls.{table_by_rules}
 use Rattle.pua_calls.specs.declared.rules.Rules.{Rules}
-use Rattle.pua_calls.specs.declared.rules.Rules.TheVariants.{Profile, Openbsd}
+use Rattle.pua_calls.specs.declared.rules.Rules.TheVariants.{Standard, Openbsd}
 use Rattle.pua_script.specs.Requests.{Asked}
 use Rattle.pua_script.specs.Scripts.{script, script_by}
 use Rattle.pua_script.specs.Replay.{new_world}
@@ -25,7 +25,7 @@ abbrev pub why_by : Rules → List (List ℕ) → List (List ℕ) → List (List
 why_by rules tree lines = lines_over rules (listing (text_of_lines tree)) (script_by rules (text_of_lines lines))
 
 abbrev pub why_of : List (List ℕ) → List (List ℕ) → List (List ℕ)
-why_of tree lines = why_by Profile tree lines
+why_of tree lines = why_by Standard tree lines
 
 abbrev pub chain_over : Rules → Result Tree ListingFault → Result (List Asked) ScriptFault → Result (List Asked) ScriptFault →
     List (List ℕ)
@@ -37,7 +37,7 @@ chain_by rules tree lines line =
     chain_over rules (listing (text_of_lines tree)) (script_by rules (text_of_lines lines)) (script_by rules (text_of_lines (line ∷ [])))
 
 abbrev pub chain_of : List (List ℕ) → List (List ℕ) → List ℕ → List (List ℕ)
-chain_of tree lines line = chain_by Profile tree lines line
+chain_of tree lines line = chain_by Standard tree lines line
 
 abbrev pub with_dir : List (List ℕ)
 with_dir = root_alone ++ codes "1 dir 0 d" ∷ []
@@ -90,7 +90,7 @@ pub record WhyRows : Type 0 where
       codes "1 ok" ∷ codes "2 ok" ∷ codes "3 ok" ∷ codes "4 ok" ∷ codes "5 ok" ∷ codes "6 ok"
       ∷ codes "7 ENOTDIR /d/x is no directory since line 4" ∷ []
   -- of a tree that has no number left
-  pub full : lines_over Profile (Ok (record empty_tree { next = number_end })) (script (text_of_lines (codes "1 mkdir /a" ∷ []))) ≡
+  pub full : lines_over Standard (Ok (record empty_tree { next = number_end })) (script (text_of_lines (codes "1 mkdir /a" ∷ []))) ≡
       codes "1 ENOSPC tree is full" ∷ []
   pub children : why_of root_alone (codes "1 pledge stdio,proc -" ∷ codes "1 fork 2" ∷ codes "2 stat /" ∷ []) ≡
       codes "1 ok" ∷ codes "2 ok" ∷ codes "3 killed no rpath since line 1" ∷ []
@@ -158,7 +158,7 @@ opened_tree = root_alone ++ codes "1 dir 0 dev" ∷ codes "2 file 1 tty" ∷ cod
 pub record OpeningRows : Type 0 where
   pub by_dns : why_by Openbsd opened_tree (codes "1 pledge stdio,dns -" ∷ codes "1 open-r /etc/resolv.conf" ∷ []) ≡
       codes "1 ok" ∷ codes "2 killed no rpath since line 1, a kernel opens it by dns" ∷ []
-  pub by_the_profile : why_by Profile opened_tree (codes "1 pledge stdio,dns -" ∷ codes "1 open-r /etc/resolv.conf" ∷ []) ≡
+  pub by_the_profile : why_by Standard opened_tree (codes "1 pledge stdio,dns -" ∷ codes "1 open-r /etc/resolv.conf" ∷ []) ≡
       codes "1 ok" ∷ codes "2 killed no rpath since line 1" ∷ []
   pub not_held : why_by Openbsd opened_tree (codes "1 pledge stdio -" ∷ codes "1 open-r /etc/resolv.conf" ∷ []) ≡
       codes "1 ok" ∷ codes "2 killed no rpath since line 1" ∷ []

@@ -7,11 +7,10 @@ use Rattle.pua_tree.specs.Names.{same_bytes}
 use Rattle.pua_tree.specs.Tree.{Tree}
 use Rattle.pua_path.specs.declared.errno.Errno.{Errno}
 use Rattle.pua_calls.specs.Promises.{holds, no_promises, promises_of}
-use Rattle.pua_calls.specs.Calls.{CallTable, call_number}
+use Rattle.pua_calls.specs.Calls.{CallTable, about_rules, call_number}
 use Rattle.pua_calls.specs.declared.call.Call.{Call}
 use Rattle.pua_calls.specs.declared.call.Call.TheVariants.{Stat, OpenRead, OpenWrite, OpenBoth, Create, Unlink}
 use Rattle.pua_calls.specs.declared.rules.Rules.{Rules}
-use Rattle.pua_calls.specs.declared.rules.Rules.TheVariants.{Profile, Openbsd}
 use Rattle.pua_policy.specs.States.{ProcessState}
 use Rattle.pua_script.specs.Decide.{Asker, NoChange, Outcome, object_by}
 use Rattle.pua_script.specs.Replay.{World, kept_at}
@@ -123,10 +122,9 @@ abbrev pub opener_if : CallTable → World → Asked → Reason → Option (List
 opener_if table w ask (Refused fault) = if is_lack fault then opener table w ask else None
 opener_if table w ask _ = None
 
--- by which promise a kernel does what is refused for this reason; the profile knows of none
+-- by which promise a kernel does what is refused for this reason; the standard rules know of none
 abbrev pub opened_by : Rules → CallTable → World → Asked → Reason → Option (List ℕ)
-opened_by Profile table w ask reason = None
-opened_by Openbsd table w ask reason = opener_if table w ask reason
+opened_by rules table w ask reason = if (about_rules rules).has_openings then opener_if table w ask reason else None
 
 abbrev pub opener_text : Option (List ℕ) → List ℕ
 opener_text None = []

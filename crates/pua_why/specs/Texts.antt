@@ -18,7 +18,7 @@ use Rattle.pua_calls.specs.Calls.{CallTable}
 use Rattle.pua_calls.specs.declared.rules.Rules.{Rules}
 use Rattle.pua_policy.specs.States.{ProcessState, perms_kept}
 use Rattle.pua_policy.specs.Limits.{most_places}
-use Rattle.pua_policy.specs.Verdict.{Object, IsDir, IsFile, IsProg, IsLink, IsMissing, object_of}
+use Rattle.pua_policy.specs.Verdict.{object_of, object_word}
 use Rattle.pua_policy.specs.declared.place.Place.{Place}
 use Rattle.pua_policy.specs.declared.place.Place.TheVariants as place
 use Rattle.pua_script.specs.AnswerTexts.{answer_text}
@@ -216,13 +216,6 @@ has_veil_on place given w process = by (kept_at w process)
     by None = false
     by (Some h) = is (perms_kept h place)
 
-abbrev pub kind_text : Object → List ℕ
-kind_text (IsDir dir way) = codes "dir"
-kind_text IsFile = codes "file"
-kind_text IsProg = codes "prog"
-kind_text IsLink = codes "link"
-kind_text IsMissing = codes "missing"
-
 -- what covers an object, and since which line that veil is on its place
 abbrev pub covering_dated : Tree → Option ℕ → Covering → List ℕ
 covering_dated t line InView = codes "no veils"
@@ -235,7 +228,7 @@ target_text t spot = spelling (unwrap_or (target_at t (unwrap_or (look t spot.0 
 abbrev pub fact_dated : Tree → Option ℕ → Fact → List ℕ
 fact_dated t line (Needs set) = codes "needs " ++ promises_text set
 fact_dated t line (Follows side spot) = side_text side ++ codes "link " ++ spot_text t spot ++ codes " to " ++ target_text t spot
-fact_dated t line (Names side object) = side_text side ++ codes "names " ++ kind_text (object_of t object) ++ 32 ∷ found_text t object
+fact_dated t line (Names side object) = side_text side ++ codes "names " ++ object_word (object_of t object) ++ 32 ∷ found_text t object
 fact_dated t line (Under side over) = side_text side ++ covering_dated t line over
 
 abbrev pub veil_since : CallTable → World → List Asked → Asked → Fact → Option ℕ

@@ -297,7 +297,7 @@ fn opener_if<T: FileTree>(
 }
 
 /// Adds by which promise a kernel does what a process of this number is refused for this reason, if one
-/// opens it; by the profile's rules none does. The only error is that a growth was refused.
+/// opens it; by the standard rules none does. The only error is that a growth was refused.
 pub fn push_opener<T: FileTree>(
     alloc: Global,
     text: &mut String,
@@ -312,9 +312,10 @@ pub fn push_opener<T: FileTree>(
         world.now.table (world_of world.now) (record { process = number; action = action.now })
         (reason_seen reason.now))) }
 {
-    match rules {
-        Rules::Profile => Ok(()),
-        Rules::Openbsd => push_opened(alloc, text, world, number, action, reason),
+    if rules.has_openings() {
+        push_opened(alloc, text, world, number, action, reason)
+    } else {
+        Ok(())
     }
 }
 

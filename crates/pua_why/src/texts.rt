@@ -6,10 +6,10 @@ ghost use Rattle.pua_calls.specs.Promises.{lacking};
 ghost use Rattle.pua_path.specs.declared.traced.PathFault.TheVariants as faults;
 ghost use Rattle.pua_script.specs.Decide.{New};
 ghost use Rattle.pua_why.specs.Seen.{fact_seen, fault_seen, reason_seen, side_seen};
-ghost use Rattle.pua_policy.specs.Verdict.{object_of};
+ghost use Rattle.pua_policy.specs.Verdict.{object_of, object_word};
 ghost use Rattle.pua_why.specs.Texts.{covering_dated, fact_dated, fault_text, found_text};
 ghost use Rattle.pua_why.specs.Texts.{joined_words};
-ghost use Rattle.pua_why.specs.Texts.{kind_text, letters_text, misfit_text, of_exec_text};
+ghost use Rattle.pua_why.specs.Texts.{letters_text, misfit_text, of_exec_text};
 ghost use Rattle.pua_why.specs.Texts.{or_equals, path_fault_text, place_text, promises_text};
 ghost use Rattle.pua_why.specs.Texts.{reason_text, side_text, since_text, spot_text, target_text};
 ghost use Rattle.pua_why.specs.Texts.{text_fault_text, veil_text};
@@ -576,7 +576,7 @@ fn push_named<T: FileTree>(
 ) -> Result<(), AllocError>
     ensures text { OnOk result (paths.old.tree ≡ T.content tree.now →
         string_bytes text.new ≡ string_bytes text.old ++ (side_text (side_seen side)
-        ++ codes "names " ++ kind_text (object_of (T.content tree.now) found.now)
+        ++ codes "names " ++ object_word (object_of (T.content tree.now) found.now)
         ++ 32 ∷ found_text (T.content tree.now) found.now)) }
     ensures tree { paths.new.tree ≡ paths.old.tree }
 {
@@ -589,14 +589,12 @@ fn push_named<T: FileTree>(
 
 /// The word of what was found.
 fn kind_word<T: FileTree>(tree: &T, found: &Found) -> &'static str
-    ensures { result.now ≡ kind_text (object_of (T.content tree.now) found.now) }
+    ensures { result.now ≡ object_word (object_of (T.content tree.now) found.now) }
 {
     match *found {
-        Found::Whole { .. } => "dir",
+        Found::Whole { .. } => Kind::Dir.word(),
         Found::Slot { node: Some(id), .. } => match tree.kind(id) {
-            Some(Kind::Prog) => "prog",
-            Some(Kind::Link) => "link",
-            Some(Kind::File | Kind::Dir) => "file",
+            Some(kind) => kind.word(),
             None => "missing",
         },
         Found::Slot { node: None, .. } => "missing",

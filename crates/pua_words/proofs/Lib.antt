@@ -1,3 +1,4 @@
 mod Meeting
 mod Walking
 mod Meaning
+mod Numbers

@@ -11,8 +11,7 @@ use Rattle.clap.specs.declared.parser.matches.Found.{Found}
 use Rattle.clap.proofs.WalkLemmas.{first_value-rows, one_text-rows, raw_values-rows}
 use Rattle.pua_audit.specs.declared.Base.{Base}
 use Rattle.pua_audit.specs.declared.Base.TheVariants.{Cwd, Root}
-use Rattle.pua_calls.specs.declared.Rules.{Rules}
-use Rattle.pua_calls.specs.declared.Rules.TheVariants.{Openbsd, Profile}
+use Rattle.pua_calls.specs.Calls.{rules_named}
 use Rattle.pua_words.specs.Commands.{AreFieldsOf, IsLimitText, IsNumberText, values_found}
 use Rattle.pua_words.specs.Grammar.{Parsers, pua_app}
 use Rattle.pua_words.specs.Plain.{IsMadeOf, Meanings, IsMeantBy, means}
@@ -59,17 +58,13 @@ byte (b ∷ more) = b
 first_byte : {a b : Text} → Some a ≡ Some b → byte a ≡ byte b
 first_byte e = ap byte (some_is e)
 
-profile_is : (rules : Rules) → (rules ≡ Openbsd → Some (codes "profile") ≡ Some (codes "openbsd")) → rules ≡ Profile
-profile_is Profile h = refl
-profile_is Openbsd h = absurd (let bad : 112 ≡ 111 = first_byte (h refl) in omega arith)
-
 made_of : (found : Found) (rows : List Row) (tree script : Text) (command : Command) → HasInputsOf found command → rows_of found ≡ rows
     → first_of (codes "tree") rows ≡ Some tree → first_of (codes "script") rows ≡ Some script
     → first_of (codes "rules") rows ≡ Some (codes "profile") → first_of (codes "table") rows ≡ None → IsMadeOf tree script command
 made_of found rows tree script command inputs e is_tree is_script is_rules is_table = (
   some_is (inputs.tree ∙ value_is found _ rows _ e is_tree),
   some_is (inputs.script ∙ value_is found _ rows _ e is_script),
-  profile_is command.rules (λ is. sym (value_is found _ rows _ e is_rules) ∙ inputs.rules.0 is),
+  inputs.rules ∙ ap rules_named (value_is found _ rows _ e is_rules),
   no_value _ command.table (inputs.table ∙ value_is found _ rows _ e is_table),
 )
 

@@ -62,6 +62,10 @@ abbrev pub AreIn : Option (List ℕ) → List ℕ → Type 0
 AreIn None numbers = ⊥
 AreIn (Some text) numbers = map (number_within 1 MOST_NUMBER) (slice_split (λ b. b == 44) text) ≡ map Some numbers
 
+-- the text has no such numbers
+abbrev pub HasNoNumbers : Option (List ℕ) → Type 0
+HasNoNumbers text = (numbers : List ℕ) → AreIn text numbers → ⊥
+
 -- an audit, a way, a single request and a list for ever are asked of a process that may have been made, a list of objects of
 -- one or of all, and a list of several together of such processes or of all
 abbrev pub AsksSoundly : Text → Type 0

@@ -1,6 +1,6 @@
 -- Exact words, and the command that they are: the inputs, and the options of which each stands in its place.
 use Rattle.std.specs.Prelude.{ℕ, ◌≡◌, ◌==◌, Bool, true, false, not, List, [], ◌∷◌, Some, None, codes, map}
-use Rattle.pua_calls.specs.declared.Rules.TheVariants.{Profile}
+use Rattle.pua_calls.specs.declared.Rules.TheVariants.{Standard}
 use Rattle.pua_words.specs.Commands.{run_asked, tight_asked}
 use Rattle.pua_words.specs.Reading.{IsListText, list_meant}
 use Rattle.pua_words.specs.declared.command.Command.{Command}
@@ -24,10 +24,10 @@ abbrev pub option_if : Bool → List ℕ → List (List ℕ) → List (List ℕ)
 option_if true word words = word ∷ words
 option_if false word words = words
 
--- the command is made of these inputs, by the rules of the profile
+-- the command is made of these inputs, by the standard rules
 abbrev pub IsMadeOf : List ℕ → List ℕ → Command → Type 0
 IsMadeOf tree script command =
-    (command.tree.now ≡ tree) × (command.script.now ≡ script) × (command.rules ≡ Profile) × (command.table ≡ None)
+    (command.tree.now ≡ tree) × (command.script.now ≡ script) × (command.rules ≡ Standard) × (command.table ≡ None)
 
 -- of words of these forms the command is the one that they name
 pub record Meanings (words : List (List ℕ)) (command : Command) : Type 0 where

@@ -6,7 +6,7 @@ use Rattle.clap.specs.Walk.{rows_of}
 use Rattle.clap.specs.declared.parser.matches.ArgMatches.{ArgMatches}
 use Rattle.clap.specs.declared.parser.matches.Found.{Found}
 use Rattle.pua_audit.specs.declared.Base.TheVariants.{Cwd}
-use Rattle.pua_calls.specs.declared.Rules.TheVariants.{Openbsd}
+use Rattle.pua_calls.specs.Calls.{rules_named}
 use Rattle.pua_objects.specs.Lines.{kind_word}
 use Rattle.pua_words.specs.Commands.{AreFieldsOf, AreIn, IsLimitText, IsNumberText, IsTextOf, how_list_asked, list_asked, run_asked, tight_asked}
 use Rattle.pua_words.specs.Commands.{values_found}
@@ -84,7 +84,7 @@ pub record IsReadAs (name : List ℕ) (found : Found) (text : Text) : Type 0 whe
 pub record HasInputsOf (found : Found) (command : Command) : Type 0 where
   pub tree : Some command.tree.now ≡ first_value found (codes "tree")
   pub script : Some command.script.now ≡ first_value found (codes "script")
-  pub rules : (command.rules ≡ Openbsd) ↔ (first_value found (codes "rules") ≡ Some (codes "openbsd"))
+  pub rules : command.rules ≡ rules_named (first_value found (codes "rules"))
   pub table : option_map (λ name. name.now) command.table ≡ first_value found (codes "table")
 
 -- the command is that of the name that was met, as its options and operands were found

@@ -104,8 +104,9 @@ the rules: all promises of one of some lists, and letters of a veil.
   veil = \"c\"
 
 With `--rules openbsd` chmod, rename and link need what OpenBSD is known to ask
-of them, connect and bind of a socket at a path, mknod, chown and create-rw are
-calls, and execpromises stay after an exec. This was tried on no kernel.
+of them, connect and bind of a socket at a path, mknod, chown, create-rw, fchmod
+and fchown are calls, and execpromises stay after an exec. This was tried on no
+kernel.
 
 In names and paths a backslash, and each byte that is not visible ASCII, is
 written as a backslash and three octal digits: `a\\040b`.
@@ -123,7 +124,9 @@ macro_rules! with_calls_and_faults {
 A line of SCRIPT is a process P, a call and its arguments, one blank between:
   P stat|lstat|readlink|open-r|open-w|open-rw|create PATH
   P mkdir|rmdir|unlink|chmod|chdir|exec PATH
-  P connect|bind|mknod|chown|create-rw PATH (with `--rules openbsd` alone)
+  P connect|bind|mknod|chown|create-rw|fchmod|fchown PATH
+  P access|statfs|truncate|chflags|utimes|mkfifo PATH
+                                  (both with `--rules openbsd` alone)
   P symlink TARGET PATH
   P rename|link OLD NEW
   P pledge PROMISES EXECPROMISES  (with commas between; - is NULL, = is none)
@@ -134,7 +137,7 @@ A line of SCRIPT is a process P, a call and its arguments, one blank between:
 A fault is one line on standard error. It says, or most often comes from:
   table: bad toml      FILE is no TOML document
   table: bad key       a key is not the name of a call from stat to exec, nor of
-                       connect to chown with `--rules openbsd`
+                       connect to fchown with `--rules openbsd`
   table: .. bad row    not the two keys `promises`, an array, and `veil`, a text
   table: .. bad promises, bad veil
                        an unknown keyword or letter; no row may have `error`
@@ -245,7 +248,7 @@ Example: pua how TREE SCRIPT open-r /in/secret",
                        bind, mknod, create-rw, rename and link all have to need
                        the letter c
   how: bad call        CALL is none of those from stat to exec, nor connect to
-                       create-rw with `--rules openbsd`
+                       fchown with `--rules openbsd`
   how: bad path        PATH is neither `new` nor `/` with names, as in a list
   how: no such thing   what stands before the last name of PATH is no directory,
                        or nothing there is of this KIND
@@ -279,10 +282,10 @@ were ever made come one after another.
 With `--ever` the heading is `ever P`, and a line has all calls that can ever be
 allowed on a thing, whatever process P and what it forks do: on what stands at
 PATH now, wherever it is moved, and in the end on what they can make: `dir new`,
-`other new` (the names in such a directory), `file new` and `link new`. Where no
-line has exec, no exec of theirs can succeed. Where one has, the state has `exec
-bounded`, and what they start is in the list, whatever it does; or `exec open`,
-and the list holds until an exec succeeds.
+`other new` (the names in such a directory), `file new` and `link new`. Of execs
+the state has `exec bounded`, and what they start is in the list, whatever it
+does; or `exec open`, and the list holds until an exec succeeds; or nothing, and
+then no exec of theirs can succeed.
 It is a list of one process, which can put no veil any more. With `--process
 1,2,..` or `--process all` it is one list of what several can ever touch
 together; those of them that live need the same veils. Then the heading is

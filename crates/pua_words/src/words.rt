@@ -4,10 +4,11 @@ ghost use Rattle.std.specs.Prelude.{◌≡◌, ◌↔◌, IfErr, IfOk, IfSome, S
 ghost use Rattle.std.specs.Prelude.{◌++◌, ℕ, [], Bool, None, OnOk, Option, true, unwrap_or};
 ghost use Rattle.std.specs.List.{All};
 ghost use Rattle.clap.specs.Matches.{first_value, found_of, one_text};
+ghost use Rattle.pua_calls.specs.Calls.{rules_named};
 ghost use Rattle.pua_objects.specs.Lines.{kind_word};
-ghost use Rattle.pua_words.specs.Commands.{AreFieldsOf, AreIn, AsksSoundly, IsLimitText};
-ghost use Rattle.pua_words.specs.Commands.{IsNumberText, IsProcessNumber, IsTextOf, MayBeAsked};
-ghost use Rattle.pua_words.specs.Commands.{values_found};
+ghost use Rattle.pua_words.specs.Commands.{AreFieldsOf, AreIn, AsksSoundly, HasNoNumbers};
+ghost use Rattle.pua_words.specs.Commands.{IsLimitText, IsNumberText, IsProcessNumber, IsTextOf};
+ghost use Rattle.pua_words.specs.Commands.{MayBeAsked, values_found};
 ghost use Rattle.pua_words.specs.Commands.{how_list_asked, list_asked, run_asked, tight_asked};
 ghost use Rattle.clap.specs.Walk.{Rule};
 ghost use Rattle.clap.specs.Simple.{App, new_app, with_rule, with_subcommand};
@@ -38,7 +39,7 @@ use clap::{Arg, ArgAction, ArgMatches, Error, value_parser};
 use pua_audit::Base;
 use pua_calls::Rules;
 use pua_objects::ObjectKind;
-use pua_tree::number_within;
+use pua_tree::{Kind, number_within};
 use std::alloc::{AllocError, Global};
 
 /// The greatest number that a process has.
@@ -70,7 +71,7 @@ impl From<AllocError> for Stop {
 /// lines of [`UsageLine`], as `clap` reads them: which words those are is in no contract.
 ///
 /// Where words in a plain form are a command, it is the one that they name, of the inputs that they
-/// name, by the rules of the profile: `run` and `tight`, with `--why` or without; `objects`, with
+/// name, by the standard rules: `run` and `tight`, with `--why` or without; `objects`, with
 /// its other options or without, of process 1, or behind these `--process` with a number or `all`;
 /// `why` and `how`, of process 1, with the call and what stands behind it; and `audit --limit N`, of
 /// process 1, from the root, with the names behind it. There each word beside the options begins
@@ -440,8 +441,8 @@ fn read_inputs<'a>(found: &ArgMatches<'a>, text: Text<'a>) -> Option<Command<'a>
         Some command.tree.now ≡ first_value (found_of found.now) (codes "tree")) }
     ensures script { IfSome result (λ command.
         Some command.script.now ≡ first_value (found_of found.now) (codes "script")) }
-    ensures rules { IfSome result (λ command. (command.rules ≡ Rules.Openbsd)
-        ↔ (first_value (found_of found.now) (codes "rules") ≡ Some (codes "openbsd"))) }
+    ensures rules { IfSome result (λ command. command.rules
+        ≡ rules_named (first_value (found_of found.now) (codes "rules"))) }
     ensures table { IfSome result (λ command. option_map (λ name. name.now) command.table
         ≡ first_value (found_of found.now) (codes "table")) }
     ensures inputs { IfSome result (HasInputsOf (found_of found.now)) }
@@ -452,7 +453,7 @@ fn read_inputs<'a>(found: &ArgMatches<'a>, text: Text<'a>) -> Option<Command<'a>
     Some(Command {
         tree,
         script,
-        rules: read_rules(found.get_str("rules")),
+        rules: Rules::named(found.get_str("rules")),
         table: found.get_str("table"),
         text,
     })
@@ -546,6 +547,8 @@ fn read_numbers(alloc: Global, text: Option<&str>) -> Result<Option<Vec<u32>>, A
         All IsProcessNumber numbers.items)) }
     ensures text { IfOk result (λ numbers. IfSome numbers (λ numbers.
         AreIn (option_map (λ s. s.now) text.entry) numbers.items)) }
+    ensures none { IfOk result (λ read. read ≡ None →
+        HasNoNumbers (option_map (λ s. s.now) text.entry)) }
 {
     let Some(text) = text else {
         return Ok(None);
@@ -690,10 +693,10 @@ fn read_kind(text: &str) -> Option<ObjectKind>
     ensures each { (kind : ObjectKind) → kind_word kind ≡ text.now → result ≡ Some kind }
 {
     match text {
-        "dir" => Some(ObjectKind::Dir),
-        "file" => Some(ObjectKind::File),
-        "prog" => Some(ObjectKind::Prog),
-        "link" => Some(ObjectKind::Link),
+        "dir" => Some(ObjectKind::Node(Kind::Dir)),
+        "file" => Some(ObjectKind::Node(Kind::File)),
+        "prog" => Some(ObjectKind::Node(Kind::Prog)),
+        "link" => Some(ObjectKind::Node(Kind::Link)),
         "missing" => Some(ObjectKind::Missing),
         "other" => Some(ObjectKind::Other),
         _ => None,
@@ -707,16 +710,5 @@ fn read_base(text: Option<&str>) -> Base
     match text {
         Some("cwd") => Base::Cwd,
         _ => Base::Root,
-    }
-}
-
-/// The rules of this name, which are those of the profile where none are named.
-fn read_rules(text: Option<&str>) -> Rules
-    ensures { (result ≡ Rules.Openbsd) ↔ (option_map (λ s. s.now) text.entry
-        ≡ Some (codes "openbsd")) }
-{
-    match text {
-        Some("openbsd") => Rules::Openbsd,
-        _ => Rules::Profile,
     }
 }

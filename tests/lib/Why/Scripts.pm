@@ -95,7 +95,7 @@ sub _drawn {
         PATH     => sub { $worlds->path },
         HIGH     => sub { _high($worlds) },
         NAME     => sub { $worlds->name },
-        CALL     => sub { $worlds->pick(@CALLS, $worlds->{further} ? qw(connect bind bind mknod mknod chown create-rw) : ()) },
+        CALL     => sub { $worlds->pick(@CALLS, $worlds->{further} ? qw(connect bind bind mknod mknod chown create-rw fchmod fchown) : ()) },
         LETTERS  => sub { $worlds->pick(@LETTERS) },
         PROMISES => sub { $worlds->promises(@PROMISES) },
     );

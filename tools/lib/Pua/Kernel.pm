@@ -15,7 +15,8 @@ our @EXPORT_OK = qw(%TAKES $MOST_SOCKET answer_of_kernel execute has_pledge has_
 # How many arguments each request of a script has.
 our %TAKES = (
     (map { $_ => 1 } qw(stat lstat readlink open-r open-w open-rw create mkdir rmdir unlink)),
-    (map { $_ => 1 } qw(chmod chdir exec connect bind mknod chown create-rw fork)),
+    (map { $_ => 1 } qw(chmod chdir exec connect bind mknod chown create-rw fchmod fchown fork)),
+    (map { $_ => 1 } qw(access statfs truncate chflags utimes mkfifo)),
     (map { $_ => 2 } qw(symlink rename link pledge unveil)), exit => 0,
 );
 
@@ -44,7 +45,7 @@ sub named { my ($number) = @_; return $NAMES{$number} || "E$number" }
 # The numbers of system calls, where perl knows them: its own mkdir and rmdir take slashes away, and
 # its chdir, open and exec know further words.
 my @NUMBERED = qw(stat lstat open mkdir rmdir unlink symlink rename link readlink chmod chdir chown
-    execve pledge);
+    access statfs execve pledge);
 my %NUMBERS;
 if (eval { local $SIG{__WARN__} = sub { }; require 'sys/syscall.ph'; 1 }) {
     for my $call (@NUMBERED) {
@@ -74,10 +75,14 @@ my %OWN = (
     chdir    => sub { $_[0] eq '' ? nothing_there() : chdir $_[0] },
     readlink => sub { defined readlink $_[0] },
     stat     => sub { my @fields = stat $_[0]; scalar @fields },
+    statfs   => sub { my @fields = stat $_[0]; scalar @fields },
+    access   => sub { POSIX::access($_[0], POSIX::F_OK()) },
+    truncate => sub { my @fields = stat $_[0]; @fields && truncate $_[0], $fields[7] },
+    utimes   => sub { my @fields = stat $_[0]; @fields && utime $fields[8], $fields[9], $_[0] },
     lstat    => sub { my @fields = lstat $_[0]; scalar @fields },
 );
 my %AFTER = (    # the arguments behind the paths
-    mkdir => [0755], chown => [-1, -1],
+    mkdir => [0755], chown => [-1, -1], access => [0], statfs => ["\0" x 4096],
     stat => ["\0" x 512], lstat => ["\0" x 512], readlink => ["\0" x 4096, 4096],
 );
 
@@ -88,9 +93,10 @@ sub answer_of_kernel {
     my ($path) = @arguments;
     return opened($call, $path) if exists $FLAGS{$call};
     return on_socket($call, $path) if $call eq 'bind' || $call eq 'connect';
+    return by_descriptor($call, $path) if $call eq 'fchmod' || $call eq 'fchown';
     return pledged(@arguments) if $call eq 'pledge';
     return unveiled(@arguments) if $call eq 'unveil';
-    return told(POSIX::mkfifo($path, 0666)) if $call eq 'mknod';
+    return told(POSIX::mkfifo($path, 0666)) if $call eq 'mknod' || $call eq 'mkfifo';
     if ($call eq 'exec') {
         execute($path, 'prog');
         return is_started($path) ? 'ok' : named($! + 0);
@@ -132,6 +138,13 @@ sub opened {
         return 'ok' if @fields && (S_ISFIFO($fields[2]) || S_ISSOCK($fields[2]));
     }
     return named($errno);
+}
+
+# What was opened for reading is changed by its descriptor, to the bits or the owner that it has.
+sub by_descriptor {
+    my ($call, $path) = @_;
+    return opened('open-r', $path) unless sysopen my $file, $path, O_RDONLY | O_NONBLOCK;
+    return told($call eq 'fchown' ? chown(-1, -1, $file) : chmod(mode_of($file), $file));
 }
 
 # `too-long` is this tool's: no kernel is asked. An address without a path is something else on some

@@ -41,8 +41,8 @@ impl Terms {
     {
         Within {
             missing: self.calls_over(&cover, Object::Missing),
-            file: self.calls_over(&cover, Object::File),
-            program: self.calls_over(&cover, Object::Program),
+            file: self.calls_over(&cover, Object::Node(Kind::File)),
+            program: self.calls_over(&cover, Object::Node(Kind::Prog)),
             veiled,
         }
     }

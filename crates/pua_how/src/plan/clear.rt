@@ -8,7 +8,7 @@ use crate::plan::rights::By;
 use crate::step::{At, Dir};
 use pua_calls::Call;
 use pua_policy::Object;
-use pua_tree::NodeId;
+use pua_tree::{Kind, NodeId};
 
 /// The call that removes what stands at a name.
 fn remover(row: &Row) -> Call {
@@ -94,7 +94,7 @@ impl Search<'_, '_> {
     /// removed once it is emptied.
     fn take_away(&self, draft: &mut Draft, row: &Row, gives_way: bool) -> Result<bool, Stop> {
         let is_removed = gives_way || self.is_removable(draft, row);
-        if is_removed && row.object != Object::Directory {
+        if is_removed && row.object != Object::Node(Kind::Dir) {
             self.remove(draft, row, gives_way)?;
             return Ok(true);
         }

@@ -2,6 +2,7 @@
 
 use pua_calls::{Call, CallTable, ExecPromises, Perms, Promises, Rules};
 use pua_path::Last;
+use pua_tree::Kind;
 use std::alloc::Global;
 
 /// The rules of OpenBSD are those of its table, by which link follows a link at its old path's end.
@@ -36,6 +37,41 @@ fn text_takes_openbsd_link_back(alloc: Global, text: &[u8]) {
         return;
     };
     if table.link().old_name().perms() != Perms::READ {
+        unreachable!()
+    }
+}
+
+/// Lists say that the rules are OpenBSD's.
+fn openbsd_is_not_told() {
+    if !Rules::Openbsd.is_told() {
+        unreachable!()
+    }
+}
+
+/// By OpenBSD's rules promises open paths, and by the standard ones none does.
+fn openings_of_other_rules() {
+    if !Rules::Openbsd.has_openings() || Rules::Standard.has_openings() {
+        unreachable!()
+    }
+}
+
+/// The word of the standard rules is `profile`.
+fn rules_have_another_word() {
+    if Rules::Standard.word() != "profile" {
+        unreachable!()
+    }
+}
+
+/// The word `openbsd` names OpenBSD's rules.
+fn openbsd_names_the_standard_rules() {
+    if Rules::named(Some("openbsd")) != Rules::Openbsd {
+        unreachable!()
+    }
+}
+
+/// What is wrong with a file for chdir is that it is no directory.
+fn files_suit_as_directories() {
+    if Call::Chdir.fits().on(Kind::File).is_none() {
         unreachable!()
     }
 }

@@ -3,6 +3,7 @@
 use pua_calls::{Call, CallTable, Perms, table_examples};
 use pua_policy::judge::allowed;
 use pua_policy::{AllowedCalls, Cover, Object, Process};
+use pua_tree::Kind;
 use std::alloc::Global;
 
 /// Of the calls that are allowed on a file the first is among them, as the last is.
@@ -10,7 +11,12 @@ fn allowed_calls_forgotten(alloc: Global) {
     let Ok(process) = Process::new(alloc) else {
         return;
     };
-    let calls = allowed(&process, &CallTable::standard(), Cover::All, Object::File);
+    let calls = allowed(
+        &process,
+        &CallTable::standard(),
+        Cover::All,
+        Object::Node(Kind::File),
+    );
     if !calls.contains(Call::Stat) {
         unreachable!()
     }
@@ -25,7 +31,7 @@ fn allowed_without_permissions(alloc: Global) {
         &process,
         &CallTable::standard(),
         Cover::Only(Perms::NONE),
-        Object::File,
+        Object::Node(Kind::File),
     );
     if calls.contains(Call::Stat) {
         unreachable!()
@@ -38,7 +44,12 @@ fn allowed_without_promises(alloc: Global) {
         return;
     };
     process.end();
-    let calls = allowed(&process, &CallTable::standard(), Cover::All, Object::File);
+    let calls = allowed(
+        &process,
+        &CallTable::standard(),
+        Cover::All,
+        Object::Node(Kind::File),
+    );
     if calls.contains(Call::Stat) {
         unreachable!()
     }
@@ -53,7 +64,7 @@ fn full_directory_removed(alloc: Global) {
         &process,
         &CallTable::standard(),
         Cover::All,
-        Object::Directory,
+        Object::Node(Kind::Dir),
     );
     if calls.contains(Call::Rmdir) {
         unreachable!()
@@ -70,7 +81,10 @@ fn permissions_of_another_table(alloc: Global) {
     let Ok(table) = CallTable::read(alloc, text) else {
         return;
     };
-    let calls = AllowedCalls::new(&process, &table).on(Cover::Only(Perms::NONE), Object::File);
+    let calls = AllowedCalls::new(&process, &table).on(
+        Cover::Only(Perms::NONE),
+        Object::Node(Kind::File),
+    );
     if !calls.contains(Call::Stat) {
         unreachable!()
     }
@@ -83,7 +97,7 @@ fn uncovered_allowed_all(alloc: Global) {
     };
     let allowed = AllowedCalls::new(&process, &CallTable::standard());
     if allowed
-        .on(Cover::Nothing, Object::File)
+        .on(Cover::Nothing, Object::Node(Kind::File))
         .contains(Call::Stat)
     {
         unreachable!()

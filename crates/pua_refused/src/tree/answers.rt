@@ -171,3 +171,17 @@ fn slab_target_lost(tree: &mut SlabTree, dir: NodeId, name: Name) {
         unreachable!()
     }
 }
+
+/// A link has a number of its own.
+fn kinds_share_a_number() {
+    if Kind::Link.number() == Kind::File.number() {
+        unreachable!()
+    }
+}
+
+/// The word of a program is `prog`.
+fn kind_has_another_word() {
+    if Kind::Prog.word() != "prog" {
+        unreachable!()
+    }
+}

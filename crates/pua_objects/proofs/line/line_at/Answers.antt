@@ -3,6 +3,7 @@ use Rattle.std.proofs.Common.{not}
 use Rattle.pua_calls.specs.CallSets.{has, keeps_link}
 use Rattle.pua_policy.specs.Verdict.{covered_verdict}
 use Rattle.pua_policy.specs.declared.object.Object.TheVariants as see
+use Rattle.pua_tree.specs.declared.node.Kind.TheVariants as kind
 use Rattle.pua_objects.proofs.Lined.{is_link_seen, no_link, kept_alone, kept_or_not, lined}
 use Rattle.pua_objects.proofs.line.line_at.Goals.{then-eq, else-eq}
 use Rattle.pua_objects.proofs.line.line_at.Goals as goal
@@ -17,7 +18,7 @@ returns c = λ t table h found left allowed covered seen.
     let listed : (call : Call) → has c.if-eq.calls call ≡ ((keeps_link call || not (is_link_seen object)) && allows call) =
     elim c.if-eq.branch [
       | then-eq w ↦ λ call.
-          let link : object ≡ see.Link = search rules in
+          let link : object ≡ see.Node kind.Link = search rules in
           ap (λ set. has set call) w.calls-is ∙ w.keeping-calls.ensures call ∙ ap (λ b. b && keeps_link call) (judged call) ∙
           kept_alone (keeps_link call) (allows call)
           ∙ ap (λ o. (keeps_link call || not (is_link_seen o)) && allows call) (sym link)
@@ -26,4 +27,4 @@ returns c = λ t table h found left allowed covered seen.
           ap (λ set. has set call) w.calls-is ∙ judged call ∙ kept_or_not (keeps_link call) (allows call)
           ∙ ap (λ b. (keeps_link call || not b) && allows call) (sym other)
     ] in
-    lined t table h found object (record { kind = c.kind_seen.result; calls = c.if-eq.calls }) seen c.kind_seen.ensures listed
+    lined t table h found object (record { kind = c.of.result; calls = c.if-eq.calls }) seen c.of.ensures listed

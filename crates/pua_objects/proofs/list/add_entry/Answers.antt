@@ -27,7 +27,7 @@ returns-then-not-is_directory-clause-listing g c = λ around are deep dirs befor
     on_ok c.add_name-then-not-is_directory.result (name_listed t c.known.ensures c.args.process.now (map spot_now c.args.spots.now) are inner around c.args.name
     c.args.items.now.items before c.args.entered.now.items dirs c.args.depth deep _ _ c.over_name-over-then-not-is_directory.result
     (λ x e. ap (is_dir t) (sym (same_Some id x (c.in-Some.ensures ∙ e))) ∙ plain)
-    (c.object_at.ensures t ∙ ap (λ k. object_seen t (object_of_kind k)) c.kind-kind.ensures
+    (c.at_name.ensures t ∙ ap (λ k. object_seen t (object_of_kind k)) c.kind-kind.ensures
     ∙ ap (λ there. object_seen t (object_of t (Slot inner.dir name there))) c.in-Some.ensures) c.over_name-over-then-not-is_directory.ensures)
     c.add_name-then-not-is_directory.ensures
 

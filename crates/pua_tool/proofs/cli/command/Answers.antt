@@ -1,5 +1,6 @@
 use Rattle.pua_tool.proofs.Common.{map}
-use Rattle.std.proofs.Common.{inr}
+use Rattle.std.proofs.Common.{inl, inr}
+use Rattle.pua_io.proofs.ForCallers.{asks_for_nothing}
 use Rattle.pua_tool.proofs.Stops.{told_by_stop, shown_by_stop, cut_by_stop}
 use Rattle.pua_tool.proofs.cli.command.Goals as goal
 
@@ -14,3 +15,14 @@ returns-in-Err-clause-device g c same =
 pub returns-in-Err-clause-usage : goal.returns-in-Err-clause-usage
 returns-in-Err-clause-usage g c same =
     told_by_stop (map (λ word. word.now) c.args.words.now) c.in-Err.stop _ _ _ _ c.in-Err.ensures.stop (c.stopped.ensures.usage same)
+
+pub returns-in-Ok-clause-asks : goal.returns-in-Ok-clause-asks
+returns-in-Ok-clause-asks g c =
+    inl (
+      c.in-Ok.command,
+      record { sound = c.in-Ok.ensures.process; meant = c.in-Ok.ensures.meant },
+      c.perform.ensures.asks,
+    )
+
+pub returns-in-Err-clause-asks : goal.returns-in-Err-clause-asks
+returns-in-Err-clause-asks g c = inr (asks_for_nothing (g.I.Inputs.asked c.args.inputs.now))

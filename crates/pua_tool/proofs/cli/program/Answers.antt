@@ -1,9 +1,14 @@
 use Rattle.pua_tool.proofs.Common.{◌∙◌, map, subst, sym, with_end}
 use Rattle.pua_words.specs.Usages.{line_for, usage_line_text}
 use Rattle.pua_tool.specs.Told.{IsLineTold, TellsStatus}
-use Rattle.pua_tool.proofs.Ends.{ended_by_status, told_by_status}
+use Rattle.pua_tool.proofs.Ends.{answered_by_status, ended_by_status, told_by_status}
 use Rattle.pua_tool.proofs.Stops.{not_done}
 use Rattle.pua_tool.proofs.cli.program.Goals as goal
+
+pub returns-clause-done : goal.returns-clause-done
+returns-clause-done g c same =
+    answered_by_status (map (λ word. word.now) c.args.words.now) (g.I.Inputs.holds c.args.inputs.now) c.command-status.result c.at_end.result _ _ _
+    c.at_end.ensures.stopped c.flush-flushed.ensures.bytes c.command-status.ensures.done same
 
 pub returns-clause-usage : goal.returns-clause-usage
 returns-clause-usage g c same =

@@ -1,5 +1,6 @@
 use Rattle.pua_why.proofs.Common.{◌++◌, ap, ◌∙◌, string_bytes, codes, on_ok_weaker, object_of, side_seen}
-use Rattle.pua_why.specs.Texts.{found_text, kind_text, side_text}
+use Rattle.pua_policy.specs.Verdict.{object_word}
+use Rattle.pua_why.specs.Texts.{found_text, side_text}
 use Rattle.pua_why.proofs.Adding.{then_more}
 use Rattle.pua_why.proofs.texts.push_named.Goals as goal
 
@@ -8,7 +9,7 @@ returns-clause-text g c =
     let t = g.T.FileTree.content c.args.tree.now in
     let old = string_bytes c.args.text.now in
     let side = side_text (side_seen c.args.side) in
-    let kind = kind_text (object_of t c.args.found.now) in
+    let kind = object_word (object_of t c.args.found.now) in
     let begun = then_more old _ _ side (codes "names ") (c.in_ok-push_str.ensures.bytes ∙
     ap (λ words. old ++ words) c.side_word.ensures) c.in_ok-push_str-2.ensures.bytes in
     let named = then_more old _ _ (side ++ codes "names ") kind begun (c.in_ok-push_str-3.ensures.bytes ∙

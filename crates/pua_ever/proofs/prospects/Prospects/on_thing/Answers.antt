@@ -18,13 +18,7 @@ returns c = λ t kind found sees call.
           let as_program = c.on_seen-as_program.ensures t Prog found refl in
           c.on_file.ensures call ∙
           (λ i. as_file call i || (list_any (λ x. as_file x i) turning_calls && (is_exec_call call && as_program call i))))
-      | Dir ↦ λ sees. (
-          let as_file : (x : Call) → has c.on_seen-calls.result x
-          ≡ is_allowed_under c.args.table.now h (named_covers t c.args.table.now h (Some Dir) c.args.cover.now) IsFile x =
-          λ x. c.on_seen-calls.ensures t Dir found sees x in
-          let as_program = c.on_seen-as_program.ensures t Prog found refl in
-          c.on_file.ensures call ∙
-          (λ i. as_file call i || (list_any (λ x. as_file x i) turning_calls && (is_exec_call call && as_program call i))))
+      | Dir ↦ λ sees. search (rules, tests)
       | Prog ↦ λ sees. search (rules, tests)
       | Link ↦ λ sees. search (rules, tests)
     ] sees

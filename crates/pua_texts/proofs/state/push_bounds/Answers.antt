@@ -1,0 +1,23 @@
+use Rattle.pua_texts.proofs.Common.{◌++◌, err_from_is_err_and, refl, string_bytes}
+use Rattle.pua_texts.specs.States.{execs_told, openings_told, unveiled_line}
+use Rattle.pua_texts.proofs.Outcomes.{ok_text}
+use Rattle.pua_texts.proofs.States.{text_more}
+use Rattle.pua_texts.proofs.state.push_bounds.Goals as goal
+
+pub returns-in_err-push_execs : goal.returns-in_err-push_execs
+returns-in_err-push_execs c = rw (err_from_is_err_and c.from_residual.result c.from_residual.ensures.1).1 tt
+
+pub returns-in_err-push_opened : goal.returns-in_err-push_opened
+returns-in_err-push_opened c = rw (err_from_is_err_and c.from_residual-in_err-push_opened.result c.from_residual-in_err-push_opened.ensures.1).1 tt
+
+pub returns : goal.returns
+returns c =
+    let h = c.args.process.now in
+    let old = string_bytes c.args.text.now in
+    let execs = string_bytes c.push_execs.new.text in
+    let opened = string_bytes c.push_opened.new.text in
+    let told = execs_told c.args.span in
+    let opening = openings_told c.args.rules c.args.span h in
+    ok_text c.push_unveiled.result (string_bytes c.push_unveiled.new.text)
+    (text_more old (told ++ opening) (unveiled_line h) opened _
+    (text_more old told opening execs opened c.in_ok-push_execs.ensures c.in_ok-push_opened.ensures) refl) c.push_unveiled.ensures
