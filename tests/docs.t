@@ -13,7 +13,7 @@
 # - The code in docs/CALLING.md is that of the proved callers, function by function.
 # - Each path on a page is there, each link, and each heading of another page that it cites; each
 #   file in docs/ARCHITECTURE.md, and each name there and on the other pages about the code. README
-#   has at most 180 lines.
+#   has at most 180 lines, ARCHITECTURE at most 6,000 words.
 # - docs/PROVED.md has at most 2,800 words and names each law; tools/reference.pl prints each public
 #   function that tests/data/refused names.
 # - Help, usage lines, the manual pages and README have the same options, of the program and of each
@@ -409,6 +409,8 @@ sub test_architecture {
     }
     is("@missing", '', 'what ARCHITECTURE names is there');
     cmp_ok($names, '>', 100, "ARCHITECTURE: $names names");
+    my $words = () = content('docs/ARCHITECTURE.md') =~ /\S+/g;
+    cmp_ok($words, '<=', 6000, "ARCHITECTURE is short: $words words");
     for my $page (map { "docs/$_.md" } qw(CALLING DECISIONS DEFINITIONS PROVED)) {
         my @unknown = grep { !stands($_, \%file_of, \%word) }
             grep { /^[\w:.]+\z/ } content($page) =~ /`([^`]+)`/g;

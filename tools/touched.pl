@@ -10,7 +10,8 @@
 #          pages and examples; if none is given, each WORD that has letters, in small ones; -t '' is
 #          for no text at all
 #
-# To see what a further one of a kind has to go through, ask for one that is there:
+# To see what a further one of a kind has to go through, ask for one that is there. Of the likeliest
+# changes docs/ARCHITECTURE.md, "Where to change what", says what to open first. Further ones are:
 #
 #   perl tools/touched.pl Mknod                        # a call
 #   perl tools/touched.pl -t open-w OpenWrite          # a call whose text is not its name
@@ -18,11 +19,84 @@
 #   perl tools/touched.pl ENOTEMPTY                    # an errno
 #   perl tools/touched.pl Action.Rename                # a request of scripts
 #   perl tools/touched.pl -t prog Kind.Prog IsProg     # a kind of node
+#   perl tools/touched.pl -t '' TieRow AddNode         # a change that requests make
+#   perl tools/touched.pl -t '' ROOT start_of          # the root of a process, as by chroot(2)
+#   perl tools/touched.pl -t 'bad number' BadNumber    # a fault of a listing or script
+#   perl tools/touched.pl -t '' Fault.LacksLetters     # a reason: a check that fails
+#   perl tools/touched.pl -t '' Misfit.Exists          # what is wrong with an object
+#   perl tools/touched.pl -t '' Stop.NoEntry           # where a path stops
+#   perl tools/touched.pl -t '' TextFault.LongText     # what is wrong with a path's text
+#   perl tools/touched.pl -t '' has_changed touched_by # when a question on a script is asked again
+#   perl tools/touched.pl -t '' standard_rule          # what a call needs by the standard rules
+#   perl tools/touched.pl -t '' most_alternatives      # the text of a table of calls
+#   perl tools/touched.pl -t '' Form form              # a format of listings
+#   perl tools/touched.pl -t '' listing_line LineEntry # a line of a listing
+#   perl tools/touched.pl -t '' SlabTree               # a way to keep a tree
+#   perl tools/touched.pl -t '' items_below list_items # the order of objects
+#   perl tools/touched.pl -t '' begin_cost cost        # a bound on work
 #
 # -l prints the lines. -C TOP is the top folder of the repository, if it is not that of this file. A
 # file that takes the thing whole, and asks nothing of it, is not found, and need not change; one
-# that tells it by another name is not found either: docs/ARCHITECTURE.md, "Where to change what",
-# says where that is so. The status is 1 where nothing is found.
+# that tells it by another name is not found either (below). A word that says something else
+# elsewhere (Link, 14) brings some files too many. The status is 1 where nothing is found.
+#
+# No word finds this:
+#
+# - A call. `calls` with `call_count`, and Call::ALL with Call::COUNT, list it. Where computing
+#   tells the same of all calls, a proof has an arm for one and an arm for the others (`call_at_bit
+#   _ = refl`), so a call that changes nothing, or makes a file by its path alone, wants none. By
+#   which promises calls change a tree says `changing_promises`. A name that is longer than all
+#   others widens MOST_CALL_LINE. A call has its words in scripts by the rules by which it has a set
+#   of promises. In tools/, list.pl has which fields of a script are paths, lib/Pua/Lists.pm under
+#   which head a page has the call, lib/Pua/Calls.pm the system's call.
+# - A kind. docs/MODEL.md says that sockets, devices and fifos are files; a command line has the
+#   words of kinds.
+# - A request. What forks is also in fork.rt and world.rt of pua_script and in watches.rt of
+#   pua_since. A request with two paths has a file of its own, as rename.rt.
+# - A change. Begin with Decide, Guards and Replay of pua_script/specs. If it wants room: Laws
+#   there, RequestRoom of its proofs, and Reasons, Checked and Truths of pua_why/specs.
+# - The root of a process comes in from below: wherever a tree is known, `/` is node 0 by number or
+#   by name. First pua_path, whose parent of the root is said too (Resolution, Traces, Goes); then
+#   each climb (cover.rt of pua_policy, is_within of pua_tree, openings.rt and prospects.rt of
+#   pua_ever, tree_paths.rt of pua_why, places.rt of pua_texts), the state of a process, what an
+#   exec keeps, the base of an audit and the first directory of lists.
+# - A fault. The first one is reported, so its place among the others counts: in Listing and Grammar
+#   of pua_tree/specs, or in Scripts and ScriptGrammar of pua_script/specs, and by these in the
+#   proofs Gathering, ListingGrammar and SoFar, or Grammar. bench/plain/pua.rs has the same order. A
+#   status other than 1 is in fault.rt of pua_tool and in Statuses. Faults share constants in
+#   fault.rt.
+# - A reason. Where a request is served, the code forgets which check refused it: the reason is
+#   defined beside the answer, and joined to it by `verdict_law` and `answer_law`. Begin with
+#   Reasons, Keys, Texts, Truths and Laws of pua_why/specs. A check of its own is a field of Telling
+#   or Asker, and has its place in `decide_by`. A stop is also a case of TraceLaws and Walks of
+#   pua_path, made in resolver/tracing.rt. Whether its line has a since: `date_of` in Texts,
+#   reason_line.rt of pua_since. An errno comes with its check.
+# - When a question is asked again. What is left out in Changes the check refuses (`LeavesAsIs`);
+#   that a line touches no more than Concerns says is proved in Touching, that other questions are
+#   answered the same in Sparing.
+# - A format of listings. list.rt, list_edits.rt, slots.rt and slab_tree.rt of pua_tree keep a tree;
+#   list.pl writes a listing, page.pl reads it, Worlds.pm and Tree.pm of tests/lib do both. All
+#   above is checked again, and contracts stay. Larger listings: each call is judged, and each veil
+#   of a list for ever looked at, by a climb to the root; `begin_cost` grows with the square of the
+#   nodes, times the components; no command says since which line a tree is full (`date_of` of
+#   pua_why).
+# - A way to keep a tree is three traits of pua_tree: FileTree, Judged (by which edits are judged)
+#   and Gathered (by which a reader of listings fills it). They ask some things twice, by other
+#   names (`look` and `node_at`, `kind` and `kind_of`). ProgramTree of pua_tool is the program's.
+# - An order. That of an audit stays: the reach, resuming and their laws are this order. Objects
+#   stand by `items_below` (`ObjectsRise` states it), and lists for ever with them; calls by
+#   `call_number`, as in audits; a state's lines by States of pua_texts. kept_path.rt is right by
+#   any order, and fast by this one.
+# - A line of a state stands in States, ObjectLines, EverLines, TogetherLines and WhyLines of
+#   pua_texts/specs, in state.rt, member_states.rt and process_head.rt. That of what promises open
+#   is in Openings; their table is in Openings and kernel.rt of pua_why, and in
+#   tests/lib/Openings.pm and tools/trace.pl: nothing is judged by it.
+# - How ways are looked for (pua_how/src/plan) is in no contract: tests/how.t counts what is lost.
+# - A bound on work. Bounds of pua_path and of pua_audit, the clauses `cost` of pua_path, pua_policy
+#   and pua_audit; which entries a walk reads, Lists and Live of pua_steps.
+# - A field of a process. A fork copies it.
+# - The version is in version.rt of pua_words, README, docs/PROVED.md and tests/examples.t. A new
+#   toolchain: release/ir2c stops at a line that it doesn't know (`make dist`).
 use strict;
 use warnings;
 use Cwd qw(abs_path);

@@ -1,11 +1,12 @@
 #!/bin/sh
 # Each growth of memory refused in turn to calls that are then made once more: sh growth.sh
-# It first builds the program that makes the calls, of what lies in growth/ and of some files of the crates
-# pua_examples and pua_examples_trees, in a new folder with a copy of the crates. (The gate doesn't prove it: what it shows when it is run is
-# what contracts say already, over the real allocator.) Then its growth number N is refused, for N from 1 until a run
-# meets no refusal. A run has to end as it must after the second call, or, where the growth was refused
-# to something else than these calls, with a fault. A line is printed for each run that ends otherwise, then
-# how many runs there were, in how many a call was made once more, and how many were wrong.
+# It first builds the program that makes the calls, of what lies in growth/ (as .rattle, since no check of the gate
+# reads it) and of some files of the crates pua_examples and pua_examples_trees, in a new folder with a copy of the
+# crates. (The gate doesn't prove it: what it shows when it is run is what contracts say already, over the real
+# allocator.) Then its growth number N is refused, for N from 1 until a run meets no refusal. A run has to end as it
+# must after the second call, or, where the growth was refused to something else than these calls, with a fault. A
+# line is printed for each run that ends otherwise, then how many runs there were, in how many a call was made once
+# more, and how many were wrong.
 set -u
 faults=$(realpath "$(dirname "$0")")
 top=$(realpath "$faults/../..")
