@@ -1,5 +1,5 @@
-# A plain model of what pua answers, written from docs/DEFINITIONS.md alone: no proof, no speed, no care for
-# memory. The program is tested beside it. Its inputs are listings, scripts and tables without faults.
+# A plain model of what pua answers, written from docs/DEFINITIONS.md and man/pua.1 alone: no proof, no speed, no care
+# for memory. The program is tested beside it. Its inputs are listings, scripts and tables without faults.
 #
 # A model is a tree (Tree.pm, which also says what is *found* by a path), the table of calls, and processes by their
 # numbers. A process has: dir, the number of its working directory; promises and execpromises, each a set (a hash) or

@@ -1,5 +1,6 @@
-# A script without the words that none of its answers needs, by docs/DEFINITIONS.md alone ("A script with the fewest
-# rights"): what may be left out of each line is tried, and each trial is a run of the program over the whole script.
+# A script without the words that none of its answers needs, by docs/DEFINITIONS.md ("A script with the fewest
+# rights") and man/pua.1 alone: what may be left out of each line is tried, and each trial is a run of the program over
+# the whole script.
 package Tight;
 use strict;
 use warnings;

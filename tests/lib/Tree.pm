@@ -1,5 +1,5 @@
 # The tree of a plain model of what pua answers: how it is read from a listing, how it is changed, and what a path
-# names in it. Written from docs/DEFINITIONS.md alone. A listing is one without faults.
+# names in it. Written from docs/DEFINITIONS.md and man/pua.1 alone. A listing is one without faults.
 #
 # It has kinds, targets and rows: {kind}{NODE}, {target}{NODE}, {rows}{DIRECTORY}{NAME} = NODE; and of each directory
 # but the root its place, {above}{NODE} = [DIRECTORY, NAME].
