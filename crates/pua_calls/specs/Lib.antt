@@ -2,6 +2,7 @@
 pub mod Promises
 pub mod Misfits
 pub mod Effects
+pub mod Facts
 pub mod Calls
 pub mod Neighbours
 pub mod CallSets
