@@ -8,5 +8,6 @@ pub mod Neighbours
 pub mod CallSets
 pub mod Tables
 pub mod TableTexts
+pub mod FaultTexts
 -- Worked rows on these, which hold by computation.
 pub mod TableExamples
