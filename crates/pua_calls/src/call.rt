@@ -398,6 +398,41 @@ static FACTS: [Facts; Call::COUNT] = [
     },
 ];
 
+/// A word, and the call as which it is read, since it asks for what that asks.
+#[derive(Clone, Copy)]
+pub(crate) struct Neighbour {
+    pub(crate) name: &'static str,
+    pub(crate) call: Call,
+}
+
+/// The words of a request that name calls of a kernel beside those with a number.
+pub(crate) static NEIGHBOURS: [Neighbour; 6] = [
+    Neighbour {
+        name: "access",
+        call: Call::Stat,
+    },
+    Neighbour {
+        name: "statfs",
+        call: Call::Stat,
+    },
+    Neighbour {
+        name: "truncate",
+        call: Call::OpenWrite,
+    },
+    Neighbour {
+        name: "chflags",
+        call: Call::Chmod,
+    },
+    Neighbour {
+        name: "utimes",
+        call: Call::Chmod,
+    },
+    Neighbour {
+        name: "mkfifo",
+        call: Call::Mknod,
+    },
+];
+
 /// What is said of all calls, in the order of their numbers.
 fn all_facts() -> &'static [Facts]
     ensures about { map seen_facts result.now ≡ map about calls }
