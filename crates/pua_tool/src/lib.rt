@@ -13,6 +13,7 @@ mod fault;
 mod how;
 mod job;
 mod laws;
+mod line;
 mod now;
 mod objects;
 mod objects_why;
