@@ -19,6 +19,7 @@ mod objects;
 mod objects_why;
 mod outcome;
 mod posed;
+mod refused;
 mod run;
 mod run_why;
 mod script;
