@@ -2,6 +2,7 @@
 pub mod Limits
 pub mod Reach
 pub mod Begin
+pub mod FaultTexts
 -- What is proved of these.
 pub mod Laws
 pub mod SubLists

@@ -3,6 +3,7 @@ pub mod Sets
 pub mod CallBits
 pub mod NoError
 pub mod Rows
+mod FactRows
 pub mod TableTexts
 pub mod TableExamples
 pub mod Keywords

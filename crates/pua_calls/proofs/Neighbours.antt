@@ -3,7 +3,8 @@ use Rattle.pua_calls.proofs.Common.{◌≡◌, ◌∙◌, ap, refl, sym, map, sa
 use Rattle.std.proofs.Common.{option_map}
 use Rattle.std.specs.Prelude.{find}
 use Rattle.pua_tree.proofs.ForCallers.{find-map}
-use Rattle.pua_calls.specs.Neighbours.{neighbours, neighbour_of}
+use Rattle.pua_calls.specs.Calls.{neighbours}
+use Rattle.pua_calls.specs.Neighbours.{neighbour_of}
 use Rattle.pua_calls.specs.declared.call.Call.{Call}
 
 -- what is found among rows that are seen as the definition's is the row that this has

@@ -309,6 +309,13 @@ about Fchown = record {
   turns = false;
 }
 
+-- the words of a request that name calls of a kernel beside those with a number, each with the call as which it is read, since it asks for
+-- what that asks
+abbrev pub neighbours : List (List ℕ × Call)
+neighbours =
+    (codes "access", Stat) ∷ (codes "statfs", Stat) ∷ (codes "truncate", OpenWrite) ∷ (codes "chflags", Chmod) ∷ (codes "utimes", Chmod)
+    ∷ (codes "mkfifo", Mknod) ∷ []
+
 -- a set of promises that there may be, as alternatives
 abbrev pub listed : Option ℕ → List ℕ
 listed (Some set) = set ∷ []

@@ -2,10 +2,12 @@
 pub mod Promises
 pub mod Misfits
 pub mod Effects
+pub mod Facts
 pub mod Calls
 pub mod Neighbours
 pub mod CallSets
 pub mod Tables
 pub mod TableTexts
+pub mod FaultTexts
 -- Worked rows on these, which hold by computation.
 pub mod TableExamples

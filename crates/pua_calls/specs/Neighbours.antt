@@ -1,18 +1,11 @@
 -- The words of a request that name calls of a kernel beside those with a number.
-use Rattle.std.specs.Prelude.{ℕ, List, [], ◌∷◌, Option, None, codes, find, option_map}
+use Rattle.std.specs.Prelude.{ℕ, List, Option, None, find, option_map}
 use Rattle.std.specs.Option.{option_or}
 use Rattle.pua_tree.specs.Names.{same_bytes}
-use Rattle.pua_calls.specs.Calls.{call_named_by}
+use Rattle.pua_calls.specs.Calls.{call_named_by, neighbours}
 use Rattle.pua_calls.specs.declared.rules.Rules.{Rules}
 use Rattle.pua_calls.specs.declared.rules.Rules.TheVariants.{Standard, Openbsd}
 use Rattle.pua_calls.specs.declared.call.Call.{Call}
-use Rattle.pua_calls.specs.declared.call.Call.TheVariants.{Stat, OpenWrite, Chmod, Mknod}
-
--- each with the call as which it is read, since it asks for what that asks
-abbrev pub neighbours : List (List ℕ × Call)
-neighbours =
-    (codes "access", Stat) ∷ (codes "statfs", Stat) ∷ (codes "truncate", OpenWrite) ∷ (codes "chflags", Chmod) ∷ (codes "utimes", Chmod)
-    ∷ (codes "mkfifo", Mknod) ∷ []
 
 abbrev pub neighbour_of : List ℕ → Option Call
 neighbour_of word = option_map (λ row. row.1) (find (λ row. same_bytes row.0 word) neighbours)

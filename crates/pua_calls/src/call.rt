@@ -1,9 +1,13 @@
 //! The calls with one path.
 
+ghost use Rattle.std.specs.Prelude.{◌≡◌, ◌+◌, [], ◌∷◌, ◌++◌, length, take, map};
+ghost use Rattle.pua_calls.specs.Calls.{about, calls, call_name};
+ghost use Rattle.pua_calls.specs.Facts.{seen_facts};
+
 use crate::effect::Effect;
 use crate::fits::{Fits, Misfit};
-use crate::perms::Perms;
-use crate::promises::Promises;
+use crate::perms::{Letters, Perms};
+use crate::promises::{Keywords, Promises};
 use crate::rules::Rules;
 use pua_path::{Ending, Last};
 use pua_tree::Kind;
@@ -69,33 +73,378 @@ pub struct Need {
 
 /// What is said of a call, in one place.
 #[derive(Clone, Copy)]
-pub(crate) struct Facts {
+struct Facts {
+    /// Its number.
+    number: u8,
     /// Its name.
-    pub(crate) name: &'static str,
+    name: &'static str,
     /// A blank, its name and LF, with blanks after them.
-    pub(crate) line: &'static [u8],
+    line: &'static [u8],
     /// The promises that it needs by the standard table, if that has it.
-    pub(crate) standard: Option<Promises>,
+    standard: Option<Keywords>,
     /// Those that it needs by OpenBSD's rules.
-    pub(crate) openbsd: Promises,
+    openbsd: Keywords,
     /// Those by which it is allowed there too, if there are such.
-    pub(crate) other: Option<Promises>,
+    other: Option<Keywords>,
     /// The permissions that it needs.
-    pub(crate) perms: Perms,
+    perms: Letters,
     /// Whether the last part of its path is followed if it is a link.
-    pub(crate) last: Last,
+    last: Last,
     /// What a slash at the end of its path means.
-    pub(crate) ending: Ending,
+    ending: Ending,
     /// What is wrong with each kind of object for it.
-    pub(crate) fits: Fits,
+    fits: Fits,
     /// What it does where it is allowed.
-    pub(crate) effect: Effect,
+    effect: Effect,
     /// Whether a file can come to be a program by it.
-    pub(crate) turns: bool,
+    turns: bool,
+}
+
+/// What is said of each call, in the order of their numbers.
+static FACTS: [Facts; Call::COUNT] = [
+    Facts {
+        number: 1,
+        name: "stat",
+        line: b" stat\n          ",
+        standard: Some(Keywords::RPATH),
+        openbsd: Keywords::RPATH,
+        other: None,
+        perms: Letters::READ,
+        last: Last::Followed,
+        ending: Ending::Dot,
+        fits: Fits::STANDING,
+        effect: Effect::Looks,
+        turns: false,
+    },
+    Facts {
+        number: 2,
+        name: "lstat",
+        line: b" lstat\n         ",
+        standard: Some(Keywords::RPATH),
+        openbsd: Keywords::RPATH,
+        other: None,
+        perms: Letters::READ,
+        last: Last::Kept,
+        ending: Ending::Dot,
+        fits: Fits::STANDING,
+        effect: Effect::Looks,
+        turns: false,
+    },
+    Facts {
+        number: 3,
+        name: "readlink",
+        line: b" readlink\n      ",
+        standard: Some(Keywords::RPATH),
+        openbsd: Keywords::RPATH,
+        other: None,
+        perms: Letters::READ,
+        last: Last::Kept,
+        ending: Ending::Dot,
+        fits: Fits::LINKS,
+        effect: Effect::Looks,
+        turns: false,
+    },
+    Facts {
+        number: 4,
+        name: "open-r",
+        line: b" open-r\n        ",
+        standard: Some(Keywords::RPATH),
+        openbsd: Keywords::RPATH,
+        other: None,
+        perms: Letters::READ,
+        last: Last::Followed,
+        ending: Ending::Dot,
+        fits: Fits::STANDING,
+        effect: Effect::Looks,
+        turns: false,
+    },
+    Facts {
+        number: 5,
+        name: "open-w",
+        line: b" open-w\n        ",
+        standard: Some(Keywords::WPATH),
+        openbsd: Keywords::WPATH,
+        other: None,
+        perms: Letters::WRITE,
+        last: Last::Followed,
+        ending: Ending::Dot,
+        fits: Fits::WRITABLE,
+        effect: Effect::Looks,
+        turns: true,
+    },
+    Facts {
+        number: 6,
+        name: "open-rw",
+        line: b" open-rw\n       ",
+        standard: Some(Keywords::READ_WRITE),
+        openbsd: Keywords::READ_WRITE,
+        other: None,
+        perms: Letters::READ_WRITE,
+        last: Last::Followed,
+        ending: Ending::Dot,
+        fits: Fits::WRITABLE,
+        effect: Effect::Looks,
+        turns: true,
+    },
+    Facts {
+        number: 7,
+        name: "create",
+        line: b" create\n        ",
+        standard: Some(Keywords::WRITE_CREATE),
+        openbsd: Keywords::WRITE_CREATE,
+        other: None,
+        perms: Letters::WRITE_CREATE,
+        last: Last::Followed,
+        ending: Ending::Dot,
+        fits: Fits::CREATABLE,
+        effect: Effect::Makes(Kind::File),
+        turns: true,
+    },
+    Facts {
+        number: 8,
+        name: "mkdir",
+        line: b" mkdir\n         ",
+        standard: Some(Keywords::CPATH),
+        openbsd: Keywords::CPATH,
+        other: None,
+        perms: Letters::CREATE,
+        last: Last::Kept,
+        ending: Ending::Dropped,
+        fits: Fits::FREE,
+        effect: Effect::Makes(Kind::Dir),
+        turns: false,
+    },
+    Facts {
+        number: 9,
+        name: "rmdir",
+        line: b" rmdir\n         ",
+        standard: Some(Keywords::CPATH),
+        openbsd: Keywords::CPATH,
+        other: None,
+        perms: Letters::CREATE,
+        last: Last::Kept,
+        ending: Ending::Dropped,
+        fits: Fits::REMOVABLE,
+        effect: Effect::Removes,
+        turns: false,
+    },
+    Facts {
+        number: 10,
+        name: "unlink",
+        line: b" unlink\n        ",
+        standard: Some(Keywords::CPATH),
+        openbsd: Keywords::CPATH,
+        other: None,
+        perms: Letters::CREATE,
+        last: Last::Kept,
+        ending: Ending::Dot,
+        fits: Fits::UNLINKABLE,
+        effect: Effect::Removes,
+        turns: false,
+    },
+    Facts {
+        number: 11,
+        name: "symlink",
+        line: b" symlink\n       ",
+        standard: Some(Keywords::CPATH),
+        openbsd: Keywords::CPATH,
+        other: None,
+        perms: Letters::CREATE,
+        last: Last::Kept,
+        ending: Ending::Dot,
+        fits: Fits::FREE,
+        effect: Effect::Makes(Kind::Link),
+        turns: false,
+    },
+    Facts {
+        number: 12,
+        name: "chmod",
+        line: b" chmod\n         ",
+        standard: Some(Keywords::FATTR),
+        openbsd: Keywords::READ_MODES,
+        other: None,
+        perms: Letters::WRITE,
+        last: Last::Followed,
+        ending: Ending::Dot,
+        fits: Fits::STANDING,
+        effect: Effect::Looks,
+        turns: true,
+    },
+    Facts {
+        number: 13,
+        name: "chdir",
+        line: b" chdir\n         ",
+        standard: Some(Keywords::RPATH),
+        openbsd: Keywords::RPATH,
+        other: None,
+        perms: Letters::READ,
+        last: Last::Followed,
+        ending: Ending::Dot,
+        fits: Fits::DIRECTORIES,
+        effect: Effect::Enters,
+        turns: false,
+    },
+    Facts {
+        number: 14,
+        name: "exec",
+        line: b" exec\n          ",
+        standard: Some(Keywords::EXEC),
+        openbsd: Keywords::EXEC,
+        other: None,
+        perms: Letters::EXEC,
+        last: Last::Followed,
+        ending: Ending::Dot,
+        fits: Fits::PROGRAMS,
+        effect: Effect::Starts,
+        turns: false,
+    },
+    Facts {
+        number: 15,
+        name: "connect",
+        line: b" connect\n       ",
+        standard: None,
+        openbsd: Keywords::UNIX,
+        other: None,
+        perms: Letters::WRITE,
+        last: Last::Followed,
+        ending: Ending::Dot,
+        fits: Fits::SOCKETS,
+        effect: Effect::Looks,
+        turns: false,
+    },
+    Facts {
+        number: 16,
+        name: "bind",
+        line: b" bind\n          ",
+        standard: None,
+        openbsd: Keywords::UNIX,
+        other: None,
+        perms: Letters::CREATE,
+        last: Last::Kept,
+        ending: Ending::Dot,
+        fits: Fits::BINDABLE,
+        effect: Effect::Makes(Kind::File),
+        turns: false,
+    },
+    Facts {
+        number: 17,
+        name: "mknod",
+        line: b" mknod\n         ",
+        standard: None,
+        openbsd: Keywords::DPATH,
+        other: None,
+        perms: Letters::CREATE,
+        last: Last::Kept,
+        ending: Ending::Dot,
+        fits: Fits::FREE,
+        effect: Effect::Makes(Kind::File),
+        turns: false,
+    },
+    Facts {
+        number: 18,
+        name: "chown",
+        line: b" chown\n         ",
+        standard: None,
+        openbsd: Keywords::READ_OWNERS,
+        other: Some(Keywords::READ_MODES),
+        perms: Letters::WRITE,
+        last: Last::Followed,
+        ending: Ending::Dot,
+        fits: Fits::STANDING,
+        effect: Effect::Looks,
+        turns: false,
+    },
+    Facts {
+        number: 19,
+        name: "create-rw",
+        line: b" create-rw\n     ",
+        standard: None,
+        openbsd: Keywords::READ_WRITE_CREATE,
+        other: None,
+        perms: Letters::READ_WRITE_CREATE,
+        last: Last::Followed,
+        ending: Ending::Dot,
+        fits: Fits::CREATABLE,
+        effect: Effect::Makes(Kind::File),
+        turns: true,
+    },
+    Facts {
+        number: 20,
+        name: "fchmod",
+        line: b" fchmod\n        ",
+        standard: None,
+        openbsd: Keywords::READ_MODES,
+        other: None,
+        perms: Letters::READ,
+        last: Last::Followed,
+        ending: Ending::Dot,
+        fits: Fits::STANDING,
+        effect: Effect::Looks,
+        turns: true,
+    },
+    Facts {
+        number: 21,
+        name: "fchown",
+        line: b" fchown\n        ",
+        standard: None,
+        openbsd: Keywords::READ_OWNERS,
+        other: Some(Keywords::READ_MODES),
+        perms: Letters::READ,
+        last: Last::Followed,
+        ending: Ending::Dot,
+        fits: Fits::STANDING,
+        effect: Effect::Looks,
+        turns: false,
+    },
+];
+
+/// A word, and the call as which it is read, since it asks for what that asks.
+#[derive(Clone, Copy)]
+pub(crate) struct Neighbour {
+    pub(crate) name: &'static str,
+    pub(crate) call: Call,
+}
+
+/// The words of a request that name calls of a kernel beside those with a number.
+pub(crate) static NEIGHBOURS: [Neighbour; 6] = [
+    Neighbour {
+        name: "access",
+        call: Call::Stat,
+    },
+    Neighbour {
+        name: "statfs",
+        call: Call::Stat,
+    },
+    Neighbour {
+        name: "truncate",
+        call: Call::OpenWrite,
+    },
+    Neighbour {
+        name: "chflags",
+        call: Call::Chmod,
+    },
+    Neighbour {
+        name: "utimes",
+        call: Call::Chmod,
+    },
+    Neighbour {
+        name: "mkfifo",
+        call: Call::Mknod,
+    },
+];
+
+/// What is said of all calls, in the order of their numbers.
+fn all_facts() -> &'static [Facts]
+    ensures about { map seen_facts result.now ≡ map about calls }
+    ensures line { map (λ row. take (length row.name.now + 2) row.line.now) result.now
+        ≡ map (λ call. 32 ∷ call_name call ++ 10 ∷ []) calls }
+    ensures width { map (λ row. length row.line.now) result.now ≡ map (λ _. MOST_CALL_LINE) calls }
+{
+    FACTS.as_slice()
 }
 
 impl Call {
-    ghost use Rattle.std.specs.Prelude.{◌≡◌, ◌≤◌, ◌+◌, [], ◌∷◌, ◌++◌, length, take};
+    ghost use Rattle.std.specs.Prelude.{◌≡◌, ◌≤◌, ◌<◌, ◌^◌, ◌+◌, [], ◌∷◌, ◌++◌, length, take, option_map, Some};
     ghost use Rattle.pua_calls.specs.Calls.{about, effect_of, listed};
     ghost use Rattle.pua_calls.specs.Calls.{call_number, call_name, call_of_name, call_named};
     ghost use Rattle.pua_calls.specs.Calls.{call_named_by, is_known, last_of, table_by_rules};
@@ -136,331 +485,30 @@ impl Call {
     }
 
     /// What is said of it.
-    pub(crate) fn facts(self) -> Facts
-        ensures name { result.name.now ≡ (about self).name }
-        ensures line { take (length (about self).name + 2) result.line.now
+    fn facts(self) -> &'static Facts
+        ensures name { result.now.name.now ≡ (about self).name }
+        ensures line { take (length (about self).name + 2) result.now.line.now
             ≡ 32 ∷ (about self).name ++ 10 ∷ [] }
-        ensures width { length result.line.now ≡ MOST_CALL_LINE }
+        ensures width { length result.now.line.now ≡ MOST_CALL_LINE }
         ensures short { length (about self).name + 2 ≤ MOST_CALL_LINE }
-        ensures standard { (about self).standard ≡ listed result.standard }
-        ensures openbsd { (about self).openbsd ≡ result.openbsd ∷ listed result.other }
-        ensures perms { result.perms ≡ (about self).perms }
-        ensures last { result.last ≡ (about self).last }
-        ensures ending { result.ending ≡ (about self).ending }
-        ensures fits { result.fits ≡ (about self).fits }
-        ensures effect { result.effect ≡ (about self).effect }
-        ensures turns { result.turns ≡ (about self).turns }
+        ensures standard { (about self).standard
+            ≡ listed (option_map (λ set. set.0) result.now.standard) }
+        ensures openbsd { (about self).openbsd
+            ≡ result.now.openbsd.0 ∷ listed (option_map (λ set. set.0) result.now.other) }
+        ensures perms { result.now.perms.0 ≡ (about self).perms }
+        ensures standard_below { (set : Keywords) → result.now.standard ≡ Some set →
+            set.0 < 2 ^ 36 }
+        ensures openbsd_below { result.now.openbsd.0 < 2 ^ 36 }
+        ensures other_below { (set : Keywords) → result.now.other ≡ Some set → set.0 < 2 ^ 36 }
+        ensures perms_below { result.now.perms.0 < 16 }
+        ensures last { result.now.last ≡ (about self).last }
+        ensures ending { result.now.ending ≡ (about self).ending }
+        ensures fits { result.now.fits ≡ (about self).fits }
+        ensures effect { result.now.effect ≡ (about self).effect }
+        ensures turns { result.now.turns ≡ (about self).turns }
     {
-        match self {
-            Call::Stat => Facts {
-                name: "stat",
-                line: b" stat\n          ",
-                standard: Some(Promises::RPATH),
-                openbsd: Promises::RPATH,
-                other: None,
-                perms: Perms::READ,
-                last: Last::Followed,
-                ending: Ending::Dot,
-                fits: Fits::STANDING,
-                effect: Effect::Looks,
-                turns: false,
-            },
-            Call::Lstat => Facts {
-                name: "lstat",
-                line: b" lstat\n         ",
-                standard: Some(Promises::RPATH),
-                openbsd: Promises::RPATH,
-                other: None,
-                perms: Perms::READ,
-                last: Last::Kept,
-                ending: Ending::Dot,
-                fits: Fits::STANDING,
-                effect: Effect::Looks,
-                turns: false,
-            },
-            Call::Readlink => Facts {
-                name: "readlink",
-                line: b" readlink\n      ",
-                standard: Some(Promises::RPATH),
-                openbsd: Promises::RPATH,
-                other: None,
-                perms: Perms::READ,
-                last: Last::Kept,
-                ending: Ending::Dot,
-                fits: Fits {
-                    link: None,
-                    ..Fits::none(Misfit::IsNoLink)
-                },
-                effect: Effect::Looks,
-                turns: false,
-            },
-            Call::OpenRead => Facts {
-                name: "open-r",
-                line: b" open-r\n        ",
-                standard: Some(Promises::RPATH),
-                openbsd: Promises::RPATH,
-                other: None,
-                perms: Perms::READ,
-                last: Last::Followed,
-                ending: Ending::Dot,
-                fits: Fits::STANDING,
-                effect: Effect::Looks,
-                turns: false,
-            },
-            Call::OpenWrite => Facts {
-                name: "open-w",
-                line: b" open-w\n        ",
-                standard: Some(Promises::WPATH),
-                openbsd: Promises::WPATH,
-                other: None,
-                perms: Perms::WRITE,
-                last: Last::Followed,
-                ending: Ending::Dot,
-                fits: Fits {
-                    directory: Some(Misfit::IsDirectory),
-                    ..Fits::STANDING
-                },
-                effect: Effect::Looks,
-                turns: true,
-            },
-            Call::OpenBoth => Facts {
-                name: "open-rw",
-                line: b" open-rw\n       ",
-                standard: Some(Promises::RPATH.union(Promises::WPATH)),
-                openbsd: Promises::RPATH.union(Promises::WPATH),
-                other: None,
-                perms: Perms::READ.union(Perms::WRITE),
-                last: Last::Followed,
-                ending: Ending::Dot,
-                fits: Fits {
-                    directory: Some(Misfit::IsDirectory),
-                    ..Fits::STANDING
-                },
-                effect: Effect::Looks,
-                turns: true,
-            },
-            Call::Create => Facts {
-                name: "create",
-                line: b" create\n        ",
-                standard: Some(Promises::WPATH.union(Promises::CPATH)),
-                openbsd: Promises::WPATH.union(Promises::CPATH),
-                other: None,
-                perms: Perms::WRITE.union(Perms::CREATE),
-                last: Last::Followed,
-                ending: Ending::Dot,
-                fits: Fits {
-                    directory: Some(Misfit::IsDirectory),
-                    missing: None,
-                    ..Fits::STANDING
-                },
-                effect: Effect::Makes(Kind::File),
-                turns: true,
-            },
-            Call::Mkdir => Facts {
-                name: "mkdir",
-                line: b" mkdir\n         ",
-                standard: Some(Promises::CPATH),
-                openbsd: Promises::CPATH,
-                other: None,
-                perms: Perms::CREATE,
-                last: Last::Kept,
-                ending: Ending::Dropped,
-                fits: Fits::free(Misfit::Exists),
-                effect: Effect::Makes(Kind::Dir),
-                turns: false,
-            },
-            Call::Rmdir => Facts {
-                name: "rmdir",
-                line: b" rmdir\n         ",
-                standard: Some(Promises::CPATH),
-                openbsd: Promises::CPATH,
-                other: None,
-                perms: Perms::CREATE,
-                last: Last::Kept,
-                ending: Ending::Dropped,
-                fits: Fits {
-                    directory: None,
-                    by_way: true,
-                    ..Fits::none(Misfit::IsNoDirectory)
-                },
-                effect: Effect::Removes,
-                turns: false,
-            },
-            Call::Unlink => Facts {
-                name: "unlink",
-                line: b" unlink\n        ",
-                standard: Some(Promises::CPATH),
-                openbsd: Promises::CPATH,
-                other: None,
-                perms: Perms::CREATE,
-                last: Last::Kept,
-                ending: Ending::Dot,
-                fits: Fits {
-                    directory: Some(Misfit::IsNoFile),
-                    ..Fits::STANDING
-                },
-                effect: Effect::Removes,
-                turns: false,
-            },
-            Call::Symlink => Facts {
-                name: "symlink",
-                line: b" symlink\n       ",
-                standard: Some(Promises::CPATH),
-                openbsd: Promises::CPATH,
-                other: None,
-                perms: Perms::CREATE,
-                last: Last::Kept,
-                ending: Ending::Dot,
-                fits: Fits::free(Misfit::Exists),
-                effect: Effect::Makes(Kind::Link),
-                turns: false,
-            },
-            Call::Chmod => Facts {
-                name: "chmod",
-                line: b" chmod\n         ",
-                standard: Some(Promises::FATTR),
-                openbsd: Promises::RPATH.union(Promises::FATTR),
-                other: None,
-                perms: Perms::WRITE,
-                last: Last::Followed,
-                ending: Ending::Dot,
-                fits: Fits::STANDING,
-                effect: Effect::Looks,
-                turns: true,
-            },
-            Call::Chdir => Facts {
-                name: "chdir",
-                line: b" chdir\n         ",
-                standard: Some(Promises::RPATH),
-                openbsd: Promises::RPATH,
-                other: None,
-                perms: Perms::READ,
-                last: Last::Followed,
-                ending: Ending::Dot,
-                fits: Fits {
-                    directory: None,
-                    ..Fits::none(Misfit::IsNoDirectory)
-                },
-                effect: Effect::Enters,
-                turns: false,
-            },
-            Call::Exec => Facts {
-                name: "exec",
-                line: b" exec\n          ",
-                standard: Some(Promises::EXEC),
-                openbsd: Promises::EXEC,
-                other: None,
-                perms: Perms::EXEC,
-                last: Last::Followed,
-                ending: Ending::Dot,
-                fits: Fits {
-                    program: None,
-                    ..Fits::none(Misfit::IsNoProgram)
-                },
-                effect: Effect::Starts,
-                turns: false,
-            },
-            Call::Connect => Facts {
-                name: "connect",
-                line: b" connect\n       ",
-                standard: None,
-                openbsd: Promises::UNIX,
-                other: None,
-                perms: Perms::WRITE,
-                last: Last::Followed,
-                ending: Ending::Dot,
-                fits: Fits {
-                    file: None,
-                    ..Fits::none(Misfit::IsNoSocket)
-                },
-                effect: Effect::Looks,
-                turns: false,
-            },
-            Call::Bind => Facts {
-                name: "bind",
-                line: b" bind\n          ",
-                standard: None,
-                openbsd: Promises::UNIX,
-                other: None,
-                perms: Perms::CREATE,
-                last: Last::Kept,
-                ending: Ending::Dot,
-                fits: Fits::free(Misfit::InUse),
-                effect: Effect::Makes(Kind::File),
-                turns: false,
-            },
-            Call::Mknod => Facts {
-                name: "mknod",
-                line: b" mknod\n         ",
-                standard: None,
-                openbsd: Promises::DPATH,
-                other: None,
-                perms: Perms::CREATE,
-                last: Last::Kept,
-                ending: Ending::Dot,
-                fits: Fits::free(Misfit::Exists),
-                effect: Effect::Makes(Kind::File),
-                turns: false,
-            },
-            Call::Chown => Facts {
-                name: "chown",
-                line: b" chown\n         ",
-                standard: None,
-                openbsd: Promises::RPATH.union(Promises::CHOWN),
-                other: Some(Promises::RPATH.union(Promises::FATTR)),
-                perms: Perms::WRITE,
-                last: Last::Followed,
-                ending: Ending::Dot,
-                fits: Fits::STANDING,
-                effect: Effect::Looks,
-                turns: false,
-            },
-            Call::CreateBoth => Facts {
-                name: "create-rw",
-                line: b" create-rw\n     ",
-                standard: None,
-                openbsd: Promises::RPATH
-                    .union(Promises::WPATH)
-                    .union(Promises::CPATH),
-                other: None,
-                perms: Perms::READ.union(Perms::WRITE).union(Perms::CREATE),
-                last: Last::Followed,
-                ending: Ending::Dot,
-                fits: Fits {
-                    directory: Some(Misfit::IsDirectory),
-                    missing: None,
-                    ..Fits::STANDING
-                },
-                effect: Effect::Makes(Kind::File),
-                turns: true,
-            },
-            Call::Fchmod => Facts {
-                name: "fchmod",
-                line: b" fchmod\n        ",
-                standard: None,
-                openbsd: Promises::RPATH.union(Promises::FATTR),
-                other: None,
-                perms: Perms::READ,
-                last: Last::Followed,
-                ending: Ending::Dot,
-                fits: Fits::STANDING,
-                effect: Effect::Looks,
-                turns: true,
-            },
-            Call::Fchown => Facts {
-                name: "fchown",
-                line: b" fchown\n        ",
-                standard: None,
-                openbsd: Promises::RPATH.union(Promises::CHOWN),
-                other: Some(Promises::RPATH.union(Promises::FATTR)),
-                perms: Perms::READ,
-                last: Last::Followed,
-                ending: Ending::Dot,
-                fits: Fits::STANDING,
-                effect: Effect::Looks,
-                turns: false,
-            },
-        }
+        let rows = all_facts();
+        &rows[self.number() as usize - 1]
     }
 
     /// Its name in scripts and in what is printed.
@@ -468,6 +516,41 @@ impl Call {
         ensures { result.now ≡ call_name self }
     {
         self.facts().name
+    }
+
+    /// The promises that it needs by the standard table, if that has it.
+    pub(crate) fn standard(self) -> Option<Promises>
+        ensures { (about self).standard ≡ listed result }
+    {
+        let set = self.facts().standard?;
+        Some(Promises::of(set))
+    }
+
+    /// Those that it needs by OpenBSD's rules, and those by which it is allowed there too, if there are
+    /// such.
+    pub(crate) fn openbsd(self) -> (Promises, Option<Promises>)
+        ensures { (about self).openbsd ≡ result.0 ∷ listed result.1 }
+    {
+        let facts = self.facts();
+        let other = match facts.other {
+            Some(set) => Some(Promises::of(set)),
+            None => None,
+        };
+        (Promises::of(facts.openbsd), other)
+    }
+
+    /// The permissions that it needs.
+    pub(crate) fn perms(self) -> Perms
+        ensures { result ≡ (about self).perms }
+    {
+        Perms::of(self.facts().perms)
+    }
+
+    /// What a slash at the end of its path means.
+    pub(crate) fn ending(self) -> Ending
+        ensures { result ≡ (about self).ending }
+    {
+        self.facts().ending
     }
 
     /// Whether the last part of its path is followed if it is a link (this profile).

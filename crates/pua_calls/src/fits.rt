@@ -1,7 +1,7 @@
 //! Which objects a call is on, and what is wrong with the others.
 
 ghost use Rattle.std.specs.Prelude.{◌≡◌};
-ghost use Rattle.pua_calls.specs.Misfits.{each_standing, none_standing, free_names, misfit_errno, fits_on};
+ghost use Rattle.pua_calls.specs.Misfits.{misfit_errno, fits_on};
 
 use pua_path::Errno;
 use pua_tree::Kind;
@@ -75,6 +75,20 @@ pub struct Fits {
     pub missing: Option<Misfit>,
 }
 
+/// Of a call on nothing that stands, since this is wrong with it.
+macro_rules! none_standing {
+    ($misfit:expr) => {
+        Fits {
+            directory: Some($misfit),
+            by_way: false,
+            file: Some($misfit),
+            program: Some($misfit),
+            link: Some($misfit),
+            missing: Some(Misfit::Missing),
+        }
+    };
+}
+
 impl Fits {
     /// What is wrong with a node of this kind, wherever it stands. What is wrong with removing a directory
     /// rests on the way to it, which isn't asked here: something has the name.
@@ -100,27 +114,63 @@ impl Fits {
         missing: Some(Misfit::Missing),
     };
 
-    /// Of a call on nothing that stands, but for what is said of some of it.
-    pub(crate) fn none(misfit: Misfit) -> Fits
-        ensures { result ≡ none_standing misfit }
-    {
-        Fits {
-            directory: Some(misfit),
-            by_way: false,
-            file: Some(misfit),
-            program: Some(misfit),
-            link: Some(misfit),
-            missing: Some(Misfit::Missing),
-        }
-    }
+    /// Of a call that writes what stands.
+    pub(crate) const WRITABLE: Fits = Fits {
+        directory: Some(Misfit::IsDirectory),
+        ..Fits::STANDING
+    };
+
+    /// Of one that writes it, or makes it.
+    pub(crate) const CREATABLE: Fits = Fits {
+        missing: None,
+        ..Fits::WRITABLE
+    };
+
+    /// Of one that unlinks it.
+    pub(crate) const UNLINKABLE: Fits = Fits {
+        directory: Some(Misfit::IsNoFile),
+        ..Fits::STANDING
+    };
+
+    /// Of a call on links.
+    pub(crate) const LINKS: Fits = Fits {
+        link: None,
+        ..none_standing!(Misfit::IsNoLink)
+    };
+
+    /// Of a call on directories.
+    pub(crate) const DIRECTORIES: Fits = Fits {
+        directory: None,
+        ..none_standing!(Misfit::IsNoDirectory)
+    };
+
+    /// Of one that removes them.
+    pub(crate) const REMOVABLE: Fits = Fits {
+        by_way: true,
+        ..Fits::DIRECTORIES
+    };
+
+    /// Of a call on programs.
+    pub(crate) const PROGRAMS: Fits = Fits {
+        program: None,
+        ..none_standing!(Misfit::IsNoProgram)
+    };
+
+    /// Of a call on files, which may be sockets.
+    pub(crate) const SOCKETS: Fits = Fits {
+        file: None,
+        ..none_standing!(Misfit::IsNoSocket)
+    };
 
     /// Of a call on a name that is free.
-    pub(crate) fn free(misfit: Misfit) -> Fits
-        ensures { result ≡ free_names misfit }
-    {
-        Fits {
-            missing: None,
-            ..Fits::none(misfit)
-        }
-    }
+    pub(crate) const FREE: Fits = Fits {
+        missing: None,
+        ..none_standing!(Misfit::Exists)
+    };
+
+    /// Of one to which a socket is bound.
+    pub(crate) const BINDABLE: Fits = Fits {
+        missing: None,
+        ..none_standing!(Misfit::InUse)
+    };
 }

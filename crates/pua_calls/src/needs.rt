@@ -17,11 +17,10 @@ pub fn need(call: Call) -> Need
     ensures perms { (rule_of standard_table call).perms ≡ result.perms }
     ensures last { result.last ≡ last_of call }
 {
-    let facts = call.facts();
     Need {
-        promises: facts.standard.unwrap_or(facts.openbsd),
-        perms: facts.perms,
-        last: facts.last,
+        promises: call.standard().unwrap_or(call.openbsd().0),
+        perms: call.perms(),
+        last: call.last(),
     }
 }
 
@@ -29,5 +28,5 @@ pub fn need(call: Call) -> Need
 pub fn ending(call: Call) -> Ending
     ensures { result ≡ ending_of call }
 {
-    call.facts().ending
+    call.ending()
 }

@@ -1,44 +1,11 @@
 //! The words of a request that name calls of a kernel beside those with a number.
 
 ghost use Rattle.std.specs.Prelude.{◌≡◌, map};
-ghost use Rattle.pua_calls.specs.Neighbours.{call_asked_by, neighbour_by, neighbour_of, neighbours};
+ghost use Rattle.pua_calls.specs.Calls.{neighbours};
+ghost use Rattle.pua_calls.specs.Neighbours.{call_asked_by, neighbour_by, neighbour_of};
 
-use crate::call::Call;
+use crate::call::{Call, NEIGHBOURS, Neighbour};
 use crate::rules::Rules;
-
-/// A word, and the call as which it is read, since it asks for what that asks.
-#[derive(Clone, Copy)]
-struct Neighbour {
-    name: &'static str,
-    call: Call,
-}
-
-static NEIGHBOURS: [Neighbour; 6] = [
-    Neighbour {
-        name: "access",
-        call: Call::Stat,
-    },
-    Neighbour {
-        name: "statfs",
-        call: Call::Stat,
-    },
-    Neighbour {
-        name: "truncate",
-        call: Call::OpenWrite,
-    },
-    Neighbour {
-        name: "chflags",
-        call: Call::Chmod,
-    },
-    Neighbour {
-        name: "utimes",
-        call: Call::Chmod,
-    },
-    Neighbour {
-        name: "mkfifo",
-        call: Call::Mknod,
-    },
-];
 
 impl Call {
     /// The call that a request asks for by this word, if there is one: the one of this name that there

@@ -5,7 +5,7 @@ use std::marker::Model;
 
 /// A set of letters, a bit for each.
 #[derive(Clone, Copy, PartialEq, Eq, Hash)]
-struct Letters(u8);
+pub(crate) struct Letters(pub(crate) u8);
 
 /// A set of the permissions r, w, x and c: to read, to write, to execute, and to create and remove
 /// (unveil(2)). Contracts see a number with a bit for each, r at bit 0.
@@ -26,28 +26,49 @@ impl Model for Perms {
     ghost inverse = { λ n. record { letters = record { 0 = n } } };
 }
 
-ghost use Rattle.std.specs.Prelude.{⊤, ◌≡◌, [], ◌∷◌, codes, bit_or};
+ghost use Rattle.std.specs.Prelude.{◌<◌, ⊤, ◌≡◌, [], ◌∷◌, codes, bit_or};
 ghost use Rattle.pua_calls.specs.Promises.{holds, lacking, perms_of, letter_of, perm_letters};
 ghost use Rattle.pua_calls.specs.Promises.{reading, writing, executing, creating};
 
 use pua_path::Errno;
 
+impl Letters {
+    pub(crate) const READ: Letters = Letters(1);
+
+    pub(crate) const WRITE: Letters = Letters(2);
+
+    pub(crate) const EXEC: Letters = Letters(4);
+
+    pub(crate) const CREATE: Letters = Letters(8);
+
+    /// To read, and to write.
+    pub(crate) const READ_WRITE: Letters = Letters(Letters::READ.0 | Letters::WRITE.0);
+
+    /// To write, and to create.
+    pub(crate) const WRITE_CREATE: Letters = Letters(Letters::WRITE.0 | Letters::CREATE.0);
+
+    /// To read, to write, and to create.
+    pub(crate) const READ_WRITE_CREATE: Letters = Letters(
+        Letters::READ_WRITE.0 | Letters::CREATE.0,
+    );
+}
+
 static LETTERS: [Flag<Letters>; 4] = [
     Flag {
         name: "r",
-        value: Letters(1),
+        value: Letters::READ,
     },
     Flag {
         name: "w",
-        value: Letters(2),
+        value: Letters::WRITE,
     },
     Flag {
         name: "x",
-        value: Letters(4),
+        value: Letters::EXEC,
     },
     Flag {
         name: "c",
-        value: Letters(8),
+        value: Letters::CREATE,
     },
 ];
 
@@ -82,23 +103,31 @@ impl Perms {
 
     /// To read, and to look at.
     pub const READ: Perms = Perms {
-        letters: Letters(1),
+        letters: Letters::READ,
     };
 
     /// To write, and to change the mode.
     pub const WRITE: Perms = Perms {
-        letters: Letters(2),
+        letters: Letters::WRITE,
     };
 
     /// To execute.
     pub const EXEC: Perms = Perms {
-        letters: Letters(4),
+        letters: Letters::EXEC,
     };
 
     /// To create and to remove.
     pub const CREATE: Perms = Perms {
-        letters: Letters(8),
+        letters: Letters::CREATE,
     };
+
+    /// These letters.
+    pub(crate) fn of(letters: Letters) -> Perms
+        requires { letters.0 < 16 }
+        ensures { result ≡ letters.0 }
+    {
+        Perms { letters }
+    }
 
     /// The permissions that letters name, in any order and with repeats; no letters are the empty
     /// set. Any byte but `r`, `w`, `x` and `c` is EINVAL (unveil(2)).

@@ -5,7 +5,7 @@ use std::marker::Model;
 
 /// A set of keywords, a bit for each.
 #[derive(Clone, Copy, PartialEq, Eq, Hash)]
-struct Keywords(u64);
+pub(crate) struct Keywords(pub(crate) u64);
 
 /// A set of promises (pledge(2); the list of keywords is this profile's). Contracts see a number
 /// with a bit for each of the 36 keywords, the first at bit 0.
@@ -26,7 +26,7 @@ impl Model for Promises {
     ghost inverse = { λ n. record { keywords = record { 0 = n } } };
 }
 
-ghost use Rattle.std.specs.Prelude.{⊤, ◌≡◌, ◌≤◌, ◌==◌, IfOk, bit_and, bit_or, map, option_map};
+ghost use Rattle.std.specs.Prelude.{◌<◌, ◌^◌, ⊤, ◌≡◌, ◌≤◌, ◌==◌, IfOk, bit_and, bit_or, map, option_map};
 ghost use Rattle.pua_calls.specs.Promises.{holds, lacking, keyword_at, keywords_of};
 ghost use Rattle.pua_calls.specs.Promises.{promises_of, promise_of, union_of, keyword_rows};
 ghost use Rattle.std.specs.List.{find, slice_split};
@@ -38,29 +38,46 @@ use std::alloc::{AllocError, Global};
 
 /// The keywords that a call needs, or that decide what a call without its promises gets.
 impl Keywords {
-    const CHOWN: Keywords = Keywords(1 << 2);
+    pub(crate) const CHOWN: Keywords = Keywords(1 << 2);
 
-    const CPATH: Keywords = Keywords(1 << 3);
+    pub(crate) const CPATH: Keywords = Keywords(1 << 3);
 
-    const DPATH: Keywords = Keywords(1 << 6);
+    pub(crate) const DPATH: Keywords = Keywords(1 << 6);
 
-    const ERROR: Keywords = Keywords(1 << 8);
+    pub(crate) const ERROR: Keywords = Keywords(1 << 8);
 
-    const EXEC: Keywords = Keywords(1 << 9);
+    pub(crate) const EXEC: Keywords = Keywords(1 << 9);
 
-    const FATTR: Keywords = Keywords(1 << 10);
+    pub(crate) const FATTR: Keywords = Keywords(1 << 10);
 
-    const PROC: Keywords = Keywords(1 << 17);
+    pub(crate) const PROC: Keywords = Keywords(1 << 17);
 
-    const RPATH: Keywords = Keywords(1 << 22);
+    pub(crate) const RPATH: Keywords = Keywords(1 << 22);
 
-    const TMPPATH: Keywords = Keywords(1 << 27);
+    pub(crate) const TMPPATH: Keywords = Keywords(1 << 27);
 
-    const UNIX: Keywords = Keywords(1 << 29);
+    pub(crate) const UNIX: Keywords = Keywords(1 << 29);
 
-    const UNVEIL: Keywords = Keywords(1 << 30);
+    pub(crate) const UNVEIL: Keywords = Keywords(1 << 30);
 
-    const WPATH: Keywords = Keywords(1 << 34);
+    pub(crate) const WPATH: Keywords = Keywords(1 << 34);
+
+    /// To read, and to write.
+    pub(crate) const READ_WRITE: Keywords = Keywords(Keywords::RPATH.0 | Keywords::WPATH.0);
+
+    /// To write, and to create.
+    pub(crate) const WRITE_CREATE: Keywords = Keywords(Keywords::WPATH.0 | Keywords::CPATH.0);
+
+    /// To read, to write, and to create.
+    pub(crate) const READ_WRITE_CREATE: Keywords = Keywords(
+        Keywords::READ_WRITE.0 | Keywords::CPATH.0,
+    );
+
+    /// To read, and to change modes.
+    pub(crate) const READ_MODES: Keywords = Keywords(Keywords::RPATH.0 | Keywords::FATTR.0);
+
+    /// To read, and to change owners.
+    pub(crate) const READ_OWNERS: Keywords = Keywords(Keywords::RPATH.0 | Keywords::CHOWN.0);
 }
 
 static KEYWORDS: [Flag<Keywords>; Promises::KEYWORDS] = [
@@ -302,6 +319,14 @@ impl Promises {
     pub const WPATH: Promises = Promises {
         keywords: Keywords::WPATH,
     };
+
+    /// These keywords.
+    pub(crate) fn of(keywords: Keywords) -> Promises
+        requires { keywords.0 < 2 ^ 36 }
+        ensures { result ≡ keywords.0 }
+    {
+        Promises { keywords }
+    }
 
     /// The promises that keywords name, with a comma between each two, in any order and with
     /// repeats; no text is the empty set. A word that is no keyword, or is empty, is EINVAL

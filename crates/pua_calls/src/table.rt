@@ -128,11 +128,10 @@ impl RuleRow {
     fn standard(call: Call) -> RuleRow
         ensures { result ≡ standard_rule call }
     {
-        let facts = call.facts();
-        match facts.standard {
-            Some(promises) => RuleRow::one(promises, facts.perms),
+        match call.standard() {
+            Some(promises) => RuleRow::one(promises, call.perms()),
             None => RuleRow {
-                perms: facts.perms,
+                perms: call.perms(),
                 ..RuleRow::NONE
             },
         }
@@ -142,9 +141,9 @@ impl RuleRow {
     fn openbsd(call: Call) -> RuleRow
         ensures { result ≡ openbsd_rule call }
     {
-        let facts = call.facts();
-        let mut row = RuleRow::one(facts.openbsd, facts.perms);
-        if let Some(other) = facts.other {
+        let (promises, other) = call.openbsd();
+        let mut row = RuleRow::one(promises, call.perms());
+        if let Some(other) = other {
             row.add(other);
         }
         row

@@ -16,7 +16,7 @@ use Rattle.pua_ever.proofs.Grown.{Grown, Written, by_name, by_turn, From, is_new
 use Rattle.pua_ever.proofs.Covers.{given_or_new, dir_row, slot_row, own_dir, under_dir, below_next}
 use Rattle.pua_ever.proofs.Quiet.{below_self, below_up, above_row, root_below, not_empty, way_up}
 use Rattle.pua_ever.specs.Jointly.{Seat, Source, Old, Made, Row, Maker, Fact, StandsIn, NotAbove, DirCover, NameCover, Free, WayIn, Writes}
-use Rattle.pua_ever.specs.Jointly.{Makes, StandsAt, may_take, own_veil, name_veil, kind_of_source, Can, stays_in, moved_in, born_in}
+use Rattle.pua_ever.specs.Jointly.{Makes, StandsAt, may_take, is_standing, own_veil, name_veil, kind_of_source, Can, stays_in, moved_in, born_in}
 use Rattle.pua_ever.specs.Jointly.{not_above_root, not_above_up, not_above_made, dir_own, dir_root, dir_within, name_own, name_within}
 use Rattle.pua_ever.specs.Jointly.{free_none, free_made, free_dir, free_other, way_in_by_c, way_in_by_name, way_in_by_turn, writes_at}
 use Rattle.pua_ever.specs.Jointly.{makes_at, stays_at, moved_at, born_at}
@@ -194,6 +194,13 @@ module _ (table : CallTable) (t0 : Tree) (crew : List ProcessState) (well0 : Wel
     su : Sound u
     su = sound_from u k.well
 
+    -- a directory that stands now stood at the beginning, or was made
+    seat_stands : (d : ℕ) → is_dir u d ≡ true → is_standing t0 (k.seat d) ≡ true
+    seat_stands d is = elim (given_or_new t0 d) [
+      | inl below ↦ ap (is_standing t0) (k.seated.old d below) ∙ sym (same_dir t0 u d (k.old d below (is_living_dir u d is))) ∙ is
+      | inr from ↦ ap (is_standing t0) (k.seated.new d from (is_living_dir u d is)).1
+    ]
+
     own_seat : (d perms : ℕ) → perms_kept a (place.Dir d) ≡ Some perms → own_veil a (k.seat d) ≡ Some perms
     own_seat d perms e = ap (own_veil a) (k.seated.old d (stand (place.Dir d) perms e)) ∙ e
 
@@ -224,7 +231,7 @@ module _ (table : CallTable) (t0 : Tree) (crew : List ProcessState) (well0 : Wel
         by (Some perms) e =
             let covered : cover_in u a 0 ≡ Only perms =
             (covers_descend u a k.well).root ∙ ap (λ o. own_or o (cond (has_veil a.veils) Nothing All)) e in
-            subst (λ c. Can0 (DirCover a (k.seat 0) c)) (sym covered) (dir_own (own_seat 0 perms e))
+            subst (λ c. Can0 (DirCover a (k.seat 0) c)) (sym covered) (dir_own (ap (is_standing t0) zero_old ∙ well0.root) (own_seat 0 perms e))
         by None e =
             let covered : cover_in u a 0 ≡ cond (has_veil a.veils) Nothing All =
             (covers_descend u a k.well).root ∙ ap (λ o. own_or o (cond (has_veil a.veils) Nothing All)) e in
@@ -241,7 +248,7 @@ module _ (table : CallTable) (t0 : Tree) (crew : List ProcessState) (well0 : Wel
         by : (o : Option ℕ) → perms_kept a (place.Dir d) ≡ o → Can0 (DirCover a (k.seat (above u d)) (cover_in u a (above u d))) →
             Can0 (DirCover a (k.seat d) (cover_in u a d))
         by (Some perms) e over =
-            subst (λ c. Can0 (DirCover a (k.seat d) c)) (sym (own_dir u a k.well d perms is up.0 e)) (dir_own (own_seat d perms e))
+            subst (λ c. Can0 (DirCover a (k.seat d) c)) (sym (own_dir u a k.well d perms is up.0 e)) (dir_own (seat_stands d is) (own_seat d perms e))
         by None e over =
             subst (λ c. Can0 (DirCover a (k.seat d) c)) (sym (under_dir u a k.well row.0 d is row.1 e))
             (dir_within (k.seat row.0.0) (bare_seat d (is_living_dir u d is) e) (k.dirs row.0 d row.1 is)
@@ -255,7 +262,7 @@ module _ (table : CallTable) (t0 : Tree) (crew : List ProcessState) (well0 : Wel
     name_cover_all s is = by (perms_kept a (place.Slot s.0 s.1)) refl
       where
         by : (o : Option ℕ) → perms_kept a (place.Slot s.0 s.1) ≡ o → Can0 (NameCover a (k.seat s.0) s.1 (own_or o (cover_in u a s.0)))
-        by (Some perms) e = name_own (own_name s.0 s.1 perms e)
+        by (Some perms) e = name_own (seat_stands s.0 is) (own_name s.0 s.1 perms e)
         by None e = name_within (bare_name s.0 s.1 (is_living_dir u s.0 is) e) (dir_cover_all s.0 is)
 
   -- a name at which nothing stands could come to be free
@@ -461,7 +468,7 @@ module _ (table : CallTable) (t0 : Tree) (crew : List ProcessState) (well0 : Wel
     way_in s x over (by_name has) from free = inr (by (perms_kept a (place.Slot s.0 s.1)) refl (named_c s has))
       where
         by : (o : Option ℕ) → perms_kept a (place.Slot s.0 s.1) ≡ o → has_c (own_or o (cover_in t a s.0)) ≡ true → Can0 (WayIn a (k.seat s.0))
-        by (Some perms) e has = way_in_by_name s.1 perms (own_name t k a stand s.0 s.1 perms e) has free
+        by (Some perms) e has = way_in_by_name s.1 perms (seat_stands t k a stand s.0 over) (own_name t k a stand s.0 s.1 perms e) has free
         by None e has = way_in_by_c (cover_in t a s.0) (dir_cover_t s.0 over) has
     way_in s x over (by_turn y at empty has is) from free = by (x == y) refl from
       where

@@ -11,7 +11,7 @@ use Rattle.pua_policy.specs.declared.place.Place.TheVariants as place
 use Rattle.pua_script.specs.Confinement.{has_c}
 use Rattle.pua_ever.specs.Ever.{New, NewDir, is_made_by, can_move, can_link}
 use Rattle.pua_ever.specs.Jointly.{Seat, Old, Made, Source, Row, Maker, Fact, StandsIn, NotAbove, DirCover, NameCover, Free, WayIn, Writes}
-use Rattle.pua_ever.specs.Jointly.{Makes, StandsAt, may_take, own_veil, name_veil, kind_of_source, Can, stays_in, moved_in, born_in}
+use Rattle.pua_ever.specs.Jointly.{Makes, StandsAt, may_take, is_standing, own_veil, name_veil, kind_of_source, Can, stays_in, moved_in, born_in}
 use Rattle.pua_ever.specs.Jointly.{not_above_root, not_above_up, not_above_made, dir_own, dir_root, dir_within, name_own, name_within}
 use Rattle.pua_ever.specs.Jointly.{free_none, free_made, free_dir, free_other, way_in_by_c, way_in_by_name, way_in_by_turn, writes_at}
 use Rattle.pua_ever.specs.Jointly.{makes_at, stays_at, moved_at, born_at}
@@ -26,12 +26,12 @@ pub record Closed (t : Tree) (table : CallTable) (crew : List ProcessState) (P :
   pub not_above_up : {y : ℕ} {d : Seat} (p : Seat) → d ≢ Old y → P (StandsIn d p) → P (NotAbove (Old y) p) →
       P (NotAbove (Old y) d)
   pub not_above_made : {maker : ProcessState} {d : Seat} → P (NotAbove (Made maker) d)
-  pub dir_own : {a : ProcessState} {d : Seat} {perms : ℕ} → own_veil a d ≡ Some perms → P (DirCover a d (Only perms))
+  pub dir_own : {a : ProcessState} {d : Seat} {perms : ℕ} → IsTrue (is_standing t d) → own_veil a d ≡ Some perms → P (DirCover a d (Only perms))
   pub dir_root : {a : ProcessState} → perms_kept a (place.Dir 0) ≡ None →
       P (DirCover a (Old 0) (if has_veil a.veils then Nothing else All))
   pub dir_within : {a : ProcessState} {d : Seat} {k : Cover} (p : Seat) → own_veil a d ≡ None → P (StandsIn d p) →
       P (DirCover a p k) → P (DirCover a d k)
-  pub name_own : {a : ProcessState} {d : Seat} {name : List ℕ} {perms : ℕ} → name_veil a d name ≡ Some perms →
+  pub name_own : {a : ProcessState} {d : Seat} {name : List ℕ} {perms : ℕ} → IsTrue (is_standing t d) → name_veil a d name ≡ Some perms →
       P (NameCover a d name (Only perms))
   pub name_within : {a : ProcessState} {d : Seat} {name : List ℕ} {k : Cover} → name_veil a d name ≡ None → P (DirCover a d k) →
       P (NameCover a d name k)
@@ -44,7 +44,7 @@ pub record Closed (t : Tree) (table : CallTable) (crew : List ProcessState) (P :
       look t dir name ≡ Some x → IsFalse (is_dir t x) → P (NameCover a (Old dir) name k) → IsTrue (has_c k) →
       P (Free (Old dir) name)
   pub way_in_by_c : {a : ProcessState} {d : Seat} (k : Cover) → P (DirCover a d k) → IsTrue (has_c k) → P (WayIn a d)
-  pub way_in_by_name : {a : ProcessState} {d : Seat} (name : List ℕ) (perms : ℕ) → name_veil a d name ≡ Some perms →
+  pub way_in_by_name : {a : ProcessState} {d : Seat} (name : List ℕ) (perms : ℕ) → IsTrue (is_standing t d) → name_veil a d name ≡ Some perms →
       IsTrue (has_c (Only perms)) → P (Free d name) → P (WayIn a d)
   pub way_in_by_turn : {a : ProcessState} {d : Seat} (y perms : ℕ) (other : Seat) (k : Cover) → P (StandsIn (Old y) d) →
       perms_kept a (place.Dir y) ≡ Some perms → IsTrue (has_c (Only perms)) →
@@ -74,17 +74,17 @@ module _ (t : Tree) (table : CallTable) (crew : List ProcessState) (P : Fact →
   least (not_above_root h1) = closed.not_above_root h1
   least (not_above_up p h1 h2 h3) = closed.not_above_up p h1 (least h2) (least h3)
   least (not_above_made) = closed.not_above_made
-  least (dir_own h1) = closed.dir_own h1
+  least (dir_own h1 h2) = closed.dir_own h1 h2
   least (dir_root h1) = closed.dir_root h1
   least (dir_within p h1 h2 h3) = closed.dir_within p h1 (least h2) (least h3)
-  least (name_own h1) = closed.name_own h1
+  least (name_own h1 h2) = closed.name_own h1 h2
   least (name_within h1 h2) = closed.name_within h1 (least h2)
   least (free_none h1) = closed.free_none h1
   least (free_made) = closed.free_made
   least (free_dir a d k h1 h2 h3 h4 h5 h6) = closed.free_dir a d k h1 h2 h3 h4 (least h5) h6
   least (free_other a x k h1 h2 h3 h4 h5 h6) = closed.free_other a x k h1 h2 h3 h4 (least h5) h6
   least (way_in_by_c k h1 h2) = closed.way_in_by_c k (least h1) h2
-  least (way_in_by_name name perms h1 h2 h3) = closed.way_in_by_name name perms h1 h2 (least h3)
+  least (way_in_by_name name perms h1 h2 h3 h4) = closed.way_in_by_name name perms h1 h2 h3 (least h4)
   least (way_in_by_turn y perms other k h1 h2 h3 h4 h5 h6 h7 h8) =
       closed.way_in_by_turn y perms other k (least h1) h2 h3 (λ name x at. least (h4 name x at)) (least h5) h6 h7 (least h8)
   least (writes_at k h1 h2 h3) = closed.writes_at k (least h1) h2 (least h3)

@@ -298,7 +298,7 @@ module _ (table : CallTable) (t0 : Tree) (crew : List ProcessState) (well0 : Wel
             can = record {
               cover = Only perms;
               object = IsMissing;
-              shows = shows_name own (subst (λ q. Can0 (Free q name)) (k.seated.old dir below)
+              shows = shows_name (was_dir dir below is) own (subst (λ q. Can0 (Free q name)) (k.seated.old dir below)
                   (free_missing table t0 crew well0 u k (dir, name) is none));
               named = or-true (keeps_link c);
               allowed = allows (Only perms) IsMissing parts.may

@@ -21,17 +21,17 @@ module _ (t : Tree) (table : CallTable) (crew more : List ProcessState) (within 
   grows (not_above_root h1) = not_above_root h1
   grows (not_above_up p h1 h2 h3) = not_above_up p h1 (grows h2) (grows h3)
   grows (not_above_made) = not_above_made
-  grows (dir_own h1) = dir_own h1
+  grows (dir_own h1 h2) = dir_own h1 h2
   grows (dir_root h1) = dir_root h1
   grows (dir_within p h1 h2 h3) = dir_within p h1 (grows h2) (grows h3)
-  grows (name_own h1) = name_own h1
+  grows (name_own h1 h2) = name_own h1 h2
   grows (name_within h1 h2) = name_within h1 (grows h2)
   grows (free_none h1) = free_none h1
   grows (free_made) = free_made
   grows (free_dir a d k h1 h2 h3 h4 h5 h6) = free_dir a d k (within _ h1) h2 h3 h4 (grows h5) h6
   grows (free_other a x k h1 h2 h3 h4 h5 h6) = free_other a x k (within _ h1) h2 h3 h4 (grows h5) h6
   grows (way_in_by_c k h1 h2) = way_in_by_c k (grows h1) h2
-  grows (way_in_by_name name perms h1 h2 h3) = way_in_by_name name perms h1 h2 (grows h3)
+  grows (way_in_by_name name perms h1 h2 h3 h4) = way_in_by_name name perms h1 h2 h3 (grows h4)
   grows (way_in_by_turn y perms other k h1 h2 h3 h4 h5 h6 h7 h8) =
       way_in_by_turn y perms other k (grows h1) h2 h3 (λ name x at. grows (h4 name x at)) (grows h5) h6 h7 (grows h8)
   grows (writes_at k h1 h2 h3) = writes_at k (grows h1) h2 (grows h3)
@@ -46,7 +46,7 @@ module _ (t : Tree) (table : CallTable) (crew more : List ProcessState) (within 
   shows_more (shows_emptied other can free) = shows_emptied other (grows can) (λ name x at. grows (free name x at))
   shows_more (shows_others can) = shows_others (grows can)
   shows_more (shows_row d other at lies over) = shows_row d other at (grows lies) (grows over)
-  shows_more (shows_name own free) = shows_name own (grows free)
+  shows_more (shows_name is own free) = shows_name is own (grows free)
   shows_more (shows_new_dir maker can) = shows_new_dir maker (grows can)
   shows_more (shows_new_others maker can) = shows_new_others maker (grows can)
   shows_more (shows_new_file maker d name lies over) = shows_new_file maker d name (grows lies) (grows over)

@@ -13,8 +13,8 @@ jointly_rows = record {
     object = IsFile;
     shows = shows_row (Old 2) (codes "s") refl
         (moved_at mover (Old 1) (codes "s") (Only creating) (contained crew mover (inl refl)) (stays_at 3 refl refl)
-        (name_within refl (dir_own refl)) refl (writes_at (Only creating) (name_within refl (dir_own refl)) refl (free_none refl)))
-        (name_within refl (dir_own refl));
+        (name_within refl (dir_own refl refl)) refl (writes_at (Only creating) (name_within refl (dir_own refl refl)) refl (free_none refl)))
+        (name_within refl (dir_own refl refl));
     named = refl;
     allowed = refl;
   };

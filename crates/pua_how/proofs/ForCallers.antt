@@ -5,3 +5,5 @@ pub use Rattle.pua_how.proofs.Coming.{unforeseen}
 -- what is asked about, by whichever number above all that lives, and what stands in a list for ever
 pub use Rattle.pua_how.proofs.Given.{all_given, any_listed, listed_alike}
 pub use Rattle.pua_how.proofs.Lived.{lasting_lives}
+-- without a plan none comes
+pub use Rattle.pua_how.proofs.Unlaid.{nothing_comes}

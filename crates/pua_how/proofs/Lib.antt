@@ -7,3 +7,4 @@ mod Outlooking
 mod Meaning
 mod Stepping
 pub mod ForCallers
+mod Unlaid

@@ -1,5 +1,5 @@
 -- What the steps of a plan ask for, and whether they come to a call when they are served one after another.
-use Rattle.std.specs.Prelude.{ℕ, Bool, false, ◌&&◌, ◌||◌, ◌==◌, if◌then◌else◌, List, [], ◌∷◌, ◌++◌, Option, Some, None, Result, Ok, Err}
+use Rattle.std.specs.Prelude.{◌≡◌, ℕ, Bool, false, ◌&&◌, ◌||◌, ◌==◌, if◌then◌else◌, List, [], ◌∷◌, ◌++◌, Option, Some, None, Result, Ok, Err}
 use Rattle.std.specs.Prelude.{codes, decimal, slice_get, unwrap_or}
 use Rattle.pua_tree.specs.Tree.{Tree, look}
 use Rattle.pua_path.specs.declared.errno.Errno.{Errno}
@@ -27,6 +27,7 @@ use Rattle.pua_how.specs.declared.step.Step.{Step}
 use Rattle.pua_how.specs.declared.step.Step.TheVariants as step
 use Rattle.pua_how.specs.declared.target.Target.{Target}
 use Rattle.pua_how.specs.declared.way.BestPlans.{BestPlans}
+use Rattle.pua_how.specs.declared.way.NoWay.{NoWay}
 use Rattle.pua_how.specs.declared.way.Plan.{Plan}
 
 -- the number of a directory, by that of the one that was made last
@@ -113,3 +114,11 @@ abbrev pub some_plan_comes : Rules → CallTable → ℕ → Call → List Targe
 some_plan_comes rules table process call things plans w =
     is_some_by (λ plan. plan_comes rules table process call things plan w) plans.first
     || is_some_by (λ plan. plan_comes rules table process call things plan w) plans.second
+
+-- neither of the plans that were served comes to it
+abbrev pub NoneComes : Rules → CallTable → ℕ → Call → List Target → World → NoWay → Type 0
+NoneComes rules table process call things w none = some_plan_comes rules table process call things none.plans w ≡ false
+
+-- without a plan none does
+abbrev pub nothing_laid : NoWay
+nothing_laid = record { plans = record { first = None; second = None } }

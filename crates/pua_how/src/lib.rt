@@ -19,4 +19,4 @@ pub use plan::Planner;
 pub use serve::serve_way;
 pub use step::{At, Dir, Step};
 pub use target::Target;
-pub use way::{BestPlans, Plan};
+pub use way::{BestPlans, NoWay};

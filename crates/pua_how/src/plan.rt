@@ -16,7 +16,7 @@ use crate::step::{At, Dir};
 use crate::target::Target;
 use crate::way::BestPlans;
 pub use planner::Planner;
-use pua_calls::Call;
+use pua_calls::{Call, Effect};
 use pua_policy::{Cover, Object};
 use pua_tree::{Kind, Name, NodeId};
 use std::alloc::AllocError;
@@ -88,14 +88,20 @@ impl Search<'_, '_> {
                 self.add_standing(*node)
             }
             Target::Name(dir, name) => self.add_name(*dir, name),
-            Target::NewDirectory(_) | Target::NewOthers(_) => self.add_made(Call::Mkdir),
-            Target::NewFile(_) => {
-                self.add_made(Call::Create)?;
-                self.add_made(Call::Bind)?;
-                self.add_made(Call::Mknod)
-            }
-            Target::NewLink(_) => self.add_made(Call::Symlink),
+            Target::NewDirectory(_) | Target::NewOthers(_) => self.add_made(Kind::Dir),
+            Target::NewFile(_) => self.add_made(Kind::File),
+            Target::NewLink(_) => self.add_made(Kind::Link),
         }
+    }
+
+    /// Adds those for a thing of a kind that is made, by each call that makes one.
+    fn add_made(&mut self, kind: Kind) -> Result<(), AllocError> {
+        for call in &Call::ALL {
+            if matches!(call.effect(), Effect::Makes(made) if made == kind) {
+                self.add_made_by(*call)?;
+            }
+        }
+        Ok(())
     }
 
     /// Adds those for what stands, by its names: of those that are covered alike, and have no veils of their
@@ -163,7 +169,7 @@ impl Search<'_, '_> {
     }
 
     /// Adds those for what a call makes: right where it is to be, or elsewhere.
-    fn add_made(&mut self, call: Call) -> Result<(), AllocError> {
+    fn add_made_by(&mut self, call: Call) -> Result<(), AllocError> {
         self.add_source(made_by(call, By::Call(call)))?;
         self.add_source(made_by(call, By::Rename))?;
         if call == Call::Mkdir {

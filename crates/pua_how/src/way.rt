@@ -1,10 +1,10 @@
 //! Ways: which plans are served, and what they come to.
 
-ghost use Rattle.std.specs.Prelude.{◌≡◌, IfOk, IfSome, is_some};
+ghost use Rattle.std.specs.Prelude.{◌≡◌, IfErr, IfOk, IfSome, is_ok, is_some};
 ghost use Rattle.std.specs.List.{Contains};
 ghost use Rattle.pua_script.specs.Worlds.{world_of};
 ghost use Rattle.pua_how.specs.Served.{AreWay};
-ghost use Rattle.pua_how.specs.Steps.{plan_comes, some_plan_comes};
+ghost use Rattle.pua_how.specs.Steps.{NoneComes, plan_comes, some_plan_comes};
 ghost use Rattle.pua_how.specs.declared.target.Target.{Target as Thing};
 
 use crate::asking::Meant;
@@ -20,7 +20,7 @@ use std::alloc::Global;
 
 /// Steps that may come to a call on one of the things that are meant.
 #[derive(Drop)]
-pub struct Plan {
+struct Plan {
     /// Which of them, by its place among all.
     place: usize,
     steps: Vec<Step>,
@@ -30,8 +30,24 @@ pub struct Plan {
 /// comes first among all that is meant.
 #[derive(Drop)]
 pub struct BestPlans {
-    pub first: Option<Plan>,
-    pub second: Option<Plan>,
+    first: Option<Plan>,
+    second: Option<Plan>,
+}
+
+/// Plans of which none comes to a way. Only [`BestPlans::serve`] makes one, of plans that
+/// [`Planner::find_plans`] laid: so nothing else, and no want of memory, is taken for it.
+#[derive(Drop)]
+pub struct NoWay {
+    plans: BestPlans,
+}
+
+impl NoWay {
+    /// The plans, as they were before they were served.
+    pub fn into_plans(self) -> BestPlans
+        ensures { result ≡ self.plans }
+    {
+        self.plans
+    }
 }
 
 impl Planner<'_> {
@@ -51,9 +67,35 @@ impl Planner<'_> {
 }
 
 impl BestPlans {
-    /// Serves the plans, each in a copy of a world, until one comes to a way, as [`Plan::serve`] says. None
-    /// exactly where neither does. The only error is that a growth was refused.
+    /// Serves the plans, each in a copy of a world, until one comes to a way, as
+    /// [`serve_way`](crate::serve_way) says. [`NoWay`] exactly where neither does. The only error is that a
+    /// growth was refused.
     pub fn serve<T: CopiedTree + Drop>(
+        self,
+        alloc: Global,
+        rules: Rules,
+        world: &World<T>,
+        process: u32,
+        call: Call,
+        meant: &Meant,
+    ) -> Result<Result<Vec<WayLine>, NoWay>, OutOfMemory>
+        ensures way { IfOk result (λ served. IfOk served (λ lines. (thing : Thing)
+            × Contains meant.now.targets.items thing
+            × AreWay rules world.now process call thing lines.items)) }
+        ensures none { IfOk result (λ served. IfErr served (NoneComes rules world.now.table
+            process call meant.now.targets.items (world_of world.now))) }
+        ensures found { IfOk result (λ served. is_ok served
+            ≡ some_plan_comes rules world.now.table process call
+            meant.now.targets.items self (world_of world.now)) }
+    {
+        match self.find(alloc, rules, world, process, call, meant)? {
+            Some(lines) => Ok(Ok(lines)),
+            None => Ok(Err(NoWay { plans: self })),
+        }
+    }
+
+    /// The lines of the first plan that comes to a way. None exactly where neither does.
+    fn find<T: CopiedTree + Drop>(
         &self,
         alloc: Global,
         rules: Rules,
@@ -105,7 +147,7 @@ impl Plan {
     /// each step is answered `ok`, none but the last is an exec, and the last is that call, on a path that
     /// names this thing when it is served. Its lines are read by these rules. None exactly where this is
     /// not so. The only error is that a growth was refused.
-    pub fn serve<T: CopiedTree + Drop>(
+    fn serve<T: CopiedTree + Drop>(
         &self,
         alloc: Global,
         rules: Rules,

@@ -2,6 +2,7 @@
 pub mod Limits
 pub mod Requests
 pub mod Scripts
+pub mod FaultTexts
 pub mod Decide
 pub mod Replay
 pub mod AnswerTexts

@@ -1,26 +1,28 @@
 -- Calls with their numbers of steps, one after another.
-use Rattle.pua_tool.proofs.Common.{◌≡◌, ℕ, List, [], ◌∷◌, ◌++◌, ◌∙◌, map, refl, sym, subst, ap, Option, Some, None}
+use Rattle.pua_tool.proofs.Common.{◌≡◌, ℕ, List, [], ◌∷◌, ◌++◌, ◌∙◌, map, refl, sym, ap, Some, Result}
 use Rattle.pua_tool.proofs.Common.{ProcessState, Replayed}
 use Rattle.std.proofs.Common.{Bool, true, false, cond, ◌+◌, ◌<◌, ◌≤◌, take, get_or}
-use Rattle.std.specs.Prelude.{IfSome, filter}
+use Rattle.std.specs.Prelude.{IfErr, IfOk, filter}
 use Rattle.std.specs.List.{AllByRecursion}
 use Rattle.std.proofs.lemmas.List.{map-append, take_all, take_more}
 use Rattle.std.proofs.lemmas.List.Elements.{filter-append}
-use Rattle.pua_tree.proofs.ForCallers.{same_Some, None≢Some}
 use Rattle.pua_calls.specs.Calls.{call_count, calls}
 use Rattle.pua_calls.specs.CallSets.{calls_in, has}
 use Rattle.pua_calls.specs.declared.call.Call.{Call}
 use Rattle.pua_calls.specs.declared.call.Call.TheVariants.{Stat}
+use Rattle.pua_calls.specs.declared.rules.Rules.{Rules}
 use Rattle.pua_objects.specs.declared.kind.ObjectKind.{ObjectKind}
 use Rattle.pua_how.specs.Asked.{IsAskedBy}
 use Rattle.pua_how.specs.Asking.{Asking}
+use Rattle.pua_how.specs.Steps.{NoneComes}
 use Rattle.pua_how.specs.declared.target.Target.{Target}
+use Rattle.pua_how.specs.declared.way.NoWay.{NoWay}
 use Rattle.pua_tool.specs.EverHowTexts.{IsCount}
 use Rattle.pua_tool.specs.RowColumns.{AreStepsTo}
 use Rattle.pua_tool.proofs.RowColumns.{count_is}
 
 abbrev pub Count : Type 0
-Count = Call × Option ℕ
+Count = Call × Result ℕ NoWay
 
 abbrev pub calls_of : List Count → List Call
 calls_of counts = map (λ count. count.0) counts
@@ -39,7 +41,7 @@ module _ (set i : ℕ) (within : i < call_count) where
   next = ap (filter (has set)) one_more ∙ filter-append (has set) (take i calls) (here ∷ [])
 
   -- a call that is asked for has its count
-  pub call_counted : (counts : List Count) (found : Option ℕ) → has set here ≡ true → calls_of counts ≡ filter (has set) (take i calls) →
+  pub call_counted : (counts : List Count) (found : Result ℕ NoWay) → has set here ≡ true → calls_of counts ≡ filter (has set) (take i calls) →
       calls_of (counts ++ (here, found) ∷ []) ≡ filter (has set) (take (i + 1) calls)
   call_counted counts found asked so_far =
       map-append (λ count. count.0) counts ((here, found) ∷ [])
@@ -62,20 +64,17 @@ module _ (set i : ℕ) (within : i < call_count) where
 pub all_counted : (set i : ℕ) → call_count ≤ i → (counts : List Count) → calls_of counts ≡ filter (has set) (take i calls) → calls_of counts ≡ calls_in set
 all_counted set i past counts is = is ∙ ap (filter (has set)) (take_all i calls past)
 
-when_some : (P : ℕ → Type 0) (found : Option ℕ) → IfSome found P → (steps : ℕ) → found ≡ Some steps → P steps
-when_some P None is steps same = absurd (None≢Some steps same)
-when_some P (Some found) is steps same = subst P (same_Some found steps same) is
-
 pub one_counted : (P : Count → Type 0) (counts : List Count) (count : Count) → AllByRecursion P counts → P count →
     AllByRecursion P (counts ++ count ∷ [])
 one_counted P [] count all is = (is, tt)
 one_counted P (other ∷ counts) count all is = (all.0, one_counted P counts count all.1 is)
 
--- with the steps that were found to one call more
-module _ (done : Replayed) (process : ℕ) (h : ProcessState) (asking : Asking) (kind : ObjectKind) (things : List Target)
+-- with the steps that were found to one call more, or plans that come to none
+module _ (rules : Rules) (done : Replayed) (process : ℕ) (h : ProcessState) (asking : Asking) (kind : ObjectKind) (things : List Target)
     (asked : IsAskedBy done.world.tree h asking (Some kind) things) where
-  pub steps_counted : (counts : List Count) (call : Call) (found : Option ℕ) → AllByRecursion (IsCount done process h asking kind) counts →
-      IfSome found (AreStepsTo done process things call) → AllByRecursion (IsCount done process h asking kind) (counts ++ (call, found) ∷ [])
-  steps_counted counts call found all steps =
-      one_counted (IsCount done process h asking kind) counts (call, found) all
-      (count_is done process h asking kind things asked call found (when_some (AreStepsTo done process things call) found steps))
+  pub steps_counted : (counts : List Count) (call : Call) (found : Result ℕ NoWay) → AllByRecursion (IsCount rules done process h asking kind) counts →
+      IfOk found (AreStepsTo done process things call) → IfErr found (NoneComes rules done.table process call things done.world) →
+      AllByRecursion (IsCount rules done process h asking kind) (counts ++ (call, found) ∷ [])
+  steps_counted counts call found all steps none =
+      one_counted (IsCount rules done process h asking kind) counts (call, found) all
+      (count_is rules done process h asking kind things asked call found steps none)

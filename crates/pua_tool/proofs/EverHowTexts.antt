@@ -35,7 +35,7 @@ module _ (rules : Rules) (done : Replayed) (process : ℕ) where
 
   some_list : (h : ProcessState) → (list : List ℕ) × IsEverHowList rules done process h list
   some_list h =
-      let all = some_columns done process h (ever_lasting done.world.tree done.table h) in (
+      let all = some_columns rules done process h (ever_lasting done.world.tree done.table h) in (
         ever_list_with rules done.table done.world.tree process h all.0,
         record { lines = all.0; are = all.1; columns = all.2; is = refl },
       )

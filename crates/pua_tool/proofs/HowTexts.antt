@@ -2,11 +2,12 @@
 use Rattle.pua_tool.proofs.Common.{◌≡◌, ◌≢◌, ℕ, List, [], ◌∷◌, ◌∙◌, map, refl, sym, subst, ap, Result, ◌>>=◌, Option, Some, None, Ok, Err}
 use Rattle.pua_tool.proofs.Common.{ProcessState, Tree, CallTable, kept_at, as_replayed, Chosen, Replayed, replay_of, ToolFault, OutOfMemory, Write}
 use Rattle.pua_tool.proofs.Common.{with_end, arith, AnswersTo}
-use Rattle.std.proofs.Common.{◌⊎◌, false, inl, inr, length}
-use Rattle.std.specs.Prelude.{string_bytes, ok_or, option_copied, option_map, IfSome}
-use Rattle.std.specs.Borrow.{Bor}
+use Rattle.pua_tool.proofs.Common.{flat_map}
+use Rattle.std.proofs.Common.{◌⊎◌, Bool, false, true, inl, inr, length}
+use Rattle.std.proofs.lemmas.Bool.{false≢true}
+use Rattle.std.specs.Prelude.{string_bytes, ok_or, IfErr, IfOk}
 use Rattle.std.specs.List.{AllByRecursion, Contains}
-use Rattle.pua_tree.proofs.ForCallers.{None≢Some, same_Ok, same_Some}
+use Rattle.pua_tree.proofs.ForCallers.{same_Ok}
 use Rattle.pua_calls.specs.Calls.{call_in}
 use Rattle.pua_calls.specs.declared.call.Call.{Call}
 use Rattle.pua_calls.specs.declared.rules.Rules.{Rules}
@@ -16,12 +17,15 @@ use Rattle.pua_script.specs.Scripts.{request_by}
 use Rattle.pua_how.specs.Asking.{Asking, asking_of, targets_of}
 use Rattle.pua_how.specs.Outlooks.{IsOutlook}
 use Rattle.pua_how.specs.Served.{AreWay, IsLine, asks_of}
+use Rattle.pua_how.specs.Steps.{NoneComes, nothing_laid}
+use Rattle.pua_how.proofs.ForCallers.{nothing_comes}
 use Rattle.pua_how.specs.declared.line.WayLine.{WayLine}
 use Rattle.pua_how.specs.declared.target.Target.{Target}
+use Rattle.pua_how.specs.declared.way.NoWay.{NoWay}
 use Rattle.pua_tool.specs.EverTexts.{ever_fault}
-use Rattle.pua_tool.specs.HowTexts.{HowWanted, IsFoundFor, IsHowAfter, IsHowAsked, IsHowText, Question, follows_link, question_of}
+use Rattle.pua_tool.specs.HowTexts.{HowWanted, IsFoundFor, IsHowAfter, IsHowAsked, IsHowText, IsWayTo, Question, follows_link, question_of}
 use Rattle.pua_tool.specs.HowTexts.{some_thing, things_asked, told_without, way_text}
-use Rattle.pua_tool.specs.Questions.{AreMeant, AreWayTo, IsQuestion, text_told, texts_of}
+use Rattle.pua_tool.specs.Questions.{AreMeant, AreWayTo, IsQuestion, found_text}
 use Rattle.pua_tool.specs.declared.fault.ToolFault.TheVariants.{NoProcess, HowCall, HowPath, HowThing}
 use Rattle.pua_tool.specs.declared.how.Question as given
 use Rattle.pua_tool.specs.declared.script.Replay.{Replay}
@@ -81,7 +85,7 @@ module _ (done : Replayed) (wanted : HowWanted) (last : ℕ) where
   fault_asked rules fault refused = record {
     last = last;
     found = None;
-    sound = λ q is. tt;
+    sound = λ q is may. (nothing_laid, nothing_comes rules done.table wanted.process q.call q.things done.world);
     is = sym (ap (λ (r : Result Question ToolFault). r >>= λ q. Ok (way_text done q None)) refused);
   }
 
@@ -106,7 +110,12 @@ module _ (choice : Chosen) (tree_bytes script_bytes : List ℕ) (wanted : HowWan
       by : (r : Result Replayed ToolFault) → (answer : Result (List ℕ) ToolFault) × IsHowAfter choice.rules r wanted answer
       by (Ok done) = (
         question_of done wanted 0 >>= λ q. Ok (way_text done q None),
-        record { last = 0; found = None; sound = λ q is. tt; is = refl },
+        record {
+          last = 0;
+          found = None;
+          sound = λ q is may. (nothing_laid, nothing_comes choice.rules done.table wanted.process q.call q.things done.world);
+          is = refl;
+        },
       )
       by (Err fault) = (Err fault, refl)
 
@@ -121,36 +130,54 @@ module _ (rules : Rules) (done : Replayed) (wanted : HowWanted) (q : given.Quest
   abbrev there : Question
   there = record { process = is.process; call = q.call; things = q.meant.targets.items }
 
-  found_for : (found : Option (List WayLine)) → ((lines : List WayLine) → found ≡ Some lines → AreWayTo rules done wanted.process q lines) →
-      IsFoundFor rules done wanted.process is.last there (texts_of found)
-  found_for None way = tt
-  found_for (Some lines) way =
-      let to = way lines refl in
-      record {
-        above = is.above;
-        thing = to.thing;
-        meant = to.meant;
-        asks = asks_of lines;
-        read = read_all rules wanted.process lines to.are;
-        way = to.way;
-      }
+  way_for : (lines : List WayLine) → AreWayTo rules done wanted.process q lines →
+      IsWayTo rules done wanted.process is.last there (map (λ line. string_bytes line.text) lines)
+  way_for lines to = record {
+    above = is.above;
+    thing = to.thing;
+    meant = to.meant;
+    asks = asks_of lines;
+    read = read_all rules wanted.process lines to.are;
+    way = to.way;
+  }
 
-  text_is : (texts : Option (List (List ℕ))) → text_told q.outlook texts ≡ way_text done there texts
+  abbrev text_with : Option (List (List ℕ)) → List ℕ
+  text_with (Some lines) = flat_map with_end lines
+  text_with None = with_end (told_without q.outlook.listed q.outlook.execs)
+
+  text_is : (texts : Option (List (List ℕ))) → text_with texts ≡ way_text done there texts
   text_is None = λ i. with_end (told_without (is.outlook.listed i) (is.outlook.execs i))
   text_is (Some texts) = refl
 
-  pub told_asked : (found : Option (List WayLine)) → ((lines : List WayLine) → found ≡ Some lines → AreWayTo rules done wanted.process q lines) →
-      (bytes : List ℕ) → bytes ≡ text_told q.outlook (texts_of found) → IsHowAsked rules done wanted (Ok bytes)
-  told_asked found way bytes told = record {
+  told_asked : (texts : Option (List (List ℕ))) → IsFoundFor rules done wanted.process is.last there texts →
+      (bytes : List ℕ) → bytes ≡ text_with texts → IsHowAsked rules done wanted (Ok bytes)
+  told_asked texts found bytes told = record {
     last = is.last;
-    found = texts_of found;
+    found = texts;
     sound = λ other asked.
-        subst (λ (x : Question). IsFoundFor rules done wanted.process is.last x (texts_of found)) (same_Ok there other (sym is.asked ∙ asked))
-        (found_for found way);
+        subst (λ (x : Question). IsFoundFor rules done wanted.process is.last x texts) (same_Ok there other (sym is.asked ∙ asked)) found;
     is =
-        ap Ok (told ∙ text_is (texts_of found))
-        ∙ sym (ap (λ (r : Result Question ToolFault). r >>= λ x. Ok (way_text done x (texts_of found))) is.asked);
+        ap Ok (told ∙ text_is texts)
+        ∙ sym (ap (λ (r : Result Question ToolFault). r >>= λ x. Ok (way_text done x texts)) is.asked);
   }
+
+  -- where no line has the call, none is looked for
+  pub never_asked : q.outlook.listed ≡ false → (bytes : List ℕ) → bytes ≡ with_end (told_without false q.outlook.execs) →
+      IsHowAsked rules done wanted (Ok bytes)
+  never_asked unlisted bytes told =
+      told_asked None (λ may. absurd (false≢true (sym unlisted ∙ is.outlook.listed ∙ may))) bytes
+      (told ∙ ap (λ (b : Bool). with_end (told_without b q.outlook.execs)) (sym unlisted))
+
+  -- else there is a way, or none of the plans comes to one
+  module _ {V : Type 0} (items : V → List WayLine) where
+    pub found_asked : (found : Result V NoWay) → IfOk found (λ v. AreWayTo rules done wanted.process q (items v)) →
+        IfErr found (NoneComes rules done.table wanted.process q.call q.meant.targets.items done.world) → q.outlook.listed ≡ true →
+        (bytes : List ℕ) → bytes ≡ found_text items found → IsHowAsked rules done wanted (Ok bytes)
+    found_asked (Ok v) way none listed bytes told =
+        told_asked (Some (map (λ line. string_bytes line.text) (items v))) (way_for (items v) way) bytes told
+    found_asked (Err plans) way none listed bytes told =
+        told_asked None (λ may. (plans, none)) bytes
+        (told ∙ ap (λ (b : Bool). with_end (told_without b q.outlook.execs)) (sym listed))
 
 -- ---- what the code keeps of a question
 
@@ -200,26 +227,10 @@ module _ {A : Type 0} (written : A → Option (List ℕ)) (failed : A → ℕ) (
 
 -- ---- what was found
 
+-- what plans came to in copies of the world that the script left
 module _ {V : Type 0} (items : V → List WayLine) (rules : Rules) (replay : Replay) (process : ℕ) (q : given.Question) where
-  -- lines that are a way behind the script
-  abbrev pub AreFound : V → Type 0
-  AreFound v = AreWayTo rules (as_replayed replay) process q (items v)
-
-  -- what plans came to in copies of the world that the script left
-  pub served_found : (found : Option V) →
-      IfSome found (λ v. (thing : Target) × Contains q.meant.targets.items thing × AreWay rules replay.world process q.call thing (items v)) →
-      IfSome found AreFound
-  served_found None way = tt
-  served_found (Some v) way = record { thing = way.0; meant = way.1; are = way.2.are; way = way.2.way }
-
-  pub found_ways : (found : Option V) → IfSome found AreFound → (lines : List WayLine) → option_map items found ≡ Some lines →
-      AreWayTo rules (as_replayed replay) process q lines
-  found_ways None ways lines same = absurd (None≢Some lines same)
-  found_ways (Some v) ways lines same =
-      subst (λ (ls : List WayLine). AreWayTo rules (as_replayed replay) process q ls) (same_Some (items v) lines same) ways
-
--- what is lent of something is as it is
-pub lent_items : {V : Type 0} (items : V → List WayLine) (lent : Option (Bor V)) →
-    option_map (λ v. items v.now) lent ≡ option_map items (option_copied lent)
-lent_items items None = refl
-lent_items items (Some v) = refl
+  pub served_found : (found : Result V NoWay) →
+      IfOk found (λ v. (thing : Target) × Contains q.meant.targets.items thing × AreWay rules replay.world process q.call thing (items v)) →
+      IfOk found (λ v. AreWayTo rules (as_replayed replay) process q (items v))
+  served_found (Ok v) way = record { thing = way.0; meant = way.1; are = way.2.are; way = way.2.way }
+  served_found (Err plans) way = tt

@@ -8,6 +8,7 @@ pub mod TextAnswers
 pub mod Written
 pub mod ListWritten
 pub mod Stops
+pub mod Pieces
 pub mod Ends
 pub mod WhyTexts
 pub mod Reasoned

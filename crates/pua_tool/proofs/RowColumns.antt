@@ -1,8 +1,8 @@
 -- The columns of a list for ever, row by row.
-use Rattle.pua_tool.proofs.Common.{◌≡◌, ℕ, List, [], ◌∷◌, ◌++◌, ◌∙◌, map, refl, sym, subst, ap, ProcessState, Replayed, Option, Some, None}
+use Rattle.pua_tool.proofs.Common.{◌≡◌, ℕ, List, [], ◌∷◌, ◌++◌, ◌∙◌, map, refl, sym, subst, ap, ProcessState, Replayed, Option, Some, Result, Ok, Err}
 use Rattle.pua_tool.proofs.Common.{CallTable, Tree, as_replayed, with_end}
 use Rattle.std.proofs.Common.{Bool, true, false, cond, length, ◌+◌, ◌<◌, take, get_or}
-use Rattle.std.specs.Prelude.{filter, not, ◌&&◌}
+use Rattle.std.specs.Prelude.{IfErr, IfOk, filter, not, ◌&&◌}
 use Rattle.std.specs.List.{AllByRecursion, Contains}
 use Rattle.std.proofs.lemmas.List.{length-map, take_more}
 use Rattle.std.proofs.lemmas.List.Elements.{filter_agree}
@@ -25,10 +25,13 @@ use Rattle.pua_ever.specs.declared.line.EverThing.{EverThing}
 use Rattle.pua_ever.specs.declared.line.EverThing.TheVariants as told
 use Rattle.pua_ever.specs.declared.list.EverRow.{EverRow}
 use Rattle.pua_how.specs.Asked.{IsAskedBy}
-use Rattle.pua_how.specs.Asking.{Asking}
+use Rattle.pua_how.specs.Asking.{Asking, targets_of}
 use Rattle.pua_how.specs.Served.{AreWay, asks_of}
+use Rattle.pua_how.specs.Steps.{NoneComes, nothing_laid}
+use Rattle.pua_how.proofs.ForCallers.{nothing_comes}
 use Rattle.pua_how.specs.declared.line.WayLine.{WayLine}
 use Rattle.pua_how.specs.declared.target.Target.{Target}
+use Rattle.pua_how.specs.declared.way.NoWay.{NoWay}
 use Rattle.pua_texts.specs.EverHowLines.{AreToldWith, has_calls_with}
 use Rattle.pua_texts.specs.EverLines.{kind_of}
 use Rattle.pua_tool.specs.declared.script.Replay.{Replay}
@@ -49,22 +52,23 @@ steps_of rules replay process things call thing lines meant way = record {
 }
 
 -- so they are to what a path and a kind mean
-module _ (done : Replayed) (process : ℕ) (h : ProcessState) (asking : Asking) (kind : ObjectKind) (things : List Target)
+module _ (rules : Rules) (done : Replayed) (process : ℕ) (h : ProcessState) (asking : Asking) (kind : ObjectKind) (things : List Target)
     (asked : IsAskedBy done.world.tree h asking (Some kind) things) where
-  pub count_is : (call : Call) (found : Option ℕ) → ((steps : ℕ) → found ≡ Some steps → AreStepsTo done process things call steps) →
-      IsCount done process h asking kind (call, found)
-  count_is call None way = tt
-  count_is call (Some steps) way =
-      let to = way steps refl in
-      record {
-        last = asked.last;
-        above = asked.above;
-        thing = to.thing;
-        meant = subst (λ all. Contains all to.thing) asked.are to.meant;
-        asks = to.asks;
-        way = to.way;
-        long = to.long;
-      }
+  pub count_is : (call : Call) (found : Result ℕ NoWay) → IfOk found (AreStepsTo done process things call) →
+      IfErr found (NoneComes rules done.table process call things done.world) → IsCount rules done process h asking kind (call, found)
+  count_is call (Err plans) to none = record {
+    last = asked.last;
+    none = subst (λ all. NoneComes rules done.table process call all done.world plans) asked.are none;
+  }
+  count_is call (Ok steps) to none = record {
+    last = asked.last;
+    above = asked.above;
+    thing = to.thing;
+    meant = subst (λ all. Contains all to.thing) asked.are to.meant;
+    asks = to.asks;
+    way = to.way;
+    long = to.long;
+  }
 
 -- ---- the calls of a column
 
@@ -96,7 +100,7 @@ kind_told t (Stands subject) (told.Comes kind) is = absurd is
 kind_told t (Comes new) (told.Stands kind) is = absurd is
 
 -- the column of one line
-module _ (done : Replayed) (process : ℕ) (h : ProcessState) (word : Word) (about : Thing) (line : given.EverLine)
+module _ (rules : Rules) (done : Replayed) (process : ℕ) (h : ProcessState) (word : Word) (about : Thing) (line : given.EverLine)
     (thing : IsThing done.world.tree about line.thing) where
   abbrev pub NowBy : Tree → CallTable → ℕ → Type 0
   NowBy t table now = (call : Call) → has now call ≡ is_now t table h (subject_now t (kind_of line.thing) word about) call
@@ -107,11 +111,11 @@ module _ (done : Replayed) (process : ℕ) (h : ProcessState) (word : Word) (abo
       subst (λ (other : CallTable). NowBy done.world.tree other now) ruled
       (subst (λ (other : Tree). IsThing other about line.thing → NowBy other table now) at is thing)
 
-  pub column_is : (left now : ℕ) (counts : List (Call × Option ℕ)) (text : List ℕ) →
+  pub column_is : (left now : ℕ) (counts : List (Call × Result ℕ NoWay)) (text : List ℕ) →
       ((call : Call) → has left call ≡ (has line.calls call && not (has now call))) → NowBy done.world.tree done.table now →
       map (λ count. count.0) counts ≡ calls_in left →
-      AllByRecursion (IsCount done process h (asking_by word about) (kind_of line.thing)) counts →
-      text ≡ with_end (counts_text 32 counts) → IsColumn done process h (line_with word about line) text
+      AllByRecursion (IsCount rules done process h (asking_by word about) (kind_of line.thing)) counts →
+      text ≡ with_end (counts_text 32 counts) → IsColumn rules done process h (line_with word about line) text
   column_is left now counts text without is calls counted told = record {
     kind = kind_of line.thing;
     told = kind_told done.world.tree about line.thing thing;
@@ -123,10 +127,10 @@ module _ (done : Replayed) (process : ℕ) (h : ProcessState) (word : Word) (abo
 
 -- ---- rows, one after another
 
-module _ (done : Replayed) (process : ℕ) (h : ProcessState) where
+module _ (rules : Rules) (done : Replayed) (process : ℕ) (h : ProcessState) where
   columns_more : (before : Word) (rows : List EverRow) (texts : List (List ℕ)) (row : EverRow) (text : List ℕ) →
-      AreColumns done process h before rows texts → IsColumnAt done process h (word_of_row (last_row_word before rows) row) row.line text →
-      AreColumns done process h before (rows ++ row ∷ []) (texts ++ text ∷ [])
+      AreColumns rules done process h before rows texts → IsColumnAt rules done process h (word_of_row (last_row_word before rows) row) row.line text →
+      AreColumns rules done process h before (rows ++ row ∷ []) (texts ++ text ∷ [])
   columns_more before [] [] row text are column = (column, tt)
   columns_more before [] (other ∷ texts) row text are column = absurd are
   columns_more before (r ∷ rows) [] row text are column = absurd are
@@ -136,12 +140,12 @@ module _ (done : Replayed) (process : ℕ) (h : ProcessState) where
   -- with the column of one row more
   pub row_column : (rows : List EverRow) (row : EverRow) (i : ℕ) → i < length rows → row ≡ get_or rows i row → (word : Word) →
       word ≡ word_of_row (last_row_word [] (take i rows)) row → (texts : List (List ℕ)) (text : List ℕ) →
-      AreColumns done process h [] (take i rows) texts → IsColumnAt done process h word row.line text →
-      AreColumns done process h [] (take (i + 1) rows) (texts ++ text ∷ [])
+      AreColumns rules done process h [] (take i rows) texts → IsColumnAt rules done process h word row.line text →
+      AreColumns rules done process h [] (take (i + 1) rows) (texts ++ text ∷ [])
   row_column rows row i within is word here texts text are column =
-      subst (λ front. AreColumns done process h [] front (texts ++ text ∷ []))
+      subst (λ front. AreColumns rules done process h [] front (texts ++ text ∷ []))
       (sym (take_more rows i row within ∙ ap (λ r. take i rows ++ r ∷ []) (sym is)))
-      (columns_more [] (take i rows) texts row text are (subst (λ w. IsColumnAt done process h w row.line text) here column))
+      (columns_more [] (take i rows) texts row text are (subst (λ w. IsColumnAt rules done process h w row.line text) here column))
 
 last_more : (before : Word) (rows : List EverRow) (row : EverRow) →
     last_row_word before (rows ++ row ∷ []) ≡ word_of_row (last_row_word before rows) row
@@ -158,30 +162,30 @@ row_names rows row i within is before after at next =
 -- ---- lines with their columns
 
 -- lines of the definition, each with its column, which rows and texts tell
-pub record AreLinesWith (done : Replayed) (process : ℕ) (h : ProcessState) (before : Word) (rows : List EverRow) (texts : List (List ℕ))
+pub record AreLinesWith (rules : Rules) (done : Replayed) (process : ℕ) (h : ProcessState) (before : Word) (rows : List EverRow) (texts : List (List ℕ))
     (lines : List EverLine) : Type 0 where
   pub told : List (EverLine × List ℕ)
   pub are : AreToldWith done.world.tree before rows texts told
   pub lines_are : map (λ line. line.0) told ≡ lines
-  pub columns : AllByRecursion (λ (line : EverLine × List ℕ). IsColumn done process h line.0 line.1) told
+  pub columns : AllByRecursion (λ (line : EverLine × List ℕ). IsColumn rules done process h line.0 line.1) told
 
-module _ (done : Replayed) (process : ℕ) (h : ProcessState) where
+module _ (rules : Rules) (done : Replayed) (process : ℕ) (h : ProcessState) where
   first_lines : (b : Bool) (line : EverLine × List ℕ) (rest : List (EverLine × List ℕ)) →
       map (λ line. line.0) (cond b (line ∷ []) [] ++ rest) ≡ cond b (line.0 ∷ []) [] ++ map (λ line. line.0) rest
   first_lines true line rest = refl
   first_lines false line rest = refl
 
   abbrev Columned : List (EverLine × List ℕ) → Type 0
-  Columned lines = AllByRecursion (λ (line : EverLine × List ℕ). IsColumn done process h line.0 line.1) lines
+  Columned lines = AllByRecursion (λ (line : EverLine × List ℕ). IsColumn rules done process h line.0 line.1) lines
 
-  first_columned : (b : Bool) (line : EverLine × List ℕ) (rest : List (EverLine × List ℕ)) → IsColumn done process h line.0 line.1 →
+  first_columned : (b : Bool) (line : EverLine × List ℕ) (rest : List (EverLine × List ℕ)) → IsColumn rules done process h line.0 line.1 →
       Columned rest → Columned (cond b (line ∷ []) [] ++ rest)
   first_columned true line rest column columns = (column, columns)
   first_columned false line rest column columns = columns
 
   pub lines_told : (before : Word) (rows : List EverRow) (texts : List (List ℕ)) (lines : List EverLine) →
-      AreEverTold done.world.tree before rows lines [] → AreColumns done process h before rows texts →
-      AreLinesWith done process h before rows texts lines
+      AreEverTold done.world.tree before rows lines [] → AreColumns rules done process h before rows texts →
+      AreLinesWith rules done process h before rows texts lines
   lines_told before [] [] lines ever are = record { told = []; are = refl; lines_are = sym ever; columns = tt }
   lines_told before [] (text ∷ texts) lines ever are = absurd are
   lines_told before (row ∷ rows) [] lines ever are = absurd are
@@ -218,21 +222,23 @@ of_thing t (Comes NewOthers) = (kind.Other, refl)
 of_thing t (Comes NewFile) = (kind.Node node.File, refl)
 of_thing t (Comes NewLink) = (kind.Node node.Link, refl)
 
-module _ (done : Replayed) (process : ℕ) (h : ProcessState) where
+module _ (rules : Rules) (done : Replayed) (process : ℕ) (h : ProcessState) where
   uncounted : (about : Asking) (kind : ObjectKind) (cs : List Call) →
-      AllByRecursion (IsCount done process h about kind) (map (λ call. (call, None)) cs)
+      AllByRecursion (IsCount rules done process h about kind) (map (λ call. (call, Err nothing_laid)) cs)
   uncounted about kind [] = tt
-  uncounted about kind (c ∷ cs) = (tt, uncounted about kind cs)
+  uncounted about kind (c ∷ cs) =
+      let things = targets_of done.world.tree h 0 about (Some kind) in
+      (record { last = 0; none = nothing_comes rules done.table process c things done.world }, uncounted about kind cs)
 
-  same_calls : (cs : List Call) → map (λ (count : Call × Option ℕ). count.0) (map (λ call. (call, None)) cs) ≡ cs
+  same_calls : (cs : List Call) → map (λ (count : Call × Result ℕ NoWay). count.0) (map (λ call. (call, Err nothing_laid)) cs) ≡ cs
   same_calls [] = refl
   same_calls (c ∷ cs) = ap (λ more. c ∷ more) (same_calls cs)
 
-  some_column : (line : EverLine) → (text : List ℕ) × IsColumn done process h line text
+  some_column : (line : EverLine) → (text : List ℕ) × IsColumn rules done process h line text
   some_column line =
       let kind = of_thing done.world.tree line.thing in
       let cs = lacking done.world.tree done.table h kind.0 line in
-      let counts : List (Call × Option ℕ) = map (λ call. (call, None)) cs in (
+      let counts : List (Call × Result ℕ NoWay) = map (λ call. (call, Err nothing_laid)) cs in (
         with_end (counts_text 32 counts),
         record {
           kind = kind.0;
@@ -245,7 +251,7 @@ module _ (done : Replayed) (process : ℕ) (h : ProcessState) where
       )
 
   pub some_columns : (lines : List EverLine) → (told : List (EverLine × List ℕ)) × (map (λ line. line.0) told ≡ lines)
-      × AllByRecursion (λ (line : EverLine × List ℕ). IsColumn done process h line.0 line.1) told
+      × AllByRecursion (λ (line : EverLine × List ℕ). IsColumn rules done process h line.0 line.1) told
   some_columns [] = ([], refl, tt)
   some_columns (line ∷ lines) =
       let first = some_column line in

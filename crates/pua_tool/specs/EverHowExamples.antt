@@ -1,5 +1,5 @@
 -- Worked columns of lists for ever.
-use Rattle.std.specs.Prelude.{◌≡◌, ℕ, List, [], ◌∷◌, None, Some, codes, refl}
+use Rattle.std.specs.Prelude.{◌≡◌, ℕ, List, [], ◌∷◌, Ok, Err, codes, refl}
 use Rattle.std.specs.Fmt.{digits}
 use Rattle.pua_calls.specs.Calls.{openbsd_table}
 use Rattle.pua_calls.specs.declared.call.Call.{Call}
@@ -10,6 +10,7 @@ use Rattle.pua_objects.specs.declared.kind.ObjectKind.TheVariants as kind
 use Rattle.pua_tree.specs.declared.node.Kind.TheVariants.{File}
 use Rattle.pua_ever.specs.Ever.{EverLine, Stands, Comes, NewFile}
 use Rattle.pua_how.specs.Examples.{pid_now, pid_tree}
+use Rattle.pua_how.specs.Steps.{nothing_laid}
 use Rattle.pua_tool.specs.EverHowTexts.{counts_text, lacking}
 
 -- which calls of a line the list of now lacks, where `/etc/conf` may be read, and `/run/pid` read, written and replaced
@@ -25,7 +26,7 @@ pub record EverHowRows : Type 0 where
   pub now : lacked (kind.Node File) (line_at (codes "run" ∷ codes "pid" ∷ []) (call.Stat ∷ call.OpenWrite ∷ call.Unlink ∷ [])) ≡ []
   pub freed : lacked kind.Missing (line_at (codes "run" ∷ codes "pid" ∷ []) (call.Create ∷ [])) ≡ call.Create ∷ []
   pub made : lacked (kind.Node File) (record { word = []; thing = Comes NewFile; calls = call.Stat ∷ [] }) ≡ call.Stat ∷ []
-  pub counted : counts_text 32 ((call.OpenWrite, Some 2) ∷ (call.Chmod, None) ∷ []) ≡ codes " open-w 2,chmod ?"
+  pub counted : counts_text 32 ((call.OpenWrite, Ok 2) ∷ (call.Chmod, Err nothing_laid) ∷ []) ≡ codes " open-w 2,chmod ?"
   pub none : counts_text 32 [] ≡ []
 
 pub ever_how_rows : EverHowRows

@@ -1,6 +1,7 @@
 -- The text of the list for ever of a process with the number of steps of a way to each call that the list of now lacks, and what
--- refuses it. Which ways are found is in no contract: what is, is that there is one of so many steps, and which calls are told of.
-use Rattle.std.specs.Prelude.{◌≡◌, ⊤, ℕ, Bool, false, not, ◌&&◌, if◌then◌else◌, List, [], ◌∷◌, ◌++◌, map, filter, length, Option, Some, None}
+-- refuses it. Which plans are laid is in no contract, and so which ways are found: what is, is that there is one of so many steps, or that
+-- none of the plans comes to one, and which calls are told of.
+use Rattle.std.specs.Prelude.{◌≡◌, ℕ, Bool, false, not, ◌&&◌, if◌then◌else◌, List, [], ◌∷◌, ◌++◌, map, filter, length, Option, Some, None}
 use Rattle.std.specs.Prelude.{option_and_then, Result, Ok, Err, ok_or, codes, decimal}
 use Rattle.std.specs.List.{AllByRecursion, Contains}
 use Rattle.pua_tree.specs.Steps.{◌>>=◌}
@@ -24,9 +25,11 @@ use Rattle.pua_ever.specs.Ever.{EverLine, Thing, Stands, Comes, new_word}
 use Rattle.pua_ever.specs.Refusals.{refusal}
 use Rattle.pua_ever.specs.Through.{ever_lasting}
 use Rattle.pua_how.specs.Asking.{Asking, Standing, Making, directory_at_name, targets_of}
+use Rattle.pua_how.specs.Steps.{NoneComes}
 use Rattle.pua_how.specs.Targets.{IsLast}
 use Rattle.pua_how.specs.Ways.{IsWay}
 use Rattle.pua_how.specs.declared.target.Target.{Target}
+use Rattle.pua_how.specs.declared.way.NoWay.{NoWay}
 use Rattle.pua_texts.specs.EverHowLines.{ever_list_with}
 use Rattle.pua_texts.specs.Lines.{answer_lines, with_end}
 use Rattle.pua_tool.specs.EverTexts.{unless_reason}
@@ -103,42 +106,48 @@ pub record IsWayOf (done : Replayed) (process : ℕ) (h : ProcessState) (asking 
     pub way : IsWay done.table done.world process call thing asks
     pub long : length asks ≡ steps
 
--- a number of steps is that of a way; without one nothing is said
-abbrev pub IsCount : Replayed → ℕ → ProcessState → Asking → ObjectKind → Call × Option ℕ → Type 0
-IsCount done process h asking kind count = by count.1
+-- none of these plans comes to a call on what is meant by a path and a kind
+pub record IsNoWayOf (rules : Rules) (done : Replayed) (process : ℕ) (h : ProcessState) (asking : Asking) (kind : ObjectKind) (call : Call) (plans : NoWay) : Type 0
   where
-    by : Option ℕ → Type 0
-    by None = ⊤
-    by (Some steps) = IsWayOf done process h asking kind count.0 steps
+    pub last : ℕ
+    pub none : NoneComes rules done.table process call (targets_of done.world.tree h last asking (Some kind)) done.world plans
+
+-- a number of steps is that of a way; without one none of the plans comes to one
+abbrev pub IsCount : Rules → Replayed → ℕ → ProcessState → Asking → ObjectKind → Call × Result ℕ NoWay → Type 0
+IsCount rules done process h asking kind count = by count.1
+  where
+    by : Result ℕ NoWay → Type 0
+    by (Err none) = IsNoWayOf rules done process h asking kind count.0 none
+    by (Ok steps) = IsWayOf done process h asking kind count.0 steps
 
 -- a number, or `?` without one
-abbrev pub steps_text : Option ℕ → List ℕ
-steps_text None = codes "?"
-steps_text (Some steps) = decimal steps
+abbrev pub steps_text : Result ℕ NoWay → List ℕ
+steps_text (Err none) = codes "?"
+steps_text (Ok steps) = decimal steps
 
-abbrev pub count_text : Call × Option ℕ → List ℕ
+abbrev pub count_text : Call × Result ℕ NoWay → List ℕ
 count_text count = call_name count.0 ++ 32 ∷ steps_text count.1
 
 -- calls, each with the number of its steps, the first behind a mark, the others behind commas
-abbrev pub counts_text : ℕ → List (Call × Option ℕ) → List ℕ
+abbrev pub counts_text : ℕ → List (Call × Result ℕ NoWay) → List ℕ
 counts_text mark [] = []
 counts_text mark (count ∷ more) = (mark ∷ count_text count) ++ counts_text 44 more
 
 -- what stands behind the calls of a line: those that the list of now lacks, in their order, each with the number of steps of a way to
 -- it on what the line's path and kind mean, behind a blank; and LF
-pub record IsColumn (done : Replayed) (process : ℕ) (h : ProcessState) (line : EverLine) (text : List ℕ) : Type 0 where
+pub record IsColumn (rules : Rules) (done : Replayed) (process : ℕ) (h : ProcessState) (line : EverLine) (text : List ℕ) : Type 0 where
   pub kind : ObjectKind
   pub told : kind_word kind ≡ thing_word done.world.tree line.thing
-  pub counts : List (Call × Option ℕ)
+  pub counts : List (Call × Result ℕ NoWay)
   pub calls : map (λ count. count.0) counts ≡ lacking done.world.tree done.table h kind line
-  pub counted : AllByRecursion (IsCount done process h (asking_by line.word line.thing) kind) counts
+  pub counted : AllByRecursion (IsCount rules done process h (asking_by line.word line.thing) kind) counts
   pub is : text ≡ with_end (counts_text 32 counts)
 
 -- the list for ever of a process, and behind the calls of each line its column
 pub record IsEverHowList (rules : Rules) (done : Replayed) (process : ℕ) (h : ProcessState) (text : List ℕ) : Type 0 where
   pub lines : List (EverLine × List ℕ)
   pub are : map (λ line. line.0) lines ≡ ever_lasting done.world.tree done.table h
-  pub columns : AllByRecursion (λ line. IsColumn done process h line.0 line.1) lines
+  pub columns : AllByRecursion (λ line. IsColumn rules done process h line.0 line.1) lines
   pub is : text ≡ ever_list_with rules done.table done.world.tree process h lines
 
 -- the answers, and then such a list, or what refuses it: the process was never made, or there is a reason for none

@@ -7,9 +7,10 @@ use Rattle.pua_tree.specs.declared.fault.ListingFault.TheVariants.{BadLine}
 use Rattle.pua_path.specs.Traces.{trace_from}
 use Rattle.pua_calls.specs.declared.call.Call.TheVariants.{OpenRead}
 use Rattle.pua_calls.specs.declared.rules.Rules.TheVariants.{Openbsd}
+use Rattle.pua_calls.specs.declared.table.read.TableFault.TheVariants.{BadVeil}
 use Rattle.pua_script.specs.declared.fault.ScriptFault.TheVariants.{BadCall}
 use Rattle.pua_audit.specs.declared.base.Base.TheVariants.{Root, Cwd}
-use Rattle.pua_audit.specs.declared.fault.AuditFault.TheVariants.{BadResume}
+use Rattle.pua_audit.specs.declared.fault.AuditFault.TheVariants.{BadCandidate, BadResume}
 use Rattle.pua_objects.specs.declared.kind.ObjectKind.{ObjectKind}
 use Rattle.pua_objects.specs.declared.kind.ObjectKind.TheVariants as kind
 use Rattle.pua_tree.specs.declared.node.Kind.TheVariants.{Link}
@@ -23,9 +24,11 @@ use Rattle.pua_tool.specs.TogetherTexts.{together_text}
 use Rattle.pua_tool.specs.HowTexts.{question_of, way_text}
 use Rattle.pua_tool.specs.WhyTexts.{objects_why_text, posed_script, run_why_text, why_text}
 use Rattle.pua_tool.specs.TightTexts.{tight_text, tight_why_text, words_by}
+use Rattle.pua_texts.specs.Lines.{with_end}
+use Rattle.pua_tool.specs.FaultTexts.{fault_line}
 use Rattle.pua_tool.specs.declared.fault.ToolFault.{ToolFault}
 use Rattle.pua_tool.specs.declared.fault.ToolFault.TheVariants.{Listing, Script, NoProcess, Audit, CanUnveil, OtherVeils, HowCall, HowPath, HowThing}
-use Rattle.pua_tool.specs.declared.fault.ToolFault.TheVariants.{HowLink}
+use Rattle.pua_tool.specs.declared.fault.ToolFault.TheVariants.{HowLink, Table}
 
 abbrev pub root_listing : List ℕ
 root_listing = text_of_lines (codes "tree 1" ∷ codes "0 dir" ∷ [])
@@ -232,6 +235,17 @@ pub record TightTextRows : Type 0 where
 pub tight_text_rows : TightTextRows
 unfolding digits promises_text tight_text words_by
 tight_text_rows = record { tightened = refl; by_openbsd = refl; needed = refl; bad_script = refl; bad_listing = refl }
+
+-- the lines of faults: with the line, the place or the call that is to blame
+pub record FaultTextRows : Type 0 where
+  pub listing : fault_line (Listing (BadLine 3)) ≡ with_end (codes "pua: listing: line 3: bad line")
+  pub script : fault_line (Script (BadCall 1)) ≡ with_end (codes "pua: script: line 1: bad call")
+  pub candidate : fault_line (Audit (BadCandidate 2)) ≡ with_end (codes "pua: audit: bad candidate 2")
+  pub table : fault_line (Table (BadVeil OpenRead)) ≡ with_end (codes "pua: table: open-r: bad veil")
+
+pub fault_text_rows : FaultTextRows
+unfolding digits
+fault_text_rows = record { listing = refl; script = refl; candidate = refl; table = refl }
 
 -- texts with reasons
 pub record ReasonTextRows : Type 0 where

@@ -1,6 +1,6 @@
--- The text of a way, and what refuses it. Which way is found is in no contract: what is, is that it is one, and when none is looked
--- for.
-use Rattle.std.specs.Prelude.{◌≡◌, ⊤, ℕ, Bool, true, false, ◌&&◌, not, List, [], ◌∷◌, map, flat_map, Option, Some, None, Result, Ok, Err, ok_or, codes}
+-- The text of a way, and what refuses it. Which plans are laid is in no contract, and so which way is found: what is, is that it is
+-- one, that `no way found` is said where none of the plans comes to one, and when none is laid.
+use Rattle.std.specs.Prelude.{◌≡◌, ℕ, Bool, true, false, ◌&&◌, not, List, [], ◌∷◌, map, flat_map, Option, Some, None, Result, Ok, Err, ok_or, codes}
 use Rattle.std.specs.List.{Contains, list_any}
 use Rattle.pua_tree.specs.Steps.{◌>>=◌}
 use Rattle.pua_tree.specs.Tree.{Tree, kind_at}
@@ -21,9 +21,11 @@ use Rattle.pua_ever.specs.declared.lasting_list.ExecBound.TheVariants.{Open}
 use Rattle.pua_ever.specs.declared.refusal.Refusal.{Refusal}
 use Rattle.pua_how.specs.Asking.{asking_of, targets_of}
 use Rattle.pua_how.specs.Targets.{IsLast, is_listed}
+use Rattle.pua_how.specs.Steps.{NoneComes}
 use Rattle.pua_how.specs.Ways.{IsWay}
 use Rattle.pua_how.specs.declared.target.Target.{Target}
 use Rattle.pua_how.specs.declared.target.Target.TheVariants.{Node, NewLink}
+use Rattle.pua_how.specs.declared.way.NoWay.{NoWay}
 use Rattle.pua_texts.specs.Lines.{with_end}
 use Rattle.pua_tool.specs.EverTexts.{ever_fault}
 use Rattle.pua_tool.specs.Texts.{Chosen, Replayed, replay_of}
@@ -114,9 +116,11 @@ pub record IsWayTo (rules : Rules) (done : Replayed) (process last : ℕ) (q : Q
   pub read : map (request_by rules 1) lines ≡ map Ok asks
   pub way : IsWay done.table done.world process q.call thing asks
 
--- so is what was found, if something was
+-- so is what was found, if something was; where a line has the call and nothing was, there are plans of which none comes to it. Which
+-- were laid no definition says: that these are the ones that were served is in the contract of the function that serves them
 abbrev pub IsFoundFor : Rules → Replayed → ℕ → ℕ → Question → Option (List (List ℕ)) → Type 0
-IsFoundFor rules done process last q None = ⊤
+IsFoundFor rules done process last q None =
+    may_come done q ≡ true → (none : NoWay) × NoneComes rules done.table process q.call q.things done.world none
 IsFoundFor rules done process last q (Some lines) = IsWayTo rules done process last q lines
 
 -- a text of a way behind a script: the lines of some way to what is asked about, or what is said without one; or the first fault

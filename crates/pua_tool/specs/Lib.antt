@@ -9,6 +9,7 @@ pub mod EverHowTexts
 pub mod TightTexts
 pub mod Answers
 pub mod Statuses
+pub mod FaultTexts
 pub mod Told
 pub mod Performed
 -- What is proved of these.
@@ -24,8 +25,9 @@ pub mod Headline
 -- Worked rows, which hold by computation.
 pub mod Examples
 pub mod EverHowExamples
--- Notes: what the code has begun.
+-- Notes: what the code has begun, and the pieces of its lines.
 pub mod Begun
+pub mod Pieces
 pub mod PosedScripts
 pub mod Questions
 pub mod RowColumns

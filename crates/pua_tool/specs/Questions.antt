@@ -1,18 +1,18 @@
 -- What is asked about behind a script, as the code keeps it.
-use Rattle.std.specs.Prelude.{◌≡◌, ℕ, List, map, flat_map, Option, Some, None, Ok, string_bytes}
+use Rattle.std.specs.Prelude.{◌≡◌, ℕ, List, map, flat_map, Result, Ok, Err, codes, string_bytes}
 use Rattle.std.specs.List.{AllByRecursion, Contains}
 use Rattle.pua_tree.specs.Tree.{Tree}
 use Rattle.pua_calls.specs.declared.rules.Rules.{Rules}
 use Rattle.pua_policy.specs.States.{ProcessState}
 use Rattle.pua_how.specs.Outlooks.{IsOutlook}
-use Rattle.pua_how.specs.declared.outlook.Outlook.{Outlook}
 use Rattle.pua_how.specs.Served.{IsLine, asks_of}
 use Rattle.pua_how.specs.Targets.{IsLast}
 use Rattle.pua_how.specs.Ways.{IsWay}
 use Rattle.pua_how.specs.declared.line.WayLine.{WayLine}
 use Rattle.pua_how.specs.declared.target.Target.{Target}
+use Rattle.pua_how.specs.declared.way.NoWay.{NoWay}
 use Rattle.pua_texts.specs.Lines.{with_end}
-use Rattle.pua_tool.specs.HowTexts.{HowWanted, question_of, things_asked, told_without}
+use Rattle.pua_tool.specs.HowTexts.{HowWanted, question_of, things_asked}
 use Rattle.pua_tool.specs.Texts.{Replayed}
 use Rattle.pua_tool.specs.declared.how.Question as given
 
@@ -37,12 +37,7 @@ pub record AreMeant (t : Tree) (h : ProcessState) (wanted : HowWanted) (things :
   pub above : IsLast t last
   pub are : things_asked t h wanted last ≡ Ok things
 
--- the texts of lines
-abbrev pub texts_of : Option (List WayLine) → Option (List (List ℕ))
-texts_of None = None
-texts_of (Some lines) = Some (map (λ line. string_bytes line.text) lines)
-
--- the lines of a way, or what is said without one
-abbrev pub text_told : Outlook → Option (List (List ℕ)) → List ℕ
-text_told outlook (Some lines) = flat_map with_end lines
-text_told outlook None = with_end (told_without outlook.listed outlook.execs)
+-- the text of what was found: the lines of a way, or one line where none of the plans comes to one
+abbrev pub found_text : {V : Type 0} → (V → List WayLine) → Result V NoWay → List ℕ
+found_text items (Ok v) = flat_map with_end (map (λ line. string_bytes line.text) (items v))
+found_text items (Err none) = with_end (codes "no way found")

@@ -2,6 +2,7 @@
 use Rattle.std.specs.Prelude.{◌≡◌, ⊤, ℕ, List, [], ◌∷◌, length}
 use Rattle.std.specs.List.{Contains}
 use Rattle.pua_calls.specs.declared.call.Call.{Call}
+use Rattle.pua_calls.specs.declared.rules.Rules.{Rules}
 use Rattle.pua_script.specs.Requests.{Asked}
 use Rattle.pua_how.specs.Ways.{IsWay}
 use Rattle.pua_how.specs.declared.target.Target.{Target}
@@ -39,14 +40,14 @@ pub record AreStepsTo (done : Replayed) (process : ℕ) (things : List Target) (
   pub long : length asks ≡ steps
 
 -- a text is the column of a line of the code, at these names
-abbrev pub IsColumnAt : Replayed → ℕ → ProcessState → Word → EverLine → List ℕ → Type 0
-IsColumnAt done process h word line text =
-    (about : Thing) → IsThing done.world.tree about line.thing → IsColumn done process h (line_with word about line) text
+abbrev pub IsColumnAt : Rules → Replayed → ℕ → ProcessState → Word → EverLine → List ℕ → Type 0
+IsColumnAt rules done process h word line text =
+    (about : Thing) → IsThing done.world.tree about line.thing → IsColumn rules done process h (line_with word about line) text
 
 -- texts are the columns of rows, by the names that lead to the row before
-abbrev pub AreColumns : Replayed → ℕ → ProcessState → Word → List EverRow → List (List ℕ) → Type 0
-AreColumns done process h before [] [] = ⊤
-AreColumns done process h before (row ∷ rows) (text ∷ texts) =
-    IsColumnAt done process h (word_of_row before row) row.line text
-    × AreColumns done process h (word_of_row before row) rows texts
-AreColumns done process h before _ _ = ⊥
+abbrev pub AreColumns : Rules → Replayed → ℕ → ProcessState → Word → List EverRow → List (List ℕ) → Type 0
+AreColumns rules done process h before [] [] = ⊤
+AreColumns rules done process h before (row ∷ rows) (text ∷ texts) =
+    IsColumnAt rules done process h (word_of_row before row) row.line text
+    × AreColumns rules done process h (word_of_row before row) rows texts
+AreColumns rules done process h before _ _ = ⊥

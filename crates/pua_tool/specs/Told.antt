@@ -1,5 +1,5 @@
 -- What a fault's line leaves in the sink for faults.
-use Rattle.std.specs.Prelude.{◌≡◌, ⊤, ℕ, List, ◌++◌, Option, Result, codes, string_bytes}
+use Rattle.std.specs.Prelude.{◌≡◌, ℕ, List, ◌++◌, Option, Result, codes, string_bytes}
 use Rattle.pua_words.specs.Usages.{usage_line_text}
 use Rattle.pua_words.specs.declared.words.Stop.{Stop}
 use Rattle.pua_words.specs.declared.words.Stop.TheVariants as stop
@@ -7,35 +7,15 @@ use Rattle.pua_io.specs.Sinks.{Adds, AddsFront, HasFailed, Writes}
 use Rattle.pua_tool.specs.Statuses.{fault_status}
 use Rattle.pua_texts.specs.Lines.{with_end}
 use Rattle.pua_io.specs.declared.sink.PutFault.{PutFault}
-use Rattle.pua_tool.specs.declared.fault.ToolFault.{ToolFault}
-use Rattle.pua_tool.specs.declared.fault.ToolFault.TheVariants.{Write, OutOfMemory, NoProcess}
+use Rattle.pua_tool.specs.FaultTexts.{fault_line}
 use Rattle.pua_tool.specs.declared.outcome.CommandFault.{CommandFault}
 use Rattle.pua_tool.specs.declared.outcome.CommandFault.TheVariants.{Usage, Unreadable, Tool}
-
--- the line of a put that failed
-abbrev pub cannot_write : List ℕ
-cannot_write = with_end (codes "pua: cannot write")
-
--- the line of a growth of memory that was refused
-abbrev pub out_of_memory : List ℕ
-out_of_memory = with_end (codes "pua: out of memory")
-
--- the line of a process that was never made
-abbrev pub no_process : List ℕ
-no_process = with_end (codes "pua: no such process")
-
--- the writing of the line of a fault of the tool; of the others' lines nothing is said
-abbrev pub TellsToolFault : ToolFault → Result (Unit {0}) PutFault → Option (List ℕ) → Option (List ℕ) → ℕ → ℕ → Type 0
-TellsToolFault Write done old new before after = Writes cannot_write done old new before after
-TellsToolFault OutOfMemory done old new before after = Writes out_of_memory done old new before after
-TellsToolFault NoProcess done old new before after = Writes no_process done old new before after
-TellsToolFault _ done old new before after = ⊤
 
 -- the writing of the line of a command's fault
 abbrev pub TellsFault : CommandFault → Result (Unit {0}) PutFault → Option (List ℕ) → Option (List ℕ) → ℕ → ℕ → Type 0
 TellsFault (Usage line) done old new before after = Writes (with_end (usage_line_text line)) done old new before after
 TellsFault (Unreadable name) done old new before after = Writes (with_end (codes "pua: cannot read " ++ name.now)) done old new before after
-TellsFault (Tool fault) done old new before after = TellsToolFault fault done old new before after
+TellsFault (Tool fault) done old new before after = Writes (fault_line fault) done old new before after
 
 -- a command's fault was told: by all of its line, or by a front of it before a put that failed
 abbrev pub IsFaultTold : CommandFault → Option (List ℕ) → Option (List ℕ) → ℕ → ℕ → Type 0

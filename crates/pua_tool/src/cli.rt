@@ -10,7 +10,7 @@ ghost use Rattle.pua_tool.specs.Performed.{IsRefused};
 ghost use Rattle.pua_io.specs.Sinks.{Adds, AddsFront, HasFailed};
 ghost use Rattle.pua_texts.specs.Lines.{with_end};
 ghost use Rattle.pua_tool.specs.Told.{IsLineTold, Shows, ShowsFront, TellsStatus, TellsUsage};
-ghost use Rattle.pua_tool.specs.Told.{cannot_write};
+ghost use Rattle.pua_tool.specs.FaultTexts.{fault_line};
 
 use crate::fault::ToolFault;
 use crate::outcome::{CommandFault, finish};
@@ -66,8 +66,8 @@ fn at_end<E: Sink>(status: u8, flushed: Result<(), PutFault>, err: &mut E) -> u8
     ensures stopped { status ≢ DONE → result ≡ status }
     ensures device { OnErr flushed (status ≡ DONE → result ≡ DEVICE) }
     ensures told { OnErr flushed (status ≡ DONE →
-        IsLineTold cannot_write (E.written err.old) (E.written err.new) (E.failed err.old)
-        (E.failed err.new)) }
+        IsLineTold (fault_line ToolFault.Write) (E.written err.old) (E.written err.new)
+        (E.failed err.old) (E.failed err.new)) }
     ensures reported { result ≢ status → TellsStatus result
         (E.written err.old) (E.written err.new) (E.failed err.old) (E.failed err.new) }
     ensures quiet { OnOk flushed (err.new ≡ err.old) }

@@ -1,7 +1,7 @@
 //! What stands behind the calls of a line of a list for ever: how many steps a way has to each call that
 //! the list of now lacks.
 
-ghost use Rattle.std.specs.Prelude.{◌≡◌, ◌&&◌, ◌++◌, ◌∷◌, [], IfErr, IfOk, IfSome, OnOk, Some};
+ghost use Rattle.std.specs.Prelude.{◌≡◌, ◌&&◌, ◌++◌, ◌∷◌, [], IfErr, IfOk, OnOk, Some};
 ghost use Rattle.std.specs.Prelude.{map, not, string_bytes};
 ghost use Rattle.std.specs.List.{AllByRecursion};
 ghost use Rattle.pua_tree.specs.Tree.{Tree};
@@ -11,6 +11,7 @@ ghost use Rattle.pua_ever.specs.Ever.{Thing};
 ghost use Rattle.pua_ever.specs.EverLines.{IsThing};
 ghost use Rattle.pua_ever.specs.EverList.{word_of_row};
 ghost use Rattle.pua_how.specs.Asked.{IsAskedBy, asking_given};
+ghost use Rattle.pua_how.specs.Steps.{NoneComes};
 ghost use Rattle.pua_texts.specs.EverLines.{kind_of};
 ghost use Rattle.pua_texts.specs.Lines.{with_end};
 ghost use Rattle.pua_tool.specs.RowColumns.{AreColumns, AreStepsTo, IsColumnAt, done_behind};
@@ -21,7 +22,7 @@ use crate::now::calls_now;
 use crate::script::Replay;
 use pua_calls::{Call, Calls, Rules};
 use pua_ever::{EverLine, EverRow, EverThing};
-use pua_how::{Asking, Meant, Planner, find_meant};
+use pua_how::{Asking, Meant, NoWay, Planner, find_meant};
 use pua_objects::ObjectKind;
 use pua_policy::Process;
 use pua_tree::{FileTree, Name};
@@ -45,8 +46,8 @@ pub(crate) fn columns_of(
     rows: &[EverRow<'_>],
 ) -> Result<Vec<String>, ToolFault>
     ensures columns { IfOk result (λ columns.
-        AreColumns (done_behind behind.now) behind.now.number process.now [] rows.now
-        (map string_bytes columns.items)) }
+        AreColumns behind.now.rules (done_behind behind.now) behind.now.number process.now []
+        rows.now (map string_bytes columns.items)) }
     ensures memory { IfErr result (λ fault. fault ≡ ToolFault.OutOfMemory) }
 {
     let world = &behind.replay.world;
@@ -84,7 +85,7 @@ fn column_of(
     line: &EverLine,
 ) -> Result<String, ToolFault>
     ensures column { IfOk result (λ text.
-        IsColumnAt (done_behind behind.now) behind.now.number process.now
+        IsColumnAt behind.now.rules (done_behind behind.now) behind.now.number process.now
         (map (λ name. name.now) names.now) line.now (string_bytes text)) }
     ensures memory { IfErr result (λ fault. fault ≡ ToolFault.OutOfMemory) }
 {
@@ -116,7 +117,7 @@ fn is_left(calls: Calls, others: Calls, call: Call) -> bool
 }
 
 /// These calls on what a line at the end of these names is about, in their order, each with the number
-/// of steps of a way to it, if one was found. Without calls nothing is asked.
+/// of steps of a way to it, or with plans of which none comes to one. Without calls nothing is asked.
 fn counts_on(
     alloc: Global,
     behind: &Behind<'_>,
@@ -125,11 +126,12 @@ fn counts_on(
     names: &[&Name],
     thing: EverThing,
     calls: Calls,
-) -> Result<Vec<(Call, Option<usize>)>, ToolFault>
+) -> Result<Vec<(Call, Result<usize, NoWay>)>, ToolFault>
     ensures counts { IfOk result (λ counts. (about : Thing) →
         IsThing (done_behind behind.now).world.tree about thing →
-        AllByRecursion (IsCount (done_behind behind.now) behind.now.number process.now
-        (asking_by (map (λ name. name.now) names.now) about) (kind_of thing)) counts.items) }
+        AllByRecursion (IsCount behind.now.rules (done_behind behind.now) behind.now.number
+        process.now (asking_by (map (λ name. name.now) names.now) about) (kind_of thing))
+        counts.items) }
     ensures calls { IfOk result (λ counts. map (λ count. count.0) counts.items ≡ calls_in calls) }
     ensures memory { IfErr result (λ fault. fault ≡ ToolFault.OutOfMemory) }
 {
@@ -189,30 +191,33 @@ fn asking_on(alloc: Global, names: &[&Name], thing: EverThing) -> Result<Asking,
     Ok(Asking::Standing(copies))
 }
 
-/// The number of steps of a way to a call on something that is meant, if one of two plans is one.
-fn steps_to(
+/// The number of steps of a way to a call on something that is meant; [`NoWay`] exactly where none of the
+/// plans that are laid comes to one.
+pub(crate) fn steps_to(
     alloc: Global,
     behind: &Behind<'_>,
     planner: &Planner<'_>,
     call: Call,
     meant: &Meant,
-) -> Result<Option<usize>, ToolFault>
-    ensures steps { IfOk result (λ found. IfSome found (λ steps.
-        AreStepsTo (done_behind behind.now) behind.now.number meant.now.targets.items call
-        steps)) }
+) -> Result<Result<usize, NoWay>, ToolFault>
+    ensures steps { IfOk result (λ found. IfOk found (AreStepsTo (done_behind behind.now)
+        behind.now.number meant.now.targets.items call)) }
+    ensures none { IfOk result (λ found. IfErr found (NoneComes behind.now.rules
+        (done_behind behind.now).table behind.now.number call meant.now.targets.items
+        (done_behind behind.now).world)) }
     ensures memory { IfErr result (λ fault. fault ≡ ToolFault.OutOfMemory) }
 {
     let plans = planner.find_plans(call, meant)?;
     let (world, rules) = (&behind.replay.world, behind.rules);
     match plans.serve(alloc, rules, world, behind.number, call, meant)? {
-        Some(lines) => Ok(Some(lines.len())),
-        None => Ok(None),
+        Ok(lines) => Ok(Ok(lines.len())),
+        Err(none) => Ok(Err(none)),
     }
 }
 
 /// What stands behind the calls of a line: a blank, and calls with the numbers of steps, with commas
 /// between them; and LF. The only error is that a growth was refused.
-fn text_of(alloc: Global, counts: &[(Call, Option<usize>)]) -> Result<String, AllocError>
+fn text_of(alloc: Global, counts: &[(Call, Result<usize, NoWay>)]) -> Result<String, AllocError>
     ensures { IfOk result (λ text. string_bytes text
         ≡ with_end (counts_text 32 counts.now)) }
 {
@@ -227,7 +232,7 @@ fn text_of(alloc: Global, counts: &[(Call, Option<usize>)]) -> Result<String, Al
 }
 
 /// Adds further calls with their numbers of steps, each behind a comma.
-fn push_others(text: &mut String, counts: &[(Call, Option<usize>)]) -> Result<(), AllocError>
+fn push_others(text: &mut String, counts: &[(Call, Result<usize, NoWay>)]) -> Result<(), AllocError>
     ensures { OnOk result (string_bytes text.new ≡ string_bytes text.old
         ++ counts_text 44 counts.now) }
 {
@@ -239,14 +244,14 @@ fn push_others(text: &mut String, counts: &[(Call, Option<usize>)]) -> Result<()
 }
 
 /// Adds a call, and its number of steps, or `?` without one.
-fn push_count(text: &mut String, count: &(Call, Option<usize>)) -> Result<(), AllocError>
+fn push_count(text: &mut String, count: &(Call, Result<usize, NoWay>)) -> Result<(), AllocError>
     ensures { OnOk result (string_bytes text.new ≡ string_bytes text.old
         ++ count_text count.now) }
 {
     text.push_str(count.0.name())?;
     text.push(' ')?;
-    match count.1 {
-        Some(steps) => write!(text, "{steps}"),
-        None => text.push('?'),
+    match &count.1 {
+        Ok(steps) => write!(text, "{steps}"),
+        Err(_) => text.push('?'),
     }
 }

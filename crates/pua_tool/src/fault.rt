@@ -1,84 +1,62 @@
 //! Why runs, audits, lists of objects, ways and tightened scripts are refused, each with the line that
 //! reports it.
 
-ghost use Rattle.std.specs.Prelude.{◌≡◌};
+ghost use Rattle.std.specs.Prelude.{◌≡◌, ◌++◌, codes};
+ghost use Rattle.pua_tool.specs.FaultTexts.{blame_line, fault_line, place_line, row_line};
+ghost use Rattle.pua_tool.specs.Pieces.{line_of};
 ghost use Rattle.pua_tool.specs.Statuses.{status_of};
 
+use crate::line::Piece::{Number, Text};
+use crate::line::{Pieces, five, one, three};
 use crate::status::{DEVICE, MEMORY, REFUSED};
 use pua_audit::AuditFault;
 use pua_calls::{Call, TableFault};
 use pua_script::ScriptFault;
 use pua_tree::{ListingFault, OutOfMemory};
 use std::alloc::{AllocError, AllocFailed};
-use thiserror::Error;
-
-/// The line of a put that failed, without its end.
-pub(crate) const CANNOT_WRITE: &str = "pua: cannot write";
-
-/// The line of a growth of memory that was refused, without its end.
-pub(crate) const OUT_OF_MEMORY: &str = "pua: out of memory";
-
-/// The line of a process that was never made, without its end.
-pub(crate) const NO_PROCESS: &str = "pua: no such process";
+use std::fmt;
 
 /// Why the text of a run, of an audit, of a list of objects, of now or for ever, of a way, or of a
 /// tightened script was not written, or not whole. It is displayed as the line that the program prints.
-#[derive(Clone, Copy, Debug, PartialEq, Eq, Error)]
+#[derive(Clone, Copy, Debug, PartialEq, Eq)]
 pub enum ToolFault {
     /// The tree's bytes are no listing.
-    #[error("pua: listing: {0}")]
     Listing(ListingFault),
     /// The script's bytes are no script.
-    #[error("pua: script: {0}")]
     Script(ScriptFault),
     /// The fields of a request that is asked about are no line of a script.
-    #[error("pua: request: {0}")]
     Request(ScriptFault),
     /// The process was never made.
-    #[error("{line}", line = NO_PROCESS)]
     NoProcess,
     /// The audit can't begin.
-    #[error("pua: audit: {0}")]
     Audit(AuditFault),
     /// A put failed. What was written is a front of the text.
-    #[error("{line}", line = CANNOT_WRITE)]
     Write,
     /// A growth of memory was refused, and nothing was written.
-    #[error("{line}", line = OUT_OF_MEMORY)]
     OutOfMemory,
     /// The table's bytes give no table of calls.
-    #[error("pua: table: {0}")]
     Table(TableFault),
     /// There is no list for ever of the process with this number, which can still put veils: it is not
     /// locked, and has the promise `unveil`.
-    #[error("pua: process {0} can still unveil")]
     CanUnveil(u32),
     /// There is no list for ever by a table by which this call, one that makes a name or takes one away,
     /// does not need `c`.
-    #[error("pua: table: {}: no c", .0.name())]
     LacksC(Call),
     /// The same of rename(2), by one of its two names.
-    #[error("pua: table: rename: no c")]
     RenameLacksC,
     /// The same of link(2), by its new name.
-    #[error("pua: table: link: no c")]
     LinkLacksC,
     /// There is no list of what the processes with these numbers can ever touch together: the second
     /// has a veil on another place than the first, or other letters at one.
-    #[error("pua: processes {0} and {1} have other veils")]
     OtherVeils(u32, u32),
     /// What a way is asked for is none of the calls on one path.
-    #[error("pua: how: bad call")]
     HowCall,
     /// Where it is to lead is no path as a list for ever prints it.
-    #[error("pua: how: bad path")]
     HowPath,
     /// A name before the last one of the path is no directory's, or nothing there is of the kind that was
     /// asked for.
-    #[error("pua: how: no such thing")]
     HowThing,
     /// A link is meant, and this call is on what a link leads to, never on the link.
-    #[error("pua: how: a link, which {} follows: ask about what it leads to", .0.name())]
     HowLink(Call),
 }
 
@@ -126,4 +104,88 @@ impl ToolFault {
             _ => REFUSED,
         }
     }
+
+    /// The line that reports it, in pieces, without its end.
+    pub(crate) fn line(&self) -> Pieces
+        ensures { line_of result ≡ fault_line self.now }
+    {
+        match *self {
+            ToolFault::Listing(fault) => blamed("pua: listing: ", fault.told()),
+            ToolFault::Script(fault) => blamed("pua: script: ", fault.told()),
+            ToolFault::Request(fault) => blamed("pua: request: ", fault.told()),
+            ToolFault::NoProcess => one("pua: no such process"),
+            ToolFault::Audit(fault) => placed(fault.told()),
+            ToolFault::Write => one("pua: cannot write"),
+            ToolFault::OutOfMemory => one("pua: out of memory"),
+            ToolFault::Table(fault) => in_row(fault.told()),
+            ToolFault::CanUnveil(process) => {
+                three("pua: process ", Number(process), " can still unveil")
+            }
+            ToolFault::LacksC(call) => three("pua: table: ", Text(call.name()), ": no c"),
+            ToolFault::RenameLacksC => one("pua: table: rename: no c"),
+            ToolFault::LinkLacksC => one("pua: table: link: no c"),
+            ToolFault::OtherVeils(first, other) => {
+                let (first, other) = (Number(first), Number(other));
+                let rest = " have other veils";
+                five("pua: processes ", first, " and ", other, rest)
+            }
+            ToolFault::HowCall => one("pua: how: bad call"),
+            ToolFault::HowPath => one("pua: how: bad path"),
+            ToolFault::HowThing => one("pua: how: no such thing"),
+            ToolFault::HowLink(call) => {
+                let rest = " follows: ask about what it leads to";
+                three("pua: how: a link, which ", Text(call.name()), rest)
+            }
+        }
+    }
 }
+
+/// What is wrong with an input, and the number of its line that is to blame, if one is.
+fn blamed(input: &'static str, told: (Option<u32>, &'static str)) -> Pieces
+    ensures { line_of result ≡ input.now ++ blame_line told.entry.0 told.entry.1.now }
+{
+    let (line, wrong) = told;
+    match line {
+        Some(line) => [
+            Text(input),
+            Text("line "),
+            Number(line),
+            Text(": "),
+            Text(wrong),
+        ],
+        None => three(input, Text(wrong), ""),
+    }
+}
+
+/// What is wrong with an audit, and the place of a candidate, if one is to blame.
+fn placed(told: (&'static str, Option<u32>)) -> Pieces
+    ensures { line_of result ≡ codes "pua: audit: " ++ place_line told.entry.0.now told.entry.1 }
+{
+    let (wrong, place) = told;
+    match place {
+        Some(place) => five("pua: audit: ", Text(wrong), " ", Number(place), ""),
+        None => three("pua: audit: ", Text(wrong), ""),
+    }
+}
+
+/// What is wrong with a table, and the call that is to blame, if one is.
+fn in_row(told: (Option<Call>, &'static str)) -> Pieces
+    ensures { line_of result ≡ codes "pua: table: " ++ row_line told.entry.0 told.entry.1.now }
+{
+    let (call, wrong) = told;
+    match call {
+        Some(call) => five("pua: table: ", Text(call.name()), ": ", Text(wrong), ""),
+        None => three("pua: table: ", Text(wrong), ""),
+    }
+}
+
+impl fmt::Display for ToolFault {
+    fn fmt<W: fmt::Write>(&self, f: &mut fmt::Formatter<W>) -> fmt::Result {
+        for piece in &self.line() {
+            write!(f, "{piece}")?;
+        }
+        Ok(())
+    }
+}
+
+impl std::error::Error for ToolFault {}

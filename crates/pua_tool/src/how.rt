@@ -1,15 +1,17 @@
 //! The text of a way to what a process can ever touch.
 
-ghost use Rattle.std.specs.Prelude.{◌≡◌, ◌≢◌, ◌++◌, ℕ, List, Ok, Err, IfErr, IfOk, IfSome, OnOk, Result};
-ghost use Rattle.std.specs.Prelude.{flat_map, map, option_map, string_bytes};
+ghost use Rattle.std.specs.Prelude.{◌≡◌, ◌≢◌, ◌++◌, ℕ, List, None, Ok, Err, IfErr, IfOk, OnOk};
+ghost use Rattle.std.specs.Prelude.{Result, false, flat_map, map, string_bytes};
 ghost use Rattle.pua_texts.specs.Lines.{with_end};
 ghost use Rattle.pua_how.specs.Outlooks.{IsOutlook};
+ghost use Rattle.pua_how.specs.Steps.{NoneComes};
+ghost use Rattle.pua_script.specs.Replay.{kept_at};
 ghost use Rattle.pua_tool.specs.Answers.{AnswersTo};
 ghost use Rattle.pua_tool.specs.Begun.{as_replayed};
 ghost use Rattle.pua_tool.specs.HowTexts.{IsHowAsked, IsHowText, follows_link as is_link_followed};
 ghost use Rattle.pua_tool.specs.HowTexts.{question_of};
 ghost use Rattle.pua_tool.specs.HowTexts.{things_asked, told_without, way_wanted};
-ghost use Rattle.pua_tool.specs.Questions.{AreMeant, AreWayTo, IsQuestion, text_told, texts_of};
+ghost use Rattle.pua_tool.specs.Questions.{AreMeant, AreWayTo, IsQuestion, found_text};
 ghost use Rattle.pua_tool.specs.Texts.{choice_of};
 
 use crate::ever_fault::reason_of;
@@ -19,7 +21,7 @@ use crate::script::{Replay, replay_script};
 use crate::table::TableChoice;
 use pua_calls::{Call, CallTable, Rules};
 use pua_ever::{ExecBound, both_of, why_refused};
-use pua_how::{Asking, Meant, Outlook, Planner, Target, WayLine, find_meant, find_outlook};
+use pua_how::{Asking, Meant, NoWay, Outlook, Planner, Target, WayLine, find_meant, find_outlook};
 use pua_io::Sink;
 use pua_path::Last;
 use pua_policy::Process;
@@ -34,8 +36,8 @@ use std::alloc::{AllocError, Global};
 /// that the line has: what stands there, by any of its names, or the missing name; where several are
 /// meant, any of them, or that of the kind that is given. Without a way it writes one line: `never`,
 /// where no line of the list for ever about it has the call, and so none ever comes;
-/// `never before an exec`, where the list holds until a program is started; or `no way found`, which
-/// says nothing.
+/// `never before an exec`, where the list holds until a program is started; or `no way found`, where a
+/// line has the call, and none of the plans that were laid comes to it, which says nothing of other ways.
 ///
 /// The first that holds of `Table`, `Listing`, `Script`, `NoProcess`, `CanUnveil`, `LacksC`,
 /// `RenameLacksC`, `LinkLacksC`, `HowCall`, `HowPath`, `HowThing` and `HowLink` is answered before
@@ -92,8 +94,11 @@ fn text_behind(
     ensures unwritten { IfErr result (λ fault. fault ≢ ToolFault.Write) }
 {
     let question = asked_of(alloc, replay, words)?;
+    if !question.outlook.listed {
+        return Ok(never_text(alloc, question.outlook.execs)?);
+    }
     let found = find(alloc, replay, rules, words.process, &question)?;
-    Ok(told(alloc, &question.outlook, found.as_ref())?)
+    Ok(told(alloc, &found)?)
 }
 
 /// What is asked about behind a script, with what the list for ever says of it.
@@ -201,46 +206,44 @@ fn outlook_of<T: FileTree>(
     Ok(outlook)
 }
 
-/// A way to what is asked about, if one of the plans is one behind the script; none is laid where no line
-/// of the list for ever has the call. `OutOfMemory` where a growth was refused.
-fn find(
+/// A way to what is asked about, behind the script; [`NoWay`] exactly where none of the plans that are laid
+/// is one. `NoProcess` where the process was never made, and `OutOfMemory` where a growth was refused.
+pub(crate) fn find(
     alloc: Global,
     replay: &Replay,
     rules: Rules,
     number: u32,
     question: &Question,
-) -> Result<Option<Vec<WayLine>>, ToolFault>
-    ensures way { IfOk result (λ found. IfSome found (λ lines.
+) -> Result<Result<Vec<WayLine>, NoWay>, ToolFault>
+    ensures way { IfOk result (λ found. IfOk found (λ lines.
         AreWayTo rules (as_replayed replay.now) number question.now lines.items)) }
-    ensures memory { IfErr result (λ fault. fault ≡ ToolFault.OutOfMemory) }
+    ensures none { IfOk result (λ found. IfErr found (NoneComes rules
+        (as_replayed replay.now).table number question.now.call question.now.meant.targets.items
+        (as_replayed replay.now).world)) }
+    ensures refused { IfErr result (λ fault. fault ≢ ToolFault.OutOfMemory →
+        (fault ≡ ToolFault.NoProcess)
+        × (kept_at (as_replayed replay.now).world number ≡ None)) }
     ensures unwritten { IfErr result (λ fault. fault ≢ ToolFault.Write) }
 {
     let world = &replay.world;
     let Some(process) = world.process(number) else {
-        return Ok(None);
+        return Err(ToolFault::NoProcess);
     };
-    if !question.outlook.listed {
-        return Ok(None);
-    }
     let planner = Planner::new(alloc, world.tree(), process, world.table())?;
     let plans = planner.find_plans(question.call, &question.meant)?;
     let (call, meant) = (question.call, &question.meant);
     Ok(plans.serve(alloc, rules, world, number, call, meant)?)
 }
 
-/// The lines of a way, or what is said without one.
-fn told(
-    alloc: Global,
-    outlook: &Outlook,
-    found: Option<&Vec<WayLine>>,
-) -> Result<String, AllocError>
-    ensures { IfOk result (λ text. string_bytes text ≡ text_told outlook.now
-        (texts_of (option_map (λ lines. lines.now.items) found.entry))) }
+/// The lines of a way, or the line that none was found.
+fn told(alloc: Global, found: &Result<Vec<WayLine>, NoWay>) -> Result<String, AllocError>
+    ensures { IfOk result (λ text. string_bytes text
+        ≡ found_text (λ lines. lines.items) found.now) }
 {
     let mut text = String::new(alloc);
     match found {
-        Some(lines) => push_lines(&mut text, lines.as_slice())?,
-        None => text.push_str(without(outlook.listed, outlook.execs))?,
+        Ok(lines) => push_lines(&mut text, lines.as_slice())?,
+        Err(_) => text.push_str("no way found\n")?,
     }
     Ok(text)
 }
@@ -257,13 +260,21 @@ fn push_lines(text: &mut String, lines: &[WayLine]) -> Result<(), AllocError>
     Ok(())
 }
 
-/// The line of what is said where there is no way.
-fn without(listed: bool, execs: ExecBound) -> &'static str
-    ensures { result.now ≡ with_end (told_without listed execs) }
+/// The line of what is said where no line of the list for ever has the call.
+fn never_text(alloc: Global, execs: ExecBound) -> Result<String, AllocError>
+    ensures { IfOk result (λ text. string_bytes text ≡ with_end (told_without false execs)) }
 {
-    match (listed, execs) {
-        (true, _) => "no way found\n",
-        (false, ExecBound::Open) => "never before an exec\n",
-        (false, _) => "never\n",
+    let mut text = String::new(alloc);
+    text.push_str(never(execs))?;
+    Ok(text)
+}
+
+/// The same as it stands in the program.
+fn never(execs: ExecBound) -> &'static str
+    ensures { result.now ≡ with_end (told_without false execs) }
+{
+    match execs {
+        ExecBound::Open => "never before an exec\n",
+        _ => "never\n",
     }
 }

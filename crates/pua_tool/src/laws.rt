@@ -4,7 +4,8 @@
 ghost use Rattle.std.specs.Prelude.{◌≡◌};
 ghost use Rattle.pua_tool.specs.Alike.{AnswersAlike, LinesAlike};
 ghost use Rattle.pua_tool.specs.EverHowExamples.{EverHowRows};
-ghost use Rattle.pua_tool.specs.Examples.{HowTextRows, ReasonTextRows, TextRows, TightTextRows};
+ghost use Rattle.pua_tool.specs.Examples.{FaultTextRows, HowTextRows, ReasonTextRows, TextRows};
+ghost use Rattle.pua_tool.specs.Examples.{TightTextRows};
 ghost use Rattle.pua_tool.specs.Fewest.{TightAsWritten};
 ghost use Rattle.pua_tool.specs.Forever.{EverAsWritten};
 ghost use Rattle.pua_tool.specs.Listed.{ObjectsAsWritten};
@@ -23,12 +24,13 @@ use pua_script::pasts_law;
 use pua_tree::FileTree;
 
 /// Examples of whole texts, and of what refuses them.
-#[tactic(auto, using(crate::specs::Examples::text_rows, crate::specs::Examples::reason_text_rows, crate::specs::Examples::tight_text_rows, crate::specs::Examples::how_text_rows))]
+#[tactic(auto, using(crate::specs::Examples::text_rows, crate::specs::Examples::reason_text_rows, crate::specs::Examples::tight_text_rows, crate::specs::Examples::how_text_rows, crate::specs::Examples::fault_text_rows))]
 pub fn text_examples()
     ensures texts { TextRows }
     ensures reasons { ReasonTextRows }
     ensures tightened { TightTextRows }
     ensures ways { HowTextRows }
+    ensures faults { FaultTextRows }
 {}
 
 /// Narrowing ("Every future of a locked process" in docs/DEFINITIONS.md): over each tree the later

@@ -46,8 +46,8 @@ use std::alloc::Global;
 /// asked for, are refused. [`DEVICE`]: an input is missing, and nothing was written; or a put failed,
 /// and a front of the text was written. [`MEMORY`]: a growth of memory was refused. After [`REFUSED`]
 /// and [`MEMORY`] nothing was written. After each but [`DONE`] the line of what stopped it went to
-/// `err`: all of it, or a front of it before a put that failed. Which bytes the line of a table, a
-/// listing, a script, an audit, a list or a way has is in no contract.
+/// `err`: all of it, or a front of it before a put that failed. Of an input that is refused this is the
+/// line with what is wrong, and with which line, candidate or call, if with one.
 pub fn perform<I: Inputs, O: Sink, E: Sink>(
     alloc: Global,
     command: &Command<'_>,

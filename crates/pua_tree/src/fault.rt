@@ -1,10 +1,12 @@
 //! Why names, trees and listings are refused.
 
 ghost use Rattle.std.specs.Prelude.{◌≡◌};
+ghost use Rattle.pua_tree.specs.FaultTexts.{listing_told};
 ghost use Rattle.pua_tree.specs.declared.fault.TreeFault.TheVariants as tree_fault;
 ghost use Rattle.pua_tree.specs.declared.fault.ListingFault.TheVariants as listing_fault;
 
 use std::alloc::{AllocError, AllocFailed};
+use std::fmt;
 use thiserror::Error;
 
 /// A growth of memory was refused.
@@ -88,42 +90,64 @@ impl From<AllocError> for TreeFault {
 
 /// Why bytes are no listing: the fault of the first line that has one, with the number of that
 /// line, counted from 1.
-#[derive(Clone, Copy, Debug, PartialEq, Eq, Error)]
+#[derive(Clone, Copy, Debug, PartialEq, Eq)]
 pub enum ListingFault {
     /// The first line is not there, or is neither `tree 1` nor `tree 2`.
-    #[error("bad header")]
     BadHeader,
     /// The second line is not there or is not `0 dir`; a line or a field is empty; a byte that no
     /// field has; an unknown kind, as `hard` is in `tree 1`, or another number of fields than its
     /// kind has.
-    #[error("line {0}: bad line")]
     BadLine(u32),
     /// The number is no decimal from 1 to 999,999, or is not above that of the line before.
-    #[error("line {0}: bad number")]
     BadNumber(u32),
     /// The parent is not the number of a directory of an earlier line.
-    #[error("line {0}: bad parent")]
     BadParent(u32),
     /// The name is not spelled as a name.
-    #[error("line {0}: bad name")]
     BadName(u32),
     /// The target of a link is not spelled as one.
-    #[error("line {0}: bad target")]
     BadTarget(u32),
     /// The parent has that name already.
-    #[error("line {0}: name taken")]
     Taken(u32),
     /// The line would be the 4,097th after the first, the root's line counted.
-    #[error("line {0}: too many nodes")]
     TooMany(u32),
     /// A growth of memory was refused.
-    #[error("out of memory")]
     OutOfMemory,
     /// The node of a hard link is not the number of a file, a program or a symbolic link that an
     /// earlier line made.
-    #[error("line {0}: bad node")]
     BadNode(u32),
 }
+
+impl ListingFault {
+    /// The number of the line that is to blame, if one is, and what is wrong.
+    pub fn told(&self) -> (Option<u32>, &'static str)
+        ensures line { result.0 ≡ (listing_told self.now).0 }
+        ensures wrong { result.1.now ≡ (listing_told self.now).1 }
+    {
+        match self {
+            ListingFault::BadHeader => (None, "bad header"),
+            ListingFault::BadLine(line) => (Some(*line), "bad line"),
+            ListingFault::BadNumber(line) => (Some(*line), "bad number"),
+            ListingFault::BadParent(line) => (Some(*line), "bad parent"),
+            ListingFault::BadName(line) => (Some(*line), "bad name"),
+            ListingFault::BadTarget(line) => (Some(*line), "bad target"),
+            ListingFault::Taken(line) => (Some(*line), "name taken"),
+            ListingFault::TooMany(line) => (Some(*line), "too many nodes"),
+            ListingFault::OutOfMemory => (None, "out of memory"),
+            ListingFault::BadNode(line) => (Some(*line), "bad node"),
+        }
+    }
+}
+
+impl fmt::Display for ListingFault {
+    fn fmt<W: fmt::Write>(&self, f: &mut fmt::Formatter<W>) -> fmt::Result {
+        match self.told() {
+            (Some(line), wrong) => write!(f, "line {line}: {wrong}"),
+            (None, wrong) => f.write_str(wrong),
+        }
+    }
+}
+
+impl std::error::Error for ListingFault {}
 
 impl From<OutOfMemory> for ListingFault {
     ghost from_gives = { λ _ fault. fault ≡ listing_fault.OutOfMemory };

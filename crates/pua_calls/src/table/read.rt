@@ -11,38 +11,61 @@ ghost use Rattle.pua_calls.specs.Tables.{HasPairsOf, NamesNoError, NeedsNoError,
 ghost use Rattle.pua_calls.specs.TableTexts.{alternative_of, alternatives_of, are_alternatives};
 ghost use Rattle.pua_calls.specs.TableTexts.{are_texts, document_of, keys_ascend, row_of, rule_in};
 ghost use Rattle.pua_calls.specs.TableTexts.{rules_with, table_of, table_over, values_of};
+ghost use Rattle.pua_calls.specs.FaultTexts.{table_told};
 
 use crate::call::Call;
 use crate::perms::Perms;
 use crate::promises::Promises;
 use crate::table::{CallTable, MOST_ALTERNATIVES, RuleRow};
 use std::alloc::Global;
-use thiserror::Error;
+use std::fmt;
 use toml::{Table, Value};
 
 /// Why a text gives no table of calls.
-#[derive(Clone, Copy, Debug, PartialEq, Eq, Error)]
+#[derive(Clone, Copy, Debug, PartialEq, Eq)]
 pub enum TableFault {
     /// The text is no TOML document, or not UTF-8.
-    #[error("bad toml")]
     BadToml,
     /// A key of the document is not the name of a call that the table has over which it is read.
-    #[error("bad key")]
     BadKey,
     /// The value of this call is not a table with exactly the keys `promises`, an array of 1 to 8
     /// texts, and `veil`, a text.
-    #[error("{}: bad row", .0.name())]
     BadRow(Call),
     /// A text of this call's promises is no list of keywords, or names `error`.
-    #[error("{}: bad promises", .0.name())]
     BadPromises(Call),
     /// The veil of this call is no list of permissions.
-    #[error("{}: bad veil", .0.name())]
     BadVeil(Call),
     /// A growth of memory was refused.
-    #[error("out of memory")]
     OutOfMemory,
 }
+
+impl TableFault {
+    /// The call that is to blame, if one is, and what is wrong.
+    pub fn told(&self) -> (Option<Call>, &'static str)
+        ensures call { result.0 ≡ (table_told self.now).0 }
+        ensures wrong { result.1.now ≡ (table_told self.now).1 }
+    {
+        match self {
+            TableFault::BadToml => (None, "bad toml"),
+            TableFault::BadKey => (None, "bad key"),
+            TableFault::BadRow(call) => (Some(*call), "bad row"),
+            TableFault::BadPromises(call) => (Some(*call), "bad promises"),
+            TableFault::BadVeil(call) => (Some(*call), "bad veil"),
+            TableFault::OutOfMemory => (None, "out of memory"),
+        }
+    }
+}
+
+impl fmt::Display for TableFault {
+    fn fmt<W: fmt::Write>(&self, f: &mut fmt::Formatter<W>) -> fmt::Result {
+        match self.told() {
+            (Some(call), wrong) => write!(f, "{}: {wrong}", call.name()),
+            (None, wrong) => f.write_str(wrong),
+        }
+    }
+}
+
+impl std::error::Error for TableFault {}
 
 impl CallTable {
     /// The table that a TOML text gives. Each key of the document is the name of a call, and its

@@ -9,5 +9,5 @@ use Rattle.pua_tool.proofs.columns.columns_of.Given as goal
 abbrev pub invariant-loop-row : goal.invariant-loop-row
 invariant-loop-row l = record {
   names : map (λ name. name.now) l.names.items ≡ last_row_word [] (take l.row-index l.rows);
-  columns : AreColumns (done_behind l.behind) l.behind.number l.process [] (take l.row-index l.rows) (map string_bytes l.columns.items);
+  columns : AreColumns l.behind.rules (done_behind l.behind) l.behind.number l.process [] (take l.row-index l.rows) (map string_bytes l.columns.items);
 }

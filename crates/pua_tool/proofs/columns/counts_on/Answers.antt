@@ -1,4 +1,4 @@
-use Rattle.pua_tool.proofs.Common.{◌≡◌, ℕ, ◌∙◌, ◌∷◌, ◌++◌, [], List, ap, map, arith, sym, subst, Some, Option, Tree}
+use Rattle.pua_tool.proofs.Common.{◌≡◌, ℕ, ◌∙◌, ◌∷◌, ◌++◌, [], List, ap, map, arith, sym, subst, Some, Result, Tree}
 use Rattle.std.proofs.Common.{◌≤◌, get_or}
 use Rattle.std.specs.List.{AllByRecursion}
 use Rattle.pua_calls.specs.Calls.{call_count, calls}
@@ -6,6 +6,7 @@ use Rattle.pua_calls.specs.declared.call.Call.{Call}
 use Rattle.pua_calls.specs.declared.call.Call.TheVariants.{Stat}
 use Rattle.pua_audit.specs.Reach.{Word}
 use Rattle.pua_how.specs.Asked.{IsAskedBy}
+use Rattle.pua_how.specs.declared.way.NoWay.{NoWay}
 use Rattle.pua_ever.specs.EverLines.{IsThing}
 use Rattle.pua_texts.specs.EverLines.{kind_of}
 use Rattle.pua_tool.specs.EverHowTexts.{IsCount, asking_by}
@@ -29,7 +30,7 @@ loop-call-preserved c =
     let things = c.in_ok-meant.meant.targets.items in
     elim c.if-contains.branch [
       | then-contains+in_ok-steps+in_ok-push w ↦
-          let found : Option ℕ = w.in_ok-steps.steps in
+          let found : Result ℕ NoWay = w.in_ok-steps.steps in
           let all : w.push.new.self.items ≡ counts ++ (call, found) ∷ [] = w.in_ok-push.ensures.items in
           rw w.counts-is (record {
             calls = ap calls_of all ∙ call_counted set i c.loop-call-test.true counts found (sym c.contains.ensures ∙ w.if-contains.true)
@@ -38,9 +39,9 @@ loop-call-preserved c =
                 let at = c.tree.ensures in
                 let asked = subst (λ (t : Tree). IsAskedBy t h (asking_by word about) (Some (kind_of of)) things) at
                 (c.in_ok-meant.ensures.meant about (subst (λ (t : Tree). IsThing t about of) (sym at) thing)) in
-                subst (AllByRecursion (IsCount done n h (asking_by word about) (kind_of of))) (sym all)
-                (steps_counted done n h (asking_by word about) (kind_of of) things asked counts call found
-                (c.loop-call.invariant.counted about thing) w.in_ok-steps.ensures.steps);
+                subst (AllByRecursion (IsCount behind.rules done n h (asking_by word about) (kind_of of))) (sym all)
+                (steps_counted behind.rules done n h (asking_by word about) (kind_of of) things asked counts call found
+                (c.loop-call.invariant.counted about thing) w.in_ok-steps.ensures.steps w.in_ok-steps.ensures.none);
           })
       | else-contains w ↦ rw w.counts-is (record {
         calls = call_passed set i c.loop-call-test.true counts (sym c.contains.ensures ∙ w.if-contains.false) c.loop-call.invariant.calls;

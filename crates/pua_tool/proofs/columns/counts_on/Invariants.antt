@@ -16,5 +16,5 @@ abbrev pub invariant-loop-call : goal.invariant-loop-call
 invariant-loop-call l = record {
   calls : map (λ count. count.0) l.counts.items ≡ filter (has l.calls) (take l.call-index calls);
   counted : (about : Thing) → IsThing (done_behind l.behind).world.tree about l.fn.thing →
-      AllByRecursion (IsCount (done_behind l.behind) l.behind.number l.process (asking_by (map (λ name. name.now) l.names) about) (kind_of l.fn.thing)) l.counts.items;
+      AllByRecursion (IsCount l.behind.rules (done_behind l.behind) l.behind.number l.process (asking_by (map (λ name. name.now) l.names) about) (kind_of l.fn.thing)) l.counts.items;
 }

@@ -75,9 +75,9 @@ returns g c =
     let lasting = c.in-Ok-list_lasting.ensures.list whose in
     let there = subst (λ (table : CallTable). IsLasting done.world.tree table h list) ruled
     (subst (λ (t : Tree). IsLasting t table h list) at lasting) in
-    let columns = subst (λ (rows : List EverRow). AreColumns done n h [] rows texts) c.as_slice.ensures.value
+    let columns = subst (λ (rows : List EverRow). AreColumns behind.rules done n h [] rows texts) c.as_slice.ensures.value
     c.in_ok-columns.ensures.columns in
-    let lines = lines_told done n h [] rows texts (ever_lasting done.world.tree done.table h) there.rows columns in
+    let lines = lines_told behind.rules done n h [] rows texts (ever_lasting done.world.tree done.table h) there.rows columns in
     let none : refusal done.table h ≡ None = (λ i. refusal (sym ruled i) h) ∙ c.in-Ok-list_lasting.ensures.refused whose in
     let front : c.as_str-front.result.now ≡ answer_lines 1 done.answers = c.as_str-front.ensures.value ∙ c.in-Ok-answer_text.ensures ∙
     ap (answer_lines 1) c.as_slice-2.ensures.value in

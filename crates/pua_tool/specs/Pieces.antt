@@ -1,0 +1,14 @@
+-- What a line of pieces is.
+use Rattle.std.specs.Prelude.{ℕ, List, [], ◌∷◌, ◌++◌, decimal}
+use Rattle.pua_texts.specs.Lines.{with_end}
+use Rattle.pua_tool.specs.declared.line.Piece.{Piece}
+use Rattle.pua_tool.specs.declared.line.Piece.TheVariants.{Text, Number}
+
+abbrev pub piece_text : Piece → List ℕ
+piece_text (Text text) = text.now
+piece_text (Number number) = decimal number
+
+-- the pieces one after another, and the line's end
+abbrev pub line_of : List Piece → List ℕ
+line_of [] = with_end []
+line_of (piece ∷ more) = piece_text piece ++ line_of more
