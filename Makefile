@@ -29,8 +29,12 @@ check:
 
 # The tests in perl, over a program that is built already.
 test:
-	for test in tools/*.t; do PUA=$(PROGRAM) perl $$test || exit 1; done
-	for test in tests/*.t; do perl $$test $(PROGRAM) || exit 1; done
+	PUA=$(PROGRAM) prove tools
+	prove tests :: $(PROGRAM)
+
+# The program beside the plain one, over 2,000 random worlds and all rows of the tests. It takes rustc.
+night:
+	prove bench/plain/night.t :: $(PROGRAM)
 
 # Writes what each public item of the libraries promises: its doc and its contract, and the laws.
 reference:
@@ -76,4 +80,4 @@ uninstall:
 	for module in $(MODULES); do rm -f $(PERLDIR)/Pua/$$module.pm; done
 	rm -f $(PERLDIR)/../conform.c
 
-.PHONY: all quick check test reference conform install install-tools dist distcheck uninstall
+.PHONY: all quick check test night reference conform install install-tools dist distcheck uninstall

@@ -20,17 +20,17 @@ use Cases;
 use File::Temp qw(tempdir);
 use Linux;
 use List::Util qw(first);
-use POSIX ();
 use Pua::Perform qw(perform);
 use Storable qw(dclone);
 use Tables qw(content);
 use Test::More;
+use Tried qw(may_chroot);
 use Worlds qw(answer_of program_in worlds_told);
 
 plan skip_all => 'the rules are those of Linux' if $^O ne 'linux';
 plan skip_all => 'only root makes a directory the root of a process' if $> != 0;
 my $room = tempdir(CLEANUP => 1);
-plan skip_all => 'chroot(2) is refused here' if !may_chroot();
+plan skip_all => 'chroot(2) is refused here' if !may_chroot($room);
 
 my $PROGRAM = program_in(@ARGV);
 my $CASES = 600;
@@ -150,15 +150,6 @@ for my $rule (@Linux::RULES) {
 }
 test_wrong(@$_) for @WRONG;
 done_testing;
-
-# Whether a directory can become the root here.
-sub may_chroot {
-    my $child = fork;
-    return 0 unless defined $child;
-    if (!$child) { POSIX::_exit(chroot $room ? 0 : 1) }
-    waitpid $child, 0;
-    return $? == 0;
-}
 
 # Tries one case, and keeps it with what the kernel said.
 sub try_case {

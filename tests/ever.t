@@ -15,7 +15,7 @@ use Test::More;
 use EverModel;
 use Foreseen;
 use Futures;
-use Lists qw(lists_of);
+use Listed qw(lists_of state_of);
 use Model;
 use Things;
 use Worlds qw(answer_of program_in worlds_told);
@@ -227,7 +227,7 @@ sub is_told {
 sub beyond_now {
     my ($world) = @_;
     for my $process (1, $CHILD) {
-        my $fault = Lists::beyond($world->{lists}{$process}, ever_of($world, $process));
+        my $fault = Listed::beyond($world->{lists}{$process}, ever_of($world, $process));
         return "process $process: $fault" if defined $fault;
     }
     return;
@@ -240,7 +240,7 @@ sub beyond_alone {
     for my $process (@{ $world->{members} }) {
         my $alone = ever_of($world, $process);
         next if is_exec($alone, 'bounded') && is_exec($world->{ever}, 'open');
-        my $fault = Lists::beyond($alone, $world->{ever});
+        my $fault = Listed::beyond($alone, $world->{ever});
         return "process $process: $fault" if defined $fault;
     }
     return;
@@ -249,7 +249,7 @@ sub beyond_alone {
 # What the list of both says of their states, without what is said of exec and of openings, and what the model does.
 sub states_told {
     my ($world) = @_;
-    return join '', map { "@$_\n" } grep { $_->[0] !~ /\A(?:exec|opening)\z/ } @{ $world->{ever}{state} };
+    return join '', map { "$_\n" } grep { !/\A(?:exec|opening) / } @{ $world->{ever}{state} };
 }
 
 sub states_wanted {
@@ -272,7 +272,7 @@ sub whose {
 
 # What the list for ever says of execs, and what the model does: nothing where no line has one, unless what tmppath makes
 # may be started.
-sub exec_word { return (Lists::state_of($_[0]{ever}, 'exec'))[0] }
+sub exec_word { return state_of($_[0]{ever})->{exec} }
 
 sub exec_wanted {
     my ($world) = @_;
@@ -282,7 +282,7 @@ sub exec_wanted {
 }
 
 # Whether a list for ever says this word of execs.
-sub is_exec { my ($list, $word) = @_; return grep { $_ eq $word } Lists::state_of($list, 'exec') }
+sub is_exec { my ($list, $word) = @_; return (state_of($list)->{exec} // '') eq $word }
 
 sub is_bounded { return is_exec($_[0]{ever}, 'bounded') ? 1 : 0 }
 
@@ -327,7 +327,7 @@ sub beyond_ever {
 # The lists of now of those that hold a promise, or hand it down.
 sub holders {
     my ($world, $promise) = @_;
-    return grep { Lists::holds($_, $promise) || Lists::hands_down($_, $promise) } @{ $world->{nows} };
+    return grep { Listed::holds($_, $promise) || Listed::hands_down($_, $promise) } @{ $world->{nows} };
 }
 
 # The first fault behind some parts of a random script, each of one line or of many.
@@ -418,7 +418,7 @@ sub beyond_lists {
         $fault = $world->{foreseen}->meet_list($play->{model}, $lists->{$member}) if !defined $fault;
         return "process $member: $fault" if defined $fault;
     }
-    $play->{alive} = [ grep { Lists::is_alive($lists->{$_}) } @members ];
+    $play->{alive} = [ grep { Listed::is_alive($lists->{$_}) } @members ];
     $play->{list} = $lists->{ $play->{alive}[0] } if @{ $play->{alive} };
     return;
 }
@@ -428,17 +428,18 @@ sub beyond_lists {
 sub beyond_state {
     my ($world, $list) = @_;
     my $first = $world->{nows}[0];
-    return if !Lists::is_alive($list);
-    return "can put veils again" if !Lists::is_confined($list);
+    return if !Listed::is_alive($list);
+    return "can put veils again" if !Listed::is_confined($list);
     return "has other veils" if "@{ [ letters($first) ] }" ne "@{ [ letters($list) ] }";
-    my ($promises) = Lists::state_of($list, 'promises');
-    my @more = grep { $_ ne 'error' && $_ ne '=' && !holders($world, $_) } split /,/, $promises;
+    my $promises = state_of($list)->{promises};
+    return 'has all promises' if !$promises && !grep { Listed::has_all($_) } @{ $world->{nows} };
+    my @more = grep { $_ ne 'error' && !holders($world, $_) } sort keys %{ $promises || {} };
     return @more ? "has further promises: @more" : undef;
 }
 
 sub letters {
     my ($list) = @_;
-    return map { (split / /)[1] } Lists::state_of($list, 'veil');
+    return map { $_->[1] } @{ state_of($list)->{veils} };
 }
 
 # What has no list for ever, and what has one without a line.
@@ -509,7 +510,7 @@ sub open_worlds {
         my (undef, $text) = answer_of($PUA, $files, 'objects', 'listing', 'script');
         my $list = lists_of($text)->{lists}{1};
         my ($status, $out, $err) = answer_of($PUA, $files, 'objects', '--ever', 'listing', 'script');
-        my $is_open = !Lists::is_confined($list);
+        my $is_open = !Listed::is_confined($list);
         $opens += $is_open;
         my $told = $is_open ? "1 pua: process 1 can still unveil\n" : "0 ";
         push @wrong, worlds_told($files, 'objects', '--ever') if "$status $err" ne $told || $is_open && $out ne '';

@@ -12,7 +12,7 @@ use List::Util qw(first);
 use Storable qw(dclone);
 use Test::More;
 use Futures;
-use Lists qw(lists_of);
+use Listed qw(lists_of);
 use Mirrors qw(twin bare mirrored);
 use Model;
 use Things;
@@ -243,7 +243,7 @@ sub answer_fault {
 sub confined {
     my ($cut) = @_;
     my $now = $cut->{now};
-    return grep { Lists::is_alive($now->{$_}) && Lists::is_confined($now->{$_}) } $cut->{model}->processes;
+    return grep { Listed::is_alive($now->{$_}) && Listed::is_confined($now->{$_}) } $cut->{model}->processes;
 }
 
 # What is allowed to a process that comes from such a one lies within what that one, as it was, would be allowed; and
@@ -254,9 +254,9 @@ sub list_fault {
     my $then = $cut->{then};
     for my $process (grep { $confined{ origin($cut, $_) } } $cut->{end}->processes) {
         my ($list, $before) = ($then->{$process}, $then->{ twin(origin($cut, $process)) });
-        my $fault = Lists::beyond($list, $before);
+        my $fault = Listed::beyond($list, $before);
         return "process $process gets further: $fault" if defined $fault;
-        return "process $process can put veils again" if !Lists::is_confined($list);
+        return "process $process can put veils again" if !Listed::is_confined($list);
         $counts{lists}++;
         next if $cut->{askers}{ origin($cut, $process) };
         return "process $process is not as before" if $list->{text} ne $before->{text};
@@ -308,7 +308,7 @@ sub one_asker {
     my ($cut) = @_;
     my %origins = map { origin($cut, $_) => 1 } keys %{ $cut->{askers} };
     my ($asker, @others) = keys %origins;
-    return if !defined $asker || @others || !$cut->{now}{$asker} || !Lists::is_alive($cut->{now}{$asker});
+    return if !defined $asker || @others || !$cut->{now}{$asker} || !Listed::is_alive($cut->{now}{$asker});
     return if @{ $cut->{rest} } > 1 && !grep { $_ == $asker } confined($cut);
     my $has_exec = grep { $cut->{before}[$_] =~ / exec / && $cut->{answers}[$_] eq 'ok' } 0 .. $#{ $cut->{before} };
     return $has_exec ? undef : $asker;
@@ -320,9 +320,9 @@ sub name_fault {
     my ($cut) = @_;
     my $asker = one_asker($cut);
     return if !defined $asker;
-    my ($now, $then) = map { Lists::calls_at($cut->{$_}{ bare($asker) }) } qw(now then);
+    my ($now, $then) = map { Listed::calls_at($cut->{$_}{ bare($asker) }) } qw(now then);
     my %rows = map { $_->{dir} . "/$_->{name}" => $_ } grep { defined $_->{dir} } Things::rows($cut->{end});
-    for my $row (grep { !Lists::gives_c($now, $_) } Things::rows($cut->{model})) {
+    for my $row (grep { !Listed::gives_c($now, $_) } Things::rows($cut->{model})) {
         next if !defined $row->{dir};
         $counts{names}++;
         my $after = $rows{"$row->{dir}/$row->{name}"};

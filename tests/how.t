@@ -17,7 +17,7 @@ use List::Util qw(sum0);
 use Storable qw(dclone);
 use Test::More;
 use EverModel;
-use Lists qw(lists_of);
+use Listed qw(lists_of);
 use Model;
 use Tables qw(content);
 use Things;
@@ -116,7 +116,7 @@ sub test_examples {
 sub test_example {
     my ($name, $world) = @_;
     $world->{counted} = 'examples';
-    $world->{has_all} = !grep { "@$_" eq 'exec bounded' } @{ $world->{ever}{state} };
+    $world->{has_all} = !grep { $_ eq 'exec bounded' } @{ $world->{ever}{state} };
     my @calls = further($world);
     is(first_fault($world, sub { fault_of($world, $_) }, @calls), undef, "$name, $world->{rules} $world->{process}: ways");
     test_columns($world, "$name, $world->{rules} $world->{process}", @calls);
@@ -195,7 +195,7 @@ sub first_fault {
 # The calls that the list for ever has and that of now lacks, each with its line's kind and path.
 sub further {
     my ($world) = @_;
-    my ($now, @calls) = (Lists::calls_at($world->{now}));
+    my ($now, @calls) = (Listed::calls_at($world->{now}));
     for my $line (@{ $world->{ever}{lines} }) {
         my $had = $now->{"$line->{kind} $line->{path}"} || {};
         push @calls, map { { call => $_, kind => $line->{kind}, path => $line->{path} } } grep { !$had->{$_} } @{ $line->{calls} };

@@ -13,7 +13,7 @@ use strict;
 use warnings;
 use FindBin qw($Bin);
 use lib "$Bin/lib";
-use Lists qw(lists_of);
+use Listed qw(lists_of state_of);
 use Tables qw(content);
 use Test::More;
 use Tight;
@@ -85,7 +85,7 @@ sub fault_of_reach {
         my ($given_list, $left_list) = ($before->{$process}, $after->{$process});
         $count{lines} += @{ $given_list->{lines} };
         $count{fewer} += @{ $given_list->{lines} } - @{ $left_list->{lines} };
-        my $beyond = fault_of_state($given_list, $left_list) || Lists::beyond($left_list, $given_list)
+        my $beyond = fault_of_state($given_list, $left_list) || Listed::beyond($left_list, $given_list)
             || fault_of_future($world, $process, $given, $left);
         return "process $process: $beyond" if $beyond;
     }
@@ -95,7 +95,7 @@ sub fault_of_reach {
 # Whether a state is another one but for promises and letters, of which it has none more.
 sub fault_of_state {
     my ($given, $left) = @_;
-    my ($before, $after) = map { $_->{state} } $given, $left;
+    my ($before, $after) = map { [map { [split / /] } @{ $_->{state} }] } $given, $left;
     return 'another state' if @$before != @$after;
     for my $index (0 .. $#$after) {
         my ($old, $new) = ($before->[$index], $after->[$index]);
@@ -126,10 +126,10 @@ sub fault_of_future {
         return '' if $status;
         push @lists, lists_of($text)->{lists}{$process};
     }
-    my @execs = map { (Lists::state_of($_, 'exec'))[0] || '' } @lists;
+    my @execs = map { state_of($_)->{exec} || '' } @lists;
     $count{bounded}++, return '' if "@execs" eq 'open bounded';
     $count{ever}++;
-    my $beyond = Lists::beyond(@lists[1, 0]);
+    my $beyond = Listed::beyond(@lists[1, 0]);
     return defined $beyond ? "for ever: $beyond" : '';
 }
 

@@ -48,7 +48,7 @@ use POSIX ();
 use Pua::Help qw(help_of);
 use Pua::Kernel qw(has_pledge has_unveil);
 use Pua::Perform qw(perform);
-use Pua::Trials qw(listing_of script_of trials_in);
+use Pua::Trials qw(content listing_of script_of trials_in);
 
 my ($NAME) = $0 =~ m{([^/]*)\z};
 my $USAGE = "usage: $NAME [--builtins] [--left] [--helper FILE] [--room DIR] [--help] "
@@ -59,15 +59,6 @@ my %NEEDS = (pledge => 'OpenBSD::Pledge', unveil => 'OpenBSD::Unveil');
 
 sub fail { print STDERR "$NAME: @_\n"; exit 1 }
 sub misused { print STDERR $USAGE; exit 2 }
-
-sub content {
-    my ($name) = @_;
-    open my $in, '<:raw', $name or die "$name: $!\n";
-    local $/ = undef;
-    my $text = <$in>;
-    die "$name: it cannot be read\n" if $in->error;
-    return defined $text ? $text : '';
-}
 
 # A process that is killed leaves no core behind in the tree.
 sub without_cores {

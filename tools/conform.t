@@ -3,59 +3,28 @@
 # conform.c too; without root what needs none.
 use strict;
 use warnings;
-use Cwd qw(abs_path);
-use File::Basename qw(dirname);
-use File::Temp qw(tempdir);
-use POSIX ();
+use FindBin qw($Bin);
+use lib "$Bin/lib";
 use Test::More;
+use Tried qw(:DEFAULT may_chroot);
 
-my $TOOLS   = dirname(abs_path(__FILE__));
-my $CONFORM = "$TOOLS/conform.pl";
-my $room    = tempdir(CLEANUP => 1);
+my $CONFORM = "$Bin/conform.pl";
+my $room    = enter_room();
 chmod 0755, $room;
 mkdir "$room/cases" or die "$room/cases: $!\n";
 
 my $helper;
-if (system("cc -static -O1 -o '$room/helper' '$TOOLS/conform.c' > '$room/cc' 2>&1") == 0) { $helper = "$room/helper" }
+if (system("cc -static -O1 -o '$room/helper' '$Bin/conform.c' > '$room/cc' 2>&1") == 0) { $helper = "$room/helper" }
 note defined $helper ? 'with conform.c' : 'without conform.c: cc makes no static program of it';
 
-sub put {
-    my ($name, $text) = @_;
-    open my $out, '>:raw', "$room/$name" or die "$name: $!\n";
-    print $out $text;
-    close $out or die "$name: $!\n";
-    return "$room/$name";
-}
-
-sub content {
-    my ($name) = @_;
-    open my $in, '<:raw', $name or die "$name: $!\n";
-    local $/ = undef;
-    my $text = <$in>;
-    return defined $text ? $text : '';
-}
-
-# Runs conform.pl with these words, as this user or another one: its status, and what it wrote on both outputs.
-my ($user, @perl) = $>;
-sub conform {
-    my @words = @_;
-    my $child = fork;
-    die "fork: $!" unless defined $child;
-    if (!$child) {
-        open STDOUT, '>', "$room/out" or POSIX::_exit(99);
-        open STDERR, '>', "$room/err" or POSIX::_exit(99);
-        POSIX::setuid($user) if $user != $>;
-        { no warnings 'exec'; exec $^X, @perl, $CONFORM, @words }
-        POSIX::_exit(99);
-    }
-    waitpid $child, 0;
-    return ($? >> 8, content("$room/out"), content("$room/err"));
-}
+# Runs conform.pl with these words, as this user or another one.
+my ($user, @perl);
+sub conform { return ran($CONFORM, { perl => [@perl], user => $user }, @_) }
 
 sub answers { my ($text) = @_; return join ' ', $text =~ /^[0-9]+ (\S+)$/mg }
 
 # What needs no root.
-like(`$^X -wc $CONFORM 2>&1`, qr/\A\S+ syntax OK\n\z/, 'perl has nothing to say');
+is_clean($CONFORM, '-wc');
 my $tree = put('tree', <<'END_TREE');
 tree 2
 0 dir
@@ -81,14 +50,14 @@ for my $words ([], [$tree], [@both, $tree], ['--what', @both], ['--trials'], ['-
     is($status, 0, '--help');
     like($out, qr/\APerforms a script of pua\(1\).*^Status 0: .*use of it\.\n\z/ms, '--help prints the head');
 }
-if ($> == 0) { ($user) = 65534 }
+if ($> == 0) { $user = 65534 }
 {
     my ($status, $out, $err) = conform($tree, $script);
     is("$status $out", '1 ', 'without root');
     is($err, "conform.pl: it has to be root, for chroot(2)\n", 'without root, and it is said');
 }
-$user = $>;
-if ($> != 0 || !may_chroot()) { note 'no root here: no script is performed'; done_testing; exit }
+undef $user;
+if ($> != 0 || !may_chroot($room)) { note 'no root here: no script is performed'; done_testing; exit }
 
 # That a script is answered so, in each way of making calls.
 sub answered {
@@ -323,12 +292,3 @@ if ($^O ne 'openbsd') {
     like($err, qr/lines with pledge are left out: there is no OpenBSD::Pledge here\n.*unveil/s, 'and it is said');
 }
 done_testing;
-
-# Whether a directory can become the root here.
-sub may_chroot {
-    my $child = fork;
-    return 0 unless defined $child;
-    if (!$child) { POSIX::_exit(chroot $room ? 0 : 1) }
-    waitpid $child, 0;
-    return $? == 0;
-}

@@ -17,20 +17,21 @@ use warnings;
 use Config;
 use Cwd qw(abs_path);
 use Errno ();
-use File::Basename qw(dirname);
 use File::Find qw(find);
 use File::Path qw(make_path remove_tree);
-use File::Temp qw(tempdir);
+use FindBin qw($Bin);
+use lib "$Bin/lib";
 use POSIX ();
 use Test::More;
+use Tried qw(enter_room put);
 
 plan skip_all => 'the numbers of calls are those of Linux on x86-64'
     unless $Config{archname} =~ /\Ax86_64-linux/;
 
 my ($SEED, $COUNT) = (@ARGV, (71, 24)[@ARGV .. 1]);
-my ($LIST, $TRACE) = map { dirname(abs_path(__FILE__)) . "/$_.pl" } qw(list trace);
+my ($LIST, $TRACE) = map { "$Bin/$_.pl" } qw(list trace);
 my $PUA   = defined $ENV{PUA} ? abs_path($ENV{PUA}) : undef;
-my $room  = abs_path(tempdir(CLEANUP => 1));
+my $room  = abs_path(enter_room());
 my $tree  = "$room/tree" . '/s' x 12;    # deep, so that `..` doesn't lead out of what is made anew
 my @NAMES = qw(a b c d);
 my $top   = $tree;     # of the tree, for whoever changed its root
@@ -55,10 +56,7 @@ sub make_tree {
     chdir $room or die "$room: $!";
     remove_tree("$room/tree");
     make_path(map { "$tree/$_" } 'a/a/b', 'a/c', 'b/a', 'c');
-    for my $file ('a/b', 'a/a/a', 'b/b', 'c/a', 'c/c', 'd') {
-        open my $out, '>', "$tree/$file" or die "$file: $!";
-        close $out or die "$file: $!";
-    }
+    put("$tree/$_", '') for 'a/b', 'a/a/a', 'b/b', 'c/a', 'c/c', 'd';
     return unless $has_links;
     symlink '../b', "$tree/a/d" or die "a/d: $!";
     symlink "$tree/a/a", "$tree/b/d" or die "b/d: $!";

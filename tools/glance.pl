@@ -38,7 +38,7 @@ BEGIN {
     unshift @INC, map { ($here || './') . $_ } '../share/pua/perl', 'lib';
 }
 use Getopt::Long qw(:config posix_default no_ignore_case bundling);
-use Pua::Calls qw(%BY_VEILS %OPENINGS);
+use Pua::Calls qw(%OPENINGS is_veiled opened_by);
 use Pua::Help qw(help_of);
 use Pua::Lists qw(@COLUMNS columns has_promise held_of holds manifest_of read_lists state_of);
 use Pua::Regions;
@@ -51,7 +51,7 @@ my @NETWORK     = qw(inet mcast dns bpf pf route wroute vmm);
 
 my $by_regions;    # whether -d was given
 
-my %BY_STDIO = map { $_ => 1 } @{ $OPENINGS{stdio} };
+my %BY_STDIO = map { $_ => 1 } opened_by('stdio');
 
 # The first of some things, and how many more there are of $count.
 sub some_of {
@@ -121,8 +121,8 @@ sub about_sockets {
 sub about_openings {
     my ($state) = @_;
     my @paths = map { $_->[0] } grep { @$_ == 2 } @{ $state->{openings} };    # others ask veils
-    my @promises = grep { has_promise($state, $_) && !$BY_VEILS{$_} } sort keys %OPENINGS;
-    @paths = map { @{ $OPENINGS{$_} } } @promises if !@paths;
+    my @promises = grep { has_promise($state, $_) && !is_veiled($_) } sort keys %OPENINGS;
+    @paths = map { opened_by($_) } @promises if !@paths;
     @paths = grep { !$BY_STDIO{$_} } @paths;
     return @paths ? 'opens past the veils ' . some(@paths) : ();
 }

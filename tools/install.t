@@ -3,20 +3,18 @@
 use strict;
 use warnings;
 use Cwd qw(abs_path);
-use File::Basename qw(dirname);
 use File::Find qw(find);
-use File::Temp qw(tempdir);
+use FindBin qw($Bin);
+use lib "$Bin/lib";
 use Test::More;
+use Tried;
 
 plan skip_all => 'there is no make(1) here' unless grep { -x "$_/make" } split /:/, $ENV{PATH};
 
-my $top = dirname(dirname(abs_path(__FILE__)));
+my $top     = abs_path("$Bin/..");
+my $to      = enter_room();
+my $program = put('stand-in', "#!/bin/sh\necho stand-in\n");
 chdir $top or die "cannot enter $top: $!\n";
-my $to      = tempdir(CLEANUP => 1);
-my $program = "$to/stand-in";
-open my $made, '>', $program or die "cannot make $program: $!\n";
-print $made "#!/bin/sh\necho stand-in\n";
-close $made or die "cannot make $program: $!\n";
 
 # What `make WORD` ends with; what it prints is only shown where it fails.
 sub make {
@@ -49,14 +47,6 @@ my %wanted_tools = (
 );
 my %wanted = (%wanted_tools, '/usr/bin/pua' => '755', '/usr/share/man/man1/pua.1' => '644',
     '/usr/share/man/man7/pua-model.7' => '644');
-
-# The whole content of a file.
-sub content {
-    my ($name) = @_;
-    open my $in, '<', $name or die "cannot open $name: $!\n";
-    local $/ = undef;
-    return scalar <$in>;
-}
 
 is make('install-tools'), 0, 'the tools are installed';
 is_deeply installed(), \%wanted_tools, 'each tool, with its page and its modules, and no program';

@@ -13,7 +13,7 @@ use IO::Socket::UNIX;
 use List::Util qw(shuffle);
 use POSIX qw(mkfifo);
 use Test::More;
-use Tried qw(content enter_room helps is_clean ran);
+use Tried qw(content enter_room helps is_clean put ran);
 
 my $LIST = "$Bin/list.pl";
 my $PUA  = defined $ENV{PUA} ? abs_path($ENV{PUA}) : undef;
@@ -35,15 +35,6 @@ sub file {
     open my $out, '>', $name or die "$name: $!";
     close $out or die "$name: $!";
     chmod $mode, $name or die "$name: $!" if defined $mode;
-    return;
-}
-
-# Writes a file beside the directories.
-sub put {
-    my ($name, $text) = @_;
-    open my $out, '>:raw', "$room/$name" or die "$name: $!";
-    print $out $text;
-    close $out or die "$name: $!";
     return;
 }
 

@@ -16,15 +16,6 @@ my $PUA   = defined $ENV{PUA} ? abs_path($ENV{PUA}) : undef;
 enter_room();
 file('tree', 'tree 1', '0 dir');
 
-# Writes a file of these bytes.
-sub put {
-    my ($name, $bytes) = @_;
-    open my $out, '>:raw', $name or die "$name: $!";
-    print {$out} $bytes or die "$name: $!";
-    close $out or die "$name: $!";
-    return;
-}
-
 # Runs trace.pl with these words and, as its input, the file `trace`.
 sub trace { return ran($TRACE, { in => 'trace' }, @_) }
 

@@ -412,7 +412,9 @@ const KEYWORDS: [&str; 36] = [
     "id", "inet", "mcast", "pf", "proc", "prot_exec", "ps", "recvfd", "route", "rpath", "sendfd", "settime", "stdio",
     "tape", "tmppath", "tty", "unix", "unveil", "video", "vminfo", "vmm", "wpath", "wroute",
 ];
+const CHOWN: u64 = 1 << 2;
 const CPATH: u64 = 1 << 3;
+const DPATH: u64 = 1 << 6;
 const ERROR: u64 = 1 << 8;
 const EXEC: u64 = 1 << 9;
 const FATTR: u64 = 1 << 10;
@@ -448,11 +450,16 @@ enum Call {
     Exec,
     Connect,
     Bind,
+    Mknod,
+    Chown,
+    CreateRw,
+    Fchmod,
+    Fchown,
 }
 
 /// Each call with its name, what it needs, and whether it follows a link at its path's end; by the standard table the
 /// first fourteen alone are calls.
-const CALLS: [(Call, &str, u64, u8, bool); 16] = [
+const CALLS: [(Call, &str, u64, u8, bool); 21] = [
     (Call::Stat, "stat", RPATH, R, true),
     (Call::Lstat, "lstat", RPATH, R, false),
     (Call::Readlink, "readlink", RPATH, R, false),
@@ -469,13 +476,18 @@ const CALLS: [(Call, &str, u64, u8, bool); 16] = [
     (Call::Exec, "exec", EXEC, X, true),
     (Call::Connect, "connect", UNIX, W, true),
     (Call::Bind, "bind", UNIX, C, false),
+    (Call::Mknod, "mknod", DPATH, C, false),
+    (Call::Chown, "chown", CHOWN, W, true),
+    (Call::CreateRw, "create-rw", RPATH | WPATH | CPATH, R | W | C, true),
+    (Call::Fchmod, "fchmod", FATTR, R, true),
+    (Call::Fchown, "fchown", CHOWN, R, true),
 ];
 
 /// What calls need: sets of promises, of which one has to be held, and letters, and without a set a word is no call; what
 /// rename and link need of their old names, whose new ones need `cpath` and `c`; whether these are OpenBSD's rules, by
 /// which execpromises stay after an exec, and lists say what promises open by themselves.
 struct Rules {
-    calls: [(Vec<u64>, u8); 16],
+    calls: [(Vec<u64>, u8); 21],
     rename: OldName,
     link: OldName,
     is_openbsd: bool,
@@ -496,7 +508,7 @@ fn rules() -> &'static Rules {
 
 impl Rules {
     fn standard() -> Rules {
-        let is_call = |call| !matches!(call, Call::Connect | Call::Bind);
+        let is_call = |call| (call as usize) < Call::Connect as usize;
         Rules {
             calls: CALLS.map(|(call, _, promises, letters, _)| (Vec::from_iter(is_call(call).then_some(promises)), letters)),
             rename: OldName { promises: CPATH, letters: C, is_followed: false },
@@ -506,9 +518,13 @@ impl Rules {
     }
 
     fn openbsd() -> Rules {
-        let promises = |call, promises| if call == Call::Chmod { RPATH | promises } else { promises };
+        let sets = |call, own| match call {
+            Call::Chmod | Call::Fchmod => vec![RPATH | FATTR],
+            Call::Chown | Call::Fchown => vec![RPATH | CHOWN, RPATH | FATTR],
+            _ => vec![own],
+        };
         Rules {
-            calls: CALLS.map(|(call, _, own, letters, _)| (vec![promises(call, own)], letters)),
+            calls: CALLS.map(|(call, _, own, letters, _)| (sets(call, own), letters)),
             rename: OldName { promises: RPATH | CPATH, letters: R | C, is_followed: false },
             link: OldName { promises: RPATH, letters: R, is_followed: true },
             is_openbsd: true,
@@ -537,13 +553,13 @@ fn object(tree: &Tree, found: Found) -> Object {
 fn object_fault(call: Call, object: Object) -> Option<Errno> {
     use Call::*;
     match (object, call) {
-        (Object::Missing, Create | Mkdir | Symlink | Bind) => None,
+        (Object::Missing, Create | CreateRw | Mkdir | Symlink | Bind | Mknod) => None,
         (Object::Missing, _) => Some("ENOENT"),
-        (_, Mkdir | Symlink) => Some("EEXIST"),
+        (_, Mkdir | Symlink | Mknod) => Some("EEXIST"),
         (_, Bind) => Some("EADDRINUSE"),
         (Object::Dir(rmdir), Rmdir) => rmdir,
         (Object::Dir(_), Readlink) => Some("EINVAL"),
-        (Object::Dir(_), OpenW | OpenRw | Create) => Some("EISDIR"),
+        (Object::Dir(_), OpenW | OpenRw | Create | CreateRw) => Some("EISDIR"),
         (Object::Dir(_), Unlink) => Some("EPERM"),
         (Object::Dir(_), Exec) => Some("EACCES"),
         (Object::Dir(_), Connect) => Some("ENOTSOCK"),
@@ -789,11 +805,23 @@ fn read_call(word: &[u8]) -> Option<Call> {
     (!rules().calls[call as usize].0.is_empty()).then_some(call)
 }
 
+/// The call that a word of a script by OpenBSD's rules stands for.
+fn neighbour(word: &[u8]) -> Option<Call> {
+    match word {
+        _ if !rules().is_openbsd => None,
+        b"access" | b"statfs" => Some(Call::Stat),
+        b"truncate" => Some(Call::OpenW),
+        b"chflags" | b"utimes" => Some(Call::Chmod),
+        b"mkfifo" => Some(Call::Mknod),
+        _ => None,
+    }
+}
+
 fn read_action<'a>(fields: &[&'a [u8]]) -> Result<Action<'a>, &'static str> {
     let action = match *fields {
         [b"exit"] => Action::Exit,
         [b"fork", new] => Action::Fork(number(new).filter(|new| *new > 0).ok_or("bad call")?),
-        [call, path] => match read_call(call) {
+        [word, path] => match read_call(word).or_else(|| neighbour(word)) {
             None | Some(Call::Symlink) => return Err("bad call"),
             Some(call) => Action::OnPath(call, read_path(path)?),
         },
@@ -943,7 +971,7 @@ fn change(
     spot: Option<Spot>,
 ) -> Result<(), Errno> {
     match (call, node) {
-        (Call::Create, None) | (Call::Bind, _) => return add(tree, spot, Kind::File, &[]),
+        (Call::Create | Call::CreateRw, None) | (Call::Bind | Call::Mknod, _) => return add(tree, spot, Kind::File, &[]),
         (Call::Mkdir, _) => return add(tree, spot, Kind::Dir, &[]),
         (Call::Rmdir | Call::Unlink, _) => {
             if let Some((dir, name)) = spot {
@@ -989,20 +1017,20 @@ fn move_of(tree: &Tree, from: Found, to: Found) -> Result<Option<(Spot, Spot)>, 
 struct Step {
     letter: u32,
     to: u32,
-    all: u16,
-    kept: u16,
+    all: u32,
+    kept: u32,
     links: u8,
     /// The walk goes on below where fewer links than this were used.
     enter: u8,
 }
 
 const NOWHERE: u32 = u32::MAX;
-const KEPT: u16 = 0b1000_0111_1000_0110;
+const KEPT: u32 = 0b1_1000_0111_1000_0110;
 
 /// For each directory the calls that are allowed on names that it doesn't have, and for each number of letters left, from
 /// 1, and each directory the steps that are of use.
 struct Tables {
-    missing: Vec<u16>,
+    missing: Vec<u32>,
     lists: Vec<Vec<Vec<Step>>>,
 }
 
@@ -1021,8 +1049,8 @@ struct Walk<'a> {
 
 /// The calls that a process is allowed, worked out once: by the letters of a cover, and by the object.
 struct Allowed {
-    by_letters: [u16; 16],
-    by_object: [u16; OBJECTS.len()],
+    by_letters: [u32; 16],
+    by_object: [u32; OBJECTS.len()],
 }
 
 /// An object of each kind that some call tells from the others.
@@ -1039,7 +1067,7 @@ impl Allowed {
     fn new(held: u64) -> Allowed {
         let calls = |fits: &dyn Fn(Call, &(Vec<u64>, u8)) -> bool| {
             let fitting = CALLS.iter().zip(&rules().calls).filter(|(row, need)| fits(row.0, need));
-            fitting.fold(0, |calls, (row, _)| calls | 1 << row.0 as u16)
+            fitting.fold(0, |calls, (row, _)| calls | 1 << row.0 as u32)
         };
         Allowed {
             by_letters: std::array::from_fn(|kept| calls(&|_, (sets, letters)| {
@@ -1049,7 +1077,7 @@ impl Allowed {
         }
     }
 
-    fn on(&self, cover: Cover, object: Object) -> u16 {
+    fn on(&self, cover: Cover, object: Object) -> u32 {
         let place = match object {
             Object::Missing => 0,
             Object::Node(Kind::Prog) => 2,
@@ -1112,7 +1140,7 @@ struct Making<'a> {
 }
 
 impl Making<'_> {
-    fn calls(&self, found: Found) -> u16 {
+    fn calls(&self, found: Found) -> u32 {
         let cover = match found {
             Found::Whole(dir, _) => self.covers[dir as usize],
             Found::Slot(dir, name, _) => self.process.kept_on_name(dir, name).or(self.covers[dir as usize]),
@@ -1185,7 +1213,7 @@ impl Tables {
 
 impl Walk<'_> {
     /// The lines of the word that stands in `path`.
-    fn lines(&mut self, mut calls: u16) -> io::Result<()> {
+    fn lines(&mut self, mut calls: u32) -> io::Result<()> {
         let path = if self.from_root { &self.path } else { self.path.strip_prefix(b"/").unwrap_or(&self.path) };
         while calls != 0 {
             self.out.extend_from_slice(path);
@@ -1195,7 +1223,7 @@ impl Walk<'_> {
         if self.out.len() >= BLOCK { flush(&mut self.out) } else { Ok(()) }
     }
 
-    fn lines_of(&mut self, letter: u32, calls: u16) -> io::Result<()> {
+    fn lines_of(&mut self, letter: u32, calls: u32) -> io::Result<()> {
         self.path.extend_from_slice(&self.letters[letter as usize]);
         self.lines(calls)
     }
@@ -1230,7 +1258,7 @@ impl Walk<'_> {
         Ok(())
     }
 
-    fn walk_missing(&mut self, letters: std::ops::Range<u32>, missing: u16, after: After) -> io::Result<()> {
+    fn walk_missing(&mut self, letters: std::ops::Range<u32>, missing: u32, after: After) -> io::Result<()> {
         let len = self.path.len();
         for letter in letters {
             self.lines_of(letter, missing & calls_after(rest_after(after, letter)))?;
@@ -1246,16 +1274,16 @@ fn rest_after(after: After, letter: u32) -> After {
 }
 
 /// The calls on a word that are still to come after a pair: all, those after its own call, or none.
-fn calls_after(rest: After) -> u16 {
+fn calls_after(rest: After) -> u32 {
     match rest {
-        None => u16::MAX,
-        Some(([], call)) => !(u16::MAX >> (15 - call)),
+        None => u32::MAX,
+        Some(([], call)) => !(u32::MAX >> (31 - call)),
         Some(_) => 0,
     }
 }
 
 /// For each number of letters left, from 1, and each directory, the steps that lead to a line.
-fn lists(table: &[Vec<Step>], missing: &[u16], limit: usize) -> Vec<Vec<Vec<Step>>> {
+fn lists(table: &[Vec<Step>], missing: &[u32], limit: usize) -> Vec<Vec<Vec<Step>>> {
     let own = |dir: usize| match (missing[dir], &table[dir]) {
         (0, steps) => steps.iter().map(|step| own_bound(step)).max().unwrap_or(0),
         _ => 33,
@@ -1288,10 +1316,10 @@ fn own_bound(step: &Step) -> u8 {
 }
 
 const BLOCK: usize = 65_536;
-const ENDINGS: [&[u8]; 16] = [
+const ENDINGS: [&[u8]; 21] = [
     b" stat\n", b" lstat\n", b" readlink\n", b" open-r\n", b" open-w\n", b" open-rw\n", b" create\n", b" mkdir\n",
     b" rmdir\n", b" unlink\n", b" symlink\n", b" chmod\n", b" chdir\n", b" exec\n", b" connect\n",
-    b" bind\n",
+    b" bind\n", b" mknod\n", b" chown\n", b" create-rw\n", b" fchmod\n", b" fchown\n",
 ];
 
 /// The letters and the call of the text `CALL:PATH`.
@@ -1521,7 +1549,7 @@ impl<'a> List<'a> {
         self.out.extend_from_slice(if self.path.is_empty() { b"/" } else { &self.path });
         let mut before = b' ';
         for (call, name, ..) in CALLS {
-            if calls & 1 << call as u16 != 0 {
+            if calls & 1 << call as u32 != 0 {
                 self.out.push(before);
                 self.out.extend_from_slice(name.as_bytes());
                 before = b',';
@@ -1722,8 +1750,8 @@ impl<'a> Ever<'a> {
         self.put(kind, &path, if matches!(object, Object::Node(Kind::Link)) { calls & KEPT } else { calls });
     }
 
-    fn put(&mut self, kind: &str, path: &[u8], calls: u16) {
-        let names: Vec<&str> = CALLS.iter().filter(|row| calls & 1 << row.0 as u16 != 0).map(|row| row.1).collect();
+    fn put(&mut self, kind: &str, path: &[u8], calls: u32) {
+        let names: Vec<&str> = CALLS.iter().filter(|row| calls & 1 << row.0 as u32 != 0).map(|row| row.1).collect();
         if !names.is_empty() {
             self.list.out.extend_from_slice(&[kind.as_bytes(), b" ", path, b" ", names.join(",").as_bytes(), b"\n"].concat());
         }
@@ -1784,7 +1812,7 @@ impl<'a> Ever<'a> {
         let allowed = &self.list.allowed;
         let calls = |covers: &[Cover], object| covers.iter().fold(0, |calls, cover| calls | allowed.on(*cover, object));
         let names: Vec<Cover> = self.for_dirs.iter().chain(&self.for_files).copied().collect();
-        if self.may_edit && calls(&names, Object::Missing) & 1 << maker as u16 != 0 {
+        if self.may_edit && calls(&names, Object::Missing) & 1 << maker as u32 != 0 {
             let ever = calls(if is_dir { &self.for_dirs } else { &self.for_files }, object);
             self.put(kind, b"new", if matches!(object, Object::Node(Kind::Link)) { ever & KEPT } else { ever });
         }

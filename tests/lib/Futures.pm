@@ -4,7 +4,7 @@ package Futures;
 use strict;
 use warnings;
 use EverModel;
-use Lists;
+use Listed;
 use Things;
 
 my @EDITS = (
@@ -32,8 +32,8 @@ sub new {
 # often they are about what one of them can edit, by a list of what it can touch.
 sub lines {
     my ($futures, $model, $list, $count, @askers) = @_;
-    my $calls = Lists::calls_at($list);
-    my @rows  = map { { %$_, is_open => Lists::gives_c($calls, $_) } } Things::rows($model);
+    my $calls = Listed::calls_at($list);
+    my @rows  = map { { %$_, is_open => Listed::gives_c($calls, $_) } } Things::rows($model);
     local $futures->{rows} = \@rows;
     local $futures->{model} = $model;
     local $futures->{free} = [ map { $_->{path} } grep { $_->{kind} eq 'missing' } @{ $list->{lines} } ];

@@ -1,22 +1,13 @@
-# What promises open by themselves, as lists by OpenBSD's rules tell it. Written from docs/DEFINITIONS.md.
+# What promises open by themselves, as lists by OpenBSD's rules tell it.
 package Openings;
 use strict;
 use warnings;
 use Exporter qw(import);
+use FindBin qw($Bin);
+use lib "$Bin/../tools/lib";
+use Pua::Calls qw(%OPENINGS);
 
 our @EXPORT_OK = qw(by_openbsd openings_of);
-
-# For each promise that opens something, what its lines say behind the word `opening`.
-my %OPENINGS = (
-    dns => ['/etc/resolv.conf stat,open-r', '/etc/hosts open-r', '/etc/services open-r', '/etc/protocols open-r'],
-    getpw => [
-        '/etc/pwd.db open-r', '/etc/group open-r', '/etc/netid open-r', '/var/run/ypbind.lock stat,open-r',
-        '/var/yp/binding/ open-r',
-    ],
-    stdio   => ['/dev/null open-r,open-w,open-rw', '/etc/localtime stat,open-r', '/usr/share/zoneinfo/ open-r'],
-    tmppath => ['/tmp/ create,unlink veils'],
-    tty     => ['/dev/tty open-r,open-w,open-rw veils'],
-);
 
 # The lines of what some promises open, given in any order.
 sub openings_of {

@@ -4,10 +4,13 @@ package Tried;
 use strict;
 use warnings;
 use Exporter qw(import);
+use File::Basename qw(dirname);
+use File::Path qw(make_path);
 use File::Temp qw(tempdir);
 use POSIX ();
 use Test::More;
-our @EXPORT = qw(content enter_room file helps is_clean ran);
+our @EXPORT = qw(content enter_room file helps is_clean put ran);
+our @EXPORT_OK = qw(may_chroot);
 
 my $room;
 
@@ -18,12 +21,22 @@ sub enter_room {
     return $room;
 }
 
+# Writes a file of the room with these bytes, in folders that are made where they are missing, and
+# answers its path.
+sub put {
+    my ($name, $bytes) = @_;
+    my $path = $name =~ m{\A/} ? $name : "$room/$name";
+    make_path(dirname($path));
+    open my $out, '>:raw', $path or die "$path: $!";
+    print {$out} $bytes or die "$path: $!";
+    close $out or die "$path: $!";
+    return $path;
+}
+
 # Writes a file of these lines, and answers its name.
 sub file {
     my ($name, @lines) = @_;
-    open my $out, '>:raw', $name or die "$name: $!";
-    print {$out} map { "$_\n" } @lines or die "$name: $!";
-    close $out or die "$name: $!";
+    put($name, join '', map { "$_\n" } @lines);
     return $name;
 }
 
@@ -38,9 +51,9 @@ sub content {
 }
 
 # Runs a tool with these words: its status, and what it wrote on both outputs, which are the files
-# `out` and `err` of the room. $how has the file that it reads, as `in`, and the options of perl, as
-# `perl`; -T is for a tool that reads foreign text, and no warning of perl's may be among what it
-# writes.
+# `out` and `err` of the room. $how has the file that the tool reads, as `in`, the options of perl, as
+# `perl`, and the number of another user, as `user`; -T is for a tool that reads foreign text, and no
+# warning of perl's may be among what it writes.
 sub ran {
     my ($tool, $how, @words) = @_;
     my @perl = @{ $how->{perl} || ['-T'] };
@@ -50,6 +63,7 @@ sub ran {
         open STDIN, '<', $how->{in} || '/dev/null' or POSIX::_exit(99);
         open STDOUT, '>', "$room/out" or POSIX::_exit(99);
         open STDERR, '>', "$room/err" or POSIX::_exit(99);
+        POSIX::setuid($how->{user}) if defined $how->{user};
         exec $^X, @perl, '-w', $tool, @words or POSIX::_exit(99);
     }
     waitpid $child, 0;
@@ -61,6 +75,16 @@ sub is_clean {
     my ($tool, @options) = @_;
     like(`$^X $_ $tool 2>&1`, qr/\A\S+ syntax OK\n\z/, "perl $_ has nothing to say") for @options;
     return;
+}
+
+# Whether a directory can become the root here.
+sub may_chroot {
+    my ($folder) = @_;
+    my $child = fork;
+    return 0 unless defined $child;
+    if (!$child) { POSIX::_exit(chroot $folder ? 0 : 1) }
+    waitpid $child, 0;
+    return $? == 0;
 }
 
 # That a tool prints its text for --help, which begins so.

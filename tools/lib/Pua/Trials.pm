@@ -16,7 +16,7 @@ package Pua::Trials;
 use strict;
 use warnings;
 use Exporter qw(import);
-our @EXPORT_OK = qw(listing_of script_of trials_in);
+our @EXPORT_OK = qw(content listing_of script_of trials_in);
 
 # The trials of a folder, in the order of their names.
 sub trials_in {
@@ -28,11 +28,13 @@ sub trials_in {
     return map { trial_of($_, content("$folder/$_")) } @names;
 }
 
+# The whole content of a file.
 sub content {
     my ($name) = @_;
     open my $in, '<:raw', $name or die "$name: $!\n";
     local $/ = undef;
     my $text = <$in>;
+    die "$name: it cannot be read\n" if $in->error;
     return defined $text ? $text : '';
 }
 
