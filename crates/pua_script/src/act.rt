@@ -1,7 +1,8 @@
 //! What a process's request does, where it makes no process: it is judged, and then it is done.
 //!
-//! Each request with paths has a function of its own: a compiled function clears all its variables when
-//! it begins, and a name takes 256 bytes. What a path names stays lent until a name is to be kept.
+//! Each request with paths has a function of its own: a compiled function clears all its variables
+//! when it begins, and a name takes 256 bytes. What a path names stays lent until a name is to be
+//! kept.
 
 ghost use Rattle.std.specs.Prelude.{◌≡◌, ℕ, List, None, OnErr, IsFalse, true, false};
 ghost use Rattle.pua_policy.specs.States.{ProcessState};
@@ -32,7 +33,8 @@ use pua_policy::{Process, Refusal};
 use pua_tree::FileTree;
 
 /// Does what a process asks for, where it is no fork. All checks come first, in their order;
-/// what is granted then lends the names of what they found. Whether the tree has room is asked last.
+/// what is granted then lends the names of what they found. Whether the tree has room is asked
+/// last.
 pub(crate) fn act<T: FileTree>(
     tree: &mut T,
     table: &CallTable,
@@ -88,7 +90,8 @@ fn call_on<T: FileTree>(
     }
 }
 
-/// Makes a call whose promises are held, and that makes no name and takes none away. No name is copied.
+/// Makes a call whose promises are held, and that makes no name and takes none away. No name is
+/// copied.
 fn look<T: FileTree>(
     tree: &mut T,
     table: &CallTable,
@@ -111,8 +114,8 @@ fn look<T: FileTree>(
     }
 }
 
-/// Makes a call whose promises are held, and that makes a name or takes one away. The name is copied,
-/// since what is lent may lie in the tree that is to change.
+/// Makes a call whose promises are held, and that makes a name or takes one away. The name is
+/// copied, since what is lent may lie in the tree that is to change.
 fn edit<T: FileTree>(
     tree: &mut T,
     table: &CallTable,

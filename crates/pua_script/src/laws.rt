@@ -48,8 +48,8 @@ pub fn decide_law()
     ensures { DecisionsAreGuarded }
 {}
 
-/// A replay, which keeps what is left of histories, answers as the one that keeps the histories does; its
-/// tree is the same, and its processes keep what is left of those histories.
+/// A replay, which keeps what is left of histories, answers as the one that keeps the histories
+/// does; its tree is the same, and its processes keep what is left of those histories.
 pub fn pasts_law()
     ensures { KeepsPasts }
 {}

@@ -1,4 +1,5 @@
-//! Requests that change the process that asks, and nothing else, and what a refused one leaves of it.
+//! Requests that change the process that asks, and nothing else, and what a refused one leaves of
+//! it.
 
 ghost use Rattle.std.specs.Prelude.{◌≡◌};
 ghost use Rattle.pua_tree.specs.Tree.{Tree};
@@ -17,8 +18,8 @@ use pua_path::Errno;
 use pua_policy::judge::promised;
 use pua_policy::{Process, Refusal};
 
-/// What a process is answered that does not get what it asks for. It ends where it did what it did not
-/// promise, and else lives on as it was.
+/// What a process is answered that does not get what it asks for. It ends where it did what it did
+/// not promise, and else lives on as it was.
 pub(crate) fn refuse(process: &mut Process, refusal: Refusal) -> Answer
     ensures { (t : Tree) → Does t process.old (refusal_effect refusal) result t process.new }
 {

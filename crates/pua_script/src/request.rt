@@ -136,8 +136,8 @@ impl Request {
         }
     }
 
-    /// Gives an unveil of a path these permissions in the place of its own, None for a letter that is
-    /// unknown. Any other request stays as it is.
+    /// Gives an unveil of a path these permissions in the place of its own, None for a letter that
+    /// is unknown. Any other request stays as it is.
     pub fn set_perms(&mut self, perms: Option<Perms>)
         ensures { self.new ≡ with_perms perms self.old }
     {

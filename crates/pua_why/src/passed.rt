@@ -301,7 +301,8 @@ impl Passed {
         Ok(())
     }
 
-    /// Adds what covers an object, if that leaves it these permissions, and answers whether it does.
+    /// Adds what covers an object, if that leaves it these permissions, and answers whether it
+    /// does.
     fn add_cover<'t, P: Probe<'t>>(
         &mut self,
         probe: &mut P,
