@@ -26,7 +26,8 @@ pub enum ExecBound {
     Never,
     /// All that is started is bounded: the list holds through every exec.
     Bounded,
-    /// What is started isn't bounded, or no line tells of it: the list holds until a program is started.
+    /// What is started isn't bounded, or no line tells of it: the list holds until a program is
+    /// started.
     Open,
 }
 
@@ -39,11 +40,11 @@ pub struct LastingList<'t> {
     pub execs: ExecBound,
 }
 
-/// Lists what a process, and what it forks, can ever touch in a tree by their own doing. Where all that
-/// they start is bounded, the list holds through every exec, and has what the started programs can
-/// touch, too: `both` is what `both_of` gave of the process by this table. Else it holds until an exec
-/// of theirs succeeds. Where `why_refused` has a reason, that is the fault. Else the only fault is that
-/// a growth was refused.
+/// Lists what a process, and what it forks, can ever touch in a tree by their own doing. Where all
+/// that they start is bounded, the list holds through every exec, and has what the started programs
+/// can touch, too: `both` is what `both_of` gave of the process by this table. Else it holds until
+/// an exec of theirs succeeds. Where `why_refused` has a reason, that is the fault. Else the only
+/// fault is that a growth was refused.
 pub fn list_lasting<'t, T: FileTree>(
     alloc: Global,
     tree: &'t T,
@@ -75,8 +76,8 @@ pub fn list_lasting<'t, T: FileTree>(
     })
 }
 
-/// The rows of who holds both sets, with the calls that one of the two lets through. They are refused
-/// by nothing that didn't refuse those of the process.
+/// The rows of who holds both sets, with the calls that one of the two lets through. They are
+/// refused by nothing that didn't refuse those of the process.
 fn rows_through<'t, T: FileTree>(
     alloc: Global,
     tree: &'t T,
@@ -97,7 +98,7 @@ fn rows_through<'t, T: FileTree>(
 }
 
 /// What a list without an exec says of execs: that none can ever succeed, unless a program can be
-/// started that it doesn't tell of. The only fault is that a growth was refused.
+/// started that it doesn't tell of. The only error is that a growth was refused.
 fn unlisted(alloc: Global, process: &Process, table: &CallTable) -> Result<ExecBound, EverFault>
     ensures execs { IfOk result (λ execs. execs ≡ execs_unlisted table.now process.now) }
     ensures unrefused { IfErr result (λ fault. refusal_in fault ≡ None) }
@@ -117,7 +118,8 @@ fn some_exec(rows: &[EverRow<'_>]) -> bool
     rows.iter().any(|row| row.line.calls.contains(Call::Exec))
 }
 
-/// The rows with those of their calls that are let through. The only error is that a growth was refused.
+/// The rows with those of their calls that are let through. The only error is that a growth was
+/// refused.
 fn let_through<'t>(
     alloc: Global,
     rows: &[EverRow<'t>],

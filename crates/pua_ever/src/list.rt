@@ -33,8 +33,8 @@ use pua_policy::Process;
 use pua_tree::{FileTree, Name};
 use std::alloc::{AllocError, Global};
 
-/// A line of the list for ever, which may have no calls. The names that lead to what it is about are so
-/// many of those of the line before, and then its own name, if it has one.
+/// A line of the list for ever, which may have no calls. The names that lead to what it is about
+/// are so many of those of the line before, and then its own name, if it has one.
 #[derive(Clone, Copy)]
 pub struct EverRow<'t> {
     /// How many names it shares with the line before.
@@ -47,12 +47,12 @@ pub struct EverRow<'t> {
 }
 
 /// Lists what a process, and what it forks, can ever touch in a tree by their own doing, as long as
-/// no exec of theirs succeeds. What stands or could stand now comes in the order of `list_items`, each
-/// followed by the name at which it stands, as a missing one: that has calls if it has a veil of its
-/// own and can come to be free. Last comes what can be made: a directory, its names, a file and a link.
-/// Where `why_refused` has a reason, that is the fault. Else the process can put no veil any more or
-/// has ended, and the only fault is that a growth was refused. Each veil that is not at a directory is
-/// at a name. The veils are asked as by `find_movable`.
+/// no exec of theirs succeeds. What stands or could stand now comes in the order of `list_items`,
+/// each followed by the name at which it stands, as a missing one: that has calls if it has a veil
+/// of its own and can come to be free. Last comes what can be made: a directory, its names, a file
+/// and a link. Where `why_refused` has a reason, that is the fault. Else the process can put no
+/// veil any more or has ended, and the only fault is that a growth was refused. Each veil that is
+/// not at a directory is at a name. The veils are asked as by `find_movable`.
 pub fn list_ever<'t, T: FileTree>(
     alloc: Global,
     tree: &'t T,

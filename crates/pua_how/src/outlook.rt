@@ -41,11 +41,11 @@ pub struct Outlook {
     pub execs: ExecBound,
 }
 
-/// Whether a line of the list for ever of a process has a call on one of these things. Where none has,
-/// the call is never allowed there to the process and to what it forks by their own doing, as long as no
-/// exec of theirs succeeds, or through every exec where all that they start is bounded: `both` is what
-/// `both_of` gave of the process by this table. Where `why_refused` has a reason against a list, that is
-/// the fault. Else the only fault is that a growth was refused.
+/// Whether a line of the list for ever of a process has a call on one of these things. Where none
+/// has, the call is never allowed there to the process and to what it forks by their own doing, as
+/// long as no exec of theirs succeeds, or through every exec where all that they start is bounded:
+/// `both` is what `both_of` gave of the process by this table. Where `why_refused` has a reason
+/// against a list, that is the fault. Else the only fault is that a growth was refused.
 pub fn find_outlook<T: FileTree>(
     alloc: Global,
     tree: &T,
@@ -86,8 +86,8 @@ fn through_by(execs: ExecBound, both: Option<&Both>) -> Option<&Both>
     }
 }
 
-/// Whether a line of the list, or of the one through execs, has the call on one of these things. The only
-/// error is that a growth was refused, as that of all that look.
+/// Whether a line of the list, or of the one through execs, has the call on one of these things.
+/// The only error is that a growth was refused, as that of all that look.
 fn some_listed<T: FileTree>(
     alloc: Global,
     tree: &T,

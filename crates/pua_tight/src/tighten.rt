@@ -18,14 +18,15 @@ use pua_script::{Request, Script, ScriptFault, read_script_by};
 use pua_tree::{ListingFault, OutOfMemory, SlabTree, read_listing_slab};
 use std::alloc::Global;
 
-/// The bytes of a script without the promises and letters that none of its answers needs, where it is
-/// read by these rules and served over the tree of a listing by a table. From the last line to the
-/// first, and in a line in the order of keywords and of the letters r, w, x, c, each is left out without
-/// which every line is answered as before; of lines that are answered ok alone, and of promises those
-/// that some call asks for, but `error`. All other bytes stay, and where nothing is left of an argument
-/// it is `=`.
+/// The bytes of a script without the promises and letters that none of its answers needs, where it
+/// is read by these rules and served over the tree of a listing by a table. From the last line to
+/// the first, and in a line in the order of keywords and of the letters r, w, x, c, each is left
+/// out without which every line is answered as before; of lines that are answered ok alone, and of
+/// promises those that some call asks for, but `error`. All other bytes stay, and where nothing is
+/// left of an argument it is `=`.
 ///
-/// The first that holds of `Listing` and `Script` is answered; `OutOfMemory` where a growth was refused.
+/// The first that holds of `Listing` and `Script` is answered; `OutOfMemory` where a growth was
+/// refused.
 pub fn tight_text(
     alloc: Global,
     tree_bytes: &[u8],
@@ -43,8 +44,8 @@ pub fn tight_text(
     Ok(thinned_text(alloc, requests.as_slice(), script_bytes)?)
 }
 
-/// The requests of a script that is read by these rules, and what they are answered over the tree of a
-/// listing.
+/// The requests of a script that is read by these rules, and what they are answered over the tree
+/// of a listing.
 pub(crate) fn begin<'a>(
     alloc: Global,
     tree_bytes: &[u8],

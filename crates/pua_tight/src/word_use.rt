@@ -24,14 +24,15 @@ pub struct WordUse {
     pub line: usize,
     /// The word.
     pub word: Piece,
-    /// The index of the first line that is answered otherwise, where it is left out of the tightened
-    /// script; None where none is, since the tightened script doesn't have it.
+    /// The index of the first line that is answered otherwise, where it is left out of the
+    /// tightened script; None where none is, since the tightened script doesn't have it.
     pub needed_by: Option<usize>,
 }
 
-/// What each word of a script is needed for that may be left out, in the order of the lines, and in a line
-/// in the order of keywords, of the promises first, and of the letters r, w, x, c. Which may be left out,
-/// and what the tightened script is, is as for [`tight_text`](crate::tight_text), and so are the errors.
+/// What each word of a script is needed for that may be left out, in the order of the lines, and in
+/// a line in the order of keywords, of the promises first, and of the letters r, w, x, c. Which may
+/// be left out, and what the tightened script is, is as for [`tight_text`](crate::tight_text), and
+/// so are the errors.
 pub fn word_uses(
     alloc: Global,
     tree_bytes: &[u8],

@@ -87,7 +87,7 @@ pub(crate) fn check_members(members: &[Member<'_>], table: &CallTable) -> Result
     Ok(())
 }
 
-/// Those of these processes that live. The only fault is that a growth was refused.
+/// Those of these processes that live. The only error is that a growth was refused.
 pub(crate) fn living_of<'t>(
     alloc: Global,
     members: &[Member<'t>],
@@ -108,8 +108,8 @@ pub(crate) fn living_of<'t>(
     Ok(left)
 }
 
-/// Answers `OtherVeils` where one of these processes, which live, has other veils than the first. The
-/// only other fault is that a growth was refused.
+/// Answers `OtherVeils` where one of these processes, which live, has other veils than the first.
+/// The only other fault is that a growth was refused.
 pub(crate) fn check_veils(alloc: Global, members: &[Member<'_>]) -> Result<(), ToolFault>
     ensures alike { OnOk result (other_veils (named_by members.now) ≡ None) }
     ensures refused { IfErr result (λ fault. fault ≢ ToolFault.OutOfMemory →
@@ -126,8 +126,8 @@ pub(crate) fn check_veils(alloc: Global, members: &[Member<'_>]) -> Result<(), T
     }
 }
 
-/// The number of the first of these processes that has other veils than one. The only error is that a
-/// growth was refused.
+/// The number of the first of these processes that has other veils than one. The only error is that
+/// a growth was refused.
 fn first_other(
     alloc: Global,
     first: &Process,
@@ -144,8 +144,8 @@ fn first_other(
     Ok(None)
 }
 
-/// Whether two processes keep veils on the same places, with the same letters. The only error is that a
-/// growth was refused.
+/// Whether two processes keep veils on the same places, with the same letters. The only error is
+/// that a growth was refused.
 fn have_same_veils(alloc: Global, first: &Process, other: &Process) -> Result<bool, OutOfMemory>
     ensures { IfOk result (λ same. same ≡ same_veils first.now other.now) }
 {

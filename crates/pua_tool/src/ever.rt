@@ -18,17 +18,17 @@ use std::alloc::Global;
 
 /// Writes the list for ever of a process: for each line of the script its number and what it was
 /// answered, then `ever P`, the lines of the state of the process where the script ends, as
-/// [`objects_to`](crate::objects_to) has them, but that a process which never pledged has each opening;
-/// and a line `KIND PATH CALLS` for each thing that stands
-/// or could stand now on which a call can ever be allowed by what the process and all that it forks do
-/// themselves; in the end a line `KIND new CALLS` for what they can make: `dir`, `other` for the further
-/// names of such a directory, `file` and `link`. Where a line has `exec`, a line of the state before
-/// those of the veils says what becomes of the list when a program is started: `exec bounded`, where
-/// what is started has the veils, and no more than the execpromises, and the list has what it can touch
-/// too; or `exec open`, and the list holds until an exec of theirs succeeds. The calls of
-/// a line are all that can ever be allowed on the thing, wherever it is moved. After a line of what
-/// stands at a name with a veil of its own, and can be taken away, stands a line of the missing name.
-/// What a call needs is said by the table of calls that is chosen.
+/// [`objects_to`](crate::objects_to) has them, but that a process which never pledged has each
+/// opening; and a line `KIND PATH CALLS` for each thing that stands or could stand now on which a
+/// call can ever be allowed by what the process and all that it forks do themselves; in the end a
+/// line `KIND new CALLS` for what they can make: `dir`, `other` for the further names of such a
+/// directory, `file` and `link`. Where a line has `exec`, a line of the state before those of the
+/// veils says what becomes of the list when a program is started: `exec bounded`, where what is
+/// started has the veils, and no more than the execpromises, and the list has what it can touch
+/// too; or `exec open`, and the list holds until an exec of theirs succeeds. The calls of a line
+/// are all that can ever be allowed on the thing, wherever it is moved. After a line of what stands
+/// at a name with a veil of its own, and can be taken away, stands a line of the missing name. What
+/// a call needs is said by the table of calls that is chosen.
 ///
 /// The first that holds of `Table`, `Listing`, `Script`, `NoProcess`, `CanUnveil`, `LacksC`,
 /// `RenameLacksC` and `LinkLacksC` is answered before anything is written. So is `OutOfMemory`,

@@ -1,5 +1,5 @@
-//! Whole texts of runs, of audits, of lists of objects, of now and for ever, of ways, and of tightened
-//! scripts, or what refuses them, and the whole program as a function over its inputs.
+//! Whole texts of runs, of audits, of lists of objects, of now and for ever, of ways, and of
+//! tightened scripts, or what refuses them, and the whole program as a function over its inputs.
 #![tactic(auto)]
 
 mod acting;

@@ -20,26 +20,26 @@ use pua_tree::{FileTree, OutOfMemory};
 use pua_words::Processes;
 use std::alloc::Global;
 
-/// Writes the lists of processes, of one or of all that were ever made, in the order of their numbers:
-/// for each line of the script its number and what it was answered, then for each process `objects P`,
-/// the lines of its state where the script ends, and a line `KIND PATH CALLS` for each object on which
-/// a call is allowed, each once: a directory, its further names, then what has or could have a name in
-/// it by the bytes of the names, each directory followed by what is below it. Paths begin at the root
-/// and may have any length.
+/// Writes the lists of processes, of one or of all that were ever made, in the order of their
+/// numbers: for each line of the script its number and what it was answered, then for each process
+/// `objects P`, the lines of its state where the script ends, and a line `KIND PATH CALLS` for each
+/// object on which a call is allowed, each once: a directory, its further names, then what has or
+/// could have a name in it by the bytes of the names, each directory followed by what is below it.
+/// Paths begin at the root and may have any length.
 ///
 /// The state of a process that has ended is `process ended`, and it has no objects. Otherwise it is
 /// `process alive`; `rules openbsd` where the rules that are chosen are those; `promises` and
 /// `execpromises` with the keywords, `=` for none, and `-` where no pledge gave any; `unveil` with
-/// `locked`, with `given-up` where it isn't locked and lacks the promise `unveil`, or with `open`; by
-/// OpenBSD's rules `opening PATH CALLS` for each path that a promise opens by itself, with `veils`
-/// behind it where the veils are asked for it; and for each veil that is kept, in the order in which
-/// their places were first kept, `veil PATH LETTERS`: where its place stands now, `-` where its
-/// directory was removed, and its letters, `=` for none; or `no veils`. What a call needs is said by the
-/// table of calls that is chosen.
+/// `locked`, with `given-up` where it isn't locked and lacks the promise `unveil`, or with `open`;
+/// by OpenBSD's rules `opening PATH CALLS` for each path that a promise opens by itself, with
+/// `veils` behind it where the veils are asked for it; and for each veil that is kept, in the order
+/// in which their places were first kept, `veil PATH LETTERS`: where its place stands now, `-`
+/// where its directory was removed, and its letters, `=` for none; or `no veils`. What a call needs
+/// is said by the table of calls that is chosen.
 ///
-/// The first that holds of `Table`, `Listing`, `Script` and `NoProcess` is answered before anything is
-/// written. So is `OutOfMemory`, wherever a growth was refused. `Write` is answered only where a put
-/// failed in this call, and a front of the text is then written.
+/// The first that holds of `Table`, `Listing`, `Script` and `NoProcess` is answered before anything
+/// is written. So is `OutOfMemory`, wherever a growth was refused. `Write` is answered only where a
+/// put failed in this call, and a front of the text is then written.
 #[tactic(auto, unfolding(crate::specs::ObjectTexts::objects_text))]
 pub fn objects_to<S: Sink>(
     alloc: Global,
@@ -59,8 +59,8 @@ pub fn objects_to<S: Sink>(
     written
 }
 
-/// Writes the answers of a script, and then the lists of the processes that are asked for, where the
-/// script ends. Every fault but `Write` is answered before anything is written.
+/// Writes the answers of a script, and then the lists of the processes that are asked for, where
+/// the script ends. Every fault but `Write` is answered before anything is written.
 fn asked_to<S: Sink>(
     alloc: Global,
     replay: &Replay,
@@ -85,8 +85,8 @@ fn asked_to<S: Sink>(
     ))
 }
 
-/// The numbers of the processes that are asked for: `NoProcess` where the one that is named was never
-/// made. The only other fault is `OutOfMemory`, where a growth was refused.
+/// The numbers of the processes that are asked for: `NoProcess` where the one that is named was
+/// never made. The only other fault is `OutOfMemory`, where a growth was refused.
 pub(crate) fn numbers_of<T: FileTree>(
     alloc: Global,
     world: &World<T>,

@@ -20,15 +20,15 @@ use pua_texts::{TextFault, write_why_lists};
 use pua_words::Processes;
 use std::alloc::Global;
 
-/// Writes the lists of processes with reasons: what [`objects_to`](crate::objects_to) writes, with the
-/// answers as [`run_why_to`](crate::run_why_to) has them, and behind each object's line
-/// `PROMISES PLACE LETTERS LINE`: the promises on which its calls rest, of each call the first set that
-/// is held, `=` for none; and of the veil that covers it where it is, its letters, `=` for none, and
-/// since which line it has them there; three times `-` where the process has no veils.
+/// Writes the lists of processes with reasons: what [`objects_to`](crate::objects_to) writes, with
+/// the answers as [`run_why_to`](crate::run_why_to) has them, and behind each object's line
+/// `PROMISES PLACE LETTERS LINE`: the promises on which its calls rest, of each call the first set
+/// that is held, `=` for none; and of the veil that covers it where it is, its letters, `=` for
+/// none, and since which line it has them there; three times `-` where the process has no veils.
 ///
-/// The first that holds of `Table`, `Listing`, `Script` and `NoProcess` is answered before anything is
-/// written. So is `OutOfMemory`, wherever a growth was refused. `Write` is answered only where a put
-/// failed in this call, and a front of the text is then written.
+/// The first that holds of `Table`, `Listing`, `Script` and `NoProcess` is answered before anything
+/// is written. So is `OutOfMemory`, wherever a growth was refused. `Write` is answered only where a
+/// put failed in this call, and a front of the text is then written.
 #[tactic(auto, unfolding(crate::specs::WhyTexts::objects_why_text))]
 pub fn objects_why_to<S: Sink>(
     alloc: Global,
@@ -55,8 +55,8 @@ pub fn objects_why_to<S: Sink>(
     written
 }
 
-/// Writes the lines of a script with reasons, and then the lists of the processes that are asked for.
-/// Every fault but `Write` is answered before anything is written.
+/// Writes the lines of a script with reasons, and then the lists of the processes that are asked
+/// for. Every fault but `Write` is answered before anything is written.
 fn write_asked<S: Sink>(
     alloc: Global,
     script_bytes: &[u8],
@@ -74,9 +74,9 @@ fn write_asked<S: Sink>(
     told(write_all(alloc, script_bytes, posed, rules, numbers, sink))
 }
 
-/// Writes the lines of a script with reasons, and then the lists of these processes. `OutOfMemory` where
-/// a growth was refused, before anything is written. `Write` only where a put failed in this call, after
-/// a front of the text.
+/// Writes the lines of a script with reasons, and then the lists of these processes. `OutOfMemory`
+/// where a growth was refused, before anything is written. `Write` only where a put failed in this
+/// call, after a front of the text.
 fn write_all<S: Sink>(
     alloc: Global,
     script_bytes: &[u8],

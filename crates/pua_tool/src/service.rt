@@ -34,20 +34,21 @@ use pua_io::{InputFault, Inputs, Sink};
 use pua_words::{Command, Text};
 use std::alloc::Global;
 
-/// Does what a command asks for: the text of a run, of an audit, of a list of objects, of now or for
-/// ever, of a way, or of a tightened script goes to `out`, and of a fault one line goes to `err`, which
-/// is dropped where it can't be written. The inputs are taken, first the tree's, then the script's, then
-/// the table's where one is named, before any of them is read as a listing, a script or a table; none
-/// behind one that can't be taken, and no others.
+/// Does what a command asks for: the text of a run, of an audit, of a list of objects, of now or
+/// for ever, of a way, or of a tightened script goes to `out`, and of a fault one line goes to
+/// `err`, which is dropped where it can't be written. The inputs are taken, first the tree's, then
+/// the script's, then the table's where one is named, before any of them is read as a listing, a
+/// script or a table; none behind one that can't be taken, and no others.
 ///
 /// It answers the status. [`DONE`]: the text that is asked for, of the bytes that the inputs hold
 /// under the command's names, was written, and nothing to `err`; of a way it is one of several, as
 /// which one is found is in no contract. [`REFUSED`]: these bytes, or what the audit or the way is
-/// asked for, are refused. [`DEVICE`]: an input is missing, and nothing was written; or a put failed,
-/// and a front of the text was written. [`MEMORY`]: a growth of memory was refused. After [`REFUSED`]
-/// and [`MEMORY`] nothing was written. After each but [`DONE`] the line of what stopped it went to
-/// `err`: all of it, or a front of it before a put that failed. Of an input that is refused this is the
-/// line with what is wrong, and with which line, candidate or call, if with one.
+/// asked for, are refused. [`DEVICE`]: an input is missing, and nothing was written; or a put
+/// failed, and a front of the text was written. [`MEMORY`]: a growth of memory was refused. After
+/// [`REFUSED`] and [`MEMORY`] nothing was written. After each but [`DONE`] the line of what stopped
+/// it went to `err`: all of it, or a front of it before a put that failed. Of an input that is
+/// refused this is the line with what is wrong, and with which line, candidate or call, if with
+/// one.
 pub fn perform<I: Inputs, O: Sink, E: Sink>(
     alloc: Global,
     command: &Command<'_>,
@@ -173,7 +174,8 @@ fn take_named<'c, I: Inputs>(
     }
 }
 
-/// Writes the text that is asked for, by these rules, of these bytes of a listing, a script and a table.
+/// Writes the text that is asked for, by these rules, of these bytes of a listing, a script and a
+/// table.
 fn write_text<O: Sink>(
     alloc: Global,
     rules: Rules,

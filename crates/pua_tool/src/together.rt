@@ -25,20 +25,21 @@ use pua_tree::OutOfMemory;
 use pua_words::Members;
 use std::alloc::Global;
 
-/// Writes the list for ever of several processes together, of those of some numbers, in their order, or
-/// of all that were ever made: for each line of the script its number and what it was answered, then
-/// `ever P,Q,..`, and of each process the lines `process P alive`, `promises`, `execpromises` and
-/// `unveil`, or `process P ended`. Where one of them lives, there follows what is told once of all that
-/// live, as [`ever_to`](crate::ever_to) tells it of one: whose rules they are, what becomes of the list at
-/// an exec, what promises open by themselves, and the veils; and a line for each thing on which a call
-/// can ever be allowed to them or to what they fork, by what they do together.
+/// Writes the list for ever of several processes together, of those of some numbers, in their
+/// order, or of all that were ever made: for each line of the script its number and what it was
+/// answered, then `ever P,Q,..`, and of each process the lines `process P alive`, `promises`,
+/// `execpromises` and `unveil`, or `process P ended`. Where one of them lives, there follows what
+/// is told once of all that live, as [`ever_to`](crate::ever_to) tells it of one: whose rules they
+/// are, what becomes of the list at an exec, what promises open by themselves, and the veils; and a
+/// line for each thing on which a call can ever be allowed to them or to what they fork, by what
+/// they do together.
 ///
-/// The first that holds of `Table`, `Listing`, `Script` and `NoProcess` is answered before anything is
-/// written; then that of `CanUnveil`, `LacksC`, `RenameLacksC` and `LinkLacksC` which the first process
-/// has that has one; then `OtherVeils`, of the first that lives and the first behind it that lives and has
-/// another place with a veil, or other letters at one. So is `OutOfMemory`, wherever a growth was
-/// refused. `Write` is answered only where a put failed in this call, and a front of the text is then
-/// written. A process that has ended adds nothing to the list.
+/// The first that holds of `Table`, `Listing`, `Script` and `NoProcess` is answered before anything
+/// is written; then that of `CanUnveil`, `LacksC`, `RenameLacksC` and `LinkLacksC` which the first
+/// process has that has one; then `OtherVeils`, of the first that lives and the first behind it
+/// that lives and has another place with a veil, or other letters at one. So is `OutOfMemory`,
+/// wherever a growth was refused. `Write` is answered only where a put failed in this call, and a
+/// front of the text is then written. A process that has ended adds nothing to the list.
 #[tactic(auto, unfolding(crate::specs::TogetherTexts::together_text))]
 pub fn together_to<S: Sink>(
     alloc: Global,
@@ -74,8 +75,8 @@ fn members_to<S: Sink>(
     list_to(alloc, replay, rules, members.as_slice(), sink)
 }
 
-/// Writes the answers of a script, and then the list of these processes where the script ends. Every
-/// fault but `Write` is answered before anything is written.
+/// Writes the answers of a script, and then the list of these processes where the script ends.
+/// Every fault but `Write` is answered before anything is written.
 fn list_to<S: Sink>(
     alloc: Global,
     replay: &Replay,
@@ -114,8 +115,9 @@ fn list_to<S: Sink>(
     }
 }
 
-/// Writes the front of a text, and then the list of these processes, of which the first that lives and
-/// the others that do are given. Every fault but `Write` is answered before anything is written.
+/// Writes the front of a text, and then the list of these processes, of which the first that lives
+/// and the others that do are given. Every fault but `Write` is answered before anything is
+/// written.
 fn joint_to<S: Sink>(
     alloc: Global,
     world: &World<ProgramTree>,
@@ -148,7 +150,7 @@ fn joint_to<S: Sink>(
     told(write_together(alloc, tree, rules, members, joint, front, sink))
 }
 
-/// Makes the process that stands for these. The only fault is that a growth was refused.
+/// Makes the process that stands for these. The only error is that a growth was refused.
 fn join_all(
     alloc: Global,
     first: &Member<'_>,

@@ -13,7 +13,8 @@ pub struct Command<'a> {
     pub script: &'a str,
     /// Whose rules are gone by.
     pub rules: Rules,
-    /// The name of the input with rows in the place of those of the rules; None for the rules alone.
+    /// The name of the input with rows in the place of those of the rules; None for the rules
+    /// alone.
     pub table: Option<&'a str>,
     /// Which text is asked for.
     pub text: Text<'a>,
@@ -68,7 +69,8 @@ pub struct AuditWords<'a> {
 /// Which request is asked about, besides the inputs.
 #[derive(Drop)]
 pub struct WhyWords<'a> {
-    /// The number of the process that asks, 1 to 999,999 where the words of the command line named it.
+    /// The number of the process that asks, 1 to 999,999 where the words of the command line named
+    /// it.
     pub process: u32,
     /// What it asks, as the fields of a script's line behind the number: the call first.
     pub fields: Vec<&'a [u8]>,

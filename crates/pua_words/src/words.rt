@@ -73,8 +73,8 @@ impl From<AllocError> for Stop {
 /// Where words in a plain form are a command, it is the one that they name, of the inputs that they
 /// name, by the standard rules: `run` and `tight`, with `--why` or without; `objects`, with
 /// its other options or without, of process 1, or behind these `--process` with a number or `all`;
-/// `why` and `how`, of process 1, with the call and what stands behind it; and `audit --limit N`, of
-/// process 1, from the root, with the names behind it. There each word beside the options begins
+/// `why` and `how`, of process 1, with the call and what stands behind it; and `audit --limit N`,
+/// of process 1, from the root, with the names behind it. There each word beside the options begins
 /// with no hyphen.
 pub fn read_words<'a>(alloc: Global, words: &'a [&'a str]) -> Result<Command<'a>, Stop>
     ensures process { IfOk result (λ command. AsksSoundly command.text) }
@@ -476,8 +476,8 @@ fn tight_of<'a>(why: bool) -> Text<'a>
 }
 
 /// The list of objects that the words ask for, of now or for ever. None where they name no process,
-/// and where a list for ever is asked for with reasons, or one of now of several numbers, or the steps of
-/// ways of any other list than that for ever of one process.
+/// and where a list for ever is asked for with reasons, or one of now of several numbers, or the
+/// steps of ways of any other list than that for ever of one process.
 fn read_objects<'a>(alloc: Global, found: &ArgMatches<'a>) -> Result<Option<Text<'a>>, AllocError>
     ensures process { IfOk result (λ text. IfSome text AsksSoundly) }
     ensures list { (ever how why : Bool) → IsFlag (found_of found.now) (codes "ever") ever
@@ -511,8 +511,8 @@ fn read_objects<'a>(alloc: Global, found: &ArgMatches<'a>) -> Result<Option<Text
     Ok(Some(Text::Together(TogetherWords { members })))
 }
 
-/// The list of these processes, of now or for ever, with reasons or without. None for a list for ever
-/// with reasons.
+/// The list of these processes, of now or for ever, with reasons or without. None for a list for
+/// ever with reasons.
 fn list_of<'a>(ever: bool, why: bool, processes: Processes) -> Option<Text<'a>>
     ensures asked { result ≡ list_asked ever why processes }
     ensures sound { MayBeAsked processes → IfSome result AsksSoundly }
