@@ -1,11 +1,12 @@
 //! The list for ever that holds longest: through execs, where all that a process starts is bounded.
 
 ghost use Rattle.std.specs.Prelude.{◌≡◌, [], List, None, IfErr, IfOk, MatchResult, option_copied};
+ghost use Rattle.std.specs.List.{AllByRecursion};
 ghost use Rattle.pua_tree.specs.Tree.{Tree};
 ghost use Rattle.pua_calls.specs.CallSets.{has};
 ghost use Rattle.pua_policy.specs.States.{ProcessState};
 ghost use Rattle.pua_ever.specs.Ever.{EverLine as Told};
-ghost use Rattle.pua_ever.specs.EverList.{AreEverTold};
+ghost use Rattle.pua_ever.specs.EverList.{AreEverTold, IsRowOn, abouts};
 ghost use Rattle.pua_ever.specs.Both.{IsBoth};
 ghost use Rattle.pua_ever.specs.LastingList.{IsBothOf, IsLasting};
 ghost use Rattle.pua_ever.specs.Refusals.{refusal as refusal_of, refusal_in};
@@ -87,6 +88,8 @@ fn rows_through<'t, T: FileTree>(
     ensures rows { IfOk result (λ rows. (h : ProcessState) → (is : IsBoth table.now h both.now) →
         AreEverTold (T.content tree.now) [] rows.items (ever_through
         (T.content tree.now) table.now h is.given) []) }
+    ensures items { IfOk result (λ rows. (h : ProcessState) → IsBoth table.now h both.now →
+        AllByRecursion (IsRowOn (T.content tree.now) h) rows.items) }
     ensures unrefused { IfErr result (λ fault. (h : ProcessState) → IsBoth table.now h both.now →
         refusal_of table.now h ≡ None → refusal_in fault ≡ None) }
 {
@@ -125,16 +128,19 @@ fn let_through<'t>(
     rows: &[EverRow<'t>],
     passes: Calls,
 ) -> Result<Vec<EverRow<'t>>, AllocError>
-    ensures { IfOk result (λ through. (t : Tree) (lines : List Told) →
+    ensures told { IfOk result (λ through. (t : Tree) (lines : List Told) →
         AreEverTold t [] rows.now lines [] →
         AreEverTold t [] through.items (only_through (has passes) lines) []) }
+    ensures same { IfOk result (λ through. abouts through.items ≡ abouts rows.now) }
 {
     let mut through = Vec::new(alloc);
     for row in rows {
+        let line = row.line.let_through(passes);
         let Ok(()) = through.push(EverRow {
             depth: row.depth,
             name: row.name,
-            line: row.line.let_through(passes),
+            about: row.about,
+            line,
         }) else {
             return Err(AllocError);
         };
