@@ -20,7 +20,7 @@ use crate::objects::put_text;
 use crate::script::{Replay, replay_script};
 use crate::table::TableChoice;
 use pua_calls::{Call, CallTable, Rules};
-use pua_ever::{ExecBound, both_of, why_refused};
+use pua_ever::{ExecBound, both_of, list_lasting, why_refused};
 use pua_how::{Asking, Meant, NoWay, Outlook, Planner, Target, WayLine, find_meant, find_outlook};
 use pua_io::Sink;
 use pua_path::Last;
@@ -198,13 +198,11 @@ fn outlook_of<T: FileTree>(
     ensures memory { IfErr result (λ fault. fault ≡ ToolFault.OutOfMemory) }
     ensures unwritten { IfErr result (λ fault. fault ≢ ToolFault.Write) }
 {
-    let Ok(both) = both_of(alloc, process, table) else {
+    let both = both_of(alloc, process, table)?;
+    let Ok(list) = list_lasting(alloc, tree, process, both.as_ref(), table) else {
         return Err(ToolFault::OutOfMemory);
     };
-    let Ok(outlook) = find_outlook(alloc, tree, process, both.as_ref(), table, things, call) else {
-        return Err(ToolFault::OutOfMemory);
-    };
-    Ok(outlook)
+    Ok(find_outlook(tree, &list, things, call))
 }
 
 /// A way to what is asked about, behind the script; [`NoWay`] exactly where none of the plans that
