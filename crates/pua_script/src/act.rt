@@ -24,7 +24,7 @@ use crate::judged::{
 };
 use crate::link::{judge_link, naming};
 use crate::pair::{node_named, promised_pair, spot_named};
-use crate::process::{decide_lock, decide_pledge, refuse};
+use crate::process::{decide_lock, decide_pledge, decide_uses, refuse};
 use crate::rename::{judge_rename, moving};
 use crate::request::Action;
 use pua_calls::{Call, CallTable, Perms};
@@ -63,6 +63,10 @@ pub(crate) fn act<T: FileTree>(
             answer(tree, process, &granted)
         }
         Action::Exit => answer(tree, process, &Ok(Granted::Exit)),
+        Action::Uses(any) => {
+            let granted = decide_uses(process, any.sets());
+            answer(tree, process, &granted)
+        }
         Action::Fork(_) => unreachable!(),
     }
 }
