@@ -51,7 +51,7 @@ pub fn minimal_law()
 /// Where each request of a script rests on one set of promises, if it is allowed at all, nothing
 /// else that may be left out of the script, so that it is answered as before, leaves less than the
 /// tightened one has. By the standard rules each request does, and by OpenBSD's each but a chown or
-/// fchown.
+/// fchown, and a call without a path that asks for one of several promises.
 pub fn least_law()
     ensures least { TightIsLeast }
     ensures rules { RulesRestOnOne }

@@ -5,7 +5,7 @@ ghost use Rattle.pua_script.specs.Replay.{answers_to, new_world};
 ghost use Rattle.pua_tight.specs.Uses.{use_by, uses_over, words_from};
 ghost use Rattle.pua_tight.specs.Left.{lines_by};
 
-use crate::asked::asked_for;
+use crate::asked::asked_in;
 use crate::fault::TightFault;
 use crate::line_pieces::line_pieces;
 use crate::piece::Piece;
@@ -48,7 +48,7 @@ pub fn word_uses(
     let (wanted, mut requests) = begin(alloc, tree_bytes, script_bytes, rules, table)?;
     let words = words_of(
         alloc,
-        asked_for(table),
+        asked_in(table, requests.as_slice()),
         requests.as_slice(),
         wanted.answers.as_slice(),
     )?;
