@@ -30,7 +30,7 @@ use pua_path::{Counted, Ending, Errno, Found, Last, PathText, resolve};
 use pua_policy::judge::verdict_of;
 use pua_policy::{Process, Verdict};
 use pua_script::{Answer, Script, ScriptFault, World, read_script};
-use pua_tool::{MemorySink, Processes, TableChoice, ToolFault, objects_to};
+use pua_tool::{Columns, ListWords, MemorySink, Processes, Span, TableChoice, ToolFault, list_to};
 use pua_tree::{FileTree, ListingFault, NodeId, OutOfMemory, SlabTree, read_listing_slab};
 use std::alloc::Global;
 
@@ -225,13 +225,12 @@ pub(crate) fn list(
     let Ok(mut sink) = MemorySink::new(alloc, room) else {
         return Err(ToolFault::OutOfMemory);
     };
-    objects_to(
-        alloc,
-        tree,
-        lines,
-        TableChoice::STANDARD,
-        processes,
-        &mut sink,
-    )?;
+    let list = ListWords {
+        whose: processes,
+        span: Span::Now,
+        columns: Columns::Plain,
+    };
+    let table = TableChoice::STANDARD;
+    list_to(alloc, tree, lines, table, &list, &mut sink)?;
     Ok(sink)
 }

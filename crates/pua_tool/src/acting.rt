@@ -15,7 +15,7 @@ use pua_policy::{Place, Process};
 use pua_script::World;
 use pua_texts::Member;
 use pua_tree::{FileTree, OutOfMemory};
-use pua_words::Members;
+use pua_words::Processes;
 use std::alloc::Global;
 
 /// The processes that are asked for: `NoProcess` where one was never made. The only other fault is
@@ -24,21 +24,20 @@ use std::alloc::Global;
 pub(crate) fn members_of<'t, T: FileTree>(
     alloc: Global,
     world: &'t World<T>,
-    which: &Members,
+    whose: &Processes,
 ) -> Result<Vec<Member<'t>>, ToolFault>
     ensures made { IfOk result (λ members.
-        all_made (world_of world.now) (numbers_in (world_of world.now) which.now)
+        all_made (world_of world.now) (numbers_in (world_of world.now) whose.now)
         ≡ Ok (named_by members.items)) }
     ensures refused { IfErr result (λ fault. fault ≢ ToolFault.OutOfMemory →
-        all_made (world_of world.now) (numbers_in (world_of world.now) which.now) ≡ Err fault) }
+        all_made (world_of world.now) (numbers_in (world_of world.now) whose.now) ≡ Err fault) }
     ensures unwritten { IfErr result (λ fault. fault ≢ ToolFault.Write) }
 {
-    match which {
-        Members::Named(numbers) => made_of(alloc, world, numbers.as_slice()),
-        Members::All => {
-            let Ok(numbers) = world.numbers(alloc) else {
-                return Err(ToolFault::OutOfMemory);
-            };
+    match whose {
+        Processes::One(number) => made_of(alloc, world, &[*number]),
+        Processes::Named(numbers) => made_of(alloc, world, numbers.as_slice()),
+        Processes::All => {
+            let numbers = world.numbers(alloc)?;
             made_of(alloc, world, numbers.as_slice())
         }
     }

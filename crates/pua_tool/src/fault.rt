@@ -50,6 +50,13 @@ pub enum ToolFault {
     /// There is no list of what the processes with these numbers can ever touch together: the
     /// second has a veil on another place than the first, or other letters at one.
     OtherVeils(u32, u32),
+    /// There is no list for ever with what lets calls through: of where a thing can come to stand
+    /// it is not told.
+    EverWhy,
+    /// There is no list of now with ways: each of its calls comes in one step.
+    NowHow,
+    /// There is no list for ever of several processes with ways, since a way is of one.
+    SeveralHow,
     /// What a way is asked for is none of the calls on one path.
     HowCall,
     /// Where it is to lead is no path as a list for ever prints it.
@@ -130,6 +137,9 @@ impl ToolFault {
                 let rest = " have other veils";
                 five("pua: processes ", first, " and ", other, rest)
             }
+            ToolFault::EverWhy => one("pua: objects: no list for ever with --why"),
+            ToolFault::NowHow => one("pua: objects: no list of now with --how"),
+            ToolFault::SeveralHow => one("pua: objects: no list of several with --how"),
             ToolFault::HowCall => one("pua: how: bad call"),
             ToolFault::HowPath => one("pua: how: bad path"),
             ToolFault::HowThing => one("pua: how: no such thing"),

@@ -13,13 +13,10 @@ ghost use Rattle.pua_tool.specs.Told.{IsFaultTold};
 ghost use Rattle.pua_tool.specs.declared.outcome.CommandFault.{CommandFault};
 
 use crate::audit::audit_by;
-use crate::ever::ever_to;
-use crate::ever_how::ever_how_to;
 use crate::fault::ToolFault;
 use crate::how::how_to;
 use crate::job::job_of;
-use crate::objects::objects_to;
-use crate::objects_why::objects_why_to;
+use crate::lists::list_to;
 use crate::outcome::{CommandFault, finish};
 use crate::run::run_by;
 use crate::run_why::run_why_to;
@@ -27,7 +24,6 @@ use crate::status::{DEVICE, DONE, MEMORY, REFUSED, USAGE};
 use crate::table::TableChoice;
 use crate::tight::tight_to;
 use crate::tight_why::tight_why_to;
-use crate::together::together_to;
 use crate::why::why_to;
 use pua_calls::Rules;
 use pua_io::{InputFault, Inputs, Sink};
@@ -200,13 +196,7 @@ fn write_text<O: Sink>(
             why_to(alloc, tree, script, table, words.process, fields, out)
         }
         Text::Audit(words) => audit_by(alloc, tree, script, rules, &job_of(words, rows), out),
-        Text::Objects(words) => objects_to(alloc, tree, script, table, words.processes, out),
-        Text::ObjectsWhy(words) => {
-            objects_why_to(alloc, tree, script, table, words.processes, out)
-        }
-        Text::Ever(words) => ever_to(alloc, tree, script, table, words.process, out),
-        Text::EverHow(words) => ever_how_to(alloc, tree, script, table, words.process, out),
-        Text::Together(words) => together_to(alloc, tree, script, table, &words.members, out),
+        Text::List(words) => list_to(alloc, tree, script, table, words, out),
         Text::How(words) => how_to(alloc, tree, script, table, words, out),
         Text::Tight => tight_to(alloc, tree, script, table, out),
         Text::TightWhy => tight_why_to(alloc, tree, script, table, out),
